@@ -1,0 +1,15 @@
+-- The laws of readings that other crates name. Those that stand here so far are proved; these are still to come:
+--
+--   one_reading      : (x : List ℕ) (ts us : List Token) (cs ds : List Comment)
+--                      → Reads x ts cs → Reads x us ds → (ts ≡ us) × (cs ≡ ds)
+--   one_fault        : (x : List ℕ) (k l : LexicalKind) (at by : ℕ)
+--                      → Stops x k at → Stops x l by → (k ≡ l) × (at ≡ by)
+--   no_reading_stops : (x : List ℕ) (ts : List Token) (cs : List Comment) (k : LexicalKind) (at : ℕ)
+--                      → Reads x ts cs → Stops x k at → ⊥
+--   reads_within     : (x : List ℕ) (ts : List Token) (cs : List Comment) (n : ℕ) (t : Token) → Reads x ts cs
+--                      → slice_get ts n ≡ Some t → (t.range.start < t.range.end) × (t.range.end ≤ length x)
+--   reads_boundary   : .. as reads_within, and IsUtf8 x
+--                      → IsCharBoundary x t.range.start × IsCharBoundary x t.range.end
+--   reads_ascend     : (x : List ℕ) (ts : List Token) (cs : List Comment) (n : ℕ) (t u : Token) → Reads x ts cs
+--                      → slice_get ts n ≡ Some t → slice_get ts (n + 1) ≡ Some u → t.range.end ≤ u.range.start
+--   reads_str        : .. as reads_within, and t.kind ≡ Str → IsStrLiteral (slice_range x t.range.start t.range.end)

@@ -1,0 +1,63 @@
+-- Classes of bytes (ECMA-262, "White Space", "Line Terminators", "Names and Keywords").
+-- All of them are ASCII: a byte from 128 on begins nothing and continues no word.
+use Rattle.std.specs.Prelude.{ℕ, Bool, false, not, ◌&&◌, ◌||◌, ◌==◌, List, [], ◌∷◌, if◌then◌else◌}
+use Rattle.std.specs.Char.{is_ascii_alphabetic, is_ascii_digit}
+use Rattle.es_lexer.specs.declared.bytes.First.{First}
+use Rattle.es_lexer.specs.declared.bytes.First.TheVariants.{Blank, LineEnd, Start, Quote, Sign, Slash, Other}
+
+-- U+0009 and U+0020
+abbrev pub is_blank : ℕ → Bool
+is_blank b = b == 9 || b == 32
+
+-- U+000A and U+000D
+abbrev pub is_line_end : ℕ → Bool
+is_line_end b = b == 10 || b == 13
+
+-- what begins a word: a letter, `$`, `_` (IdentifierStart)
+abbrev pub is_start : ℕ → Bool
+is_start b = is_ascii_alphabetic b || b == 36 || b == 95
+
+-- what continues a word (IdentifierPart)
+abbrev pub is_part : ℕ → Bool
+is_part b = is_start b || is_ascii_digit b
+
+-- `"` and `'`
+abbrev pub is_quote : ℕ → Bool
+is_quote b = b == 34 || b == 39
+
+-- what stands for itself between two such quotes (DoubleStringCharacter, SingleStringCharacter)
+unfoldable pub is_plain : ℕ → ℕ → Bool
+is_plain quote b = not (b == quote || b == 92 || is_line_end b)
+
+-- the table of first bytes
+unfoldable pub first_of : ℕ → First
+first_of b =
+    if is_blank b then Blank
+    else (if is_line_end b then LineEnd
+    else (if is_start b then Start
+    else (if is_quote b then Quote
+    else (if b == 59 then Sign
+    else (if b == 47 then Slash
+    else Other)))))
+
+-- `//` or `/*` stands here (Comment)
+unfoldable pub begins_comment : List ℕ → Bool
+begins_comment [] = false
+begins_comment (a ∷ []) = false
+begins_comment (a ∷ b ∷ rest) = a == 47 && (b == 47 || b == 42)
+
+-- `*/` stands here
+unfoldable pub begins_closer : List ℕ → Bool
+begins_closer [] = false
+begins_closer (a ∷ []) = false
+begins_closer (a ∷ b ∷ rest) = a == 42 && b == 47
+
+-- `*/` stands somewhere in the text
+unfoldable pub has_closer : List ℕ → Bool
+has_closer [] = false
+has_closer (a ∷ rest) = begins_closer (a ∷ rest) || has_closer rest
+
+-- a line end stands somewhere in the text
+unfoldable pub has_line_end : List ℕ → Bool
+has_line_end [] = false
+has_line_end (b ∷ rest) = is_line_end b || has_line_end rest

@@ -1,0 +1,20 @@
+//! Tokens and comments of JavaScript and TypeScript text (ECMA-262, "Lexical Grammar").
+//!
+//! - `lex_tokens(text)`: the one pair of lists of tokens and comments that reads the text (`Reads`, `specs/Reads.antt`),
+//!   or the first fault (`Stops`, `specs/Stops.antt`). Both ways: only want of memory may refuse besides.
+//! - `literal_value(literal)`: the value of a string literal (`value_of`, `specs/Literals.antt`).
+//!
+//! Places are bytes of the text, from 0. `docs/TOKENS.md` tells the rules in words.
+//! Not promised: what `Display` and `Debug` write, and when memory runs out.
+#![tactic(auto)]
+
+mod bytes;
+mod error;
+mod literals;
+mod scan;
+mod token;
+
+pub use error::{LexError, LexicalError, LexicalKind};
+pub use literals::{LiteralValue, literal_value};
+pub use scan::lex_tokens;
+pub use token::{Comment, CommentKind, Lexed, Token, TokenKind};
