@@ -87,6 +87,11 @@ impl<T> Items<T> {
         self.items.get_mut(at)
     }
 
+    /// Where the list takes its memory from, for a copy of it.
+    pub fn allocator(&self) -> Global {
+        *self.items.allocator()
+    }
+
     /// Takes the last item.
     pub fn pop(&mut self) -> Option<T>
         ensures { MatchOption result ((self.old ≡ []) × (self.new ≡ [])) (λ last. self.old ≡ self.new ++ last ∷ []) }
