@@ -1,0 +1,4 @@
+-- what the public contract rests on
+pub mod Rows
+pub mod Dress
+pub mod Derives

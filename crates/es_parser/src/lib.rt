@@ -1,0 +1,13 @@
+//! The grammar of JavaScript and TypeScript programs (ECMA-262, "Scripts and Modules"), and its parser.
+//!
+//! - `parse_tokens(lang, mode, text, tokens)`: the one tree that the grammar derives from the tokens of a text
+//!   (`Derives`, `specs/Derives.antt`), or `Syntax` where it derives none. Both ways: only want of memory may refuse
+//!   besides. The grammar is a table (`specs/Rows.antt`), in the language of `es_tree` (`specs/Form.antt`,
+//!   `specs/Fits.antt` there).
+//!
+//! Not promised: which token `Syntax` names, and when memory runs out. `docs/GRAMMAR.md` tells the rows in words.
+#![tactic(auto)]
+
+mod program;
+
+pub use program::parse_tokens;

@@ -1,0 +1,45 @@
+-- What a table of rows has to meet so that its reader reads each of its trees: tests of the table alone, each of which computes.
+use Rattle.std.specs.Prelude.{◌≡◌, Bool, true, false, ◌&&◌, ◌||◌}
+use Rattle.es_tree.specs.Form.{Form, done, tok, punct, row, opt, many, when_, where_, Rule, refuse, make, choose, as_}
+
+module _ {Row : Type 0} (solid : Row → Bool) where
+  -- the form takes a token, whatever is absent, where `solid` tells the rows that do
+  abbrev pub takes : Form Row → Bool
+  takes done = false
+  takes (tok s may f) = true
+  takes (punct k f) = true
+  takes (row r f) = solid r || takes f
+  takes (opt c g f) = takes f
+  takes (many c g f) = takes f
+  takes (when_ t f) = takes f
+  takes (where_ t f) = takes f
+
+  -- each optional part and each turn takes a token
+  abbrev pub parts_take : Form Row → Bool
+  parts_take done = true
+  parts_take (tok s may f) = parts_take f
+  parts_take (punct k f) = parts_take f
+  parts_take (row r f) = parts_take f
+  parts_take (opt c g f) = takes g && (parts_take g && parts_take f)
+  parts_take (many c g f) = takes g && (parts_take g && parts_take f)
+  parts_take (when_ t f) = parts_take f
+  parts_take (where_ t f) = parts_take f
+
+-- each alternative of the rule takes a token
+abbrev pub rule_takes : {Row Label : Type 0} → (Row → Bool) → Rule Row Label → Bool
+rule_takes solid refuse = true
+rule_takes solid (make l f) = takes solid f
+rule_takes solid (choose t a b) = rule_takes solid a && rule_takes solid b
+rule_takes solid (as_ w a) = rule_takes solid a
+
+-- each optional part and each turn of the rule takes a token
+abbrev pub rule_parts_take : {Row Label : Type 0} → (Row → Bool) → Rule Row Label → Bool
+rule_parts_take solid refuse = true
+rule_parts_take solid (make l f) = parts_take solid f
+rule_parts_take solid (choose t a b) = rule_parts_take solid a && rule_parts_take solid b
+rule_parts_take solid (as_ w a) = rule_parts_take solid a
+
+-- a table all of whose lists end: the rows that `solid` names take a token, and so does each optional part and each turn
+pub record IsSteady {Row Label : Type 0} (rule : Row → Rule Row Label) (solid : Row → Bool) : Type 0 where
+  pub rows : (r : Row) → solid r ≡ true → rule_takes solid (rule r) ≡ true
+  pub parts : (r : Row) → rule_parts_take solid (rule r) ≡ true

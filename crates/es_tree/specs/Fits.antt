@@ -1,0 +1,73 @@
+-- When a plain tree fits a grammar over the keys of tokens, from one token up to another.
+-- The grammar is read in one of two ways. `free` is the grammar's meaning: alternatives, optional parts and lists as they are
+-- written, with the written guards. In it no test that only chooses bars anything. `chosen` also obeys those tests, as the
+-- code does. Both have the same trees (`free_is_chosen`, `chosen_is_free` in proofs/FreeLemmas.antt).
+use Rattle.std.specs.Prelude.{◌≡◌, ℕ, zero, suc, ◌+◌, Bool, true, false, List, ◌⊎◌, Option, length}
+use Rattle.es_tree.specs.Key.{Key, Look, seen, has_kind, is}
+use Rattle.es_tree.specs.Form.{Told, hint, taken, test, Form, done, tok, punct, row, opt, many, when_, where_, Rule, refuse, make, choose, as_}
+use Rattle.es_tree.specs.Plain.{Plain, node, leaf, nil, cons, mark, turn, via}
+
+-- the two ways to read a grammar
+pub data Reading : Type 0 where
+  free chosen : Reading
+
+-- a test that only chooses answers so; freely read it isn't asked
+abbrev pub Asks : Reading → Look → Bool → Option Key → Type 0
+Asks free t b x = Unit {0}
+Asks chosen t b x = t x ≡ b
+
+-- a part may be there before this token
+abbrev pub Present : Reading → Told → Option Key → Type 0
+Present h c x = Asks h (test c) true x
+
+-- a part may be absent before this token
+abbrev pub Absent : Reading → Told → Option Key → Type 0
+Absent h (hint t) x = Asks h t false x
+Absent h (taken t) x = t x ≡ false
+
+-- the turns of a list, each of which fits
+abbrev pub Turns : {Label : Type 0} → Reading → List Key → Told → (Plain Label → ℕ → ℕ → Type 0) → Plain Label → ℕ → ℕ → Type 0
+Turns h K c One nil from to = Absent h c (seen K from) × (from ≡ to)
+Turns {Label} h K c One (turn q ps) from to =
+    (mid : ℕ) × Present h c (seen K from) × One q from mid × Turns h K c One ps mid to
+Turns h K c One _ from to = ⊥
+
+module _ {Row Label : Type 0} where
+  -- the parts of a node fit a form, where `below` tells which trees the rows that it names have
+  abbrev pub Fits : Reading → List Key → (Row → Plain Label → ℕ → ℕ → Type 0) → Form Row → Plain Label → ℕ → ℕ → Type 0
+  Fits h K below done p from to = (p ≡ nil) × (from ≡ to)
+  Fits h K below (tok s may f) p from to =
+      (ps : Plain Label) × (p ≡ cons (leaf s from) ps) × (has_kind may (seen K from) ≡ true)
+      × Fits h K below f ps (from + 1) to
+  Fits h K below (punct k f) p from to =
+      (ps : Plain Label) × (p ≡ mark from ps) × (is k (seen K from) ≡ true) × Fits h K below f ps (from + 1) to
+  Fits h K below (row r f) p from to =
+      (q : Plain Label) × (ps : Plain Label) × (mid : ℕ) × (p ≡ cons q ps) × below r q from mid
+      × Fits h K below f ps mid to
+  Fits h K below (opt c g f) p from to =
+      (q : Plain Label) × (ps : Plain Label) × (mid : ℕ) × (p ≡ cons q ps)
+      × ((Present h c (seen K from) × Fits h K below g q from mid) ⊎ (Absent h c (seen K from) × (q ≡ nil) × (from ≡ mid)))
+      × Fits h K below f ps mid to
+  Fits h K below (many c g f) p from to =
+      (q : Plain Label) × (ps : Plain Label) × (mid : ℕ) × (p ≡ cons q ps) × Turns h K c (Fits h K below g) q from mid
+      × Fits h K below f ps mid to
+  Fits h K below (when_ t f) p from to = (t (seen K from) ≡ true) × Fits h K below f p from to
+  Fits h K below (where_ t f) p from to = (t K from ≡ true) × Fits h K below f p from to
+
+  -- a tree fits a rule
+  abbrev pub IsBy : Reading → List Key → (Row → Plain Label → ℕ → ℕ → Type 0) → Rule Row Label → Plain Label → ℕ → ℕ → Type 0
+  IsBy h K below refuse p from to = ⊥
+  IsBy h K below (make l f) p from to = (ps : Plain Label) × (p ≡ node l from to ps) × Fits h K below f ps from to
+  IsBy h K below (choose t a b) p from to =
+      (Asks h t true (seen K from) × IsBy h K below a p from to)
+      ⊎ (Asks h t false (seen K from) × IsBy h K below b p from to)
+  IsBy h K below (as_ w a) p from to = (q : Plain Label) × (p ≡ via w q) × IsBy h K below a q from to
+
+  -- a tree of a row, with at most `room` nodes on a path
+  unfoldable pub Under : Reading → List Key → (Row → Rule Row Label) → ℕ → Row → Plain Label → ℕ → ℕ → Type 0
+  Under h K rule zero r p from to = ⊥
+  Under h K rule (suc room) r p from to = IsBy h K (Under h K rule room) (rule r) p from to
+
+  -- a tree of a row over all tokens, with at most 500 nodes on a path
+  unfoldable pub Shape : Reading → (Row → Rule Row Label) → Row → List Key → Plain Label → Type 0
+  Shape h rule start K p = Under h K rule 500 start p 0 (length K)
