@@ -1,0 +1,112 @@
+-- What one answer of a loader makes of one specifier, case by case (this project's profile).
+use Rattle.std.specs.Prelude.{◌≡◌, ℕ, List, map, Option, Some, None, MatchOption, Ok, Err, IsUtf8}
+use Rattle.base.specs.declared.range.Range.{Range}
+use Rattle.url.specs.Parts.{Parts}
+use Rattle.url.specs.Parser.{Parsed, parse_url}
+use Rattle.es_lexer.specs.declared.token.Token.{Token}
+use Rattle.es_lexer.specs.declared.error.LexicalKind.{LexicalKind}
+use Rattle.es_lexer.specs.Reads.{ReadsTokens}
+use Rattle.es_lexer.specs.Stops.{Stops}
+use Rattle.es_tree.specs.declared.error.Lang.{Lang}
+use Rattle.es_tree.specs.declared.error.Lang.TheVariants.{Es, Typescript}
+use Rattle.es_tree.specs.declared.tree.Program.{Program}
+use Rattle.es_tree.specs.declared.site.Site.{Site}
+use Rattle.es_tree.specs.Sites.{sites_of}
+use Rattle.graph_entry.specs.declared.answer.LoadAnswer.{LoadAnswer}
+use Rattle.graph_entry.specs.declared.answer.LoadAnswer.TheVariants as answer
+use Rattle.graph_entry.specs.declared.diagnostic.SyntaxErrorKind.{SyntaxErrorKind}
+use Rattle.graph_entry.specs.declared.diagnostic.SyntaxErrorKind.TheVariants.{Lexical, Syntax}
+use Rattle.graph_entry.specs.declared.entry.Dependency.{Dependency}
+use Rattle.graph_entry.specs.declared.entry.Module.TheVariants.{Js}
+use Rattle.graph_entry.specs.declared.entry.Entry.{Entry}
+use Rattle.graph_entry.specs.declared.entry.Entry.TheVariants as entry
+use Rattle.graph_entry.specs.declared.entry.ModuleError.TheVariants.{Missing, Parse, NotBuilt}
+use Rattle.graph_entry.specs.declared.media_type.MediaType.{MediaType}
+use Rattle.graph_entry.specs.declared.media_type.MediaType.TheVariants.{TypeScript, Mts, JavaScript, Mjs, Unknown}
+use Rattle.graph_entry.specs.MediaType.{media_type_of}
+use Rattle.graph_entry.specs.ModuleText.{without_mark}
+use Rattle.graph_entry.specs.Resolution.{resolve}
+use Rattle.graph_entry.specs.ForNow.{Derives}
+
+-- the media type of a specifier is that of the path of the URL that its text is read as
+abbrev pub media_type_read : Parsed Parts → MediaType
+media_type_read (Ok url) = media_type_of url.path
+media_type_read (Err e) = Unknown
+
+-- the language of a source, for the media types that are built
+abbrev pub language_of : MediaType → Option Lang
+language_of TypeScript = Some Typescript
+language_of Mts = Some Typescript
+language_of JavaScript = Some Es
+language_of Mjs = Some Es
+language_of _ = None
+
+-- what is not built yet
+abbrev pub not_built : Entry
+not_built = entry.Error NotBuilt
+
+-- the source at this specifier is no module
+abbrev pub no_module : List ℕ → SyntaxErrorKind → Option Range → Entry
+no_module s kind range = entry.Error (Parse (record { specifier = s; kind = kind; range = range }))
+
+-- the empty range at a place
+abbrev pub at_place : ℕ → Range
+at_place place = record { start = place; end = place }
+
+-- the edge of a site in the module at this specifier
+abbrev pub dependency_of : List ℕ → Site → Dependency
+dependency_of s site = record {
+  kind = site.kind;
+  type_only = site.type_only;
+  range = Some site.range;
+  text = site.value;
+  attribute = site.attribute;
+  resolution = resolve s site.value;
+}
+
+-- the module at this specifier: its text, and one edge for each site of its tree, in order
+abbrev pub module_of : List ℕ → MediaType → List ℕ → Program → Entry
+module_of s media_type text program = entry.Module (Js (record {
+  media_type = media_type;
+  text = text;
+  dependencies = map (dependency_of s) (sites_of program);
+}))
+
+-- what the tokens of a source make
+pub data OfTokens (s : List ℕ) (media_type : MediaType) (lang : Lang) (text : List ℕ) (tokens : List Token)
+    (made : Entry) : Type 0 where
+  -- the module of their tree
+  with_tree : (program : Program) → Derives lang text tokens program → made ≡ module_of s media_type text program
+      → OfTokens s media_type lang text tokens made
+  -- they have no tree
+  no_tree : ((program : Program) → ¬ Derives lang text tokens program) → made ≡ no_module s Syntax None
+      → OfTokens s media_type lang text tokens made
+
+-- what the text of a source makes
+pub data OfText (s : List ℕ) (media_type : MediaType) (lang : Lang) (text : List ℕ) (made : Entry) : Type 0 where
+  -- what its tokens make
+  with_tokens : (tokens : List Token) → ReadsTokens text tokens → OfTokens s media_type lang text tokens made
+      → OfText s media_type lang text made
+  -- no tokens read it: the first fault
+  no_tokens : (kind : LexicalKind) (place : ℕ) → Stops text kind place
+      → made ≡ no_module s (Lexical kind) (Some (at_place place)) → OfText s media_type lang text made
+
+-- what the bytes of a source make
+pub data OfBytes (s : List ℕ) (media_type : MediaType) (lang : Lang) (bytes : List ℕ) (made : Entry) : Type 0 where
+  -- what their text makes
+  with_text : IsUtf8 bytes → OfText s media_type lang (without_mark bytes) made → OfBytes s media_type lang bytes made
+  -- they are no text
+  no_text : ¬ IsUtf8 bytes → made ≡ not_built → OfBytes s media_type lang bytes made
+
+-- what content makes: only sources are built
+abbrev pub OfContent : List ℕ → MediaType → List ℕ → Entry → Type 0
+OfContent s media_type bytes made =
+    MatchOption (language_of media_type) (made ≡ not_built) (λ lang. OfBytes s media_type lang bytes made)
+
+-- what this answer makes of this specifier
+unfoldable pub Analysed : List ℕ → LoadAnswer → Entry → Type 0
+Analysed s (answer.Content headers bytes) made = OfContent s (media_type_read (parse_url None s)) bytes made
+Analysed s (answer.Redirect target) made = made ≡ not_built
+Analysed s answer.External made = made ≡ not_built
+Analysed s answer.Absent made = made ≡ entry.Error Missing
+Analysed s answer.Failed made = made ≡ not_built

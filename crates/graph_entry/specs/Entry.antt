@@ -1,0 +1,33 @@
+-- Entries of a graph: their targets, and the entry of what no loader is asked for.
+use Rattle.std.specs.Prelude.{ℕ, List, [], codes, Option, option_map}
+use Rattle.std.specs.List.{filter_map}
+use Rattle.std.specs.Result.{result_ok}
+use Rattle.graph_entry.specs.declared.entry.Dependency.{Dependency}
+use Rattle.graph_entry.specs.declared.entry.Module.TheVariants.{Js}
+use Rattle.graph_entry.specs.declared.entry.Entry.{Entry}
+use Rattle.graph_entry.specs.declared.entry.Entry.TheVariants as entry
+use Rattle.graph_entry.specs.declared.entry.ModuleError.{ModuleError}
+use Rattle.graph_entry.specs.declared.entry.ModuleError.TheVariants.{Missing, Parse, NotBuilt, OutOfMemory}
+use Rattle.graph_entry.specs.Specifier.{text_of}
+
+-- the text of an edge's target
+abbrev pub target_of : Dependency → Option (List ℕ)
+target_of d = option_map text_of (result_ok d.resolution)
+
+-- the texts that an entry leads to: the targets of its edges, in order; each edge with a target is followed
+unfoldable pub targets : Entry → List (List ℕ)
+targets (entry.Module (Js m)) = filter_map target_of m.dependencies
+targets (entry.Redirect target) = []
+targets entry.External = []
+targets (entry.Error e) = []
+
+-- the entry of a specifier that no loader is asked for
+abbrev pub unanswered : Entry
+unanswered = entry.Error NotBuilt
+
+-- the name of an error, as reports write it
+abbrev pub name_of_error : ModuleError → List ℕ
+name_of_error Missing = codes "Missing"
+name_of_error (Parse d) = codes "Parse"
+name_of_error NotBuilt = codes "NotBuilt"
+name_of_error OutOfMemory = codes "OutOfMemory"

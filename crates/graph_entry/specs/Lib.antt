@@ -1,0 +1,10 @@
+-- ---- what the public contracts rest on
+pub mod Specifier
+pub mod MediaType
+pub mod ModuleText
+pub mod Resolution
+pub mod Headers
+pub mod Diagnosis
+pub mod Entry
+pub mod ForNow
+pub mod Analysed

@@ -1,0 +1,10 @@
+/// Which edges of a graph are followed.
+#[derive(Clone, Copy, Debug, PartialEq, Eq)]
+pub enum GraphKind {
+    /// Every edge.
+    All,
+    /// The edges that a running program takes.
+    CodeOnly,
+    /// The edges of typed modules.
+    TypesOnly,
+}
