@@ -9,9 +9,11 @@ use Rattle.es_lexer.specs.Reads.{ReadsTokens}
 use Rattle.es_lexer.specs.Stops.{Stops}
 use Rattle.es_tree.specs.declared.error.Lang.{Lang}
 use Rattle.es_tree.specs.declared.error.Lang.TheVariants.{Es, Typescript}
+use Rattle.es_tree.specs.declared.error.Mode.TheVariants as mode
 use Rattle.es_tree.specs.declared.tree.Program.{Program}
 use Rattle.es_tree.specs.declared.site.Site.{Site}
 use Rattle.es_tree.specs.Sites.{sites_of}
+use Rattle.es_parser.specs.Derives.{Derives}
 use Rattle.graph_entry.specs.declared.answer.LoadAnswer.{LoadAnswer}
 use Rattle.graph_entry.specs.declared.answer.LoadAnswer.TheVariants as answer
 use Rattle.graph_entry.specs.declared.diagnostic.SyntaxErrorKind.{SyntaxErrorKind}
@@ -26,7 +28,6 @@ use Rattle.graph_entry.specs.declared.media_type.MediaType.TheVariants.{TypeScri
 use Rattle.graph_entry.specs.MediaType.{media_type_of}
 use Rattle.graph_entry.specs.ModuleText.{without_mark}
 use Rattle.graph_entry.specs.Resolution.{resolve}
-use Rattle.graph_entry.specs.ForNow.{Derives}
 
 -- the media type of a specifier is that of the path of the URL that its text is read as
 abbrev pub media_type_read : Parsed Parts → MediaType
@@ -76,10 +77,10 @@ module_of s media_type text program = entry.Module (Js (record {
 pub data OfTokens (s : List ℕ) (media_type : MediaType) (lang : Lang) (text : List ℕ) (tokens : List Token)
     (made : Entry) : Type 0 where
   -- the module of their tree
-  with_tree : (program : Program) → Derives lang text tokens program → made ≡ module_of s media_type text program
+  with_tree : (program : Program) → Derives lang mode.Module text tokens program → made ≡ module_of s media_type text program
       → OfTokens s media_type lang text tokens made
   -- they have no tree
-  no_tree : ((program : Program) → ¬ Derives lang text tokens program) → made ≡ no_module s Syntax None
+  no_tree : ((program : Program) → ¬ Derives lang mode.Module text tokens program) → made ≡ no_module s Syntax None
       → OfTokens s media_type lang text tokens made
 
 -- what the text of a source makes

@@ -6,5 +6,4 @@ pub mod Resolution
 pub mod Headers
 pub mod Diagnosis
 pub mod Entry
-pub mod ForNow
 pub mod Analysed
