@@ -1,0 +1,10 @@
+-- ---- what the public contracts rest on
+pub mod Reach
+pub mod Graph
+pub mod Entries
+pub mod Loader
+pub mod Memory
+pub mod Builder
+pub use Rattle.graph_entry.specs.Specifier
+pub use Rattle.graph_entry.specs.Analysed
+pub use Rattle.graph_entry.specs.Entry

@@ -1,0 +1,188 @@
+//! The builder: asks a loader for all that is reached, and makes the graph of its answers.
+ghost use Rattle.std.specs.Prelude.{◌≡◌, ◌≤◌, ℕ, [], true, false, ◌↔◌, length, IfOk, OnOk, Err};
+ghost use Rattle.url.specs.Parts.{Parts};
+ghost use Rattle.graph_entry.specs.Specifier.{text_of};
+ghost use Rattle.graph_entry.specs.Analysed.{Analysed};
+ghost use Rattle.deno_graph.specs.Reach.{answer_to};
+ghost use Rattle.deno_graph.specs.Graph.{IsGraph};
+ghost use Rattle.deno_graph.specs.Builder.{starts, new_building, IsOrderly, IsAsking, IsAskedFor, EachAnswered, IsToldLog, HasHistory, IsNotYet, IsUnawaited, IsTooMany, IsComplete, OnlyPlain};
+
+use crate::error::BuildError;
+use crate::graph::ModuleGraph;
+use crate::loader::Loader;
+use crate::options::BuildOptions;
+use base::Items;
+use graph_entry::GraphKind;
+use std::alloc::{AllocError, Global};
+use std::marker::Model;
+use url::Url;
+
+/// A graph under construction, over a loader. It keeps an inner part, which contracts see as plain data:
+/// an analyser or a resolver of the caller's can stand beside it.
+#[derive(Drop)]
+pub struct GraphBuild<L: Loader + Drop> {
+    inner: Inner<L>,
+}
+
+#[derive(Drop)]
+struct Inner<L: Loader + Drop> {
+    loader: L,
+    roots: Items<Url>,
+    limit: usize,
+    asked: usize,
+    taken: usize,
+    finished: bool,
+}
+
+impl<L: Loader + Drop> Model for Inner<L> {
+    ghost use Rattle.std.specs.Prelude.{length, take, drop, ◌-◌, ◌≤◌};
+    ghost use Rattle.graph_entry.specs.Analysed.{Analysed};
+    ghost use Rattle.deno_graph.specs.Graph.{texts};
+    ghost use Rattle.deno_graph.specs.Builder.{Building, gained, earlier, IsKept};
+
+    ghost Value = { Building L };
+
+    ghost view = { λ b. record {
+      loader = b.loader;
+      roots = b.roots;
+      limit = b.limit;
+      asked = gained b.asked (L.asked b.loader);
+      log = gained b.taken (L.log b.loader);
+      asked_before = earlier b.asked (L.asked b.loader);
+      log_before = earlier b.taken (L.log b.loader);
+      pending = L.pending b.loader;
+      standing = L.standing b.loader;
+      patience = L.patience b.loader;
+      finished = b.finished;
+    } };
+
+    ghost invariant = { λ b. IsKept Analysed (texts b.roots) (L.asked b.loader) (L.log b.loader) (L.told b.loader) b.asked b.taken };
+}
+
+impl<L: Loader + Drop> GraphBuild<L> {
+    /// A builder of the graph of these roots. The loader's lists count from now on.
+    pub fn new(
+        alloc: Global,
+        roots: Items<Url>,
+        options: BuildOptions,
+        loader: L,
+    ) -> Result<GraphBuild<L>, AllocError>
+        requires { OnlyPlain options }
+        ensures { IfOk result (λ b. b.inner ≡ new_building roots options.limit loader (L.asked loader)
+            (L.log loader) (L.pending loader) (L.standing loader) (L.patience loader)) }
+    {
+        let _ = alloc;
+        let BuildOptions {
+            kind: _,
+            limit,
+            skip_dynamic_deps: _,
+            imports: _,
+        } = options;
+        Ok(GraphBuild {
+            inner: Inner {
+                loader,
+                roots,
+                limit,
+                asked: 0,
+                taken: 0,
+                finished: false,
+            },
+        })
+    }
+
+    /// Asks the loader for what is reached, takes its answers, and gives the graph once nothing is outstanding.
+    /// After `NotYet` it may be polled again; after any other answer it is finished.
+    pub fn poll(&mut self) -> Result<ModuleGraph, BuildError>
+        // The graph is that of the roots and the answers.
+        ensures graph { IfOk result (λ g.
+            IsGraph Analysed (starts self.old.inner) (answer_to self.new.inner.log) g.entries) }
+        ensures roots { IfOk result (λ g. g.roots ≡ self.old.inner.roots) }
+        // Each answer was awaited when it came; what was asked is what the graph needs, and is answered.
+        ensures orderly { OnOk result (IsOrderly Analysed (starts self.old.inner) self.new.inner.log) }
+        ensures asked { OnOk result
+            (IsAskedFor Analysed (starts self.old.inner) self.new.inner.asked self.new.inner.log) }
+        ensures answered { OnOk result (EachAnswered self.new.inner.asked self.new.inner.log) }
+        ensures limit { IfOk result (λ g. length g.entries ≤ self.old.inner.limit) }
+        ensures pending { OnOk result (self.new.inner.pending ≡ self.old.inner.pending) }
+        // Why there is no graph.
+        ensures not_yet { result ≡ Err BuildError.NotYet →
+            IsNotYet Analysed self.old.inner self.new.inner }
+        ensures unasked { (s : Parts) → result ≡ Err (BuildError.UnaskedAnswer s) →
+            IsUnawaited Analysed 1 self.old.inner self.new.inner (text_of s) }
+        ensures unasked_pending { (s : Parts) → result ≡ Err (BuildError.UnaskedAnswer s) →
+            self.new.inner.pending ≡ self.old.inner.pending }
+        ensures too_many { (seen : ℕ) → result ≡ Err (BuildError.TooManyModules seen) →
+            IsTooMany Analysed (starts self.old.inner) self.new.inner.log self.old.inner.limit seen }
+        ensures finished { (result ≡ Err BuildError.Finished) ↔ (self.old.inner.finished ≡ true) }
+        // And when there is one, unless memory runs out.
+        ensures complete { IsComplete Analysed self.old.inner self.new.inner result }
+        // On every answer.
+        ensures asking { IsAsking Analysed (starts self.old.inner) self.new.inner.asked self.new.inner.log }
+        ensures told { IsToldLog (L.told self.new.inner.loader) self.new.inner.log }
+        ensures telling { L.told self.new.inner.loader ≡ L.told self.old.inner.loader }
+        ensures history { HasHistory self.old.inner self.new.inner }
+        ensures idle { self.old.inner.finished ≡ true → self.new ≡ self.old }
+        ensures later { (self.new.inner.finished ≡ false) ↔ (result ≡ Err BuildError.NotYet) }
+    {
+        self.inner.poll()
+    }
+
+    /// The loader.
+    pub fn loader(&self) -> &L
+        ensures { result.now ≡ self.now.inner.loader }
+    {
+        &self.inner.loader
+    }
+
+    /// The loader, back from the builder.
+    pub fn into_loader(self) -> L
+        ensures { result ≡ self.inner.loader }
+    {
+        let GraphBuild { inner } = self;
+        let Inner {
+            loader,
+            roots: _,
+            limit: _,
+            asked: _,
+            taken: _,
+            finished: _,
+        } = inner;
+        loader
+    }
+}
+
+impl<L: Loader + Drop> Inner<L> {
+    fn poll(&mut self) -> Result<ModuleGraph, BuildError>
+        ensures graph { IfOk result (λ g.
+            IsGraph Analysed (starts self.old) (answer_to self.new.log) g.entries) }
+        ensures roots { IfOk result (λ g. g.roots ≡ self.old.roots) }
+        ensures orderly { OnOk result (IsOrderly Analysed (starts self.old) self.new.log) }
+        ensures asked { OnOk result
+            (IsAskedFor Analysed (starts self.old) self.new.asked self.new.log) }
+        ensures answered { OnOk result (EachAnswered self.new.asked self.new.log) }
+        ensures limit { IfOk result (λ g. length g.entries ≤ self.old.limit) }
+        ensures pending { OnOk result (self.new.pending ≡ self.old.pending) }
+        ensures not_yet { result ≡ Err BuildError.NotYet →
+            IsNotYet Analysed self.old self.new }
+        ensures unasked { (s : Parts) → result ≡ Err (BuildError.UnaskedAnswer s) →
+            IsUnawaited Analysed 1 self.old self.new (text_of s) }
+        ensures unasked_pending { (s : Parts) → result ≡ Err (BuildError.UnaskedAnswer s) →
+            self.new.pending ≡ self.old.pending }
+        ensures too_many { (seen : ℕ) → result ≡ Err (BuildError.TooManyModules seen) →
+            IsTooMany Analysed (starts self.old) self.new.log self.old.limit seen }
+        ensures finished { (result ≡ Err BuildError.Finished) ↔ (self.old.finished ≡ true) }
+        ensures complete { IsComplete Analysed self.old self.new result }
+        ensures asking { IsAsking Analysed (starts self.old) self.new.asked self.new.log }
+        ensures told { IsToldLog (L.told self.new.loader) self.new.log }
+        ensures telling { L.told self.new.loader ≡ L.told self.old.loader }
+        ensures history { HasHistory self.old self.new }
+        ensures idle { self.old.finished ≡ true → self.new ≡ self.old }
+        ensures later { (self.new.finished ≡ false) ↔ (result ≡ Err BuildError.NotYet) }
+    {
+        if self.finished {
+            return Err(BuildError::Finished);
+        }
+        self.finished = true;
+        Err(BuildError::OutOfMemory)
+    }
+}

@@ -1,0 +1,22 @@
+//! Why a poll of a builder gives no graph.
+use thiserror::Error;
+use url::Url;
+
+/// Why a poll gives no graph. After every error but `NotYet` the builder is finished.
+#[derive(Debug, Drop, PartialEq, Eq, Error)]
+pub enum BuildError {
+    /// The loader has nothing to give yet: poll again.
+    #[error("not all modules are loaded yet")]
+    NotYet,
+    /// Counting stopped at `seen`, the first number above the limit.
+    #[error("too many modules: {seen} or more")]
+    TooManyModules { seen: usize },
+    /// The loader answered for a specifier that was not awaited.
+    #[error("the loader answered for {0}, which it was not asked for or had answered before")]
+    UnaskedAnswer(Url),
+    /// An earlier poll gave the graph or an error other than `NotYet`.
+    #[error("the graph is finished")]
+    Finished,
+    #[error("out of memory")]
+    OutOfMemory,
+}

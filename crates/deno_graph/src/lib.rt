@@ -1,0 +1,28 @@
+//! The graph of the modules that are reached from some roots.
+//!
+//! - `GraphBuild::poll`: the graph of the roots and the loader's answers, or why there is none yet
+//!   (`IsGraph`, `specs/Graph.antt`; reached, `specs/Reach.antt`; the causes, `specs/Builder.antt`).
+//! - `Loader`: what a loader's calls do to its data (`specs/Loader.antt`). `MemoryLoader` is one that has its
+//!   modules in memory (`specs/Memory.antt`).
+//! - `ModuleGraph::{roots, entry, entries}`: look into the graph.
+//!
+//! Want of memory is the one answer that no clause ties to a cause.
+#![tactic(auto)]
+
+mod build;
+mod error;
+mod graph;
+mod loader;
+mod memory_loader;
+mod options;
+
+pub use build::GraphBuild;
+pub use error::BuildError;
+pub use graph::{Entries, ModuleGraph};
+pub use graph_entry::{
+    Attribute, Dependency, DependencyKind, Entry, GraphKind, Headers, JsModule, LoadAnswer,
+    MediaType, Module, ModuleError, ParseDiagnostic, ResolutionError, SyntaxErrorKind,
+};
+pub use loader::{Loader, LoaderPoll};
+pub use memory_loader::{Arrival, MemoryLoader};
+pub use options::{BuildOptions, ReferrerImports};
