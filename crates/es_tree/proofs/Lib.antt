@@ -1,1 +1,6 @@
+pub mod OutLemmas
 pub mod Progress
+pub mod ReaderLemmas
+pub mod FreeLemmas
+pub mod MadeLemmas
+pub mod Theorems

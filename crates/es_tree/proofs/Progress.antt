@@ -1,12 +1,13 @@
 -- A tree that fits never ends before it begins, nor past the last token; where its form takes a token, it ends behind it.
-use Rattle.std.specs.Prelude.{List, Option, Some, None, ◌||◌, ◌&&◌, Bool, true, false}
+use Rattle.std.specs.Prelude.{List, Option, Some, None, slice_get, ◌||◌, ◌&&◌, Bool, true, false}
 use Rattle.std.proofs.Common.{◌≡◌, ℕ, zero, suc, ◌+◌, ◌<◌, ◌≤◌, length, refl, inl, inr, arith}
 use Rattle.std.proofs.lemmas.Option.{slice_get_within}
-use Rattle.es_tree.specs.Key.{Key, seen, has_kind}
+use Rattle.es_tree.specs.Key.{Key, seen_of, has_kind}
 use Rattle.es_tree.specs.Form.{Told, Form, done, tok, punct, row, opt, many, when_, where_, Rule, refuse, make, choose, as_}
 use Rattle.es_tree.specs.Plain.{Plain, nil, turn}
 use Rattle.es_tree.specs.Fits.{Reading, Turns, Fits, IsBy, Under}
 use Rattle.es_tree.specs.Checks.{takes, rule_takes, IsSteady}
+use Rattle.es_tree.proofs.OutLemmas.{clash}
 
 -- from one place to another that isn't before it, is behind it where `strict` says so, and is within the tokens
 pub record IsAhead (n : ℕ) (strict : Bool) (from to : ℕ) : Type 0 where
@@ -14,17 +15,13 @@ pub record IsAhead (n : ℕ) (strict : Bool) (from to : ℕ) : Type 0 where
   pub strictly : strict ≡ true → from < to
   pub within : from ≤ n → to ≤ n
 
--- a test isn't both
-pub clash : {A : Type 0} → false ≡ true → A
-clash e = absurd (let bad : ⊥ = cc in bad)
-
 -- two tests that hold together hold each
 pub both_hold : (a b : Bool) → a && b ≡ true → (a ≡ true) × (b ≡ true)
 both_hold true b e = (refl, e)
 both_hold false b e = clash e
 
 -- a token of a kind stands before the end
-pub within_kind : (K : List Key) (at : ℕ) (may : _) (x : Option Key) → seen K at ≡ x → has_kind may x ≡ true → at < length K
+pub within_kind : (K : List Key) (at : ℕ) (may : _) (x : Option Key) → slice_get K at ≡ x → has_kind may (seen_of x) ≡ true → at < length K
 within_kind K at may (Some key) e h = slice_get_within K at key e
 within_kind K at may None e h = clash h
 
@@ -77,10 +74,10 @@ module _ {Row Label : Type 0} (h : Reading) (K : List Key) (solid : Row → Bool
       → Fits h K Below f p from to → IsAhead (length K) (takes solid f) from to
   fits_ahead done p from to fit = stay (length K) from to fit.1
   fits_ahead (tok s may f) p from to fit =
-      one_more (length K) (takes solid f) from to (within_kind K from may (seen K from) refl fit.2)
+      one_more (length K) (takes solid f) from to (within_kind K from may (slice_get K from) refl fit.2)
       (fits_ahead f fit.0 (from + 1) to fit.3)
   fits_ahead (punct k f) p from to fit =
-      one_more (length K) (takes solid f) from to (within_kind K from _ (seen K from) refl fit.2)
+      one_more (length K) (takes solid f) from to (within_kind K from _ (slice_get K from) refl fit.2)
       (fits_ahead f fit.0 (from + 1) to fit.3)
   fits_ahead (row r f) p from to fit =
       join (length K) (solid r) (takes solid f) from fit.2 to (below_ahead r fit.0 from fit.2 fit.4)

@@ -3,25 +3,29 @@
 -- written, with the written guards. In it no test that only chooses bars anything. `chosen` also obeys those tests, as the
 -- code does. Both have the same trees (`free_is_chosen`, `chosen_is_free` in proofs/FreeLemmas.antt).
 use Rattle.std.specs.Prelude.{◌≡◌, ℕ, zero, suc, ◌+◌, Bool, true, false, List, ◌⊎◌, Option, length}
-use Rattle.es_tree.specs.Key.{Key, Look, seen, has_kind, is}
+use Rattle.es_tree.specs.Key.{Key, Seen, Look, seen, has_kind, is}
 use Rattle.es_tree.specs.Form.{Told, hint, taken, test, Form, done, tok, punct, row, opt, many, when_, where_, Rule, refuse, make, choose, as_}
 use Rattle.es_tree.specs.Plain.{Plain, node, leaf, nil, cons, mark, turn, via}
+
+-- the most nodes on a path
+unfoldable pub most_nodes : ℕ
+most_nodes = 500
 
 -- the two ways to read a grammar
 pub data Reading : Type 0 where
   free chosen : Reading
 
 -- a test that only chooses answers so; freely read it isn't asked
-abbrev pub Asks : Reading → Look → Bool → Option Key → Type 0
+abbrev pub Asks : Reading → Look → Bool → Option Seen → Type 0
 Asks free t b x = Unit {0}
 Asks chosen t b x = t x ≡ b
 
 -- a part may be there before this token
-abbrev pub Present : Reading → Told → Option Key → Type 0
+abbrev pub Present : Reading → Told → Option Seen → Type 0
 Present h c x = Asks h (test c) true x
 
 -- a part may be absent before this token
-abbrev pub Absent : Reading → Told → Option Key → Type 0
+abbrev pub Absent : Reading → Told → Option Seen → Type 0
 Absent h (hint t) x = Asks h t false x
 Absent h (taken t) x = t x ≡ false
 
@@ -68,6 +72,6 @@ module _ {Row Label : Type 0} where
   Under h K rule zero r p from to = ⊥
   Under h K rule (suc room) r p from to = IsBy h K (Under h K rule room) (rule r) p from to
 
-  -- a tree of a row over all tokens, with at most 500 nodes on a path
+  -- a tree of a row over all tokens, with at most `most_nodes` nodes on a path
   unfoldable pub Shape : Reading → (Row → Rule Row Label) → Row → List Key → Plain Label → Type 0
-  Shape h rule start K p = Under h K rule 500 start p 0 (length K)
+  Shape h rule start K p = Under h K rule most_nodes start p 0 (length K)

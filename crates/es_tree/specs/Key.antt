@@ -27,13 +27,23 @@ abbrev pub keys_of : List Token → List Key
 keys_of [] = []
 keys_of (t ∷ ts) = key_of false t ∷ keys_after t.range.end ts
 
--- the key at a place, or nothing at the end
-abbrev pub seen : List Key → ℕ → Option Key
-seen K at = slice_get K at
+-- what a test of one token looks at: the token's kind, and whether a line end stands before it
+pub record Seen : Type 0 where
+  pub kind : TokenKind
+  pub line_before : Bool
+
+-- what is seen of a token, or nothing at the end
+abbrev pub seen_of : Option Key → Option Seen
+seen_of (Some key) = Some (record { kind = key.kind; line_before = key.line_before })
+seen_of None = None
+
+-- what is seen at a place
+abbrev pub seen : List Key → ℕ → Option Seen
+seen K at = seen_of (slice_get K at)
 
 -- a test of the next token, or of the end
 abbrev pub Look : Type 0
-Look = Option Key → Bool
+Look = Option Seen → Bool
 
 -- two kinds are the same
 abbrev pub same_kind : TokenKind → TokenKind → Bool
@@ -41,7 +51,7 @@ same_kind a b = sameb the_type a b
 
 -- the next token is of such a kind
 abbrev pub has_kind : (TokenKind → Bool) → Look
-has_kind may (Some key) = may key.kind
+has_kind may (Some s) = may s.kind
 has_kind may None = false
 
 -- the next token is of this kind
@@ -50,15 +60,15 @@ is kind x = has_kind (λ k. same_kind k kind) x
 
 -- there is no next token
 abbrev pub is_end : Look
-is_end (Some key) = false
+is_end (Some s) = false
 is_end None = true
 
 -- there is a next token
 abbrev pub is_token : Look
-is_token (Some key) = true
+is_token (Some s) = true
 is_token None = false
 
 -- a line end stands before the next token
 abbrev pub is_after_line : Look
-is_after_line (Some key) = key.line_before
+is_after_line (Some s) = s.line_before
 is_after_line None = false

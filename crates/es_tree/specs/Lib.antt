@@ -7,3 +7,4 @@ pub mod Fits
 -- the reader of a grammar, and what its table has to meet
 pub mod Reader
 pub mod Checks
+pub mod Tells

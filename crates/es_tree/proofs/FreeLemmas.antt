@@ -1,0 +1,375 @@
+-- A table whose tests tell has the same trees, read freely or with its tests obeyed: no test bars a reading.
+use Rattle.std.specs.Prelude.{List, Option, not, ◌||◌, ◌&&◌, ◌⊎◌, Bool, true, false}
+use Rattle.std.proofs.Common.{◌≡◌, ℕ, zero, suc, ◌+◌, ◌<◌, ◌≤◌, length, refl, sym, subst, inl, inr, arith}
+use Rattle.std.proofs.Math.Nat.{eq-or-lt_of_le}
+use Rattle.es_tree.specs.Key.{Key, Seen, Look, seen}
+use Rattle.es_tree.specs.Form.{Told, hint, taken, test, Form, done, tok, punct, row, opt, many, when_, where_, Rule, refuse, make, choose, as_}
+use Rattle.es_tree.specs.Plain.{Plain, nil, turn}
+use Rattle.es_tree.specs.Fits.{free, chosen, Absent, Turns, Fits, IsBy, Under}
+use Rattle.es_tree.specs.Checks.{takes, parts_take, rule_parts_take}
+use Rattle.es_tree.specs.Tells.{Sets, none, implies, may_lack, tells_lack, starts, rule_starts, tells, rule_tells, IsTold}
+use Rattle.es_tree.proofs.OutLemmas.{clash}
+use Rattle.es_tree.proofs.Progress.{IsAhead, both_hold, fits_ahead, under_ahead}
+
+-- ---- tests
+
+left_holds : (a b : Bool) → a ≡ true → a || b ≡ true
+left_holds true b e = refl
+left_holds false b e = clash e
+
+right_holds : (a b : Bool) → b ≡ true → a || b ≡ true
+right_holds true b e = refl
+right_holds false b e = e
+
+hold_both : (a b : Bool) → a ≡ true → b ≡ true → a && b ≡ true
+hold_both true b e h = h
+hold_both false b e h = clash e
+
+not_false : (a : Bool) → a ≡ false → not a ≡ true
+not_false true e = clash (sym e)
+not_false false e = refl
+
+not_true : (a : Bool) → not a ≡ true → a ≡ false
+not_true true e = clash e
+not_true false e = refl
+
+holds_then : (a b : Bool) → implies a b ≡ true → a ≡ true → b ≡ true
+holds_then true b e h = e
+holds_then false b e h = clash h
+
+-- ---- what obeys the tests is a free reading
+
+absent_free : (c : Told) (x : Option Seen) → Absent chosen c x → Absent free c x
+absent_free (hint t) x e = tt
+absent_free (taken t) x e = e
+
+turns_free : {Label : Type 0} (K : List Key) (c : Told) (One Two : Plain Label → ℕ → ℕ → Type 0)
+    → ((q : Plain Label) (from mid : ℕ) → One q from mid → Two q from mid)
+    → (ps : Plain Label) (from to : ℕ) → Turns chosen K c One ps from to → Turns free K c Two ps from to
+turns_free K c One Two each nil from to fit = (absent_free c (seen K from) fit.0, fit.1)
+turns_free K c One Two each (turn q ps) from to fit =
+    (fit.0, tt, each q from fit.0 fit.2, turns_free K c One Two each ps fit.0 to fit.3)
+turns_free K c One Two each _ from to fit = absurd fit
+
+module _ {Row Label : Type 0} (K : List Key) (Obeys Free : Row → Plain Label → ℕ → ℕ → Type 0)
+    (below_free : (r : Row) (q : Plain Label) (from mid : ℕ) → Obeys r q from mid → Free r q from mid) where
+  form_free : (f : Form Row) (p : Plain Label) (from to : ℕ) → Fits chosen K Obeys f p from to → Fits free K Free f p from to
+  form_free done p from to fit = fit
+  form_free (tok s may f) p from to fit = (fit.0, fit.1, fit.2, form_free f fit.0 (from + 1) to fit.3)
+  form_free (punct k f) p from to fit = (fit.0, fit.1, fit.2, form_free f fit.0 (from + 1) to fit.3)
+  form_free (row r f) p from to fit =
+      (fit.0, fit.1, fit.2, fit.3, below_free r fit.0 from fit.2 fit.4, form_free f fit.1 fit.2 to fit.5)
+  form_free (opt c g f) p from to fit = (
+    fit.0,
+    fit.1,
+    fit.2,
+    fit.3,
+    elim fit.4 [
+      | inl there ↦ inl (tt, form_free g fit.0 from fit.2 there.1)
+      | inr absent ↦ inr (absent_free c (seen K from) absent.0, absent.1, absent.2)
+    ],
+    form_free f fit.1 fit.2 to fit.5,
+  )
+  form_free (many c g f) p from to fit = (
+    fit.0,
+    fit.1,
+    fit.2,
+    fit.3,
+    turns_free K c (Fits chosen K Obeys g) (Fits free K Free g) (form_free g) fit.0 from fit.2 fit.4,
+    form_free f fit.1 fit.2 to fit.5,
+  )
+  form_free (when_ t f) p from to fit = (fit.0, form_free f p from to fit.1)
+  form_free (where_ t f) p from to fit = (fit.0, form_free f p from to fit.1)
+
+  rule_free : (a : Rule Row Label) (p : Plain Label) (from to : ℕ) → IsBy chosen K Obeys a p from to → IsBy free K Free a p from to
+  rule_free refuse p from to by = by
+  rule_free (make l f) p from to by = (by.0, by.1, form_free f by.0 from to by.2)
+  rule_free (choose t a b) p from to by = elim by [
+    | inl one ↦ inl (tt, rule_free a p from to one.1)
+    | inr other ↦ inr (tt, rule_free b p from to other.1)
+  ]
+  rule_free (as_ w a) p from to by = (by.0, by.1, rule_free a by.0 from to by.2)
+
+-- a tree that obeys the tests is a tree of the grammar
+pub chosen_is_free : {Row Label : Type 0} (K : List Key) (rule : Row → Rule Row Label) (room : ℕ) (r : Row) (p : Plain Label)
+    (from to : ℕ) → Under chosen K rule room r p from to → Under free K rule room r p from to
+unfolding Under
+chosen_is_free K rule zero r p from to under = under
+chosen_is_free K rule (suc room) r p from to under =
+    rule_free K (Under chosen K rule room) (Under free K rule room) (chosen_is_free K rule room) (rule r) p from to under
+
+-- ---- where a form begins
+
+-- some token is taken, or what stands behind may stand there
+abbrev Begun : List Key → Look → ℕ → ℕ → Type 0
+Begun K then_ from to = (from < to) ⊎ (then_ (seen K to) ≡ true)
+
+begun_moved : (K : List Key) (then_ : Look) (from mid to : ℕ) → from ≡ mid → Begun K then_ from to → Begun K then_ mid to
+begun_moved K then_ from mid to e b = let P : ℕ → Type 0 = λ n. Begun K then_ n to in subst P e b
+
+seen_moved : (K : List Key) (t : Look) (from mid : ℕ) → from ≡ mid → t (seen K mid) ≡ true → t (seen K from) ≡ true
+seen_moved K t from mid e h = let P : ℕ → Type 0 = λ n. t (seen K n) ≡ true in subst P (sym e) h
+
+lacks : (c : Told) (x : Option Seen) → Absent free c x → may_lack c x ≡ true
+lacks (hint t) x e = refl
+lacks (taken t) x e = not_false (t x) e
+
+row_begins : (K : List Key) (solid first : Bool) (then_ : Look) (from mid : ℕ) → from ≤ mid → (solid ≡ true → from < mid)
+    → (from < mid → first ≡ true) → then_ (seen K mid) ≡ true ⊎ (from < mid)
+    → first || (not solid && then_ (seen K from)) ≡ true
+row_begins K solid first then_ from mid le strictly begins rest =
+    elim (eq-or-lt_of_le le) [
+      | inr less ↦ left_holds first (not solid && then_ (seen K from)) (begins less)
+      | inl same ↦ right_holds first (not solid && then_ (seen K from)) (hold_both (not solid) (then_ (seen K from))
+          (not_false solid (loose solid strictly (λ less. let bad : ⊥ = omega (arith, less, same) in bad)))
+          (elim rest [
+            | inl stands ↦ seen_moved K then_ from mid same stands
+            | inr less ↦ absurd (let bad : ⊥ = omega (arith, less, same) in bad)
+          ]))
+    ]
+  where
+    loose : (s : Bool) → (s ≡ true → from < mid) → (from < mid → ⊥) → s ≡ false
+    loose true f g = absurd (g (f refl))
+    loose false f g = refl
+
+module _ {Row Label : Type 0} (K : List Key) (s : Sets Row) (Below : Row → Plain Label → ℕ → ℕ → Type 0)
+    (below_ahead : (r : Row) (q : Plain Label) (from mid : ℕ) → Below r q from mid → IsAhead (length K) (s.solid r) from mid)
+    (below_begins : (r : Row) (q : Plain Label) (from mid : ℕ) → Below r q from mid → from < mid → s.first r (seen K from) ≡ true) where
+  turns_begin : (c : Told) (One : Plain Label → ℕ → ℕ → Type 0) (one rest : Look)
+      → ((q : Plain Label) (from mid : ℕ) → One q from mid → one (seen K from) ≡ true)
+      → (ps : Plain Label) (from to : ℕ) → Turns free K c One ps from to → (from ≡ to → rest (seen K to) ≡ true)
+      → one (seen K from) || (may_lack c (seen K from) && rest (seen K from)) ≡ true
+  turns_begin c One one rest each nil from to fit stands =
+      right_holds (one (seen K from)) (may_lack c (seen K from) && rest (seen K from))
+      (hold_both (may_lack c (seen K from)) (rest (seen K from)) (lacks c (seen K from) fit.0)
+      (seen_moved K rest from to fit.1 (stands fit.1)))
+  turns_begin c One one rest each (turn q ps) from to fit stands =
+      left_holds (one (seen K from)) (may_lack c (seen K from) && rest (seen K from)) (each q from fit.0 fit.2)
+  turns_begin c One one rest each _ from to fit stands = absurd fit
+
+  form_begins : (f : Form Row) → parts_take s.solid f ≡ true → (then_ : Look) (p : Plain Label) (from to : ℕ)
+      → Fits free K Below f p from to → Begun K then_ from to → starts s f then_ (seen K from) ≡ true
+  form_begins done sound then_ p from to fit begun = elim begun [
+    | inl less ↦ absurd (let same = fit.1 in let bad : ⊥ = omega (arith, less, same) in bad)
+    | inr stands ↦ seen_moved K then_ from to fit.1 stands
+  ]
+  form_begins (tok sort may f) sound then_ p from to fit begun = fit.2
+  form_begins (punct k f) sound then_ p from to fit begun = fit.2
+  form_begins (row r f) sound then_ p from to fit begun =
+      let first = below_ahead r fit.0 from fit.2 fit.4 in
+      row_begins K (s.solid r) (s.first r (seen K from)) (starts s f then_) from fit.2 first.forward first.strictly
+      (below_begins r fit.0 from fit.2 fit.4)
+      (elim (eq-or-lt_of_le first.forward) [
+        | inr less ↦ inr less
+        | inl same ↦ inl (form_begins f sound then_ fit.1 fit.2 to fit.5 (begun_moved K then_ from fit.2 to same begun))
+      ])
+  form_begins (opt c g f) sound then_ p from to fit begun =
+      let checks = both_hold (takes s.solid g) (parts_take s.solid g && parts_take s.solid f) sound in
+      let parts = both_hold (parts_take s.solid g) (parts_take s.solid f) checks.1 in
+      elim fit.4 [
+        | inl there ↦
+            left_holds (starts s g none (seen K from)) (may_lack c (seen K from) && starts s f then_ (seen K from))
+            (form_begins g parts.0 none fit.0 from fit.2 there.1
+            (inl ((fits_ahead free K s.solid Below below_ahead g fit.0 from fit.2 there.1).strictly checks.0)))
+        | inr absent ↦
+            right_holds (starts s g none (seen K from)) (may_lack c (seen K from) && starts s f then_ (seen K from))
+            (hold_both (may_lack c (seen K from)) (starts s f then_ (seen K from)) (lacks c (seen K from) absent.0)
+            (seen_moved K (starts s f then_) from fit.2 absent.2
+            (form_begins f parts.1 then_ fit.1 fit.2 to fit.5 (begun_moved K then_ from fit.2 to absent.2 begun))))
+      ]
+  form_begins (many c g f) sound then_ p from to fit begun =
+      let checks = both_hold (takes s.solid g) (parts_take s.solid g && parts_take s.solid f) sound in
+      let parts = both_hold (parts_take s.solid g) (parts_take s.solid f) checks.1 in
+      turns_begin c (Fits free K Below g) (starts s g none) (starts s f then_)
+      (λ q at mid one. form_begins g parts.0 none q at mid one
+      (inl ((fits_ahead free K s.solid Below below_ahead g q at mid one).strictly checks.0)))
+      fit.0 from fit.2 fit.4
+      (λ same. form_begins f parts.1 then_ fit.1 fit.2 to fit.5 (begun_moved K then_ from fit.2 to same begun))
+  form_begins (when_ t f) sound then_ p from to fit begun =
+      hold_both (t (seen K from)) (starts s f then_ (seen K from)) fit.0 (form_begins f sound then_ p from to fit.1 begun)
+  form_begins (where_ t f) sound then_ p from to fit begun = form_begins f sound then_ p from to fit.1 begun
+
+  rule_begins : (a : Rule Row Label) → rule_parts_take s.solid a ≡ true → (then_ : Look) (p : Plain Label) (from to : ℕ)
+      → IsBy free K Below a p from to → Begun K then_ from to → rule_starts s a then_ (seen K from) ≡ true
+  rule_begins refuse sound then_ p from to by begun = absurd by
+  rule_begins (make l f) sound then_ p from to by begun = form_begins f sound then_ by.0 from to by.2 begun
+  rule_begins (choose t a b) sound then_ p from to by begun =
+      let parts = both_hold (rule_parts_take s.solid a) (rule_parts_take s.solid b) sound in
+      elim by [
+        | inl one ↦
+            left_holds (rule_starts s a then_ (seen K from)) (rule_starts s b then_ (seen K from))
+            (rule_begins a parts.0 then_ p from to one.1 begun)
+        | inr other ↦
+            right_holds (rule_starts s a then_ (seen K from)) (rule_starts s b then_ (seen K from))
+            (rule_begins b parts.1 then_ p from to other.1 begun)
+      ]
+  rule_begins (as_ w a) sound then_ p from to by begun = rule_begins a sound then_ by.0 from to by.2 begun
+
+row_starts : {Row Label : Type 0} (K : List Key) (rule : Row → Rule Row Label) (s : Sets Row) → IsTold rule s
+    → (room : ℕ) (r : Row) (p : Plain Label) (from to : ℕ)
+    → Under free K rule room r p from to → from < to → s.first r (seen K from) ≡ true
+unfolding Under
+row_starts K rule s told zero r p from to under less = absurd under
+row_starts K rule s told (suc room) r p from to under less =
+    told.firsts r (seen K from)
+    (rule_begins K s (Under free K rule room) (under_ahead free K rule s.solid told.steady room)
+    (row_starts K rule s told room) (rule r) (told.steady.parts r) none p from to under (inl less))
+
+-- ---- a free reading obeys the tests
+
+lack_told : (c : Told) (x : Option Seen) → tells_lack c x ≡ true → Absent free c x → Absent chosen c x
+lack_told (hint t) x e a = not_true (t x) e
+lack_told (taken t) x e a = a
+
+-- behind a turn another may stand, or what stands behind the list
+turns_next : {Label : Type 0} (K : List Key) (c : Told) (One : Plain Label → ℕ → ℕ → Type 0) (next : Look)
+    → ((q : Plain Label) (from mid : ℕ) → One q from mid → next (seen K from) ≡ true)
+    → (ps : Plain Label) (from to : ℕ) → Turns free K c One ps from to → next (seen K to) ≡ true → next (seen K from) ≡ true
+turns_next K c One next each nil from to fit stands = seen_moved K next from to fit.1 stands
+turns_next K c One next each (turn q ps) from to fit stands = each q from fit.0 fit.2
+turns_next K c One next each _ from to fit stands = absurd fit
+
+turns_obey : {Label : Type 0} (K : List Key) (c : Told) (One Two : Plain Label → ℕ → ℕ → Type 0) (next : Look)
+    → ((q : Plain Label) (from mid : ℕ) → One q from mid → next (seen K from) ≡ true)
+    → ((q : Plain Label) (from mid : ℕ) → One q from mid → test c (seen K from) ≡ true)
+    → ((q : Plain Label) (from mid : ℕ) → One q from mid → next (seen K mid) ≡ true → Two q from mid)
+    → (ps : Plain Label) (from to : ℕ) → Turns free K c One ps from to → next (seen K to) ≡ true
+    → tells_lack c (seen K to) ≡ true → Turns chosen K c Two ps from to
+turns_obey K c One Two next begins tests each nil from to fit stands lack =
+    (lack_told c (seen K from) (seen_moved K (tells_lack c) from to fit.1 lack) fit.0, fit.1)
+turns_obey K c One Two next begins tests each (turn q ps) from to fit stands lack = (
+  fit.0,
+  tests q from fit.0 fit.2,
+  each q from fit.0 fit.2 (turns_next K c One next begins ps fit.0 to fit.3 stands),
+  turns_obey K c One Two next begins tests each ps fit.0 to fit.3 stands lack,
+)
+turns_obey K c One Two next begins tests each _ from to fit stands lack = absurd fit
+
+module _ {Row Label : Type 0} (K : List Key) (s : Sets Row) (Free Obeys : Row → Plain Label → ℕ → ℕ → Type 0)
+    (below_ahead : (r : Row) (q : Plain Label) (from mid : ℕ) → Free r q from mid → IsAhead (length K) (s.solid r) from mid)
+    (below_begins : (r : Row) (q : Plain Label) (from mid : ℕ) → Free r q from mid → from < mid → s.first r (seen K from) ≡ true)
+    (below_obeys : (r : Row) (q : Plain Label) (from mid : ℕ) → Free r q from mid → s.follow r (seen K mid) ≡ true → Obeys r q from mid) where
+  -- the four tests of a part that may be absent
+  part_told : (c : Told) (g f : Form Row) (inner then_ : Look)
+      → ((x : Option Seen) → implies (starts s g none x) (test c x) && (implies (starts s f then_ x) (tells_lack c x)
+      && (tells s g inner x && tells s f then_ x)) ≡ true)
+      → (x : Option Seen) → (implies (starts s g none x) (test c x) ≡ true) × (implies (starts s f then_ x) (tells_lack c x) ≡ true)
+      × (tells s g inner x ≡ true) × (tells s f then_ x ≡ true)
+  part_told c g f inner then_ told x =
+      let a = both_hold (implies (starts s g none x) (test c x)) (implies (starts s f then_ x) (tells_lack c x)
+      && (tells s g inner x && tells s f then_ x)) (told x) in
+      let b = both_hold (implies (starts s f then_ x) (tells_lack c x)) (tells s g inner x && tells s f then_ x) a.1 in
+      let d = both_hold (tells s g inner x) (tells s f then_ x) b.1 in
+      (a.0, b.0, d.0, d.1)
+
+  form_obeys : (f : Form Row) → parts_take s.solid f ≡ true → (then_ : Look) → ((x : Option Seen) → tells s f then_ x ≡ true)
+      → (p : Plain Label) (from to : ℕ) → Fits free K Free f p from to → then_ (seen K to) ≡ true → Fits chosen K Obeys f p from to
+  form_obeys done sound then_ told p from to fit stands = fit
+  form_obeys (tok sort may f) sound then_ told p from to fit stands =
+      (fit.0, fit.1, fit.2, form_obeys f sound then_ told fit.0 (from + 1) to fit.3 stands)
+  form_obeys (punct k f) sound then_ told p from to fit stands =
+      (fit.0, fit.1, fit.2, form_obeys f sound then_ told fit.0 (from + 1) to fit.3 stands)
+  form_obeys (row r f) sound then_ told p from to fit stands =
+      let both = λ (x : Option Seen). both_hold (implies (starts s f then_ x) (s.follow r x)) (tells s f then_ x) (told x) in
+      let rest = form_begins K s Free below_ahead below_begins f sound then_ fit.1 fit.2 to fit.5 (inr stands) in (
+        fit.0,
+        fit.1,
+        fit.2,
+        fit.3,
+        below_obeys r fit.0 from fit.2 fit.4
+            (holds_then (starts s f then_ (seen K fit.2)) (s.follow r (seen K fit.2)) (both (seen K fit.2)).0 rest),
+        form_obeys f sound then_ (λ x. (both x).1) fit.1 fit.2 to fit.5 stands,
+      )
+  form_obeys (opt c g f) sound then_ told p from to fit stands =
+      let checks = both_hold (takes s.solid g) (parts_take s.solid g && parts_take s.solid f) sound in
+      let parts = both_hold (parts_take s.solid g) (parts_take s.solid f) checks.1 in
+      let all = part_told c g f (starts s f then_) then_ told in
+      let rest = form_begins K s Free below_ahead below_begins f parts.1 then_ fit.1 fit.2 to fit.5 (inr stands) in (
+        fit.0,
+        fit.1,
+        fit.2,
+        fit.3,
+        elim fit.4 [
+          | inl there ↦
+              inl (
+                holds_then (starts s g none (seen K from)) (test c (seen K from)) (all (seen K from)).0
+                    (form_begins K s Free below_ahead below_begins g parts.0 none fit.0 from fit.2 there.1
+                    (inl ((fits_ahead free K s.solid Free below_ahead g fit.0 from fit.2 there.1).strictly checks.0))),
+                form_obeys g parts.0 (starts s f then_) (λ x. (all x).2) fit.0 from fit.2 there.1 rest,
+              )
+          | inr absent ↦
+              inr (
+                lack_told c (seen K from)
+                    (holds_then (starts s f then_ (seen K from)) (tells_lack c (seen K from)) (all (seen K from)).1
+                    (seen_moved K (starts s f then_) from fit.2 absent.2 rest)) absent.0,
+                absent.1,
+                absent.2,
+              )
+        ],
+        form_obeys f parts.1 then_ (λ x. (all x).3) fit.1 fit.2 to fit.5 stands,
+      )
+  form_obeys (many c g f) sound then_ told p from to fit stands =
+      let checks = both_hold (takes s.solid g) (parts_take s.solid g && parts_take s.solid f) sound in
+      let parts = both_hold (parts_take s.solid g) (parts_take s.solid f) checks.1 in
+      let next : Look = (λ y. starts s g none y || starts s f then_ y) in
+      let all = part_told c g f next then_ told in
+      let rest = form_begins K s Free below_ahead below_begins f parts.1 then_ fit.1 fit.2 to fit.5 (inr stands) in
+      let begins = λ (q : Plain Label) (at mid : ℕ) (one : Fits free K Free g q at mid).
+      form_begins K s Free below_ahead below_begins g parts.0 none q at mid one
+      (inl ((fits_ahead free K s.solid Free below_ahead g q at mid one).strictly checks.0)) in (
+        fit.0,
+        fit.1,
+        fit.2,
+        fit.3,
+        turns_obey K c (Fits free K Free g) (Fits chosen K Obeys g) next
+            (λ q at mid one. left_holds (starts s g none (seen K at)) (starts s f then_ (seen K at)) (begins q at mid one))
+            (λ q at mid one. holds_then (starts s g none (seen K at)) (test c (seen K at)) (all (seen K at)).0 (begins q at mid one))
+            (λ q at mid one. form_obeys g parts.0 next (λ x. (all x).2) q at mid one)
+            fit.0 from fit.2 fit.4
+            (right_holds (starts s g none (seen K fit.2)) (starts s f then_ (seen K fit.2)) rest)
+            (holds_then (starts s f then_ (seen K fit.2)) (tells_lack c (seen K fit.2)) (all (seen K fit.2)).1 rest),
+        form_obeys f parts.1 then_ (λ x. (all x).3) fit.1 fit.2 to fit.5 stands,
+      )
+  form_obeys (when_ t f) sound then_ told p from to fit stands = (fit.0, form_obeys f sound then_ told p from to fit.1 stands)
+  form_obeys (where_ t f) sound then_ told p from to fit stands = (fit.0, form_obeys f sound then_ told p from to fit.1 stands)
+
+  rule_obeys : (a : Rule Row Label) → rule_parts_take s.solid a ≡ true → (then_ : Look)
+      → ((x : Option Seen) → rule_tells s a then_ x ≡ true)
+      → (p : Plain Label) (from to : ℕ) → IsBy free K Free a p from to → then_ (seen K to) ≡ true → IsBy chosen K Obeys a p from to
+  rule_obeys refuse sound then_ told p from to by stands = by
+  rule_obeys (make l f) sound then_ told p from to by stands =
+      (by.0, by.1, form_obeys f sound then_ told by.0 from to by.2 stands)
+  rule_obeys (choose t a b) sound then_ told p from to by stands =
+      let parts = both_hold (rule_parts_take s.solid a) (rule_parts_take s.solid b) sound in
+      let one = λ (x : Option Seen). both_hold (implies (rule_starts s a then_ x) (t x))
+      (implies (rule_starts s b then_ x) (not (t x)) && (rule_tells s a then_ x && rule_tells s b then_ x)) (told x) in
+      let other = λ (x : Option Seen). both_hold (implies (rule_starts s b then_ x) (not (t x)))
+      (rule_tells s a then_ x && rule_tells s b then_ x) (one x).1 in
+      let each = λ (x : Option Seen). both_hold (rule_tells s a then_ x) (rule_tells s b then_ x) (other x).1 in
+      elim by [
+        | inl first ↦
+            inl (
+              holds_then (rule_starts s a then_ (seen K from)) (t (seen K from)) (one (seen K from)).0
+                  (rule_begins K s Free below_ahead below_begins a parts.0 then_ p from to first.1 (inr stands)),
+              rule_obeys a parts.0 then_ (λ x. (each x).0) p from to first.1 stands,
+            )
+        | inr second ↦
+            inr (
+              not_true (t (seen K from)) (holds_then (rule_starts s b then_ (seen K from)) (not (t (seen K from)))
+                  (other (seen K from)).0 (rule_begins K s Free below_ahead below_begins b parts.1 then_ p from to second.1 (inr stands))),
+              rule_obeys b parts.1 then_ (λ x. (each x).1) p from to second.1 stands,
+            )
+      ]
+  rule_obeys (as_ w a) sound then_ told p from to by stands =
+      (by.0, by.1, rule_obeys a sound then_ told by.0 from to by.2 stands)
+
+-- a tree of the grammar, before a token that may follow its row, obeys the tests
+pub free_is_chosen : {Row Label : Type 0} (K : List Key) (rule : Row → Rule Row Label) (s : Sets Row) → IsTold rule s
+    → (room : ℕ) (r : Row) (p : Plain Label) (from to : ℕ)
+    → Under free K rule room r p from to → s.follow r (seen K to) ≡ true → Under chosen K rule room r p from to
+unfolding Under
+free_is_chosen K rule s told zero r p from to under stands = under
+free_is_chosen K rule s told (suc room) r p from to under stands =
+    rule_obeys K s (Under free K rule room) (Under chosen K rule room) (under_ahead free K rule s.solid told.steady room)
+    (row_starts K rule s told room) (free_is_chosen K rule s told room) (rule r) (told.steady.parts r) (s.follow r) (told.choices r)
+    p from to under stands

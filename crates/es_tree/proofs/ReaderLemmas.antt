@@ -1,0 +1,242 @@
+-- The reader of plain trees answers exactly the tree that fits where the tests are obeyed, so there is at most one.
+use Rattle.std.specs.Prelude.{List, Option, slice_get, ◌&&◌, Bool, true, false}
+use Rattle.std.proofs.Common.{◌≡◌, ℕ, zero, suc, ◌+◌, ◌<◌, ◌≤◌, length, refl, sym, ap, inl, inr, arith}
+use Rattle.es_tree.specs.Key.{Key, Seen, seen, has_kind, is, same_kind}
+use Rattle.es_tree.specs.Form.{Told, hint, taken, test, Form, done, tok, punct, row, opt, many, when_, where_, Rule, refuse, make, choose, as_}
+use Rattle.es_tree.specs.Plain.{Plain, node, leaf, nil, cons, mark, turn, via, plain}
+use Rattle.es_tree.specs.Fits.{chosen, Absent, Turns, Fits, IsBy, Under}
+use Rattle.es_tree.specs.Reader.{Out, nothing, gives, and_then, changed, either, read_turns, read_form, read_rule, read_row}
+use Rattle.es_tree.specs.Checks.{takes, parts_take, rule_parts_take, IsSteady}
+use Rattle.es_tree.proofs.OutLemmas.{nothing_gives, gives_same, and_then-gives, changed-gives, then_gives, change_gives, only_if-gives, either-gives, only_if_true, either_true, either_false}
+use Rattle.es_tree.proofs.Progress.{IsAhead, both_hold, within_kind, fits_ahead, under_ahead, turns_ahead}
+
+-- an absent part's test is false where the tests are obeyed
+absent_test : (c : Told) (x : Option Seen) → Absent chosen c x → test c x ≡ false
+absent_test (hint t) x e = e
+absent_test (taken t) x e = e
+
+test_absent : (c : Told) (x : Option Seen) → test c x ≡ false → Absent chosen c x
+test_absent (hint t) x e = e
+test_absent (taken t) x e = e
+
+-- ---- what is read fits
+
+turns_fit : {Label : Type 0} (K : List Key) (c : Told) (one : ℕ → Out (Plain Label)) (One : Plain Label → ℕ → ℕ → Type 0)
+    → ((at : ℕ) (q : Plain Label) (mid : ℕ) → one at ≡ gives q mid → One q at mid)
+    → (n at : ℕ) (p : Plain Label) (to : ℕ) → read_turns plain K (test c) one n at ≡ gives p to → Turns chosen K c One p at to
+unfolding read_turns
+turns_fit K c one One fit zero at p to e =
+    elim (either-gives (test c (seen K at)) nothing (gives nil at) p to e) [
+      | inl more ↦ nothing_gives p to more.1
+      | inr last ↦
+          let same = gives_same nil p at to last.1 in
+          rw (← same.0) (test_absent c (seen K at) last.0, same.1)
+    ]
+turns_fit K c one One fit (suc n) at p to e =
+    elim (either-gives (test c (seen K at))
+    (and_then (one at) (λ q mid. changed (turn q) (read_turns plain K (test c) one n mid))) (gives nil at) p to e) [
+      | inl more ↦
+          let first = and_then-gives (one at) (λ q mid. changed (turn q) (read_turns plain K (test c) one n mid)) p to more.1 in
+          let rest = changed-gives (turn first.0) (read_turns plain K (test c) one n first.1) p to first.3 in
+          rw (← rest.2) (first.1, more.0, fit at first.0 first.1 first.2, turns_fit K c one One fit n first.1 rest.0 to rest.1)
+      | inr last ↦
+          let same = gives_same nil p at to last.1 in
+          rw (← same.0) (test_absent c (seen K at) last.0, same.1)
+    ]
+
+module _ {Row Label : Type 0} (K : List Key) (below : Row → ℕ → Out (Plain Label))
+    (Below : Row → Plain Label → ℕ → ℕ → Type 0)
+    (below_fits : (r : Row) (at : ℕ) (q : Plain Label) (mid : ℕ) → below r at ≡ gives q mid → Below r q at mid) where
+  form_fits : (f : Form Row) (at : ℕ) (p : Plain Label) (to : ℕ) → read_form plain K below f at ≡ gives p to
+      → Fits chosen K Below f p at to
+  form_fits done at p to e = let same = gives_same nil p at to e in (sym same.0, same.1)
+  form_fits (tok s may f) at p to e =
+      let here = only_if-gives (has_kind may (seen K at))
+      (changed (cons (leaf s at)) (read_form plain K below f (at + 1))) p to e in
+      let rest = changed-gives (cons (leaf s at)) (read_form plain K below f (at + 1)) p to here.1 in
+      (rest.0, sym rest.2, here.0, form_fits f (at + 1) rest.0 to rest.1)
+  form_fits (punct k f) at p to e =
+      let here = only_if-gives (is k (seen K at)) (changed (mark at) (read_form plain K below f (at + 1))) p to e in
+      let rest = changed-gives (mark at) (read_form plain K below f (at + 1)) p to here.1 in
+      (rest.0, sym rest.2, here.0, form_fits f (at + 1) rest.0 to rest.1)
+  form_fits (row r f) at p to e =
+      let first = and_then-gives (below r at) (λ q mid. changed (cons q) (read_form plain K below f mid)) p to e in
+      let rest = changed-gives (cons first.0) (read_form plain K below f first.1) p to first.3 in
+      (first.0, rest.0, first.1, sym rest.2, below_fits r at first.0 first.1 first.2, form_fits f first.1 rest.0 to rest.1)
+  form_fits (opt c g f) at p to e =
+      let part = either (test c (seen K at)) (read_form plain K below g at) (gives nil at) in
+      let first = and_then-gives part (λ q mid. changed (cons q) (read_form plain K below f mid)) p to e in
+      let rest = changed-gives (cons first.0) (read_form plain K below f first.1) p to first.3 in (
+        first.0,
+        rest.0,
+        first.1,
+        sym rest.2,
+        elim (either-gives (test c (seen K at)) (read_form plain K below g at) (gives nil at) first.0 first.1 first.2) [
+          | inl there ↦ inl (there.0, form_fits g at first.0 first.1 there.1)
+          | inr absent ↦
+              let same = gives_same nil first.0 at first.1 absent.1 in
+              inr (test_absent c (seen K at) absent.0, sym same.0, same.1)
+        ],
+        form_fits f first.1 rest.0 to rest.1,
+      )
+  form_fits (many c g f) at p to e =
+      let turns = read_turns plain K (test c) (read_form plain K below g) (length K) at in
+      let first = and_then-gives turns (λ q mid. changed (cons q) (read_form plain K below f mid)) p to e in
+      let rest = changed-gives (cons first.0) (read_form plain K below f first.1) p to first.3 in (
+        first.0,
+        rest.0,
+        first.1,
+        sym rest.2,
+        turns_fit K c (read_form plain K below g) (Fits chosen K Below g) (form_fits g) (length K) at first.0 first.1 first.2,
+        form_fits f first.1 rest.0 to rest.1,
+      )
+  form_fits (when_ t f) at p to e =
+      let here = only_if-gives (t (seen K at)) (read_form plain K below f at) p to e in
+      (here.0, form_fits f at p to here.1)
+  form_fits (where_ t f) at p to e =
+      let here = only_if-gives (t K at) (read_form plain K below f at) p to e in
+      (here.0, form_fits f at p to here.1)
+
+  rule_fits : (a : Rule Row Label) (at : ℕ) (p : Plain Label) (to : ℕ) → read_rule plain K below a at ≡ gives p to
+      → IsBy chosen K Below a p at to
+  rule_fits refuse at p to e = nothing_gives p to e
+  rule_fits (make l f) at p to e =
+      let parts = and_then-gives (read_form plain K below f at) (λ ps to. gives (node l at to ps) to) p to e in
+      let same = gives_same (node l at parts.1 parts.0) p parts.1 to parts.3 in (
+        parts.0,
+        (let ends = same.1 in let tree = same.0 in (let goal : p ≡ node l at to parts.0 = cc in goal)),
+        form_fits f at parts.0 to (let read = parts.2 in let ends = same.1 in cc),
+      )
+  rule_fits (choose t a b) at p to e =
+      elim (either-gives (t (seen K at)) (read_rule plain K below a at) (read_rule plain K below b at) p to e) [
+        | inl one ↦ inl (one.0, rule_fits a at p to one.1)
+        | inr other ↦ inr (other.0, rule_fits b at p to other.1)
+      ]
+  rule_fits (as_ w a) at p to e =
+      let inner = changed-gives (via w) (read_rule plain K below a at) p to e in
+      (inner.0, sym inner.2, rule_fits a at inner.0 to inner.1)
+
+-- what the reader of a row answers is a tree of it
+pub row_fits : {Row Label : Type 0} (K : List Key) (rule : Row → Rule Row Label) (room : ℕ) (r : Row) (at : ℕ) (p : Plain Label) (to : ℕ)
+    → read_row plain K rule room r at ≡ gives p to → Under chosen K rule room r p at to
+unfolding Under read_row
+row_fits K rule zero r at p to e = nothing_gives p to e
+row_fits K rule (suc room) r at p to e =
+    rule_fits K (read_row plain K rule room) (Under chosen K rule room) (row_fits K rule room) (rule r) at p to e
+
+-- ---- what fits is read
+
+turns_read : {Label : Type 0} (K : List Key) (c : Told) (one : ℕ → Out (Plain Label)) (One : Plain Label → ℕ → ℕ → Type 0)
+    → ((q : Plain Label) (at mid : ℕ) → at ≤ length K → One q at mid → one at ≡ gives q mid)
+    → ((q : Plain Label) (at mid : ℕ) → One q at mid → IsAhead (length K) true at mid)
+    → (n : ℕ) (p : Plain Label) (at to : ℕ) → at ≤ length K → to ≤ at + n
+    → Turns chosen K c One p at to → read_turns plain K (test c) one n at ≡ gives p to
+unfolding read_turns
+turns_read K c one One reads ahead zero nil at to start enough fit =
+    either_false (test c (seen K at)) nothing (gives nil at) (gives nil to) (absent_test c (seen K at) fit.0) (ap (gives nil) fit.1)
+turns_read K c one One reads ahead (suc n) nil at to start enough fit =
+    either_false (test c (seen K at)) (and_then (one at) (λ q mid. changed (turn q) (read_turns plain K (test c) one n mid)))
+    (gives nil at) (gives nil to) (absent_test c (seen K at) fit.0) (ap (gives nil) fit.1)
+turns_read K c one One reads ahead zero (turn q ps) at to start enough fit =
+    let less : at < fit.0 = (ahead q at fit.0 fit.2).strictly refl in
+    let rest : fit.0 ≤ to =
+    (turns_ahead chosen K c One true (length K) (λ q from mid. ahead q from mid) ps fit.0 to fit.3).forward in
+    absurd (let bad : ⊥ = omega arith in bad)
+turns_read K c one One reads ahead (suc n) (turn q ps) at to start enough fit =
+    let first = ahead q at fit.0 fit.2 in
+    let less : at < fit.0 = first.strictly refl in
+    either_true (test c (seen K at)) (and_then (one at) (λ q mid. changed (turn q) (read_turns plain K (test c) one n mid)))
+    (gives nil at) (gives (turn q ps) to) fit.1
+    (then_gives (one at) (λ q mid. changed (turn q) (read_turns plain K (test c) one n mid)) q fit.0 (gives (turn q ps) to)
+    (reads q at fit.0 start fit.2)
+    (change_gives (turn q) (read_turns plain K (test c) one n fit.0) ps (turn q ps) to
+    (turns_read K c one One reads ahead n ps fit.0 to (first.within start) (omega arith) fit.3) refl))
+turns_read K c one One reads ahead n _ at to start enough fit = absurd fit
+
+module _ {Row Label : Type 0} (K : List Key) (solid : Row → Bool) (below : Row → ℕ → Out (Plain Label))
+    (Below : Row → Plain Label → ℕ → ℕ → Type 0)
+    (below_ahead : (r : Row) (q : Plain Label) (at mid : ℕ) → Below r q at mid → IsAhead (length K) (solid r) at mid)
+    (below_reads : (r : Row) (q : Plain Label) (at mid : ℕ) → at ≤ length K → Below r q at mid → below r at ≡ gives q mid) where
+  form_reads : (f : Form Row) → parts_take solid f ≡ true → (p : Plain Label) (at to : ℕ) → at ≤ length K
+      → Fits chosen K Below f p at to → read_form plain K below f at ≡ gives p to
+  form_reads done sound p at to start fit = let tree = fit.0 in let ends = fit.1 in cc
+  form_reads (tok s may f) sound p at to start fit =
+      let here : at < length K = within_kind K at may (slice_get K at) refl fit.2 in
+      only_if_true (has_kind may (seen K at)) (changed (cons (leaf s at)) (read_form plain K below f (at + 1))) (gives p to) fit.2
+      (change_gives (cons (leaf s at)) (read_form plain K below f (at + 1)) fit.0 p to
+      (form_reads f sound fit.0 (at + 1) to (omega arith) fit.3) (sym fit.1))
+  form_reads (punct k f) sound p at to start fit =
+      let here : at < length K = within_kind K at (λ x. same_kind x k) (slice_get K at) refl fit.2 in
+      only_if_true (is k (seen K at)) (changed (mark at) (read_form plain K below f (at + 1))) (gives p to) fit.2
+      (change_gives (mark at) (read_form plain K below f (at + 1)) fit.0 p to
+      (form_reads f sound fit.0 (at + 1) to (omega arith) fit.3) (sym fit.1))
+  form_reads (row r f) sound p at to start fit =
+      then_gives (below r at) (λ q mid. changed (cons q) (read_form plain K below f mid)) fit.0 fit.2 (gives p to)
+      (below_reads r fit.0 at fit.2 start fit.4)
+      (change_gives (cons fit.0) (read_form plain K below f fit.2) fit.1 p to
+      (form_reads f sound fit.1 fit.2 to ((below_ahead r fit.0 at fit.2 fit.4).within start) fit.5) (sym fit.3))
+  form_reads (opt c g f) sound p at to start fit =
+      let checks = both_hold (takes solid g) (parts_take solid g && parts_take solid f) sound in
+      let parts = both_hold (parts_take solid g) (parts_take solid f) checks.1 in
+      let mid_within : fit.2 ≤ length K = elim fit.4 [
+        | inl there ↦ (fits_ahead chosen K solid Below below_ahead g fit.0 at fit.2 there.1).within start
+        | inr absent ↦ omega (arith, absent.2)
+      ] in
+      then_gives (either (test c (seen K at)) (read_form plain K below g at) (gives nil at))
+      (λ q mid. changed (cons q) (read_form plain K below f mid)) fit.0 fit.2 (gives p to)
+      (elim fit.4 [
+        | inl there ↦
+            either_true (test c (seen K at)) (read_form plain K below g at) (gives nil at) (gives fit.0 fit.2) there.0
+            (form_reads g parts.0 fit.0 at fit.2 start there.1)
+        | inr absent ↦
+            either_false (test c (seen K at)) (read_form plain K below g at) (gives nil at) (gives fit.0 fit.2)
+            (absent_test c (seen K at) absent.0) (let tree = absent.1 in let ends = absent.2 in cc)
+      ])
+      (change_gives (cons fit.0) (read_form plain K below f fit.2) fit.1 p to
+      (form_reads f parts.1 fit.1 fit.2 to mid_within fit.5) (sym fit.3))
+  form_reads (many c g f) sound p at to start fit =
+      let checks = both_hold (takes solid g) (parts_take solid g && parts_take solid f) sound in
+      let parts = both_hold (parts_take solid g) (parts_take solid f) checks.1 in
+      let turn_ahead : (q : Plain Label) (at mid : ℕ) → Fits chosen K Below g q at mid → IsAhead (length K) true at mid =
+      λ q at mid one. (let x = fits_ahead chosen K solid Below below_ahead g q at mid one in rw checks.0 at x) in
+      let list = turns_ahead chosen K c (Fits chosen K Below g) true (length K) turn_ahead fit.0 at fit.2 fit.4 in
+      let mid_within : fit.2 ≤ length K = list.within start in
+      then_gives (read_turns plain K (test c) (read_form plain K below g) (length K) at)
+      (λ q mid. changed (cons q) (read_form plain K below f mid)) fit.0 fit.2 (gives p to)
+      (turns_read K c (read_form plain K below g) (Fits chosen K Below g) (form_reads g parts.0) turn_ahead (length K)
+      fit.0 at fit.2 start (omega arith) fit.4)
+      (change_gives (cons fit.0) (read_form plain K below f fit.2) fit.1 p to
+      (form_reads f parts.1 fit.1 fit.2 to mid_within fit.5) (sym fit.3))
+  form_reads (when_ t f) sound p at to start fit =
+      only_if_true (t (seen K at)) (read_form plain K below f at) (gives p to) fit.0 (form_reads f sound p at to start fit.1)
+  form_reads (where_ t f) sound p at to start fit =
+      only_if_true (t K at) (read_form plain K below f at) (gives p to) fit.0 (form_reads f sound p at to start fit.1)
+
+  rule_reads : (a : Rule Row Label) → rule_parts_take solid a ≡ true → (p : Plain Label) (at to : ℕ) → at ≤ length K
+      → IsBy chosen K Below a p at to → read_rule plain K below a at ≡ gives p to
+  rule_reads refuse sound p at to start by = absurd by
+  rule_reads (make l f) sound p at to start by =
+      then_gives (read_form plain K below f at) (λ ps to. gives (node l at to ps) to) by.0 to (gives p to)
+      (form_reads f sound by.0 at to start by.2) (ap (λ x. gives x to) (sym by.1))
+  rule_reads (choose t a b) sound p at to start by =
+      let parts = both_hold (rule_parts_take solid a) (rule_parts_take solid b) sound in
+      elim by [
+        | inl one ↦
+            either_true (t (seen K at)) (read_rule plain K below a at) (read_rule plain K below b at) (gives p to) one.0
+            (rule_reads a parts.0 p at to start one.1)
+        | inr other ↦
+            either_false (t (seen K at)) (read_rule plain K below a at) (read_rule plain K below b at) (gives p to) other.0
+            (rule_reads b parts.1 p at to start other.1)
+      ]
+  rule_reads (as_ w a) sound p at to start by =
+      change_gives (via w) (read_rule plain K below a at) by.0 p to (rule_reads a sound by.0 at to start by.2) (sym by.1)
+
+-- a tree of a row is what its reader answers
+pub row_reads : {Row Label : Type 0} (K : List Key) (rule : Row → Rule Row Label) (solid : Row → Bool) → IsSteady rule solid
+    → (room : ℕ) (r : Row) (p : Plain Label) (at to : ℕ) → at ≤ length K → Under chosen K rule room r p at to
+    → read_row plain K rule room r at ≡ gives p to
+unfolding Under read_row
+row_reads K rule solid steady zero r p at to start under = absurd under
+row_reads K rule solid steady (suc room) r p at to start under =
+    rule_reads K solid (read_row plain K rule room) (Under chosen K rule room) (under_ahead chosen K rule solid steady room)
+    (row_reads K rule solid steady room) (rule r) (steady.parts r) p at to start under

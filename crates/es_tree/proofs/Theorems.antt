@@ -1,0 +1,62 @@
+-- The laws of a grammar whose tests tell, for whatever table of rows.
+use Rattle.std.specs.Prelude.{List, None, true}
+use Rattle.std.proofs.Common.{◌≡◌, length, sym, ap, ◌∙◌, arith}
+use Rattle.std.proofs.lemmas.Option.{slice_get_past}
+use Rattle.es_tree.specs.Key.{Key, seen, seen_of}
+use Rattle.es_tree.specs.Form.{Rule}
+use Rattle.es_tree.specs.Plain.{Plain, Makes, made, plain}
+use Rattle.es_tree.specs.Fits.{free, chosen, Shape, most_nodes}
+use Rattle.es_tree.specs.Reader.{gives, changed, read_row}
+use Rattle.es_tree.specs.Tells.{Sets, IsTold}
+use Rattle.es_tree.proofs.OutLemmas.{gives_same, changed-gives}
+use Rattle.es_tree.proofs.ReaderLemmas.{row_fits, row_reads}
+use Rattle.es_tree.proofs.FreeLemmas as Free
+use Rattle.es_tree.proofs.MadeLemmas.{row_made}
+
+-- a grammar whose tests tell, and a row of it that may stand before the end
+pub record IsGrammar {Row Label : Type 0} (rule : Row → Rule Row Label) (s : Sets Row) (start : Row) : Type 0 where
+  pub told : IsTold rule s
+  pub ends : s.follow start None ≡ true
+
+-- nothing is seen behind the last token
+pub seen-length : (K : List Key) → seen K (length K) ≡ None
+seen-length K = ap seen_of (slice_get_past K (length K) (omega arith))
+
+module _ {Row Label : Type 0} (rule : Row → Rule Row Label) (s : Sets Row) (start : Row) (grammar : IsGrammar rule s start) where
+  -- no test bars a reading: what the grammar derives obeys them
+  pub free_is_chosen : (K : List Key) (p : Plain Label) → Shape free rule start K p → Shape chosen rule start K p
+  unfolding Shape
+  free_is_chosen K p shaped =
+      Free.free_is_chosen K rule s grammar.told most_nodes start p 0 (length K) shaped (ap (s.follow start) (seen-length K) ∙ grammar.ends)
+
+  -- and the other way round
+  pub chosen_is_free : (K : List Key) (p : Plain Label) → Shape chosen rule start K p → Shape free rule start K p
+  unfolding Shape
+  chosen_is_free K p shaped = Free.chosen_is_free K rule most_nodes start p 0 (length K) shaped
+
+  -- what the reader answers at the end is made of a tree of the grammar
+  pub read_is_derived : {Made : Type 0} (m : Makes Label Made) (K : List Key) (v : Made)
+      → read_row m K rule most_nodes start 0 ≡ gives v (length K)
+      → (p : Plain Label) × Shape free rule start K p × (made m p ≡ v)
+  unfolding Shape
+  read_is_derived m K v read =
+      let tree = changed-gives (made m) (read_row plain K rule most_nodes start 0) v (length K)
+      (sym (row_made m K rule most_nodes start 0) ∙ read) in
+      (tree.0, Free.chosen_is_free K rule most_nodes start tree.0 0 (length K) (row_fits K rule most_nodes start 0 tree.0 (length K) tree.1), tree.2)
+
+  -- what is made of a tree of the grammar is what the reader answers, at the end
+  pub derived_is_read : {Made : Type 0} (m : Makes Label Made) (K : List Key) (p : Plain Label)
+      → Shape free rule start K p → read_row m K rule most_nodes start 0 ≡ gives (made m p) (length K)
+  unfolding Shape
+  derived_is_read m K p shaped =
+      row_made m K rule most_nodes start 0
+      ∙ ap (changed (made m)) (row_reads K rule s.solid grammar.told.steady most_nodes start p 0 (length K) (omega arith)
+      (free_is_chosen K p shaped))
+
+  -- the keys of tokens have at most one tree
+  pub one_shape : (K : List Key) (p q : Plain Label) → Shape free rule start K p → Shape free rule start K q → p ≡ q
+  unfolding Shape
+  one_shape K p q one other =
+      let first = row_reads K rule s.solid grammar.told.steady most_nodes start p 0 (length K) (omega arith) (free_is_chosen K p one) in
+      let second = row_reads K rule s.solid grammar.told.steady most_nodes start q 0 (length K) (omega arith) (free_is_chosen K q other) in
+      (gives_same p q (length K) (length K) (sym first ∙ second)).0
