@@ -1,0 +1,4 @@
+-- What the public contracts rest on.
+pub mod Transfer
+pub mod Status
+pub mod Memory
