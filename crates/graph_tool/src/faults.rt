@@ -29,6 +29,5 @@ impl Faults {
     /// One failure more.
     pub fn rise(&mut self)
         ensures { self.new.count ≡ self.old.count + 1 }
-    {
-    }
+    {}
 }

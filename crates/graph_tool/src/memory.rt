@@ -62,11 +62,11 @@ impl Model for MemorySource {
     ghost Value = { GivenBytes };
 
     ghost view = { λ s. record {
-        left = drop s.at s.bytes.items;
-        piece = s.piece;
-        next = s.calls.next;
-        failing = s.calls.failing.items;
-        faults = s.calls.faults.count;
+      left = drop s.at s.bytes.items;
+      piece = s.piece;
+      next = s.calls.next;
+      failing = s.calls.failing.items;
+      faults = s.calls.faults.count;
     } };
 
     ghost invariant = { λ s. (s.at ≤ length s.bytes.items) × (0 < s.piece) };
@@ -78,7 +78,12 @@ impl MemorySource {
     pub fn new(bytes: Vec<u8>, piece: usize, failing_calls: Vec<u64>) -> MemorySource
         requires { 0 < piece }
         ensures { result ≡ record {
-            left = bytes.items; piece = piece; next = 0; failing = failing_calls.items; faults = 0 } }
+          left = bytes.items;
+          piece = piece;
+          next = 0;
+          failing = failing_calls.items;
+          faults = 0;
+        } }
     {
         MemorySource {
             bytes,
@@ -137,12 +142,12 @@ impl Model for MemorySink {
     ghost Value = { TakenBytes };
 
     ghost view = { λ s. record {
-        taken = take s.len s.buffer.items;
-        room = length s.buffer.items;
-        piece = s.piece;
-        next = s.calls.next;
-        failing = s.calls.failing.items;
-        faults = s.calls.faults.count;
+      taken = take s.len s.buffer.items;
+      room = length s.buffer.items;
+      piece = s.piece;
+      next = s.calls.next;
+      failing = s.calls.failing.items;
+      faults = s.calls.faults.count;
     } };
 
     ghost invariant = { λ s. (s.len ≤ length s.buffer.items) × (0 < s.piece) };
@@ -151,10 +156,21 @@ impl Model for MemorySink {
 impl MemorySink {
     /// A sink with room for `room` bytes, of which a write takes at most `piece`. Calls are
     /// numbered from 0, and a listed one fails.
-    pub fn new(alloc: Global, room: usize, piece: usize, failing_calls: Vec<u64>) -> Result<MemorySink, AllocError>
+    pub fn new(
+        alloc: Global,
+        room: usize,
+        piece: usize,
+        failing_calls: Vec<u64>,
+    ) -> Result<MemorySink, AllocError>
         requires { 0 < piece }
         ensures { IfOk result (λ s. s ≡ record {
-            taken = []; room = room; piece = piece; next = 0; failing = failing_calls.items; faults = 0 }) }
+          taken = [];
+          room = room;
+          piece = piece;
+          next = 0;
+          failing = failing_calls.items;
+          faults = 0;
+        }) }
     {
         Ok(MemorySink {
             buffer: vec![in alloc; 0; room]?,

@@ -9,7 +9,7 @@ invariant-parts g l = record {
   within : vec_len l.bytes ≤ input_limit + 1;
   chunk : vec_len l.chunk ≡ 65536;
   given : Consumes (g.S.Source.left l.initial.source) (g.S.Source.left l.source) l.bytes.items;
-  count : g.S.Source.faults l.source ≡ g.S.Source.faults l.initial.source
+  count : g.S.Source.faults l.source ≡ g.S.Source.faults l.initial.source;
 }
 
 abbrev pub decreases-parts : goal.decreases-parts

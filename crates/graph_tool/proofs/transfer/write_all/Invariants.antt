@@ -7,7 +7,7 @@ abbrev pub invariant-rest : goal.invariant-rest
 invariant-rest g l = record {
   within : l.at ≤ length l.bytes;
   taken : Appends (g.K.Sink.taken l.initial.sink) (g.K.Sink.taken l.sink) (take l.at l.bytes);
-  count : g.K.Sink.faults l.sink ≡ g.K.Sink.faults l.initial.sink
+  count : g.K.Sink.faults l.sink ≡ g.K.Sink.faults l.initial.sink;
 }
 
 abbrev pub decreases-rest : goal.decreases-rest
