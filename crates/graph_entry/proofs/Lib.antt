@@ -1,2 +1,4 @@
 pub mod ResolutionLemmas
 pub mod HeadersLemmas
+pub mod ModuleTextLemmas
+pub mod AnalysedLemmas

@@ -7,3 +7,5 @@ pub mod Headers
 pub mod Diagnosis
 pub mod Entry
 pub mod Analysed
+-- ---- what the functions inside the crate promise each other
+pub mod Source

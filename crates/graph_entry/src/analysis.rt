@@ -1,11 +1,26 @@
 //! What one answer of a loader makes of one specifier.
-ghost use Rattle.std.specs.Prelude.{◌≡◌, IfOk};
+ghost use Rattle.std.specs.Prelude.{◌≡◌, None, map, IfOk};
+ghost use Rattle.url.specs.Parser.{parse_url};
+ghost use Rattle.es_lexer.specs.Reads.{ReadsTokens};
+ghost use Rattle.es_tree.specs.Sites.{sites_of};
 ghost use Rattle.graph_entry.specs.Specifier.{text_of};
-ghost use Rattle.graph_entry.specs.Analysed.{Analysed};
+ghost use Rattle.graph_entry.specs.ModuleText as texts;
+ghost use Rattle.graph_entry.specs.Diagnosis.{told_range};
+ghost use Rattle.graph_entry.specs.Source.{IsReadAgain};
+ghost use Rattle.graph_entry.specs.Analysed as spec;
+ghost use Rattle.graph_entry.specs.Analysed.{Analysed, OfContent, OfBytes, OfText, OfTokens};
 
 use crate::answer::LoadAnswer;
-use crate::entry::{Entry, ModuleError};
+use crate::diagnostic::{ParseDiagnostic, SyntaxErrorKind};
+use crate::entry::{Dependency, Entry, JsModule, Module, ModuleError};
+use crate::media_type::MediaType;
+use crate::resolution::{ReadAgain, read_again, resolve_from};
+use base::{Items, Range, SharedText};
+use es_lexer::{LexError, LexicalError, Token, lex_tokens};
+use es_parser::parse_tokens;
+use es_tree::{Lang, Mode, Program, Site, SyntaxError, sites};
 use std::alloc::{AllocError, Global};
+use std::str;
 use url::Url;
 
 /// The entry of the specifier, where a loader gave this answer for it.
@@ -14,10 +29,214 @@ pub fn analyse(alloc: Global, specifier: &Url, answer: LoadAnswer) -> Result<Ent
     ensures { IfOk result (λ made. Analysed (text_of specifier.now) answer made) }
 {
     match answer {
-        LoadAnswer::Content { .. } => Err(AllocError),
-        LoadAnswer::Redirect(_) | LoadAnswer::External | LoadAnswer::Failed => {
-            Ok(Entry::Error(ModuleError::NotBuilt))
+        LoadAnswer::Content { headers: _, bytes } => {
+            analyse_content(alloc, specifier, bytes.as_slice())
         }
+        LoadAnswer::Redirect(_) | LoadAnswer::External | LoadAnswer::Failed => Ok(not_built()),
         LoadAnswer::Absent => Ok(Entry::Error(ModuleError::Missing)),
     }
+}
+
+fn not_built() -> Entry
+    ensures { result ≡ spec.not_built }
+{
+    Entry::Error(ModuleError::NotBuilt)
+}
+
+fn analyse_content(alloc: Global, specifier: &Url, bytes: &[u8]) -> Result<Entry, AllocError>
+    ensures { IfOk result (OfContent
+        (text_of specifier.now) (spec.media_type_read (parse_url None (text_of specifier.now))) bytes.now) }
+{
+    let base = read_again(alloc, specifier)?;
+    let media_type = media_type_read(alloc, &base)?;
+    match language_of(media_type) {
+        None => Ok(not_built()),
+        Some(lang) => {
+            let source = Source {
+                specifier,
+                base: &base,
+                media_type,
+                lang,
+            };
+            analyse_bytes(alloc, source, bytes)
+        }
+    }
+}
+
+// The media type of a specifier that was read again.
+fn media_type_read(alloc: Global, base: &ReadAgain) -> Result<MediaType, AllocError>
+    ensures { IfOk result (λ m. m ≡ spec.media_type_read base.now) }
+{
+    match base {
+        Ok(url) => MediaType::of_path(alloc, url.path()),
+        Err(_) => Ok(MediaType::Unknown),
+    }
+}
+
+fn language_of(media_type: MediaType) -> Option<Lang>
+    ensures { result ≡ spec.language_of media_type }
+{
+    match media_type {
+        MediaType::TypeScript | MediaType::Mts => Some(Lang::Typescript),
+        MediaType::JavaScript | MediaType::Mjs => Some(Lang::Es),
+        _ => None,
+    }
+}
+
+// Where a source stands and how it is read.
+#[derive(Clone, Copy)]
+struct Source<'a> {
+    specifier: &'a Url,
+    // The specifier, read again.
+    base: &'a ReadAgain,
+    media_type: MediaType,
+    lang: Lang,
+}
+
+fn analyse_bytes(alloc: Global, source: Source<'_>, bytes: &[u8]) -> Result<Entry, AllocError>
+    requires { IsReadAgain source }
+    ensures { IfOk result
+        (OfBytes (text_of source.entry.specifier.now) source.entry.media_type source.entry.lang bytes.now) }
+{
+    match str::from_utf8(bytes) {
+        Ok(text) => analyse_text(alloc, source, without_mark(text)),
+        Err(_) => Ok(not_built()),
+    }
+}
+
+// The text less one byte order mark at the front.
+fn without_mark(text: &str) -> &str
+    ensures { result.now ≡ texts.without_mark text.now }
+{
+    match text.strip_prefix("\u{feff}") {
+        Some(rest) => rest,
+        None => text,
+    }
+}
+
+fn analyse_text(alloc: Global, source: Source<'_>, text: &str) -> Result<Entry, AllocError>
+    requires { IsReadAgain source }
+    ensures { IfOk result
+        (OfText (text_of source.entry.specifier.now) source.entry.media_type source.entry.lang text.now) }
+{
+    match lex_tokens(alloc, text) {
+        Ok(lexed) => analyse_tokens(alloc, source, text, lexed.tokens.as_slice()),
+        Err(error) => no_tokens(source.specifier, fault_of(error)?),
+    }
+}
+
+// The fault of a text, where it isn't want of memory.
+fn fault_of(error: LexError) -> Result<LexicalError, AllocError>
+    ensures { IfOk result (λ fault. error ≡ LexError.Lexical fault) }
+{
+    match error {
+        LexError::Lexical(fault) => Ok(fault),
+        LexError::OutOfMemory => Err(AllocError),
+    }
+}
+
+// The entry of a source with a lexical fault.
+fn no_tokens(specifier: &Url, error: LexicalError) -> Result<Entry, AllocError>
+    ensures { IfOk result (λ made. made ≡ spec.no_module (text_of specifier.now)
+        (SyntaxErrorKind.Lexical error.kind) (Some (spec.at_place error.at))) }
+{
+    let range = Range {
+        start: error.at,
+        end: error.at,
+    };
+    no_module(specifier, SyntaxErrorKind::Lexical(error.kind), range)
+}
+
+fn no_module(specifier: &Url, kind: SyntaxErrorKind, range: Range) -> Result<Entry, AllocError>
+    ensures { IfOk result (λ made. made ≡ spec.no_module (text_of specifier.now) kind (told_range kind range)) }
+{
+    Ok(Entry::Error(ModuleError::Parse(ParseDiagnostic {
+        specifier: specifier.clone()?,
+        range,
+        kind,
+    })))
+}
+
+fn analyse_tokens(
+    alloc: Global,
+    source: Source<'_>,
+    text: &str,
+    tokens: &[Token],
+) -> Result<Entry, AllocError>
+    requires again { IsReadAgain source }
+    requires tokens { ReadsTokens text.now tokens.now }
+    ensures { IfOk result
+        (OfTokens (text_of source.entry.specifier.now) source.entry.media_type source.entry.lang text.now tokens.now) }
+{
+    match parse_tokens(alloc, source.lang, Mode::Module, text, tokens) {
+        Ok(program) => module_of(alloc, source, text, &program),
+        Err(SyntaxError::Syntax { token }) => {
+            no_module(
+                source.specifier,
+                SyntaxErrorKind::Syntax,
+                range_at(text, tokens, token),
+            )
+        }
+        Err(SyntaxError::OutOfMemory) => Err(AllocError),
+    }
+}
+
+// The range of the token, or the empty one at the end of the text.
+fn range_at(text: &str, tokens: &[Token], token: usize) -> Range {
+    match tokens.get(token) {
+        Some(token) => token.range,
+        None => Range {
+            start: text.len(),
+            end: text.len(),
+        },
+    }
+}
+
+fn module_of(
+    alloc: Global,
+    source: Source<'_>,
+    text: &str,
+    program: &Program,
+) -> Result<Entry, AllocError>
+    requires { IsReadAgain source }
+    ensures { IfOk result (λ made. made ≡ spec.module_of
+        (text_of source.entry.specifier.now) source.entry.media_type text.now program.now) }
+{
+    let found = sites(alloc, program)?;
+    let dependencies = dependencies_of(alloc, source, found)?;
+    Ok(Entry::Module(Module::Js(JsModule {
+        media_type: source.media_type,
+        text: SharedText::from_str(alloc, text)?,
+        dependencies,
+    })))
+}
+
+fn dependencies_of(
+    alloc: Global,
+    source: Source<'_>,
+    found: Items<Site>,
+) -> Result<Items<Dependency>, AllocError>
+    requires { IsReadAgain source }
+    ensures { IfOk result (λ edges. edges ≡ map (spec.dependency_of (text_of source.entry.specifier.now)) found) }
+{
+    let mut edges = Items::new(alloc);
+    for site in found.into_vec() {
+        edges.push(dependency_of(alloc, source, site)?)?;
+    }
+    Ok(edges)
+}
+
+fn dependency_of(alloc: Global, source: Source<'_>, site: Site) -> Result<Dependency, AllocError>
+    requires { IsReadAgain source }
+    ensures { IfOk result (λ edge. edge ≡ spec.dependency_of (text_of source.entry.specifier.now) site) }
+{
+    let resolution = resolve_from(alloc, source.base, site.value.as_str())?;
+    Ok(Dependency {
+        kind: site.kind,
+        type_only: site.type_only,
+        range: Some(site.range),
+        text: site.value,
+        attribute: site.attribute,
+        resolution,
+    })
 }
