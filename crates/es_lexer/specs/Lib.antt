@@ -8,3 +8,5 @@ pub mod Pieces
 pub mod Reads
 pub mod Stops
 pub mod Answers
+-- what the functions of the crate promise each other
+pub mod Look

@@ -1,3 +1,6 @@
+ghost use Rattle.std.specs.Prelude.{◌≡◌};
+ghost use Rattle.es_lexer.specs.Bytes.{first_of, is_line_end, is_part, is_plain};
+
 /// What a byte begins, where a token, a comment or a gap is to be read.
 #[derive(Clone, Copy, Debug, PartialEq, Eq)]
 pub enum First {
@@ -12,4 +15,38 @@ pub enum First {
     /// A comment, where `/` or `*` follows.
     Slash,
     Other,
+}
+
+#[tactic(auto, unfolding(crate::specs::Bytes::first_of))]
+pub fn first_of(b: u8) -> First
+    ensures { result ≡ first_of b }
+{
+    match b {
+        b'\t' | b' ' => First::Blank,
+        b'\n' | b'\r' => First::LineEnd,
+        b'a'..=b'z' | b'A'..=b'Z' | b'$' | b'_' => First::Start,
+        b'"' | b'\'' => First::Quote,
+        b';' => First::Sign,
+        b'/' => First::Slash,
+        _ => First::Other,
+    }
+}
+
+pub fn is_part(b: u8) -> bool
+    ensures { result ≡ is_part b }
+{
+    matches!(b, b'a'..=b'z' | b'A'..=b'Z' | b'0'..=b'9' | b'$' | b'_')
+}
+
+pub fn is_line_end(b: u8) -> bool
+    ensures { result ≡ is_line_end b }
+{
+    b == b'\n' || b == b'\r'
+}
+
+#[tactic(auto, unfolding(crate::specs::Bytes::is_plain))]
+pub fn is_plain(quote: u8, b: u8) -> bool
+    ensures { result ≡ is_plain quote b }
+{
+    b != quote && b != b'\\' && b != b'\n' && b != b'\r'
 }

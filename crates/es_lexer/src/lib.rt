@@ -11,8 +11,10 @@
 mod bytes;
 mod error;
 mod literals;
+mod look;
 mod scan;
 mod token;
+mod words;
 
 pub use error::{LexError, LexicalError, LexicalKind};
 pub use literals::{LiteralValue, literal_value};

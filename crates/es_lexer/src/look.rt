@@ -1,0 +1,206 @@
+ghost use Rattle.std.specs.Prelude.{◌≡◌, ◌+◌, ◌<◌, ◌≤◌, ◌^◌, ◌∷◌, false, length};
+ghost use Rattle.std.specs.Bool.{OnTrue};
+ghost use Rattle.es_lexer.specs.Bytes.{begins_closer, is_part};
+ghost use Rattle.es_lexer.specs.Look.{run_end, is_in_line, word_look, string_stop, string_look, block_look, slash_look, look_at};
+
+use crate::bytes::{First, first_of, is_line_end, is_part, is_plain};
+use crate::error::LexicalKind;
+use crate::token::{CommentKind, TokenKind};
+use crate::words::kind_of_word;
+
+/// What stands at a place of a text. An end is the place behind it.
+#[derive(Clone, Copy, Debug, PartialEq, Eq)]
+pub enum Look {
+    /// The text's end.
+    End,
+    Blank,
+    LineEnd,
+    Comment {
+        kind: CommentKind,
+        end: usize,
+        line_end: bool,
+    },
+    Token {
+        kind: TokenKind,
+        end: usize,
+    },
+    Fault {
+        kind: LexicalKind,
+        at: usize,
+    },
+}
+
+/// What stands at `at`, at the front of `text`.
+#[tactic(auto, unfolding(crate::specs::Look::look_at, crate::specs::Look::class_look))]
+pub fn look_from(at: usize, text: &[u8]) -> Look
+    requires { at + length text.now < 2 ^ 64 }
+    ensures { result ≡ look_at at text.now }
+{
+    match text {
+        [] => Look::End,
+        [b, rest @ ..] => match first_of(*b) {
+            First::Blank => Look::Blank,
+            First::LineEnd => Look::LineEnd,
+            First::Start => word_from(at, text),
+            First::Quote => string_from(*b, at, at + 1, rest),
+            First::Sign => Look::Token {
+                kind: TokenKind::Semicolon,
+                end: at + 1,
+            },
+            First::Slash => slash_from(at, rest),
+            First::Other => Look::Fault {
+                kind: LexicalKind::InvalidChar,
+                at,
+            },
+        },
+    }
+}
+
+#[tactic(auto, unfolding(crate::specs::Look::string_look))]
+fn string_from(quote: u8, start: usize, first: usize, bytes: &[u8]) -> Look
+    requires { first + length bytes.now < 2 ^ 64 }
+    ensures { result ≡ string_look quote start first bytes.now }
+{
+    let mut at = first;
+    let mut rest = bytes;
+    while let [b, after @ ..] = rest {
+        if !is_plain(quote, *b) {
+            return string_end(quote, start, at, *b);
+        }
+        rest = after;
+        at += 1;
+    }
+    Look::Fault {
+        kind: LexicalKind::UnterminatedString,
+        at: start,
+    }
+}
+
+/// A string literal at a byte that can't go on in it.
+#[tactic(auto, unfolding(crate::specs::Look::string_stop))]
+fn string_end(quote: u8, start: usize, at: usize, b: u8) -> Look
+    requires { at + 1 < 2 ^ 64 }
+    ensures { result ≡ string_stop quote start at b }
+{
+    if b == quote {
+        Look::Token {
+            kind: TokenKind::Str,
+            end: at + 1,
+        }
+    } else if b == b'\\' {
+        Look::Fault {
+            kind: LexicalKind::InvalidEscape,
+            at,
+        }
+    } else {
+        Look::Fault {
+            kind: LexicalKind::UnterminatedString,
+            at: start,
+        }
+    }
+}
+
+#[tactic(auto, unfolding(crate::specs::Look::slash_look))]
+fn slash_from(at: usize, rest: &[u8]) -> Look
+    requires { at + 1 + length rest.now < 2 ^ 64 }
+    ensures { result ≡ slash_look at rest.now }
+{
+    match rest {
+        [b'/', text @ ..] => Look::Comment {
+            kind: CommentKind::Line,
+            end: line_end_from(at + 2, text),
+            line_end: false,
+        },
+        [b'*', text @ ..] => block_from(at, at + 2, text),
+        _ => Look::Fault {
+            kind: LexicalKind::InvalidChar,
+            at,
+        },
+    }
+}
+
+#[tactic(auto, unfolding(crate::specs::Look::block_look))]
+fn block_from(start: usize, first: usize, bytes: &[u8]) -> Look
+    requires { first + length bytes.now < 2 ^ 64 }
+    ensures { result ≡ block_look start false first bytes.now }
+{
+    let mut at = first;
+    let mut rest = bytes;
+    let mut line = false;
+    while let [b, after @ ..] = rest {
+        if is_closer(*b, after) {
+            return Look::Comment {
+                kind: CommentKind::Block,
+                end: at + 2,
+                line_end: line,
+            };
+        }
+        line = line || is_line_end(*b);
+        rest = after;
+        at += 1;
+    }
+    Look::Fault {
+        kind: LexicalKind::UnterminatedComment,
+        at: start,
+    }
+}
+
+/// Whether `*/` stands here.
+#[tactic(auto, unfolding(crate::specs::Bytes::begins_closer))]
+fn is_closer(b: u8, after: &[u8]) -> bool
+    ensures value { result ≡ begins_closer (b ∷ after.now) }
+    ensures room { OnTrue result (0 < length after.now) }
+{
+    match after {
+        [c, ..] => b == b'*' && *c == b'/',
+        [] => false,
+    }
+}
+
+#[tactic(auto, unfolding(crate::specs::Look::word_look))]
+fn word_from(at: usize, text: &[u8]) -> Look
+    requires { at + length text.now < 2 ^ 64 }
+    ensures { result ≡ word_look at text.now }
+{
+    let end = word_end_from(at, text);
+    Look::Token {
+        kind: kind_of_word(&text[..end - at]),
+        end,
+    }
+}
+
+#[tactic(auto, unfolding(crate::specs::Look::run_end))]
+fn word_end_from(first: usize, bytes: &[u8]) -> usize
+    requires { first + length bytes.now < 2 ^ 64 }
+    ensures value { result ≡ run_end is_part first bytes.now }
+    ensures forward { first ≤ result }
+    ensures within { result ≤ first + length bytes.now }
+{
+    let mut at = first;
+    let mut rest = bytes;
+    while let [b, after @ ..] = rest {
+        if !is_part(*b) {
+            break;
+        }
+        rest = after;
+        at += 1;
+    }
+    at
+}
+
+#[tactic(auto, unfolding(crate::specs::Look::run_end))]
+fn line_end_from(first: usize, bytes: &[u8]) -> usize
+    requires { first + length bytes.now < 2 ^ 64 }
+    ensures { result ≡ run_end is_in_line first bytes.now }
+{
+    let mut at = first;
+    let mut rest = bytes;
+    while let [b, after @ ..] = rest {
+        if is_line_end(*b) {
+            break;
+        }
+        rest = after;
+        at += 1;
+    }
+    at
+}
