@@ -10,10 +10,13 @@ use Rattle.es_tree.specs.declared.error.Mode.TheVariants as mode
 use Rattle.es_tree.specs.declared.tree.Program.{Program}
 use Rattle.es_parser.specs.Derives.{Derives}
 use Rattle.graph_entry.specs.declared.diagnostic.SyntaxErrorKind.TheVariants.{Lexical}
+use Rattle.url.specs.Parser.{parse_url}
+use Rattle.graph_entry.specs.declared.answer.LoadAnswer.{LoadAnswer}
+use Rattle.graph_entry.specs.declared.answer.LoadAnswer.TheVariants as answer
 use Rattle.graph_entry.specs.declared.entry.Entry.{Entry}
 use Rattle.graph_entry.specs.declared.media_type.MediaType.{MediaType}
 use Rattle.graph_entry.specs.ModuleText.{without_mark}
-use Rattle.graph_entry.specs.Analysed.{OfBytes, OfText, OfTokens, with_tree, no_tree, with_tokens, no_tokens, with_text, no_text, module_of, no_module, at_place}
+use Rattle.graph_entry.specs.Analysed.{Analysed, OfBytes, OfText, OfTokens, with_tree, no_tree, with_tokens, no_tokens, with_text, no_text, module_of, no_module, at_place, language_of, media_type_read, not_built}
 
 -- ---- the laws below, as one record
 
@@ -63,9 +66,22 @@ module _ (s : List ℕ) (media : MediaType) (lang : Lang) where
 
 -- content, by the language of its media type
 pub by_language-once : (s : List ℕ) (media : MediaType) (bytes : List ℕ) (lang : Option Lang) (made other : Entry)
-    → HasOneReading (without_mark bytes) → (none : Entry)
-    → MatchOption lang (made ≡ none) (λ l. OfBytes s media l bytes made)
-    → MatchOption lang (other ≡ none) (λ l. OfBytes s media l bytes other) → made ≡ other
-by_language-once s media bytes None made other laws none is so = is ∙ sym so
-by_language-once s media bytes (Some l) made other laws none makes makes_too =
+    → HasOneReading (without_mark bytes) → MatchOption lang (made ≡ not_built) (λ l. OfBytes s media l bytes made)
+    → MatchOption lang (other ≡ not_built) (λ l. OfBytes s media l bytes other) → made ≡ other
+by_language-once s media bytes None made other laws is so = is ∙ sym so
+by_language-once s media bytes (Some l) made other laws makes makes_too =
     OfBytes-once s media l bytes made other laws makes makes_too
+
+-- ---- the whole
+
+-- one answer makes one entry
+pub Analysed-once : ((text : List ℕ) → HasOneReading text) → (s : List ℕ) (a : LoadAnswer) (made other : Entry)
+    → Analysed s a made → Analysed s a other → made ≡ other
+unfolding Analysed
+Analysed-once laws s (answer.Content headers bytes) made other is so =
+    let media = media_type_read (parse_url None s) in
+    by_language-once s media bytes (language_of media) made other (laws (without_mark bytes)) is so
+Analysed-once laws s (answer.Redirect target) made other is so = is ∙ sym so
+Analysed-once laws s answer.External made other is so = is ∙ sym so
+Analysed-once laws s answer.Absent made other is so = is ∙ sym so
+Analysed-once laws s answer.Failed made other is so = is ∙ sym so

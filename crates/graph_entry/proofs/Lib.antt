@@ -2,3 +2,4 @@ pub mod ResolutionLemmas
 pub mod HeadersLemmas
 pub mod ModuleTextLemmas
 pub mod AnalysedLemmas
+pub mod CutsLemmas

@@ -1,7 +1,9 @@
 -- Entries of a graph: their targets, and the entry of what no loader is asked for.
-use Rattle.std.specs.Prelude.{ℕ, List, [], codes, Option, option_map}
+use Rattle.std.specs.Prelude.{◌≡◌, ℕ, List, [], All, codes, Option, Some, option_map}
 use Rattle.std.specs.List.{filter_map}
 use Rattle.std.specs.Result.{result_ok}
+use Rattle.base.specs.declared.range.Range.{Range}
+use Rattle.es_tree.specs.Sites.{CutsLiteral}
 use Rattle.graph_entry.specs.declared.entry.Dependency.{Dependency}
 use Rattle.graph_entry.specs.declared.entry.Module.TheVariants.{Js}
 use Rattle.graph_entry.specs.declared.entry.Entry.{Entry}
@@ -24,6 +26,17 @@ targets (entry.Error e) = []
 -- the entry of a specifier that no loader is asked for
 abbrev pub unanswered : Entry
 unanswered = entry.Error NotBuilt
+
+-- the edge's range cuts from the text a string literal whose value is the edge's text
+abbrev pub CutsFrom : List ℕ → Dependency → Type 0
+CutsFrom text d = (range : Range) × (d.range ≡ Some range) × CutsLiteral text range d.text
+
+-- each edge of the entry's module does so in the module's text
+abbrev pub EdgesCut : Entry → Type 0
+EdgesCut (entry.Module (Js m)) = All (CutsFrom m.text) m.dependencies
+EdgesCut (entry.Redirect target) = Unit {0}
+EdgesCut entry.External = Unit {0}
+EdgesCut (entry.Error e) = Unit {0}
 
 -- the name of an error, as reports write it
 abbrev pub name_of_error : ModuleError → List ℕ
