@@ -26,6 +26,7 @@ fn lists(rt: HostRuntime) -> Result<(), Fail> {
     for n in 1..4u8 {
         items.push(n)?;
     }
+    assert_eq!(rt; items.len(), 3);
     items.set(1, 7);
     if let Some(first) = items.get_mut(0) {
         *first = 9;
