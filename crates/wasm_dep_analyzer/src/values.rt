@@ -1,0 +1,78 @@
+//! Bytes, numbers and names at the front of the bytes (WebAssembly Core, "Values").
+
+ghost use Rattle.std.specs.Prelude.{◌≡◌, ◌<◌, ◌*◌, ◌^◌, ◌≤◌, IfOk, length};
+ghost use Rattle.wasm_dep_analyzer.specs.Reading.{Gives};
+ghost use Rattle.wasm_dep_analyzer.specs.Values.{u8_at, number_at, u32_at, bytes_at, text_of, name_at};
+
+use crate::error::ParseError;
+
+/// The first byte.
+pub fn read_u8(input: &[u8]) -> Result<(u8, &[u8]), ParseError>
+    ensures fits { IfOk result (λ read. read.0 < 256) }
+    ensures value { Gives (λ read. (read.0, read.1.now)) result (u8_at input.now) }
+{
+    match input {
+        [] => Err(ParseError::UnexpectedEof),
+        [byte, rest @ ..] => Ok((*byte, rest)),
+    }
+}
+
+/// A number after whose first byte at most `more` bytes may follow.
+fn read_number(more: u8, input: &[u8]) -> Result<(u32, &[u8]), ParseError>
+    requires { more ≤ 4 }
+    ensures value { Gives (λ read. (read.0, read.1.now)) result (number_at more input.now) }
+    ensures fits { IfOk result (λ read. read.0 < 16 * 128 ^ more) }
+{
+    let (byte, rest) = read_u8(input)?;
+    if more == 0 {
+        return if byte < 16 {
+            Ok((u32::from(byte), rest))
+        } else {
+            Err(ParseError::IntegerOverflow)
+        };
+    }
+    if byte < 128 {
+        return Ok((u32::from(byte), rest));
+    }
+    let (high, rest) = read_number(more - 1, rest)?;
+    Ok((u32::from(byte) - 128 + 128 * high, rest))
+}
+
+/// A number of 32 bits.
+pub fn read_u32(input: &[u8]) -> Result<(u32, &[u8]), ParseError>
+    ensures fits { IfOk result (λ read. read.0 < 2 ^ 32) }
+    ensures value { Gives (λ read. (read.0, read.1.now)) result (u32_at input.now) }
+{
+    read_number(4, input)
+}
+
+/// The first `count` bytes.
+pub fn read_bytes(count: u32, input: &[u8]) -> Result<(&[u8], &[u8]), ParseError>
+    ensures { Gives (λ read. (read.0.now, read.1.now)) result (bytes_at count input.now) }
+{
+    let count = count as usize;
+    if input.len() < count {
+        return Err(ParseError::UnexpectedEof);
+    }
+    Ok(input.split_at(count))
+}
+
+fn text(bytes: &[u8]) -> Result<&str, ParseError>
+    ensures { Gives (λ text. text.now) result (text_of bytes.now) }
+{
+    match str::from_utf8(bytes) {
+        Ok(text) => Ok(text),
+        Err(fault) => Err(ParseError::InvalidUtf8(fault.valid_up_to())),
+    }
+}
+
+/// A length and a text of so many bytes.
+#[tactic(auto, unfolding(crate::specs::Values::name_at))]
+pub fn read_name(input: &[u8]) -> Result<(&str, &[u8]), ParseError>
+    ensures { Gives (λ read. (read.0.now, read.1.now)) result (name_at input.now) }
+{
+    let (count, rest) = read_u32(input)?;
+    let (bytes, rest) = read_bytes(count, rest)?;
+    let name = text(bytes)?;
+    Ok((name, rest))
+}
