@@ -33,7 +33,7 @@ not_true : (a : Bool) → not a ≡ true → a ≡ false
 not_true true e = clash e
 not_true false e = refl
 
-holds_then : (a b : Bool) → implies a b ≡ true → a ≡ true → b ≡ true
+pub holds_then : (a b : Bool) → implies a b ≡ true → a ≡ true → b ≡ true
 holds_then true b e h = e
 holds_then false b e h = clash h
 

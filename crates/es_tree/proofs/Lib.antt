@@ -4,3 +4,4 @@ pub mod ReaderLemmas
 pub mod FreeLemmas
 pub mod MadeLemmas
 pub mod Theorems
+pub mod EachKind
