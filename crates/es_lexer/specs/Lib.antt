@@ -10,3 +10,4 @@ pub mod Stops
 pub mod Answers
 -- what the functions of the crate promise each other
 pub mod Look
+pub mod Scan
