@@ -13,11 +13,13 @@ pub struct LiteralValue {
 }
 
 /// The value of a string literal, quotes included (ECMA-262, "String Literals", Static Semantics: SV).
+#[tactic(auto, unfolding(crate::specs::Literals::value_of))]
 pub fn literal_value(alloc: Global, literal: &str) -> Result<LiteralValue, AllocError>
     requires { IsStrLiteral literal.now }
     ensures { IfOk result (λ value. (value.text ≡ value_of literal.now) × (value.lone ≡ false)) }
 {
-    let _ = alloc;
-    let _ = literal;
-    Err(AllocError)
+    Ok(LiteralValue {
+        text: Text::from_str(alloc, &literal[1..literal.len() - 1])?,
+        lone: false,
+    })
 }
