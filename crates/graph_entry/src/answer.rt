@@ -7,7 +7,7 @@ use std::alloc::AllocError;
 use url::Url;
 
 /// What a loader answers for a specifier.
-#[derive(Drop)]
+#[derive(Debug, Drop)]
 pub enum LoadAnswer {
     Content {
         headers: Headers,

@@ -7,7 +7,7 @@ use std::collections::BTreeMap;
 use std::marker::Model;
 
 /// Headers of a loader's answer by their names, which are in lower case. Contracts see their entries.
-#[derive(Drop)]
+#[derive(Debug, Drop)]
 pub struct Headers {
     entries: BTreeMap<String, String>,
 }

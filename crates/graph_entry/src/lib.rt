@@ -1,4 +1,16 @@
-//! What one loader answer makes of one specifier.
+//! What one loader answer makes of one specifier: the layer below the graph's builder.
+//!
+//! - `analyse(specifier, answer)`: the entry that the answer makes (`Analysed`, `specs/Analysed.antt`): a module with
+//!   its text and edges, or why there is none. Both ways; only want of memory may refuse.
+//! - `resolve(text, referrer)`: what a specifier in a source leads to (`resolve`, `specs/Resolution.antt`).
+//! - `is_loadable(specifier)`: whether a loader is asked for it (`loadable`, `specs/Specifier.antt`).
+//! - `MediaType::of_path(path)`: the media type by the path's ending (`media_type_of`, `specs/MediaType.antt`).
+//! - `Entry`, `LoadAnswer` and their parts are plain data in contracts; `targets` (`specs/Entry.antt`) are the texts
+//!   that an entry leads to.
+//!
+//! A specifier is its text. One answer makes at most one entry of it (`analysed_once`, `proofs/Theorems.antt`), whose
+//! edges cut their literals from the module's text (`analysed_cuts`). `docs/RESOLUTION.md` tells the rules in words.
+//! Not promised: the range of a `Syntax` fault, what `Display` and `Debug` write, and when memory runs out.
 #![tactic(auto)]
 
 mod analysis;
@@ -21,3 +33,6 @@ pub use crate::media_type::MediaType;
 pub use crate::resolution::{ResolutionError, Resolved, resolve};
 pub use crate::specifier::is_loadable;
 pub use es_tree::{Attribute, DependencyKind};
+
+#[cfg(test)]
+mod tests;

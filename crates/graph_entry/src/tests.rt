@@ -1,0 +1,219 @@
+//! The rules against their tables, and each public call once on its happy path.
+
+use crate::{
+    DependencyKind, Dependency, Entry, Headers, JsModule, LoadAnswer, MediaType, Module, ModuleError,
+    analyse, is_loadable, resolve,
+};
+use base::{Range, SharedBytes};
+use std::alloc::Global;
+use std::collections::BTreeMap;
+use std::test::Fail;
+use url::Url;
+
+fn url(alloc: Global, text: &str) -> Result<Url, Fail> {
+    Ok(Url::parse(alloc, text)?)
+}
+
+fn content(alloc: Global, bytes: &[u8]) -> Result<LoadAnswer, Fail> {
+    Ok(LoadAnswer::Content {
+        headers: Headers::new(alloc),
+        bytes: SharedBytes::from_slice(alloc, bytes)?,
+    })
+}
+
+// The entry of `specifier` as a line: its module's media type, text and edges, or its error.
+fn made(alloc: Global, specifier: &str, bytes: &[u8]) -> Result<String, Fail> {
+    let entry = analyse(alloc, &url(alloc, specifier)?, content(alloc, bytes)?)?;
+    shown(alloc, &entry)
+}
+
+fn shown(alloc: Global, entry: &Entry) -> Result<String, Fail> {
+    match entry {
+        Entry::Module(Module::Js(module)) => shown_module(alloc, module),
+        Entry::Error(ModuleError::Parse(fault)) => {
+            let kind = fault.kind.name();
+            let start = fault.range.start;
+            let end = fault.range.end;
+            Ok(format!(in alloc; "Parse {kind} {start}-{end}")?)
+        }
+        Entry::Error(error) => Ok(String::from_str(alloc, error.name())?),
+        Entry::Redirect(_) | Entry::External => Ok(String::from_str(alloc, "no module")?),
+    }
+}
+
+fn shown_module(alloc: Global, module: &JsModule) -> Result<String, Fail> {
+    let media_type = module.media_type.name();
+    let len = module.text.len();
+    let mut line = format!(in alloc; "{media_type} {len}")?;
+    for edge in module.dependencies.as_slice() {
+        line.push_str(shown_edge(alloc, edge)?.as_str())?;
+    }
+    Ok(line)
+}
+
+fn shown_edge(alloc: Global, edge: &Dependency) -> Result<String, Fail> {
+    let Range { start, end } = edge.range.unwrap_or(Range { start: 0, end: 0 });
+    let text = edge.text.as_str();
+    let import = edge.kind == DependencyKind::Import;
+    match &edge.resolution {
+        Ok(target) => Ok(format!(in alloc; " {import} {start}-{end} {text} -> {target}")?),
+        Err(error) => {
+            let name = error.name();
+            Ok(format!(in alloc; " {import} {start}-{end} {text} ! {name}")?)
+        }
+    }
+}
+
+#[test]
+fn tells_media_types_by_the_ending_of_a_path(rt: HostRuntime) -> Result<(), Fail> {
+    let cases = [
+        ("/a.d.ts", "Dts"),
+        ("/a.d.mts", "Dmts"),
+        ("/a.d.cts", "Dcts"),
+        ("/a.ts", "TypeScript"),
+        ("/A.TS", "TypeScript"),
+        ("/.ts", "TypeScript"),
+        ("/ad.ts", "TypeScript"),
+        ("/a.mts", "Mts"),
+        ("/a.cts", "Cts"),
+        ("/a.tsx", "Tsx"),
+        ("/a.js", "JavaScript"),
+        ("/a.mjs", "Mjs"),
+        ("/a.cjs", "Cjs"),
+        ("/a.jsx", "Jsx"),
+        ("/a.json", "Json"),
+        ("/a.jsonc", "Jsonc"),
+        ("/a.json5", "Json5"),
+        ("/a.wasm", "Wasm"),
+        ("/a.css", "Css"),
+        ("/a.html", "Html"),
+        ("/a.md", "Markdown"),
+        ("/a.sql", "Sql"),
+        ("/a.js.map", "SourceMap"),
+        ("/a.ts/b", "Unknown"),
+        ("/ts", "Unknown"),
+        ("/a.tss", "Unknown"),
+        ("", "Unknown"),
+    ];
+    for (path, want) in cases {
+        assert_eq!(rt; MediaType::of_path(rt.alloc(), path)?.name(), want, "{path}");
+    }
+    Ok(())
+}
+
+#[test]
+fn resolves_specifiers_case_by_case(rt: HostRuntime) -> Result<(), Fail> {
+    let cases = [
+        ("file:///x/a.ts", "./b.ts", "file:///x/b.ts"),
+        ("file:///x/a.ts", "../b.ts", "file:///b.ts"),
+        ("file:///x/a.ts", "/b.ts", "file:///b.ts"),
+        ("file:///x/a.ts", "//h/b.ts", "file://h/b.ts"),
+        ("file:///x/a.ts", "https://h/b.ts", "https://h/b.ts"),
+        ("https://h/a.ts", "./b.ts?q#f", "https://h/b.ts?q#f"),
+        ("file:///x/a.ts", "npm:x", "npm:x"),
+        ("file:///x/a.ts", "foo", "ImportPrefixMissing"),
+        ("file:///x/a.ts", "..", "ImportPrefixMissing"),
+        ("file:///x/a.ts", "", "ImportPrefixMissing"),
+        ("file:///x/a.ts", "?q", "ImportPrefixMissing"),
+        ("file:///x/a.ts", "https://", "InvalidUrl"),
+        ("blob:x", "./b.ts", "InvalidUrl"),
+    ];
+    for (referrer, text, want) in cases {
+        let referrer = url(rt.alloc(), referrer)?;
+        match resolve(rt.alloc(), text, &referrer)? {
+            Ok(target) => assert_eq!(rt; target.as_str(), want, "{text}"),
+            Err(error) => assert_eq!(rt; error.name(), want, "{text}"),
+        }
+    }
+    Ok(())
+}
+
+#[test]
+fn asks_no_loader_for_three_schemes(rt: HostRuntime) -> Result<(), Fail> {
+    let cases = [
+        ("data:,x", false),
+        ("NPM:x", false),
+        ("jsr:@a/b", false),
+        ("file:///npm:x", true),
+        ("https://h/", true),
+        ("node:fs", true),
+    ];
+    for (text, want) in cases {
+        assert_eq!(rt; is_loadable(&url(rt.alloc(), text)?), want, "{text}");
+    }
+    Ok(())
+}
+
+#[test]
+fn makes_modules_of_sources(rt: HostRuntime) -> Result<(), Fail> {
+    let one = "TypeScript 16 true 7-15 ./b.ts -> file:///b.ts";
+    let cases = [
+        ("file:///a.ts", "import \"./b.ts\";", one),
+        ("file:///a.ts", "\u{feff}import \"./b.ts\";", one),
+        ("file:///a.mjs", "", "Mjs 0"),
+        (
+            "file:///a.js",
+            "/* import \"./x.ts\" */ import \"./b.ts\";",
+            "JavaScript 38 true 29-37 ./b.ts -> file:///b.ts",
+        ),
+        (
+            "file:///a.mts",
+            "import \"foo\";import '/b.ts'",
+            "Mts 27 true 7-12 foo ! ImportPrefixMissing true 20-27 /b.ts -> file:///b.ts",
+        ),
+    ];
+    for (specifier, text, want) in cases {
+        let line = made(rt.alloc(), specifier, text.as_bytes())?;
+        assert_eq!(rt; line.as_str(), want, "{specifier} {text:?}");
+    }
+    Ok(())
+}
+
+#[test]
+fn says_why_there_is_no_module(rt: HostRuntime) -> Result<(), Fail> {
+    let cases: [(&str, &[u8], &str); 9] = [
+        ("file:///a.ts", b"const x = 1;", "Parse InvalidChar 8-8"),
+        ("file:///a.ts", b"import \"a", "Parse UnterminatedString 7-7"),
+        ("file:///a.ts", b"\xEF\xBB\xBFimport \"a", "Parse UnterminatedString 7-7"),
+        ("file:///a.ts", b"\xEF\xBB\xBF\xEF\xBB\xBF", "Parse InvalidChar 0-0"),
+        ("file:///a.ts", b"; /*", "Parse UnterminatedComment 2-2"),
+        ("file:///a.ts", b"import x;", "Parse Syntax 7-8"),
+        ("file:///a.ts", b"import", "Parse Syntax 6-6"),
+        ("file:///a.ts", b"\xFF", "NotBuilt"),
+        ("file:///a.d.ts", b"", "NotBuilt"),
+    ];
+    for (specifier, bytes, want) in cases {
+        let line = made(rt.alloc(), specifier, bytes)?;
+        assert_eq!(rt; line.as_str(), want, "{bytes:?}");
+    }
+    Ok(())
+}
+
+#[test]
+fn makes_entries_of_other_answers(rt: HostRuntime) -> Result<(), Fail> {
+    let specifier = url(rt.alloc(), "file:///a.ts")?;
+    let cases = [
+        (LoadAnswer::Absent, "Missing"),
+        (LoadAnswer::Failed, "NotBuilt"),
+        (LoadAnswer::External, "NotBuilt"),
+        (LoadAnswer::Redirect(specifier.clone()?), "NotBuilt"),
+    ];
+    for (answer, want) in cases {
+        let entry = analyse(rt.alloc(), &specifier, answer.copy()?)?;
+        assert_eq!(rt; shown(rt.alloc(), &entry)?.as_str(), want);
+    }
+    Ok(())
+}
+
+#[test]
+fn copies_headers(rt: HostRuntime) -> Result<(), Fail> {
+    let mut map = BTreeMap::new(rt.alloc());
+    map.insert(
+        String::from_str(rt.alloc(), "content-type")?,
+        String::from_str(rt.alloc(), "text/plain")?,
+    )?;
+    let copy = Headers::from_map(map).copy()?;
+    let value = copy.as_map().get("content-type").ok_or("no header")?;
+    assert_eq!(rt; value.as_str(), "text/plain");
+    Ok(())
+}
