@@ -3,3 +3,4 @@ pub mod HeadersLemmas
 pub mod ModuleTextLemmas
 pub mod AnalysedLemmas
 pub mod CutsLemmas
+pub mod RoomLemmas

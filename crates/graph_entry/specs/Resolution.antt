@@ -3,7 +3,7 @@
 use Rattle.std.specs.Prelude.{ℕ, Bool, ◌||◌, List, codes, None, Some, Result, Ok, Err, if◌then◌else◌}
 use Rattle.url.specs.declared.error.ParseError.TheVariants.{RelativeUrlWithoutBase}
 use Rattle.url.specs.Parts.{Parts}
-use Rattle.url.specs.Parser.{Parsed, and_then, parse_url}
+use Rattle.url.specs.Parser.{Parsed, and_then, parse_url, IsOutOfRoom}
 use Rattle.graph_entry.specs.declared.resolution.ResolutionError.{ResolutionError}
 use Rattle.graph_entry.specs.declared.resolution.ResolutionError.TheVariants.{ImportPrefixMissing, InvalidUrl}
 use Rattle.graph_entry.specs.Specifier.{begins}
@@ -38,6 +38,12 @@ resolve_read (Err e) referrer text = Err (InvalidUrl e)
 -- what the text leads to from the module at the referrer's text
 unfoldable pub resolve : List ℕ → List ℕ → Resolved
 resolve referrer text = resolve_read (parse_url None text) (parse_url None referrer) text
+
+-- the reason that an edge keeps, if it keeps one, is not want of room
+abbrev pub KeepsReason : Resolved → Type 0
+KeepsReason (Ok url) = Unit {0}
+KeepsReason (Err (ImportPrefixMissing text)) = Unit {0}
+KeepsReason (Err (InvalidUrl e)) = ¬ IsOutOfRoom e
 
 -- the name of a refusal, as reports write it
 abbrev pub name_of_error : ResolutionError → List ℕ

@@ -1,8 +1,8 @@
 //! The rules against their tables, and each public call once on its happy path.
 
 use crate::{
-    DependencyKind, Dependency, Entry, Headers, JsModule, LoadAnswer, MediaType, Module, ModuleError,
-    analyse, is_loadable, resolve,
+    Dependency, DependencyKind, Entry, Headers, JsModule, LoadAnswer, MediaType, Module,
+    ModuleError, analyse, is_loadable, resolve,
 };
 use base::{Range, SharedBytes};
 use std::alloc::Global;
@@ -96,7 +96,11 @@ fn tells_media_types_by_the_ending_of_a_path(rt: HostRuntime) -> Result<(), Fail
         ("", "Unknown"),
     ];
     for (path, want) in cases {
-        assert_eq!(rt; MediaType::of_path(rt.alloc(), path)?.name(), want, "{path}");
+        assert_eq!(rt;
+            MediaType::of_path(rt.alloc(), path)?.name(),
+            want,
+            "{path}"
+        );
     }
     Ok(())
 }
@@ -173,9 +177,21 @@ fn makes_modules_of_sources(rt: HostRuntime) -> Result<(), Fail> {
 fn says_why_there_is_no_module(rt: HostRuntime) -> Result<(), Fail> {
     let cases: [(&str, &[u8], &str); 9] = [
         ("file:///a.ts", b"const x = 1;", "Parse InvalidChar 8-8"),
-        ("file:///a.ts", b"import \"a", "Parse UnterminatedString 7-7"),
-        ("file:///a.ts", b"\xEF\xBB\xBFimport \"a", "Parse UnterminatedString 7-7"),
-        ("file:///a.ts", b"\xEF\xBB\xBF\xEF\xBB\xBF", "Parse InvalidChar 0-0"),
+        (
+            "file:///a.ts",
+            b"import \"a",
+            "Parse UnterminatedString 7-7",
+        ),
+        (
+            "file:///a.ts",
+            b"\xEF\xBB\xBFimport \"a",
+            "Parse UnterminatedString 7-7",
+        ),
+        (
+            "file:///a.ts",
+            b"\xEF\xBB\xBF\xEF\xBB\xBF",
+            "Parse InvalidChar 0-0",
+        ),
         ("file:///a.ts", b"; /*", "Parse UnterminatedComment 2-2"),
         ("file:///a.ts", b"import x;", "Parse Syntax 7-8"),
         ("file:///a.ts", b"import", "Parse Syntax 6-6"),
