@@ -1,1 +1,5 @@
 pub mod ValuesLemmas
+pub mod LoopLemmas
+pub mod ModuleLemmas
+pub mod SectionLemmas
+pub mod Theorems

@@ -162,7 +162,7 @@ unfolding text_of
 text_of-text bytes text same valid = rw (utf8_valid_len-IsUtf8 bytes valid, eq-eqb (length bytes) (length bytes) refl, same) refl
 
 -- a test that does not hold fails
-not_true : (b : Bool) → (b ≡ true → ⊥) → b ≡ false
+pub not_true : (b : Bool) → (b ≡ true → ⊥) → b ≡ false
 not_true true h = absurd (h refl)
 not_true false h = refl
 

@@ -14,7 +14,10 @@ mod error;
 mod exports;
 mod imports;
 mod items;
+mod own_sections;
 mod parse;
+mod sections;
+mod tables;
 mod types;
 mod values;
 
