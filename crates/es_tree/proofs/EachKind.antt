@@ -7,7 +7,6 @@ use Rattle.es_lexer.specs.declared.token.TokenKind.{TokenKind}
 use Rattle.es_lexer.specs.declared.token.TokenKind.TheVariants as k
 use Rattle.es_lexer.specs.contracts.token.TokenKind.{the_type}
 use Rattle.es_tree.specs.Key.{Seen, Look}
-use Rattle.es_tree.proofs.OutLemmas.{clash}
 use Rattle.es_tree.proofs.Progress.{both_hold}
 
 -- every kind of token
