@@ -3,3 +3,4 @@ pub mod LoopLemmas
 pub mod ModuleLemmas
 pub mod SectionLemmas
 pub mod Theorems
+pub mod CutLemmas

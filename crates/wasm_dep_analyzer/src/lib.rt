@@ -28,3 +28,6 @@ pub use items::Items;
 pub use types::{
     FunctionSignature, GlobalType, ImportType, Limits, MemoryType, TableType, TagType, ValueType,
 };
+
+#[cfg(test)]
+mod tests;

@@ -1,6 +1,7 @@
 //! A module from its bytes (WebAssembly Core, "Modules").
 
 ghost use Rattle.std.specs.Prelude.{◌≡◌, List, [], Result, Ok, IfOk, map, unwrap_or, if◌then◌else◌};
+ghost use Rattle.std.specs.List.{AllByRecursion};
 ghost use Rattle.std.specs.Option.{option_copied};
 ghost use Rattle.wasm_dep_analyzer.specs.declared.error.ParseError.{ParseError};
 ghost use Rattle.wasm_dep_analyzer.specs.Reading.{Gives, GivesInRoom};
@@ -153,6 +154,8 @@ impl<'a> WasmDeps<'a> {
         // The outcome of reading the module is answered, unless memory runs out.
         ensures only { (outcome : Result Deps ParseError) → ReadsModule options.skip_types input.now outcome
             → GivesInRoom seen result outcome }
+        // Each range cuts the name of the import's module.
+        ensures cuts { IfOk result (λ deps. AllByRecursion (CutsName input.now) (seen deps).imports) }
     {
         read_module(alloc, input, options.skip_types)
     }
