@@ -4,3 +4,4 @@ pub mod ModuleTextLemmas
 pub mod AnalysedLemmas
 pub mod CutsLemmas
 pub mod RoomLemmas
+pub mod Theorems
