@@ -20,7 +20,7 @@ use Rattle.es_parser.proofs.Table.{sets, grammar}
 use Rattle.es_parser.proofs.TokenLemmas.{length-keys_of}
 
 -- two programs that are one value are one
-program_same : (a b : Program) → program a ≡ program b → a ≡ b
+pub program_same : (a b : Program) → program a ≡ program b → a ≡ b
 program_same a b e = cc
 
 module _ (l : Lang) (m : Mode) (x : List ℕ) (ts : List Token) where

@@ -3,4 +3,5 @@ pub mod Table
 pub mod StepLemmas
 pub mod ListLemmas
 pub mod AnswerLemmas
+pub mod CutsLemmas
 pub mod Theorems

@@ -32,9 +32,9 @@ impl Parser<'_> {
         ensures { (below : Below) → Reads item_value
             (rule_at self.now.text.now self.now.tokens.now below empty_item cursor.old.at) result cursor.new.at }
     {
-        let from = cursor.at;
+        let start = cursor.at;
         self.expect(TokenKind::Semicolon, cursor)?;
-        let span = self.span(from, cursor.at);
+        let span = self.span(start, cursor.at);
         Ok(ModuleItem::Stmt(Stmt::Empty(EmptyStmt { span })))
     }
 

@@ -14,3 +14,6 @@ mod items;
 mod program;
 
 pub use program::parse_tokens;
+
+#[cfg(test)]
+mod tests;
