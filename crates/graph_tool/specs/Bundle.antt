@@ -71,9 +71,13 @@ abbrev pub is_distinct : List (List ℕ) → Bool
 is_distinct [] = true
 is_distinct (text ∷ texts) = not (has texts text) && is_distinct texts
 
+-- the modules' specifiers
+abbrev pub specifiers : List (Parts × LoadAnswer) → List (List ℕ)
+specifiers modules = map (λ m. text_of m.0) modules
+
 -- no specifier has two modules
 abbrev pub are_distinct : List (Parts × LoadAnswer) → Bool
-are_distinct modules = is_distinct (map (λ m. text_of m.0) modules)
+are_distinct modules = is_distinct (specifiers modules)
 
 -- how many modules the graph may have
 abbrev pub module_limit : ℕ
