@@ -5,7 +5,7 @@ use Rattle.es_lexer.proofs.tests.a_literal_stands_for_the_text_between_its_quote
 
 pub literal_value-requires : goal.literal_value-requires
 unfolding first_of is_plain
-literal_value-requires c = record {
+literal_value-requires g c = record {
   quote = 39;
   body = codes "./b.ts";
   quotes = refl;
