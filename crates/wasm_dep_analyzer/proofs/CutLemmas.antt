@@ -1,8 +1,7 @@
 -- What is read ends in the rest, and so the range of an import cuts its module's name.
-use Rattle.std.proofs.Common.{◌≡◌, ℕ, zero, suc, ◌+◌, ◌-◌, ◌*◌, ◌%◌, ◌<◌, ◌≤◌, Bool, true, false, cond, eqb, List, [], ◌∷◌, ◌++◌, length, take, drop, Option, Some, None, Result, Ok, Err, refl, sym, ap, subst, ◌∙◌, append_assoc, arith}
-use Rattle.std.specs.Prelude.{IfOk, nat_lt, slice_range, unwrap_or, if◌then◌else◌}
+use Rattle.std.proofs.Common.{◌≡◌, ℕ, zero, suc, ◌+◌, ◌-◌, ◌%◌, ◌≤◌, Bool, true, false, cond, eqb, List, [], ◌∷◌, ◌++◌, length, take, drop, Option, Some, None, Result, Ok, Err, refl, sym, ap, subst, ◌∙◌, append_assoc, arith}
+use Rattle.std.specs.Prelude.{IfOk, nat_lt, slice_range, unwrap_or}
 use Rattle.std.specs.List.{AllByRecursion}
-use Rattle.std.specs.Str.{bytes_eq}
 use Rattle.std.proofs.lemmas.List.{length-append, take_at, drop_at, take-append-drop}
 use Rattle.base.specs.declared.range.Range.{Range}
 use Rattle.wasm_dep_analyzer.specs.declared.error.ParseError.{ParseError}
@@ -14,8 +13,8 @@ use Rattle.wasm_dep_analyzer.specs.Reading.{Read, ◌>>=◌}
 use Rattle.wasm_dep_analyzer.specs.Values.{u8_at, u32_at, name_at, items_at, vector_at, all_items}
 use Rattle.wasm_dep_analyzer.specs.Types.{value_type_of, value_type_at, maximum_at, limits_at, mutability_of, global_type_at, marked, table_at, tag_at, function_at, memory_at, global_at, import_type_of, import_type_at}
 use Rattle.wasm_dep_analyzer.specs.Imports.{Imported, range_before, import_at}
-use Rattle.wasm_dep_analyzer.specs.Sections.{Section, section_at, StandIn, first, held, imports_of, imports_in, exports_in}
-use Rattle.wasm_dep_analyzer.specs.Module.{Deps, header_at, version_at, deps_of, typed, no_tables, tables_of, ReadsModule, IsOutcome, CutsName, seen}
+use Rattle.wasm_dep_analyzer.specs.Sections.{Section, StandIn, first, held, imports_of, imports_in, exports_in}
+use Rattle.wasm_dep_analyzer.specs.Module.{Deps, header_at, version_at, deps_of, ReadsModule, IsOutcome, CutsName, seen}
 use Rattle.wasm_dep_analyzer.proofs.ValuesLemmas.{given_once, EndsIn, EndsIn-trans, bind_ok, u8_ends, number_ends, name_stands}
 use Rattle.wasm_dep_analyzer.proofs.SectionLemmas.{section_stands}
 

@@ -1,14 +1,14 @@
 -- A module has at most one outcome.
-use Rattle.std.proofs.Common.{◌≡◌, ◌≢◌, ℕ, ◌<◌, ◌≤◌, ◌⊎◌, Bool, true, false, cond, eqb, List, [], ◌∷◌, ◌++◌, length, take, Option, Some, None, is_some, Result, Ok, Err, is_ok, IsOk, refl, sym, ap, subst, ◌∙◌, inl, inr, append_assoc, arith}
+use Rattle.std.proofs.Common.{◌≡◌, ℕ, ◌<◌, ◌⊎◌, Bool, true, false, eqb, List, [], ◌∷◌, ◌++◌, length, take, Option, Some, None, is_some, Result, Ok, Err, is_ok, IsOk, refl, sym, ap, subst, ◌∙◌, inl, inr, append_assoc, arith}
 use Rattle.std.proofs.lemmas.Bool.{eq-eqb, eqb-true, false≢true}
 use Rattle.std.proofs.lemmas.List.{length-append, take-append-le}
 use Rattle.std.proofs.Math.Seq.{take-length}
 use Rattle.wasm_dep_analyzer.specs.declared.error.ParseError.{ParseError}
 use Rattle.wasm_dep_analyzer.specs.declared.error.ParseError.TheVariants.{OutOfMemory}
 use Rattle.wasm_dep_analyzer.specs.declared.deps.WasmDeps.{WasmDeps}
-use Rattle.wasm_dep_analyzer.specs.Reading.{◌>>=◌, IsFaultOf, GivesInRoom}
+use Rattle.wasm_dep_analyzer.specs.Reading.{GivesInRoom}
 use Rattle.wasm_dep_analyzer.specs.Sections.{Section, section_at, StandIn, first, held, imports_of, exports_of, imports_in, exports_in, AreSound, have_all}
-use Rattle.wasm_dep_analyzer.specs.Module.{Deps, header_at, deps_of, AreLookedAt, IsNextFault, ReadsBody, IsBodyFault, ReadsModule, IsOutcome, seen}
+use Rattle.wasm_dep_analyzer.specs.Module.{Deps, header_at, deps_of, IsNextFault, ReadsBody, IsBodyFault, ReadsModule, IsOutcome, seen}
 use Rattle.wasm_dep_analyzer.proofs.ValuesLemmas.{given_once}
 use Rattle.wasm_dep_analyzer.proofs.SectionLemmas.{first_stays, first_other}
 

@@ -5,11 +5,11 @@ use Rattle.std.proofs.lemmas.Bool.{lt-ltb, le-ltb, eq-eqb, eqb-true}
 use Rattle.std.proofs.lemmas.List.{take-append-drop, length-append}
 use Rattle.std.proofs.Math.Seq.{take-length}
 use Rattle.std.proofs.lemmas.Str.{utf8_valid_len-IsUtf8}
-use Rattle.std.specs.Prelude.{IsUtf8, nat_lt, if◌then◌else◌}
+use Rattle.std.specs.Prelude.{IsUtf8, nat_lt}
 use Rattle.std.specs.Str.Lossy.{utf8_valid_len}
 use Rattle.wasm_dep_analyzer.specs.declared.error.ParseError.{ParseError}
 use Rattle.wasm_dep_analyzer.specs.declared.error.ParseError.TheVariants.{UnexpectedEof, IntegerOverflow, InvalidUtf8}
-use Rattle.wasm_dep_analyzer.specs.Reading.{Read, ◌>>=◌}
+use Rattle.wasm_dep_analyzer.specs.Reading.{◌>>=◌}
 use Rattle.wasm_dep_analyzer.specs.Values.{u8_at, number_at, u32_at, bytes_at, text_of, name_at}
 
 -- a value as reading gives it

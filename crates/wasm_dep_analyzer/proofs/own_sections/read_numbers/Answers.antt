@@ -1,5 +1,4 @@
 -- One more item, the first fault, and the end of the count, each by the loop's law.
-use Rattle.std.proofs.Common.{◌≡◌, ◌++◌, ◌∷◌, []}
 use Rattle.std.proofs.lemmas.Result.{err_from_is_err_and}
 use Rattle.wasm_dep_analyzer.specs.Values.{u32_at, items_at}
 use Rattle.wasm_dep_analyzer.proofs.LoopLemmas.{fault_is, goes_on, ends, is_done}

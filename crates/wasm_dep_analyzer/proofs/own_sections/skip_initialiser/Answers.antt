@@ -1,7 +1,6 @@
 -- The first byte ends the initialiser, or what is sought stands behind it.
-use Rattle.std.proofs.Common.{◌≡◌, ◌∙◌, sym, ap, length, arith}
+use Rattle.std.proofs.Common.{◌∙◌, sym, arith}
 use Rattle.std.proofs.lemmas.Result.{err_from_is_err_and}
-use Rattle.wasm_dep_analyzer.proofs.ValuesLemmas.{first_is}
 use Rattle.wasm_dep_analyzer.proofs.ModuleLemmas.{behind_end-none, behind_end-found, behind_end-on, length-first}
 use Rattle.wasm_dep_analyzer.proofs.own_sections.skip_initialiser.Goals as goal
 

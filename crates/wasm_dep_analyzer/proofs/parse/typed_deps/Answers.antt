@@ -1,5 +1,5 @@
 -- What was found is what the sections hold, and the tables are those of their payloads.
-use Rattle.std.proofs.Common.{◌≡◌, map, refl, ap, ◌∙◌}
+use Rattle.std.proofs.Common.{map}
 use Rattle.std.specs.Option.{option_copied}
 use Rattle.wasm_dep_analyzer.specs.Imports.{imported}
 use Rattle.wasm_dep_analyzer.specs.Module.{exported}

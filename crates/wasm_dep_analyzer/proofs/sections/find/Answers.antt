@@ -1,5 +1,5 @@
 -- The sections so far grow by one; at the end they are all, or have all that is wanted; a fault comes behind them.
-use Rattle.std.proofs.Common.{◌≡◌, ◌++◌, ◌∷◌, [], length, refl, sym, ◌∙◌, inl, inr, arith}
+use Rattle.std.proofs.Common.{◌++◌, ◌∷◌, [], refl, sym, ◌∙◌, inl, inr, arith}
 use Rattle.std.proofs.lemmas.Result.{err_from_is_err_and}
 use Rattle.wasm_dep_analyzer.specs.Sections.{first, have_all}
 use Rattle.wasm_dep_analyzer.specs.Steps.{section}

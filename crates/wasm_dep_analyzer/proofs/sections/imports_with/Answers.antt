@@ -1,7 +1,6 @@
 -- The first imports stay; a section of another kind changes nothing; a new section holds the first, or a fault.
-use Rattle.std.proofs.Common.{◌≡◌, refl, sym, ◌∙◌, ap}
+use Rattle.std.proofs.Common.{refl, sym, ◌∙◌}
 use Rattle.std.proofs.lemmas.Result.{err_from_is_err_and}
-use Rattle.wasm_dep_analyzer.specs.Reading.{◌>>=◌}
 use Rattle.wasm_dep_analyzer.specs.Sections.{imports_of}
 use Rattle.wasm_dep_analyzer.specs.Steps.{section, found_imports}
 use Rattle.wasm_dep_analyzer.proofs.SectionLemmas.{is_some_map, held_stays, held_other, held_new, held_fault}

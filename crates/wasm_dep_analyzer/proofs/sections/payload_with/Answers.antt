@@ -1,5 +1,5 @@
 -- The first payload of a kind stays; a section of another kind changes nothing; a new one is the first.
-use Rattle.std.proofs.Common.{◌≡◌, sym, ◌∙◌}
+use Rattle.std.proofs.Common.{sym, ◌∙◌}
 use Rattle.wasm_dep_analyzer.specs.Steps.{section}
 use Rattle.wasm_dep_analyzer.proofs.SectionLemmas.{payload_stays, payload_other, payload_new}
 use Rattle.wasm_dep_analyzer.proofs.sections.payload_with.Goals as goal

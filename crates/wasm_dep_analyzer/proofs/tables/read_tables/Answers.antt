@@ -1,6 +1,5 @@
 -- Each table that is kept is what reading gives, since it is no want of memory.
 use Rattle.std.proofs.Common.{◌≡◌, refl, map}
-use Rattle.wasm_dep_analyzer.specs.Values.{u32_at}
 use Rattle.wasm_dep_analyzer.specs.Types.{signature_at}
 use Rattle.wasm_dep_analyzer.specs.Imports.{imported}
 use Rattle.wasm_dep_analyzer.specs.Module.{functions_of, globals_of, own_items}
