@@ -12,14 +12,16 @@ use Rattle.es_lexer.specs.Stops.{Stops}
 use Rattle.es_lexer.specs.Answers.{GivesLists, GivesFault}
 use Rattle.es_lexer.proofs.Theorems.{one_reading, one_fault, no_reading_stops}
 
-pub only_lists : (x : List ℕ) (result : Result Lexed LexError) → IfOk result (λ lexed. Reads x lexed.tokens lexed.comments)
+pub only_lists : (x : List ℕ) (result : Result Lexed LexError)
+    → IfOk result (λ lexed. Reads x lexed.tokens lexed.comments)
     → ((e : LexicalError) → result ≡ Err (Lexical e) → Stops x e.kind e.at)
     → (ts : List Token) (cs : List Comment) → Reads x ts cs → GivesLists result ts cs
 only_lists x (Ok lexed) read stopped ts cs r = one_reading x lexed.tokens ts lexed.comments cs read r
 only_lists x (Err (Lexical e)) read stopped ts cs r = no_reading_stops x ts cs e.kind e.at r (stopped e refl)
 only_lists x (Err OutOfMemory) read stopped ts cs r = tt
 
-pub only_fault : (x : List ℕ) (result : Result Lexed LexError) → IfOk result (λ lexed. Reads x lexed.tokens lexed.comments)
+pub only_fault : (x : List ℕ) (result : Result Lexed LexError)
+    → IfOk result (λ lexed. Reads x lexed.tokens lexed.comments)
     → ((e : LexicalError) → result ≡ Err (Lexical e) → Stops x e.kind e.at)
     → (kind : LexicalKind) (at : ℕ) → Stops x kind at → GivesFault result kind at
 only_fault x (Ok lexed) read stopped kind at s = no_reading_stops x lexed.tokens lexed.comments kind at read s

@@ -26,7 +26,8 @@ classed_by b false false false false false true p q r s t o = slash (eqb-true _ 
 classed_by b false false false false false false p q r s t o = other (rw (p, q, r, s, t, o) refl)
 
 pub classed : (b : ℕ) → Classed b (first_of b)
-classed b = classed_by b (is_blank b) (is_line_end b) (is_start b) (is_quote b) (b == 59) (b == 47) refl refl refl refl refl refl
+classed b = classed_by b (is_blank b) (is_line_end b) (is_start b) (is_quote b) (b == 59)
+    (b == 47) refl refl refl refl refl refl
 
 -- a start goes on in its word
 pub start_is_part : (b : ℕ) → first_of b ≡ Start → is_part b ≡ true
@@ -95,7 +96,8 @@ pub apart : (b n : ℕ) (c d : First) → first_of b ≡ c → first_of n ≡ d 
 apart b n c d p q differ = apart_by b n c d p q differ (b == n) refl
 
 -- no comment begins with a byte of another class than the slash
-pub no_comment_at : (b : ℕ) (rest : List ℕ) (c : First) → first_of b ≡ c → (c ≡ Slash → ⊥) → begins_comment (b ∷ rest) ≡ false
+pub no_comment_at : (b : ℕ) (rest : List ℕ) (c : First) → first_of b ≡ c → (c ≡ Slash → ⊥)
+    → begins_comment (b ∷ rest) ≡ false
 unfolding begins_comment
 no_comment_at b [] c p differ = refl
 no_comment_at b (d ∷ rest) c p differ = rw (apart b 47 c Slash p slash_class differ) refl
@@ -128,6 +130,7 @@ plain_left : (v : Bool) → not (false || false || v) ≡ false → v ≡ true
 plain_left true e = refl
 plain_left false e = cc
 
-pub not_plain_ends : (mark b : ℕ) → is_plain mark b ≡ false → (b == mark) ≡ false → (b == 92) ≡ false → is_line_end b ≡ true
+pub not_plain_ends : (mark b : ℕ) → is_plain mark b ≡ false → (b == mark) ≡ false → (b == 92) ≡ false
+    → is_line_end b ≡ true
 unfolding is_plain
 not_plain_ends mark b e p q = plain_left (is_line_end b) (rw (p, q) at e)

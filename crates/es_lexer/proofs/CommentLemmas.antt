@@ -59,7 +59,8 @@ closer_is b (c ∷ s) e = record {
 }
 
 -- whether a closer begins here depends on the next byte alone
-closer_same : (b : ℕ) (text x y : List ℕ) → begins_closer (b ∷ (text ++ 42 ∷ x)) ≡ begins_closer (b ∷ (text ++ 42 ∷ y))
+closer_same : (b : ℕ) (text x y : List ℕ)
+    → begins_closer (b ∷ (text ++ 42 ∷ x)) ≡ begins_closer (b ∷ (text ++ 42 ∷ y))
 unfolding begins_closer
 closer_same b [] x y = refl
 closer_same b (c ∷ text) x y = refl
@@ -90,26 +91,32 @@ block_step start line at b s true e found =
     (rw e (rw or_false (ap (λ n. Comment Block n line) (let q : at + 2 ≡ at + 0 + 2 = omega arith in q))))
 block_step start line at b s false e found = rw e (block_more start line at b s _ e found)
 
-pub block_finds : (start : ℕ) (line : Bool) (at : ℕ) (s : List ℕ) → BlockFound start line at s (block_look start line at s)
+pub block_finds : (start : ℕ) (line : Bool) (at : ℕ) (s : List ℕ)
+    → BlockFound start line at s (block_look start line at s)
 unfolding block_look has_closer
 block_finds start line at [] = unclosed refl refl
 block_finds start line at (b ∷ s) =
     block_step start line at b s (begins_closer (b ∷ s)) refl (block_finds start (line || is_line_end b) (at + 1) s)
 
-block_opens : (start : ℕ) (line : Bool) (at : ℕ) (after : List ℕ) → block_look start line at (42 ∷ 47 ∷ after) ≡ Comment Block (at + 2) line
+block_opens : (start : ℕ) (line : Bool) (at : ℕ) (after : List ℕ)
+    → block_look start line at (42 ∷ 47 ∷ after) ≡ Comment Block (at + 2) line
 unfolding block_look begins_closer
 block_opens start line at after = refl
 
 -- a block comment is found
 pub block_closes : (start : ℕ) (line : Bool) (at : ℕ) (text after : List ℕ) → has_closer (text ++ 42 ∷ []) ≡ false
-    → block_look start line at (text ++ 42 ∷ 47 ∷ after) ≡ Comment Block (at + length text + 2) (line || has_line_end text)
+    → block_look start line at (text ++ 42 ∷ 47 ∷ after) ≡ Comment Block (at + length text + 2)
+    (line || has_line_end text)
 unfolding block_look has_closer has_line_end
 block_closes start line at [] after h =
-    block_opens start line at after ∙ rw or_false (ap (λ n. Comment Block n line) (let e : at + 2 ≡ at + 0 + 2 = omega arith in e))
+    block_opens start line at after
+    ∙ rw or_false (ap (λ n. Comment Block n line) (let e : at + 2 ≡ at + 0 + 2 = omega arith in e))
 block_closes start line at (b ∷ text) after h =
     let n : begins_closer (b ∷ (text ++ 42 ∷ 47 ∷ after)) ≡ false =
-    closer_same b text (47 ∷ after) [] ∙ or_left (begins_closer (b ∷ (text ++ 42 ∷ []))) (has_closer (text ++ 42 ∷ [])) h in
-    let g : has_closer (text ++ 42 ∷ []) ≡ false = or_right (begins_closer (b ∷ (text ++ 42 ∷ []))) (has_closer (text ++ 42 ∷ [])) h in
+    closer_same b text (47 ∷ after) []
+    ∙ or_left (begins_closer (b ∷ (text ++ 42 ∷ []))) (has_closer (text ++ 42 ∷ [])) h in
+    let g : has_closer (text ++ 42 ∷ []) ≡ false =
+    or_right (begins_closer (b ∷ (text ++ 42 ∷ []))) (has_closer (text ++ 42 ∷ [])) h in
     rw n (block_closes start (line || is_line_end b) (at + 1) text after g
     ∙ (rw or_assoc (ap (λ n. Comment Block n (line || (is_line_end b || has_line_end text)))
     (let e : at + 1 + length text + 2 ≡ at + length (b ∷ text) + 2 = omega arith in e))))

@@ -37,7 +37,8 @@ word_reads : (at b : ℕ) (parts after : List ℕ) → first_of b ≡ first.Star
 unfolding look_at class_look word_look
 word_reads at b parts after f h e =
     let end : run_end is_part at ((b ∷ parts) ++ after) ≡ at + length (b ∷ parts) =
-    run_end-append is_part at (b ∷ parts) after (start_is_part b f, h) ∙ run_end-stop is_part (at + length (b ∷ parts)) after e in
+    run_end-append is_part at (b ∷ parts) after (start_is_part b f, h)
+    ∙ run_end-stop is_part (at + length (b ∷ parts)) after e in
     let front : take (at + length (b ∷ parts) - at) ((b ∷ parts) ++ after) ≡ b ∷ parts =
     take_at (b ∷ parts) after (at + length (b ∷ parts) - at) (omega arith) in
     rw (f, end) (ap (λ w. look.Token (word_kind w) (at + length (b ∷ parts))) front)
@@ -46,25 +47,30 @@ string_reads : (at mark : ℕ) (body after : List ℕ) → first_of mark ≡ fir
     → look_at at (mark ∷ (body ++ mark ∷ after)) ≡ look.Token kind.Str (at + length (mark ∷ (body ++ mark ∷ [])))
 unfolding look_at class_look
 string_reads at mark body after f h =
-    let size : at + 1 + length body + 1 ≡ at + length (mark ∷ (body ++ mark ∷ [])) = omega (arith, length-append body (mark ∷ [])) in
+    let size : at + 1 + length body + 1 ≡ at + length (mark ∷ (body ++ mark ∷ [])) =
+    omega (arith, length-append body (mark ∷ [])) in
     rw f (string_closes mark at (at + 1) body after h ∙ ap (λ n. look.Token kind.Str n) size)
 
 sign_reads : (at : ℕ) (after : List ℕ) → look_at at (59 ∷ after) ≡ look.Token kind.Semicolon (at + 1)
 unfolding look_at class_look
 sign_reads at after = rw sign_class refl
 
-token_reads_by : (goal : Goal) (at : ℕ) (k : TokenKind) (b : ℕ) (rest after : List ℕ) → Spelled k b rest → IsLongest goal (b ∷ rest) after
+token_reads_by : (goal : Goal) (at : ℕ) (k : TokenKind) (b : ℕ) (rest after : List ℕ) → Spelled k b rest
+    → IsLongest goal (b ∷ rest) after
     → look_at at (b ∷ (rest ++ after)) ≡ look.Token k (at + length (b ∷ rest))
 token_reads_by goal at k b rest after (as_word f h e) l =
-    word_reads at b rest after f h (word_ends goal b rest after f h l) ∙ ap (λ k. look.Token k (at + length (b ∷ rest))) (sym e)
+    word_reads at b rest after f h (word_ends goal b rest after f h l)
+    ∙ ap (λ k. look.Token k (at + length (b ∷ rest))) (sym e)
 token_reads_by goal at k b rest after (as_string f body h w e) l =
     let joined : rest ++ after ≡ body ++ b ∷ after = ap (λ t. t ++ after) w ∙ append_assoc body (b ∷ []) after in
     ap (λ t. look_at at (b ∷ t)) joined ∙ (string_reads at b body after f h
-    ∙ (ap (λ t. look.Token kind.Str (at + length (b ∷ t))) (sym w) ∙ ap (λ k. look.Token k (at + length (b ∷ rest))) (sym e)))
+    ∙ (ap (λ t. look.Token kind.Str (at + length (b ∷ t))) (sym w)
+    ∙ ap (λ k. look.Token k (at + length (b ∷ rest))) (sym e)))
 token_reads_by goal at k b rest after (as_sign f w e) l =
     let at_once : look_at at (b ∷ (rest ++ after)) ≡ look_at at (59 ∷ after) = rw (f, w) refl in
     let size : at + 1 ≡ at + length (b ∷ rest) = rw w (omega arith) in
-    at_once ∙ (sign_reads at after ∙ (ap (λ n. look.Token kind.Semicolon n) size ∙ ap (λ k. look.Token k (at + length (b ∷ rest))) (sym e)))
+    at_once ∙ (sign_reads at after
+    ∙ (ap (λ n. look.Token kind.Semicolon n) size ∙ ap (λ k. look.Token k (at + length (b ∷ rest))) (sym e)))
 
 token_reads : (goal : Goal) (at : ℕ) (k : TokenKind) (s after : List ℕ) → IsToken goal k s after
     → look_at at (s ++ after) ≡ look.Token k (at + length s)
@@ -81,8 +87,10 @@ comment_reads at Line text after h =
     rw (slash_class, end, remark.no_line_end text h.0) refl
 comment_reads at Block text after h =
     let joined : (text ++ 42 ∷ 47 ∷ []) ++ after ≡ text ++ 42 ∷ 47 ∷ after = append_assoc text (42 ∷ 47 ∷ []) after in
-    let size : at + 2 + length text + 2 ≡ at + length (47 ∷ 42 ∷ (text ++ 42 ∷ 47 ∷ [])) = omega (arith, length-append text (42 ∷ 47 ∷ [])) in
-    rw (slash_class, joined) (remark.block_closes at false (at + 2) text after h ∙ ap (λ n. look.Comment Block n (has_line_end text)) size)
+    let size : at + 2 + length text + 2 ≡ at + length (47 ∷ 42 ∷ (text ++ 42 ∷ 47 ∷ [])) =
+    omega (arith, length-append text (42 ∷ 47 ∷ [])) in
+    rw (slash_class, joined)
+    (remark.block_closes at false (at + 2) text after h ∙ ap (λ n. look.Comment Block n (has_line_end text)) size)
 
 pub piece_reads : (goal : Goal) (at : ℕ) (piece : Piece) (after : List ℕ) → IsPiece goal piece after
     → look_at at (spelling piece ++ after) ≡ reading_of at piece
@@ -101,11 +109,13 @@ slash_stuck at b (c ∷ after) f n =
     let e : (c == 47 || c == 42) ≡ false = rw (slash_is b f) at n in
     rw (remark.or_left (c == 47) (c == 42) e, remark.or_right (c == 47) (c == 42) e) refl
 
-block_stuck : (at : ℕ) (body : List ℕ) → has_closer body ≡ false → slash_look at (42 ∷ body) ≡ look.Fault UnterminatedComment at
+block_stuck : (at : ℕ) (body : List ℕ) → has_closer body ≡ false
+    → slash_look at (42 ∷ body) ≡ look.Fault UnterminatedComment at
 unfolding slash_look
 block_stuck at body h = remark.block_runs_out at false (at + 2) body h
 
-pub stuck_reads : (goal : Goal) (rest : List ℕ) (at : ℕ) (kind : LexicalKind) (place : ℕ) → Stuck goal rest at kind place
+pub stuck_reads : (goal : Goal) (rest : List ℕ) (at : ℕ) (kind : LexicalKind) (place : ℕ)
+    → Stuck goal rest at kind place
     → look_at at rest ≡ look.Fault kind place
 unfolding look_at class_look
 stuck_reads goal rest at kind place (open_string mark body after f h w l e p) =
@@ -123,7 +133,8 @@ pub data Found (goal : Goal) (at : ℕ) (text : List ℕ) (found : Look) : Type 
   ended : text ≡ [] → found ≡ look.End → Found goal at text found
   piece : (p : Piece) (after : List ℕ) → text ≡ spelling p ++ after → IsPiece goal p after → found ≡ reading_of at p
       → Found goal at text found
-  fault : (kind : LexicalKind) (place : ℕ) → Stuck goal text at kind place → found ≡ look.Fault kind place → Found goal at text found
+  fault : (kind : LexicalKind) (place : ℕ) → Stuck goal text at kind place → found ≡ look.Fault kind place
+      → Found goal at text found
 
 word_found : (goal : Goal) (at b : ℕ) (rest : List ℕ) → first_of b ≡ first.Start → Run is_part at rest
     → Found goal at (b ∷ rest) (look_at at (b ∷ rest))
@@ -160,7 +171,8 @@ string_found goal at mark rest f found (escape body after w h e) =
 string_found goal at mark rest f found (unclosed body after w h l e) =
     fault UnterminatedString at (open_string mark body after f h (ap (λ t. mark ∷ t) w) l refl refl) e
 
-sign_found : (goal : Goal) (at b : ℕ) (rest : List ℕ) → b ≡ 59 → Found goal at (b ∷ rest) (look.Token kind.Semicolon (at + 1))
+sign_found : (goal : Goal) (at b : ℕ) (rest : List ℕ) → b ≡ 59
+    → Found goal at (b ∷ rest) (look.Token kind.Semicolon (at + 1))
 unfolding allows sign_kind
 sign_found goal at b rest e =
     let t : IsToken goal kind.Semicolon (59 ∷ []) rest = record {
@@ -175,16 +187,19 @@ line_found : (goal : Goal) (at : ℕ) (rest : List ℕ) → Run is_in_line (at +
     → Found goal at (47 ∷ 47 ∷ rest) (look.Comment Line (run_end is_in_line (at + 2) rest) false)
 unfolding comment_spelling
 line_found goal at rest r =
-    let h : IsComment Line r.front r.back = (remark.in_line_back r.front r.passes, remark.line_stops_back r.back r.ends) in
+    let h : IsComment Line r.front r.back =
+    (remark.in_line_back r.front r.passes, remark.line_stops_back r.back r.ends) in
     piece (comment Line r.front) r.back (ap (λ t. 47 ∷ 47 ∷ t) r.whole) h
     (rw (r.end, remark.no_line_end r.front h.0)
-    (ap (λ n. look.Comment Line n false) (let e : at + 2 + length r.front ≡ at + length (47 ∷ 47 ∷ r.front) = omega arith in e)))
+    (ap (λ n. look.Comment Line n false)
+    (let e : at + 2 + length r.front ≡ at + length (47 ∷ 47 ∷ r.front) = omega arith in e)))
 
 block_found : (goal : Goal) (at : ℕ) (rest : List ℕ) (found : Look) → remark.BlockFound at false (at + 2) rest found
     → Found goal at (47 ∷ 42 ∷ rest) found
 unfolding comment_spelling
 block_found goal at rest found (remark.closed text after w h e) =
-    let size : at + 2 + length text + 2 ≡ at + length (47 ∷ 42 ∷ (text ++ 42 ∷ 47 ∷ [])) = omega (arith, length-append text (42 ∷ 47 ∷ [])) in
+    let size : at + 2 + length text + 2 ≡ at + length (47 ∷ 42 ∷ (text ++ 42 ∷ 47 ∷ [])) =
+    omega (arith, length-append text (42 ∷ 47 ∷ [])) in
     piece (comment Block text) after (ap (λ t. 47 ∷ 42 ∷ t) (w ∙ sym (append_assoc text (42 ∷ 47 ∷ []) after))) h
     (e ∙ ap (λ n. look.Comment Block n (has_line_end text)) size)
 block_found goal at rest found (remark.unclosed h e) =
@@ -214,7 +229,8 @@ class_found goal at b rest first.Start f = word_found goal at b rest f (run is_p
 class_found goal at b rest first.Quote f = rw f (string_found goal at b rest f _ (string_finds b at (at + 1) rest))
 class_found goal at b rest first.Sign f = rw f (sign_found goal at b rest (sign_is b f))
 class_found goal at b rest first.Slash f =
-    rw f (subst (λ (c : ℕ). Found goal at (c ∷ rest) (slash_look at rest)) (sym (slash_is b f)) (slash_found goal at rest))
+    rw f (subst (λ (c : ℕ). Found goal at (c ∷ rest) (slash_look at rest)) (sym (slash_is b f))
+    (slash_found goal at rest))
 class_found goal at b rest first.Other f = rw f (fault InvalidChar at (no_token b rest refl f refl refl) refl)
 
 pub look_finds : (goal : Goal) (at : ℕ) (text : List ℕ) → Found goal at text (look_at at text)

@@ -93,29 +93,39 @@ lower x m n t l a = record {
 }
 
 shift : (x front s rest after : List ℕ) → x ≡ front ++ ((s ++ rest) ++ after) → x ≡ (front ++ s) ++ (rest ++ after)
-shift x front s rest after w = w ∙ (ap (λ t. front ++ t) (append_assoc s rest after) ∙ sym (append_assoc front s (rest ++ after)))
+shift x front s rest after w = w
+    ∙ (ap (λ t. front ++ t) (append_assoc s rest after) ∙ sym (append_assoc front s (rest ++ after)))
 
 moved : (at : ℕ) (front s : List ℕ) → at ≡ length front → at + length s ≡ length (front ++ s)
 moved at front s e = omega (arith, length-append front s)
 
 -- each token of the pieces stands in the text, at or above the place where the pieces begin
-pub token_at : (ps : List Piece) (before : List TokenKind) (x front after : List ℕ) (at : ℕ) (line : Bool) (n : ℕ) (t : Token)
+pub token_at : (ps : List Piece) (before : List TokenKind) (x front after : List ℕ) (at : ℕ) (line : Bool) (n : ℕ)
+    (t : Token)
     → x ≡ front ++ (text_of ps ++ after) → at ≡ length front → ArePieces before ps after
     → slice_get (tokens_of before at line ps) n ≡ Some t → TokenAt x at t
 unfolding tokens_of
 token_at [] before x front after at line n t w p h g = cc
 token_at (blank b ∷ ps) before x front after at line n t w p h g =
     lower x at (at + 1) t (omega arith)
-    (token_at ps before x (front ++ b ∷ []) after (at + 1) line n t (shift x front (b ∷ []) (text_of ps) after w) (moved at front (b ∷ []) p) h.1 g)
+    (token_at ps before x (front ++ b ∷ []) after (at + 1) line n t (shift x front (b ∷ []) (text_of ps) after w)
+    (moved at front (b ∷ []) p) h.1 g)
 token_at (line_end b ∷ ps) before x front after at line n t w p h g =
     lower x at (at + 1) t (omega arith)
-    (token_at ps before x (front ++ b ∷ []) after (at + 1) (is_behind before) n t (shift x front (b ∷ []) (text_of ps) after w) (moved at front (b ∷ []) p) h.1 g)
+    (token_at ps before x (front ++ b ∷ []) after (at + 1) (is_behind before) n t
+    (shift x front (b ∷ []) (text_of ps) after w) (moved at front (b ∷ []) p) h.1 g)
 token_at (comment kind s ∷ ps) before x front after at line n t w p h g =
     lower x at (at + length (comment_spelling kind s)) t (omega arith)
     (token_at ps before x (front ++ comment_spelling kind s) after (at + length (comment_spelling kind s)) _ n t
     (shift x front (comment_spelling kind s) (text_of ps) after w) (moved at front (comment_spelling kind s) p) h.1 g)
 token_at (token k s ∷ ps) before x front after at line zero t w p h g =
-    let same : record { kind = k; range = record { start = at; end = at + length s }; line_before = line; partner = partner_of before k (kinds_of ps) } ≡ t = cc in
+    let same : record {
+      kind = k;
+      range = record { start = at; end = at + length s };
+      line_before = line;
+      partner =
+          partner_of before k (kinds_of ps);
+    } ≡ t = cc in
     subst (TokenAt x at) same (record {
       front = front;
       text = s;
@@ -132,24 +142,34 @@ token_at (token k s ∷ ps) before x front after at line (suc n) t w p h g =
     (shift x front s (text_of ps) after w) (moved at front s p) h.1 g)
 
 -- a token ends before the next one begins
-pub ascends : (ps : List Piece) (before : List TokenKind) (x front after : List ℕ) (at : ℕ) (line : Bool) (n : ℕ) (t u : Token)
+pub ascends : (ps : List Piece) (before : List TokenKind) (x front after : List ℕ) (at : ℕ) (line : Bool) (n : ℕ)
+    (t u : Token)
     → x ≡ front ++ (text_of ps ++ after) → at ≡ length front → ArePieces before ps after
     → slice_get (tokens_of before at line ps) n ≡ Some t → slice_get (tokens_of before at line ps) (suc n) ≡ Some u
     → t.range.end ≤ u.range.start
 unfolding tokens_of
 ascends [] before x front after at line n t u w p h f g = cc
 ascends (blank b ∷ ps) before x front after at line n t u w p h f g =
-    ascends ps before x (front ++ b ∷ []) after (at + 1) line n t u (shift x front (b ∷ []) (text_of ps) after w) (moved at front (b ∷ []) p) h.1 f g
+    ascends ps before x (front ++ b ∷ []) after (at + 1) line n t u (shift x front (b ∷ []) (text_of ps) after w)
+    (moved at front (b ∷ []) p) h.1 f g
 ascends (line_end b ∷ ps) before x front after at line n t u w p h f g =
     ascends ps before x (front ++ b ∷ []) after (at + 1) (is_behind before) n t u
     (shift x front (b ∷ []) (text_of ps) after w) (moved at front (b ∷ []) p) h.1 f g
 ascends (comment kind s ∷ ps) before x front after at line n t u w p h f g =
     ascends ps before x (front ++ comment_spelling kind s) after (at + length (comment_spelling kind s)) _ n t u
-    (shift x front (comment_spelling kind s) (text_of ps) after w) (moved at front (comment_spelling kind s) p) h.1 f g
+    (shift x front (comment_spelling kind s) (text_of ps) after w)
+    (moved at front (comment_spelling kind s) p) h.1 f g
 ascends (token k s ∷ ps) before x front after at line zero t u w p h f g =
-    let same : record { kind = k; range = record { start = at; end = at + length s }; line_before = line; partner = partner_of before k (kinds_of ps) } ≡ t = cc in
+    let same : record {
+      kind = k;
+      range = record { start = at; end = at + length s };
+      line_before = line;
+      partner =
+          partner_of before k (kinds_of ps);
+    } ≡ t = cc in
     let next : TokenAt x (at + length s) u =
-    token_at ps (k ∷ before) x (front ++ s) after (at + length s) false 0 u (shift x front s (text_of ps) after w) (moved at front s p) h.1 g in
+    token_at ps (k ∷ before) x (front ++ s) after (at + length s) false 0 u (shift x front s (text_of ps) after w)
+    (moved at front s p) h.1 g in
     subst (λ (v : Token). v.range.end ≤ u.range.start) same next.above
 ascends (token k s ∷ ps) before x front after at line (suc n) t u w p h f g =
     ascends ps (k ∷ before) x (front ++ s) after (at + length s) false n t u
@@ -160,7 +180,8 @@ some_text : (k : TokenKind) (s : List ℕ) → Spells k s → 0 < length s
 some_text k [] h = absurd (not_empty k h)
 some_text k (b ∷ s) h = omega arith
 
-pub not_nothing : (x : List ℕ) (low : ℕ) (t : Token) → TokenAt x low t → (t.range.start < t.range.end) × (t.range.end ≤ length x)
+pub not_nothing : (x : List ℕ) (low : ℕ) (t : Token) → TokenAt x low t
+    → (t.range.start < t.range.end) × (t.range.end ≤ length x)
 not_nothing x low t a =
     let size : 0 < length a.text = some_text t.kind a.text a.spells in
     let starts : t.range.start ≡ length a.front = a.starts in
@@ -168,7 +189,8 @@ not_nothing x low t a =
     let whole : length x ≡ length (a.front ++ (a.text ++ a.after)) = ap length a.whole in
     (omega arith, omega (arith, length-append a.front (a.text ++ a.after), length-append a.text a.after))
 
-pub cuts : (x : List ℕ) (low : ℕ) (t : Token) → (a : TokenAt x low t) → slice_range x t.range.start t.range.end ≡ a.text
+pub cuts : (x : List ℕ) (low : ℕ) (t : Token) → (a : TokenAt x low t)
+    → slice_range x t.range.start t.range.end ≡ a.text
 cuts x low t a =
     let starts : t.range.start ≡ length a.front = a.starts in
     let ends : t.range.end ≡ length a.front + length a.text = a.ends in
@@ -176,7 +198,8 @@ cuts x low t a =
     ∙ (ap (take (t.range.end - t.range.start)) (drop_at a.front (a.text ++ a.after) t.range.start (sym starts))
     ∙ take_at a.text a.after (t.range.end - t.range.start) (omega arith))
 
-start_by : (x front after : List ℕ) (k : TokenKind) (s : List ℕ) (at : ℕ) → x ≡ front ++ (s ++ after) → Spells k s → at ≡ length front → IsCharBoundary x at
+start_by : (x front after : List ℕ) (k : TokenKind) (s : List ℕ) (at : ℕ) → x ≡ front ++ (s ++ after) → Spells k s
+    → at ≡ length front → IsCharBoundary x at
 start_by x front after k [] at w h p = absurd (not_empty k h)
 start_by x front after k (b ∷ rest) at w h p =
     let byte : get_or x at 0 ≡ b = ap (λ y. get_or y at 0) w ∙ get_or_at front b (rest ++ after) 0 at (sym p) in
@@ -184,21 +207,27 @@ start_by x front after k (b ∷ rest) at w h p =
     IsCharBoundary-before_ascii x at (omega (arith, length-append front (b ∷ rest ++ after)))
     (subst (λ (c : ℕ). c < 128) (sym byte) (first_ascii k b rest h))
 
-end_by : (x front after s : List ℕ) (at : ℕ) → IsUtf8 x → x ≡ front ++ (s ++ after) → EndsAscii s → at ≡ length front + length s → IsCharBoundary x at
+end_by : (x front after s : List ℕ) (at : ℕ) → IsUtf8 x → x ≡ front ++ (s ++ after) → EndsAscii s
+    → at ≡ length front + length s → IsCharBoundary x at
 end_by x front after s at u w e p =
     let size : length s ≡ length (e.front ++ e.last ∷ []) = ap length e.whole in
-    let place : length (front ++ e.front) + 1 ≡ at = omega (arith, length-append front e.front, length-append e.front (e.last ∷ [])) in
+    let place : length (front ++ e.front) + 1 ≡ at =
+    omega (arith, length-append front e.front, length-append e.front (e.last ∷ [])) in
     let cut : x ≡ (front ++ e.front) ++ (e.last ∷ after) =
     w ∙ (ap (λ t. front ++ (t ++ after)) e.whole
-    ∙ (ap (λ t. front ++ t) (append_assoc e.front (e.last ∷ []) after) ∙ sym (append_assoc front e.front (e.last ∷ after)))) in
+    ∙ (ap (λ t. front ++ t) (append_assoc e.front (e.last ∷ []) after)
+    ∙ sym (append_assoc front e.front (e.last ∷ after)))) in
     let byte : get_or x (length (front ++ e.front)) 0 ≡ e.last =
-    ap (λ y. get_or y (length (front ++ e.front)) 0) cut ∙ get_or_at (front ++ e.front) e.last after 0 (length (front ++ e.front)) refl in
+    ap (λ y. get_or y (length (front ++ e.front)) 0) cut
+    ∙ get_or_at (front ++ e.front) e.last after 0 (length (front ++ e.front)) refl in
     let l : length x ≡ length ((front ++ e.front) ++ (e.last ∷ after)) = ap length cut in
     subst (IsCharBoundary x) place
-    (IsCharBoundary-after_ascii x (length (front ++ e.front)) u (omega (arith, length-append (front ++ e.front) (e.last ∷ after)))
+    (IsCharBoundary-after_ascii x (length (front ++ e.front)) u
+    (omega (arith, length-append (front ++ e.front) (e.last ∷ after)))
     (subst (λ (c : ℕ). c < 128) (sym byte) e.ascii))
 
-pub boundaries : (x : List ℕ) (low : ℕ) (t : Token) → IsUtf8 x → TokenAt x low t → IsCharBoundary x t.range.start × IsCharBoundary x t.range.end
+pub boundaries : (x : List ℕ) (low : ℕ) (t : Token) → IsUtf8 x → TokenAt x low t
+    → IsCharBoundary x t.range.start × IsCharBoundary x t.range.end
 boundaries x low t u a = (
   start_by x a.front a.after t.kind a.text t.range.start a.whole a.spells a.starts,
   end_by x a.front a.after a.text t.range.end u a.whole (last_ascii t.kind a.text a.spells) a.ends,
@@ -222,7 +251,8 @@ words_no_str : (n : ℕ) → no_str (words_of n) ≡ true
 unfolding words_of words_of_two words_of_three words_of_four words_of_five words_of_six words_of_seven words_of_eight words_of_nine words_of_ten words_of_eleven
 words_no_str n =
     no_str_if (n == 2) _ _ refl (no_str_if (n == 3) _ _ refl (no_str_if (n == 4) _ _ refl (no_str_if (n == 5) _ _ refl
-    (no_str_if (n == 6) _ _ refl (no_str_if (n == 7) _ _ refl (no_str_if (n == 8) _ _ refl (no_str_if (n == 9) _ _ refl
+    (no_str_if (n == 6) _ _ refl
+    (no_str_if (n == 7) _ _ refl (no_str_if (n == 8) _ _ refl (no_str_if (n == 9) _ _ refl
     (no_str_if (n == 10) _ _ refl (no_str_if (n == 11) _ _ refl refl)))))))))
 
 entry_no_str : (u v : Bool) → (not u && v) ≡ true → u ≡ false
@@ -274,15 +304,22 @@ pub record CommentAt (x : List ℕ) (c : Comment) : Type 0 where
   pub ends : c.range.end ≡ length front + length (comment_spelling c.kind c.text)
 
 pub comment_at : (ps : List Piece) (x front after : List ℕ) (at n : ℕ) (c : Comment)
-    → x ≡ front ++ (text_of ps ++ after) → at ≡ length front → slice_get (comments_of at ps) n ≡ Some c → CommentAt x c
+    → x ≡ front ++ (text_of ps ++ after) → at ≡ length front → slice_get (comments_of at ps) n ≡ Some c
+    → CommentAt x c
 unfolding comments_of
 comment_at [] x front after at n c w p g = cc
 comment_at (blank b ∷ ps) x front after at n c w p g =
-    comment_at ps x (front ++ b ∷ []) after (at + 1) n c (shift x front (b ∷ []) (text_of ps) after w) (moved at front (b ∷ []) p) g
+    comment_at ps x (front ++ b ∷ []) after (at + 1) n c (shift x front (b ∷ []) (text_of ps) after w)
+    (moved at front (b ∷ []) p) g
 comment_at (line_end b ∷ ps) x front after at n c w p g =
-    comment_at ps x (front ++ b ∷ []) after (at + 1) n c (shift x front (b ∷ []) (text_of ps) after w) (moved at front (b ∷ []) p) g
+    comment_at ps x (front ++ b ∷ []) after (at + 1) n c (shift x front (b ∷ []) (text_of ps) after w)
+    (moved at front (b ∷ []) p) g
 comment_at (comment kind s ∷ ps) x front after at zero c w p g =
-    let same : record { kind = kind; range = record { start = at; end = at + length (comment_spelling kind s) }; text = s } ≡ c = cc in
+    let same : record {
+      kind = kind;
+      range = record { start = at; end = at + length (comment_spelling kind s) };
+      text = s;
+    } ≡ c = cc in
     subst (CommentAt x) same (record {
       front = front;
       after = text_of ps ++ after;
@@ -294,14 +331,17 @@ comment_at (comment kind s ∷ ps) x front after at (suc n) c w p g =
     comment_at ps x (front ++ comment_spelling kind s) after (at + length (comment_spelling kind s)) n c
     (shift x front (comment_spelling kind s) (text_of ps) after w) (moved at front (comment_spelling kind s) p) g
 comment_at (token k s ∷ ps) x front after at n c w p g =
-    comment_at ps x (front ++ s) after (at + length s) n c (shift x front s (text_of ps) after w) (moved at front s p) g
+    comment_at ps x (front ++ s) after (at + length s) n c (shift x front s (text_of ps) after w)
+    (moved at front s p) g
 
-pub comment_cuts : (x : List ℕ) (c : Comment) → CommentAt x c → slice_range x c.range.start c.range.end ≡ comment_spelling c.kind c.text
+pub comment_cuts : (x : List ℕ) (c : Comment) → CommentAt x c
+    → slice_range x c.range.start c.range.end ≡ comment_spelling c.kind c.text
 comment_cuts x c a =
     let starts : c.range.start ≡ length a.front = a.starts in
     let ends : c.range.end ≡ length a.front + length (comment_spelling c.kind c.text) = a.ends in
     ap (λ y. take (c.range.end - c.range.start) (drop c.range.start y)) a.whole
-    ∙ (ap (take (c.range.end - c.range.start)) (drop_at a.front (comment_spelling c.kind c.text ++ a.after) c.range.start (sym starts))
+    ∙ (ap (take (c.range.end - c.range.start))
+    (drop_at a.front (comment_spelling c.kind c.text ++ a.after) c.range.start (sym starts))
     ∙ take_at (comment_spelling c.kind c.text) a.after (c.range.end - c.range.start) (omega arith))
 
 -- the text between the quotes of a literal splits no character
@@ -309,7 +349,8 @@ pub inside_starts : (s : List ℕ) → IsUtf8 s → IsStrLiteral s → IsCharBou
 inside_starts s u l =
     let byte : get_or s 0 0 ≡ l.quote = ap (λ t. get_or t 0 0) l.whole in
     let size : length s ≡ length (l.quote ∷ (l.body ++ l.quote ∷ [])) = ap length l.whole in
-    IsCharBoundary-after_ascii s 0 u (omega arith) (subst (λ (c : ℕ). c < 128) (sym byte) (mark_ascii l.quote l.quotes))
+    IsCharBoundary-after_ascii s 0 u (omega arith)
+    (subst (λ (c : ℕ). c < 128) (sym byte) (mark_ascii l.quote l.quotes))
 
 pub inside_ends : (s : List ℕ) → IsStrLiteral s → IsCharBoundary s (length s - 1)
 inside_ends s l =
@@ -317,4 +358,5 @@ inside_ends s l =
     let place : length (l.quote ∷ l.body) ≡ length s - 1 = omega (arith, length-append l.body (l.quote ∷ [])) in
     let byte : get_or s (length s - 1) 0 ≡ l.quote =
     ap (λ t. get_or t (length s - 1) 0) l.whole ∙ get_or_at (l.quote ∷ l.body) l.quote [] 0 (length s - 1) place in
-    IsCharBoundary-before_ascii s (length s - 1) (omega arith) (subst (λ (c : ℕ). c < 128) (sym byte) (mark_ascii l.quote l.quotes))
+    IsCharBoundary-before_ascii s (length s - 1) (omega arith)
+    (subst (λ (c : ℕ). c < 128) (sym byte) (mark_ascii l.quote l.quotes))

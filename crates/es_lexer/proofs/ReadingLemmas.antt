@@ -18,27 +18,32 @@ use Rattle.es_lexer.proofs.LookLemmas.{reading_of, piece_reads, stuck_reads}
 comment_text : (kind : CommentKind) (s t : List ℕ) → comment_spelling kind s ≡ comment_spelling kind t → s ≡ t
 unfolding comment_spelling
 comment_text Line s t e = cc
-comment_text Block s t e = append_cancel_right s t (42 ∷ 47 ∷ []) (let f : s ++ 42 ∷ 47 ∷ [] ≡ t ++ 42 ∷ 47 ∷ [] = cc in f)
+comment_text Block s t e = append_cancel_right s t (42 ∷ 47 ∷ [])
+    (let f : s ++ 42 ∷ 47 ∷ [] ≡ t ++ 42 ∷ 47 ∷ [] = cc in f)
 
 -- what a look answers and the text tell the piece
 pub record Same (p q : Piece) (a b : List ℕ) : Type 0 where
   pub pieces : p ≡ q
   pub rests : a ≡ b
 
-same_comment : (k l : CommentKind) (s t a b : List ℕ) → k ≡ l → length (comment_spelling k s) ≡ length (comment_spelling l t)
+same_comment : (k l : CommentKind) (s t a b : List ℕ) → k ≡ l
+    → length (comment_spelling k s) ≡ length (comment_spelling l t)
     → comment_spelling k s ++ a ≡ comment_spelling l t ++ b → Same (comment k s) (comment l t) a b
 same_comment k l s t a b e n w =
-    let cut : (comment_spelling k s ≡ comment_spelling l t) × (a ≡ b) = same_cut (comment_spelling k s) (comment_spelling l t) a b w n in
+    let cut : (comment_spelling k s ≡ comment_spelling l t) × (a ≡ b) =
+    same_cut (comment_spelling k s) (comment_spelling l t) a b w n in
     let texts : s ≡ t = comment_text l s t (ap (λ k. comment_spelling k s) (sym e) ∙ cut.0) in
     record { pieces = cc; rests = cut.1 }
 
-same_token : (k l : TokenKind) (s t a b : List ℕ) → k ≡ l → length s ≡ length t → s ++ a ≡ t ++ b → Same (token k s) (token l t) a b
+same_token : (k l : TokenKind) (s t a b : List ℕ) → k ≡ l → length s ≡ length t → s ++ a ≡ t ++ b
+    → Same (token k s) (token l t) a b
 same_token k l s t a b e n w =
     let cut : (s ≡ t) × (a ≡ b) = same_cut s t a b w n in
     let texts : s ≡ t = cut.0 in
     record { pieces = cc; rests = cut.1 }
 
-same_by : (p q : Piece) (a b : List ℕ) → spelling p ++ a ≡ spelling q ++ b → reading_of 0 p ≡ reading_of 0 q → Same p q a b
+same_by : (p q : Piece) (a b : List ℕ) → spelling p ++ a ≡ spelling q ++ b → reading_of 0 p ≡ reading_of 0 q
+    → Same p q a b
 same_by (blank x) (blank y) a b w r = let e : x ≡ y = cc in record { pieces = cc; rests = cc }
 same_by (blank x) (line_end y) a b w r = cc
 same_by (blank x) (comment k s) a b w r = cc
@@ -62,7 +67,8 @@ same_by (token k s) (token l t) a b w r =
     let ends : 0 + length s ≡ 0 + length t = cc in
     same_token k l s t a b kinds (omega arith) w
 
-pub same_piece : (goal : Goal) (p q : Piece) (a b : List ℕ) → spelling p ++ a ≡ spelling q ++ b → IsPiece goal p a → IsPiece goal q b
+pub same_piece : (goal : Goal) (p q : Piece) (a b : List ℕ) → spelling p ++ a ≡ spelling q ++ b → IsPiece goal p a
+    → IsPiece goal q b
     → Same p q a b
 same_piece goal p q a b w f g =
     same_by p q a b w (sym (piece_reads goal 0 p a f) ∙ (ap (look_at 0) w ∙ piece_reads goal 0 q b g))
@@ -88,9 +94,11 @@ pub halts_at_end : Halts []
 unfolding look_at
 halts_at_end goal p after w h = no_end p (ap (look_at 0) w ∙ piece_reads goal 0 p after h)
 
-pub halts_at_fault : (goal : Goal) (rest : List ℕ) (at : ℕ) (kind : LexicalKind) (place : ℕ) → Stuck goal rest at kind place → Halts rest
+pub halts_at_fault : (goal : Goal) (rest : List ℕ) (at : ℕ) (kind : LexicalKind) (place : ℕ)
+    → Stuck goal rest at kind place → Halts rest
 halts_at_fault goal rest at kind place s other p after w h =
-    no_fault kind place at p (sym (stuck_reads goal rest at kind place s) ∙ (ap (look_at at) w ∙ piece_reads other at p after h))
+    no_fault kind place at p
+    (sym (stuck_reads goal rest at kind place s) ∙ (ap (look_at at) w ∙ piece_reads other at p after h))
 
 -- ---- whole texts
 pub record Once (ps qs : List Piece) (a b : List ℕ) : Type 0 where

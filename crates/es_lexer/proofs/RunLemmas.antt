@@ -46,7 +46,8 @@ run p at [] = record { front = []; back = []; whole = refl; passes = tt; ends = 
 run p at (b ∷ s) = run_step p at b s (p b) refl (run p (at + 1) s)
 
 -- a run is passed over
-pub run_end-append : (p : ℕ → Bool) (at : ℕ) (s after : List ℕ) → Passes p s → run_end p at (s ++ after) ≡ run_end p (at + length s) after
+pub run_end-append : (p : ℕ → Bool) (at : ℕ) (s after : List ℕ) → Passes p s
+    → run_end p at (s ++ after) ≡ run_end p (at + length s) after
 unfolding run_end
 run_end-append p at [] after h = ap (λ n. run_end p n after) (let e : at ≡ at + 0 = omega arith in e)
 run_end-append p at (b ∷ s) after h = rw h.0 (run_end-append p (at + 1) s after h.1

@@ -26,7 +26,8 @@ use Rattle.es_lexer.proofs.SpellingLemmas.{not_empty}
 use Rattle.es_lexer.proofs.LookLemmas.{reading_of, Found, ended, piece, fault, look_finds}
 
 -- pieces cut the text up to `after`, and these are their tokens and comments, and the tokens' kinds, the latest first
-pub record Cut (x : List ℕ) (ts : List Token) (cs : List Comment) (after : List ℕ) (place : ℕ) (kinds : List TokenKind) : Type 0 where
+pub record Cut (x : List ℕ) (ts : List Token) (cs : List Comment) (after : List ℕ) (place : ℕ)
+    (kinds : List TokenKind) : Type 0 where
   pub pieces : List Piece
   pub whole : x ≡ text_of pieces ++ after
   pub each : ArePieces [] pieces after
@@ -37,8 +38,10 @@ pub record Cut (x : List ℕ) (ts : List Token) (cs : List Comment) (after : Lis
 
 -- pieces of what is left go on with what is read so far
 abbrev pub GoesOn : List ℕ → List TokenKind → ℕ → Bool → List Token → List Comment → Type 0
-GoesOn x before at line ts cs = (ps : List Piece) (after : List ℕ) → drop at x ≡ text_of ps ++ after → ArePieces before ps after
-    → Cut x (ts ++ tokens_of before at line ps) (cs ++ comments_of at ps) after (at + length (text_of ps)) (kinds_after before ps)
+GoesOn x before at line ts cs = (ps : List Piece) (after : List ℕ) → drop at x ≡ text_of ps ++ after
+    → ArePieces before ps after
+    → Cut x (ts ++ tokens_of before at line ps) (cs ++ comments_of at ps) after (at + length (text_of ps))
+    (kinds_after before ps)
 
 -- the text is read up to a place
 pub record SoFar (x : List ℕ) (at : ℕ) (line : Bool) (ts : List Token) (cs : List Comment) : Type 0 where
@@ -79,17 +82,20 @@ ends_within x s after at h w =
     omega (arith, length-drop at x, length-append s after)
 
 -- what goes on behind the piece goes on with it
-goes_past : (x : List ℕ) (before : List TokenKind) (at : ℕ) (line : Bool) (ts : List Token) (cs : List Comment) (p : Piece)
+goes_past : (x : List ℕ) (before : List TokenKind) (at : ℕ) (line : Bool) (ts : List Token) (cs : List Comment)
+    (p : Piece)
     → GoesOn x before at line ts cs → (n : Next x before at p) → (ps : List Piece) (after : List ℕ)
     → drop (at + length (spelling p)) x ≡ text_of ps ++ after → ArePieces (kinds_with before p) ps after
-    → Cut x (ts ++ tokens_of before at line (p ∷ ps)) (cs ++ comments_of at (p ∷ ps)) after (at + length (text_of (p ∷ ps)))
+    → Cut x (ts ++ tokens_of before at line (p ∷ ps)) (cs ++ comments_of at (p ∷ ps)) after
+    (at + length (text_of (p ∷ ps)))
     (kinds_after before (p ∷ ps))
 goes_past x before at line ts cs p g n ps after w h =
     let rest : n.after ≡ text_of ps ++ after = sym (rest_is x (spelling p) n.after at n.cut) ∙ w in
     g (p ∷ ps) after (n.cut ∙ (ap (λ t. spelling p ++ t) rest ∙ sym (append_assoc (spelling p) (text_of ps) after)))
     (subst (IsPiece (goal_of before) p) rest n.fits, h)
 
-same_place : (x : List ℕ) (ts us : List Token) (cs ds : List Comment) (after : List ℕ) (m n : ℕ) (ks : List TokenKind) → ts ≡ us → cs ≡ ds → m ≡ n
+same_place : (x : List ℕ) (ts us : List Token) (cs ds : List Comment) (after : List ℕ) (m n : ℕ)
+    (ks : List TokenKind) → ts ≡ us → cs ≡ ds → m ≡ n
     → Cut x ts cs after m ks → Cut x us ds after n ks
 same_place x ts us cs ds after m n ks p q r c = record {
   pieces = c.pieces;
@@ -101,31 +107,37 @@ same_place x ts us cs ds after m n ks p q r c = record {
   kinds_are = c.kinds_are;
 }
 
-sizes : (at : ℕ) (p : Piece) (ps : List Piece) → at + length (text_of (p ∷ ps)) ≡ at + length (spelling p) + length (text_of ps)
+sizes : (at : ℕ) (p : Piece) (ps : List Piece)
+    → at + length (text_of (p ∷ ps)) ≡ at + length (spelling p) + length (text_of ps)
 sizes at p ps = omega (arith, length-append (spelling p) (text_of ps))
 
-blank_goes : (x : List ℕ) (at : ℕ) (line : Bool) (ts : List Token) (cs : List Comment) (b : ℕ) → (s : SoFar x at line ts cs)
+blank_goes : (x : List ℕ) (at : ℕ) (line : Bool) (ts : List Token) (cs : List Comment) (b : ℕ)
+    → (s : SoFar x at line ts cs)
     → Next x s.before at (blank b) → SoFar x (at + 1) line ts cs
 unfolding tokens_of comments_of
 blank_goes x at line ts cs b s n = record {
   within = ends_within x (b ∷ []) n.after at s.within n.cut;
   before = s.before;
   behind = s.behind;
-  goes = λ ps after w h. same_place x _ _ _ _ after _ _ _ refl refl (sizes at (blank b) ps) (goes_past x s.before at line ts cs (blank b) s.goes n ps after w h);
+  goes = λ ps after w h. same_place x _ _ _ _ after _ _ _ refl refl (sizes at (blank b) ps)
+      (goes_past x s.before at line ts cs (blank b) s.goes n ps after w h);
 }
 
-line_goes : (x : List ℕ) (at : ℕ) (line : Bool) (ts : List Token) (cs : List Comment) (b : ℕ) → (s : SoFar x at line ts cs)
+line_goes : (x : List ℕ) (at : ℕ) (line : Bool) (ts : List Token) (cs : List Comment) (b : ℕ)
+    → (s : SoFar x at line ts cs)
     → Next x s.before at (line_end b) → SoFar x (at + 1) (is_after ts) ts cs
 unfolding tokens_of comments_of
 line_goes x at line ts cs b s n = record {
   within = ends_within x (b ∷ []) n.after at s.within n.cut;
   before = s.before;
   behind = s.behind;
-  goes = λ ps after w h. same_place x _ _ _ _ after _ _ _ (ap (λ l. ts ++ tokens_of s.before (at + 1) l ps) s.behind) refl (sizes at (line_end b) ps)
+  goes = λ ps after w h. same_place x _ _ _ _ after _ _ _
+      (ap (λ l. ts ++ tokens_of s.before (at + 1) l ps) s.behind) refl (sizes at (line_end b) ps)
       (goes_past x s.before at line ts cs (line_end b) s.goes n ps after w h);
 }
 
-comment_goes : (x : List ℕ) (at : ℕ) (line : Bool) (ts : List Token) (cs : List Comment) (kind : CommentKind) (text : List ℕ) → (s : SoFar x at line ts cs)
+comment_goes : (x : List ℕ) (at : ℕ) (line : Bool) (ts : List Token) (cs : List Comment) (kind : CommentKind)
+    (text : List ℕ) → (s : SoFar x at line ts cs)
     → Next x s.before at (comment kind text)
     → SoFar x (at + length (comment_spelling kind text)) (line || is_after ts && has_line_end text) ts
     (cs ++ record { kind = kind; range = range_at at (length (comment_spelling kind text)); text = text } ∷ [])
@@ -135,7 +147,8 @@ comment_goes x at line ts cs kind text s n = record {
   before = s.before;
   behind = s.behind;
   goes = λ ps after w h. same_place x _ _ _ _ after _ _ _
-      (ap (λ l. ts ++ tokens_of s.before (at + length (comment_spelling kind text)) (line || l && has_line_end text) ps) s.behind)
+      (ap (λ l. ts ++ tokens_of s.before (at + length (comment_spelling kind text))
+      (line || l && has_line_end text) ps) s.behind)
       (sym (append_assoc cs _ _)) (sizes at (comment kind text) ps)
       (goes_past x s.before at line ts cs (comment kind text) s.goes n ps after w h);
 }
@@ -144,9 +157,11 @@ is_after_push : (ts : List Token) (t : Token) → true ≡ is_after (ts ++ t ∷
 is_after_push [] t = refl
 is_after_push (u ∷ ts) t = refl
 
-token_goes : (x : List ℕ) (at : ℕ) (line : Bool) (ts : List Token) (cs : List Comment) (k : TokenKind) (t : List ℕ) → (s : SoFar x at line ts cs)
+token_goes : (x : List ℕ) (at : ℕ) (line : Bool) (ts : List Token) (cs : List Comment) (k : TokenKind) (t : List ℕ)
+    → (s : SoFar x at line ts cs)
     → Next x s.before at (token k t)
-    → SoFar x (at + length t) false (ts ++ record { kind = k; range = range_at at (length t); line_before = line; partner = None } ∷ []) cs
+    → SoFar x (at + length t) false
+    (ts ++ record { kind = k; range = range_at at (length t); line_before = line; partner = None } ∷ []) cs
 unfolding tokens_of comments_of partner_of
 token_goes x at line ts cs k t s n = record {
   within = ends_within x t n.after at s.within n.cut;
@@ -158,7 +173,8 @@ token_goes x at line ts cs k t s n = record {
 
 -- ---- what each look adds
 -- a comment stands at the place, and its text can be cut out
-pub record CommentAfter (x : List ℕ) (at : ℕ) (line : Bool) (ts : List Token) (cs : List Comment) (kind : CommentKind) (end : ℕ) (lines : Bool) : Type 0 where
+pub record CommentAfter (x : List ℕ) (at : ℕ) (line : Bool) (ts : List Token) (cs : List Comment)
+    (kind : CommentKind) (end : ℕ) (lines : Bool) : Type 0 where
   pub forward : at < end
   pub has_text : HasCommentText x kind at end
   pub goes : SoFar x end (line || is_after ts && lines) ts (cs ++ comment_at x kind at end ∷ [])
@@ -170,10 +186,17 @@ After x at line ts cs look.Blank = (at < length x) × SoFar x (at + 1) line ts c
 After x at line ts cs look.LineEnd = (at < length x) × SoFar x (at + 1) (is_after ts) ts cs
 After x at line ts cs (look.Comment kind end lines) = CommentAfter x at line ts cs kind end lines
 After x at line ts cs (look.Token k end) =
-    (at < end) × SoFar x end false (ts ++ record { kind = k; range = record { start = at; end = end }; line_before = line; partner = None } ∷ []) cs
+    (at < end) × SoFar x end false
+    (ts ++ record {
+      kind = k;
+      range = record { start = at; end = end };
+      line_before = line;
+      partner = None;
+    } ∷ []) cs
 After x at line ts cs (look.Fault kind place) = Stops x kind place
 
-end_after : (x : List ℕ) (at : ℕ) (line : Bool) (ts : List Token) (cs : List Comment) → SoFar x at line ts cs → drop at x ≡ [] → Reads x ts cs
+end_after : (x : List ℕ) (at : ℕ) (line : Bool) (ts : List Token) (cs : List Comment) → SoFar x at line ts cs
+    → drop at x ≡ [] → Reads x ts cs
 unfolding tokens_of comments_of goal_of
 end_after x at line ts cs s w =
     let c : Cut x (ts ++ []) (cs ++ []) [] (at + 0) s.before = s.goes [] [] w tt in
@@ -186,12 +209,14 @@ end_after x at line ts cs s w =
       comments_are = sym (append-nil cs) ∙ c.comments_are;
     }
 
-fault_after : (x : List ℕ) (at : ℕ) (line : Bool) (ts : List Token) (cs : List Comment) (kind : LexicalKind) (place : ℕ) → (s : SoFar x at line ts cs)
+fault_after : (x : List ℕ) (at : ℕ) (line : Bool) (ts : List Token) (cs : List Comment) (kind : LexicalKind)
+    (place : ℕ) → (s : SoFar x at line ts cs)
     → Stuck (goal_of s.before) (drop at x) at kind place → Stops x kind place
 unfolding tokens_of comments_of
 fault_after x at line ts cs kind place s h =
     let c : Cut x (ts ++ []) (cs ++ []) (drop at x) (at + 0) s.before = s.goes [] (drop at x) refl tt in
-    let here : at ≡ length (text_of c.pieces) = let e : at + 0 ≡ length (text_of c.pieces) = c.place_is in omega arith in
+    let here : at ≡ length (text_of c.pieces) = let e : at + 0 ≡ length (text_of c.pieces) = c.place_is in
+    omega arith in
     record {
       pieces = c.pieces;
       rest = drop at x;
@@ -206,13 +231,15 @@ byte_behind : (x s after : List ℕ) (at b : ℕ) → drop at x ≡ s ++ b ∷ a
 byte_behind x s after at b w =
     sym (get_or-drop at x (length s) 0) ∙ (ap (λ t. get_or t (length s) 0) w ∙ get_or_at s b after 0 (length s) refl)
 
-behind_within : (x s after : List ℕ) (at b : ℕ) → at ≤ length x → drop at x ≡ s ++ b ∷ after → at + length s < length x
+behind_within : (x s after : List ℕ) (at b : ℕ) → at ≤ length x → drop at x ≡ s ++ b ∷ after
+    → at + length s < length x
 behind_within x s after at b h w =
     let e : length (drop at x) ≡ length (s ++ b ∷ after) = ap length w in
     omega (arith, length-drop at x, length-append s (b ∷ after))
 
 -- a part of the text behind a place
-part_is : (x s t after : List ℕ) (at m n : ℕ) → drop at x ≡ s ++ (t ++ after) → m ≡ at + length s → n ≡ m + length t → slice_range x m n ≡ t
+part_is : (x s t after : List ℕ) (at m n : ℕ) → drop at x ≡ s ++ (t ++ after) → m ≡ at + length s → n ≡ m + length t
+    → slice_range x m n ≡ t
 part_is x s t after at m n w p q =
     let from : drop m x ≡ t ++ after = ap (λ i. drop i x) p ∙ rest_is x s (t ++ after) at w in
     ap (take (n - m)) from ∙ take_at t after (n - m) (omega arith)
@@ -226,39 +253,56 @@ ascii_by b false false p q e = cc
 line_end_ascii : (b : ℕ) → is_line_end b ≡ true → b < 128
 line_end_ascii b e = ascii_by b (b == 10) (b == 13) refl refl e
 
-line_stop : (x s after : List ℕ) (at : ℕ) → at ≤ length x → drop at x ≡ s ++ after → EndsLine after → IsCharBoundary x (at + length s)
+line_stop : (x s after : List ℕ) (at : ℕ) → at ≤ length x → drop at x ≡ s ++ after → EndsLine after
+    → IsCharBoundary x (at + length s)
 line_stop x s [] at h w l =
     let e : length (drop at x) ≡ length (s ++ []) = ap length w in
     let here : at + length s ≡ length x = omega (arith, length-drop at x, length-append s []) in
     subst (IsCharBoundary x) (sym here) (IsCharBoundary-end x)
 line_stop x s (b ∷ after) at h w l =
-    let ascii : get_or x (at + length s) 0 < 128 = subst (λ (c : ℕ). c < 128) (sym (byte_behind x s after at b w)) (line_end_ascii b l) in
+    let ascii : get_or x (at + length s) 0 < 128 =
+    subst (λ (c : ℕ). c < 128) (sym (byte_behind x s after at b w)) (line_end_ascii b l) in
     IsCharBoundary-before_ascii x (at + length s) (behind_within x s after at b h w) ascii
 
 -- behind the two bytes that open a comment
-opened : (x after : List ℕ) (at a b : ℕ) → IsUtf8 x → at ≤ length x → drop at x ≡ a ∷ b ∷ after → b < 128 → IsCharBoundary x (at + 2)
+opened : (x after : List ℕ) (at a b : ℕ) → IsUtf8 x → at ≤ length x → drop at x ≡ a ∷ b ∷ after → b < 128
+    → IsCharBoundary x (at + 2)
 opened x after at a b u h w l =
-    let ascii : get_or x (at + length (a ∷ [])) 0 < 128 = subst (λ (c : ℕ). c < 128) (sym (byte_behind x (a ∷ []) after at b w)) l in
+    let ascii : get_or x (at + length (a ∷ [])) 0 < 128 =
+    subst (λ (c : ℕ). c < 128) (sym (byte_behind x (a ∷ []) after at b w)) l in
     let here : at + length (a ∷ []) + 1 ≡ at + 2 = omega arith in
-    subst (IsCharBoundary x) here (IsCharBoundary-after_ascii x (at + length (a ∷ [])) u (behind_within x (a ∷ []) after at b h w) ascii)
+    subst (IsCharBoundary x) here
+    (IsCharBoundary-after_ascii x (at + length (a ∷ [])) u (behind_within x (a ∷ []) after at b h w) ascii)
 
-comment_as : (x : List ℕ) (at : ℕ) (line : Bool) (ts : List Token) (cs : List Comment) (kind : CommentKind) (text : List ℕ) (m n : ℕ) (t : List ℕ) (lines : Bool)
+comment_as : (x : List ℕ) (at : ℕ) (line : Bool) (ts : List Token) (cs : List Comment) (kind : CommentKind)
+    (text : List ℕ) (m n : ℕ) (t : List ℕ) (lines : Bool)
     → m ≡ n → text ≡ t → range_at at (length (comment_spelling kind text)) ≡ record { start = at; end = n }
-    → SoFar x m (line || is_after ts && lines) ts (cs ++ record { kind = kind; range = range_at at (length (comment_spelling kind text)); text = text } ∷ [])
-    → SoFar x n (line || is_after ts && lines) ts (cs ++ record { kind = kind; range = record { start = at; end = n }; text = t } ∷ [])
+    → SoFar x m (line || is_after ts && lines) ts
+    (cs ++ record { kind = kind; range = range_at at (length (comment_spelling kind text)); text = text } ∷ [])
+    → SoFar x n (line || is_after ts && lines) ts
+    (cs ++ record { kind = kind; range = record { start = at; end = n }; text = t } ∷ [])
 comment_as x at line ts cs kind text m n t lines p q r s =
-    subst (λ (v : List ℕ). SoFar x n (line || is_after ts && lines) ts (cs ++ record { kind = kind; range = record { start = at; end = n }; text = v } ∷ [])) q
-    (subst (λ (v : Range). SoFar x n (line || is_after ts && lines) ts (cs ++ record { kind = kind; range = v; text = text } ∷ [])) r
-    (subst (λ (v : ℕ). SoFar x v (line || is_after ts && lines) ts (cs ++ record { kind = kind; range = range_at at (length (comment_spelling kind text)); text = text } ∷ [])) p s))
+    subst (λ (v : List ℕ). SoFar x n (line || is_after ts && lines) ts
+    (cs ++ record { kind = kind; range = record { start = at; end = n }; text = v } ∷ [])) q
+    (subst (λ (v : Range). SoFar x n (line || is_after ts && lines) ts
+    (cs ++ record { kind = kind; range = v; text = text } ∷ [])) r
+    (subst (λ (v : ℕ). SoFar x v (line || is_after ts && lines) ts
+    (cs ++ record {
+      kind = kind;
+      range = range_at at (length (comment_spelling kind text));
+      text = text;
+    } ∷ [])) p s))
 
-comment_after : (x : List ℕ) (at : ℕ) (line : Bool) (ts : List Token) (cs : List Comment) (kind : CommentKind) (text : List ℕ) → IsUtf8 x
+comment_after : (x : List ℕ) (at : ℕ) (line : Bool) (ts : List Token) (cs : List Comment) (kind : CommentKind)
+    (text : List ℕ) → IsUtf8 x
     → (s : SoFar x at line ts cs) → Next x s.before at (comment kind text)
     → CommentAfter x at line ts cs kind (at + length (comment_spelling kind text)) (has_line_end text)
 unfolding comment_spelling
 comment_after x at line ts cs Line text u s n =
     let cut : drop at x ≡ (47 ∷ 47 ∷ text) ++ n.after = n.cut in
     let is : slice_range x (at + 2) (at + length (47 ∷ 47 ∷ text)) ≡ text =
-    part_is x (47 ∷ 47 ∷ []) text n.after at (at + 2) (at + length (47 ∷ 47 ∷ text)) cut (omega arith) (omega arith) in
+    part_is x (47 ∷ 47 ∷ []) text n.after at (at + 2) (at + length (47 ∷ 47 ∷ text)) cut (omega arith)
+    (omega arith) in
     record {
       forward = omega arith;
       has_text = record {
@@ -266,14 +310,18 @@ comment_after x at line ts cs Line text u s n =
         starts = opened x (text ++ n.after) at 47 47 u s.within cut (omega arith);
         stops = line_stop x (47 ∷ 47 ∷ text) n.after at s.within cut n.fits.1;
       };
-      goes = comment_as x at line ts cs Line text _ _ _ (has_line_end text) refl (sym is) refl (comment_goes x at line ts cs Line text s n);
+      goes = comment_as x at line ts cs Line text _ _ _ (has_line_end text) refl (sym is) refl
+          (comment_goes x at line ts cs Line text s n);
     }
 comment_after x at line ts cs Block text u s n =
     let all : List ℕ = 47 ∷ 42 ∷ (text ++ 42 ∷ 47 ∷ []) in
-    let size : length (47 ∷ 42 ∷ (text ++ 42 ∷ 47 ∷ [])) ≡ length text + 4 = omega (arith, length-append text (42 ∷ 47 ∷ [])) in
-    let cut : drop at x ≡ (47 ∷ 42 ∷ text) ++ 42 ∷ 47 ∷ n.after = n.cut ∙ ap (λ t. 47 ∷ 42 ∷ t) (append_assoc text (42 ∷ 47 ∷ []) n.after) in
+    let size : length (47 ∷ 42 ∷ (text ++ 42 ∷ 47 ∷ [])) ≡ length text + 4 =
+    omega (arith, length-append text (42 ∷ 47 ∷ [])) in
+    let cut : drop at x ≡ (47 ∷ 42 ∷ text) ++ 42 ∷ 47 ∷ n.after = n.cut
+    ∙ ap (λ t. 47 ∷ 42 ∷ t) (append_assoc text (42 ∷ 47 ∷ []) n.after) in
     let is : slice_range x (at + 2) (at + length (47 ∷ 42 ∷ (text ++ 42 ∷ 47 ∷ [])) - 2) ≡ text =
-    part_is x (47 ∷ 42 ∷ []) text (42 ∷ 47 ∷ n.after) at (at + 2) (at + length (47 ∷ 42 ∷ (text ++ 42 ∷ 47 ∷ [])) - 2) cut (omega arith) (omega arith) in
+    part_is x (47 ∷ 42 ∷ []) text (42 ∷ 47 ∷ n.after) at (at + 2)
+    (at + length (47 ∷ 42 ∷ (text ++ 42 ∷ 47 ∷ [])) - 2) cut (omega arith) (omega arith) in
     let star : get_or x (at + length (47 ∷ 42 ∷ text)) 0 < 128 =
     subst (λ (c : ℕ). c < 128) (sym (byte_behind x (47 ∷ 42 ∷ text) (47 ∷ n.after) at 42 cut)) (omega arith) in
     let here : at + length (47 ∷ 42 ∷ text) ≡ at + length (47 ∷ 42 ∷ (text ++ 42 ∷ 47 ∷ [])) - 2 = omega arith in
@@ -283,9 +331,11 @@ comment_after x at line ts cs Block text u s n =
         room = omega arith;
         starts = opened x (text ++ 42 ∷ 47 ∷ n.after) at 47 42 u s.within cut (omega arith);
         stops = subst (IsCharBoundary x) here
-            (IsCharBoundary-before_ascii x (at + length (47 ∷ 42 ∷ text)) (behind_within x (47 ∷ 42 ∷ text) (47 ∷ n.after) at 42 s.within cut) star);
+            (IsCharBoundary-before_ascii x (at + length (47 ∷ 42 ∷ text))
+            (behind_within x (47 ∷ 42 ∷ text) (47 ∷ n.after) at 42 s.within cut) star);
       };
-      goes = comment_as x at line ts cs Block text _ _ _ (has_line_end text) refl (sym is) refl (comment_goes x at line ts cs Block text s n);
+      goes = comment_as x at line ts cs Block text _ _ _ (has_line_end text) refl (sym is) refl
+          (comment_goes x at line ts cs Block text s n);
     }
 
 token_size : (goal : Goal) (k : TokenKind) (t after : List ℕ) → IsPiece goal (token k t) after → 0 < length t
@@ -293,12 +343,15 @@ token_size goal k [] after h = absurd (not_empty k h.spells)
 token_size goal k (b ∷ t) after h = omega arith
 
 one_within : (x after : List ℕ) (at b : ℕ) → at ≤ length x → drop at x ≡ (b ∷ []) ++ after → at < length x
-one_within x after at b h w = let e : at + length (b ∷ []) ≤ length x = ends_within x (b ∷ []) after at h w in omega arith
+one_within x after at b h w =
+    let e : at + length (b ∷ []) ≤ length x = ends_within x (b ∷ []) after at h w in omega arith
 
 piece_after : (x : List ℕ) (at : ℕ) (line : Bool) (ts : List Token) (cs : List Comment) (p : Piece) → IsUtf8 x
     → (s : SoFar x at line ts cs) → Next x s.before at p → After x at line ts cs (reading_of at p)
-piece_after x at line ts cs (blank b) u s n = (one_within x n.after at b s.within n.cut, blank_goes x at line ts cs b s n)
-piece_after x at line ts cs (line_end b) u s n = (one_within x n.after at b s.within n.cut, line_goes x at line ts cs b s n)
+piece_after x at line ts cs (blank b) u s n =
+    (one_within x n.after at b s.within n.cut, blank_goes x at line ts cs b s n)
+piece_after x at line ts cs (line_end b) u s n =
+    (one_within x n.after at b s.within n.cut, line_goes x at line ts cs b s n)
 piece_after x at line ts cs (comment kind text) u s n = comment_after x at line ts cs kind text u s n
 piece_after x at line ts cs (token k t) u s n =
     let size : 0 < length t = token_size (goal_of s.before) k t n.after n.fits in
@@ -308,17 +361,22 @@ found_after : (x : List ℕ) (at : ℕ) (line : Bool) (ts : List Token) (cs : Li
     → (s : SoFar x at line ts cs) → Found (goal_of s.before) at (drop at x) l → After x at line ts cs l
 found_after x at line ts cs l u s (ended w e) = subst (After x at line ts cs) (sym e) (end_after x at line ts cs s w)
 found_after x at line ts cs l u s (piece p after w h e) =
-    subst (After x at line ts cs) (sym e) (piece_after x at line ts cs p u s (record { after = after; cut = w; fits = h }))
-found_after x at line ts cs l u s (fault kind place h e) = subst (After x at line ts cs) (sym e) (fault_after x at line ts cs kind place s h)
+    subst (After x at line ts cs) (sym e)
+    (piece_after x at line ts cs p u s (record { after = after; cut = w; fits = h }))
+found_after x at line ts cs l u s (fault kind place h e) = subst (After x at line ts cs) (sym e)
+    (fault_after x at line ts cs kind place s h)
 
 -- what is known behind a look at the place up to which the text is read
-pub advance : (x : List ℕ) (at : ℕ) (line : Bool) (ts : List Token) (cs : List Comment) (l : Look) → IsUtf8 x → SoFar x at line ts cs
+pub advance : (x : List ℕ) (at : ℕ) (line : Bool) (ts : List Token) (cs : List Comment) (l : Look) → IsUtf8 x
+    → SoFar x at line ts cs
     → l ≡ look_at at (drop at x) → After x at line ts cs l
 advance x at line ts cs l u s e =
-    found_after x at line ts cs l u s (subst (Found (goal_of s.before) at (drop at x)) (sym e) (look_finds (goal_of s.before) at (drop at x)))
+    found_after x at line ts cs l u s
+    (subst (Found (goal_of s.before) at (drop at x)) (sym e) (look_finds (goal_of s.before) at (drop at x)))
 
 -- the same for a look at the bytes of the text, from the place on
-pub advance_at : (x y : List ℕ) (at : ℕ) (line : Bool) (ts : List Token) (cs : List Comment) (l : Look) → IsUtf8 x → y ≡ x
+pub advance_at : (x y : List ℕ) (at : ℕ) (line : Bool) (ts : List Token) (cs : List Comment) (l : Look) → IsUtf8 x
+    → y ≡ x
     → SoFar x at line ts cs → l ≡ look_at at (take (length y - at) (drop at y)) → After x at line ts cs l
 advance_at x y at line ts cs l u w s e =
     advance x at line ts cs l u s (e ∙ (ap (look_at at) (take_rest y at) ∙ ap (λ t. look_at at (drop at t)) w))
@@ -328,7 +386,8 @@ pub less_left : (x y : List ℕ) (at end : ℕ) → y ≡ x → at < end → end
 less_left x y at end w p q = let e : length y ≡ length x = ap length w in omega arith
 
 -- the state said in other words
-pub so_far_as : (x : List ℕ) (at : ℕ) (l m : Bool) (ts us : List Token) (cs ds : List Comment) → SoFar x at l ts cs → m ≡ l → us ≡ ts → ds ≡ cs
+pub so_far_as : (x : List ℕ) (at : ℕ) (l m : Bool) (ts us : List Token) (cs ds : List Comment) → SoFar x at l ts cs
+    → m ≡ l → us ≡ ts → ds ≡ cs
     → SoFar x at m us ds
 so_far_as x at l m ts us cs ds s p q r =
     subst (λ (v : List Comment). SoFar x at m us v) (sym r) (subst (λ (v : List Token). SoFar x at m v cs) (sym q)

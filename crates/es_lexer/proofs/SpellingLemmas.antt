@@ -15,7 +15,8 @@ use Rattle.es_lexer.proofs.RunLemmas.{EndsRun, passes_right, passes_both}
 -- what spells a token of a kind, by its first byte
 pub data Spelled (k : TokenKind) (b : ℕ) (rest : List ℕ) : Type 0 where
   as_word : first_of b ≡ Start → AreParts rest → k ≡ word_kind (b ∷ rest) → Spelled k b rest
-  as_string : first_of b ≡ Quote → (body : List ℕ) → ArePlain b body → rest ≡ body ++ b ∷ [] → k ≡ Str → Spelled k b rest
+  as_string : first_of b ≡ Quote → (body : List ℕ) → ArePlain b body → rest ≡ body ++ b ∷ [] → k ≡ Str
+      → Spelled k b rest
   as_sign : b ≡ 59 → rest ≡ [] → k ≡ Semicolon → Spelled k b rest
 
 sign_of : (k : TokenKind) (b : ℕ) (v : Bool) → (b == 59) ≡ v → sign_kind (b ∷ []) ≡ Some k → Spelled k b []
@@ -28,7 +29,8 @@ unfolding sign_kind
 sign_spelled k b [] h = sign_of k b (b == 59) refl h
 sign_spelled k b (c ∷ rest) h = cc
 
-string_spelled : (k : TokenKind) (b : ℕ) (rest : List ℕ) (mark : ℕ) (body : List ℕ) → first_of mark ≡ Quote → ArePlain mark body
+string_spelled : (k : TokenKind) (b : ℕ) (rest : List ℕ) (mark : ℕ) (body : List ℕ) → first_of mark ≡ Quote
+    → ArePlain mark body
     → k ≡ Str → b ≡ mark → rest ≡ body ++ mark ∷ [] → Spelled k b rest
 string_spelled k b rest mark body q h e p w =
     subst (λ (m : ℕ). first_of m ≡ Quote → ArePlain m body → rest ≡ body ++ m ∷ [] → Spelled k b rest) p
@@ -68,18 +70,22 @@ word_ends_by goal b parts c after f h l true e =
 word_ends_by goal b parts c after f h l false e = e
 
 -- a word that is no longer one with more bytes
-pub word_ends : (goal : Goal) (b : ℕ) (parts after : List ℕ) → first_of b ≡ Start → AreParts parts → IsLongest goal (b ∷ parts) after
+pub word_ends : (goal : Goal) (b : ℕ) (parts after : List ℕ) → first_of b ≡ Start → AreParts parts
+    → IsLongest goal (b ∷ parts) after
     → EndsRun is_part after
 unfolding allows
 word_ends goal b parts [] f h l = tt
 word_ends goal b parts (c ∷ after) f h l = word_ends_by goal b parts c after f h l (is_part c) refl
 
 -- behind a word that ends there is no longer spelling
-pub word_longest : (goal : Goal) (b : ℕ) (parts after : List ℕ) → first_of b ≡ Start → EndsRun is_part after → IsLongest goal (b ∷ parts) after
+pub word_longest : (goal : Goal) (b : ℕ) (parts after : List ℕ) → first_of b ≡ Start → EndsRun is_part after
+    → IsLongest goal (b ∷ parts) after
 word_longest goal b parts after f h k [] rest w s a = refl
 word_longest goal b parts after f h k (c ∷ more) rest w s a =
     elim (spelled k b (parts ++ c ∷ more) s) [
-      | as_word g p e ↦ absurd (true≢false (sym (passes_right is_part parts (c ∷ more) p).0 ∙ (let z : EndsRun is_part (c ∷ (more ++ rest)) = subst (EndsRun is_part) w h in z)))
+      | as_word g p e ↦ absurd
+          (true≢false (sym (passes_right is_part parts (c ∷ more) p).0
+          ∙ (let z : EndsRun is_part (c ∷ (more ++ rest)) = subst (EndsRun is_part) w h in z)))
       | as_string g body p r e ↦ cc
       | as_sign p r e ↦ let g : first_of b ≡ Sign = ap first_of p ∙ sign_class in cc
     ]

@@ -28,31 +28,40 @@ line_end_no_backslash b l = differ_by b 92 (b == 92) refl l refl
 
 -- what a look at the rest of a string literal finds
 pub data StringFound (mark start at : ℕ) (s : List ℕ) (found : Look) : Type 0 where
-  closed : (body after : List ℕ) → s ≡ body ++ mark ∷ after → ArePlain mark body → found ≡ Token Str (at + length body + 1)
+  closed : (body after : List ℕ) → s ≡ body ++ mark ∷ after → ArePlain mark body
+      → found ≡ Token Str (at + length body + 1)
       → StringFound mark start at s found
-  escape : (body after : List ℕ) → s ≡ body ++ 92 ∷ after → ArePlain mark body → found ≡ Fault InvalidEscape (at + length body)
+  escape : (body after : List ℕ) → s ≡ body ++ 92 ∷ after → ArePlain mark body
+      → found ≡ Fault InvalidEscape (at + length body)
       → StringFound mark start at s found
-  unclosed : (body after : List ℕ) → s ≡ body ++ after → ArePlain mark body → EndsLine after → found ≡ Fault UnterminatedString start
+  unclosed : (body after : List ℕ) → s ≡ body ++ after → ArePlain mark body → EndsLine after
+      → found ≡ Fault UnterminatedString start
       → StringFound mark start at s found
 
 -- one more plain byte
 string_more : (mark start at b : ℕ) (s : List ℕ) (found : Look) → is_plain mark b ≡ true
     → StringFound mark start (at + 1) s found → StringFound mark start at (b ∷ s) found
 string_more mark start at b s found p (closed body after w h f) =
-    closed (b ∷ body) after (ap (λ t. b ∷ t) w) (p, h) (f ∙ ap (λ n. Token Str n) (let e : at + 1 + length body + 1 ≡ at + length (b ∷ body) + 1 = omega arith in e))
+    closed (b ∷ body) after (ap (λ t. b ∷ t) w) (p, h)
+    (f ∙ ap (λ n. Token Str n) (let e : at + 1 + length body + 1 ≡ at + length (b ∷ body) + 1 = omega arith in e))
 string_more mark start at b s found p (escape body after w h f) =
-    escape (b ∷ body) after (ap (λ t. b ∷ t) w) (p, h) (f ∙ ap (λ n. Fault InvalidEscape n) (let e : at + 1 + length body ≡ at + length (b ∷ body) = omega arith in e))
+    escape (b ∷ body) after (ap (λ t. b ∷ t) w) (p, h)
+    (f ∙ ap (λ n. Fault InvalidEscape n)
+    (let e : at + 1 + length body ≡ at + length (b ∷ body) = omega arith in e))
 string_more mark start at b s found p (unclosed body after w h l f) =
     unclosed (b ∷ body) after (ap (λ t. b ∷ t) w) (p, h) l f
 
 -- a byte that isn't plain
-string_ends : (mark start at b : ℕ) (s : List ℕ) → is_plain mark b ≡ false → (u v : Bool) → (b == mark) ≡ u → (b == 92) ≡ v
+string_ends : (mark start at b : ℕ) (s : List ℕ) → is_plain mark b ≡ false → (u v : Bool) → (b == mark) ≡ u
+    → (b == 92) ≡ v
     → StringFound mark start at (b ∷ s) (string_stop mark start at b)
 unfolding string_stop
 string_ends mark start at b s p true v e f =
-    closed [] s (ap (λ c. c ∷ s) (eqb-true _ _ e)) tt (rw e (ap (λ n. Token Str n) (let q : at + 1 ≡ at + 0 + 1 = omega arith in q)))
+    closed [] s (ap (λ c. c ∷ s) (eqb-true _ _ e)) tt
+    (rw e (ap (λ n. Token Str n) (let q : at + 1 ≡ at + 0 + 1 = omega arith in q)))
 string_ends mark start at b s p false true e f =
-    escape [] s (ap (λ c. c ∷ s) (eqb-true _ _ f)) tt (rw (e, f) (ap (λ n. Fault InvalidEscape n) (let q : at ≡ at + 0 = omega arith in q)))
+    escape [] s (ap (λ c. c ∷ s) (eqb-true _ _ f)) tt
+    (rw (e, f) (ap (λ n. Fault InvalidEscape n) (let q : at ≡ at + 0 = omega arith in q)))
 string_ends mark start at b s p false false e f =
     unclosed [] (b ∷ s) refl tt (not_plain_ends mark b p e f) (rw (e, f) refl)
 
@@ -66,15 +75,18 @@ string_step mark start at b s false p found = rw p (string_ends mark start at b 
 pub string_finds : (mark start at : ℕ) (s : List ℕ) → StringFound mark start at s (string_look mark start at s)
 unfolding string_look
 string_finds mark start at [] = unclosed [] [] refl tt tt refl
-string_finds mark start at (b ∷ s) = string_step mark start at b s (is_plain mark b) refl (string_finds mark start (at + 1) s)
+string_finds mark start at (b ∷ s) = string_step mark start at b s (is_plain mark b) refl
+    (string_finds mark start (at + 1) s)
 
 -- plain bytes are passed over
 pub string_skips : (mark start at : ℕ) (body after : List ℕ) → ArePlain mark body
     → string_look mark start at (body ++ after) ≡ string_look mark start (at + length body) after
 unfolding string_look
-string_skips mark start at [] after h = ap (λ n. string_look mark start n after) (let e : at ≡ at + 0 = omega arith in e)
+string_skips mark start at [] after h = ap (λ n. string_look mark start n after)
+    (let e : at ≡ at + 0 = omega arith in e)
 string_skips mark start at (b ∷ body) after h = rw h.0 (string_skips mark start (at + 1) body after h.1
-    ∙ ap (λ n. string_look mark start n after) (let e : at + 1 + length body ≡ at + length (b ∷ body) = omega arith in e))
+    ∙ ap (λ n. string_look mark start n after)
+    (let e : at + 1 + length body ≡ at + length (b ∷ body) = omega arith in e))
 
 -- a literal is found
 pub string_closes : (mark start at : ℕ) (body after : List ℕ) → ArePlain mark body
@@ -91,9 +103,11 @@ string_escapes mark start at body after q h =
     string_skips mark start at body (92 ∷ after) h ∙ rw (backslash_not_plain mark, apart-back mark q) refl
 
 -- and one that has no end
-pub string_runs_out : (mark start at : ℕ) (body after : List ℕ) → first_of mark ≡ Quote → ArePlain mark body → EndsLine after
+pub string_runs_out : (mark start at : ℕ) (body after : List ℕ) → first_of mark ≡ Quote → ArePlain mark body
+    → EndsLine after
     → string_look mark start at (body ++ after) ≡ Fault UnterminatedString start
 unfolding string_look string_stop
 string_runs_out mark start at body [] q h l = string_skips mark start at body [] h
 string_runs_out mark start at body (b ∷ after) q h l =
-    string_skips mark start at body (b ∷ after) h ∙ rw (line_end_not_plain mark b l, line_end_no_quote mark b q l, line_end_no_backslash b l) refl
+    string_skips mark start at body (b ∷ after) h
+    ∙ rw (line_end_not_plain mark b l, line_end_no_quote mark b q l, line_end_no_backslash b l) refl

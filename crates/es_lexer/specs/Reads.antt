@@ -24,9 +24,15 @@ tokens_of before at line [] = []
 tokens_of before at line (blank b ∷ pieces) = tokens_of before (at + 1) line pieces
 tokens_of before at line (line_end b ∷ pieces) = tokens_of before (at + 1) (is_behind before) pieces
 tokens_of before at line (comment kind text ∷ pieces) =
-    tokens_of before (at + length (spelling (comment kind text))) (line || is_behind before && has_line_end text) pieces
+    tokens_of before (at + length (spelling (comment kind text)))
+    (line || is_behind before && has_line_end text) pieces
 tokens_of before at line (token k s ∷ pieces) =
-    record { kind = k; range = range_at at (length s); line_before = line; partner = partner_of before k (kinds_of pieces) }
+    record {
+      kind = k;
+      range = range_at at (length s);
+      line_before = line;
+      partner = partner_of before k (kinds_of pieces);
+    }
     ∷ tokens_of (k ∷ before) (at + length s) false pieces
 
 -- the comments among pieces from the place `at` on

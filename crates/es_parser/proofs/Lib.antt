@@ -1,1 +1,7 @@
+pub mod TokenLemmas
 pub mod Table
+pub mod StepLemmas
+pub mod ListLemmas
+pub mod AnswerLemmas
+pub mod CutsLemmas
+pub mod Theorems

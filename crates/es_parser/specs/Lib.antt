@@ -2,3 +2,5 @@
 pub mod Rows
 pub mod Dress
 pub mod Derives
+-- what the functions of the crate promise each other
+pub mod Steps

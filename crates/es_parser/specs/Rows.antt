@@ -39,9 +39,13 @@ empty_item = make EmptyItem (punct k.Semicolon done)
 unfoldable pub item : Rule Row Label
 item = choose (is k.ImportWord) import_item empty_item
 
+-- a turn of a list of items
+unfoldable pub one_item : Lang → Mode → Form Row
+one_item l m = row (ItemRow l m) done
+
 -- Module: Item*
 unfoldable pub module_program : Lang → Mode → Rule Row Label
-module_program l m = make ModuleProgram (many (hint is_token) (row (ItemRow l m) done) done)
+module_program l m = make ModuleProgram (many (hint is_token) (one_item l m) done)
 
 -- Program: a module, in module mode alone
 unfoldable pub program : Lang → Mode → Rule Row Label

@@ -4,10 +4,47 @@ ghost use Rattle.std.specs.Prelude.{IfOk};
 ghost use Rattle.es_lexer.specs.Reads.{ReadsTokens};
 ghost use Rattle.es_tree.specs.declared.tree.Program.{Program as Tree};
 ghost use Rattle.es_parser.specs.Derives.{Derives, GivesTree};
+ghost use Rattle.es_parser.specs.Dress.{program as program_value};
+ghost use Rattle.es_parser.specs.Rows.{ProgramRow, module_program};
+ghost use Rattle.es_parser.specs.Steps.{Reads, row_at, rule_at};
 
+use crate::cursor::{Cursor, Parser};
 use es_lexer::Token;
-use es_tree::{Lang, Mode, Program, SyntaxError};
+use es_tree::{Lang, Mode, Module, Program, SyntaxError};
 use std::alloc::Global;
+
+/// The most nodes on a path of a tree.
+const MOST_NODES: usize = 500;
+
+impl Parser<'_> {
+    /// Module: Item*
+    fn module(&self, room: usize, cursor: &mut Cursor) -> Result<Program, SyntaxError>
+        requires { ReadsTokens self.now.text.now self.now.tokens.now }
+        ensures { Reads program_value (rule_at self.now.text.now self.now.tokens.now
+            (row_at self.now.text.now self.now.tokens.now room)
+            (module_program self.now.lang self.now.mode) cursor.old.at) result cursor.new.at }
+    {
+        let from = cursor.at;
+        let body = self.items(room, cursor)?;
+        let span = self.span(from, cursor.at);
+        Ok(Program::Module(Module { body, span }))
+    }
+
+    /// A whole program: a module, in module mode alone.
+    fn program(&self, room: usize, cursor: &mut Cursor) -> Result<Program, SyntaxError>
+        requires { ReadsTokens self.now.text.now self.now.tokens.now }
+        ensures { Reads program_value (row_at self.now.text.now self.now.tokens.now room
+            (ProgramRow self.now.lang self.now.mode) cursor.old.at) result cursor.new.at }
+    {
+        if room == 0 {
+            return Err(SyntaxError::Syntax { token: cursor.at });
+        }
+        match self.mode {
+            Mode::Module => Ok(self.module(room - 1, cursor)?),
+            Mode::Script => Err(SyntaxError::Syntax { token: cursor.at }),
+        }
+    }
+}
 
 /// The tree of a text whose tokens are these.
 pub fn parse_tokens(
@@ -23,8 +60,17 @@ pub fn parse_tokens(
     // What is derived is answered, unless memory runs out: so `Syntax` comes only where nothing is derived.
     ensures only { (tree : Tree) → Derives lang mode text.now tokens.now tree → GivesTree result tree }
 {
-    let _ = (alloc, lang, mode);
-    let _ = text;
-    let _ = tokens;
-    Err(SyntaxError::OutOfMemory)
+    let parser = Parser {
+        alloc,
+        lang,
+        mode,
+        text,
+        tokens,
+    };
+    let mut cursor = Cursor { at: 0 };
+    let program = parser.program(MOST_NODES, &mut cursor)?;
+    if cursor.at != tokens.len() {
+        return Err(SyntaxError::Syntax { token: cursor.at });
+    }
+    Ok(program)
 }

@@ -7,7 +7,6 @@ use Rattle.es_lexer.specs.declared.token.TokenKind.{TokenKind}
 use Rattle.es_lexer.specs.declared.token.TokenKind.TheVariants as k
 use Rattle.es_lexer.specs.contracts.token.TokenKind.{the_type}
 use Rattle.es_tree.specs.Key.{Seen, Look}
-use Rattle.es_tree.proofs.OutLemmas.{clash}
 use Rattle.es_tree.proofs.Progress.{both_hold}
 
 -- every kind of token
@@ -63,7 +62,7 @@ holds_listed : (t : Look) (list : List TokenKind) → holds_at t list ≡ true �
 holds_listed t [] holds n kind at line = absurd (let bad : ⊥ = cc in bad)
 holds_listed t (first ∷ rest) holds zero kind at line =
     let one = both_hold (t (Some (record { kind = first; line_before = true })))
-        (t (Some (record { kind = first; line_before = false })) && holds_at t rest) holds in
+    (t (Some (record { kind = first; line_before = false })) && holds_at t rest) holds in
     let other = both_hold (t (Some (record { kind = first; line_before = false }))) (holds_at t rest) one.1 in
     let same : first ≡ kind = cc in
     rw (← same) (either_line line one.0 other.0)
@@ -75,7 +74,7 @@ holds_listed t (first ∷ rest) holds zero kind at line =
     either_line false a b = b
 holds_listed t (first ∷ rest) holds (suc n) kind at line =
     let one = both_hold (t (Some (record { kind = first; line_before = true })))
-        (t (Some (record { kind = first; line_before = false })) && holds_at t rest) holds in
+    (t (Some (record { kind = first; line_before = false })) && holds_at t rest) holds in
     let other = both_hold (t (Some (record { kind = first; line_before = false }))) (holds_at t rest) one.1 in
     holds_listed t rest other.1 n kind at line
 

@@ -5,3 +5,4 @@ pub mod FreeLemmas
 pub mod MadeLemmas
 pub mod Theorems
 pub mod EachKind
+pub mod LeafLemmas

@@ -11,6 +11,7 @@ use Rattle.graph_entry.specs.declared.entry.Entry.TheVariants as entry
 use Rattle.graph_entry.specs.declared.entry.ModuleError.{ModuleError}
 use Rattle.graph_entry.specs.declared.entry.ModuleError.TheVariants.{Missing, Parse, NotBuilt, OutOfMemory}
 use Rattle.graph_entry.specs.Specifier.{text_of}
+use Rattle.graph_entry.specs.Resolution.{KeepsReason}
 
 -- the text of an edge's target
 abbrev pub target_of : Dependency → Option (List ℕ)
@@ -31,12 +32,20 @@ unanswered = entry.Error NotBuilt
 abbrev pub CutsFrom : List ℕ → Dependency → Type 0
 CutsFrom text d = (range : Range) × (d.range ≡ Some range) × CutsLiteral text range d.text
 
--- each edge of the entry's module does so in the module's text
+-- the reason for which the edge has no target, if it has none, is not want of room
+abbrev pub KeepsReasonOf : List ℕ → Dependency → Type 0
+KeepsReasonOf text d = KeepsReason d.resolution
+
+-- a fact of each edge of the entry's module and the module's text
+abbrev pub EachEdge : (List ℕ → Dependency → Type 0) → Entry → Type 0
+EachEdge P (entry.Module (Js m)) = All (P m.text) m.dependencies
+EachEdge P (entry.Redirect target) = Unit {0}
+EachEdge P entry.External = Unit {0}
+EachEdge P (entry.Error e) = Unit {0}
+
+-- each edge cuts its literal from the module's text
 abbrev pub EdgesCut : Entry → Type 0
-EdgesCut (entry.Module (Js m)) = All (CutsFrom m.text) m.dependencies
-EdgesCut (entry.Redirect target) = Unit {0}
-EdgesCut entry.External = Unit {0}
-EdgesCut (entry.Error e) = Unit {0}
+EdgesCut made = EachEdge CutsFrom made
 
 -- the name of an error, as reports write it
 abbrev pub name_of_error : ModuleError → List ℕ

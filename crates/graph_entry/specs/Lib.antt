@@ -8,4 +8,4 @@ pub mod Diagnosis
 pub mod Entry
 pub mod Analysed
 -- ---- what the functions inside the crate promise each other
-pub mod Source
+pub mod Steps

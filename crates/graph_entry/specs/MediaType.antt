@@ -4,16 +4,11 @@ use Rattle.std.specs.Prelude.{ℕ, nat_eq, List, [], ◌∷◌, codes, if◌then
 use Rattle.std.specs.List.{ends_with}
 use Rattle.std.specs.Str.{str_to_ascii_lowercase}
 use Rattle.graph_entry.specs.declared.media_type.MediaType.{MediaType}
-use Rattle.graph_entry.specs.declared.media_type.Ending.{Ending}
 use Rattle.graph_entry.specs.declared.media_type.MediaType.TheVariants.{Dts, Dmts, Dcts, TypeScript, Mts, Cts, Tsx, JavaScript, Mjs, Cjs, Jsx, Json, Jsonc, Json5, Wasm, Css, Html, Markdown, Sql, SourceMap, Unknown}
 
 -- an ending, and the media type of the paths that have it
 abbrev pub Row : Type 0
 Row = List ℕ × MediaType
-
--- a row of the code's table
-abbrev pub row_of : Ending → Row
-row_of e = (e.text.now, e.media_type)
 
 -- the endings, in the order in which they are tried; none has a `/`, so each lies in the last segment
 abbrev pub endings : List Row

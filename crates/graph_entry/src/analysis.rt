@@ -6,7 +6,7 @@ ghost use Rattle.es_tree.specs.Sites.{sites_of};
 ghost use Rattle.graph_entry.specs.Specifier.{text_of};
 ghost use Rattle.graph_entry.specs.ModuleText as texts;
 ghost use Rattle.graph_entry.specs.Diagnosis.{told_range};
-ghost use Rattle.graph_entry.specs.Source.{IsReadAgain};
+ghost use Rattle.graph_entry.specs.Steps.{IsReadAgain};
 ghost use Rattle.graph_entry.specs.Analysed as spec;
 ghost use Rattle.graph_entry.specs.Analysed.{Analysed, OfContent, OfBytes, OfText, OfTokens};
 

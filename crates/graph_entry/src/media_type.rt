@@ -1,7 +1,8 @@
 //! Media types of modules, by the ending of a path.
 ghost use Rattle.std.specs.Prelude.{◌≡◌, IfOk, nat_eq, map};
 ghost use Rattle.std.specs.List.{ends_with};
-ghost use Rattle.graph_entry.specs.MediaType.{media_type_of, name_of, row_of};
+ghost use Rattle.graph_entry.specs.MediaType.{media_type_of, name_of};
+ghost use Rattle.graph_entry.specs.Steps.{row_of};
 ghost use Rattle.graph_entry.specs.MediaType as spec;
 
 use std::alloc::{AllocError, Global};

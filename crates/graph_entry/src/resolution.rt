@@ -1,12 +1,11 @@
 //! What a specifier in a source leads to.
-ghost use Rattle.std.specs.Prelude.{◌≡◌, nat_eq, IfOk, None};
-ghost use Rattle.std.specs.List.{starts_with};
+ghost use Rattle.std.specs.Prelude.{◌≡◌, IfOk, None};
 ghost use Rattle.url.specs.Parts.{Parts};
 ghost use Rattle.url.specs.Parser.{parse_url, and_then, IsOutOfRoom};
 ghost use Rattle.graph_entry.specs.Specifier.{text_of};
-ghost use Rattle.graph_entry.specs.Specifier as specifiers;
 ghost use Rattle.graph_entry.specs.Resolution as spec;
 
+use crate::specifier::begins;
 use base::Text;
 use std::alloc::{AllocError, Global};
 use thiserror::Error;
@@ -121,11 +120,4 @@ pub fn has_relative_prefix(text: &str) -> bool
     ensures { result ≡ spec.has_relative_prefix text.now }
 {
     begins(text, "/") || begins(text, "./") || begins(text, "../")
-}
-
-/// Whether the text begins with this one.
-pub fn begins(text: &str, front: &str) -> bool
-    ensures { result ≡ specifiers.begins text.now front.now }
-{
-    text.starts_with(front)
 }

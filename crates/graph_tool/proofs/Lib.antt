@@ -1,2 +1,5 @@
 pub mod MemoryLemmas
 pub mod TransferLemmas
+pub mod GraphLemmas
+pub mod BundleLemmas
+pub mod RunLemmas

@@ -2,3 +2,8 @@
 pub mod Transfer
 pub mod Status
 pub mod Memory
+pub mod Bundle
+pub mod Report
+pub mod Run
+-- What the crate's functions promise each other.
+pub mod Steps

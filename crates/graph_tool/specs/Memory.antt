@@ -1,5 +1,5 @@
 -- A source and a sink in memory, as clauses see them. Calls are numbered from 0, up to 2^64 - 1, which the later ones share.
-use Rattle.std.specs.Prelude.{ℕ, ◌+◌, ◌-◌, ◌^◌, ◌==◌, min, List, length, Bool}
+use Rattle.std.specs.Prelude.{ℕ, ◌+◌, ◌-◌, ◌^◌, ◌==◌, min, List, Bool}
 use Rattle.std.specs.List.{list_any}
 
 -- the bytes left, the most bytes a read gives, the next call's number, the calls that fail, and the count of failures

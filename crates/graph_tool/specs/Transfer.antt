@@ -1,5 +1,5 @@
 -- Reads and writes: bytes and the count of failures. A told list of bytes is `Some`; of `None` nothing is claimed.
-use Rattle.std.specs.Prelude.{◌≡◌, ℕ, ◌+◌, ◌<◌, ◌≤◌, List, ◌++◌, length, Option, Result, MatchResult}
+use Rattle.std.specs.Prelude.{◌≡◌, ℕ, ◌+◌, ◌<◌, List, ◌++◌, length, Option, Result, MatchResult}
 use Rattle.std.specs.Io.KnownBytes.{Consumes, Appends}
 use Rattle.graph_tool.specs.declared.transfer.ReadError.{ReadError}
 use Rattle.graph_tool.specs.declared.transfer.ReadError.TheVariants.{TooLong, Fault, OutOfMemory}

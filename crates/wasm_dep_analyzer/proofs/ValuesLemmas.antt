@@ -5,11 +5,11 @@ use Rattle.std.proofs.lemmas.Bool.{lt-ltb, le-ltb, eq-eqb, eqb-true}
 use Rattle.std.proofs.lemmas.List.{take-append-drop, length-append}
 use Rattle.std.proofs.Math.Seq.{take-length}
 use Rattle.std.proofs.lemmas.Str.{utf8_valid_len-IsUtf8}
-use Rattle.std.specs.Prelude.{IsUtf8, nat_lt, if◌then◌else◌}
+use Rattle.std.specs.Prelude.{IsUtf8, nat_lt}
 use Rattle.std.specs.Str.Lossy.{utf8_valid_len}
 use Rattle.wasm_dep_analyzer.specs.declared.error.ParseError.{ParseError}
 use Rattle.wasm_dep_analyzer.specs.declared.error.ParseError.TheVariants.{UnexpectedEof, IntegerOverflow, InvalidUtf8}
-use Rattle.wasm_dep_analyzer.specs.Reading.{Read, ◌>>=◌}
+use Rattle.wasm_dep_analyzer.specs.Reading.{◌>>=◌}
 use Rattle.wasm_dep_analyzer.specs.Values.{u8_at, number_at, u32_at, bytes_at, text_of, name_at}
 
 -- a value as reading gives it
@@ -162,7 +162,7 @@ unfolding text_of
 text_of-text bytes text same valid = rw (utf8_valid_len-IsUtf8 bytes valid, eq-eqb (length bytes) (length bytes) refl, same) refl
 
 -- a test that does not hold fails
-not_true : (b : Bool) → (b ≡ true → ⊥) → b ≡ false
+pub not_true : (b : Bool) → (b ≡ true → ⊥) → b ≡ false
 not_true true h = absurd (h refl)
 not_true false h = refl
 

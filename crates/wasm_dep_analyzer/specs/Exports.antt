@@ -1,5 +1,6 @@
 -- Exports before their types are looked up (WebAssembly Core, "Export Section").
-use Rattle.std.specs.Prelude.{ℕ, List, Ok, ◌==◌, if◌then◌else◌}
+use Rattle.std.specs.Prelude.{ℕ, Bool, List, Ok, ◌==◌, if◌then◌else◌}
+use Rattle.std.specs.List.{list_any}
 use Rattle.wasm_dep_analyzer.specs.declared.exports.ExportKind.{ExportKind}
 use Rattle.wasm_dep_analyzer.specs.declared.exports.ExportKind.TheVariants.{Function, Table, Memory, Global, Tag, Unknown}
 use Rattle.wasm_dep_analyzer.specs.declared.exports.ExportItem.{ExportItem}
@@ -29,3 +30,16 @@ export_at bytes = do
 -- an export of the section as contracts see it
 abbrev pub listed : ExportItem → Listed
 listed e = record { name = e.name.now; kind = e.kind; index = e.index }
+
+-- a number for each kind, by which two are compared
+abbrev pub code_of : ExportKind → ℕ
+code_of Function = 0
+code_of Table = 1
+code_of Memory = 2
+code_of Global = 3
+code_of Tag = 4
+code_of Unknown = 5
+
+-- some export is of this kind
+abbrev pub has_kind : ExportKind → List Listed → Bool
+has_kind kind exports = list_any (λ e. code_of e.kind == code_of kind) exports

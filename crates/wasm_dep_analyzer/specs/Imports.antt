@@ -1,5 +1,5 @@
 -- Imports, and where their modules' names stand (WebAssembly Core, "Import Section").
-use Rattle.std.specs.Prelude.{ℕ, ◌-◌, List, length, Result, Ok, Err}
+use Rattle.std.specs.Prelude.{ℕ, ◌-◌, List, length, Ok}
 use Rattle.base.specs.declared.range.Range.{Range}
 use Rattle.wasm_dep_analyzer.specs.declared.deps.Import.{Import}
 use Rattle.wasm_dep_analyzer.specs.declared.types.ImportType.{ImportType}

@@ -6,3 +6,5 @@ pub mod Imports
 pub mod Exports
 pub mod Sections
 pub mod Module
+-- what the functions inside the crate promise each other
+pub mod Steps

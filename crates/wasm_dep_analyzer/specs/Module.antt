@@ -1,6 +1,7 @@
 -- What a module imports and exports, or its first fault (WebAssembly Core, "Modules").
-use Rattle.std.specs.Prelude.{◌≡◌, ◌≢◌, ℕ, ◌<◌, ◌≤◌, Bool, true, false, ◌⊎◌, List, [], ◌∷◌, ◌++◌, length, take, drop, map, slice_get, slice_range, unwrap_or, Result, Ok, Err, nat_eq, nat_lt, ◌==◌, if◌then◌else◌}
-use Rattle.std.specs.List.{flat_map, starts_with}
+use Rattle.std.specs.Prelude.{◌≡◌, ◌≢◌, ℕ, ◌<◌, ◌≤◌, Bool, true, false, ◌⊎◌, List, [], ◌∷◌, ◌++◌, length, take, drop, map, slice_get, slice_range, unwrap_or, Result, Ok, Err, nat_lt, ◌==◌, if◌then◌else◌}
+use Rattle.std.specs.List.{flat_map}
+use Rattle.std.specs.Str.{bytes_eq}
 use Rattle.std.specs.Option.{ok_or}
 use Rattle.std.specs.Int.{w32, from_le_bytes}
 use Rattle.wasm_dep_analyzer.specs.declared.error.ParseError.{ParseError}
@@ -20,7 +21,7 @@ use Rattle.wasm_dep_analyzer.specs.Values.{u32_at, all_items}
 use Rattle.wasm_dep_analyzer.specs.Types.{global_type_at, signature_at}
 use Rattle.wasm_dep_analyzer.specs.Imports.{Imported, imported}
 use Rattle.wasm_dep_analyzer.specs.Exports.{Listed}
-use Rattle.wasm_dep_analyzer.specs.Sections.{Section, section_at, StandIn, first, payload_of, imports_in, exports_in, AreSound, have_all}
+use Rattle.wasm_dep_analyzer.specs.Sections.{Section, section_at, StandIn, payload_in, imports_in, exports_in, AreSound, have_all}
 
 -- ---- types of exports
 
@@ -75,13 +76,18 @@ pub record Tables : Type 0 where
   pub types : Result (List FunctionSignature) ParseError
   pub globals : Result (List GlobalType) ParseError
 
--- the tables of a module's sections
-abbrev pub tables_of : List Section → List Imported → Tables
-tables_of ss imports = record {
-  functions = functions_of imports (payload_of (first 3 ss));
-  types = own_items signature_at (payload_of (first 1 ss));
-  globals = globals_of imports (payload_of (first 6 ss));
+-- the tables of these payloads
+abbrev pub tables_from : List Imported → List ℕ → List ℕ → List ℕ → Tables
+tables_from imports functions types globals = record {
+  functions = functions_of imports functions;
+  types = own_items signature_at types;
+  globals = globals_of imports globals;
 }
+
+-- the tables of a module's sections; where there is no section, there are no items of its kind
+abbrev pub tables_of : List Section → List Imported → Tables
+tables_of ss imports =
+    tables_from imports (unwrap_or (payload_in 3 ss) []) (unwrap_or (payload_in 1 ss) []) (unwrap_or (payload_in 6 ss) [])
 
 -- the tables where types are skipped
 abbrev pub no_tables : Tables
@@ -148,13 +154,13 @@ version_at bytes =
 
 -- the header: the magic `\0asm` and the version
 unfoldable pub header_at : List ℕ → Result (List ℕ) ParseError
-header_at bytes = if starts_with nat_eq bytes (0 ∷ 97 ∷ 115 ∷ 109 ∷ []) then version_at (drop 4 bytes) else Err NotWasm
+header_at bytes =
+    if nat_lt (length bytes) 4 then Err NotWasm
+    else if bytes_eq (take 4 bytes) (0 ∷ 97 ∷ 115 ∷ 109 ∷ []) then version_at (drop 4 bytes) else Err NotWasm
 
--- sections behind the header that are looked at: none of their shorter fronts has all that is wanted
-pub record AreLookedAt (skip_types : Bool) (input : List ℕ) (ss : List Section) (rest : List ℕ) : Type 0 where
-  pub body : List ℕ
-  pub header : header_at input ≡ Ok body
-  pub stand : StandIn (length input) ss body rest
+-- sections at the front of the body that are looked at: none of their shorter fronts has all that is wanted
+pub record AreLookedAt (skip_types : Bool) (total : ℕ) (body : List ℕ) (ss : List Section) (rest : List ℕ) : Type 0 where
+  pub stand : StandIn total ss body rest
   pub shortest : (n : ℕ) → n < length ss → have_all skip_types (take n ss) ≡ false
 
 -- what stands behind sound sections is faulty: it is no section, or the imports or exports that it holds are faulty
@@ -164,16 +170,28 @@ IsNextFault total ss rest e =
     ⊎ ((s : Section) × (after : List ℕ) × (section_at total rest ≡ Ok (s, after))
     × ((imports_in (ss ++ s ∷ []) ≡ Err e) ⊎ (exports_in (ss ++ s ∷ []) ≡ Err e)))
 
--- The outcome of reading a module. Looked at are the shortest front of its sections that has all that is wanted, or
--- all of them; the fault is the header's, or that of the first section that is faulty.
+-- The sections looked at are the shortest front that has all that is wanted, or all of them; nothing in them is faulty.
+abbrev pub ReadsBody : Bool → ℕ → List ℕ → List Section → List ℕ → Type 0
+ReadsBody skip_types total body ss rest =
+    AreLookedAt skip_types total body ss rest × AreSound ss × ((have_all skip_types ss ≡ true) ⊎ (rest ≡ []))
+
+-- Behind sections that are not all that is wanted, and not faulty, stands the first fault.
+pub record IsBodyFault (skip_types : Bool) (total : ℕ) (body : List ℕ) (ss : List Section) (rest : List ℕ) (e : ParseError) : Type 0 where
+  pub looked : AreLookedAt skip_types total body ss rest
+  pub sound : AreSound ss
+  pub wanting : have_all skip_types ss ≡ false
+  pub more : rest ≢ []
+  pub fault : IsNextFault total ss rest e
+
+-- The outcome of reading a module: its imports and exports, or the fault that comes first in the order of the bytes.
 abbrev pub ReadsModule : Bool → List ℕ → Result Deps ParseError → Type 0
 ReadsModule skip_types input (Ok deps) =
-    (ss : List Section) × (rest : List ℕ) × AreLookedAt skip_types input ss rest
-    × ((have_all skip_types ss ≡ true) ⊎ (rest ≡ [])) × (deps_of skip_types ss ≡ Ok deps)
+    (body : List ℕ) × (header_at input ≡ Ok body) × (ss : List Section) × (rest : List ℕ)
+    × ReadsBody skip_types (length input) body ss rest × (deps_of skip_types ss ≡ Ok deps)
 ReadsModule skip_types input (Err e) =
     (header_at input ≡ Err e)
-    ⊎ ((ss : List Section) × (rest : List ℕ) × AreLookedAt skip_types input ss rest × AreSound ss
-    × (have_all skip_types ss ≡ false) × (rest ≢ []) × IsNextFault (length input) ss rest e)
+    ⊎ ((body : List ℕ) × (header_at input ≡ Ok body) × (ss : List Section) × (rest : List ℕ)
+    × IsBodyFault skip_types (length input) body ss rest e)
 
 -- an export as contracts see it
 abbrev pub exported : Export → Exported

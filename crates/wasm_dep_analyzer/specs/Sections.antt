@@ -1,14 +1,13 @@
 -- Sections, and which of them are looked at (WebAssembly Core, "Modules" and "Sections").
-use Rattle.std.specs.Prelude.{◌≡◌, ℕ, ◌-◌, Bool, true, false, ◌&&◌, ◌||◌, not, List, [], ◌∷◌, length, Option, Some, None, is_some, Result, Ok, IsOk, ◌==◌, if◌then◌else◌}
-use Rattle.std.specs.List.{list_any}
+use Rattle.std.specs.Prelude.{◌≡◌, ℕ, ◌-◌, Bool, false, ◌&&◌, ◌||◌, not, List, [], ◌∷◌, length, Option, Some, None, is_some, Result, Ok, IsOk, ◌==◌, if◌then◌else◌}
+use Rattle.std.specs.Option.{option_map}
 use Rattle.std.specs.Result.{result_unwrap_or}
 use Rattle.wasm_dep_analyzer.specs.declared.error.ParseError.{ParseError}
-use Rattle.wasm_dep_analyzer.specs.declared.exports.ExportKind.{ExportKind}
 use Rattle.wasm_dep_analyzer.specs.declared.exports.ExportKind.TheVariants.{Function, Global}
 use Rattle.wasm_dep_analyzer.specs.Reading.{Read, ◌>>=◌}
 use Rattle.wasm_dep_analyzer.specs.Values.{u8_at, u32_at, bytes_at, all_items}
 use Rattle.wasm_dep_analyzer.specs.Imports.{Imported, import_at}
-use Rattle.wasm_dep_analyzer.specs.Exports.{Listed, export_at}
+use Rattle.wasm_dep_analyzer.specs.Exports.{Listed, export_at, has_kind}
 
 -- a section, with the place in the module where its payload ends
 pub record Section : Type 0 where
@@ -39,10 +38,9 @@ first kind (s ∷ ss) = if s.kind == kind then Some s else first kind ss
 abbrev pub has : ℕ → List Section → Bool
 has kind ss = is_some (first kind ss)
 
--- the payload of the first section of a kind, empty where there is none
-abbrev pub payload_of : Option Section → List ℕ
-payload_of None = []
-payload_of (Some s) = s.payload
+-- the payload of the first section of a kind
+abbrev pub payload_in : ℕ → List Section → Option (List ℕ)
+payload_in kind ss = option_map (λ s. s.payload) (first kind ss)
 
 -- what a section holds, where there is one
 abbrev pub held : {A : Type 0} → (Section → Result (List A) ParseError) → Option Section → Result (Option (List A)) ParseError
@@ -65,34 +63,20 @@ imports_in ss = held imports_of (first 2 ss)
 abbrev pub exports_in : List Section → Result (Option (List Listed)) ParseError
 exports_in ss = held exports_of (first 7 ss)
 
--- functions are exported
-abbrev pub is_function_kind : ExportKind → Bool
-is_function_kind Function = true
-is_function_kind _ = false
-
--- globals are exported
-abbrev pub is_global_kind : ExportKind → Bool
-is_global_kind Global = true
-is_global_kind _ = false
-
--- some export is a function
-abbrev pub shows_function : List Listed → Bool
-shows_function exports = list_any (λ e. is_function_kind e.kind) exports
-
--- some export is a global
-abbrev pub shows_global : List Listed → Bool
-shows_global exports = list_any (λ e. is_global_kind e.kind) exports
-
--- the sections have what these exports want: types and functions for a function, globals for a global
-abbrev pub suffices : Bool → List Section → Option (List Listed) → Bool
-suffices skip_types ss None = false
-suffices skip_types ss (Some exports) =
-    skip_types || (((has 1 ss && has 3 ss) || not (shows_function exports)) && (has 6 ss || not (shows_global exports)))
+-- there are the sections that exports want: types and functions for a function, globals for a global
+abbrev pub suffices : Bool → Bool → List Listed → Bool
+suffices has_functions has_globals exports =
+    (has_functions || not (has_kind Function exports)) && (has_globals || not (has_kind Global exports))
 
 -- imports and exports that could be read
 abbrev pub AreSound : List Section → Type 0
 AreSound ss = IsOk (imports_in ss) × IsOk (exports_in ss)
 
+-- the sections have what the exports want, which are there
+abbrev pub have_for : Bool → List Section → Option (List Listed) → Bool
+have_for skip_types ss None = false
+have_for skip_types ss (Some exports) = skip_types || suffices (has 1 ss && has 3 ss) (has 6 ss) exports
+
 -- all that is wanted stands among these sections
 abbrev pub have_all : Bool → List Section → Bool
-have_all skip_types ss = has 2 ss && suffices skip_types ss (result_unwrap_or (exports_in ss) None)
+have_all skip_types ss = has 2 ss && have_for skip_types ss (result_unwrap_or (exports_in ss) None)

@@ -1,7 +1,8 @@
 //! Imports and their types (WebAssembly Core, "Types" and "Import Section").
 
-ghost use Rattle.std.specs.Prelude.{◌≡◌, ◌≤◌, ◌+◌, length};
+ghost use Rattle.std.specs.Prelude.{◌≡◌, ◌-◌, length, map};
 ghost use Rattle.wasm_dep_analyzer.specs.Reading.{Gives, GivesInRoom};
+ghost use Rattle.wasm_dep_analyzer.specs.Values.{items_at, all_items};
 ghost use Rattle.wasm_dep_analyzer.specs.Imports.{import_at, imported};
 ghost use Rattle.wasm_dep_analyzer.specs.Types.{value_type_of, value_type_at, maximum_at, limits_at, mutability_of, global_type_at, table_at, tag_at, function_at, memory_at, global_at, import_type_of, import_type_at};
 
@@ -10,6 +11,7 @@ use crate::error::ParseError;
 use crate::types::{GlobalType, ImportType, Limits, MemoryType, TableType, TagType, ValueType};
 use crate::values::{read_name, read_u8, read_u32};
 use base::Range;
+use std::alloc::Global;
 
 /// The value type of a byte.
 fn value_type(byte: u8) -> ValueType
@@ -153,13 +155,12 @@ fn read_import_type(input: &[u8]) -> Result<(ImportType, &[u8]), ParseError>
 
 #[tactic(auto, unfolding(crate::specs::Imports::import_at))]
 fn read_import<'a>(end: usize, input: &'a [u8]) -> Result<(Import<'a>, &'a [u8]), ParseError>
-    requires { length input.now ≤ end }
     ensures { Gives (λ read. (imported read.0, read.1.now)) result (import_at end input.now) }
 {
     let (module, rest) = read_name(input)?;
-    let module_end = end - rest.len();
+    let module_end = end.saturating_sub(rest.len());
     let module_range = Range {
-        start: module_end - module.len(),
+        start: module_end.saturating_sub(module.len()),
         end: module_end,
     };
     let (name, rest) = read_name(rest)?;
@@ -173,4 +174,37 @@ fn read_import<'a>(end: usize, input: &'a [u8]) -> Result<(Import<'a>, &'a [u8])
         },
         rest,
     ))
+}
+
+fn read_imports<'a>(
+    alloc: Global,
+    end: usize,
+    count: u32,
+    input: &'a [u8],
+) -> Result<(Vec<Import<'a>>, &'a [u8]), ParseError>
+    ensures { GivesInRoom (λ read. (map imported read.0.items, read.1.now)) result
+        (items_at (import_at end) count input.now) }
+{
+    let mut imports = Vec::new(alloc);
+    let mut rest = input;
+    for _ in 0..count {
+        let (import, after) = read_import(end, rest)?;
+        imports.push(import)?;
+        rest = after;
+    }
+    Ok((imports, rest))
+}
+
+/// The imports of an import section, whose payload ends at `end`.
+#[tactic(auto, unfolding(crate::specs::Values::all_items, crate::specs::Values::vector_at))]
+pub fn import_section<'a>(
+    alloc: Global,
+    end: usize,
+    payload: &'a [u8],
+) -> Result<Vec<Import<'a>>, ParseError>
+    ensures { GivesInRoom (λ imports. map imported imports.items) result (all_items (import_at end) payload.now) }
+{
+    let (count, rest) = read_u32(payload)?;
+    let (imports, _) = read_imports(alloc, end, count, rest)?;
+    Ok(imports)
 }

@@ -14,7 +14,10 @@ mod error;
 mod exports;
 mod imports;
 mod items;
+mod own_sections;
 mod parse;
+mod sections;
+mod tables;
 mod types;
 mod values;
 
@@ -25,3 +28,6 @@ pub use items::Items;
 pub use types::{
     FunctionSignature, GlobalType, ImportType, Limits, MemoryType, TableType, TagType, ValueType,
 };
+
+#[cfg(test)]
+mod tests;

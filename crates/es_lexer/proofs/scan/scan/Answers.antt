@@ -21,7 +21,8 @@ pieces-smaller-in-Blank c =
     let after : After c.args.text.now c.pieces.at c.pieces.line c.pieces.tokens c.pieces.comments (look.Blank) =
     advance_at c.args.text.now c.as_bytes-bytes.result.now c.pieces.at c.pieces.line c.pieces.tokens c.pieces.comments _
     c.utf8.text c.pieces.invariant.same c.pieces.invariant.so_far c.in-Blank.ensures in
-    less_left c.args.text.now c.as_bytes-bytes.result.now c.pieces.at (c.pieces.at + 1) c.pieces.invariant.same (omega arith) after.1.within
+    less_left c.args.text.now c.as_bytes-bytes.result.now c.pieces.at (c.pieces.at + 1) c.pieces.invariant.same
+    (omega arith) after.1.within
 
 pub pieces-preserved-in-Blank : goal.pieces-preserved-in-Blank
 pieces-preserved-in-Blank c = record {
@@ -35,12 +36,14 @@ pieces-smaller-in-LineEnd c =
     let after : After c.args.text.now c.pieces.at c.pieces.line c.pieces.tokens c.pieces.comments (look.LineEnd) =
     advance_at c.args.text.now c.as_bytes-bytes.result.now c.pieces.at c.pieces.line c.pieces.tokens c.pieces.comments _
     c.utf8.text c.pieces.invariant.same c.pieces.invariant.so_far c.in-LineEnd.ensures in
-    less_left c.args.text.now c.as_bytes-bytes.result.now c.pieces.at (c.pieces.at + 1) c.pieces.invariant.same (omega arith) after.1.within
+    less_left c.args.text.now c.as_bytes-bytes.result.now c.pieces.at (c.pieces.at + 1) c.pieces.invariant.same
+    (omega arith) after.1.within
 
 pub pieces-preserved-in-LineEnd : goal.pieces-preserved-in-LineEnd
 pieces-preserved-in-LineEnd c = record {
   same = c.pieces.invariant.same;
-  so_far = so_far_as _ _ _ _ _ _ _ _ (advance_at c.args.text.now c.as_bytes-bytes.result.now c.pieces.at c.pieces.line c.pieces.tokens c.pieces.comments _
+  so_far = so_far_as _ _ _ _ _ _ _ _
+      (advance_at c.args.text.now c.as_bytes-bytes.result.now c.pieces.at c.pieces.line c.pieces.tokens c.pieces.comments _
       c.utf8.text c.pieces.invariant.same c.pieces.invariant.so_far c.in-LineEnd.ensures).1 c.is_after-line.ensures refl refl;
 }
 
@@ -52,7 +55,8 @@ comment_from-requires c =
 
 pub pieces-smaller-in-Comment : goal.pieces-smaller-in-Comment
 pieces-smaller-in-Comment c =
-    let after : After c.args.text.now c.pieces.at c.pieces.line c.pieces.tokens c.pieces.comments (look.Comment c.in-Comment.kind c.in-Comment.end c.in-Comment.line_end) =
+    let after : After c.args.text.now c.pieces.at c.pieces.line c.pieces.tokens c.pieces.comments
+    (look.Comment c.in-Comment.kind c.in-Comment.end c.in-Comment.line_end) =
     advance_at c.args.text.now c.as_bytes-bytes.result.now c.pieces.at c.pieces.line c.pieces.tokens c.pieces.comments _
     c.utf8.text c.pieces.invariant.same c.pieces.invariant.so_far c.in-Comment.ensures in
     less_left c.args.text.now c.as_bytes-bytes.result.now c.pieces.at c.in-Comment.end c.pieces.invariant.same after.forward after.goes.within
@@ -60,16 +64,19 @@ pieces-smaller-in-Comment c =
 pub pieces-preserved-in-Comment : goal.pieces-preserved-in-Comment
 pieces-preserved-in-Comment c = record {
   same = c.pieces.invariant.same;
-  so_far = so_far_as _ _ _ _ _ _ _ _ (advance_at c.args.text.now c.as_bytes-bytes.result.now c.pieces.at c.pieces.line c.pieces.tokens c.pieces.comments _
+  so_far = so_far_as _ _ _ _ _ _ _ _
+      (advance_at c.args.text.now c.as_bytes-bytes.result.now c.pieces.at c.pieces.line c.pieces.tokens c.pieces.comments _
       c.utf8.text c.pieces.invariant.same c.pieces.invariant.so_far c.in-Comment.ensures).goes
       c.line_behind-line.ensures refl
-      (c.in_ok-push-in-Comment.ensures.ok ∙ ap (λ d. c.pieces.comments ++ d ∷ []) c.in_ok-comment_from-in-Comment.ensures);
+      (c.in_ok-push-in-Comment.ensures.ok
+      ∙ ap (λ d. c.pieces.comments ++ d ∷ []) c.in_ok-comment_from-in-Comment.ensures);
 }
 
 -- ---- tokens
 pub pieces-smaller : goal.pieces-smaller
 pieces-smaller c =
-    let after : After c.args.text.now c.pieces.at c.pieces.line c.pieces.tokens c.pieces.comments (look.Token c.in-Token.kind c.in-Token.end) =
+    let after : After c.args.text.now c.pieces.at c.pieces.line c.pieces.tokens c.pieces.comments
+    (look.Token c.in-Token.kind c.in-Token.end) =
     advance_at c.args.text.now c.as_bytes-bytes.result.now c.pieces.at c.pieces.line c.pieces.tokens c.pieces.comments _
     c.utf8.text c.pieces.invariant.same c.pieces.invariant.so_far c.in-Token.ensures in
     less_left c.args.text.now c.as_bytes-bytes.result.now c.pieces.at c.in-Token.end c.pieces.invariant.same after.0 after.1.within
@@ -77,7 +84,8 @@ pieces-smaller c =
 pub pieces-preserved : goal.pieces-preserved
 pieces-preserved c = record {
   same = c.pieces.invariant.same;
-  so_far = so_far_as _ _ _ _ _ _ _ _ (advance_at c.args.text.now c.as_bytes-bytes.result.now c.pieces.at c.pieces.line c.pieces.tokens c.pieces.comments _
+  so_far = so_far_as _ _ _ _ _ _ _ _
+      (advance_at c.args.text.now c.as_bytes-bytes.result.now c.pieces.at c.pieces.line c.pieces.tokens c.pieces.comments _
       c.utf8.text c.pieces.invariant.same c.pieces.invariant.so_far c.in-Token.ensures).1
       refl c.in_ok-push-in-Token.ensures.ok refl;
 }

@@ -1,5 +1,6 @@
 use Rattle.std.proofs.Common.{◌≡◌, map, drop}
-use Rattle.graph_entry.specs.MediaType.{first_ending, row_of}
+use Rattle.graph_entry.specs.MediaType.{first_ending}
+use Rattle.graph_entry.specs.Steps.{row_of}
 use Rattle.graph_entry.proofs.media_type.first_ending.Given as goal
 
 -- none of the rows so far has its ending

@@ -1,7 +1,6 @@
 -- Each read gives the next bytes; a read of nothing ends the source.
-use Rattle.std.proofs.Common.{rules, ◌≡◌, ℕ, ◌+◌, ◌≤◌, ◌-◌, List, [], ◌++◌, length, take, drop, subst, sym, ◌∙◌, ap, refl, arith, append-nil}
+use Rattle.std.proofs.Common.{◌∙◌, refl, arith}
 use Rattle.std.proofs.lemmas.List.{length-take}
-use Rattle.std.proofs.lemmas.Grind.{common_steps}
 use Rattle.std.proofs.KnownBytes.{Consumes-nil}
 use Rattle.graph_tool.proofs.TransferLemmas.{Consumes-grown}
 use Rattle.graph_tool.proofs.transfer.read_all.Goals as goal

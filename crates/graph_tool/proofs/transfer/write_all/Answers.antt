@@ -1,8 +1,7 @@
 -- Each write takes the next part of the text; one that fails leaves the front taken.
-use Rattle.std.proofs.Common.{rules, ◌≡◌, ℕ, ◌+◌, ◌≤◌, ◌-◌, length, take, drop, length-drop, subst, sym, ◌∙◌, arith}
+use Rattle.std.proofs.Common.{◌≤◌, length, drop, length-drop, ◌∙◌, arith}
 use Rattle.std.proofs.lemmas.List.{take_rest}
 use Rattle.std.proofs.lemmas.Result.{err_from_is_err_and}
-use Rattle.std.proofs.lemmas.Grind.{common_steps}
 use Rattle.graph_tool.proofs.TransferLemmas.{Appends-more, TookPart-front}
 use Rattle.graph_tool.proofs.transfer.write_all.Goals as goal
 

@@ -1,8 +1,6 @@
 -- Each answer names the case of the number: its last byte, a byte that ends it, or a byte with higher groups.
-use Rattle.std.proofs.Common.{◌≡◌, ◌*◌, ◌^◌, ◌-◌, ◌+◌, ◌<◌, ◌≤◌, suc, Ok, Err, refl, ap, ◌∙◌, arith}
+use Rattle.std.proofs.Common.{◌-◌, refl, arith}
 use Rattle.std.proofs.lemmas.Result.{err_from_is_err_and}
-use Rattle.wasm_dep_analyzer.specs.Reading.{◌>>=◌}
-use Rattle.wasm_dep_analyzer.specs.Values.{number_at}
 use Rattle.wasm_dep_analyzer.proofs.ValuesLemmas.{number_at-none, number_at-last, number_at-overflow, number_at-ends, number_at-high, power_more, power_within, power_positive}
 use Rattle.wasm_dep_analyzer.proofs.values.+read_number.Goals as goal
 

@@ -1,5 +1,5 @@
 -- The test on the length of the longest valid front is the test whether the bytes are a text.
-use Rattle.std.proofs.Common.{sym, ◌∙◌}
+use Rattle.std.proofs.Common.{◌∙◌}
 use Rattle.wasm_dep_analyzer.proofs.ValuesLemmas.{text_of-text, text_of-fault}
 use Rattle.wasm_dep_analyzer.proofs.values.text.Goals as goal
 

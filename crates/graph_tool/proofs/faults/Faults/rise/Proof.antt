@@ -16,7 +16,7 @@ use denote.Signature.{plain}
 use denote.Steps.{opens, closes, nothing}
 use denote.Triple.Spec.{triple_of}
 use denote.Triple.Table.{entered}
-use denote.Triple.Walked.{says, Stays, stay_ref, walk_of, Goes-ref, ends_at, walked, walk_Meets}
+use denote.Triple.Walked.{says, Stays, stay_ref, Goes-ref, ends_at, walked, walk_Meets}
 use Rattle.graph_tool.specs.contracts.faults.Faults.{the_row}
 use Rattle.graph_tool.specs.contracts.faults.Faults.rise as f
 use Rattle.graph_tool.proofs.faults.Faults.rise.Statement.{statement}

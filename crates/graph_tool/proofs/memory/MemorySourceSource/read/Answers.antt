@@ -1,5 +1,5 @@
 -- The bytes given stand in front of those left, and none are given only at the end.
-use Rattle.std.proofs.Common.{rules, ◌≡◌, ℕ, ◌+◌, ◌-◌, ◌<◌, ◌≤◌, min, List, [], ◌∷◌, length, take, drop, ◌++◌, ◌∙◌, sym, ap, arith, length-append, length-drop}
+use Rattle.std.proofs.Common.{rules, ◌≡◌, ◌-◌, ◌≤◌, min, length, take, drop, ◌∙◌, arith}
 use Rattle.std.proofs.lemmas.Grind.{common_steps}
 use Rattle.graph_tool.proofs.MemoryLemmas.{given_piece, none_left}
 use Rattle.graph_tool.proofs.memory.MemorySourceSource.read.Goals as goal

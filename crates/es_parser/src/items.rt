@@ -1,0 +1,71 @@
+//! Items of a module (ECMA-262, "ModuleItem").
+
+ghost use Rattle.std.specs.Prelude.{◌≡◌, length};
+ghost use Rattle.es_lexer.specs.Reads.{ReadsTokens};
+ghost use Rattle.es_tree.specs.Key.{keys_of, is_token};
+ghost use Rattle.es_parser.specs.Dress.{item as item_value, more, absent};
+ghost use Rattle.es_parser.specs.Rows.{ItemRow, import_item, empty_item, item, one_item};
+ghost use Rattle.es_parser.specs.Steps.{Reads, Below, row_at, rule_at, turns_at, all_of};
+
+use crate::cursor::{Cursor, Parser};
+use base::Items;
+use es_lexer::TokenKind;
+use es_tree::{EmptyStmt, ImportDecl, ModuleDecl, ModuleItem, Stmt, SyntaxError};
+
+impl Parser<'_> {
+    /// 'import' Str END
+    fn import_item(&self, cursor: &mut Cursor) -> Result<ModuleItem, SyntaxError>
+        requires { ReadsTokens self.now.text.now self.now.tokens.now }
+        ensures { (below : Below) → Reads item_value
+            (rule_at self.now.text.now self.now.tokens.now below import_item cursor.old.at) result cursor.new.at }
+    {
+        let from = cursor.at;
+        self.expect(TokenKind::ImportWord, cursor)?;
+        let src = self.str(cursor)?;
+        self.ended(cursor)?;
+        let span = self.span(from, cursor.at);
+        Ok(ModuleItem::ModuleDecl(ModuleDecl::Import(ImportDecl { src, span })))
+    }
+
+    /// ';'
+    fn empty_item(&self, cursor: &mut Cursor) -> Result<ModuleItem, SyntaxError>
+        ensures { (below : Below) → Reads item_value
+            (rule_at self.now.text.now self.now.tokens.now below empty_item cursor.old.at) result cursor.new.at }
+    {
+        let start = cursor.at;
+        self.expect(TokenKind::Semicolon, cursor)?;
+        let span = self.span(start, cursor.at);
+        Ok(ModuleItem::Stmt(Stmt::Empty(EmptyStmt { span })))
+    }
+
+    /// Item: 'import' Str END | ';'
+    pub fn item(&self, room: usize, cursor: &mut Cursor) -> Result<ModuleItem, SyntaxError>
+        requires { ReadsTokens self.now.text.now self.now.tokens.now }
+        ensures { Reads item_value (row_at self.now.text.now self.now.tokens.now room
+            (ItemRow self.now.lang self.now.mode) cursor.old.at) result cursor.new.at }
+    {
+        if room == 0 {
+            return Err(SyntaxError::Syntax { token: cursor.at });
+        }
+        if self.sees(TokenKind::ImportWord, cursor.at) {
+            Ok(self.import_item(cursor)?)
+        } else {
+            Ok(self.empty_item(cursor)?)
+        }
+    }
+
+    /// Item*
+    pub fn items(&self, room: usize, cursor: &mut Cursor) -> Result<Items<ModuleItem>, SyntaxError>
+        requires { ReadsTokens self.now.text.now self.now.tokens.now }
+        ensures { Reads (all_of (λ i. more (item_value i) absent))
+            (turns_at self.now.text.now self.now.tokens.now (row_at self.now.text.now self.now.tokens.now room)
+            is_token (one_item self.now.lang self.now.mode) (length (keys_of self.now.tokens.now)) cursor.old.at)
+            result cursor.new.at }
+    {
+        let mut items = Items::new(self.alloc);
+        'items: while self.sees_token(cursor.at) {
+            items.push(self.item(room, cursor)?)?;
+        }
+        Ok(items)
+    }
+}

@@ -1,0 +1,92 @@
+-- What holds of each token that the rows keep holds of each leaf of a tree.
+use Rattle.std.specs.Prelude.{List, true}
+use Rattle.std.proofs.Common.{◌≡◌, ℕ, zero, suc, ◌+◌, subst, sym, inl, inr}
+use Rattle.es_tree.specs.Key.{Key, seen, has_kind}
+use Rattle.es_tree.specs.Form.{Sort, Told, Form, done, tok, punct, row, opt, many, when_, where_, Rule, refuse, make, choose, as_}
+use Rattle.es_tree.specs.Plain.{Plain, node, leaf, nil, cons, mark, turn, via}
+use Rattle.es_tree.specs.Fits.{Reading, Turns, Fits, IsBy, Under}
+
+-- the claim holds of each leaf
+abbrev pub EachLeaf : {Label : Type 0} → (Sort → ℕ → Type 0) → Plain Label → Type 0
+EachLeaf P (node l from to ps) = EachLeaf P ps
+EachLeaf P (leaf s n) = P s n
+EachLeaf P nil = Unit {0}
+EachLeaf P (cons p ps) = EachLeaf P p × EachLeaf P ps
+EachLeaf P (mark n ps) = EachLeaf P ps
+EachLeaf P (turn p ps) = EachLeaf P p × EachLeaf P ps
+EachLeaf P (via w p) = EachLeaf P p
+
+-- the claim holds of each token that the form keeps
+abbrev pub Keeps : {Row : Type 0} → List Key → (Sort → ℕ → Type 0) → Form Row → Type 0
+Keeps K P done = Unit {0}
+Keeps K P (tok s may f) = ((at : ℕ) → has_kind may (seen K at) ≡ true → P s at) × Keeps K P f
+Keeps K P (punct k f) = Keeps K P f
+Keeps K P (row r f) = Keeps K P f
+Keeps K P (opt c g f) = Keeps K P g × Keeps K P f
+Keeps K P (many c g f) = Keeps K P g × Keeps K P f
+Keeps K P (when_ t f) = Keeps K P f
+Keeps K P (where_ t f) = Keeps K P f
+
+-- the claim holds of each token that the rule keeps
+abbrev pub RuleKeeps : {Row Label : Type 0} → List Key → (Sort → ℕ → Type 0) → Rule Row Label → Type 0
+RuleKeeps K P refuse = Unit {0}
+RuleKeeps K P (make l f) = Keeps K P f
+RuleKeeps K P (choose t a b) = RuleKeeps K P a × RuleKeeps K P b
+RuleKeeps K P (as_ w a) = RuleKeeps K P a
+
+leaves_moved : {Label : Type 0} (P : Sort → ℕ → Type 0) (p q : Plain Label) → p ≡ q → EachLeaf P q → EachLeaf P p
+leaves_moved P p q e h = let Q : Plain _ → Type 0 = λ t. EachLeaf P t in subst Q (sym e) h
+
+turns_leaves : {Label : Type 0} (h : Reading) (K : List Key) (P : Sort → ℕ → Type 0) (c : Told)
+    (One : Plain Label → ℕ → ℕ → Type 0) → ((q : Plain Label) (from mid : ℕ) → One q from mid → EachLeaf P q)
+    → (ps : Plain Label) (from to : ℕ) → Turns h K c One ps from to → EachLeaf P ps
+turns_leaves h K P c One each nil from to fit = tt
+turns_leaves h K P c One each (turn q ps) from to fit =
+    (each q from fit.0 fit.2, turns_leaves h K P c One each ps fit.0 to fit.3)
+turns_leaves h K P c One each _ from to fit = absurd fit
+
+module _ {Row Label : Type 0} (h : Reading) (K : List Key) (P : Sort → ℕ → Type 0) (Below : Row → Plain Label → ℕ → ℕ → Type 0)
+    (below_leaves : (r : Row) (q : Plain Label) (from mid : ℕ) → Below r q from mid → EachLeaf P q) where
+  form_leaves : (f : Form Row) → Keeps K P f → (p : Plain Label) (from to : ℕ) → Fits h K Below f p from to → EachLeaf P p
+  form_leaves done keeps p from to fit = leaves_moved P p nil fit.0 tt
+  form_leaves (tok s may f) keeps p from to fit =
+      leaves_moved P p (cons (leaf s from) fit.0) fit.1 (keeps.0 from fit.2, form_leaves f keeps.1 fit.0 (from + 1) to fit.3)
+  form_leaves (punct k f) keeps p from to fit =
+      leaves_moved P p (mark from fit.0) fit.1 (form_leaves f keeps fit.0 (from + 1) to fit.3)
+  form_leaves (row r f) keeps p from to fit =
+      leaves_moved P p (cons fit.0 fit.1) fit.3
+      (below_leaves r fit.0 from fit.2 fit.4, form_leaves f keeps fit.1 fit.2 to fit.5)
+  form_leaves (opt c g f) keeps p from to fit =
+      leaves_moved P p (cons fit.0 fit.1) fit.3 (
+        elim fit.4 [
+          | inl there ↦ form_leaves g keeps.0 fit.0 from fit.2 there.1
+          | inr absent ↦ leaves_moved P fit.0 nil absent.1 tt
+        ],
+        form_leaves f keeps.1 fit.1 fit.2 to fit.5,
+      )
+  form_leaves (many c g f) keeps p from to fit =
+      leaves_moved P p (cons fit.0 fit.1) fit.3 (
+        turns_leaves h K P c (Fits h K Below g) (form_leaves g keeps.0) fit.0 from fit.2 fit.4,
+        form_leaves f keeps.1 fit.1 fit.2 to fit.5,
+      )
+  form_leaves (when_ t f) keeps p from to fit = form_leaves f keeps p from to fit.1
+  form_leaves (where_ t f) keeps p from to fit = form_leaves f keeps p from to fit.1
+
+  rule_leaves : (a : Rule Row Label) → RuleKeeps K P a → (p : Plain Label) (from to : ℕ) → IsBy h K Below a p from to → EachLeaf P p
+  rule_leaves refuse keeps p from to by = absurd by
+  rule_leaves (make l f) keeps p from to by =
+      leaves_moved P p (node l from to by.0) by.1 (form_leaves f keeps by.0 from to by.2)
+  rule_leaves (choose t a b) keeps p from to by = elim by [
+    | inl one ↦ rule_leaves a keeps.0 p from to one.1
+    | inr other ↦ rule_leaves b keeps.1 p from to other.1
+  ]
+  rule_leaves (as_ w a) keeps p from to by = leaves_moved P p (via w by.0) by.1 (rule_leaves a keeps by.0 from to by.2)
+
+-- the leaves of a tree of a row
+pub row_leaves : {Row Label : Type 0} (h : Reading) (K : List Key) (P : Sort → ℕ → Type 0) (rule : Row → Rule Row Label)
+    → ((r : Row) → RuleKeeps K P (rule r)) → (room : ℕ) (r : Row) (p : Plain Label) (from to : ℕ)
+    → Under h K rule room r p from to → EachLeaf P p
+unfolding Under
+row_leaves h K P rule keeps zero r p from to under = absurd under
+row_leaves h K P rule keeps (suc room) r p from to under =
+    rule_leaves h K P (Under h K rule room) (row_leaves h K P rule keeps room) (rule r) (keeps r) p from to under

@@ -1,0 +1,78 @@
+-- What holds of the edges of each site of a tree holds of the edges of what an answer makes.
+use Rattle.std.proofs.Common.{◌≡◌, sym, subst, refl, List, ℕ}
+use Rattle.std.specs.Prelude.{All, Option, Some, None, MatchOption, slice_index_or}
+use Rattle.std.proofs.lemmas.List.Elements.{All-map}
+use Rattle.es_lexer.specs.declared.token.Token.{Token}
+use Rattle.es_lexer.specs.Reads.{ReadsTokens}
+use Rattle.es_tree.specs.declared.error.Lang.{Lang}
+use Rattle.es_tree.specs.declared.error.Mode.TheVariants as mode
+use Rattle.es_tree.specs.declared.tree.Program.{Program}
+use Rattle.es_tree.specs.declared.site.Site.{Site}
+use Rattle.es_tree.specs.Sites.{sites_of, CutsLiteral}
+use Rattle.es_parser.specs.Derives.{Derives}
+use Rattle.url.specs.Parser.{parse_url}
+use Rattle.graph_entry.specs.declared.answer.LoadAnswer.{LoadAnswer}
+use Rattle.graph_entry.specs.declared.answer.LoadAnswer.TheVariants as answer
+use Rattle.graph_entry.specs.declared.entry.Dependency.{Dependency}
+use Rattle.graph_entry.specs.declared.entry.Entry.{Entry}
+use Rattle.graph_entry.specs.declared.media_type.MediaType.{MediaType}
+use Rattle.graph_entry.specs.Entry.{CutsFrom, EachEdge, KeepsReasonOf}
+use Rattle.graph_entry.specs.ModuleText.{without_mark}
+use Rattle.graph_entry.specs.Analysed.{Analysed, language_of, media_type_read, OfBytes, OfText, OfTokens, with_tree, no_tree, with_tokens, no_tokens, with_text, no_text, dependency_of, not_built}
+use Rattle.graph_entry.proofs.RoomLemmas.{resolve-kept}
+
+-- P holds of the edge of each site of each tree of the text, in the module at s
+abbrev pub HoldsOfSites : (List ℕ → Dependency → Type 0) → List ℕ → List ℕ → Type 0
+HoldsOfSites P s text = (lang : Lang) (tokens : List Token) (tree : Program) → ReadsTokens text tokens
+    → Derives lang mode.Module text tokens tree → All (λ site. P text (dependency_of s site)) (sites_of tree)
+
+-- ---- level by level
+
+module _ (P : List ℕ → Dependency → Type 0) (s : List ℕ) (media : MediaType) (lang : Lang) where
+  OfTokens-edges : (text : List ℕ) (tokens : List Token) (made : Entry) → HoldsOfSites P s text → ReadsTokens text tokens
+      → OfTokens s media lang text tokens made → EachEdge P made
+  OfTokens-edges text tokens made holds reads (with_tree tree derived is) =
+      subst (EachEdge P) (sym is)
+      (All-map (P text) (dependency_of s) (sites_of tree) (holds lang tokens tree reads derived))
+  OfTokens-edges text tokens made holds reads (no_tree nothing is) = subst (EachEdge P) (sym is) tt
+
+  OfText-edges : (text : List ℕ) (made : Entry) → HoldsOfSites P s text → OfText s media lang text made → EachEdge P made
+  OfText-edges text made holds (with_tokens tokens reads makes) = OfTokens-edges text tokens made holds reads makes
+  OfText-edges text made holds (no_tokens kind place stops is) = subst (EachEdge P) (sym is) tt
+
+  OfBytes-edges : (bytes : List ℕ) (made : Entry) → HoldsOfSites P s (without_mark bytes)
+      → OfBytes s media lang bytes made → EachEdge P made
+  OfBytes-edges bytes made holds (with_text utf8 makes) = OfText-edges (without_mark bytes) made holds makes
+  OfBytes-edges bytes made holds (no_text not is) = subst (EachEdge P) (sym is) tt
+
+-- content, by the language of its media type
+by_language-edges : (P : List ℕ → Dependency → Type 0) (s : List ℕ) (media : MediaType) (bytes : List ℕ)
+    (lang : Option Lang) (made : Entry) → HoldsOfSites P s (without_mark bytes)
+    → MatchOption lang (made ≡ not_built) (λ l. OfBytes s media l bytes made) → EachEdge P made
+by_language-edges P s media bytes None made holds is = subst (EachEdge P) (sym is) tt
+by_language-edges P s media bytes (Some l) made holds makes = OfBytes-edges P s media l bytes made holds makes
+
+-- ---- the whole
+
+-- the edges of what an answer makes
+pub Analysed-edges : (P : List ℕ → Dependency → Type 0) (s : List ℕ) → ((text : List ℕ) → HoldsOfSites P s text)
+    → (a : LoadAnswer) (made : Entry) → Analysed s a made → EachEdge P made
+unfolding Analysed
+Analysed-edges P s holds (answer.Content headers bytes) made is =
+    let media = media_type_read (parse_url None s) in
+    by_language-edges P s media bytes (language_of media) made (holds (without_mark bytes)) is
+Analysed-edges P s holds (answer.Redirect target) made is = subst (EachEdge P) (sym is) tt
+Analysed-edges P s holds answer.External made is = subst (EachEdge P) (sym is) tt
+Analysed-edges P s holds answer.Absent made is = subst (EachEdge P) (sym is) tt
+Analysed-edges P s holds answer.Failed made is = subst (EachEdge P) (sym is) tt
+
+-- ---- two facts of each edge
+
+-- a site that cuts its literal has an edge that does
+pub All-CutsFrom : (s text : List ℕ) (sites : List Site) → All (λ site. CutsLiteral text site.range site.value) sites
+    → All (λ site. CutsFrom text (dependency_of s site)) sites
+All-CutsFrom s text sites cuts k site within = ((slice_index_or sites k site).range, refl, cuts k site within)
+
+-- the edge of a site keeps no want of room
+pub All-KeepsReasonOf : (s text : List ℕ) (sites : List Site) → All (λ site. KeepsReasonOf text (dependency_of s site)) sites
+All-KeepsReasonOf s text sites k site within = resolve-kept s (slice_index_or sites k site).value

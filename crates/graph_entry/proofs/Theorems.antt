@@ -1,0 +1,37 @@
+-- The laws of an analysis that other crates name.
+use Rattle.std.proofs.Common.{◌≡◌, List, ℕ}
+use Rattle.es_lexer.proofs.Theorems.{one_reading, one_fault, no_reading_stops}
+use Rattle.es_tree.specs.declared.error.Mode.TheVariants as mode
+use Rattle.es_tree.specs.Sites.{sites_of}
+use Rattle.es_parser.proofs.Theorems.{one_tree, derives_cuts}
+use Rattle.graph_entry.specs.declared.answer.LoadAnswer.{LoadAnswer}
+use Rattle.graph_entry.specs.declared.entry.Entry.{Entry}
+use Rattle.graph_entry.specs.Entry.{CutsFrom, EachEdge, EdgesCut, KeepsReasonOf}
+use Rattle.graph_entry.specs.Analysed.{Analysed}
+use Rattle.graph_entry.proofs.AnalysedLemmas.{HasOneReading, Analysed-once}
+use Rattle.graph_entry.proofs.EdgeLemmas.{Analysed-edges, All-CutsFrom, All-KeepsReasonOf}
+
+-- a text has one reading or one first fault, and one tree
+has_one_reading : (text : List ℕ) → HasOneReading text
+has_one_reading text = record {
+  one_tree = λ lang tokens. one_tree lang mode.Module text tokens;
+  one_list = λ ts us reads also. (one_reading text ts us reads.0 also.0 reads.1 also.1).0;
+  one_fault = one_fault text;
+  no_both = λ ts k at reads stops. no_reading_stops text ts reads.0 k at reads.1 stops;
+}
+
+-- one answer makes one entry of a specifier
+pub analysed_once : (s : List ℕ) (a : LoadAnswer) (made other : Entry)
+    → Analysed s a made → Analysed s a other → made ≡ other
+analysed_once = Analysed-once has_one_reading
+
+-- each edge of what an answer makes cuts from the module's text the literal whose value is the edge's text
+pub analysed_cuts : (s : List ℕ) (a : LoadAnswer) (made : Entry) → Analysed s a made → EdgesCut made
+analysed_cuts s =
+    Analysed-edges CutsFrom s (λ text lang tokens tree reads derived.
+    All-CutsFrom s text (sites_of tree) (derives_cuts lang mode.Module text tokens tree reads derived))
+
+-- an edge without target never keeps want of room as its reason
+pub analysed_reasons : (s : List ℕ) (a : LoadAnswer) (made : Entry) → Analysed s a made → EachEdge KeepsReasonOf made
+analysed_reasons s =
+    Analysed-edges KeepsReasonOf s (λ text lang tokens tree reads derived. All-KeepsReasonOf s text (sites_of tree))

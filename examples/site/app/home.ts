@@ -1,0 +1,1 @@
+import "../lib/history.ts"; import "../styles/theme.ts";

@@ -1,0 +1,2 @@
+import "../lib/history.ts";
+import "../lib/log.js";

@@ -1,0 +1,2 @@
+// Nothing is imported here.
+;

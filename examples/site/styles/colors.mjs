@@ -1,0 +1,1 @@
+/* colors */ import "https://example.com/palette.js";
