@@ -1,3 +1,6 @@
 pub mod EntriesLemmas
 pub mod BuilderLemmas
 pub mod ReachLemmas
+pub mod ByTextLemmas
+pub mod SlotsLemmas
+pub mod ReachingLemmas

@@ -10,11 +10,14 @@
 #![tactic(auto)]
 
 mod build;
+mod by_text;
 mod error;
 mod graph;
 mod loader;
 mod memory_loader;
 mod options;
+mod reaching;
+mod slot;
 
 pub use build::GraphBuild;
 pub use error::BuildError;

@@ -1,0 +1,25 @@
+-- What reaching does to the slots and the worklist, and why it stops.
+use Rattle.std.specs.Prelude.{◌≡◌, ◌+◌, ◌≤◌, ℕ, List, length, Result, Ok, Err}
+use Rattle.deno_graph.specs.declared.reaching.Reaching.{Reaching}
+use Rattle.deno_graph.specs.declared.reaching.GrowError.{GrowError}
+use Rattle.deno_graph.specs.declared.reaching.GrowError.TheVariants.{TooMany, OutOfMemory}
+use Rattle.deno_graph.specs.Reach.{Specifier}
+use Rattle.deno_graph.specs.Graph.{texts}
+use Rattle.deno_graph.specs.ByText.{value_at}
+use Rattle.deno_graph.specs.Slots.{Slots, HasGrown, IsOverfull}
+
+-- what has a slot
+abbrev pub slots_of : Reaching → Slots
+slots_of r = value_at r.reached.entries
+
+-- all that came is reached, within the limit
+pub record HasReached (come : List Specifier) (old new : Reaching) : Type 0 where
+  pub grown : HasGrown come (slots_of old) (slots_of new) (texts old.todo) (texts new.todo)
+  pub counted : length new.reached.entries + length old.todo ≡ length old.reached.entries + length new.todo
+  pub room : length new.reached.entries ≤ new.limit
+
+-- all that came is reached, or there is too much of it
+abbrev pub Grows : List Specifier → Reaching → Reaching → Result (Unit {0}) GrowError → Type 0
+Grows come old new (Ok done) = HasReached come old new
+Grows come old new (Err (TooMany seen)) = IsOverfull come (slots_of old) old.limit seen
+Grows come old new (Err OutOfMemory) = Unit {0}
