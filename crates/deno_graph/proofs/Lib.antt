@@ -4,3 +4,5 @@ pub mod ReachLemmas
 pub mod ByTextLemmas
 pub mod SlotsLemmas
 pub mod ReachingLemmas
+pub mod BuildingLemmas
+pub mod ProgressLemmas

@@ -180,7 +180,7 @@ overfull_more xs ys a b k l limit seen g full = record {
 }
 
 -- a specifier that isn't in a list is apart from each in it
-none_equal : (s : Specifier) (xs : List Specifier) → has xs s ≡ false → AllByRecursion (λ y. bytes_eq s y ≡ false) xs
+pub none_equal : (s : Specifier) (xs : List Specifier) → has xs s ≡ false → AllByRecursion (λ y. bytes_eq s y ≡ false) xs
 none_equal s [] h = tt
 none_equal s (x ∷ xs) h = (first (bytes_eq s x) (has xs s) h, none_equal s xs (second (bytes_eq s x) (has xs s) h))
   where

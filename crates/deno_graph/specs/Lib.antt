@@ -12,4 +12,6 @@ pub use Rattle.graph_entry.specs.Entry
 -- ---- what the crate's functions promise each other
 pub mod ByText
 pub mod Slots
+pub mod Building
 pub mod Reaching
+pub mod Progress

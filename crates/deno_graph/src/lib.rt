@@ -16,6 +16,7 @@ mod graph;
 mod loader;
 mod memory_loader;
 mod options;
+mod progress;
 mod reaching;
 mod slot;
 
