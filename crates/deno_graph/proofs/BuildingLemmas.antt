@@ -53,6 +53,7 @@ distinct_last (x ∷ xs) y h =
     front : (ys : List Specifier) → AllByRecursion (λ z. bytes_eq x z ≡ false) (ys ++ y ∷ []) → AllByRecursion (λ z. bytes_eq x z ≡ false) ys
     front [] h = tt
     front (z ∷ ys) h = (h.0, front ys h.1)
+
     last : (ys : List Specifier) → AllByRecursion (λ z. bytes_eq x z ≡ false) (ys ++ y ∷ []) → bytes_eq x y ≡ false
     last [] h = h.0
     last (z ∷ ys) h = last ys h.1
@@ -76,8 +77,10 @@ building_popped meaning starts asked log slots rest s b = record {
     queued : (t : Specifier) → bytes_eq t s ≡ false → (has rest t ≡ true) ⊎ (has (s ∷ []) t ≡ true) → has rest t ≡ true
     queued t out (inl h) = h
     queued t out (inr h) = absurd (let e = sym (has_one s t) ∙ h in cc)
+
     apart : (t : Specifier) → has rest t ≡ true → bytes_eq t s ≡ true → ⊥
     apart t h e = let last = (distinct_last rest s b.todo_once).1 in let same = has_same rest s t e in cc
+
     holds : (t : Specifier) → bytes_eq t s ≡ true → slots t ≡ None → ⊥
     holds t e n = let q = (b.listed t (has_right rest (s ∷ []) t (has_one s t ∙ e))).0 in cc
 
@@ -113,24 +116,30 @@ building_asked meaning starts asked log slots new todo s b here fresh w = record
         by : (c : Bool) → bytes_eq t s ≡ c → slots t ≡ Some x
         by true e = absurd (differs (sym h ∙ written_here slots new s t Asked w e))
         by false e = sym (written_there slots new s t Asked w e) ∙ h
+
     sound : (t : Specifier) (x : Slot) (c : Bool) → bytes_eq t s ≡ c → new t ≡ Some x → IsReached meaning starts (answer_to log) t
     sound t x true e h = b.sound t Queued (ap slots (text_same s t e) ∙ here)
     sound t x false e h = b.sound t x (sym (written_there slots new s t Asked w e) ∙ h)
+
     none_yet : (o : Option LoadAnswer) → answer_to log s ≡ o → answer_to log s ≡ None
     none_yet None e = e
     none_yet (Some a) e = absurd (let h = b.answered s a e in cc)
+
     waits : (t : Specifier) (c : Bool) → bytes_eq t s ≡ c → new t ≡ Some Asked → IsOutstanding (asked ++ s ∷ []) log t
     waits t true e h = (has_right asked (s ∷ []) t (has_one s t ∙ e), ap (answer_to log) (text_same s t e) ∙ none_yet (answer_to log s) refl)
     waits t false e h =
         let old = b.waits t e (sym (written_there slots new s t Asked w e) ∙ h) in (has_left asked (s ∷ []) t old.0, old.1)
+
     not_asked : (t : Specifier) → bytes_eq t s ≡ false → has asked t ≡ false → (has asked t ≡ true) ⊎ (has (s ∷ []) t ≡ true) → ⊥
     not_asked t e f (inl h) = cc
     not_asked t e f (inr h) = let g = sym (has_one s t) ∙ h in cc
+
     queued : (t : Specifier) (c : Bool) → bytes_eq t s ≡ c → new t ≡ Some Queued → (has todo t ≡ true) × (has (asked ++ s ∷ []) t ≡ false)
     queued t true e h = absurd (let g = written_here slots new s t Asked w e in cc)
     queued t false e h =
         let old = b.queued t e (sym (written_there slots new s t Asked w e) ∙ h) in
         (old.0, false_from (has (asked ++ s ∷ []) t) (λ g. not_asked t e old.1 (has_append asked (s ∷ []) t g)))
+
     asked_slot : (t : Specifier) → (has asked t ≡ true) ⊎ (has (s ∷ []) t ≡ true) → new t ≡ None → ⊥
     asked_slot t (inl h) n = written_some slots new s t Asked w (b.asked_slot t h) n
     asked_slot t (inr h) n = let g = written_here slots new s t Asked w (sym (has_one s t) ∙ h) in cc
@@ -149,19 +158,19 @@ pub building_answered : (meaning : Meaning) (starts asked : List Specifier) (log
     → IsBuilding meaning starts (this_one s) asked (log ++ (s, a) ∷ []) slots todo
 building_answered meaning starts asked log slots todo s a b here loads =
     let within = answer_kept log ((s, a) ∷ []) in record {
-  sound = λ t x h. reached_grows meaning starts (answer_to log) (answer_to (log ++ (s, a) ∷ [])) within t (b.sound t x h);
-  done = λ t e h. entry_grows meaning (answer_to log) (answer_to (log ++ (s, a) ∷ [])) within t e (b.done t e h);
-  closed = b.closed;
-  waits = λ t out h. let old = b.waits t refl h in (old.0, answer_other log s a t out ∙ old.1);
-  queued = λ t out h. b.queued t refl h;
-  listed = λ t h. ((b.listed t h).0, false_from (bytes_eq t s) (λ e. let g = ap slots (text_same s t e) ∙ here in let q = (b.listed t h).0 in cc));
-  holds = λ t e n. let g = ap slots (text_same s t e) ∙ here in cc;
-  todo_once = b.todo_once;
-  asked_slot = b.asked_slot;
-  answered = λ t c h. answered t c (bytes_eq t s) refl h;
-  orderly = orderly_push meaning starts [] log s a b.orderly
-    (record { reached = b.sound s Asked here; loads = loads; open_yet = (b.waits s refl here).1 });
-}
+      sound = λ t x h. reached_grows meaning starts (answer_to log) (answer_to (log ++ (s, a) ∷ [])) within t (b.sound t x h);
+      done = λ t e h. entry_grows meaning (answer_to log) (answer_to (log ++ (s, a) ∷ [])) within t e (b.done t e h);
+      closed = b.closed;
+      waits = λ t out h. let old = b.waits t refl h in (old.0, answer_other log s a t out ∙ old.1);
+      queued = λ t out h. b.queued t refl h;
+      listed = λ t h. ((b.listed t h).0, false_from (bytes_eq t s) (λ e. let g = ap slots (text_same s t e) ∙ here in let q = (b.listed t h).0 in cc));
+      holds = λ t e n. let g = ap slots (text_same s t e) ∙ here in cc;
+      todo_once = b.todo_once;
+      asked_slot = b.asked_slot;
+      answered = λ t c h. answered t c (bytes_eq t s) refl h;
+      orderly = orderly_push meaning starts [] log s a b.orderly
+          (record { reached = b.sound s Asked here; loads = loads; open_yet = (b.waits s refl here).1 });
+    }
   where
     answered : (t : Specifier) (c : LoadAnswer) (d : Bool) → bytes_eq t s ≡ d → answer_to (log ++ (s, a) ∷ []) t ≡ Some c → has asked t ≡ true
     answered t c true e h = has_same asked s t e ∙ (b.waits s refl here).0
@@ -190,16 +199,20 @@ building_grown meaning starts in_hand asked log slots new todo later come b g re
     sound : (t : Specifier) (x : Slot) → (slots t ≡ Some x) ⊎ ((slots t ≡ None) × (has come t ≡ true) × (x ≡ Queued)) → IsReached meaning starts (answer_to log) t
     sound t x (inl h) = b.sound t x h
     sound t x (inr h) = reached t h.1
+
     old_one : (t : Specifier) (x : Slot) → (x ≡ Queued → ⊥) → (slots t ≡ Some x) ⊎ ((slots t ≡ None) × (has come t ≡ true) × (x ≡ Queued)) → slots t ≡ Some x
     old_one t x differs (inl h) = h
     old_one t x differs (inr h) = absurd (differs h.2)
+
     closed : (t : Specifier) (o : Option Slot) → slots t ≡ o → (slots t ≡ None → ⊥) → new t ≡ None → ⊥
     closed t None e h n = h e
     closed t (Some x) e h n = let k = g.kept t x e in cc
+
     queued : (t : Specifier) → in_hand t ≡ false → new t ≡ Some Queued → (slots t ≡ Some Queued) ⊎ ((slots t ≡ None) × (has come t ≡ true) × (Queued ≡ Queued))
         → (has later t ≡ true) × (has asked t ≡ false)
     queued t out q (inl h) = let old = b.queued t out h in (g.still t old.0, old.1)
     queued t out q (inr h) = (g.joined t h.0 q, false_from (has asked t) (λ f. b.asked_slot t f h.0))
+
     listed : (t : Specifier) → (has todo t ≡ true) ⊎ ((slots t ≡ None) × (new t ≡ Some Queued)) → (new t ≡ Some Queued) × (in_hand t ≡ false)
     listed t (inl h) = (g.kept t Queued (b.listed t h).0, (b.listed t h).1)
     listed t (inr h) = (h.1, false_from (in_hand t) (λ e. b.holds t e h.0))
@@ -227,22 +240,27 @@ building_filled meaning starts asked log slots new todo s e b reached is_entry c
     sound : (t : Specifier) (x : Slot) (c : Bool) → bytes_eq t s ≡ c → new t ≡ Some x → IsReached meaning starts (answer_to log) t
     sound t x true d h = subst (IsReached meaning starts (answer_to log)) (sym (text_same s t d)) reached
     sound t x false d h = b.sound t x (sym (written_there slots new s t (Done e) w d) ∙ h)
+
     same_entry : (f g : Entry) → Some (Done f) ≡ Some (Done g) → f ≡ g
     same_entry f g h = cc
+
     done : (t : Specifier) (f : Entry) (c : Bool) → bytes_eq t s ≡ c → new t ≡ Some (Done f) → IsEntry meaning (answer_to log) t f
     done t f true d h =
         let same = same_entry e f (sym (written_here slots new s t (Done e) w d) ∙ h) in
         subst (λ (u : Specifier). IsEntry meaning (answer_to log) u f) (sym (text_same s t d))
-          (subst (λ (g : Entry). IsEntry meaning (answer_to log) s g) same is_entry)
+        (subst (λ (g : Entry). IsEntry meaning (answer_to log) s g) same is_entry)
     done t f false d h = b.done t f (sym (written_there slots new s t (Done e) w d) ∙ h)
+
     shut : (t u : Specifier) (f : Entry) (c : Bool) → bytes_eq t s ≡ c → new t ≡ Some (Done f) → has (targets f) u ≡ true → slots u ≡ None → ⊥
     shut t u f true d h among =
         let same = same_entry e f (sym (written_here slots new s t (Done e) w d) ∙ h) in
         closed u (ap (λ (g : Entry). has (targets g) u) same ∙ among)
     shut t u f false d h among = b.closed t u f (sym (written_there slots new s t (Done e) w d) ∙ h) among
+
     waits : (t : Specifier) (c : Bool) → bytes_eq t s ≡ c → new t ≡ Some Asked → IsOutstanding asked log t
     waits t true d h = absurd (let g = written_here slots new s t (Done e) w d in cc)
     waits t false d h = b.waits t d (sym (written_there slots new s t (Done e) w d) ∙ h)
+
     queued : (t : Specifier) (c : Bool) → bytes_eq t s ≡ c → new t ≡ Some Queued → (has todo t ≡ true) × (has asked t ≡ false)
     queued t true d h = absurd (let g = written_here slots new s t (Done e) w d in cc)
     queued t false d h = b.queued t d (sym (written_there slots new s t (Done e) w d) ∙ h)

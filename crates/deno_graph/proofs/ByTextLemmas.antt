@@ -58,7 +58,7 @@ value_at-insert (e ∷ es) url value t = placed (url_cmp url e.0) (is_eq-url_cmp
     placed : (o : Ordering) → is_eq o ≡ bytes_eq (text_of url) (text_of e.0)
         → value_at (insert_entry url_cmp es url value) t ≡ cond (bytes_eq t (text_of url)) (Some value) (value_at es t)
         → value_at (match_ordering o ((url, value) ∷ e ∷ es) ((e.0, value) ∷ es) (e ∷ insert_entry url_cmp es url value)) t
-          ≡ cond (bytes_eq t (text_of url)) (Some value) (cond (bytes_eq t (text_of e.0)) (Some e.1) (value_at es t))
+        ≡ cond (bytes_eq t (text_of url)) (Some value) (cond (bytes_eq t (text_of e.0)) (Some e.1) (value_at es t))
     placed Less h rest = refl
     placed Equal h rest = rw (same_side t (text_of url) (text_of e.0) (sym h)) (cond_again (bytes_eq t (text_of url)) _ _ _)
     placed Greater h rest = rw rest (cond_swap (bytes_eq t (text_of e.0)) (bytes_eq t (text_of url)) _ _ _ (apart t (text_of url) (text_of e.0) (sym h)))

@@ -6,3 +6,4 @@ pub mod SlotsLemmas
 pub mod ReachingLemmas
 pub mod BuildingLemmas
 pub mod ProgressLemmas
+pub mod ResultLemmas

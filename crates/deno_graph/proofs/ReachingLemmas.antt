@@ -48,7 +48,7 @@ pub grows_err : (xs ys zs : List Specifier) (a b c : Reaching) (e : GrowError) �
     → ((t : Specifier) → has (xs ++ ys) t ≡ true → has zs t ≡ true) → Grows ys b c (Err e) → Grows zs a c (Err e)
 grows_err xs ys zs a b c (TooMany seen) g same wider full =
     overfull_wide (xs ++ ys) zs (slots_of a) a.limit seen wider
-      (overfull_more xs ys (slots_of a) (slots_of b) (texts a.todo) (texts b.todo) a.limit seen g.grown (rw (← same) full))
+    (overfull_more xs ys (slots_of a) (slots_of b) (texts a.todo) (texts b.todo) a.limit seen g.grown (rw (← same) full))
 grows_err xs ys zs a b c OutOfMemory g same wider full = tt
 
 -- ---- the first of a list

@@ -96,18 +96,23 @@ grown_put s old new todo open_yet put = record {
     kept : (t : Specifier) (x : Slot) (b : Bool) → bytes_eq t s ≡ b → old t ≡ Some x → new t ≡ Some x
     kept t x true e h = absurd (let n = open_yet t e in cc)
     kept t x false e h = put t ∙ rw e h
+
     came : (t : Specifier) → bytes_eq t s ≡ true → new t ≡ None → ⊥
     came t e n = let is : new t ≡ Some Queued = put t ∙ rw e refl in cc
+
     fresh : (t : Specifier) (x : Slot) (b : Bool) → bytes_eq t s ≡ b → cond b (Some Queued) (old t) ≡ Some x
         → (old t ≡ Some x) ⊎ ((old t ≡ None) × (has (s ∷ []) t ≡ true) × (x ≡ Queued))
     fresh t x true e h = inr (open_yet t e, has_one s t ∙ e, cc)
     fresh t x false e h = inl h
+
     listed : (t : Specifier) → (has todo t ≡ true) ⊎ (has (s ∷ []) t ≡ true) → (has todo t ≡ true) ⊎ ((old t ≡ None) × (new t ≡ Some Queued))
     listed t (inl h) = inl h
     listed t (inr h) = let e : bytes_eq t s ≡ true = sym (has_one s t) ∙ h in inr (open_yet t e, put t ∙ rw e refl)
+
     joined : (t : Specifier) (b : Bool) → bytes_eq t s ≡ b → cond b (Some Queued) (old t) ≡ Some Queued → old t ≡ None → has (todo ++ s ∷ []) t ≡ true
     joined t true e h n = has_right todo (s ∷ []) t (has_one s t ∙ e)
     joined t false e h n = absurd cc
+
     absent : (b : Bool) → has todo s ≡ b → ((t : Specifier) → has todo t ≡ true → old t ≡ None → ⊥) → list_any (bytes_eq s) todo ≡ false
     absent true e there = absurd (there s e (open_yet s (nat_list_eq_equiv.refl s)))
     absent false e there = e
@@ -128,29 +133,37 @@ grown_more xs ys a b c k l m g h = record {
     some_of : (t : Specifier) (o : Option Slot) → b t ≡ o → (b t ≡ None → ⊥) → c t ≡ None → ⊥
     some_of t None e some n = some e
     some_of t (Some x) e some n = let k = h.kept t x e in cc
+
     came : (t : Specifier) → (has xs t ≡ true) ⊎ (has ys t ≡ true) → c t ≡ None → ⊥
     came t (inl e) n = some_of t (b t) refl (g.came t e) n
     came t (inr e) n = h.came t e n
+
     none_before : (t : Specifier) (o : Option Slot) → a t ≡ o → b t ≡ None → a t ≡ None
     none_before t None e n = e
     none_before t (Some x) e n = absurd (let k = g.kept t x e in cc)
+
     widened : (t : Specifier) (x : Slot) → (a t ≡ Some x) ⊎ ((a t ≡ None) × (has xs t ≡ true) × (x ≡ Queued))
         → (a t ≡ Some x) ⊎ ((a t ≡ None) × (has (xs ++ ys) t ≡ true) × (x ≡ Queued))
     widened t x (inl e) = inl e
     widened t x (inr e) = inr (e.0, has_left xs ys t e.1, e.2)
+
     fresh : (t : Specifier) (x : Slot) → (b t ≡ Some x) ⊎ ((b t ≡ None) × (has ys t ≡ true) × (x ≡ Queued))
         → (a t ≡ Some x) ⊎ ((a t ≡ None) × (has (xs ++ ys) t ≡ true) × (x ≡ Queued))
     fresh t x (inl e) = widened t x (g.fresh t x e)
     fresh t x (inr e) = inr (none_before t (a t) refl e.0, has_right xs ys t e.1, e.2)
+
     listed_first : (t : Specifier) → (has k t ≡ true) ⊎ ((a t ≡ None) × (b t ≡ Some Queued)) → (has k t ≡ true) ⊎ ((a t ≡ None) × (c t ≡ Some Queued))
     listed_first t (inl e) = inl e
     listed_first t (inr e) = inr (e.0, h.kept t Queued e.1)
+
     listed : (t : Specifier) → (has l t ≡ true) ⊎ ((b t ≡ None) × (c t ≡ Some Queued)) → (has k t ≡ true) ⊎ ((a t ≡ None) × (c t ≡ Some Queued))
     listed t (inl e) = listed_first t (g.listed t e)
     listed t (inr e) = inr (none_before t (a t) refl e.0, e.1)
+
     joined : (t : Specifier) → a t ≡ None → c t ≡ Some Queued → (b t ≡ Some Queued) ⊎ ((b t ≡ None) × (has ys t ≡ true) × (Queued ≡ Queued)) → has m t ≡ true
     joined t n q (inl e) = h.still t (g.joined t n e)
     joined t n q (inr e) = h.joined t e.0 q
+
     open_listed : (t : Specifier) → b t ≡ None → (has k t ≡ true) ⊎ ((a t ≡ None) × (b t ≡ Some Queued)) → ((t : Specifier) → has k t ≡ true → a t ≡ None → ⊥) → ⊥
     open_listed t n (inl e) there = there t e (none_before t (a t) refl n)
     open_listed t n (inr e) there = cc
@@ -164,6 +177,7 @@ widen_each xs ys a b k l g t (inl some) = by (b t) refl
     from : (x : Slot) → (a t ≡ Some x) ⊎ ((a t ≡ None) × (has xs t ≡ true) × (x ≡ Queued)) → (a t ≡ None → ⊥) ⊎ (has (xs ++ ys) t ≡ true)
     from x (inl e) = inl (λ n. cc)
     from x (inr e) = inr (has_left xs ys t e.1)
+
     by : (o : Option Slot) → b t ≡ o → (a t ≡ None → ⊥) ⊎ (has (xs ++ ys) t ≡ true)
     by None e = absurd (some e)
     by (Some x) e = from x (g.fresh t x e)
@@ -187,6 +201,7 @@ none_equal s (x ∷ xs) h = (first (bytes_eq s x) (has xs s) h, none_equal s xs 
     first : (a b : Bool) → (a || b) ≡ false → a ≡ false
     first true b h = h
     first false b h = refl
+
     second : (a b : Bool) → (a || b) ≡ false → b ≡ false
     second true b h = absurd cc
     second false b h = h
@@ -200,8 +215,8 @@ overfull_here entries s limit sorted none full = record {
   members = s ∷ keys_at entries;
   counted = ap suc (length-keys_at entries) ∙ omega arith;
   once = IsDistinct-cons bytes_eq s (keys_at entries)
-    (none_equal s (keys_at entries) (has-keys_at entries s ∙ ap is_some none))
-    (distinct_sorted (keys_at entries) (sorted-keys_at entries sorted));
+      (none_equal s (keys_at entries) (has-keys_at entries s ∙ ap is_some none))
+      (distinct_sorted (keys_at entries) (sorted-keys_at entries sorted));
   each = λ t h. each t (bytes_eq t s) refl h;
 }
   where
@@ -232,9 +247,9 @@ pub grown_listed : (old new : List (Parts × Slot)) (todo later : List Parts) (s
     → HasGrown (text_of s ∷ []) (value_at old) (value_at new) (texts todo) (texts later)
 grown_listed old new todo later s u v none put same is like =
     rw (texts_push todo later v s is like)
-      (grown_put (text_of s) (value_at old) (value_at new) (texts todo)
-        (λ t e. value_at_same old (text_of s) t e ∙ none)
-        (λ t. rw (← same) (put.at t)))
+    (grown_put (text_of s) (value_at old) (value_at new) (texts todo)
+    (λ t e. value_at_same old (text_of s) t e ∙ none)
+    (λ t. rw (← same) (put.at t)))
 
 -- so many more
 pub counted_put : (old new : List (Parts × Slot)) (s u : Parts) → value_at old (text_of s) ≡ None → IsPut old new (text_of u) Queued → u ≡ s

@@ -13,7 +13,7 @@ use Rattle.deno_graph.specs.declared.reaching.GrowError.{GrowError}
 use Rattle.deno_graph.specs.declared.reaching.GrowError.TheVariants as grow
 use Rattle.deno_graph.specs.declared.reaching.Reaching.{Reaching}
 use Rattle.deno_graph.specs.declared.progress.Progress.{Progress}
-use Rattle.deno_graph.specs.Reach.{Specifier, Log, Answers, Meaning, answer_to, has}
+use Rattle.deno_graph.specs.Reach.{Specifier, Log, Answers, Meaning, answer_to, has, IsFunctional}
 use Rattle.deno_graph.specs.Graph.{texts}
 use Rattle.deno_graph.specs.Loader.{HasRisen, NeverRises, Falls}
 use Rattle.deno_graph.specs.Builder.{gained, IsKept, IsOrderly, IsTooMany, IsUnawaitedOver, SomeOutstanding}
@@ -129,7 +129,7 @@ Begins meaning old new (Err grow.OutOfMemory) = Unit {0}
 abbrev pub Deals : Meaning → At → At → Result (Unit {0}) GrowError → Type 0
 Deals meaning old new (Ok done) = IsLive meaning new
     × (length new.progress.reaching.reached.entries + length old.progress.reaching.todo
-      ≡ length old.progress.reaching.reached.entries + length new.progress.reaching.todo)
+    ≡ length old.progress.reaching.reached.entries + length new.progress.reaching.todo)
 Deals meaning old new (Err (grow.TooMany seen)) =
     IsTooMany meaning (starts_at old) (own_log old) old.progress.reaching.limit seen
 Deals meaning old new (Err grow.OutOfMemory) = Unit {0}
@@ -179,7 +179,7 @@ pub record IsUnasked (meaning : Meaning) (old new : At) (s : Specifier) : Type 0
   pub earlier : (more : Log) × (before ≡ own_log old ++ more)
   pub orderly : IsOrderly meaning (starts_at old) before
   pub waits : SomeOutstanding (own_asked new) before
-  pub unawaited : IsUnawaitedOver meaning 1 (starts_at old) before s
+  pub unawaited : IsFunctional meaning → IsUnawaitedOver meaning 1 (starts_at old) before s
   pub pending : new.pending ≡ old.pending
 
 -- all is asked for and answered

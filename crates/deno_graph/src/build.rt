@@ -3,14 +3,17 @@ ghost use Rattle.std.specs.Prelude.{◌≡◌, ◌≤◌, ℕ, [], true, false, 
 ghost use Rattle.url.specs.Parts.{Parts};
 ghost use Rattle.graph_entry.specs.Specifier.{text_of};
 ghost use Rattle.graph_entry.specs.Analysed.{Analysed};
-ghost use Rattle.deno_graph.specs.Reach.{answer_to};
+ghost use Rattle.deno_graph.specs.Reach.{answer_to, IsFunctional};
 ghost use Rattle.deno_graph.specs.Graph.{IsGraph};
 ghost use Rattle.deno_graph.specs.Builder.{starts, new_building, IsOrderly, IsAsking, IsAskedFor, EachAnswered, IsToldLog, HasHistory, IsNotYet, IsUnawaited, IsTooMany, IsComplete, OnlyPlain};
 
 use crate::error::BuildError;
+use crate::finish::finish;
 use crate::graph::ModuleGraph;
 use crate::loader::Loader;
 use crate::options::BuildOptions;
+use crate::progress::Progress;
+use crate::reaching::Reaching;
 use base::Items;
 use graph_entry::GraphKind;
 use std::alloc::{AllocError, Global};
@@ -26,37 +29,36 @@ pub struct GraphBuild<L: Loader + Drop> {
 
 #[derive(Drop)]
 struct Inner<L: Loader + Drop> {
+    alloc: Global,
     loader: L,
-    roots: Items<Url>,
-    limit: usize,
-    asked: usize,
-    taken: usize,
+    progress: Progress,
     finished: bool,
 }
 
 impl<L: Loader + Drop> Model for Inner<L> {
-    ghost use Rattle.std.specs.Prelude.{length, take, drop, ◌-◌, ◌≤◌};
     ghost use Rattle.graph_entry.specs.Analysed.{Analysed};
-    ghost use Rattle.deno_graph.specs.Graph.{texts};
-    ghost use Rattle.deno_graph.specs.Builder.{Building, gained, earlier, IsKept};
+    ghost use Rattle.deno_graph.specs.Builder.{Building, gained, earlier};
+    ghost use Rattle.deno_graph.specs.Progress.{at};
+    ghost use Rattle.deno_graph.specs.Inside.{IsInside};
 
     ghost Value = { Building L };
 
     ghost view = { λ b. record {
       loader = b.loader;
-      roots = b.roots;
-      limit = b.limit;
-      asked = gained b.asked (L.asked b.loader);
-      log = gained b.taken (L.log b.loader);
-      asked_before = earlier b.asked (L.asked b.loader);
-      log_before = earlier b.taken (L.log b.loader);
+      roots = b.progress.roots;
+      limit = b.progress.reaching.limit;
+      asked = gained b.progress.asked (L.asked b.loader);
+      log = gained b.progress.taken (L.log b.loader);
+      asked_before = earlier b.progress.asked (L.asked b.loader);
+      log_before = earlier b.progress.taken (L.log b.loader);
       pending = L.pending b.loader;
       standing = L.standing b.loader;
       patience = L.patience b.loader;
       finished = b.finished;
     } };
 
-    ghost invariant = { λ b. IsKept Analysed (texts b.roots) (L.asked b.loader) (L.log b.loader) (L.told b.loader) b.asked b.taken };
+    ghost invariant = { λ b. IsInside Analysed (at (L.asked b.loader) (L.log b.loader) (L.told b.loader)
+        (L.pending b.loader) (L.standing b.loader) (L.patience b.loader) b.progress) b.finished };
 }
 
 impl<L: Loader + Drop> GraphBuild<L> {
@@ -71,7 +73,6 @@ impl<L: Loader + Drop> GraphBuild<L> {
         ensures { IfOk result (λ b. b.inner ≡ new_building roots options.limit loader (L.asked loader)
             (L.log loader) (L.pending loader) (L.standing loader) (L.patience loader)) }
     {
-        let _ = alloc;
         let BuildOptions {
             kind: _,
             limit,
@@ -80,11 +81,15 @@ impl<L: Loader + Drop> GraphBuild<L> {
         } = options;
         Ok(GraphBuild {
             inner: Inner {
+                alloc,
                 loader,
-                roots,
-                limit,
-                asked: 0,
-                taken: 0,
+                progress: Progress {
+                    roots,
+                    reaching: Reaching::new(alloc, limit),
+                    asked: 0,
+                    taken: 0,
+                    begun: false,
+                },
                 finished: false,
             },
         })
@@ -94,20 +99,20 @@ impl<L: Loader + Drop> GraphBuild<L> {
     /// After `NotYet` it may be polled again; after any other answer it is finished.
     pub fn poll(&mut self) -> Result<ModuleGraph, BuildError>
         // The graph is that of the roots and the answers.
-        ensures graph { IfOk result (λ g.
+        ensures graph { IsFunctional Analysed → IfOk result (λ g.
             IsGraph Analysed (starts self.old.inner) (answer_to self.new.inner.log) g.entries) }
         ensures roots { IfOk result (λ g. g.roots ≡ self.old.inner.roots) }
         // Each answer was awaited when it came; what was asked is what the graph needs, and is answered.
         ensures orderly { OnOk result (IsOrderly Analysed (starts self.old.inner) self.new.inner.log) }
-        ensures asked { OnOk result
+        ensures asked { IsFunctional Analysed → OnOk result
             (IsAskedFor Analysed (starts self.old.inner) self.new.inner.asked self.new.inner.log) }
         ensures answered { OnOk result (EachAnswered self.new.inner.asked self.new.inner.log) }
         ensures limit { IfOk result (λ g. length g.entries ≤ self.old.inner.limit) }
         ensures pending { OnOk result (self.new.inner.pending ≡ self.old.inner.pending) }
         // Why there is no graph.
-        ensures not_yet { result ≡ Err BuildError.NotYet →
+        ensures not_yet { IsFunctional Analysed → result ≡ Err BuildError.NotYet →
             IsNotYet Analysed self.old.inner self.new.inner }
-        ensures unasked { (s : Parts) → result ≡ Err (BuildError.UnaskedAnswer s) →
+        ensures unasked { IsFunctional Analysed → (s : Parts) → result ≡ Err (BuildError.UnaskedAnswer s) →
             IsUnawaited Analysed 1 self.old.inner self.new.inner (text_of s) }
         ensures unasked_pending { (s : Parts) → result ≡ Err (BuildError.UnaskedAnswer s) →
             self.new.inner.pending ≡ self.old.inner.pending }
@@ -115,7 +120,7 @@ impl<L: Loader + Drop> GraphBuild<L> {
             IsTooMany Analysed (starts self.old.inner) self.new.inner.log self.old.inner.limit seen }
         ensures finished { (result ≡ Err BuildError.Finished) ↔ (self.old.inner.finished ≡ true) }
         // And when there is one, unless memory runs out.
-        ensures complete { IsComplete Analysed self.old.inner self.new.inner result }
+        ensures complete { IsFunctional Analysed → IsComplete Analysed self.old.inner self.new.inner result }
         // On every answer.
         ensures asking { IsAsking Analysed (starts self.old.inner) self.new.inner.asked self.new.inner.log }
         ensures told { IsToldLog (L.told self.new.inner.loader) self.new.inner.log }
@@ -140,11 +145,9 @@ impl<L: Loader + Drop> GraphBuild<L> {
     {
         let GraphBuild { inner } = self;
         let Inner {
+            alloc: _,
             loader,
-            roots: _,
-            limit: _,
-            asked: _,
-            taken: _,
+            progress: _,
             finished: _,
         } = inner;
         loader
@@ -153,25 +156,25 @@ impl<L: Loader + Drop> GraphBuild<L> {
 
 impl<L: Loader + Drop> Inner<L> {
     fn poll(&mut self) -> Result<ModuleGraph, BuildError>
-        ensures graph { IfOk result (λ g.
+        ensures graph { IsFunctional Analysed → IfOk result (λ g.
             IsGraph Analysed (starts self.old) (answer_to self.new.log) g.entries) }
         ensures roots { IfOk result (λ g. g.roots ≡ self.old.roots) }
         ensures orderly { OnOk result (IsOrderly Analysed (starts self.old) self.new.log) }
-        ensures asked { OnOk result
+        ensures asked { IsFunctional Analysed → OnOk result
             (IsAskedFor Analysed (starts self.old) self.new.asked self.new.log) }
         ensures answered { OnOk result (EachAnswered self.new.asked self.new.log) }
         ensures limit { IfOk result (λ g. length g.entries ≤ self.old.limit) }
         ensures pending { OnOk result (self.new.pending ≡ self.old.pending) }
-        ensures not_yet { result ≡ Err BuildError.NotYet →
+        ensures not_yet { IsFunctional Analysed → result ≡ Err BuildError.NotYet →
             IsNotYet Analysed self.old self.new }
-        ensures unasked { (s : Parts) → result ≡ Err (BuildError.UnaskedAnswer s) →
+        ensures unasked { IsFunctional Analysed → (s : Parts) → result ≡ Err (BuildError.UnaskedAnswer s) →
             IsUnawaited Analysed 1 self.old self.new (text_of s) }
         ensures unasked_pending { (s : Parts) → result ≡ Err (BuildError.UnaskedAnswer s) →
             self.new.pending ≡ self.old.pending }
         ensures too_many { (seen : ℕ) → result ≡ Err (BuildError.TooManyModules seen) →
             IsTooMany Analysed (starts self.old) self.new.log self.old.limit seen }
         ensures finished { (result ≡ Err BuildError.Finished) ↔ (self.old.finished ≡ true) }
-        ensures complete { IsComplete Analysed self.old self.new result }
+        ensures complete { IsFunctional Analysed → IsComplete Analysed self.old self.new result }
         ensures asking { IsAsking Analysed (starts self.old) self.new.asked self.new.log }
         ensures told { IsToldLog (L.told self.new.loader) self.new.log }
         ensures telling { L.told self.new.loader ≡ L.told self.old.loader }
@@ -183,6 +186,25 @@ impl<L: Loader + Drop> Inner<L> {
             return Err(BuildError::Finished);
         }
         self.finished = true;
-        Err(BuildError::OutOfMemory)
+        match self.progress.run(self.alloc, &mut self.loader) {
+            Ok(()) => {
+                match finish(
+                    self.alloc,
+                    self.progress.roots.as_slice(),
+                    &mut self.progress.reaching.reached,
+                ) {
+                    Ok(graph) => return Ok(graph),
+                    Err(_) => return Err(BuildError::OutOfMemory),
+                }
+            }
+            Err(BuildError::NotYet) => {
+                self.finished = false;
+                let _count = self.progress.reaching.reached.len();
+                Err(BuildError::NotYet)
+            }
+            Err(BuildError::TooManyModules { seen }) => Err(BuildError::TooManyModules { seen }),
+            Err(BuildError::UnaskedAnswer(specifier)) => Err(BuildError::UnaskedAnswer(specifier)),
+            Err(BuildError::OutOfMemory | BuildError::Finished) => Err(BuildError::OutOfMemory),
+        }
     }
 }

@@ -12,6 +12,7 @@
 mod build;
 mod by_text;
 mod error;
+mod finish;
 mod graph;
 mod loader;
 mod memory_loader;

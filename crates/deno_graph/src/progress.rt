@@ -28,20 +28,20 @@ impl Progress {
     pub fn run<L: Loader>(&mut self, alloc: Global, loader: &mut L) -> Result<(), BuildError>
         requires live { IsLive Analysed
             (at (L.asked loader.old) (L.log loader.old) (L.told loader.old)
-                (L.pending loader.old) (L.standing loader.old) (L.patience loader.old) self.old) }
+            (L.pending loader.old) (L.standing loader.old) (L.patience loader.old) self.old) }
         ensures runs { Runs Analysed
             (at (L.asked loader.old) (L.log loader.old) (L.told loader.old)
-                (L.pending loader.old) (L.standing loader.old) (L.patience loader.old) self.old)
+            (L.pending loader.old) (L.standing loader.old) (L.patience loader.old) self.old)
             (at (L.asked loader.new) (L.log loader.new) (L.told loader.new)
-                (L.pending loader.new) (L.standing loader.new) (L.patience loader.new) self.new) result }
+            (L.pending loader.new) (L.standing loader.new) (L.patience loader.new) self.new) result }
         ensures kept { IsKeptAt Analysed
             (at (L.asked loader.new) (L.log loader.new) (L.told loader.new)
-                (L.pending loader.new) (L.standing loader.new) (L.patience loader.new) self.new) }
+            (L.pending loader.new) (L.standing loader.new) (L.patience loader.new) self.new) }
         ensures goes { GoesOnAt
             (at (L.asked loader.old) (L.log loader.old) (L.told loader.old)
-                (L.pending loader.old) (L.standing loader.old) (L.patience loader.old) self.old)
+            (L.pending loader.old) (L.standing loader.old) (L.patience loader.old) self.old)
             (at (L.asked loader.new) (L.log loader.new) (L.told loader.new)
-                (L.pending loader.new) (L.standing loader.new) (L.patience loader.new) self.new) }
+            (L.pending loader.new) (L.standing loader.new) (L.patience loader.new) self.new) }
     {
         match self.begin(loader) {
             Ok(()) => {}
@@ -61,20 +61,20 @@ impl Progress {
     fn begin<L: Loader>(&mut self, loader: &mut L) -> Result<(), GrowError>
         requires live { IsLive Analysed
             (at (L.asked loader.old) (L.log loader.old) (L.told loader.old)
-                (L.pending loader.old) (L.standing loader.old) (L.patience loader.old) self.old) }
+            (L.pending loader.old) (L.standing loader.old) (L.patience loader.old) self.old) }
         ensures begins { Begins Analysed
             (at (L.asked loader.old) (L.log loader.old) (L.told loader.old)
-                (L.pending loader.old) (L.standing loader.old) (L.patience loader.old) self.old)
+            (L.pending loader.old) (L.standing loader.old) (L.patience loader.old) self.old)
             (at (L.asked loader.new) (L.log loader.new) (L.told loader.new)
-                (L.pending loader.new) (L.standing loader.new) (L.patience loader.new) self.new) result }
+            (L.pending loader.new) (L.standing loader.new) (L.patience loader.new) self.new) result }
         ensures kept { IsKeptAt Analysed
             (at (L.asked loader.new) (L.log loader.new) (L.told loader.new)
-                (L.pending loader.new) (L.standing loader.new) (L.patience loader.new) self.new) }
+            (L.pending loader.new) (L.standing loader.new) (L.patience loader.new) self.new) }
         ensures goes { GoesOnAt
             (at (L.asked loader.old) (L.log loader.old) (L.told loader.old)
-                (L.pending loader.old) (L.standing loader.old) (L.patience loader.old) self.old)
+            (L.pending loader.old) (L.standing loader.old) (L.patience loader.old) self.old)
             (at (L.asked loader.new) (L.log loader.new) (L.told loader.new)
-                (L.pending loader.new) (L.standing loader.new) (L.patience loader.new) self.new) }
+            (L.pending loader.new) (L.standing loader.new) (L.patience loader.new) self.new) }
         ensures stays { loader.new ≡ loader.old }
     {
         let _ = loader;
@@ -94,21 +94,21 @@ impl Progress {
     fn turn<L: Loader>(&mut self, alloc: Global, loader: &mut L) -> Result<bool, BuildError>
         requires live { IsLive Analysed
             (at (L.asked loader.old) (L.log loader.old) (L.told loader.old)
-                (L.pending loader.old) (L.standing loader.old) (L.patience loader.old) self.old) }
+            (L.pending loader.old) (L.standing loader.old) (L.patience loader.old) self.old) }
         requires begun { self.old.begun ≡ true }
         ensures turns { Turns Analysed
             (at (L.asked loader.old) (L.log loader.old) (L.told loader.old)
-                (L.pending loader.old) (L.standing loader.old) (L.patience loader.old) self.old)
+            (L.pending loader.old) (L.standing loader.old) (L.patience loader.old) self.old)
             (at (L.asked loader.new) (L.log loader.new) (L.told loader.new)
-                (L.pending loader.new) (L.standing loader.new) (L.patience loader.new) self.new) result }
+            (L.pending loader.new) (L.standing loader.new) (L.patience loader.new) self.new) result }
         ensures kept { IsKeptAt Analysed
             (at (L.asked loader.new) (L.log loader.new) (L.told loader.new)
-                (L.pending loader.new) (L.standing loader.new) (L.patience loader.new) self.new) }
+            (L.pending loader.new) (L.standing loader.new) (L.patience loader.new) self.new) }
         ensures goes { GoesOnAt
             (at (L.asked loader.old) (L.log loader.old) (L.told loader.old)
-                (L.pending loader.old) (L.standing loader.old) (L.patience loader.old) self.old)
+            (L.pending loader.old) (L.standing loader.old) (L.patience loader.old) self.old)
             (at (L.asked loader.new) (L.log loader.new) (L.told loader.new)
-                (L.pending loader.new) (L.standing loader.new) (L.patience loader.new) self.new) }
+            (L.pending loader.new) (L.standing loader.new) (L.patience loader.new) self.new) }
     {
         match self.ask_all(loader) {
             Ok(()) => {}
@@ -125,23 +125,23 @@ impl Progress {
     fn poll<L: Loader>(&mut self, alloc: Global, loader: &mut L) -> Result<bool, BuildError>
         requires live { IsLive Analysed
             (at (L.asked loader.old) (L.log loader.old) (L.told loader.old)
-                (L.pending loader.old) (L.standing loader.old) (L.patience loader.old) self.old) }
+            (L.pending loader.old) (L.standing loader.old) (L.patience loader.old) self.old) }
         requires begun { self.old.begun ≡ true }
         requires asked_all { self.old.reaching.todo ≡ [] }
         requires open_yet { self.old.taken < self.old.asked }
         ensures turns { Turns Analysed
             (at (L.asked loader.old) (L.log loader.old) (L.told loader.old)
-                (L.pending loader.old) (L.standing loader.old) (L.patience loader.old) self.old)
+            (L.pending loader.old) (L.standing loader.old) (L.patience loader.old) self.old)
             (at (L.asked loader.new) (L.log loader.new) (L.told loader.new)
-                (L.pending loader.new) (L.standing loader.new) (L.patience loader.new) self.new) result }
+            (L.pending loader.new) (L.standing loader.new) (L.patience loader.new) self.new) result }
         ensures kept { IsKeptAt Analysed
             (at (L.asked loader.new) (L.log loader.new) (L.told loader.new)
-                (L.pending loader.new) (L.standing loader.new) (L.patience loader.new) self.new) }
+            (L.pending loader.new) (L.standing loader.new) (L.patience loader.new) self.new) }
         ensures goes { GoesOnAt
             (at (L.asked loader.old) (L.log loader.old) (L.told loader.old)
-                (L.pending loader.old) (L.standing loader.old) (L.patience loader.old) self.old)
+            (L.pending loader.old) (L.standing loader.old) (L.patience loader.old) self.old)
             (at (L.asked loader.new) (L.log loader.new) (L.told loader.new)
-                (L.pending loader.new) (L.standing loader.new) (L.patience loader.new) self.new) }
+            (L.pending loader.new) (L.standing loader.new) (L.patience loader.new) self.new) }
     {
         let _asked = self.asked;
         match loader.poll() {
@@ -161,20 +161,20 @@ impl Progress {
     fn ask_all<L: Loader>(&mut self, loader: &mut L) -> Result<(), GrowError>
         requires live { IsLive Analysed
             (at (L.asked loader.old) (L.log loader.old) (L.told loader.old)
-                (L.pending loader.old) (L.standing loader.old) (L.patience loader.old) self.old) }
+            (L.pending loader.old) (L.standing loader.old) (L.patience loader.old) self.old) }
         ensures all { AsksAll Analysed
             (at (L.asked loader.old) (L.log loader.old) (L.told loader.old)
-                (L.pending loader.old) (L.standing loader.old) (L.patience loader.old) self.old)
+            (L.pending loader.old) (L.standing loader.old) (L.patience loader.old) self.old)
             (at (L.asked loader.new) (L.log loader.new) (L.told loader.new)
-                (L.pending loader.new) (L.standing loader.new) (L.patience loader.new) self.new) result }
+            (L.pending loader.new) (L.standing loader.new) (L.patience loader.new) self.new) result }
         ensures kept { IsKeptAt Analysed
             (at (L.asked loader.new) (L.log loader.new) (L.told loader.new)
-                (L.pending loader.new) (L.standing loader.new) (L.patience loader.new) self.new) }
+            (L.pending loader.new) (L.standing loader.new) (L.patience loader.new) self.new) }
         ensures asks { OnlyAsks
             (at (L.asked loader.old) (L.log loader.old) (L.told loader.old)
-                (L.pending loader.old) (L.standing loader.old) (L.patience loader.old) self.old)
+            (L.pending loader.old) (L.standing loader.old) (L.patience loader.old) self.old)
             (at (L.asked loader.new) (L.log loader.new) (L.told loader.new)
-                (L.pending loader.new) (L.standing loader.new) (L.patience loader.new) self.new) }
+            (L.pending loader.new) (L.standing loader.new) (L.patience loader.new) self.new) }
     {
         'asking: loop {
             match self.ask_next(loader) {
@@ -189,20 +189,20 @@ impl Progress {
     fn ask_next<L: Loader>(&mut self, loader: &mut L) -> Result<bool, GrowError>
         requires live { IsLive Analysed
             (at (L.asked loader.old) (L.log loader.old) (L.told loader.old)
-                (L.pending loader.old) (L.standing loader.old) (L.patience loader.old) self.old) }
+            (L.pending loader.old) (L.standing loader.old) (L.patience loader.old) self.old) }
         ensures next { AsksNext Analysed
             (at (L.asked loader.old) (L.log loader.old) (L.told loader.old)
-                (L.pending loader.old) (L.standing loader.old) (L.patience loader.old) self.old)
+            (L.pending loader.old) (L.standing loader.old) (L.patience loader.old) self.old)
             (at (L.asked loader.new) (L.log loader.new) (L.told loader.new)
-                (L.pending loader.new) (L.standing loader.new) (L.patience loader.new) self.new) result }
+            (L.pending loader.new) (L.standing loader.new) (L.patience loader.new) self.new) result }
         ensures kept { IsKeptAt Analysed
             (at (L.asked loader.new) (L.log loader.new) (L.told loader.new)
-                (L.pending loader.new) (L.standing loader.new) (L.patience loader.new) self.new) }
+            (L.pending loader.new) (L.standing loader.new) (L.patience loader.new) self.new) }
         ensures asks { OnlyAsks
             (at (L.asked loader.old) (L.log loader.old) (L.told loader.old)
-                (L.pending loader.old) (L.standing loader.old) (L.patience loader.old) self.old)
+            (L.pending loader.old) (L.standing loader.old) (L.patience loader.old) self.old)
             (at (L.asked loader.new) (L.log loader.new) (L.told loader.new)
-                (L.pending loader.new) (L.standing loader.new) (L.patience loader.new) self.new) }
+            (L.pending loader.new) (L.standing loader.new) (L.patience loader.new) self.new) }
     {
         let Some(url) = self.reaching.todo.pop() else {
             return Ok(false);
@@ -217,20 +217,20 @@ impl Progress {
     fn deal<L: Loader>(&mut self, loader: &mut L, url: Url) -> Result<(), GrowError>
         requires in_hand { IsInHand Analysed
             (at (L.asked loader.old) (L.log loader.old) (L.told loader.old)
-                (L.pending loader.old) (L.standing loader.old) (L.patience loader.old) self.old) (text_of url) }
+            (L.pending loader.old) (L.standing loader.old) (L.patience loader.old) self.old) (text_of url) }
         ensures deals { Deals Analysed
             (at (L.asked loader.old) (L.log loader.old) (L.told loader.old)
-                (L.pending loader.old) (L.standing loader.old) (L.patience loader.old) self.old)
+            (L.pending loader.old) (L.standing loader.old) (L.patience loader.old) self.old)
             (at (L.asked loader.new) (L.log loader.new) (L.told loader.new)
-                (L.pending loader.new) (L.standing loader.new) (L.patience loader.new) self.new) result }
+            (L.pending loader.new) (L.standing loader.new) (L.patience loader.new) self.new) result }
         ensures kept { IsKeptAt Analysed
             (at (L.asked loader.new) (L.log loader.new) (L.told loader.new)
-                (L.pending loader.new) (L.standing loader.new) (L.patience loader.new) self.new) }
+            (L.pending loader.new) (L.standing loader.new) (L.patience loader.new) self.new) }
         ensures asks { OnlyAsks
             (at (L.asked loader.old) (L.log loader.old) (L.told loader.old)
-                (L.pending loader.old) (L.standing loader.old) (L.patience loader.old) self.old)
+            (L.pending loader.old) (L.standing loader.old) (L.patience loader.old) self.old)
             (at (L.asked loader.new) (L.log loader.new) (L.told loader.new)
-                (L.pending loader.new) (L.standing loader.new) (L.patience loader.new) self.new) }
+            (L.pending loader.new) (L.standing loader.new) (L.patience loader.new) self.new) }
     {
         if is_loadable(&url) {
             self.ask(loader, url)
@@ -243,21 +243,21 @@ impl Progress {
     fn ask<L: Loader>(&mut self, loader: &mut L, url: Url) -> Result<(), GrowError>
         requires in_hand { IsInHand Analysed
             (at (L.asked loader.old) (L.log loader.old) (L.told loader.old)
-                (L.pending loader.old) (L.standing loader.old) (L.patience loader.old) self.old) (text_of url) }
+            (L.pending loader.old) (L.standing loader.old) (L.patience loader.old) self.old) (text_of url) }
         requires loads { loadable (text_of url) ≡ true }
         ensures deals { Deals Analysed
             (at (L.asked loader.old) (L.log loader.old) (L.told loader.old)
-                (L.pending loader.old) (L.standing loader.old) (L.patience loader.old) self.old)
+            (L.pending loader.old) (L.standing loader.old) (L.patience loader.old) self.old)
             (at (L.asked loader.new) (L.log loader.new) (L.told loader.new)
-                (L.pending loader.new) (L.standing loader.new) (L.patience loader.new) self.new) result }
+            (L.pending loader.new) (L.standing loader.new) (L.patience loader.new) self.new) result }
         ensures kept { IsKeptAt Analysed
             (at (L.asked loader.new) (L.log loader.new) (L.told loader.new)
-                (L.pending loader.new) (L.standing loader.new) (L.patience loader.new) self.new) }
+            (L.pending loader.new) (L.standing loader.new) (L.patience loader.new) self.new) }
         ensures asks { OnlyAsks
             (at (L.asked loader.old) (L.log loader.old) (L.told loader.old)
-                (L.pending loader.old) (L.standing loader.old) (L.patience loader.old) self.old)
+            (L.pending loader.old) (L.standing loader.old) (L.patience loader.old) self.old)
             (at (L.asked loader.new) (L.log loader.new) (L.told loader.new)
-                (L.pending loader.new) (L.standing loader.new) (L.patience loader.new) self.new) }
+            (L.pending loader.new) (L.standing loader.new) (L.patience loader.new) self.new) }
     {
         let _limit = self.reaching.limit;
         match loader.start(&url) {

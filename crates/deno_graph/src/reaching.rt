@@ -159,7 +159,12 @@ impl Reaching {
     }
 
     /// Takes an answer for a specifier that waits, and refuses any other.
-    pub fn take(&mut self, alloc: Global, specifier: Url, answer: LoadAnswer) -> Result<(), BuildError>
+    pub fn take(
+        &mut self,
+        alloc: Global,
+        specifier: Url,
+        answer: LoadAnswer,
+    ) -> Result<(), BuildError>
         requires room { length self.old.reached.entries ≤ self.old.limit }
         ensures takes { Takes specifier answer self.old self.new result }
         ensures limit { self.new.limit ≡ self.old.limit }
