@@ -1,6 +1,6 @@
 -- The steps of a builder keep what its slots say.
-use Rattle.std.proofs.Common.{◌≡◌, ◌⊎◌, inl, inr, ◌≤◌, ◌<◌, ℕ, ◌+◌, Bool, true, false, cond, List, [], ◌∷◌, ◌++◌, length, refl, sym, ◌∙◌, ap, subst, arith, rules, Option, Some, None, append-nil, append_assoc}
-use Rattle.std.specs.Prelude.{bytes_eq, ◌||◌}
+use Rattle.std.proofs.Common.{◌≡◌, ◌⊎◌, inl, inr, Bool, true, false, List, [], ◌∷◌, ◌++◌, refl, sym, ◌∙◌, ap, subst, Option, Some, None, append-nil, append_assoc}
+use Rattle.std.specs.Prelude.{bytes_eq}
 use Rattle.std.specs.List.{IsDistinct, AllByRecursion}
 use Rattle.std.specs.Cmp.Lexicographic.{nat_list_eq_equiv, same_text}
 use Rattle.graph_entry.specs.declared.answer.LoadAnswer.{LoadAnswer}
@@ -9,9 +9,9 @@ use Rattle.graph_entry.specs.Specifier.{loadable}
 use Rattle.graph_entry.specs.Entry.{targets}
 use Rattle.deno_graph.specs.declared.slot.Slot.{Slot}
 use Rattle.deno_graph.specs.declared.slot.Slot.TheVariants.{Queued, Asked, Done}
-use Rattle.deno_graph.specs.Reach.{Specifier, Log, Meaning, answer_to, has, IsEntry, IsReached, IsAnswered}
+use Rattle.deno_graph.specs.Reach.{Specifier, Log, Meaning, answer_to, has, IsEntry, IsReached}
 use Rattle.deno_graph.specs.Slots.{Slots, HasGrown}
-use Rattle.deno_graph.specs.Builder.{IsOutstanding, IsAwaited, IsOrderlyAfter, IsOrderly}
+use Rattle.deno_graph.specs.Builder.{IsOutstanding, IsAwaited, IsOrderlyAfter}
 use Rattle.deno_graph.specs.Building.{IsBuilding, no_one, this_one, IsWritten}
 use Rattle.deno_graph.proofs.ReachLemmas.{answer_kept, answer_other, entry_grows, reached_grows}
 use Rattle.deno_graph.proofs.SlotsLemmas.{has_append, has_left, has_right, has_one, has_same}

@@ -7,3 +7,4 @@ pub mod ReachingLemmas
 pub mod BuildingLemmas
 pub mod ProgressLemmas
 pub mod ResultLemmas
+pub mod Theorems

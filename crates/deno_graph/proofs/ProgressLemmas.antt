@@ -1,5 +1,5 @@
 -- The steps of a builder beside its loader's data.
-use Rattle.std.proofs.Common.{◌≡◌, ◌⊎◌, inl, inr, ◌≤◌, ◌<◌, ◌-◌, zero, suc, ℕ, ◌+◌, Bool, true, false, cond, List, [], ◌∷◌, ◌++◌, length, map, take, drop, refl, sym, ◌∙◌, ap, subst, arith, rules, Option, Some, None, Result, Ok, Err, append-nil, append_assoc, length-append}
+use Rattle.std.proofs.Common.{◌≡◌, ◌⊎◌, inl, inr, ◌≤◌, ◌<◌, ◌-◌, ℕ, ◌+◌, Bool, true, false, cond, List, [], ◌∷◌, ◌++◌, length, take, drop, refl, sym, ◌∙◌, ap, subst, arith, Option, Some, None, Result, Ok, Err, append-nil, append_assoc, length-append}
 use Rattle.std.specs.Prelude.{bytes_eq, ◌||◌, is_some, IsSome}
 use Rattle.std.specs.List.{IsDistinct, list_any}
 use Rattle.std.proofs.lemmas.Map.Made.{length-le_from_is_member, is_some-lookup}
@@ -10,7 +10,7 @@ use Rattle.deno_graph.specs.declared.error.BuildError.{BuildError}
 use Rattle.deno_graph.specs.declared.error.BuildError.TheVariants as error
 use Rattle.std.specs.Map.{keys_of}
 use Rattle.std.specs.Cmp.Lexicographic.{nat_list_eq_equiv}
-use Rattle.std.proofs.lemmas.List.{drop-append-le, take-append-le, map-append}
+use Rattle.std.proofs.lemmas.List.{drop-append-le, map-append}
 use Rattle.std.proofs.Common.{length-drop}
 use Rattle.std.proofs.lemmas.Map.Keys.{IsDistinct-push, IsDistinct-cons}
 use Rattle.url.specs.Parts.{Parts}
@@ -21,19 +21,18 @@ use Rattle.graph_entry.specs.Entry.{targets, unanswered}
 use Rattle.deno_graph.specs.declared.slot.Slot.{Slot}
 use Rattle.deno_graph.specs.declared.slot.Slot.TheVariants.{Queued, Asked, Done}
 use Rattle.deno_graph.specs.declared.reaching.Reaching.{Reaching}
-use Rattle.deno_graph.specs.declared.progress.Progress.{Progress}
-use Rattle.deno_graph.specs.Reach.{Specifier, Log, Answers, Meaning, answer_to, has, IsEntry, IsReached, IsAnswered, Leads, IsFunctional}
+use Rattle.deno_graph.specs.Reach.{Specifier, Log, Answers, Meaning, answer_to, has, IsEntry, IsReached, Leads, IsFunctional}
 use Rattle.deno_graph.specs.Graph.{texts}
-use Rattle.deno_graph.specs.Builder.{gained, earlier, IsAsking, IsKept, IsToldLog, IsTooMany, SomeOutstanding, EachAnswered, IsOrderly, IsOrderlyAfter, IsUnawaitedOver}
-use Rattle.deno_graph.specs.Slots.{Slots, HasGrown, IsOverfull}
-use Rattle.deno_graph.specs.Building.{IsBuilding, no_one, this_one, IsWritten}
+use Rattle.deno_graph.specs.Builder.{gained, IsKept, IsToldLog, IsTooMany, SomeOutstanding, EachAnswered, IsOrderly, IsOrderlyAfter, IsUnawaitedOver}
+use Rattle.deno_graph.specs.Slots.{Slots, IsOverfull}
+use Rattle.deno_graph.specs.Building.{IsBuilding, no_one, this_one}
 use Rattle.deno_graph.specs.Reaching.{slots_of, IsMarked, IsFilled, HasReached, Fills, Grows}
 use Rattle.deno_graph.specs.declared.reaching.GrowError.{GrowError}
 use Rattle.deno_graph.specs.declared.reaching.GrowError.TheVariants.{TooMany, OutOfMemory}
 use Rattle.deno_graph.specs.Loader.{NeverRises, Falls}
-use Rattle.deno_graph.specs.Progress.{At, at, IsLive, IsInHand, starts_at, own_asked, own_log, slots_at, todo_at, IsKeptAt, IsRooted, Deals, Adds, GoesOnAt, OnlyAsks, Takes, Turns, Runs, Begins}
-use Rattle.deno_graph.proofs.ReachLemmas.{IsWithin, reached_least, entry_once, answer_here, reached_start, reached_on, reached_grows, answer_kept, answer_later}
-use Rattle.deno_graph.proofs.SlotsLemmas.{has_append, has_one, has_left, has_same, none_equal}
+use Rattle.deno_graph.specs.Progress.{At, at, IsLive, IsInHand, starts_at, own_asked, own_log, slots_at, todo_at, IsKeptAt, Deals, Adds, GoesOnAt, OnlyAsks, Takes, Turns, Runs, Begins}
+use Rattle.deno_graph.proofs.ReachLemmas.{reached_least, entry_once, answer_here, reached_start, reached_on, reached_grows, answer_kept, answer_later}
+use Rattle.deno_graph.proofs.SlotsLemmas.{has_append, has_one, has_same, none_equal}
 use Rattle.deno_graph.proofs.BuildingLemmas.{text_same, written_some, building_popped, popped_slot, building_asked, building_answered, building_grown, building_filled}
 
 -- ---- what a list gained

@@ -1,5 +1,5 @@
 -- Reaching one specifier after another.
-use Rattle.std.proofs.Common.{◌≡◌, ◌⊎◌, inl, inr, ◌≤◌, ◌<◌, zero, suc, ℕ, ◌+◌, Bool, true, false, cond, List, [], ◌∷◌, ◌++◌, length, map, take, get_or, refl, sym, ◌∙◌, ap, arith, rules, Option, Some, None, Result, Ok, Err, add-one}
+use Rattle.std.proofs.Common.{◌≡◌, ◌⊎◌, inl, inr, ◌≤◌, ◌<◌, zero, suc, ℕ, ◌+◌, Bool, true, false, List, [], ◌∷◌, ◌++◌, length, take, get_or, refl, ◌∙◌, arith, Option, Some, None, Err, add-one}
 use Rattle.std.specs.Prelude.{bytes_eq, ◌||◌, option_to_list}
 use Rattle.std.specs.List.{filter_map, cons_option}
 use Rattle.std.proofs.lemmas.List.{map_more}
@@ -11,8 +11,7 @@ use Rattle.deno_graph.specs.declared.reaching.GrowError.TheVariants.{TooMany, Ou
 use Rattle.deno_graph.specs.declared.slot.Slot.{Slot}
 use Rattle.deno_graph.specs.Reach.{Specifier, has}
 use Rattle.deno_graph.specs.Graph.{texts}
-use Rattle.deno_graph.specs.ByText.{value_at}
-use Rattle.deno_graph.specs.Slots.{HasGrown, IsOverfull}
+use Rattle.deno_graph.specs.Slots.{IsOverfull}
 use Rattle.deno_graph.specs.Reaching.{slots_of, HasReached, Grows}
 use Rattle.deno_graph.proofs.SlotsLemmas.{grown_none, grown_more, overfull_more}
 

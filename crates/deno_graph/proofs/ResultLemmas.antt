@@ -1,9 +1,9 @@
 -- What a builder has when a run ends.
-use Rattle.std.proofs.Common.{◌≡◌, ◌⊎◌, inl, inr, ◌≤◌, ◌<◌, ◌-◌, ℕ, ◌+◌, Bool, true, false, cond, List, [], ◌∷◌, ◌++◌, length, map, take, drop, refl, sym, ◌∙◌, ap, subst, arith, rules, Option, Some, None, Result, Ok, Err, append-nil, append_assoc, length-append}
-use Rattle.std.specs.Prelude.{bytes_eq, ◌||◌, is_some, IsSome, option_map}
+use Rattle.std.proofs.Common.{◌≡◌, inl, inr, ◌≤◌, ◌<◌, ◌-◌, ℕ, ◌+◌, true, false, List, [], ◌∷◌, ◌++◌, length, map, take, refl, sym, ◌∙◌, ap, subst, arith, Option, Some, None, Result, Err, append-nil, append_assoc, length-append}
+use Rattle.std.specs.Prelude.{bytes_eq, is_some, option_map}
 use Rattle.std.specs.List.{IsDistinct}
 use Rattle.std.specs.List.Sorted.{IsStrictlySortedBy}
-use Rattle.std.specs.Map.{keys_of, lookup}
+use Rattle.std.specs.Map.{keys_of}
 use Rattle.std.proofs.lemmas.List.{take_all, length-map, take-append-le}
 use Rattle.std.proofs.Common.{length-take-le}
 use Rattle.std.proofs.lemmas.Map.Made.{lookup-map_values, length-le_from_is_member}
@@ -14,9 +14,9 @@ use Rattle.graph_entry.specs.Specifier.{text_of, loadable}
 use Rattle.deno_graph.specs.declared.slot.Slot.{Slot}
 use Rattle.deno_graph.specs.declared.slot.Slot.TheVariants.{Queued, Asked, Done}
 use Rattle.deno_graph.specs.Reach.{Specifier, Log, Meaning, answer_to, has, IsEntry, IsReached, IsReach, IsFunctional}
-use Rattle.deno_graph.specs.Graph.{texts, members_of, entry_of, IsGraph, IsAscending}
+use Rattle.deno_graph.specs.Graph.{texts, members_of, IsGraph, IsAscending}
 use Rattle.deno_graph.specs.ByText.{value_at}
-use Rattle.deno_graph.specs.Builder.{gained, earlier, IsAskedFor, EachAnswered, ReachesAtMost, IsOrderly, IsOrderlyAfter, IsAwaited, IsUnawaited, IsUnawaitedOver, IsNotYet, IsTooMany, SomeOutstanding, Building, starts, HasHistory}
+use Rattle.deno_graph.specs.Builder.{earlier, IsAskedFor, EachAnswered, ReachesAtMost, IsOrderly, IsOrderlyAfter, IsAwaited, IsUnawaited, IsUnawaitedOver, IsNotYet, IsTooMany, Building, starts, HasHistory}
 use Rattle.deno_graph.specs.declared.error.BuildError.{BuildError}
 use Rattle.deno_graph.specs.declared.error.BuildError.TheVariants as error
 use Rattle.deno_graph.specs.Progress.{At, IsLive, starts_at, own_asked, own_log, slots_at, IsThrough, IsPaused, IsUnasked, GoesOnAt, Adds, IsKeptAt}

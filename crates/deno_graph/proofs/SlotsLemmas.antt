@@ -1,7 +1,7 @@
 -- How slots grow.
-use Rattle.std.proofs.Common.{◌≡◌, ◌⊎◌, inl, inr, ◌≤◌, ◌<◌, suc, ℕ, ◌+◌, Bool, true, false, cond, List, [], ◌∷◌, ◌++◌, length, map, refl, sym, ◌∙◌, ap, subst, arith, rules, Option, Some, None, append-nil, length-append}
+use Rattle.std.proofs.Common.{◌≡◌, ◌⊎◌, inl, inr, suc, ℕ, ◌+◌, Bool, true, false, cond, List, [], ◌∷◌, ◌++◌, length, refl, sym, ◌∙◌, ap, arith, Option, Some, None, length-append}
 use Rattle.std.specs.Prelude.{bytes_eq, is_some, ◌||◌}
-use Rattle.std.specs.List.{IsDistinct, list_any, AllByRecursion}
+use Rattle.std.specs.List.{list_any, AllByRecursion}
 use Rattle.std.specs.Map.{keys_of}
 use Rattle.deno_graph.specs.ByText.{value_at, IsPut}
 use Rattle.deno_graph.specs.Graph.{texts}

@@ -1,5 +1,5 @@
 -- What holds of the slots and the worklist while a graph is built, over what this builder asked and was answered.
-use Rattle.std.specs.Prelude.{◌≡◌, ◌≤◌, ◌<◌, ◌+◌, ℕ, Bool, true, false, cond, List, [], ◌∷◌, ◌++◌, length, bytes_eq, Option, Some, None}
+use Rattle.std.specs.Prelude.{◌≡◌, Bool, true, false, cond, List, bytes_eq, Some, None}
 use Rattle.std.specs.List.{IsDistinct}
 use Rattle.graph_entry.specs.declared.answer.LoadAnswer.{LoadAnswer}
 use Rattle.graph_entry.specs.declared.entry.Entry.{Entry}
@@ -7,7 +7,7 @@ use Rattle.graph_entry.specs.Entry.{targets}
 use Rattle.deno_graph.specs.declared.slot.Slot.{Slot}
 use Rattle.deno_graph.specs.declared.slot.Slot.TheVariants.{Queued, Asked, Done}
 use Rattle.deno_graph.specs.Reach.{Specifier, Log, Meaning, answer_to, has, IsEntry, IsReached}
-use Rattle.deno_graph.specs.Slots.{Slots, HasGrown}
+use Rattle.deno_graph.specs.Slots.{Slots}
 use Rattle.deno_graph.specs.Builder.{IsOutstanding, IsOrderly}
 
 -- the slots say what was asked and answered, but for those in hand

@@ -1,5 +1,5 @@
 -- Entries of a map by specifiers, read by the specifiers' texts.
-use Rattle.std.specs.Prelude.{◌≡◌, ℕ, ◌+◌, cond, List, length, bytes_eq, Option, Some, is_some, if◌then◌else◌}
+use Rattle.std.specs.Prelude.{◌≡◌, ◌+◌, cond, List, length, bytes_eq, Option, Some, is_some, if◌then◌else◌}
 use Rattle.std.specs.Map.{lookup}
 use Rattle.url.specs.Parts.{Parts}
 use Rattle.graph_entry.specs.Specifier.{text_of}

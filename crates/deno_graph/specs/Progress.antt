@@ -1,5 +1,5 @@
 -- What holds of a builder that goes on, beside its loader's data.
-use Rattle.std.specs.Prelude.{◌≡◌, ◌⊎◌, ◌≤◌, ◌<◌, ◌+◌, ℕ, Bool, true, false, List, [], ◌∷◌, ◌++◌, length, Option, Some, None, Result, Ok, Err}
+use Rattle.std.specs.Prelude.{◌≡◌, ◌≤◌, ◌<◌, ◌+◌, ℕ, Bool, true, false, List, [], ◌∷◌, ◌++◌, length, Option, Some, None, Result, Ok, Err}
 use Rattle.url.specs.Parts.{Parts}
 use Rattle.graph_entry.specs.declared.answer.LoadAnswer.{LoadAnswer}
 use Rattle.graph_entry.specs.declared.entry.Entry.{Entry}
@@ -13,7 +13,7 @@ use Rattle.deno_graph.specs.declared.reaching.GrowError.{GrowError}
 use Rattle.deno_graph.specs.declared.reaching.GrowError.TheVariants as grow
 use Rattle.deno_graph.specs.declared.reaching.Reaching.{Reaching}
 use Rattle.deno_graph.specs.declared.progress.Progress.{Progress}
-use Rattle.deno_graph.specs.Reach.{Specifier, Log, Answers, Meaning, answer_to, has, IsFunctional}
+use Rattle.deno_graph.specs.Reach.{Specifier, Log, Answers, Meaning, has, IsFunctional}
 use Rattle.deno_graph.specs.Graph.{texts}
 use Rattle.deno_graph.specs.Loader.{HasRisen, NeverRises, Falls}
 use Rattle.deno_graph.specs.Builder.{gained, IsKept, IsOrderly, IsTooMany, IsUnawaitedOver, SomeOutstanding}

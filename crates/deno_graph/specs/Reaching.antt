@@ -1,5 +1,5 @@
 -- What reaching does to the slots and the worklist, and why it stops.
-use Rattle.std.specs.Prelude.{◌≡◌, ◌+◌, ◌≤◌, ℕ, List, length, Result, Ok, Err}
+use Rattle.std.specs.Prelude.{◌≡◌, ◌+◌, ◌≤◌, List, length, Result, Ok, Err}
 use Rattle.deno_graph.specs.declared.reaching.Reaching.{Reaching}
 use Rattle.deno_graph.specs.declared.reaching.GrowError.{GrowError}
 use Rattle.deno_graph.specs.declared.reaching.GrowError.TheVariants.{TooMany, OutOfMemory}

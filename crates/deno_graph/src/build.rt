@@ -3,7 +3,7 @@ ghost use Rattle.std.specs.Prelude.{◌≡◌, ◌≤◌, ℕ, [], true, false, 
 ghost use Rattle.url.specs.Parts.{Parts};
 ghost use Rattle.graph_entry.specs.Specifier.{text_of};
 ghost use Rattle.graph_entry.specs.Analysed.{Analysed};
-ghost use Rattle.deno_graph.specs.Reach.{answer_to, IsFunctional};
+ghost use Rattle.deno_graph.specs.Reach.{answer_to};
 ghost use Rattle.deno_graph.specs.Graph.{IsGraph};
 ghost use Rattle.deno_graph.specs.Builder.{starts, new_building, IsOrderly, IsAsking, IsAskedFor, EachAnswered, IsToldLog, HasHistory, IsNotYet, IsUnawaited, IsTooMany, IsComplete, OnlyPlain};
 
@@ -99,20 +99,20 @@ impl<L: Loader + Drop> GraphBuild<L> {
     /// After `NotYet` it may be polled again; after any other answer it is finished.
     pub fn poll(&mut self) -> Result<ModuleGraph, BuildError>
         // The graph is that of the roots and the answers.
-        ensures graph { IsFunctional Analysed → IfOk result (λ g.
+        ensures graph { IfOk result (λ g.
             IsGraph Analysed (starts self.old.inner) (answer_to self.new.inner.log) g.entries) }
         ensures roots { IfOk result (λ g. g.roots ≡ self.old.inner.roots) }
         // Each answer was awaited when it came; what was asked is what the graph needs, and is answered.
         ensures orderly { OnOk result (IsOrderly Analysed (starts self.old.inner) self.new.inner.log) }
-        ensures asked { IsFunctional Analysed → OnOk result
+        ensures asked { OnOk result
             (IsAskedFor Analysed (starts self.old.inner) self.new.inner.asked self.new.inner.log) }
         ensures answered { OnOk result (EachAnswered self.new.inner.asked self.new.inner.log) }
         ensures limit { IfOk result (λ g. length g.entries ≤ self.old.inner.limit) }
         ensures pending { OnOk result (self.new.inner.pending ≡ self.old.inner.pending) }
         // Why there is no graph.
-        ensures not_yet { IsFunctional Analysed → result ≡ Err BuildError.NotYet →
+        ensures not_yet { result ≡ Err BuildError.NotYet →
             IsNotYet Analysed self.old.inner self.new.inner }
-        ensures unasked { IsFunctional Analysed → (s : Parts) → result ≡ Err (BuildError.UnaskedAnswer s) →
+        ensures unasked { (s : Parts) → result ≡ Err (BuildError.UnaskedAnswer s) →
             IsUnawaited Analysed 1 self.old.inner self.new.inner (text_of s) }
         ensures unasked_pending { (s : Parts) → result ≡ Err (BuildError.UnaskedAnswer s) →
             self.new.inner.pending ≡ self.old.inner.pending }
@@ -120,7 +120,7 @@ impl<L: Loader + Drop> GraphBuild<L> {
             IsTooMany Analysed (starts self.old.inner) self.new.inner.log self.old.inner.limit seen }
         ensures finished { (result ≡ Err BuildError.Finished) ↔ (self.old.inner.finished ≡ true) }
         // And when there is one, unless memory runs out.
-        ensures complete { IsFunctional Analysed → IsComplete Analysed self.old.inner self.new.inner result }
+        ensures complete { IsComplete Analysed self.old.inner self.new.inner result }
         // On every answer.
         ensures asking { IsAsking Analysed (starts self.old.inner) self.new.inner.asked self.new.inner.log }
         ensures told { IsToldLog (L.told self.new.inner.loader) self.new.inner.log }
@@ -156,25 +156,25 @@ impl<L: Loader + Drop> GraphBuild<L> {
 
 impl<L: Loader + Drop> Inner<L> {
     fn poll(&mut self) -> Result<ModuleGraph, BuildError>
-        ensures graph { IsFunctional Analysed → IfOk result (λ g.
+        ensures graph { IfOk result (λ g.
             IsGraph Analysed (starts self.old) (answer_to self.new.log) g.entries) }
         ensures roots { IfOk result (λ g. g.roots ≡ self.old.roots) }
         ensures orderly { OnOk result (IsOrderly Analysed (starts self.old) self.new.log) }
-        ensures asked { IsFunctional Analysed → OnOk result
+        ensures asked { OnOk result
             (IsAskedFor Analysed (starts self.old) self.new.asked self.new.log) }
         ensures answered { OnOk result (EachAnswered self.new.asked self.new.log) }
         ensures limit { IfOk result (λ g. length g.entries ≤ self.old.limit) }
         ensures pending { OnOk result (self.new.pending ≡ self.old.pending) }
-        ensures not_yet { IsFunctional Analysed → result ≡ Err BuildError.NotYet →
+        ensures not_yet { result ≡ Err BuildError.NotYet →
             IsNotYet Analysed self.old self.new }
-        ensures unasked { IsFunctional Analysed → (s : Parts) → result ≡ Err (BuildError.UnaskedAnswer s) →
+        ensures unasked { (s : Parts) → result ≡ Err (BuildError.UnaskedAnswer s) →
             IsUnawaited Analysed 1 self.old self.new (text_of s) }
         ensures unasked_pending { (s : Parts) → result ≡ Err (BuildError.UnaskedAnswer s) →
             self.new.pending ≡ self.old.pending }
         ensures too_many { (seen : ℕ) → result ≡ Err (BuildError.TooManyModules seen) →
             IsTooMany Analysed (starts self.old) self.new.log self.old.limit seen }
         ensures finished { (result ≡ Err BuildError.Finished) ↔ (self.old.finished ≡ true) }
-        ensures complete { IsFunctional Analysed → IsComplete Analysed self.old self.new result }
+        ensures complete { IsComplete Analysed self.old self.new result }
         ensures asking { IsAsking Analysed (starts self.old) self.new.asked self.new.log }
         ensures told { IsToldLog (L.told self.new.loader) self.new.log }
         ensures telling { L.told self.new.loader ≡ L.told self.old.loader }

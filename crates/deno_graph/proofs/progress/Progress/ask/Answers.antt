@@ -1,4 +1,4 @@
-use Rattle.std.proofs.Common.{◌+◌, length, refl}
+use Rattle.std.proofs.Common.{refl}
 use Rattle.graph_entry.specs.Analysed.{Analysed}
 use Rattle.deno_graph.proofs.ProgressLemmas.{live_asked, kept_asked}
 use Rattle.deno_graph.proofs.progress.Progress.ask.Goals as goal

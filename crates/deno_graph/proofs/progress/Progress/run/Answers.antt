@@ -1,5 +1,4 @@
 use Rattle.std.proofs.Common.{◌∙◌}
-use Rattle.graph_entry.specs.Analysed.{Analysed}
 use Rattle.deno_graph.specs.Progress.{at}
 use Rattle.deno_graph.proofs.ProgressLemmas.{goes_more, errs_after, runs_err}
 use Rattle.deno_graph.proofs.progress.Progress.run.Goals as goal

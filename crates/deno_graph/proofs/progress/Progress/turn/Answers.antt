@@ -1,4 +1,3 @@
-use Rattle.graph_entry.specs.Analysed.{Analysed}
 use Rattle.deno_graph.specs.Progress.{at}
 use Rattle.deno_graph.proofs.ProgressLemmas.{turns_after}
 use Rattle.deno_graph.proofs.progress.Progress.turn.Goals as goal

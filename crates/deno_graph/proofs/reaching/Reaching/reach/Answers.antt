@@ -1,4 +1,4 @@
-use Rattle.std.proofs.Common.{◌∙◌, sym, arith, length}
+use Rattle.std.proofs.Common.{◌∙◌, sym, arith}
 use Rattle.graph_entry.specs.Specifier.{text_of}
 use Rattle.deno_graph.specs.ByText.{value_at}
 use Rattle.deno_graph.proofs.SlotsLemmas.{overfull_here, grown_listed, counted_put, length_push, none_from_test}

@@ -1,4 +1,4 @@
-use Rattle.std.proofs.Common.{◌≡◌, ◌∙◌, true, sym, ap, length, take, ◌∷◌, [], ◌++◌, ◌+◌, List}
+use Rattle.std.proofs.Common.{◌∙◌, ap, take, ◌∷◌, [], ◌+◌, List}
 use Rattle.graph_entry.specs.Specifier.{text_of}
 use Rattle.deno_graph.specs.Reach.{Specifier, has}
 use Rattle.deno_graph.specs.Graph.{texts}

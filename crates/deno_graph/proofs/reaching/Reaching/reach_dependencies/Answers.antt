@@ -1,4 +1,4 @@
-use Rattle.std.proofs.Common.{◌≡◌, ◌∙◌, true, sym, ap, length, take, ◌∷◌, [], ◌++◌, ◌+◌, List}
+use Rattle.std.proofs.Common.{◌∙◌, ap, take, ◌+◌, List}
 use Rattle.std.specs.Prelude.{option_to_list}
 use Rattle.std.specs.List.{filter_map}
 use Rattle.graph_entry.specs.Entry.{target_of}
