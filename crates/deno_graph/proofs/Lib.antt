@@ -1,3 +1,10 @@
 pub mod EntriesLemmas
 pub mod BuilderLemmas
 pub mod ReachLemmas
+pub mod ByTextLemmas
+pub mod SlotsLemmas
+pub mod ReachingLemmas
+pub mod BuildingLemmas
+pub mod ProgressLemmas
+pub mod ResultLemmas
+pub mod Theorems

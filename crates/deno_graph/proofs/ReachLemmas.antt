@@ -4,11 +4,7 @@ use Rattle.std.specs.Prelude.{bytes_eq}
 use Rattle.std.specs.Cmp.Lexicographic.{nat_list_eq_equiv}
 use Rattle.graph_entry.specs.declared.answer.LoadAnswer.{LoadAnswer}
 use Rattle.graph_entry.specs.declared.entry.Entry.{Entry}
-use Rattle.deno_graph.specs.Reach.{Specifier, Answers, Log, Meaning, answer_to, has, IsEntry, Leads, IsWay, IsReached}
-
--- the analysis gives at most one entry
-abbrev pub IsFunctional : Meaning → Type 0
-IsFunctional meaning = (s : Specifier) (a : LoadAnswer) (e f : Entry) → meaning s a e → meaning s a f → e ≡ f
+use Rattle.deno_graph.specs.Reach.{IsFunctional, Specifier, Answers, Log, Meaning, answer_to, has, IsEntry, Leads, IsWay, IsReached}
 
 -- each answer of the first is an answer of the second
 abbrev pub IsWithin : Answers → Answers → Type 0

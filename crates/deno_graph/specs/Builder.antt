@@ -148,6 +148,12 @@ pub record IsNotYet (meaning : Meaning) {L : Type 0} (old new : Building L) : Ty
   pub stood_open : SomeOutstanding (take (new.standing.0 - length new.asked_before) new.asked) new.log
   pub patience : length old.asked_before ≡ length old.log_before → Falls old.patience new.patience
 
+-- no answer for the specifier was awaited: it had one, or it isn't a loadable specifier that is reached
+abbrev pub IsUnawaitedOver : Meaning → ℕ → List Specifier → Log → Specifier → Type 0
+IsUnawaitedOver meaning batch starts before s =
+    IsSome (answer_to before s)
+    ⊎ (IsReached meaning starts (answer_to (take (length before - (batch - 1)) before)) s → loadable s ≡ true → ⊥)
+
 -- the last answer wasn't awaited when it came; `batch` answers were taken before any of them was analysed
 pub record IsUnawaited (meaning : Meaning) (batch : ℕ) {L : Type 0} (old new : Building L) (s : Specifier) : Type 0 where
   pub before : Log
@@ -156,9 +162,7 @@ pub record IsUnawaited (meaning : Meaning) (batch : ℕ) {L : Type 0} (old new :
   pub gained : GoesOn old.log before
   pub orderly : IsOrderly meaning (starts old) before
   pub waits : SomeOutstanding new.asked before
-  pub unawaited :
-      IsSome (answer_to before s)
-      ⊎ (IsReached meaning (starts old) (answer_to (take (length before - (batch - 1)) before)) s → loadable s ≡ true → ⊥)
+  pub unawaited : IsUnawaitedOver meaning batch (starts old) before s
 
 -- counting stopped at the first reached specifier above the limit
 pub record IsTooMany (meaning : Meaning) (starts : List Specifier) (log : Log) (limit seen : ℕ) : Type 0 where

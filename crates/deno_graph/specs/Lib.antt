@@ -8,3 +8,10 @@ pub mod Builder
 pub use Rattle.graph_entry.specs.Specifier
 pub use Rattle.graph_entry.specs.Analysed
 pub use Rattle.graph_entry.specs.Entry
+-- ---- what the crate's functions promise each other
+pub mod ByText
+pub mod Slots
+pub mod Building
+pub mod Reaching
+pub mod Progress
+pub mod Inside

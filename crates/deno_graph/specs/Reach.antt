@@ -28,6 +28,10 @@ answer_to log s = lookup (bytes_eq s) log
 abbrev pub Meaning : Type 1
 Meaning = Specifier → LoadAnswer → Entry → Type 0
 
+-- an answer for a specifier means at most one entry
+abbrev pub IsFunctional : Meaning → Type 0
+IsFunctional meaning = (s : Specifier) (a : LoadAnswer) (e f : Entry) → meaning s a e → meaning s a f → e ≡ f
+
 -- the list holds the specifier
 abbrev pub has : List Specifier → Specifier → Bool
 has members s = list_any (bytes_eq s) members

@@ -8,9 +8,12 @@ ghost use Rattle.deno_graph.specs.Graph.{IsGraph};
 ghost use Rattle.deno_graph.specs.Builder.{starts, new_building, IsOrderly, IsAsking, IsAskedFor, EachAnswered, IsToldLog, HasHistory, IsNotYet, IsUnawaited, IsTooMany, IsComplete, OnlyPlain};
 
 use crate::error::BuildError;
+use crate::finish::finish;
 use crate::graph::ModuleGraph;
 use crate::loader::Loader;
 use crate::options::BuildOptions;
+use crate::progress::Progress;
+use crate::reaching::Reaching;
 use base::Items;
 use graph_entry::GraphKind;
 use std::alloc::{AllocError, Global};
@@ -26,37 +29,36 @@ pub struct GraphBuild<L: Loader + Drop> {
 
 #[derive(Drop)]
 struct Inner<L: Loader + Drop> {
+    alloc: Global,
     loader: L,
-    roots: Items<Url>,
-    limit: usize,
-    asked: usize,
-    taken: usize,
+    progress: Progress,
     finished: bool,
 }
 
 impl<L: Loader + Drop> Model for Inner<L> {
-    ghost use Rattle.std.specs.Prelude.{length, take, drop, ◌-◌, ◌≤◌};
     ghost use Rattle.graph_entry.specs.Analysed.{Analysed};
-    ghost use Rattle.deno_graph.specs.Graph.{texts};
-    ghost use Rattle.deno_graph.specs.Builder.{Building, gained, earlier, IsKept};
+    ghost use Rattle.deno_graph.specs.Builder.{Building, gained, earlier};
+    ghost use Rattle.deno_graph.specs.Progress.{at};
+    ghost use Rattle.deno_graph.specs.Inside.{IsInside};
 
     ghost Value = { Building L };
 
     ghost view = { λ b. record {
       loader = b.loader;
-      roots = b.roots;
-      limit = b.limit;
-      asked = gained b.asked (L.asked b.loader);
-      log = gained b.taken (L.log b.loader);
-      asked_before = earlier b.asked (L.asked b.loader);
-      log_before = earlier b.taken (L.log b.loader);
+      roots = b.progress.roots;
+      limit = b.progress.reaching.limit;
+      asked = gained b.progress.asked (L.asked b.loader);
+      log = gained b.progress.taken (L.log b.loader);
+      asked_before = earlier b.progress.asked (L.asked b.loader);
+      log_before = earlier b.progress.taken (L.log b.loader);
       pending = L.pending b.loader;
       standing = L.standing b.loader;
       patience = L.patience b.loader;
       finished = b.finished;
     } };
 
-    ghost invariant = { λ b. IsKept Analysed (texts b.roots) (L.asked b.loader) (L.log b.loader) (L.told b.loader) b.asked b.taken };
+    ghost invariant = { λ b. IsInside Analysed (at (L.asked b.loader) (L.log b.loader) (L.told b.loader)
+        (L.pending b.loader) (L.standing b.loader) (L.patience b.loader) b.progress) b.finished };
 }
 
 impl<L: Loader + Drop> GraphBuild<L> {
@@ -71,7 +73,6 @@ impl<L: Loader + Drop> GraphBuild<L> {
         ensures { IfOk result (λ b. b.inner ≡ new_building roots options.limit loader (L.asked loader)
             (L.log loader) (L.pending loader) (L.standing loader) (L.patience loader)) }
     {
-        let _ = alloc;
         let BuildOptions {
             kind: _,
             limit,
@@ -80,11 +81,15 @@ impl<L: Loader + Drop> GraphBuild<L> {
         } = options;
         Ok(GraphBuild {
             inner: Inner {
+                alloc,
                 loader,
-                roots,
-                limit,
-                asked: 0,
-                taken: 0,
+                progress: Progress {
+                    roots,
+                    reaching: Reaching::new(alloc, limit),
+                    asked: 0,
+                    taken: 0,
+                    begun: false,
+                },
                 finished: false,
             },
         })
@@ -140,11 +145,9 @@ impl<L: Loader + Drop> GraphBuild<L> {
     {
         let GraphBuild { inner } = self;
         let Inner {
+            alloc: _,
             loader,
-            roots: _,
-            limit: _,
-            asked: _,
-            taken: _,
+            progress: _,
             finished: _,
         } = inner;
         loader
@@ -183,6 +186,25 @@ impl<L: Loader + Drop> Inner<L> {
             return Err(BuildError::Finished);
         }
         self.finished = true;
-        Err(BuildError::OutOfMemory)
+        match self.progress.run(self.alloc, &mut self.loader) {
+            Ok(()) => {
+                match finish(
+                    self.alloc,
+                    self.progress.roots.as_slice(),
+                    &mut self.progress.reaching.reached,
+                ) {
+                    Ok(graph) => return Ok(graph),
+                    Err(_) => return Err(BuildError::OutOfMemory),
+                }
+            }
+            Err(BuildError::NotYet) => {
+                self.finished = false;
+                let _count = self.progress.reaching.reached.len();
+                Err(BuildError::NotYet)
+            }
+            Err(BuildError::TooManyModules { seen }) => Err(BuildError::TooManyModules { seen }),
+            Err(BuildError::UnaskedAnswer(specifier)) => Err(BuildError::UnaskedAnswer(specifier)),
+            Err(BuildError::OutOfMemory | BuildError::Finished) => Err(BuildError::OutOfMemory),
+        }
     }
 }

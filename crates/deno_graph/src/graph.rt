@@ -32,6 +32,15 @@ impl Model for ModuleGraph {
 }
 
 impl ModuleGraph {
+    /// A graph of entries in the order of their specifiers.
+    pub(crate) fn new(roots: Items<Url>, entries: Items<(Url, Entry)>) -> ModuleGraph
+        requires { IsAscending entries }
+        ensures roots { result.roots ≡ roots }
+        ensures entries { result.entries ≡ entries }
+    {
+        ModuleGraph { roots, entries }
+    }
+
     /// The roots as they were handed in.
     pub fn roots(&self) -> &[Url]
         ensures { result.now ≡ self.now.roots }

@@ -10,11 +10,16 @@
 #![tactic(auto)]
 
 mod build;
+mod by_text;
 mod error;
+mod finish;
 mod graph;
 mod loader;
 mod memory_loader;
 mod options;
+mod progress;
+mod reaching;
+mod slot;
 
 pub use build::GraphBuild;
 pub use error::BuildError;

@@ -1,0 +1,22 @@
+use Rattle.std.proofs.Common.{◌≡◌, ◌-◌, true}
+use Rattle.graph_entry.specs.Analysed.{Analysed}
+use Rattle.deno_graph.specs.Progress.{at, IsLive, GoesOnAt}
+use Rattle.deno_graph.proofs.progress.Progress.run.Given as goal
+
+-- the builder goes on, and the pending count is what it was
+abbrev pub invariant-turns : goal.invariant-turns
+invariant-turns g l = record {
+  live : IsLive Analysed (at (g.L.Loader.asked l.loader) (g.L.Loader.log l.loader) (g.L.Loader.told l.loader)
+      (g.L.Loader.pending l.loader) (g.L.Loader.standing l.loader) (g.L.Loader.patience l.loader) l.self);
+  begun : l.self.begun ≡ true;
+  goes : GoesOnAt
+      (at (g.L.Loader.asked l.fn.loader) (g.L.Loader.log l.fn.loader) (g.L.Loader.told l.fn.loader)
+      (g.L.Loader.pending l.fn.loader) (g.L.Loader.standing l.fn.loader) (g.L.Loader.patience l.fn.loader) l.fn.self)
+      (at (g.L.Loader.asked l.loader) (g.L.Loader.log l.loader) (g.L.Loader.told l.loader)
+      (g.L.Loader.pending l.loader) (g.L.Loader.standing l.loader) (g.L.Loader.patience l.loader) l.self);
+  pending : g.L.Loader.pending l.loader ≡ g.L.Loader.pending l.fn.loader;
+}
+
+-- the answers that can still be taken
+abbrev pub decreases-turns : goal.decreases-turns
+decreases-turns g l = l.self.reaching.limit - l.self.taken

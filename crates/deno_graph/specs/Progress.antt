@@ -1,0 +1,213 @@
+-- What holds of a builder that goes on, beside its loader's data.
+use Rattle.std.specs.Prelude.{◌≡◌, ◌≤◌, ◌<◌, ◌+◌, ℕ, Bool, true, false, List, [], ◌∷◌, ◌++◌, length, Option, Some, None, Result, Ok, Err}
+use Rattle.url.specs.Parts.{Parts}
+use Rattle.graph_entry.specs.declared.answer.LoadAnswer.{LoadAnswer}
+use Rattle.graph_entry.specs.declared.entry.Entry.{Entry}
+use Rattle.graph_entry.specs.Specifier.{text_of}
+use Rattle.graph_entry.specs.Entry.{targets}
+use Rattle.graph_entry.specs.Analysed.{Analysed}
+use Rattle.deno_graph.specs.declared.error.BuildError.{BuildError}
+use Rattle.deno_graph.specs.declared.error.BuildError.TheVariants as error
+use Rattle.deno_graph.specs.declared.slot.Slot.TheVariants.{Queued, Asked}
+use Rattle.deno_graph.specs.declared.reaching.GrowError.{GrowError}
+use Rattle.deno_graph.specs.declared.reaching.GrowError.TheVariants as grow
+use Rattle.deno_graph.specs.declared.reaching.Reaching.{Reaching}
+use Rattle.deno_graph.specs.declared.progress.Progress.{Progress}
+use Rattle.deno_graph.specs.Reach.{Specifier, Log, Answers, Meaning, has, IsFunctional}
+use Rattle.deno_graph.specs.Graph.{texts}
+use Rattle.deno_graph.specs.Loader.{HasRisen, NeverRises, Falls}
+use Rattle.deno_graph.specs.Builder.{gained, IsKept, IsOrderly, IsTooMany, IsUnawaitedOver, SomeOutstanding}
+use Rattle.deno_graph.specs.Slots.{Slots, IsOverfull}
+use Rattle.deno_graph.specs.Building.{IsBuilding, no_one, this_one}
+use Rattle.deno_graph.specs.Reaching.{slots_of, IsFilled}
+
+-- a loader's data, and how far the builder is
+pub record At : Type 0 where
+  pub asked : List Specifier
+  pub log : Log
+  pub told : Answers
+  pub pending : ℕ
+  pub standing : ℕ × ℕ
+  pub patience : Option ℕ
+  pub progress : Progress
+
+abbrev pub at : List Specifier → Log → Answers → ℕ → ℕ × ℕ → Option ℕ → Progress → At
+at asked0 log0 told0 pending0 standing0 patience0 progress0 = record {
+  asked = asked0;
+  log = log0;
+  told = told0;
+  pending = pending0;
+  standing = standing0;
+  patience = patience0;
+  progress = progress0;
+}
+
+-- the roots, and what this builder asked and was answered
+abbrev pub starts_at : At → List Specifier
+starts_at x = texts x.progress.roots
+
+abbrev pub own_asked : At → List Specifier
+own_asked x = gained x.progress.asked x.asked
+
+abbrev pub own_log : At → Log
+own_log x = gained x.progress.taken x.log
+
+-- the slots and the worklist
+abbrev pub slots_at : At → Slots
+slots_at x = slots_of x.progress.reaching
+
+abbrev pub todo_at : At → List Specifier
+todo_at x = texts x.progress.reaching.todo
+
+-- what holds at all times
+abbrev pub IsKeptAt : Meaning → At → Type 0
+IsKeptAt meaning x = IsKept meaning (starts_at x) x.asked x.log x.told x.progress.asked x.progress.taken
+
+-- the roots are reached once the builder has begun
+abbrev pub IsRooted : At → Type 0
+IsRooted x = x.progress.begun ≡ true → (t : Specifier) → has (starts_at x) t ≡ true → slots_at x t ≡ None → ⊥
+
+-- what holds while the builder goes on
+pub record IsLive (meaning : Meaning) (x : At) : Type 0 where
+  pub kept : IsKeptAt meaning x
+  pub behind : x.progress.taken ≤ x.progress.asked
+  pub counted : x.progress.asked + length x.progress.reaching.todo ≤ length x.progress.reaching.reached.entries
+  pub room : length x.progress.reaching.reached.entries ≤ x.progress.reaching.limit
+  pub building : IsBuilding meaning (starts_at x) no_one (own_asked x) (own_log x) (slots_at x) (todo_at x)
+  pub rooted : IsRooted x
+
+-- the same with one specifier in hand, which was taken from the worklist
+pub record IsInHand (meaning : Meaning) (x : At) (s : Specifier) : Type 0 where
+  pub kept : IsKeptAt meaning x
+  pub behind : x.progress.taken ≤ x.progress.asked
+  pub counted : x.progress.asked + length x.progress.reaching.todo + 1 ≤ length x.progress.reaching.reached.entries
+  pub room : length x.progress.reaching.reached.entries ≤ x.progress.reaching.limit
+  pub building : IsBuilding meaning (starts_at x) (this_one s) (own_asked x) (own_log x) (slots_at x) (todo_at x)
+  pub queued : slots_at x s ≡ Some Queued
+  pub fresh : has (own_asked x) s ≡ false
+  pub rooted : IsRooted x
+
+-- a list gained something at its end, and it is counted
+pub record Adds {A : Type 0} (old new : List A) (n m : ℕ) : Type 0 where
+  pub more : List A
+  pub is : new ≡ old ++ more
+  pub counted : m ≡ n + length more
+
+-- what every step keeps
+pub record GoesOnAt (old new : At) : Type 0 where
+  pub roots : new.progress.roots ≡ old.progress.roots
+  pub limit : new.progress.reaching.limit ≡ old.progress.reaching.limit
+  pub asked : Adds old.asked new.asked old.progress.asked new.progress.asked
+  pub log : Adds old.log new.log old.progress.taken new.progress.taken
+  pub told : new.told ≡ old.told
+  pub pending : old.pending ≤ new.pending
+  pub patience : NeverRises old.patience new.patience
+
+-- the loader was only asked
+pub record OnlyAsks (old new : At) : Type 0 where
+  pub goes : GoesOnAt old new
+  pub log : new.log ≡ old.log
+  pub taken : new.progress.taken ≡ old.progress.taken
+  pub begun : new.progress.begun ≡ old.progress.begun
+  pub pending : new.pending ≡ old.pending
+  pub standing : new.standing ≡ old.standing
+
+-- the next specifier of the worklist is dealt with, which makes the work less
+pub record IsOneOn (meaning : Meaning) (old new : At) : Type 0 where
+  pub live : IsLive meaning new
+  pub less : length new.progress.reaching.reached.entries + length old.progress.reaching.todo
+      ≡ length old.progress.reaching.reached.entries + length new.progress.reaching.todo + 1
+
+-- the roots are reached
+abbrev pub Begins : Meaning → At → At → Result (Unit {0}) GrowError → Type 0
+Begins meaning old new (Ok done) = IsLive meaning new × (new.progress.begun ≡ true)
+Begins meaning old new (Err (grow.TooMany seen)) =
+    IsTooMany meaning (starts_at old) (own_log old) old.progress.reaching.limit seen
+Begins meaning old new (Err grow.OutOfMemory) = Unit {0}
+
+-- one specifier is in hand, and then it is dealt with
+abbrev pub Deals : Meaning → At → At → Result (Unit {0}) GrowError → Type 0
+Deals meaning old new (Ok done) = IsLive meaning new
+    × (length new.progress.reaching.reached.entries + length old.progress.reaching.todo
+    ≡ length old.progress.reaching.reached.entries + length new.progress.reaching.todo)
+Deals meaning old new (Err (grow.TooMany seen)) =
+    IsTooMany meaning (starts_at old) (own_log old) old.progress.reaching.limit seen
+Deals meaning old new (Err grow.OutOfMemory) = Unit {0}
+
+-- the worklist has a next specifier or is empty
+abbrev pub AsksNext : Meaning → At → At → Result Bool GrowError → Type 0
+AsksNext meaning old new (Ok true) = IsOneOn meaning old new
+AsksNext meaning old new (Ok false) = IsLive meaning new × (new.progress.reaching.todo ≡ [])
+AsksNext meaning old new (Err (grow.TooMany seen)) =
+    IsTooMany meaning (starts_at old) (own_log old) old.progress.reaching.limit seen
+AsksNext meaning old new (Err grow.OutOfMemory) = Unit {0}
+
+-- the worklist is empty
+abbrev pub AsksAll : Meaning → At → At → Result (Unit {0}) GrowError → Type 0
+AsksAll meaning old new (Ok done) = IsLive meaning new × (new.progress.reaching.todo ≡ [])
+AsksAll meaning old new (Err (grow.TooMany seen)) =
+    IsTooMany meaning (starts_at old) (own_log old) old.progress.reaching.limit seen
+AsksAll meaning old new (Err grow.OutOfMemory) = Unit {0}
+
+-- an answer for a specifier that waits becomes its entry
+abbrev pub Takes : Parts → LoadAnswer → Reaching → Reaching → Result (Unit {0}) BuildError → Type 0
+Takes url answer old new (Ok done) = (slots_of old (text_of url) ≡ Some Asked)
+    × ((entry : Entry) × Analysed (text_of url) answer entry × IsFilled (text_of url) entry old new)
+Takes url answer old new (Err (error.TooManyModules seen)) = (slots_of old (text_of url) ≡ Some Asked)
+    × ((entry : Entry) × Analysed (text_of url) answer entry × IsOverfull (targets entry) (slots_of old) old.limit seen)
+Takes url answer old new (Err (error.UnaskedAnswer other)) =
+    (other ≡ url) × (slots_of old (text_of url) ≡ Some Asked → ⊥)
+Takes url answer old new (Err error.OutOfMemory) = Unit {0}
+Takes url answer old new (Err error.NotYet) = ⊥
+Takes url answer old new (Err error.Finished) = ⊥
+
+-- the builder waits for its loader
+pub record IsPaused (meaning : Meaning) (old new : At) : Type 0 where
+  pub live : IsLive meaning new
+  pub asked_all : new.progress.reaching.todo ≡ []
+  pub begun : new.progress.begun ≡ true
+  pub open_yet : new.progress.taken < new.progress.asked
+  pub counted : HasRisen old.pending new.pending
+  pub standing : new.standing ≡ (length new.asked, length new.log)
+  pub patience : length new.log < length new.asked → Falls old.patience new.patience
+
+-- the last answer wasn't awaited
+pub record IsUnasked (meaning : Meaning) (old new : At) (s : Specifier) : Type 0 where
+  pub before : Log
+  pub answer : LoadAnswer
+  pub last : own_log new ≡ before ++ (s, answer) ∷ []
+  pub earlier : (more : Log) × (before ≡ own_log old ++ more)
+  pub orderly : IsOrderly meaning (starts_at old) before
+  pub waits : SomeOutstanding (own_asked new) before
+  pub unawaited : IsFunctional meaning → IsUnawaitedOver meaning 1 (starts_at old) before s
+  pub pending : new.pending ≡ old.pending
+
+-- all is asked for and answered
+pub record IsThrough (meaning : Meaning) (old new : At) : Type 0 where
+  pub live : IsLive meaning new
+  pub asked_all : new.progress.reaching.todo ≡ []
+  pub begun : new.progress.begun ≡ true
+  pub all_taken : new.progress.taken ≡ new.progress.asked
+  pub pending : new.pending ≡ old.pending
+
+-- why a run ends
+abbrev pub Runs : Meaning → At → At → Result (Unit {0}) BuildError → Type 0
+Runs meaning old new (Ok done) = IsThrough meaning old new
+Runs meaning old new (Err error.NotYet) = IsPaused meaning old new
+Runs meaning old new (Err (error.TooManyModules seen)) =
+    IsTooMany meaning (starts_at old) (own_log new) old.progress.reaching.limit seen
+Runs meaning old new (Err (error.UnaskedAnswer url)) = IsUnasked meaning old new (text_of url)
+Runs meaning old new (Err error.Finished) = ⊥
+Runs meaning old new (Err error.OutOfMemory) = Unit {0}
+
+-- one turn of a run: it is through, or it goes on with one answer more
+abbrev pub Turns : Meaning → At → At → Result Bool BuildError → Type 0
+Turns meaning old new (Ok true) = IsLive meaning new × (new.progress.begun ≡ true)
+    × (new.progress.taken ≡ old.progress.taken + 1) × (new.pending ≡ old.pending)
+Turns meaning old new (Ok false) = IsThrough meaning old new
+Turns meaning old new (Err error.NotYet) = IsPaused meaning old new
+Turns meaning old new (Err (error.TooManyModules seen)) =
+    IsTooMany meaning (starts_at old) (own_log new) old.progress.reaching.limit seen
+Turns meaning old new (Err (error.UnaskedAnswer url)) = IsUnasked meaning old new (text_of url)
+Turns meaning old new (Err error.Finished) = ⊥
+Turns meaning old new (Err error.OutOfMemory) = Unit {0}

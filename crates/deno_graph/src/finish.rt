@@ -1,0 +1,63 @@
+//! The graph of what was reached.
+ghost use Rattle.std.specs.Prelude.{◌≡◌, IfOk, OnOk};
+ghost use Rattle.std.specs.Map.{keys_of};
+ghost use Rattle.std.specs.List.Sorted.{IsStrictlySortedBy};
+ghost use Rattle.std.specs.Ordering.{nat_cmp};
+ghost use Rattle.std.specs.Cmp.Lexicographic.{slice_cmp};
+ghost use Rattle.url.specs.Parts.{serialize};
+ghost use Rattle.deno_graph.specs.Inside.{all_done};
+
+use crate::graph::ModuleGraph;
+use crate::slot::Slot;
+use base::Items;
+use graph_entry::Entry;
+use std::alloc::{AllocError, Global};
+use std::collections::BTreeMap;
+use std::mem;
+use url::Url;
+
+/// The graph of these roots and of what was reached, which is taken out.
+pub fn finish(
+    alloc: Global,
+    roots: &[Url],
+    reached: &mut BTreeMap<Url, Slot>,
+) -> Result<ModuleGraph, AllocError>
+    ensures roots { IfOk result (λ g. g.roots ≡ roots.now) }
+    ensures entries { IfOk result (λ g. reached.old.entries ≡ all_done g.entries) }
+    ensures ordered { OnOk result (IsStrictlySortedBy
+        (λ a b. slice_cmp nat_cmp (serialize a) (serialize b)) (keys_of reached.old.entries)) }
+{
+    let roots = copies(alloc, roots)?;
+    let _count = reached.len();
+    let taken = mem::replace(reached, BTreeMap::new(alloc));
+    let entries = entries_of(alloc, taken)?;
+    Ok(ModuleGraph::new(roots, entries))
+}
+
+// The entries of slots that all have one.
+fn entries_of(
+    alloc: Global,
+    reached: BTreeMap<Url, Slot>,
+) -> Result<Items<(Url, Entry)>, AllocError>
+    ensures { IfOk result (λ entries. reached.entries ≡ all_done entries) }
+{
+    let mut entries = Items::new(alloc);
+    for (url, slot) in reached {
+        match slot {
+            Slot::Done(entry) => entries.push((url, entry))?,
+            // A run that is through leaves no slot open.
+            Slot::Queued | Slot::Asked => return Err(AllocError),
+        }
+    }
+    Ok(entries)
+}
+
+fn copies(alloc: Global, urls: &[Url]) -> Result<Items<Url>, AllocError>
+    ensures { IfOk result (λ copy. copy ≡ urls.now) }
+{
+    let mut copy = Items::new(alloc);
+    for url in urls {
+        copy.push(url.clone()?)?;
+    }
+    Ok(copy)
+}

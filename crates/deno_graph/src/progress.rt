@@ -1,0 +1,273 @@
+//! How far a builder is: what it asks for next, and the answers that it takes.
+ghost use Rattle.std.specs.Prelude.{◌≡◌, ◌+◌, ◌≤◌, ◌<◌, ℕ, true, []};
+ghost use Rattle.graph_entry.specs.Specifier.{text_of, loadable};
+ghost use Rattle.graph_entry.specs.Analysed.{Analysed};
+ghost use Rattle.deno_graph.specs.Progress.{at, IsKeptAt, IsLive, IsInHand, GoesOnAt, OnlyAsks, Begins, Deals, AsksNext, AsksAll, Turns, Runs};
+
+use crate::error::BuildError;
+use crate::loader::{Loader, LoaderPoll};
+use crate::reaching::{GrowError, Reaching};
+use base::Items;
+use graph_entry::{Entry, ModuleError, is_loadable};
+use std::alloc::Global;
+use url::Url;
+
+/// The roots, what is reached of them, and how often the loader was asked and answered.
+#[derive(Drop)]
+pub struct Progress {
+    pub roots: Items<Url>,
+    pub reaching: Reaching,
+    pub asked: usize,
+    pub taken: usize,
+    /// The roots are reached.
+    pub begun: bool,
+}
+
+impl Progress {
+    /// Asks for all that is reached and takes answers until nothing is outstanding.
+    pub fn run<L: Loader>(&mut self, alloc: Global, loader: &mut L) -> Result<(), BuildError>
+        requires live { IsLive Analysed
+            (at (L.asked loader.old) (L.log loader.old) (L.told loader.old)
+            (L.pending loader.old) (L.standing loader.old) (L.patience loader.old) self.old) }
+        ensures runs { Runs Analysed
+            (at (L.asked loader.old) (L.log loader.old) (L.told loader.old)
+            (L.pending loader.old) (L.standing loader.old) (L.patience loader.old) self.old)
+            (at (L.asked loader.new) (L.log loader.new) (L.told loader.new)
+            (L.pending loader.new) (L.standing loader.new) (L.patience loader.new) self.new) result }
+        ensures kept { IsKeptAt Analysed
+            (at (L.asked loader.new) (L.log loader.new) (L.told loader.new)
+            (L.pending loader.new) (L.standing loader.new) (L.patience loader.new) self.new) }
+        ensures goes { GoesOnAt
+            (at (L.asked loader.old) (L.log loader.old) (L.told loader.old)
+            (L.pending loader.old) (L.standing loader.old) (L.patience loader.old) self.old)
+            (at (L.asked loader.new) (L.log loader.new) (L.told loader.new)
+            (L.pending loader.new) (L.standing loader.new) (L.patience loader.new) self.new) }
+    {
+        match self.begin(loader) {
+            Ok(()) => {}
+            Err(GrowError::TooMany { seen }) => return Err(BuildError::TooManyModules { seen }),
+            Err(GrowError::OutOfMemory) => return Err(BuildError::OutOfMemory),
+        }
+        'turns: loop {
+            match self.turn(alloc, loader) {
+                Ok(true) => {}
+                Ok(false) => return Ok(()),
+                Err(error) => return Err(error),
+            }
+        }
+    }
+
+    // Reaches the roots, the first time. The loader is there for the contract.
+    fn begin<L: Loader>(&mut self, loader: &mut L) -> Result<(), GrowError>
+        requires live { IsLive Analysed
+            (at (L.asked loader.old) (L.log loader.old) (L.told loader.old)
+            (L.pending loader.old) (L.standing loader.old) (L.patience loader.old) self.old) }
+        ensures begins { Begins Analysed
+            (at (L.asked loader.old) (L.log loader.old) (L.told loader.old)
+            (L.pending loader.old) (L.standing loader.old) (L.patience loader.old) self.old)
+            (at (L.asked loader.new) (L.log loader.new) (L.told loader.new)
+            (L.pending loader.new) (L.standing loader.new) (L.patience loader.new) self.new) result }
+        ensures kept { IsKeptAt Analysed
+            (at (L.asked loader.new) (L.log loader.new) (L.told loader.new)
+            (L.pending loader.new) (L.standing loader.new) (L.patience loader.new) self.new) }
+        ensures goes { GoesOnAt
+            (at (L.asked loader.old) (L.log loader.old) (L.told loader.old)
+            (L.pending loader.old) (L.standing loader.old) (L.patience loader.old) self.old)
+            (at (L.asked loader.new) (L.log loader.new) (L.told loader.new)
+            (L.pending loader.new) (L.standing loader.new) (L.patience loader.new) self.new) }
+        ensures stays { loader.new ≡ loader.old }
+    {
+        let _ = loader;
+        if self.begun {
+            return Ok(());
+        }
+        match self.reaching.reach_all(self.roots.as_slice()) {
+            Ok(()) => {
+                self.begun = true;
+                Ok(())
+            }
+            Err(error) => Err(error),
+        }
+    }
+
+    // Asks for all that is reached, and takes one answer. `false`: nothing is outstanding.
+    fn turn<L: Loader>(&mut self, alloc: Global, loader: &mut L) -> Result<bool, BuildError>
+        requires live { IsLive Analysed
+            (at (L.asked loader.old) (L.log loader.old) (L.told loader.old)
+            (L.pending loader.old) (L.standing loader.old) (L.patience loader.old) self.old) }
+        requires begun { self.old.begun ≡ true }
+        ensures turns { Turns Analysed
+            (at (L.asked loader.old) (L.log loader.old) (L.told loader.old)
+            (L.pending loader.old) (L.standing loader.old) (L.patience loader.old) self.old)
+            (at (L.asked loader.new) (L.log loader.new) (L.told loader.new)
+            (L.pending loader.new) (L.standing loader.new) (L.patience loader.new) self.new) result }
+        ensures kept { IsKeptAt Analysed
+            (at (L.asked loader.new) (L.log loader.new) (L.told loader.new)
+            (L.pending loader.new) (L.standing loader.new) (L.patience loader.new) self.new) }
+        ensures goes { GoesOnAt
+            (at (L.asked loader.old) (L.log loader.old) (L.told loader.old)
+            (L.pending loader.old) (L.standing loader.old) (L.patience loader.old) self.old)
+            (at (L.asked loader.new) (L.log loader.new) (L.told loader.new)
+            (L.pending loader.new) (L.standing loader.new) (L.patience loader.new) self.new) }
+    {
+        match self.ask_all(loader) {
+            Ok(()) => {}
+            Err(GrowError::TooMany { seen }) => return Err(BuildError::TooManyModules { seen }),
+            Err(GrowError::OutOfMemory) => return Err(BuildError::OutOfMemory),
+        }
+        if self.taken == self.asked {
+            return Ok(false);
+        }
+        self.poll(alloc, loader)
+    }
+
+    // Takes one answer.
+    fn poll<L: Loader>(&mut self, alloc: Global, loader: &mut L) -> Result<bool, BuildError>
+        requires live { IsLive Analysed
+            (at (L.asked loader.old) (L.log loader.old) (L.told loader.old)
+            (L.pending loader.old) (L.standing loader.old) (L.patience loader.old) self.old) }
+        requires begun { self.old.begun ≡ true }
+        requires asked_all { self.old.reaching.todo ≡ [] }
+        requires open_yet { self.old.taken < self.old.asked }
+        ensures turns { Turns Analysed
+            (at (L.asked loader.old) (L.log loader.old) (L.told loader.old)
+            (L.pending loader.old) (L.standing loader.old) (L.patience loader.old) self.old)
+            (at (L.asked loader.new) (L.log loader.new) (L.told loader.new)
+            (L.pending loader.new) (L.standing loader.new) (L.patience loader.new) self.new) result }
+        ensures kept { IsKeptAt Analysed
+            (at (L.asked loader.new) (L.log loader.new) (L.told loader.new)
+            (L.pending loader.new) (L.standing loader.new) (L.patience loader.new) self.new) }
+        ensures goes { GoesOnAt
+            (at (L.asked loader.old) (L.log loader.old) (L.told loader.old)
+            (L.pending loader.old) (L.standing loader.old) (L.patience loader.old) self.old)
+            (at (L.asked loader.new) (L.log loader.new) (L.told loader.new)
+            (L.pending loader.new) (L.standing loader.new) (L.patience loader.new) self.new) }
+    {
+        let _asked = self.asked;
+        match loader.poll() {
+            Ok(LoaderPoll::Answer(specifier, answer)) => {
+                self.taken += 1;
+                match self.reaching.take(alloc, specifier, answer) {
+                    Ok(()) => Ok(true),
+                    Err(error) => Err(error),
+                }
+            }
+            Ok(LoaderPoll::Pending) => Err(BuildError::NotYet),
+            Err(_) => Err(BuildError::OutOfMemory),
+        }
+    }
+
+    // Empties the worklist.
+    fn ask_all<L: Loader>(&mut self, loader: &mut L) -> Result<(), GrowError>
+        requires live { IsLive Analysed
+            (at (L.asked loader.old) (L.log loader.old) (L.told loader.old)
+            (L.pending loader.old) (L.standing loader.old) (L.patience loader.old) self.old) }
+        ensures all { AsksAll Analysed
+            (at (L.asked loader.old) (L.log loader.old) (L.told loader.old)
+            (L.pending loader.old) (L.standing loader.old) (L.patience loader.old) self.old)
+            (at (L.asked loader.new) (L.log loader.new) (L.told loader.new)
+            (L.pending loader.new) (L.standing loader.new) (L.patience loader.new) self.new) result }
+        ensures kept { IsKeptAt Analysed
+            (at (L.asked loader.new) (L.log loader.new) (L.told loader.new)
+            (L.pending loader.new) (L.standing loader.new) (L.patience loader.new) self.new) }
+        ensures asks { OnlyAsks
+            (at (L.asked loader.old) (L.log loader.old) (L.told loader.old)
+            (L.pending loader.old) (L.standing loader.old) (L.patience loader.old) self.old)
+            (at (L.asked loader.new) (L.log loader.new) (L.told loader.new)
+            (L.pending loader.new) (L.standing loader.new) (L.patience loader.new) self.new) }
+    {
+        'asking: loop {
+            match self.ask_next(loader) {
+                Ok(true) => {}
+                Ok(false) => return Ok(()),
+                Err(error) => return Err(error),
+            }
+        }
+    }
+
+    // Deals with the next specifier of the worklist. `false`: there is none.
+    fn ask_next<L: Loader>(&mut self, loader: &mut L) -> Result<bool, GrowError>
+        requires live { IsLive Analysed
+            (at (L.asked loader.old) (L.log loader.old) (L.told loader.old)
+            (L.pending loader.old) (L.standing loader.old) (L.patience loader.old) self.old) }
+        ensures next { AsksNext Analysed
+            (at (L.asked loader.old) (L.log loader.old) (L.told loader.old)
+            (L.pending loader.old) (L.standing loader.old) (L.patience loader.old) self.old)
+            (at (L.asked loader.new) (L.log loader.new) (L.told loader.new)
+            (L.pending loader.new) (L.standing loader.new) (L.patience loader.new) self.new) result }
+        ensures kept { IsKeptAt Analysed
+            (at (L.asked loader.new) (L.log loader.new) (L.told loader.new)
+            (L.pending loader.new) (L.standing loader.new) (L.patience loader.new) self.new) }
+        ensures asks { OnlyAsks
+            (at (L.asked loader.old) (L.log loader.old) (L.told loader.old)
+            (L.pending loader.old) (L.standing loader.old) (L.patience loader.old) self.old)
+            (at (L.asked loader.new) (L.log loader.new) (L.told loader.new)
+            (L.pending loader.new) (L.standing loader.new) (L.patience loader.new) self.new) }
+    {
+        let Some(url) = self.reaching.todo.pop() else {
+            return Ok(false);
+        };
+        match self.deal(loader, url) {
+            Ok(()) => Ok(true),
+            Err(error) => Err(error),
+        }
+    }
+
+    // Asks for the specifier in hand, or gives it its entry where no loader is asked for it.
+    fn deal<L: Loader>(&mut self, loader: &mut L, url: Url) -> Result<(), GrowError>
+        requires in_hand { IsInHand Analysed
+            (at (L.asked loader.old) (L.log loader.old) (L.told loader.old)
+            (L.pending loader.old) (L.standing loader.old) (L.patience loader.old) self.old) (text_of url) }
+        ensures deals { Deals Analysed
+            (at (L.asked loader.old) (L.log loader.old) (L.told loader.old)
+            (L.pending loader.old) (L.standing loader.old) (L.patience loader.old) self.old)
+            (at (L.asked loader.new) (L.log loader.new) (L.told loader.new)
+            (L.pending loader.new) (L.standing loader.new) (L.patience loader.new) self.new) result }
+        ensures kept { IsKeptAt Analysed
+            (at (L.asked loader.new) (L.log loader.new) (L.told loader.new)
+            (L.pending loader.new) (L.standing loader.new) (L.patience loader.new) self.new) }
+        ensures asks { OnlyAsks
+            (at (L.asked loader.old) (L.log loader.old) (L.told loader.old)
+            (L.pending loader.old) (L.standing loader.old) (L.patience loader.old) self.old)
+            (at (L.asked loader.new) (L.log loader.new) (L.told loader.new)
+            (L.pending loader.new) (L.standing loader.new) (L.patience loader.new) self.new) }
+    {
+        if is_loadable(&url) {
+            self.ask(loader, url)
+        } else {
+            self.reaching.fill(url, Entry::Error(ModuleError::NotBuilt))
+        }
+    }
+
+    // Asks for the specifier in hand.
+    fn ask<L: Loader>(&mut self, loader: &mut L, url: Url) -> Result<(), GrowError>
+        requires in_hand { IsInHand Analysed
+            (at (L.asked loader.old) (L.log loader.old) (L.told loader.old)
+            (L.pending loader.old) (L.standing loader.old) (L.patience loader.old) self.old) (text_of url) }
+        requires loads { loadable (text_of url) ≡ true }
+        ensures deals { Deals Analysed
+            (at (L.asked loader.old) (L.log loader.old) (L.told loader.old)
+            (L.pending loader.old) (L.standing loader.old) (L.patience loader.old) self.old)
+            (at (L.asked loader.new) (L.log loader.new) (L.told loader.new)
+            (L.pending loader.new) (L.standing loader.new) (L.patience loader.new) self.new) result }
+        ensures kept { IsKeptAt Analysed
+            (at (L.asked loader.new) (L.log loader.new) (L.told loader.new)
+            (L.pending loader.new) (L.standing loader.new) (L.patience loader.new) self.new) }
+        ensures asks { OnlyAsks
+            (at (L.asked loader.old) (L.log loader.old) (L.told loader.old)
+            (L.pending loader.old) (L.standing loader.old) (L.patience loader.old) self.old)
+            (at (L.asked loader.new) (L.log loader.new) (L.told loader.new)
+            (L.pending loader.new) (L.standing loader.new) (L.patience loader.new) self.new) }
+    {
+        let _limit = self.reaching.limit;
+        match loader.start(&url) {
+            Ok(()) => {}
+            Err(_) => return Err(GrowError::OutOfMemory),
+        }
+        self.asked += 1;
+        match self.reaching.mark_asked(url) {
+            Ok(()) => Ok(()),
+            Err(_) => Err(GrowError::OutOfMemory),
+        }
+    }
+}
