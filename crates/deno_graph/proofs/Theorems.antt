@@ -1,6 +1,6 @@
 -- The laws of graphs and of what is reached that other crates name.
 use Rattle.std.proofs.Common.{◌≡◌, inl, inr, true, List, sym, ◌∙◌, ap, subst, refl, Option, Some, None}
-use Rattle.std.specs.Prelude.{IsSome, is_some}
+use Rattle.std.specs.Prelude.{IsSome, is_some, Result, Ok, Err, IfOk}
 use Rattle.url.specs.Parts.{Parts}
 use Rattle.graph_entry.specs.declared.answer.LoadAnswer.{LoadAnswer}
 use Rattle.graph_entry.specs.declared.entry.Entry.{Entry}
@@ -8,7 +8,7 @@ use Rattle.graph_entry.specs.Entry.{targets, EdgesCut}
 use Rattle.graph_entry.specs.Analysed.{Analysed}
 use Rattle.graph_entry.proofs.Theorems.{analysed_once, analysed_cuts}
 use Rattle.deno_graph.specs.Reach.{Specifier, Answers, Log, Meaning, answer_to, has, IsEntry, Leads, IsReached, IsFunctional}
-use Rattle.deno_graph.specs.Graph.{entry_of, IsGraph}
+use Rattle.deno_graph.specs.Graph.{entry_of, GraphData, IsGraph, EachEdgeCuts}
 use Rattle.deno_graph.specs.Builder.{IsToldLog}
 use Rattle.deno_graph.proofs.ReachLemmas.{reached_least, reached_start, reached_on, entry_once}
 use Rattle.deno_graph.proofs.ByTextLemmas.{has-keys_at}
@@ -16,12 +16,18 @@ pub use Rattle.deno_graph.proofs.ReachLemmas.{IsWithin, reached_start, reached_o
 
 -- each edge of a graph's module cuts from the module's text the literal whose value is the edge's text
 pub edges_cut : (starts : List Specifier) (answers : Answers) (entries : List (Parts × Entry)) → IsGraph Analysed starts answers entries
-    → (s : Specifier) (e : Entry) → entry_of entries s ≡ Some e → EdgesCut e
+    → EachEdgeCuts entries
 edges_cut starts answers entries g s e h = by (g.each s e h)
   where
     by : IsEntry Analysed answers s e → EdgesCut e
     by (inl a) = analysed_cuts s a.answer e a.means
     by (inr u) = subst EdgesCut (sym u.1) tt
+
+-- the same of a graph that is answered
+pub answered_cut : {Refused : Type 0} (starts : List Specifier) (answers : Answers) (result : Result GraphData Refused)
+    → IfOk result (λ g. IsGraph Analysed starts answers g.entries) → IfOk result (λ g. EachEdgeCuts g.entries)
+answered_cut starts answers (Ok g) graph = edges_cut starts answers g.entries graph
+answered_cut starts answers (Err e) graph = tt
 
 -- ---- the graph over answers that were told
 

@@ -7,6 +7,7 @@ use Rattle.std.specs.Cmp.Lexicographic.{slice_cmp}
 use Rattle.url.specs.Parts.{Parts}
 use Rattle.graph_entry.specs.declared.entry.Entry.{Entry}
 use Rattle.graph_entry.specs.Specifier.{text_of}
+use Rattle.graph_entry.specs.Entry.{EdgesCut}
 use Rattle.deno_graph.specs.Reach.{Specifier, Answers, Meaning, IsEntry, IsReach}
 
 -- what contracts see of a graph: its roots as handed in, and its entries
@@ -35,3 +36,7 @@ pub record IsGraph (meaning : Meaning) (starts : List Specifier) (answers : Answ
   pub ascending : IsAscending entries
   pub members : IsReach meaning starts answers (members_of entries)
   pub each : (s : Specifier) (e : Entry) → entry_of entries s ≡ Some e → IsEntry meaning answers s e
+
+-- each source edge's range cuts from its module's text the literal whose value is the edge's text
+abbrev pub EachEdgeCuts : List (Parts × Entry) → Type 0
+EachEdgeCuts entries = (s : Specifier) (e : Entry) → entry_of entries s ≡ Some e → EdgesCut e

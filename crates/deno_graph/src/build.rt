@@ -4,7 +4,7 @@ ghost use Rattle.url.specs.Parts.{Parts};
 ghost use Rattle.graph_entry.specs.Specifier.{text_of};
 ghost use Rattle.graph_entry.specs.Analysed.{Analysed};
 ghost use Rattle.deno_graph.specs.Reach.{answer_to};
-ghost use Rattle.deno_graph.specs.Graph.{IsGraph};
+ghost use Rattle.deno_graph.specs.Graph.{IsGraph, EachEdgeCuts};
 ghost use Rattle.deno_graph.specs.Builder.{starts, new_building, IsOrderly, IsAsking, IsAskedFor, EachAnswered, IsToldLog, HasHistory, IsNotYet, IsUnawaited, IsTooMany, IsComplete, OnlyPlain};
 
 use crate::error::BuildError;
@@ -101,6 +101,7 @@ impl<L: Loader + Drop> GraphBuild<L> {
         // The graph is that of the roots and the answers.
         ensures graph { IfOk result (λ g.
             IsGraph Analysed (starts self.old.inner) (answer_to self.new.inner.log) g.entries) }
+        ensures cuts { IfOk result (λ g. EachEdgeCuts g.entries) }
         ensures roots { IfOk result (λ g. g.roots ≡ self.old.inner.roots) }
         // Each answer was awaited when it came; what was asked is what the graph needs, and is answered.
         ensures orderly { OnOk result (IsOrderly Analysed (starts self.old.inner) self.new.inner.log) }

@@ -1,0 +1,6 @@
+-- The graph is that of the roots and the answers, and the edges of such a graph cut their literals.
+use Rattle.deno_graph.proofs.Theorems.{answered_cut}
+use Rattle.deno_graph.proofs.build.GraphBuild.poll.Goals as goal
+
+pub returns-clause-cuts : goal.returns-clause-cuts
+returns-clause-cuts g c = answered_cut _ _ c.poll.result c.poll.ensures.graph
