@@ -8,3 +8,4 @@ pub mod BuildingLemmas
 pub mod ProgressLemmas
 pub mod ResultLemmas
 pub mod Theorems
+pub mod MemoryLemmas

@@ -1,7 +1,9 @@
 -- A loader in memory: what it answers, and in which order.
-use Rattle.std.specs.Prelude.{◌≡◌, ℕ, ◌+◌, min, Bool, true, false, List, [], ◌∷◌, ◌++◌, length, map, bytes_eq, Option, Some, None, unwrap_or, Result, Ok, Err, if◌then◌else◌}
+use Rattle.std.specs.Prelude.{◌≡◌, ℕ, ◌+◌, min, Bool, true, false, List, [], ◌∷◌, ◌++◌, length, ◌≤◌, not, map, drop, bytes_eq, Option, Some, None, unwrap_or, Result, Ok, Err, if◌then◌else◌}
 use Rattle.std.specs.List.{list_any}
 use Rattle.std.specs.Map.{lookup}
+use Rattle.std.specs.Ordering.{nat_cmp, is_eq}
+use Rattle.std.specs.Cmp.Lexicographic.{slice_cmp}
 use Rattle.std.specs.declared.alloc.AllocError.{AllocError}
 use Rattle.url.specs.Parts.{Parts}
 use Rattle.graph_entry.specs.Specifier.{text_of}
@@ -50,12 +52,12 @@ text_log log = map (λ e. (text_of e.0, e.1)) log
 
 -- a request for the specifier is outstanding
 abbrev pub waits_for : List Parts → Parts → Bool
-waits_for waiting url = list_any (λ w. bytes_eq (text_of url) (text_of w)) waiting
+waits_for waiting url = list_any (λ w. bytes_eq (text_of w) (text_of url)) waiting
 
 -- without the oldest request for the specifier
 abbrev pub settled : List Parts → Parts → List Parts
 settled [] url = []
-settled (w ∷ waiting) url = if bytes_eq (text_of url) (text_of w) then waiting else w ∷ settled waiting url
+settled (w ∷ waiting) url = if bytes_eq (text_of w) (text_of url) then waiting else w ∷ settled waiting url
 
 -- the oldest request
 abbrev pub oldest : List Parts → Option Parts
@@ -76,6 +78,14 @@ next_answered waiting (arrival.Force url ∷ rest) = (Some url, rest)
 next_answered waiting (arrival.Answer url ∷ rest) =
     if waits_for waiting url then (Some url, rest) else next_answered waiting rest
 
+-- what a request leaves: it is asked for, and outstanding
+abbrev pub IsStarted : Memory → Parts → Result Unit AllocError → Memory → Type 0
+IsStarted old url (Ok done) new = new ≡ record old {
+  asked = old.asked ++ url ∷ [];
+  waiting = old.waiting ++ url ∷ [];
+}
+IsStarted old url (Err e) new = new ≡ old
+
 -- what a poll answers, and what it leaves
 abbrev pub IsPolled : Memory → Result LoaderPoll AllocError → Memory → Type 0
 IsPolled old (Ok (Answer url answer)) new =
@@ -94,3 +104,52 @@ IsPolled old (Ok Pending) new =
       standing = (length old.asked, length old.log);
     })
 IsPolled old (Err e) new = new ≡ old
+
+-- ---- how a module is found
+
+-- the number of the first module with a specifier, counted from so many
+abbrev pub place_from : ℕ → List (Parts × LoadAnswer) → Specifier → Option ℕ
+place_from n [] s = None
+place_from n (e ∷ modules) s = if bytes_eq s (text_of e.0) then Some n else place_from (n + 1) modules s
+
+-- what a map by the specifiers' texts gives for one
+abbrev pub place_in : List (Parts × ℕ) → Specifier → Option ℕ
+place_in places s = lookup (λ k. is_eq (slice_cmp nat_cmp s (text_of k))) places
+
+-- the new map gives this place for the specifier, and what the old one gives for others
+abbrev pub IsPlaced : List (Parts × ℕ) → List (Parts × ℕ) → Parts → ℕ → Type 0
+IsPlaced old new url n = (q : Parts) → place_in new (text_of q) ≡
+    (if is_eq (slice_cmp nat_cmp (text_of url) (text_of q)) then Some n else place_in old (text_of q))
+
+-- a map gives the number of the first module with each specifier, of those from so many on
+abbrev pub IsIndexFrom : ℕ → List (Parts × LoadAnswer) → List (Parts × ℕ) → Type 0
+IsIndexFrom n modules places = (url : Parts) → place_in places (text_of url) ≡ place_from n (drop n modules) (text_of url)
+
+-- of all of them
+abbrev pub IsIndex : List (Parts × LoadAnswer) → List (Parts × ℕ) → Type 0
+IsIndex modules places = IsIndexFrom 0 modules places
+
+-- what holds of a loader in memory at all times
+pub record IsKeptMemory (modules : List (Parts × LoadAnswer)) (places : List (Parts × ℕ)) (asked : List Parts) (log : List (Parts × LoadAnswer)) (waiting : List Parts) : Type 0 where
+  pub index : IsIndex modules places
+  -- a request is answered or outstanding
+  pub open_requests : length asked ≤ length log + length waiting
+
+-- ---- an item of the arrival list
+
+-- whether it is dropped: it answers a specifier that isn't outstanding
+abbrev pub is_dropped : List Parts → Arrival → Bool
+is_dropped waiting (arrival.Answer url) = not (waits_for waiting url)
+is_dropped waiting arrival.Pending = false
+is_dropped waiting (arrival.Force url) = false
+
+-- the list's first item isn't dropped
+abbrev pub IsTaken : List Parts → List Arrival → Type 0
+IsTaken waiting [] = Unit {0}
+IsTaken waiting (item ∷ rest) = is_dropped waiting item ≡ false
+
+-- the specifier that it answers
+abbrev pub named : Arrival → Option Parts
+named (arrival.Answer url) = Some url
+named arrival.Pending = None
+named (arrival.Force url) = Some url

@@ -1,17 +1,17 @@
 //! A loader in memory.
-// NOTE TO BUILD (from the lead): another engineer, MEM, writes and proves the bodies of this file and specs/Memory.antt now,
-// and pushes them to the hub. Leave this file alone, pull it, and drop this note.
-ghost use Rattle.std.specs.Prelude.{bytes_eq, ◌≡◌, IfOk, Some, ◌++◌, ◌∷◌, [], map, drop, count_by, is_ok, if◌then◌else◌};
+ghost use Rattle.std.specs.Prelude.{◌≡◌, ◌≤◌, ◌<◌, ◌+◌, ℕ, IfOk, OnOk, MatchOption, Some, None, ◌++◌, ◌∷◌, [], map, drop, length, bytes_eq, count_by, is_ok, if◌then◌else◌};
+ghost use Rattle.std.specs.Option.{option_copied};
+ghost use Rattle.std.specs.List.{remove};
 ghost use Rattle.graph_entry.specs.Specifier.{text_of};
 ghost use Rattle.deno_graph.specs.Graph.{texts};
 ghost use Rattle.deno_graph.specs.Loader.{log_after, standing_after, IsCounted, NeverRises, IsPatient, IsAsTold};
-ghost use Rattle.deno_graph.specs.Memory.{new_memory, tells, text_log, is_pending, IsPolled, module_answer};
+ghost use Rattle.deno_graph.specs.Memory.{new_memory, module_answer, tells, text_log, is_pending, waits_for, settled, next_answered, is_dropped, named, IsTaken, IsStarted, IsPolled, IsIndex, IsPlaced, place_in};
 
 use crate::loader::{Loader, LoaderPoll};
 use base::Items;
 use graph_entry::LoadAnswer;
 use std::alloc::{AllocError, Global};
-use std::collections::VecDeque;
+use std::collections::{BTreeMap, VecDeque};
 use std::marker::Model;
 use url::Url;
 
@@ -31,7 +31,10 @@ pub enum Arrival {
 #[derive(Drop)]
 pub struct MemoryLoader {
     modules: Items<(Url, LoadAnswer)>,
+    // The number of the first module with each specifier.
+    places: BTreeMap<Url, usize>,
     arrival: Items<Arrival>,
+    // How many items of the arrival list are used up.
     next: usize,
     asked: Items<Url>,
     log: Items<(Url, LoadAnswer)>,
@@ -41,8 +44,8 @@ pub struct MemoryLoader {
 }
 
 impl Model for MemoryLoader {
-    ghost use Rattle.std.specs.Prelude.{drop, length, ◌+◌, ◌≤◌};
-    ghost use Rattle.deno_graph.specs.Memory.{Memory};
+    ghost use Rattle.std.specs.Prelude.{drop};
+    ghost use Rattle.deno_graph.specs.Memory.{Memory, IsKeptMemory};
 
     ghost Value = { Memory };
 
@@ -56,7 +59,7 @@ impl Model for MemoryLoader {
       standing = m.standing;
     } };
 
-    ghost invariant = { λ m. length m.asked ≤ length m.log + length m.waiting.items };
+    ghost invariant = { λ m. IsKeptMemory m.modules m.places.entries m.asked m.log m.waiting.items };
 }
 
 impl MemoryLoader {
@@ -69,8 +72,10 @@ impl MemoryLoader {
     ) -> Result<MemoryLoader, AllocError>
         ensures { IfOk result (λ l. l ≡ new_memory modules arrival) }
     {
+        let places = places_of(alloc, modules.as_slice())?;
         Ok(MemoryLoader {
             modules,
+            places,
             arrival,
             next: 0,
             asked: Items::new(alloc),
@@ -109,49 +114,181 @@ impl Loader for MemoryLoader {
 
     ghost told = { λ m. tells m.modules };
 
-    fn start(&mut self, specifier: &Url) -> Result<(), AllocError> {
+    fn start(&mut self, specifier: &Url) -> Result<(), AllocError>
+        ensures started { IsStarted self.old specifier.now result self.new }
+        ensures asked { texts self.new.asked ≡
+            (if is_ok result then texts self.old.asked ++ text_of specifier.now ∷ [] else texts self.old.asked) }
+        ensures log { text_log self.new.log ≡ text_log self.old.log }
+        ensures pending { self.new.pending ≡ self.old.pending }
+        ensures standing { self.new.standing ≡ self.old.standing }
+        ensures patience { NeverRises (Some (count_by is_pending self.old.arrival))
+            (Some (count_by is_pending self.new.arrival)) }
+        ensures told { tells self.new.modules ≡ tells self.old.modules }
+    {
         let request = specifier.clone()?;
-        let kept = specifier.clone()?;
-        self.waiting.push_back(request)?;
-        self.asked.push(kept)
+        let waiting = specifier.clone()?;
+        self.waiting.reserve(1)?;
+        self.asked.push(request)?;
+        self.waiting.push_back(waiting)?;
+        Ok(())
     }
 
-    fn poll(&mut self) -> Result<LoaderPoll, AllocError> {
-        let _asked = self.asked.len();
-        match self.waiting.front() {
-            Some(oldest) => {
-                let url = oldest.clone()?;
-                let answer = answer_of(self.modules.as_slice(), &url)?;
-                let copy = answer.copy()?;
-                let name = url.clone()?;
-                self.log.push((name, copy))?;
-                let _ = self.waiting.pop_front();
-                Ok(LoaderPoll::Answer(url, answer))
-            }
-            None => {
-                self.pending = self.pending.saturating_add(1);
-                self.standing = (self.asked.len(), self.log.len());
-                Ok(LoaderPoll::Pending)
-            }
-        }
+    fn poll(&mut self) -> Result<LoaderPoll, AllocError>
+        ensures polled { IsPolled self.old result self.new }
+        ensures asked { texts self.new.asked ≡ texts self.old.asked }
+        ensures log { text_log self.new.log ≡ log_after (text_log self.old.log) result }
+        ensures pending { IsCounted self.old.pending self.new.pending result }
+        ensures standing { self.new.standing ≡
+            standing_after (texts self.old.asked) (text_log self.old.log) self.old.standing result }
+        ensures patience { IsPatient (texts self.old.asked) (text_log self.old.log)
+            (Some (count_by is_pending self.old.arrival)) (Some (count_by is_pending self.new.arrival)) result }
+        ensures told { tells self.new.modules ≡ tells self.old.modules }
+        ensures as_told { IsAsTold (tells self.old.modules) result }
+    {
+        let (answered, after) = turn(self.arrival.as_slice(), self.next, &self.waiting);
+        let Some(url) = answered else {
+            self.next = after;
+            self.pending = self.pending.saturating_add(1);
+            self.standing = (self.asked.len(), self.log.len());
+            return Ok(LoaderPoll::Pending);
+        };
+        let logged = url.clone()?;
+        let url = url.clone()?;
+        let answer = answer_for(self.modules.as_slice(), &self.places, &url)?;
+        let kept = answer.copy()?;
+        self.log.push((logged, kept))?;
+        settle(&mut self.waiting, &url);
+        self.next = after;
+        Ok(LoaderPoll::Answer(url, answer))
     }
 }
 
-// The answer of the first module with this specifier, or `Absent`.
-fn answer_of(modules: &[(Url, LoadAnswer)], url: &Url) -> Result<LoadAnswer, AllocError>
-    ensures { IfOk result (λ a. a ≡ module_answer modules.now (text_of url.now)) }
+// From the last module to the first, so that the first with a specifier stays.
+fn places_of(
+    alloc: Global,
+    modules: &[(Url, LoadAnswer)],
+) -> Result<BTreeMap<Url, usize>, AllocError>
+    ensures { IfOk result (λ places. IsIndex modules.now places.entries) }
 {
-    for entry in modules {
-        if is_same(&entry.0, url) {
-            return entry.1.copy();
-        }
+    let mut places = BTreeMap::new(alloc);
+    let mut at = modules.len();
+    while 0 < at {
+        at -= 1;
+        let url = modules[at].0.clone()?;
+        put_place(&mut places, url, at)?;
     }
-    Ok(LoadAnswer::Absent)
+    Ok(places)
+}
+
+// A copy of the module's answer.
+fn answer_for(
+    modules: &[(Url, LoadAnswer)],
+    places: &BTreeMap<Url, usize>,
+    url: &Url,
+) -> Result<LoadAnswer, AllocError>
+    requires { IsIndex modules.now places.now.entries }
+    ensures { IfOk result (λ answer. answer ≡ module_answer modules.now (text_of url.now)) }
+{
+    match place_of(places, url) {
+        Some(at) => modules[at].1.copy(),
+        None => Ok(LoadAnswer::Absent),
+    }
 }
 
 #[tactic(auto, unfolding(graph_entry::specs::Specifier::text_of))]
-fn is_same(named: &Url, url: &Url) -> bool
-    ensures { result ≡ bytes_eq (text_of url.now) (text_of named.now) }
+fn place_of(places: &BTreeMap<Url, usize>, url: &Url) -> Option<usize>
+    ensures { result ≡ place_in places.now.entries (text_of url.now) }
 {
-    url == named
+    places.get(url).copied()
+}
+
+#[tactic(auto, unfolding(graph_entry::specs::Specifier::text_of))]
+fn put_place(places: &mut BTreeMap<Url, usize>, url: Url, at: usize) -> Result<(), AllocError>
+    ensures { OnOk result (IsPlaced places.old.entries places.new.entries url at) }
+{
+    let _ = places.insert(url, at)?;
+    Ok(())
+}
+
+// The specifier that is answered next, and how many arrival items are used up then.
+fn turn<'a>(
+    arrival: &'a [Arrival],
+    from: usize,
+    waiting: &'a VecDeque<Url>,
+) -> (Option<&'a Url>, usize)
+    ensures answered { option_copied result.0 ≡ (next_answered waiting.now.items (drop from arrival.now)).0 }
+    ensures rest { drop result.1 arrival.now ≡ (next_answered waiting.now.items (drop from arrival.now)).1 }
+{
+    let at = undropped(arrival, from, waiting);
+    if at < arrival.len() {
+        return (named(&arrival[at]), at + 1);
+    }
+    (waiting.front(), at)
+}
+
+// The place of the first arrival item from `from` on that isn't dropped, or the list's end.
+fn undropped(arrival: &[Arrival], from: usize, waiting: &VecDeque<Url>) -> usize
+    ensures same { next_answered waiting.now.items (drop from arrival.now)
+        ≡ next_answered waiting.now.items (drop result arrival.now) }
+    ensures takes { IsTaken waiting.now.items (drop result arrival.now) }
+{
+    let mut at = from;
+    while at < arrival.len() {
+        if !is_dropped(&arrival[at], waiting) {
+            return at;
+        }
+        at += 1;
+    }
+    at
+}
+
+#[tactic(auto, unfolding(graph_entry::specs::Specifier::text_of))]
+fn is_dropped(item: &Arrival, waiting: &VecDeque<Url>) -> bool
+    ensures { result ≡ is_dropped waiting.now.items item.now }
+{
+    match item {
+        Arrival::Answer(url) => !waiting.contains(url),
+        Arrival::Pending | Arrival::Force(_) => false,
+    }
+}
+
+fn named(item: &Arrival) -> Option<&Url>
+    ensures { option_copied result ≡ named item.now }
+{
+    match item {
+        Arrival::Answer(url) | Arrival::Force(url) => Some(url),
+        Arrival::Pending => None,
+    }
+}
+
+// Takes the oldest request for the specifier away, if there is one.
+fn settle(waiting: &mut VecDeque<Url>, url: &Url)
+    ensures { waiting.new.items ≡ settled waiting.old.items url.now }
+{
+    if let Some(at) = request_of(waiting, url) {
+        let _ = waiting.remove(at);
+    }
+}
+
+// The place of the oldest request for the specifier.
+fn request_of(waiting: &VecDeque<Url>, url: &Url) -> Option<usize>
+    ensures { MatchOption result (settled waiting.now.items url.now ≡ waiting.now.items)
+        (λ at. (at < length waiting.now.items)
+        × (remove waiting.now.items at ≡ settled waiting.now.items url.now)) }
+{
+    let mut at = 0;
+    while at < waiting.len() {
+        if is_same(&waiting[at], url) {
+            return Some(at);
+        }
+        at += 1;
+    }
+    None
+}
+
+#[tactic(auto, unfolding(graph_entry::specs::Specifier::text_of))]
+fn is_same(url: &Url, other: &Url) -> bool
+    ensures { result ≡ bytes_eq (text_of url.now) (text_of other.now) }
+{
+    url == other
 }
