@@ -1,0 +1,118 @@
+//! Graphs of small bundles, and each public call once on its happy path.
+use crate::{
+    BuildError, BuildOptions, Entry, GraphBuild, GraphKind, Headers, LoadAnswer, MemoryLoader,
+    Module, ModuleGraph,
+};
+use base::{Items, SharedBytes};
+use std::alloc::Global;
+use std::test::Fail;
+use url::Url;
+
+fn modules(alloc: Global, sources: &[(&str, &str)]) -> Result<Items<(Url, LoadAnswer)>, Fail> {
+    let mut modules = Items::new(alloc);
+    for (specifier, text) in sources {
+        let answer = LoadAnswer::Content {
+            headers: Headers::new(alloc),
+            bytes: SharedBytes::from_slice(alloc, text.as_bytes())?,
+        };
+        modules.push((Url::parse(alloc, specifier)?, answer))?;
+    }
+    Ok(modules)
+}
+
+fn builder(
+    alloc: Global,
+    roots: &[&str],
+    sources: &[(&str, &str)],
+    limit: usize,
+) -> Result<GraphBuild<MemoryLoader>, Fail> {
+    let mut urls = Items::new(alloc);
+    for root in roots {
+        urls.push(Url::parse(alloc, root)?)?;
+    }
+    let options = BuildOptions {
+        kind: GraphKind::All,
+        limit,
+        skip_dynamic_deps: false,
+        imports: Items::new(alloc),
+    };
+    let loader = MemoryLoader::new(alloc, modules(alloc, sources)?, Items::new(alloc))?;
+    Ok(GraphBuild::new(alloc, urls, options, loader)?)
+}
+
+// The answer of a poll as a line: the specifiers with what they are, or the error.
+fn polled(alloc: Global, build: &mut GraphBuild<MemoryLoader>) -> Result<String, Fail> {
+    match build.poll() {
+        Ok(graph) => shown(alloc, &graph),
+        Err(BuildError::TooManyModules { seen }) => Ok(format!(in alloc; "too many {seen}")?),
+        Err(BuildError::Finished) => Ok(String::from_str(alloc, "finished")?),
+        Err(_) => Ok(String::from_str(alloc, "another error")?),
+    }
+}
+
+fn shown(alloc: Global, graph: &ModuleGraph) -> Result<String, Fail> {
+    let roots = graph.roots().len();
+    let mut line = format!(in alloc; "{roots}")?;
+    for (specifier, entry) in graph.entries()? {
+        line.push_str(" ")?;
+        line.push_str(specifier.as_str())?;
+        line.push_str(word(entry))?;
+    }
+    Ok(line)
+}
+
+fn word(entry: &Entry) -> &'static str {
+    match entry {
+        Entry::Module(Module::Js(_)) => " module",
+        Entry::Error(error) => error.name(),
+        Entry::Redirect(_) | Entry::External => " no module",
+    }
+}
+
+#[test]
+fn builds_the_graph_of_what_the_roots_reach(rt: HostRuntime) -> Result<(), Fail> {
+    let alloc = rt.alloc();
+    let mut build = builder(
+        alloc,
+        &["file:///a.ts"],
+        &[("file:///a.ts", "import \"./b.ts\";"), ("file:///z.ts", "")],
+        9,
+    )?;
+    let line = polled(alloc, &mut build)?;
+    assert_eq!(rt; line.as_str(), "1 file:///a.ts module file:///b.tsMissing");
+    let again = polled(alloc, &mut build)?;
+    assert_eq!(rt; again.as_str(), "finished");
+    assert_eq!(rt; build.loader().asked().len(), 2);
+    let loader = build.into_loader();
+    assert_eq!(rt; loader.log().len(), 2);
+    Ok(())
+}
+
+#[test]
+fn gives_the_empty_graph_of_no_roots_and_asks_nothing(rt: HostRuntime) -> Result<(), Fail> {
+    let alloc = rt.alloc();
+    let mut build = builder(alloc, &[], &[("file:///a.ts", "")], 0)?;
+    let line = polled(alloc, &mut build)?;
+    assert_eq!(rt; line.as_str(), "0");
+    assert_eq!(rt; build.loader().asked().len(), 0);
+    Ok(())
+}
+
+#[test]
+fn stops_at_the_first_module_above_the_limit(rt: HostRuntime) -> Result<(), Fail> {
+    let alloc = rt.alloc();
+    let mut build = builder(
+        alloc,
+        &["file:///a.ts"],
+        &[
+            ("file:///a.ts", "import \"./b.ts\";"),
+            ("file:///b.ts", "import \"./c.ts\";"),
+        ],
+        2,
+    )?;
+    let line = polled(alloc, &mut build)?;
+    assert_eq!(rt; line.as_str(), "too many 3");
+    let again = polled(alloc, &mut build)?;
+    assert_eq!(rt; again.as_str(), "finished");
+    Ok(())
+}
