@@ -3,11 +3,8 @@ use Rattle.std.proofs.Common.{suc, ◌≡◌, ◌≤◌, ◌<◌, ◌+◌, ◌-�
 use Rattle.std.specs.Prelude.{bytes_eq, not, count_by}
 use Rattle.std.specs.List.{remove}
 use Rattle.std.specs.Map.{lookup}
-use Rattle.std.specs.Ordering.{nat_cmp, is_eq}
-use Rattle.std.specs.Cmp.Lexicographic.{slice_cmp, nat_list_eq_equiv}
 use Rattle.std.proofs.lemmas.List.{drop_more, drop_all, take_more, take_all, append_assoc, append-nil}
 use Rattle.std.proofs.lemmas.List.Recursion.{is_count_by}
-use Rattle.std.proofs.lemmas.Map.Text.{is_eq-slice_cmp}
 use Rattle.url.specs.Parts.{Parts}
 use Rattle.graph_entry.specs.Specifier.{text_of}
 use Rattle.graph_entry.specs.declared.answer.LoadAnswer.{LoadAnswer}
@@ -18,25 +15,24 @@ use Rattle.std.proofs.Common.{Ok}
 use Rattle.std.proofs.lemmas.List.{length-map, length-append}
 use Rattle.deno_graph.specs.declared.loader.LoaderPoll.TheVariants.{Pending, Answer}
 use Rattle.deno_graph.specs.Reach.{Specifier}
+use Rattle.deno_graph.specs.ByText.{value_at, IsPut}
 use Rattle.deno_graph.specs.Graph.{texts}
 use Rattle.deno_graph.specs.Loader.{IsPatient}
-use Rattle.deno_graph.specs.Memory.{module_answer, waits_for, settled, is_pending, next_answered, is_dropped, IsTaken, named, place_from, place_in, IsPlaced, IsIndexFrom, IsIndex, Memory, text_log, IsPolled}
+use Rattle.deno_graph.specs.Memory.{module_answer, waits_for, settled, is_pending, next_answered, is_dropped, IsTaken, named, place_from, IsIndexFrom, IsIndex, Memory, text_log, IsPolled}
 
 -- ---- the map of the modules
 
 -- an empty map is the index of no modules
 pub index_none : (modules : List (Parts × LoadAnswer)) (places : List (Parts × ℕ)) → places ≡ [] → IsIndexFrom (length modules) modules places
-index_none modules places is url = rw (is, drop_all (length modules) modules (omega arith)) refl
+index_none modules places is s = rw (is, drop_all (length modules) modules (omega arith)) refl
 
 -- and one module more
 pub index_more : (modules : List (Parts × LoadAnswer)) (old new : List (Parts × ℕ)) (at : ℕ) (x : Parts × LoadAnswer) → at < length modules → x ≡ get_or modules at x
-    → IsPlaced old new x.0 at → IsIndexFrom (at + 1) modules old → IsIndexFrom at modules new
-index_more modules old new at x lt is put rest url =
-    let here : place_from at (drop at modules) (text_of url) ≡ cond (bytes_eq (text_of url) (text_of x.0)) (Some at) (place_from (at + 1) (drop (at + 1) modules) (text_of url)) =
+    → IsPut old new (text_of x.0) at → IsIndexFrom (at + 1) modules old → IsIndexFrom at modules new
+index_more modules old new at x lt is put rest s =
+    let here : place_from at (drop at modules) s ≡ cond (bytes_eq s (text_of x.0)) (Some at) (place_from (at + 1) (drop (at + 1) modules) s) =
     rw (drop_more modules at x lt, ← is) refl in
-    let same : is_eq (slice_cmp nat_cmp (text_of x.0) (text_of url)) ≡ bytes_eq (text_of url) (text_of x.0) =
-    is_eq-slice_cmp (text_of x.0) (text_of url) ∙ nat_list_eq_equiv.symm (text_of x.0) (text_of url) in
-    put url ∙ rw (same, rest url) (sym here)
+    put.at s ∙ rw (rest s) (sym here)
 
 place_within : (n : ℕ) (modules : List (Parts × LoadAnswer)) (s : Specifier) (k : ℕ) → place_from n modules s ≡ Some k → (n ≤ k) × (k < n + length modules)
 place_within n [] s k h = absurd cc
@@ -73,25 +69,25 @@ place_none n (m ∷ modules) s h = by (bytes_eq s (text_of m.0)) h (place_none (
 
 -- a place that the map gives is one of the modules'
 pub placed_below : (modules : List (Parts × LoadAnswer)) (places : List (Parts × ℕ)) (url : Parts) (k : ℕ) → IsIndex modules places
-    → place_in places (text_of url) ≡ Some k → k < length modules
+    → value_at places (text_of url) ≡ Some k → k < length modules
 placed_below modules places url k index is =
-    let w : (0 ≤ k) × (k < 0 + length modules) = place_within 0 modules (text_of url) k (sym (index url) ∙ is) in omega arith
+    let w : (0 ≤ k) × (k < 0 + length modules) = place_within 0 modules (text_of url) k (sym (index (text_of url)) ∙ is) in omega arith
 
 -- and that module has the answer
 pub placed_answer : (modules : List (Parts × LoadAnswer)) (places : List (Parts × ℕ)) (url : Parts) (k : ℕ) (d : Parts × LoadAnswer) → IsIndex modules places
-    → place_in places (text_of url) ≡ Some k → (get_or modules k d).1 ≡ module_answer modules (text_of url)
+    → value_at places (text_of url) ≡ Some k → (get_or modules k d).1 ≡ module_answer modules (text_of url)
 placed_answer modules places url k d index is =
     let none : k - 0 ≡ k = omega arith in
     let found : lookup (λ u. bytes_eq (text_of url) (text_of u)) modules ≡ Some (get_or modules k d).1 =
     subst (λ (n : ℕ). lookup (λ u. bytes_eq (text_of url) (text_of u)) modules ≡ Some (get_or modules n d).1) none
-    (place_answer 0 modules (text_of url) k d (sym (index url) ∙ is)) in
+    (place_answer 0 modules (text_of url) k d (sym (index (text_of url)) ∙ is)) in
     rw found refl
 
 -- where it gives none, no module has one
 pub unplaced_answer : (modules : List (Parts × LoadAnswer)) (places : List (Parts × ℕ)) (url : Parts) → IsIndex modules places
-    → place_in places (text_of url) ≡ None → Absent ≡ module_answer modules (text_of url)
+    → value_at places (text_of url) ≡ None → Absent ≡ module_answer modules (text_of url)
 unplaced_answer modules places url index is =
-    let found : lookup (λ u. bytes_eq (text_of url) (text_of u)) modules ≡ None = place_none 0 modules (text_of url) (sym (index url) ∙ is) in
+    let found : lookup (λ u. bytes_eq (text_of url) (text_of u)) modules ≡ None = place_none 0 modules (text_of url) (sym (index (text_of url)) ∙ is) in
     rw found refl
 
 -- ---- the arrival list

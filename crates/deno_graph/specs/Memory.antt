@@ -2,8 +2,6 @@
 use Rattle.std.specs.Prelude.{◌≡◌, ℕ, ◌+◌, min, Bool, true, false, List, [], ◌∷◌, ◌++◌, length, ◌≤◌, not, map, drop, bytes_eq, Option, Some, None, unwrap_or, Result, Ok, Err, if◌then◌else◌}
 use Rattle.std.specs.List.{list_any}
 use Rattle.std.specs.Map.{lookup}
-use Rattle.std.specs.Ordering.{nat_cmp, is_eq}
-use Rattle.std.specs.Cmp.Lexicographic.{slice_cmp}
 use Rattle.std.specs.declared.alloc.AllocError.{AllocError}
 use Rattle.url.specs.Parts.{Parts}
 use Rattle.graph_entry.specs.Specifier.{text_of}
@@ -14,6 +12,7 @@ use Rattle.deno_graph.specs.declared.memory_loader.Arrival.TheVariants as arriva
 use Rattle.deno_graph.specs.declared.loader.LoaderPoll.{LoaderPoll}
 use Rattle.deno_graph.specs.declared.loader.LoaderPoll.TheVariants.{Pending, Answer}
 use Rattle.deno_graph.specs.Reach.{Specifier, Log, Answers}
+use Rattle.deno_graph.specs.ByText.{value_at}
 use Rattle.deno_graph.specs.Loader.{last_count}
 
 -- What contracts see of a loader in memory. `waiting` are the requests that are outstanding, the oldest first.
@@ -112,18 +111,9 @@ abbrev pub place_from : ℕ → List (Parts × LoadAnswer) → Specifier → Opt
 place_from n [] s = None
 place_from n (e ∷ modules) s = if bytes_eq s (text_of e.0) then Some n else place_from (n + 1) modules s
 
--- what a map by the specifiers' texts gives for one
-abbrev pub place_in : List (Parts × ℕ) → Specifier → Option ℕ
-place_in places s = lookup (λ k. is_eq (slice_cmp nat_cmp s (text_of k))) places
-
--- the new map gives this place for the specifier, and what the old one gives for others
-abbrev pub IsPlaced : List (Parts × ℕ) → List (Parts × ℕ) → Parts → ℕ → Type 0
-IsPlaced old new url n = (q : Parts) → place_in new (text_of q) ≡
-    (if is_eq (slice_cmp nat_cmp (text_of url) (text_of q)) then Some n else place_in old (text_of q))
-
 -- a map gives the number of the first module with each specifier, of those from so many on
 abbrev pub IsIndexFrom : ℕ → List (Parts × LoadAnswer) → List (Parts × ℕ) → Type 0
-IsIndexFrom n modules places = (url : Parts) → place_in places (text_of url) ≡ place_from n (drop n modules) (text_of url)
+IsIndexFrom n modules places = (s : Specifier) → value_at places s ≡ place_from n (drop n modules) s
 
 -- of all of them
 abbrev pub IsIndex : List (Parts × LoadAnswer) → List (Parts × ℕ) → Type 0

@@ -1,12 +1,14 @@
 //! A loader in memory.
-ghost use Rattle.std.specs.Prelude.{◌≡◌, ◌≤◌, ◌<◌, ◌+◌, ℕ, IfOk, OnOk, MatchOption, Some, None, ◌++◌, ◌∷◌, [], map, drop, length, bytes_eq, count_by, is_ok, if◌then◌else◌};
+ghost use Rattle.std.specs.Prelude.{◌≡◌, ◌≤◌, ◌<◌, ◌+◌, ℕ, IfOk, MatchOption, Some, None, ◌++◌, ◌∷◌, [], map, drop, length, bytes_eq, count_by, is_ok, if◌then◌else◌};
 ghost use Rattle.std.specs.Option.{option_copied};
 ghost use Rattle.std.specs.List.{remove};
 ghost use Rattle.graph_entry.specs.Specifier.{text_of};
+ghost use Rattle.deno_graph.specs.ByText.{value_at};
 ghost use Rattle.deno_graph.specs.Graph.{texts};
 ghost use Rattle.deno_graph.specs.Loader.{log_after, standing_after, IsCounted, NeverRises, IsPatient, IsAsTold};
-ghost use Rattle.deno_graph.specs.Memory.{new_memory, module_answer, tells, text_log, is_pending, waits_for, settled, next_answered, is_dropped, named, IsTaken, IsStarted, IsPolled, IsIndex, IsPlaced, place_in};
+ghost use Rattle.deno_graph.specs.Memory.{new_memory, module_answer, tells, text_log, is_pending, waits_for, settled, next_answered, is_dropped, named, IsTaken, IsStarted, IsPolled, IsIndex};
 
+use crate::by_text::{find, put};
 use crate::loader::{Loader, LoaderPoll};
 use base::Items;
 use graph_entry::LoadAnswer;
@@ -175,7 +177,7 @@ fn places_of(
     while 0 < at {
         at -= 1;
         let url = modules[at].0.clone()?;
-        put_place(&mut places, url, at)?;
+        put(&mut places, url, at)?;
     }
     Ok(places)
 }
@@ -195,19 +197,10 @@ fn answer_for(
     }
 }
 
-#[tactic(auto, unfolding(graph_entry::specs::Specifier::text_of))]
 fn place_of(places: &BTreeMap<Url, usize>, url: &Url) -> Option<usize>
-    ensures { result ≡ place_in places.now.entries (text_of url.now) }
+    ensures { result ≡ value_at places.now.entries (text_of url.now) }
 {
-    places.get(url).copied()
-}
-
-#[tactic(auto, unfolding(graph_entry::specs::Specifier::text_of))]
-fn put_place(places: &mut BTreeMap<Url, usize>, url: Url, at: usize) -> Result<(), AllocError>
-    ensures { OnOk result (IsPlaced places.old.entries places.new.entries url at) }
-{
-    let _ = places.insert(url, at)?;
-    Ok(())
+    find(places, url).copied()
 }
 
 // The specifier that is answered next, and how many arrival items are used up then.
@@ -291,4 +284,88 @@ fn is_same(url: &Url, other: &Url) -> bool
     ensures { result ≡ bytes_eq (text_of url.now) (text_of other.now) }
 {
     url == other
+}
+
+#[cfg(test)]
+mod tests {
+    use super::{Arrival, MemoryLoader};
+    use crate::loader::{Loader, LoaderPoll};
+    use base::Items;
+    use graph_entry::LoadAnswer;
+    use std::alloc::Global;
+    use std::test::Fail;
+    use url::Url;
+
+    fn named(alloc: Global, name: char) -> Result<Url, Fail> {
+        let text = format!(in alloc; "https://e/{name}")?;
+        Ok(Url::parse(alloc, text.as_str())?)
+    }
+
+    // A small letter is an answer, a capital one a forced answer of that letter, and `-` is nothing.
+    fn arrivals(alloc: Global, letters: &str) -> Result<Items<Arrival>, Fail> {
+        let mut items = Items::new(alloc);
+        for letter in letters.chars() {
+            let item = match letter {
+                '-' => Arrival::Pending,
+                'A' => Arrival::Force(named(alloc, 'a')?),
+                'D' => Arrival::Force(named(alloc, 'd')?),
+                _ => Arrival::Answer(named(alloc, letter)?),
+            };
+            items.push(item)?;
+        }
+        Ok(items)
+    }
+
+    // Two modules with the specifier `a`, and requests for `a`, `b` and `c`.
+    fn asked(alloc: Global, letters: &str) -> Result<MemoryLoader, Fail> {
+        let mut modules = Items::new(alloc);
+        modules.push((named(alloc, 'a')?, LoadAnswer::External))?;
+        modules.push((named(alloc, 'a')?, LoadAnswer::Failed))?;
+        let mut loader = MemoryLoader::new(alloc, modules, arrivals(alloc, letters)?)?;
+        for name in "abc".chars() {
+            loader.start(&named(alloc, name)?)?;
+        }
+        Ok(loader)
+    }
+
+    // Five polls: each path that is answered, with `+` where a module is external and `?` where there is none.
+    fn given(alloc: Global, letters: &str) -> Result<String, Fail> {
+        let mut loader = asked(alloc, letters)?;
+        let mut line = String::new(alloc);
+        for _ in 0..5 {
+            match loader.poll()? {
+                LoaderPoll::Pending => line.push('-')?,
+                LoaderPoll::Answer(url, answer) => {
+                    line.push_str(url.path())?;
+                    line.push(mark(&answer))?;
+                }
+            }
+        }
+        Ok(line)
+    }
+
+    fn mark(answer: &LoadAnswer) -> char {
+        match answer {
+            LoadAnswer::External => '+',
+            LoadAnswer::Absent => '?',
+            LoadAnswer::Content { .. } | LoadAnswer::Redirect(_) | LoadAnswer::Failed => '!',
+        }
+    }
+
+    #[test]
+    fn answers_come_in_the_order_of_the_arrival_list(rt: HostRuntime) -> Result<(), Fail> {
+        let cases = [
+            ("", "/a+/b?/c?--"),
+            ("cb", "/c?/b?/a+--"),
+            ("dcc", "/c?/a+/b?--"),
+            ("-b-", "-/b?-/a+/c?"),
+            ("A", "/a+/b?/c?--"),
+            ("DaA", "/d?/a+/a+/b?/c?"),
+        ];
+        for (letters, want) in cases {
+            let line = given(rt.alloc(), letters)?;
+            assert_eq!(rt; line.as_str(), want, "at {letters}");
+        }
+        Ok(())
+    }
 }
