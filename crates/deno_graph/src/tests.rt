@@ -1,7 +1,7 @@
 //! Graphs of small bundles, and each public call once on its happy path.
 use crate::{
-    BuildError, BuildOptions, Entry, GraphBuild, GraphKind, Headers, LoadAnswer, MemoryLoader,
-    Module, ModuleGraph,
+    Arrival, BuildError, BuildOptions, Entry, GraphBuild, GraphKind, Headers, LoadAnswer,
+    MemoryLoader, Module, ModuleGraph,
 };
 use base::{Items, SharedBytes};
 use std::alloc::Global;
@@ -20,11 +20,26 @@ fn modules(alloc: Global, sources: &[(&str, &str)]) -> Result<Items<(Url, LoadAn
     Ok(modules)
 }
 
+// `-` is nothing, and any other letter the forced answer of the module with this letter.
+fn arrivals(alloc: Global, letters: &str) -> Result<Items<Arrival>, Fail> {
+    let mut items = Items::new(alloc);
+    for letter in letters.chars() {
+        let text = format!(in alloc; "file:///{letter}.ts")?;
+        let item = match letter {
+            '-' => Arrival::Pending,
+            _ => Arrival::Force(Url::parse(alloc, text.as_str())?),
+        };
+        items.push(item)?;
+    }
+    Ok(items)
+}
+
 fn builder(
     alloc: Global,
     roots: &[&str],
     sources: &[(&str, &str)],
     limit: usize,
+    letters: &str,
 ) -> Result<GraphBuild<MemoryLoader>, Fail> {
     let mut urls = Items::new(alloc);
     for root in roots {
@@ -36,7 +51,7 @@ fn builder(
         skip_dynamic_deps: false,
         imports: Items::new(alloc),
     };
-    let loader = MemoryLoader::new(alloc, modules(alloc, sources)?, Items::new(alloc))?;
+    let loader = MemoryLoader::new(alloc, modules(alloc, sources)?, arrivals(alloc, letters)?)?;
     Ok(GraphBuild::new(alloc, urls, options, loader)?)
 }
 
@@ -45,8 +60,10 @@ fn polled(alloc: Global, build: &mut GraphBuild<MemoryLoader>) -> Result<String,
     match build.poll() {
         Ok(graph) => shown(alloc, &graph),
         Err(BuildError::TooManyModules { seen }) => Ok(format!(in alloc; "too many {seen}")?),
+        Err(BuildError::UnaskedAnswer(url)) => Ok(format!(in alloc; "unasked {url}")?),
+        Err(BuildError::NotYet) => Ok(String::from_str(alloc, "not yet")?),
         Err(BuildError::Finished) => Ok(String::from_str(alloc, "finished")?),
-        Err(_) => Ok(String::from_str(alloc, "another error")?),
+        Err(BuildError::OutOfMemory) => Ok(String::from_str(alloc, "out of memory")?),
     }
 }
 
@@ -77,6 +94,7 @@ fn builds_the_graph_of_what_the_roots_reach(rt: HostRuntime) -> Result<(), Fail>
         &["file:///a.ts"],
         &[("file:///a.ts", "import \"./b.ts\";"), ("file:///z.ts", "")],
         9,
+        "",
     )?;
     let line = polled(alloc, &mut build)?;
     assert_eq!(rt; line.as_str(), "1 file:///a.ts module file:///b.tsMissing");
@@ -91,7 +109,7 @@ fn builds_the_graph_of_what_the_roots_reach(rt: HostRuntime) -> Result<(), Fail>
 #[test]
 fn gives_the_empty_graph_of_no_roots_and_asks_nothing(rt: HostRuntime) -> Result<(), Fail> {
     let alloc = rt.alloc();
-    let mut build = builder(alloc, &[], &[("file:///a.ts", "")], 0)?;
+    let mut build = builder(alloc, &[], &[("file:///a.ts", "")], 0, "")?;
     let line = polled(alloc, &mut build)?;
     assert_eq!(rt; line.as_str(), "0");
     assert_eq!(rt; build.loader().asked().len(), 0);
@@ -109,10 +127,32 @@ fn stops_at_the_first_module_above_the_limit(rt: HostRuntime) -> Result<(), Fail
             ("file:///b.ts", "import \"./c.ts\";"),
         ],
         2,
+        "",
     )?;
     let line = polled(alloc, &mut build)?;
     assert_eq!(rt; line.as_str(), "too many 3");
     let again = polled(alloc, &mut build)?;
     assert_eq!(rt; again.as_str(), "finished");
+    Ok(())
+}
+
+#[test]
+fn takes_answers_in_any_order(rt: HostRuntime) -> Result<(), Fail> {
+    let alloc = rt.alloc();
+    let graph = "1 file:///a.ts module file:///b.tsMissing";
+    let cases = [
+        ("-", "not yet", graph),
+        ("ab", graph, "finished"),
+        ("z", "unasked file:///z.ts", "finished"),
+        ("aa", "unasked file:///a.ts", "finished"),
+    ];
+    for (letters, first, second) in cases {
+        let sources = [("file:///a.ts", "import \"./b.ts\";")];
+        let mut build = builder(alloc, &["file:///a.ts"], &sources, 9, letters)?;
+        let line = polled(alloc, &mut build)?;
+        assert_eq!(rt; line.as_str(), first, "first poll of {letters}");
+        let line = polled(alloc, &mut build)?;
+        assert_eq!(rt; line.as_str(), second, "second poll of {letters}");
+    }
     Ok(())
 }

@@ -19,6 +19,8 @@ mod reports;
 mod sink;
 mod source;
 mod status;
+#[cfg(test)]
+mod tests;
 mod transfer;
 mod verdict;
 mod words;

@@ -44,6 +44,6 @@ modules-preserved c =
       within = omega (arith, c.modules.invariant.within);
       distinct = ap are_distinct split ∙ distinct_here x rest new c.modules.invariant.distinct;
       later = λ q. seen_here bytes c.modules.later c.insert.new.self x rest text c.modules.invariant.later
-        (btree_set_updates_text bytes c.modules.later c.insert.new.self true c.in_ok-insert.ensures.updates) q
-        ∙ ap (λ xs. has (specifiers xs) q) (sym split);
+          (btree_set_updates_text bytes c.modules.later c.insert.new.self true c.in_ok-insert.ensures.updates) q
+          ∙ ap (λ xs. has (specifiers xs) q) (sym split);
     }

@@ -9,7 +9,7 @@ abbrev pub invariant-modules : goal.invariant-modules
 invariant-modules l = record {
   within : l.at ≤ length l.modules;
   distinct : are_distinct (drop l.at l.modules) ≡ true;
-  later : (q : List ℕ) → contains_text l.later q ≡ has (specifiers (drop l.at l.modules)) q
+  later : (q : List ℕ) → contains_text l.later q ≡ has (specifiers (drop l.at l.modules)) q;
 }
 
 abbrev pub decreases-modules : goal.decreases-modules
