@@ -13,8 +13,8 @@ use es_lexer::Token;
 use es_tree::{Lang, Mode, Module, Program, SyntaxError};
 use std::alloc::Global;
 
-/// The most nodes on a path of a tree.
-const MOST_NODES: usize = 500;
+/// The most nodes on a path of a tree: the program's own, and 500 below it.
+const MOST_NODES: usize = 501;
 
 impl Parser<'_> {
     /// Module: Item*
