@@ -65,6 +65,6 @@ module _ (l : Lang) (m : Mode) (x : List ℕ) (ts : List Token) where
           nothing_gives (program tree) (length ts) (sym (told (λ eq. let bad : ⊥ = cc in bad)) ∙ derived_read room tree most derived)
 
 -- the bound of the code
-pub most : 500 ≡ most_nodes
+pub most : 501 ≡ most_nodes
 unfolding most_nodes
 most = refl

@@ -30,6 +30,14 @@ rule_at x ts below a at = read_rule (values x ts) (keys_of ts) below a at
 abbrev pub form_at : List ℕ → List Token → Below → Form Row → ℕ → Out Value
 form_at x ts below f at = read_form (values x ts) (keys_of ts) below f at
 
+-- the reader of a rule whose rows have so much room
+abbrev pub by : List ℕ → List Token → ℕ → Rule Row Label → ℕ → Out Value
+by x ts room a at = rule_at x ts (row_at x ts room) a at
+
+-- the reader of a form whose rows have so much room
+abbrev pub parts : List ℕ → List Token → ℕ → Form Row → ℕ → Out Value
+parts x ts room f at = form_at x ts (row_at x ts room) f at
+
 -- the reader of a list, by the form of a turn
 abbrev pub turns_at : List ℕ → List Token → Below → Look → Form Row → ℕ → ℕ → Out Value
 turns_at x ts below t f n at = read_turns (values x ts) (keys_of ts) t (form_at x ts below f) n at

@@ -1,6 +1,6 @@
 //! The small steps of the parser over the tokens of a text.
 
-ghost use Rattle.std.specs.Prelude.{◌≡◌, ◌≢◌, ◌+◌, true, false, slice_get, IfOk, OnOk, OnErr, IfErr};
+ghost use Rattle.std.specs.Prelude.{◌≡◌, ◌≢◌, ◌+◌, suc, true, false, slice_get, IfOk, OnOk, OnErr, IfErr};
 ghost use Rattle.es_lexer.specs.Reads.{ReadsTokens};
 ghost use Rattle.es_lexer.specs.declared.token.TokenKind.TheVariants as k;
 ghost use Rattle.es_tree.specs.declared.error.SyntaxError.TheVariants.{OutOfMemory};
@@ -8,7 +8,7 @@ ghost use Rattle.es_tree.specs.Key.{keys_of, seen, is, is_end, is_token, is_afte
 ghost use Rattle.es_tree.specs.Form.{as_str};
 ghost use Rattle.es_parser.specs.Dress.{Value, absent, more, str, leaf_value, end_of, start_of, end_before, span_of};
 ghost use Rattle.es_parser.specs.Rows.{ended, may_end};
-ghost use Rattle.es_parser.specs.Steps.{Reads, Below, form_at};
+ghost use Rattle.es_parser.specs.Steps.{Reads, parts};
 
 use base::Range;
 use es_lexer::{Token, TokenKind, literal_value};
@@ -69,17 +69,33 @@ impl Parser<'_> {
         }
     }
 
+    /// Whether no token is at this place.
+    pub fn is_end(&self, at: usize) -> bool
+        ensures { result ≡ is_end (seen (keys_of self.now.tokens.now) at) }
+    {
+        match self.token(at) {
+            Some(_token) => false,
+            None => true,
+        }
+    }
+
     /// Whether END may stand here.
+    #[tactic(auto, unfolding(crate::specs::Rows::may_end))]
     pub fn may_end(&self, at: usize) -> bool
         ensures { result ≡ may_end (seen (keys_of self.now.tokens.now) at) }
     {
-        if self.sees(TokenKind::Semicolon, at) {
-            return true;
+        self.sees(TokenKind::Semicolon, at) || self.is_end(at) || self.is_after_line(at)
+    }
+
+    /// How many nodes may stand on a path below one that is made here.
+    pub fn below(&self, room: usize, cursor: &Cursor) -> Result<usize, SyntaxError>
+        ensures made { IfOk result (λ below. room ≡ suc below) }
+        ensures full { OnErr result (room ≡ 0) }
+    {
+        if room == 0 {
+            return Err(SyntaxError::Syntax { token: cursor.at });
         }
-        if !self.sees_token(at) {
-            return true;
-        }
-        self.is_after_line(at)
+        Ok(room - 1)
     }
 
     /// Takes the next token where it is of this kind.
@@ -128,9 +144,10 @@ impl Parser<'_> {
     }
 
     /// END: a `;`, which is taken; or before the end; or before a token on a new line.
-    pub fn ended(&self, cursor: &mut Cursor) -> Result<(), SyntaxError>
-        ensures { (below : Below) → Reads (λ _. more absent absent)
-            (form_at self.now.text.now self.now.tokens.now below ended cursor.old.at) result cursor.new.at }
+    #[tactic(auto, unfolding(crate::specs::Rows::ended))]
+    pub fn ended(&self, _room: usize, cursor: &mut Cursor) -> Result<(), SyntaxError>
+        ensures { Reads (λ _. more absent absent)
+            (parts self.now.text.now self.now.tokens.now _room ended cursor.old.at) result cursor.new.at }
     {
         if !self.may_end(cursor.at) {
             return Err(SyntaxError::Syntax { token: cursor.at });

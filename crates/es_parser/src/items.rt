@@ -5,7 +5,7 @@ ghost use Rattle.es_lexer.specs.Reads.{ReadsTokens};
 ghost use Rattle.es_tree.specs.Key.{keys_of, is_token};
 ghost use Rattle.es_parser.specs.Dress.{item as item_value, more, absent};
 ghost use Rattle.es_parser.specs.Rows.{ItemRow, import_item, empty_item, item, one_item};
-ghost use Rattle.es_parser.specs.Steps.{Reads, Below, row_at, rule_at, turns_at, all_of};
+ghost use Rattle.es_parser.specs.Steps.{Reads, row_at, by, turns_at, all_of};
 
 use crate::cursor::{Cursor, Parser};
 use base::Items;
@@ -14,23 +14,25 @@ use es_tree::{EmptyStmt, ImportDecl, ModuleDecl, ModuleItem, Stmt, SyntaxError};
 
 impl Parser<'_> {
     /// 'import' Str END
-    fn import_item(&self, cursor: &mut Cursor) -> Result<ModuleItem, SyntaxError>
+    #[tactic(auto, unfolding(crate::specs::Rows::import_item))]
+    fn import_item(&self, room: usize, cursor: &mut Cursor) -> Result<ModuleItem, SyntaxError>
         requires { ReadsTokens self.now.text.now self.now.tokens.now }
-        ensures { (below : Below) → Reads item_value
-            (rule_at self.now.text.now self.now.tokens.now below import_item cursor.old.at) result cursor.new.at }
+        ensures { Reads item_value
+            (by self.now.text.now self.now.tokens.now room import_item cursor.old.at) result cursor.new.at }
     {
         let from = cursor.at;
         self.expect(TokenKind::ImportWord, cursor)?;
         let src = self.str(cursor)?;
-        self.ended(cursor)?;
+        self.ended(room, cursor)?;
         let span = self.span(from, cursor.at);
         Ok(ModuleItem::ModuleDecl(ModuleDecl::Import(ImportDecl { src, span })))
     }
 
     /// ';'
-    fn empty_item(&self, cursor: &mut Cursor) -> Result<ModuleItem, SyntaxError>
-        ensures { (below : Below) → Reads item_value
-            (rule_at self.now.text.now self.now.tokens.now below empty_item cursor.old.at) result cursor.new.at }
+    #[tactic(auto, unfolding(crate::specs::Rows::empty_item))]
+    fn empty_item(&self, _room: usize, cursor: &mut Cursor) -> Result<ModuleItem, SyntaxError>
+        ensures { Reads item_value
+            (by self.now.text.now self.now.tokens.now _room empty_item cursor.old.at) result cursor.new.at }
     {
         let start = cursor.at;
         self.expect(TokenKind::Semicolon, cursor)?;
@@ -39,19 +41,28 @@ impl Parser<'_> {
     }
 
     /// Item: 'import' Str END | ';'
+    #[tactic(auto, unfolding(crate::specs::Rows::item))]
+    fn item_at(&self, room: usize, cursor: &mut Cursor) -> Result<ModuleItem, SyntaxError>
+        requires { ReadsTokens self.now.text.now self.now.tokens.now }
+        ensures { Reads item_value
+            (by self.now.text.now self.now.tokens.now room item cursor.old.at) result cursor.new.at }
+    {
+        if self.sees(TokenKind::ImportWord, cursor.at) {
+            Ok(self.import_item(room, cursor)?)
+        } else {
+            Ok(self.empty_item(room, cursor)?)
+        }
+    }
+
+    /// An item, where a node may still be made.
+    #[tactic(auto, unfolding(crate::specs::Steps::row_at, es_tree::specs::Reader::read_row, crate::specs::Rows::rule))]
     pub fn item(&self, room: usize, cursor: &mut Cursor) -> Result<ModuleItem, SyntaxError>
         requires { ReadsTokens self.now.text.now self.now.tokens.now }
         ensures { Reads item_value (row_at self.now.text.now self.now.tokens.now room
             (ItemRow self.now.lang self.now.mode) cursor.old.at) result cursor.new.at }
     {
-        if room == 0 {
-            return Err(SyntaxError::Syntax { token: cursor.at });
-        }
-        if self.sees(TokenKind::ImportWord, cursor.at) {
-            Ok(self.import_item(cursor)?)
-        } else {
-            Ok(self.empty_item(cursor)?)
-        }
+        let below = self.below(room, cursor)?;
+        Ok(self.item_at(below, cursor)?)
     }
 
     /// Item*

@@ -6,22 +6,22 @@ ghost use Rattle.es_tree.specs.declared.tree.Program.{Program as Tree};
 ghost use Rattle.es_parser.specs.Derives.{Derives, GivesTree};
 ghost use Rattle.es_parser.specs.Dress.{program as program_value};
 ghost use Rattle.es_parser.specs.Rows.{ProgramRow, module_program};
-ghost use Rattle.es_parser.specs.Steps.{Reads, row_at, rule_at};
+ghost use Rattle.es_parser.specs.Steps.{Reads, row_at, by};
 
 use crate::cursor::{Cursor, Parser};
 use es_lexer::Token;
 use es_tree::{Lang, Mode, Module, Program, SyntaxError};
 use std::alloc::Global;
 
-/// The most nodes on a path of a tree.
-const MOST_NODES: usize = 500;
+/// The most nodes on a path of a tree: the program's own, and 500 below it.
+const MOST_NODES: usize = 501;
 
 impl Parser<'_> {
     /// Module: Item*
+    #[tactic(auto, using(crate::proofs::StepLemmas::items_of_all), unfolding(crate::specs::Rows::module_program))]
     fn module(&self, room: usize, cursor: &mut Cursor) -> Result<Program, SyntaxError>
         requires { ReadsTokens self.now.text.now self.now.tokens.now }
-        ensures { Reads program_value (rule_at self.now.text.now self.now.tokens.now
-            (row_at self.now.text.now self.now.tokens.now room)
+        ensures { Reads program_value (by self.now.text.now self.now.tokens.now room
             (module_program self.now.lang self.now.mode) cursor.old.at) result cursor.new.at }
     {
         let from = cursor.at;
@@ -31,16 +31,15 @@ impl Parser<'_> {
     }
 
     /// A whole program: a module, in module mode alone.
+    #[tactic(auto, unfolding(crate::specs::Steps::row_at, es_tree::specs::Reader::read_row, crate::specs::Rows::rule, crate::specs::Rows::program))]
     fn program(&self, room: usize, cursor: &mut Cursor) -> Result<Program, SyntaxError>
         requires { ReadsTokens self.now.text.now self.now.tokens.now }
         ensures { Reads program_value (row_at self.now.text.now self.now.tokens.now room
             (ProgramRow self.now.lang self.now.mode) cursor.old.at) result cursor.new.at }
     {
-        if room == 0 {
-            return Err(SyntaxError::Syntax { token: cursor.at });
-        }
+        let below = self.below(room, cursor)?;
         match self.mode {
-            Mode::Module => Ok(self.module(room - 1, cursor)?),
+            Mode::Module => Ok(self.module(below, cursor)?),
             Mode::Script => Err(SyntaxError::Syntax { token: cursor.at }),
         }
     }

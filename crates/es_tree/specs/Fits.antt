@@ -7,9 +7,9 @@ use Rattle.es_tree.specs.Key.{Key, Seen, Look, seen, has_kind, is}
 use Rattle.es_tree.specs.Form.{Told, hint, taken, test, Form, done, tok, punct, row, opt, many, when_, where_, Rule, refuse, make, choose, as_}
 use Rattle.es_tree.specs.Plain.{Plain, node, leaf, nil, cons, mark, turn, via}
 
--- the most nodes on a path
+-- the most nodes on a path: the program's own, and 500 below it (items, statements, expressions, patterns, types)
 unfoldable pub most_nodes : ℕ
-most_nodes = 500
+most_nodes = 501
 
 -- the two ways to read a grammar
 pub data Reading : Type 0 where
