@@ -136,19 +136,27 @@ const PIECES: [&str; 9] = [
     "", " import", " 'a'", " ;", " x", "\nimport", "\n'a'", "\n;", "\nx",
 ];
 
+/// Whether each text of these two pieces, with each piece behind them up to five in all, agrees.
+fn each_agrees(alloc: Global, front: &str) -> Result<bool, Fail> {
+    for c in PIECES {
+        for d in PIECES {
+            for e in PIECES {
+                let text = format!(in alloc; "{front}{c}{d}{e}")?;
+                if !agrees(alloc, text.as_str())? {
+                    return Ok(false);
+                }
+            }
+        }
+    }
+    Ok(true)
+}
+
 #[test]
 fn every_short_list_agrees_with_the_enumeration(rt: HostRuntime) -> Result<(), Fail> {
     for a in PIECES {
         for b in PIECES {
-            for c in PIECES {
-                for d in PIECES {
-                    let text = format!(in rt.alloc(); "{a}{b}{c}{d}")?;
-                    assert!(rt;
-                        agrees(rt.alloc(), text.as_str())?,
-                        "{a:?} {b:?} {c:?} {d:?}"
-                    );
-                }
-            }
+            let front = format!(in rt.alloc(); "{a}{b}")?;
+            assert!(rt; each_agrees(rt.alloc(), front.as_str())?, "{front:?}");
         }
     }
     Ok(())
