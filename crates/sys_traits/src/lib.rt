@@ -1,0 +1,15 @@
+//! What a program asks of the system it runs on: files, random bytes and sleep, as traits.
+#![tactic(auto)]
+
+mod call;
+mod error;
+mod file;
+mod traits;
+
+pub use call::{SysCall, SysCallKind};
+pub use error::{SysError, SysErrorKind};
+pub use file::SysFile;
+pub use traits::{
+    AtomicWriteFileSys, AtomicWriteFileWithRetriesSys, FsCanonicalize, FsCreateDirAll, FsMetadata,
+    FsOpen, FsRemoveFile, FsRename, SysState, SystemRandom, ThreadSleep,
+};
