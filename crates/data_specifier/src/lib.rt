@@ -1,0 +1,22 @@
+//! What a `data:` URL holds (Fetch Standard, "`data:` URL processor").
+//!
+//! - `parse_data(url)`: the media type and the bytes that the URL's text tells (`data_of`, `specs/Data.antt`), or why it
+//!   tells none: exactly these, want of memory aside. The escapes are read by `percent_encoding`, base64 by the strict
+//!   engine of `base64`; the rules around them are here (`forgiving_base64`, `specs/Forgiving.antt`).
+//! - `DataModule::copy`: an equal value.
+//!
+//! Laws are in `proofs/Theorems.antt`. Not promised: what `Display` and `Debug` write, and when memory runs out.
+#![tactic(auto)]
+
+mod body;
+mod data_module;
+mod error;
+mod front;
+mod parse;
+
+pub use crate::data_module::DataModule;
+pub use crate::error::DataError;
+pub use crate::parse::parse_data;
+
+#[cfg(test)]
+mod tests;
