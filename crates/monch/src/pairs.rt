@@ -1,0 +1,30 @@
+ghost use Rattle.monch.specs.Parts.{GivesPair};
+ghost use Rattle.monch.specs.Suffix.{GivesPair-suffix};
+
+use crate::combinator::{Combinator, ParseResult};
+
+#[derive(Debug, Drop)]
+pub struct Pair<A, B> {
+    pub(crate) first: A,
+    pub(crate) second: B,
+}
+
+impl<'a, A: Combinator<'a>, B: Combinator<'a>> Combinator<'a> for Pair<A, B>
+where
+    A::Output: Drop,
+    B::Output: Drop,
+{
+    type Output = (A::Output, B::Output);
+
+    ghost can_parse = { λ s. A.can_parse s.first × B.can_parse s.second };
+
+    ghost gives = { λ s text outcome. GivesPair (A.gives s.first) (B.gives s.second) text outcome };
+
+    fn parse(&self, input: &'a str) -> ParseResult<'a, (A::Output, B::Output)> {
+        let (rest, first) = self.first.parse(input)?;
+        let (rest, second) = self.second.parse(rest)?;
+        Ok((rest, (first, second)))
+    }
+
+    ghost leaves_suffix = { λ s can. GivesPair-suffix (A.gives s.first) (B.gives s.second) (A.leaves_suffix s.first can.0) (B.leaves_suffix s.second can.1) };
+}

@@ -1,0 +1,50 @@
+ghost use Rattle.std.specs.Prelude.{⊤, string_bytes};
+ghost use Rattle.monch.specs.Leaves.{GivesTag};
+
+use crate::combinator::{Combinator, ParseResult};
+use crate::error::ParseError;
+use crate::text::taken;
+
+#[derive(Debug, Drop)]
+pub struct Tag<'m> {
+    pub(crate) value: &'m str,
+}
+
+impl<'a, 'm> Combinator<'a> for Tag<'m> {
+    type Output = &'a str;
+
+    ghost can_parse = { λ s. ⊤ };
+
+    ghost gives = { λ s text outcome. GivesTag s.value.now text outcome };
+
+    fn parse(&self, input: &'a str) -> ParseResult<'a, &'a str> {
+        match input.strip_prefix(self.value) {
+            Some(rest) => Ok((rest, taken(input, rest))),
+            None => Err(ParseError::Backtrace),
+        }
+    }
+
+    ghost leaves_suffix = { λ s can text rest value given. (_, given.1) };
+}
+
+#[derive(Debug, Drop)]
+pub struct TagOwned {
+    pub(crate) value: String,
+}
+
+impl<'a> Combinator<'a> for TagOwned {
+    type Output = &'a str;
+
+    ghost can_parse = { λ s. ⊤ };
+
+    ghost gives = { λ s text outcome. GivesTag (string_bytes s.value) text outcome };
+
+    fn parse(&self, input: &'a str) -> ParseResult<'a, &'a str> {
+        match input.strip_prefix(self.value.as_str()) {
+            Some(rest) => Ok((rest, taken(input, rest))),
+            None => Err(ParseError::Backtrace),
+        }
+    }
+
+    ghost leaves_suffix = { λ s can text rest value given. (_, given.1) };
+}

@@ -1,0 +1,52 @@
+ghost use Rattle.std.specs.Prelude.{⊤};
+ghost use Rattle.monch.specs.Parts.{GivesSubstring, GivesMapped};
+
+use crate::combinator::{Combinator, ParseResult};
+use crate::text::taken;
+use std::marker::PhantomData;
+
+#[derive(Debug, Drop)]
+pub struct Substring<'a, A> {
+    pub(crate) part: A,
+    pub(crate) of: PhantomData<&'a str>,
+}
+
+impl<'a, A: Combinator<'a>> Combinator<'a> for Substring<'a, A>
+where
+    A::Output: Drop,
+{
+    type Output = &'a str;
+
+    ghost can_parse = { λ s. A.can_parse s.part };
+
+    ghost gives = { λ s text outcome. GivesSubstring (A.gives s.part) text outcome };
+
+    fn parse(&self, input: &'a str) -> ParseResult<'a, &'a str> {
+        let (rest, _) = self.part.parse(input)?;
+        Ok((rest, taken(input, rest)))
+    }
+
+    ghost leaves_suffix = { λ s can text rest value given. (_, given.2) };
+}
+
+#[derive(Debug, Drop)]
+pub struct Map<'a, A, F> {
+    pub(crate) part: A,
+    pub(crate) function: F,
+    pub(crate) of: PhantomData<&'a str>,
+}
+
+impl<'a, O, A: Combinator<'a, Output = O>, R, F: Fn(O) -> R> Combinator<'a> for Map<'a, A, F> {
+    type Output = R;
+
+    ghost can_parse = { λ s. A.can_parse s.part × F.IsAlwaysCallable s.function };
+
+    ghost gives = { λ s text outcome. GivesMapped (A.gives s.part) (F.post s.function) text outcome };
+
+    fn parse(&self, input: &'a str) -> ParseResult<'a, R> {
+        let (rest, value) = self.part.parse(input)?;
+        Ok((rest, (self.function)(value)))
+    }
+
+    ghost leaves_suffix = { λ s can text rest value given. A.leaves_suffix s.part can.0 _ _ _ given.1 };
+}
