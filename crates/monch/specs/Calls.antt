@@ -2,9 +2,9 @@
 use Rattle.std.specs.Prelude.{◌≡◌, ℕ, List, Result, IfOk}
 use Rattle.std.specs.Borrow.{Bor}
 use Rattle.std.specs.Fn.{Shared, FnReturnsAt}
-use Rattle.monch.specs.declared.error.ParseError.{ParseError}
-use Rattle.monch.specs.Outcome.{Outcome, IsSuffix}
-use Rattle.monch.specs.Seen.{seen}
+use Rattle.monch_core.specs.declared.error.ParseError.{ParseError}
+use Rattle.monch_core.specs.Outcome.{Outcome, IsSuffix}
+use Rattle.monch_core.specs.Seen.{seen}
 
 module _ {F O : Type 0} (calls : Shared F (Bor (List ℕ) × Unit {0}) (Result (Bor (List ℕ) × O) ParseError)) (f : F) where
   -- what a call of the function may answer

@@ -2,7 +2,7 @@
 use Rattle.std.specs.Prelude.{◌≡◌, ℕ, List, ◌++◌}
 use Rattle.std.specs.Borrow.{Bor}
 use Rattle.std.specs.Char.{encode_utf8}
-use Rattle.monch.specs.Outcome.{backtrack, success, refused, Meaning}
+use Rattle.monch_core.specs.Outcome.{backtrack, success, refused, Meaning}
 
 -- the text begins with the other one
 abbrev pub BeginsWith : List ℕ → List ℕ → Type 0

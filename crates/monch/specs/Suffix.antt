@@ -1,25 +1,13 @@
 -- What a success leaves is a suffix of the text, for each meaning whose parts keep that.
-use Rattle.std.specs.Prelude.{◌≢◌, ℕ, List, ◌++◌, ◌∷◌, [], refl, ⊤, Result, Ok, Err, Some, None}
+use Rattle.std.specs.Prelude.{ℕ, List, ◌∷◌, [], ⊤, Result, Ok, Err, Some, None}
 use Rattle.std.specs.Fn.{Shared}
 use Rattle.std.specs.Borrow.{Bor}
-use Rattle.std.proofs.Common.{sym, ◌∙◌, ap, inl, inr, subst}
-use Rattle.std.proofs.lemmas.List.{append_assoc}
-use Rattle.monch.specs.declared.error.ParseError.{ParseError}
-use Rattle.monch.specs.Outcome.{Refusal, Meaning, Outcome, success, refused, IsSuffix, LeavesSuffix}
+use Rattle.std.proofs.Common.{sym, ap, inl, inr, subst}
+use Rattle.monch_core.specs.Suffix.{IsSuffix-trans, success_is_not_refused}
+use Rattle.monch_core.specs.declared.error.ParseError.{ParseError}
+use Rattle.monch_core.specs.Outcome.{Meaning, Outcome, success, refused, IsSuffix, LeavesSuffix}
 use Rattle.monch.specs.Calls.{GivesCall, AnswersSuffix}
 use Rattle.monch.specs.Parts.{GivesPair, GivesPreceded, GivesFirst, GivesMaybe}
-
--- a suffix of a suffix is a suffix
-pub IsSuffix-trans : {rest mid text : List ℕ} → IsSuffix rest mid → IsSuffix mid text → IsSuffix rest text
-IsSuffix-trans {rest = rest} (f, e) (g, d) = (g ++ f, d ∙ ap (λ x. g ++ x) e ∙ sym (append_assoc g f rest))
-
--- a text is its own suffix
-pub IsSuffix-self : (text : List ℕ) → IsSuffix text text
-IsSuffix-self text = ([], refl)
-
--- a success is no refusal
-pub success_is_not_refused : {A : Type 0} {rest : List ℕ} {value : A} {why : Refusal} → success rest value ≢ refused why
-success_is_not_refused e = cc
 
 -- the rest of a success, or else the text given
 abbrev pub rest_of : {A : Type 0} → List ℕ → Outcome A → List ℕ

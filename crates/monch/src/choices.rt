@@ -2,10 +2,9 @@ ghost use Rattle.std.specs.Prelude.{[], ◌∷◌};
 ghost use Rattle.monch.specs.Parts.{GivesFirst, GivesMaybe};
 ghost use Rattle.monch.specs.Suffix.{GivesFirst-suffix, GivesMaybe-suffix};
 
-use crate::combinator::{Combinator, ParseResult};
-use crate::error::ParseError;
+use monch_core::{Combinator, ParseError, ParseResult};
 
-#[derive(Debug, Drop)]
+#[derive(Drop)]
 pub struct Or<A, B> {
     pub(crate) first: A,
     pub(crate) second: B,
@@ -28,7 +27,7 @@ impl<'a, A: Combinator<'a>, B: Combinator<'a, Output = A::Output>> Combinator<'a
     ghost leaves_suffix = { λ s can. GivesFirst-suffix (A.gives s.first ∷ B.gives s.second ∷ []) (A.leaves_suffix s.first can.0, (B.leaves_suffix s.second can.1, tt)) };
 }
 
-#[derive(Debug, Drop)]
+#[derive(Drop)]
 pub struct Maybe<A> {
     pub(crate) part: A,
 }

@@ -2,9 +2,9 @@ ghost use Rattle.std.specs.Prelude.{⊤};
 ghost use Rattle.monch.specs.Calls.{GivesCall, AnswersSuffix};
 ghost use Rattle.monch.specs.Suffix.{GivesCall-suffix};
 
-use crate::combinator::{Combinator, ParseResult};
+use monch_core::{Combinator, ParseResult};
 
-#[derive(Debug, Drop)]
+#[derive(Drop)]
 pub struct FnCombinator<F> {
     pub(crate) function: F,
 }

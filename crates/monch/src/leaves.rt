@@ -2,10 +2,9 @@ ghost use Rattle.std.specs.Prelude.{⊤};
 ghost use Rattle.std.proofs.Common.{rules};
 ghost use Rattle.monch.specs.Leaves.{GivesChar};
 
-use crate::combinator::{Combinator, ParseResult};
-use crate::error::ParseError;
+use monch_core::{Combinator, ParseError, ParseResult};
 
-#[derive(Debug, Drop)]
+#[derive(Drop)]
 pub struct Ch {
     pub(crate) character: char,
 }

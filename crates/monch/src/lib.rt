@@ -2,8 +2,6 @@
 #![tactic(auto)]
 
 mod choices;
-mod combinator;
-mod error;
 mod functions;
 mod leaves;
 mod makers;
@@ -13,11 +11,12 @@ mod text;
 mod values;
 
 pub use choices::{Maybe, Or};
-pub use combinator::{Combinator, ParseResult};
-pub use error::{ParseError, ParseErrorFailure};
 pub use functions::FnCombinator;
 pub use leaves::Ch;
 pub use makers::{ch, from_fn, map, maybe, or, pair, substring, tag, tag_owned};
+pub use monch_core::{
+    Combinator, HandledError, ParseError, ParseErrorFailure, ParseErrorFailureError, ParseResult,
+};
 pub use pairs::Pair;
 pub use tags::{Tag, TagOwned};
 pub use values::{Map, Substring};

@@ -1,9 +1,9 @@
 ghost use Rattle.monch.specs.Parts.{GivesPair};
 ghost use Rattle.monch.specs.Suffix.{GivesPair-suffix};
 
-use crate::combinator::{Combinator, ParseResult};
+use monch_core::{Combinator, ParseResult};
 
-#[derive(Debug, Drop)]
+#[derive(Drop)]
 pub struct Pair<A, B> {
     pub(crate) first: A,
     pub(crate) second: B,

@@ -1,11 +1,10 @@
 ghost use Rattle.std.specs.Prelude.{⊤, string_bytes};
 ghost use Rattle.monch.specs.Leaves.{GivesTag};
 
-use crate::combinator::{Combinator, ParseResult};
-use crate::error::ParseError;
 use crate::text::taken;
+use monch_core::{Combinator, ParseError, ParseResult};
 
-#[derive(Debug, Drop)]
+#[derive(Drop)]
 pub struct Tag<'m> {
     pub(crate) value: &'m str,
 }
@@ -27,7 +26,7 @@ impl<'a, 'm> Combinator<'a> for Tag<'m> {
     ghost leaves_suffix = { λ s can text rest value given. (_, given.1) };
 }
 
-#[derive(Debug, Drop)]
+#[derive(Drop)]
 pub struct TagOwned {
     pub(crate) value: String,
 }

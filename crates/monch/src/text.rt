@@ -1,5 +1,5 @@
 ghost use Rattle.std.specs.Prelude.{◌≡◌, ◌++◌};
-ghost use Rattle.monch.specs.Outcome.{IsSuffix};
+ghost use Rattle.monch_core.specs.Outcome.{IsSuffix};
 
 // What stands before the rest in the text.
 pub(crate) fn taken<'a>(text: &'a str, rest: &str) -> &'a str

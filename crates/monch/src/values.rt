@@ -1,11 +1,11 @@
 ghost use Rattle.std.specs.Prelude.{⊤};
 ghost use Rattle.monch.specs.Parts.{GivesSubstring, GivesMapped};
 
-use crate::combinator::{Combinator, ParseResult};
 use crate::text::taken;
+use monch_core::{Combinator, ParseResult};
 use std::marker::PhantomData;
 
-#[derive(Debug, Drop)]
+#[derive(Drop)]
 pub struct Substring<'a, A> {
     pub(crate) part: A,
     pub(crate) of: PhantomData<&'a str>,
@@ -29,7 +29,7 @@ where
     ghost leaves_suffix = { λ s can text rest value given. (_, given.2) };
 }
 
-#[derive(Debug, Drop)]
+#[derive(Drop)]
 pub struct Map<'a, A, F> {
     pub(crate) part: A,
     pub(crate) function: F,

@@ -1,6 +1,6 @@
 ghost use Rattle.std.specs.Prelude.{ℕ, List, ◌≡◌};
-ghost use Rattle.monch.specs.Outcome.{Outcome, LeavesSuffix};
-ghost use Rattle.monch.specs.Seen.{seen};
+ghost use Rattle.monch_core.specs.Outcome.{Outcome, LeavesSuffix};
+ghost use Rattle.monch_core.specs.Seen.{seen};
 
 use crate::error::ParseError;
 

@@ -2,9 +2,9 @@
 use Rattle.std.specs.Prelude.{ℕ, List, Result, Ok, Err}
 use Rattle.std.specs.Borrow.{Bor}
 use Rattle.std.specs.Cow.{cow_str_bytes}
-use Rattle.monch.specs.declared.error.ParseError.{ParseError}
-use Rattle.monch.specs.declared.error.ParseError.TheVariants.{Backtrace, Failure, OutOfMemory}
-use Rattle.monch.specs.Outcome.{Refusal, backtrack, failure, no_memory, Outcome, success, refused}
+use Rattle.monch_core.specs.declared.error.ParseError.{ParseError}
+use Rattle.monch_core.specs.declared.error.ParseError.TheVariants.{Backtrace, Failure, OutOfMemory}
+use Rattle.monch_core.specs.Outcome.{Refusal, backtrack, failure, no_memory, Outcome, success, refused}
 
 -- the refusal that an error stands for
 abbrev pub refusal_of : ParseError → Refusal

@@ -1,0 +1,4 @@
+pub mod Outcome
+pub mod Seen
+pub mod Failures
+pub mod Suffix
