@@ -1,1 +1,3 @@
 pub mod ImportsLemmas
+pub mod ReadLemmas
+pub mod Theorems

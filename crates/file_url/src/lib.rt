@@ -5,7 +5,16 @@
 #![tactic(auto)]
 
 mod errors;
+mod from_path;
 mod imports;
+mod sets;
+mod text;
 
-pub use crate::errors::SpecifierError;
+pub use crate::errors::{
+    PathToUrlError, ResolveUrlOrPathError, SpecifierError, UrlToFilePathError,
+};
+pub use crate::from_path::{
+    resolve_path, resolve_url_or_path, url_from_directory_path, url_from_file_path,
+};
 pub use crate::imports::{resolve_import, resolve_import_from};
+pub use crate::sets::NAME;
