@@ -17,14 +17,14 @@ heads x y xs ys e = cc
 tails : (x y : ℕ) (xs ys : List ℕ) → x ∷ xs ≡ y ∷ ys → xs ≡ ys
 tails x y xs ys e = cc
 
-joined : (x y : ℕ) (xs ys : List ℕ) → x ≡ y → xs ≡ ys → x ∷ xs ≡ y ∷ ys
+pub joined : (x y : ℕ) (xs ys : List ℕ) → x ≡ y → xs ≡ ys → x ∷ xs ≡ y ∷ ys
 joined x y xs ys e d = cc
 
-both_left : (a b : Bool) → (a && b) ≡ true → a ≡ true
+pub both_left : (a b : Bool) → (a && b) ≡ true → a ≡ true
 both_left true b e = refl
 both_left false b e = cc
 
-both_right : (a b : Bool) → (a && b) ≡ true → b ≡ true
+pub both_right : (a b : Bool) → (a && b) ≡ true → b ≡ true
 both_right true b e = e
 both_right false b e = cc
 
@@ -40,7 +40,7 @@ Stops p [] = ⊤
 Stops p (b ∷ text) = p b ≡ false
 
 -- a test that fails and is passed
-no_both : (p : ℕ → Bool) (x y : ℕ) → p x ≡ true → p y ≡ false → x ≡ y → ⊥
+pub no_both : (p : ℕ → Bool) (x y : ℕ) → p x ≡ true → p y ≡ false → x ≡ y → ⊥
 no_both p x y passed failed e = cc
 
 -- a run is cut off in one way
@@ -58,17 +58,17 @@ one_run p (x ∷ xs) (y ∷ ys) a b all_x all_y stop_a stop_b e =
     (joined x y xs ys (heads _ _ _ _ e) rest.0, rest.1)
 
 -- the test of each character, and that there is one
-IsRun-all : (p : ℕ → Bool) (xs : List ℕ) → IsRun p xs → list_all p xs ≡ true
+pub IsRun-all : (p : ℕ → Bool) (xs : List ℕ) → IsRun p xs → list_all p xs ≡ true
 IsRun-all p xs run = list_all-from_AllPass p xs run.all
 
 -- a run begins with a character that passes
-record Begins (p : ℕ → Bool) (xs : List ℕ) : Type 0 where
+pub record Begins (p : ℕ → Bool) (xs : List ℕ) : Type 0 where
   pub first : ℕ
   pub others : List ℕ
   pub passes : p first ≡ true
   pub is : xs ≡ first ∷ others
 
-begins : (p : ℕ → Bool) (xs : List ℕ) → list_all p xs ≡ true → 0 < length xs → Begins p xs
+pub begins : (p : ℕ → Bool) (xs : List ℕ) → list_all p xs ≡ true → 0 < length xs → Begins p xs
 begins p [] all some = absurd (omega arith)
 begins p (x ∷ xs) all some = record { first = x; others = xs; passes = both_left (p x) _ all; is = refl }
 
@@ -78,22 +78,22 @@ begins p (x ∷ xs) all some = record { first = x; others = xs; passes = both_le
 abbrev pub OrBegins : ℕ → List ℕ → Type 0
 OrBegins c text = (text ≡ []) ⊎ ((rest : List ℕ) × (text ≡ c ∷ rest))
 
-IsRequirement-begins : (text : List ℕ) (o : Option (List ℕ)) → IsRequirement text o → OrBegins 64 text
+pub IsRequirement-begins : (text : List ℕ) (o : Option (List ℕ)) → IsRequirement text o → OrBegins 64 text
 IsRequirement-begins text None is = inl is
 IsRequirement-begins text (Some r) is = inr (r, is.0)
 
-IsSubPath-begins : (text : List ℕ) (o : Option (List ℕ)) → IsSubPath text o → OrBegins 47 text
+pub IsSubPath-begins : (text : List ℕ) (o : Option (List ℕ)) → IsSubPath text o → OrBegins 47 text
 IsSubPath-begins text None (inl e) = inl e
 IsSubPath-begins text None (inr e) = inr ([], e)
 IsSubPath-begins text (Some r) is = inr (r, is.0)
 
 -- what begins with a character that fails stops a run
-OrBegins-stops : (p : ℕ → Bool) (c : ℕ) (text : List ℕ) → p c ≡ false → OrBegins c text → Stops p text
+pub OrBegins-stops : (p : ℕ → Bool) (c : ℕ) (text : List ℕ) → p c ≡ false → OrBegins c text → Stops p text
 OrBegins-stops p c text fails (inl e) = subst (Stops p) (sym e) tt
 OrBegins-stops p c text fails (inr (rest, e)) = subst (Stops p) (sym e) fails
 
 -- the parts behind a name stop it
-behind_stops : (requirement sub_path : List ℕ) → OrBegins 64 requirement → OrBegins 47 sub_path
+pub behind_stops : (requirement sub_path : List ℕ) → OrBegins 64 requirement → OrBegins 47 sub_path
     → Stops is_of_part (requirement ++ sub_path)
 behind_stops requirement sub_path (inl e) is =
     subst (λ t. Stops is_of_part (t ++ sub_path)) (sym e) (OrBegins-stops is_of_part 47 sub_path refl is)
@@ -143,7 +143,7 @@ NameBegins name = (first : ℕ) × (others : List ℕ) × (first ≢ 47) × (nam
 part_begins : (name : List ℕ) → Begins is_of_part name → NameBegins name
 part_begins name b = (b.first, b.others, (λ e. no_both is_of_part b.first 47 b.passes refl e), b.is)
 
-IsName-begins : (kind : PackageKind) (name : List ℕ) → IsName kind name → NameBegins name
+pub IsName-begins : (kind : PackageKind) (name : List ℕ) → IsName kind name → NameBegins name
 IsName-begins kind name (plain npm run) = part_begins name (begins is_of_part name (IsRun-all is_of_part name run) run.some)
 IsName-begins kind name (scoped scope part a b is) = (64, scope ++ 47 ∷ part, (λ e. omega arith), is)
 
@@ -185,7 +185,7 @@ one_slash x y m n (inr a) (inl b) of_m of_n e =
     absurd (of_n.2 (heads _ 47 of_n.1 m (sym of_n.3 ∙ sym (ap (λ t. t ++ n) b) ∙ sym e ∙ ap (λ t. t ++ m) a)))
 
 -- more behind a name
-begins_on : (m a : List ℕ) → NameBegins m → NameBegins (m ++ a)
+pub begins_on : (m a : List ℕ) → NameBegins m → NameBegins (m ++ a)
 begins_on m a of_m = (of_m.0, of_m.1 ++ a, of_m.2, ap (λ t. t ++ a) of_m.3)
 
 -- the same package, part by part

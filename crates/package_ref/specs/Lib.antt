@@ -1,1 +1,4 @@
+-- what the public contract rests on
 pub mod Reference
+-- what the functions inside the crate promise each other
+pub mod Steps
