@@ -1,7 +1,8 @@
 -- The meanings of the combinators that have no parts.
-use Rattle.std.specs.Prelude.{◌≡◌, ℕ, List, ◌++◌}
+use Rattle.std.specs.Prelude.{◌≡◌, ◌⊎◌, ℕ, Bool, true, false, List, [], ◌∷◌, ◌++◌, ⊤}
 use Rattle.std.specs.Borrow.{Bor}
 use Rattle.std.specs.Char.{encode_utf8}
+use Rattle.std.specs.Str.{encode_utf8_all}
 use Rattle.monch_core.specs.Outcome.{backtrack, success, refused, Meaning}
 
 -- the text begins with the other one
@@ -17,3 +18,35 @@ GivesChar c text (refused why) = (why ≡ backtrack) × ¬ (BeginsWith (encode_u
 abbrev pub GivesTag : List ℕ → Meaning (Bor (List ℕ))
 GivesTag tag text (success rest value) = (value.now ≡ tag) × (text ≡ tag ++ rest)
 GivesTag tag text (refused why) = (why ≡ backtrack) × ¬ (BeginsWith tag text)
+
+-- the first character, and a backtrack at the end of the text
+abbrev pub GivesNextChar : Meaning ℕ
+GivesNextChar text (success rest value) = text ≡ encode_utf8 value ++ rest
+GivesNextChar text (refused why) = (why ≡ backtrack) × (text ≡ [])
+
+-- the test may say yes of each
+abbrev pub EachPasses : (ℕ → Bool → Type 0) → List ℕ → Type 0
+EachPasses test [] = ⊤
+EachPasses test (c ∷ cs) = test c true × EachPasses test cs
+
+-- the text is at its end, or its first character is one of which the test may say no
+abbrev pub StopsAtChar : (ℕ → Bool → Type 0) → List ℕ → Type 0
+StopsAtChar test text = (text ≡ []) ⊎ ((c : ℕ) × (rest : List ℕ) × (text ≡ encode_utf8 c ++ rest) × test c false)
+
+-- the longest front of characters that pass the test, and the rest
+pub record IsPassingFront (test : ℕ → Bool → Type 0) (text front rest : List ℕ) : Type 0 where
+  pub characters : List ℕ
+  pub spelled : front ≡ encode_utf8_all characters
+  pub pass : EachPasses test characters
+  pub split : text ≡ front ++ rest
+  pub stops : StopsAtChar test rest
+
+-- the longest front that passes is skipped; no refusal
+abbrev pub GivesSkipWhile : (ℕ → Bool → Type 0) → Meaning (Unit {0})
+GivesSkipWhile test text (success rest value) = (front : List ℕ) × IsPassingFront test text front rest
+GivesSkipWhile test text (refused why) = ⊥
+
+-- the longest front that passes, as a slice; no refusal
+abbrev pub GivesTakeWhile : (ℕ → Bool → Type 0) → Meaning (Bor (List ℕ))
+GivesTakeWhile test text (success rest taken) = IsPassingFront test text taken.now rest
+GivesTakeWhile test text (refused why) = ⊥

@@ -1,5 +1,5 @@
 -- The meanings of the combinators over parts, from the meanings of these.
-use Rattle.std.specs.Prelude.{◌≡◌, ◌⊎◌, ℕ, List, [], ◌∷◌, ◌++◌, Option, None, Some, ⊤}
+use Rattle.std.specs.Prelude.{◌≡◌, ◌⊎◌, ℕ, Bool, true, false, List, [], ◌∷◌, ◌++◌, Option, None, Some, ⊤}
 use Rattle.std.specs.Borrow.{Bor}
 use Rattle.monch_core.specs.Outcome.{backtrack, failure, no_memory, Outcome, success, refused, Meaning}
 
@@ -46,3 +46,9 @@ GivesSubstring part text (refused why) = part text (refused why)
 abbrev pub GivesMapped : {A B : Type 0} → Meaning A → (A → B → Type 0) → Meaning B
 GivesMapped {A} part calls text (success rest value) = (before : A) × part text (success rest before) × calls before value
 GivesMapped part calls text (refused why) = part text (refused why)
+
+-- the part's value where the test may say yes of it, a backtrack where it may say no
+abbrev pub GivesIf : {A : Type 0} → Meaning A → (A → Bool → Type 0) → Meaning A
+GivesIf part test text (success rest value) = part text (success rest value) × test value true
+GivesIf {A} part test text (refused why) =
+    part text (refused why) ⊎ ((why ≡ backtrack) × (rest : List ℕ) × (value : A) × part text (success rest value) × test value false)

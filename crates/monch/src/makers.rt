@@ -1,11 +1,13 @@
 ghost use Rattle.std.specs.Prelude.{◌≡◌};
 
 use crate::choices::{Maybe, Or};
+use crate::conditions::IfNotEmpty;
 use crate::functions::FnCombinator;
 use crate::leaves::Ch;
-use crate::pairs::Pair;
+use crate::pairs::{Pair, Preceded};
 use crate::tags::{Tag, TagOwned};
 use crate::values::{Map, Substring};
+use crate::whiles::{SkipWhile, TakeWhile};
 use std::marker::PhantomData;
 
 /// The first character, where it is this one.
@@ -77,4 +79,37 @@ pub fn pair<A, B>(first: A, second: B) -> Pair<A, B>
     ensures { result ≡ record { first = first; second = second } }
 {
     Pair { first, second }
+}
+
+/// The first, then the second on its rest, and the value of the second.
+pub fn preceded<'a, A, B>(first: A, second: B) -> Preceded<'a, A, B>
+    ensures first { result.first ≡ first }
+    ensures second { result.second ≡ second }
+{
+    Preceded {
+        first,
+        second,
+        of: PhantomData,
+    }
+}
+
+/// Skips the longest front of characters on which the condition holds.
+pub fn skip_while<F>(condition: F) -> SkipWhile<F>
+    ensures { result ≡ record { condition = condition } }
+{
+    SkipWhile { condition }
+}
+
+/// The longest front of characters on which the condition holds.
+pub fn take_while<F>(condition: F) -> TakeWhile<F>
+    ensures { result ≡ record { condition = condition } }
+{
+    TakeWhile { condition }
+}
+
+/// The part's value where it is not empty, else a backtrack.
+pub fn if_not_empty<A>(part: A) -> IfNotEmpty<A>
+    ensures { result ≡ record { part = part } }
+{
+    IfNotEmpty { part }
 }

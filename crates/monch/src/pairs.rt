@@ -1,7 +1,8 @@
-ghost use Rattle.monch.specs.Parts.{GivesPair};
-ghost use Rattle.monch.specs.Suffix.{GivesPair-suffix};
+ghost use Rattle.monch.specs.Parts.{GivesPair, GivesPreceded};
+ghost use Rattle.monch.specs.Suffix.{GivesPair-suffix, GivesPreceded-suffix};
 
 use monch_core::{Combinator, ParseResult};
+use std::marker::PhantomData;
 
 #[derive(Drop)]
 pub struct Pair<A, B> {
@@ -27,4 +28,27 @@ where
     }
 
     ghost leaves_suffix = { λ s can. GivesPair-suffix (A.gives s.first) (B.gives s.second) (A.leaves_suffix s.first can.0) (B.leaves_suffix s.second can.1) };
+}
+
+#[derive(Drop)]
+pub struct Preceded<'a, A, B> {
+    pub(crate) first: A,
+    pub(crate) second: B,
+    pub(crate) of: PhantomData<&'a str>,
+}
+
+impl<'a, O: Drop, A: Combinator<'a, Output = O>, B: Combinator<'a>> Combinator<'a>
+    for Preceded<'a, A, B> {
+    type Output = B::Output;
+
+    ghost can_parse = { λ s. A.can_parse s.first × B.can_parse s.second };
+
+    ghost gives = { λ s text outcome. GivesPreceded (A.gives s.first) (B.gives s.second) text outcome };
+
+    fn parse(&self, input: &'a str) -> ParseResult<'a, B::Output> {
+        let (rest, _) = self.first.parse(input)?;
+        self.second.parse(rest)
+    }
+
+    ghost leaves_suffix = { λ s can. GivesPreceded-suffix (A.gives s.first) (B.gives s.second) (A.leaves_suffix s.first can.0) (B.leaves_suffix s.second can.1) };
 }

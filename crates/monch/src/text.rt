@@ -1,5 +1,10 @@
-ghost use Rattle.std.specs.Prelude.{◌≡◌, ◌++◌};
+ghost use Rattle.std.specs.Prelude.{◌≡◌, [], ◌++◌, MatchOption};
+ghost use Rattle.std.specs.Char.{encode_utf8};
 ghost use Rattle.monch_core.specs.Outcome.{IsSuffix};
+ghost use Rattle.monch_core.specs.Seen.{seen};
+ghost use Rattle.monch.specs.Leaves.{GivesNextChar};
+
+use monch_core::{ParseError, ParseResult};
 
 // What stands before the rest in the text.
 pub(crate) fn taken<'a>(text: &'a str, rest: &str) -> &'a str
@@ -7,4 +12,23 @@ pub(crate) fn taken<'a>(text: &'a str, rest: &str) -> &'a str
     ensures { text.now ≡ result.now ++ rest.now }
 {
     &text[..text.len() - rest.len()]
+}
+
+// The first character and what follows it.
+pub(crate) fn split_first_char(text: &str) -> Option<(char, &str)>
+    ensures { MatchOption result (text.now ≡ []) (λ p. text.now ≡ encode_utf8 p.0 ++ p.1.now) }
+{
+    let mut characters = text.chars();
+    let first = characters.next()?;
+    Some((first, characters.as_str()))
+}
+
+/// The first character. The empty text backtracks.
+pub fn next_char<'a>(input: &'a str) -> ParseResult<'a, char>
+    ensures { GivesNextChar input.now (seen result) }
+{
+    match split_first_char(input) {
+        Some((first, rest)) => Ok((rest, first)),
+        None => Err(ParseError::Backtrace),
+    }
 }
