@@ -17,7 +17,7 @@ use Rattle.url.specs.Parts.{Parts}
 use Rattle.graph_entry.specs.declared.answer.LoadAnswer.{LoadAnswer}
 use Rattle.graph_entry.specs.declared.entry.Entry.{Entry}
 use Rattle.graph_entry.specs.Specifier.{text_of, loadable}
-use Rattle.graph_entry.specs.Entry.{targets, unanswered}
+use Rattle.graph_entry.specs.Entry.{targets}
 use Rattle.deno_graph.specs.declared.slot.Slot.{Slot}
 use Rattle.deno_graph.specs.declared.slot.Slot.TheVariants.{Queued, Asked, Done}
 use Rattle.deno_graph.specs.declared.reaching.Reaching.{Reaching}
@@ -30,7 +30,7 @@ use Rattle.deno_graph.specs.Reaching.{slots_of, IsMarked, IsFilled, HasReached, 
 use Rattle.deno_graph.specs.declared.reaching.GrowError.{GrowError}
 use Rattle.deno_graph.specs.declared.reaching.GrowError.TheVariants.{TooMany, OutOfMemory}
 use Rattle.deno_graph.specs.Loader.{NeverRises, Falls}
-use Rattle.deno_graph.specs.Progress.{At, at, IsLive, IsInHand, starts_at, own_asked, own_log, slots_at, todo_at, IsKeptAt, Deals, Adds, GoesOnAt, OnlyAsks, Takes, Turns, Runs, Begins}
+use Rattle.deno_graph.specs.Progress.{At, at, IsLive, IsInHand, starts_at, own_asked, own_log, slots_at, todo_at, IsKeptAt, Deals, Adds, GoesOnAt, OnlyAsks, FillsUnasked, Takes, Turns, Runs, Begins}
 use Rattle.deno_graph.proofs.ReachLemmas.{reached_least, entry_once, answer_here, reached_start, reached_on, reached_grows, answer_kept, answer_later}
 use Rattle.deno_graph.proofs.SlotsLemmas.{has_append, has_one, has_same, none_equal}
 use Rattle.deno_graph.proofs.BuildingLemmas.{text_same, written_some, building_popped, popped_slot, building_asked, building_answered, building_grown, building_filled}
@@ -196,8 +196,8 @@ building_entry meaning starts asked log s e old new b reached is_entry f =
     (λ t h. reached_on meaning starts (answer_to log) s t reached (record { entry = e; is_entry = is_entry; among = h })))
     reached is_entry f.grown.came f.written
 
-pub live_alone : (meaning : Meaning) (x : At) (s : Specifier) (new : Reaching) → IsInHand meaning x s → loadable s ≡ false
-    → IsFilled s unanswered x.progress.reaching new
+pub live_alone : (meaning : Meaning) (x : At) (s : Specifier) (e : Entry) (new : Reaching) → IsInHand meaning x s → loadable s ≡ false
+    → meaning s None e → IsFilled s e x.progress.reaching new
     → IsLive meaning (at x.asked x.log x.told x.pending x.standing x.patience (record {
       roots = x.progress.roots;
       reaching = new;
@@ -205,36 +205,37 @@ pub live_alone : (meaning : Meaning) (x : At) (s : Specifier) (new : Reaching) �
       taken = x.progress.taken;
       begun = x.progress.begun;
     }))
-live_alone meaning x s new v alone f = record {
+live_alone meaning x s e new v alone means f = record {
   kept = v.kept;
   behind = v.behind;
   counted = omega (arith, v.counted, f.counted);
   room = f.room;
-  building = building_entry meaning (starts_at x) (own_asked x) (own_log x) s unanswered x.progress.reaching new v.building
-      (v.building.sound s Queued v.queued) (inr (alone, refl)) f;
-  rooted = λ b t h. filled_some s t unanswered x.progress.reaching new f (v.rooted b t h);
+  building = building_entry meaning (starts_at x) (own_asked x) (own_log x) s e x.progress.reaching new v.building
+      (v.building.sound s Queued v.queued) (inr (alone, means)) f;
+  rooted = λ b t h. filled_some s t e x.progress.reaching new f (v.rooted b t h);
 }
 
-pub too_many_alone : (meaning : Meaning) (x : At) (s : Specifier) (limit seen : ℕ) → IsInHand meaning x s → loadable s ≡ false
-    → IsOverfull (targets unanswered) (slots_at x) limit seen → IsTooMany meaning (starts_at x) (own_log x) limit seen
-too_many_alone meaning x s limit seen v alone full =
-    too_many meaning (starts_at x) (targets unanswered) (own_log x) (slots_at x) limit seen full v.building.sound
+pub too_many_alone : (meaning : Meaning) (x : At) (s : Specifier) (e : Entry) (limit seen : ℕ) → IsInHand meaning x s → loadable s ≡ false
+    → meaning s None e → IsOverfull (targets e) (slots_at x) limit seen → IsTooMany meaning (starts_at x) (own_log x) limit seen
+too_many_alone meaning x s e limit seen v alone means full =
+    too_many meaning (starts_at x) (targets e) (own_log x) (slots_at x) limit seen full v.building.sound
     (λ t h. reached_on meaning (starts_at x) (answer_to (own_log x)) s t (v.building.sound s Queued v.queued)
-    (record { entry = unanswered; is_entry = inr (alone, refl); among = h }))
+    (record { entry = e; is_entry = inr (alone, means); among = h }))
 
 -- dealing with one that no loader is asked for
-pub deals_alone : (meaning : Meaning) (x : At) (s : Specifier) (new : Reaching) (r : Result (Unit {0}) GrowError) → IsInHand meaning x s → loadable s ≡ false
-    → Fills s unanswered x.progress.reaching new r → new.limit ≡ x.progress.reaching.limit
-    → Deals meaning x (at x.asked x.log x.told x.pending x.standing x.patience (record {
+pub deals_alone : (x : At) (s : Specifier) (new : Reaching) (r : Result (Unit {0}) GrowError) → IsInHand Analysed x s → loadable s ≡ false
+    → FillsUnasked s x.progress.reaching new r → new.limit ≡ x.progress.reaching.limit
+    → Deals Analysed x (at x.asked x.log x.told x.pending x.standing x.patience (record {
       roots = x.progress.roots;
       reaching = new;
       asked = x.progress.asked;
       taken = x.progress.taken;
       begun = x.progress.begun;
     })) r
-deals_alone meaning x s new (Ok done) v alone f same = (live_alone meaning x s new v alone f, f.counted)
-deals_alone meaning x s new (Err (TooMany seen)) v alone full same = too_many_alone meaning x s x.progress.reaching.limit seen v alone full
-deals_alone meaning x s new (Err OutOfMemory) v alone f same = tt
+deals_alone x s new (Ok done) v alone f same = (live_alone Analysed x s f.0 new v alone f.1 f.2, f.2.counted)
+deals_alone x s new (Err (TooMany seen)) v alone full same =
+    too_many_alone Analysed x s full.0 x.progress.reaching.limit seen v alone full.1 full.2
+deals_alone x s new (Err OutOfMemory) v alone f same = tt
 
 -- ---- one step after another
 
@@ -328,7 +329,7 @@ too_many_later meaning x y limit seen a h = rw (a.log, a.taken) h
 
 -- the loader answers one that waits
 pub live_answered : (meaning : Meaning) (x : At) (s : Specifier) (a : LoadAnswer) (e : Entry) (count : ℕ) (stands : ℕ × ℕ) (left : Option ℕ) (new : Reaching)
-    → IsLive meaning x → x.progress.taken < x.progress.asked → slots_at x s ≡ Some Asked → meaning s a e → IsFilled s e x.progress.reaching new
+    → IsLive meaning x → x.progress.taken < x.progress.asked → slots_at x s ≡ Some Asked → meaning s (Some a) e → IsFilled s e x.progress.reaching new
     → ((b : LoadAnswer) → x.told s ≡ Some b → a ≡ b)
     → IsLive meaning (at x.asked (x.log ++ (s, a) ∷ []) x.told count stands left (record {
       roots = x.progress.roots;

@@ -64,13 +64,10 @@ reached_grows meaning starts few many within =
 pub entry_once : (meaning : Meaning) → IsFunctional meaning → (answers : Answers) (s : Specifier) (e f : Entry)
     → IsEntry meaning answers s e → IsEntry meaning answers s f → e ≡ f
 entry_once meaning once answers s e f (inl a) (inl b) =
-    once s b.answer e f (subst (λ x. meaning s x e) (some_once a.answer b.answer (sym a.given ∙ b.given)) a.means) b.means
-  where
-    some_once : (x y : LoadAnswer) → Some x ≡ Some y → x ≡ y
-    some_once x y h = cc
+    once s (Some b.answer) e f (subst (λ x. meaning s x e) (sym a.given ∙ b.given) a.means) b.means
 entry_once meaning once answers s e f (inl a) (inr u) = absurd cc
 entry_once meaning once answers s e f (inr u) (inl b) = absurd cc
-entry_once meaning once answers s e f (inr u) (inr v) = cc
+entry_once meaning once answers s e f (inr u) (inr v) = once s None e f u.1 v.1
 
 -- ---- answers in the order in which they came
 

@@ -20,8 +20,8 @@ pub edges_cut : (starts : List Specifier) (answers : Answers) (entries : List (P
 edges_cut starts answers entries g s e h = by (g.each s e h)
   where
     by : IsEntry Analysed answers s e → EdgesCut e
-    by (inl a) = analysed_cuts s a.answer e a.means
-    by (inr u) = subst EdgesCut (sym u.1) tt
+    by (inl a) = analysed_cuts s (Some a.answer) e a.means
+    by (inr u) = analysed_cuts s None e u.1
 
 -- the same of a graph that is answered
 pub answered_cut : {Refused : Type 0} (starts : List Specifier) (answers : Answers) (result : Result GraphData Refused)

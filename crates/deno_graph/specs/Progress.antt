@@ -149,12 +149,19 @@ AsksAll meaning old new (Err (grow.TooMany seen)) =
     IsTooMany meaning (starts_at old) (own_log old) old.progress.reaching.limit seen
 AsksAll meaning old new (Err grow.OutOfMemory) = Unit {0}
 
+-- a specifier that no loader is asked for has its entry
+abbrev pub FillsUnasked : Specifier → Reaching → Reaching → Result (Unit {0}) GrowError → Type 0
+FillsUnasked s old new (Ok done) = (entry : Entry) × Analysed s None entry × IsFilled s entry old new
+FillsUnasked s old new (Err (grow.TooMany seen)) =
+    (entry : Entry) × Analysed s None entry × IsOverfull (targets entry) (slots_of old) old.limit seen
+FillsUnasked s old new (Err grow.OutOfMemory) = Unit {0}
+
 -- an answer for a specifier that waits becomes its entry
 abbrev pub Takes : Parts → LoadAnswer → Reaching → Reaching → Result (Unit {0}) BuildError → Type 0
 Takes url answer old new (Ok done) = (slots_of old (text_of url) ≡ Some Asked)
-    × ((entry : Entry) × Analysed (text_of url) answer entry × IsFilled (text_of url) entry old new)
+    × ((entry : Entry) × Analysed (text_of url) (Some answer) entry × IsFilled (text_of url) entry old new)
 Takes url answer old new (Err (error.TooManyModules seen)) = (slots_of old (text_of url) ≡ Some Asked)
-    × ((entry : Entry) × Analysed (text_of url) answer entry × IsOverfull (targets entry) (slots_of old) old.limit seen)
+    × ((entry : Entry) × Analysed (text_of url) (Some answer) entry × IsOverfull (targets entry) (slots_of old) old.limit seen)
 Takes url answer old new (Err (error.UnaskedAnswer other)) =
     (other ≡ url) × (slots_of old (text_of url) ≡ Some Asked → ⊥)
 Takes url answer old new (Err error.OutOfMemory) = Unit {0}

@@ -1,12 +1,12 @@
 -- What is reached from given starts, over given answers.
 -- A specifier is its text. What an answer means is a parameter, and so are the starts.
-use Rattle.std.specs.Prelude.{◌≡◌, ◌⊎◌, ℕ, Bool, true, false, List, [], ◌∷◌, bytes_eq, Option, Some}
+use Rattle.std.specs.Prelude.{◌≡◌, ◌⊎◌, ℕ, Bool, true, false, List, [], ◌∷◌, bytes_eq, Option, Some, None}
 use Rattle.std.specs.List.{list_any, IsDistinct}
 use Rattle.std.specs.Map.{lookup}
 use Rattle.graph_entry.specs.declared.answer.LoadAnswer.{LoadAnswer}
 use Rattle.graph_entry.specs.declared.entry.Entry.{Entry}
 use Rattle.graph_entry.specs.Specifier.{loadable}
-use Rattle.graph_entry.specs.Entry.{targets, unanswered}
+use Rattle.graph_entry.specs.Entry.{targets}
 
 -- a specifier's text
 abbrev pub Specifier : Type 0
@@ -24,13 +24,14 @@ Log = List (Specifier × LoadAnswer)
 abbrev pub answer_to : Log → Answers
 answer_to log s = lookup (bytes_eq s) log
 
--- which entries an answer for a specifier can have: at most one, for the analysis of this crate
+-- Which entries an answer for a specifier can have; `None` where no loader is asked for it. At most one, for the analysis
+-- of this crate.
 abbrev pub Meaning : Type 1
-Meaning = Specifier → LoadAnswer → Entry → Type 0
+Meaning = Specifier → Option LoadAnswer → Entry → Type 0
 
 -- an answer for a specifier means at most one entry
 abbrev pub IsFunctional : Meaning → Type 0
-IsFunctional meaning = (s : Specifier) (a : LoadAnswer) (e f : Entry) → meaning s a e → meaning s a f → e ≡ f
+IsFunctional meaning = (s : Specifier) (a : Option LoadAnswer) (e f : Entry) → meaning s a e → meaning s a f → e ≡ f
 
 -- the list holds the specifier
 abbrev pub has : List Specifier → Specifier → Bool
@@ -41,11 +42,11 @@ pub record IsAnswered (meaning : Meaning) (answers : Answers) (s : Specifier) (e
   pub loads : loadable s ≡ true
   pub answer : LoadAnswer
   pub given : answers s ≡ Some answer
-  pub means : meaning s answer entry
+  pub means : meaning s (Some answer) entry
 
--- the entry of a specifier: what its answer means, or what one has that is never asked for
+-- the entry of a specifier: what its answer means, or what the specifier itself means where no loader is asked for it
 abbrev pub IsEntry : Meaning → Answers → Specifier → Entry → Type 0
-IsEntry meaning answers s entry = IsAnswered meaning answers s entry ⊎ ((loadable s ≡ false) × (entry ≡ unanswered))
+IsEntry meaning answers s entry = IsAnswered meaning answers s entry ⊎ ((loadable s ≡ false) × meaning s None entry)
 
 -- a step leads from a specifier to each target of its entry
 pub record Leads (meaning : Meaning) (answers : Answers) (from to : Specifier) : Type 0 where

@@ -27,8 +27,9 @@ pub use build::GraphBuild;
 pub use error::BuildError;
 pub use graph::{Entries, ModuleGraph};
 pub use graph_entry::{
-    Attribute, Dependency, DependencyKind, Entry, GraphKind, Headers, JsModule, LoadAnswer,
-    MediaType, Module, ModuleError, ParseDiagnostic, ResolutionError, SyntaxErrorKind,
+    Attribute, Dependency, DependencyKind, Entry, GraphKind, Headers, JsModule, JsonModule,
+    LoadAnswer, MediaType, Module, ModuleError, ModuleKind, ParseDiagnostic, ResolutionError,
+    SyntaxErrorKind, WasmModule,
 };
 pub use loader::{Loader, LoaderPoll};
 pub use memory_loader::{Arrival, MemoryLoader};

@@ -8,7 +8,7 @@ use crate::error::BuildError;
 use crate::loader::{Loader, LoaderPoll};
 use crate::reaching::{GrowError, Reaching};
 use base::Items;
-use graph_entry::{Entry, ModuleError, is_loadable};
+use graph_entry::is_loadable;
 use std::alloc::Global;
 use url::Url;
 
@@ -110,7 +110,7 @@ impl Progress {
             (at (L.asked loader.new) (L.log loader.new) (L.told loader.new)
             (L.pending loader.new) (L.standing loader.new) (L.patience loader.new) self.new) }
     {
-        match self.ask_all(loader) {
+        match self.ask_all(alloc, loader) {
             Ok(()) => {}
             Err(GrowError::TooMany { seen }) => return Err(BuildError::TooManyModules { seen }),
             Err(GrowError::OutOfMemory) => return Err(BuildError::OutOfMemory),
@@ -158,7 +158,7 @@ impl Progress {
     }
 
     // Empties the worklist.
-    fn ask_all<L: Loader>(&mut self, loader: &mut L) -> Result<(), GrowError>
+    fn ask_all<L: Loader>(&mut self, alloc: Global, loader: &mut L) -> Result<(), GrowError>
         requires live { IsLive Analysed
             (at (L.asked loader.old) (L.log loader.old) (L.told loader.old)
             (L.pending loader.old) (L.standing loader.old) (L.patience loader.old) self.old) }
@@ -177,7 +177,7 @@ impl Progress {
             (L.pending loader.new) (L.standing loader.new) (L.patience loader.new) self.new) }
     {
         'asking: loop {
-            match self.ask_next(loader) {
+            match self.ask_next(alloc, loader) {
                 Ok(true) => {}
                 Ok(false) => return Ok(()),
                 Err(error) => return Err(error),
@@ -186,7 +186,7 @@ impl Progress {
     }
 
     // Deals with the next specifier of the worklist. `false`: there is none.
-    fn ask_next<L: Loader>(&mut self, loader: &mut L) -> Result<bool, GrowError>
+    fn ask_next<L: Loader>(&mut self, alloc: Global, loader: &mut L) -> Result<bool, GrowError>
         requires live { IsLive Analysed
             (at (L.asked loader.old) (L.log loader.old) (L.told loader.old)
             (L.pending loader.old) (L.standing loader.old) (L.patience loader.old) self.old) }
@@ -207,14 +207,14 @@ impl Progress {
         let Some(url) = self.reaching.todo.pop() else {
             return Ok(false);
         };
-        match self.deal(loader, url) {
+        match self.deal(alloc, loader, url) {
             Ok(()) => Ok(true),
             Err(error) => Err(error),
         }
     }
 
     // Asks for the specifier in hand, or gives it its entry where no loader is asked for it.
-    fn deal<L: Loader>(&mut self, loader: &mut L, url: Url) -> Result<(), GrowError>
+    fn deal<L: Loader>(&mut self, alloc: Global, loader: &mut L, url: Url) -> Result<(), GrowError>
         requires in_hand { IsInHand Analysed
             (at (L.asked loader.old) (L.log loader.old) (L.told loader.old)
             (L.pending loader.old) (L.standing loader.old) (L.patience loader.old) self.old) (text_of url) }
@@ -235,7 +235,7 @@ impl Progress {
         if is_loadable(&url) {
             self.ask(loader, url)
         } else {
-            self.reaching.fill(url, Entry::Error(ModuleError::NotBuilt))
+            self.reaching.fill_unasked(alloc, url)
         }
     }
 

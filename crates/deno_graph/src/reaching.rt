@@ -1,20 +1,20 @@
 //! What is reached so far: a slot for each specifier, and a worklist.
-ghost use Rattle.std.specs.Prelude.{◌↔◌, IsTrue, Some, IsSome, ◌≡◌, ◌+◌, ◌≤◌, ℕ, [], ◌∷◌, length, OnOk, Err, option_to_list};
+ghost use Rattle.std.specs.Prelude.{◌↔◌, false, IsTrue, Some, IsSome, ◌≡◌, ◌+◌, ◌≤◌, ℕ, [], ◌∷◌, length, OnOk, Err, option_to_list};
 ghost use Rattle.std.specs.List.{filter_map};
-ghost use Rattle.graph_entry.specs.Specifier.{text_of};
+ghost use Rattle.graph_entry.specs.Specifier.{text_of, loadable};
 ghost use Rattle.graph_entry.specs.Entry.{target_of, targets};
 ghost use Rattle.deno_graph.specs.declared.slot.Slot.TheVariants.{Asked};
 ghost use Rattle.deno_graph.specs.Graph.{texts};
 ghost use Rattle.deno_graph.specs.ByText.{value_at};
 ghost use Rattle.deno_graph.specs.Slots.{HasGrown, IsOverfull};
 ghost use Rattle.deno_graph.specs.Reaching.{Grows, Fills, IsMarked};
-ghost use Rattle.deno_graph.specs.Progress.{Takes};
+ghost use Rattle.deno_graph.specs.Progress.{FillsUnasked, Takes};
 
 use crate::by_text::{find, has, put};
 use crate::error::BuildError;
 use crate::slot::Slot;
 use base::Items;
-use graph_entry::{Dependency, Entry, LoadAnswer, Module, analyse};
+use graph_entry::{Dependency, Entry, LoadAnswer, Module, analyse, analyse_unasked};
 use std::alloc::{AllocError, Global};
 use std::collections::BTreeMap;
 use url::Url;
@@ -103,7 +103,13 @@ impl Reaching {
             Entry::Module(Module::Js(module)) => {
                 self.reach_dependencies(module.dependencies.as_slice())
             }
-            Entry::Redirect(_) | Entry::External | Entry::Error(_) => Ok(()),
+            Entry::Module(Module::Wasm(module)) => {
+                self.reach_dependencies(module.dependencies.as_slice())
+            }
+            Entry::Module(Module::Json(_))
+            | Entry::Redirect(_)
+            | Entry::External
+            | Entry::Error(_) => Ok(()),
         }
     }
 
@@ -154,6 +160,20 @@ impl Reaching {
         }
         match put(&mut self.reached, url, Slot::Done(entry)) {
             Ok(()) => Ok(()),
+            Err(_) => Err(GrowError::OutOfMemory),
+        }
+    }
+
+    /// The specifier, which no loader is asked for, has its entry: what the entry leads to is reached.
+    pub fn fill_unasked(&mut self, alloc: Global, url: Url) -> Result<(), GrowError>
+        requires room { length self.old.reached.entries ≤ self.old.limit }
+        requires there { IsSome (value_at self.old.reached.entries (text_of url)) }
+        requires unasked { loadable (text_of url) ≡ false }
+        ensures fills { FillsUnasked (text_of url) self.old self.new result }
+        ensures limit { self.new.limit ≡ self.old.limit }
+    {
+        match analyse_unasked(alloc, &url) {
+            Ok(entry) => self.fill(url, entry),
             Err(_) => Err(GrowError::OutOfMemory),
         }
     }

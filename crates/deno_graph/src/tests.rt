@@ -81,6 +81,8 @@ fn shown(alloc: Global, graph: &ModuleGraph) -> Result<String, Fail> {
 fn word(entry: &Entry) -> &'static str {
     match entry {
         Entry::Module(Module::Js(_)) => " module",
+        Entry::Module(Module::Json(_)) => " json",
+        Entry::Module(Module::Wasm(_)) => " wasm",
         Entry::Error(error) => error.name(),
         Entry::Redirect(_) | Entry::External => " no module",
     }

@@ -15,8 +15,12 @@ use Rattle.graph_entry.specs.declared.answer.LoadAnswer.{LoadAnswer}
 use Rattle.graph_entry.specs.declared.answer.LoadAnswer.TheVariants as answer
 use Rattle.graph_entry.specs.declared.entry.Entry.{Entry}
 use Rattle.graph_entry.specs.declared.media_type.MediaType.{MediaType}
+use Rattle.graph_entry.specs.declared.media_type.ModuleKind.{ModuleKind}
+use Rattle.graph_entry.specs.declared.media_type.ModuleKind.TheVariants as module_kind
+use Rattle.graph_entry.specs.MediaType.{kind_of}
 use Rattle.graph_entry.specs.ModuleText.{without_mark}
-use Rattle.graph_entry.specs.Analysed.{Analysed, OfBytes, OfText, OfTokens, with_tree, no_tree, with_tokens, no_tokens, with_text, no_text, module_of, no_module, at_place, language_of, media_type_read, not_built}
+use Rattle.graph_entry.specs.Analysed.{Analysed, OfKind, OfBytes, OfText, OfTokens, with_tree, no_tree, with_tokens, no_tokens, with_text, no_text, module_of, no_module, unsupported, at_place, language_of, media_type_read, not_built}
+use Rattle.graph_entry.proofs.ContentLemmas.{OfJson-once, OfWasm-once}
 
 -- ---- the laws below, as one record
 
@@ -64,24 +68,35 @@ module _ (s : List ℕ) (media : MediaType) (lang : Lang) where
   OfBytes-once bytes made other laws (no_text not is) (with_text utf8 makes) = absurd (not utf8)
   OfBytes-once bytes made other laws (no_text not is) (no_text also so) = is ∙ sym so
 
--- content, by the language of its media type
-pub by_language-once : (s : List ℕ) (media : MediaType) (bytes : List ℕ) (lang : Option Lang) (made other : Entry)
+-- a source, by the language of its media type
+by_language-once : (s : List ℕ) (media : MediaType) (bytes : List ℕ) (lang : Option Lang) (made other : Entry)
     → HasOneReading (without_mark bytes) → MatchOption lang (made ≡ not_built) (λ l. OfBytes s media l bytes made)
     → MatchOption lang (other ≡ not_built) (λ l. OfBytes s media l bytes other) → made ≡ other
 by_language-once s media bytes None made other laws is so = is ∙ sym so
 by_language-once s media bytes (Some l) made other laws makes makes_too =
     OfBytes-once s media l bytes made other laws makes makes_too
 
+-- content, by how it is read
+by_kind-once : (s : List ℕ) (media : MediaType) (bytes : List ℕ) (read : Option ModuleKind) (made other : Entry)
+    → HasOneReading (without_mark bytes) → MatchOption read (made ≡ unsupported media) (λ k. OfKind s media k bytes made)
+    → MatchOption read (other ≡ unsupported media) (λ k. OfKind s media k bytes other) → made ≡ other
+by_kind-once s media bytes None made other laws is so = is ∙ sym so
+by_kind-once s media bytes (Some module_kind.Source) made other laws makes makes_too =
+    by_language-once s media bytes (language_of media) made other laws makes makes_too
+by_kind-once s media bytes (Some module_kind.Json) made other laws makes makes_too = OfJson-once bytes made other makes makes_too
+by_kind-once s media bytes (Some module_kind.Wasm) made other laws makes makes_too = OfWasm-once s bytes made other makes makes_too
+
 -- ---- the whole
 
 -- one answer makes one entry
-pub Analysed-once : ((text : List ℕ) → HasOneReading text) → (s : List ℕ) (a : LoadAnswer) (made other : Entry)
+pub Analysed-once : ((text : List ℕ) → HasOneReading text) → (s : List ℕ) (a : Option LoadAnswer) (made other : Entry)
     → Analysed s a made → Analysed s a other → made ≡ other
 unfolding Analysed
-Analysed-once laws s (answer.Content headers bytes) made other is so =
+Analysed-once laws s (Some (answer.Content headers bytes)) made other is so =
     let media = media_type_read (parse_url None s) in
-    by_language-once s media bytes (language_of media) made other (laws (without_mark bytes)) is so
-Analysed-once laws s (answer.Redirect target) made other is so = is ∙ sym so
-Analysed-once laws s answer.External made other is so = is ∙ sym so
-Analysed-once laws s answer.Absent made other is so = is ∙ sym so
-Analysed-once laws s answer.Failed made other is so = is ∙ sym so
+    by_kind-once s media bytes (kind_of media) made other (laws (without_mark bytes)) is so
+Analysed-once laws s (Some (answer.Redirect target)) made other is so = is ∙ sym so
+Analysed-once laws s (Some answer.External) made other is so = is ∙ sym so
+Analysed-once laws s (Some answer.Absent) made other is so = is ∙ sym so
+Analysed-once laws s (Some answer.Failed) made other is so = is ∙ sym so
+Analysed-once laws s None made other is so = is ∙ sym so

@@ -17,8 +17,12 @@ use Rattle.graph_entry.specs.declared.entry.Dependency.{Dependency}
 use Rattle.graph_entry.specs.declared.entry.Entry.{Entry}
 use Rattle.graph_entry.specs.declared.media_type.MediaType.{MediaType}
 use Rattle.graph_entry.specs.Entry.{CutsFrom, EachEdge, KeepsReasonOf}
+use Rattle.graph_entry.specs.declared.media_type.ModuleKind.{ModuleKind}
+use Rattle.graph_entry.specs.declared.media_type.ModuleKind.TheVariants as module_kind
+use Rattle.graph_entry.specs.MediaType.{kind_of}
 use Rattle.graph_entry.specs.ModuleText.{without_mark}
-use Rattle.graph_entry.specs.Analysed.{Analysed, language_of, media_type_read, OfBytes, OfText, OfTokens, with_tree, no_tree, with_tokens, no_tokens, with_text, no_text, dependency_of, not_built}
+use Rattle.graph_entry.specs.Analysed.{Analysed, language_of, media_type_read, OfKind, OfBytes, OfText, OfTokens, with_tree, no_tree, with_tokens, no_tokens, with_text, no_text, dependency_of, not_built, unsupported}
+use Rattle.graph_entry.proofs.ContentLemmas.{HoldsOfImports, OfJson-edges, OfWasm-edges}
 use Rattle.graph_entry.proofs.RoomLemmas.{resolve-kept}
 
 -- P holds of the edge of each site of each tree of the text, in the module at s
@@ -28,43 +32,54 @@ HoldsOfSites P s text = (lang : Lang) (tokens : List Token) (tree : Program) →
 
 -- ---- level by level
 
-module _ (P : List ℕ → Dependency → Type 0) (s : List ℕ) (media : MediaType) (lang : Lang) where
+module _ (P Q : List ℕ → Dependency → Type 0) (s : List ℕ) (media : MediaType) (lang : Lang) where
   OfTokens-edges : (text : List ℕ) (tokens : List Token) (made : Entry) → HoldsOfSites P s text → ReadsTokens text tokens
-      → OfTokens s media lang text tokens made → EachEdge P made
+      → OfTokens s media lang text tokens made → EachEdge P Q made
   OfTokens-edges text tokens made holds reads (with_tree tree derived is) =
-      subst (EachEdge P) (sym is)
+      subst (EachEdge P Q) (sym is)
       (All-map (P text) (dependency_of s) (sites_of tree) (holds lang tokens tree reads derived))
-  OfTokens-edges text tokens made holds reads (no_tree nothing is) = subst (EachEdge P) (sym is) tt
+  OfTokens-edges text tokens made holds reads (no_tree nothing is) = subst (EachEdge P Q) (sym is) tt
 
-  OfText-edges : (text : List ℕ) (made : Entry) → HoldsOfSites P s text → OfText s media lang text made → EachEdge P made
+  OfText-edges : (text : List ℕ) (made : Entry) → HoldsOfSites P s text → OfText s media lang text made → EachEdge P Q made
   OfText-edges text made holds (with_tokens tokens reads makes) = OfTokens-edges text tokens made holds reads makes
-  OfText-edges text made holds (no_tokens kind place stops is) = subst (EachEdge P) (sym is) tt
+  OfText-edges text made holds (no_tokens kind place stops is) = subst (EachEdge P Q) (sym is) tt
 
   OfBytes-edges : (bytes : List ℕ) (made : Entry) → HoldsOfSites P s (without_mark bytes)
-      → OfBytes s media lang bytes made → EachEdge P made
+      → OfBytes s media lang bytes made → EachEdge P Q made
   OfBytes-edges bytes made holds (with_text utf8 makes) = OfText-edges (without_mark bytes) made holds makes
-  OfBytes-edges bytes made holds (no_text not is) = subst (EachEdge P) (sym is) tt
+  OfBytes-edges bytes made holds (no_text not is) = subst (EachEdge P Q) (sym is) tt
 
--- content, by the language of its media type
-by_language-edges : (P : List ℕ → Dependency → Type 0) (s : List ℕ) (media : MediaType) (bytes : List ℕ)
+-- a source, by the language of its media type
+by_language-edges : (P Q : List ℕ → Dependency → Type 0) (s : List ℕ) (media : MediaType) (bytes : List ℕ)
     (lang : Option Lang) (made : Entry) → HoldsOfSites P s (without_mark bytes)
-    → MatchOption lang (made ≡ not_built) (λ l. OfBytes s media l bytes made) → EachEdge P made
-by_language-edges P s media bytes None made holds is = subst (EachEdge P) (sym is) tt
-by_language-edges P s media bytes (Some l) made holds makes = OfBytes-edges P s media l bytes made holds makes
+    → MatchOption lang (made ≡ not_built) (λ l. OfBytes s media l bytes made) → EachEdge P Q made
+by_language-edges P Q s media bytes None made holds is = subst (EachEdge P Q) (sym is) tt
+by_language-edges P Q s media bytes (Some l) made holds makes = OfBytes-edges P Q s media l bytes made holds makes
+
+-- content, by how it is read
+by_kind-edges : (P Q : List ℕ → Dependency → Type 0) (s : List ℕ) (media : MediaType) (bytes : List ℕ)
+    (read : Option ModuleKind) (made : Entry) → HoldsOfSites P s (without_mark bytes) → HoldsOfImports Q s bytes
+    → MatchOption read (made ≡ unsupported media) (λ k. OfKind s media k bytes made) → EachEdge P Q made
+by_kind-edges P Q s media bytes None made sites imports is = subst (EachEdge P Q) (sym is) tt
+by_kind-edges P Q s media bytes (Some module_kind.Source) made sites imports makes =
+    by_language-edges P Q s media bytes (language_of media) made sites makes
+by_kind-edges P Q s media bytes (Some module_kind.Json) made sites imports makes = OfJson-edges P Q bytes made makes
+by_kind-edges P Q s media bytes (Some module_kind.Wasm) made sites imports makes = OfWasm-edges P Q s bytes made imports makes
 
 -- ---- the whole
 
 -- the edges of what an answer makes
-pub Analysed-edges : (P : List ℕ → Dependency → Type 0) (s : List ℕ) → ((text : List ℕ) → HoldsOfSites P s text)
-    → (a : LoadAnswer) (made : Entry) → Analysed s a made → EachEdge P made
+pub Analysed-edges : (P Q : List ℕ → Dependency → Type 0) (s : List ℕ) → ((text : List ℕ) → HoldsOfSites P s text)
+    → ((bytes : List ℕ) → HoldsOfImports Q s bytes) → (a : Option LoadAnswer) (made : Entry) → Analysed s a made → EachEdge P Q made
 unfolding Analysed
-Analysed-edges P s holds (answer.Content headers bytes) made is =
+Analysed-edges P Q s sites imports (Some (answer.Content headers bytes)) made is =
     let media = media_type_read (parse_url None s) in
-    by_language-edges P s media bytes (language_of media) made (holds (without_mark bytes)) is
-Analysed-edges P s holds (answer.Redirect target) made is = subst (EachEdge P) (sym is) tt
-Analysed-edges P s holds answer.External made is = subst (EachEdge P) (sym is) tt
-Analysed-edges P s holds answer.Absent made is = subst (EachEdge P) (sym is) tt
-Analysed-edges P s holds answer.Failed made is = subst (EachEdge P) (sym is) tt
+    by_kind-edges P Q s media bytes (kind_of media) made (sites (without_mark bytes)) (imports bytes) is
+Analysed-edges P Q s sites imports (Some (answer.Redirect target)) made is = subst (EachEdge P Q) (sym is) tt
+Analysed-edges P Q s sites imports (Some answer.External) made is = subst (EachEdge P Q) (sym is) tt
+Analysed-edges P Q s sites imports (Some answer.Absent) made is = subst (EachEdge P Q) (sym is) tt
+Analysed-edges P Q s sites imports (Some answer.Failed) made is = subst (EachEdge P Q) (sym is) tt
+Analysed-edges P Q s sites imports None made is = subst (EachEdge P Q) (sym is) tt
 
 -- ---- two facts of each edge
 

@@ -4,11 +4,14 @@ use Rattle.es_lexer.proofs.Theorems.{one_reading, one_fault, no_reading_stops}
 use Rattle.es_tree.specs.declared.error.Mode.TheVariants as mode
 use Rattle.es_tree.specs.Sites.{sites_of}
 use Rattle.es_parser.proofs.Theorems.{one_tree, derives_cuts}
+use Rattle.std.specs.Prelude.{Option}
 use Rattle.graph_entry.specs.declared.answer.LoadAnswer.{LoadAnswer}
 use Rattle.graph_entry.specs.declared.entry.Entry.{Entry}
-use Rattle.graph_entry.specs.Entry.{CutsFrom, EachEdge, EdgesCut, KeepsReasonOf}
+use Rattle.graph_entry.specs.Entry.{CutsFrom, CutsName, EachEdge, EdgesCut, KeepsReasonOf, KeepsFault}
 use Rattle.graph_entry.specs.Analysed.{Analysed}
 use Rattle.graph_entry.proofs.AnalysedLemmas.{HasOneReading, Analysed-once}
+use Rattle.graph_entry.proofs.ContentLemmas.{imports-CutsName, imports-KeepsReasonOf}
+use Rattle.graph_entry.proofs.FaultLemmas.{Analysed-fault}
 use Rattle.graph_entry.proofs.EdgeLemmas.{Analysed-edges, All-CutsFrom, All-KeepsReasonOf}
 
 -- a text has one reading or one first fault, and one tree
@@ -20,18 +23,25 @@ has_one_reading text = record {
   no_both = λ ts k at reads stops. no_reading_stops text ts reads.0 k at reads.1 stops;
 }
 
--- one answer makes one entry of a specifier
-pub analysed_once : (s : List ℕ) (a : LoadAnswer) (made other : Entry)
+-- one answer, or none where no loader is asked, makes one entry of a specifier
+pub analysed_once : (s : List ℕ) (a : Option LoadAnswer) (made other : Entry)
     → Analysed s a made → Analysed s a other → made ≡ other
 analysed_once = Analysed-once has_one_reading
 
--- each edge of what an answer makes cuts from the module's text the literal whose value is the edge's text
-pub analysed_cuts : (s : List ℕ) (a : LoadAnswer) (made : Entry) → Analysed s a made → EdgesCut made
+-- each edge of a source cuts from the module's text the literal whose value is the edge's text, and each of a
+-- WebAssembly module from its bytes the edge's text itself
+pub analysed_cuts : (s : List ℕ) (a : Option LoadAnswer) (made : Entry) → Analysed s a made → EdgesCut made
 analysed_cuts s =
-    Analysed-edges CutsFrom s (λ text lang tokens tree reads derived.
+    Analysed-edges CutsFrom CutsName s (λ text lang tokens tree reads derived.
     All-CutsFrom s text (sites_of tree) (derives_cuts lang mode.Module text tokens tree reads derived))
+    (imports-CutsName s)
 
 -- an edge without target never keeps want of room as its reason
-pub analysed_reasons : (s : List ℕ) (a : LoadAnswer) (made : Entry) → Analysed s a made → EachEdge KeepsReasonOf made
+pub analysed_reasons : (s : List ℕ) (a : Option LoadAnswer) (made : Entry) → Analysed s a made → EachEdge KeepsReasonOf KeepsReasonOf made
 analysed_reasons s =
-    Analysed-edges KeepsReasonOf s (λ text lang tokens tree reads derived. All-KeepsReasonOf s text (sites_of tree))
+    Analysed-edges KeepsReasonOf KeepsReasonOf s (λ text lang tokens tree reads derived. All-KeepsReasonOf s text (sites_of tree))
+    (imports-KeepsReasonOf s)
+
+-- an entry's fault is never want of memory
+pub analysed_faults : (s : List ℕ) (a : Option LoadAnswer) (made : Entry) → Analysed s a made → KeepsFault made
+analysed_faults = Analysed-fault

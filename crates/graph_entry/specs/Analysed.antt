@@ -22,11 +22,15 @@ use Rattle.graph_entry.specs.declared.entry.Dependency.{Dependency}
 use Rattle.graph_entry.specs.declared.entry.Module.TheVariants.{Js}
 use Rattle.graph_entry.specs.declared.entry.Entry.{Entry}
 use Rattle.graph_entry.specs.declared.entry.Entry.TheVariants as entry
-use Rattle.graph_entry.specs.declared.entry.ModuleError.TheVariants.{Missing, Parse, NotBuilt}
+use Rattle.graph_entry.specs.declared.entry.ModuleError.TheVariants.{Missing, UnsupportedMediaType, Parse, NotBuilt}
 use Rattle.graph_entry.specs.declared.media_type.MediaType.{MediaType}
 use Rattle.graph_entry.specs.declared.media_type.MediaType.TheVariants.{TypeScript, Mts, JavaScript, Mjs, Unknown}
-use Rattle.graph_entry.specs.MediaType.{media_type_of}
+use Rattle.graph_entry.specs.declared.media_type.ModuleKind.{ModuleKind}
+use Rattle.graph_entry.specs.declared.media_type.ModuleKind.TheVariants as module_kind
+use Rattle.graph_entry.specs.MediaType.{media_type_of, kind_of}
 use Rattle.graph_entry.specs.ModuleText.{without_mark}
+use Rattle.graph_entry.specs.Json.{no_utf8, OfJson}
+use Rattle.graph_entry.specs.Wasm.{OfWasm}
 use Rattle.graph_entry.specs.Resolution.{resolve}
 
 -- the media type of a specifier is that of the path of the URL that its text is read as
@@ -34,7 +38,7 @@ abbrev pub media_type_read : Parsed Parts → MediaType
 media_type_read (Ok url) = media_type_of url.path
 media_type_read (Err e) = Unknown
 
--- the language of a source, for the media types that are built
+-- the language of a source, for the sources that are built
 abbrev pub language_of : MediaType → Option Lang
 language_of TypeScript = Some Typescript
 language_of Mts = Some Typescript
@@ -45,6 +49,10 @@ language_of _ = None
 -- what is not built yet
 abbrev pub not_built : Entry
 not_built = entry.Error NotBuilt
+
+-- content of this media type is no module
+abbrev pub unsupported : MediaType → Entry
+unsupported media_type = entry.Error (UnsupportedMediaType media_type)
 
 -- the source at this specifier is no module
 abbrev pub no_module : List ℕ → SyntaxErrorKind → Option Range → Entry
@@ -97,17 +105,33 @@ pub data OfBytes (s : List ℕ) (media_type : MediaType) (lang : Lang) (bytes : 
   -- what their text makes
   with_text : IsUtf8 bytes → OfText s media_type lang (without_mark bytes) made → OfBytes s media_type lang bytes made
   -- they are no text
-  no_text : ¬ IsUtf8 bytes → made ≡ not_built → OfBytes s media_type lang bytes made
+  no_text : ¬ IsUtf8 bytes → made ≡ no_utf8 → OfBytes s media_type lang bytes made
 
--- what content makes: only sources are built
-abbrev pub OfContent : List ℕ → MediaType → List ℕ → Entry → Type 0
-OfContent s media_type bytes made =
+-- what content of a source makes: some languages are not built
+abbrev pub OfSource : List ℕ → MediaType → List ℕ → Entry → Type 0
+OfSource s media_type bytes made =
     MatchOption (language_of media_type) (made ≡ not_built) (λ lang. OfBytes s media_type lang bytes made)
 
--- what this answer makes of this specifier
-unfoldable pub Analysed : List ℕ → LoadAnswer → Entry → Type 0
-Analysed s (answer.Content headers bytes) made = OfContent s (media_type_read (parse_url None s)) bytes made
-Analysed s (answer.Redirect target) made = made ≡ not_built
-Analysed s answer.External made = made ≡ not_built
-Analysed s answer.Absent made = made ≡ entry.Error Missing
-Analysed s answer.Failed made = made ≡ not_built
+-- what content makes, by how a module of its media type is read
+abbrev pub OfKind : List ℕ → MediaType → ModuleKind → List ℕ → Entry → Type 0
+OfKind s media_type module_kind.Source bytes made = OfSource s media_type bytes made
+OfKind s media_type module_kind.Json bytes made = OfJson bytes made
+OfKind s media_type module_kind.Wasm bytes made = OfWasm s bytes made
+
+-- what content makes: of some media types there are no modules
+abbrev pub OfContent : List ℕ → MediaType → List ℕ → Entry → Type 0
+OfContent s media_type bytes made =
+    MatchOption (kind_of media_type) (made ≡ unsupported media_type) (λ read. OfKind s media_type read bytes made)
+
+-- what a loader's answer makes of this specifier
+abbrev pub OfAnswer : List ℕ → LoadAnswer → Entry → Type 0
+OfAnswer s (answer.Content headers bytes) made = OfContent s (media_type_read (parse_url None s)) bytes made
+OfAnswer s (answer.Redirect target) made = made ≡ not_built
+OfAnswer s answer.External made = made ≡ not_built
+OfAnswer s answer.Absent made = made ≡ entry.Error Missing
+OfAnswer s answer.Failed made = made ≡ not_built
+
+-- what this answer makes of this specifier; `None` where no loader is asked for it
+unfoldable pub Analysed : List ℕ → Option LoadAnswer → Entry → Type 0
+Analysed s (Some answer) made = OfAnswer s answer made
+Analysed s None made = made ≡ not_built

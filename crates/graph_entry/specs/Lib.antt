@@ -6,6 +6,8 @@ pub mod Resolution
 pub mod Headers
 pub mod Diagnosis
 pub mod Entry
+pub mod Json
+pub mod Wasm
 pub mod Analysed
 -- ---- what the functions inside the crate promise each other
 pub mod Steps

@@ -1,10 +1,12 @@
 -- Media types of modules, by the ending of a path (this project's profile).
 -- A path is that of a URL (URL Standard, "URL representation"); capital letters of ASCII count as small ones.
-use Rattle.std.specs.Prelude.{ℕ, nat_eq, List, [], ◌∷◌, codes, if◌then◌else◌}
+use Rattle.std.specs.Prelude.{ℕ, nat_eq, List, [], ◌∷◌, codes, Option, Some, None, if◌then◌else◌}
 use Rattle.std.specs.List.{ends_with}
 use Rattle.std.specs.Str.{str_to_ascii_lowercase}
 use Rattle.graph_entry.specs.declared.media_type.MediaType.{MediaType}
 use Rattle.graph_entry.specs.declared.media_type.MediaType.TheVariants.{Dts, Dmts, Dcts, TypeScript, Mts, Cts, Tsx, JavaScript, Mjs, Cjs, Jsx, Json, Jsonc, Json5, Wasm, Css, Html, Markdown, Sql, SourceMap, Unknown}
+use Rattle.graph_entry.specs.declared.media_type.ModuleKind.{ModuleKind}
+use Rattle.graph_entry.specs.declared.media_type.ModuleKind.TheVariants as module_kind
 
 -- an ending, and the media type of the paths that have it
 abbrev pub Row : Type 0
@@ -29,6 +31,23 @@ first_ending (row ∷ rows) text =
 -- the media type of a path
 unfoldable pub media_type_of : List ℕ → MediaType
 media_type_of path = first_ending endings (str_to_ascii_lowercase path)
+
+-- how a module of a media type is read, where there are modules of it
+abbrev pub kind_of : MediaType → Option ModuleKind
+kind_of Dts = Some module_kind.Source
+kind_of Dmts = Some module_kind.Source
+kind_of Dcts = Some module_kind.Source
+kind_of TypeScript = Some module_kind.Source
+kind_of Mts = Some module_kind.Source
+kind_of Cts = Some module_kind.Source
+kind_of Tsx = Some module_kind.Source
+kind_of JavaScript = Some module_kind.Source
+kind_of Mjs = Some module_kind.Source
+kind_of Cjs = Some module_kind.Source
+kind_of Jsx = Some module_kind.Source
+kind_of Json = Some module_kind.Json
+kind_of Wasm = Some module_kind.Wasm
+kind_of _ = None
 
 -- the name of a media type, as reports write it
 abbrev pub name_of : MediaType → List ℕ

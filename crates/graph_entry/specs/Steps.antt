@@ -1,7 +1,12 @@
 -- What the functions inside the crate promise each other.
-use Rattle.std.specs.Prelude.{◌≡◌, None}
+use Rattle.std.specs.Prelude.{◌≡◌, ◌≢◌, ℕ, true, List, map, None, Result, Ok, Err}
 use Rattle.url.specs.Parser.{parse_url}
 use Rattle.graph_entry.specs.Specifier.{text_of}
+use Rattle.wasm_dep_analyzer.specs.declared.error.ParseError.{ParseError}
+use Rattle.wasm_dep_analyzer.specs.declared.error.ParseError.TheVariants.{OutOfMemory}
+use Rattle.wasm_dep_analyzer.specs.Module.{Deps, ReadsModule}
+use Rattle.graph_entry.specs.declared.entry.Dependency.{Dependency}
+use Rattle.graph_entry.specs.Wasm.{wasm_dependency}
 use Rattle.graph_entry.specs.MediaType.{Row}
 use Rattle.graph_entry.specs.declared.analysis.Source.{Source}
 use Rattle.graph_entry.specs.declared.media_type.Ending.{Ending}
@@ -13,3 +18,9 @@ IsReadAgain source = source.base.now ≡ parse_url None (text_of source.specifie
 -- a row of the code's table of endings
 abbrev pub row_of : Ending → Row
 row_of e = (e.text.now, e.media_type)
+
+-- the edges of the WebAssembly module at this specifier, or its first fault
+abbrev pub GivesEdges : List ℕ → List ℕ → Result (List Dependency) ParseError → Type 0
+GivesEdges s bytes (Ok edges) =
+    (deps : Deps) × ReadsModule true bytes (Ok deps) × (edges ≡ map (wasm_dependency s) deps.imports)
+GivesEdges s bytes (Err e) = (e ≢ OutOfMemory) × ReadsModule true bytes (Err e)

@@ -1,21 +1,23 @@
 //! What one answer of a loader makes of one specifier.
-ghost use Rattle.std.specs.Prelude.{◌≡◌, None, map, IfOk};
+ghost use Rattle.std.specs.Prelude.{◌≡◌, false, None, Some, map, IfOk};
 ghost use Rattle.url.specs.Parser.{parse_url};
 ghost use Rattle.es_lexer.specs.Reads.{ReadsTokens};
 ghost use Rattle.es_tree.specs.Sites.{sites_of};
-ghost use Rattle.graph_entry.specs.Specifier.{text_of};
-ghost use Rattle.graph_entry.specs.ModuleText as texts;
+ghost use Rattle.graph_entry.specs.Specifier.{text_of, loadable};
 ghost use Rattle.graph_entry.specs.Diagnosis.{told_range};
 ghost use Rattle.graph_entry.specs.Steps.{IsReadAgain};
 ghost use Rattle.graph_entry.specs.Analysed as spec;
-ghost use Rattle.graph_entry.specs.Analysed.{Analysed, OfContent, OfBytes, OfText, OfTokens};
+ghost use Rattle.graph_entry.specs.Analysed.{Analysed, OfContent, OfSource, OfBytes, OfText, OfTokens};
 
 use crate::answer::LoadAnswer;
 use crate::diagnostic::{ParseDiagnostic, SyntaxErrorKind};
 use crate::entry::{Dependency, Entry, JsModule, Module, ModuleError};
-use crate::media_type::MediaType;
+use crate::json::{analyse_json, no_text};
+use crate::media_type::{MediaType, ModuleKind};
+use crate::module_text::without_mark;
 use crate::resolution::{ReadAgain, read_again, resolve_from};
-use base::{Items, Range, SharedText};
+use crate::wasm::analyse_wasm;
+use base::{Items, Range, SharedBytes, SharedText};
 use es_lexer::{LexError, LexicalError, Token, lex_tokens};
 use es_parser::parse_tokens;
 use es_tree::{Lang, Mode, Program, Site, SyntaxError, sites};
@@ -26,15 +28,24 @@ use url::Url;
 /// The entry of the specifier, where a loader gave this answer for it.
 #[tactic(auto, unfolding(crate::specs::Analysed::Analysed))]
 pub fn analyse(alloc: Global, specifier: &Url, answer: LoadAnswer) -> Result<Entry, AllocError>
-    ensures { IfOk result (λ made. Analysed (text_of specifier.now) answer made) }
+    ensures { IfOk result (λ made. Analysed (text_of specifier.now) (Some answer) made) }
 {
     match answer {
-        LoadAnswer::Content { headers: _, bytes } => {
-            analyse_content(alloc, specifier, bytes.as_slice())
-        }
+        LoadAnswer::Content { headers: _, bytes } => { analyse_content(alloc, specifier, bytes) }
         LoadAnswer::Redirect(_) | LoadAnswer::External | LoadAnswer::Failed => Ok(not_built()),
         LoadAnswer::Absent => Ok(Entry::Error(ModuleError::Missing)),
     }
+}
+
+/// The entry of a specifier that no loader is asked for.
+#[tactic(auto, unfolding(crate::specs::Analysed::Analysed))]
+pub fn analyse_unasked(alloc: Global, specifier: &Url) -> Result<Entry, AllocError>
+    requires { loadable (text_of specifier.now) ≡ false }
+    ensures { IfOk result (λ made. Analysed (text_of specifier.now) None made) }
+{
+    let _held = alloc;
+    let _ = specifier;
+    Ok(not_built())
 }
 
 fn not_built() -> Entry
@@ -43,18 +54,45 @@ fn not_built() -> Entry
     Entry::Error(ModuleError::NotBuilt)
 }
 
-fn analyse_content(alloc: Global, specifier: &Url, bytes: &[u8]) -> Result<Entry, AllocError>
+fn analyse_content(alloc: Global, specifier: &Url, bytes: SharedBytes) -> Result<Entry, AllocError>
     ensures { IfOk result (OfContent
-        (text_of specifier.now) (spec.media_type_read (parse_url None (text_of specifier.now))) bytes.now) }
+        (text_of specifier.now) (spec.media_type_read (parse_url None (text_of specifier.now))) bytes) }
 {
     let base = read_again(alloc, specifier)?;
     let media_type = media_type_read(alloc, &base)?;
+    match media_type.kind() {
+        None => Ok(unsupported(media_type)),
+        Some(ModuleKind::Source) => {
+            analyse_source(alloc, specifier, &base, media_type, bytes.as_slice())
+        }
+        Some(ModuleKind::Json) => analyse_json(alloc, bytes.as_slice()),
+        Some(ModuleKind::Wasm) => analyse_wasm(alloc, specifier, &base, bytes),
+    }
+}
+
+fn unsupported(media_type: MediaType) -> Entry
+    ensures { result ≡ spec.unsupported media_type }
+{
+    Entry::Error(ModuleError::UnsupportedMediaType(media_type))
+}
+
+// The base is the specifier, read again.
+fn analyse_source(
+    alloc: Global,
+    specifier: &Url,
+    base: &ReadAgain,
+    media_type: MediaType,
+    bytes: &[u8],
+) -> Result<Entry, AllocError>
+    requires again { base.now ≡ parse_url None (text_of specifier.now) }
+    ensures { IfOk result (OfSource (text_of specifier.now) media_type bytes.now) }
+{
     match language_of(media_type) {
         None => Ok(not_built()),
         Some(lang) => {
             let source = Source {
                 specifier,
-                base: &base,
+                base,
                 media_type,
                 lang,
             };
@@ -100,17 +138,7 @@ fn analyse_bytes(alloc: Global, source: Source<'_>, bytes: &[u8]) -> Result<Entr
 {
     match str::from_utf8(bytes) {
         Ok(text) => analyse_text(alloc, source, without_mark(text)),
-        Err(_) => Ok(not_built()),
-    }
-}
-
-// The text less one byte order mark at the front.
-fn without_mark(text: &str) -> &str
-    ensures { result.now ≡ texts.without_mark text.now }
-{
-    match text.strip_prefix("\u{feff}") {
-        Some(rest) => rest,
-        None => text,
+        Err(_) => Ok(no_text()),
     }
 }
 

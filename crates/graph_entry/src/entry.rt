@@ -5,10 +5,11 @@ ghost use Rattle.graph_entry.specs.Entry.{name_of_error};
 use crate::diagnostic::ParseDiagnostic;
 use crate::media_type::MediaType;
 use crate::resolution::ResolutionError;
-use base::{Items, Range, SharedText, Text};
+use base::{Items, Range, SharedBytes, SharedText, Text};
 use es_tree::{Attribute, DependencyKind};
 use std::fmt;
 use url::Url;
+use wasm_dep_analyzer::ParseError;
 
 /// What a graph holds for a specifier.
 #[derive(Debug, Drop)]
@@ -25,6 +26,8 @@ pub enum Entry {
 #[derive(Debug, Drop)]
 pub enum Module {
     Js(JsModule),
+    Json(JsonModule),
+    Wasm(WasmModule),
 }
 
 /// A module of JavaScript or TypeScript.
@@ -37,14 +40,31 @@ pub struct JsModule {
     pub dependencies: Items<Dependency>,
 }
 
+/// A module of JSON. Its text isn't read further, and need not be JSON.
+#[derive(Debug, Drop)]
+pub struct JsonModule {
+    /// The content without a byte order mark.
+    pub text: SharedText,
+}
+
+/// A module of WebAssembly.
+#[derive(Debug, Drop)]
+pub struct WasmModule {
+    /// The content. Places count from its start.
+    pub bytes: SharedBytes,
+    /// One for each import, in the order of the bytes.
+    pub dependencies: Items<Dependency>,
+}
+
 /// One reference from a module to a specifier.
 #[derive(Debug, Drop)]
 pub struct Dependency {
     pub kind: DependencyKind,
     pub type_only: bool,
-    /// The string literal in the module's text, with its quotes. `None` for what stands in no text.
+    /// Of a source the string literal in the module's text, with its quotes. Of a WebAssembly module the name in
+    /// its bytes. `None` for what stands in no module.
     pub range: Option<Range>,
-    /// The literal's value.
+    /// The literal's value, or the name.
     pub text: Text,
     pub attribute: Attribute,
     /// The target, or why there is none.
@@ -56,8 +76,14 @@ pub struct Dependency {
 pub enum ModuleError {
     /// There is no such module.
     Missing,
+    /// Content of this media type is no module.
+    UnsupportedMediaType(MediaType),
+    /// The bytes of a source or of JSON are no text.
+    Decode,
     /// The source is no module.
     Parse(ParseDiagnostic),
+    /// The bytes are no WebAssembly module. Never for want of memory.
+    WasmParse(ParseError),
     /// This version does not build what would be here.
     NotBuilt,
     /// Memory ran out. Never the error of an entry.
@@ -71,7 +97,10 @@ impl ModuleError {
     {
         match self {
             ModuleError::Missing => "Missing",
+            ModuleError::UnsupportedMediaType(_) => "UnsupportedMediaType",
+            ModuleError::Decode => "Decode",
             ModuleError::Parse(_) => "Parse",
+            ModuleError::WasmParse(_) => "WasmParse",
             ModuleError::NotBuilt => "NotBuilt",
             ModuleError::OutOfMemory => "OutOfMemory",
         }
@@ -82,7 +111,13 @@ impl fmt::Display for ModuleError {
     fn fmt<W: fmt::Write>(&self, f: &mut fmt::Formatter<W>) -> fmt::Result {
         match self {
             ModuleError::Missing => write!(f, "module not found"),
+            ModuleError::UnsupportedMediaType(media_type) => {
+                let name = media_type.name();
+                write!(f, "unsupported media type: {name}")
+            }
+            ModuleError::Decode => write!(f, "content is not UTF-8"),
             ModuleError::Parse(diagnostic) => write!(f, "{diagnostic}"),
+            ModuleError::WasmParse(error) => write!(f, "{error}"),
             ModuleError::NotBuilt => write!(f, "not built by this version"),
             ModuleError::OutOfMemory => write!(f, "out of memory"),
         }

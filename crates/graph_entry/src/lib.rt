@@ -2,6 +2,7 @@
 //!
 //! - `analyse(specifier, answer)`: the entry that the answer makes (`Analysed`, `specs/Analysed.antt`): a module with
 //!   its text and edges, or why there is none. Both ways; only want of memory may refuse.
+//! - `analyse_unasked(specifier)`: the same where no loader is asked for the specifier.
 //! - `resolve(text, referrer)`: what a specifier in a source leads to (`resolve`, `specs/Resolution.antt`).
 //! - `is_loadable(specifier)`: whether a loader is asked for it (`loadable`, `specs/Specifier.antt`).
 //! - `MediaType::of_path(path)`: the media type by the path's ending (`media_type_of`, `specs/MediaType.antt`).
@@ -18,18 +19,21 @@ mod answer;
 mod diagnostic;
 mod entry;
 mod headers;
+mod json;
 mod kind;
 mod media_type;
+mod module_text;
 mod resolution;
 mod specifier;
+mod wasm;
 
-pub use crate::analysis::analyse;
+pub use crate::analysis::{analyse, analyse_unasked};
 pub use crate::answer::LoadAnswer;
 pub use crate::diagnostic::{ParseDiagnostic, SyntaxErrorKind};
-pub use crate::entry::{Dependency, Entry, JsModule, Module, ModuleError};
+pub use crate::entry::{Dependency, Entry, JsModule, JsonModule, Module, ModuleError, WasmModule};
 pub use crate::headers::Headers;
 pub use crate::kind::GraphKind;
-pub use crate::media_type::MediaType;
+pub use crate::media_type::{MediaType, ModuleKind};
 pub use crate::resolution::{ResolutionError, Resolved, resolve};
 pub use crate::specifier::is_loadable;
 pub use es_tree::{Attribute, DependencyKind};

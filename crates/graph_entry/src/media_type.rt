@@ -1,7 +1,7 @@
 //! Media types of modules, by the ending of a path.
 ghost use Rattle.std.specs.Prelude.{◌≡◌, IfOk, nat_eq, map};
 ghost use Rattle.std.specs.List.{ends_with};
-ghost use Rattle.graph_entry.specs.MediaType.{media_type_of, name_of};
+ghost use Rattle.graph_entry.specs.MediaType.{media_type_of, kind_of, name_of};
 ghost use Rattle.graph_entry.specs.Steps.{row_of};
 ghost use Rattle.graph_entry.specs.MediaType as spec;
 
@@ -31,6 +31,15 @@ pub enum MediaType {
     Sql,
     SourceMap,
     Unknown,
+}
+
+/// How a module is read.
+#[derive(Clone, Copy, Debug, PartialEq, Eq)]
+pub enum ModuleKind {
+    /// As TypeScript or JavaScript.
+    Source,
+    Json,
+    Wasm,
 }
 
 struct Ending {
@@ -129,6 +138,35 @@ impl MediaType {
         let mut lowered = String::from_str(alloc, path)?;
         lowered.make_ascii_lowercase();
         Ok(first_ending(&ENDINGS, lowered.as_str()))
+    }
+
+    /// How a module of this media type is read. Of the other media types there are no modules.
+    pub fn kind(self) -> Option<ModuleKind>
+        ensures { result ≡ kind_of self }
+    {
+        match self {
+            MediaType::Dts
+            | MediaType::Dmts
+            | MediaType::Dcts
+            | MediaType::TypeScript
+            | MediaType::Mts
+            | MediaType::Cts
+            | MediaType::Tsx
+            | MediaType::JavaScript
+            | MediaType::Mjs
+            | MediaType::Cjs
+            | MediaType::Jsx => Some(ModuleKind::Source),
+            MediaType::Json => Some(ModuleKind::Json),
+            MediaType::Wasm => Some(ModuleKind::Wasm),
+            MediaType::Jsonc
+            | MediaType::Json5
+            | MediaType::Css
+            | MediaType::Html
+            | MediaType::Markdown
+            | MediaType::Sql
+            | MediaType::SourceMap
+            | MediaType::Unknown => None,
+        }
     }
 
     /// The variant's name, as reports write it.

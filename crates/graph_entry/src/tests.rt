@@ -1,8 +1,8 @@
 //! The rules against their tables, and each public call once on its happy path.
 
 use crate::{
-    Dependency, DependencyKind, Entry, Headers, JsModule, LoadAnswer, MediaType, Module,
-    ModuleError, analyse, is_loadable, resolve,
+    Dependency, DependencyKind, Entry, Headers, LoadAnswer, MediaType, Module, ModuleError,
+    analyse, is_loadable, resolve,
 };
 use base::{Range, SharedBytes};
 use std::alloc::Global;
@@ -29,23 +29,44 @@ fn made(alloc: Global, specifier: &str, bytes: &[u8]) -> Result<String, Fail> {
 
 fn shown(alloc: Global, entry: &Entry) -> Result<String, Fail> {
     match entry {
-        Entry::Module(Module::Js(module)) => shown_module(alloc, module),
+        Entry::Module(module) => shown_module(alloc, module),
         Entry::Error(ModuleError::Parse(fault)) => {
             let kind = fault.kind.name();
             let start = fault.range.start;
             let end = fault.range.end;
             Ok(format!(in alloc; "Parse {kind} {start}-{end}")?)
         }
+        Entry::Error(error @ ModuleError::WasmParse(_)) => {
+            let name = error.name();
+            Ok(format!(in alloc; "{name} {error}")?)
+        }
         Entry::Error(error) => Ok(String::from_str(alloc, error.name())?),
         Entry::Redirect(_) | Entry::External => Ok(String::from_str(alloc, "no module")?),
     }
 }
 
-fn shown_module(alloc: Global, module: &JsModule) -> Result<String, Fail> {
-    let media_type = module.media_type.name();
-    let len = module.text.len();
-    let mut line = format!(in alloc; "{media_type} {len}")?;
-    for edge in module.dependencies.as_slice() {
+fn shown_module(alloc: Global, module: &Module) -> Result<String, Fail> {
+    match module {
+        Module::Js(module) => {
+            let name = module.media_type.name();
+            with_edges(
+                alloc,
+                name,
+                module.text.len(),
+                module.dependencies.as_slice(),
+            )
+        }
+        Module::Json(module) => with_edges(alloc, "Json", module.text.len(), &[]),
+        Module::Wasm(module) => {
+            let edges = module.dependencies.as_slice();
+            with_edges(alloc, "Wasm", module.bytes.len(), edges)
+        }
+    }
+}
+
+fn with_edges(alloc: Global, name: &str, len: usize, edges: &[Dependency]) -> Result<String, Fail> {
+    let mut line = format!(in alloc; "{name} {len}")?;
+    for edge in edges {
         line.push_str(shown_edge(alloc, edge)?.as_str())?;
     }
     Ok(line)
@@ -175,7 +196,7 @@ fn makes_modules_of_sources(rt: HostRuntime) -> Result<(), Fail> {
 
 #[test]
 fn says_why_there_is_no_module(rt: HostRuntime) -> Result<(), Fail> {
-    let cases: [(&str, &[u8], &str); 9] = [
+    let cases: [(&str, &[u8], &str); 12] = [
         ("file:///a.ts", b"const x = 1;", "Parse InvalidChar 8-8"),
         (
             "file:///a.ts",
@@ -195,12 +216,48 @@ fn says_why_there_is_no_module(rt: HostRuntime) -> Result<(), Fail> {
         ("file:///a.ts", b"; /*", "Parse UnterminatedComment 2-2"),
         ("file:///a.ts", b"import x;", "Parse Syntax 7-8"),
         ("file:///a.ts", b"import", "Parse Syntax 6-6"),
-        ("file:///a.ts", b"\xFF", "NotBuilt"),
-        ("file:///a.d.ts", b"", "NotBuilt"),
+        ("file:///a.ts", b"\xFF", "Decode"),
+        ("file:///a.json", b"\xFF", "Decode"),
+        ("file:///a.d.ts", b"\xFF", "NotBuilt"),
+        ("file:///a.txt", b"", "UnsupportedMediaType"),
+        ("file:///a.jsonc", b"{}", "UnsupportedMediaType"),
     ];
     for (specifier, bytes, want) in cases {
         let line = made(rt.alloc(), specifier, bytes)?;
         assert_eq!(rt; line.as_str(), want, "{bytes:?}");
+    }
+    Ok(())
+}
+
+// A module with one import from `./a`, and its first bytes.
+const ONE_IMPORT: [u8; 19] = *b"\0asm\x01\0\0\0\x02\x09\x01\x03./a\x01f\0\0";
+
+#[test]
+fn makes_modules_of_wasm_and_json(rt: HostRuntime) -> Result<(), Fail> {
+    let one = "Wasm 19 false 12-15 ./a -> file:///x/a";
+    let cases: [(&str, &[u8], &str); 6] = [
+        ("file:///x/m.wasm", &ONE_IMPORT, one),
+        (
+            "blob:m.wasm",
+            &ONE_IMPORT,
+            "Wasm 19 false 12-15 ./a ! InvalidUrl",
+        ),
+        (
+            "file:///m.wasm",
+            &ONE_IMPORT[..18],
+            "WasmParse unexpected end of file",
+        ),
+        (
+            "file:///m.wasm",
+            b"import \"a\"",
+            "WasmParse not a Wasm module",
+        ),
+        ("file:///a.json", b"\xEF\xBB\xBFimport \"a\"", "Json 10"),
+        ("file:///a.json", b"", "Json 0"),
+    ];
+    for (specifier, bytes, want) in cases {
+        let line = made(rt.alloc(), specifier, bytes)?;
+        assert_eq!(rt; line.as_str(), want, "{specifier}");
     }
     Ok(())
 }

@@ -11,7 +11,7 @@ use Rattle.es_tree.specs.declared.site.Attribute.TheVariants.{Absent, Named, Unk
 use Rattle.graph_entry.specs.declared.entry.Dependency.{Dependency}
 use Rattle.graph_entry.specs.declared.entry.Entry.{Entry}
 use Rattle.graph_entry.specs.declared.entry.Entry.TheVariants as entry
-use Rattle.graph_entry.specs.declared.entry.Module.TheVariants.{Js}
+use Rattle.graph_entry.specs.declared.entry.Module.TheVariants as made
 use Rattle.graph_entry.specs.declared.resolution.ResolutionError.{ResolutionError}
 use Rattle.graph_entry.specs.Specifier.{text_of}
 use Rattle.graph_entry.specs.MediaType.{name_of}
@@ -69,14 +69,18 @@ edge_line d =
 -- what an entry is
 abbrev pub state : Entry → List ℕ
 state (entry.Redirect target) = codes "redirect " ++ text_of target
-state (entry.Module (Js m)) = codes "module " ++ name_of m.media_type ++ blank ++ decimal (length m.text)
+state (entry.Module (made.Js m)) = codes "module " ++ name_of m.media_type ++ blank ++ decimal (length m.text)
+state (entry.Module (made.Json m)) = codes "module Json " ++ decimal (length m.text)
+state (entry.Module (made.Wasm m)) = codes "module Wasm " ++ decimal (length m.bytes)
 state entry.External = codes "external"
 state (entry.Error e) = codes "error " ++ name_of_error e
 
 -- an entry's edges
 abbrev pub edges_of : Entry → List Dependency
 edges_of (entry.Redirect target) = []
-edges_of (entry.Module (Js m)) = m.dependencies
+edges_of (entry.Module (made.Js m)) = m.dependencies
+edges_of (entry.Module (made.Json m)) = []
+edges_of (entry.Module (made.Wasm m)) = m.dependencies
 edges_of entry.External = []
 edges_of (entry.Error e) = []
 

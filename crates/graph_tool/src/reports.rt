@@ -1,5 +1,5 @@
 //! The program's output: a graph as lines of text.
-ghost use Rattle.std.specs.Prelude.{◌≡◌, ◌++◌, OnOk, IfOk, string_bytes, decimal, length};
+ghost use Rattle.std.specs.Prelude.{◌≡◌, ◌++◌, codes, OnOk, IfOk, string_bytes, decimal, length};
 ghost use Rattle.std.specs.List.{flat_map};
 ghost use Rattle.json.specs.Print.{quoted};
 ghost use Rattle.graph_entry.specs.Specifier.{text_of};
@@ -8,7 +8,7 @@ ghost use Rattle.graph_tool.specs.Steps.{Adds};
 
 use base::Range;
 use deno_graph::{
-    Attribute, Dependency, DependencyKind, Entry, Module, ModuleGraph, ResolutionError,
+    Attribute, Dependency, DependencyKind, Entry, JsonModule, Module, ModuleGraph, ResolutionError,
 };
 use serde_json::Value;
 use std::alloc::{AllocError, Global};
@@ -78,7 +78,9 @@ fn edges(entry: &Entry) -> &[Dependency]
 {
     match entry {
         Entry::Module(Module::Js(module)) => module.dependencies.as_slice(),
-        Entry::Redirect(_) | Entry::External | Entry::Error(_) => &[],
+        Entry::Module(Module::Wasm(module)) => module.dependencies.as_slice(),
+        Entry::Module(Module::Json(_)) | Entry::Redirect(_) | Entry::External | Entry::Error(_) =>
+            &[],
     }
 }
 
@@ -97,12 +99,24 @@ fn add_state(alloc: Global, out: &mut String, entry: &Entry) -> Result<(), Alloc
             out.push_str(" ")?;
             add_number(alloc, out, module.text.len())
         }
+        Entry::Module(Module::Json(module)) => add_json(alloc, out, module),
+        Entry::Module(Module::Wasm(module)) => {
+            out.push_str("module Wasm ")?;
+            add_number(alloc, out, module.bytes.len())
+        }
         Entry::External => out.push_str("external"),
         Entry::Error(error) => {
             out.push_str("error ")?;
             out.push_str(error.name())
         }
     }
+}
+
+fn add_json(alloc: Global, out: &mut String, json: &JsonModule) -> Result<(), AllocError>
+    ensures { OnOk result (Adds out.old out.new (codes "module Json " ++ decimal (length json.now.text))) }
+{
+    out.push_str("module Json ")?;
+    add_number(alloc, out, json.text.len())
 }
 
 fn add_edges(alloc: Global, out: &mut String, edges: &[Dependency]) -> Result<(), AllocError>

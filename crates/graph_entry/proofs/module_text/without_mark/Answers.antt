@@ -1,6 +1,6 @@
 use Rattle.std.proofs.Common.{◌∙◌, sym, drop}
 use Rattle.graph_entry.proofs.ModuleTextLemmas.{without_mark-marked, without_mark-unmarked}
-use Rattle.graph_entry.proofs.analysis.without_mark.Goals as goal
+use Rattle.graph_entry.proofs.module_text.without_mark.Goals as goal
 
 pub returns-in-Some : goal.returns-in-Some
 returns-in-Some c =

@@ -1,0 +1,16 @@
+use Rattle.std.proofs.Common.{◌≡◌, ◌∙◌, ap, refl, None}
+use Rattle.url.specs.Parts.{Parts}
+use Rattle.url.specs.Parser.{Parsed, parse_url}
+use Rattle.graph_entry.specs.Specifier.{text_of}
+use Rattle.graph_entry.specs.Resolution.{resolve, resolve_read}
+use Rattle.graph_entry.proofs.wasm.edge_of.Goals as goal
+
+-- the base is the specifier's text read again, and the text is the name
+pub returns : goal.returns
+unfolding resolve
+returns c =
+    let name = c.args.import.now.module.now in
+    let found : c.in_ok-resolve_from.field-0 ≡ resolve (text_of c.args.specifier.now) name
+    = c.in_ok-resolve_from.ensures
+    ∙ ap (λ (b : Parsed Parts). resolve_read (parse_url None name) b name) c.requires.again in
+    rw (found, c.in_ok-from_str.ensures) refl

@@ -1,0 +1,87 @@
+//! Modules of WebAssembly.
+ghost use Rattle.std.specs.Prelude.{◌≡◌, None, map, IfOk};
+ghost use Rattle.url.specs.Parser.{parse_url};
+ghost use Rattle.wasm_dep_analyzer.specs.Imports.{imported};
+ghost use Rattle.graph_entry.specs.Specifier.{text_of};
+ghost use Rattle.graph_entry.specs.Wasm.{wasm_dependency, OfWasm};
+ghost use Rattle.graph_entry.specs.Steps.{GivesEdges};
+
+use crate::entry::{Dependency, Entry, Module, ModuleError, WasmModule};
+use crate::resolution::{ReadAgain, resolve_from};
+use base::{Items, Range, SharedBytes, Text};
+use es_tree::{Attribute, DependencyKind};
+use std::alloc::{AllocError, Global};
+use url::Url;
+use wasm_dep_analyzer::{Import, ParseError, ParseOptions, WasmDeps};
+
+/// The module that the bytes are, or why they are none. The base is the specifier, read again.
+pub fn analyse_wasm(
+    alloc: Global,
+    specifier: &Url,
+    base: &ReadAgain,
+    bytes: SharedBytes,
+) -> Result<Entry, AllocError>
+    requires again { base.now ≡ parse_url None (text_of specifier.now) }
+    ensures { IfOk result (OfWasm (text_of specifier.now) bytes) }
+{
+    match read_edges(alloc, specifier, base, bytes.as_slice())? {
+        Ok(dependencies) => Ok(Entry::Module(Module::Wasm(WasmModule {
+            bytes,
+            dependencies,
+        }))),
+        Err(error) => Ok(Entry::Error(ModuleError::WasmParse(error))),
+    }
+}
+
+// The edges of a module, or its first fault.
+fn read_edges(
+    alloc: Global,
+    specifier: &Url,
+    base: &ReadAgain,
+    bytes: &[u8],
+) -> Result<Result<Items<Dependency>, ParseError>, AllocError>
+    requires again { base.now ≡ parse_url None (text_of specifier.now) }
+    ensures { IfOk result (GivesEdges (text_of specifier.now) bytes.now) }
+{
+    match WasmDeps::parse(alloc, bytes, ParseOptions { skip_types: true }) {
+        Ok(deps) => Ok(Ok(edges_of(alloc, specifier, base, &deps.imports)?)),
+        Err(ParseError::OutOfMemory) => Err(AllocError),
+        Err(error) => Ok(Err(error)),
+    }
+}
+
+fn edges_of(
+    alloc: Global,
+    specifier: &Url,
+    base: &ReadAgain,
+    imports: &[Import<'_>],
+) -> Result<Items<Dependency>, AllocError>
+    requires again { base.now ≡ parse_url None (text_of specifier.now) }
+    ensures { IfOk result (λ edges. edges
+        ≡ map (wasm_dependency (text_of specifier.now)) (map imported imports.now)) }
+{
+    let mut edges = Items::new(alloc);
+    for import in imports {
+        edges.push(edge_of(alloc, specifier, base, import)?)?;
+    }
+    Ok(edges)
+}
+
+fn edge_of(
+    alloc: Global,
+    specifier: &Url,
+    base: &ReadAgain,
+    import: &Import<'_>,
+) -> Result<Dependency, AllocError>
+    requires again { base.now ≡ parse_url None (text_of specifier.now) }
+    ensures { IfOk result (λ edge. edge ≡ wasm_dependency (text_of specifier.now) (imported import.now)) }
+{
+    Ok(Dependency {
+        kind: DependencyKind::Wasm,
+        type_only: false,
+        range: Some(import.module_range),
+        text: Text::from_str(alloc, import.module)?,
+        attribute: Attribute::Absent,
+        resolution: resolve_from(alloc, base, import.module)?,
+    })
+}
