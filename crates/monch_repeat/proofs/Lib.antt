@@ -1,0 +1,4 @@
+pub mod RoundLemmas
+pub mod RepeatLemmas
+pub mod AgreeLemmas
+pub mod Theorems

@@ -1,0 +1,14 @@
+use Rattle.std.proofs.Common.{length}
+use denote.Text.{Utf8}
+use denote.Shadow.{shadow}
+use Rattle.monch_repeat.specs.Separated.{IsSeparated, EndsSeparated}
+use Rattle.monch_repeat.proofs.RepeatLemmas.{SoFar}
+use Rattle.monch_repeat.proofs.repeat.list_separated.Given as goal
+
+abbrev pub invariant-rounds : goal.invariant-rounds
+invariant-rounds g l =
+    shadow (Utf8 l.left)
+    × SoFar (IsSeparated (g.A.Combinator.gives l.item) (g.B.Combinator.gives l.separator)) (EndsSeparated (g.A.Combinator.gives l.item) (g.B.Combinator.gives l.separator)) l.fn.input l.values.items l.left
+
+abbrev pub decreases-rounds : goal.decreases-rounds
+decreases-rounds g l = length l.left

@@ -1,0 +1,83 @@
+//! Repetitions that fold their values.
+
+ghost use Rattle.std.specs.Prelude.{◌≡◌};
+ghost use Rattle.monch_core.specs.Seen.{seen};
+ghost use Rattle.monch_repeat.specs.Repeat.{Advances, GivesFold};
+ghost use Rattle.monch_repeat.specs.Items.{GivesItems};
+ghost use Rattle.monch_repeat.specs.Separated.{AdvancesTogether, GivesSeparated};
+
+use crate::rounds::{Round, next_item, next_separated};
+use monch_core::{Combinator, ParseResult};
+
+/// What a function makes of the values of items, until the end is read or no item stands there.
+#[derive(Drop)]
+pub struct ManyTillFold<A, B, S, F> {
+    pub(crate) item: A,
+    pub(crate) until: B,
+    pub(crate) init: S,
+    pub(crate) fold: F,
+}
+
+impl<A: Drop, B: Drop, S: Drop, F: Drop> ManyTillFold<A, B, S, F> {
+    /// What is left, and what `fold` makes of the values from `init`.
+    pub fn parse<'a>(self, input: &'a str) -> ParseResult<'a, S>
+    where
+        A: Combinator<'a>,
+        B: Combinator<'a>,
+        A::Output: Drop,
+        B::Output: Drop,
+        F: Fn(S, A::Output) -> S,
+        requires item { A.can_parse self.item }
+        requires until { B.can_parse self.until }
+        requires advances { Advances (A.gives self.item) }
+        requires fold { F.IsAlwaysCallable self.fold }
+        ensures { GivesFold (GivesItems (A.gives self.item) (B.gives self.until)) (F.post self.fold) self.init input.now (seen result) }
+    {
+        let mut state = self.init;
+        let mut left = input;
+        while let Some((rest, value)) = next_item(&self.item, &self.until, left)? {
+            state = (self.fold)(state, value);
+            left = rest;
+        }
+        Ok((left, state))
+    }
+}
+
+/// What a function makes of the values of items with a separator behind each.
+#[derive(Drop)]
+pub struct SeparatedFold<A, B, S, F> {
+    pub(crate) item: A,
+    pub(crate) separator: B,
+    pub(crate) init: S,
+    pub(crate) fold: F,
+}
+
+impl<A: Drop, B: Drop, S: Drop, F: Drop> SeparatedFold<A, B, S, F> {
+    /// What is left, and what `fold` makes of the values from `init`.
+    pub fn parse<'a>(self, input: &'a str) -> ParseResult<'a, S>
+    where
+        A: Combinator<'a>,
+        B: Combinator<'a>,
+        A::Output: Drop,
+        B::Output: Drop,
+        F: Fn(S, A::Output) -> S,
+        requires item { A.can_parse self.item }
+        requires separator { B.can_parse self.separator }
+        requires advances { AdvancesTogether (A.gives self.item) (B.gives self.separator) }
+        requires fold { F.IsAlwaysCallable self.fold }
+        ensures { GivesFold (GivesSeparated (A.gives self.item) (B.gives self.separator)) (F.post self.fold) self.init input.now (seen result) }
+    {
+        let mut state = self.init;
+        let mut left = input;
+        'rounds: loop {
+            match next_separated(&self.item, &self.separator, left)? {
+                Round::Next(rest, value) => {
+                    state = (self.fold)(state, value);
+                    left = rest;
+                }
+                Round::Last(rest, value) => return Ok((rest, (self.fold)(state, value))),
+                Round::End => return Ok((left, state)),
+            }
+        }
+    }
+}
