@@ -1,0 +1,24 @@
+//! The types of TypeScript as a syntax tree holds them, and the names and literals that they share with the tree of
+//! expressions and statements.
+//!
+//! - `TsType` and its parts: one variant for each form of a type, plain data that contracts compare by value. No type
+//!   holds an expression, so these types stand by themselves, below the tree.
+//! - `TsInterfaceDecl`, `TsTypeAliasDecl` and what stands behind `:`, `<` or `implements` on the side of values.
+//! - `Ident`, `Str`, `Number`, `BigInt`, `TplElement`: the leaves.
+//!
+//! A `span` is the range of bytes of the text that a part was read from. Every drop is written by hand: a derived one
+//! would be proved again in each crate that drops a tree. Not promised: what `Debug` writes.
+#![tactic(auto)]
+
+mod leaf;
+mod ts;
+
+pub use leaf::{
+    BigInt, Ident, MethodKind, Number, Str, TplElement, TruePlusMinus, TsEntityName, TsKey,
+    TsKeywordTypeKind, TsLit, TsThisTypeOrIdent, TsTypeOperatorOp,
+};
+pub use ts::{
+    Nodes, TsExprWithTypeArgs, TsFnParam, TsInterfaceDecl, TsParamPat, TsPatProp, TsTupleElement,
+    TsType, TsTypeAliasDecl, TsTypeAnn, TsTypeElement, TsTypeParam, TsTypeParamDecl,
+    TsTypeParamInstantiation,
+};
