@@ -1,3 +1,8 @@
+-- ---- what the public contracts rest on
 pub mod Paths
 pub mod State
 pub mod Calls
+pub mod Files
+pub mod Memory
+-- ---- what the functions inside the crate promise each other
+pub mod Steps

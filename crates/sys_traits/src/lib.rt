@@ -4,11 +4,15 @@
 mod call;
 mod error;
 mod file;
+mod files;
+mod in_memory;
+mod place;
 mod traits;
 
 pub use call::{SysCall, SysCallKind};
 pub use error::{SysError, SysErrorKind};
 pub use file::SysFile;
+pub use in_memory::InMemorySys;
 pub use traits::{
     AtomicWriteFileSys, AtomicWriteFileWithRetriesSys, FsCanonicalize, FsCreateDirAll, FsMetadata,
     FsOpen, FsRemoveFile, FsRename, SysState, SystemRandom, ThreadSleep,

@@ -1,0 +1,120 @@
+//! What a new system in memory is given.
+ghost use Rattle.std.specs.Prelude.{◌≡◌, ◌++◌, map, IfOk, OnOk};
+ghost use Rattle.sys_traits.specs.Paths.{spot, parent_of};
+ghost use Rattle.sys_traits.specs.Files.{with_file};
+ghost use Rattle.sys_traits.specs.Memory as spec;
+
+use crate::files::copy_bytes;
+use crate::place::{is_folder, parent_of, spot_in};
+use base::{Items, Text};
+use std::alloc::{AllocError, Global};
+use std::collections::BTreeMap;
+
+// The path, with a `/` in front where it has none.
+pub fn rooted(alloc: Global, path: Text) -> Result<Text, AllocError>
+    ensures { IfOk result (λ t. t ≡ spec.rooted path) }
+{
+    if path.as_str().starts_with('/') {
+        return Ok(path);
+    }
+    let mut rooted = String::from_str(alloc, "/")?;
+    rooted.push_str(path.as_str())?;
+    Ok(Text::from_string(rooted))
+}
+
+// The folders that are given, and those that the files stand in.
+pub fn folders(
+    alloc: Global,
+    folder: &str,
+    files: &[(Text, Items<u8>)],
+    folders: &[Text],
+) -> Result<Items<Text>, AllocError>
+    ensures { IfOk result (λ made. made ≡ spec.given_folders folder.now files.now folders.now) }
+{
+    let mut made = Items::new(alloc);
+    push_folders(&mut made, folder, folders)?;
+    push_parents(&mut made, folder, files)?;
+    Ok(made)
+}
+
+fn push_folders(made: &mut Items<Text>, folder: &str, folders: &[Text]) -> Result<(), AllocError>
+    ensures { OnOk result (made.new ≡ made.old ++ map (λ path. spot folder.now path) folders.now) }
+{
+    let alloc = made.allocator();
+    for path in folders {
+        let spot = spot_in(alloc, folder, path.as_str())?;
+        made.push(Text::from_string(spot))?;
+    }
+    Ok(())
+}
+
+fn push_parents(
+    made: &mut Items<Text>,
+    folder: &str,
+    files: &[(Text, Items<u8>)],
+) -> Result<(), AllocError>
+    ensures { OnOk result
+        (made.new ≡ made.old ++ map (λ file. parent_of (spot folder.now file.0)) files.now) }
+{
+    let alloc = made.allocator();
+    for file in files {
+        let parent = parent_in(alloc, folder, file.0.as_str())?;
+        made.push(parent)?;
+    }
+    Ok(())
+}
+
+// The folder that the path stands in, as seen from a folder.
+fn parent_in(alloc: Global, folder: &str, path: &str) -> Result<Text, AllocError>
+    ensures { IfOk result (λ t. t ≡ parent_of (spot folder.now path.now)) }
+{
+    let spot = spot_in(alloc, folder, path)?;
+    Text::from_str(alloc, parent_of(spot.as_str()))
+}
+
+// The files that are kept, from the last to the first, so that the first with a path stays.
+pub fn files(
+    alloc: Global,
+    folder: &str,
+    made: &[Text],
+    files: &[(Text, Items<u8>)],
+) -> Result<Items<(Text, Items<u8>)>, AllocError>
+    ensures { IfOk result (λ kept. kept ≡ spec.given_files folder.now made.now files.now) }
+{
+    let mut kept = BTreeMap::new(alloc);
+    let mut at = files.len();
+    while 0 < at {
+        at -= 1;
+        let spot = spot_in(alloc, folder, files[at].0.as_str())?;
+        if !is_folder(made, spot.as_str()) {
+            let content = copy_bytes(alloc, files[at].1.as_slice())?;
+            put(&mut kept, Text::from_string(spot), content)?;
+        }
+    }
+    drained(alloc, kept)
+}
+
+fn put(
+    kept: &mut BTreeMap<Text, Items<u8>>,
+    path: Text,
+    content: Items<u8>,
+) -> Result<(), AllocError>
+    ensures { OnOk result (kept.new.entries ≡ with_file kept.old.entries path content) }
+{
+    kept.insert(path, content)?;
+    Ok(())
+}
+
+// The entries, in their order.
+fn drained(
+    alloc: Global,
+    kept: BTreeMap<Text, Items<u8>>,
+) -> Result<Items<(Text, Items<u8>)>, AllocError>
+    ensures { IfOk result (λ list. list ≡ kept.entries) }
+{
+    let mut list = Items::new(alloc);
+    for entry in kept {
+        list.push(entry)?;
+    }
+    Ok(list)
+}
