@@ -1,4 +1,5 @@
 -- ---- what the public contracts rest on
+pub mod Errors
 pub mod Paths
 pub mod State
 pub mod Calls

@@ -1,9 +1,12 @@
 //! Why a call of the system was refused.
-ghost use Rattle.std.specs.Prelude.{◌≡◌, [], IfOk};
+ghost use Rattle.std.specs.Prelude.{◌≡◌, [], IfOk, Some};
 ghost use Rattle.sys_traits.specs.declared.error.SysErrorKind.TheVariants.{OutOfMemory};
+ghost use Rattle.sys_traits.specs.Errors.{shown_error};
 
 use base::Text;
 use std::alloc::{AllocError, Global};
+use std::error::Error;
+use std::fmt;
 
 /// The kind of a refusal.
 #[derive(Clone, Copy, Debug, PartialEq, Eq)]
@@ -44,3 +47,16 @@ impl SysError {
         })
     }
 }
+
+impl fmt::Display for SysError {
+    ghost output = { λ e. Some (shown_error e) };
+
+    fn fmt<W: fmt::Write>(&self, f: &mut fmt::Formatter<W>) -> fmt::Result {
+        match self.kind {
+            SysErrorKind::NotFound | SysErrorKind::Failed => fmt::Display::fmt(&self.message, f),
+            SysErrorKind::OutOfMemory => fmt::Display::fmt(&"out of memory", f),
+        }
+    }
+}
+
+impl Error for SysError {}

@@ -17,3 +17,6 @@ pub use traits::{
     AtomicWriteFileSys, AtomicWriteFileWithRetriesSys, FsCanonicalize, FsCreateDirAll, FsMetadata,
     FsOpen, FsRemoveFile, FsRename, SysState, SystemRandom, ThreadSleep,
 };
+
+#[cfg(test)]
+mod tests;
