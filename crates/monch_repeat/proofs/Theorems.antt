@@ -2,10 +2,11 @@
 use Rattle.std.proofs.Common.{inl, inr, ℕ, List, refl, sym, ◌∙◌}
 use Rattle.std.specs.Global.{Vec}
 use Rattle.monch_core.specs.Outcome.{backtrack, failure, no_memory, Outcome, success, refused, Meaning}
-use Rattle.monch_repeat.specs.Repeat.{Backtracks, GivesVec, GivesCount}
+use Rattle.monch_repeat.specs.Repeat.{Backtracks, GivesVec, GivesCount, TakesNoMemory}
 use Rattle.monch_repeat.specs.Items.{GivesItems}
 use Rattle.monch_repeat.specs.Separated.{GivesSeparated}
 use Rattle.monch_repeat.specs.Agree.{LeavesOneRest, IsCountOf}
+use Rattle.monch_repeat.proofs.RoomLemmas.{GivesItems-in_room, GivesSeparated-in_room}
 use Rattle.monch_repeat.proofs.AgreeLemmas.{AgreeOnLength, GivesItems-once, GivesSeparated-once}
 
 -- the list in a vector and the count of a list that agrees with itself
@@ -42,3 +43,12 @@ pub separated_count_is_length : {O P : Type 0} (item : Meaning O) (separator : M
     → GivesVec (GivesSeparated item separator) text listed → GivesCount (GivesSeparated item separator) text counted → IsCountOf listed counted
 separated_count_is_length item separator one_item one_separator text =
     IsCountOf-once (GivesSeparated item separator) text (λ one other a b. GivesSeparated-once item separator one_item one_separator a b)
+
+-- over a part that takes no memory, `many0_count` answers without it
+pub many0_count_in_room : {O : Type 0} (item : Meaning O) → TakesNoMemory item → TakesNoMemory (GivesCount (GivesItems item Backtracks))
+many0_count_in_room item room = GivesItems-in_room item Backtracks room (λ text given. cc)
+
+-- over parts that take no memory, `separated_count` answers without it
+pub separated_count_in_room : {O P : Type 0} (item : Meaning O) (separator : Meaning P) → TakesNoMemory item → TakesNoMemory separator
+    → TakesNoMemory (GivesCount (GivesSeparated item separator))
+separated_count_in_room item separator item_room separator_room = GivesSeparated-in_room item separator item_room separator_room

@@ -49,3 +49,7 @@ GivesCount list text (refused why) = list text (refused why)
 abbrev pub GivesFold : {O S : Type 0} → Meaning (List O) → (S → O → S → Type 0) → S → Meaning S
 GivesFold {O} list Step init text (success rest state) = (values : List O) × list text (success rest values) × FoldsTo Step init values state
 GivesFold list Step init text (refused why) = list text (refused why)
+
+-- no memory is taken: it never runs out
+abbrev pub TakesNoMemory : {O : Type 0} → Meaning O → Type 0
+TakesNoMemory part = (text : List ℕ) → ¬ (part text (refused no_memory))
