@@ -1,5 +1,4 @@
 pub mod MemoryLemmas
 pub mod TransferLemmas
 pub mod GraphLemmas
-pub mod BundleLemmas
 pub mod RunLemmas

@@ -1,14 +1,9 @@
 -- What a run answers for an input that is refused.
-use Rattle.std.proofs.Common.{◌≡◌, ◌⊎◌, inl, inr, ◌∙◌, ℕ, Bool, true, List, Option, Some, None, IfSome, Result, Ok, Err, IfOk, arith}
+use Rattle.std.proofs.Common.{◌≡◌, ◌⊎◌, inl, inr, ◌∙◌, ℕ, Bool, true, List, Option, Some, None, IfSome, arith}
 use Rattle.graph_tool.specs.declared.status.Status.{Status}
 use Rattle.graph_tool.specs.declared.status.Status.TheVariants.{BadInput, NoMemory}
 use Rattle.graph_tool.specs.Run.{IsDue, long, no_json, no_bundle, bundle, IsRefused}
 use Rattle.graph_tool.specs.Steps.{IsWritten}
-
--- what holds of an `Ok` may be weakened
-pub IfOk-map : {T E : Type 0} (r : Result T E) (P Q : T → Type 0) → ((x : T) → P x → Q x) → IfOk r P → IfOk r Q
-IfOk-map (Ok x) P Q f p = f x p
-IfOk-map (Err e) P Q f p = tt
 
 -- what is due for a refused input is the line of a bad input
 refused_due : (input : List ℕ) (status : Status) (text : List ℕ) → IsRefused input → IsDue input status text → status ≡ BadInput

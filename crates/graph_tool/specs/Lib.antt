@@ -2,7 +2,6 @@
 pub mod Transfer
 pub mod Status
 pub mod Memory
-pub mod Bundle
 pub mod Report
 pub mod Run
 -- What the crate's functions promise each other.

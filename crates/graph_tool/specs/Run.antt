@@ -7,11 +7,11 @@ use Rattle.graph_entry.specs.Analysed.{Analysed}
 use Rattle.deno_graph.specs.Reach.{Specifier, Answers, IsReached, has}
 use Rattle.deno_graph.specs.Graph.{GraphData, IsGraph, texts}
 use Rattle.deno_graph.specs.Memory.{tells}
-use Rattle.graph_tool.specs.declared.bundle.Bundle.{Bundle}
+use Rattle.graph_bundle.specs.declared.bundle.Bundle.{Bundle}
 use Rattle.graph_tool.specs.declared.status.Status.{Status}
 use Rattle.graph_tool.specs.declared.status.Status.TheVariants.{Done, BuildRefused, BadInput, ReadFault, WriteFault, NoMemory, Usage}
 use Rattle.graph_tool.specs.Transfer.{input_limit, TookPart}
-use Rattle.graph_tool.specs.Bundle.{IsJson, bundle_of}
+use Rattle.graph_bundle.specs.Bundle.{IsJson, bundle_of}
 use Rattle.graph_tool.specs.Report.{report_of, line_end}
 
 -- the words are the one form of the program

@@ -2,7 +2,6 @@
 //!
 //! - `run`: reads a bundle, writes the report of its graph, and answers a `Status` (`Wrote`, `specs/Run.antt`).
 //!   `main` calls it with the words behind its name, standard input and standard output.
-//! - `read_bundle`: the bundle that bytes say (`bundle_of`, `specs/Bundle.antt`).
 //! - `report`: the text of a graph (`report_of`, `specs/Report.antt`).
 //! - `Source`, `Sink`: what gives and takes bytes (`specs/Transfer.antt`), in memory (`specs/Memory.antt`) and over
 //!   std's readers and writers, which are the trusted edge.
@@ -11,7 +10,6 @@
 #![tactic(auto)]
 
 mod adapters;
-mod bundle;
 mod faults;
 mod memory;
 mod program;

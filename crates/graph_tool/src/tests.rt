@@ -98,6 +98,47 @@ fn rows_of_the_first_path(rt: HostRuntime) -> Result<(), Fail> {
 }
 
 #[test]
+fn rows_of_other_media_types(rt: HostRuntime) -> Result<(), Fail> {
+    let rows = [
+        (
+            "a.ts",
+            r#""base64":"77u/aW1wb3J0ICIuL2IudHMiOw==""#,
+            "module TypeScript 16\n  import 7-15 \"./b.ts\" - -> file:///b.ts\nfile:///b.ts error Missing\nentries 2\n",
+        ),
+        (
+            "m.wasm",
+            r#""base64":"AGFzbQEAAAACCQEDLi9hAWYAAA==""#,
+            "module Wasm 19\n  wasm 12-15 \"./a\" - -> file:///a\nentries 2\n",
+        ),
+        (
+            "m.wasm",
+            r#""base64":"AGFzbQEAAAACCQEDLi9hAWYA""#,
+            "error WasmParse\nentries 1\n",
+        ),
+        (
+            "a.txt",
+            r#""text":"import './b.ts';""#,
+            "error UnsupportedMediaType\nentries 1\n",
+        ),
+        ("a.js", r#""base64":"/w==""#, "error Decode\nentries 1\n"),
+        (
+            "a.json",
+            r#""text":"no JSON""#,
+            "module Json 7\nentries 1\n",
+        ),
+        ("b.d.ts", r#""text":"""#, "error NotBuilt\nentries 1\n"),
+    ];
+    for (name, content, behind) in rows {
+        let input = format!(in rt.alloc();
+            r#"{{"roots":["file:///{name}"],"modules":[{{"specifier":"file:///{name}",{content}}}]}}"#
+        )?;
+        let got = built(rt.alloc(), input.as_str(), 65_536)?;
+        assert!(rt; got.as_str().ends_with(behind), "{name}: {got}");
+    }
+    Ok(())
+}
+
+#[test]
 fn other_words_get_the_usage_line(rt: HostRuntime) -> Result<(), Fail> {
     let alloc = rt.alloc();
     let mut source = MemorySource::new(ROW.as_bytes().to_vec(alloc)?, 9, Vec::new(alloc));

@@ -10,10 +10,10 @@ ghost use Rattle.graph_tool.specs.Report.{report_of};
 ghost use Rattle.graph_tool.specs.Run.{IsDue, OfBundle, IsGraphOf, too_many_line};
 ghost use Rattle.graph_tool.specs.Steps.{IsNew, SaysLarge};
 
-use crate::bundle::{Bundle, BundleFault, read_bundle};
 use crate::reports::report;
 use crate::status::Status;
 use deno_graph::{BuildError, GraphBuild, MemoryLoader, ModuleGraph};
+use graph_bundle::{Bundle, BundleFault, read_bundle};
 use std::alloc::{AllocError, Global};
 
 /// How the run ends once the text is written.

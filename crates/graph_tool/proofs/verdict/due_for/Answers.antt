@@ -1,8 +1,8 @@
 -- What is due for the bundle, or for a value that says none.
 use Rattle.std.proofs.Common.{ap, Err}
 use Rattle.graph_tool.specs.Run.{bundle, no_bundle}
-use Rattle.graph_tool.proofs.BundleLemmas.{bundle_plain}
-use Rattle.graph_tool.proofs.RunLemmas.{IfOk-map}
+use Rattle.graph_bundle.proofs.BundleLemmas.{bundle_plain}
+use Rattle.graph_bundle.proofs.BundleLemmas.{IfOk-map}
 use Rattle.graph_tool.proofs.verdict.due_for.Goals as goal
 
 pub due_for_bundle-requires : goal.due_for_bundle-requires

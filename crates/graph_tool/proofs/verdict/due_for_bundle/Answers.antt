@@ -1,6 +1,6 @@
 -- The graph's report is due.
 use Rattle.graph_tool.specs.Run.{graph}
-use Rattle.graph_tool.proofs.RunLemmas.{IfOk-map}
+use Rattle.graph_bundle.proofs.BundleLemmas.{IfOk-map}
 use Rattle.graph_tool.proofs.verdict.due_for_bundle.Goals as goal
 
 pub returns-in-Ok : goal.returns-in-Ok

@@ -8,9 +8,9 @@ pub returns-then-not-waits-clause-graph : goal.returns-then-not-waits-clause-gra
 returns-then-not-waits-clause-graph c =
     let polled = c.poll-answer in
     let new = c.poll-answer.new.self.inner in
-    built_graph polled.result (texts c.polls.build.inner.roots) (texts c.args.build.now.inner.roots) new.asked new.log
+    built_graph polled.result (texts c.polls.build.inner.roots) (texts c.args.build.now.inner.roots) new.log
     new.loader.modules c.args.build.now.inner.loader.modules (ap texts c.polls.invariant.roots)
-    (polled.ensures.telling ∙ c.polls.invariant.told) polled.ensures.told polled.ensures.graph polled.ensures.asked polled.ensures.answered
+    (polled.ensures.telling ∙ c.polls.invariant.told) polled.ensures.told polled.ensures.graph
 
 pub returns-then-not-waits-clause-large : goal.returns-then-not-waits-clause-large
 returns-then-not-waits-clause-large c =

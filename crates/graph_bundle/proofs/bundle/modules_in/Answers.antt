@@ -3,10 +3,10 @@ use Rattle.std.proofs.Common.{◌≡◌, ◌∙◌, ap, List, Some}
 use Rattle.serde_json.specs.Find.{as_array}
 use Rattle.serde_json.specs.View.{view, items_view}
 use Rattle.serde_json.specs.declared.value.Value.{Value}
-use Rattle.graph_tool.specs.Bundle.{module_of}
-use Rattle.graph_tool.proofs.BundleLemmas.{each_array}
-use Rattle.graph_tool.proofs.RunLemmas.{IfOk-map}
-use Rattle.graph_tool.proofs.bundle.modules_in.Goals as goal
+use Rattle.graph_bundle.specs.Bundle.{module_of}
+use Rattle.graph_bundle.proofs.BundleLemmas.{each_array}
+use Rattle.graph_bundle.proofs.BundleLemmas.{IfOk-map}
+use Rattle.graph_bundle.proofs.bundle.modules_in.Goals as goal
 
 pub returns-in-Some : goal.returns-in-Some
 returns-in-Some c =

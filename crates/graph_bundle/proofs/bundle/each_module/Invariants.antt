@@ -1,7 +1,7 @@
 use Rattle.std.proofs.Common.{◌≡◌, take, map, Some}
 use Rattle.serde_json.specs.View.{view}
-use Rattle.graph_tool.specs.Bundle.{all_some, module_of}
-use Rattle.graph_tool.proofs.bundle.each_module.Given as goal
+use Rattle.graph_bundle.specs.Bundle.{all_some, module_of}
+use Rattle.graph_bundle.proofs.bundle.each_module.Given as goal
 
 -- each value so far says one, and these are they
 abbrev pub invariant-loop-value : goal.invariant-loop-value

@@ -1,5 +1,5 @@
 -- A specifier that the set has stands again later; one that it hasn't is new, and goes into it.
-use Rattle.std.proofs.Common.{◌≡◌, ℕ, ◌-◌, ◌+◌, ◌<◌, ◌≤◌, sym, ◌∙◌, ap, cond, List, ◌∷◌, length, drop, get_or, Bool, true, false, not, refl, subst, arith, bytes_eq, string_bytes}
+use Rattle.std.proofs.Common.{◌≡◌, ℕ, ◌-◌, ◌+◌, ◌<◌, ◌≤◌, sym, ◌∙◌, ap, List, ◌∷◌, length, drop, get_or, true, false, arith, string_bytes}
 use Rattle.std.proofs.lemmas.List.{drop_more}
 use Rattle.std.proofs.lemmas.Map.Text.{btree_set_updates_text}
 use Rattle.std.specs.BTreeSet.{contains_text}
@@ -7,9 +7,9 @@ use Rattle.url.specs.Parts.{Parts}
 use Rattle.graph_entry.specs.declared.answer.LoadAnswer.{LoadAnswer}
 use Rattle.graph_entry.specs.Specifier.{text_of}
 use Rattle.deno_graph.specs.Reach.{has}
-use Rattle.graph_tool.specs.Bundle.{are_distinct, specifiers}
-use Rattle.graph_tool.proofs.BundleLemmas.{repeats_later, repeats_here, distinct_here, seen_here, not_true, not_false}
-use Rattle.graph_tool.proofs.bundle.are_distinct.Goals as goal
+use Rattle.graph_bundle.specs.Bundle.{are_distinct, specifiers}
+use Rattle.graph_bundle.proofs.BundleLemmas.{repeats_later, repeats_here, distinct_here, seen_here, not_true, not_false}
+use Rattle.graph_bundle.proofs.bundle.are_distinct.Goals as goal
 
 -- the modules from a place on: the one there, and the later ones
 from_here : (modules : List (Parts × LoadAnswer)) (at : ℕ) (x : Parts × LoadAnswer) → 0 < at → at ≤ length modules → x ≡ get_or modules (at - 1) x

@@ -1,20 +1,19 @@
 //! The program's input: roots and modules in JSON.
-ghost use Rattle.std.specs.Prelude.{◌≡◌, ◌≢◌, ◌↔◌, codes, IfOk, IfErr, None, Some, option_map, map, Err};
-ghost use Rattle.std.specs.Result.{result_ok};
+ghost use Rattle.std.specs.Prelude.{◌≡◌, ◌≢◌, IfOk, None, Some, option_map, map, Err};
 ghost use Rattle.serde_json.specs.Data.{Data};
 ghost use Rattle.serde_json.specs.Errors.{IsMemory};
-ghost use Rattle.serde_json.specs.Find.{as_object, as_str};
 ghost use Rattle.serde_json.specs.View.{view};
-ghost use Rattle.url.specs.Parser.{parse_url};
-ghost use Rattle.graph_tool.specs.Bundle.{IsJson, bundle_of, pair_of, count_members, url_of, module_of, each_of, all_some, text_answer, plain_bundle};
-ghost use Rattle.graph_tool.specs.Bundle as spec;
+ghost use Rattle.graph_bundle.specs.Bundle.{IsJson, bundle_of, pair_of, url_of, module_of, each_of, all_some, plain_bundle};
+ghost use Rattle.graph_bundle.specs.Bundle as spec;
 
-use base::{Items, SharedBytes};
-use deno_graph::{Arrival, BuildOptions, GraphKind, Headers, LoadAnswer};
+use crate::module::module_in;
+use crate::values::{count_in, url_in};
+use base::Items;
+use deno_graph::{Arrival, BuildOptions, GraphKind, LoadAnswer};
 use serde_json::Value;
 use std::alloc::{AllocError, Global};
 use std::collections::BTreeSet;
-use url::{ParseError, Url};
+use url::Url;
 
 /// How many specifiers the graph of a bundle may have.
 const MODULE_LIMIT: usize = 10_000;
@@ -127,34 +126,6 @@ fn pair_in<'a>(value: &'a Value, first: &str, second: &str) -> Option<(&'a Value
     Some((one, other))
 }
 
-/// How many members an object has.
-fn count_in(value: &Value) -> Option<usize>
-    ensures { result ≡ option_map count_members (as_object (view value.now)) }
-{
-    let members = value.as_object()?;
-    Some(members.len())
-}
-
-/// The URL that a value says.
-fn url_in(alloc: Global, value: &Value) -> Result<Option<Url>, AllocError>
-    ensures { IfOk result (λ url. url ≡ url_of (view value.now)) }
-{
-    match value.as_str() {
-        Some(text) => url_of_text(alloc, text),
-        None => Ok(None),
-    }
-}
-
-fn url_of_text(alloc: Global, text: &str) -> Result<Option<Url>, AllocError>
-    ensures { IfOk result (λ url. url ≡ result_ok (parse_url None text.now)) }
-{
-    match Url::parse(alloc, text) {
-        Ok(url) => Ok(Some(url)),
-        Err(ParseError::OutOfMemory | ParseError::Overflow) => Err(AllocError),
-        Err(_) => Ok(None),
-    }
-}
-
 /// The URLs that the items of an array say.
 fn urls_in(alloc: Global, value: &Value) -> Result<Option<Items<Url>>, AllocError>
     ensures { IfOk result (λ urls. urls ≡ each_of url_of (view value.now)) }
@@ -202,35 +173,6 @@ fn each_module(
         modules.push(module)?;
     }
     Ok(Some(modules))
-}
-
-/// The module that a value says.
-fn module_in(alloc: Global, value: &Value) -> Result<Option<(Url, LoadAnswer)>, AllocError>
-    ensures { IfOk result (λ m. m ≡ module_of (view value.now)) }
-{
-    let Some((specifier, text)) = pair_in(value, "specifier", "text") else {
-        return Ok(None);
-    };
-    let Some(url) = url_in(alloc, specifier)? else {
-        return Ok(None);
-    };
-    let Some(answer) = answer_in(alloc, text)? else {
-        return Ok(None);
-    };
-    Ok(Some((url, answer)))
-}
-
-/// The answer that a text makes.
-fn answer_in(alloc: Global, value: &Value) -> Result<Option<LoadAnswer>, AllocError>
-    ensures { IfOk result (λ answer. answer ≡ option_map text_answer (as_str (view value.now))) }
-{
-    match value.as_str() {
-        Some(text) => Ok(Some(LoadAnswer::Content {
-            headers: Headers::new(alloc),
-            bytes: SharedBytes::from_slice(alloc, text.as_bytes())?,
-        })),
-        None => Ok(None),
-    }
 }
 
 /// Whether no specifier has two modules.

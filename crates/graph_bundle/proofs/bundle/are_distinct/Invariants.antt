@@ -1,8 +1,8 @@
 use Rattle.std.proofs.Common.{◌≡◌, ℕ, ◌≤◌, List, length, drop, true}
 use Rattle.std.specs.BTreeSet.{contains_text}
 use Rattle.deno_graph.specs.Reach.{has}
-use Rattle.graph_tool.specs.Bundle.{are_distinct, specifiers}
-use Rattle.graph_tool.proofs.bundle.are_distinct.Given as goal
+use Rattle.graph_bundle.specs.Bundle.{are_distinct, specifiers}
+use Rattle.graph_bundle.proofs.bundle.are_distinct.Given as goal
 
 -- the modules from here on are distinct, and the set has their specifiers
 abbrev pub invariant-modules : goal.invariant-modules

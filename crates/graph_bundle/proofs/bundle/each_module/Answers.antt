@@ -1,10 +1,10 @@
 -- One value that says none leaves none; one more that says one is put behind those so far.
-use Rattle.std.proofs.Common.{◌≡◌, sym, ◌∙◌, ap, Option, Some, get_or}
+use Rattle.std.proofs.Common.{sym, ◌∙◌, ap}
 use Rattle.serde_json.specs.View.{view}
 use Rattle.serde_json.specs.declared.value.Value.{Value}
-use Rattle.graph_tool.specs.Bundle.{module_of}
-use Rattle.graph_tool.proofs.BundleLemmas.{each_none, each_more}
-use Rattle.graph_tool.proofs.bundle.each_module.Goals as goal
+use Rattle.graph_bundle.specs.Bundle.{module_of}
+use Rattle.graph_bundle.proofs.BundleLemmas.{each_none, each_more}
+use Rattle.graph_bundle.proofs.bundle.each_module.Goals as goal
 
 pub returns-in_default : goal.returns-in_default
 returns-in_default c =

@@ -1,8 +1,8 @@
 -- An object's map has as many entries as the object has members.
 use Rattle.std.proofs.Common.{ap, ◌∙◌, sym, Some, option_map}
-use Rattle.graph_tool.specs.Bundle.{count_members}
-use Rattle.graph_tool.proofs.BundleLemmas.{count_entries}
-use Rattle.graph_tool.proofs.bundle.count_in.Goals as goal
+use Rattle.graph_bundle.specs.Bundle.{count_members}
+use Rattle.graph_bundle.proofs.BundleLemmas.{count_entries}
+use Rattle.graph_bundle.proofs.values.count_in.Goals as goal
 
 pub returns : goal.returns
 returns c =

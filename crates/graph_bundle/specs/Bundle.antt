@@ -1,9 +1,15 @@
 -- Bundles: what a JSON value says of roots and modules (this project's profile; JSON is that of RFC 8259).
 use Rattle.std.specs.Prelude.{◌≡◌, ℕ, ◌+◌, ◌==◌, ◌&&◌, Bool, true, false, not, List, [], ◌∷◌, map, codes, Option, Some, None, option_map, option_and_then, if◌then◌else◌, IsUtf8}
 use Rattle.std.specs.Result.{result_ok}
+use Rattle.std.specs.Ordering.{nat_cmp}
+use Rattle.std.specs.Cmp.Lexicographic.{slice_cmp}
+use Rattle.std.specs.BTreeMap.{insert_entry}
+use Rattle.std.specs.Str.{str_to_ascii_lowercase}
 use Rattle.serde_json.specs.Data.{Data, Items, no_items, item, Members, no_members, member}
 use Rattle.serde_json.specs.Read.{read}
-use Rattle.serde_json.specs.Find.{get_member, as_object, as_array, as_str}
+use Rattle.serde_json.specs.Find.{get, get_member, as_object, as_array, as_str}
+use Rattle.base64.specs.GeneralPurpose.{decode_of}
+use Rattle.base64.specs.Engines.{standard}
 use Rattle.url.specs.Parts.{Parts}
 use Rattle.url.specs.Parser.{parse_url}
 use Rattle.graph_entry.specs.Specifier.{text_of}
@@ -12,7 +18,7 @@ use Rattle.graph_entry.specs.declared.answer.LoadAnswer.{LoadAnswer}
 use Rattle.graph_entry.specs.declared.answer.LoadAnswer.TheVariants.{Content}
 use Rattle.deno_graph.specs.declared.options.BuildOptions.{BuildOptions}
 use Rattle.deno_graph.specs.Reach.{has}
-use Rattle.graph_tool.specs.declared.bundle.Bundle.{Bundle}
+use Rattle.graph_bundle.specs.declared.bundle.Bundle.{Bundle}
 
 -- the bytes are a JSON text of this value
 abbrev pub IsJson : List ℕ → Data → Type 0
@@ -53,18 +59,68 @@ each_of read_one value = option_and_then (λ items. all_some (map read_one (item
 
 -- ---- bundles
 
+-- headers by their names
+abbrev pub HeaderList : Type 0
+HeaderList = List (List ℕ × List ℕ)
+
 -- a URL by its text (URL Standard, "URL parsing", without a base)
 abbrev pub url_of : Data → Option Parts
 url_of value = option_and_then (λ text. result_ok (parse_url None text)) (as_str value)
 
--- a module's answer: its text, and no headers
-abbrev pub text_answer : List ℕ → LoadAnswer
-text_answer text = Content [] text
+-- the bytes that a text encodes, if it is an encoding (RFC 4648, "Base 64 Encoding", with its padding and no bits left over)
+abbrev pub bytes_of_code : List ℕ → Option (List ℕ)
+bytes_of_code code = result_ok (decode_of standard code)
 
--- a module: its specifier and its text
+-- the content at one of two keys: a text as it is, or the bytes that a text encodes
+abbrev pub content_from : Option Data → Option Data → Option (List ℕ)
+content_from (Some text) None = as_str text
+content_from None (Some code) = option_and_then bytes_of_code (as_str code)
+content_from (Some text) (Some code) = None
+content_from None None = None
+
+-- a module's content
+abbrev pub content_of : Data → Option (List ℕ)
+content_of value = content_from (get (codes "text") value) (get (codes "base64") value)
+
+-- the headers with one more: its name in ASCII lower case, where an equal name takes the new value
+abbrev pub with_header : HeaderList → List ℕ → List ℕ → HeaderList
+with_header headers name value = insert_entry (slice_cmp nat_cmp) headers (str_to_ascii_lowercase name) value
+
+-- The headers with those of the members behind them, if each is a text. Members stand in the order of their names, so
+-- of two names that become one the greater as written counts.
+abbrev pub headers_onto : HeaderList → Members → Option HeaderList
+headers_onto headers no_members = Some headers
+headers_onto headers (member name value rest) = option_and_then (λ text. headers_onto (with_header headers name text) rest) (as_str value)
+
+-- a module's headers: none, or those of an object
+abbrev pub headers_from : Option Data → Option HeaderList
+headers_from None = Some []
+headers_from (Some value) = option_and_then (headers_onto []) (as_object value)
+
+-- a module's answer
+abbrev pub answer_with : List ℕ → HeaderList → LoadAnswer
+answer_with bytes headers = Content headers bytes
+
+-- the value is an object of so many members
+abbrev pub is_count : ℕ → Option ℕ → Bool
+is_count n None = false
+is_count n (Some count) = count == n
+
+abbrev pub has_members : ℕ → Data → Bool
+has_members n value = is_count n (option_map count_members (as_object value))
+
+-- how many members a module has: its specifier, its content, and the headers if it has any
+abbrev pub members_due : Option Data → ℕ
+members_due None = 2
+members_due (Some headers) = 3
+
+-- a module: its specifier, its content and its headers, and nothing else
 abbrev pub module_of : Data → Option (Parts × LoadAnswer)
 module_of value =
-    option_and_then (λ pair. both (url_of pair.0) (option_map text_answer (as_str pair.1))) (pair_of (codes "specifier") (codes "text") value)
+    if has_members (members_due (get (codes "headers") value)) value
+    then both (option_and_then url_of (get (codes "specifier") value))
+    (option_and_then (λ bytes. option_map (answer_with bytes) (headers_from (get (codes "headers") value))) (content_of value))
+    else None
 
 -- no text stands twice
 abbrev pub is_distinct : List (List ℕ) → Bool
