@@ -1,3 +1,5 @@
 pub mod ImportsLemmas
+pub mod FrontLemmas
 pub mod ReadLemmas
+pub mod TextsLemmas
 pub mod Theorems

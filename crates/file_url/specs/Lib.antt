@@ -3,3 +3,4 @@ pub mod Answers
 pub mod Imports
 pub mod FileUrls
 pub mod WindowsPaths
+pub mod ToPath

@@ -1,11 +1,12 @@
 -- Paths with backslashes and file URLs with hosts, as programs on Windows write them.
-use Rattle.std.specs.Prelude.{◌≡◌, ℕ, ◌+◌, nat_lt, Bool, false, not, ◌&&◌, ◌||◌, ◌==◌, List, [], ◌∷◌, ◌++◌, map, drop, length, slice_index, filter, codes, bytes_eq, Option, None, Some, Result, Ok, Err, is_ok, if◌then◌else◌}
+use Rattle.std.specs.Prelude.{◌≡◌, ℕ, ◌+◌, nat_lt, Bool, false, not, ◌&&◌, ◌||◌, ◌==◌, List, [], ◌∷◌, ◌++◌, map, drop, length, slice_index, filter, codes, bytes_eq, Option, None, Some, Result, Ok, Err, is_ok, option_map, if◌then◌else◌}
 use Rattle.std.specs.List.{flat_map, list_all, list_any, prefix_len, position_or_len, before_first, after_first}
 use Rattle.std.specs.Char.{is_ascii_alphabetic, is_ascii_alphanumeric}
+use Rattle.std.specs.Borrow.{Bor}
 use Rattle.std.specs.Str.Lossy.{utf8_lossy}
 use Rattle.percent_encoding.specs.Percent.{percent_decode}
 use Rattle.url.specs.Host.{host_text}
-use Rattle.url.specs.Parts.{Parts, host_or_empty, has_host}
+use Rattle.url.specs.Parts.{Parts, nonempty_host}
 use Rattle.url.specs.Parser.{parse_url}
 use Rattle.lexical_path.specs.Paths.{parts, parts_at, is_dots, path_of}
 use Rattle.lexical_path.specs.Specifiers.{begins}
@@ -19,36 +20,41 @@ use Rattle.file_url.specs.FileUrls.{plain_parts, file_url}
 abbrev pub is_host_byte : ℕ → Bool
 is_host_byte b = is_ascii_alphanumeric b || b == 45 || b == 46 || b == 95 || b == 36
 
--- one or more such bytes of which a file URL can be read
+-- the text of a file URL on a host, of its root
+abbrev pub root_text : List ℕ → List ℕ
+root_text host = codes "file://" ++ (host ++ codes "/")
+
+-- a URL is read from the text
+abbrev pub is_read : List ℕ → Bool
+is_read text = is_ok (parse_url None text)
+
+-- one or more such bytes of which a file URL is read
 unfoldable pub is_host : List ℕ → Bool
-is_host text =
-    not (length text == 0) && list_all is_host_byte text
-    && is_ok (parse_url None (codes "file://" ++ (text ++ codes "/")))
+is_host text = not (length text == 0) && list_all is_host_byte text && is_read (root_text text)
 
 -- the byte is a backslash
 abbrev pub is_backslash : ℕ → Bool
 is_backslash b = b == 92
 
--- a host, and the path behind it
-pub record HostAndRest : Type 0 where
-  pub host : List ℕ
-  pub rest : List ℕ
-
--- the host before the first backslash and what follows it, where there is one; else the other text alone
-abbrev pub host_before : List ℕ → List ℕ → HostAndRest
+-- the host before the first backslash and what follows it, where there is one; else no host and the other text
+abbrev pub host_before : List ℕ → List ℕ → List ℕ × List ℕ
 host_before text other =
     if nat_lt (position_or_len is_backslash text) (length text) && is_host (before_first is_backslash text)
-    then record { host = before_first is_backslash text; rest = after_first is_backslash text }
-    else record { host = []; rest = other }
+    then (before_first is_backslash text, after_first is_backslash text)
+    else ([], other)
 
--- a path with backslashes after the first step: `\\?\UNC\` or `\\`, a host and a backslash are taken off and the
--- host is kept, or `\\?\` alone is taken off
-unfoldable pub first_step : List ℕ → HostAndRest
+-- the host of a path with backslashes and what is left of it after one first step: `\\?\UNC\` or `\\`, a host and a
+-- backslash are taken off and the host is kept, or `\\?\` alone is taken off
+abbrev pub first_step : List ℕ → List ℕ × List ℕ
 first_step path =
     if begins path (codes "\\\\?\\UNC\\") then host_before (drop 8 path) path
-    else (if begins path (codes "\\\\?\\") then record { host = []; rest = drop 4 path }
+    else (if begins path (codes "\\\\?\\") then ([], drop 4 path)
     else (if begins path (codes "\\\\") then host_before (drop 2 path) path
-    else record { host = []; rest = path }))
+    else ([], path)))
+
+-- two texts are these
+abbrev pub IsStep : Bor (List ℕ) × Bor (List ℕ) → List ℕ × List ℕ → Type 0
+IsStep step expected = (step.0.now ≡ expected.0) × (step.1.now ≡ expected.1)
 
 -- the part is empty
 abbrev pub is_empty_part : List ℕ → Bool
@@ -66,14 +72,18 @@ backslash_parts path = without_empty_front (filter (λ part. not (is_dots part))
 abbrev pub is_parent_dir : List ℕ → Bool
 is_parent_dir part = bytes_eq part (codes "..")
 
+-- a part is `..`
+abbrev pub has_parent_dir : List ℕ → Bool
+has_parent_dir path = list_any is_parent_dir (parts path)
+
 -- a component of a path without backslash is `.`, which counts at the front alone, or `..`
 abbrev pub has_dot_component : List ℕ → Bool
 has_dot_component path =
-    bytes_eq path (codes ".") || begins path (codes "./") || list_any is_parent_dir (parts path)
+    bytes_eq path (codes ".") || begins path (codes "./") || has_parent_dir path
 
 -- the URL of a path with backslashes
-abbrev pub backslash_url : Bool → HostAndRest → Result Parts PathToUrlError
-backslash_url folder step = file_url step.host folder (backslash_parts step.rest)
+abbrev pub backslash_url : Bool → List ℕ × List ℕ → Result Parts PathToUrlError
+backslash_url folder step = file_url step.0 folder (backslash_parts step.1)
 
 -- the URL of a path without
 abbrev pub slash_url : Bool → List ℕ → Result Parts PathToUrlError
@@ -118,8 +128,11 @@ share_path host list = codes "\\\\" ++ (host ++ flat_map share_part list)
 abbrev pub local_path : List (List ℕ) → List ℕ
 local_path list = path_of (not (starts_with_drive list)) (map decoded (without_empty_front list))
 
+-- the path by the host, if there is one that is not empty
+abbrev pub share_or_local : Option (List ℕ) → List (List ℕ) → List ℕ
+share_or_local (Some host) list = share_path host list
+share_or_local None list = local_path list
+
 -- the path of a URL whose path begins with `/`
-unfoldable pub wasm_path_of_url : Parts → List ℕ
-wasm_path_of_url url =
-    if has_host url then share_path (host_text (host_or_empty url)) (segments url)
-    else local_path (segments url)
+abbrev pub wasm_path_of_url : Parts → List ℕ
+wasm_path_of_url url = share_or_local (option_map host_text (nonempty_host url)) (segments url)

@@ -9,6 +9,8 @@ mod from_path;
 mod imports;
 mod sets;
 mod text;
+mod to_path;
+mod windows;
 
 pub use crate::errors::{
     PathToUrlError, ResolveUrlOrPathError, SpecifierError, UrlToFilePathError,
@@ -18,3 +20,7 @@ pub use crate::from_path::{
 };
 pub use crate::imports::{resolve_import, resolve_import_from};
 pub use crate::sets::NAME;
+pub use crate::to_path::{url_parent, url_to_file_path};
+pub use crate::windows::{
+    url_from_directory_path_wasm, url_from_file_path_wasm, url_to_file_path_wasm,
+};

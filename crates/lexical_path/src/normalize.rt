@@ -48,7 +48,7 @@ fn normalized(alloc: Global, path: &str) -> Result<String, AllocError>
     ensures { IfOk result (λ s. string_bytes s ≡ spec.path_of (spec.is_absolute path.now) (spec.names_of path.now)) }
 {
     let names = names(alloc, path)?;
-    joined(alloc, path.starts_with('/'), names.as_slice())
+    path_of(alloc, path.starts_with('/'), names.as_slice())
 }
 
 // The names that are left of the path.
@@ -78,8 +78,8 @@ fn take_part<'a>(names: &mut Vec<&'a str>, part: &'a str) -> Result<(), AllocErr
     Ok(())
 }
 
-// The names with `/` between them, and one before them all if asked for.
-fn joined(alloc: Global, absolute: bool, names: &[&str]) -> Result<String, AllocError>
+/// The names with `/` between them, and one before them all if asked for.
+pub fn path_of(alloc: Global, absolute: bool, names: &[&str]) -> Result<String, AllocError>
     ensures { IfOk result (λ s. string_bytes s ≡ spec.path_of absolute (texts names.now)) }
 {
     let mut path = String::new(alloc);

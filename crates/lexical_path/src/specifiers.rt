@@ -41,7 +41,8 @@ fn is_scheme_byte(b: u8) -> bool
     b.is_ascii_alphanumeric() || b == b'+' || b == b'-' || b == b'.'
 }
 
-fn begins(text: &str, front: &str) -> bool
+/// Whether the text begins with this one.
+pub fn begins(text: &str, front: &str) -> bool
     ensures { result ≡ spec.begins text.now front.now }
 {
     text.starts_with(front)

@@ -1,7 +1,7 @@
 use Rattle.std.proofs.Common.{sym, ◌∙◌, ap, ◌++◌, codes, nat_eq, [], get_or, Bor, List, ℕ, arith}
 use Rattle.std.specs.Bool.{if◌then◌else◌}
 use Rattle.lexical_path.proofs.PathsLemmas.{path_of_next}
-use Rattle.lexical_path.proofs.normalize.joined.Goals as goal
+use Rattle.lexical_path.proofs.normalize.path_of.Goals as goal
 
 -- one more name is joined to the path
 pub loop-i-preserved : goal.loop-i-preserved
