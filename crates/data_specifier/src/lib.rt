@@ -16,7 +16,7 @@ mod parse;
 
 pub use crate::data_module::DataModule;
 pub use crate::error::DataError;
-pub use crate::parse::parse_data;
+pub use crate::parse::{parse_data, parse_data_text};
 
 #[cfg(test)]
 mod tests;

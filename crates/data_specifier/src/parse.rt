@@ -17,12 +17,19 @@ use url::Url;
 ///
 /// - `NoComma`: no comma stands behind the scheme and before the fragment.
 /// - `Base64`: the text before the comma ends in `;base64`, and the bytes are no forgiving base64.
-#[tactic(auto, unfolding(crate::specs::Data::data_of))]
 pub fn parse_data(alloc: Global, url: &Url) -> Result<DataModule, DataError>
     requires { url.now.scheme ≡ codes "data" }
     ensures { Gives result (data_of (serialize url.now)) }
 {
-    match content_of(url.as_str()).split_once(',') {
+    parse_data_text(alloc, url.as_str())
+}
+
+/// The same of the URL's text, for who tells its scheme by the text.
+#[tactic(auto, unfolding(crate::specs::Data::data_of))]
+pub fn parse_data_text(alloc: Global, text: &str) -> Result<DataModule, DataError>
+    ensures { Gives result (data_of text.now) }
+{
+    match content_of(text).split_once(',') {
         Some((front, encoded)) => module_of(alloc, trimmed(front), encoded),
         None => Err(DataError::NoComma),
     }

@@ -25,11 +25,12 @@ mod tests;
 
 pub use build::GraphBuild;
 pub use error::BuildError;
+pub use file_url::{SpecifierError, resolve_import};
 pub use graph::{Entries, ModuleGraph};
 pub use graph_entry::{
-    Attribute, Dependency, DependencyKind, Entry, GraphKind, Headers, JsModule, JsonModule,
-    LoadAnswer, MediaType, Module, ModuleError, ModuleKind, ParseDiagnostic, ResolutionError,
-    SyntaxErrorKind, WasmModule,
+    Attribute, DataError, Dependency, DependencyKind, Entry, GraphKind, Headers, JsModule,
+    JsonModule, LoadAnswer, MediaType, Module, ModuleError, ModuleKind, PackageKind, PackageRef,
+    ParseDiagnostic, ResolutionError, SyntaxErrorKind, WasmModule,
 };
 pub use loader::{Loader, LoaderPoll};
 pub use memory_loader::{Arrival, MemoryLoader};

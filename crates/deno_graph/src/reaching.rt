@@ -1,7 +1,7 @@
 //! What is reached so far: a slot for each specifier, and a worklist.
-ghost use Rattle.std.specs.Prelude.{◌↔◌, false, IsTrue, Some, IsSome, ◌≡◌, ◌+◌, ◌≤◌, ℕ, [], ◌∷◌, length, OnOk, Err, option_to_list};
+ghost use Rattle.std.specs.Prelude.{◌↔◌, IsTrue, Some, IsSome, ◌≡◌, ◌+◌, ◌≤◌, ℕ, [], ◌∷◌, length, OnOk, Err, option_to_list};
 ghost use Rattle.std.specs.List.{filter_map};
-ghost use Rattle.graph_entry.specs.Specifier.{text_of, loadable};
+ghost use Rattle.graph_entry.specs.Specifier.{text_of};
 ghost use Rattle.graph_entry.specs.Entry.{target_of, targets};
 ghost use Rattle.deno_graph.specs.declared.slot.Slot.TheVariants.{Asked};
 ghost use Rattle.deno_graph.specs.Graph.{texts};
@@ -108,6 +108,7 @@ impl Reaching {
             }
             Entry::Module(Module::Json(_))
             | Entry::Redirect(_)
+            | Entry::Package(_)
             | Entry::External
             | Entry::Error(_) => Ok(()),
         }
@@ -168,7 +169,6 @@ impl Reaching {
     pub fn fill_unasked(&mut self, alloc: Global, url: Url) -> Result<(), GrowError>
         requires room { length self.old.reached.entries ≤ self.old.limit }
         requires there { IsSome (value_at self.old.reached.entries (text_of url)) }
-        requires unasked { loadable (text_of url) ≡ false }
         ensures fills { FillsUnasked (text_of url) self.old self.new result }
         ensures limit { self.new.limit ≡ self.old.limit }
     {

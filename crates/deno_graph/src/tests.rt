@@ -1,7 +1,7 @@
 //! Graphs of small bundles, and each public call once on its happy path.
 use crate::{
     Arrival, BuildError, BuildOptions, Entry, GraphBuild, GraphKind, Headers, LoadAnswer,
-    MemoryLoader, Module, ModuleGraph,
+    MemoryLoader, Module, ModuleGraph, SpecifierError, resolve_import,
 };
 use base::{Items, SharedBytes};
 use std::alloc::Global;
@@ -84,6 +84,7 @@ fn word(entry: &Entry) -> &'static str {
         Entry::Module(Module::Json(_)) => " json",
         Entry::Module(Module::Wasm(_)) => " wasm",
         Entry::Error(error) => error.name(),
+        Entry::Package(_) => " package",
         Entry::Redirect(_) | Entry::External => " no module",
     }
 }
@@ -105,6 +106,35 @@ fn builds_the_graph_of_what_the_roots_reach(rt: HostRuntime) -> Result<(), Fail>
     assert_eq!(rt; build.loader().asked().len(), 2);
     let loader = build.into_loader();
     assert_eq!(rt; loader.log().len(), 2);
+    Ok(())
+}
+
+#[test]
+fn asks_for_no_package_and_no_data_url(rt: HostRuntime) -> Result<(), Fail> {
+    let alloc = rt.alloc();
+    let data = "data:text/javascript;base64,aW1wb3J0ICJmaWxlOi8vL2IudHMiOw==";
+    let mut build = builder(alloc, &["npm:chalk@5", "jsr:pkg", data], &[], 9, "")?;
+    let line = polled(alloc, &mut build)?;
+    let want = format!(in alloc;
+        "3 {data} module file:///b.tsMissing jsr:pkgPackageReference npm:chalk@5 package"
+    )?;
+    assert_eq!(rt; line.as_str(), want.as_str());
+    assert_eq!(rt; build.loader().asked().len(), 1);
+    Ok(())
+}
+
+#[test]
+fn hands_on_resolve_import(rt: HostRuntime) -> Result<(), Fail> {
+    let referrer = Url::parse(rt.alloc(), "file:///a/b.ts")?;
+    for text in ["foo", " ./a"] {
+        let refused = resolve_import(rt.alloc(), text, &referrer);
+        assert!(rt;
+            matches!(refused, Err(SpecifierError::ImportPrefixMissing { .. })),
+            "{text}"
+        );
+    }
+    let target = resolve_import(rt.alloc(), "./c.ts", &referrer)?;
+    assert_eq!(rt; target.as_str(), "file:///a/c.ts");
     Ok(())
 }
 

@@ -1,6 +1,6 @@
 -- One answer makes one entry of a specifier, given the laws of readings and of trees.
 use Rattle.std.proofs.Common.{◌≡◌, ◌∙◌, sym, ap, subst, List, ℕ}
-use Rattle.std.specs.Prelude.{Option, Some, None, MatchOption}
+use Rattle.std.specs.Prelude.{Bool, true, false, codes, Option, Some, None, MatchOption, Result, Ok, Err}
 use Rattle.es_lexer.specs.declared.token.Token.{Token}
 use Rattle.es_lexer.specs.declared.error.LexicalKind.{LexicalKind}
 use Rattle.es_lexer.specs.Reads.{ReadsTokens}
@@ -14,12 +14,23 @@ use Rattle.url.specs.Parser.{parse_url}
 use Rattle.graph_entry.specs.declared.answer.LoadAnswer.{LoadAnswer}
 use Rattle.graph_entry.specs.declared.answer.LoadAnswer.TheVariants as answer
 use Rattle.graph_entry.specs.declared.entry.Entry.{Entry}
-use Rattle.graph_entry.specs.declared.media_type.MediaType.{MediaType}
-use Rattle.graph_entry.specs.declared.media_type.ModuleKind.{ModuleKind}
-use Rattle.graph_entry.specs.declared.media_type.ModuleKind.TheVariants as module_kind
-use Rattle.graph_entry.specs.MediaType.{kind_of}
+use Rattle.media_type.specs.declared.media_type.MediaType.{MediaType}
+use Rattle.media_type.specs.declared.media_type.ModuleKind.{ModuleKind}
+use Rattle.media_type.specs.declared.media_type.ModuleKind.TheVariants as module_kind
+use Rattle.media_type.specs.MediaType.{kind_of}
+use Rattle.media_type.specs.declared.media_type.MediaType.TheVariants.{Unknown}
+use Rattle.media_type.specs.ContentTypes.{with_content_type}
+use Rattle.data_specifier.specs.declared.data_module.DataModule.{DataModule}
+use Rattle.data_specifier.specs.declared.error.DataError.{DataError}
+use Rattle.data_specifier.specs.Data.{data_of}
+use Rattle.package_ref.specs.declared.reference.PackageRef.{PackageRef}
+use Rattle.package_ref.specs.Reference.{IsReference}
+use Rattle.package_ref.proofs.Theorems.{one_reference}
+use Rattle.graph_entry.specs.declared.entry.Entry.TheVariants as entry
+use Rattle.graph_entry.specs.Specifier.{begins}
+use Rattle.graph_entry.specs.Headers.{value_of}
 use Rattle.graph_entry.specs.ModuleText.{without_mark}
-use Rattle.graph_entry.specs.Analysed.{Analysed, OfKind, OfBytes, OfText, OfTokens, with_tree, no_tree, with_tokens, no_tokens, with_text, no_text, module_of, no_module, unsupported, at_place, language_of, media_type_read, not_built}
+use Rattle.graph_entry.specs.Analysed.{Analysed, OfContent, OfData, OfPackage, with_package, no_package, OfUnasked, by_header, OfKind, OfBytes, OfText, OfTokens, with_tree, no_tree, with_tokens, no_tokens, with_text, no_text, module_of, no_module, unsupported, at_place, language_of, media_type_read, not_built}
 use Rattle.graph_entry.proofs.ContentLemmas.{OfJson-once, OfWasm-once}
 
 -- ---- the laws below, as one record
@@ -86,6 +97,32 @@ by_kind-once s media bytes (Some module_kind.Source) made other laws makes makes
 by_kind-once s media bytes (Some module_kind.Json) made other laws makes makes_too = OfJson-once bytes made other makes makes_too
 by_kind-once s media bytes (Some module_kind.Wasm) made other laws makes makes_too = OfWasm-once s bytes made other makes makes_too
 
+-- content of a media type
+OfContent-once : (s : List ℕ) (media : MediaType) (bytes : List ℕ) (made other : Entry)
+    → HasOneReading (without_mark bytes) → OfContent s media bytes made → OfContent s media bytes other → made ≡ other
+OfContent-once s media bytes made other laws makes makes_too =
+    by_kind-once s media bytes (kind_of media) made other laws makes makes_too
+
+-- ---- where no loader is asked
+
+OfData-once : ((text : List ℕ) → HasOneReading text) → (s : List ℕ) (held : Result DataModule DataError) (made other : Entry)
+    → OfData s held made → OfData s held other → made ≡ other
+OfData-once laws s (Ok held) made other makes makes_too =
+    OfContent-once s (with_content_type Unknown held.mime) held.body made other (laws (without_mark held.body)) makes makes_too
+OfData-once laws s (Err e) made other is so = is ∙ sym so
+
+OfPackage-once : (s : List ℕ) (made other : Entry) → OfPackage s made → OfPackage s other → made ≡ other
+OfPackage-once s made other (with_package p names is) (with_package q also so) =
+    is ∙ ap entry.Package (one_reference s p q names also) ∙ sym so
+OfPackage-once s made other (with_package p names is) (no_package none so) = absurd (none p names)
+OfPackage-once s made other (no_package none is) (with_package q also so) = absurd (none q also)
+OfPackage-once s made other (no_package none is) (no_package also so) = is ∙ sym so
+
+OfUnasked-once : ((text : List ℕ) → HasOneReading text) → (s : List ℕ) (is_data : Bool) (made other : Entry)
+    → OfUnasked is_data s made → OfUnasked is_data s other → made ≡ other
+OfUnasked-once laws s true made other makes makes_too = OfData-once laws s (data_of s) made other makes makes_too
+OfUnasked-once laws s false made other makes makes_too = OfPackage-once s made other makes makes_too
+
 -- ---- the whole
 
 -- one answer makes one entry
@@ -93,10 +130,10 @@ pub Analysed-once : ((text : List ℕ) → HasOneReading text) → (s : List ℕ
     → Analysed s a made → Analysed s a other → made ≡ other
 unfolding Analysed
 Analysed-once laws s (Some (answer.Content headers bytes)) made other is so =
-    let media = media_type_read (parse_url None s) in
-    by_kind-once s media bytes (kind_of media) made other (laws (without_mark bytes)) is so
+    OfContent-once s (by_header (media_type_read (parse_url None s)) (value_of (codes "content-type") headers)) bytes made other
+    (laws (without_mark bytes)) is so
 Analysed-once laws s (Some (answer.Redirect target)) made other is so = is ∙ sym so
 Analysed-once laws s (Some answer.External) made other is so = is ∙ sym so
 Analysed-once laws s (Some answer.Absent) made other is so = is ∙ sym so
 Analysed-once laws s (Some answer.Failed) made other is so = is ∙ sym so
-Analysed-once laws s None made other is so = is ∙ sym so
+Analysed-once laws s None made other is so = OfUnasked-once laws s (begins s (codes "data:")) made other is so

@@ -1,6 +1,6 @@
 -- What holds of the edges of each site of a tree holds of the edges of what an answer makes.
 use Rattle.std.proofs.Common.{◌≡◌, sym, subst, refl, List, ℕ}
-use Rattle.std.specs.Prelude.{All, Option, Some, None, MatchOption, slice_index_or}
+use Rattle.std.specs.Prelude.{Bool, true, false, codes, All, Option, Some, None, MatchOption, Result, Ok, Err, slice_index_or}
 use Rattle.std.proofs.lemmas.List.Elements.{All-map}
 use Rattle.es_lexer.specs.declared.token.Token.{Token}
 use Rattle.es_lexer.specs.Reads.{ReadsTokens}
@@ -15,13 +15,20 @@ use Rattle.graph_entry.specs.declared.answer.LoadAnswer.{LoadAnswer}
 use Rattle.graph_entry.specs.declared.answer.LoadAnswer.TheVariants as answer
 use Rattle.graph_entry.specs.declared.entry.Dependency.{Dependency}
 use Rattle.graph_entry.specs.declared.entry.Entry.{Entry}
-use Rattle.graph_entry.specs.declared.media_type.MediaType.{MediaType}
+use Rattle.media_type.specs.declared.media_type.MediaType.{MediaType}
 use Rattle.graph_entry.specs.Entry.{CutsFrom, EachEdge, KeepsReasonOf}
-use Rattle.graph_entry.specs.declared.media_type.ModuleKind.{ModuleKind}
-use Rattle.graph_entry.specs.declared.media_type.ModuleKind.TheVariants as module_kind
-use Rattle.graph_entry.specs.MediaType.{kind_of}
+use Rattle.media_type.specs.declared.media_type.ModuleKind.{ModuleKind}
+use Rattle.media_type.specs.declared.media_type.ModuleKind.TheVariants as module_kind
+use Rattle.media_type.specs.MediaType.{kind_of}
+use Rattle.media_type.specs.declared.media_type.MediaType.TheVariants.{Unknown}
+use Rattle.media_type.specs.ContentTypes.{with_content_type}
+use Rattle.data_specifier.specs.declared.data_module.DataModule.{DataModule}
+use Rattle.data_specifier.specs.declared.error.DataError.{DataError}
+use Rattle.data_specifier.specs.Data.{data_of}
+use Rattle.graph_entry.specs.Specifier.{begins}
+use Rattle.graph_entry.specs.Headers.{value_of}
 use Rattle.graph_entry.specs.ModuleText.{without_mark}
-use Rattle.graph_entry.specs.Analysed.{Analysed, language_of, media_type_read, OfKind, OfBytes, OfText, OfTokens, with_tree, no_tree, with_tokens, no_tokens, with_text, no_text, dependency_of, not_built, unsupported}
+use Rattle.graph_entry.specs.Analysed.{Analysed, OfContent, OfData, OfPackage, with_package, no_package, OfUnasked, by_header, language_of, media_type_read, OfKind, OfBytes, OfText, OfTokens, with_tree, no_tree, with_tokens, no_tokens, with_text, no_text, dependency_of, not_built, unsupported}
 use Rattle.graph_entry.proofs.ContentLemmas.{HoldsOfImports, OfJson-edges, OfWasm-edges}
 use Rattle.graph_entry.proofs.RoomLemmas.{resolve-kept}
 
@@ -66,6 +73,30 @@ by_kind-edges P Q s media bytes (Some module_kind.Source) made sites imports mak
 by_kind-edges P Q s media bytes (Some module_kind.Json) made sites imports makes = OfJson-edges P Q bytes made makes
 by_kind-edges P Q s media bytes (Some module_kind.Wasm) made sites imports makes = OfWasm-edges P Q s bytes made imports makes
 
+-- content of a media type
+OfContent-edges : (P Q : List ℕ → Dependency → Type 0) (s : List ℕ) (media : MediaType) (bytes : List ℕ) (made : Entry)
+    → HoldsOfSites P s (without_mark bytes) → HoldsOfImports Q s bytes → OfContent s media bytes made → EachEdge P Q made
+OfContent-edges P Q s media bytes made sites imports makes =
+    by_kind-edges P Q s media bytes (kind_of media) made sites imports makes
+
+-- ---- where no loader is asked
+
+OfData-edges : (P Q : List ℕ → Dependency → Type 0) (s : List ℕ) → ((text : List ℕ) → HoldsOfSites P s text)
+    → ((bytes : List ℕ) → HoldsOfImports Q s bytes) → (held : Result DataModule DataError) (made : Entry)
+    → OfData s held made → EachEdge P Q made
+OfData-edges P Q s sites imports (Ok held) made makes =
+    OfContent-edges P Q s (with_content_type Unknown held.mime) held.body made (sites (without_mark held.body)) (imports held.body) makes
+OfData-edges P Q s sites imports (Err e) made is = subst (EachEdge P Q) (sym is) tt
+
+OfPackage-edges : (P Q : List ℕ → Dependency → Type 0) (s : List ℕ) (made : Entry) → OfPackage s made → EachEdge P Q made
+OfPackage-edges P Q s made (with_package p names is) = subst (EachEdge P Q) (sym is) tt
+OfPackage-edges P Q s made (no_package none is) = subst (EachEdge P Q) (sym is) tt
+
+OfUnasked-edges : (P Q : List ℕ → Dependency → Type 0) (s : List ℕ) → ((text : List ℕ) → HoldsOfSites P s text)
+    → ((bytes : List ℕ) → HoldsOfImports Q s bytes) → (is_data : Bool) (made : Entry) → OfUnasked is_data s made → EachEdge P Q made
+OfUnasked-edges P Q s sites imports true made makes = OfData-edges P Q s sites imports (data_of s) made makes
+OfUnasked-edges P Q s sites imports false made makes = OfPackage-edges P Q s made makes
+
 -- ---- the whole
 
 -- the edges of what an answer makes
@@ -73,13 +104,13 @@ pub Analysed-edges : (P Q : List ℕ → Dependency → Type 0) (s : List ℕ) �
     → ((bytes : List ℕ) → HoldsOfImports Q s bytes) → (a : Option LoadAnswer) (made : Entry) → Analysed s a made → EachEdge P Q made
 unfolding Analysed
 Analysed-edges P Q s sites imports (Some (answer.Content headers bytes)) made is =
-    let media = media_type_read (parse_url None s) in
-    by_kind-edges P Q s media bytes (kind_of media) made (sites (without_mark bytes)) (imports bytes) is
+    OfContent-edges P Q s (by_header (media_type_read (parse_url None s)) (value_of (codes "content-type") headers)) bytes made
+    (sites (without_mark bytes)) (imports bytes) is
 Analysed-edges P Q s sites imports (Some (answer.Redirect target)) made is = subst (EachEdge P Q) (sym is) tt
 Analysed-edges P Q s sites imports (Some answer.External) made is = subst (EachEdge P Q) (sym is) tt
 Analysed-edges P Q s sites imports (Some answer.Absent) made is = subst (EachEdge P Q) (sym is) tt
 Analysed-edges P Q s sites imports (Some answer.Failed) made is = subst (EachEdge P Q) (sym is) tt
-Analysed-edges P Q s sites imports None made is = subst (EachEdge P Q) (sym is) tt
+Analysed-edges P Q s sites imports None made is = OfUnasked-edges P Q s sites imports (begins s (codes "data:")) made is
 
 -- ---- two facts of each edge
 

@@ -1,6 +1,6 @@
 -- No entry's fault is want of memory.
 use Rattle.std.proofs.Common.{◌≡◌, ◌≢◌, sym, subst, refl, List, ℕ}
-use Rattle.std.specs.Prelude.{Option, Some, None, MatchOption}
+use Rattle.std.specs.Prelude.{Bool, true, false, ◌==◌, codes, take, position, Option, Some, None, MatchOption, Result, Ok, Err}
 use Rattle.es_lexer.specs.declared.token.Token.{Token}
 use Rattle.es_tree.specs.declared.error.Lang.{Lang}
 use Rattle.url.specs.Parser.{parse_url}
@@ -10,15 +10,23 @@ use Rattle.graph_entry.specs.declared.answer.LoadAnswer.{LoadAnswer}
 use Rattle.graph_entry.specs.declared.answer.LoadAnswer.TheVariants as answer
 use Rattle.graph_entry.specs.declared.entry.Entry.{Entry}
 use Rattle.graph_entry.specs.declared.entry.Entry.TheVariants as entry
-use Rattle.graph_entry.specs.declared.entry.ModuleError.TheVariants.{WasmParse}
-use Rattle.graph_entry.specs.declared.media_type.MediaType.{MediaType}
-use Rattle.graph_entry.specs.declared.media_type.ModuleKind.{ModuleKind}
-use Rattle.graph_entry.specs.declared.media_type.ModuleKind.TheVariants as module_kind
-use Rattle.graph_entry.specs.MediaType.{kind_of}
+use Rattle.graph_entry.specs.declared.entry.ModuleError.TheVariants.{WasmParse, DataUrl}
+use Rattle.media_type.specs.declared.media_type.MediaType.{MediaType}
+use Rattle.media_type.specs.declared.media_type.ModuleKind.{ModuleKind}
+use Rattle.media_type.specs.declared.media_type.ModuleKind.TheVariants as module_kind
+use Rattle.media_type.specs.MediaType.{kind_of}
+use Rattle.media_type.specs.declared.media_type.MediaType.TheVariants.{Unknown}
+use Rattle.media_type.specs.ContentTypes.{with_content_type}
+use Rattle.data_specifier.specs.declared.data_module.DataModule.{DataModule}
+use Rattle.data_specifier.specs.declared.error.DataError.{DataError}
+use Rattle.data_specifier.specs.declared.error.DataError.TheVariants as data_url
+use Rattle.data_specifier.specs.Data.{content_of, or_no_base64, body_of, with_mime, data_at, data_of}
+use Rattle.graph_entry.specs.Specifier.{begins}
+use Rattle.graph_entry.specs.Headers.{value_of}
 use Rattle.graph_entry.specs.Entry.{KeepsFault}
 use Rattle.graph_entry.specs.Json.{OfJson, with_json, no_json}
 use Rattle.graph_entry.specs.Wasm.{OfWasm, with_imports, faulty}
-use Rattle.graph_entry.specs.Analysed.{Analysed, OfKind, OfBytes, OfText, OfTokens, with_tree, no_tree, with_tokens, no_tokens, with_text, no_text, language_of, media_type_read, not_built, unsupported}
+use Rattle.graph_entry.specs.Analysed.{Analysed, OfContent, OfData, OfPackage, with_package, no_package, OfUnasked, by_header, OfKind, OfBytes, OfText, OfTokens, with_tree, no_tree, with_tokens, no_tokens, with_text, no_text, language_of, media_type_read, not_built, unsupported}
 
 module _ (s : List ℕ) (media : MediaType) (lang : Lang) where
   OfTokens-fault : (text : List ℕ) (tokens : List Token) (made : Entry) → OfTokens s media lang text tokens made → KeepsFault made
@@ -57,14 +65,52 @@ by_kind-fault s media bytes (Some module_kind.Source) made makes = by_language-f
 by_kind-fault s media bytes (Some module_kind.Json) made makes = OfJson-fault bytes made makes
 by_kind-fault s media bytes (Some module_kind.Wasm) made makes = OfWasm-fault s bytes made makes
 
+-- ---- where no loader is asked
+
+-- no reading of a `data:` URL is refused for want of memory
+abbrev told : Result DataModule DataError → Type 0
+told (Ok held) = Unit {0}
+told (Err e) = e ≢ data_url.OutOfMemory
+
+body-told : (mime : List ℕ) (body : Option (List ℕ)) → told (with_mime mime (or_no_base64 body))
+body-told mime None = λ h. cc
+body-told mime (Some bytes) = tt
+
+module-told : (mime encoded : List ℕ) (is_base64 : Bool) → told (with_mime mime (body_of is_base64 encoded))
+module-told mime encoded true = body-told mime _
+module-told mime encoded false = tt
+
+data-told : (content : List ℕ) (at : Option ℕ) → told (data_at content at)
+data-told content None = λ h. cc
+data-told content (Some at) = module-told _ _ _
+
+data_of-told : (text : List ℕ) → told (data_of text)
+unfolding data_of
+data_of-told text = data-told (content_of text) (position (λ b. b == 44) (content_of text))
+
+kept_data : (e : DataError) → e ≢ data_url.OutOfMemory → KeepsFault (entry.Error (DataUrl e))
+kept_data data_url.OutOfMemory room = absurd (room refl)
+kept_data _ room = tt
+
+OfData-fault : (s : List ℕ) (held : Result DataModule DataError) (made : Entry) → told held → OfData s held made → KeepsFault made
+OfData-fault s (Ok held) made t makes =
+    let media = with_content_type Unknown held.mime in
+    by_kind-fault s media held.body (kind_of media) made makes
+OfData-fault s (Err e) made t is = subst KeepsFault (sym is) (kept_data e t)
+
+OfUnasked-fault : (s : List ℕ) (is_data : Bool) (made : Entry) → OfUnasked is_data s made → KeepsFault made
+OfUnasked-fault s true made makes = OfData-fault s (data_of s) made (data_of-told s) makes
+OfUnasked-fault s false made (with_package p names is) = subst KeepsFault (sym is) tt
+OfUnasked-fault s false made (no_package none is) = subst KeepsFault (sym is) tt
+
 -- what an answer makes keeps no want of memory
 pub Analysed-fault : (s : List ℕ) (a : Option LoadAnswer) (made : Entry) → Analysed s a made → KeepsFault made
 unfolding Analysed
 Analysed-fault s (Some (answer.Content headers bytes)) made is =
-    let media = media_type_read (parse_url None s) in
+    let media = by_header (media_type_read (parse_url None s)) (value_of (codes "content-type") headers) in
     by_kind-fault s media bytes (kind_of media) made is
 Analysed-fault s (Some (answer.Redirect target)) made is = subst KeepsFault (sym is) tt
 Analysed-fault s (Some answer.External) made is = subst KeepsFault (sym is) tt
 Analysed-fault s (Some answer.Absent) made is = subst KeepsFault (sym is) tt
 Analysed-fault s (Some answer.Failed) made is = subst KeepsFault (sym is) tt
-Analysed-fault s None made is = subst KeepsFault (sym is) tt
+Analysed-fault s None made is = OfUnasked-fault s (begins s (codes "data:")) made is

@@ -9,8 +9,10 @@ use Rattle.url.specs.declared.scheme.SchemeType.TheVariants.{File, SpecialNotFil
 use Rattle.url.specs.Host.{ipv6_host, parse_bracketed, ipv4_host, host_of_ascii, parse_special_host, parse_opaque_host, parse_file_host, parse_host}
 use Rattle.url.specs.Parts.{Parts}
 use Rattle.url.specs.Parser.{Parsed, and_then, IsOutOfRoom, parse_port, parse_authority, after_double_slash, parse_non_special, parse_relative, after_file_double_slash, parse_file, parse_not_file, parse_body, parse_parts, parse_without_scheme, parse_by_scheme, parse_url}
-use Rattle.graph_entry.specs.Resolution.{has_relative_prefix, KeepsReason, Resolved, target_of, resolve_relative, resolve_read, resolve}
-use Rattle.graph_entry.specs.declared.resolution.ResolutionError.TheVariants.{ImportPrefixMissing}
+use Rattle.file_url.specs.declared.errors.SpecifierError.TheVariants as specifier
+use Rattle.file_url.specs.Imports as imports
+use Rattle.file_url.specs.Imports.{refusal, target_of, relative_import, import_read, import_of}
+use Rattle.graph_entry.specs.Resolution.{KeepsReason, kept_of, resolve}
 
 -- this refusal is not want of room
 abbrev pub IsReason : ParseError → Type 0
@@ -145,38 +147,43 @@ not_room : (e : ParseError) → IsReason e → ¬ IsOutOfRoom e
 not_room e reason (inl is) = subst IsReason is reason
 not_room e reason (inr is) = subst IsReason is reason
 
-target_of-kept : (read : Parsed Parts) → IsTold read → KeepsReason (target_of read)
-target_of-kept (Ok url) told = tt
-target_of-kept (Err e) told = not_room e told.told
+kept_refusal : (e : ParseError) → IsReason e → KeepsReason (kept_of (Err (refusal e)))
+kept_refusal OutOfMemory reason = absurd reason
+kept_refusal Overflow reason = absurd reason
+kept_refusal _ reason = not_room _ reason
 
-kept_if : (b : Bool) (x y : Resolved) → KeepsReason x → KeepsReason y → KeepsReason (if b then x else y)
+target_of-kept : (read : Parsed Parts) → IsTold read → KeepsReason (kept_of (target_of read))
+target_of-kept (Ok url) told = tt
+target_of-kept (Err e) told = kept_refusal e told.told
+
+kept_if : (b : Bool) (x y : imports.Resolved) → KeepsReason (kept_of x) → KeepsReason (kept_of y) → KeepsReason (kept_of (if b then x else y))
 kept_if true x y one two = one
 kept_if false x y one two = two
 
-resolve_relative-kept : (referrer : Parsed Parts) (text : List ℕ) → IsTold referrer → KeepsReason (resolve_relative referrer text)
-resolve_relative-kept referrer text told =
+relative-kept : (referrer : Parsed Parts) (text : List ℕ) → IsTold referrer → KeepsReason (kept_of (relative_import referrer text))
+relative-kept referrer text told =
     let joined = and_then referrer (λ base. parse_url (Some base) text) in
-    kept_if (has_relative_prefix text) (target_of joined) (Err (ImportPrefixMissing text))
+    kept_if _ (target_of joined) (Err (specifier.ImportPrefixMissing text))
     (target_of-kept joined (told_then referrer (λ base. parse_url (Some base) text) told (λ base. parse_url-told (Some base) text))) tt
 
-resolve_read-kept : (read referrer : Parsed Parts) (text : List ℕ) → IsTold read → IsTold referrer
-    → KeepsReason (resolve_read read referrer text)
-resolve_read-kept (Ok url) referrer text told also = tt
-resolve_read-kept (Err RelativeUrlWithoutBase) referrer text told also = resolve_relative-kept referrer text also
-resolve_read-kept (Err EmptyHost) referrer text told also = not_room EmptyHost told.told
-resolve_read-kept (Err IdnaError) referrer text told also = not_room IdnaError told.told
-resolve_read-kept (Err InvalidPort) referrer text told also = not_room InvalidPort told.told
-resolve_read-kept (Err InvalidIpv4Address) referrer text told also = not_room InvalidIpv4Address told.told
-resolve_read-kept (Err InvalidIpv6Address) referrer text told also = not_room InvalidIpv6Address told.told
-resolve_read-kept (Err InvalidDomainCharacter) referrer text told also = not_room InvalidDomainCharacter told.told
-resolve_read-kept (Err RelativeUrlWithCannotBeABaseBase) referrer text told also = not_room RelativeUrlWithCannotBeABaseBase told.told
-resolve_read-kept (Err SetHostOnCannotBeABaseUrl) referrer text told also = not_room SetHostOnCannotBeABaseUrl told.told
-resolve_read-kept (Err CannotSet) referrer text told also = not_room CannotSet told.told
-resolve_read-kept (Err OutOfMemory) referrer text told also = not_room OutOfMemory told.told
-resolve_read-kept (Err Overflow) referrer text told also = not_room Overflow told.told
+read-kept : (read referrer : Parsed Parts) (text : List ℕ) → IsTold read → IsTold referrer
+    → KeepsReason (kept_of (import_read read referrer text))
+read-kept (Ok url) referrer text told also = tt
+read-kept (Err RelativeUrlWithoutBase) referrer text told also = relative-kept referrer text also
+read-kept (Err EmptyHost) referrer text told also = kept_refusal EmptyHost told.told
+read-kept (Err IdnaError) referrer text told also = kept_refusal IdnaError told.told
+read-kept (Err InvalidPort) referrer text told also = kept_refusal InvalidPort told.told
+read-kept (Err InvalidIpv4Address) referrer text told also = kept_refusal InvalidIpv4Address told.told
+read-kept (Err InvalidIpv6Address) referrer text told also = kept_refusal InvalidIpv6Address told.told
+read-kept (Err InvalidDomainCharacter) referrer text told also = kept_refusal InvalidDomainCharacter told.told
+read-kept (Err RelativeUrlWithCannotBeABaseBase) referrer text told also = kept_refusal RelativeUrlWithCannotBeABaseBase told.told
+read-kept (Err SetHostOnCannotBeABaseUrl) referrer text told also = kept_refusal SetHostOnCannotBeABaseUrl told.told
+read-kept (Err CannotSet) referrer text told also = kept_refusal CannotSet told.told
+read-kept (Err OutOfMemory) referrer text told also = kept_refusal OutOfMemory told.told
+read-kept (Err Overflow) referrer text told also = kept_refusal Overflow told.told
 
 -- want of room is never an edge's reason
 pub resolve-kept : (referrer text : List ℕ) → KeepsReason (resolve referrer text)
-unfolding resolve
+unfolding resolve import_of
 resolve-kept referrer text =
-    resolve_read-kept _ _ text (parse_url-told None text) (parse_url-told None referrer)
+    read-kept _ _ text (parse_url-told None text) (parse_url-told None referrer)

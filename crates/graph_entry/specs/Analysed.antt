@@ -1,5 +1,5 @@
 -- What one answer of a loader makes of one specifier, case by case (this project's profile).
-use Rattle.std.specs.Prelude.{◌≡◌, ℕ, List, map, Option, Some, None, MatchOption, Ok, Err, IsUtf8}
+use Rattle.std.specs.Prelude.{◌≡◌, ℕ, Bool, true, false, List, map, codes, Option, Some, None, MatchOption, Result, Ok, Err, IsUtf8}
 use Rattle.base.specs.declared.range.Range.{Range}
 use Rattle.url.specs.Parts.{Parts}
 use Rattle.url.specs.Parser.{Parsed, parse_url}
@@ -22,12 +22,21 @@ use Rattle.graph_entry.specs.declared.entry.Dependency.{Dependency}
 use Rattle.graph_entry.specs.declared.entry.Module.TheVariants.{Js}
 use Rattle.graph_entry.specs.declared.entry.Entry.{Entry}
 use Rattle.graph_entry.specs.declared.entry.Entry.TheVariants as entry
-use Rattle.graph_entry.specs.declared.entry.ModuleError.TheVariants.{Missing, UnsupportedMediaType, Parse, NotBuilt}
-use Rattle.graph_entry.specs.declared.media_type.MediaType.{MediaType}
-use Rattle.graph_entry.specs.declared.media_type.MediaType.TheVariants.{TypeScript, Mts, JavaScript, Mjs, Unknown}
-use Rattle.graph_entry.specs.declared.media_type.ModuleKind.{ModuleKind}
-use Rattle.graph_entry.specs.declared.media_type.ModuleKind.TheVariants as module_kind
-use Rattle.graph_entry.specs.MediaType.{media_type_of, kind_of}
+use Rattle.graph_entry.specs.declared.entry.ModuleError.TheVariants.{Missing, UnsupportedMediaType, Parse, DataUrl, PackageReference, NotBuilt}
+use Rattle.media_type.specs.declared.media_type.MediaType.{MediaType}
+use Rattle.media_type.specs.declared.media_type.MediaType.TheVariants.{TypeScript, Mts, JavaScript, Mjs, Unknown}
+use Rattle.media_type.specs.declared.media_type.ModuleKind.{ModuleKind}
+use Rattle.media_type.specs.declared.media_type.ModuleKind.TheVariants as module_kind
+use Rattle.media_type.specs.Endings.{media_type_of}
+use Rattle.media_type.specs.ContentTypes.{with_content_type}
+use Rattle.media_type.specs.MediaType.{kind_of}
+use Rattle.data_specifier.specs.declared.data_module.DataModule.{DataModule}
+use Rattle.data_specifier.specs.declared.error.DataError.{DataError}
+use Rattle.data_specifier.specs.Data.{data_of}
+use Rattle.package_ref.specs.declared.reference.PackageRef.{PackageRef}
+use Rattle.package_ref.specs.Reference.{IsReference}
+use Rattle.graph_entry.specs.Specifier.{begins}
+use Rattle.graph_entry.specs.Headers.{value_of}
 use Rattle.graph_entry.specs.ModuleText.{without_mark}
 use Rattle.graph_entry.specs.Json.{no_utf8, OfJson}
 use Rattle.graph_entry.specs.Wasm.{OfWasm}
@@ -123,15 +132,38 @@ abbrev pub OfContent : List ℕ → MediaType → List ℕ → Entry → Type 0
 OfContent s media_type bytes made =
     MatchOption (kind_of media_type) (made ≡ unsupported media_type) (λ read. OfKind s media_type read bytes made)
 
+-- the media type of content: what its header `content-type` says where it has one, over what the path tells
+abbrev pub by_header : MediaType → Option (List ℕ) → MediaType
+by_header by_path None = by_path
+by_header by_path (Some header) = with_content_type by_path header
+
 -- what a loader's answer makes of this specifier
 abbrev pub OfAnswer : List ℕ → LoadAnswer → Entry → Type 0
-OfAnswer s (answer.Content headers bytes) made = OfContent s (media_type_read (parse_url None s)) bytes made
+OfAnswer s (answer.Content headers bytes) made =
+    OfContent s (by_header (media_type_read (parse_url None s)) (value_of (codes "content-type") headers)) bytes made
 OfAnswer s (answer.Redirect target) made = made ≡ not_built
 OfAnswer s answer.External made = made ≡ not_built
 OfAnswer s answer.Absent made = made ≡ entry.Error Missing
 OfAnswer s answer.Failed made = made ≡ not_built
 
+-- what a `data:` specifier makes: the content that it holds, whose media type no path tells
+abbrev pub OfData : List ℕ → Result DataModule DataError → Entry → Type 0
+OfData s (Ok held) made = OfContent s (with_content_type Unknown held.mime) held.body made
+OfData s (Err e) made = made ≡ entry.Error (DataUrl e)
+
+-- what an `npm:` or `jsr:` specifier makes
+pub data OfPackage (s : List ℕ) (made : Entry) : Type 0 where
+  -- the package that it names
+  with_package : (named : PackageRef) → IsReference s named → made ≡ entry.Package named → OfPackage s made
+  -- it names none
+  no_package : ((named : PackageRef) → ¬ IsReference s named) → made ≡ entry.Error PackageReference → OfPackage s made
+
+-- what a specifier makes that no loader is asked for, by whether it is a `data:` specifier
+abbrev pub OfUnasked : Bool → List ℕ → Entry → Type 0
+OfUnasked true s made = OfData s (data_of s) made
+OfUnasked false s made = OfPackage s made
+
 -- what this answer makes of this specifier; `None` where no loader is asked for it
 unfoldable pub Analysed : List ℕ → Option LoadAnswer → Entry → Type 0
 Analysed s (Some answer) made = OfAnswer s answer made
-Analysed s None made = made ≡ not_built
+Analysed s None made = OfUnasked (begins s (codes "data:")) s made

@@ -9,8 +9,9 @@ use Rattle.graph_entry.specs.declared.entry.Module.TheVariants.{Js, Json, Wasm}
 use Rattle.graph_entry.specs.declared.entry.Entry.{Entry}
 use Rattle.graph_entry.specs.declared.entry.Entry.TheVariants as entry
 use Rattle.graph_entry.specs.declared.entry.ModuleError.{ModuleError}
-use Rattle.graph_entry.specs.declared.entry.ModuleError.TheVariants.{Missing, UnsupportedMediaType, Decode, Parse, WasmParse, NotBuilt, OutOfMemory}
+use Rattle.graph_entry.specs.declared.entry.ModuleError.TheVariants.{Missing, UnsupportedMediaType, Decode, Parse, WasmParse, DataUrl, PackageReference, NotBuilt, OutOfMemory}
 use Rattle.wasm_dep_analyzer.specs.declared.error.ParseError.TheVariants as wasm
+use Rattle.data_specifier.specs.declared.error.DataError.TheVariants as data_url
 use Rattle.graph_entry.specs.Specifier.{text_of}
 use Rattle.graph_entry.specs.Resolution.{KeepsReason}
 
@@ -23,6 +24,7 @@ unfoldable pub targets : Entry → List (List ℕ)
 targets (entry.Module (Js m)) = filter_map target_of m.dependencies
 targets (entry.Module (Json m)) = []
 targets (entry.Module (Wasm m)) = filter_map target_of m.dependencies
+targets (entry.Package held) = []
 targets (entry.Redirect target) = []
 targets entry.External = []
 targets (entry.Error e) = []
@@ -46,6 +48,7 @@ abbrev pub EachEdge : (List ℕ → Dependency → Type 0) → (List ℕ → Dep
 EachEdge P Q (entry.Module (Js m)) = All (P m.text) m.dependencies
 EachEdge P Q (entry.Module (Json m)) = Unit {0}
 EachEdge P Q (entry.Module (Wasm m)) = All (Q m.bytes) m.dependencies
+EachEdge P Q (entry.Package held) = Unit {0}
 EachEdge P Q (entry.Redirect target) = Unit {0}
 EachEdge P Q entry.External = Unit {0}
 EachEdge P Q (entry.Error e) = Unit {0}
@@ -57,6 +60,7 @@ EdgesCut made = EachEdge CutsFrom CutsName made
 -- the fault of the entry, if it has one, is not want of memory
 abbrev pub KeepsFault : Entry → Type 0
 KeepsFault (entry.Error (WasmParse wasm.OutOfMemory)) = ⊥
+KeepsFault (entry.Error (DataUrl data_url.OutOfMemory)) = ⊥
 KeepsFault (entry.Error OutOfMemory) = ⊥
 KeepsFault _ = Unit {0}
 
@@ -67,5 +71,7 @@ name_of_error (UnsupportedMediaType m) = codes "UnsupportedMediaType"
 name_of_error Decode = codes "Decode"
 name_of_error (Parse d) = codes "Parse"
 name_of_error (WasmParse e) = codes "WasmParse"
+name_of_error (DataUrl e) = codes "DataUrl"
+name_of_error PackageReference = codes "PackageReference"
 name_of_error NotBuilt = codes "NotBuilt"
 name_of_error OutOfMemory = codes "OutOfMemory"

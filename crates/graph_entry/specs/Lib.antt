@@ -1,7 +1,10 @@
 -- ---- what the public contracts rest on
 pub mod Specifier
-pub mod MediaType
+pub use Rattle.media_type.specs.MediaType
+pub use Rattle.media_type.specs.Endings
+pub use Rattle.media_type.specs.ContentTypes
 pub mod ModuleText
+pub use Rattle.file_url.specs.Imports
 pub mod Resolution
 pub mod Headers
 pub mod Diagnosis

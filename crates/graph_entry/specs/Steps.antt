@@ -7,17 +7,11 @@ use Rattle.wasm_dep_analyzer.specs.declared.error.ParseError.TheVariants.{OutOfM
 use Rattle.wasm_dep_analyzer.specs.Module.{Deps, ReadsModule}
 use Rattle.graph_entry.specs.declared.entry.Dependency.{Dependency}
 use Rattle.graph_entry.specs.Wasm.{wasm_dependency}
-use Rattle.graph_entry.specs.MediaType.{Row}
 use Rattle.graph_entry.specs.declared.analysis.Source.{Source}
-use Rattle.graph_entry.specs.declared.media_type.Ending.{Ending}
 
 -- the base is what the specifier's text is read as
 abbrev pub IsReadAgain : Source → Type 0
 IsReadAgain source = source.base.now ≡ parse_url None (text_of source.specifier.now)
-
--- a row of the code's table of endings
-abbrev pub row_of : Ending → Row
-row_of e = (e.text.now, e.media_type)
 
 -- the edges of the WebAssembly module at this specifier, or its first fault
 abbrev pub GivesEdges : List ℕ → List ℕ → Result (List Dependency) ParseError → Type 0

@@ -1,9 +1,10 @@
 //! What one answer of a loader makes of one specifier.
-ghost use Rattle.std.specs.Prelude.{◌≡◌, false, None, Some, map, IfOk};
+ghost use Rattle.std.specs.Prelude.{◌≡◌, None, Some, codes, map, IfOk};
 ghost use Rattle.url.specs.Parser.{parse_url};
 ghost use Rattle.es_lexer.specs.Reads.{ReadsTokens};
 ghost use Rattle.es_tree.specs.Sites.{sites_of};
-ghost use Rattle.graph_entry.specs.Specifier.{text_of, loadable};
+ghost use Rattle.graph_entry.specs.Specifier.{text_of};
+ghost use Rattle.graph_entry.specs.Headers.{value_of};
 ghost use Rattle.graph_entry.specs.Diagnosis.{told_range};
 ghost use Rattle.graph_entry.specs.Steps.{IsReadAgain};
 ghost use Rattle.graph_entry.specs.Analysed as spec;
@@ -12,8 +13,8 @@ ghost use Rattle.graph_entry.specs.Analysed.{Analysed, OfContent, OfSource, OfBy
 use crate::answer::LoadAnswer;
 use crate::diagnostic::{ParseDiagnostic, SyntaxErrorKind};
 use crate::entry::{Dependency, Entry, JsModule, Module, ModuleError};
+use crate::headers::Headers;
 use crate::json::{analyse_json, no_text};
-use crate::media_type::{MediaType, ModuleKind};
 use crate::module_text::without_mark;
 use crate::resolution::{ReadAgain, read_again, resolve_from};
 use crate::wasm::analyse_wasm;
@@ -21,6 +22,7 @@ use base::{Items, Range, SharedBytes, SharedText};
 use es_lexer::{LexError, LexicalError, Token, lex_tokens};
 use es_parser::parse_tokens;
 use es_tree::{Lang, Mode, Program, Site, SyntaxError, sites};
+use media_type::{MediaType, ModuleKind};
 use std::alloc::{AllocError, Global};
 use std::str;
 use url::Url;
@@ -31,21 +33,12 @@ pub fn analyse(alloc: Global, specifier: &Url, answer: LoadAnswer) -> Result<Ent
     ensures { IfOk result (λ made. Analysed (text_of specifier.now) (Some answer) made) }
 {
     match answer {
-        LoadAnswer::Content { headers: _, bytes } => { analyse_content(alloc, specifier, bytes) }
+        LoadAnswer::Content { headers, bytes } => {
+            analyse_content(alloc, specifier, &headers, bytes)
+        }
         LoadAnswer::Redirect(_) | LoadAnswer::External | LoadAnswer::Failed => Ok(not_built()),
         LoadAnswer::Absent => Ok(Entry::Error(ModuleError::Missing)),
     }
-}
-
-/// The entry of a specifier that no loader is asked for.
-#[tactic(auto, unfolding(crate::specs::Analysed::Analysed))]
-pub fn analyse_unasked(alloc: Global, specifier: &Url) -> Result<Entry, AllocError>
-    requires { loadable (text_of specifier.now) ≡ false }
-    ensures { IfOk result (λ made. Analysed (text_of specifier.now) None made) }
-{
-    let _held = alloc;
-    let _ = specifier;
-    Ok(not_built())
 }
 
 fn not_built() -> Entry
@@ -54,19 +47,55 @@ fn not_built() -> Entry
     Entry::Error(ModuleError::NotBuilt)
 }
 
-fn analyse_content(alloc: Global, specifier: &Url, bytes: SharedBytes) -> Result<Entry, AllocError>
-    ensures { IfOk result (OfContent
-        (text_of specifier.now) (spec.media_type_read (parse_url None (text_of specifier.now))) bytes) }
+fn analyse_content(
+    alloc: Global,
+    specifier: &Url,
+    headers: &Headers,
+    bytes: SharedBytes,
+) -> Result<Entry, AllocError>
+    ensures { IfOk result (OfContent (text_of specifier.now)
+        (spec.by_header (spec.media_type_read (parse_url None (text_of specifier.now)))
+        (value_of (codes "content-type") headers.now)) bytes) }
 {
     let base = read_again(alloc, specifier)?;
-    let media_type = media_type_read(alloc, &base)?;
+    let media_type = media_type_by(alloc, &base, headers)?;
+    analyse_as(alloc, specifier, &base, media_type, bytes)
+}
+
+// The media type of content with these headers, at a specifier that was read again.
+fn media_type_by(
+    alloc: Global,
+    base: &ReadAgain,
+    headers: &Headers,
+) -> Result<MediaType, AllocError>
+    ensures { IfOk result (λ m. m ≡ spec.by_header
+        (spec.media_type_read base.now) (value_of (codes "content-type") headers.now)) }
+{
+    let by_path = media_type_read(alloc, base)?;
+    match headers.content_type() {
+        Some(header) => by_path.with_content_type(alloc, header),
+        None => Ok(by_path),
+    }
+}
+
+/// The entry of content of this media type. The base is the specifier, read again.
+pub fn analyse_as(
+    alloc: Global,
+    specifier: &Url,
+    base: &ReadAgain,
+    media_type: MediaType,
+    bytes: SharedBytes,
+) -> Result<Entry, AllocError>
+    requires again { base.now ≡ parse_url None (text_of specifier.now) }
+    ensures { IfOk result (OfContent (text_of specifier.now) media_type bytes) }
+{
     match media_type.kind() {
         None => Ok(unsupported(media_type)),
         Some(ModuleKind::Source) => {
-            analyse_source(alloc, specifier, &base, media_type, bytes.as_slice())
+            analyse_source(alloc, specifier, base, media_type, bytes.as_slice())
         }
         Some(ModuleKind::Json) => analyse_json(alloc, bytes.as_slice()),
-        Some(ModuleKind::Wasm) => analyse_wasm(alloc, specifier, &base, bytes),
+        Some(ModuleKind::Wasm) => analyse_wasm(alloc, specifier, base, bytes),
     }
 }
 

@@ -3,10 +3,12 @@ ghost use Rattle.std.specs.Prelude.{◌≡◌};
 ghost use Rattle.graph_entry.specs.Entry.{name_of_error};
 
 use crate::diagnostic::ParseDiagnostic;
-use crate::media_type::MediaType;
 use crate::resolution::ResolutionError;
 use base::{Items, Range, SharedBytes, SharedText, Text};
+use data_specifier::DataError;
 use es_tree::{Attribute, DependencyKind};
+use media_type::MediaType;
+use package_ref::PackageRef;
 use std::fmt;
 use url::Url;
 use wasm_dep_analyzer::ParseError;
@@ -17,6 +19,8 @@ pub enum Entry {
     /// The module is at another specifier.
     Redirect(Url),
     Module(Module),
+    /// A package of a registry.
+    Package(PackageRef),
     /// The module isn't part of the graph's sources.
     External,
     Error(ModuleError),
@@ -84,6 +88,10 @@ pub enum ModuleError {
     Parse(ParseDiagnostic),
     /// The bytes are no WebAssembly module. Never for want of memory.
     WasmParse(ParseError),
+    /// The `data:` URL holds nothing. Never for want of memory.
+    DataUrl(DataError),
+    /// The `npm:` or `jsr:` specifier names no package.
+    PackageReference,
     /// This version does not build what would be here.
     NotBuilt,
     /// Memory ran out. Never the error of an entry.
@@ -101,6 +109,8 @@ impl ModuleError {
             ModuleError::Decode => "Decode",
             ModuleError::Parse(_) => "Parse",
             ModuleError::WasmParse(_) => "WasmParse",
+            ModuleError::DataUrl(_) => "DataUrl",
+            ModuleError::PackageReference => "PackageReference",
             ModuleError::NotBuilt => "NotBuilt",
             ModuleError::OutOfMemory => "OutOfMemory",
         }
@@ -118,6 +128,8 @@ impl fmt::Display for ModuleError {
             ModuleError::Decode => write!(f, "content is not UTF-8"),
             ModuleError::Parse(diagnostic) => write!(f, "{diagnostic}"),
             ModuleError::WasmParse(error) => write!(f, "{error}"),
+            ModuleError::DataUrl(error) => write!(f, "{error}"),
+            ModuleError::PackageReference => write!(f, "not a reference to a package"),
             ModuleError::NotBuilt => write!(f, "not built by this version"),
             ModuleError::OutOfMemory => write!(f, "out of memory"),
         }

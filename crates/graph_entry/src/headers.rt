@@ -1,6 +1,8 @@
 //! Headers of a loader's answer.
 ghost use Rattle.std.specs.Prelude.{◌≡◌, [], IfOk};
-ghost use Rattle.graph_entry.specs.Headers.{entries_of};
+ghost use Rattle.std.specs.Prelude.{codes};
+ghost use Rattle.std.specs.Option.{option_copied};
+ghost use Rattle.graph_entry.specs.Headers.{entries_of, value_of};
 
 use std::alloc::{AllocError, Global};
 use std::collections::BTreeMap;
@@ -40,6 +42,16 @@ impl Headers {
         ensures { entries_of result.now.entries ≡ self.now }
     {
         &self.entries
+    }
+
+    /// The value of the header `content-type`.
+    pub fn content_type(&self) -> Option<&str>
+        ensures { option_copied result ≡ value_of (codes "content-type") self.now }
+    {
+        match self.entries.get("content-type") {
+            Some(value) => Some(value.as_str()),
+            None => None,
+        }
     }
 
     pub fn copy(&self) -> Result<Headers, AllocError>

@@ -1,16 +1,17 @@
 //! What one loader answer makes of one specifier: the layer below the graph's builder.
 //!
 //! - `analyse(specifier, answer)`: the entry that the answer makes (`Analysed`, `specs/Analysed.antt`): a module with
-//!   its text and edges, or why there is none. Both ways; only want of memory may refuse.
-//! - `analyse_unasked(specifier)`: the same where no loader is asked for the specifier.
+//!   its text or bytes and its edges, or why there is none. Both ways; only want of memory may refuse.
+//! - `analyse_unasked(specifier)`: the same where no loader is asked for the specifier: what a `data:` URL holds, or
+//!   the package of an `npm:` or `jsr:` specifier.
 //! - `resolve(text, referrer)`: what a specifier in a source leads to (`resolve`, `specs/Resolution.antt`).
 //! - `is_loadable(specifier)`: whether a loader is asked for it (`loadable`, `specs/Specifier.antt`).
-//! - `MediaType::of_path(path)`: the media type by the path's ending (`media_type_of`, `specs/MediaType.antt`).
 //! - `Entry`, `LoadAnswer` and their parts are plain data in contracts; `targets` (`specs/Entry.antt`) are the texts
 //!   that an entry leads to.
 //!
 //! A specifier is its text. One answer makes at most one entry of it (`analysed_once`, `proofs/Theorems.antt`), whose
-//! edges cut their literals from the module's text (`analysed_cuts`). `docs/RESOLUTION.md` tells the rules in words.
+//! edges cut their literals or names from the module (`analysed_cuts`), and which keeps no want of memory
+//! (`analysed_faults`). `docs/RESOLUTION.md` tells the rules in words.
 //! Not promised: the range of a `Syntax` fault, what `Display` and `Debug` write, and when memory runs out.
 #![tactic(auto)]
 
@@ -21,22 +22,25 @@ mod entry;
 mod headers;
 mod json;
 mod kind;
-mod media_type;
 mod module_text;
 mod resolution;
 mod specifier;
+mod unasked;
 mod wasm;
 
-pub use crate::analysis::{analyse, analyse_unasked};
+pub use crate::analysis::analyse;
 pub use crate::answer::LoadAnswer;
 pub use crate::diagnostic::{ParseDiagnostic, SyntaxErrorKind};
 pub use crate::entry::{Dependency, Entry, JsModule, JsonModule, Module, ModuleError, WasmModule};
 pub use crate::headers::Headers;
 pub use crate::kind::GraphKind;
-pub use crate::media_type::{MediaType, ModuleKind};
 pub use crate::resolution::{ResolutionError, Resolved, resolve};
 pub use crate::specifier::is_loadable;
+pub use crate::unasked::analyse_unasked;
+pub use data_specifier::DataError;
 pub use es_tree::{Attribute, DependencyKind};
+pub use media_type::{MediaType, ModuleKind};
+pub use package_ref::{PackageKind, PackageRef};
 
 #[cfg(test)]
 mod tests;

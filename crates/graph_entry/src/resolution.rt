@@ -1,12 +1,12 @@
 //! What a specifier in a source leads to.
 ghost use Rattle.std.specs.Prelude.{◌≡◌, IfOk, None};
-ghost use Rattle.url.specs.Parts.{Parts};
-ghost use Rattle.url.specs.Parser.{parse_url, and_then, IsOutOfRoom};
+ghost use Rattle.url.specs.Parser.{parse_url, IsOutOfRoom};
+ghost use Rattle.file_url.specs.Imports.{import_of};
 ghost use Rattle.graph_entry.specs.Specifier.{text_of};
 ghost use Rattle.graph_entry.specs.Resolution as spec;
 
-use crate::specifier::begins;
 use base::Text;
+use file_url::{SpecifierError, resolve_import_from};
 use std::alloc::{AllocError, Global};
 use thiserror::Error;
 use url::{ParseError, Url};
@@ -72,35 +72,15 @@ pub fn read_again(alloc: Global, specifier: &Url) -> Result<ReadAgain, AllocErro
 
 /// The target of a text, from a referrer that was read again.
 pub fn resolve_from(alloc: Global, base: &ReadAgain, text: &str) -> Result<Resolved, AllocError>
-    ensures { IfOk result (λ r. r ≡ spec.resolve_read (parse_url None text.now) base.now text.now) }
+    ensures { IfOk result (λ r. r ≡ spec.kept_of (import_of base.now text.now)) }
 {
-    match Url::parse(alloc, text) {
+    match resolve_import_from(alloc, text, base) {
         Ok(url) => Ok(Ok(url)),
-        Err(ParseError::RelativeUrlWithoutBase) => resolve_relative(alloc, base, text),
-        Err(error) => Ok(Err(ResolutionError::InvalidUrl(kept(error)?))),
-    }
-}
-
-fn resolve_relative(alloc: Global, base: &ReadAgain, text: &str) -> Result<Resolved, AllocError>
-    ensures { IfOk result (λ r. r ≡ spec.resolve_relative base.now text.now) }
-{
-    if !has_relative_prefix(text) {
-        return Ok(Err(ResolutionError::ImportPrefixMissing {
-            specifier: Text::from_str(alloc, text)?,
-        }));
-    }
-    match base {
-        Ok(base) => joined(base, text),
-        Err(error) => Ok(Err(ResolutionError::InvalidUrl(*error))),
-    }
-}
-
-fn joined(base: &Url, text: &str) -> Result<Resolved, AllocError>
-    ensures { IfOk result (λ r. r ≡ spec.target_of (parse_url (Some base.now) text.now)) }
-{
-    match base.join(text) {
-        Ok(url) => Ok(Ok(url)),
-        Err(error) => Ok(Err(ResolutionError::InvalidUrl(kept(error)?))),
+        Err(SpecifierError::ImportPrefixMissing { specifier }) => {
+            Ok(Err(ResolutionError::ImportPrefixMissing { specifier }))
+        }
+        Err(SpecifierError::InvalidUrl(error)) => Ok(Err(ResolutionError::InvalidUrl(error))),
+        Err(SpecifierError::OutOfMemory) => Err(AllocError),
     }
 }
 
@@ -112,12 +92,4 @@ fn kept(error: ParseError) -> Result<ParseError, AllocError>
         ParseError::OutOfMemory | ParseError::Overflow => Err(AllocError),
         _ => Ok(error),
     }
-}
-
-/// Whether the text begins with `/`, `./` or `../`.
-#[tactic(auto, unfolding(crate::specs::Resolution::has_relative_prefix))]
-pub fn has_relative_prefix(text: &str) -> bool
-    ensures { result ≡ spec.has_relative_prefix text.now }
-{
-    begins(text, "/") || begins(text, "./") || begins(text, "../")
 }

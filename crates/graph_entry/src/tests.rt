@@ -1,10 +1,10 @@
 //! The rules against their tables, and each public call once on its happy path.
 
 use crate::{
-    Dependency, DependencyKind, Entry, Headers, LoadAnswer, MediaType, Module, ModuleError,
-    analyse, is_loadable, resolve,
+    Dependency, DependencyKind, Entry, Headers, LoadAnswer, Module, ModuleError, PackageKind,
+    PackageRef, analyse, analyse_unasked, is_loadable, resolve,
 };
-use base::{Range, SharedBytes};
+use base::{Range, SharedBytes, Text};
 use std::alloc::Global;
 use std::collections::BTreeMap;
 use std::test::Fail;
@@ -41,7 +41,26 @@ fn shown(alloc: Global, entry: &Entry) -> Result<String, Fail> {
             Ok(format!(in alloc; "{name} {error}")?)
         }
         Entry::Error(error) => Ok(String::from_str(alloc, error.name())?),
+        Entry::Package(package) => shown_package(alloc, package),
         Entry::Redirect(_) | Entry::External => Ok(String::from_str(alloc, "no module")?),
+    }
+}
+
+fn shown_package(alloc: Global, package: &PackageRef) -> Result<String, Fail> {
+    let kind = match package.kind {
+        PackageKind::Npm => "npm",
+        PackageKind::Jsr => "jsr",
+    };
+    let name = &package.name;
+    let requirement = part(&package.requirement);
+    let sub_path = part(&package.sub_path);
+    Ok(format!(in alloc; "{kind} {name} {requirement} {sub_path}")?)
+}
+
+fn part(text: &Option<Text>) -> &str {
+    match text {
+        Some(text) => text.as_str(),
+        None => "-",
     }
 }
 
@@ -83,47 +102,6 @@ fn shown_edge(alloc: Global, edge: &Dependency) -> Result<String, Fail> {
             Ok(format!(in alloc; " {import} {start}-{end} {text} ! {name}")?)
         }
     }
-}
-
-#[test]
-fn tells_media_types_by_the_ending_of_a_path(rt: HostRuntime) -> Result<(), Fail> {
-    let cases = [
-        ("/a.d.ts", "Dts"),
-        ("/a.d.mts", "Dmts"),
-        ("/a.d.cts", "Dcts"),
-        ("/a.ts", "TypeScript"),
-        ("/A.TS", "TypeScript"),
-        ("/.ts", "TypeScript"),
-        ("/ad.ts", "TypeScript"),
-        ("/a.mts", "Mts"),
-        ("/a.cts", "Cts"),
-        ("/a.tsx", "Tsx"),
-        ("/a.js", "JavaScript"),
-        ("/a.mjs", "Mjs"),
-        ("/a.cjs", "Cjs"),
-        ("/a.jsx", "Jsx"),
-        ("/a.json", "Json"),
-        ("/a.jsonc", "Jsonc"),
-        ("/a.json5", "Json5"),
-        ("/a.wasm", "Wasm"),
-        ("/a.css", "Css"),
-        ("/a.html", "Html"),
-        ("/a.md", "Markdown"),
-        ("/a.sql", "Sql"),
-        ("/a.js.map", "SourceMap"),
-        ("/a.ts/b", "Unknown"),
-        ("/ts", "Unknown"),
-        ("/a.tss", "Unknown"),
-        ("", "Unknown"),
-    ];
-    for (path, want) in cases {
-        assert_eq!(rt;
-            MediaType::of_path(rt.alloc(), path)?.name(),
-            want,
-            "{path}"
-        );
-    }
-    Ok(())
 }
 
 #[test]
@@ -263,6 +241,60 @@ fn makes_modules_of_wasm_and_json(rt: HostRuntime) -> Result<(), Fail> {
 }
 
 #[test]
+fn reads_what_no_loader_is_asked_for(rt: HostRuntime) -> Result<(), Fail> {
+    let cases = [
+        ("npm:@scope/pkg@1.2/sub/x", "npm @scope/pkg 1.2 sub/x"),
+        ("npm:chalk/", "npm chalk - -"),
+        ("npm:chalk@", "PackageReference"),
+        ("jsr:@a/b@^1?x", "jsr @a/b ^1 -"),
+        ("jsr:pkg", "PackageReference"),
+        (
+            "data:application/typescript;base64,aW1wb3J0ICIuL2IudHMiOw==",
+            "TypeScript 16 true 7-15 ./b.ts ! InvalidUrl",
+        ),
+        ("data:application/json,{}", "Json 2"),
+        ("data:text/javascript,%FF", "Decode"),
+        ("data:text/javascript", "DataUrl"),
+        ("data:text/javascript;base64,a", "DataUrl"),
+        ("data:,x", "UnsupportedMediaType"),
+    ];
+    for (specifier, want) in cases {
+        let entry = analyse_unasked(rt.alloc(), &url(rt.alloc(), specifier)?)?;
+        let line = shown(rt.alloc(), &entry)?;
+        assert_eq!(rt; line.as_str(), want, "{specifier}");
+    }
+    Ok(())
+}
+
+#[test]
+fn reads_the_content_type(rt: HostRuntime) -> Result<(), Fail> {
+    let cases = [
+        (
+            "file:///a",
+            "text/javascript; charset=utf-8",
+            "JavaScript 0",
+        ),
+        ("file:///a.mts", "application/typescript", "Mts 0"),
+        ("file:///a.ts", "application/json", "Json 0"),
+        ("file:///a.ts", "text/html", "UnsupportedMediaType"),
+    ];
+    for (specifier, content_type, want) in cases {
+        let mut map = BTreeMap::new(rt.alloc());
+        map.insert(
+            String::from_str(rt.alloc(), "content-type")?,
+            String::from_str(rt.alloc(), content_type)?,
+        )?;
+        let answer = LoadAnswer::Content {
+            headers: Headers::from_map(map),
+            bytes: SharedBytes::from_slice(rt.alloc(), b"")?,
+        };
+        let entry = analyse(rt.alloc(), &url(rt.alloc(), specifier)?, answer)?;
+        assert_eq!(rt; shown(rt.alloc(), &entry)?.as_str(), want, "{specifier}");
+    }
+    Ok(())
+}
+
+#[test]
 fn makes_entries_of_other_answers(rt: HostRuntime) -> Result<(), Fail> {
     let specifier = url(rt.alloc(), "file:///a.ts")?;
     let cases = [
@@ -288,5 +320,6 @@ fn copies_headers(rt: HostRuntime) -> Result<(), Fail> {
     let copy = Headers::from_map(map).copy()?;
     let value = copy.as_map().get("content-type").ok_or("no header")?;
     assert_eq!(rt; value.as_str(), "text/plain");
+    assert_eq!(rt; copy.content_type(), Some("text/plain"));
     Ok(())
 }

@@ -8,6 +8,9 @@ use Rattle.es_tree.specs.declared.site.DependencyKind.{DependencyKind}
 use Rattle.es_tree.specs.declared.site.DependencyKind.TheVariants.{Import, Export, ImportEquals, Dynamic, ReferencePath, ReferenceTypes, Wasm, Referrer}
 use Rattle.es_tree.specs.declared.site.Attribute.{Attribute}
 use Rattle.es_tree.specs.declared.site.Attribute.TheVariants.{Absent, Named, Unknown}
+use Rattle.package_ref.specs.declared.reference.PackageRef.{PackageRef}
+use Rattle.package_ref.specs.declared.reference.PackageKind.{PackageKind}
+use Rattle.package_ref.specs.declared.reference.PackageKind.TheVariants.{Npm, Jsr}
 use Rattle.graph_entry.specs.declared.entry.Dependency.{Dependency}
 use Rattle.graph_entry.specs.declared.entry.Entry.{Entry}
 use Rattle.graph_entry.specs.declared.entry.Entry.TheVariants as entry
@@ -66,12 +69,29 @@ edge_line d =
 
 -- ---- entries
 
+-- the word for a registry
+abbrev pub registry_word : PackageKind → List ℕ
+registry_word Npm = codes "npm"
+registry_word Jsr = codes "jsr"
+
+-- a part of a package that may be absent
+abbrev pub part_word : Option (List ℕ) → List ℕ
+part_word None = codes "-"
+part_word (Some text) = quoted text
+
+-- a package: its registry, its name, its requirement and its sub path
+unfoldable pub package_words : PackageRef → List ℕ
+package_words held =
+    codes "package " ++ registry_word held.kind ++ blank ++ quoted held.name ++ blank ++ part_word held.requirement ++ blank
+    ++ part_word held.sub_path
+
 -- what an entry is
 abbrev pub state : Entry → List ℕ
 state (entry.Redirect target) = codes "redirect " ++ text_of target
 state (entry.Module (made.Js m)) = codes "module " ++ name_of m.media_type ++ blank ++ decimal (length m.text)
 state (entry.Module (made.Json m)) = codes "module Json " ++ decimal (length m.text)
 state (entry.Module (made.Wasm m)) = codes "module Wasm " ++ decimal (length m.bytes)
+state (entry.Package held) = package_words held
 state entry.External = codes "external"
 state (entry.Error e) = codes "error " ++ name_of_error e
 
@@ -81,6 +101,7 @@ edges_of (entry.Redirect target) = []
 edges_of (entry.Module (made.Js m)) = m.dependencies
 edges_of (entry.Module (made.Json m)) = []
 edges_of (entry.Module (made.Wasm m)) = m.dependencies
+edges_of (entry.Package held) = []
 edges_of entry.External = []
 edges_of (entry.Error e) = []
 

@@ -3,12 +3,13 @@ ghost use Rattle.std.specs.Prelude.{◌≡◌, ◌++◌, codes, OnOk, IfOk, stri
 ghost use Rattle.std.specs.List.{flat_map};
 ghost use Rattle.json.specs.Print.{quoted};
 ghost use Rattle.graph_entry.specs.Specifier.{text_of};
-ghost use Rattle.graph_tool.specs.Report.{report_of, root_line, entry_lines, count_line, edge_line, state, edges_of, kind_word, range_word, attribute_word, outcome, line_end};
+ghost use Rattle.graph_tool.specs.Report.{report_of, root_line, entry_lines, count_line, edge_line, state, package_words, registry_word, part_word, edges_of, kind_word, range_word, attribute_word, outcome, line_end};
 ghost use Rattle.graph_tool.specs.Steps.{Adds};
 
-use base::Range;
+use base::{Range, Text};
 use deno_graph::{
-    Attribute, Dependency, DependencyKind, Entry, JsonModule, Module, ModuleGraph, ResolutionError,
+    Attribute, Dependency, DependencyKind, Entry, JsonModule, Module, ModuleGraph, PackageKind,
+    PackageRef, ResolutionError,
 };
 use serde_json::Value;
 use std::alloc::{AllocError, Global};
@@ -79,8 +80,11 @@ fn edges(entry: &Entry) -> &[Dependency]
     match entry {
         Entry::Module(Module::Js(module)) => module.dependencies.as_slice(),
         Entry::Module(Module::Wasm(module)) => module.dependencies.as_slice(),
-        Entry::Module(Module::Json(_)) | Entry::Redirect(_) | Entry::External | Entry::Error(_) =>
-            &[],
+        Entry::Module(Module::Json(_))
+        | Entry::Redirect(_)
+        | Entry::Package(_)
+        | Entry::External
+        | Entry::Error(_) => &[],
     }
 }
 
@@ -104,11 +108,44 @@ fn add_state(alloc: Global, out: &mut String, entry: &Entry) -> Result<(), Alloc
             out.push_str("module Wasm ")?;
             add_number(alloc, out, module.bytes.len())
         }
+        Entry::Package(named) => add_package(alloc, out, named),
         Entry::External => out.push_str("external"),
         Entry::Error(error) => {
             out.push_str("error ")?;
             out.push_str(error.name())
         }
+    }
+}
+
+#[tactic(auto, unfolding(crate::specs::Report::package_words))]
+fn add_package(alloc: Global, out: &mut String, named: &PackageRef) -> Result<(), AllocError>
+    ensures { OnOk result (Adds out.old out.new (package_words named.now)) }
+{
+    out.push_str("package ")?;
+    out.push_str(registry_name(named.kind))?;
+    out.push_str(" ")?;
+    add_quoted(alloc, out, named.name.as_str())?;
+    out.push_str(" ")?;
+    add_part(alloc, out, &named.requirement)?;
+    out.push_str(" ")?;
+    add_part(alloc, out, &named.sub_path)
+}
+
+fn registry_name(kind: PackageKind) -> &'static str
+    ensures { result.now ≡ registry_word kind }
+{
+    match kind {
+        PackageKind::Npm => "npm",
+        PackageKind::Jsr => "jsr",
+    }
+}
+
+fn add_part(alloc: Global, out: &mut String, part: &Option<Text>) -> Result<(), AllocError>
+    ensures { OnOk result (Adds out.old out.new (part_word part.now)) }
+{
+    match part {
+        None => out.push_str("-"),
+        Some(text) => add_quoted(alloc, out, text.as_str()),
     }
 }
 

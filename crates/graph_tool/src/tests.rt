@@ -76,7 +76,7 @@ fn rows_of_the_first_path(rt: HostRuntime) -> Result<(), Fail> {
         ),
         (
             r#"{"roots":["npm:x"],"modules":[]}"#,
-            "0 root npm:x\nnpm:x error NotBuilt\nentries 1\n",
+            "0 root npm:x\nnpm:x package npm \"x\" - -\nentries 1\n",
         ),
         (r#"{"modules":[],"roots":[]}"#, "0 entries 0\n"),
         ("[", "2 error NotJson\n"),

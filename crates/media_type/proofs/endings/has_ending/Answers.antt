@@ -1,5 +1,5 @@
 use Rattle.std.proofs.lemmas.Str.Pattern.{ends_text}
-use Rattle.graph_entry.proofs.media_type.has_ending.Goals as goal
+use Rattle.media_type.proofs.endings.has_ending.Goals as goal
 
 pub returns : goal.returns
 returns c = ends_text _ _ _ c.ends_with.ensures.cases

@@ -1,0 +1,61 @@
+//! Specifiers that no loader is asked for.
+ghost use Rattle.std.specs.Prelude.{◌≡◌, None, Ok, IfOk};
+ghost use Rattle.data_specifier.specs.Data.{data_of};
+ghost use Rattle.graph_entry.specs.Specifier.{text_of};
+ghost use Rattle.graph_entry.specs.Analysed.{Analysed, OfData, OfPackage};
+
+use crate::analysis::analyse_as;
+use crate::entry::{Entry, ModuleError};
+use crate::resolution::read_again;
+use crate::specifier::begins;
+use base::SharedBytes;
+use data_specifier::{DataError, DataModule, parse_data_text};
+use media_type::MediaType;
+use package_ref::{PackageError, parse_package_ref};
+use std::alloc::{AllocError, Global};
+use url::Url;
+
+/// The entry of a specifier that no loader is asked for: what a `data:` URL holds, or else the package that the
+/// specifier names.
+#[tactic(auto, unfolding(crate::specs::Analysed::Analysed, crate::specs::Specifier::text_of))]
+pub fn analyse_unasked(alloc: Global, specifier: &Url) -> Result<Entry, AllocError>
+    ensures { IfOk result (λ made. Analysed (text_of specifier.now) None made) }
+{
+    if begins(specifier.as_str(), "data:") {
+        analyse_data(alloc, specifier)
+    } else {
+        analyse_package(alloc, specifier)
+    }
+}
+
+#[tactic(auto, unfolding(crate::specs::Specifier::text_of))]
+fn analyse_data(alloc: Global, specifier: &Url) -> Result<Entry, AllocError>
+    ensures { IfOk result (OfData (text_of specifier.now) (data_of (text_of specifier.now))) }
+{
+    match parse_data_text(alloc, specifier.as_str()) {
+        Ok(held) => analyse_held(alloc, specifier, held),
+        Err(DataError::OutOfMemory) => Err(AllocError),
+        Err(error) => Ok(Entry::Error(ModuleError::DataUrl(error))),
+    }
+}
+
+// The media type that is held stands for a content type.
+fn analyse_held(alloc: Global, specifier: &Url, held: DataModule) -> Result<Entry, AllocError>
+    ensures { IfOk result (OfData (text_of specifier.now) (Ok held)) }
+{
+    let base = read_again(alloc, specifier)?;
+    let media_type = MediaType::Unknown.with_content_type(alloc, held.mime.as_str())?;
+    let bytes = SharedBytes::from_vec(held.body.into_vec())?;
+    analyse_as(alloc, specifier, &base, media_type, bytes)
+}
+
+#[tactic(auto, unfolding(crate::specs::Specifier::text_of))]
+fn analyse_package(alloc: Global, specifier: &Url) -> Result<Entry, AllocError>
+    ensures { IfOk result (OfPackage (text_of specifier.now)) }
+{
+    match parse_package_ref(alloc, specifier) {
+        Ok(package) => Ok(Entry::Package(package)),
+        Err(PackageError::NotAReference) => Ok(Entry::Error(ModuleError::PackageReference)),
+        Err(PackageError::OutOfMemory) => Err(AllocError),
+    }
+}
