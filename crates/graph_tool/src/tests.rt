@@ -139,6 +139,45 @@ fn rows_of_other_media_types(rt: HostRuntime) -> Result<(), Fail> {
 }
 
 #[test]
+fn rows_of_packages_and_data(rt: HostRuntime) -> Result<(), Fail> {
+    let rows = [
+        (
+            "npm:@scope/pkg@1.2/sub/x",
+            r#"package npm "@scope/pkg" "1.2" "sub/x""#,
+        ),
+        ("jsr:pkg", "error PackageReference"),
+        ("npm:chalk@", "error PackageReference"),
+        ("npm:chalk/", r#"package npm "chalk" - -"#),
+        ("jsr:@a/b@^1?x", r#"package jsr "@a/b" "^1" -"#),
+        (
+            "data:application/typescript;base64,aW1wb3J0ICIuL2IudHMiOw==",
+            "module TypeScript 16\n  import 7-15 \"./b.ts\" - ! InvalidUrl",
+        ),
+        ("data:text/javascript", "error DataUrl"),
+        ("data:text/javascript;base64,a", "error DataUrl"),
+        ("data:,x", "error UnsupportedMediaType"),
+    ];
+    for (root, state) in rows {
+        let input = format!(in rt.alloc(); r#"{{"roots":["{root}"],"modules":[]}}"#)?;
+        let want = format!(in rt.alloc(); "0 root {root}\n{root} {state}\nentries 1\n")?;
+        assert_eq!(rt; built(rt.alloc(), input.as_str(), 65_536)?, want);
+    }
+    Ok(())
+}
+
+#[test]
+fn header_decides_the_media_type(rt: HostRuntime) -> Result<(), Fail> {
+    let input = r#"{"roots":["file:///a"],"modules":[{"specifier":"file:///a",
+"headers":{"Content-Type":"text/plain","content-type":"text/javascript; charset=utf-8"},"text":"import \"./b.ts\";"}]}"#;
+    let got = built(rt.alloc(), input, 65_536)?;
+    assert!(rt;
+        got.as_str()
+            .starts_with("0 root file:///a\nfile:///a module JavaScript 16\n")
+    );
+    Ok(())
+}
+
+#[test]
 fn other_words_get_the_usage_line(rt: HostRuntime) -> Result<(), Fail> {
     let alloc = rt.alloc();
     let mut source = MemorySource::new(ROW.as_bytes().to_vec(alloc)?, 9, Vec::new(alloc));
