@@ -214,7 +214,7 @@ one_body text other r s kind e of_r of_s =
     one_package r s kind cut.0 behind.0 behind.1
 
 -- a scheme is read in one way
-one_scheme : (k l : PackageKind) (a b : List ℕ) → scheme_of k ++ a ≡ scheme_of l ++ b → (k ≡ l) × (a ≡ b)
+pub one_scheme : (k l : PackageKind) (a b : List ℕ) → scheme_of k ++ a ≡ scheme_of l ++ b → (k ≡ l) × (a ≡ b)
 one_scheme Npm Npm a b e = (refl, append_cancel_left (scheme_of Npm) a b e)
 one_scheme Jsr Jsr a b e = (refl, append_cancel_left (scheme_of Jsr) a b e)
 one_scheme Npm Jsr a b e = absurd (no_both (λ b. b == 110) 110 106 refl refl (heads 110 106 _ _ e))

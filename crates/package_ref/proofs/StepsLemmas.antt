@@ -147,29 +147,31 @@ read_name-whole Npm name a (scoped scope part s p is) stop = rw (is, read_scoped
 read_name-whole Jsr name a (scoped scope part s p is) stop = rw (is, read_scoped-whole scope part a s p stop) refl
 
 -- what a reading of a name says
-record IsReadName (kind : PackageKind) (text name rest : List ℕ) : Type 0 where
+pub record IsReadName (kind : PackageKind) (text name rest : List ℕ) : Type 0 where
   pub name_is : IsName kind name
   pub whole : text ≡ name ++ rest
 
-read_scoped_is : (kind : PackageKind) (text name rest : List ℕ) → read_scoped text ≡ Some (name, rest) → IsReadName kind text name rest
+pub read_scoped_is : (kind : PackageKind) (text name rest : List ℕ) → read_scoped text ≡ Some (name, rest) → IsReadName kind text name rest
 unfolding read_scoped
 read_scoped_is kind text name rest e =
-    let a = then_is _ _ _ _ e in
-    let b = then_is _ _ _ _ a.second_is in
-    let c = then_is _ _ _ _ b.second_is in
-    let d = then_is _ _ _ _ c.second_is in
+    let all = then_is _ _ name rest e in
+    let one = then_is _ _ all.passed all.middle all.first_is in
+    let two = then_is _ _ all.passed all.middle one.second_is in
+    let a = then_is _ _ one.passed one.middle one.first_is in
+    let c = then_is _ _ two.passed two.middle two.first_is in
     let at = read_char_is 64 a.passed text a.middle a.first_is in
-    let scope = read_run_is is_of_part a.middle b.passed b.middle b.first_is in
-    let slash = read_char_is 47 c.passed b.middle c.middle c.first_is in
-    let part = read_run_is is_of_part c.middle d.passed d.middle d.first_is in
-    let value = value_same _ _ _ _ d.second_is in
-    let left = rest_same _ _ _ _ d.second_is in
-    let behind : b.middle ≡ 47 ∷ (d.passed ++ rest)
-    = slash ∙ ap (λ t. 47 ∷ t) part.whole ∙ ap (λ t. 47 ∷ (d.passed ++ t)) left in
+    let scope = read_run_is is_of_part a.middle one.passed one.middle a.second_is in
+    let slash = read_char_is 47 c.passed one.middle c.middle c.first_is in
+    let part = read_run_is is_of_part c.middle two.passed two.middle c.second_is in
+    let both_is = value_same (one.passed, two.passed) all.passed two.middle all.middle two.second_is in
+    let value = ap (λ (v : List ℕ × List ℕ). 64 ∷ v.0 ++ 47 ∷ v.1) both_is ∙ value_same _ _ _ _ all.second_is in
+    let left = rest_same _ _ _ _ two.second_is ∙ rest_same _ _ _ _ all.second_is in
+    let behind : one.middle ≡ 47 ∷ (two.passed ++ rest)
+    = slash ∙ ap (λ t. 47 ∷ t) part.whole ∙ ap (λ t. 47 ∷ (two.passed ++ t)) left in
     record {
-      name_is = scoped b.passed d.passed scope.run part.run (sym value);
-      whole = at ∙ ap (λ t. 64 ∷ t) scope.whole ∙ ap (λ t. 64 ∷ (b.passed ++ t)) behind
-          ∙ ap (λ t. 64 ∷ t) (sym (append_assoc b.passed (47 ∷ d.passed) rest)) ∙ ap (λ t. t ++ rest) value;
+      name_is = scoped one.passed two.passed scope.run part.run (sym value);
+      whole = at ∙ ap (λ t. 64 ∷ t) scope.whole ∙ ap (λ t. 64 ∷ (one.passed ++ t)) behind
+          ∙ ap (λ t. 64 ∷ t) (sym (append_assoc one.passed (47 ∷ two.passed) rest)) ∙ ap (λ t. t ++ rest) value;
     }
 
 -- by whether it is scoped

@@ -1,6 +1,8 @@
 ghost use Rattle.std.specs.Prelude.{◌≡◌};
 ghost use Rattle.package_ref.specs.declared.error.PackageError.TheVariants.{OutOfMemory};
+ghost use Rattle.package_ref.specs.Faults.{fault_of};
 
+use monch::ParseError;
 use std::alloc::AllocError;
 use thiserror::Error;
 
@@ -19,5 +21,16 @@ impl From<AllocError> for PackageError {
 
     fn from(_e: AllocError) -> PackageError {
         PackageError::OutOfMemory
+    }
+}
+
+impl<'a> From<ParseError<'a>> for PackageError {
+    ghost from_gives = { λ e fault. fault ≡ fault_of e };
+
+    fn from(error: ParseError<'a>) -> PackageError {
+        match error {
+            ParseError::Backtrace | ParseError::Failure(_) => PackageError::NotAReference,
+            ParseError::OutOfMemory => PackageError::OutOfMemory,
+        }
     }
 }

@@ -10,6 +10,7 @@
 #![tactic(auto)]
 
 mod error;
+mod grammar;
 mod parse;
 mod reference;
 
