@@ -7,7 +7,7 @@ use Rattle.monch_core.specs.Suffix.{IsSuffix-trans, success_is_not_refused}
 use Rattle.monch_core.specs.declared.error.ParseError.{ParseError}
 use Rattle.monch_core.specs.Outcome.{Meaning, Outcome, success, refused, IsSuffix, LeavesSuffix}
 use Rattle.monch.specs.Calls.{GivesCall, AnswersSuffix}
-use Rattle.monch.specs.Parts.{GivesPair, GivesPreceded, GivesFirst, GivesMaybe}
+use Rattle.monch.specs.Parts.{GivesPair, GivesPreceded, GivesTerminated, GivesFirst, GivesMaybe}
 
 -- the rest of a success, or else the text given
 abbrev pub rest_of : {A : Type 0} → List ℕ → Outcome A → List ℕ
@@ -42,3 +42,8 @@ pub GivesCall-suffix : {F O : Type 0} (calls : Shared F (Bor (List ℕ) × Unit 
     → AnswersSuffix calls f → LeavesSuffix (GivesCall calls f)
 GivesCall-suffix calls f answers text rest value (Ok p, called, is) = subst (λ x. IsSuffix x text) (ap (rest_of text) is) (answers text (Ok p) called)
 GivesCall-suffix calls f answers text rest value (Err e, called, is) = elim (success_is_not_refused (sym is)) [ ]
+
+pub GivesTerminated-suffix : {A B : Type 0} (first : Meaning A) (second : Meaning B)
+    → LeavesSuffix first → LeavesSuffix second → LeavesSuffix (GivesTerminated first second)
+GivesTerminated-suffix first second of_first of_second text rest value given =
+    IsSuffix-trans (of_second _ _ _ given.3) (of_first _ _ _ given.2)

@@ -1,7 +1,10 @@
-ghost use Rattle.std.specs.Prelude.{◌≡◌, ℕ, Bool, nat_eq, not, length, string_bytes, vec_len};
-ghost use Rattle.monch.specs.Parts.{GivesIf};
+ghost use Rattle.std.specs.Prelude.{◌≡◌, ℕ, Bool, nat_eq, not, length, string_bytes, vec_len, []};
+ghost use Rattle.std.proofs.Common.{sym};
+ghost use Rattle.std.specs.Fn.{FnReturnsAt};
+ghost use Rattle.monch.specs.Parts.{GivesIf, GivesNot};
 
 use monch_core::{Combinator, ParseError, ParseResult};
+use std::marker::PhantomData;
 
 /// What may hold nothing.
 pub trait IsEmptyable {
@@ -46,7 +49,7 @@ impl<'a, O: IsEmptyable + Drop, A: Combinator<'a, Output = O>> Combinator<'a> fo
 
     ghost can_parse = { λ s. A.can_parse s.part };
 
-    ghost gives = { λ s text outcome. GivesIf (A.gives s.part) (λ value yes. O.holds_nothing value ≡ not yes) text outcome };
+    ghost gives = { λ s text outcome. GivesIf (A.gives s.part) (λ value answer. O.holds_nothing value ≡ not answer) text outcome };
 
     fn parse(&self, input: &'a str) -> ParseResult<'a, O> {
         let (rest, value) = self.part.parse(input)?;
@@ -57,4 +60,54 @@ impl<'a, O: IsEmptyable + Drop, A: Combinator<'a, Output = O>> Combinator<'a> fo
     }
 
     ghost leaves_suffix = { λ s can text rest value given. A.leaves_suffix s.part can _ _ _ given.0 };
+}
+
+#[derive(Drop)]
+pub struct IfTrue<A, F> {
+    pub(crate) part: A,
+    pub(crate) condition: F,
+}
+
+impl<'a, O: Drop, A: Combinator<'a, Output = O>, F: Fn(&O) -> bool> Combinator<'a>
+    for IfTrue<A, F>
+{
+    type Output = O;
+
+    ghost can_parse = { λ s. A.can_parse s.part × F.IsAlwaysCallable s.condition };
+
+    ghost gives = { λ s text outcome. GivesIf (A.gives s.part) (FnReturnsAt F.Fn s.condition) text outcome };
+
+    fn parse(&self, input: &'a str) -> ParseResult<'a, O> {
+        let (rest, value) = self.part.parse(input)?;
+        if !(self.condition)(&value) {
+            return Err(ParseError::Backtrace);
+        }
+        Ok((rest, value))
+    }
+
+    ghost leaves_suffix = { λ s can text rest value given. A.leaves_suffix s.part can.0 _ _ _ given.0 };
+}
+
+#[derive(Drop)]
+pub struct CheckNot<'a, A> {
+    pub(crate) part: A,
+    pub(crate) of: PhantomData<&'a str>,
+}
+
+impl<'a, O: Drop, A: Combinator<'a, Output = O>> Combinator<'a> for CheckNot<'a, A> {
+    type Output = ();
+
+    ghost can_parse = { λ s. A.can_parse s.part };
+
+    ghost gives = { λ s text outcome. GivesNot (A.gives s.part) text outcome };
+
+    fn parse(&self, input: &'a str) -> ParseResult<'a, ()> {
+        match self.part.parse(input) {
+            Ok(_) => Err(ParseError::Backtrace),
+            Err(ParseError::OutOfMemory) => Err(ParseError::OutOfMemory),
+            Err(_) => Ok((input, ())),
+        }
+    }
+
+    ghost leaves_suffix = { λ s can text rest value given. ([], sym given.0) };
 }

@@ -1,8 +1,11 @@
-ghost use Rattle.std.specs.Prelude.{⊤};
+ghost use Rattle.std.specs.Prelude.{⊤, ◌↔◌, IsTrue, Contains};
 ghost use Rattle.std.proofs.Common.{rules};
-ghost use Rattle.monch.specs.Leaves.{GivesChar};
+ghost use Rattle.std.specs.Str.{chars};
+ghost use Rattle.monch.specs.Leaves.{GivesChar, GivesOneOf};
 
 use monch_core::{Combinator, ParseError, ParseResult};
+
+use crate::text::split_first_char;
 
 #[derive(Drop)]
 pub struct Ch {
@@ -20,6 +23,35 @@ impl<'a> Combinator<'a> for Ch {
         match input.strip_prefix(self.character) {
             Some(rest) => Ok((rest, self.character)),
             None => Err(ParseError::Backtrace),
+        }
+    }
+
+    ghost leaves_suffix = { λ s can text rest value given. (_, given.1) };
+}
+
+#[derive(Drop)]
+pub struct OneOf<'m> {
+    pub(crate) characters: &'m str,
+}
+
+// Whether the text has this character.
+fn has_character(text: &str, character: char) -> bool
+    ensures { IsTrue result ↔ Contains (chars text.now) character }
+{
+    text.chars().any(|c| c == character)
+}
+
+impl<'a, 'm> Combinator<'a> for OneOf<'m> {
+    type Output = char;
+
+    ghost can_parse = { λ s. ⊤ };
+
+    ghost gives = { λ s text outcome. GivesOneOf (chars s.characters.now) text outcome };
+
+    fn parse(&self, input: &'a str) -> ParseResult<'a, char> {
+        match split_first_char(input) {
+            Some((first, rest)) if has_character(self.characters, first) => Ok((rest, first)),
+            _ => Err(ParseError::Backtrace),
         }
     }
 

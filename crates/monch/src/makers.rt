@@ -1,13 +1,18 @@
 ghost use Rattle.std.specs.Prelude.{◌≡◌};
 
+use crate::alternatives::{Or3, Or4, Or5, Or6, Or7};
+use crate::asserts::{Assert, AssertExists};
 use crate::choices::{Maybe, Or};
-use crate::conditions::IfNotEmpty;
+use crate::conditions::{CheckNot, IfNotEmpty, IfTrue};
+use crate::failures::{WithErrorContext, WithFailureInput};
 use crate::functions::FnCombinator;
-use crate::leaves::Ch;
-use crate::pairs::{Pair, Preceded};
+use crate::handling::{MapRes, WithFailureHandling};
+use crate::leaves::{Ch, OneOf};
+use crate::pairs::{Delimited, Pair, Preceded, Terminated};
 use crate::tags::{Tag, TagOwned};
 use crate::values::{Map, Substring};
-use crate::whiles::{SkipWhile, TakeWhile};
+use crate::whiles::{SkipWhile, SkipWhileByte, TakeWhile, TakeWhileByte};
+use std::alloc::Global;
 use std::marker::PhantomData;
 
 /// The first character, where it is this one.
@@ -112,4 +117,236 @@ pub fn if_not_empty<A>(part: A) -> IfNotEmpty<A>
     ensures { result ≡ record { part = part } }
 {
     IfNotEmpty { part }
+}
+
+/// The first character, where it is one of those of this text.
+pub fn one_of(value: &str) -> OneOf<'_>
+    ensures { result.characters.now ≡ value.now }
+{
+    OneOf { characters: value }
+}
+
+/// The first, then the second on its rest, and the value of the first.
+pub fn terminated<'a, A, B>(first: A, second: B) -> Terminated<'a, A, B>
+    ensures first { result.first ≡ first }
+    ensures second { result.second ≡ second }
+{
+    Terminated {
+        first,
+        second,
+        of: PhantomData,
+    }
+}
+
+/// The three, each on the rest of the one before, and the value of the second.
+pub fn delimited<'a, A, B, C>(first: A, second: B, third: C) -> Delimited<'a, A, B, C>
+    ensures first { result.first ≡ first }
+    ensures second { result.second ≡ second }
+    ensures third { result.third ≡ third }
+{
+    Delimited {
+        first,
+        second,
+        third,
+        of: PhantomData,
+    }
+}
+
+/// Skips the longest front of bytes on which the condition holds. It may hold of no byte from 0x80 on.
+pub fn skip_while_byte<F>(condition: F) -> SkipWhileByte<F>
+    ensures { result ≡ record { condition = condition } }
+{
+    SkipWhileByte { condition }
+}
+
+/// The longest front of bytes on which the condition holds. It may hold of no byte from 0x80 on.
+pub fn take_while_byte<F>(condition: F) -> TakeWhileByte<F>
+    ensures { result ≡ record { condition = condition } }
+{
+    TakeWhileByte { condition }
+}
+
+/// The part's value where the condition holds of it, else a backtrack.
+pub fn if_true<A, F>(part: A, condition: F) -> IfTrue<A, F>
+    ensures { result ≡ record { part = part; condition = condition } }
+{
+    IfTrue { part, condition }
+}
+
+/// Nothing, with nothing taken, where the part backtracks or fails. A backtrack where it succeeds.
+pub fn check_not<'a, A>(part: A) -> CheckNot<'a, A>
+    ensures { result.part ≡ part }
+{
+    CheckNot {
+        part,
+        of: PhantomData,
+    }
+}
+
+/// The part, with this text in place of that of its failure.
+pub fn with_failure_input<'a, A>(new_input: &'a str, part: A) -> WithFailureInput<'a, A>
+    ensures input { result.input.now ≡ new_input.now }
+    ensures part { result.part ≡ part }
+{
+    WithFailureInput {
+        input: new_input,
+        part,
+    }
+}
+
+/// The part, with this message and an empty line above the message of its failure.
+pub fn with_error_context<'a, A>(
+    alloc: Global,
+    part: A,
+    message: &'a str,
+) -> WithErrorContext<'a, A>
+    ensures part { result.part ≡ part }
+    ensures message { result.message.now ≡ message.now }
+{
+    WithErrorContext {
+        alloc,
+        part,
+        message,
+    }
+}
+
+/// The first alternative that does not backtrack.
+pub fn or3<A, B, C>(
+    first: A,
+    second: B,
+    third: C,
+) -> Or3<A, B, C>
+    ensures first { result.first ≡ first }
+    ensures second { result.rest.first ≡ second }
+    ensures third { result.rest.second ≡ third }
+{
+    Or3 {
+        first,
+        rest: or(second, third),
+    }
+}
+
+/// The first alternative that does not backtrack.
+pub fn or4<A, B, C, D>(
+    first: A,
+    second: B,
+    third: C,
+    fourth: D,
+) -> Or4<A, B, C, D>
+    ensures first { result.first ≡ first }
+    ensures second { result.rest.first ≡ second }
+    ensures third { result.rest.rest.first ≡ third }
+    ensures fourth { result.rest.rest.second ≡ fourth }
+{
+    Or4 {
+        first,
+        rest: or3(second, third, fourth),
+    }
+}
+
+/// The first alternative that does not backtrack.
+pub fn or5<A, B, C, D, E>(
+    first: A,
+    second: B,
+    third: C,
+    fourth: D,
+    fifth: E,
+) -> Or5<A, B, C, D, E>
+    ensures first { result.first ≡ first }
+    ensures second { result.rest.first ≡ second }
+    ensures third { result.rest.rest.first ≡ third }
+    ensures fourth { result.rest.rest.rest.first ≡ fourth }
+    ensures fifth { result.rest.rest.rest.second ≡ fifth }
+{
+    Or5 {
+        first,
+        rest: or4(second, third, fourth, fifth),
+    }
+}
+
+/// The first alternative that does not backtrack.
+pub fn or6<A, B, C, D, E, F>(
+    first: A,
+    second: B,
+    third: C,
+    fourth: D,
+    fifth: E,
+    sixth: F,
+) -> Or6<A, B, C, D, E, F>
+    ensures first { result.first ≡ first }
+    ensures second { result.rest.first ≡ second }
+    ensures third { result.rest.rest.first ≡ third }
+    ensures fourth { result.rest.rest.rest.first ≡ fourth }
+    ensures fifth { result.rest.rest.rest.rest.first ≡ fifth }
+    ensures sixth { result.rest.rest.rest.rest.second ≡ sixth }
+{
+    Or6 {
+        first,
+        rest: or5(second, third, fourth, fifth, sixth),
+    }
+}
+
+/// The first alternative that does not backtrack.
+pub fn or7<A, B, C, D, E, F, G>(
+    first: A,
+    second: B,
+    third: C,
+    fourth: D,
+    fifth: E,
+    sixth: F,
+    seventh: G,
+) -> Or7<A, B, C, D, E, F, G>
+    ensures first { result.first ≡ first }
+    ensures second { result.rest.first ≡ second }
+    ensures third { result.rest.rest.first ≡ third }
+    ensures fourth { result.rest.rest.rest.first ≡ fourth }
+    ensures fifth { result.rest.rest.rest.rest.first ≡ fifth }
+    ensures sixth { result.rest.rest.rest.rest.rest.first ≡ sixth }
+    ensures seventh { result.rest.rest.rest.rest.rest.second ≡ seventh }
+{
+    Or7 {
+        first,
+        rest: or6(second, third, fourth, fifth, sixth, seventh),
+    }
+}
+
+/// What the function makes of the part's whole result.
+pub fn map_res<A, F>(part: A, function: F) -> MapRes<A, F>
+    ensures { result ≡ record { part = part; function = function } }
+{
+    MapRes { part, function }
+}
+
+/// The part where the condition holds of its result. Else a failure: one of the part has this message above its own, and
+/// any other result fails at the text. The condition isn't asked about want of memory.
+pub fn assert<'a, A, F>(alloc: Global, part: A, condition: F, message: &'a str) -> Assert<'a, A, F>
+    ensures part { result.part ≡ part }
+    ensures condition { result.condition ≡ condition }
+    ensures message { result.message.now ≡ message.now }
+{
+    Assert {
+        alloc,
+        part,
+        condition,
+        message,
+    }
+}
+
+/// The part where it succeeds, else a failure, as `assert` makes it.
+pub fn assert_exists<'a, A>(alloc: Global, part: A, message: &'a str) -> AssertExists<'a, A>
+    ensures part { result.part ≡ part }
+    ensures message { result.message.now ≡ message.now }
+{
+    AssertExists {
+        alloc,
+        part,
+        message,
+    }
+}
+
+/// Reads a whole text with the part, and tells what is wrong with it.
+pub fn with_failure_handling<A>(alloc: Global, part: A) -> WithFailureHandling<A>
+    ensures { result.part ≡ part }
+{
+    WithFailureHandling { alloc, part }
 }

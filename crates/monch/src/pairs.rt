@@ -1,5 +1,5 @@
-ghost use Rattle.monch.specs.Parts.{GivesPair, GivesPreceded};
-ghost use Rattle.monch.specs.Suffix.{GivesPair-suffix, GivesPreceded-suffix};
+ghost use Rattle.monch.specs.Parts.{GivesPair, GivesPreceded, GivesTerminated, GivesDelimited};
+ghost use Rattle.monch.specs.Suffix.{GivesPair-suffix, GivesPreceded-suffix, GivesTerminated-suffix};
 
 use monch_core::{Combinator, ParseResult};
 use std::marker::PhantomData;
@@ -51,4 +51,66 @@ impl<'a, O: Drop, A: Combinator<'a, Output = O>, B: Combinator<'a>> Combinator<'
     }
 
     ghost leaves_suffix = { λ s can. GivesPreceded-suffix (A.gives s.first) (B.gives s.second) (A.leaves_suffix s.first can.0) (B.leaves_suffix s.second can.1) };
+}
+
+#[derive(Drop)]
+pub struct Terminated<'a, A, B> {
+    pub(crate) first: A,
+    pub(crate) second: B,
+    pub(crate) of: PhantomData<&'a str>,
+}
+
+impl<'a, A: Combinator<'a>, O: Drop, B: Combinator<'a, Output = O>> Combinator<'a>
+    for Terminated<'a, A, B>
+where
+    A::Output: Drop,
+{
+    type Output = A::Output;
+
+    ghost can_parse = { λ s. A.can_parse s.first × B.can_parse s.second };
+
+    ghost gives = { λ s text outcome. GivesTerminated (A.gives s.first) (B.gives s.second) text outcome };
+
+    fn parse(&self, input: &'a str) -> ParseResult<'a, A::Output> {
+        let (rest, value) = self.first.parse(input)?;
+        let (rest, _) = self.second.parse(rest)?;
+        Ok((rest, value))
+    }
+
+    ghost leaves_suffix = { λ s can. GivesTerminated-suffix (A.gives s.first) (B.gives s.second) (A.leaves_suffix s.first can.0) (B.leaves_suffix s.second can.1) };
+}
+
+#[derive(Drop)]
+pub struct Delimited<'a, A, B, C> {
+    pub(crate) first: A,
+    pub(crate) second: B,
+    pub(crate) third: C,
+    pub(crate) of: PhantomData<&'a str>,
+}
+
+impl<
+    'a,
+    O: Drop,
+    A: Combinator<'a, Output = O>,
+    B: Combinator<'a>,
+    P: Drop,
+    C: Combinator<'a, Output = P>,
+> Combinator<'a> for Delimited<'a, A, B, C>
+where
+    B::Output: Drop,
+{
+    type Output = B::Output;
+
+    ghost can_parse = { λ s. A.can_parse s.first × B.can_parse s.second × C.can_parse s.third };
+
+    ghost gives = { λ s text outcome. GivesDelimited (A.gives s.first) (B.gives s.second) (C.gives s.third) text outcome };
+
+    fn parse(&self, input: &'a str) -> ParseResult<'a, B::Output> {
+        let (rest, _) = self.first.parse(input)?;
+        let (rest, value) = self.second.parse(rest)?;
+        let (rest, _) = self.third.parse(rest)?;
+        Ok((rest, value))
+    }
+
+    ghost leaves_suffix = { λ s can. GivesPreceded-suffix (A.gives s.first) (GivesTerminated (B.gives s.second) (C.gives s.third)) (A.leaves_suffix s.first can.0) (GivesTerminated-suffix (B.gives s.second) (C.gives s.third) (B.leaves_suffix s.second can.1) (C.leaves_suffix s.third can.2)) };
 }

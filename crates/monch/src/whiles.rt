@@ -1,11 +1,11 @@
 ghost use Rattle.std.specs.Prelude.{◌≡◌, ◌++◌};
-ghost use Rattle.monch.specs.Leaves.{GivesSkipWhile, GivesTakeWhile, IsPassingFront};
+ghost use Rattle.monch.specs.Leaves.{GivesSkipWhile, GivesTakeWhile, IsPassingFront, GivesSkipBytes, GivesTakeBytes, IsPassingBytes, PassesOnlyAscii};
 
 use crate::text::{split_first_char, taken};
 use monch_core::{Combinator, ParseResult};
 
 // What is left behind the longest front of characters that pass.
-fn behind_passing<'a, F: Fn(char) -> bool>(text: &'a str, passes: &F) -> &'a str
+pub(crate) fn behind_passing<'a, F: Fn(char) -> bool>(text: &'a str, passes: &F) -> &'a str
     requires { F.IsAlwaysCallable passes.now }
     ensures { (front : _) × IsPassingFront (F.post passes.now) text.now front result.now }
 {
@@ -52,6 +52,62 @@ impl<'a, F: Fn(char) -> bool> Combinator<'a> for TakeWhile<F> {
 
     fn parse(&self, input: &'a str) -> ParseResult<'a, &'a str> {
         let rest = behind_passing(input, &self.condition);
+        Ok((rest, taken(input, rest)))
+    }
+
+    ghost leaves_suffix = { λ s can text rest value given. (_, given.split) };
+}
+
+// What is left behind the longest front of bytes that pass.
+fn behind_passing_bytes<'a, F: Fn(u8) -> bool>(text: &'a str, passes: &F) -> &'a str
+    requires callable { F.IsAlwaysCallable passes.now }
+    requires ascii { PassesOnlyAscii (F.post passes.now) }
+    ensures { (front : _) × IsPassingBytes (F.post passes.now) text.now front result.now }
+{
+    let bytes = text.as_bytes();
+    let mut end = 0;
+    while end < bytes.len() {
+        if !passes(bytes[end]) {
+            break;
+        }
+        end += 1;
+    }
+    &text[end..]
+}
+
+#[derive(Drop)]
+pub struct SkipWhileByte<F> {
+    pub(crate) condition: F,
+}
+
+impl<'a, F: Fn(u8) -> bool> Combinator<'a> for SkipWhileByte<F> {
+    type Output = ();
+
+    ghost can_parse = { λ s. F.IsAlwaysCallable s.condition × PassesOnlyAscii (F.post s.condition) };
+
+    ghost gives = { λ s text outcome. GivesSkipBytes (F.post s.condition) text outcome };
+
+    fn parse(&self, input: &'a str) -> ParseResult<'a, ()> {
+        Ok((behind_passing_bytes(input, &self.condition), ()))
+    }
+
+    ghost leaves_suffix = { λ s can text rest value given. (given.0, given.1.split) };
+}
+
+#[derive(Drop)]
+pub struct TakeWhileByte<F> {
+    pub(crate) condition: F,
+}
+
+impl<'a, F: Fn(u8) -> bool> Combinator<'a> for TakeWhileByte<F> {
+    type Output = &'a str;
+
+    ghost can_parse = { λ s. F.IsAlwaysCallable s.condition × PassesOnlyAscii (F.post s.condition) };
+
+    ghost gives = { λ s text outcome. GivesTakeBytes (F.post s.condition) text outcome };
+
+    fn parse(&self, input: &'a str) -> ParseResult<'a, &'a str> {
+        let rest = behind_passing_bytes(input, &self.condition);
         Ok((rest, taken(input, rest)))
     }
 

@@ -1,5 +1,5 @@
 -- What a failure is told as.
-use Rattle.std.specs.Prelude.{◌≡◌, ◌⊎◌, ℕ, List, ◌++◌, codes, take, Some, ⊤}
+use Rattle.std.specs.Prelude.{◌≡◌, ◌⊎◌, ℕ, List, [], ◌∷◌, ◌++◌, codes, take, Some, ⊤}
 use Rattle.std.specs.Str.{chars, encode_utf8_all}
 use Rattle.monch_core.specs.declared.error.ParseErrorFailureError.{ParseErrorFailureError}
 use Rattle.monch_core.specs.declared.error.HandledError.{HandledError}
@@ -16,7 +16,7 @@ trailing_message = codes "Unexpected character."
 
 -- a message with one above it, and an empty line between
 abbrev pub below : List ℕ → List ℕ → List ℕ
-below context message = context ++ codes "\n\n" ++ message
+below context message = context ++ 10 ∷ 10 ∷ [] ++ message
 
 -- the failure with this message, and the first characters of this text
 pub record IsToldAs (input told : List ℕ) (error : ParseErrorFailureError) : Type 0 where

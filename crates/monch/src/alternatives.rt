@@ -1,0 +1,163 @@
+ghost use Rattle.std.specs.Prelude.{[], ◌∷◌};
+ghost use Rattle.monch.specs.Parts.{GivesFirst};
+ghost use Rattle.monch.specs.Suffix.{GivesFirst-suffix};
+
+use monch_core::{Combinator, ParseError, ParseResult};
+
+use crate::choices::Or;
+
+#[derive(Drop)]
+pub struct Or3<A, B, C> {
+    pub(crate) first: A,
+    pub(crate) rest: Or<B, C>,
+}
+
+impl<
+    'a,
+    A: Combinator<'a>,
+    B: Combinator<'a, Output = A::Output>,
+    C: Combinator<'a, Output = A::Output>,
+> Combinator<'a> for Or3<A, B, C>
+{
+    type Output = A::Output;
+
+    ghost can_parse = { λ s. A.can_parse s.first × B.can_parse s.rest.first × C.can_parse s.rest.second };
+
+    ghost gives = { λ s text outcome. GivesFirst (A.gives s.first ∷ B.gives s.rest.first ∷ C.gives s.rest.second ∷ []) text outcome };
+
+    fn parse(&self, input: &'a str) -> ParseResult<'a, A::Output> {
+        match self.first.parse(input) {
+            Err(ParseError::Backtrace) => self.rest.parse(input),
+            other => other,
+        }
+    }
+
+    ghost leaves_suffix = { λ s can. GivesFirst-suffix (A.gives s.first ∷ B.gives s.rest.first ∷ C.gives s.rest.second ∷ []) (A.leaves_suffix s.first can.0, (B.leaves_suffix s.rest.first can.1, (C.leaves_suffix s.rest.second can.2, tt))) };
+}
+
+#[derive(Drop)]
+pub struct Or4<A, B, C, D> {
+    pub(crate) first: A,
+    pub(crate) rest: Or3<B, C, D>,
+}
+
+impl<
+    'a,
+    A: Combinator<'a>,
+    B: Combinator<'a, Output = A::Output>,
+    C: Combinator<'a, Output = A::Output>,
+    D: Combinator<'a, Output = A::Output>,
+> Combinator<'a> for Or4<A, B, C, D>
+{
+    type Output = A::Output;
+
+    ghost can_parse = { λ s. A.can_parse s.first × B.can_parse s.rest.first × C.can_parse s.rest.rest.first × D.can_parse s.rest.rest.second };
+
+    ghost gives = { λ s text outcome. GivesFirst (A.gives s.first ∷ B.gives s.rest.first ∷ C.gives s.rest.rest.first ∷ D.gives s.rest.rest.second ∷ []) text outcome };
+
+    fn parse(&self, input: &'a str) -> ParseResult<'a, A::Output> {
+        match self.first.parse(input) {
+            Err(ParseError::Backtrace) => self.rest.parse(input),
+            other => other,
+        }
+    }
+
+    ghost leaves_suffix = { λ s can. GivesFirst-suffix (A.gives s.first ∷ B.gives s.rest.first ∷ C.gives s.rest.rest.first ∷ D.gives s.rest.rest.second ∷ []) (A.leaves_suffix s.first can.0, (B.leaves_suffix s.rest.first can.1, (C.leaves_suffix s.rest.rest.first can.2, (D.leaves_suffix s.rest.rest.second can.3, tt)))) };
+}
+
+#[derive(Drop)]
+pub struct Or5<A, B, C, D, E> {
+    pub(crate) first: A,
+    pub(crate) rest: Or4<B, C, D, E>,
+}
+
+impl<
+    'a,
+    A: Combinator<'a>,
+    B: Combinator<'a, Output = A::Output>,
+    C: Combinator<'a, Output = A::Output>,
+    D: Combinator<'a, Output = A::Output>,
+    E: Combinator<'a, Output = A::Output>,
+> Combinator<'a> for Or5<A, B, C, D, E>
+{
+    type Output = A::Output;
+
+    ghost can_parse = { λ s. A.can_parse s.first × B.can_parse s.rest.first × C.can_parse s.rest.rest.first × D.can_parse s.rest.rest.rest.first × E.can_parse s.rest.rest.rest.second };
+
+    ghost gives = { λ s text outcome. GivesFirst (A.gives s.first ∷ B.gives s.rest.first ∷ C.gives s.rest.rest.first ∷ D.gives s.rest.rest.rest.first ∷ E.gives s.rest.rest.rest.second ∷ []) text outcome };
+
+    fn parse(&self, input: &'a str) -> ParseResult<'a, A::Output> {
+        match self.first.parse(input) {
+            Err(ParseError::Backtrace) => self.rest.parse(input),
+            other => other,
+        }
+    }
+
+    ghost leaves_suffix = { λ s can. GivesFirst-suffix (A.gives s.first ∷ B.gives s.rest.first ∷ C.gives s.rest.rest.first ∷ D.gives s.rest.rest.rest.first ∷ E.gives s.rest.rest.rest.second ∷ []) (A.leaves_suffix s.first can.0, (B.leaves_suffix s.rest.first can.1, (C.leaves_suffix s.rest.rest.first can.2, (D.leaves_suffix s.rest.rest.rest.first can.3, (E.leaves_suffix s.rest.rest.rest.second can.4, tt))))) };
+}
+
+#[derive(Drop)]
+pub struct Or6<A, B, C, D, E, F> {
+    pub(crate) first: A,
+    pub(crate) rest: Or5<B, C, D, E, F>,
+}
+
+impl<
+    'a,
+    A: Combinator<'a>,
+    B: Combinator<'a, Output = A::Output>,
+    C: Combinator<'a, Output = A::Output>,
+    D: Combinator<'a, Output = A::Output>,
+    E: Combinator<'a, Output = A::Output>,
+    F: Combinator<'a, Output = A::Output>,
+> Combinator<'a> for Or6<A, B, C, D, E, F>
+{
+    type Output = A::Output;
+
+    ghost can_parse = { λ s. A.can_parse s.first × B.can_parse s.rest.first × C.can_parse s.rest.rest.first × D.can_parse s.rest.rest.rest.first × E.can_parse s.rest.rest.rest.rest.first × F.can_parse s.rest.rest.rest.rest.second };
+
+    ghost gives = { λ s text outcome. GivesFirst (A.gives s.first ∷ B.gives s.rest.first ∷ C.gives s.rest.rest.first ∷ D.gives s.rest.rest.rest.first ∷ E.gives s.rest.rest.rest.rest.first ∷ F.gives s.rest.rest.rest.rest.second ∷ []) text outcome };
+
+    fn parse(&self, input: &'a str) -> ParseResult<'a, A::Output> {
+        match self.first.parse(input) {
+            Err(ParseError::Backtrace) => self.rest.parse(input),
+            other => other,
+        }
+    }
+
+    ghost leaves_suffix = { λ s can. GivesFirst-suffix (A.gives s.first ∷ B.gives s.rest.first ∷ C.gives s.rest.rest.first ∷ D.gives s.rest.rest.rest.first ∷ E.gives s.rest.rest.rest.rest.first ∷ F.gives s.rest.rest.rest.rest.second ∷ []) (A.leaves_suffix s.first can.0, (B.leaves_suffix s.rest.first can.1, (C.leaves_suffix s.rest.rest.first can.2, (D.leaves_suffix s.rest.rest.rest.first can.3, (E.leaves_suffix s.rest.rest.rest.rest.first can.4, (F.leaves_suffix s.rest.rest.rest.rest.second can.5, tt)))))) };
+}
+
+#[derive(Drop)]
+pub struct Or7<A, B, C, D, E, F, G> {
+    pub(crate) first: A,
+    pub(crate) rest: Or6<B, C, D, E, F, G>,
+}
+
+impl<
+    'a,
+    A: Combinator<'a>,
+    B: Combinator<'a, Output = A::Output>,
+    C: Combinator<'a, Output = A::Output>,
+    D: Combinator<'a, Output = A::Output>,
+    E: Combinator<'a, Output = A::Output>,
+    F: Combinator<'a, Output = A::Output>,
+    G: Combinator<'a, Output = A::Output>,
+> Combinator<'a> for Or7<A, B, C, D, E, F, G>
+{
+    type Output = A::Output;
+
+    ghost can_parse = { λ s. A.can_parse s.first × B.can_parse s.rest.first × C.can_parse s.rest.rest.first × D.can_parse s.rest.rest.rest.first × E.can_parse s.rest.rest.rest.rest.first × F.can_parse s.rest.rest.rest.rest.rest.first × G.can_parse s.rest.rest.rest.rest.rest.second };
+
+    ghost gives = { λ s text outcome. GivesFirst (A.gives s.first ∷ B.gives s.rest.first ∷ C.gives s.rest.rest.first ∷ D.gives s.rest.rest.rest.first ∷ E.gives s.rest.rest.rest.rest.first ∷ F.gives s.rest.rest.rest.rest.rest.first ∷ G.gives s.rest.rest.rest.rest.rest.second ∷ []) text outcome };
+
+    fn parse(&self, input: &'a str) -> ParseResult<'a, A::Output> {
+        match self.first.parse(input) {
+            Err(ParseError::Backtrace) => self.rest.parse(input),
+            other => other,
+        }
+    }
+
+    ghost leaves_suffix = { λ s can. GivesFirst-suffix (A.gives s.first ∷ B.gives s.rest.first ∷ C.gives s.rest.rest.first ∷ D.gives s.rest.rest.rest.first ∷ E.gives s.rest.rest.rest.rest.first ∷ F.gives s.rest.rest.rest.rest.rest.first ∷ G.gives s.rest.rest.rest.rest.rest.second ∷ []) (A.leaves_suffix s.first can.0, (B.leaves_suffix s.rest.first can.1, (C.leaves_suffix s.rest.rest.first can.2, (D.leaves_suffix s.rest.rest.rest.first can.3, (E.leaves_suffix s.rest.rest.rest.rest.first can.4, (F.leaves_suffix s.rest.rest.rest.rest.rest.first can.5, (G.leaves_suffix s.rest.rest.rest.rest.rest.second can.6, tt))))))) };
+}
+
