@@ -97,11 +97,12 @@ IsPassingBytes-front test text front other rest cut passing =
 pub contains_from_any : (r : Bool) (xs : List ℕ) (c : ℕ)
     → MatchBool r ((k : ℕ) × (k < length xs) × HoldsAt (λ y. y ≡ c) xs k) (AllWithin (λ y. y ≢ c) xs 0 (length xs))
     → IsTrue r ↔ Contains xs c
-contains_from_any r xs c found =
-    (elim r as (λ r. MatchBool r ((k : ℕ) × (k < length xs) × HoldsAt (λ y. y ≡ c) xs k) (AllWithin (λ y. y ≢ c) xs 0 (length xs))
-            → IsTrue r → Contains xs c)
-        [ true ↦ λ at said. Contains-from_at xs c at | false ↦ λ none said. absurd (search rules) ] found,
-    λ has. search (rules, true_from_Any (λ y. y ≡ c) (λ y. y ≢ c) r xs (λ y same other. other same) found c has refl))
+contains_from_any r xs c found = (
+  elim r as (λ r. MatchBool r ((k : ℕ) × (k < length xs) × HoldsAt (λ y. y ≡ c) xs k) (AllWithin (λ y. y ≢ c) xs 0 (length xs))
+      → IsTrue r → Contains xs c)
+      [ true ↦ λ at said. Contains-from_at xs c at | false ↦ λ none said. absurd (search rules) ] found,
+  λ has. search (rules, true_from_Any (λ y. y ≡ c) (λ y. y ≢ c) r xs (λ y same other. other same) found c has refl),
+)
 
 -- a text begins with one character alone
 pub first_char_is_one : (text rest behind : List ℕ) (c d : ℕ) → IsUtf8 text → text ≡ encode_utf8 c ++ rest → text ≡ encode_utf8 d ++ behind → c ≡ d

@@ -1,8 +1,13 @@
 pub use Rattle.monch_core.specs.Outcome
 pub use Rattle.monch_core.specs.Seen
 pub use Rattle.monch_core.specs.Failures
+pub use Rattle.monch_repeat.specs.Repeat
+pub use Rattle.monch_repeat.specs.Items
+pub use Rattle.monch_repeat.specs.Separated
+pub use Rattle.monch_repeat.specs.Agree
 pub mod Leaves
 pub mod Parts
 pub mod Calls
 pub mod Handled
+pub mod First
 pub mod Suffix

@@ -116,10 +116,10 @@ module _ {A : Type 0} (part : Meaning A) (holds : Outcome A → Bool → Type 0)
   abbrev pub IsDenied : List ℕ → List ℕ → List ℕ → Type 0
   IsDenied text input message =
       ((told : List ℕ) × part text (refused (failure input told)) × holds (refused (failure input told)) false
-          × (message ≡ below context told))
+      × (message ≡ below context told))
       ⊎ ((input ≡ text) × (message ≡ context)
-          × ((part text (refused backtrack) × holds (refused backtrack) false)
-              ⊎ ((rest : List ℕ) × (value : A) × part text (success rest value) × holds (success rest value) false)))
+      × ((part text (refused backtrack) × holds (refused backtrack) false)
+      ⊎ ((rest : List ℕ) × (value : A) × part text (success rest value) × holds (success rest value) false)))
 
   abbrev pub GivesAssert : Meaning A
   GivesAssert text (success rest value) = part text (success rest value) × holds (success rest value) true

@@ -2,9 +2,8 @@ ghost use Rattle.std.specs.Prelude.{[], ◌∷◌};
 ghost use Rattle.monch.specs.Parts.{GivesFirst};
 ghost use Rattle.monch.specs.Suffix.{GivesFirst-suffix};
 
-use monch_core::{Combinator, ParseError, ParseResult};
-
 use crate::choices::Or;
+use monch_core::{Combinator, ParseError, ParseResult};
 
 #[derive(Drop)]
 pub struct Or3<A, B, C> {
@@ -17,8 +16,7 @@ impl<
     A: Combinator<'a>,
     B: Combinator<'a, Output = A::Output>,
     C: Combinator<'a, Output = A::Output>,
-> Combinator<'a> for Or3<A, B, C>
-{
+> Combinator<'a> for Or3<A, B, C> {
     type Output = A::Output;
 
     ghost can_parse = { λ s. A.can_parse s.first × B.can_parse s.rest.first × C.can_parse s.rest.second };
@@ -47,8 +45,7 @@ impl<
     B: Combinator<'a, Output = A::Output>,
     C: Combinator<'a, Output = A::Output>,
     D: Combinator<'a, Output = A::Output>,
-> Combinator<'a> for Or4<A, B, C, D>
-{
+> Combinator<'a> for Or4<A, B, C, D> {
     type Output = A::Output;
 
     ghost can_parse = { λ s. A.can_parse s.first × B.can_parse s.rest.first × C.can_parse s.rest.rest.first × D.can_parse s.rest.rest.second };
@@ -78,8 +75,7 @@ impl<
     C: Combinator<'a, Output = A::Output>,
     D: Combinator<'a, Output = A::Output>,
     E: Combinator<'a, Output = A::Output>,
-> Combinator<'a> for Or5<A, B, C, D, E>
-{
+> Combinator<'a> for Or5<A, B, C, D, E> {
     type Output = A::Output;
 
     ghost can_parse = { λ s. A.can_parse s.first × B.can_parse s.rest.first × C.can_parse s.rest.rest.first × D.can_parse s.rest.rest.rest.first × E.can_parse s.rest.rest.rest.second };
@@ -110,8 +106,7 @@ impl<
     D: Combinator<'a, Output = A::Output>,
     E: Combinator<'a, Output = A::Output>,
     F: Combinator<'a, Output = A::Output>,
-> Combinator<'a> for Or6<A, B, C, D, E, F>
-{
+> Combinator<'a> for Or6<A, B, C, D, E, F> {
     type Output = A::Output;
 
     ghost can_parse = { λ s. A.can_parse s.first × B.can_parse s.rest.first × C.can_parse s.rest.rest.first × D.can_parse s.rest.rest.rest.first × E.can_parse s.rest.rest.rest.rest.first × F.can_parse s.rest.rest.rest.rest.second };
@@ -143,8 +138,7 @@ impl<
     E: Combinator<'a, Output = A::Output>,
     F: Combinator<'a, Output = A::Output>,
     G: Combinator<'a, Output = A::Output>,
-> Combinator<'a> for Or7<A, B, C, D, E, F, G>
-{
+> Combinator<'a> for Or7<A, B, C, D, E, F, G> {
     type Output = A::Output;
 
     ghost can_parse = { λ s. A.can_parse s.first × B.can_parse s.rest.first × C.can_parse s.rest.rest.first × D.can_parse s.rest.rest.rest.first × E.can_parse s.rest.rest.rest.rest.first × F.can_parse s.rest.rest.rest.rest.rest.first × G.can_parse s.rest.rest.rest.rest.rest.second };
@@ -160,4 +154,3 @@ impl<
 
     ghost leaves_suffix = { λ s can. GivesFirst-suffix (A.gives s.first ∷ B.gives s.rest.first ∷ C.gives s.rest.rest.first ∷ D.gives s.rest.rest.rest.first ∷ E.gives s.rest.rest.rest.rest.first ∷ F.gives s.rest.rest.rest.rest.rest.first ∷ G.gives s.rest.rest.rest.rest.rest.second ∷ []) (A.leaves_suffix s.first can.0, (B.leaves_suffix s.rest.first can.1, (C.leaves_suffix s.rest.rest.first can.2, (D.leaves_suffix s.rest.rest.rest.first can.3, (E.leaves_suffix s.rest.rest.rest.rest.first can.4, (F.leaves_suffix s.rest.rest.rest.rest.rest.first can.5, (G.leaves_suffix s.rest.rest.rest.rest.rest.second can.6, tt))))))) };
 }
-

@@ -3,11 +3,10 @@ ghost use Rattle.monch_core.specs.Seen.{seen};
 ghost use Rattle.monch.specs.Calls.{AnswersOn};
 ghost use Rattle.monch.specs.Parts.{FailsAbove, GivesAssert, is_success};
 
+use crate::failures::told_above;
 use monch_core::{Combinator, ParseError, ParseResult};
 use std::alloc::Global;
 use std::borrow::CowStr;
-
-use crate::failures::told_above;
 
 // The failure of a result that the condition denies.
 fn denied<'a, O: Drop>(
@@ -37,8 +36,7 @@ impl<
     O: Drop,
     A: Combinator<'a, Output = O>,
     F: Fn(Result<&(&'a str, O), &ParseError<'a>>) -> bool,
-> Combinator<'a> for Assert<'a, A, F>
-{
+> Combinator<'a> for Assert<'a, A, F> {
     type Output = O;
 
     ghost can_parse = { λ s. A.can_parse s.part × F.IsAlwaysCallable s.condition };

@@ -1,10 +1,9 @@
 ghost use Rattle.monch_core.specs.Seen.{seen};
 ghost use Rattle.monch.specs.Leaves.{GivesSkipWhile, GivesWhitespace, IsPassingFront, TestsWhitespace};
 
-use monch_core::{ParseError, ParseResult};
-
 use crate::text::taken;
 use crate::whiles::behind_passing;
+use monch_core::{ParseError, ParseResult};
 
 // What is left behind the longest front of white space.
 fn behind_whitespace(text: &str) -> &str

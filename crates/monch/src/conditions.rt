@@ -69,8 +69,7 @@ pub struct IfTrue<A, F> {
 }
 
 impl<'a, O: Drop, A: Combinator<'a, Output = O>, F: Fn(&O) -> bool> Combinator<'a>
-    for IfTrue<A, F>
-{
+    for IfTrue<A, F> {
     type Output = O;
 
     ghost can_parse = { λ s. A.can_parse s.part × F.IsAlwaysCallable s.condition };

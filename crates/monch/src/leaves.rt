@@ -3,9 +3,8 @@ ghost use Rattle.std.proofs.Common.{rules};
 ghost use Rattle.std.specs.Str.{chars};
 ghost use Rattle.monch.specs.Leaves.{GivesChar, GivesOneOf};
 
-use monch_core::{Combinator, ParseError, ParseResult};
-
 use crate::text::split_first_char;
+use monch_core::{Combinator, ParseError, ParseResult};
 
 #[derive(Drop)]
 pub struct Ch {

@@ -1,4 +1,13 @@
-//! Parser combinators.
+//! Parser combinators: a maker answers a struct of its name, and its `parse` reads a value from the front of a text.
+//!
+//! - Each `parse` answers an outcome that the combinator's meaning has for the text (`specs/Leaves.antt` for those
+//!   without parts, `specs/Parts.antt` over the meanings of the parts, `specs/Calls.antt` for closures,
+//!   `specs/Handled.antt`). The makers with their rows stand in `README.md`.
+//! - What a success leaves is a suffix of the text: the law `leaves_suffix` of the trait, from `monch_core`.
+//! - `or` to `or7` answer as the first alternative that does not backtrack (`GivesFirst-answers`,
+//!   `proofs/Theorems.antt`), and want of memory comes only where memory is taken (the laws `..-in_room`).
+//!
+//! The repetitions stand in `monch_repeat`. Not promised: when memory runs out, and how long a call takes.
 #![tactic(auto)]
 
 mod alternatives;
@@ -27,10 +36,18 @@ pub use functions::FnCombinator;
 pub use handling::{MapRes, WithFailureHandling};
 pub use leaves::{Ch, OneOf};
 pub use makers::{
-    assert, assert_exists, ch, check_not, delimited, from_fn, if_not_empty, if_true, map, map_res, maybe, one_of, or, or3, or4, or5, or6, or7, pair, preceded, skip_while, skip_while_byte, substring, tag, tag_owned, take_while, take_while_byte, terminated, with_error_context, with_failure_handling, with_failure_input,
+    assert, assert_exists, ch, check_not, delimited, from_fn, if_not_empty, if_true, map, map_res,
+    maybe, one_of, or, or3, or4, or5, or6, or7, pair, preceded, skip_while, skip_while_byte,
+    substring, tag, tag_owned, take_while, take_while_byte, terminated, with_error_context,
+    with_failure_handling, with_failure_input,
 };
 pub use monch_core::{
     Combinator, HandledError, ParseError, ParseErrorFailure, ParseErrorFailureError, ParseResult,
+};
+pub use monch_repeat::{
+    Many0, Many0Count, Many1, ManyTill, ManyTillFold, SeparatedCount, SeparatedFold, SeparatedList,
+    many_till, many_till_fold, many0, many0_count, many1, separated_count, separated_fold,
+    separated_list,
 };
 pub use pairs::{Delimited, Pair, Preceded, Terminated};
 pub use tags::{Tag, TagOwned};

@@ -211,11 +211,7 @@ pub fn with_error_context<'a, A>(
 }
 
 /// The first alternative that does not backtrack.
-pub fn or3<A, B, C>(
-    first: A,
-    second: B,
-    third: C,
-) -> Or3<A, B, C>
+pub fn or3<A, B, C>(first: A, second: B, third: C) -> Or3<A, B, C>
     ensures first { result.first ≡ first }
     ensures second { result.rest.first ≡ second }
     ensures third { result.rest.second ≡ third }
@@ -227,12 +223,7 @@ pub fn or3<A, B, C>(
 }
 
 /// The first alternative that does not backtrack.
-pub fn or4<A, B, C, D>(
-    first: A,
-    second: B,
-    third: C,
-    fourth: D,
-) -> Or4<A, B, C, D>
+pub fn or4<A, B, C, D>(first: A, second: B, third: C, fourth: D) -> Or4<A, B, C, D>
     ensures first { result.first ≡ first }
     ensures second { result.rest.first ≡ second }
     ensures third { result.rest.rest.first ≡ third }
@@ -245,13 +236,7 @@ pub fn or4<A, B, C, D>(
 }
 
 /// The first alternative that does not backtrack.
-pub fn or5<A, B, C, D, E>(
-    first: A,
-    second: B,
-    third: C,
-    fourth: D,
-    fifth: E,
-) -> Or5<A, B, C, D, E>
+pub fn or5<A, B, C, D, E>(first: A, second: B, third: C, fourth: D, fifth: E) -> Or5<A, B, C, D, E>
     ensures first { result.first ≡ first }
     ensures second { result.rest.first ≡ second }
     ensures third { result.rest.rest.first ≡ third }

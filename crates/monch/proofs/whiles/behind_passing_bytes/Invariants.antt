@@ -9,7 +9,7 @@ invariant-loop-end g l =
     (l.end ≤ length l.text)
     × IsCharBoundary l.text l.end
     × ((front rest : List ℕ) → IsPassingBytes (goal.F-post g l.passes) (drop l.end l.text) front rest
-        → (whole : List ℕ) × IsPassingBytes (goal.F-post g l.passes) l.text whole rest)
+    → (whole : List ℕ) × IsPassingBytes (goal.F-post g l.passes) l.text whole rest)
 
 abbrev pub decreases-loop-end : goal.decreases-loop-end
 decreases-loop-end g l = length l.bytes - l.end
