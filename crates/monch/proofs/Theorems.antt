@@ -1,8 +1,13 @@
 -- The laws that other crates and the README name.
-use Rattle.std.proofs.Common.{◌≡◌, ℕ, Bool, List, [], ◌∷◌, ◌++◌, refl, ap, subst, sym, inl, inr}
+use Rattle.std.proofs.Common.{◌≡◌, ◌≢◌, Result, Ok, Err, IfOk, ℕ, Bool, List, [], ◌∷◌, ◌++◌, refl, ap, subst, sym, inl, inr}
 use Rattle.std.specs.Prelude.{⊤}
-use Rattle.monch_core.specs.Outcome.{backtrack, no_memory, Outcome, refused, Meaning}
-use Rattle.monch_repeat.specs.Repeat.{TakesNoMemory}
+use Rattle.monch_core.specs.Outcome.{backtrack, no_memory, Outcome, refused, Meaning, IsSuffix, LeavesSuffix}
+use Rattle.std.specs.Borrow.{Bor}
+use Rattle.monch_core.specs.declared.error.ParseError.{ParseError}
+use Rattle.monch_core.specs.Seen.{seen}
+use Rattle.monch.proofs.FrontLemmas.{behind_is_shorter}
+use Rattle.monch_repeat.proofs.AdvanceLemmas.{shorter_behind}
+use Rattle.monch_repeat.specs.Repeat.{Advances, TakesNoMemory}
 use Rattle.monch.specs.First.{AnswersAsFirst, EachBacktracks, first, none}
 use Rattle.monch.specs.Leaves.{GivesChar, GivesOneOf, GivesTag, GivesNextChar, GivesSkipWhile, GivesTakeWhile, GivesSkipBytes, GivesTakeBytes, GivesWhitespace}
 use Rattle.monch.specs.Parts.{GivesFirst, GivesMaybe, GivesPair, GivesSubstring, IsSettled}
@@ -91,3 +96,19 @@ pub GivesFirst-in_room : {A : Type 0} (parts : List (Meaning A)) → EachTakesNo
 GivesFirst-in_room [] rooms text given = cc
 GivesFirst-in_room (part ∷ parts) rooms text (inl given) = rooms.0 text given.0
 GivesFirst-in_room (part ∷ parts) rooms text (inr given) = GivesFirst-in_room parts rooms.1 text given.1
+
+-- ---- what a caller needs of its parts
+
+-- what a result of the part leaves is a suffix, as a function is to say of itself for `from_fn`
+pub suffix_of_result : {O : Type 0} (part : Meaning O) → LeavesSuffix part
+    → (text : List ℕ) (r : Result (Bor (List ℕ) × O) ParseError) → part text (seen r) → IfOk r (λ p. IsSuffix p.0.now text)
+suffix_of_result part leaves text (Ok p) given = leaves text p.0.now p.1 given
+suffix_of_result part leaves text (Err e) given = tt
+
+-- a character is read from a text that is longer than what it leaves, as repetitions ask
+pub GivesChar-advances : (c : ℕ) → Advances (GivesChar c)
+GivesChar-advances c text rest value given = behind_is_shorter text rest c given.1
+
+-- and so is a tag that isn't empty
+pub GivesTag-advances : (tag : List ℕ) → tag ≢ [] → Advances (GivesTag tag)
+GivesTag-advances tag some text rest value given = shorter_behind tag rest text some given.1

@@ -12,6 +12,7 @@ use crate::pairs::{Delimited, Pair, Preceded, Terminated};
 use crate::tags::{Tag, TagOwned};
 use crate::values::{Map, Substring};
 use crate::whiles::{SkipWhile, SkipWhileByte, TakeWhile, TakeWhileByte};
+use monch_core::{Combinator, ParseError, ParseResult};
 use std::alloc::Global;
 use std::marker::PhantomData;
 
@@ -37,7 +38,7 @@ pub fn tag_owned(value: String) -> TagOwned
 }
 
 /// The function as a combinator. What it leaves of a text has to be a suffix of it.
-pub fn from_fn<F>(function: F) -> FnCombinator<F>
+pub fn from_fn<'a, O, F: Fn(&'a str) -> ParseResult<'a, O>>(function: F) -> FnCombinator<F>
     ensures { result ≡ record { function = function } }
 {
     FnCombinator { function }
@@ -61,7 +62,10 @@ pub fn maybe<A>(part: A) -> Maybe<A>
 }
 
 /// What the function makes of the part's value.
-pub fn map<'a, A, F>(part: A, function: F) -> Map<'a, A, F>
+pub fn map<'a, O, R, A: Combinator<'a, Output = O>, F: Fn(O) -> R>(
+    part: A,
+    function: F,
+) -> Map<'a, A, F>
     ensures part { result.part ≡ part }
     ensures function { result.function ≡ function }
 {
@@ -99,14 +103,14 @@ pub fn preceded<'a, A, B>(first: A, second: B) -> Preceded<'a, A, B>
 }
 
 /// Skips the longest front of characters on which the condition holds.
-pub fn skip_while<F>(condition: F) -> SkipWhile<F>
+pub fn skip_while<F: Fn(char) -> bool>(condition: F) -> SkipWhile<F>
     ensures { result ≡ record { condition = condition } }
 {
     SkipWhile { condition }
 }
 
 /// The longest front of characters on which the condition holds.
-pub fn take_while<F>(condition: F) -> TakeWhile<F>
+pub fn take_while<F: Fn(char) -> bool>(condition: F) -> TakeWhile<F>
     ensures { result ≡ record { condition = condition } }
 {
     TakeWhile { condition }
@@ -153,21 +157,24 @@ pub fn delimited<'a, A, B, C>(first: A, second: B, third: C) -> Delimited<'a, A,
 }
 
 /// Skips the longest front of bytes on which the condition holds. It may hold of no byte from 0x80 on.
-pub fn skip_while_byte<F>(condition: F) -> SkipWhileByte<F>
+pub fn skip_while_byte<F: Fn(u8) -> bool>(condition: F) -> SkipWhileByte<F>
     ensures { result ≡ record { condition = condition } }
 {
     SkipWhileByte { condition }
 }
 
 /// The longest front of bytes on which the condition holds. It may hold of no byte from 0x80 on.
-pub fn take_while_byte<F>(condition: F) -> TakeWhileByte<F>
+pub fn take_while_byte<F: Fn(u8) -> bool>(condition: F) -> TakeWhileByte<F>
     ensures { result ≡ record { condition = condition } }
 {
     TakeWhileByte { condition }
 }
 
 /// The part's value where the condition holds of it, else a backtrack.
-pub fn if_true<A, F>(part: A, condition: F) -> IfTrue<A, F>
+pub fn if_true<'a, O, A: Combinator<'a, Output = O>, F: Fn(&O) -> bool>(
+    part: A,
+    condition: F,
+) -> IfTrue<A, F>
     ensures { result ≡ record { part = part; condition = condition } }
 {
     IfTrue { part, condition }
@@ -296,7 +303,10 @@ pub fn or7<A, B, C, D, E, F, G>(
 }
 
 /// What the function makes of the part's whole result.
-pub fn map_res<A, F>(part: A, function: F) -> MapRes<A, F>
+pub fn map_res<'a, O, R, A: Combinator<'a, Output = O>, F: Fn(ParseResult<'a, O>) -> R>(
+    part: A,
+    function: F,
+) -> MapRes<A, F>
     ensures { result ≡ record { part = part; function = function } }
 {
     MapRes { part, function }
@@ -304,7 +314,12 @@ pub fn map_res<A, F>(part: A, function: F) -> MapRes<A, F>
 
 /// The part where the condition holds of its result. Else a failure: one of the part has this message above its own, and
 /// any other result fails at the text. The condition isn't asked about want of memory.
-pub fn assert<'a, A, F>(alloc: Global, part: A, condition: F, message: &'a str) -> Assert<'a, A, F>
+pub fn assert<
+    'a,
+    O,
+    A: Combinator<'a, Output = O>,
+    F: Fn(Result<&(&'a str, O), &ParseError<'a>>) -> bool,
+>(alloc: Global, part: A, condition: F, message: &'a str) -> Assert<'a, A, F>
     ensures part { result.part ≡ part }
     ensures condition { result.condition ≡ condition }
     ensures message { result.message.now ≡ message.now }

@@ -113,6 +113,12 @@ fn reads_parts_in_turn(rt: HostRuntime) -> Result<(), Fail> {
         told(alloc, &map(tag("ab"), |t: &str| t.len()), "abc")?.as_str(),
         "c|2"
     );
+    Ok(())
+}
+
+#[test]
+fn reads_on_conditions(rt: HostRuntime) -> Result<(), Fail> {
+    let alloc = rt.alloc();
     let text = if_not_empty(take_while(|c: char| c == 'a'));
     assert_eq!(rt; told(alloc, &text, "aab")?.as_str(), "b|\"aa\"");
     assert_eq!(rt; told(alloc, &text, "b")?.as_str(), "backtrack");
