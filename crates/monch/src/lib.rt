@@ -58,4 +58,6 @@ pub use whiles::{SkipWhile, SkipWhileByte, TakeWhile, TakeWhileByte};
 #[cfg(test)]
 mod json_tests;
 #[cfg(test)]
+mod repeat_tests;
+#[cfg(test)]
 mod tests;
