@@ -2,7 +2,7 @@
 use Rattle.std.proofs.Common.{inl, inr, ℕ, List, refl, sym, ◌∙◌}
 use Rattle.std.specs.Global.{Vec}
 use Rattle.monch_core.specs.Outcome.{backtrack, failure, no_memory, Outcome, success, refused, Meaning}
-use Rattle.monch_repeat.specs.Repeat.{Backtracks, GivesVec, GivesCount, TakesNoMemory}
+use Rattle.monch_repeat.specs.Repeat.{Backtracks, GivesVec, GivesCount, GivesFold, TakesNoMemory}
 use Rattle.monch_repeat.specs.Items.{GivesItems}
 use Rattle.monch_repeat.specs.Separated.{GivesSeparated}
 use Rattle.monch_repeat.specs.Agree.{LeavesOneRest, IsCountOf}
@@ -52,3 +52,12 @@ many0_count_in_room item room = GivesItems-in_room item Backtracks room (λ text
 pub separated_count_in_room : {O P : Type 0} (item : Meaning O) (separator : Meaning P) → TakesNoMemory item → TakesNoMemory separator
     → TakesNoMemory (GivesCount (GivesSeparated item separator))
 separated_count_in_room item separator item_room separator_room = GivesSeparated-in_room item separator item_room separator_room
+
+-- and so do the folds
+pub many_till_fold_in_room : {O P S : Type 0} (item : Meaning O) (until : Meaning P) (Step : S → O → S → Type 0) (init : S)
+    → TakesNoMemory item → TakesNoMemory until → TakesNoMemory (GivesFold (GivesItems item until) Step init)
+many_till_fold_in_room item until Step init item_room until_room = GivesItems-in_room item until item_room until_room
+
+pub separated_fold_in_room : {O P S : Type 0} (item : Meaning O) (separator : Meaning P) (Step : S → O → S → Type 0) (init : S)
+    → TakesNoMemory item → TakesNoMemory separator → TakesNoMemory (GivesFold (GivesSeparated item separator) Step init)
+separated_fold_in_room item separator Step init item_room separator_room = GivesSeparated-in_room item separator item_room separator_room
