@@ -40,8 +40,8 @@ fn scoped_name(input: &str) -> ParseResult<'_, &str>
     ensures { Tells bytes_of (steps.read_scoped input.now) (seen result) }
 {
     let scope = preceded(ch('@'), if_not_empty(take_while(is_of_part)));
-    let part = preceded(ch('/'), if_not_empty(take_while(is_of_part)));
-    substring(pair(scope, part)).parse(input)
+    let behind = preceded(ch('/'), if_not_empty(take_while(is_of_part)));
+    substring(pair(scope, behind)).parse(input)
 }
 
 /// What stands behind the `@` of a name.
