@@ -4,6 +4,7 @@ use Rattle.std.specs.List.{list_any}
 use Rattle.sys_traits.specs.declared.error.SysErrorKind.{SysErrorKind}
 use Rattle.sys_traits.specs.declared.error.SysErrorKind.TheVariants.{NotFound, Failed, OutOfMemory}
 use Rattle.sys_traits.specs.declared.call.SysCall.{SysCall}
+use Rattle.sys_traits.specs.declared.call.SysCallKind.{SysCallKind}
 use Rattle.sys_traits.specs.declared.call.SysCallKind.TheVariants as kinds
 use Rattle.sys_traits.specs.declared.place.Place.{Place}
 use Rattle.sys_traits.specs.declared.place.Place.TheVariants as places
@@ -93,14 +94,23 @@ unless_refused (Some _) done refused = refused
 
 -- ---- the calls, as they are logged
 
+-- an entry of the log, by its fields
+abbrev pub entry : SysCallKind → Path → Option Path → ℕ → Option SysErrorKind → Files → SysCall
+entry kind path to number refusal files =
+    record { kind = kind; path = path; to = to; number = number; refusal = refusal; files = files }
+
+-- `fs_canonicalize`
 abbrev pub canonicalizing : Memory → Path → SysCall
 canonicalizing m path =
-    let refusal = refusal_in m needs.Anything (spot m.folder path) in
-    record { kind = kinds.Canonicalize; path = path; to = unless_refused refusal (Some (spot m.folder path)) None; number = 0; refusal = refusal; files = m.files }
+    let at = spot m.folder path in
+    let refusal = refusal_in m needs.Anything at in
+    entry kinds.Canonicalize path (unless_refused refusal (Some at) None) 0 refusal m.files
 
+-- `fs_create_dir_all`
 abbrev pub creating : Memory → Path → SysCall
 creating m path =
-    record { kind = kinds.CreateDirAll; path = path; to = None; number = 0; refusal = refusal_in m needs.FolderRoom (spot m.folder path); files = m.files }
+    let refusal = refusal_in m needs.FolderRoom (spot m.folder path) in
+    entry kinds.CreateDirAll path None 0 refusal m.files
 
 -- a file or folder is there
 abbrev pub is_there : Place → Bool
@@ -110,20 +120,20 @@ is_there places.Free = false
 is_there places.Missing = false
 is_there places.Blocked = false
 
--- 1 where a file or folder is there
-abbrev pub truth_at : Place → ℕ
-truth_at place = if is_there place then 1 else 0
-
+-- `fs_exists`, whose number is 1 where a file or folder is there
 abbrev pub looking_up : Memory → Path → SysCall
 looking_up m path =
-    let refusal = refusal_in m needs.Way (spot m.folder path) in
-    let truth = truth_at (place_of m.files m.made (spot m.folder path)) in
-    record { kind = kinds.Exists; path = path; to = None; number = unless_refused refusal truth 0; refusal = refusal; files = m.files }
+    let at = spot m.folder path in
+    let refusal = refusal_in m needs.Way at in
+    let truth = if is_there (place_of m.files m.made at) then 1 else 0 in
+    entry kinds.Exists path None (unless_refused refusal truth 0) refusal m.files
 
+-- `fs_open`
 abbrev pub opening : Memory → Path → ℕ → SysCall
 opening m path mode =
-    let refusal = refusal_in m needs.Room (spot m.folder path) in
-    record { kind = kinds.Open; path = path; to = None; number = mode; refusal = refusal; files = unless_refused refusal (with_file m.files (spot m.folder path) []) m.files }
+    let at = spot m.folder path in
+    let refusal = refusal_in m needs.Room at in
+    entry kinds.Open path None mode refusal (unless_refused refusal (with_file m.files at []) m.files)
 
 -- the first half of the bytes, rounded down
 abbrev pub half : List ℕ → List ℕ
@@ -133,7 +143,7 @@ half bytes = take (length bytes / 2) bytes
 abbrev pub written : Memory → List ℕ → List ℕ
 written m bytes = if is_listed m then half bytes else bytes
 
--- the files after a write
+-- the files after a write to a path at which this is
 abbrev pub files_written : Memory → Path → List ℕ → Place → Files
 files_written m path bytes places.File = with_file m.files path (written m bytes)
 files_written m path bytes places.Folder = m.files
@@ -141,29 +151,38 @@ files_written m path bytes places.Free = m.files
 files_written m path bytes places.Missing = m.files
 files_written m path bytes places.Blocked = m.files
 
+-- `fs_write_all`
 abbrev pub writing : Memory → Path → List ℕ → SysCall
 writing m path bytes =
     let at = spot m.folder path in
-    record { kind = kinds.WriteAll; path = path; to = None; number = 0; refusal = refusal_in m needs.File at; files = files_written m at bytes (place_of m.files m.made at) }
+    let files = files_written m at bytes (place_of m.files m.made at) in
+    entry kinds.WriteAll path None 0 (refusal_in m needs.File at) files
 
+-- `fs_remove_file`
 abbrev pub removing : Memory → Path → SysCall
 removing m path =
-    let refusal = refusal_in m needs.File (spot m.folder path) in
-    record { kind = kinds.Remove; path = path; to = None; number = 0; refusal = refusal; files = unless_refused refusal (without_file m.files (spot m.folder path)) m.files }
+    let at = spot m.folder path in
+    let refusal = refusal_in m needs.File at in
+    entry kinds.Remove path None 0 refusal (unless_refused refusal (without_file m.files at) m.files)
 
--- the first path is looked at before the second one
+-- `fs_rename`; the first path is looked at before the second one
 abbrev pub renaming : Memory → Path → Path → SysCall
 renaming m from to =
-    let refusal = first_refusal (refusal_in m needs.File (spot m.folder from)) (refusal_in m needs.Room (spot m.folder to)) in
-    record { kind = kinds.Rename; path = from; to = Some to; number = 0; refusal = refusal; files = unless_refused refusal (moved_file m.files (spot m.folder from) (spot m.folder to)) m.files }
+    let source = spot m.folder from in
+    let target = spot m.folder to in
+    let refusal = first_refusal (refusal_in m needs.File source) (refusal_in m needs.Room target) in
+    let files = unless_refused refusal (moved_file m.files source target) m.files in
+    entry kinds.Rename from (Some to) 0 refusal files
 
+-- `sys_random_u8`
 abbrev pub drawing : Memory → SysCall
 drawing m =
     let refusal = refusal_by_number m in
-    record { kind = kinds.Random; path = []; to = None; number = unless_refused refusal (slice_index m.random m.next) 0; refusal = refusal; files = m.files }
+    entry kinds.Random [] None (unless_refused refusal (slice_index m.random m.next) 0) refusal m.files
 
+-- `thread_sleep_ms`
 abbrev pub sleeping : Memory → ℕ → SysCall
-sleeping m ms = record { kind = kinds.Sleep; path = []; to = None; number = ms; refusal = None; files = m.files }
+sleeping m ms = entry kinds.Sleep [] None ms None m.files
 
 -- ---- the memory after a call
 
@@ -215,7 +234,8 @@ rooted path = if slice_index path 0 == 47 then path else root ++ path
 
 -- the folders that are given, and those that the files stand in
 abbrev pub given_folders : Path → Files → List Path → List Path
-given_folders folder files folders = map (λ path. spot folder path) folders ++ map (λ file. parent_of (spot folder file.0)) files
+given_folders folder files folders =
+    map (λ path. spot folder path) folders ++ map (λ file. parent_of (spot folder file.0)) files
 
 -- the files that are given, but those where a folder is; of files with one path the first
 abbrev pub given_files : Path → List Path → Files → Files
@@ -229,7 +249,15 @@ abbrev pub new_memory : Files → List Path → Path → List ℕ → List ℕ �
 new_memory files folders current_dir random failing =
     let folder = rooted current_dir in
     let made = given_folders folder files folders in
-    record { folder = folder; files = given_files folder made files; made = made; random = random; next = 0; failing = failing; log = [] }
+    record {
+      folder = folder;
+      files = given_files folder made files;
+      made = made;
+      random = random;
+      next = 0;
+      failing = failing;
+      log = [];
+    }
 
 -- ---- what it tells
 

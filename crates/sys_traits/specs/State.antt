@@ -49,6 +49,8 @@ IsCounted (Some Failed) old new = old < new
 IsCounted (Some OutOfMemory) old new = old ≤ new
 
 -- a call that took place: it is the new last entry of the log, with the files that it left
-pub record IsCall (kind : SysCallKind) (path : Path) (to : Option Path) (number : ℕ) (refusal : Option SysErrorKind) (old new : Told) : Type 0 where
+pub record IsCall (kind : SysCallKind) (path : Path) (to : Option Path) (number : ℕ) (refusal : Option SysErrorKind)
+    (old new : Told) : Type 0 where
   pub folder : new.folder ≡ old.folder
-  pub log : new.log ≡ old.log ++ record { kind = kind; path = path; to = to; number = number; refusal = refusal; files = new.files } ∷ []
+  pub log : new.log ≡ old.log
+      ++ record { kind = kind; path = path; to = to; number = number; refusal = refusal; files = new.files } ∷ []

@@ -22,5 +22,6 @@ Drafts (Err _) call P = Unit {0}
 
 -- the draft took place, unless there was none or memory ran out
 abbrev pub Ran : {V : Type 0} → Result (SysCall × V) AllocError → Result V SysError → Memory → Memory → Type 0
-Ran (Ok draft) result old new = Answered draft.0 (logged old draft.0) (refusal_of result) old new × IfOk result (λ v. v ≡ draft.1)
+Ran (Ok draft) result old new =
+    Answered draft.0 (logged old draft.0) (refusal_of result) old new × IfOk result (λ v. v ≡ draft.1)
 Ran (Err _) result old new = (refusal_of result ≡ Some OutOfMemory) × (new ≡ old)
