@@ -1,17 +1,43 @@
-//! Specifiers, paths and files: what stands in `lexical_path`, `file_url` and `sys_traits`, by one name.
+//! Specifiers, paths and files: what stands in `lexical_path`, `file_url` and `sys_traits`, by one name, and files that
+//! are replaced in one step.
 //!
+//! - `atomic_write_file(sys, path, bytes, mode)`: at no moment does the path read anything but its old content or the
+//!   bytes, and no other file changes but the temporary one (`WriteLaw`, `specs/WriteLaw.antt`). Which calls it makes, in
+//!   order, and which refusal is answered: `IsWrite`, `specs/Course.antt`.
+//! - `atomic_write_file_with_retries(sys, path, bytes, mode)`: the same over six tries (`IsTried`, `specs/Tries.antt`).
+//! - `get_atomic_path(sys, path)`: the temporary path (`atomic_path`, `specs/Atomic.antt`).
 //! - Paths as texts: `normalize_path`, `join_path`, `path_in`, `file_name`, `parent`, `strip_unc_prefix` (`lexical_path`).
-//! - Specifiers: `resolve_import` (`file_url`), `is_relative_specifier`, `specifier_has_uri_scheme` (`lexical_path`).
-//! - The calls of a system, as traits (`sys_traits`).
+//! - Paths and URLs: `url_from_file_path`, `url_to_file_path` and the like, `resolve_import`, `resolve_url_or_path`
+//!   (`file_url`); `is_relative_specifier`, `specifier_has_uri_scheme` (`lexical_path`).
+//! - The calls of a system as traits, and `InMemorySys`, a system in memory (`sys_traits`).
+//!
+//! The law and the calls are told by what the system tells of its files and its log; one that tells nothing is promised
+//! the causes of refusals alone. Want of memory is the one answer that no clause ties to a cause.
 #![tactic(auto)]
 
-pub use file_url::{SpecifierError, resolve_import, resolve_import_from};
+mod atomic;
+mod error;
+mod pass;
+mod retries;
+mod temporary;
+#[cfg(test)]
+mod tests;
+
+pub use crate::atomic::atomic_write_file;
+pub use crate::retries::atomic_write_file_with_retries;
+pub use crate::temporary::get_atomic_path;
+pub use file_url::{
+    PathToUrlError, ResolveUrlOrPathError, SpecifierError, UrlToFilePathError, resolve_import,
+    resolve_import_from, resolve_path, resolve_url_or_path, url_from_directory_path,
+    url_from_directory_path_wasm, url_from_file_path, url_from_file_path_wasm, url_parent,
+    url_to_file_path, url_to_file_path_wasm,
+};
 pub use lexical_path::{
     file_name, has_relative_prefix, is_relative_specifier, join_path, normalize_path, parent,
     path_in, specifier_has_uri_scheme, strip_unc_prefix,
 };
 pub use sys_traits::{
     AtomicWriteFileSys, AtomicWriteFileWithRetriesSys, FsCanonicalize, FsCreateDirAll, FsMetadata,
-    FsOpen, FsRemoveFile, FsRename, SysCall, SysCallKind, SysError, SysErrorKind, SysFile,
-    SysState, SystemRandom, ThreadSleep,
+    FsOpen, FsRemoveFile, FsRename, InMemorySys, SysCall, SysCallKind, SysError, SysErrorKind,
+    SysFile, SysState, SystemRandom, ThreadSleep,
 };

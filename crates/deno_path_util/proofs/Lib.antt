@@ -1,0 +1,10 @@
+pub mod ToldLemmas
+pub mod HeldLemmas
+pub mod PassLemmas
+pub mod StretchLemmas
+pub mod CourseLemmas
+pub mod AtomicLemmas
+pub mod DrawLemmas
+pub mod PathLemmas
+pub mod GainedLemmas
+pub mod TriesLemmas

@@ -1,0 +1,7 @@
+-- ---- what the public contracts rest on
+pub mod Atomic
+pub mod Course
+pub mod WriteLaw
+pub mod Tries
+-- ---- what the functions promise each other
+pub mod Steps
