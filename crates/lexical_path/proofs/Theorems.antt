@@ -1,12 +1,12 @@
 -- Laws of paths.
-use Rattle.std.proofs.Common.{◌≡◌, ◌≢◌, ℕ, ◌+◌, ◌<◌, Bool, true, false, List, [], ◌∷◌, ◌++◌, take, length, get_or, refl, sym, ap, ap₂, subst, ◌∙◌, append_assoc, append-nil, codes, arith, ne_eqb, eqb, not, ◌||◌, eqb-true}
+use Rattle.std.proofs.Common.{◌≡◌, ℕ, Bool, true, false, List, [], ◌∷◌, ◌++◌, length, refl, sym, ap, ap₂, ◌∙◌, append_assoc, append-nil, codes, ◌||◌}
 use Rattle.std.specs.Bool.{if◌then◌else◌}
 use Rattle.std.specs.Prelude.{fold, bytes_eq, ◌==◌}
-use Rattle.std.specs.List.{All, slice_split, onto_first, join_with_byte}
-use Rattle.std.proofs.lemmas.Bool.{cond-true, cond-false, cond_both, or_parts}
+use Rattle.std.specs.List.{All, onto_first, join_with_byte}
+use Rattle.std.proofs.lemmas.Bool.{cond-false, cond_both}
 use Rattle.std.proofs.lemmas.List.Elements.{All-nil, All-cons, All-head, All-tail, All-append, All-take}
 use Rattle.std.proofs.lemmas.List.Splits.{slice_split_none, slice_split_at}
-use Rattle.lexical_path.specs.Paths.{parts, is_absolute, after_part, names_of, path_of, needs_normalizing, normal_path, without_last}
+use Rattle.lexical_path.specs.Paths.{parts, is_absolute, after_part, names_of, path_of, needs_normalizing, normal_path}
 
 -- the byte is no slash
 abbrev pub IsNoSlash : ℕ → Type 0

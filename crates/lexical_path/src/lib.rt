@@ -19,7 +19,9 @@ mod splits;
 
 pub use crate::names::{file_name, join_path, parent, path_in, strip_unc_prefix};
 pub use crate::normalize::{normalize_path, path_of};
-pub use crate::specifiers::{begins, has_relative_prefix, is_relative_specifier, specifier_has_uri_scheme};
+pub use crate::specifiers::{
+    begins, has_relative_prefix, is_relative_specifier, specifier_has_uri_scheme,
+};
 pub use crate::splits::{has_dots, parts};
 
 #[cfg(test)]
