@@ -1,5 +1,5 @@
 -- What stands behind a front of a text.
-use Rattle.std.proofs.Common.{◌≡◌, ◌≢◌, ℕ, true, false, List, [], ◌∷◌, ◌++◌, drop, length, get_or, ap, sym, subst, refl, Bor, Some, None, MatchOption, nat_eq}
+use Rattle.std.proofs.Common.{◌≡◌, ◌≢◌, ℕ, true, false, List, [], ◌∷◌, drop, length, get_or, ap, sym, subst, Bor, Some, None, MatchOption, nat_eq}
 use Rattle.std.specs.Prelude.{Option}
 use Rattle.std.specs.Str.{IsCharBoundary}
 use Rattle.std.specs.Str.Pattern.{FindsTextPrefix, StripsPrefix}

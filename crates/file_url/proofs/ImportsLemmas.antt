@@ -1,11 +1,10 @@
 -- Refusals of reading a specifier.
-use Rattle.std.proofs.Common.{◌≡◌, ◌≢◌, ◌⊎◌, inl, inr, ⊎_elim, sym, ◌∙◌, ap, refl, List, ℕ, Err}
+use Rattle.std.proofs.Common.{◌≡◌, ◌≢◌, ◌⊎◌, inl, inr, ⊎_elim, ◌∙◌, ap, refl, List, ℕ, Err}
 use Rattle.url.specs.declared.error.ParseError.{ParseError}
 use Rattle.url.specs.declared.error.ParseError.TheVariants as url
 use Rattle.url.specs.declared.error.ParseError.TheVariants.{RelativeUrlWithoutBase}
 use Rattle.url.specs.Parts.{Parts}
 use Rattle.url.specs.Parser.{Parsed, IsOutOfRoom}
-use Rattle.file_url.specs.declared.errors.SpecifierError.{SpecifierError}
 use Rattle.file_url.specs.declared.errors.SpecifierError.TheVariants.{OutOfMemory}
 use Rattle.file_url.specs.Imports.{refusal, import_read, KeepsReason}
 

@@ -1,9 +1,9 @@
 -- What the parser of URLs makes of the text of a file URL.
-use Rattle.std.proofs.Common.{◌≡◌, ◌≢◌, ℕ, ◌+◌, ◌-◌, ◌<◌, ◌≤◌, Bool, true, false, not, ◌&&◌, ◌||◌, ◌==◌, ltb, ◌⊎◌, List, [], ◌∷◌, ◌++◌, length, get_or, take, drop, Some, None, Ok, Err, All, sym, refl, ap, ◌∙◌, subst, append_assoc, append-nil, arith, length-append, take_all, take_at, drop_at}
-use Rattle.std.specs.Prelude.{Option, codes, reverse, IsOk}
+use Rattle.std.proofs.Common.{◌≡◌, ◌≢◌, ℕ, ◌-◌, ◌<◌, Bool, true, false, not, ◌&&◌, ◌||◌, ◌==◌, ltb, List, [], ◌∷◌, ◌++◌, length, get_or, take, drop, None, Ok, Err, All, sym, refl, ap, ◌∙◌, subst, arith, take_all, take_at, drop_at}
+use Rattle.std.specs.Prelude.{codes, reverse, IsOk}
 use Rattle.std.specs.List.{prefix_len, list_all, flat_map}
 use Rattle.std.specs.Char.{is_ascii_alphabetic}
-use Rattle.std.proofs.lemmas.Bool.{cond-true, cond-false, cond_both, lt-leb, and_right}
+use Rattle.std.proofs.lemmas.Bool.{cond-false, cond_both, lt-leb, and_right}
 use Rattle.std.proofs.lemmas.Bool.Decides.{nat_tests}
 use Rattle.std.proofs.lemmas.List.{get_or-reverse, length-reverse}
 use Rattle.std.proofs.Math.Nat.{sub-zero}
@@ -12,19 +12,18 @@ use Rattle.url.specs.Input.{is_c0_control_or_space, is_tab_or_new_line, trim_c0_
 use Rattle.url.specs.Scheme.{IsScheme, scheme_len, scheme_type, is_slash, default_port}
 use Rattle.url.specs.declared.scheme.SchemeType.TheVariants.{File}
 use Rattle.url.specs.declared.host.Host.{Host}
-use Rattle.url.specs.declared.host.Host.TheVariants.{Domain}
 use Rattle.url.specs.Host.{parse_file_host}
 use Rattle.url.specs.Path.{segment_len, is_windows_drive_letter, parse_path_start}
 use Rattle.url.specs.Parts.{Parts}
-use Rattle.url.specs.Parser.{Parsed, and_then, split_scheme, base_for_scheme, parse_by_scheme, parse_parts, parse_body, parse_file, leading_slashes, after_file_double_slash, file_with_host, with_path, with_tail, before_tail, parse_url}
-use Rattle.url.proofs.InputLemmas.{IsNot, Passes, StopsAt, split_once_none, prefix_len_at, filter_all, All_from_list_all}
+use Rattle.url.specs.Parser.{Parsed, and_then, split_scheme, parse_by_scheme, parse_parts, parse_body, parse_file, leading_slashes, after_file_double_slash, file_with_host, with_path, with_tail, before_tail, parse_url}
+use Rattle.url.proofs.InputLemmas.{IsNot, Passes, split_once_none, prefix_len_at, filter_all, All_from_list_all}
 use Rattle.url.proofs.SetLemmas.{passes_from_kept}
 use Rattle.url.proofs.RoundTrip.{split_own_scheme}
 use Rattle.percent_encoding.specs.Percent.{percent_encode}
 use Rattle.percent_encoding.proofs.PercentLemmas.{All-percent_encode}
 use Rattle.file_url.specs.declared.sets.TheConstants.{NAME}
 use Rattle.file_url.specs.FileUrls.{escaped, escaped_path, file_text}
-use Rattle.file_url.specs.WindowsPaths.{is_host_byte, is_host}
+use Rattle.file_url.specs.WindowsPaths.{is_host_byte}
 
 -- neither a control nor a space nor a mark of the query or the fragment
 pub record IsPlainByte (b : ℕ) : Type 0 where

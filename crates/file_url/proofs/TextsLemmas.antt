@@ -1,5 +1,5 @@
 -- Lists of texts, seen as lists of what they are.
-use Rattle.std.proofs.Common.{◌≡◌, ℕ, ◌+◌, ◌<◌, Bool, List, [], ◌∷◌, ◌&&◌, ◌++◌, map, take, length, get_or, ap, refl, sym, ◌∙◌, Bor, codes, nat_eq, arith}
+use Rattle.std.proofs.Common.{◌≡◌, ℕ, ◌+◌, ◌<◌, Bool, List, [], ◌∷◌, ◌&&◌, ◌++◌, map, take, length, get_or, ap, refl, ◌∙◌, Bor, codes, nat_eq, arith}
 use Rattle.std.specs.Bool.{if◌then◌else◌}
 use Rattle.std.specs.List.{list_all, prefix_len}
 use Rattle.std.proofs.lemmas.List.{take_more, map-append, length-map, length-take-le}

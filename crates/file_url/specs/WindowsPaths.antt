@@ -1,5 +1,5 @@
 -- Paths with backslashes and file URLs with hosts, as programs on Windows write them.
-use Rattle.std.specs.Prelude.{◌≡◌, ℕ, ◌+◌, nat_lt, Bool, false, not, ◌&&◌, ◌||◌, ◌==◌, List, [], ◌∷◌, ◌++◌, map, drop, length, slice_index, filter, codes, bytes_eq, Option, None, Some, Result, Ok, Err, is_ok, option_map, if◌then◌else◌}
+use Rattle.std.specs.Prelude.{◌≡◌, ℕ, nat_lt, Bool, false, not, ◌&&◌, ◌||◌, ◌==◌, List, [], ◌∷◌, ◌++◌, map, drop, length, slice_index, filter, codes, bytes_eq, Option, None, Some, Result, Err, is_ok, option_map, if◌then◌else◌}
 use Rattle.std.specs.List.{flat_map, list_all, list_any, prefix_len, position_or_len, before_first, after_first}
 use Rattle.std.specs.Char.{is_ascii_alphabetic, is_ascii_alphanumeric}
 use Rattle.std.specs.Borrow.{Bor}
