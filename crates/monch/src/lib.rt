@@ -56,8 +56,6 @@ pub use values::{Map, Substring};
 pub use whiles::{SkipWhile, SkipWhileByte, TakeWhile, TakeWhileByte};
 
 #[cfg(test)]
-mod json_tests;
-#[cfg(test)]
 mod repeat_tests;
 #[cfg(test)]
 mod tests;
