@@ -8,7 +8,7 @@ ghost use Rattle.graph_entry.specs.Steps.{GivesEdges};
 
 use crate::entry::{Dependency, Entry, Module, ModuleError, WasmModule};
 use crate::resolution::{ReadAgain, resolve_from};
-use base::{Items, Range, SharedBytes, Text};
+use base::{Items, SharedBytes, Text};
 use es_tree::{Attribute, DependencyKind};
 use std::alloc::{AllocError, Global};
 use url::Url;
