@@ -8,3 +8,4 @@ pub mod DrawLemmas
 pub mod PathLemmas
 pub mod GainedLemmas
 pub mod TriesLemmas
+pub mod ClimbLemmas

@@ -6,6 +6,8 @@
 //!   order, and which refusal is answered: `IsWrite`, `specs/Course.antt`.
 //! - `atomic_write_file_with_retries(sys, path, bytes, mode)`: the same over six tries (`IsTried`, `specs/Tries.antt`).
 //! - `get_atomic_path(sys, path)`: the temporary path (`atomic_path`, `specs/Atomic.antt`).
+//! - `canonicalize_path_maybe_not_exists(sys, path)`: the real path of what is there, with the names that aren't behind it
+//!   (`IsClimbed`, `specs/Climb.antt`).
 //! - Paths as texts: `normalize_path`, `join_path`, `path_in`, `file_name`, `parent`, `strip_unc_prefix` (`lexical_path`).
 //! - Paths and URLs: `url_from_file_path`, `url_to_file_path` and the like, `resolve_import`, `resolve_url_or_path`
 //!   (`file_url`); `is_relative_specifier`, `specifier_has_uri_scheme` (`lexical_path`).
@@ -16,6 +18,7 @@
 #![tactic(auto)]
 
 mod atomic;
+mod canonical;
 mod error;
 mod pass;
 mod retries;
@@ -24,6 +27,7 @@ mod temporary;
 mod tests;
 
 pub use crate::atomic::atomic_write_file;
+pub use crate::canonical::canonicalize_path_maybe_not_exists;
 pub use crate::retries::atomic_write_file_with_retries;
 pub use crate::temporary::get_atomic_path;
 pub use file_url::{

@@ -2,7 +2,7 @@
 
 use crate::{
     AtomicWriteFileWithRetriesSys, InMemorySys, SysCall, SysError, atomic_write_file,
-    atomic_write_file_with_retries, get_atomic_path,
+    atomic_write_file_with_retries, canonicalize_path_maybe_not_exists, file_name, get_atomic_path,
 };
 use base::{Items, Text};
 use std::alloc::Global;
@@ -117,6 +117,7 @@ fn temporary_paths(rt: HostRuntime) -> Result<(), Fail> {
     ] {
         let (path, expected) = row;
         let mut sys = system(alloc, "", &[])?;
+        assert!(rt; file_name(path).is_some());
         match get_atomic_path(alloc, &mut sys, path) {
             Ok(temporary) => assert_eq!(rt; temporary.as_str(), expected),
             Err(_) => assert!(rt; false, "{path}"),
@@ -203,5 +204,34 @@ fn six_tries(rt: HostRuntime) -> Result<(), Fail> {
         }
     }
     assert_eq!(rt; sys.file("/a/b/c.3d3d3d3d.tmp"), None);
+    Ok(())
+}
+
+// Real paths below the folder `/a/b/c`, in the current folder `/a/b`.
+#[test]
+fn real_paths(rt: HostRuntime) -> Result<(), Fail> {
+    let alloc = rt.alloc();
+    for row in [
+        ("c/d/e", "/a/b/c/d/e"),
+        ("x", "/a/b/x"),
+        ("/q/r/", "/q/r"),
+        ("c", "/a/b/c"),
+    ] {
+        let (path, expected) = row;
+        let mut folders = Items::new(alloc);
+        folders.push(Text::from_str(alloc, "/a/b/c")?)?;
+        let mut sys = InMemorySys::new(
+            alloc,
+            Items::new(alloc),
+            folders,
+            Text::from_str(alloc, "/a/b")?,
+            Items::new(alloc),
+            Items::new(alloc),
+        )?;
+        match canonicalize_path_maybe_not_exists(alloc, &mut sys, path) {
+            Ok(real) => assert_eq!(rt; real.as_str(), expected),
+            Err(error) => assert_eq!(rt; error.message.as_str(), expected),
+        }
+    }
     Ok(())
 }
