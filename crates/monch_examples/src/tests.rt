@@ -1,9 +1,9 @@
 use crate::read_record;
 use monch::{
     Combinator, HandledError, ParseError, ParseResult, assert, assert_exists, ch, check_not,
-    delimited, from_fn, if_not_empty, if_true, map, map_res, maybe, next_char, one_of, or, or3,
-    or4, or5, or6, or7, pair, preceded, skip_while, skip_while_byte, skip_whitespace, substring,
-    tag, tag_owned, take_while, take_while_byte, terminated, whitespace, with_error_context,
+    delimited, if_not_empty, if_true, map, map_res, maybe, next_char, one_of, or, or3, or4, or5,
+    or6, or7, pair, preceded, skip_while, skip_while_byte, skip_whitespace, substring, tag,
+    tag_owned, take_while, take_while_byte, terminated, whitespace, with_error_context,
     with_failure_handling, with_failure_input,
 };
 use std::alloc::{AllocError, Global};
@@ -11,6 +11,22 @@ use std::fmt::Debug;
 use std::test::Fail;
 
 // The rest and the value, or why there is none.
+fn shown<'a, O: Debug + Drop>(
+    alloc: Global,
+    outcome: ParseResult<'a, O>,
+) -> Result<String, AllocError> {
+    match outcome {
+        Ok((rest, value)) => format!(in alloc; "{rest}|{value:?}"),
+        Err(ParseError::Backtrace) => format!(in alloc; "backtrack"),
+        Err(ParseError::Failure(failure)) => {
+            let message = failure.message.as_str();
+            format!(in alloc; "{}: {message}", failure.input)
+        }
+        Err(ParseError::OutOfMemory) => Err(AllocError),
+    }
+}
+
+// The same of a combinator, through its bound.
 fn told<'a, A: Combinator<'a>>(
     alloc: Global,
     part: &A,
@@ -20,15 +36,7 @@ where
     A::Output: Debug + Drop,
     requires { A.can_parse part.now }
 {
-    match part.parse(input) {
-        Ok((rest, value)) => format!(in alloc; "{rest}|{value:?}"),
-        Err(ParseError::Backtrace) => format!(in alloc; "backtrack"),
-        Err(ParseError::Failure(failure)) => {
-            let message = failure.message.as_str();
-            format!(in alloc; "{}: {message}", failure.input)
-        }
-        Err(ParseError::OutOfMemory) => Err(AllocError),
-    }
+    shown(alloc, part.parse(input))
 }
 
 #[test]
@@ -43,8 +51,8 @@ fn reads_characters_and_tags(rt: HostRuntime) -> Result<(), Fail> {
     assert_eq!(rt; told(alloc, &tag("€a"), "€b")?.as_str(), "backtrack");
     let owned = tag_owned(String::from_str(alloc, "ab")?);
     assert_eq!(rt; told(alloc, &owned, "abc")?.as_str(), "c|\"ab\"");
-    assert_eq!(rt; told(alloc, &from_fn(next_char), "😀b")?.as_str(), "b|'😀'");
-    assert_eq!(rt; told(alloc, &from_fn(next_char), "")?.as_str(), "backtrack");
+    assert_eq!(rt; shown(alloc, next_char("😀b"))?.as_str(), "b|'😀'");
+    assert_eq!(rt; shown(alloc, next_char(""))?.as_str(), "backtrack");
     Ok(())
 }
 
@@ -65,21 +73,12 @@ fn takes_longest_fronts(rt: HostRuntime) -> Result<(), Fail> {
         "😀|()"
     );
     assert_eq!(rt;
-        told(alloc, &from_fn(whitespace), " \u{3000}\ta")?.as_str(),
+        shown(alloc, whitespace(" \u{3000}\ta"))?.as_str(),
         "a|\" \\u{3000}\\t\""
     );
-    assert_eq!(rt;
-        told(alloc, &from_fn(whitespace), "a ")?.as_str(),
-        "backtrack"
-    );
-    assert_eq!(rt;
-        told(alloc, &from_fn(skip_whitespace), " \u{a0}a")?.as_str(),
-        "a|()"
-    );
-    assert_eq!(rt;
-        told(alloc, &from_fn(skip_whitespace), "a")?.as_str(),
-        "a|()"
-    );
+    assert_eq!(rt; shown(alloc, whitespace("a "))?.as_str(), "backtrack");
+    assert_eq!(rt; shown(alloc, skip_whitespace(" \u{a0}a"))?.as_str(), "a|()");
+    assert_eq!(rt; shown(alloc, skip_whitespace("a"))?.as_str(), "a|()");
     Ok(())
 }
 
@@ -123,7 +122,7 @@ fn reads_on_conditions(rt: HostRuntime) -> Result<(), Fail> {
     let text = if_not_empty(take_while(|c: char| c == 'a'));
     assert_eq!(rt; told(alloc, &text, "aab")?.as_str(), "b|\"aa\"");
     assert_eq!(rt; told(alloc, &text, "b")?.as_str(), "backtrack");
-    let not_a = if_true(from_fn(next_char), |c: &char| *c != 'a');
+    let not_a = if_true(one_of("ßa"), |c: &char| *c != 'a');
     assert_eq!(rt; told(alloc, &not_a, "ßa")?.as_str(), "a|'ß'");
     assert_eq!(rt; told(alloc, &not_a, "aß")?.as_str(), "backtrack");
     assert_eq!(rt; told(alloc, &check_not(ch('a')), "b")?.as_str(), "b|()");
@@ -216,15 +215,9 @@ fn handles_whole_texts(rt: HostRuntime) -> Result<(), Fail> {
 
 #[test]
 fn reads_records_of_lists(rt: HostRuntime) -> Result<(), Fail> {
-    let alloc = rt.alloc();
     let source = "{\"a\":[1,\"€😀\",null],\"ß\":[]}!";
-    let want = "[(\"a\", [Number(\"1\"), Text(\"€😀\"), Word(\"null\")]), (\"ß\", [])]";
-    match read_record(alloc, source) {
-        Ok((rest, fields)) => {
-            assert_eq!(rt; rest, "!");
-            assert_eq!(rt; format!(in alloc; "{fields:?}")?.as_str(), want);
-        }
-        Err(_) => assert!(rt; false),
-    }
+    let want = "!|[(\"a\", [Number(\"1\"), Text(\"€😀\"), Word(\"null\")]), (\"ß\", [])]";
+    let got = shown(rt.alloc(), read_record(rt.alloc(), source))?;
+    assert_eq!(rt; got.as_str(), want);
     Ok(())
 }
