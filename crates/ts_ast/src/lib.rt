@@ -3,7 +3,7 @@
 //!
 //! - `TsType` and its parts: one variant for each form of a type, plain data that contracts compare by value. No type
 //!   holds an expression, so these types stand by themselves, below the tree.
-//! - `TsInterfaceDecl`, `TsTypeAliasDecl` and what stands behind `:`, `<` or `implements` on the side of values.
+//! - `TsPart`: what the tree of expressions and statements holds of types.
 //! - `Ident`, `Str`, `Number`, `BigInt`, `TplElement`: the leaves.
 //!
 //! A `span` is the range of bytes of the text that a part was read from. Every drop is written by hand: a derived one
@@ -18,7 +18,6 @@ pub use leaf::{
     TsKeywordTypeKind, TsLit, TsThisTypeOrIdent, TsTypeOperatorOp,
 };
 pub use ts::{
-    Nodes, TsExprWithTypeArgs, TsFnParam, TsInterfaceDecl, TsParamPat, TsPatProp, TsTupleElement,
-    TsType, TsTypeAliasDecl, TsTypeAnn, TsTypeElement, TsTypeParam, TsTypeParamDecl,
-    TsTypeParamInstantiation,
+    Nodes, TsExprWithTypeArgs, TsFnParam, TsParamPat, TsPart, TsPatProp, TsTupleElement, TsType,
+    TsTypeElement, TsTypeParam,
 };

@@ -583,48 +583,10 @@ impl Drop for TsTupleElement {
     }
 }
 
-/// A type on the side of values: after `:`, `as` or `satisfies`.
-pub struct TsTypeAnn {
-    pub ty: TsType,
-}
-
-impl Drop for TsTypeAnn {
-    fn drop(self) {
-        let TsTypeAnn { ty } = self;
-        let _ = ty;
-    }
-}
-
-/// `<a, b>` where parameters are declared.
-pub struct TsTypeParamDecl {
-    pub params: Items<TsTypeParam>,
-    pub span: Range,
-}
-
-impl Drop for TsTypeParamDecl {
-    fn drop(self) {
-        let TsTypeParamDecl { params, span: _ } = self;
-        let _ = params;
-    }
-}
-
-/// `<a, b>` where arguments are given.
-pub struct TsTypeParamInstantiation {
-    pub params: Items<TsType>,
-    pub span: Range,
-}
-
-impl Drop for TsTypeParamInstantiation {
-    fn drop(self) {
-        let TsTypeParamInstantiation { params, span: _ } = self;
-        let _ = params;
-    }
-}
-
 /// `a.b<c>` behind `extends` or `implements`.
 pub struct TsExprWithTypeArgs {
     pub expr: TsEntityName,
-    pub type_args: Option<TsTypeParamInstantiation>,
+    pub type_args: Option<Nodes<TsType>>,
     pub span: Range,
 }
 
@@ -640,53 +602,38 @@ impl Drop for TsExprWithTypeArgs {
     }
 }
 
-/// `interface a<b> extends c { .. }`
-pub struct TsInterfaceDecl {
-    pub declare: bool,
-    pub id: Ident,
-    pub type_params: Option<TsTypeParamDecl>,
-    pub extends: Items<TsExprWithTypeArgs>,
-    pub body: Items<TsTypeElement>,
-    pub span: Range,
+/// What the side of values holds of types. The field that holds it tells which variant it is.
+pub enum TsPart {
+    /// Behind `:`, `as` or `satisfies`, or of an alias.
+    TypeAnn(Boxed<TsType>),
+    /// `<a, b>` where parameters are declared
+    TypeParams(Nodes<TsTypeParam>),
+    /// `<a, b>` where arguments are given
+    TypeArgs(Nodes<TsType>),
+    /// Behind `implements`, or `extends` of an interface.
+    Heritage(Items<TsExprWithTypeArgs>),
+    /// The body of an interface.
+    Members(Items<TsTypeElement>),
 }
 
-impl Drop for TsInterfaceDecl {
+impl Drop for TsPart {
     fn drop(self) {
-        let TsInterfaceDecl {
-            declare: _,
-            id,
-            type_params,
-            extends,
-            body,
-            span: _,
-        } = self;
-        let _ = id;
-        let _ = type_params;
-        let _ = extends;
-        let _ = body;
-    }
-}
-
-/// `type a<b> = c;`
-pub struct TsTypeAliasDecl {
-    pub declare: bool,
-    pub id: Ident,
-    pub type_params: Option<TsTypeParamDecl>,
-    pub type_ann: TsTypeAnn,
-    pub span: Range,
-}
-
-impl Drop for TsTypeAliasDecl {
-    fn drop(self) {
-        let TsTypeAliasDecl {
-            declare: _,
-            id,
-            type_params,
-            type_ann,
-            span: _,
-        } = self;
-        let _ = id;
-        let _ = type_params;
-        let _ = type_ann;
+        match self {
+            TsPart::TypeAnn(type_ann) => {
+                let _ = type_ann;
+            }
+            TsPart::TypeParams(params) => {
+                let _ = params;
+            }
+            TsPart::TypeArgs(args) => {
+                let _ = args;
+            }
+            TsPart::Heritage(heritage) => {
+                let _ = heritage;
+            }
+            TsPart::Members(members) => {
+                let _ = members;
+            }
+        }
     }
 }
