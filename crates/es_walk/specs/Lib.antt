@@ -1,0 +1,3 @@
+pub mod Attributes
+pub mod Parts
+pub mod Sites

@@ -1,0 +1,61 @@
+ghost use Rattle.std.specs.Prelude.{◌≡◌, IfOk};
+
+use base::{Range, Text};
+use std::alloc::AllocError;
+
+/// How a module is named by another.
+#[derive(Clone, Copy, Debug, PartialEq, Eq, PartialOrd, Ord, Hash)]
+pub enum DependencyKind {
+    /// `import .. from "a"`, or `import "a"`.
+    Import,
+    /// `export .. from "a"`.
+    Export,
+    /// `import a = require("a")`.
+    ImportEquals,
+    /// `import("a")`.
+    Dynamic,
+    /// `/// <reference path="a" />`.
+    ReferencePath,
+    /// `/// <reference types="a" />`.
+    ReferenceTypes,
+    /// An import of a WebAssembly module.
+    Wasm,
+    /// An import that the caller gave for the referrer, which stands in no text.
+    Referrer,
+}
+
+/// The `type` among the import attributes of a site (ECMA-262, "WithClause").
+#[derive(Debug, PartialEq, Eq, Drop)]
+pub enum Attribute {
+    /// None is written.
+    Absent,
+    /// The text of the last one that is written.
+    Named(Text),
+    /// What is written doesn't tell.
+    Unknown,
+}
+
+impl Attribute {
+    pub fn copy(&self) -> Result<Attribute, AllocError>
+        ensures { IfOk result (λ a. a ≡ self.now) }
+    {
+        match self {
+            Attribute::Absent => Ok(Attribute::Absent),
+            Attribute::Named(text) => Ok(Attribute::Named(text.copy()?)),
+            Attribute::Unknown => Ok(Attribute::Unknown),
+        }
+    }
+}
+
+/// A place where a program names another module.
+#[derive(Debug, PartialEq, Eq, Drop)]
+pub struct Site {
+    pub kind: DependencyKind,
+    /// Whether `type`, as a modifier, follows `import` or `export`, so that nothing is loaded when the program runs.
+    pub type_only: bool,
+    /// The string literal in the text, with its quotes.
+    pub range: Range,
+    /// The literal's value.
+    pub value: Text,
+    pub attribute: Attribute,
+}
