@@ -10,6 +10,8 @@
 //! Memory is the only cause of an `Err`. Not promised: what `Debug` writes.
 #![tactic(auto)]
 
+mod attribute;
+mod named;
 mod site;
 mod walk;
 
