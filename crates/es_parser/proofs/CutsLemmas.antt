@@ -1,5 +1,5 @@
 -- Each site of a derived tree cuts its literal from the text: each Str that is kept does, and dressing keeps that.
-use Rattle.std.specs.Prelude.{List, [], Option, Some, None, All, slice_get, true}
+use Rattle.std.specs.Prelude.{List, [], Option, Some, None, All, slice_get, true, false}
 use Rattle.std.specs.List.{flat_map}
 use Rattle.std.proofs.Common.{◌≡◌, ℕ, ◌<◌, refl, sym, subst, arith}
 use Rattle.std.proofs.lemmas.List.Elements.{All-append, All-push}
@@ -9,8 +9,8 @@ use Rattle.es_lexer.specs.declared.token.TokenKind.TheVariants as k
 use Rattle.es_lexer.specs.Reads.{ReadsTokens}
 use Rattle.es_lexer.proofs.Theorems.{reads_within, reads_str}
 use Rattle.es_tree.specs.declared.error.Mode.TheVariants as mode
-use Rattle.es_tree.specs.declared.site.Site.{Site}
-use Rattle.es_tree.specs.Sites.{sites_of, sites_of_item, CutsLiteral}
+use Rattle.es_walk.specs.declared.site.Site.{Site}
+use Rattle.es_walk.specs.Sites.{sites_of, sites_of_module_item, CutsLiteral}
 use Rattle.es_tree.specs.Key.{seen, keys_of, is}
 use Rattle.es_tree.specs.Form.{Sort, as_str}
 use Rattle.es_tree.specs.Plain.{Plain, node, leaf, nil, cons, mark, turn, via, made}
@@ -19,6 +19,7 @@ use Rattle.es_parser.specs.Rows.{Row, ProgramRow, ItemRow, Label, ModuleProgram,
 use Rattle.es_parser.specs.Dress.{Value, absent, more, turns, str, items_in, build, span_of, str_of, dress}
 use Rattle.es_parser.specs.Dress.{item as item_value, program as program_value}
 use Rattle.es_parser.proofs.StepLemmas.{kind_seen}
+use Rattle.es_parser.proofs.SiteLemmas.{import_sites, empty_sites}
 
 -- the sites cut their literals
 abbrev pub SitesCut : List ℕ → List Site → Type 0
@@ -30,23 +31,24 @@ Cuts x absent = Unit {0}
 Cuts x (more v vs) = Cuts x v × Cuts x vs
 Cuts x (turns v vs) = Cuts x v × Cuts x vs
 Cuts x (str s) = CutsLiteral x s.span s.value
-Cuts x (item_value i) = SitesCut x (sites_of_item i)
+Cuts x (item_value i) = SitesCut x (sites_of_module_item i)
 Cuts x (program_value p) = SitesCut x (sites_of p)
 
 none_cut : (x : List ℕ) → SitesCut x []
 none_cut x k site within = absurd (let bad : ⊥ = omega (arith, within) in bad)
 
-items_cut : (x : List ℕ) (v : Value) → Cuts x v → SitesCut x (flat_map sites_of_item (items_in v))
+items_cut : (x : List ℕ) (v : Value) → Cuts x v → SitesCut x (flat_map sites_of_module_item (items_in v))
 items_cut x (turns (more (item_value i) v) vs) cuts =
-    All-append (λ site. CutsLiteral x site.range site.value) (sites_of_item i) (flat_map sites_of_item (items_in vs)) cuts.0.0
+    All-append (λ site. CutsLiteral x site.range site.value) (sites_of_module_item i) (flat_map sites_of_module_item (items_in vs)) cuts.0.0
     (items_cut x vs cuts.1)
 items_cut x _ cuts = none_cut x
 
 -- a node of parts that cut theirs
 build_cuts : (x : List ℕ) (l : Label) (r : Range) (v : Value) → Cuts x v → Cuts x (build l r v)
 build_cuts x ImportItem r (more (str s) vs) cuts =
-    All-push (λ site. CutsLiteral x site.range site.value) [] _ (none_cut x) cuts.0
-build_cuts x EmptyItem r vs cuts = none_cut x
+    rw (import_sites (record { type_only = false; clause = None; src = s; with = None; span = r }))
+    (All-push (λ site. CutsLiteral x site.range site.value) [] _ (none_cut x) cuts.0)
+build_cuts x EmptyItem r vs cuts = rw (empty_sites r) (none_cut x)
 build_cuts x ModuleProgram r (more items vs) cuts = items_cut x items cuts.0
 build_cuts x _ r vs cuts = tt
 

@@ -3,5 +3,6 @@ pub mod Table
 pub mod StepLemmas
 pub mod ListLemmas
 pub mod AnswerLemmas
+pub mod SiteLemmas
 pub mod CutsLemmas
 pub mod Theorems

@@ -7,7 +7,7 @@ use Rattle.es_lexer.specs.declared.token.Token.{Token}
 use Rattle.es_lexer.specs.declared.token.TokenKind.{TokenKind}
 use Rattle.es_tree.specs.declared.error.SyntaxError.{SyntaxError}
 use Rattle.es_tree.specs.declared.error.SyntaxError.TheVariants.{OutOfMemory}
-use Rattle.es_tree.specs.declared.tree.ModuleItem.{ModuleItem}
+use Rattle.es_ast.specs.declared.ast.ModuleItem.{ModuleItem}
 use Rattle.es_tree.specs.Key.{Look, seen, keys_of, is}
 use Rattle.es_tree.specs.Form.{as_str}
 use Rattle.es_tree.specs.Reader.{Out, nothing}

@@ -4,7 +4,7 @@ use Rattle.std.proofs.Common.{All, ◌≡◌, ℕ, length, sym, ap, ◌∙◌}
 use Rattle.es_lexer.specs.declared.token.Token.{Token}
 use Rattle.es_tree.specs.declared.error.Lang.{Lang}
 use Rattle.es_tree.specs.declared.error.Mode.{Mode}
-use Rattle.es_tree.specs.declared.tree.Program.{Program}
+use Rattle.es_ast.specs.declared.ast.Program.{Program}
 use Rattle.es_tree.specs.Key.{Key, keys_of}
 use Rattle.es_tree.specs.Plain.{Plain}
 use Rattle.es_tree.specs.Fits.{free, chosen, Shape, most_nodes}
@@ -13,7 +13,7 @@ use Rattle.es_parser.specs.Rows.{Label, ProgramRow, rule}
 use Rattle.es_parser.specs.Dress.{dress}
 use Rattle.es_parser.specs.Derives.{Derives}
 use Rattle.es_lexer.specs.Reads.{ReadsTokens}
-use Rattle.es_tree.specs.Sites.{sites_of, CutsLiteral}
+use Rattle.es_walk.specs.Sites.{sites_of, CutsLiteral}
 use Rattle.es_tree.proofs.LeafLemmas.{row_leaves}
 use Rattle.es_parser.proofs.AnswerLemmas.{program_same}
 use Rattle.es_parser.proofs.Table.{sets, grammar}

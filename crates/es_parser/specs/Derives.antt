@@ -5,7 +5,7 @@ use Rattle.es_tree.specs.declared.error.Lang.{Lang}
 use Rattle.es_tree.specs.declared.error.Mode.{Mode}
 use Rattle.es_tree.specs.declared.error.SyntaxError.{SyntaxError}
 use Rattle.es_tree.specs.declared.error.SyntaxError.TheVariants.{Syntax, OutOfMemory}
-use Rattle.es_tree.specs.declared.tree.Program.{Program}
+use Rattle.es_ast.specs.declared.ast.Program.{Program}
 use Rattle.es_tree.specs.Key.{keys_of}
 use Rattle.es_tree.specs.Plain.{Plain}
 use Rattle.es_tree.specs.Fits.{free, Shape}

@@ -3,13 +3,13 @@ use Rattle.std.specs.Prelude.{ℕ, zero, suc, ◌==◌, false, List, [], ◌∷�
 use Rattle.base.specs.declared.range.Range.{Range}
 use Rattle.es_lexer.specs.declared.token.Token.{Token}
 use Rattle.es_lexer.specs.Literals.{value_of}
-use Rattle.es_tree.specs.declared.tree.Program.{Program}
-use Rattle.es_tree.specs.declared.tree.Program.TheVariants as vProgram
-use Rattle.es_tree.specs.declared.tree.ModuleItem.{ModuleItem}
-use Rattle.es_tree.specs.declared.tree.ModuleItem.TheVariants as vItem
-use Rattle.es_tree.specs.declared.tree.ModuleDecl.TheVariants as vDecl
-use Rattle.es_tree.specs.declared.tree.Stmt.TheVariants as vStmt
-use Rattle.es_tree.specs.declared.tree.Str.{Str}
+use Rattle.es_ast.specs.declared.ast.Program.{Program}
+use Rattle.es_ast.specs.declared.ast.Program.TheVariants as vProgram
+use Rattle.es_ast.specs.declared.ast.ModuleItem.{ModuleItem}
+use Rattle.es_ast.specs.declared.ast.ModuleItem.TheVariants as vItem
+use Rattle.es_ast.specs.declared.ast.ModuleDecl.TheVariants as vDecl
+use Rattle.es_ast.specs.declared.ast.Stmt.TheVariants as vStmt
+use Rattle.ts_ast.specs.declared.leaf.Str.{Str}
 use Rattle.es_tree.specs.Form.{Sort, as_str}
 use Rattle.es_tree.specs.Plain.{Plain, Makes, made}
 use Rattle.es_parser.specs.Rows.{Label, ModuleProgram, ImportItem, EmptyItem}
@@ -64,9 +64,11 @@ items_in _ = []
 
 -- a node, from its alternative, span and parts: one line for each alternative
 abbrev pub build : Label → Range → Value → Value
-build ImportItem r (more (str s) vs) = item (vItem.ModuleDecl (vDecl.Import (record { src = s; span = r })))
-build EmptyItem r vs = item (vItem.Stmt (vStmt.Empty (record { span = r })))
-build ModuleProgram r (more items vs) = program (vProgram.Module (record { body = items_in items; span = r }))
+build ImportItem r (more (str s) vs) =
+    item (vItem.ModuleDecl (vDecl.Import (record { type_only = false; clause = None; src = s; with = None; span = r })))
+build EmptyItem r vs = item (vItem.Stmt (vStmt.Empty r))
+build ModuleProgram r (more items vs) =
+    program (vProgram.Module (record { shebang = None; body = items_in items; span = r }))
 build _ r vs = absent
 
 -- what is made of each part

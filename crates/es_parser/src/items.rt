@@ -8,9 +8,9 @@ ghost use Rattle.es_parser.specs.Rows.{ItemRow, import_item, empty_item, item, o
 ghost use Rattle.es_parser.specs.Steps.{Reads, row_at, by, turns_at, all_of};
 
 use crate::cursor::{Cursor, Parser};
-use base::Items;
+use base::{Boxed, Items};
 use es_lexer::TokenKind;
-use es_tree::{EmptyStmt, ImportDecl, ModuleDecl, ModuleItem, Stmt, SyntaxError};
+use es_tree::{ImportDecl, ModuleDecl, ModuleItem, Stmt, SyntaxError};
 
 impl Parser<'_> {
     /// 'import' Str END
@@ -25,7 +25,14 @@ impl Parser<'_> {
         let src = self.str(cursor)?;
         self.ended(room, cursor)?;
         let span = self.span(from, cursor.at);
-        Ok(ModuleItem::ModuleDecl(ModuleDecl::Import(ImportDecl { src, span })))
+        let import = ModuleDecl::Import(ImportDecl {
+            type_only: false,
+            clause: None,
+            src,
+            with: None,
+            span,
+        });
+        Ok(ModuleItem::ModuleDecl(Boxed::new(self.alloc, import)?))
     }
 
     /// ';'
@@ -37,7 +44,7 @@ impl Parser<'_> {
         let start = cursor.at;
         self.expect(TokenKind::Semicolon, cursor)?;
         let span = self.span(start, cursor.at);
-        Ok(ModuleItem::Stmt(Stmt::Empty(EmptyStmt { span })))
+        Ok(ModuleItem::Stmt(Boxed::new(self.alloc, Stmt::Empty(span))?))
     }
 
     /// Item: 'import' Str END | ';'

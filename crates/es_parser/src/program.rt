@@ -2,7 +2,7 @@
 
 ghost use Rattle.std.specs.Prelude.{IfOk};
 ghost use Rattle.es_lexer.specs.Reads.{ReadsTokens};
-ghost use Rattle.es_tree.specs.declared.tree.Program.{Program as Tree};
+ghost use Rattle.es_ast.specs.declared.ast.Program.{Program as Tree};
 ghost use Rattle.es_parser.specs.Derives.{Derives, GivesTree};
 ghost use Rattle.es_parser.specs.Dress.{program as program_value};
 ghost use Rattle.es_parser.specs.Rows.{ProgramRow, module_program};
@@ -27,7 +27,11 @@ impl Parser<'_> {
         let from = cursor.at;
         let body = self.items(room, cursor)?;
         let span = self.span(from, cursor.at);
-        Ok(Program::Module(Module { body, span }))
+        Ok(Program::Module(Module {
+            shebang: None,
+            body,
+            span,
+        }))
     }
 
     /// A whole program: a module, in module mode alone.

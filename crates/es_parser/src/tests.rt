@@ -22,7 +22,7 @@ fn parsed(alloc: Global, text: &str) -> Result<Program, Fail> {
 /// How many items the text has as a module, if it has a tree.
 fn item_count(alloc: Global, text: &str) -> Result<Option<usize>, Fail> {
     let lexed = lex_tokens(alloc, text)?;
-    match parse_tokens(alloc, Lang::Es, Mode::Module, text, lexed.tokens.as_slice()) {
+    match &parse_tokens(alloc, Lang::Es, Mode::Module, text, lexed.tokens.as_slice()) {
         Ok(Program::Module(module)) => Ok(Some(module.body.len())),
         Ok(Program::Script(_)) => Err("a script")?,
         Err(SyntaxError::Syntax { token: _ }) => Ok(None),
@@ -59,17 +59,21 @@ fn texts_have_so_many_items(rt: HostRuntime) -> Result<(), Fail> {
 
 #[test]
 fn import_holds_its_literal(rt: HostRuntime) -> Result<(), Fail> {
-    let Program::Module(module) = parsed(rt.alloc(), " import \"./b.ts\" ;\n")? else {
+    let Program::Module(module) = &parsed(rt.alloc(), " import \"./b.ts\" ;\n")? else {
         return Err("a script")?;
     };
     assert_eq!(rt; module.span, Range { start: 1, end: 18 });
-    let Some(ModuleItem::ModuleDecl(ModuleDecl::Import(import))) = module.body.get(0) else {
+    let Some(ModuleItem::ModuleDecl(decl)) = module.body.get(0) else {
+        return Err("no declaration")?;
+    };
+    let ModuleDecl::Import(import) = decl.get() else {
         return Err("no import")?;
     };
     assert_eq!(rt; import.span, Range { start: 1, end: 18 });
     assert_eq!(rt; import.src.span, Range { start: 8, end: 16 });
     assert_eq!(rt; import.src.value.as_str(), "./b.ts");
-    assert!(rt; !import.src.lone);
+    assert!(rt; !import.src.lone && !import.type_only);
+    assert!(rt; import.clause.is_none() && import.with.is_none());
     Ok(())
 }
 

@@ -1,4 +1,3 @@
-pub mod Sites
 -- the language in which a grammar is written, and what it means
 pub mod Key
 pub mod Form

@@ -1,27 +1,29 @@
-//! The syntax tree of a JavaScript or TypeScript program (ECMA-262, "Scripts and Modules"), and the places in it
-//! where other modules are named.
+//! The language in which the grammar of JavaScript and TypeScript programs (ECMA-262) is written as a table, with its
+//! laws, and what a reader of programs takes and answers.
 //!
-//! - `Program` and its parts: one variant for each form of the grammar, plain data that contracts compare by value.
-//!   A `span` is the range of bytes of the text that a part was read from.
-//! - `Program::copy`: a tree equal to its source.
-//! - `sites(program)`: the list of all places where the program names another module, in the order of the text
-//!   (`sites_of`, `specs/Sites.antt`). A site's range holds the quotes of a string literal whose value is the site's
-//!   value wherever the tree was read from a text (`CutsLiteral`, there).
+//! - `specs/Form.antt`: the forms and rules of a table; `specs/Fits.antt`: when a tree fits one; `specs/Reader.antt`:
+//!   the reader of one. Its laws hold for whatever table of rows (`proofs/Theorems.antt`).
 //! - `Lang`, `Mode`, `SyntaxError`: how a text is to be read, and why it can't be.
+//! - `Program` and its parts, and `sites` with what it tells of each site, are handed on from `es_ast` and `es_walk`.
 //!
-//! Memory is the only cause of an `Err`. Not promised: what `Display` and `Debug` write.
+//! Not promised: what `Display` and `Debug` write.
 #![tactic(auto)]
 
-mod copies;
 mod error;
-mod site;
-mod tree;
-mod walk;
 
 pub use error::{Lang, Mode, SyntaxError};
-pub use site::{Attribute, DependencyKind, Site};
-pub use tree::{EmptyStmt, ImportDecl, Module, ModuleDecl, ModuleItem, Program, Script, Stmt, Str};
-pub use walk::sites;
+pub use es_ast::{
+    Accessibility, AssignOp, BigInt, BinaryOp, Class, ClassMember, Decl, ExportAll,
+    ExportSpecifier, Expr, Function, Ident, ImportAttribute, ImportAttributes, ImportClause,
+    ImportDecl, ImportNames, ImportSpecifier, Lit, MethodKind, Modifiers, Module, ModuleDecl,
+    ModuleExportName, ModuleItem, NamedExport, Nodes, Number, ObjectPatProp, Param, Pat, Program,
+    Prop, Regex, Script, Stmt, Str, SwitchCase, TplElement, TruePlusMinus, TsEntityName,
+    TsEnumMember, TsExprWithTypeArgs, TsFnParam, TsImportEqualsDecl, TsKey, TsKeywordTypeKind,
+    TsLit, TsModuleRef, TsNamespaceExportDecl, TsParamPat, TsPart, TsPatProp, TsThisTypeOrIdent,
+    TsTupleElement, TsType, TsTypeElement, TsTypeOperatorOp, TsTypeParam, UnaryOp, UpdateOp,
+    VarDeclKind, VarDeclarator,
+};
+pub use es_walk::{Attribute, DependencyKind, Site, sites};
 
 #[cfg(test)]
 mod tests;

@@ -1,6 +1,6 @@
 use Rattle.std.proofs.Common.{◌<◌, length, sym, refl, arith}
 use Rattle.std.proofs.lemmas.Result.{err_from_is_err_and}
-use Rattle.es_tree.specs.declared.tree.ModuleItem.{ModuleItem}
+use Rattle.es_ast.specs.declared.ast.ModuleItem.{ModuleItem}
 use Rattle.es_tree.specs.Key.{keys_of, is_token}
 use Rattle.es_parser.specs.Dress.{more, absent}
 use Rattle.es_parser.specs.Dress.{item as item_value}

@@ -1,5 +1,5 @@
 use Rattle.std.proofs.Common.{length, ◌-◌}
-use Rattle.es_tree.specs.declared.tree.ModuleItem.{ModuleItem}
+use Rattle.es_ast.specs.declared.ast.ModuleItem.{ModuleItem}
 use Rattle.es_tree.specs.Key.{keys_of}
 use Rattle.es_parser.specs.Dress.{more, absent}
 use Rattle.es_parser.specs.Dress.{item as item_value}

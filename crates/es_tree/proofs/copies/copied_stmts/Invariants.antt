@@ -1,5 +1,0 @@
-use Rattle.std.proofs.Common.{◌≡◌, take}
-use Rattle.es_tree.proofs.copies.copied_stmts.Given as goal
-
-abbrev pub invariant-loop-stmt : goal.invariant-loop-stmt
-invariant-loop-stmt l = l.copies ≡ take l.stmt-index l.stmts
