@@ -17,3 +17,6 @@ mod walk;
 
 pub use site::{Attribute, DependencyKind, Site};
 pub use walk::sites;
+
+#[cfg(test)]
+mod tests;
