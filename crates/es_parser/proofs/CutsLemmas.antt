@@ -1,16 +1,21 @@
 -- Each site of a derived tree cuts its literal from the text: each Str that is kept does, and dressing keeps that.
 use Rattle.std.specs.Prelude.{List, [], Option, Some, None, All, slice_get, true, false}
 use Rattle.std.specs.List.{flat_map}
-use Rattle.std.proofs.Common.{◌≡◌, ℕ, ◌<◌, refl, sym, subst, arith}
+use Rattle.std.proofs.Common.{◌≡◌, ℕ, ◌<◌, refl, sym, ◌∙◌, subst, arith}
 use Rattle.std.proofs.lemmas.List.Elements.{All-append, All-push}
 use Rattle.base.specs.declared.range.Range.{Range}
 use Rattle.es_lexer.specs.declared.token.Token.{Token}
 use Rattle.es_lexer.specs.declared.token.TokenKind.TheVariants as k
 use Rattle.es_lexer.specs.Reads.{ReadsTokens}
 use Rattle.es_lexer.proofs.Theorems.{reads_within, reads_str}
+use Rattle.es_ast.specs.declared.leaf.ImportDecl.{ImportDecl}
+use Rattle.es_ast.specs.declared.ast.ModuleItem.TheVariants as vItem
+use Rattle.es_ast.specs.declared.ast.ModuleDecl.TheVariants as vDecl
+use Rattle.es_ast.specs.declared.ast.Stmt.TheVariants as vStmt
 use Rattle.es_tree.specs.declared.error.Mode.TheVariants as mode
 use Rattle.es_walk.specs.declared.site.Site.{Site}
-use Rattle.es_walk.specs.Sites.{sites_of, sites_of_module_item, CutsLiteral}
+use Rattle.es_walk.specs.Sites.{sites_of, sites_of_module_item, import_site, CutsLiteral}
+use Rattle.es_walk.proofs.Equations.{module_item_ModuleDecl, module_item_Stmt, module_decl_Import, stmt_Empty}
 use Rattle.es_tree.specs.Key.{seen, keys_of, is}
 use Rattle.es_tree.specs.Form.{Sort, as_str}
 use Rattle.es_tree.specs.Plain.{Plain, node, leaf, nil, cons, mark, turn, via, made}
@@ -19,7 +24,6 @@ use Rattle.es_parser.specs.Rows.{Row, ProgramRow, ItemRow, Label, ModuleProgram,
 use Rattle.es_parser.specs.Dress.{Value, absent, more, turns, str, items_in, build, span_of, str_of, dress}
 use Rattle.es_parser.specs.Dress.{item as item_value, program as program_value}
 use Rattle.es_parser.proofs.StepLemmas.{kind_seen}
-use Rattle.es_parser.proofs.SiteLemmas.{import_sites, empty_sites}
 
 -- the sites cut their literals
 abbrev pub SitesCut : List ℕ → List Site → Type 0
@@ -42,6 +46,14 @@ items_cut x (turns (more (item_value i) v) vs) cuts =
     All-append (λ site. CutsLiteral x site.range site.value) (sites_of_module_item i) (flat_map sites_of_module_item (items_in vs)) cuts.0.0
     (items_cut x vs cuts.1)
 items_cut x _ cuts = none_cut x
+
+-- the site of an import is its string literal
+import_sites : (d : ImportDecl) → sites_of_module_item (vItem.ModuleDecl (vDecl.Import d)) ≡ import_site d
+import_sites d = module_item_ModuleDecl [] (vDecl.Import d) ∙ module_decl_Import [] d
+
+-- an empty statement has none
+empty_sites : (r : Range) → sites_of_module_item (vItem.Stmt (vStmt.Empty r)) ≡ []
+empty_sites r = module_item_Stmt [] (vStmt.Empty r) ∙ stmt_Empty [] r
 
 -- a node of parts that cut theirs
 build_cuts : (x : List ℕ) (l : Label) (r : Range) (v : Value) → Cuts x v → Cuts x (build l r v)

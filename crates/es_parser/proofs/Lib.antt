@@ -3,6 +3,5 @@ pub mod Table
 pub mod StepLemmas
 pub mod ListLemmas
 pub mod AnswerLemmas
-pub mod SiteLemmas
 pub mod CutsLemmas
 pub mod Theorems
