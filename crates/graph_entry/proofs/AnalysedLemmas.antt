@@ -7,7 +7,7 @@ use Rattle.es_lexer.specs.Reads.{ReadsTokens}
 use Rattle.es_lexer.specs.Stops.{Stops}
 use Rattle.es_tree.specs.declared.error.Lang.{Lang}
 use Rattle.es_tree.specs.declared.error.Mode.TheVariants as mode
-use Rattle.es_tree.specs.declared.tree.Program.{Program}
+use Rattle.es_ast.specs.declared.ast.Program.{Program}
 use Rattle.es_parser.specs.Derives.{Derives}
 use Rattle.graph_entry.specs.declared.diagnostic.SyntaxErrorKind.TheVariants.{Lexical}
 use Rattle.url.specs.Parser.{parse_url}

@@ -6,9 +6,9 @@ use Rattle.es_lexer.specs.declared.token.Token.{Token}
 use Rattle.es_lexer.specs.Reads.{ReadsTokens}
 use Rattle.es_tree.specs.declared.error.Lang.{Lang}
 use Rattle.es_tree.specs.declared.error.Mode.TheVariants as mode
-use Rattle.es_tree.specs.declared.tree.Program.{Program}
-use Rattle.es_tree.specs.declared.site.Site.{Site}
-use Rattle.es_tree.specs.Sites.{sites_of, CutsLiteral}
+use Rattle.es_ast.specs.declared.ast.Program.{Program}
+use Rattle.es_walk.specs.declared.site.Site.{Site}
+use Rattle.es_walk.specs.Sites.{sites_of, CutsLiteral}
 use Rattle.es_parser.specs.Derives.{Derives}
 use Rattle.url.specs.Parser.{parse_url}
 use Rattle.graph_entry.specs.declared.answer.LoadAnswer.{LoadAnswer}

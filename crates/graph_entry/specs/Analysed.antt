@@ -10,9 +10,9 @@ use Rattle.es_lexer.specs.Stops.{Stops}
 use Rattle.es_tree.specs.declared.error.Lang.{Lang}
 use Rattle.es_tree.specs.declared.error.Lang.TheVariants.{Es, Typescript}
 use Rattle.es_tree.specs.declared.error.Mode.TheVariants as mode
-use Rattle.es_tree.specs.declared.tree.Program.{Program}
-use Rattle.es_tree.specs.declared.site.Site.{Site}
-use Rattle.es_tree.specs.Sites.{sites_of}
+use Rattle.es_ast.specs.declared.ast.Program.{Program}
+use Rattle.es_walk.specs.declared.site.Site.{Site}
+use Rattle.es_walk.specs.Sites.{sites_of}
 use Rattle.es_parser.specs.Derives.{Derives}
 use Rattle.graph_entry.specs.declared.answer.LoadAnswer.{LoadAnswer}
 use Rattle.graph_entry.specs.declared.answer.LoadAnswer.TheVariants as answer

@@ -2,7 +2,7 @@
 ghost use Rattle.std.specs.Prelude.{◌≡◌, None, Some, codes, map, IfOk};
 ghost use Rattle.url.specs.Parser.{parse_url};
 ghost use Rattle.es_lexer.specs.Reads.{ReadsTokens};
-ghost use Rattle.es_tree.specs.Sites.{sites_of};
+ghost use Rattle.es_walk.specs.Sites.{sites_of};
 ghost use Rattle.graph_entry.specs.Specifier.{text_of};
 ghost use Rattle.graph_entry.specs.Headers.{value_of};
 ghost use Rattle.graph_entry.specs.Diagnosis.{told_range};

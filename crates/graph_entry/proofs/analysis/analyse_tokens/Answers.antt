@@ -1,6 +1,6 @@
 use Rattle.std.proofs.Common.{subst, Err}
 use Rattle.std.proofs.lemmas.Result.{IfOk-weaker}
-use Rattle.es_tree.specs.declared.tree.Program.{Program}
+use Rattle.es_ast.specs.declared.ast.Program.{Program}
 use Rattle.es_tree.specs.declared.error.SyntaxError.{SyntaxError}
 use Rattle.es_tree.specs.declared.error.Mode.TheVariants as mode
 use Rattle.es_parser.specs.Derives.{Derives, GivesTree}
