@@ -37,7 +37,7 @@ use Rattle.es_walk.specs.declared.site.Attribute.TheVariants.{Unknown}
 use Rattle.es_walk.specs.declared.site.DependencyKind.{DependencyKind}
 use Rattle.es_walk.specs.declared.site.DependencyKind.TheVariants as kind
 use Rattle.es_walk.specs.Attributes.{attribute_of, options_attribute}
-use Rattle.es_walk.specs.Parts.{ExprParts}
+use Rattle.es_walk.specs.Parts.{Beside, ExprParts}
 
 -- the range cuts from the text a string literal whose value is the value
 abbrev pub CutsLiteral : List ℕ → Range → List ℕ → Type 0
@@ -111,7 +111,7 @@ if_there (Some part) = part.1
 if_there None = []
 
 -- the sites of a `ClassMember`, from those of its parts
-abbrev pub in_class_member : ClassMember-F (ClassMember × Found) (Decl × Found) (Expr × Found) (ModuleDecl × Found) (ModuleItem × Found) (ObjectPatProp × Found) (Pat × Found) (Prop × Found) (Stmt × Found) (Class × Found) (Function × Found) (Param × Found) (SwitchCase × Found) (TsEnumMember × Found) (VarDeclarator × Found) → Found
+abbrev pub in_class_member : Beside Found ClassMember-F → Found
 in_class_member (ClassMember-F.ClassMember::Empty _) = []
 in_class_member (ClassMember-F.StaticBlock stmts _) = each stmts
 in_class_member (ClassMember-F.TsIndexSignature _ _ _ _ _) = []
@@ -119,7 +119,7 @@ in_class_member (ClassMember-F.ClassMember::Method _ _ _ key _ function _) = key
 in_class_member (ClassMember-F.Prop _ _ key _ _ _ value _) = key.1 ++ if_there value
 
 -- the sites of a `Decl`, from those of its parts
-abbrev pub in_decl : Decl-F (ClassMember × Found) (Decl × Found) (Expr × Found) (ModuleDecl × Found) (ModuleItem × Found) (ObjectPatProp × Found) (Pat × Found) (Prop × Found) (Stmt × Found) (Class × Found) (Function × Found) (Param × Found) (SwitchCase × Found) (TsEnumMember × Found) (VarDeclarator × Found) → Found
+abbrev pub in_decl : Beside Found Decl-F → Found
 in_decl (Decl-F.Decl::Class _ class _) = class.1
 in_decl (Decl-F.Decl::Fn _ function _) = function.1
 in_decl (Decl-F.Var _ _ decls _) = each decls
@@ -131,7 +131,7 @@ in_decl (Decl-F.TsModule _ _ _ body _) = each body
 in_decl (Decl-F.TsGlobal _ body _) = each body
 
 -- the sites of an `Expr`, from those of its parts
-abbrev pub in_expr : Expr-F (ClassMember × Found) (Decl × Found) (Expr × Found) (ModuleDecl × Found) (ModuleItem × Found) (ObjectPatProp × Found) (Pat × Found) (Prop × Found) (Stmt × Found) (Class × Found) (Function × Found) (Param × Found) (SwitchCase × Found) (TsEnumMember × Found) (VarDeclarator × Found) → Found
+abbrev pub in_expr : Beside Found Expr-F → Found
 in_expr (Expr-F.Expr::This _) = []
 in_expr (Expr-F.Super _) = []
 in_expr (Expr-F.Expr::Ident _) = []
@@ -168,7 +168,7 @@ in_expr (Expr-F.TsConstAssertion expr _) = expr.1
 in_expr (Expr-F.TsSatisfies expr _ _) = expr.1
 
 -- the sites of a `ModuleDecl`, from those of its parts
-abbrev pub in_module_decl : ModuleDecl-F (ClassMember × Found) (Decl × Found) (Expr × Found) (ModuleDecl × Found) (ModuleItem × Found) (ObjectPatProp × Found) (Pat × Found) (Prop × Found) (Stmt × Found) (Class × Found) (Function × Found) (Param × Found) (SwitchCase × Found) (TsEnumMember × Found) (VarDeclarator × Found) → Found
+abbrev pub in_module_decl : Beside Found ModuleDecl-F → Found
 in_module_decl (ModuleDecl-F.Import it) = import_site it
 in_module_decl (ModuleDecl-F.ExportDecl decl _) = decl.1
 in_module_decl (ModuleDecl-F.ExportNamed it) = named_export_sites it
@@ -180,18 +180,18 @@ in_module_decl (ModuleDecl-F.TsExportAssignment expr _) = expr.1
 in_module_decl (ModuleDecl-F.TsNamespaceExport _) = []
 
 -- the sites of a `ModuleItem`, from those of its parts
-abbrev pub in_module_item : ModuleItem-F (ClassMember × Found) (Decl × Found) (Expr × Found) (ModuleDecl × Found) (ModuleItem × Found) (ObjectPatProp × Found) (Pat × Found) (Prop × Found) (Stmt × Found) (Class × Found) (Function × Found) (Param × Found) (SwitchCase × Found) (TsEnumMember × Found) (VarDeclarator × Found) → Found
+abbrev pub in_module_item : Beside Found ModuleItem-F → Found
 in_module_item (ModuleItem-F.ModuleDecl it) = it.1
 in_module_item (ModuleItem-F.Stmt it) = it.1
 
 -- the sites of an `ObjectPatProp`, from those of its parts
-abbrev pub in_object_pat_prop : ObjectPatProp-F (ClassMember × Found) (Decl × Found) (Expr × Found) (ModuleDecl × Found) (ModuleItem × Found) (ObjectPatProp × Found) (Pat × Found) (Prop × Found) (Stmt × Found) (Class × Found) (Function × Found) (Param × Found) (SwitchCase × Found) (TsEnumMember × Found) (VarDeclarator × Found) → Found
+abbrev pub in_object_pat_prop : Beside Found ObjectPatProp-F → Found
 in_object_pat_prop (ObjectPatProp-F.ObjectPatProp::KeyValue _ key value _) = key.1 ++ value.1
 in_object_pat_prop (ObjectPatProp-F.ObjectPatProp::Assign _ value _) = if_there value
 in_object_pat_prop (ObjectPatProp-F.ObjectPatProp::Rest arg _) = arg.1
 
 -- the sites of a `Pat`, from those of its parts
-abbrev pub in_pat : Pat-F (ClassMember × Found) (Decl × Found) (Expr × Found) (ModuleDecl × Found) (ModuleItem × Found) (ObjectPatProp × Found) (Pat × Found) (Prop × Found) (Stmt × Found) (Class × Found) (Function × Found) (Param × Found) (SwitchCase × Found) (TsEnumMember × Found) (VarDeclarator × Found) → Found
+abbrev pub in_pat : Beside Found Pat-F → Found
 in_pat (Pat-F.Pat::Ident _ _ _) = []
 in_pat (Pat-F.Pat::This _ _) = []
 in_pat (Pat-F.Pat::Hole _) = []
@@ -202,14 +202,14 @@ in_pat (Pat-F.Pat::Assign left right _) = left.1 ++ right.1
 in_pat (Pat-F.Pat::Expr it) = it.1
 
 -- the sites of a `Prop`, from those of its parts
-abbrev pub in_prop : Prop-F (ClassMember × Found) (Decl × Found) (Expr × Found) (ModuleDecl × Found) (ModuleItem × Found) (ObjectPatProp × Found) (Pat × Found) (Prop × Found) (Stmt × Found) (Class × Found) (Function × Found) (Param × Found) (SwitchCase × Found) (TsEnumMember × Found) (VarDeclarator × Found) → Found
+abbrev pub in_prop : Beside Found Prop-F → Found
 in_prop (Prop-F.Prop::Spread expr _) = expr.1
 in_prop (Prop-F.Shorthand _) = []
 in_prop (Prop-F.Prop::KeyValue _ key value _) = key.1 ++ value.1
 in_prop (Prop-F.Prop::Method _ _ key function _) = key.1 ++ function.1
 
 -- the sites of a `Stmt`, from those of its parts
-abbrev pub in_stmt : Stmt-F (ClassMember × Found) (Decl × Found) (Expr × Found) (ModuleDecl × Found) (ModuleItem × Found) (ObjectPatProp × Found) (Pat × Found) (Prop × Found) (Stmt × Found) (Class × Found) (Function × Found) (Param × Found) (SwitchCase × Found) (TsEnumMember × Found) (VarDeclarator × Found) → Found
+abbrev pub in_stmt : Beside Found Stmt-F → Found
 in_stmt (Stmt-F.Block stmts _) = each stmts
 in_stmt (Stmt-F.Stmt::Empty _) = []
 in_stmt (Stmt-F.Debugger _) = []
@@ -231,73 +231,103 @@ in_stmt (Stmt-F.Decl it) = it.1
 in_stmt (Stmt-F.Stmt::Expr expr _) = expr.1
 
 -- the sites of a `Class`, from those of its parts
-abbrev pub in_class : Class-F (ClassMember × Found) (Decl × Found) (Expr × Found) (ModuleDecl × Found) (ModuleItem × Found) (ObjectPatProp × Found) (Pat × Found) (Prop × Found) (Stmt × Found) (Class × Found) (Function × Found) (Param × Found) (SwitchCase × Found) (TsEnumMember × Found) (VarDeclarator × Found) → Found
+abbrev pub in_class : Beside Found Class-F → Found
 in_class it = if_there it.super_class ++ each it.body
 
 -- the sites of a `Function`, from those of its parts
-abbrev pub in_function : Function-F (ClassMember × Found) (Decl × Found) (Expr × Found) (ModuleDecl × Found) (ModuleItem × Found) (ObjectPatProp × Found) (Pat × Found) (Prop × Found) (Stmt × Found) (Class × Found) (Function × Found) (Param × Found) (SwitchCase × Found) (TsEnumMember × Found) (VarDeclarator × Found) → Found
+abbrev pub in_function : Beside Found Function-F → Found
 in_function it = each it.params ++ if_there it.body
 
 -- the sites of a `Param`, from those of its parts
-abbrev pub in_param : Param-F (ClassMember × Found) (Decl × Found) (Expr × Found) (ModuleDecl × Found) (ModuleItem × Found) (ObjectPatProp × Found) (Pat × Found) (Prop × Found) (Stmt × Found) (Class × Found) (Function × Found) (Param × Found) (SwitchCase × Found) (TsEnumMember × Found) (VarDeclarator × Found) → Found
+abbrev pub in_param : Beside Found Param-F → Found
 in_param it = it.pat.1
 
 -- the sites of a `SwitchCase`, from those of its parts
-abbrev pub in_switch_case : SwitchCase-F (ClassMember × Found) (Decl × Found) (Expr × Found) (ModuleDecl × Found) (ModuleItem × Found) (ObjectPatProp × Found) (Pat × Found) (Prop × Found) (Stmt × Found) (Class × Found) (Function × Found) (Param × Found) (SwitchCase × Found) (TsEnumMember × Found) (VarDeclarator × Found) → Found
+abbrev pub in_switch_case : Beside Found SwitchCase-F → Found
 in_switch_case it = if_there it.test ++ each it.cons
 
 -- the sites of a `TsEnumMember`, from those of its parts
-abbrev pub in_ts_enum_member : TsEnumMember-F (ClassMember × Found) (Decl × Found) (Expr × Found) (ModuleDecl × Found) (ModuleItem × Found) (ObjectPatProp × Found) (Pat × Found) (Prop × Found) (Stmt × Found) (Class × Found) (Function × Found) (Param × Found) (SwitchCase × Found) (TsEnumMember × Found) (VarDeclarator × Found) → Found
+abbrev pub in_ts_enum_member : Beside Found TsEnumMember-F → Found
 in_ts_enum_member it = it.id.1 ++ if_there it.init
 
 -- the sites of a `VarDeclarator`, from those of its parts
-abbrev pub in_var_declarator : VarDeclarator-F (ClassMember × Found) (Decl × Found) (Expr × Found) (ModuleDecl × Found) (ModuleItem × Found) (ObjectPatProp × Found) (Pat × Found) (Prop × Found) (Stmt × Found) (Class × Found) (Function × Found) (Param × Found) (SwitchCase × Found) (TsEnumMember × Found) (VarDeclarator × Found) → Found
+abbrev pub in_var_declarator : Beside Found VarDeclarator-F → Found
 in_var_declarator it = it.name.1 ++ if_there it.init
 
 unfoldable pub sites_of_class_member : ClassMember → Found
-sites_of_class_member = para-ClassMember Found Found Found Found Found Found Found Found Found Found Found Found Found Found Found in_class_member in_decl in_expr in_module_decl in_module_item in_object_pat_prop in_pat in_prop in_stmt in_class in_function in_param in_switch_case in_ts_enum_member in_var_declarator
+sites_of_class_member = para-ClassMember Found Found Found Found Found Found Found Found Found Found Found Found Found Found Found
+    in_class_member in_decl in_expr in_module_decl in_module_item in_object_pat_prop in_pat in_prop in_stmt in_class in_function
+    in_param in_switch_case in_ts_enum_member in_var_declarator
 
 unfoldable pub sites_of_decl : Decl → Found
-sites_of_decl = para-Decl Found Found Found Found Found Found Found Found Found Found Found Found Found Found Found in_class_member in_decl in_expr in_module_decl in_module_item in_object_pat_prop in_pat in_prop in_stmt in_class in_function in_param in_switch_case in_ts_enum_member in_var_declarator
+sites_of_decl = para-Decl Found Found Found Found Found Found Found Found Found Found Found Found Found Found Found in_class_member
+    in_decl in_expr in_module_decl in_module_item in_object_pat_prop in_pat in_prop in_stmt in_class in_function in_param
+    in_switch_case in_ts_enum_member in_var_declarator
 
 unfoldable pub sites_of_expr : Expr → Found
-sites_of_expr = para-Expr Found Found Found Found Found Found Found Found Found Found Found Found Found Found Found in_class_member in_decl in_expr in_module_decl in_module_item in_object_pat_prop in_pat in_prop in_stmt in_class in_function in_param in_switch_case in_ts_enum_member in_var_declarator
+sites_of_expr = para-Expr Found Found Found Found Found Found Found Found Found Found Found Found Found Found Found in_class_member
+    in_decl in_expr in_module_decl in_module_item in_object_pat_prop in_pat in_prop in_stmt in_class in_function in_param
+    in_switch_case in_ts_enum_member in_var_declarator
 
 unfoldable pub sites_of_module_decl : ModuleDecl → Found
-sites_of_module_decl = para-ModuleDecl Found Found Found Found Found Found Found Found Found Found Found Found Found Found Found in_class_member in_decl in_expr in_module_decl in_module_item in_object_pat_prop in_pat in_prop in_stmt in_class in_function in_param in_switch_case in_ts_enum_member in_var_declarator
+sites_of_module_decl = para-ModuleDecl Found Found Found Found Found Found Found Found Found Found Found Found Found Found Found
+    in_class_member in_decl in_expr in_module_decl in_module_item in_object_pat_prop in_pat in_prop in_stmt in_class in_function
+    in_param in_switch_case in_ts_enum_member in_var_declarator
 
 unfoldable pub sites_of_module_item : ModuleItem → Found
-sites_of_module_item = para-ModuleItem Found Found Found Found Found Found Found Found Found Found Found Found Found Found Found in_class_member in_decl in_expr in_module_decl in_module_item in_object_pat_prop in_pat in_prop in_stmt in_class in_function in_param in_switch_case in_ts_enum_member in_var_declarator
+sites_of_module_item = para-ModuleItem Found Found Found Found Found Found Found Found Found Found Found Found Found Found Found
+    in_class_member in_decl in_expr in_module_decl in_module_item in_object_pat_prop in_pat in_prop in_stmt in_class in_function
+    in_param in_switch_case in_ts_enum_member in_var_declarator
 
 unfoldable pub sites_of_object_pat_prop : ObjectPatProp → Found
-sites_of_object_pat_prop = para-ObjectPatProp Found Found Found Found Found Found Found Found Found Found Found Found Found Found Found in_class_member in_decl in_expr in_module_decl in_module_item in_object_pat_prop in_pat in_prop in_stmt in_class in_function in_param in_switch_case in_ts_enum_member in_var_declarator
+sites_of_object_pat_prop = para-ObjectPatProp Found Found Found Found Found Found Found Found Found Found Found Found Found Found
+    Found in_class_member in_decl in_expr in_module_decl in_module_item in_object_pat_prop in_pat in_prop in_stmt in_class
+    in_function in_param in_switch_case in_ts_enum_member in_var_declarator
 
 unfoldable pub sites_of_pat : Pat → Found
-sites_of_pat = para-Pat Found Found Found Found Found Found Found Found Found Found Found Found Found Found Found in_class_member in_decl in_expr in_module_decl in_module_item in_object_pat_prop in_pat in_prop in_stmt in_class in_function in_param in_switch_case in_ts_enum_member in_var_declarator
+sites_of_pat = para-Pat Found Found Found Found Found Found Found Found Found Found Found Found Found Found Found in_class_member
+    in_decl in_expr in_module_decl in_module_item in_object_pat_prop in_pat in_prop in_stmt in_class in_function in_param
+    in_switch_case in_ts_enum_member in_var_declarator
 
 unfoldable pub sites_of_prop : Prop → Found
-sites_of_prop = para-Prop Found Found Found Found Found Found Found Found Found Found Found Found Found Found Found in_class_member in_decl in_expr in_module_decl in_module_item in_object_pat_prop in_pat in_prop in_stmt in_class in_function in_param in_switch_case in_ts_enum_member in_var_declarator
+sites_of_prop = para-Prop Found Found Found Found Found Found Found Found Found Found Found Found Found Found Found in_class_member
+    in_decl in_expr in_module_decl in_module_item in_object_pat_prop in_pat in_prop in_stmt in_class in_function in_param
+    in_switch_case in_ts_enum_member in_var_declarator
 
 unfoldable pub sites_of_stmt : Stmt → Found
-sites_of_stmt = para-Stmt Found Found Found Found Found Found Found Found Found Found Found Found Found Found Found in_class_member in_decl in_expr in_module_decl in_module_item in_object_pat_prop in_pat in_prop in_stmt in_class in_function in_param in_switch_case in_ts_enum_member in_var_declarator
+sites_of_stmt = para-Stmt Found Found Found Found Found Found Found Found Found Found Found Found Found Found Found in_class_member
+    in_decl in_expr in_module_decl in_module_item in_object_pat_prop in_pat in_prop in_stmt in_class in_function in_param
+    in_switch_case in_ts_enum_member in_var_declarator
 
 unfoldable pub sites_of_class : Class → Found
-sites_of_class = para-Class Found Found Found Found Found Found Found Found Found Found Found Found Found Found Found in_class_member in_decl in_expr in_module_decl in_module_item in_object_pat_prop in_pat in_prop in_stmt in_class in_function in_param in_switch_case in_ts_enum_member in_var_declarator
+sites_of_class = para-Class Found Found Found Found Found Found Found Found Found Found Found Found Found Found Found
+    in_class_member in_decl in_expr in_module_decl in_module_item in_object_pat_prop in_pat in_prop in_stmt in_class in_function
+    in_param in_switch_case in_ts_enum_member in_var_declarator
 
 unfoldable pub sites_of_function : Function → Found
-sites_of_function = para-Function Found Found Found Found Found Found Found Found Found Found Found Found Found Found Found in_class_member in_decl in_expr in_module_decl in_module_item in_object_pat_prop in_pat in_prop in_stmt in_class in_function in_param in_switch_case in_ts_enum_member in_var_declarator
+sites_of_function = para-Function Found Found Found Found Found Found Found Found Found Found Found Found Found Found Found
+    in_class_member in_decl in_expr in_module_decl in_module_item in_object_pat_prop in_pat in_prop in_stmt in_class in_function
+    in_param in_switch_case in_ts_enum_member in_var_declarator
 
 unfoldable pub sites_of_param : Param → Found
-sites_of_param = para-Param Found Found Found Found Found Found Found Found Found Found Found Found Found Found Found in_class_member in_decl in_expr in_module_decl in_module_item in_object_pat_prop in_pat in_prop in_stmt in_class in_function in_param in_switch_case in_ts_enum_member in_var_declarator
+sites_of_param = para-Param Found Found Found Found Found Found Found Found Found Found Found Found Found Found Found
+    in_class_member in_decl in_expr in_module_decl in_module_item in_object_pat_prop in_pat in_prop in_stmt in_class in_function
+    in_param in_switch_case in_ts_enum_member in_var_declarator
 
 unfoldable pub sites_of_switch_case : SwitchCase → Found
-sites_of_switch_case = para-SwitchCase Found Found Found Found Found Found Found Found Found Found Found Found Found Found Found in_class_member in_decl in_expr in_module_decl in_module_item in_object_pat_prop in_pat in_prop in_stmt in_class in_function in_param in_switch_case in_ts_enum_member in_var_declarator
+sites_of_switch_case = para-SwitchCase Found Found Found Found Found Found Found Found Found Found Found Found Found Found Found
+    in_class_member in_decl in_expr in_module_decl in_module_item in_object_pat_prop in_pat in_prop in_stmt in_class in_function
+    in_param in_switch_case in_ts_enum_member in_var_declarator
 
 unfoldable pub sites_of_ts_enum_member : TsEnumMember → Found
-sites_of_ts_enum_member = para-TsEnumMember Found Found Found Found Found Found Found Found Found Found Found Found Found Found Found in_class_member in_decl in_expr in_module_decl in_module_item in_object_pat_prop in_pat in_prop in_stmt in_class in_function in_param in_switch_case in_ts_enum_member in_var_declarator
+sites_of_ts_enum_member = para-TsEnumMember Found Found Found Found Found Found Found Found Found Found Found Found Found Found
+    Found in_class_member in_decl in_expr in_module_decl in_module_item in_object_pat_prop in_pat in_prop in_stmt in_class
+    in_function in_param in_switch_case in_ts_enum_member in_var_declarator
 
 unfoldable pub sites_of_var_declarator : VarDeclarator → Found
-sites_of_var_declarator = para-VarDeclarator Found Found Found Found Found Found Found Found Found Found Found Found Found Found Found in_class_member in_decl in_expr in_module_decl in_module_item in_object_pat_prop in_pat in_prop in_stmt in_class in_function in_param in_switch_case in_ts_enum_member in_var_declarator
+sites_of_var_declarator = para-VarDeclarator Found Found Found Found Found Found Found Found Found Found Found Found Found Found
+    Found in_class_member in_decl in_expr in_module_decl in_module_item in_object_pat_prop in_pat in_prop in_stmt in_class
+    in_function in_param in_switch_case in_ts_enum_member in_var_declarator
 
 -- the sites of a whole part, where it is there
 abbrev pub if_some : {X : Type 0} → (X → Found) → Option X → Found

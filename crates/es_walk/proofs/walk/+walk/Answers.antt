@@ -1,5 +1,3 @@
-use Rattle.std.proofs.Common.{◌≡◌, ◌++◌, ap, sym, ◌∙◌}
-use Rattle.es_walk.specs.Sites.{sites_of_stmt}
 use Rattle.es_walk.proofs.Equations.{stmt_If, stmt_Try}
 use Rattle.es_walk.proofs.walk.+walk.Goals as goal
 
