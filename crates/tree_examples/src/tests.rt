@@ -2,6 +2,7 @@
 
 use crate::maker::{Maker, NOWHERE};
 use es_ast::{Module, Program, Script};
+use es_copy::ProgramCopy;
 use es_walk::{DependencyKind, Site, sites};
 use std::test::Fail;
 
@@ -29,7 +30,9 @@ fn each_place_of_a_form(rt: HostRuntime) -> Result<(), Fail> {
         body,
         span: NOWHERE,
     });
-    assert!(rt; in_order(sites(rt.alloc(), &exports)?.as_slice(), maker.next));
+    for tree in [&exports, &exports.copy(rt.alloc())?] {
+        assert!(rt; in_order(sites(rt.alloc(), tree)?.as_slice(), maker.next));
+    }
     let mut maker = Maker {
         alloc: rt.alloc(),
         next: 0,
@@ -40,6 +43,8 @@ fn each_place_of_a_form(rt: HostRuntime) -> Result<(), Fail> {
         body,
         span: NOWHERE,
     });
-    assert!(rt; in_order(sites(rt.alloc(), &script)?.as_slice(), maker.next));
+    for tree in [&script, &script.copy(rt.alloc())?] {
+        assert!(rt; in_order(sites(rt.alloc(), tree)?.as_slice(), maker.next));
+    }
     Ok(())
 }
