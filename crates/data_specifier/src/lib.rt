@@ -17,6 +17,3 @@ mod parse;
 pub use crate::data_module::DataModule;
 pub use crate::error::DataError;
 pub use crate::parse::{parse_data, parse_data_text};
-
-#[cfg(test)]
-mod tests;

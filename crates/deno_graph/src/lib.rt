@@ -20,8 +20,6 @@ mod options;
 mod progress;
 mod reaching;
 mod slot;
-#[cfg(test)]
-mod tests;
 
 pub use build::GraphBuild;
 pub use error::BuildError;

@@ -23,8 +23,6 @@ mod error;
 mod pass;
 mod retries;
 mod temporary;
-#[cfg(test)]
-mod tests;
 
 pub use crate::atomic::atomic_write_file;
 pub use crate::canonical::canonicalize_path_maybe_not_exists;

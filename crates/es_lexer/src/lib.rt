@@ -20,6 +20,3 @@ pub use error::{LexError, LexicalError, LexicalKind};
 pub use literals::{LiteralValue, literal_value};
 pub use scan::lex_tokens;
 pub use token::{Comment, CommentKind, Lexed, Token, TokenKind};
-
-#[cfg(test)]
-mod tests;

@@ -14,6 +14,3 @@ mod items;
 mod program;
 
 pub use program::parse_tokens;
-
-#[cfg(test)]
-mod tests;

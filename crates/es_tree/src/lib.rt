@@ -24,6 +24,3 @@ pub use es_ast::{
     VarDeclKind, VarDeclarator,
 };
 pub use es_walk::{Attribute, DependencyKind, Site, sites};
-
-#[cfg(test)]
-mod tests;

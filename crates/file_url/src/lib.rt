@@ -31,6 +31,3 @@ pub use crate::to_path::{url_parent, url_to_file_path};
 pub use crate::windows::{
     url_from_directory_path_wasm, url_from_file_path_wasm, url_to_file_path_wasm,
 };
-
-#[cfg(test)]
-mod tests;

@@ -41,6 +41,3 @@ pub use data_specifier::DataError;
 pub use es_tree::{Attribute, DependencyKind};
 pub use media_type::{MediaType, ModuleKind};
 pub use package_ref::{PackageKind, PackageRef};
-
-#[cfg(test)]
-mod tests;

@@ -23,6 +23,3 @@ pub use crate::specifiers::{
     begins, has_relative_prefix, is_relative_specifier, specifier_has_uri_scheme,
 };
 pub use crate::splits::{has_dots, parts};
-
-#[cfg(test)]
-mod tests;

@@ -14,6 +14,3 @@ mod endings;
 mod media_type;
 
 pub use crate::media_type::{MediaType, ModuleKind};
-
-#[cfg(test)]
-mod tests;

@@ -54,8 +54,3 @@ pub use tags::{Tag, TagOwned};
 pub use text::next_char;
 pub use values::{Map, Substring};
 pub use whiles::{SkipWhile, SkipWhileByte, TakeWhile, TakeWhileByte};
-
-#[cfg(test)]
-mod repeat_tests;
-#[cfg(test)]
-mod tests;

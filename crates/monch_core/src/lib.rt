@@ -16,6 +16,3 @@ mod failure;
 
 pub use combinator::{Combinator, ParseResult};
 pub use error::{HandledError, ParseError, ParseErrorFailure, ParseErrorFailureError};
-
-#[cfg(test)]
-mod tests;

@@ -5,7 +5,5 @@
 #![tactic(auto)]
 
 mod json;
-#[cfg(test)]
-mod tests;
 
 pub use json::{Fields, Scalar, read_list, read_record, read_scalar, read_text};

@@ -17,6 +17,3 @@ mod reference;
 pub use crate::error::PackageError;
 pub use crate::parse::parse_package_ref;
 pub use crate::reference::{PackageKind, PackageRef};
-
-#[cfg(test)]
-mod tests;

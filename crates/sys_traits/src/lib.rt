@@ -17,6 +17,3 @@ pub use traits::{
     AtomicWriteFileSys, AtomicWriteFileWithRetriesSys, FsCanonicalize, FsCreateDirAll, FsMetadata,
     FsOpen, FsRemoveFile, FsRename, SysState, SystemRandom, ThreadSleep,
 };
-
-#[cfg(test)]
-mod tests;

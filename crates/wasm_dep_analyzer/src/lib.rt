@@ -28,6 +28,3 @@ pub use items::Items;
 pub use types::{
     FunctionSignature, GlobalType, ImportType, Limits, MemoryType, TableType, TagType, ValueType,
 };
-
-#[cfg(test)]
-mod tests;

@@ -1,0 +1,102 @@
+use monch::{
+    Combinator, ParseError, ParseResult, ch, many_till, many_till_fold, many0, many0_count, many1,
+    separated_count, separated_fold, separated_list, tag,
+};
+
+/// What a list leaves, and how many values it has.
+fn listed<'a, O: Drop, C: Combinator<'a, Output = Vec<O>>>(
+    list: &C,
+    input: &'a str,
+) -> Option<(&'a str, usize)>
+    requires { C.can_parse list.now }
+{
+    match list.parse(input) {
+        Ok((rest, values)) => Some((rest, values.len())),
+        Err(_) => None,
+    }
+}
+
+/// What a count leaves, and the count.
+fn counted<'a, C: Combinator<'a, Output = usize>>(
+    count: &C,
+    input: &'a str,
+) -> Option<(&'a str, usize)>
+    requires { C.can_parse count.now }
+{
+    match count.parse(input) {
+        Ok((rest, count)) => Some((rest, count)),
+        Err(_) => None,
+    }
+}
+
+#[test]
+fn lists_until_an_end(rt: HostRuntime) {
+    let list = many_till(rt.alloc(), ch('a'), ch('b'));
+    for (text, expected) in [
+        ("aab", Some(("b", 2))),
+        ("aac", Some(("c", 2))),
+        ("aa", Some(("", 2))),
+        ("b", Some(("b", 0))),
+        ("", Some(("", 0))),
+    ] {
+        assert_eq!(rt; listed(&list, text), expected);
+    }
+}
+
+#[test]
+fn lists_any_number(rt: HostRuntime) {
+    let list = many0(rt.alloc(), ch('a'));
+    for (text, expected) in [
+        ("aab", Some(("b", 2))),
+        ("b", Some(("b", 0))),
+        ("aaa", Some(("", 3))),
+    ] {
+        assert_eq!(rt; listed(&list, text), expected);
+    }
+    let list = many0(rt.alloc(), ch('€'));
+    assert_eq!(rt; listed(&list, "€€ß"), Some(("ß", 2)));
+}
+
+#[test]
+fn lists_one_or_more(rt: HostRuntime) {
+    let list = many1(rt.alloc(), ch('a'));
+    for (text, expected) in [("aab", Some(("b", 2))), ("b", None), ("", None)] {
+        assert_eq!(rt; listed(&list, text), expected);
+    }
+}
+
+#[test]
+fn lists_with_separators(rt: HostRuntime) {
+    let list = separated_list(rt.alloc(), tag("a"), ch(','));
+    for (text, expected) in [
+        ("a,a,b", Some(("b", 2))),
+        ("a,a,", Some(("", 2))),
+        ("a,ab", Some(("b", 2))),
+        ("b", Some(("b", 0))),
+        ("", Some(("", 0))),
+    ] {
+        assert_eq!(rt; listed(&list, text), expected);
+    }
+}
+
+#[test]
+fn counts(rt: HostRuntime) {
+    assert_eq!(rt; counted(&many0_count(ch('a')), "aab"), Some(("b", 2)));
+    assert_eq!(rt;
+        counted(&separated_count(tag("a"), ch(',')), "a,a,b"),
+        Some(("b", 2))
+    );
+}
+
+#[test]
+fn folds(rt: HostRuntime) {
+    let number = |number: u64, _digit: char| number.saturating_mul(2).saturating_add(1);
+    match many_till_fold(ch('1'), ch('.'), 0u64, number).parse("111.") {
+        Ok((rest, value)) => assert_eq!(rt; (rest, value), (".", 7)),
+        Err(_) => assert!(rt; false),
+    }
+    match separated_fold(ch('1'), ch('-'), 0u64, number).parse("1-1-1") {
+        Ok((rest, value)) => assert_eq!(rt; (rest, value), ("", 7)),
+        Err(_) => assert!(rt; false),
+    }
+}

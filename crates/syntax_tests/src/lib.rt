@@ -1,0 +1,9 @@
+//! Tests of tokens, of the language of grammars and of the parser, by their public calls.
+#![tactic(auto)]
+
+#[cfg(test)]
+mod errors;
+#[cfg(test)]
+mod tokens;
+#[cfg(test)]
+mod trees;
