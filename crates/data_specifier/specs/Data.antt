@@ -5,7 +5,7 @@ use Rattle.percent_encoding.specs.Percent.{percent_decode}
 use Rattle.data_specifier.specs.declared.data_module.DataModule.{DataModule}
 use Rattle.data_specifier.specs.declared.error.DataError.{DataError}
 use Rattle.data_specifier.specs.declared.error.DataError.TheVariants.{NoComma, Base64, OutOfMemory}
-use Rattle.data_specifier.specs.Blanks.{trim}
+use Rattle.mime_essence.specs.Blanks.{trim_blanks}
 use Rattle.data_specifier.specs.Forgiving.{forgiving_base64}
 use Rattle.data_specifier.specs.Front.{is_base64, mime_of}
 
@@ -34,7 +34,7 @@ module_of front encoded = with_mime (mime_of front) (body_of (is_base64 front) e
 
 -- the content, cut at its first comma
 abbrev pub data_at : List ℕ → Option ℕ → Result DataModule DataError
-data_at content (Some at) = module_of (trim (take at content)) (drop (at + 1) content)
+data_at content (Some at) = module_of (trim_blanks (take at content)) (drop (at + 1) content)
 data_at content None = Err NoComma
 
 -- what the text of a `data:` URL holds

@@ -2,17 +2,14 @@
 use Rattle.std.specs.Prelude.{ℕ, nat_eq, ◌-◌, ◌==◌, ◌&&◌, nat_lt, Bool, List, codes, length, take, drop, if◌then◌else◌}
 use Rattle.std.specs.List.{ends_with, before_first, after_first}
 use Rattle.std.specs.Str.{str_to_ascii_lowercase, str_eq_ignore_ascii_case}
-use Rattle.data_specifier.specs.Blanks.{trim, trim_end}
+use Rattle.mime_essence.specs.Blanks.{trim_blanks_end}
+use Rattle.mime_essence.specs.Essence.{essence_of}
 
 -- the front ends with `;`, any blanks and `base64` in any case
 unfoldable pub is_base64 : List ℕ → Bool
 is_base64 front =
     let at = length front - 6 in
-    str_eq_ignore_ascii_case (drop at front) (codes "base64") && ends_with nat_eq (trim_end (take at front)) (codes ";")
-
--- the front up to its first `;`, less the blanks at its ends
-abbrev pub essence_of : List ℕ → List ℕ
-essence_of front = trim (before_first (λ b. b == 59) front)
+    str_eq_ignore_ascii_case (drop at front) (codes "base64") && ends_with nat_eq (trim_blanks_end (take at front)) (codes ";")
 
 -- there is text
 abbrev pub is_there : List ℕ → Bool

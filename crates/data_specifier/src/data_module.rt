@@ -16,10 +16,9 @@ impl DataModule {
     pub fn copy(&self) -> Result<DataModule, AllocError>
         ensures { IfOk result (λ m. m ≡ self.now) }
     {
-        let bytes = self.body.as_slice().to_vec(self.body.allocator())?;
         Ok(DataModule {
             mime: self.mime.copy()?,
-            body: Items::from_vec(bytes),
+            body: self.body.copy()?,
         })
     }
 }

@@ -4,14 +4,14 @@ ghost use Rattle.data_specifier.specs.declared.error.DataError.TheVariants.{OutO
 use std::alloc::AllocError;
 use thiserror::Error;
 
-/// Why a `data:` URL tells no bytes.
+/// Why a `data:` URL holds nothing.
 #[derive(Clone, Copy, Debug, PartialEq, Eq, PartialOrd, Ord, Hash, Error)]
 pub enum DataError {
     /// No comma stands before the bytes.
-    #[error("the data URL has no comma")]
+    #[error("NoComma")]
     NoComma,
     /// The URL says that its bytes are in base64, and they aren't.
-    #[error("the body of the data URL is not base64")]
+    #[error("Base64")]
     Base64,
     #[error("out of memory")]
     OutOfMemory,

@@ -1,11 +1,10 @@
 //! The front of a `data:` URL: its media type, and whether its body is base64.
-ghost use Rattle.std.specs.Prelude.{◌≡◌, ◌==◌, codes, IfOk};
+ghost use Rattle.std.specs.Prelude.{◌≡◌, codes, IfOk};
 ghost use Rattle.std.specs.Str.{str_eq_ignore_ascii_case};
-ghost use Rattle.std.specs.List.{before_first};
-ghost use Rattle.data_specifier.specs.Blanks.{trim, trim_end};
 ghost use Rattle.data_specifier.specs.Front as spec;
 
 use base::Text;
+use mime_essence::{essence_of, trim_blanks_end};
 use std::alloc::{AllocError, Global};
 
 /// The front ends with `;`, any blanks and `base64` in any case.
@@ -15,26 +14,13 @@ pub fn is_base64(front: &str) -> bool
 {
     let front = front.as_bytes();
     let (before, word) = front.split_at(front.len().saturating_sub(6));
-    is_base64_word(word) && less_blanks_at_end(before).ends_with(b";")
+    is_base64_word(word) && trim_blanks_end(before).ends_with(b";")
 }
 
 fn is_base64_word(word: &[u8]) -> bool
     ensures { result ≡ str_eq_ignore_ascii_case word.now (codes "base64") }
 {
     word.eq_ignore_ascii_case(b"base64")
-}
-
-fn less_blanks_at_end(text: &[u8]) -> &[u8]
-    ensures { result.now ≡ trim_end text.now }
-{
-    text.trim_ascii_end()
-}
-
-/// The front less the blanks at its ends.
-pub fn trimmed(front: &str) -> &str
-    ensures { result.now ≡ trim front.now }
-{
-    front.trim_ascii()
 }
 
 /// The media type that the front tells, in lower case.
@@ -47,22 +33,6 @@ pub fn mime_of(alloc: Global, front: &str) -> Result<Text, AllocError>
         Ok(Text::from_string(essence.to_ascii_lowercase(alloc)?))
     } else {
         Text::from_str(alloc, "text/plain")
-    }
-}
-
-// The front up to its first `;`, less the blanks at its ends.
-fn essence_of(front: &str) -> &str
-    ensures { result.now ≡ spec.essence_of front.now }
-{
-    trimmed(before_parameters(front))
-}
-
-fn before_parameters(front: &str) -> &str
-    ensures { result.now ≡ before_first (λ b. b == 59) front.now }
-{
-    match front.split_once(';') {
-        Some((essence, _)) => essence,
-        None => front,
     }
 }
 

@@ -8,7 +8,8 @@ ghost use Rattle.data_specifier.specs.Data.{data_of, Gives};
 use crate::body::body_of;
 use crate::data_module::DataModule;
 use crate::error::DataError;
-use crate::front::{is_base64, mime_of, trimmed};
+use crate::front::{is_base64, mime_of};
+use mime_essence::trim_blanks;
 use std::alloc::Global;
 use url::Url;
 
@@ -30,7 +31,7 @@ pub fn parse_data_text(alloc: Global, text: &str) -> Result<DataModule, DataErro
     ensures { Gives result (data_of text.now) }
 {
     match content_of(text).split_once(',') {
-        Some((front, encoded)) => module_of(alloc, trimmed(front), encoded),
+        Some((front, encoded)) => module_of(alloc, trim_blanks(front), encoded),
         None => Err(DataError::NoComma),
     }
 }

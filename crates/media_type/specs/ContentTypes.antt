@@ -1,8 +1,8 @@
 -- Media types by the header `content-type` (this project's profile; media types as in RFC 9110, "Content-Type").
-use Rattle.std.specs.Prelude.{ℕ, nat_eq, ◌==◌, ◌-◌, List, [], ◌∷◌, codes, length, take, drop, bytes_eq, if◌then◌else◌}
-use Rattle.std.specs.List.{ends_with, before_first, prefix_len, suffix_len}
-use Rattle.std.specs.Char.{is_ascii_whitespace}
+use Rattle.std.specs.Prelude.{ℕ, nat_eq, List, [], ◌∷◌, codes, bytes_eq, if◌then◌else◌}
+use Rattle.std.specs.List.{ends_with}
 use Rattle.std.specs.Str.{str_to_ascii_lowercase}
+use Rattle.mime_essence.specs.Essence.{essence_of}
 use Rattle.media_type.specs.declared.media_type.MediaType.{MediaType}
 use Rattle.media_type.specs.declared.media_type.MediaType.TheVariants.{TypeScript, Tsx, JavaScript, Jsx, Json, Wasm, Unknown}
 use Rattle.media_type.specs.declared.content_types.ContentRule.{ContentRule}
@@ -51,16 +51,6 @@ by_rule by_path ByPath = by_path
 by_rule by_path rule.TypeScript = if is_typed by_path then by_path else TypeScript
 by_rule by_path rule.JavaScript = if is_javascript by_path then by_path else JavaScript
 by_rule by_path (Only media_type) = media_type
-
--- the text less the blanks at both ends
-unfoldable pub trim : List ℕ → List ℕ
-trim text =
-    let rest = drop (prefix_len is_ascii_whitespace text) text in
-    take (length rest - suffix_len is_ascii_whitespace rest) rest
-
--- a header up to its first `;`, which its parameters stand behind, less the blanks at its ends
-abbrev pub essence_of : List ℕ → List ℕ
-essence_of header = trim (before_first (λ b. b == 59) header)
 
 -- the media type of content with this header, where the path of its specifier tells the first
 unfoldable pub with_content_type : MediaType → List ℕ → MediaType

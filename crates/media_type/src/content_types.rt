@@ -1,12 +1,13 @@
 //! Media types by a content type.
-ghost use Rattle.std.specs.Prelude.{◌≡◌, ◌==◌, IfOk, nat_eq, bytes_eq, map};
-ghost use Rattle.std.specs.List.{before_first, ends_with};
+ghost use Rattle.std.specs.Prelude.{◌≡◌, IfOk, nat_eq, bytes_eq, map};
+ghost use Rattle.std.specs.List.{ends_with};
 ghost use Rattle.media_type.specs.ContentTypes.{with_content_type};
 ghost use Rattle.media_type.specs.ContentTypes as spec;
 ghost use Rattle.media_type.specs.Steps.{content_type_of};
 
 use crate::endings::has_ending;
 use crate::media_type::MediaType;
+use mime_essence::essence_of;
 use std::alloc::{AllocError, Global};
 
 /// What a content type says of the media type.
@@ -111,28 +112,6 @@ impl MediaType {
         let essence = essence_of(header).to_ascii_lowercase(alloc)?;
         Ok(by_rule(self, first_rule(&CONTENT_TYPES, essence.as_str())))
     }
-}
-
-// The header up to its first `;`, less the blanks at its ends.
-fn essence_of(header: &str) -> &str
-    ensures { result.now ≡ spec.essence_of header.now }
-{
-    trimmed(before_parameters(header))
-}
-
-fn before_parameters(header: &str) -> &str
-    ensures { result.now ≡ before_first (λ b. b == 59) header.now }
-{
-    match header.split_once(';') {
-        Some((essence, _)) => essence,
-        None => header,
-    }
-}
-
-fn trimmed(text: &str) -> &str
-    ensures { result.now ≡ spec.trim text.now }
-{
-    text.trim_ascii()
 }
 
 fn first_rule(rows: &[ContentType], essence: &str) -> ContentRule

@@ -67,7 +67,7 @@ fn says_why_a_url_holds_nothing(rt: HostRuntime) -> Result<(), Fail> {
         assert_eq!(rt; shown(rt.alloc(), text)?.as_str(), want, "{text}");
     }
     let no_comma = format!(in rt.alloc(); "{}", DataError::NoComma)?;
-    assert_eq!(rt; no_comma.as_str(), "the data URL has no comma");
+    assert_eq!(rt; no_comma.as_str(), "NoComma");
     Ok(())
 }
 

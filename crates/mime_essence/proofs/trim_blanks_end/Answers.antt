@@ -1,5 +1,5 @@
 use Rattle.std.proofs.lemmas.Str.Ascii.{trim_ascii_end_is}
-use Rattle.data_specifier.proofs.front.less_blanks_at_end.Goals as goal
+use Rattle.mime_essence.proofs.trim_blanks_end.Goals as goal
 
 pub returns : goal.returns
 returns c = trim_ascii_end_is _ _ c.trim_ascii_end.ensures.value
