@@ -1,0 +1,92 @@
+"""tools/picture on reports."""
+import os
+import subprocess
+import unittest
+import xml.etree.ElementTree as xml
+
+TOOL = os.path.join(os.path.dirname(os.path.dirname(os.path.abspath(__file__))), "picture")
+SVG = "{http://www.w3.org/2000/svg}"
+REPORT = r"""root file:///src/a.ts
+data:text/javascript,import 'https://x.test/b.js' module JavaScript 28
+  import 7-28 "https://x.test/b.js" - -> https://x.test/b.js
+file:///lib/old.ts redirect file:///lib/new.ts
+file:///lib/new.ts module TypeScript 5
+  dynamic 3-9 "../src/a.ts" "json" -> file:///src/a.ts
+file:///src/a.ts module TypeScript 115
+  import-type 29-53 "npm:@a/b@1" - -> npm:@a/b@1
+  import 62-113 "data:text/javascript,import 'https://x.test/b.js'" - -> data:text/javascript,import 'https://x.test/b.js'
+  import 120-130 "<\"&\u0000" ? ! ImportPrefixMissing "<"
+  export 140-150 "../lib/old.ts" - -> file:///lib/old.ts
+https://x.test/b.js error Missing
+npm:@a/b@1 package npm "@a/b" "1" -
+entries 6
+"""
+
+
+def draw(*words, report=REPORT):
+    done = subprocess.run([TOOL, *words], input=report.encode(), capture_output=True)
+    return done.returncode, done.stdout.decode(), done.stderr.decode()
+
+
+def drawn(*words, report=REPORT):
+    status, out, errors = draw(*words, report=report)
+    assert (status, errors) == (0, ""), errors
+    return out
+
+
+class Picture(unittest.TestCase):
+    def test_svg(self):
+        picture = xml.fromstring(drawn())
+        rows = [group for group in picture.iter(SVG + "g") if (group.get("class") or "").startswith("row")]
+        told = {group.find(SVG + "title").text: group.get("class").split()[1:] for group in rows}
+        self.assertEqual(told["file:///src/a.ts\nmodule TypeScript 115"], ["root"])
+        self.assertEqual(told["https://x.test/b.js\nerror Missing"], ["fault"])
+        self.assertEqual(told[r'import 120-130 "<\"&\u0000" ! ImportPrefixMissing "<"'], ["nowhere"])
+        self.assertEqual(len(rows), 6 + 1)
+        edges = [path for path in picture.iter(SVG + "path") if path.get("data-a")]
+        self.assertEqual(sorted(path.find(SVG + "title").text.split(" ")[0] for path in edges),
+                         ["dynamic", "export", "import", "import", "import-type", "redirect"])
+        folders = [text.find(SVG + "title").text for text in picture.iter(SVG + "text") if text.get("class") == "name"]
+        self.assertEqual(sorted(folders), ["/lib/", "/src/", "data:", "https://x.test/", "packages"])
+        counts = [text.text for text in picture.iter(SVG + "text") if text.get("class") == "counts"]
+        self.assertEqual(counts, ["6 entries, 3 modules, 1 package, 1 redirect, 1 error, 6 edges, 1 of them without target"])
+
+    def test_html(self):
+        page = drawn("--html")
+        self.assertIn('<li data-n="4">https://x.test/b.js<br>Missing</li>', page)
+        self.assertNotIn("http://", page.replace("http://www.w3.org/2000/svg", ""))
+        self.assertEqual(page.count("<script"), 1)
+        self.assertNotIn(" src=", page)
+
+    def test_dot(self):
+        lines = drawn("--dot").splitlines()
+        self.assertEqual((lines[0], lines[-1]), ("digraph modules {", "}"))
+        self.assertIn('  "file:///src/a.ts" -> "npm:@a/b@1" [color="#3b6ea5", style=dotted, tooltip="import-type"];', lines)
+        self.assertEqual(sum("->" in line for line in lines), 6 + 1)
+        self.assertEqual(sum("subgraph" in line for line in lines), 5)
+
+    def test_many(self):
+        """A tree of 2,000 modules in 40 folders: each row stands on a place of its own."""
+        lines = ["root file:///0/0.ts"]
+        for i in range(2000):
+            lines.append(f"file:///{i % 40}/{i}.ts module TypeScript 1")
+            lines += [f'  import 0-1 "x" - -> file:///{j % 40}/{j}.ts' for j in (2 * i + 1, 2 * i + 2) if j < 2000]
+        picture = xml.fromstring(drawn(report="\n".join(lines + ["entries 2000", ""])))
+        places = [(cell.get("x"), cell.get("y")) for cell in picture.iter(SVG + "rect") if cell.get("class") == "cell"]
+        self.assertEqual((len(places), len(set(places))), (2000, 2000))
+        self.assertEqual(sum(path.get("data-a") is not None for path in picture.iter(SVG + "path")), 1999)
+
+    def test_refusals(self):
+        rows = [("error Bundle\n", "picture: the report is 'error Bundle', which has no graph"), ("", "picture: it is empty"),
+                ("root file:///a\nhello\n", "picture: line 2 is no line of a report: 'hello'")]
+        for report, line in rows:
+            self.assertEqual(draw(report=report), (1, "", line + "\n"))
+        self.assertEqual(draw("--png")[0], 64)
+        self.assertEqual(draw("nowhere.report"), (1, "", "picture: nowhere.report: No such file or directory\n"))
+
+    def test_graph_without_entries(self):
+        self.assertIn("0 entries, 0 edges", drawn(report="entries 0\n"))
+
+
+if __name__ == "__main__":
+    unittest.main()
