@@ -1,0 +1,79 @@
+"""tools/check-links on a small repository."""
+import os
+import shutil
+import subprocess
+import tempfile
+import unittest
+
+TOOL = os.path.join(os.path.dirname(os.path.dirname(os.path.abspath(__file__))), "check-links")
+FILES = {
+    "README.md": "# One\n\nA [page](docs/PAGE.md#the-second-part) and `Reads`.\n",
+    "docs/PAGE.md": "# Page\n\n## The second part\n\n| crate `lexer` | `scan` | `Reads`, specs/Reads.antt |\n",
+    "crates/lexer/README.md": "# lexer\n\nThe call `read_all` is what `Reads` of `specs/Reads.antt` says.\n",
+    "crates/lexer/src/scan.rt": "pub fn read_all()\n    ensures read { 0 ≡ 0 }\n",
+    "crates/lexer/specs/Reads.antt": "pub record Reads (x : ℕ) : Type 0 where\n  pub whole : x ≡ x\n",
+    "crates/lexer/must-fail/reads_nothing.edit": "",
+}
+
+
+class CheckLinks(unittest.TestCase):
+    def setUp(self):
+        room = tempfile.TemporaryDirectory()
+        self.addCleanup(room.cleanup)
+        self.room = room.name
+        for path, text in FILES.items():
+            self.put(path, text)
+        os.makedirs(os.path.join(self.room, "tools"))
+        shutil.copy(TOOL, os.path.join(self.room, "tools", "check-links"))
+
+    def put(self, path, text):
+        path = os.path.join(self.room, path)
+        os.makedirs(os.path.dirname(path), exist_ok=True)
+        with open(path, "w", encoding="utf-8") as file:
+            file.write(text)
+
+    def told(self, *words):
+        done = subprocess.run([os.path.join(self.room, "tools", "check-links"), *words], capture_output=True, text=True, check=False)
+        return done.returncode, done.stdout.splitlines()
+
+    def test_nothing_wrong(self):
+        self.assertEqual(self.told(), (0, ["links: 3 pages, 0 faults"]))
+
+    def test_faults(self):
+        rows = [
+            ("[a](nowhere.md)", "no file nowhere.md"), ("[a](docs/PAGE.md#first)", "no heading #first in docs/PAGE.md"),
+            ("[a](#second)", "no heading #second in README.md"), ("![a](docs/a.svg)", "no file docs/a.svg"),
+            ("[`Stops`](crates/lexer/specs/Reads.antt)", "crates/lexer/specs/Reads.antt declares no Stops"),
+            ("[`X::scan`](crates/lexer/src/scan.rt)", "crates/lexer/src/scan.rt declares no scan"),
+            ("`ReadsTokens`", "no source has a ReadsTokens"), ("`read_none`", "no source has a read_none"),
+            ("docs/NONE.md", "no file docs/NONE.md"), ("`specs/None.antt`", "no file specs/None.antt"),
+        ]
+        for text, fault in rows:
+            self.put("README.md", f"# One\n\n{text}\n")
+            status, lines = self.told()
+            self.assertEqual((status, lines[0]), (1, f"README.md:3: {fault}"))
+
+    def test_no_faults(self):
+        for text in ("[a](https://example.com/none)", "[One](#one)", "`reads_nothing`", "`lexer`", "`FOLDER` and `check-NAME`", "`a word`",
+                     "`..-in_room`", "`let x_y = 1;`", "```\n`None_such` [a](b.md)\n```", "    `None_such`", "[`whole`](crates/lexer/specs/Reads.antt)",
+                     "[`read`](crates/lexer/src/scan.rt)"):
+            self.put("README.md", f"# One\n\n{text}\n")
+            self.assertEqual(self.told()[0], 0, text)
+
+    def test_write(self):
+        for _ in range(2):  # what is a link stays as it is
+            self.assertEqual(self.told("--write"), (0, ["links: 3 pages, 0 faults"]))
+            wanted = {
+                "README.md": "# One\n\nA [page](docs/PAGE.md#the-second-part) and [`Reads`](crates/lexer/specs/Reads.antt).\n",
+                "docs/PAGE.md": "# Page\n\n## The second part\n\n"
+                                "| crate [`lexer`](../crates/lexer/README.md) | `scan` | [`Reads`](../crates/lexer/specs/Reads.antt) |\n",
+                "crates/lexer/README.md": "# lexer\n\nThe call [`read_all`](src/scan.rt) is what [`Reads`](specs/Reads.antt) of "
+                                          "[`specs/Reads.antt`](specs/Reads.antt) says.\n",
+            }
+            for path, text in wanted.items():
+                with open(os.path.join(self.room, path), encoding="utf-8") as file:
+                    self.assertEqual(file.read(), text)
+
+
+if __name__ == "__main__":
+    unittest.main()
