@@ -93,6 +93,14 @@ class Pack(unittest.TestCase):
         self.assert_refused("pack: src/a.css: left out of the bundle; --also .css takes such files", "proj", "src/a.css")
         self.assert_refused("pack: .x/a.ts: left out of the bundle", "proj", ".x/a.ts")
 
+    def test_too_large(self):
+        self.put("a.wasm", bytes(12_582_912))  # its base64 alone has 16,777,216 bytes
+        status, out, errors = run(self.folder, "main.ts")
+        self.assertEqual((status, out), (1, b""))
+        self.assertRegex(errors, r"^pack: too large: 16,777,[0-9]{3} bytes, and the program reads at most 16,777,216\n$")
+        self.put("b.wasm", bytes(12_582_912))
+        self.assert_refused("pack: too large: 25,165,824 bytes, and the program reads at most 16,777,216", "proj", "main.ts")
+
     def test_left_out(self):
         os.symlink("nowhere.ts", os.path.join(self.folder, "dangling.ts"))
         os.symlink("main.ts", os.path.join(self.folder, "link.ts"))
