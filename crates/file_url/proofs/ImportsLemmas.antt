@@ -8,12 +8,12 @@ use Rattle.url.specs.Parser.{Parsed, IsOutOfRoom}
 use Rattle.file_url.specs.declared.errors.SpecifierError.TheVariants.{OutOfMemory}
 use Rattle.file_url.specs.Imports.{refusal, import_read, KeepsReason}
 
--- want of room becomes want of memory
+-- out of room becomes out of memory
 pub refusal_of_room : (e : ParseError) → IsOutOfRoom e → refusal e ≡ OutOfMemory
 refusal_of_room e (inl memory) = ap refusal memory
 refusal_of_room e (inr large) = ap refusal large
 
--- a reason is no want of memory in disguise
+-- a reason never stands for being out of memory
 pub refusal_keeps : (e : ParseError) → KeepsReason (refusal e)
 refusal_keeps url.OutOfMemory = tt
 refusal_keeps url.Overflow = tt

@@ -19,11 +19,11 @@ use Rattle.url.specs.Parser.{Parsed, and_then, split_scheme, parse_by_scheme, pa
 use Rattle.url.proofs.InputLemmas.{IsNot, Passes, split_once_none, prefix_len_at, filter_all, All_from_list_all}
 use Rattle.url.proofs.SetLemmas.{passes_from_kept}
 use Rattle.url.proofs.RoundTrip.{split_own_scheme}
-use Rattle.percent_encoding.specs.Percent.{percent_encode}
 use Rattle.percent_encoding.proofs.PercentLemmas.{All-percent_encode}
 use Rattle.file_url.specs.declared.sets.TheConstants.{NAME}
-use Rattle.file_url.specs.FileUrls.{escaped, escaped_path, file_text}
+use Rattle.file_url.specs.FileUrls.{escaped_byte, escaped, escaped_path, file_text}
 use Rattle.file_url.specs.WindowsPaths.{is_host_byte}
+use Rattle.file_url.proofs.SetLemmas.{name_is_escaped}
 
 -- neither a control nor a space nor a mark of the query or the fragment
 pub record IsPlainByte (b : ℕ) : Type 0 where
@@ -125,9 +125,10 @@ read_from_host host path plain no_slash no_drive =
 
 plain_escaped : (name : List ℕ) → All IsPlainByte (escaped name)
 plain_escaped name =
-    All-cons IsPlainByte 47 (percent_encode NAME name) (plain_from_test 47 refl)
+    All-cons IsPlainByte 47 (flat_map escaped_byte name) (plain_from_test 47 refl)
+    (subst (All IsPlainByte) (name_is_escaped name)
     (All-percent_encode IsPlainByte NAME name (λ b kept. plain_from_test b (passes_from_kept NAME is_plain_byte refl b kept))
-    (λ b escape. plain_from_test b (grind (arith, nat_tests))))
+    (λ b escape. plain_from_test b (grind (arith, nat_tests)))))
 
 pub plain_escaped_path : (folder : Bool) (names : List (List ℕ)) → All IsPlainByte (escaped_path folder names)
 unfolding escaped_path

@@ -1,14 +1,13 @@
 -- The URL of a path, and the path of a URL.
-use Rattle.std.specs.Prelude.{◌≢◌, ℕ, Bool, false, not, ◌||◌, ◌==◌, List, [], ◌++◌, length, filter, codes, bytes_eq, None, Result, Ok, Err, if◌then◌else◌}
-use Rattle.std.specs.List.{flat_map}
-use Rattle.percent_encoding.specs.Percent.{percent_encode}
+use Rattle.std.specs.Prelude.{◌≢◌, ℕ, nat_lt, Bool, false, not, ◌||◌, ◌==◌, List, [], ◌∷◌, ◌++◌, length, filter, codes, bytes_eq, None, Result, Ok, Err, if◌then◌else◌}
+use Rattle.std.specs.List.{flat_map, list_any}
+use Rattle.percent_encoding.specs.Percent.{percent_encode_byte}
 use Rattle.url.specs.Parts.{Parts}
 use Rattle.url.specs.declared.error.ParseError.{ParseError}
 use Rattle.url.specs.declared.error.ParseError.TheVariants as url
 use Rattle.url.specs.Parser.{Parsed, parse_url, IsOutOfRoom}
 use Rattle.lexical_path.specs.Paths.{parts, is_absolute, normal_path, joined_path}
 use Rattle.lexical_path.specs.Specifiers.{has_uri_scheme}
-use Rattle.file_url.specs.declared.sets.TheConstants.{NAME}
 use Rattle.file_url.specs.declared.errors.PathToUrlError.{PathToUrlError}
 use Rattle.file_url.specs.declared.errors.PathToUrlError.TheVariants.{Path, OutOfMemory}
 use Rattle.file_url.specs.declared.errors.ResolveUrlOrPathError.{ResolveUrlOrPathError}
@@ -21,9 +20,21 @@ is_plain part = not (length part == 0 || bytes_eq part (codes "."))
 abbrev pub plain_parts : List ℕ → List (List ℕ)
 plain_parts path = filter is_plain (parts path)
 
+-- the marks of ASCII that a name escapes (this project's profile)
+abbrev pub marks : List ℕ
+marks = codes " \"#%<>?`{}|\\/"
+
+-- the byte of a name is escaped: a control, one of these marks, or past ASCII
+abbrev pub is_escaped : ℕ → Bool
+is_escaped b = nat_lt b 32 || nat_lt 126 b || list_any (λ mark. mark == b) marks
+
+-- a byte of a name, as it is or as `%` and two upper-case hexadecimal digits
+abbrev pub escaped_byte : ℕ → List ℕ
+escaped_byte b = if is_escaped b then percent_encode_byte b else b ∷ []
+
 -- `/` and the name with its bytes escaped
 abbrev pub escaped : List ℕ → List ℕ
-escaped name = codes "/" ++ percent_encode NAME name
+escaped name = codes "/" ++ flat_map escaped_byte name
 
 -- the escaped names, and a `/` behind them in a folder's path and where there is none
 unfoldable pub escaped_path : Bool → List (List ℕ) → List ℕ
@@ -51,7 +62,7 @@ url_of_path folder path = url_of_normal folder (normal_path path)
 
 -- ---- a URL or a path
 
--- what a refusal of reading becomes: want of memory and a URL near 4 GB are want of memory
+-- what a refusal of reading becomes: a URL near 4 GB counts as out of memory
 abbrev pub url_refusal : ParseError → ResolveUrlOrPathError
 url_refusal url.OutOfMemory = resolve.OutOfMemory
 url_refusal url.Overflow = resolve.OutOfMemory
@@ -78,7 +89,7 @@ url_or_path specifier folder =
     if has_uri_scheme specifier then url_read (parse_url None specifier)
     else path_read (url_of_path false (joined_path folder specifier))
 
--- the reason is no want of memory in disguise
+-- the reason never stands for being out of memory
 abbrev pub KeepsReason : ResolveUrlOrPathError → Type 0
 KeepsReason (resolve.UrlParse e) = ¬ IsOutOfRoom e
 KeepsReason (resolve.PathToUrl e) = e ≢ OutOfMemory

@@ -14,7 +14,7 @@ use Rattle.file_url.specs.declared.errors.SpecifierError.TheVariants.{ImportPref
 abbrev pub Resolved : Type 0
 Resolved = Result Parts SpecifierError
 
--- what a refusal of reading or joining becomes: want of memory and a URL near 4 GB are want of memory
+-- what a refusal of reading or joining becomes: a URL near 4 GB counts as out of memory
 abbrev pub refusal : ParseError → SpecifierError
 refusal url.OutOfMemory = OutOfMemory
 refusal url.Overflow = OutOfMemory
@@ -42,7 +42,7 @@ import_read (Err e) referrer text = Err (refusal e)
 unfoldable pub import_of : Parsed Parts → List ℕ → Resolved
 import_of referrer text = import_read (parse_url None text) referrer text
 
--- the reason is no want of memory in disguise
+-- the reason never stands for being out of memory
 abbrev pub KeepsReason : SpecifierError → Type 0
 KeepsReason (InvalidUrl e) = ¬ IsOutOfRoom e
 KeepsReason (ImportPrefixMissing text) = Unit {0}

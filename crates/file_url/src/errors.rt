@@ -16,7 +16,7 @@ pub enum SpecifierError {
     /// The specifier is no URL, and begins with none of `/`, `./` and `../`.
     #[error("Import \"{specifier}\" not a dependency")]
     ImportPrefixMissing { specifier: Text },
-    /// The URL Standard's own refusal of reading or joining; never want of memory.
+    /// The URL Standard's own refusal of reading or joining; never that memory ran out.
     #[error("invalid URL: {0}")]
     InvalidUrl(ParseError),
     #[error("out of memory")]
@@ -68,7 +68,8 @@ impl From<AllocError> for UrlToFilePathError {
 /// Why a path has no URL.
 #[derive(Debug, Drop, PartialEq, Eq, Error)]
 pub enum PathToUrlError {
-    /// The path isn't absolute, or one of its names can't stand in a URL.
+    /// The normalized path doesn't begin with `/`. Of the calls in `_wasm`: the path has no backslash, and a component
+    /// of it is `.` or `..`. The path is kept: the normalized one, or the one that was given in `_wasm`.
     #[error("Could not convert path to URL.\n  Path: {0}")]
     Path(Text),
     #[error("out of memory")]
@@ -97,10 +98,10 @@ impl From<AllocError> for PathToUrlError {
 /// Why a specifier is neither a URL nor a path.
 #[derive(Debug, Drop, PartialEq, Eq, Error)]
 pub enum ResolveUrlOrPathError {
-    /// The URL Standard's own refusal; never want of memory.
+    /// The URL Standard's own refusal; never that memory ran out.
     #[error("{0}")]
     UrlParse(ParseError),
-    /// Never want of memory.
+    /// The refusal of `resolve_path`; never that memory ran out.
     #[error("{0}")]
     PathToUrl(PathToUrlError),
     #[error("out of memory")]

@@ -68,7 +68,7 @@ pub fn resolve_path(alloc: Global, path_str: &str, current_dir: &str) -> Result<
 
 /// The URL that the specifier is, where it begins with a scheme, and else that of the path that it is.
 ///
-/// `UrlParse` is the URL Standard's refusal, `PathToUrl` that of `resolve_path`; neither is ever want of memory.
+/// `UrlParse` is the URL Standard's refusal, `PathToUrl` that of `resolve_path`; neither ever says that memory ran out.
 pub fn resolve_url_or_path(
     alloc: Global,
     specifier: &str,

@@ -86,7 +86,7 @@ fn prefix_missing(alloc: Global, specifier: &str) -> SpecifierError
     }
 }
 
-// A refusal of reading or joining; want of memory is a variant of its own, and so is a URL near 4 GB.
+// A refusal of reading or joining; that memory ran out is a variant of its own, and a URL near 4 GB counts as that.
 fn refusal(error: ParseError) -> SpecifierError
     ensures { result ≡ spec.refusal error }
 {

@@ -7,9 +7,9 @@
 //! - `url_to_file_path(url)`, `url_parent(url)`: the path of a URL, and its parent (`specs/ToPath.antt`).
 //! - The forms in `_wasm`: the same for paths that may have backslashes (`specs/WindowsPaths.antt`).
 //!
-//! Both ways; only want of memory may refuse besides, and it is a variant of its own, never inside another one. The
+//! Both ways; besides, only memory may run out, and `OutOfMemory` is a variant of its own, never inside another one. The
 //! text of a file URL is never refused (`file_text_is_read`, `proofs/Theorems.antt`).
-//! Not promised: what `Display` and `Debug` write, and when memory runs out.
+//! Not promised: what `Debug` writes, and when memory runs out.
 #![tactic(auto)]
 
 mod errors;

@@ -1,4 +1,4 @@
-//! The bytes that a name of a path escapes in a URL.
+//! The bytes that a name of a path escapes in a URL. `is_escaped` (`specs/FileUrls.antt`) writes them out.
 
 use percent_encoding::{AsciiSet, CONTROLS, ascii_set};
 
