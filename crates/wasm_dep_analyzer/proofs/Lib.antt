@@ -1,5 +1,6 @@
 pub mod ValuesLemmas
 pub mod LoopLemmas
+pub mod ExportLemmas
 pub mod ModuleLemmas
 pub mod SectionLemmas
 pub mod Theorems

@@ -156,7 +156,7 @@ fault_in_exports _ ss h = inr h
 pub sound_where_found : (found : Found) (ss : List Section) → IsFoundIn found ss → AreSound ss
 sound_where_found found ss h = (subst IsOk (sym h.imports) refl, subst IsOk (sym h.exports) refl)
 
--- a fault of a body is one, want of memory aside
+-- a fault of a body is one, unless memory ran out
 pub has_fault : (skip_types : Bool) (total : ℕ) (body : List ℕ) (e : ParseError) (ss : List Section) (rest : List ℕ) → IsBodyFault skip_types total body ss rest e → HasBodyFault skip_types total body e
 has_fault skip_types total body OutOfMemory ss rest h = tt
 has_fault skip_types total body _ ss rest h = (ss, rest, h)

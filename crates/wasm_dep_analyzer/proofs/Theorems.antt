@@ -254,7 +254,7 @@ one_outcome skip_types input (Err d) (Err e) h k =
       ]
     ]
 
--- the outcome that there is is the one that was answered, want of memory aside
+-- the outcome that there is is the one that was answered, unless memory ran out
 pub outcome_is : (skip_types : Bool) (input : List ℕ) (result : Result WasmDeps ParseError) (outcome : Result Deps ParseError)
     → IsOutcome skip_types input result → ReadsModule skip_types input outcome → GivesInRoom seen result outcome
 outcome_is skip_types input (Ok deps) outcome h k = one_outcome skip_types input outcome (Ok (seen deps)) k h

@@ -1,5 +1,5 @@
 -- Exports before their types are looked up (WebAssembly Core, "Export Section").
-use Rattle.std.specs.Prelude.{ℕ, Bool, List, Ok, ◌==◌, if◌then◌else◌}
+use Rattle.std.specs.Prelude.{ℕ, Bool, true, false, List, Ok, ◌==◌, if◌then◌else◌}
 use Rattle.std.specs.List.{list_any}
 use Rattle.wasm_dep_analyzer.specs.declared.exports.ExportKind.{ExportKind}
 use Rattle.wasm_dep_analyzer.specs.declared.exports.ExportKind.TheVariants.{Function, Table, Memory, Global, Tag, Unknown}
@@ -31,15 +31,26 @@ export_at bytes = do
 abbrev pub listed : ExportItem → Listed
 listed e = record { name = e.name.now; kind = e.kind; index = e.index }
 
--- a number for each kind, by which two are compared
-abbrev pub code_of : ExportKind → ℕ
-code_of Function = 0
-code_of Table = 1
-code_of Memory = 2
-code_of Global = 3
-code_of Tag = 4
-code_of Unknown = 5
+-- the export is a function
+abbrev pub is_function : Listed → Bool
+is_function e = function_kind e.kind
+  where
+    function_kind : ExportKind → Bool
+    function_kind Function = true
+    function_kind _ = false
 
--- some export is of this kind
-abbrev pub has_kind : ExportKind → List Listed → Bool
-has_kind kind exports = list_any (λ e. code_of e.kind == code_of kind) exports
+-- the export is a global
+abbrev pub is_global : Listed → Bool
+is_global e = global_kind e.kind
+  where
+    global_kind : ExportKind → Bool
+    global_kind Global = true
+    global_kind _ = false
+
+-- some export is a function
+abbrev pub has_function : List Listed → Bool
+has_function exports = list_any is_function exports
+
+-- some export is a global
+abbrev pub has_global : List Listed → Bool
+has_global exports = list_any is_global exports

@@ -207,7 +207,7 @@ CutsName input i =
     (i.module_range.start ≤ i.module_range.end) × (i.module_range.end ≤ length input)
     × (slice_range input i.module_range.start i.module_range.end ≡ i.origin)
 
--- an outcome that is answered is the module's, want of memory aside
+-- an outcome that is answered is the module's, unless memory ran out
 abbrev pub IsOutcome : Bool → List ℕ → Result WasmDeps ParseError → Type 0
 IsOutcome skip_types input (Ok deps) = ReadsModule skip_types input (Ok (seen deps))
 IsOutcome skip_types input (Err OutOfMemory) = Unit {0}

@@ -17,7 +17,7 @@ abbrev pub ◌>>=◌ : {A B : Type 0} → Result A ParseError → (A → Result 
 abbrev pub Gives : {X Y : Type 0} → (X → Y) → Result X ParseError → Result Y ParseError → Type 0
 Gives view result read = MatchResult result (λ x. read ≡ Ok (view x)) (λ e. read ≡ Err e)
 
--- the fault is the one that reading meets, unless it is want of memory
+-- the fault is the one that reading meets, unless memory ran out
 abbrev pub IsFaultOf : {Y : Type 0} → ParseError → Result Y ParseError → Type 0
 IsFaultOf OutOfMemory read = Unit {0}
 IsFaultOf e read = read ≡ Err e

@@ -3,11 +3,10 @@ use Rattle.std.specs.Prelude.{◌≡◌, ℕ, ◌-◌, Bool, false, ◌&&◌, �
 use Rattle.std.specs.Option.{option_map}
 use Rattle.std.specs.Result.{result_unwrap_or}
 use Rattle.wasm_dep_analyzer.specs.declared.error.ParseError.{ParseError}
-use Rattle.wasm_dep_analyzer.specs.declared.exports.ExportKind.TheVariants.{Function, Global}
 use Rattle.wasm_dep_analyzer.specs.Reading.{Read, ◌>>=◌}
 use Rattle.wasm_dep_analyzer.specs.Values.{u8_at, u32_at, bytes_at, all_items}
 use Rattle.wasm_dep_analyzer.specs.Imports.{Imported, import_at}
-use Rattle.wasm_dep_analyzer.specs.Exports.{Listed, export_at, has_kind}
+use Rattle.wasm_dep_analyzer.specs.Exports.{Listed, export_at, has_function, has_global}
 
 -- a section, with the place in the module where its payload ends
 pub record Section : Type 0 where
@@ -66,7 +65,7 @@ exports_in ss = held exports_of (first 7 ss)
 -- there are the sections that exports want: types and functions for a function, globals for a global
 abbrev pub suffices : Bool → Bool → List Listed → Bool
 suffices has_functions has_globals exports =
-    (has_functions || not (has_kind Function exports)) && (has_globals || not (has_kind Global exports))
+    (has_functions || not (has_function exports)) && (has_globals || not (has_global exports))
 
 -- imports and exports that could be read
 abbrev pub AreSound : List Section → Type 0

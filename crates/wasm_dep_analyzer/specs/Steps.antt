@@ -35,7 +35,7 @@ pub record IsFoundIn (found : Found) (ss : List Section) : Type 0 where
   pub functions : option_copied found.functions ≡ payload_in 3 ss
   pub globals : option_copied found.globals ≡ payload_in 6 ss
 
--- a fault of the imports or exports, unless it is want of memory
+-- a fault of the imports or exports, unless memory ran out
 abbrev pub IsFaultIn : ParseError → List Section → Type 0
 IsFaultIn OutOfMemory ss = Unit {0}
 IsFaultIn e ss = (imports_in ss ≡ Err e) ⊎ (exports_in ss ≡ Err e)
@@ -44,7 +44,7 @@ IsFaultIn e ss = (imports_in ss ≡ Err e) ⊎ (exports_in ss ≡ Err e)
 abbrev pub FindsIn : Result Found ParseError → List Section → Type 0
 FindsIn result ss = MatchResult result (λ found. IsFoundIn found ss) (λ e. IsFaultIn e ss)
 
--- the fault of a body, unless it is want of memory
+-- the fault of a body, unless memory ran out
 abbrev pub HasBodyFault : Bool → ℕ → List ℕ → ParseError → Type 0
 HasBodyFault skip_types total body OutOfMemory = Unit {0}
 HasBodyFault skip_types total body e = (ss : List Section) × (rest : List ℕ) × IsBodyFault skip_types total body ss rest e

@@ -1,5 +1,4 @@
 use crate::error::ParseError;
-use crate::items::Items;
 use crate::types::{FunctionSignature, GlobalType, ImportType};
 use base::Range;
 

@@ -3,8 +3,8 @@
 ghost use Rattle.std.specs.Prelude.{◌≡◌, map};
 ghost use Rattle.wasm_dep_analyzer.specs.Reading.{Gives, GivesInRoom};
 ghost use Rattle.wasm_dep_analyzer.specs.Values.{items_at, all_items};
-ghost use Rattle.wasm_dep_analyzer.specs.Exports.{export_kind_of, export_at, listed, code_of, has_kind};
-ghost use Rattle.wasm_dep_analyzer.specs.declared.exports.ExportKind.TheVariants.{Function, Global};
+ghost use Rattle.wasm_dep_analyzer.specs.Exports.{export_kind_of, export_at, listed, has_function, has_global};
+ghost use Rattle.wasm_dep_analyzer.specs.Exports as spec;
 
 use crate::error::ParseError;
 use crate::values::{read_name, read_u8, read_u32};
@@ -35,8 +35,8 @@ pub struct Exports<'a> {
     pub items: Vec<ExportItem<'a>>,
     pub functions: bool,
     pub globals: bool,
-    ghost shows_function: { functions ≡ has_kind Function (map listed items.items) },
-    ghost shows_global: { globals ≡ has_kind Global (map listed items.items) },
+    ghost shows_function: { functions ≡ has_function (map listed items.items) },
+    ghost shows_global: { globals ≡ has_global (map listed items.items) },
 }
 
 fn export_kind(byte: u8) -> ExportKind
@@ -81,31 +81,30 @@ fn read_exports<'a>(
     Ok((exports, rest))
 }
 
-/// A number for each kind, by which two are compared.
-fn code(kind: ExportKind) -> u8
-    ensures { result ≡ code_of kind }
+fn is_function(export: &ExportItem) -> bool
+    ensures { result ≡ spec.is_function (listed export.now) }
 {
-    match kind {
-        ExportKind::Function => 0,
-        ExportKind::Table => 1,
-        ExportKind::Memory => 2,
-        ExportKind::Global => 3,
-        ExportKind::Tag => 4,
-        ExportKind::Unknown => 5,
-    }
+    matches!(export.kind, ExportKind::Function)
 }
 
-/// Whether some export is of this kind.
-fn has_kind(kind: ExportKind, exports: &[ExportItem]) -> bool
-    ensures { result ≡ has_kind kind (map listed exports.now) }
+fn is_global(export: &ExportItem) -> bool
+    ensures { result ≡ spec.is_global (listed export.now) }
 {
-    let wanted = code(kind);
-    for export in exports {
-        if code(export.kind) == wanted {
-            return true;
-        }
-    }
-    false
+    matches!(export.kind, ExportKind::Global)
+}
+
+// Whether a function is among the exports.
+fn has_function(exports: &[ExportItem]) -> bool
+    ensures { result ≡ has_function (map listed exports.now) }
+{
+    exports.iter().any(|export| is_function(export))
+}
+
+// Whether a global is among the exports.
+fn has_global(exports: &[ExportItem]) -> bool
+    ensures { result ≡ has_global (map listed exports.now) }
+{
+    exports.iter().any(|export| is_global(export))
 }
 
 /// The exports of an export section.
@@ -115,8 +114,8 @@ pub fn export_section<'a>(alloc: Global, payload: &'a [u8]) -> Result<Exports<'a
 {
     let (count, rest) = read_u32(payload)?;
     let (items, _) = read_exports(alloc, count, rest)?;
-    let functions = has_kind(ExportKind::Function, &items);
-    let globals = has_kind(ExportKind::Global, &items);
+    let functions = has_function(&items);
+    let globals = has_global(&items);
     Ok(Exports {
         items,
         functions,

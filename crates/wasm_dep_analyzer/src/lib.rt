@@ -1,19 +1,18 @@
 //! The imports and exports of a WebAssembly module, from its bytes (WebAssembly Core, "Binary Format").
 //!
 //! - `WasmDeps::parse(input, options)`: what the module imports and exports, or the first fault (`ReadsModule`,
-//!   `specs/Module.antt`). Both ways; only memory may refuse besides. `module_range` cuts an import's module name from
+//!   `specs/Module.antt`). Both ways; besides, only memory may run out. `module_range` cuts an import's module name from
 //!   the input.
 //! - `FunctionSignature::copy`: an equal signature.
 //!
 //! A module has at most one outcome (`one_outcome`, `proofs/Theorems.antt`). Places are bytes of the input, from 0.
-//! Not promised: what `Display` and `Debug` write, and when memory runs out.
+//! Not promised: what `Debug` writes, and when memory runs out.
 #![tactic(auto)]
 
 mod deps;
 mod error;
 mod exports;
 mod imports;
-mod items;
 mod own_sections;
 mod parse;
 mod sections;
@@ -21,10 +20,9 @@ mod tables;
 mod types;
 mod values;
 
-pub use base::Range;
+pub use base::{Items, Range};
 pub use deps::{Export, ExportType, Import, ParseOptions, WasmDeps};
 pub use error::ParseError;
-pub use items::Items;
 pub use types::{
     FunctionSignature, GlobalType, ImportType, Limits, MemoryType, TableType, TagType, ValueType,
 };

@@ -9,9 +9,9 @@ ghost use Rattle.wasm_dep_analyzer.specs.Module.{own_items, behind_end, global_a
 
 use crate::error::ParseError;
 use crate::imports::{read_global_type, read_value_type};
-use crate::items::Items;
 use crate::types::{FunctionSignature, GlobalType, ValueType};
 use crate::values::{read_u8, read_u32};
+use base::Items;
 use std::alloc::Global;
 
 fn read_value_types(

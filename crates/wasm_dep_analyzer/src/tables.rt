@@ -80,7 +80,7 @@ pub fn all_globals(
     Ok(all)
 }
 
-/// The result as it is, unless it is want of memory.
+/// The result as it is, unless memory ran out.
 fn kept<T: Drop>(read: Result<T, ParseError>) -> Result<Result<T, ParseError>, AllocError>
     ensures { IfOk result (λ kept. (kept ≡ read) × (kept ≢ Err OutOfMemory)) }
 {
@@ -125,7 +125,6 @@ pub fn unread_tables() -> Tables
 /// The type of the function with this number, or why it is not there.
 #[tactic(auto, unfolding(crate::specs::Module::function_type))]
 fn function_type(
-    alloc: Global,
     tables: &Tables,
     index: u32,
 ) -> Result<Result<FunctionSignature, ParseError>, AllocError>
@@ -145,7 +144,7 @@ fn function_type(
     let Some(signature) = types.get(*number as usize) else {
         return Ok(Err(ParseError::UnresolvedExportType));
     };
-    let signature = signature.copy(alloc)?;
+    let signature = signature.copy()?;
     Ok(Ok(signature))
 }
 
@@ -163,17 +162,12 @@ fn global_type(tables: &Tables, index: u32) -> Result<GlobalType, ParseError>
     }
 }
 
-fn export_type(
-    alloc: Global,
-    tables: &Tables,
-    kind: ExportKind,
-    index: u32,
-) -> Result<ExportType, AllocError>
+fn export_type(tables: &Tables, kind: ExportKind, index: u32) -> Result<ExportType, AllocError>
     ensures { IfOk result (λ found. found ≡ type_of (shown_tables tables.now) kind index) }
 {
     match kind {
         ExportKind::Function => {
-            let signature = function_type(alloc, tables, index)?;
+            let signature = function_type(tables, index)?;
             Ok(ExportType::Function(signature))
         }
         ExportKind::Table => Ok(ExportType::Table),
@@ -195,7 +189,7 @@ pub fn typed_exports<'a>(
 {
     let mut exports = Vec::new(alloc);
     for item in items {
-        let export_type = export_type(alloc, tables, item.kind, item.index)?;
+        let export_type = export_type(tables, item.kind, item.index)?;
         exports.push(Export {
             name: item.name,
             index: item.index,

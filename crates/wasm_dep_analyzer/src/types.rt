@@ -1,7 +1,7 @@
 ghost use Rattle.std.specs.Prelude.{◌≡◌, IfOk};
 
-use crate::items::Items;
-use std::alloc::{AllocError, Global};
+use base::Items;
+use std::alloc::AllocError;
 
 /// A value type, as far as it is told apart (WebAssembly Core, "Value Types").
 #[derive(Clone, Copy, Debug, PartialEq, Eq)]
@@ -67,12 +67,12 @@ pub struct FunctionSignature {
 
 impl FunctionSignature {
     /// An equal signature in memory of its own.
-    pub fn copy(&self, alloc: Global) -> Result<FunctionSignature, AllocError>
+    pub fn copy(&self) -> Result<FunctionSignature, AllocError>
         ensures { IfOk result (λ signature. signature ≡ self.now) }
     {
         Ok(FunctionSignature {
-            params: self.params.copy(alloc)?,
-            returns: self.returns.copy(alloc)?,
+            params: self.params.copy()?,
+            returns: self.returns.copy()?,
         })
     }
 }

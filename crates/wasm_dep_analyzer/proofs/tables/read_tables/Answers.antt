@@ -1,4 +1,4 @@
--- Each table that is kept is what reading gives, since it is no want of memory.
+-- Each table that is kept is what reading gives, since memory did not run out.
 use Rattle.std.proofs.Common.{◌≡◌, refl, map}
 use Rattle.wasm_dep_analyzer.specs.Types.{signature_at}
 use Rattle.wasm_dep_analyzer.specs.Imports.{imported}
