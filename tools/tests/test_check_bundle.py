@@ -64,13 +64,15 @@ class CheckBundle(unittest.TestCase):
     def test_specifiers(self):
         self.assertEqual(told(bundle(A, A)), (1, ["modules[1]: specifier file:///a.ts repeats modules[0]"]))
         same = [("file:///a.ts", "FILE:/b/../a.ts"), ("https://x.test/", "https://X.test:443"), ("file:///a.ts", "file:///./%2e/a.ts"),
-                ("file:///a%20b", "file:///a b"), ("http://x.test/a", "http:\\\\\\\\x.test\\\\a"), ("file:///a", "file://localhost/a")]
+                ("file:///a%20b", "file:///a b"), ("http://x.test/a", "http:\\\\\\\\x.test\\\\a"), ("file:///a", "file://localhost/a"),
+                ("http://example.test/", "http://ex%41mple.test/"), ("http://127.0.0.1/", "http://0x7f.1/"), ("http://[::1]/", "http://[0:0::1]/")]
         for one, other in same:
             lines = told(bundle(module(',"text":""', one), module(',"text":""', other)))[1]
             self.assertTrue(lines[0].endswith(f"(read as {one}) repeats modules[0]"), lines)
         for one, other in (("file:///a", "file:///A"), ("file:///a", "file:///a?"), ("npm:a", "npm:A")):
             self.assertEqual(told(bundle(module(',"text":""', one), module(',"text":""', other)))[0], 0, other)
-        for text in ("a.ts", "/a.ts", "", "https://", "https://a b/", "http://a:99999/", "file://a:1/b"):
+        for text in ("a.ts", "/a.ts", "", "https://", "https://a b/", "http://a:99999/", "file://a:1/b",
+                     "http://256.256.256.256/", "http://1.2.3.4.5/", "https://[::g]/", "https://a%00b/", "foo://a b/"):
             self.assertIn("is no URL", told(bundle(roots=f'["{text}"]'))[1][0])
 
 
