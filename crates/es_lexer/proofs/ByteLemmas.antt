@@ -1,82 +1,63 @@
 -- What the class of a first byte says of the byte.
-use Rattle.std.proofs.Common.{◌≡◌, ℕ, Bool, true, false, ◌==◌, ◌||◌, not, List, [], ◌∷◌, refl, sym, ◌∙◌, ap, eqb-true, eq-eqb}
+use Rattle.std.proofs.Common.{◌≡◌, ℕ, ◌-◌, ◌≤◌, Bool, true, false, ◌==◌, ◌||◌, not, List, [], ◌∷◌, length, take, drop, get_or, refl, sym, ◌∙◌, ap, arith, eqb-true, eq-eqb}
+use Rattle.std.proofs.lemmas.List.{take_rest}
 use Rattle.es_lexer.specs.declared.bytes.First.{First}
-use Rattle.es_lexer.specs.declared.bytes.First.TheVariants.{Blank, LineEnd, Start, Quote, Sign, Slash, Other}
+use Rattle.es_lexer.specs.declared.bytes.First.TheVariants.{Blank, LineEnd, Start, Quote, Slash, Other}
 use Rattle.es_lexer.specs.Bytes.{is_blank, is_line_end, is_start, is_part, is_quote, is_plain, first_of, begins_comment}
 
 -- the tests that a byte of a class passes
 pub data Classed (b : ℕ) (c : First) : Type 0 where
-  blank : c ≡ Blank → Classed b c
-  line_end : c ≡ LineEnd → Classed b c
+  blank : is_blank b ≡ true → c ≡ Blank → Classed b c
+  line_end : is_line_end b ≡ true → c ≡ LineEnd → Classed b c
   start : is_start b ≡ true → c ≡ Start → Classed b c
   quote : is_line_end b ≡ false → is_quote b ≡ true → c ≡ Quote → Classed b c
-  sign : b ≡ 59 → c ≡ Sign → Classed b c
   slash : b ≡ 47 → c ≡ Slash → Classed b c
   other : c ≡ Other → Classed b c
 
-classed_by : (b : ℕ) (u v w x y z : Bool) → is_blank b ≡ u → is_line_end b ≡ v → is_start b ≡ w → is_quote b ≡ x
-    → (b == 59) ≡ y → (b == 47) ≡ z → Classed b (first_of b)
+classed_by : (b : ℕ) (u v w x z : Bool) → is_blank b ≡ u → is_line_end b ≡ v → is_start b ≡ w → is_quote b ≡ x
+    → (b == 47) ≡ z → Classed b (first_of b)
 unfolding first_of
-classed_by b true v w x y z p q r s t o = blank (rw p refl)
-classed_by b false true w x y z p q r s t o = line_end (rw (p, q) refl)
-classed_by b false false true x y z p q r s t o = start r (rw (p, q, r) refl)
-classed_by b false false false true y z p q r s t o = quote q s (rw (p, q, r, s) refl)
-classed_by b false false false false true z p q r s t o = sign (eqb-true _ _ t) (rw (p, q, r, s, t) refl)
-classed_by b false false false false false true p q r s t o = slash (eqb-true _ _ o) (rw (p, q, r, s, t, o) refl)
-classed_by b false false false false false false p q r s t o = other (rw (p, q, r, s, t, o) refl)
+classed_by b true v w x z p q r s o = blank p (rw p refl)
+classed_by b false true w x z p q r s o = line_end q (rw (p, q) refl)
+classed_by b false false true x z p q r s o = start r (rw (p, q, r) refl)
+classed_by b false false false true z p q r s o = quote q s (rw (p, q, r, s) refl)
+classed_by b false false false false true p q r s o = slash (eqb-true _ _ o) (rw (p, q, r, s, o) refl)
+classed_by b false false false false false p q r s o = other (rw (p, q, r, s, o) refl)
 
 pub classed : (b : ℕ) → Classed b (first_of b)
-classed b = classed_by b (is_blank b) (is_line_end b) (is_start b) (is_quote b) (b == 59)
-    (b == 47) refl refl refl refl refl refl
+classed b = classed_by b (is_blank b) (is_line_end b) (is_start b) (is_quote b)
+    (b == 47) refl refl refl refl refl
 
 -- a start goes on in its word
 pub start_is_part : (b : ℕ) → first_of b ≡ Start → is_part b ≡ true
 start_is_part b h = elim (classed b) [
-  | blank e ↦ cc
-  | line_end e ↦ cc
+  | blank p e ↦ cc
+  | line_end p e ↦ cc
   | start s e ↦ rw s refl
   | quote n q e ↦ cc
-  | sign s e ↦ cc
-  | slash s e ↦ cc
-  | other e ↦ cc
-]
-
-pub sign_is : (b : ℕ) → first_of b ≡ Sign → b ≡ 59
-sign_is b h = elim (classed b) [
-  | blank e ↦ cc
-  | line_end e ↦ cc
-  | start s e ↦ cc
-  | quote n q e ↦ cc
-  | sign s e ↦ s
   | slash s e ↦ cc
   | other e ↦ cc
 ]
 
 pub slash_is : (b : ℕ) → first_of b ≡ Slash → b ≡ 47
 slash_is b h = elim (classed b) [
-  | blank e ↦ cc
-  | line_end e ↦ cc
+  | blank p e ↦ cc
+  | line_end p e ↦ cc
   | start s e ↦ cc
   | quote n q e ↦ cc
-  | sign s e ↦ cc
   | slash s e ↦ s
   | other e ↦ cc
 ]
 
 pub quote_ends_no_line : (b : ℕ) → first_of b ≡ Quote → is_line_end b ≡ false
 quote_ends_no_line b h = elim (classed b) [
-  | blank e ↦ cc
-  | line_end e ↦ cc
+  | blank p e ↦ cc
+  | line_end p e ↦ cc
   | start s e ↦ cc
   | quote n q e ↦ n
-  | sign s e ↦ cc
   | slash s e ↦ cc
   | other e ↦ cc
 ]
-
-pub sign_class : first_of 59 ≡ Sign
-unfolding first_of
-sign_class = refl
 
 pub slash_class : first_of 47 ≡ Slash
 unfolding first_of
@@ -134,3 +115,36 @@ pub not_plain_ends : (mark b : ℕ) → is_plain mark b ≡ false → (b == mark
     → is_line_end b ≡ true
 unfolding is_plain
 not_plain_ends mark b e p q = plain_left (is_line_end b) (rw (p, q) at e)
+
+-- the text of which the first byte is of the slash's class
+pub slash_text : (text : List ℕ) → 1 ≤ length text → Slash ≡ first_of (get_or text 0 0)
+    → text ≡ 47 ∷ take (length text - 1) (drop 1 text)
+slash_text [] l e = absurd (omega arith)
+slash_text (b ∷ rest) l e =
+    ap (λ c. c ∷ rest) (slash_is b (sym e)) ∙ ap (λ t. 47 ∷ t) (sym (take_rest (b ∷ rest) 1))
+
+blank_not_end : (b : ℕ) (u v : Bool) → (b == 9) ≡ u → (b == 32) ≡ v → (u || v) ≡ true → is_line_end b ≡ false
+blank_not_end b true v p q e = rw (eqb-true b 9 p) refl
+blank_not_end b false true p q e = rw (eqb-true b 32 q) refl
+blank_not_end b false false p q e = cc
+
+-- a blank is no line end
+pub blank_no_line : (b : ℕ) → first_of b ≡ Blank → is_line_end b ≡ false
+blank_no_line b h = elim (classed b) [
+  | blank p e ↦ blank_not_end b (b == 9) (b == 32) refl refl p
+  | line_end p e ↦ cc
+  | start s e ↦ cc
+  | quote n q e ↦ cc
+  | slash s e ↦ cc
+  | other e ↦ cc
+]
+
+pub line_end_is : (b : ℕ) → first_of b ≡ LineEnd → is_line_end b ≡ true
+line_end_is b h = elim (classed b) [
+  | blank p e ↦ cc
+  | line_end p e ↦ p
+  | start s e ↦ cc
+  | quote n q e ↦ cc
+  | slash s e ↦ cc
+  | other e ↦ cc
+]

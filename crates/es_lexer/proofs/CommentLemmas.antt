@@ -6,7 +6,7 @@ use Rattle.es_lexer.specs.declared.look.Look.TheVariants.{Comment, Fault}
 use Rattle.es_lexer.specs.declared.token.CommentKind.TheVariants.{Block}
 use Rattle.es_lexer.specs.declared.error.LexicalKind.TheVariants.{UnterminatedComment}
 use Rattle.es_lexer.specs.Bytes.{begins_closer, has_closer, has_line_end, is_line_end}
-use Rattle.es_lexer.specs.Pieces.{EndsLine}
+use Rattle.es_lexer.specs.Readable.{EndsLine}
 use Rattle.es_lexer.specs.Look.{block_look, is_in_line}
 use Rattle.es_lexer.proofs.RunLemmas.{Passes, EndsRun}
 
@@ -35,7 +35,7 @@ and_right : (u v : Bool) → (u && v) ≡ true → v ≡ true
 and_right true v e = e
 and_right false v e = cc
 
-not_true : (u : Bool) → not u ≡ true → u ≡ false
+pub not_true : (u : Bool) → not u ≡ true → u ≡ false
 not_true true e = cc
 not_true false e = refl
 

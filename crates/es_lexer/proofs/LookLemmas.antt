@@ -1,187 +1,421 @@
 -- A look finds a piece or a fault, and each piece and each fault is what a look at it finds.
-use Rattle.std.proofs.Common.{◌≡◌, ℕ, ◌+◌, ◌-◌, Bool, true, false, ◌==◌, ◌||◌, List, [], ◌∷◌, ◌++◌, length, take, refl, sym, ◌∙◌, ap, subst, arith, take_at, length-append, append_assoc, eqb-true}
+use Rattle.std.proofs.Common.{◌≡◌, ℕ, ◌+◌, ◌-◌, ◌<◌, ◌≤◌, Bool, true, false, not, ◌==◌, ◌||◌, ◌&&◌, List, [], ◌∷◌, ◌++◌, length, take, Option, Some, None, refl, sym, ◌∙◌, ap, subst, arith, take_at, length-append, append_assoc, eqb-true, true≢false, if◌then◌else◌, ◌⊎◌, inl, inr}
+use Rattle.std.proofs.lemmas.List.{nil_from_length}
+use Rattle.es_lexer.specs.declared.bracket.BracketKind.{BracketKind}
+use Rattle.es_lexer.specs.declared.bracket.Role.{Role}
+use Rattle.es_lexer.specs.declared.bracket.Role.TheVariants.{Opens, Closes, Continues, Plain}
 use Rattle.es_lexer.specs.declared.bytes.First.{First}
 use Rattle.es_lexer.specs.declared.bytes.First.TheVariants as first
+use Rattle.es_lexer.specs.declared.goal.Goal.{Goal}
 use Rattle.es_lexer.specs.declared.look.Look.{Look}
 use Rattle.es_lexer.specs.declared.look.Look.TheVariants as look
+use Rattle.es_lexer.specs.declared.signs.Sign.{Sign}
 use Rattle.es_lexer.specs.declared.token.TokenKind.{TokenKind}
 use Rattle.es_lexer.specs.declared.token.TokenKind.TheVariants as kind
 use Rattle.es_lexer.specs.declared.token.CommentKind.{CommentKind}
 use Rattle.es_lexer.specs.declared.token.CommentKind.TheVariants.{Line, Block}
 use Rattle.es_lexer.specs.declared.error.LexicalKind.{LexicalKind}
-use Rattle.es_lexer.specs.declared.error.LexicalKind.TheVariants.{UnterminatedString, UnterminatedComment, InvalidEscape, InvalidChar}
+use Rattle.es_lexer.specs.declared.error.LexicalKind.TheVariants.{UnterminatedString, UnterminatedComment, InvalidEscape, InvalidChar, Unbalanced}
 use Rattle.es_lexer.specs.Bytes.{first_of, is_part, begins_comment, has_closer, has_line_end}
-use Rattle.es_lexer.specs.Words.{word_kind}
+use Rattle.es_lexer.specs.Brackets.{role_of, may_close}
+use Rattle.es_lexer.specs.Signs.{sign_kind, sign_at, sized}
+use Rattle.es_lexer.specs.Words.{kind_at}
 use Rattle.es_lexer.specs.Literals.{IsStrLiteral, ArePlain}
-use Rattle.es_lexer.specs.Spelling.{word, str, sign, AreParts, IsWord, sign_kind}
-use Rattle.es_lexer.specs.Goal.{Goal, allows}
-use Rattle.es_lexer.specs.Pieces.{Piece, blank, line_end, comment, token, spelling, comment_spelling, IsLongest, IsToken, IsComment, IsPiece}
-use Rattle.es_lexer.specs.Stops.{Stuck, open_string, bad_escape, open_comment, no_token, lone_slash}
-use Rattle.es_lexer.specs.Look.{run_end, is_in_line, word_look, slash_look, class_look, look_at}
-use Rattle.es_lexer.proofs.ByteLemmas.{start_is_part, sign_is, slash_is, sign_class, slash_class, no_comment_at}
+use Rattle.es_lexer.specs.Spelling.{Spells, word, str, sign, AreParts, IsWord}
+use Rattle.es_lexer.specs.Goal.{allows, may_stand, begins_digit}
+use Rattle.es_lexer.specs.Pieces.{Piece, blank, line_end, comment, token, spelling, comment_spelling}
+use Rattle.es_lexer.specs.Readable.{IsLongest, IsToken, IsComment, IsByte, IsPiece}
+use Rattle.es_lexer.specs.Stops.{Stuck, open_string, bad_escape, open_comment, no_token, lone_slash, wrong_closer, open_bracket}
+use Rattle.es_lexer.specs.Look.{run_end, is_in_line, word_look, string_look, sign_look, divide_look, slash_look, class_look, end_look, look_at}
+use Rattle.es_lexer.proofs.ByteLemmas.{start_is_part, slash_is, slash_class, no_comment_at, apart}
 use Rattle.es_lexer.proofs.RunLemmas.{EndsRun, Run, run, run_end-append, run_end-stop}
 use Rattle.es_lexer.proofs.StringLemmas.{StringFound, closed, escape, unclosed, string_finds, string_closes, string_escapes, string_runs_out}
 use Rattle.es_lexer.proofs.CommentLemmas as remark
-use Rattle.es_lexer.proofs.SpellingLemmas.{Spelled, as_word, as_string, as_sign, spelled, not_empty, word_ends, word_longest, string_longest, sign_longest}
+use Rattle.es_lexer.proofs.SignLemmas as mark
+use Rattle.es_lexer.proofs.WordLemmas.{word_free, free_allows}
 
 -- what a look at a piece answers
 abbrev pub reading_of : ℕ → Piece → Look
-reading_of at (blank b) = look.Blank
-reading_of at (line_end b) = look.LineEnd
+reading_of at (blank s) = look.Blank (at + length s)
+reading_of at (line_end s) = look.LineEnd (at + length s)
 reading_of at (comment kind text) = look.Comment kind (at + length (comment_spelling kind text)) (has_line_end text)
 reading_of at (token k s) = look.Token k (at + length s)
 
--- ---- what stands there is found
-word_reads : (at b : ℕ) (parts after : List ℕ) → first_of b ≡ first.Start → AreParts parts → EndsRun is_part after
-    → look_at at (b ∷ (parts ++ after)) ≡ look.Token (word_kind (b ∷ parts)) (at + length (b ∷ parts))
-unfolding look_at class_look word_look
-word_reads at b parts after f h e =
-    let end : run_end is_part at ((b ∷ parts) ++ after) ≡ at + length (b ∷ parts) =
-    run_end-append is_part at (b ∷ parts) after (start_is_part b f, h)
-    ∙ run_end-stop is_part (at + length (b ∷ parts)) after e in
-    let front : take (at + length (b ∷ parts) - at) ((b ∷ parts) ++ after) ≡ b ∷ parts =
-    take_at (b ∷ parts) after (at + length (b ∷ parts) - at) (omega arith) in
-    rw (f, end) (ap (λ w. look.Token (word_kind w) (at + length (b ∷ parts))) front)
+both_left : (u v : Bool) → (u && v) ≡ true → u ≡ true
+both_left true v e = refl
+both_left false v e = cc
 
-string_reads : (at mark : ℕ) (body after : List ℕ) → first_of mark ≡ first.Quote → ArePlain mark body
-    → look_at at (mark ∷ (body ++ mark ∷ after)) ≡ look.Token kind.Str (at + length (mark ∷ (body ++ mark ∷ [])))
+both_right : (u v : Bool) → (u && v) ≡ true → v ≡ true
+both_right true v e = e
+both_right false v e = cc
+
+-- ---- a token that may stand there is found, or a longer one
+pub data Reached (k : TokenKind) (end : ℕ) (found : Look) : Type 0 where
+  reached : (j : TokenKind) (m : ℕ) → found ≡ look.Token j m → end ≤ m → (end ≡ m → k ≡ j) → Reached k end found
+
+word_reaches_by : (goal : Goal) (at b : ℕ) (parts after : List ℕ) → first_of b ≡ first.Start → AreParts parts
+    → Run is_part (at + length (b ∷ parts)) after
+    → Reached (kind_at goal.member (b ∷ parts)) (at + length (b ∷ parts)) (look_at goal at (b ∷ (parts ++ after)))
+unfolding look_at class_look word_look
+word_reaches_by goal at b parts after f h r =
+    let end : run_end is_part at ((b ∷ parts) ++ after) ≡ at + length (b ∷ parts) + length r.front =
+    run_end-append is_part at (b ∷ parts) after (start_is_part b f, h) ∙ r.end in
+    reached (kind_at goal.member (take (at + length (b ∷ parts) + length r.front - at) ((b ∷ parts) ++ after)))
+    (at + length (b ∷ parts) + length r.front) (rw (f, end) refl) (omega arith)
+    (λ e. ap (kind_at goal.member) (sym (take_at (b ∷ parts) after (at + length (b ∷ parts) + length r.front - at)
+    (omega arith))))
+
+string_reads : (goal : Goal) (at mark : ℕ) (body after : List ℕ) → first_of mark ≡ first.Quote → ArePlain mark body
+    → look_at goal at (mark ∷ (body ++ mark ∷ after)) ≡ look.Token kind.Str (at + length (mark ∷ (body ++ mark ∷ [])))
 unfolding look_at class_look
-string_reads at mark body after f h =
+string_reads goal at mark body after f h =
     let size : at + 1 + length body + 1 ≡ at + length (mark ∷ (body ++ mark ∷ [])) =
     omega (arith, length-append body (mark ∷ [])) in
     rw f (string_closes mark at (at + 1) body after h ∙ ap (λ n. look.Token kind.Str n) size)
 
-sign_reads : (at : ℕ) (after : List ℕ) → look_at at (59 ∷ after) ≡ look.Token kind.Semicolon (at + 1)
+plain_closes : (bracket : Option BracketKind) (r : Role) → mark.is_plain_role r ≡ true → may_close bracket r ≡ true
+unfolding may_close
+plain_closes bracket (Opens k) e = cc
+plain_closes bracket (Closes k) e = cc
+plain_closes bracket Continues e = cc
+plain_closes bracket Plain e = refl
+
+sign_reaches_by : (bracket : Option BracketKind) (at : ℕ) (k : TokenKind) (n : ℕ) (found : Option Sign)
+    → mark.SignReached k n found → may_close bracket (role_of k) ≡ true → Reached k (at + n) (sign_look bracket at found)
+unfolding sign_look
+sign_reaches_by bracket at k n found (mark.same e) c = rw e (rw c (reached k (at + n) refl (omega arith) (λ e. refl)))
+sign_reaches_by bracket at k n found (mark.longer j m e l p) c =
+    rw e (rw (plain_closes bracket (role_of j) p)
+    (reached j (at + m) refl (omega arith) (λ q. absurd (omega arith))))
+
+-- what stands behind a punctuator
+chain_may : (regexp : Bool) (k : TokenKind) (after : List ℕ) → may_stand regexp k after ≡ true → mark.ChainFits k after
+unfolding may_stand
+chain_may regexp kind.QuestionDot after e = λ c. remark.not_true (begins_digit after) e
+chain_may regexp k after e = λ c. cc
+
+slash_may : (regexp : Bool) (k : TokenKind) (after : List ℕ) → mark.is_slash k ≡ true → may_stand regexp k after ≡ true
+    → regexp ≡ false
+unfolding may_stand
+slash_may regexp kind.Slash after s e = remark.not_true regexp e
+slash_may regexp kind.SlashEqual after s e = remark.not_true regexp e
+slash_may regexp k after s e = cc
+
+-- a `/` that begins no comment
+no_comment_divides : (goal : Goal) (at : ℕ) (rest : List ℕ) → begins_comment (47 ∷ rest) ≡ false
+    → slash_look goal at rest ≡ divide_look goal at rest
+unfolding slash_look begins_comment
+no_comment_divides goal at [] n = refl
+no_comment_divides goal at (c ∷ rest) n = rw (remark.or_left (c == 47) (c == 42) n, remark.or_right (c == 47) (c == 42) n) refl
+
+divides_is : (goal : Goal) (at : ℕ) (rest : List ℕ) → goal.regexp ≡ false
+    → divide_look goal at rest ≡ sign_look goal.bracket at (sign_at (47 ∷ rest))
+unfolding divide_look
+divides_is goal at rest e = rw e refl
+
+divides_not : (goal : Goal) (at : ℕ) (rest : List ℕ) → goal.regexp ≡ true
+    → divide_look goal at rest ≡ look.Fault InvalidChar at
+unfolding divide_look
+divides_not goal at rest e = rw e refl
+
+slash_same : (goal : Goal) (at b : ℕ) (rest : List ℕ) → first_of b ≡ first.Slash → begins_comment (b ∷ rest) ≡ false
+    → goal.regexp ≡ false → look_at goal at (b ∷ rest) ≡ sign_look goal.bracket at (sign_at (b ∷ rest))
 unfolding look_at class_look
-sign_reads at after = rw sign_class refl
+slash_same goal at b rest f n r =
+    let e : b ≡ 47 = slash_is b f in
+    rw f (no_comment_divides goal at rest (subst (λ (c : ℕ). begins_comment (c ∷ rest) ≡ false) e n)
+    ∙ (divides_is goal at rest r ∙ ap (λ c. sign_look goal.bracket at (sign_at (c ∷ rest))) (sym e)))
 
-token_reads_by : (goal : Goal) (at : ℕ) (k : TokenKind) (b : ℕ) (rest after : List ℕ) → Spelled k b rest
-    → IsLongest goal (b ∷ rest) after
-    → look_at at (b ∷ (rest ++ after)) ≡ look.Token k (at + length (b ∷ rest))
-token_reads_by goal at k b rest after (as_word f h e) l =
-    word_reads at b rest after f h (word_ends goal b rest after f h l)
-    ∙ ap (λ k. look.Token k (at + length (b ∷ rest))) (sym e)
-token_reads_by goal at k b rest after (as_string f body h w e) l =
-    let joined : rest ++ after ≡ body ++ b ∷ after = ap (λ t. t ++ after) w ∙ append_assoc body (b ∷ []) after in
-    ap (λ t. look_at at (b ∷ t)) joined ∙ (string_reads at b body after f h
-    ∙ (ap (λ t. look.Token kind.Str (at + length (b ∷ t))) (sym w)
-    ∙ ap (λ k. look.Token k (at + length (b ∷ rest))) (sym e)))
-token_reads_by goal at k b rest after (as_sign f w e) l =
-    let at_once : look_at at (b ∷ (rest ++ after)) ≡ look_at at (59 ∷ after) = rw (f, w) refl in
-    let size : at + 1 ≡ at + length (b ∷ rest) = rw w (omega arith) in
-    at_once ∙ (sign_reads at after
-    ∙ (ap (λ n. look.Token kind.Semicolon n) size ∙ ap (λ k. look.Token k (at + length (b ∷ rest))) (sym e)))
+sign_reaches_class : (goal : Goal) (at b : ℕ) (rest after : List ℕ) (k : TokenKind) (c : First) → first_of b ≡ c
+    → mark.is_sign_class c ≡ true → sign_kind (b ∷ rest) ≡ Some k → allows goal k after ≡ true
+    → begins_comment ((b ∷ rest) ++ after) ≡ false
+    → Reached k (at + length (b ∷ rest)) (look_at goal at ((b ∷ rest) ++ after))
+unfolding look_at class_look allows
+sign_reaches_class goal at b rest after k first.Slash f i w a n =
+    let e : b ≡ 47 = slash_is b f in
+    let close : may_close goal.bracket (role_of k) ≡ true =
+    both_left (may_close goal.bracket (role_of k)) (may_stand goal.regexp k after) a in
+    let stand : may_stand goal.regexp k after ≡ true =
+    both_right (may_close goal.bracket (role_of k)) (may_stand goal.regexp k after) a in
+    let divides : goal.regexp ≡ false = slash_may goal.regexp k after (mark.slash_is_slash b rest k w e) stand in
+    let found : mark.SignReached k (length (b ∷ rest)) (sign_at ((b ∷ rest) ++ after)) =
+    mark.sign_reaches (b ∷ rest) after k w (chain_may goal.regexp k after stand) in
+    let same : look_at goal at ((b ∷ rest) ++ after) ≡ sign_look goal.bracket at (sign_at ((b ∷ rest) ++ after)) =
+    slash_same goal at b (rest ++ after) f n divides in
+    subst (Reached k (at + length (b ∷ rest))) (sym same)
+    (sign_reaches_by goal.bracket at k (length (b ∷ rest)) _ found close)
+sign_reaches_class goal at b rest after k first.Other f i w a n =
+    let close : may_close goal.bracket (role_of k) ≡ true =
+    both_left (may_close goal.bracket (role_of k)) (may_stand goal.regexp k after) a in
+    let stand : may_stand goal.regexp k after ≡ true =
+    both_right (may_close goal.bracket (role_of k)) (may_stand goal.regexp k after) a in
+    rw f (sign_reaches_by goal.bracket at k (length (b ∷ rest)) _
+    (mark.sign_reaches (b ∷ rest) after k w (chain_may goal.regexp k after stand)) close)
+sign_reaches_class goal at b rest after k first.Blank f i w a n = cc
+sign_reaches_class goal at b rest after k first.LineEnd f i w a n = cc
+sign_reaches_class goal at b rest after k first.Start f i w a n = cc
+sign_reaches_class goal at b rest after k first.Quote f i w a n = cc
 
-token_reads : (goal : Goal) (at : ℕ) (k : TokenKind) (s after : List ℕ) → IsToken goal k s after
-    → look_at at (s ++ after) ≡ look.Token k (at + length s)
-token_reads goal at k [] after t = absurd (not_empty k t.spells)
-token_reads goal at k (b ∷ rest) after t = token_reads_by goal at k b rest after (spelled k b rest t.spells) t.longest
+word_reaches : (goal : Goal) (at : ℕ) (k : TokenKind) (s after : List ℕ) → IsWord s → k ≡ kind_at goal.member s
+    → Reached k (at + length s) (look_at goal at (s ++ after))
+word_reaches goal at k s after w e =
+    let r : Reached (kind_at goal.member (w.first ∷ w.parts)) (at + length (w.first ∷ w.parts))
+    (look_at goal at (w.first ∷ (w.parts ++ after))) =
+    word_reaches_by goal at w.first w.parts after w.starts w.goes_on
+    (run is_part (at + length (w.first ∷ w.parts)) after) in
+    subst (λ (j : TokenKind). Reached j (at + length s) (look_at goal at (s ++ after))) (sym e)
+    (subst (λ (t : List ℕ). Reached (kind_at goal.member t) (at + length t) (look_at goal at (t ++ after)))
+    (sym w.whole) r)
 
-comment_reads : (at : ℕ) (kind : CommentKind) (text after : List ℕ) → IsComment kind text after
-    → look_at at (comment_spelling kind text ++ after) ≡ reading_of at (comment kind text)
+string_reaches : (goal : Goal) (at : ℕ) (k : TokenKind) (s after : List ℕ) → IsStrLiteral s → k ≡ kind.Str
+    → Reached k (at + length s) (look_at goal at (s ++ after))
+string_reaches goal at k s after l e =
+    let found : look_at goal at ((l.quote ∷ (l.body ++ l.quote ∷ [])) ++ after) ≡ look.Token kind.Str
+    (at + length (l.quote ∷ (l.body ++ l.quote ∷ []))) =
+    ap (λ t. look_at goal at (l.quote ∷ t)) (append_assoc l.body (l.quote ∷ []) after)
+    ∙ string_reads goal at l.quote l.body after l.quotes l.plain in
+    let here : look_at goal at (s ++ after) ≡ look.Token kind.Str (at + length s) =
+    subst (λ (t : List ℕ). look_at goal at (t ++ after) ≡ look.Token kind.Str (at + length t)) (sym l.whole) found in
+    reached kind.Str (at + length s) here (omega arith) (λ q. e)
+
+pub reaches : (goal : Goal) (at : ℕ) (k : TokenKind) (s after : List ℕ) → Spells goal k s → allows goal k after ≡ true
+    → begins_comment (s ++ after) ≡ false → Reached k (at + length s) (look_at goal at (s ++ after))
+unfolding sign_kind
+reaches goal at k s after (word w e) a n = word_reaches goal at k s after w e
+reaches goal at k s after (str l e) a n = string_reaches goal at k s after l e
+reaches goal at k [] after (sign e) a n = cc
+reaches goal at k (b ∷ s) after (sign e) a n =
+    sign_reaches_class goal at b s after k (first_of b) refl (mark.sign_begins b s k e) e a n
+
+-- ---- so what is found is the longest
+longest_from : (k j : TokenKind) (here there : ℕ) (s more : List ℕ) (at : ℕ) (found : Look) → here ≡ at + length s
+    → there ≡ at + length (s ++ more) → found ≡ look.Token k here → Reached j there found → more ≡ []
+longest_from k j here there s more at found p q e (reached i m f l g) =
+    let ends : here ≡ m = cc in
+    nil_from_length more (omega (arith, length-append s more))
+
+longest_by : (goal : Goal) (at : ℕ) (k : TokenKind) (s after : List ℕ) → begins_comment (s ++ after) ≡ false
+    → look_at goal at (s ++ after) ≡ look.Token k (at + length s) → IsLongest goal s after
+longest_by goal at k s after n e j more rest w sp al =
+    let same : (s ++ more) ++ rest ≡ s ++ after = append_assoc s more rest ∙ ap (λ t. s ++ t) (sym w) in
+    longest_from k j (at + length s) (at + length (s ++ more)) s more at _ refl refl
+    (ap (look_at goal at) same ∙ e)
+    (reaches goal at j (s ++ more) rest sp al (ap begins_comment same ∙ n))
+
+-- ---- what stands there is found
+comment_reads : (goal : Goal) (at : ℕ) (kind : CommentKind) (text after : List ℕ) → IsComment kind text after
+    → look_at goal at (comment_spelling kind text ++ after) ≡ reading_of at (comment kind text)
 unfolding look_at class_look slash_look comment_spelling
-comment_reads at Line text after h =
+comment_reads goal at Line text after h =
     let end : run_end is_in_line (at + 2) (text ++ after) ≡ at + length (47 ∷ 47 ∷ text) =
     run_end-append is_in_line (at + 2) text after (remark.in_line text h.0)
     ∙ (run_end-stop is_in_line (at + 2 + length text) after (remark.line_stops after h.1) ∙ omega arith) in
     rw (slash_class, end, remark.no_line_end text h.0) refl
-comment_reads at Block text after h =
+comment_reads goal at Block text after h =
     let joined : (text ++ 42 ∷ 47 ∷ []) ++ after ≡ text ++ 42 ∷ 47 ∷ after = append_assoc text (42 ∷ 47 ∷ []) after in
     let size : at + 2 + length text + 2 ≡ at + length (47 ∷ 42 ∷ (text ++ 42 ∷ 47 ∷ [])) =
     omega (arith, length-append text (42 ∷ 47 ∷ [])) in
     rw (slash_class, joined)
     (remark.block_closes at false (at + 2) text after h ∙ ap (λ n. look.Comment Block n (has_line_end text)) size)
 
-pub piece_reads : (goal : Goal) (at : ℕ) (piece : Piece) (after : List ℕ) → IsPiece goal piece after
-    → look_at at (spelling piece ++ after) ≡ reading_of at piece
-unfolding look_at class_look
-piece_reads goal at (blank b) after h = rw h refl
-piece_reads goal at (line_end b) after h = rw h refl
-piece_reads goal at (comment kind text) after h = comment_reads at kind text after h
-piece_reads goal at (token k s) after h = token_reads goal at k s after h
-
 -- ---- so is what breaks there
-slash_stuck : (at b : ℕ) (after : List ℕ) → first_of b ≡ first.Slash → begins_comment (b ∷ after) ≡ false
-    → slash_look at after ≡ look.Fault InvalidChar at
-unfolding slash_look begins_comment
-slash_stuck at b [] f n = refl
-slash_stuck at b (c ∷ after) f n =
-    let e : (c == 47 || c == 42) ≡ false = rw (slash_is b f) at n in
-    rw (remark.or_left (c == 47) (c == 42) e, remark.or_right (c == 47) (c == 42) e) refl
+slash_stuck : (goal : Goal) (at b : ℕ) (after : List ℕ) → first_of b ≡ first.Slash
+    → begins_comment (b ∷ after) ≡ false → goal.regexp ≡ true → look_at goal at (b ∷ after) ≡ look.Fault InvalidChar at
+unfolding look_at class_look divide_look
+slash_stuck goal at b after f n r =
+    rw f (no_comment_divides goal at after (subst (λ (c : ℕ). begins_comment (c ∷ after) ≡ false) (slash_is b f) n)
+    ∙ rw r refl)
 
-block_stuck : (at : ℕ) (body : List ℕ) → has_closer body ≡ false
-    → slash_look at (42 ∷ body) ≡ look.Fault UnterminatedComment at
+block_stuck : (goal : Goal) (at : ℕ) (body : List ℕ) → has_closer body ≡ false
+    → slash_look goal at (42 ∷ body) ≡ look.Fault UnterminatedComment at
 unfolding slash_look
-block_stuck at body h = remark.block_runs_out at false (at + 2) body h
+block_stuck goal at body h = remark.block_runs_out at false (at + 2) body h
+
+closes_not_plain : (bracket : Option BracketKind) (r : Role) → may_close bracket r ≡ false
+    → mark.is_plain_role r ≡ false
+unfolding may_close
+closes_not_plain bracket (Opens k) e = cc
+closes_not_plain bracket (Closes k) e = refl
+closes_not_plain bracket Continues e = refl
+closes_not_plain bracket Plain e = cc
+
+closer_stuck : (bracket : Option BracketKind) (at b : ℕ) (after : List ℕ) (k : TokenKind) → sign_kind (b ∷ []) ≡ Some k
+    → may_close bracket (role_of k) ≡ false
+    → sign_look bracket at (sign_at (b ∷ after)) ≡ look.Fault Unbalanced at
+unfolding sign_look sized
+closer_stuck bracket at b after k w c =
+    let alone : sign_at (b ∷ after) ≡ sized 1 (sign_kind (b ∷ [])) None =
+    mark.sign_alone b after (rw w (closes_not_plain bracket (role_of k) c)) in
+    rw alone (rw w (rw c refl))
+
+nothing_stuck : (bracket : Option BracketKind) (at b : ℕ) (after : List ℕ) → sign_kind (b ∷ []) ≡ None
+    → sign_look bracket at (sign_at (b ∷ after)) ≡ look.Fault InvalidChar at
+unfolding sign_look sized
+nothing_stuck bracket at b after w =
+    let alone : sign_at (b ∷ after) ≡ sized 1 (sign_kind (b ∷ [])) None =
+    mark.sign_alone b after (rw w refl) in
+    rw alone (rw w refl)
 
 pub stuck_reads : (goal : Goal) (rest : List ℕ) (at : ℕ) (kind : LexicalKind) (place : ℕ)
     → Stuck goal rest at kind place
-    → look_at at rest ≡ look.Fault kind place
-unfolding look_at class_look
-stuck_reads goal rest at kind place (open_string mark body after f h w l e p) =
-    rw w (rw f (string_runs_out mark at (at + 1) body after f h l ∙ (cc)))
-stuck_reads goal rest at kind place (bad_escape mark body after f h w e p) =
-    rw w (rw f (string_escapes mark at (at + 1) body after f h ∙ (cc)))
+    → look_at goal at rest ≡ look.Fault kind place
+unfolding look_at class_look end_look
+stuck_reads goal rest at kind place (open_string q body after f h w l e p) =
+    rw w (rw f (string_runs_out q at (at + 1) body after f h l ∙ (cc)))
+stuck_reads goal rest at kind place (bad_escape q body after f h w e p) =
+    rw w (rw f (string_escapes q at (at + 1) body after f h ∙ (cc)))
 stuck_reads goal rest at kind place (open_comment body w h e p) =
-    rw w (rw slash_class (block_stuck at body h ∙ (cc)))
-stuck_reads goal rest at kind place (no_token b after w f e p) = rw w (rw f cc)
-stuck_reads goal rest at kind place (lone_slash b after w f n e p) =
-    rw w (rw f (slash_stuck at b after f (rw w at n) ∙ (cc)))
+    rw w (rw slash_class (block_stuck goal at body h ∙ (cc)))
+stuck_reads goal rest at kind place (no_token b after w f n e p) =
+    rw w (rw f (nothing_stuck goal.bracket at b after n ∙ (cc)))
+stuck_reads goal rest at kind place (lone_slash b after w f n r e p) =
+    rw w (slash_stuck goal at b after f (rw w at n) r ∙ (cc))
+stuck_reads goal rest at kind place (wrong_closer b after k w f s c e p) =
+    rw w (rw f (closer_stuck goal.bracket at b after k s c ∙ (cc)))
+stuck_reads goal rest at kind place (open_bracket bracket w b e p) = rw w (rw b cc)
 
 -- ---- and nothing else is found
 pub data Found (goal : Goal) (at : ℕ) (text : List ℕ) (found : Look) : Type 0 where
-  ended : text ≡ [] → found ≡ look.End → Found goal at text found
+  ended : text ≡ [] → goal.bracket ≡ None → found ≡ look.End → Found goal at text found
   piece : (p : Piece) (after : List ℕ) → text ≡ spelling p ++ after → IsPiece goal p after → found ≡ reading_of at p
       → Found goal at text found
   fault : (kind : LexicalKind) (place : ℕ) → Stuck goal text at kind place → found ≡ look.Fault kind place
       → Found goal at text found
 
+-- a token that a look finds
+met : (goal : Goal) (at : ℕ) (k : TokenKind) (s after text : List ℕ) (found : Look) → text ≡ s ++ after
+    → Spells goal k s → allows goal k after ≡ true → begins_comment (s ++ after) ≡ false
+    → look_at goal at text ≡ found → found ≡ look.Token k (at + length s) → Found goal at text found
+met goal at k s after text found w sp al n l e =
+    let t : IsToken goal k s after = record {
+      spells = sp;
+      allowed = al;
+      longest = longest_by goal at k s after n (ap (look_at goal at) (sym w) ∙ (l ∙ e));
+      no_comment = n;
+    } in
+    piece (token k s) after w t e
+
+word_reads : (goal : Goal) (at b : ℕ) (parts after : List ℕ) → first_of b ≡ first.Start → AreParts parts
+    → EndsRun is_part after
+    → look_at goal at (b ∷ (parts ++ after)) ≡ look.Token (kind_at goal.member (b ∷ parts)) (at + length (b ∷ parts))
+unfolding look_at class_look word_look
+word_reads goal at b parts after f h e =
+    let end : run_end is_part at ((b ∷ parts) ++ after) ≡ at + length (b ∷ parts) =
+    run_end-append is_part at (b ∷ parts) after (start_is_part b f, h)
+    ∙ run_end-stop is_part (at + length (b ∷ parts)) after e in
+    let front : take (at + length (b ∷ parts) - at) ((b ∷ parts) ++ after) ≡ b ∷ parts =
+    take_at (b ∷ parts) after (at + length (b ∷ parts) - at) (omega arith) in
+    rw (f, end) (ap (λ w. look.Token (kind_at goal.member w) (at + length (b ∷ parts))) front)
+
+str_allows : (goal : Goal) (after : List ℕ) → allows goal kind.Str after ≡ true
+unfolding allows may_close role_of may_stand
+str_allows goal after = refl
+
+other_no_slash : (a : ℕ) → first_of a ≡ first.Other → (a == 47) ≡ true → ⊥
+other_no_slash a f e =
+    let same : a ≡ 47 = eqb-true a 47 e in
+    let class : first.Slash ≡ first.Other = sym slash_class ∙ (ap first_of (sym same) ∙ f) in
+    cc
+
 word_found : (goal : Goal) (at b : ℕ) (rest : List ℕ) → first_of b ≡ first.Start → Run is_part at rest
-    → Found goal at (b ∷ rest) (look_at at (b ∷ rest))
-unfolding allows
+    → Found goal at (b ∷ rest) (look_at goal at (b ∷ rest))
 word_found goal at b rest f r =
     let s : List ℕ = b ∷ r.front in
     let w : IsWord s = record { first = b; parts = r.front; starts = f; goes_on = r.passes; whole = refl } in
-    let t : IsToken goal (word_kind s) s r.back = record {
-      spells = word w refl;
-      allowed = refl;
-      longest = word_longest goal b r.front r.back f r.ends;
-      no_comment = no_comment_at b (r.front ++ r.back) first.Start f (λ e. cc);
-    } in
-    piece (token (word_kind s) s) r.back (ap (λ t. b ∷ t) r.whole) t
-    (ap (λ t. look_at at (b ∷ t)) r.whole ∙ word_reads at b r.front r.back f r.passes r.ends)
+    met goal at (kind_at goal.member s) s r.back (b ∷ rest) _ (ap (λ t. b ∷ t) r.whole) (word w refl)
+    (free_allows goal (kind_at goal.member s) r.back (word_free goal.member s))
+    (no_comment_at b (r.front ++ r.back) first.Start f (λ e. cc)) refl
+    (ap (λ t. look_at goal at (b ∷ t)) r.whole ∙ word_reads goal at b r.front r.back f r.passes r.ends)
 
-string_found : (goal : Goal) (at mark : ℕ) (rest : List ℕ) → first_of mark ≡ first.Quote
-    → (found : Look) → StringFound mark at (at + 1) rest found → Found goal at (mark ∷ rest) found
-unfolding allows
-string_found goal at mark rest f found (closed body after w h e) =
-    let s : List ℕ = mark ∷ (body ++ mark ∷ []) in
-    let l : IsStrLiteral s = record { quote = mark; body = body; quotes = f; plain = h; whole = refl } in
-    let t : IsToken goal kind.Str s after = record {
-      spells = str l refl;
-      allowed = refl;
-      longest = string_longest goal mark body after f h;
-      no_comment = no_comment_at mark ((body ++ mark ∷ []) ++ after) first.Quote f (λ e. cc);
-    } in
-    let size : at + 1 + length body + 1 ≡ at + length s = omega (arith, length-append body (mark ∷ [])) in
-    piece (token kind.Str s) after (ap (λ t. mark ∷ t) (w ∙ sym (append_assoc body (mark ∷ []) after))) t
+string_found : (goal : Goal) (at q : ℕ) (rest : List ℕ) → first_of q ≡ first.Quote
+    → (found : Look) → look_at goal at (q ∷ rest) ≡ found → StringFound q at (at + 1) rest found
+    → Found goal at (q ∷ rest) found
+string_found goal at q rest f found l (closed body after w h e) =
+    let s : List ℕ = q ∷ (body ++ q ∷ []) in
+    let i : IsStrLiteral s = record { quote = q; body = body; quotes = f; plain = h; whole = refl } in
+    let size : at + 1 + length body + 1 ≡ at + length s = omega (arith, length-append body (q ∷ [])) in
+    met goal at kind.Str s after (q ∷ rest) found (ap (λ t. q ∷ t) (w ∙ sym (append_assoc body (q ∷ []) after)))
+    (str i refl) (str_allows goal after) (no_comment_at q ((body ++ q ∷ []) ++ after) first.Quote f (λ e. cc)) l
     (e ∙ ap (λ n. look.Token kind.Str n) size)
-string_found goal at mark rest f found (escape body after w h e) =
-    fault InvalidEscape (at + 1 + length body) (bad_escape mark body after f h (ap (λ t. mark ∷ t) w) refl refl) e
-string_found goal at mark rest f found (unclosed body after w h l e) =
-    fault UnterminatedString at (open_string mark body after f h (ap (λ t. mark ∷ t) w) l refl refl) e
+string_found goal at q rest f found l (escape body after w h e) =
+    fault InvalidEscape (at + 1 + length body) (bad_escape q body after f h (ap (λ t. q ∷ t) w) refl refl) e
+string_found goal at q rest f found l (unclosed body after w h m e) =
+    fault UnterminatedString at (open_string q body after f h (ap (λ t. q ∷ t) w) m refl refl) e
 
-sign_found : (goal : Goal) (at b : ℕ) (rest : List ℕ) → b ≡ 59
-    → Found goal at (b ∷ rest) (look.Token kind.Semicolon (at + 1))
-unfolding allows sign_kind
-sign_found goal at b rest e =
-    let t : IsToken goal kind.Semicolon (59 ∷ []) rest = record {
-      spells = sign refl;
-      allowed = refl;
-      longest = sign_longest goal rest;
-      no_comment = no_comment_at 59 rest first.Sign sign_class (λ e. cc);
-    } in
-    piece (token kind.Semicolon (59 ∷ [])) rest (ap (λ c. c ∷ rest) e) t refl
+-- a punctuator that isn't single is plain, so a closer is single
+closer_single : (bracket : Option BracketKind) (s : List ℕ) (k : TokenKind) → sign_kind s ≡ Some k
+    → may_close bracket (role_of k) ≡ false → (b : ℕ) (rest after : List ℕ) → b ∷ rest ≡ s ++ after
+    → sign_kind (b ∷ []) ≡ Some k
+unfolding sign_kind
+closer_single bracket [] k w c b rest after e = cc
+closer_single bracket (a ∷ []) k w c b rest after e = let f : b ≡ a = cc in rw f w
+closer_single bracket (a ∷ d ∷ []) k w c b rest after e =
+    absurd (true≢false (sym (plain_closes bracket (role_of k) (mark.plain_of_two a d k w)) ∙ c))
+closer_single bracket (a ∷ d ∷ g ∷ []) k w c b rest after e =
+    absurd (true≢false (sym (plain_closes bracket (role_of k) (mark.plain_of_three a d g k w)) ∙ c))
+closer_single bracket (a ∷ d ∷ g ∷ h ∷ s) k w c b rest after e = cc
+
+both_true : (u v : Bool) → u ≡ true → v ≡ true → (u && v) ≡ true
+both_true true v p q = q
+both_true false v p q = cc
+
+-- a punctuator may stand behind what divides
+stands_by : (goal : Goal) (b : ℕ) (rest s after : List ℕ) (k : TokenKind) → b ∷ rest ≡ s ++ after
+    → sign_kind s ≡ Some k → mark.ChainFits k after
+    → first_of b ≡ first.Other ⊎ (first_of b ≡ first.Slash) × (goal.regexp ≡ false)
+    → may_stand goal.regexp k after ≡ true
+unfolding sign_kind
+stands_by goal b rest [] after k w sk h c = cc
+stands_by goal b rest (a ∷ s) after k w sk h (inl f) =
+    let same : b ≡ a = cc in
+    mark.may_stand_sign a s k goal.regexp after sk h
+    (λ e. absurd (other_no_slash a (ap first_of (sym same) ∙ f) e))
+stands_by goal b rest (a ∷ s) after k w sk h (inr p) = mark.may_stand_sign a s k goal.regexp after sk h (λ e. p.1)
+
+-- no `/` closes a bracket
+slash_no_closer : (goal : Goal) (b : ℕ) (rest s after : List ℕ) (k : TokenKind) → b ∷ rest ≡ s ++ after
+    → sign_kind s ≡ Some k → b ≡ 47 → may_close goal.bracket (role_of k) ≡ false → ⊥
+unfolding sign_kind
+slash_no_closer goal b rest [] after k w sk e m = cc
+slash_no_closer goal b rest (a ∷ s) after k w sk e m =
+    let same : a ≡ 47 = cc in
+    true≢false (sym (plain_closes goal.bracket (role_of k) (mark.slash_plain k (mark.slash_is_slash a s k sk same))) ∙ m)
+
+slash_is_sign : (a : ℕ) → 47 ≡ a → sign_kind (a ∷ []) ≡ None → ⊥
+slash_is_sign a e n = mark.slash_some (ap (λ c. sign_kind (c ∷ [])) e ∙ n)
+
+-- a punctuator that begins with `b`, where it is no `/` that may begin a regular expression
+sign_met : (goal : Goal) (at b : ℕ) (rest s after : List ℕ) (k : TokenKind) (v : Bool) (found : Look)
+    → first_of b ≡ first.Other ⊎ (first_of b ≡ first.Slash) × (goal.regexp ≡ false)
+    → begins_comment (b ∷ rest) ≡ false → look_at goal at (b ∷ rest) ≡ found
+    → b ∷ rest ≡ s ++ after → sign_kind s ≡ Some k → mark.ChainFits k after
+    → may_close goal.bracket (role_of k) ≡ v
+    → found ≡ (if v then look.Token k (at + length s) else look.Fault Unbalanced at) → Found goal at (b ∷ rest) found
+unfolding allows
+sign_met goal at b rest s after k true found c n l w sk h m e =
+    met goal at k s after (b ∷ rest) found w (sign sk)
+    (both_true (may_close goal.bracket (role_of k)) (may_stand goal.regexp k after) m
+    (stands_by goal b rest s after k w sk h c))
+    (ap begins_comment (sym w) ∙ n) l e
+sign_met goal at b rest s after k false found (inl f) n l w sk h m e =
+    fault Unbalanced at
+    (wrong_closer b rest k refl f (closer_single goal.bracket s k sk m b rest after w) m refl refl) e
+sign_met goal at b rest s after k false found (inr p) n l w sk h m e =
+    absurd (slash_no_closer goal b rest s after k w sk (slash_is b p.0) m)
+
+sign_found : (goal : Goal) (at b : ℕ) (rest : List ℕ) (found : Option Sign)
+    → first_of b ≡ first.Other ⊎ (first_of b ≡ first.Slash) × (goal.regexp ≡ false)
+    → begins_comment (b ∷ rest) ≡ false → look_at goal at (b ∷ rest) ≡ sign_look goal.bracket at found
+    → mark.SignFound (b ∷ rest) found → Found goal at (b ∷ rest) (sign_look goal.bracket at found)
+unfolding sign_look
+sign_found goal at b rest found c n l (mark.some s after k w sk h e) =
+    sign_met goal at b rest s after k (may_close goal.bracket (role_of k)) _ c n l w sk h refl (rw e refl)
+sign_found goal at b rest found (inl f) n l (mark.none a after w sk e) =
+    let same : b ≡ a = cc in
+    fault InvalidChar at (no_token b rest refl f (rw same sk) refl refl) (rw e refl)
+sign_found goal at b rest found (inr p) n l (mark.none a after w sk e) =
+    let same : 47 ≡ a = let q : b ≡ 47 = slash_is b p.0 in cc in
+    absurd (slash_is_sign a same sk)
 
 line_found : (goal : Goal) (at : ℕ) (rest : List ℕ) → Run is_in_line (at + 2) rest
     → Found goal at (47 ∷ 47 ∷ rest) (look.Comment Line (run_end is_in_line (at + 2) rest) false)
@@ -205,35 +439,140 @@ block_found goal at rest found (remark.closed text after w h e) =
 block_found goal at rest found (remark.unclosed h e) =
     fault UnterminatedComment at (open_comment rest refl h refl refl) e
 
-slash_found_by : (goal : Goal) (at c : ℕ) (rest : List ℕ) (u v : Bool) → (c == 47) ≡ u → (c == 42) ≡ v
-    → Found goal at (47 ∷ c ∷ rest) (slash_look at (c ∷ rest))
-unfolding slash_look begins_comment
-slash_found_by goal at c rest true v p q =
-    rw (eqb-true c 47 p) (line_found goal at rest (run is_in_line (at + 2) rest))
-slash_found_by goal at c rest false true p q =
-    rw (eqb-true c 42 q) (block_found goal at rest _ (remark.block_finds at false (at + 2) rest))
-slash_found_by goal at c rest false false p q =
-    rw (p, q) (fault InvalidChar at (lone_slash 47 (c ∷ rest) refl slash_class (rw (p, q) refl) refl refl) refl)
+-- a `/` that begins no comment
+divide_found : (goal : Goal) (at : ℕ) (rest : List ℕ) (v : Bool) → goal.regexp ≡ v → begins_comment (47 ∷ rest) ≡ false
+    → look_at goal at (47 ∷ rest) ≡ divide_look goal at rest → Found goal at (47 ∷ rest) (divide_look goal at rest)
+divide_found goal at rest true r n l =
+    subst (Found goal at (47 ∷ rest)) (sym (divides_not goal at rest r))
+    (fault InvalidChar at (lone_slash 47 rest refl slash_class n r refl refl) refl)
+divide_found goal at rest false r n l =
+    subst (Found goal at (47 ∷ rest)) (sym (divides_is goal at rest r))
+    (sign_found goal at 47 rest (sign_at (47 ∷ rest)) (inr (slash_class, r)) n
+    (l ∙ divides_is goal at rest r) (mark.sign_finds 47 rest))
 
-slash_found : (goal : Goal) (at : ℕ) (rest : List ℕ) → Found goal at (47 ∷ rest) (slash_look at rest)
+slash_found_by : (goal : Goal) (at c : ℕ) (rest : List ℕ) (u v : Bool) → (c == 47) ≡ u → (c == 42) ≡ v
+    → look_at goal at (47 ∷ c ∷ rest) ≡ slash_look goal at (c ∷ rest)
+    → Found goal at (47 ∷ c ∷ rest) (slash_look goal at (c ∷ rest))
 unfolding slash_look begins_comment
-slash_found goal at [] = fault InvalidChar at (lone_slash 47 [] refl slash_class refl refl refl) refl
-slash_found goal at (c ∷ rest) = slash_found_by goal at c rest (c == 47) (c == 42) refl refl
+slash_found_by goal at c rest true v p q l =
+    rw (eqb-true c 47 p) (line_found goal at rest (run is_in_line (at + 2) rest))
+slash_found_by goal at c rest false true p q l =
+    rw (eqb-true c 42 q) (block_found goal at rest _ (remark.block_finds at false (at + 2) rest))
+slash_found_by goal at c rest false false p q l =
+    rw (p, q) (divide_found goal at (c ∷ rest) goal.regexp refl (rw (p, q) refl) (rw (p, q) at l))
+
+slash_found : (goal : Goal) (at : ℕ) (rest : List ℕ) → look_at goal at (47 ∷ rest) ≡ slash_look goal at rest
+    → Found goal at (47 ∷ rest) (slash_look goal at rest)
+unfolding slash_look begins_comment
+slash_found goal at [] l = divide_found goal at [] goal.regexp refl refl l
+slash_found goal at (c ∷ rest) l = slash_found_by goal at c rest (c == 47) (c == 42) refl refl l
+
+slash_looks : (goal : Goal) (at : ℕ) (rest : List ℕ) → look_at goal at (47 ∷ rest) ≡ slash_look goal at rest
+unfolding look_at class_look
+slash_looks goal at rest = rw slash_class refl
+
+string_looks : (goal : Goal) (at b : ℕ) (rest : List ℕ) → first_of b ≡ first.Quote
+    → look_at goal at (b ∷ rest) ≡ string_look b at (at + 1) rest
+unfolding look_at class_look
+string_looks goal at b rest f = rw f refl
+
+string_class : (goal : Goal) (at b : ℕ) (rest : List ℕ) → first_of b ≡ first.Quote
+    → Found goal at (b ∷ rest) (look_at goal at (b ∷ rest))
+string_class goal at b rest f =
+    string_found goal at b rest f _ refl
+    (subst (StringFound b at (at + 1) rest) (sym (string_looks goal at b rest f)) (string_finds b at (at + 1) rest))
+
+other_looks : (goal : Goal) (at b : ℕ) (rest : List ℕ) → first_of b ≡ first.Other
+    → look_at goal at (b ∷ rest) ≡ sign_look goal.bracket at (sign_at (b ∷ rest))
+unfolding look_at class_look
+other_looks goal at b rest f = rw f refl
+
+other_class : (goal : Goal) (at b : ℕ) (rest : List ℕ) → first_of b ≡ first.Other
+    → Found goal at (b ∷ rest) (look_at goal at (b ∷ rest))
+other_class goal at b rest f =
+    subst (Found goal at (b ∷ rest)) (sym (other_looks goal at b rest f))
+    (sign_found goal at b rest (sign_at (b ∷ rest)) (inl f) (no_comment_at b rest first.Other f (λ e. cc))
+    (other_looks goal at b rest f) (mark.sign_finds b rest))
 
 class_found : (goal : Goal) (at b : ℕ) (rest : List ℕ) (c : First) → first_of b ≡ c
-    → Found goal at (b ∷ rest) (look_at at (b ∷ rest))
+    → Found goal at (b ∷ rest) (look_at goal at (b ∷ rest))
 unfolding look_at class_look
-class_found goal at b rest first.Blank f = rw f (piece (blank b) rest refl f refl)
-class_found goal at b rest first.LineEnd f = rw f (piece (line_end b) rest refl f refl)
+class_found goal at b rest first.Blank f =
+    rw f (piece (blank (b ∷ [])) rest refl (record { byte = b; whole = refl; is = f }) refl)
+class_found goal at b rest first.LineEnd f =
+    rw f (piece (line_end (b ∷ [])) rest refl (record { byte = b; whole = refl; is = f }) refl)
 class_found goal at b rest first.Start f = word_found goal at b rest f (run is_part at rest)
-class_found goal at b rest first.Quote f = rw f (string_found goal at b rest f _ (string_finds b at (at + 1) rest))
-class_found goal at b rest first.Sign f = rw f (sign_found goal at b rest (sign_is b f))
+class_found goal at b rest first.Quote f =
+    string_class goal at b rest f
 class_found goal at b rest first.Slash f =
-    rw f (subst (λ (c : ℕ). Found goal at (c ∷ rest) (slash_look at rest)) (sym (slash_is b f))
-    (slash_found goal at rest))
-class_found goal at b rest first.Other f = rw f (fault InvalidChar at (no_token b rest refl f refl refl) refl)
+    subst (λ (c : ℕ). Found goal at (c ∷ rest) (look_at goal at (c ∷ rest))) (sym (slash_is b f))
+    (subst (Found goal at (47 ∷ rest)) (sym (slash_looks goal at rest))
+    (slash_found goal at rest (slash_looks goal at rest)))
+class_found goal at b rest first.Other f = other_class goal at b rest f
 
-pub look_finds : (goal : Goal) (at : ℕ) (text : List ℕ) → Found goal at text (look_at at text)
+end_found : (goal : Goal) (at : ℕ) (bracket : Option BracketKind) → goal.bracket ≡ bracket
+    → Found goal at [] (end_look bracket at)
+unfolding end_look
+end_found goal at None e = ended refl e refl
+end_found goal at (Some bracket) e = fault Unbalanced at (open_bracket bracket refl e refl refl) refl
+
+pub look_finds : (goal : Goal) (at : ℕ) (text : List ℕ) → Found goal at text (look_at goal at text)
 unfolding look_at
-look_finds goal at [] = ended refl refl
+look_finds goal at [] = end_found goal at goal.bracket refl
 look_finds goal at (b ∷ rest) = class_found goal at b rest (first_of b) refl
+
+-- ---- a token is what a look at it finds
+pub record Prefix (s t a b : List ℕ) : Type 0 where
+  pub more : List ℕ
+  pub longer : t ≡ s ++ more
+  pub behind : a ≡ more ++ b
+
+prefix : (s t a b : List ℕ) → s ++ a ≡ t ++ b → length s ≤ length t → Prefix s t a b
+prefix [] t a b e l = record { more = t; longer = refl; behind = e }
+prefix (x ∷ s) [] a b e l = absurd (omega arith)
+prefix (x ∷ s) (y ∷ t) a b e l =
+    let heads : x ≡ y = cc in
+    let tails : s ++ a ≡ t ++ b = cc in
+    let p : Prefix s t a b = prefix s t a b tails (omega arith) in
+    let longer : t ≡ s ++ p.more = p.longer in
+    record { more = p.more; longer = cc; behind = p.behind }
+
+token_reads_by : (goal : Goal) (at : ℕ) (k : TokenKind) (s after : List ℕ) (found : Look) → IsToken goal k s after
+    → Reached k (at + length s) found → Found goal at (s ++ after) found → found ≡ look.Token k (at + length s)
+token_reads_by goal at k s after found t (reached j m f l g) (ended w b e) = cc
+token_reads_by goal at k s after found t (reached j m f l g) (fault kind place h e) = cc
+token_reads_by goal at k s after found t (reached j m f l g) (piece (blank r) rest w h e) = cc
+token_reads_by goal at k s after found t (reached j m f l g) (piece (line_end r) rest w h e) = cc
+token_reads_by goal at k s after found t (reached j m f l g) (piece (comment c r) rest w h e) = cc
+token_reads_by goal at k s after found t (reached j m f l g) (piece (token i r) rest w h e) =
+    let kinds : j ≡ i = cc in
+    let ends : m ≡ at + length r = cc in
+    let p : Prefix s r after rest = prefix s r after rest w (omega arith) in
+    let spells : Spells goal i (s ++ p.more) = subst (Spells goal i) p.longer h.spells in
+    let none : p.more ≡ [] = t.longest i p.more rest p.behind spells h.allowed in
+    let size : length r ≡ length (s ++ p.more) = ap length p.longer in
+    let empty : length p.more ≡ 0 = ap length none in
+    let end : at + length s ≡ m = omega (arith, length-append s p.more) in
+    let same : k ≡ j = g end in
+    f ∙ cc
+
+token_reads : (goal : Goal) (at : ℕ) (k : TokenKind) (s after : List ℕ) → IsToken goal k s after
+    → look_at goal at (s ++ after) ≡ look.Token k (at + length s)
+token_reads goal at k s after t =
+    token_reads_by goal at k s after _ t (reaches goal at k s after t.spells t.allowed t.no_comment)
+    (look_finds goal at (s ++ after))
+
+byte_reads : (goal : Goal) (at : ℕ) (s after : List ℕ) (c : First) → (b : IsByte c s)
+    → look_at goal at (s ++ after) ≡ class_look c goal at b.byte after
+unfolding look_at
+byte_reads goal at s after c b = rw (b.whole, b.is) refl
+
+pub piece_reads : (goal : Goal) (at : ℕ) (piece : Piece) (after : List ℕ) → IsPiece goal piece after
+    → look_at goal at (spelling piece ++ after) ≡ reading_of at piece
+unfolding class_look
+piece_reads goal at (blank s) after h =
+    byte_reads goal at s after first.Blank h ∙ ap (λ t. look.Blank (at + length t)) (sym h.whole)
+piece_reads goal at (line_end s) after h =
+    byte_reads goal at s after first.LineEnd h ∙ ap (λ t. look.LineEnd (at + length t)) (sym h.whole)
+piece_reads goal at (comment kind text) after h = comment_reads goal at kind text after h
+piece_reads goal at (token k s) after h = token_reads goal at k s after h

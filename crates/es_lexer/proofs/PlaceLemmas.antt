@@ -1,23 +1,30 @@
 -- Where the tokens of a reading stand in the text, and what they cut from it.
 use Rattle.std.proofs.Common.{◌≡◌, ℕ, zero, suc, ◌+◌, ◌-◌, ◌<◌, ◌≤◌, Bool, true, false, not, if◌then◌else◌, ◌&&◌, ◌==◌, List, [], ◌∷◌, ◌++◌, length, take, drop, get_or, Some, None, slice_get, slice_range, bytes_eq, IsUtf8, IsCharBoundary, refl, sym, ◌∙◌, ap, subst, arith, length-append, append_assoc, drop_at, take_at, true≢false}
 use Rattle.std.proofs.lemmas.List.{get_or_at}
+use Rattle.std.proofs.Math.Dec.{ltb}
 use Rattle.std.proofs.lemmas.Bool.Decides.{nat_tests}
+use Rattle.std.proofs.lemmas.Bool.{ltb-true}
 use Rattle.std.proofs.lemmas.Str.{IsCharBoundary-before_ascii, IsCharBoundary-after_ascii}
 use Rattle.es_lexer.specs.declared.bytes.First.TheVariants as first
 use Rattle.es_lexer.specs.declared.token.Token.{Token}
 use Rattle.es_lexer.specs.declared.token.Comment.{Comment}
 use Rattle.es_lexer.specs.declared.token.TokenKind.{TokenKind}
-use Rattle.es_lexer.specs.declared.token.TokenKind.TheVariants.{Str, Semicolon}
+use Rattle.es_lexer.specs.declared.token.TokenKind.TheVariants.{Str}
 use Rattle.es_lexer.specs.Bytes.{first_of, is_part, is_quote}
-use Rattle.es_lexer.specs.Words.{WordTable, kind_in, word_kind, words_of, words_of_two, words_of_three, words_of_four, words_of_five, words_of_six, words_of_seven, words_of_eight, words_of_nine, words_of_ten, words_of_eleven}
 use Rattle.es_lexer.specs.Literals.{IsStrLiteral}
-use Rattle.es_lexer.specs.Spelling.{Spells, word, str, sign, sign_kind}
-use Rattle.es_lexer.specs.Pieces.{Piece, blank, line_end, comment, token, comment_spelling, text_of, ArePieces, kinds_of}
-use Rattle.es_lexer.specs.Goal.{partner_of}
-use Rattle.es_lexer.specs.Reads.{tokens_of, comments_of, is_behind}
+use Rattle.es_lexer.specs.declared.goal.Goal.{Goal}
+use Rattle.es_lexer.specs.Goal.{goal_of}
+use Rattle.es_lexer.specs.Words.{WordTable}
+use Rattle.es_lexer.specs.Signs.{sign_kind, signs_of_one, signs_of_two, signs_of_three}
+use Rattle.es_lexer.specs.Spelling.{Spells, word, str, sign, AreParts}
+use Rattle.es_lexer.specs.Pieces.{Piece, blank, line_end, comment, token, spelling, comment_spelling, text_of, place_of}
+use Rattle.es_lexer.specs.Readable.{ArePieces}
+use Rattle.es_lexer.specs.Reads.{tokens_of, comments_of, token_of, comment_of}
 use Rattle.es_lexer.proofs.ByteLemmas as byte
 use Rattle.es_lexer.proofs.RunLemmas.{Passes}
-use Rattle.es_lexer.proofs.SpellingLemmas.{Spelled, as_word, as_string, as_sign, spelled, not_empty}
+use Rattle.es_lexer.proofs.SpellingLemmas.{not_empty}
+use Rattle.es_lexer.proofs.SignLemmas as mark
+use Rattle.es_lexer.proofs.WordLemmas.{word_no_str}
 
 -- ---- bytes of tokens are ASCII at both ends
 part_ascii : (b : ℕ) → is_part b ≡ true → b < 128
@@ -28,22 +35,40 @@ quote_ascii b e = grind (arith, nat_tests)
 
 mark_ascii : (b : ℕ) → first_of b ≡ first.Quote → b < 128
 mark_ascii b h = elim (byte.classed b) [
-  | byte.blank e ↦ cc
-  | byte.line_end e ↦ cc
+  | byte.blank p e ↦ cc
+  | byte.line_end p e ↦ cc
   | byte.start s e ↦ cc
   | byte.quote n q e ↦ quote_ascii b q
-  | byte.sign s e ↦ cc
   | byte.slash s e ↦ cc
   | byte.other e ↦ cc
 ]
 
-first_ascii_by : (k : TokenKind) (b : ℕ) (rest : List ℕ) → Spelled k b rest → b < 128
-first_ascii_by k b rest (as_word f h e) = part_ascii b (byte.start_is_part b f)
-first_ascii_by k b rest (as_string f body h w e) = mark_ascii b f
-first_ascii_by k b rest (as_sign f w e) = omega arith
+-- the bytes of a punctuator
+abbrev all_ascii : List ℕ → TokenKind → Bool
+all_ascii [] k = true
+all_ascii (b ∷ s) k = ltb b 128 && all_ascii s k
 
-first_ascii : (k : TokenKind) (b : ℕ) (rest : List ℕ) → Spells k (b ∷ rest) → b < 128
-first_ascii k b rest s = first_ascii_by k b rest (spelled k b rest s)
+sign_ascii : (s : List ℕ) (k : TokenKind) → sign_kind s ≡ Some k → all_ascii s k ≡ true
+unfolding signs_of_one signs_of_two signs_of_three
+sign_ascii s k w = mark.sign_passes all_ascii s k refl refl refl w
+
+and_left : (u v : Bool) → (u && v) ≡ true → u ≡ true
+and_left true v e = refl
+and_left false v e = cc
+
+and_right : (u v : Bool) → (u && v) ≡ true → v ≡ true
+and_right true v e = e
+and_right false v e = cc
+
+first_ascii : (goal : Goal) (k : TokenKind) (b : ℕ) (rest : List ℕ) → Spells goal k (b ∷ rest) → b < 128
+first_ascii goal k b rest (word w e) =
+    let same : b ≡ w.first = cc in
+    part_ascii b (byte.start_is_part b (ap first_of same ∙ w.starts))
+first_ascii goal k b rest (str l e) =
+    let same : b ≡ l.quote = cc in
+    mark_ascii b (ap first_of same ∙ l.quotes)
+first_ascii goal k b rest (sign e) =
+    ltb-true b 128 (and_left (ltb b 128) (all_ascii rest k) (sign_ascii (b ∷ rest) k e))
 
 -- a text that ends with an ASCII byte
 pub record EndsAscii (s : List ℕ) : Type 0 where
@@ -58,16 +83,20 @@ last_part b (c ∷ rest) e h =
     let l : EndsAscii (c ∷ rest) = last_part c rest h.0 h.1 in
     record { front = b ∷ l.front; last = l.last; whole = ap (λ t. b ∷ t) l.whole; ascii = l.ascii }
 
-last_ascii_by : (k : TokenKind) (b : ℕ) (rest : List ℕ) → Spelled k b rest → EndsAscii (b ∷ rest)
-last_ascii_by k b rest (as_word f h e) = last_part b rest (byte.start_is_part b f) h
-last_ascii_by k b rest (as_string f body h w e) =
-    record { front = b ∷ body; last = b; whole = ap (λ t. b ∷ t) w; ascii = mark_ascii b f }
-last_ascii_by k b rest (as_sign f w e) =
-    record { front = []; last = b; whole = ap (λ t. b ∷ t) w; ascii = omega arith }
+last_sign : (k : TokenKind) (b : ℕ) (s : List ℕ) → all_ascii (b ∷ s) k ≡ true → EndsAscii (b ∷ s)
+last_sign k b [] e =
+    record { front = []; last = b; whole = refl; ascii = ltb-true b 128 (and_left (ltb b 128) true e) }
+last_sign k b (c ∷ s) e =
+    let l : EndsAscii (c ∷ s) = last_sign k c s (and_right (ltb b 128) (all_ascii (c ∷ s) k) e) in
+    record { front = b ∷ l.front; last = l.last; whole = ap (λ t. b ∷ t) l.whole; ascii = l.ascii }
 
-last_ascii : (k : TokenKind) (s : List ℕ) → Spells k s → EndsAscii s
-last_ascii k [] h = absurd (not_empty k h)
-last_ascii k (b ∷ rest) h = last_ascii_by k b rest (spelled k b rest h)
+last_ascii : (goal : Goal) (k : TokenKind) (s : List ℕ) → Spells goal k s → EndsAscii s
+last_ascii goal k s (word w e) =
+    subst EndsAscii (sym w.whole) (last_part w.first w.parts (byte.start_is_part w.first w.starts) w.goes_on)
+last_ascii goal k s (str l e) =
+    record { front = l.quote ∷ l.body; last = l.quote; whole = l.whole; ascii = mark_ascii l.quote l.quotes }
+last_ascii goal k [] (sign e) = absurd (not_empty goal k (sign e))
+last_ascii goal k (b ∷ s) (sign e) = last_sign k b s (sign_ascii (b ∷ s) k e)
 
 -- ---- a token in the text
 pub record TokenAt (x : List ℕ) (low : ℕ) (t : Token) : Type 0 where
@@ -75,7 +104,8 @@ pub record TokenAt (x : List ℕ) (low : ℕ) (t : Token) : Type 0 where
   pub text : List ℕ
   pub after : List ℕ
   pub whole : x ≡ front ++ (text ++ after)
-  pub spells : Spells t.kind text
+  pub goal : Goal
+  pub spells : Spells goal t.kind text
   pub starts : t.range.start ≡ length front
   pub ends : t.range.end ≡ length front + length text
   pub above : low ≤ t.range.start
@@ -86,104 +116,93 @@ lower x m n t l a = record {
   text = a.text;
   after = a.after;
   whole = a.whole;
+  goal = a.goal;
   spells = a.spells;
   starts = a.starts;
   ends = a.ends;
   above = let h : n ≤ t.range.start = a.above in omega arith;
 }
 
-shift : (x front s rest after : List ℕ) → x ≡ front ++ ((s ++ rest) ++ after) → x ≡ (front ++ s) ++ (rest ++ after)
+pub shift : (x front s rest after : List ℕ) → x ≡ front ++ ((s ++ rest) ++ after) → x ≡ (front ++ s) ++ (rest ++ after)
 shift x front s rest after w = w
     ∙ (ap (λ t. front ++ t) (append_assoc s rest after) ∙ sym (append_assoc front s (rest ++ after)))
 
-moved : (at : ℕ) (front s : List ℕ) → at ≡ length front → at + length s ≡ length (front ++ s)
+pub moved : (at : ℕ) (front s : List ℕ) → at ≡ length front → at + length s ≡ length (front ++ s)
 moved at front s e = omega (arith, length-append front s)
 
 -- each token of the pieces stands in the text, at or above the place where the pieces begin
-pub token_at : (ps : List Piece) (before : List TokenKind) (x front after : List ℕ) (at : ℕ) (line : Bool) (n : ℕ)
-    (t : Token)
-    → x ≡ front ++ (text_of ps ++ after) → at ≡ length front → ArePieces before ps after
-    → slice_get (tokens_of before at line ps) n ≡ Some t → TokenAt x at t
+pub token_at : (ps : List Piece) (before : List Piece) (x front after : List ℕ) (n : ℕ) (t : Token)
+    → x ≡ front ++ (text_of ps ++ after) → place_of before ≡ length front → ArePieces before ps after
+    → slice_get (tokens_of before ps) n ≡ Some t → TokenAt x (place_of before) t
 unfolding tokens_of
-token_at [] before x front after at line n t w p h g = cc
-token_at (blank b ∷ ps) before x front after at line n t w p h g =
-    lower x at (at + 1) t (omega arith)
-    (token_at ps before x (front ++ b ∷ []) after (at + 1) line n t (shift x front (b ∷ []) (text_of ps) after w)
-    (moved at front (b ∷ []) p) h.1 g)
-token_at (line_end b ∷ ps) before x front after at line n t w p h g =
-    lower x at (at + 1) t (omega arith)
-    (token_at ps before x (front ++ b ∷ []) after (at + 1) (is_behind before) n t
-    (shift x front (b ∷ []) (text_of ps) after w) (moved at front (b ∷ []) p) h.1 g)
-token_at (comment kind s ∷ ps) before x front after at line n t w p h g =
-    lower x at (at + length (comment_spelling kind s)) t (omega arith)
-    (token_at ps before x (front ++ comment_spelling kind s) after (at + length (comment_spelling kind s)) _ n t
-    (shift x front (comment_spelling kind s) (text_of ps) after w) (moved at front (comment_spelling kind s) p) h.1 g)
-token_at (token k s ∷ ps) before x front after at line zero t w p h g =
-    let same : record {
-      kind = k;
-      range = record { start = at; end = at + length s };
-      line_before = line;
-      partner =
-          partner_of before k (kinds_of ps);
-    } ≡ t = cc in
-    subst (TokenAt x at) same (record {
+token_at [] before x front after n t w p h g = cc
+token_at (blank s ∷ ps) before x front after n t w p h g =
+    lower x (place_of before) (place_of before + length s) t (omega arith)
+    (token_at ps (blank s ∷ before) x (front ++ s) after n t (shift x front s (text_of ps) after w)
+    (moved (place_of before) front s p) h.1 g)
+token_at (line_end s ∷ ps) before x front after n t w p h g =
+    lower x (place_of before) (place_of before + length s) t (omega arith)
+    (token_at ps (line_end s ∷ before) x (front ++ s) after n t (shift x front s (text_of ps) after w)
+    (moved (place_of before) front s p) h.1 g)
+token_at (comment kind s ∷ ps) before x front after n t w p h g =
+    lower x (place_of before) (place_of before + length (comment_spelling kind s)) t (omega arith)
+    (token_at ps (comment kind s ∷ before) x (front ++ comment_spelling kind s) after n t
+    (shift x front (comment_spelling kind s) (text_of ps) after w)
+    (moved (place_of before) front (comment_spelling kind s) p) h.1 g)
+token_at (token k s ∷ ps) before x front after zero t w p h g =
+    let same : token_of before k s ps ≡ t = cc in
+    subst (TokenAt x (place_of before)) same (record {
       front = front;
       text = s;
       after = text_of ps ++ after;
       whole = w ∙ ap (λ t. front ++ t) (append_assoc s (text_of ps) after);
+      goal = goal_of before;
       spells = h.0.spells;
       starts = p;
       ends = ap (λ n. n + length s) p;
       above = omega arith;
     })
-token_at (token k s ∷ ps) before x front after at line (suc n) t w p h g =
-    lower x at (at + length s) t (omega arith)
-    (token_at ps (k ∷ before) x (front ++ s) after (at + length s) false n t
-    (shift x front s (text_of ps) after w) (moved at front s p) h.1 g)
+token_at (token k s ∷ ps) before x front after (suc n) t w p h g =
+    lower x (place_of before) (place_of before + length s) t (omega arith)
+    (token_at ps (token k s ∷ before) x (front ++ s) after n t (shift x front s (text_of ps) after w)
+    (moved (place_of before) front s p) h.1 g)
 
 -- a token ends before the next one begins
-pub ascends : (ps : List Piece) (before : List TokenKind) (x front after : List ℕ) (at : ℕ) (line : Bool) (n : ℕ)
-    (t u : Token)
-    → x ≡ front ++ (text_of ps ++ after) → at ≡ length front → ArePieces before ps after
-    → slice_get (tokens_of before at line ps) n ≡ Some t → slice_get (tokens_of before at line ps) (suc n) ≡ Some u
+pub ascends : (ps : List Piece) (before : List Piece) (x front after : List ℕ) (n : ℕ) (t u : Token)
+    → x ≡ front ++ (text_of ps ++ after) → place_of before ≡ length front → ArePieces before ps after
+    → slice_get (tokens_of before ps) n ≡ Some t → slice_get (tokens_of before ps) (suc n) ≡ Some u
     → t.range.end ≤ u.range.start
 unfolding tokens_of
-ascends [] before x front after at line n t u w p h f g = cc
-ascends (blank b ∷ ps) before x front after at line n t u w p h f g =
-    ascends ps before x (front ++ b ∷ []) after (at + 1) line n t u (shift x front (b ∷ []) (text_of ps) after w)
-    (moved at front (b ∷ []) p) h.1 f g
-ascends (line_end b ∷ ps) before x front after at line n t u w p h f g =
-    ascends ps before x (front ++ b ∷ []) after (at + 1) (is_behind before) n t u
-    (shift x front (b ∷ []) (text_of ps) after w) (moved at front (b ∷ []) p) h.1 f g
-ascends (comment kind s ∷ ps) before x front after at line n t u w p h f g =
-    ascends ps before x (front ++ comment_spelling kind s) after (at + length (comment_spelling kind s)) _ n t u
+ascends [] before x front after n t u w p h f g = cc
+ascends (blank s ∷ ps) before x front after n t u w p h f g =
+    ascends ps (blank s ∷ before) x (front ++ s) after n t u (shift x front s (text_of ps) after w)
+    (moved (place_of before) front s p) h.1 f g
+ascends (line_end s ∷ ps) before x front after n t u w p h f g =
+    ascends ps (line_end s ∷ before) x (front ++ s) after n t u (shift x front s (text_of ps) after w)
+    (moved (place_of before) front s p) h.1 f g
+ascends (comment kind s ∷ ps) before x front after n t u w p h f g =
+    ascends ps (comment kind s ∷ before) x (front ++ comment_spelling kind s) after n t u
     (shift x front (comment_spelling kind s) (text_of ps) after w)
-    (moved at front (comment_spelling kind s) p) h.1 f g
-ascends (token k s ∷ ps) before x front after at line zero t u w p h f g =
-    let same : record {
-      kind = k;
-      range = record { start = at; end = at + length s };
-      line_before = line;
-      partner =
-          partner_of before k (kinds_of ps);
-    } ≡ t = cc in
-    let next : TokenAt x (at + length s) u =
-    token_at ps (k ∷ before) x (front ++ s) after (at + length s) false 0 u (shift x front s (text_of ps) after w)
-    (moved at front s p) h.1 g in
+    (moved (place_of before) front (comment_spelling kind s) p) h.1 f g
+ascends (token k s ∷ ps) before x front after zero t u w p h f g =
+    let same : token_of before k s ps ≡ t = cc in
+    let next : TokenAt x (place_of before + length s) u =
+    token_at ps (token k s ∷ before) x (front ++ s) after 0 u (shift x front s (text_of ps) after w)
+    (moved (place_of before) front s p) h.1 g in
     subst (λ (v : Token). v.range.end ≤ u.range.start) same next.above
-ascends (token k s ∷ ps) before x front after at line (suc n) t u w p h f g =
-    ascends ps (k ∷ before) x (front ++ s) after (at + length s) false n t u
-    (shift x front s (text_of ps) after w) (moved at front s p) h.1 f g
+ascends (token k s ∷ ps) before x front after (suc n) t u w p h f g =
+    ascends ps (token k s ∷ before) x (front ++ s) after n t u
+    (shift x front s (text_of ps) after w) (moved (place_of before) front s p) h.1 f g
 
 -- ---- what a token's range cuts
-some_text : (k : TokenKind) (s : List ℕ) → Spells k s → 0 < length s
-some_text k [] h = absurd (not_empty k h)
-some_text k (b ∷ s) h = omega arith
+some_text : (goal : Goal) (k : TokenKind) (s : List ℕ) → Spells goal k s → 0 < length s
+some_text goal k [] h = absurd (not_empty goal k h)
+some_text goal k (b ∷ s) h = omega arith
 
 pub not_nothing : (x : List ℕ) (low : ℕ) (t : Token) → TokenAt x low t
     → (t.range.start < t.range.end) × (t.range.end ≤ length x)
 not_nothing x low t a =
-    let size : 0 < length a.text = some_text t.kind a.text a.spells in
+    let size : 0 < length a.text = some_text a.goal t.kind a.text a.spells in
     let starts : t.range.start ≡ length a.front = a.starts in
     let ends : t.range.end ≡ length a.front + length a.text = a.ends in
     let whole : length x ≡ length (a.front ++ (a.text ++ a.after)) = ap length a.whole in
@@ -198,14 +217,15 @@ cuts x low t a =
     ∙ (ap (take (t.range.end - t.range.start)) (drop_at a.front (a.text ++ a.after) t.range.start (sym starts))
     ∙ take_at a.text a.after (t.range.end - t.range.start) (omega arith))
 
-start_by : (x front after : List ℕ) (k : TokenKind) (s : List ℕ) (at : ℕ) → x ≡ front ++ (s ++ after) → Spells k s
+start_by : (x front after : List ℕ) (goal : Goal) (k : TokenKind) (s : List ℕ) (at : ℕ) → x ≡ front ++ (s ++ after)
+    → Spells goal k s
     → at ≡ length front → IsCharBoundary x at
-start_by x front after k [] at w h p = absurd (not_empty k h)
-start_by x front after k (b ∷ rest) at w h p =
+start_by x front after goal k [] at w h p = absurd (not_empty goal k h)
+start_by x front after goal k (b ∷ rest) at w h p =
     let byte : get_or x at 0 ≡ b = ap (λ y. get_or y at 0) w ∙ get_or_at front b (rest ++ after) 0 at (sym p) in
     let l : length x ≡ length (front ++ (b ∷ rest ++ after)) = ap length w in
     IsCharBoundary-before_ascii x at (omega (arith, length-append front (b ∷ rest ++ after)))
-    (subst (λ (c : ℕ). c < 128) (sym byte) (first_ascii k b rest h))
+    (subst (λ (c : ℕ). c < 128) (sym byte) (first_ascii goal k b rest h))
 
 end_by : (x front after s : List ℕ) (at : ℕ) → IsUtf8 x → x ≡ front ++ (s ++ after) → EndsAscii s
     → at ≡ length front + length s → IsCharBoundary x at
@@ -229,71 +249,21 @@ end_by x front after s at u w e p =
 pub boundaries : (x : List ℕ) (low : ℕ) (t : Token) → IsUtf8 x → TokenAt x low t
     → IsCharBoundary x t.range.start × IsCharBoundary x t.range.end
 boundaries x low t u a = (
-  start_by x a.front a.after t.kind a.text t.range.start a.whole a.spells a.starts,
-  end_by x a.front a.after a.text t.range.end u a.whole (last_ascii t.kind a.text a.spells) a.ends,
+  start_by x a.front a.after a.goal t.kind a.text t.range.start a.whole a.spells a.starts,
+  end_by x a.front a.after a.text t.range.end u a.whole (last_ascii a.goal t.kind a.text a.spells) a.ends,
 )
 
 -- ---- a Str is a string literal
-abbrev pub is_str : TokenKind → Bool
-is_str Str = true
-is_str k = false
+sign_no_str : (s : List ℕ) (k : TokenKind) → k ≡ Str → sign_kind s ≡ Some k → ⊥
+sign_no_str s k e w =
+    let h : not (mark.is_str k) ≡ true = mark.sign_no_str s k w in
+    let g : not (mark.is_str Str) ≡ true = subst (λ (j : TokenKind). not (mark.is_str j) ≡ true) e h in
+    cc
 
--- no word of the table is a Str
-abbrev pub no_str : WordTable → Bool
-no_str [] = true
-no_str (entry ∷ table) = not (is_str entry.1) && no_str table
-
-no_str_if : (v : Bool) (a b : WordTable) → no_str a ≡ true → no_str b ≡ true → no_str (if v then a else b) ≡ true
-no_str_if true a b p q = p
-no_str_if false a b p q = q
-
-words_no_str : (n : ℕ) → no_str (words_of n) ≡ true
-unfolding words_of words_of_two words_of_three words_of_four words_of_five words_of_six words_of_seven words_of_eight words_of_nine words_of_ten words_of_eleven
-words_no_str n =
-    no_str_if (n == 2) _ _ refl (no_str_if (n == 3) _ _ refl (no_str_if (n == 4) _ _ refl (no_str_if (n == 5) _ _ refl
-    (no_str_if (n == 6) _ _ refl
-    (no_str_if (n == 7) _ _ refl (no_str_if (n == 8) _ _ refl (no_str_if (n == 9) _ _ refl
-    (no_str_if (n == 10) _ _ refl (no_str_if (n == 11) _ _ refl refl)))))))))
-
-entry_no_str : (u v : Bool) → (not u && v) ≡ true → u ≡ false
-entry_no_str true v e = cc
-entry_no_str false v e = refl
-
-rest_no_str : (u v : Bool) → (not u && v) ≡ true → v ≡ true
-rest_no_str true v e = cc
-rest_no_str false v e = e
-
-pick_no_str : (v : Bool) (a b : TokenKind) → is_str a ≡ false → is_str b ≡ false → is_str (if v then a else b) ≡ false
-pick_no_str true a b p q = p
-pick_no_str false a b p q = q
-
-kind_in_no_str : (table : WordTable) (s : List ℕ) → no_str table ≡ true → is_str (kind_in table s) ≡ false
-unfolding kind_in
-kind_in_no_str [] s h = refl
-kind_in_no_str (entry ∷ table) s h =
-    pick_no_str (bytes_eq s entry.0) entry.1 (kind_in table s) (entry_no_str (is_str entry.1) (no_str table) h)
-    (kind_in_no_str table s (rest_no_str (is_str entry.1) (no_str table) h))
-
-word_no_str : (s : List ℕ) → is_str (word_kind s) ≡ false
-unfolding word_kind
-word_no_str s = kind_in_no_str (words_of (length s)) s (words_no_str (length s))
-
-sign_no_str_by : (b : ℕ) (v : Bool) → (b == 59) ≡ v → sign_kind (b ∷ []) ≡ Some Str → ⊥
-unfolding sign_kind
-sign_no_str_by b true e h = let g : Some Semicolon ≡ Some Str = rw e at h in cc
-sign_no_str_by b false e h = let g : None ≡ Some Str = rw e at h in cc
-
-sign_no_str : (s : List ℕ) → sign_kind s ≡ Some Str → ⊥
-unfolding sign_kind
-sign_no_str [] h = cc
-sign_no_str (b ∷ []) h = sign_no_str_by b (b == 59) refl h
-sign_no_str (b ∷ c ∷ s) h = cc
-
-pub literal_of : (k : TokenKind) (s : List ℕ) → k ≡ Str → Spells k s → IsStrLiteral s
-literal_of k s e (word w f) =
-    absurd (true≢false (let g : is_str Str ≡ is_str (word_kind s) = ap is_str (sym e ∙ f) in g ∙ word_no_str s))
-literal_of k s e (str l f) = l
-literal_of k s e (sign f) = absurd (sign_no_str s (f ∙ ap Some e))
+pub literal_of : (goal : Goal) (k : TokenKind) (s : List ℕ) → k ≡ Str → Spells goal k s → IsStrLiteral s
+literal_of goal k s e (word w f) = absurd (word_no_str goal.member s (sym e ∙ f))
+literal_of goal k s e (str l f) = l
+literal_of goal k s e (sign f) = absurd (sign_no_str s k e f)
 
 -- ---- comments
 pub record CommentAt (x : List ℕ) (c : Comment) : Type 0 where
@@ -303,23 +273,19 @@ pub record CommentAt (x : List ℕ) (c : Comment) : Type 0 where
   pub starts : c.range.start ≡ length front
   pub ends : c.range.end ≡ length front + length (comment_spelling c.kind c.text)
 
-pub comment_at : (ps : List Piece) (x front after : List ℕ) (at n : ℕ) (c : Comment)
-    → x ≡ front ++ (text_of ps ++ after) → at ≡ length front → slice_get (comments_of at ps) n ≡ Some c
+pub comment_at : (ps before : List Piece) (x front after : List ℕ) (n : ℕ) (c : Comment)
+    → x ≡ front ++ (text_of ps ++ after) → place_of before ≡ length front → slice_get (comments_of before ps) n ≡ Some c
     → CommentAt x c
 unfolding comments_of
-comment_at [] x front after at n c w p g = cc
-comment_at (blank b ∷ ps) x front after at n c w p g =
-    comment_at ps x (front ++ b ∷ []) after (at + 1) n c (shift x front (b ∷ []) (text_of ps) after w)
-    (moved at front (b ∷ []) p) g
-comment_at (line_end b ∷ ps) x front after at n c w p g =
-    comment_at ps x (front ++ b ∷ []) after (at + 1) n c (shift x front (b ∷ []) (text_of ps) after w)
-    (moved at front (b ∷ []) p) g
-comment_at (comment kind s ∷ ps) x front after at zero c w p g =
-    let same : record {
-      kind = kind;
-      range = record { start = at; end = at + length (comment_spelling kind s) };
-      text = s;
-    } ≡ c = cc in
+comment_at [] before x front after n c w p g = cc
+comment_at (blank s ∷ ps) before x front after n c w p g =
+    comment_at ps (blank s ∷ before) x (front ++ s) after n c (shift x front s (text_of ps) after w)
+    (moved (place_of before) front s p) g
+comment_at (line_end s ∷ ps) before x front after n c w p g =
+    comment_at ps (line_end s ∷ before) x (front ++ s) after n c (shift x front s (text_of ps) after w)
+    (moved (place_of before) front s p) g
+comment_at (comment kind s ∷ ps) before x front after zero c w p g =
+    let same : comment_of before kind s ≡ c = cc in
     subst (CommentAt x) same (record {
       front = front;
       after = text_of ps ++ after;
@@ -327,12 +293,13 @@ comment_at (comment kind s ∷ ps) x front after at zero c w p g =
       starts = p;
       ends = ap (λ n. n + length (comment_spelling kind s)) p;
     })
-comment_at (comment kind s ∷ ps) x front after at (suc n) c w p g =
-    comment_at ps x (front ++ comment_spelling kind s) after (at + length (comment_spelling kind s)) n c
-    (shift x front (comment_spelling kind s) (text_of ps) after w) (moved at front (comment_spelling kind s) p) g
-comment_at (token k s ∷ ps) x front after at n c w p g =
-    comment_at ps x (front ++ s) after (at + length s) n c (shift x front s (text_of ps) after w)
-    (moved at front s p) g
+comment_at (comment kind s ∷ ps) before x front after (suc n) c w p g =
+    comment_at ps (comment kind s ∷ before) x (front ++ comment_spelling kind s) after n c
+    (shift x front (comment_spelling kind s) (text_of ps) after w)
+    (moved (place_of before) front (comment_spelling kind s) p) g
+comment_at (token k s ∷ ps) before x front after n c w p g =
+    comment_at ps (token k s ∷ before) x (front ++ s) after n c (shift x front s (text_of ps) after w)
+    (moved (place_of before) front s p) g
 
 pub comment_cuts : (x : List ℕ) (c : Comment) → CommentAt x c
     → slice_range x c.range.start c.range.end ≡ comment_spelling c.kind c.text

@@ -7,7 +7,7 @@ use Rattle.es_lexer.specs.declared.token.TokenKind.TheVariants.{Str}
 use Rattle.es_lexer.specs.declared.error.LexicalKind.TheVariants.{UnterminatedString, InvalidEscape}
 use Rattle.es_lexer.specs.Bytes.{first_of, is_plain, is_line_end}
 use Rattle.es_lexer.specs.Literals.{ArePlain}
-use Rattle.es_lexer.specs.Pieces.{EndsLine}
+use Rattle.es_lexer.specs.Readable.{EndsLine}
 use Rattle.es_lexer.specs.Look.{string_look, string_stop}
 use Rattle.es_lexer.proofs.ByteLemmas.{quote_not_plain, backslash_not_plain, line_end_not_plain, not_plain_ends, apart, backslash_class, quote_ends_no_line}
 

@@ -1,10 +1,13 @@
 -- what the public contracts rest on
 pub mod Bytes
 pub mod Words
+pub mod Signs
 pub mod Literals
-pub mod Spelling
-pub mod Goal
+pub mod Brackets
 pub mod Pieces
+pub mod Goal
+pub mod Spelling
+pub mod Readable
 pub mod Reads
 pub mod Stops
 pub mod Answers

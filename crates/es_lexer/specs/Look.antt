@@ -1,15 +1,20 @@
 -- What the functions of the crate promise each other: what stands at a place, found by one look forward.
 -- A look at a text goes over it once; places count from the start of the whole text.
-use Rattle.std.specs.Prelude.{ℕ, ◌+◌, ◌-◌, Bool, false, not, ◌||◌, ◌==◌, List, [], ◌∷◌, take, if◌then◌else◌}
+use Rattle.std.specs.Prelude.{ℕ, ◌+◌, ◌-◌, Bool, false, not, ◌||◌, ◌==◌, List, [], ◌∷◌, take, Option, Some, None, if◌then◌else◌}
 use Rattle.es_lexer.specs.declared.bytes.First.{First}
 use Rattle.es_lexer.specs.declared.bytes.First.TheVariants as first
+use Rattle.es_lexer.specs.declared.bracket.BracketKind.{BracketKind}
+use Rattle.es_lexer.specs.declared.goal.Goal.{Goal}
+use Rattle.es_lexer.specs.declared.signs.Sign.{Sign}
 use Rattle.es_lexer.specs.declared.look.Look.{Look}
 use Rattle.es_lexer.specs.declared.look.Look.TheVariants as look
 use Rattle.es_lexer.specs.declared.token.CommentKind.TheVariants.{Line, Block}
 use Rattle.es_lexer.specs.declared.token.TokenKind.TheVariants as kind
-use Rattle.es_lexer.specs.declared.error.LexicalKind.TheVariants.{UnterminatedString, UnterminatedComment, InvalidEscape, InvalidChar}
+use Rattle.es_lexer.specs.declared.error.LexicalKind.TheVariants.{UnterminatedString, UnterminatedComment, InvalidEscape, InvalidChar, Unbalanced}
 use Rattle.es_lexer.specs.Bytes.{first_of, is_part, is_line_end, is_plain, begins_closer}
-use Rattle.es_lexer.specs.Words.{word_kind}
+use Rattle.es_lexer.specs.Words.{kind_at}
+use Rattle.es_lexer.specs.Brackets.{role_of, may_close}
+use Rattle.es_lexer.specs.Signs.{sign_at}
 
 -- where the bytes that pass end
 unfoldable pub run_end : (ℕ → Bool) → ℕ → List ℕ → ℕ
@@ -20,10 +25,10 @@ run_end p at (b ∷ rest) = if p b then run_end p (at + 1) rest else at
 abbrev pub is_in_line : ℕ → Bool
 is_in_line b = not (is_line_end b)
 
--- the word that stands at `at`, at the front of `text`
-unfoldable pub word_look : ℕ → List ℕ → Look
-word_look at text =
-    let end = run_end is_part at text in look.Token (word_kind (take (end - at) text)) end
+-- the word that stands at `at`, at the front of `text`, right after `.` or not
+unfoldable pub word_look : Bool → ℕ → List ℕ → Look
+word_look member at text =
+    let end = run_end is_part at text in look.Token (kind_at member (take (end - at) text)) end
 
 -- the string literal that began at `start`, at a byte that isn't plain
 unfoldable pub string_stop : ℕ → ℕ → ℕ → ℕ → Look
@@ -45,25 +50,40 @@ block_look start line at (b ∷ rest) =
     if begins_closer (b ∷ rest) then look.Comment Block (at + 2) line
     else block_look start (line || is_line_end b) (at + 1) rest
 
+-- a punctuator at `at`, where this is the innermost open bracket
+unfoldable pub sign_look : Option BracketKind → ℕ → Option Sign → Look
+sign_look bracket at None = look.Fault InvalidChar at
+sign_look bracket at (Some sign) =
+    if may_close bracket (role_of sign.kind) then look.Token sign.kind (at + sign.size) else look.Fault Unbalanced at
+
+-- a `/` at `at` that begins no comment
+unfoldable pub divide_look : Goal → ℕ → List ℕ → Look
+divide_look goal at rest =
+    if goal.regexp then look.Fault InvalidChar at else sign_look goal.bracket at (sign_at (47 ∷ rest))
+
 -- what begins with a `/` at `at`, before `rest`
-unfoldable pub slash_look : ℕ → List ℕ → Look
-slash_look at [] = look.Fault InvalidChar at
-slash_look at (b ∷ rest) =
+unfoldable pub slash_look : Goal → ℕ → List ℕ → Look
+slash_look goal at [] = divide_look goal at []
+slash_look goal at (b ∷ rest) =
     if b == 47 then look.Comment Line (run_end is_in_line (at + 2) rest) false
     else (if b == 42 then block_look at false (at + 2) rest
-    else look.Fault InvalidChar at)
+    else divide_look goal at (b ∷ rest))
 
 -- what begins with a byte of this class at `at`, before `rest`
-unfoldable pub class_look : First → ℕ → ℕ → List ℕ → Look
-class_look first.Blank at b rest = look.Blank
-class_look first.LineEnd at b rest = look.LineEnd
-class_look first.Start at b rest = word_look at (b ∷ rest)
-class_look first.Quote at b rest = string_look b at (at + 1) rest
-class_look first.Sign at b rest = look.Token kind.Semicolon (at + 1)
-class_look first.Slash at b rest = slash_look at rest
-class_look first.Other at b rest = look.Fault InvalidChar at
+unfoldable pub class_look : First → Goal → ℕ → ℕ → List ℕ → Look
+class_look first.Blank goal at b rest = look.Blank (at + 1)
+class_look first.LineEnd goal at b rest = look.LineEnd (at + 1)
+class_look first.Start goal at b rest = word_look goal.member at (b ∷ rest)
+class_look first.Quote goal at b rest = string_look b at (at + 1) rest
+class_look first.Slash goal at b rest = slash_look goal at rest
+class_look first.Other goal at b rest = sign_look goal.bracket at (sign_at (b ∷ rest))
+
+-- the end of the text, where this is the innermost open bracket
+unfoldable pub end_look : Option BracketKind → ℕ → Look
+end_look None at = look.End
+end_look (Some bracket) at = look.Fault Unbalanced at
 
 -- what stands at `at`, at the front of `text`
-unfoldable pub look_at : ℕ → List ℕ → Look
-look_at at [] = look.End
-look_at at (b ∷ rest) = class_look (first_of b) at b rest
+unfoldable pub look_at : Goal → ℕ → List ℕ → Look
+look_at goal at [] = end_look goal.bracket at
+look_at goal at (b ∷ rest) = class_look (first_of b) goal at b rest

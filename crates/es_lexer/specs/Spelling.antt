@@ -1,11 +1,13 @@
 -- Which texts spell a token, by its kind (ECMA-262, "Tokens").
-use Rattle.std.specs.Prelude.{◌≡◌, ℕ, true, ◌==◌, List, [], ◌∷◌, Option, Some, None, if◌then◌else◌}
+use Rattle.std.specs.Prelude.{◌≡◌, ℕ, true, List, [], ◌∷◌, Some}
 use Rattle.std.specs.List.{AllByRecursion}
 use Rattle.es_lexer.specs.declared.bytes.First.TheVariants.{Start}
+use Rattle.es_lexer.specs.declared.goal.Goal.{Goal}
 use Rattle.es_lexer.specs.declared.token.TokenKind.{TokenKind}
-use Rattle.es_lexer.specs.declared.token.TokenKind.TheVariants.{Str, Semicolon}
+use Rattle.es_lexer.specs.declared.token.TokenKind.TheVariants.{Str}
 use Rattle.es_lexer.specs.Bytes.{first_of, is_part}
-use Rattle.es_lexer.specs.Words.{word_kind}
+use Rattle.es_lexer.specs.Words.{kind_at}
+use Rattle.es_lexer.specs.Signs.{sign_kind}
 use Rattle.es_lexer.specs.Literals.{IsStrLiteral}
 
 -- each byte continues a word
@@ -20,14 +22,8 @@ pub record IsWord (s : List ℕ) : Type 0 where
   pub goes_on : AreParts parts
   pub whole : s ≡ first ∷ parts
 
--- the punctuator that a text spells ("Punctuators")
-unfoldable pub sign_kind : List ℕ → Option TokenKind
-sign_kind [] = None
-sign_kind (b ∷ []) = if b == 59 then Some Semicolon else None
-sign_kind (b ∷ c ∷ rest) = None
-
--- the text spells a token of this kind
-pub data Spells (k : TokenKind) (s : List ℕ) : Type 0 where
-  word : IsWord s → k ≡ word_kind s → Spells k s
-  str : IsStrLiteral s → k ≡ Str → Spells k s
-  sign : sign_kind s ≡ Some k → Spells k s
+-- the text spells a token of this kind there
+pub data Spells (goal : Goal) (k : TokenKind) (s : List ℕ) : Type 0 where
+  word : IsWord s → k ≡ kind_at goal.member s → Spells goal k s
+  str : IsStrLiteral s → k ≡ Str → Spells goal k s
+  sign : sign_kind s ≡ Some k → Spells goal k s

@@ -1,12 +1,18 @@
 -- The first lexical fault of a text: pieces cut a front of it, and nothing can be read behind them.
-use Rattle.std.specs.Prelude.{◌≡◌, ℕ, ◌+◌, false, List, [], ◌∷◌, ◌++◌, length}
+use Rattle.std.specs.Prelude.{◌≡◌, ℕ, ◌+◌, true, false, List, [], ◌∷◌, ◌++◌, length, Some, None}
+use Rattle.es_lexer.specs.declared.bracket.BracketKind.{BracketKind}
 use Rattle.es_lexer.specs.declared.bytes.First.TheVariants.{Quote, Slash, Other}
+use Rattle.es_lexer.specs.declared.goal.Goal.{Goal}
+use Rattle.es_lexer.specs.declared.token.TokenKind.{TokenKind}
 use Rattle.es_lexer.specs.declared.error.LexicalKind.{LexicalKind}
-use Rattle.es_lexer.specs.declared.error.LexicalKind.TheVariants.{UnterminatedString, UnterminatedComment, InvalidEscape, InvalidChar}
+use Rattle.es_lexer.specs.declared.error.LexicalKind.TheVariants.{UnterminatedString, UnterminatedComment, InvalidEscape, InvalidChar, Unbalanced}
 use Rattle.es_lexer.specs.Bytes.{first_of, begins_comment, has_closer}
+use Rattle.es_lexer.specs.Brackets.{role_of, may_close}
+use Rattle.es_lexer.specs.Signs.{sign_kind}
 use Rattle.es_lexer.specs.Literals.{ArePlain}
-use Rattle.es_lexer.specs.Goal.{Goal, goal_of}
-use Rattle.es_lexer.specs.Pieces.{Piece, text_of, kinds_after, ArePieces, EndsLine}
+use Rattle.es_lexer.specs.Goal.{goal_of}
+use Rattle.es_lexer.specs.Pieces.{Piece, text_of, behind}
+use Rattle.es_lexer.specs.Readable.{ArePieces, EndsLine}
 
 -- nothing can be read from `rest`, which stands at `at`: the kind of the fault, and its place
 pub data Stuck (goal : Goal) (rest : List ℕ) (at : ℕ) (kind : LexicalKind) (place : ℕ) : Type 0 where
@@ -22,11 +28,18 @@ pub data Stuck (goal : Goal) (rest : List ℕ) (at : ℕ) (kind : LexicalKind) (
   open_comment : (body : List ℕ) → rest ≡ 47 ∷ 42 ∷ body → has_closer body ≡ false
       → kind ≡ UnterminatedComment → place ≡ at → Stuck goal rest at kind place
   -- a character that begins nothing
-  no_token : (b : ℕ) (after : List ℕ) → rest ≡ b ∷ after → first_of b ≡ Other
+  no_token : (b : ℕ) (after : List ℕ) → rest ≡ b ∷ after → first_of b ≡ Other → sign_kind (b ∷ []) ≡ None
       → kind ≡ InvalidChar → place ≡ at → Stuck goal rest at kind place
-  -- a `/` that begins no comment
+  -- a `/` that begins neither a comment nor a punctuator: no regular expression is read
   lone_slash : (b : ℕ) (after : List ℕ) → rest ≡ b ∷ after → first_of b ≡ Slash → begins_comment rest ≡ false
-      → kind ≡ InvalidChar → place ≡ at → Stuck goal rest at kind place
+      → goal.regexp ≡ true → kind ≡ InvalidChar → place ≡ at → Stuck goal rest at kind place
+  -- a bracket that doesn't close the innermost open one
+  wrong_closer : (b : ℕ) (after : List ℕ) (k : TokenKind) → rest ≡ b ∷ after → first_of b ≡ Other
+      → sign_kind (b ∷ []) ≡ Some k → may_close goal.bracket (role_of k) ≡ false
+      → kind ≡ Unbalanced → place ≡ at → Stuck goal rest at kind place
+  -- a bracket that is open at the text's end
+  open_bracket : (bracket : BracketKind) → rest ≡ [] → goal.bracket ≡ Some bracket
+      → kind ≡ Unbalanced → place ≡ at → Stuck goal rest at kind place
 
 -- the first fault of the text has this kind and this place
 pub record Stops (x : List ℕ) (kind : LexicalKind) (place : ℕ) : Type 0 where
@@ -34,4 +47,4 @@ pub record Stops (x : List ℕ) (kind : LexicalKind) (place : ℕ) : Type 0 wher
   pub rest : List ℕ
   pub whole : x ≡ text_of pieces ++ rest
   pub each : ArePieces [] pieces rest
-  pub stuck : Stuck (goal_of (kinds_after [] pieces)) rest (length (text_of pieces)) kind place
+  pub stuck : Stuck (goal_of (behind [] pieces)) rest (length (text_of pieces)) kind place

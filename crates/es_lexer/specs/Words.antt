@@ -1,6 +1,6 @@
 -- The words with a kind of their own: keywords (ECMA-262, "Keywords and Reserved Words", and the literals of "Primary
 -- Expression") and contextual words, which the grammars of JavaScript and TypeScript name. Every other word is a Name.
-use Rattle.std.specs.Prelude.{ℕ, List, [], ◌∷◌, length, codes, bytes_eq, ◌==◌, if◌then◌else◌}
+use Rattle.std.specs.Prelude.{ℕ, List, [], ◌∷◌, length, codes, bytes_eq, ◌==◌, ◌&&◌, Bool, true, false, if◌then◌else◌}
 use Rattle.es_lexer.specs.declared.token.TokenKind.{TokenKind}
 use Rattle.es_lexer.specs.declared.token.TokenKind.TheVariants as k
 
@@ -103,3 +103,50 @@ kind_in (entry ∷ table) word = if bytes_eq word entry.0 then entry.1 else kind
 -- the kind of a word
 unfoldable pub word_kind : List ℕ → TokenKind
 word_kind word = kind_in (words_of (length word)) word
+
+-- a keyword, which is a name right after `.`
+unfoldable pub is_keyword : TokenKind → Bool
+is_keyword k.AwaitWord = true
+is_keyword k.BreakWord = true
+is_keyword k.CaseWord = true
+is_keyword k.CatchWord = true
+is_keyword k.ClassWord = true
+is_keyword k.ConstWord = true
+is_keyword k.ContinueWord = true
+is_keyword k.DebuggerWord = true
+is_keyword k.DefaultWord = true
+is_keyword k.DeleteWord = true
+is_keyword k.DoWord = true
+is_keyword k.ElseWord = true
+is_keyword k.EnumWord = true
+is_keyword k.ExportWord = true
+is_keyword k.ExtendsWord = true
+is_keyword k.FalseWord = true
+is_keyword k.FinallyWord = true
+is_keyword k.ForWord = true
+is_keyword k.FunctionWord = true
+is_keyword k.IfWord = true
+is_keyword k.ImportWord = true
+is_keyword k.InWord = true
+is_keyword k.InstanceofWord = true
+is_keyword k.LetWord = true
+is_keyword k.NewWord = true
+is_keyword k.NullWord = true
+is_keyword k.ReturnWord = true
+is_keyword k.SuperWord = true
+is_keyword k.SwitchWord = true
+is_keyword k.ThisWord = true
+is_keyword k.ThrowWord = true
+is_keyword k.TrueWord = true
+is_keyword k.TryWord = true
+is_keyword k.TypeofWord = true
+is_keyword k.VarWord = true
+is_keyword k.VoidWord = true
+is_keyword k.WhileWord = true
+is_keyword k.WithWord = true
+is_keyword k.YieldWord = true
+is_keyword kind = false
+
+-- the kind of a word, right after `.` or not
+unfoldable pub kind_at : Bool → List ℕ → TokenKind
+kind_at member word = let kind = word_kind word in if member && is_keyword kind then k.Name else kind

@@ -10,10 +10,9 @@ pub enum First {
     Start,
     /// A string literal.
     Quote,
-    /// A punctuator.
-    Sign,
-    /// A comment, where `/` or `*` follows.
+    /// A comment, where `/` or `*` follows, else a punctuator or a regular expression.
     Slash,
+    /// A punctuator, or nothing.
     Other,
 }
 
@@ -26,7 +25,6 @@ pub fn first_of(b: u8) -> First
         b'\n' | b'\r' => First::LineEnd,
         b'a'..=b'z' | b'A'..=b'Z' | b'$' | b'_' => First::Start,
         b'"' | b'\'' => First::Quote,
-        b';' => First::Sign,
         b'/' => First::Slash,
         _ => First::Other,
     }

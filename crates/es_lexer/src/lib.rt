@@ -8,11 +8,15 @@
 //! Not promised: what `Display` and `Debug` write, and when memory runs out.
 #![tactic(auto)]
 
+mod bracket;
 mod bytes;
 mod error;
+mod goal;
 mod literals;
 mod look;
 mod scan;
+mod signs;
+mod stack;
 mod token;
 mod words;
 

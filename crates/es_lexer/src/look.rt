@@ -1,20 +1,28 @@
-ghost use Rattle.std.specs.Prelude.{◌≡◌, ◌+◌, ◌<◌, ◌≤◌, ◌^◌, ◌∷◌, false, length};
+ghost use Rattle.std.specs.Prelude.{◌≡◌, ℕ, ◌+◌, ◌<◌, ◌≤◌, ◌^◌, List, ◌∷◌, false, length};
 ghost use Rattle.std.specs.Bool.{OnTrue};
 ghost use Rattle.es_lexer.specs.Bytes.{begins_closer, is_part};
-ghost use Rattle.es_lexer.specs.Look.{run_end, is_in_line, word_look, string_stop, string_look, block_look, slash_look, look_at};
+ghost use Rattle.es_lexer.specs.Signs.{sign_at};
+ghost use Rattle.es_lexer.specs.Look.{run_end, is_in_line, word_look, string_stop, string_look, block_look, sign_look, divide_look, slash_look, end_look, look_at};
 
+use crate::bracket::{BracketKind, may_close, role_of};
 use crate::bytes::{First, first_of, is_line_end, is_part, is_plain};
 use crate::error::LexicalKind;
+use crate::goal::Goal;
+use crate::signs::{Sign, sign_at};
 use crate::token::{CommentKind, TokenKind};
-use crate::words::kind_of_word;
+use crate::words::kind_at;
 
 /// What stands at a place of a text. An end is the place behind it.
 #[derive(Clone, Copy, Debug, PartialEq, Eq)]
 pub enum Look {
     /// The text's end.
     End,
-    Blank,
-    LineEnd,
+    Blank {
+        end: usize,
+    },
+    LineEnd {
+        end: usize,
+    },
     Comment {
         kind: CommentKind,
         end: usize,
@@ -32,27 +40,60 @@ pub enum Look {
 
 /// What stands at `at`, at the front of `text`.
 #[tactic(auto, unfolding(crate::specs::Look::look_at, crate::specs::Look::class_look))]
-pub fn look_from(at: usize, text: &[u8]) -> Look
+pub fn look_from(goal: Goal, at: usize, text: &[u8]) -> Look
     requires { at + length text.now < 2 ^ 64 }
-    ensures { result ≡ look_at at text.now }
+    ensures { result ≡ look_at goal at text.now }
 {
     match text {
-        [] => Look::End,
+        [] => end_from(goal.bracket, at),
         [b, rest @ ..] => match first_of(*b) {
-            First::Blank => Look::Blank,
-            First::LineEnd => Look::LineEnd,
-            First::Start => word_from(at, text),
+            First::Blank => Look::Blank { end: at + 1 },
+            First::LineEnd => Look::LineEnd { end: at + 1 },
+            First::Start => word_from(goal.member, at, text),
             First::Quote => string_from(*b, at, at + 1, rest),
-            First::Sign => Look::Token {
-                kind: TokenKind::Semicolon,
-                end: at + 1,
-            },
-            First::Slash => slash_from(at, rest),
-            First::Other => Look::Fault {
-                kind: LexicalKind::InvalidChar,
-                at,
-            },
+            First::Slash => slash_from(goal, at, text, rest),
+            First::Other => sign_from(goal.bracket, at, text),
         },
+    }
+}
+
+#[tactic(auto, unfolding(crate::specs::Look::end_look))]
+fn end_from(bracket: Option<BracketKind>, at: usize) -> Look
+    ensures { result ≡ end_look bracket at }
+{
+    match bracket {
+        None => Look::End,
+        Some(_) => Look::Fault {
+            kind: LexicalKind::Unbalanced,
+            at,
+        },
+    }
+}
+
+/// The punctuator at the front of `text`, where this is the innermost open bracket.
+#[tactic(auto, unfolding(crate::specs::Look::sign_look))]
+fn sign_from(bracket: Option<BracketKind>, at: usize, text: &[u8]) -> Look
+    requires { at + length text.now < 2 ^ 64 }
+    ensures { result ≡ sign_look bracket at (sign_at text.now) }
+{
+    match sign_at(text) {
+        None => Look::Fault {
+            kind: LexicalKind::InvalidChar,
+            at,
+        },
+        Some(sign) => {
+            if may_close(bracket, role_of(sign.kind)) {
+                Look::Token {
+                    kind: sign.kind,
+                    end: at + sign.size,
+                }
+            } else {
+                Look::Fault {
+                    kind: LexicalKind::Unbalanced,
+                    at,
+                }
+            }
+        }
     }
 }
 
@@ -101,9 +142,10 @@ fn string_end(quote: u8, start: usize, at: usize, b: u8) -> Look
 }
 
 #[tactic(auto, unfolding(crate::specs::Look::slash_look))]
-fn slash_from(at: usize, rest: &[u8]) -> Look
-    requires { at + 1 + length rest.now < 2 ^ 64 }
-    ensures { result ≡ slash_look at rest.now }
+fn slash_from(goal: Goal, at: usize, whole: &[u8], rest: &[u8]) -> Look
+    requires room { at + 1 + length rest.now < 2 ^ 64 }
+    requires slash { whole.now ≡ 47 ∷ rest.now }
+    ensures { result ≡ slash_look goal at rest.now }
 {
     match rest {
         [b'/', text @ ..] => Look::Comment {
@@ -112,10 +154,23 @@ fn slash_from(at: usize, rest: &[u8]) -> Look
             line_end: false,
         },
         [b'*', text @ ..] => block_from(at, at + 2, text),
-        _ => Look::Fault {
+        _ => divide_from(goal, at, whole),
+    }
+}
+
+/// A `/` that begins no comment.
+#[tactic(auto, unfolding(crate::specs::Look::divide_look))]
+fn divide_from(goal: Goal, at: usize, whole: &[u8]) -> Look
+    requires { at + length whole.now < 2 ^ 64 }
+    ensures { (rest : List ℕ) → whole.now ≡ 47 ∷ rest → result ≡ divide_look goal at rest }
+{
+    if goal.regexp {
+        Look::Fault {
             kind: LexicalKind::InvalidChar,
             at,
-        },
+        }
+    } else {
+        sign_from(goal.bracket, at, whole)
     }
 }
 
@@ -158,13 +213,13 @@ fn is_closer(b: u8, after: &[u8]) -> bool
 }
 
 #[tactic(auto, unfolding(crate::specs::Look::word_look))]
-fn word_from(at: usize, text: &[u8]) -> Look
+fn word_from(member: bool, at: usize, text: &[u8]) -> Look
     requires { at + length text.now < 2 ^ 64 }
-    ensures { result ≡ word_look at text.now }
+    ensures { result ≡ word_look member at text.now }
 {
     let end = word_end_from(at, text);
     Look::Token {
-        kind: kind_of_word(&text[..end - at]),
+        kind: kind_at(member, &text[..end - at]),
         end,
     }
 }

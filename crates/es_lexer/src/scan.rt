@@ -1,4 +1,4 @@
-ghost use Rattle.std.specs.Prelude.{◌≡◌, ℕ, ◌+◌, ◌||◌, ◌&&◌, List, IfOk, slice_range};
+ghost use Rattle.std.specs.Prelude.{◌≡◌, ℕ, ◌+◌, List, [], IfOk, slice_range};
 ghost use Rattle.es_lexer.specs.declared.token.Token.{Token};
 ghost use Rattle.es_lexer.specs.declared.token.Comment.{Comment};
 ghost use Rattle.es_lexer.specs.declared.error.LexicalKind.{LexicalKind};
@@ -6,11 +6,14 @@ ghost use Rattle.es_lexer.specs.declared.error.LexicalError.{LexicalError};
 ghost use Rattle.es_lexer.specs.Reads.{Reads};
 ghost use Rattle.es_lexer.specs.Stops.{Stops};
 ghost use Rattle.es_lexer.specs.Answers.{GivesLists, GivesFault};
-ghost use Rattle.es_lexer.specs.Scan.{is_after, text_end, HasCommentText, comment_at};
+ghost use Rattle.es_lexer.specs.Goal.{state_of};
+ghost use Rattle.es_lexer.specs.Scan.{text_end, HasCommentText, comment_at};
 
 use crate::error::{LexError, LexicalError};
+use crate::goal::{State, comment_state, goal_in, line_state, token_state};
 use crate::look::{Look, look_from};
-use crate::token::{Comment, CommentKind, Lexed, Token};
+use crate::stack::{innermost, push_token};
+use crate::token::{Comment, CommentKind, Lexed};
 use base::{Items, Range, Text};
 use std::alloc::{AllocError, Global};
 
@@ -35,15 +38,16 @@ fn scan(alloc: Global, text: &str) -> Result<Lexed, LexError>
     let bytes = text.as_bytes();
     let mut tokens = Items::new(alloc);
     let mut comments = Items::new(alloc);
+    let mut brackets = Items::new(alloc);
     let mut at = 0;
-    let mut line = false;
+    let mut state = first_state();
     'pieces: loop {
-        match look_from(at, &bytes[at..]) {
+        match look_from(goal_in(state, innermost(&brackets)), at, &bytes[at..]) {
             Look::End => return Ok(Lexed { tokens, comments }),
-            Look::Blank => at += 1,
-            Look::LineEnd => {
-                line = is_after(&tokens);
-                at += 1;
+            Look::Blank { end } => at = end,
+            Look::LineEnd { end } => {
+                state = line_state(state);
+                at = end;
             }
             Look::Comment {
                 kind,
@@ -51,17 +55,13 @@ fn scan(alloc: Global, text: &str) -> Result<Lexed, LexError>
                 line_end,
             } => {
                 comments.push(comment_from(alloc, kind, text, at, end)?)?;
-                line = line_behind(line, &tokens, line_end);
+                state = comment_state(state, line_end);
                 at = end;
             }
             Look::Token { kind, end } => {
-                tokens.push(Token {
-                    kind,
-                    range: Range { start: at, end },
-                    line_before: line,
-                    partner: None,
-                })?;
-                line = false;
+                let range = Range { start: at, end };
+                let closed = push_token(&mut tokens, &mut brackets, state, kind, range)?;
+                state = token_state(state, kind, closed);
                 at = end;
             }
             Look::Fault { kind, at } => {
@@ -71,18 +71,19 @@ fn scan(alloc: Global, text: &str) -> Result<Lexed, LexError>
     }
 }
 
-/// Whether a token was read.
-fn is_after(tokens: &Items<Token>) -> bool
-    ensures { result ≡ is_after tokens.now }
+/// The state at the front of a text.
+#[tactic(auto, unfolding(crate::specs::Goal::state_of, crate::specs::Goal::after_for, crate::specs::Goal::headed, crate::specs::Goal::divides, crate::specs::Goal::member, crate::specs::Pieces::is_behind, crate::specs::Pieces::line_since))]
+fn first_state() -> State
+    ensures { result ≡ state_of [] }
 {
-    !tokens.is_empty()
-}
-
-/// Whether a line end stands behind the latest token, behind a comment in which one stands or not.
-fn line_behind(line: bool, tokens: &Items<Token>, line_end: bool) -> bool
-    ensures { result ≡ (line || is_after tokens.now && line_end) }
-{
-    line || is_after(tokens) && line_end
+    State {
+        any: false,
+        line: false,
+        divides: false,
+        member: false,
+        headed: false,
+        after_for: false,
+    }
 }
 
 /// The comment from `at` up to `end`.

@@ -1,12 +1,12 @@
 ghost use Rattle.std.specs.Prelude.{◌≡◌, length};
-ghost use Rattle.es_lexer.specs.Words.{kind_in, word_kind};
+ghost use Rattle.es_lexer.specs.Words.{kind_in, word_kind, is_keyword, kind_at};
 ghost use Rattle.es_lexer.specs.Words.{words_of_two, words_of_three, words_of_four, words_of_five, words_of_six, words_of_seven, words_of_eight, words_of_nine, words_of_ten, words_of_eleven};
 
 use crate::token::TokenKind;
 
 /// The kind of a word: its own where it is a keyword or a contextual word, else `Name`.
 #[tactic(auto, unfolding(crate::specs::Words::word_kind, crate::specs::Words::words_of, crate::specs::Words::kind_in))]
-pub fn kind_of_word(word: &[u8]) -> TokenKind
+fn kind_of_word(word: &[u8]) -> TokenKind
     ensures { result ≡ word_kind word.now }
 {
     match word.len() {
@@ -279,5 +279,67 @@ fn eleven_letters(word: &[u8]) -> TokenKind
         TokenKind::ConstructorWord
     } else {
         TokenKind::Name
+    }
+}
+
+/// Whether the kind is that of a keyword.
+#[tactic(auto, unfolding(crate::specs::Words::is_keyword))]
+fn is_keyword(kind: TokenKind) -> bool
+    ensures { result ≡ is_keyword kind }
+{
+    match kind {
+        TokenKind::AwaitWord => true,
+        TokenKind::BreakWord => true,
+        TokenKind::CaseWord => true,
+        TokenKind::CatchWord => true,
+        TokenKind::ClassWord => true,
+        TokenKind::ConstWord => true,
+        TokenKind::ContinueWord => true,
+        TokenKind::DebuggerWord => true,
+        TokenKind::DefaultWord => true,
+        TokenKind::DeleteWord => true,
+        TokenKind::DoWord => true,
+        TokenKind::ElseWord => true,
+        TokenKind::EnumWord => true,
+        TokenKind::ExportWord => true,
+        TokenKind::ExtendsWord => true,
+        TokenKind::FalseWord => true,
+        TokenKind::FinallyWord => true,
+        TokenKind::ForWord => true,
+        TokenKind::FunctionWord => true,
+        TokenKind::IfWord => true,
+        TokenKind::ImportWord => true,
+        TokenKind::InWord => true,
+        TokenKind::InstanceofWord => true,
+        TokenKind::LetWord => true,
+        TokenKind::NewWord => true,
+        TokenKind::NullWord => true,
+        TokenKind::ReturnWord => true,
+        TokenKind::SuperWord => true,
+        TokenKind::SwitchWord => true,
+        TokenKind::ThisWord => true,
+        TokenKind::ThrowWord => true,
+        TokenKind::TrueWord => true,
+        TokenKind::TryWord => true,
+        TokenKind::TypeofWord => true,
+        TokenKind::VarWord => true,
+        TokenKind::VoidWord => true,
+        TokenKind::WhileWord => true,
+        TokenKind::WithWord => true,
+        TokenKind::YieldWord => true,
+        _ => false,
+    }
+}
+
+/// The kind of a word, right after `.` or not: no keyword is one there.
+#[tactic(auto, unfolding(crate::specs::Words::kind_at))]
+pub fn kind_at(member: bool, word: &[u8]) -> TokenKind
+    ensures { result ≡ kind_at member word.now }
+{
+    let kind = kind_of_word(word);
+    if member && is_keyword(kind) {
+        TokenKind::Name
+    } else {
+        kind
     }
 }

@@ -64,13 +64,72 @@ fn texts_have_their_tokens(rt: HostRuntime) -> Result<(), Fail> {
         ("; 'a\nb'", "UnterminatedString at byte 2"),
         ("'a\\'", "InvalidEscape at byte 2"),
         ("a /* b", "UnterminatedComment at byte 2"),
-        ("a /", "InvalidChar at byte 2"),
+        ("/", "InvalidChar at byte 0"),
+        (
+            "a/b/c",
+            "Name 0-1, Slash 1-2, Name 2-3, Slash 3-4, Name 4-5, ",
+        ),
+        (
+            "(b)/c /= d",
+            "OpenParen 0-1, Name 1-2, CloseParen 2-3, Slash 3-4, Name 4-5, SlashEqual 6-8, Name 9-10, ",
+        ),
+        ("if (b) /c", "InvalidChar at byte 7"),
+        ("for await (b) /c", "InvalidChar at byte 14"),
+        (
+            "await (b) /c",
+            "AwaitWord 0-5, OpenParen 6-7, Name 7-8, CloseParen 8-9, Slash 10-11, Name 11-12, ",
+        ),
+        ("a! / b", "Name 0-1, Exclamation 1-2, Slash 3-4, Name 5-6, "),
+        ("a\n! / b", "InvalidChar at byte 4"),
+        ("return /b", "InvalidChar at byte 7"),
+        (
+            "x.if / y.as?.import",
+            "Name 0-1, Dot 1-2, Name 2-4, Slash 5-6, Name 7-8, Dot 8-9, AsWord 9-11, QuestionDot 11-13, Name 13-19, ",
+        ),
+        (
+            "=== !== **= <<= >>= ... ??= &&= ||= => ?.a ?:",
+            "EqualEqualEqual 0-3, NotEqualEqual 4-7, StarStarEqual 8-11, LessLessEqual 12-15, Greater 16-17, Greater 17-18, Equal 18-19, Ellipsis 20-23, QuestionQuestionEqual 24-27, AmpersandAmpersandEqual 28-31, BarBarEqual 32-35, Arrow 36-38, QuestionDot 39-41, Name 41-42, Question 43-44, Colon 44-45, ",
+        ),
+        ("(]", "Unbalanced at byte 1"),
+        ("(", "Unbalanced at byte 1"),
+        ("{[}", "Unbalanced at byte 2"),
+        (")", "Unbalanced at byte 0"),
+        ("({}", "Unbalanced at byte 3"),
         ("1a", "InvalidChar at byte 0"),
         ("a\u{e9}", "InvalidChar at byte 1"),
         ("'\u{e9}' // \u{20ac}", "Str 0-4, line 5-11 [ \u{20ac}], "),
     ];
     for (text, want) in rows {
         let got = described(rt.alloc(), text)?;
+        assert_eq!(rt; got.as_str(), want, "{text:?}");
+    }
+    Ok(())
+}
+
+/// The partner of each token, a dot for none.
+fn partners(alloc: Global, text: &str) -> Result<String, AllocError> {
+    let Ok(lexed) = lex_tokens(alloc, text) else {
+        return String::from_str(alloc, "fault");
+    };
+    let mut out = String::new(alloc);
+    for token in lexed.tokens.as_slice() {
+        match token.partner {
+            Some(partner) => out.push_str(format!(in alloc; "{partner} ")?.as_str())?,
+            None => out.push_str(". ")?,
+        }
+    }
+    Ok(out)
+}
+
+#[test]
+fn brackets_have_their_partners(rt: HostRuntime) -> Result<(), Fail> {
+    let rows = [
+        ("a(b[c]){}", ". 6 . 5 . 3 1 8 7 "),
+        ("(()())", "5 2 1 4 3 0 "),
+        ("{;}[]", "2 . 0 4 3 "),
+    ];
+    for (text, want) in rows {
+        let got = partners(rt.alloc(), text)?;
         assert_eq!(rt; got.as_str(), want, "{text:?}");
     }
     Ok(())

@@ -22,10 +22,13 @@ fn is_word_byte(b: u8) -> bool {
     b.is_ascii_alphanumeric() || b == b'$' || b == b'_'
 }
 
-/// The kind that the whole text spells.
-fn spelled(text: &[u8]) -> Option<TokenKind> {
+/// The kind that the whole text spells, where `/` divides or begins a regular expression.
+fn spelled(text: &[u8], divides: bool) -> Option<TokenKind> {
     match text {
         [b';'] => Some(TokenKind::Semicolon),
+        [b'*'] => Some(TokenKind::Star),
+        [b'*', b'*'] => Some(TokenKind::StarStar),
+        [b'/'] if divides => Some(TokenKind::Slash),
         [first, .., last] if (*first == b'"' || *first == b'\'') && first == last => {
             let inside = text.get(1..text.len() - 1)?;
             let plain = |b: &u8| *b != *first && *b != b'\\' && !is_line_end(*b);
@@ -48,7 +51,7 @@ fn is_block(text: &[u8]) -> bool {
 }
 
 /// The longest line comment, the shortest block comment, a gap, or the longest token.
-fn piece_at(text: &[u8]) -> Option<Piece> {
+fn piece_at(text: &[u8], divides: bool) -> Option<Piece> {
     if text.starts_with(b"//") {
         let end = text.iter().position(|b| is_line_end(*b));
         return Some(Piece::Line(end.unwrap_or(text.len())));
@@ -66,7 +69,7 @@ fn piece_at(text: &[u8]) -> Option<Piece> {
         return Some(Piece::Gap(1));
     }
     for size in (0..=text.len()).rev() {
-        if let Some(kind) = spelled(text.get(..size)?) {
+        if let Some(kind) = spelled(text.get(..size)?, divides) {
             return Some(Piece::Token(kind, size));
         }
     }
@@ -99,12 +102,13 @@ fn slow(alloc: Global, text: &str) -> Result<String, AllocError> {
     let mut rest = bytes;
     let mut behind = false;
     let mut line = false;
+    let mut divides = false;
     for _ in 0..=bytes.len() {
         if rest.is_empty() {
             break;
         }
         let at = bytes.len().saturating_sub(rest.len());
-        let Some(piece) = piece_at(rest) else {
+        let Some(piece) = piece_at(rest, divides) else {
             let (kind, more) = fault_at(rest);
             let place = at.saturating_add(more);
             return format!(in alloc; "{kind} at byte {place}");
@@ -132,7 +136,8 @@ fn slow(alloc: Global, text: &str) -> Result<String, AllocError> {
                 tokens.push_str(format!(in alloc; "{star}{kind:?} {at}-{end}, ")?.as_str())?;
             }
         }
-        if let Piece::Token(_, _) = piece {
+        if let Piece::Token(kind, _) = piece {
+            divides = kind == TokenKind::Name || kind == TokenKind::Str;
             behind = true;
             line = false;
         } else if behind && part.iter().any(|b| is_line_end(*b)) {

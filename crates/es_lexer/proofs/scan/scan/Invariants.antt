@@ -6,7 +6,7 @@ use Rattle.es_lexer.proofs.scan.scan.Given as goal
 abbrev pub invariant-pieces : goal.invariant-pieces
 invariant-pieces l = record {
   same : l.bytes ≡ l.text;
-  so_far : SoFar l.text l.at l.line l.tokens l.comments;
+  so_far : SoFar l.text l.at l.state l.brackets l.tokens l.comments;
 }
 
 abbrev pub decreases-pieces : goal.decreases-pieces

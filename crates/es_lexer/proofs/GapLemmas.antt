@@ -1,0 +1,234 @@
+-- What stands between tokens: whether a line end does, and that comments stand apart and all else is blanks and line ends.
+use Rattle.std.proofs.Common.{◌≡◌, ℕ, zero, suc, ◌+◌, ◌-◌, ◌<◌, ◌≤◌, Bool, true, false, ◌||◌, ◌&&◌, List, [], ◌∷◌, ◌++◌, length, take, drop, get_or, Some, slice_get, slice_range, refl, sym, ◌∙◌, ap, subst, arith, length-append, append_assoc, drop_at, take_at, ◌⊎◌, inl, inr}
+use Rattle.es_lexer.specs.declared.bytes.First.{First}
+use Rattle.es_lexer.specs.declared.bytes.First.TheVariants as first
+use Rattle.es_lexer.specs.declared.token.Token.{Token}
+use Rattle.es_lexer.specs.declared.token.Comment.{Comment}
+use Rattle.es_lexer.specs.declared.token.TokenKind.{TokenKind}
+use Rattle.es_lexer.specs.declared.token.CommentKind.{CommentKind}
+use Rattle.es_lexer.specs.declared.token.CommentKind.TheVariants.{Line, Block}
+use Rattle.es_lexer.specs.Bytes.{first_of, is_line_end, has_line_end}
+use Rattle.es_lexer.specs.Goal.{goal_of}
+use Rattle.es_lexer.specs.Pieces.{Piece, blank, line_end, comment, token, spelling, comment_spelling, text_of, place_of, is_behind, line_since}
+use Rattle.es_lexer.specs.Readable.{IsByte, IsPiece, ArePieces}
+use Rattle.es_lexer.specs.Reads.{tokens_of, comments_of, token_of, comment_of}
+use Rattle.es_lexer.proofs.ByteLemmas as byte
+use Rattle.es_lexer.proofs.PlaceLemmas.{shift, moved}
+
+-- ---- line ends in a row
+or_assoc : (u v w : Bool) → ((u || v) || w) ≡ (u || (v || w))
+or_assoc true v w = refl
+or_assoc false v w = refl
+
+or_false : (u : Bool) → (u || false) ≡ u
+or_false true = refl
+or_false false = refl
+
+or_true : (u : Bool) → (u || true) ≡ true
+or_true true = refl
+or_true false = refl
+
+pub lines-append : (s t : List ℕ) → has_line_end (s ++ t) ≡ (has_line_end s || has_line_end t)
+unfolding has_line_end
+lines-append [] t = refl
+lines-append (b ∷ s) t = ap (λ v. is_line_end b || v) (lines-append s t)
+    ∙ sym (or_assoc (is_line_end b) (has_line_end s) (has_line_end t))
+
+-- ---- the text behind the latest token
+blank_lines : (s : List ℕ) → IsByte first.Blank s → has_line_end s ≡ false
+unfolding has_line_end
+blank_lines s b = ap has_line_end b.whole ∙ rw (byte.blank_no_line b.byte b.is) refl
+
+line_lines : (s : List ℕ) → IsByte first.LineEnd s → has_line_end s ≡ true
+unfolding has_line_end
+line_lines s b = ap has_line_end b.whole ∙ rw (byte.line_end_is b.byte b.is) refl
+
+comment_lines : (kind : CommentKind) (text : List ℕ) → has_line_end (comment_spelling kind text) ≡ has_line_end text
+unfolding comment_spelling has_line_end
+comment_lines Line text = refl
+comment_lines Block text = lines-append text (42 ∷ 47 ∷ []) ∙ or_false (has_line_end text)
+
+-- whether a line end stands between the latest token and this place, which the text from `front` on shows
+pub record Between (x front gap : List ℕ) (before : List Piece) : Type 0 where
+  pub behind : is_behind before ≡ true
+  pub line : line_since before ≡ has_line_end gap
+  pub place : place_of before ≡ length front + length gap
+
+cut_gap : (x front gap rest : List ℕ) (n : ℕ) → x ≡ front ++ (gap ++ rest) → n ≡ length front + length gap
+    → slice_range x (length front) n ≡ gap
+cut_gap x front gap rest n w e =
+    ap (λ y. take (n - length front) (drop (length front) y)) w
+    ∙ (ap (take (n - length front)) (drop_at front (gap ++ rest) (length front) refl)
+    ∙ take_at gap rest (n - length front) (omega arith))
+
+more_gap : (x front gap s rest : List ℕ) → x ≡ front ++ (gap ++ (s ++ rest)) → x ≡ front ++ ((gap ++ s) ++ rest)
+more_gap x front gap s rest w = w ∙ ap (λ t. front ++ t) (sym (append_assoc gap s rest))
+
+gap_place : (before : List Piece) (front gap s : List ℕ) → place_of before ≡ length front + length gap
+    → place_of before + length s ≡ length front + length (gap ++ s)
+gap_place before front gap s e = omega (arith, length-append gap s)
+
+with_comment : (l b t g : Bool) → l ≡ g → b ≡ true → (l || b && t) ≡ (g || t)
+with_comment true true t true e h = refl
+with_comment true true t false e h = cc
+with_comment false true t true e h = cc
+with_comment false true t false e h = refl
+with_comment l false t g e h = cc
+
+without_comment : (l b t : Bool) → l ≡ false → b ≡ false → (l || b && t) ≡ false
+without_comment true b t e h = cc
+without_comment false true t e h = cc
+without_comment false false t e h = refl
+
+-- the first token among pieces
+pub line_of_first : (ps before : List Piece) (x front gap after : List ℕ) (u : Token)
+    → x ≡ front ++ (gap ++ (text_of ps ++ after)) → Between x front gap before → ArePieces before ps after
+    → slice_get (tokens_of before ps) 0 ≡ Some u
+    → u.line_before ≡ has_line_end (slice_range x (length front) u.range.start)
+unfolding tokens_of line_since is_behind
+line_of_first [] before x front gap after u w b h g = cc
+line_of_first (blank s ∷ ps) before x front gap after u w b h g =
+    line_of_first ps (blank s ∷ before) x front (gap ++ s) after u
+    (more_gap x front gap s (text_of ps ++ after) (w ∙ ap (λ t. front ++ (gap ++ t)) (append_assoc s (text_of ps) after)))
+    (record {
+      behind = b.behind;
+      line = b.line ∙ sym (lines-append gap s ∙ (ap (λ v. has_line_end gap || v) (blank_lines s h.0)
+          ∙ or_false (has_line_end gap)));
+      place = gap_place before front gap s b.place;
+    }) h.1 g
+line_of_first (line_end s ∷ ps) before x front gap after u w b h g =
+    line_of_first ps (line_end s ∷ before) x front (gap ++ s) after u
+    (more_gap x front gap s (text_of ps ++ after) (w ∙ ap (λ t. front ++ (gap ++ t)) (append_assoc s (text_of ps) after)))
+    (record {
+      behind = b.behind;
+      line = b.behind ∙ sym (lines-append gap s ∙ (ap (λ v. has_line_end gap || v) (line_lines s h.0)
+          ∙ or_true (has_line_end gap)));
+      place = gap_place before front gap s b.place;
+    }) h.1 g
+line_of_first (comment kind t ∷ ps) before x front gap after u w b h g =
+    line_of_first ps (comment kind t ∷ before) x front (gap ++ comment_spelling kind t) after u
+    (more_gap x front gap (comment_spelling kind t) (text_of ps ++ after)
+    (w ∙ ap (λ v. front ++ (gap ++ v)) (append_assoc (comment_spelling kind t) (text_of ps) after)))
+    (record {
+      behind = b.behind;
+      line = with_comment (line_since before) (is_behind before) (has_line_end t) (has_line_end gap) b.line b.behind
+          ∙ sym (lines-append gap (comment_spelling kind t)
+          ∙ ap (λ v. has_line_end gap || v) (comment_lines kind t));
+      place = gap_place before front gap (comment_spelling kind t) b.place;
+    }) h.1 g
+line_of_first (token k s ∷ ps) before x front gap after u w b h g =
+    let same : token_of before k s ps ≡ u = cc in
+    subst (λ (v : Token). v.line_before ≡ has_line_end (slice_range x (length front) v.range.start)) same
+    (b.line ∙ ap has_line_end (sym (cut_gap x front gap (text_of (token k s ∷ ps) ++ after) (place_of before) w b.place)))
+
+-- and each token behind another
+pub line_of_next : (ps before : List Piece) (x front after : List ℕ) (n : ℕ) (t u : Token)
+    → x ≡ front ++ (text_of ps ++ after) → place_of before ≡ length front → ArePieces before ps after
+    → slice_get (tokens_of before ps) n ≡ Some t → slice_get (tokens_of before ps) (suc n) ≡ Some u
+    → u.line_before ≡ has_line_end (slice_range x t.range.end u.range.start)
+unfolding tokens_of line_since is_behind has_line_end
+line_of_next [] before x front after n t u w p h f g = cc
+line_of_next (blank s ∷ ps) before x front after n t u w p h f g =
+    line_of_next ps (blank s ∷ before) x (front ++ s) after n t u (shift x front s (text_of ps) after w)
+    (moved (place_of before) front s p) h.1 f g
+line_of_next (line_end s ∷ ps) before x front after n t u w p h f g =
+    line_of_next ps (line_end s ∷ before) x (front ++ s) after n t u (shift x front s (text_of ps) after w)
+    (moved (place_of before) front s p) h.1 f g
+line_of_next (comment kind s ∷ ps) before x front after n t u w p h f g =
+    line_of_next ps (comment kind s ∷ before) x (front ++ comment_spelling kind s) after n t u
+    (shift x front (comment_spelling kind s) (text_of ps) after w)
+    (moved (place_of before) front (comment_spelling kind s) p) h.1 f g
+line_of_next (token k s ∷ ps) before x front after zero t u w p h f g =
+    let same : token_of before k s ps ≡ t = cc in
+    let end : place_of before + length s ≡ length (front ++ s) = moved (place_of before) front s p in
+    let next : u.line_before ≡ has_line_end (slice_range x (length (front ++ s)) u.range.start) =
+    line_of_first ps (token k s ∷ before) x (front ++ s) [] after u (shift x front s (text_of ps) after w)
+    (record { behind = refl; line = refl; place = omega arith }) h.1 g in
+    subst (λ (v : Token). u.line_before ≡ has_line_end (slice_range x v.range.end u.range.start)) same
+    (subst (λ (m : ℕ). u.line_before ≡ has_line_end (slice_range x m u.range.start)) (sym end) next)
+line_of_next (token k s ∷ ps) before x front after (suc n) t u w p h f g =
+    line_of_next ps (token k s ∷ before) x (front ++ s) after n t u
+    (shift x front s (text_of ps) after w) (moved (place_of before) front s p) h.1 f g
+
+-- none stands before the first token
+pub first_line : (ps before : List Piece) (u : Token) → is_behind before ≡ false → line_since before ≡ false
+    → slice_get (tokens_of before ps) 0 ≡ Some u → u.line_before ≡ false
+unfolding tokens_of line_since is_behind
+first_line [] before u b l g = cc
+first_line (blank s ∷ ps) before u b l g = first_line ps (blank s ∷ before) u b l g
+first_line (line_end s ∷ ps) before u b l g = first_line ps (line_end s ∷ before) u b b g
+first_line (comment kind t ∷ ps) before u b l g =
+    first_line ps (comment kind t ∷ before) u b (without_comment (line_since before) (is_behind before) (has_line_end t) l b) g
+first_line (token k s ∷ ps) before u b l g =
+    let same : token_of before k s ps ≡ u = cc in
+    subst (λ (v : Token). v.line_before ≡ false) same l
+
+-- ---- order
+-- a token stands behind what stands before it
+token_above : (ps before : List Piece) (n : ℕ) (t : Token) → slice_get (tokens_of before ps) n ≡ Some t
+    → place_of before ≤ t.range.start
+unfolding tokens_of
+token_above [] before n t g = cc
+token_above (blank s ∷ ps) before n t g =
+    let h : place_of before + length s ≤ t.range.start = token_above ps (blank s ∷ before) n t g in omega arith
+token_above (line_end s ∷ ps) before n t g =
+    let h : place_of before + length s ≤ t.range.start = token_above ps (line_end s ∷ before) n t g in omega arith
+token_above (comment kind s ∷ ps) before n t g =
+    let h : place_of before + length (comment_spelling kind s) ≤ t.range.start =
+    token_above ps (comment kind s ∷ before) n t g in omega arith
+token_above (token k s ∷ ps) before zero t g =
+    let same : token_of before k s ps ≡ t = cc in
+    subst (λ (v : Token). place_of before ≤ v.range.start) same (omega arith)
+token_above (token k s ∷ ps) before (suc n) t g =
+    let h : place_of before + length s ≤ t.range.start = token_above ps (token k s ∷ before) n t g in omega arith
+
+-- so does a comment
+comment_above : (ps before : List Piece) (n : ℕ) (c : Comment) → slice_get (comments_of before ps) n ≡ Some c
+    → place_of before ≤ c.range.start
+unfolding comments_of
+comment_above [] before n c g = cc
+comment_above (blank s ∷ ps) before n c g =
+    let h : place_of before + length s ≤ c.range.start = comment_above ps (blank s ∷ before) n c g in omega arith
+comment_above (line_end s ∷ ps) before n c g =
+    let h : place_of before + length s ≤ c.range.start = comment_above ps (line_end s ∷ before) n c g in omega arith
+comment_above (token k s ∷ ps) before n c g =
+    let h : place_of before + length s ≤ c.range.start = comment_above ps (token k s ∷ before) n c g in omega arith
+comment_above (comment kind s ∷ ps) before zero c g =
+    let same : comment_of before kind s ≡ c = cc in
+    subst (λ (v : Comment). place_of before ≤ v.range.start) same (omega arith)
+comment_above (comment kind s ∷ ps) before (suc n) c g =
+    let h : place_of before + length (comment_spelling kind s) ≤ c.range.start =
+    comment_above ps (comment kind s ∷ before) n c g in omega arith
+
+-- a comment ends before the next one begins
+pub comments_ascend : (ps before : List Piece) (n : ℕ) (c d : Comment)
+    → slice_get (comments_of before ps) n ≡ Some c → slice_get (comments_of before ps) (suc n) ≡ Some d
+    → c.range.end ≤ d.range.start
+unfolding comments_of
+comments_ascend [] before n c d f g = cc
+comments_ascend (blank s ∷ ps) before n c d f g = comments_ascend ps (blank s ∷ before) n c d f g
+comments_ascend (line_end s ∷ ps) before n c d f g = comments_ascend ps (line_end s ∷ before) n c d f g
+comments_ascend (token k s ∷ ps) before n c d f g = comments_ascend ps (token k s ∷ before) n c d f g
+comments_ascend (comment kind s ∷ ps) before zero c d f g =
+    let same : comment_of before kind s ≡ c = cc in
+    subst (λ (v : Comment). v.range.end ≤ d.range.start) same (comment_above ps (comment kind s ∷ before) 0 d g)
+comments_ascend (comment kind s ∷ ps) before (suc n) c d f g = comments_ascend ps (comment kind s ∷ before) n c d f g
+
+-- a token and a comment stand apart
+pub stand_apart : (ps before : List Piece) (m n : ℕ) (t : Token) (c : Comment)
+    → slice_get (tokens_of before ps) m ≡ Some t → slice_get (comments_of before ps) n ≡ Some c
+    → (t.range.end ≤ c.range.start) ⊎ (c.range.end ≤ t.range.start)
+unfolding tokens_of comments_of
+stand_apart [] before m n t c f g = cc
+stand_apart (blank s ∷ ps) before m n t c f g = stand_apart ps (blank s ∷ before) m n t c f g
+stand_apart (line_end s ∷ ps) before m n t c f g = stand_apart ps (line_end s ∷ before) m n t c f g
+stand_apart (token k s ∷ ps) before zero n t c f g =
+    let same : token_of before k s ps ≡ t = cc in
+    subst (λ (v : Token). (v.range.end ≤ c.range.start) ⊎ (c.range.end ≤ v.range.start)) same
+    (inl (comment_above ps (token k s ∷ before) n c g))
+stand_apart (token k s ∷ ps) before (suc m) n t c f g = stand_apart ps (token k s ∷ before) m n t c f g
+stand_apart (comment kind s ∷ ps) before m zero t c f g =
+    let same : comment_of before kind s ≡ c = cc in
+    subst (λ (v : Comment). (t.range.end ≤ v.range.start) ⊎ (v.range.end ≤ t.range.start)) same
+    (inr (token_above ps (comment kind s ∷ before) m t f))
+stand_apart (comment kind s ∷ ps) before m (suc n) t c f g = stand_apart ps (comment kind s ∷ before) m n t c f g

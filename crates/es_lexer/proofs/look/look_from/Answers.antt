@@ -1,0 +1,6 @@
+-- The text begins with the byte of which the class was found.
+use Rattle.es_lexer.proofs.ByteLemmas.{slash_text}
+use Rattle.es_lexer.proofs.look.look_from.Goals as goal
+
+pub slash_from-requires-clause-slash : goal.slash_from-requires-clause-slash
+slash_from-requires-clause-slash c = slash_text c.args.text.now c.in-len1-up.len_at_least c.in-Slash.ensures

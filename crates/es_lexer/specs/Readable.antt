@@ -1,0 +1,54 @@
+-- Which pieces may stand at a place (ECMA-262, "Lexical Grammar").
+use Rattle.std.specs.Prelude.{◌≡◌, ℕ, true, false, List, [], ◌∷◌, ◌++◌}
+use Rattle.std.specs.List.{AllByRecursion}
+use Rattle.es_lexer.specs.declared.bytes.First.{First}
+use Rattle.es_lexer.specs.declared.bytes.First.TheVariants.{Blank, LineEnd}
+use Rattle.es_lexer.specs.declared.goal.Goal.{Goal}
+use Rattle.es_lexer.specs.declared.token.TokenKind.{TokenKind}
+use Rattle.es_lexer.specs.declared.token.CommentKind.{CommentKind}
+use Rattle.es_lexer.specs.declared.token.CommentKind.TheVariants.{Line, Block}
+use Rattle.es_lexer.specs.Bytes.{first_of, is_line_end, begins_comment, has_closer}
+use Rattle.es_lexer.specs.Spelling.{Spells}
+use Rattle.es_lexer.specs.Goal.{goal_of, allows}
+use Rattle.es_lexer.specs.Pieces.{Piece, blank, line_end, comment, token, text_of}
+
+-- no token that may stand here has a longer spelling
+abbrev pub IsLongest : Goal → List ℕ → List ℕ → Type 0
+IsLongest goal s after = (k : TokenKind) (more rest : List ℕ)
+    → after ≡ more ++ rest → Spells goal k (s ++ more) → allows goal k rest ≡ true → more ≡ []
+
+-- a token: the longest spelling at its place, where no comment begins
+pub record IsToken (goal : Goal) (k : TokenKind) (s after : List ℕ) : Type 0 where
+  pub spells : Spells goal k s
+  pub allowed : allows goal k after ≡ true
+  pub longest : IsLongest goal s after
+  pub no_comment : begins_comment (s ++ after) ≡ false
+
+-- the text ends here, or a line end stands here
+abbrev pub EndsLine : List ℕ → Type 0
+EndsLine [] = Unit {0}
+EndsLine (b ∷ rest) = is_line_end b ≡ true
+
+-- a comment: up to the line's end, or through the first closer ("Comments")
+abbrev pub IsComment : CommentKind → List ℕ → List ℕ → Type 0
+IsComment Line text after = AllByRecursion (λ b. is_line_end b ≡ false) text × EndsLine after
+IsComment Block text after = has_closer (text ++ 42 ∷ []) ≡ false
+
+-- one byte of this class
+pub record IsByte (class : First) (s : List ℕ) : Type 0 where
+  pub byte : ℕ
+  pub whole : s ≡ byte ∷ []
+  pub is : first_of byte ≡ class
+
+-- the piece may stand before this text
+abbrev pub IsPiece : Goal → Piece → List ℕ → Type 0
+IsPiece goal (blank s) after = IsByte Blank s
+IsPiece goal (line_end s) after = IsByte LineEnd s
+IsPiece goal (comment kind text) after = IsComment kind text after
+IsPiece goal (token k s) after = IsToken goal k s after
+
+-- each piece may stand where it does, behind the pieces `before` and before the text `after`
+abbrev pub ArePieces : List Piece → List Piece → List ℕ → Type 0
+ArePieces before [] after = Unit {0}
+ArePieces before (p ∷ pieces) after =
+    IsPiece (goal_of before) p (text_of pieces ++ after) × ArePieces (p ∷ before) pieces after
