@@ -144,7 +144,10 @@ class Pack(unittest.TestCase):
             "time.monotonic = lambda: float(next(ticks))\n"
             f"pack.main([{self.folder!r}, 'main.ts'])\n"
         )
-        ours, theirs = pty.openpty()
+        try:
+            ours, theirs = pty.openpty()
+        except OSError:
+            self.skipTest("this system gives no terminal")
         done = subprocess.run(["python3", "-c", script], stdout=subprocess.DEVNULL, stderr=theirs)
         os.close(theirs)
         told = os.read(ours, 4096).decode()
