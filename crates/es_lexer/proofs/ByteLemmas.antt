@@ -1,8 +1,8 @@
 -- What the class of a first byte says of the byte.
-use Rattle.std.proofs.Common.{◌≡◌, ℕ, ◌-◌, ◌≤◌, Bool, true, false, ◌==◌, ◌||◌, not, List, [], ◌∷◌, length, take, drop, get_or, refl, sym, ◌∙◌, ap, arith, eqb-true, eq-eqb}
+use Rattle.std.proofs.Common.{◌≡◌, ℕ, ◌-◌, ◌≤◌, Bool, true, false, ◌==◌, ◌||◌, not, List, [], ◌∷◌, length, take, drop, get_or, if◌then◌else◌, refl, sym, ◌∙◌, ap, arith, eqb-true, eq-eqb}
 use Rattle.std.proofs.lemmas.List.{take_rest}
 use Rattle.es_lexer.specs.declared.bytes.First.{First}
-use Rattle.es_lexer.specs.declared.bytes.First.TheVariants.{Blank, LineEnd, Start, Quote, Slash, Other}
+use Rattle.es_lexer.specs.declared.bytes.First.TheVariants.{Blank, LineEnd, Start, Quote, Slash, Backtick, Brace, Hash, Other}
 use Rattle.es_lexer.specs.Bytes.{is_blank, is_line_end, is_start, is_part, is_quote, is_plain, first_of, begins_comment}
 
 -- the tests that a byte of a class passes
@@ -12,21 +12,35 @@ pub data Classed (b : ℕ) (c : First) : Type 0 where
   start : is_start b ≡ true → c ≡ Start → Classed b c
   quote : is_line_end b ≡ false → is_quote b ≡ true → c ≡ Quote → Classed b c
   slash : b ≡ 47 → c ≡ Slash → Classed b c
+  backtick : b ≡ 96 → c ≡ Backtick → Classed b c
+  brace : b ≡ 125 → c ≡ Brace → Classed b c
+  hash : b ≡ 35 → c ≡ Hash → Classed b c
   other : c ≡ Other → Classed b c
 
+rest_of : ℕ → First
+rest_of b = if b == 96 then Backtick else (if b == 125 then Brace else (if b == 35 then Hash else Other))
+
+rest_classed : (b : ℕ) (u v w : Bool) → (b == 96) ≡ u → (b == 125) ≡ v → (b == 35) ≡ w → Classed b (rest_of b)
+unfolding rest_of
+rest_classed b true v w p q r = backtick (eqb-true _ _ p) (rw p refl)
+rest_classed b false true w p q r = brace (eqb-true _ _ q) (rw (p, q) refl)
+rest_classed b false false true p q r = hash (eqb-true _ _ r) (rw (p, q, r) refl)
+rest_classed b false false false p q r = other (rw (p, q, r) refl)
+
 classed_by : (b : ℕ) (u v w x z : Bool) → is_blank b ≡ u → is_line_end b ≡ v → is_start b ≡ w → is_quote b ≡ x
-    → (b == 47) ≡ z → Classed b (first_of b)
-unfolding first_of
-classed_by b true v w x z p q r s o = blank p (rw p refl)
-classed_by b false true w x z p q r s o = line_end q (rw (p, q) refl)
-classed_by b false false true x z p q r s o = start r (rw (p, q, r) refl)
-classed_by b false false false true z p q r s o = quote q s (rw (p, q, r, s) refl)
-classed_by b false false false false true p q r s o = slash (eqb-true _ _ o) (rw (p, q, r, s, o) refl)
-classed_by b false false false false false p q r s o = other (rw (p, q, r, s, o) refl)
+    → (b == 47) ≡ z → Classed b (rest_of b) → Classed b (first_of b)
+unfolding first_of rest_of
+classed_by b true v w x z p q r s o c = blank p (rw p refl)
+classed_by b false true w x z p q r s o c = line_end q (rw (p, q) refl)
+classed_by b false false true x z p q r s o c = start r (rw (p, q, r) refl)
+classed_by b false false false true z p q r s o c = quote q s (rw (p, q, r, s) refl)
+classed_by b false false false false true p q r s o c = slash (eqb-true _ _ o) (rw (p, q, r, s, o) refl)
+classed_by b false false false false false p q r s o c = rw (p, q, r, s, o) c
 
 pub classed : (b : ℕ) → Classed b (first_of b)
 classed b = classed_by b (is_blank b) (is_line_end b) (is_start b) (is_quote b)
     (b == 47) refl refl refl refl refl
+    (rest_classed b (b == 96) (b == 125) (b == 35) refl refl refl)
 
 -- a start goes on in its word
 pub start_is_part : (b : ℕ) → first_of b ≡ Start → is_part b ≡ true
@@ -36,6 +50,9 @@ start_is_part b h = elim (classed b) [
   | start s e ↦ rw s refl
   | quote n q e ↦ cc
   | slash s e ↦ cc
+  | backtick s e ↦ cc
+  | brace s e ↦ cc
+  | hash s e ↦ cc
   | other e ↦ cc
 ]
 
@@ -46,6 +63,9 @@ slash_is b h = elim (classed b) [
   | start s e ↦ cc
   | quote n q e ↦ cc
   | slash s e ↦ s
+  | backtick s e ↦ cc
+  | brace s e ↦ cc
+  | hash s e ↦ cc
   | other e ↦ cc
 ]
 
@@ -56,6 +76,9 @@ quote_ends_no_line b h = elim (classed b) [
   | start s e ↦ cc
   | quote n q e ↦ n
   | slash s e ↦ cc
+  | backtick s e ↦ cc
+  | brace s e ↦ cc
+  | hash s e ↦ cc
   | other e ↦ cc
 ]
 
@@ -136,6 +159,9 @@ blank_no_line b h = elim (classed b) [
   | start s e ↦ cc
   | quote n q e ↦ cc
   | slash s e ↦ cc
+  | backtick s e ↦ cc
+  | brace s e ↦ cc
+  | hash s e ↦ cc
   | other e ↦ cc
 ]
 
@@ -146,5 +172,65 @@ line_end_is b h = elim (classed b) [
   | start s e ↦ cc
   | quote n q e ↦ cc
   | slash s e ↦ cc
+  | backtick s e ↦ cc
+  | brace s e ↦ cc
+  | hash s e ↦ cc
   | other e ↦ cc
 ]
+
+pub backtick_is : (b : ℕ) → first_of b ≡ Backtick → b ≡ 96
+backtick_is b h = elim (classed b) [
+  | blank p e ↦ cc
+  | line_end p e ↦ cc
+  | start s e ↦ cc
+  | quote n q e ↦ cc
+  | slash s e ↦ cc
+  | backtick s e ↦ s
+  | brace s e ↦ cc
+  | hash s e ↦ cc
+  | other e ↦ cc
+]
+
+pub backtick_class : first_of 96 ≡ Backtick
+unfolding first_of
+backtick_class = refl
+
+pub brace_is : (b : ℕ) → first_of b ≡ Brace → b ≡ 125
+brace_is b h = elim (classed b) [
+  | blank p e ↦ cc
+  | line_end p e ↦ cc
+  | start s e ↦ cc
+  | quote n q e ↦ cc
+  | slash s e ↦ cc
+  | backtick s e ↦ cc
+  | brace s e ↦ s
+  | hash s e ↦ cc
+  | other e ↦ cc
+]
+
+pub brace_class : first_of 125 ≡ Brace
+unfolding first_of
+brace_class = refl
+
+pub hash_is : (b : ℕ) → first_of b ≡ Hash → b ≡ 35
+hash_is b h = elim (classed b) [
+  | blank p e ↦ cc
+  | line_end p e ↦ cc
+  | start s e ↦ cc
+  | quote n q e ↦ cc
+  | slash s e ↦ cc
+  | backtick s e ↦ cc
+  | brace s e ↦ cc
+  | hash s e ↦ s
+  | other e ↦ cc
+]
+
+pub hash_class : first_of 35 ≡ Hash
+unfolding first_of
+hash_class = refl
+
+pub brace_text : (text : List ℕ) → 1 ≤ length text → Brace ≡ first_of (get_or text 0 0)
+    → text ≡ 125 ∷ take (length text - 1) (drop 1 text)
+brace_text [] l e = absurd (omega arith)
+brace_text (b ∷ rest) l e =
+    ap (λ c. c ∷ rest) (brace_is b (sym e)) ∙ ap (λ t. 125 ∷ t) (sym (take_rest (b ∷ rest) 1))

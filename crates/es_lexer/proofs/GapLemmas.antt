@@ -1,16 +1,13 @@
 -- What stands between tokens: whether a line end does, and that comments stand apart and all else is blanks and line ends.
-use Rattle.std.proofs.Common.{◌≡◌, ℕ, zero, suc, ◌+◌, ◌-◌, ◌<◌, ◌≤◌, Bool, true, false, ◌||◌, ◌&&◌, List, [], ◌∷◌, ◌++◌, length, take, drop, get_or, Some, slice_get, slice_range, refl, sym, ◌∙◌, ap, subst, arith, length-append, append_assoc, drop_at, take_at, ◌⊎◌, inl, inr}
-use Rattle.es_lexer.specs.declared.bytes.First.{First}
+use Rattle.std.proofs.Common.{◌≡◌, ℕ, zero, suc, ◌+◌, ◌-◌, ◌≤◌, Bool, true, false, ◌||◌, ◌&&◌, List, [], ◌∷◌, ◌++◌, length, take, drop, Some, slice_get, slice_range, refl, sym, ◌∙◌, ap, subst, arith, length-append, append_assoc, drop_at, take_at, ◌⊎◌, inl, inr}
 use Rattle.es_lexer.specs.declared.bytes.First.TheVariants as first
 use Rattle.es_lexer.specs.declared.token.Token.{Token}
 use Rattle.es_lexer.specs.declared.token.Comment.{Comment}
-use Rattle.es_lexer.specs.declared.token.TokenKind.{TokenKind}
 use Rattle.es_lexer.specs.declared.token.CommentKind.{CommentKind}
 use Rattle.es_lexer.specs.declared.token.CommentKind.TheVariants.{Line, Block}
-use Rattle.es_lexer.specs.Bytes.{first_of, is_line_end, has_line_end}
-use Rattle.es_lexer.specs.Goal.{goal_of}
-use Rattle.es_lexer.specs.Pieces.{Piece, blank, line_end, comment, token, spelling, comment_spelling, text_of, place_of, is_behind, line_since}
-use Rattle.es_lexer.specs.Readable.{IsByte, IsPiece, ArePieces}
+use Rattle.es_lexer.specs.Bytes.{is_line_end, has_line_end}
+use Rattle.es_lexer.specs.Pieces.{Piece, blank, line_end, comment, token, comment_spelling, text_of, place_of, is_behind, line_since}
+use Rattle.es_lexer.specs.Readable.{IsByte, ArePieces}
 use Rattle.es_lexer.specs.Reads.{tokens_of, comments_of, token_of, comment_of}
 use Rattle.es_lexer.proofs.ByteLemmas as byte
 use Rattle.es_lexer.proofs.PlaceLemmas.{shift, moved}

@@ -1,5 +1,5 @@
 -- A look finds a piece or a fault, and each piece and each fault is what a look at it finds.
-use Rattle.std.proofs.Common.{◌≡◌, ℕ, ◌+◌, ◌-◌, ◌<◌, ◌≤◌, Bool, true, false, not, ◌==◌, ◌||◌, ◌&&◌, List, [], ◌∷◌, ◌++◌, length, take, Option, Some, None, refl, sym, ◌∙◌, ap, subst, arith, take_at, length-append, append_assoc, eqb-true, true≢false, if◌then◌else◌, ◌⊎◌, inl, inr}
+use Rattle.std.proofs.Common.{◌≡◌, ℕ, ◌+◌, ◌-◌, ◌≤◌, Bool, true, false, ◌==◌, ◌&&◌, List, [], ◌∷◌, ◌++◌, length, take, Option, Some, None, refl, sym, ◌∙◌, ap, subst, arith, take_at, length-append, append_assoc, eqb-true, true≢false, if◌then◌else◌, ◌⊎◌, inl, inr}
 use Rattle.std.proofs.lemmas.List.{nil_from_length}
 use Rattle.es_lexer.specs.declared.bracket.BracketKind.{BracketKind}
 use Rattle.es_lexer.specs.declared.bracket.Role.{Role}
@@ -15,19 +15,24 @@ use Rattle.es_lexer.specs.declared.token.TokenKind.TheVariants as kind
 use Rattle.es_lexer.specs.declared.token.CommentKind.{CommentKind}
 use Rattle.es_lexer.specs.declared.token.CommentKind.TheVariants.{Line, Block}
 use Rattle.es_lexer.specs.declared.error.LexicalKind.{LexicalKind}
-use Rattle.es_lexer.specs.declared.error.LexicalKind.TheVariants.{UnterminatedString, UnterminatedComment, InvalidEscape, InvalidChar, Unbalanced}
+use Rattle.es_lexer.specs.declared.error.LexicalKind.TheVariants.{UnterminatedString, UnterminatedComment, UnterminatedTemplate, InvalidEscape, InvalidChar, Unbalanced}
 use Rattle.es_lexer.specs.Bytes.{first_of, is_part, begins_comment, has_closer, has_line_end}
-use Rattle.es_lexer.specs.Brackets.{role_of, may_close}
+use Rattle.es_lexer.specs.declared.bracket.BracketKind.TheVariants.{Round, Square, Curly, Template}
+use Rattle.es_lexer.specs.Brackets.{role_of, is_open, may_close}
 use Rattle.es_lexer.specs.Signs.{sign_kind, sign_at, sized}
 use Rattle.es_lexer.specs.Words.{kind_at}
 use Rattle.es_lexer.specs.Literals.{IsStrLiteral, ArePlain}
-use Rattle.es_lexer.specs.Spelling.{Spells, word, str, sign, AreParts, IsWord}
+use Rattle.es_lexer.specs.Spelling.{Spells, word, str, sign, private_name, template, AreParts, IsWord, template_start, template_stop, template_kind}
+use Rattle.es_spelling.specs.declared.template.TemplateEnd.{TemplateEnd}
+use Rattle.es_spelling.specs.declared.template.TemplateEnd.TheVariants.{Closes}
+use Rattle.es_spelling.specs.Templates.{template_end, IsTemplateText, IsUnclosed}
+use Rattle.es_spelling.proofs.TemplateLemmas as text
 use Rattle.es_lexer.specs.Goal.{allows, may_stand, begins_digit}
 use Rattle.es_lexer.specs.Pieces.{Piece, blank, line_end, comment, token, spelling, comment_spelling}
 use Rattle.es_lexer.specs.Readable.{IsLongest, IsToken, IsComment, IsByte, IsPiece}
-use Rattle.es_lexer.specs.Stops.{Stuck, open_string, bad_escape, open_comment, no_token, lone_slash, wrong_closer, open_bracket}
-use Rattle.es_lexer.specs.Look.{run_end, is_in_line, word_look, string_look, sign_look, divide_look, slash_look, class_look, end_look, look_at}
-use Rattle.es_lexer.proofs.ByteLemmas.{start_is_part, slash_is, slash_class, no_comment_at, apart}
+use Rattle.es_lexer.specs.Stops.{Stuck, open_string, bad_escape, open_comment, no_token, lone_slash, wrong_closer, lone_hash, open_template, open_bracket, BeginsNoName, BeginsSign}
+use Rattle.es_lexer.specs.Look.{run_end, is_in_line, word_look, string_look, sign_look, divide_look, slash_look, template_look, brace_look, name_look, hash_look, class_look, end_look, look_at}
+use Rattle.es_lexer.proofs.ByteLemmas.{start_is_part, slash_is, slash_class, backtick_is, backtick_class, brace_is, brace_class, hash_is, hash_class, no_comment_at}
 use Rattle.es_lexer.proofs.RunLemmas.{EndsRun, Run, run, run_end-append, run_end-stop}
 use Rattle.es_lexer.proofs.StringLemmas.{StringFound, closed, escape, unclosed, string_finds, string_closes, string_escapes, string_runs_out}
 use Rattle.es_lexer.proofs.CommentLemmas as remark
@@ -118,6 +123,46 @@ divides_not : (goal : Goal) (at : ℕ) (rest : List ℕ) → goal.regexp ≡ tru
 unfolding divide_look
 divides_not goal at rest e = rw e refl
 
+-- where a closing brace may stand, no template goes on
+curly_no_template : (bracket : Option BracketKind) (r : Role) → r ≡ Closes Curly → may_close bracket r ≡ true
+    → is_open bracket Template ≡ false
+unfolding may_close is_open
+curly_no_template bracket (Opens k) e c = cc
+curly_no_template bracket Continues e c = cc
+curly_no_template bracket Plain e c = cc
+curly_no_template None (Closes Round) e c = cc
+curly_no_template None (Closes Square) e c = cc
+curly_no_template None (Closes Curly) e c = refl
+curly_no_template None (Closes Template) e c = cc
+curly_no_template (Some Round) (Closes k) e c = refl
+curly_no_template (Some Square) (Closes k) e c = refl
+curly_no_template (Some Curly) (Closes k) e c = refl
+curly_no_template (Some Template) (Closes Round) e c = cc
+curly_no_template (Some Template) (Closes Square) e c = cc
+curly_no_template (Some Template) (Closes Curly) e c = cc
+curly_no_template (Some Template) (Closes Template) e c = cc
+
+brace_shut : (goal : Goal) (at : ℕ) (rest : List ℕ) → is_open goal.bracket Template ≡ false
+    → brace_look goal at rest ≡ sign_look goal.bracket at (sign_at (125 ∷ rest))
+unfolding brace_look
+brace_shut goal at rest e = rw e refl
+
+brace_open : (goal : Goal) (at : ℕ) (rest : List ℕ) → is_open goal.bracket Template ≡ true
+    → brace_look goal at rest ≡ template_look false at (template_end (at + 1) rest)
+unfolding brace_look
+brace_open goal at rest e = rw e refl
+
+brace_looks : (goal : Goal) (at b : ℕ) (rest : List ℕ) → first_of b ≡ first.Brace
+    → look_at goal at (b ∷ rest) ≡ brace_look goal at rest
+unfolding look_at class_look
+brace_looks goal at b rest f = rw f refl
+
+brace_same : (goal : Goal) (at b : ℕ) (rest : List ℕ) → first_of b ≡ first.Brace → is_open goal.bracket Template ≡ false
+    → look_at goal at (b ∷ rest) ≡ sign_look goal.bracket at (sign_at (b ∷ rest))
+brace_same goal at b rest f e =
+    brace_looks goal at b rest f ∙ (brace_shut goal at rest e
+    ∙ ap (λ c. sign_look goal.bracket at (sign_at (c ∷ rest))) (sym (brace_is b f)))
+
 slash_same : (goal : Goal) (at b : ℕ) (rest : List ℕ) → first_of b ≡ first.Slash → begins_comment (b ∷ rest) ≡ false
     → goal.regexp ≡ false → look_at goal at (b ∷ rest) ≡ sign_look goal.bracket at (sign_at (b ∷ rest))
 unfolding look_at class_look
@@ -151,6 +196,20 @@ sign_reaches_class goal at b rest after k first.Other f i w a n =
     both_right (may_close goal.bracket (role_of k)) (may_stand goal.regexp k after) a in
     rw f (sign_reaches_by goal.bracket at k (length (b ∷ rest)) _
     (mark.sign_reaches (b ∷ rest) after k w (chain_may goal.regexp k after stand)) close)
+sign_reaches_class goal at b rest after k first.Brace f i w a n =
+    let e : b ≡ 125 = brace_is b f in
+    let close : may_close goal.bracket (role_of k) ≡ true =
+    both_left (may_close goal.bracket (role_of k)) (may_stand goal.regexp k after) a in
+    let stand : may_stand goal.regexp k after ≡ true =
+    both_right (may_close goal.bracket (role_of k)) (may_stand goal.regexp k after) a in
+    let shut : is_open goal.bracket Template ≡ false =
+    curly_no_template goal.bracket (role_of k) (mark.brace_role b rest k w e) close in
+    let found : mark.SignReached k (length (b ∷ rest)) (sign_at ((b ∷ rest) ++ after)) =
+    mark.sign_reaches (b ∷ rest) after k w (chain_may goal.regexp k after stand) in
+    subst (Reached k (at + length (b ∷ rest))) (sym (brace_same goal at b (rest ++ after) f shut))
+    (sign_reaches_by goal.bracket at k (length (b ∷ rest)) _ found close)
+sign_reaches_class goal at b rest after k first.Backtick f i w a n = cc
+sign_reaches_class goal at b rest after k first.Hash f i w a n = cc
 sign_reaches_class goal at b rest after k first.Blank f i w a n = cc
 sign_reaches_class goal at b rest after k first.LineEnd f i w a n = cc
 sign_reaches_class goal at b rest after k first.Start f i w a n = cc
@@ -178,6 +237,73 @@ string_reaches goal at k s after l e =
     subst (λ (t : List ℕ). look_at goal at (t ++ after) ≡ look.Token kind.Str (at + length t)) (sym l.whole) found in
     reached kind.Str (at + length s) here (omega arith) (λ q. e)
 
+-- a template, or what goes on in one
+tick_looks : (goal : Goal) (at b : ℕ) (rest : List ℕ) → first_of b ≡ first.Backtick
+    → look_at goal at (b ∷ rest) ≡ template_look true at (template_end (at + 1) rest)
+unfolding look_at class_look
+tick_looks goal at b rest f = rw f refl
+
+hash_looks : (goal : Goal) (at b : ℕ) (rest : List ℕ) → first_of b ≡ first.Hash
+    → look_at goal at (b ∷ rest) ≡ hash_look at rest
+unfolding look_at class_look
+hash_looks goal at b rest f = rw f refl
+
+template_ends : (opens sub : Bool) (at : ℕ) (body after : List ℕ) → IsTemplateText (template_stop sub) body
+    → template_look opens at (template_end (at + 1) (body ++ after))
+    ≡ look.Token (template_kind opens sub) (at + 1 + length body)
+unfolding template_look template_stop
+template_ends opens true at body after t = ap (template_look opens at) (text.substitutes_found (at + 1) body after t)
+template_ends opens false at body after t = ap (template_look opens at) (text.closes_found (at + 1) body after t)
+
+goes_on : (bracket : Option BracketKind) (sub : Bool) (regexp : Bool) (after : List ℕ)
+    → (may_close bracket (role_of (template_kind false sub)) && may_stand regexp (template_kind false sub) after) ≡ true
+    → is_open bracket Template ≡ true
+unfolding template_kind role_of may_close
+goes_on bracket true regexp after e = both_left (is_open bracket Template) _ e
+goes_on bracket false regexp after e = both_left (is_open bracket Template) _ e
+
+template_looks : (goal : Goal) (at : ℕ) (opens sub : Bool) (rest after : List ℕ)
+    → allows goal (template_kind opens sub) after ≡ true
+    → look_at goal at (template_start opens ∷ rest) ≡ template_look opens at (template_end (at + 1) rest)
+unfolding template_start allows
+template_looks goal at true sub rest after a = tick_looks goal at 96 rest backtick_class
+template_looks goal at false sub rest after a =
+    brace_looks goal at 125 rest brace_class
+    ∙ brace_open goal at rest (goes_on goal.bracket sub goal.regexp after a)
+
+template_reaches : (goal : Goal) (at : ℕ) (k : TokenKind) (s after : List ℕ) (opens sub : Bool) (body : List ℕ)
+    → IsTemplateText (template_stop sub) body → s ≡ template_start opens ∷ body → k ≡ template_kind opens sub
+    → allows goal k after ≡ true → Reached k (at + length s) (look_at goal at (s ++ after))
+template_reaches goal at k s after opens sub body t w e a =
+    let al : allows goal (template_kind opens sub) after ≡ true =
+    subst (λ (j : TokenKind). allows goal j after ≡ true) e a in
+    let found : look_at goal at (template_start opens ∷ (body ++ after))
+    ≡ look.Token (template_kind opens sub) (at + 1 + length body) =
+    template_looks goal at opens sub (body ++ after) after al ∙ template_ends opens sub at body after t in
+    let size : length s ≡ length (template_start opens ∷ body) = ap length w in
+    reached (template_kind opens sub) (at + 1 + length body)
+    (ap (λ v. look_at goal at (v ++ after)) w ∙ found) (omega arith) (λ q. e)
+
+-- a private name
+hash_ends : (at b : ℕ) (rest : List ℕ) → first_of b ≡ first.Start
+    → hash_look at (b ∷ rest) ≡ look.Token kind.PrivateName (run_end is_part (at + 2) rest)
+unfolding hash_look name_look
+hash_ends at b rest f = rw f refl
+
+private_reaches : (goal : Goal) (at : ℕ) (k : TokenKind) (s after name : List ℕ) → (w : IsWord name) → s ≡ 35 ∷ name
+    → k ≡ kind.PrivateName → Run is_part (at + 2 + length w.parts) after
+    → Reached k (at + length s) (look_at goal at (s ++ after))
+private_reaches goal at k s after name w q e r =
+    let whole : s ≡ 35 ∷ w.first ∷ w.parts = q ∙ ap (λ t. 35 ∷ t) w.whole in
+    let size : length s ≡ length (35 ∷ w.first ∷ w.parts) = ap length whole in
+    let end : run_end is_part (at + 2) (w.parts ++ after) ≡ at + 2 + length w.parts + length r.front =
+    run_end-append is_part (at + 2) w.parts after w.goes_on ∙ r.end in
+    reached kind.PrivateName (at + 2 + length w.parts + length r.front)
+    (ap (λ v. look_at goal at (v ++ after)) whole
+    ∙ (hash_looks goal at 35 (w.first ∷ (w.parts ++ after)) hash_class
+    ∙ (hash_ends at w.first (w.parts ++ after) w.starts ∙ ap (λ n. look.Token kind.PrivateName n) end)))
+    (omega arith) (λ p. e)
+
 pub reaches : (goal : Goal) (at : ℕ) (k : TokenKind) (s after : List ℕ) → Spells goal k s → allows goal k after ≡ true
     → begins_comment (s ++ after) ≡ false → Reached k (at + length s) (look_at goal at (s ++ after))
 unfolding sign_kind
@@ -186,6 +312,9 @@ reaches goal at k s after (str l e) a n = string_reaches goal at k s after l e
 reaches goal at k [] after (sign e) a n = cc
 reaches goal at k (b ∷ s) after (sign e) a n =
     sign_reaches_class goal at b s after k (first_of b) refl (mark.sign_begins b s k e) e a n
+reaches goal at k s after (private_name name w q e) a n =
+    private_reaches goal at k s after name w q e (run is_part (at + 2 + length w.parts) after)
+reaches goal at k s after (template opens sub body t q e) a n = template_reaches goal at k s after opens sub body t q e a
 
 -- ---- so what is found is the longest
 longest_from : (k j : TokenKind) (here there : ℕ) (s more : List ℕ) (at : ℕ) (found : Look) → here ≡ at + length s
@@ -256,6 +385,35 @@ nothing_stuck bracket at b after w =
     mark.sign_alone b after (rw w refl) in
     rw alone (rw w refl)
 
+-- a byte that begins a punctuator alone
+sign_looks : (goal : Goal) (at b : ℕ) (rest : List ℕ) → BeginsSign goal b
+    → look_at goal at (b ∷ rest) ≡ sign_look goal.bracket at (sign_at (b ∷ rest))
+unfolding look_at class_look
+sign_looks goal at b rest (inl f) = rw f refl
+sign_looks goal at b rest (inr p) = brace_same goal at b rest p.0 p.1
+
+name_stuck : (c : First) (at : ℕ) (rest : List ℕ) → (c ≡ first.Start → ⊥) → name_look c at rest ≡ look.Fault InvalidChar at
+unfolding name_look
+name_stuck first.Start at rest h = absurd (h refl)
+name_stuck c at rest h = refl
+
+hash_stuck : (at : ℕ) (after : List ℕ) → BeginsNoName after → hash_look at after ≡ look.Fault InvalidChar at
+unfolding hash_look
+hash_stuck at [] h = refl
+hash_stuck at (b ∷ rest) h = name_stuck (first_of b) at rest h
+
+template_opens : (goal : Goal) (at : ℕ) (opens : Bool) (rest : List ℕ)
+    → (opens ≡ false → is_open goal.bracket Template ≡ true)
+    → look_at goal at (template_start opens ∷ rest) ≡ template_look opens at (template_end (at + 1) rest)
+unfolding template_start
+template_opens goal at true rest h = tick_looks goal at 96 rest backtick_class
+template_opens goal at false rest h = brace_looks goal at 125 rest brace_class ∙ brace_open goal at rest (h refl)
+
+template_stuck : (opens : Bool) (at : ℕ) (body : List ℕ) → IsUnclosed body
+    → template_look opens at (template_end (at + 1) body) ≡ look.Fault UnterminatedTemplate at
+unfolding template_look
+template_stuck opens at body u = ap (template_look opens at) (text.unclosed_found (at + 1) body u)
+
 pub stuck_reads : (goal : Goal) (rest : List ℕ) (at : ℕ) (kind : LexicalKind) (place : ℕ)
     → Stuck goal rest at kind place
     → look_at goal at rest ≡ look.Fault kind place
@@ -271,7 +429,11 @@ stuck_reads goal rest at kind place (no_token b after w f n e p) =
 stuck_reads goal rest at kind place (lone_slash b after w f n r e p) =
     rw w (slash_stuck goal at b after f (rw w at n) r ∙ (cc))
 stuck_reads goal rest at kind place (wrong_closer b after k w f s c e p) =
-    rw w (rw f (closer_stuck goal.bracket at b after k s c ∙ (cc)))
+    rw w (sign_looks goal at b after f ∙ (closer_stuck goal.bracket at b after k s c ∙ (cc)))
+stuck_reads goal rest at kind place (lone_hash after w h e p) =
+    rw w (hash_looks goal at 35 after hash_class ∙ (hash_stuck at after h ∙ (cc)))
+stuck_reads goal rest at kind place (open_template opens body w h u e p) =
+    rw w (template_opens goal at opens body h ∙ (template_stuck opens at body u ∙ (cc)))
 stuck_reads goal rest at kind place (open_bracket bracket w b e p) = rw w (rw b cc)
 
 -- ---- and nothing else is found
@@ -315,6 +477,12 @@ other_no_slash : (a : ℕ) → first_of a ≡ first.Other → (a == 47) ≡ true
 other_no_slash a f e =
     let same : a ≡ 47 = eqb-true a 47 e in
     let class : first.Slash ≡ first.Other = sym slash_class ∙ (ap first_of (sym same) ∙ f) in
+    cc
+
+brace_no_slash : (a : ℕ) → first_of a ≡ first.Brace → (a == 47) ≡ true → ⊥
+brace_no_slash a f e =
+    let same : a ≡ 47 = eqb-true a 47 e in
+    let class : first.Slash ≡ first.Brace = sym slash_class ∙ (ap first_of (sym same) ∙ f) in
     cc
 
 word_found : (goal : Goal) (at b : ℕ) (rest : List ℕ) → first_of b ≡ first.Start → Run is_part at rest
@@ -362,14 +530,18 @@ both_true false v p q = cc
 -- a punctuator may stand behind what divides
 stands_by : (goal : Goal) (b : ℕ) (rest s after : List ℕ) (k : TokenKind) → b ∷ rest ≡ s ++ after
     → sign_kind s ≡ Some k → mark.ChainFits k after
-    → first_of b ≡ first.Other ⊎ (first_of b ≡ first.Slash) × (goal.regexp ≡ false)
+    → BeginsSign goal b ⊎ (first_of b ≡ first.Slash) × (goal.regexp ≡ false)
     → may_stand goal.regexp k after ≡ true
 unfolding sign_kind
 stands_by goal b rest [] after k w sk h c = cc
-stands_by goal b rest (a ∷ s) after k w sk h (inl f) =
+stands_by goal b rest (a ∷ s) after k w sk h (inl (inl f)) =
     let same : b ≡ a = cc in
     mark.may_stand_sign a s k goal.regexp after sk h
     (λ e. absurd (other_no_slash a (ap first_of (sym same) ∙ f) e))
+stands_by goal b rest (a ∷ s) after k w sk h (inl (inr p)) =
+    let same : b ≡ a = cc in
+    mark.may_stand_sign a s k goal.regexp after sk h
+    (λ e. absurd (brace_no_slash a (ap first_of (sym same) ∙ p.0) e))
 stands_by goal b rest (a ∷ s) after k w sk h (inr p) = mark.may_stand_sign a s k goal.regexp after sk h (λ e. p.1)
 
 -- no `/` closes a bracket
@@ -386,7 +558,7 @@ slash_is_sign a e n = mark.slash_some (ap (λ c. sign_kind (c ∷ [])) e ∙ n)
 
 -- a punctuator that begins with `b`, where it is no `/` that may begin a regular expression
 sign_met : (goal : Goal) (at b : ℕ) (rest s after : List ℕ) (k : TokenKind) (v : Bool) (found : Look)
-    → first_of b ≡ first.Other ⊎ (first_of b ≡ first.Slash) × (goal.regexp ≡ false)
+    → BeginsSign goal b ⊎ (first_of b ≡ first.Slash) × (goal.regexp ≡ false)
     → begins_comment (b ∷ rest) ≡ false → look_at goal at (b ∷ rest) ≡ found
     → b ∷ rest ≡ s ++ after → sign_kind s ≡ Some k → mark.ChainFits k after
     → may_close goal.bracket (role_of k) ≡ v
@@ -404,15 +576,18 @@ sign_met goal at b rest s after k false found (inr p) n l w sk h m e =
     absurd (slash_no_closer goal b rest s after k w sk (slash_is b p.0) m)
 
 sign_found : (goal : Goal) (at b : ℕ) (rest : List ℕ) (found : Option Sign)
-    → first_of b ≡ first.Other ⊎ (first_of b ≡ first.Slash) × (goal.regexp ≡ false)
+    → BeginsSign goal b ⊎ (first_of b ≡ first.Slash) × (goal.regexp ≡ false)
     → begins_comment (b ∷ rest) ≡ false → look_at goal at (b ∷ rest) ≡ sign_look goal.bracket at found
     → mark.SignFound (b ∷ rest) found → Found goal at (b ∷ rest) (sign_look goal.bracket at found)
 unfolding sign_look
 sign_found goal at b rest found c n l (mark.some s after k w sk h e) =
     sign_met goal at b rest s after k (may_close goal.bracket (role_of k)) _ c n l w sk h refl (rw e refl)
-sign_found goal at b rest found (inl f) n l (mark.none a after w sk e) =
+sign_found goal at b rest found (inl (inl f)) n l (mark.none a after w sk e) =
     let same : b ≡ a = cc in
     fault InvalidChar at (no_token b rest refl f (rw same sk) refl refl) (rw e refl)
+sign_found goal at b rest found (inl (inr p)) n l (mark.none a after w sk e) =
+    let same : 125 ≡ a = let q : b ≡ 125 = brace_is b p.0 in cc in
+    absurd (mark.brace_some (ap (λ c. sign_kind (c ∷ [])) same ∙ sk))
 sign_found goal at b rest found (inr p) n l (mark.none a after w sk e) =
     let same : 47 ≡ a = let q : b ≡ 47 = slash_is b p.0 in cc in
     absurd (slash_is_sign a same sk)
@@ -491,8 +666,102 @@ other_class : (goal : Goal) (at b : ℕ) (rest : List ℕ) → first_of b ≡ fi
     → Found goal at (b ∷ rest) (look_at goal at (b ∷ rest))
 other_class goal at b rest f =
     subst (Found goal at (b ∷ rest)) (sym (other_looks goal at b rest f))
-    (sign_found goal at b rest (sign_at (b ∷ rest)) (inl f) (no_comment_at b rest first.Other f (λ e. cc))
+    (sign_found goal at b rest (sign_at (b ∷ rest)) (inl (inl f)) (no_comment_at b rest first.Other f (λ e. cc))
     (other_looks goal at b rest f) (mark.sign_finds b rest))
+
+kind_allows : (goal : Goal) (opens sub : Bool) (after : List ℕ)
+    → (opens ≡ false → is_open goal.bracket Template ≡ true) → allows goal (template_kind opens sub) after ≡ true
+unfolding allows template_kind role_of may_close may_stand
+kind_allows goal true true after h = refl
+kind_allows goal true false after h = refl
+kind_allows goal false true after h = both_true (is_open goal.bracket Template) true (h refl) refl
+kind_allows goal false false after h = both_true (is_open goal.bracket Template) true (h refl) refl
+
+start_no_comment : (opens : Bool) (rest : List ℕ) → begins_comment (template_start opens ∷ rest) ≡ false
+unfolding template_start
+start_no_comment true rest = no_comment_at 96 rest first.Backtick backtick_class (λ e. cc)
+start_no_comment false rest = no_comment_at 125 rest first.Brace brace_class (λ e. cc)
+
+template_met : (goal : Goal) (at : ℕ) (opens sub : Bool) (body after rest : List ℕ) (found : Look)
+    → (opens ≡ false → is_open goal.bracket Template ≡ true) → rest ≡ body ++ after
+    → IsTemplateText (template_stop sub) body → look_at goal at (template_start opens ∷ rest) ≡ found
+    → found ≡ look.Token (template_kind opens sub) (at + 1 + length body)
+    → Found goal at (template_start opens ∷ rest) found
+template_met goal at opens sub body after rest found h w t l e =
+    met goal at (template_kind opens sub) (template_start opens ∷ body) after (template_start opens ∷ rest) found
+    (ap (λ v. template_start opens ∷ v) w) (template opens sub body t refl refl) (kind_allows goal opens sub after h)
+    (start_no_comment opens (body ++ after)) l
+    (e ∙ ap (λ n. look.Token (template_kind opens sub) n)
+    (let q : at + 1 + length body ≡ at + length (template_start opens ∷ body) = omega arith in q))
+
+template_found : (goal : Goal) (at : ℕ) (opens : Bool) (rest : List ℕ) (end : TemplateEnd)
+    → (opens ≡ false → is_open goal.bracket Template ≡ true)
+    → look_at goal at (template_start opens ∷ rest) ≡ template_look opens at end → text.TextFound (at + 1) rest end
+    → Found goal at (template_start opens ∷ rest) (template_look opens at end)
+unfolding template_look template_stop
+template_found goal at opens rest end h l (text.closes s after w t e) =
+    template_met goal at opens false s after rest _ h w t l (ap (template_look opens at) e)
+template_found goal at opens rest end h l (text.substitutes s after w t e) =
+    template_met goal at opens true s after rest _ h w t l (ap (template_look opens at) e)
+template_found goal at opens rest end h l (text.unclosed u e) =
+    fault UnterminatedTemplate at (open_template opens rest refl h u refl refl) (ap (template_look opens at) e)
+
+template_at : (goal : Goal) (at : ℕ) (opens : Bool) (rest : List ℕ)
+    → (opens ≡ false → is_open goal.bracket Template ≡ true)
+    → Found goal at (template_start opens ∷ rest) (look_at goal at (template_start opens ∷ rest))
+template_at goal at opens rest h =
+    subst (Found goal at (template_start opens ∷ rest)) (sym (template_opens goal at opens rest h))
+    (template_found goal at opens rest (template_end (at + 1) rest) h (template_opens goal at opens rest h)
+    (text.text_finds (at + 1) rest))
+
+tick_class : (goal : Goal) (at b : ℕ) (rest : List ℕ) → first_of b ≡ first.Backtick
+    → Found goal at (b ∷ rest) (look_at goal at (b ∷ rest))
+unfolding template_start
+tick_class goal at b rest f =
+    subst (λ (c : ℕ). Found goal at (c ∷ rest) (look_at goal at (c ∷ rest))) (sym (backtick_is b f))
+    (template_at goal at true rest (λ e. cc))
+
+brace_class_by : (goal : Goal) (at b : ℕ) (rest : List ℕ) (v : Bool) → is_open goal.bracket Template ≡ v
+    → first_of b ≡ first.Brace → Found goal at (b ∷ rest) (look_at goal at (b ∷ rest))
+unfolding template_start
+brace_class_by goal at b rest true o f =
+    subst (λ (c : ℕ). Found goal at (c ∷ rest) (look_at goal at (c ∷ rest))) (sym (brace_is b f))
+    (template_at goal at false rest (λ e. o))
+brace_class_by goal at b rest false o f =
+    subst (Found goal at (b ∷ rest)) (sym (brace_same goal at b rest f o))
+    (sign_found goal at b rest (sign_at (b ∷ rest)) (inl (inr (f, o))) (no_comment_at b rest first.Brace f (λ e. cc))
+    (brace_same goal at b rest f o) (mark.sign_finds b rest))
+
+private_allows : (goal : Goal) (after : List ℕ) → allows goal kind.PrivateName after ≡ true
+unfolding allows may_close role_of may_stand
+private_allows goal after = refl
+
+private_found : (goal : Goal) (at b : ℕ) (rest : List ℕ) → first_of b ≡ first.Start → Run is_part (at + 2) rest
+    → Found goal at (35 ∷ b ∷ rest) (look_at goal at (35 ∷ b ∷ rest))
+private_found goal at b rest f r =
+    let w : IsWord (b ∷ r.front) =
+    record { first = b; parts = r.front; starts = f; goes_on = r.passes; whole = refl } in
+    met goal at kind.PrivateName (35 ∷ b ∷ r.front) r.back (35 ∷ b ∷ rest) _ (ap (λ t. 35 ∷ b ∷ t) r.whole)
+    (private_name (b ∷ r.front) w refl refl) (private_allows goal r.back)
+    (no_comment_at 35 (b ∷ (r.front ++ r.back)) first.Hash hash_class (λ e. cc)) refl
+    (hash_looks goal at 35 (b ∷ rest) hash_class ∙ (hash_ends at b rest f
+    ∙ ap (λ n. look.Token kind.PrivateName n)
+    (r.end ∙ (let q : at + 2 + length r.front ≡ at + length (35 ∷ b ∷ r.front) = omega arith in q))))
+
+no_name : (goal : Goal) (at : ℕ) (rest : List ℕ) → BeginsNoName rest
+    → Found goal at (35 ∷ rest) (look_at goal at (35 ∷ rest))
+no_name goal at rest h =
+    fault InvalidChar at (lone_hash rest refl h refl refl)
+    (hash_looks goal at 35 rest hash_class ∙ hash_stuck at rest h)
+
+hash_byte : (goal : Goal) (at b : ℕ) (rest : List ℕ) (c : First) → first_of b ≡ c
+    → Found goal at (35 ∷ b ∷ rest) (look_at goal at (35 ∷ b ∷ rest))
+hash_byte goal at b rest first.Start f = private_found goal at b rest f (run is_part (at + 2) rest)
+hash_byte goal at b rest c f = no_name goal at (b ∷ rest) (λ g. cc)
+
+hash_at : (goal : Goal) (at : ℕ) (rest : List ℕ) → Found goal at (35 ∷ rest) (look_at goal at (35 ∷ rest))
+hash_at goal at [] = no_name goal at [] tt
+hash_at goal at (b ∷ rest) = hash_byte goal at b rest (first_of b) refl
 
 class_found : (goal : Goal) (at b : ℕ) (rest : List ℕ) (c : First) → first_of b ≡ c
     → Found goal at (b ∷ rest) (look_at goal at (b ∷ rest))
@@ -508,6 +777,10 @@ class_found goal at b rest first.Slash f =
     subst (λ (c : ℕ). Found goal at (c ∷ rest) (look_at goal at (c ∷ rest))) (sym (slash_is b f))
     (subst (Found goal at (47 ∷ rest)) (sym (slash_looks goal at rest))
     (slash_found goal at rest (slash_looks goal at rest)))
+class_found goal at b rest first.Backtick f = tick_class goal at b rest f
+class_found goal at b rest first.Brace f = brace_class_by goal at b rest (is_open goal.bracket Template) refl f
+class_found goal at b rest first.Hash f =
+    subst (λ (c : ℕ). Found goal at (c ∷ rest) (look_at goal at (c ∷ rest))) (sym (hash_is b f)) (hash_at goal at rest)
 class_found goal at b rest first.Other f = other_class goal at b rest f
 
 end_found : (goal : Goal) (at : ℕ) (bracket : Option BracketKind) → goal.bracket ≡ bracket

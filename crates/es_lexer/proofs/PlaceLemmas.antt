@@ -1,5 +1,5 @@
 -- Where the tokens of a reading stand in the text, and what they cut from it.
-use Rattle.std.proofs.Common.{◌≡◌, ℕ, zero, suc, ◌+◌, ◌-◌, ◌<◌, ◌≤◌, Bool, true, false, not, if◌then◌else◌, ◌&&◌, ◌==◌, List, [], ◌∷◌, ◌++◌, length, take, drop, get_or, Some, None, slice_get, slice_range, bytes_eq, IsUtf8, IsCharBoundary, refl, sym, ◌∙◌, ap, subst, arith, length-append, append_assoc, drop_at, take_at, true≢false}
+use Rattle.std.proofs.Common.{◌≡◌, ℕ, zero, suc, ◌+◌, ◌-◌, ◌<◌, ◌≤◌, Bool, true, false, not, ◌&&◌, List, [], ◌∷◌, ◌++◌, length, take, drop, get_or, Some, slice_get, slice_range, IsUtf8, IsCharBoundary, refl, sym, ◌∙◌, ap, subst, arith, length-append, append_assoc, drop_at, take_at}
 use Rattle.std.proofs.lemmas.List.{get_or_at}
 use Rattle.std.proofs.Math.Dec.{ltb}
 use Rattle.std.proofs.lemmas.Bool.Decides.{nat_tests}
@@ -14,15 +14,16 @@ use Rattle.es_lexer.specs.Bytes.{first_of, is_part, is_quote}
 use Rattle.es_lexer.specs.Literals.{IsStrLiteral}
 use Rattle.es_lexer.specs.declared.goal.Goal.{Goal}
 use Rattle.es_lexer.specs.Goal.{goal_of}
-use Rattle.es_lexer.specs.Words.{WordTable}
 use Rattle.es_lexer.specs.Signs.{sign_kind, signs_of_one, signs_of_two, signs_of_three}
-use Rattle.es_lexer.specs.Spelling.{Spells, word, str, sign, AreParts}
-use Rattle.es_lexer.specs.Pieces.{Piece, blank, line_end, comment, token, spelling, comment_spelling, text_of, place_of}
+use Rattle.es_lexer.specs.Spelling.{Spells, word, str, sign, private_name, template, template_start, template_stop, template_kind}
+use Rattle.es_lexer.specs.Pieces.{Piece, blank, line_end, comment, token, comment_spelling, text_of, place_of}
 use Rattle.es_lexer.specs.Readable.{ArePieces}
 use Rattle.es_lexer.specs.Reads.{tokens_of, comments_of, token_of, comment_of}
 use Rattle.es_lexer.proofs.ByteLemmas as byte
 use Rattle.es_lexer.proofs.RunLemmas.{Passes}
 use Rattle.es_lexer.proofs.SpellingLemmas.{not_empty}
+use Rattle.es_spelling.specs.Units.{concat}
+use Rattle.es_spelling.specs.Templates.{IsTemplateText}
 use Rattle.es_lexer.proofs.SignLemmas as mark
 use Rattle.es_lexer.proofs.WordLemmas.{word_no_str}
 
@@ -40,6 +41,9 @@ mark_ascii b h = elim (byte.classed b) [
   | byte.start s e ↦ cc
   | byte.quote n q e ↦ quote_ascii b q
   | byte.slash s e ↦ cc
+  | byte.backtick s e ↦ cc
+  | byte.brace s e ↦ cc
+  | byte.hash s e ↦ cc
   | byte.other e ↦ cc
 ]
 
@@ -60,6 +64,11 @@ and_right : (u v : Bool) → (u && v) ≡ true → v ≡ true
 and_right true v e = e
 and_right false v e = cc
 
+start_ascii : (opens : Bool) → template_start opens < 128
+unfolding template_start
+start_ascii true = omega arith
+start_ascii false = omega arith
+
 first_ascii : (goal : Goal) (k : TokenKind) (b : ℕ) (rest : List ℕ) → Spells goal k (b ∷ rest) → b < 128
 first_ascii goal k b rest (word w e) =
     let same : b ≡ w.first = cc in
@@ -69,6 +78,10 @@ first_ascii goal k b rest (str l e) =
     mark_ascii b (ap first_of same ∙ l.quotes)
 first_ascii goal k b rest (sign e) =
     ltb-true b 128 (and_left (ltb b 128) (all_ascii rest k) (sign_ascii (b ∷ rest) k e))
+first_ascii goal k b rest (private_name name w s e) = let same : b ≡ 35 = cc in omega arith
+first_ascii goal k b rest (template opens sub body t s e) =
+    let same : b ≡ template_start opens = cc in
+    subst (λ (c : ℕ). c < 128) (sym same) (start_ascii opens)
 
 -- a text that ends with an ASCII byte
 pub record EndsAscii (s : List ℕ) : Type 0 where
@@ -90,11 +103,33 @@ last_sign k b (c ∷ s) e =
     let l : EndsAscii (c ∷ s) = last_sign k c s (and_right (ltb b 128) (all_ascii (c ∷ s) k) e) in
     record { front = b ∷ l.front; last = l.last; whole = ap (λ t. b ∷ t) l.whole; ascii = l.ascii }
 
+last_template : (opens sub : Bool) (body : List ℕ) → IsTemplateText (template_stop sub) body → (s : List ℕ)
+    → s ≡ template_start opens ∷ body → EndsAscii s
+unfolding template_stop
+last_template opens true body t s e = record {
+  front = template_start opens ∷ (concat t.units ++ 36 ∷ []);
+  last = 123;
+  whole = e ∙ (ap (λ b. template_start opens ∷ b) t.whole
+      ∙ ap (λ b. template_start opens ∷ b) (sym (append_assoc (concat t.units) (36 ∷ []) (123 ∷ []))));
+  ascii = omega arith;
+}
+last_template opens false body t s e = record {
+  front = template_start opens ∷ concat t.units;
+  last = 96;
+  whole = e ∙ ap (λ b. template_start opens ∷ b) t.whole;
+  ascii = omega arith;
+}
+
 last_ascii : (goal : Goal) (k : TokenKind) (s : List ℕ) → Spells goal k s → EndsAscii s
 last_ascii goal k s (word w e) =
     subst EndsAscii (sym w.whole) (last_part w.first w.parts (byte.start_is_part w.first w.starts) w.goes_on)
 last_ascii goal k s (str l e) =
     record { front = l.quote ∷ l.body; last = l.quote; whole = l.whole; ascii = mark_ascii l.quote l.quotes }
+last_ascii goal k s (private_name name w e f) =
+    let l : EndsAscii name = subst EndsAscii (sym w.whole)
+    (last_part w.first w.parts (byte.start_is_part w.first w.starts) w.goes_on) in
+    record { front = 35 ∷ l.front; last = l.last; whole = e ∙ ap (λ t. 35 ∷ t) l.whole; ascii = l.ascii }
+last_ascii goal k s (template opens sub body t e f) = last_template opens sub body t s e
 last_ascii goal k [] (sign e) = absurd (not_empty goal k (sign e))
 last_ascii goal k (b ∷ s) (sign e) = last_sign k b s (sign_ascii (b ∷ s) k e)
 
@@ -260,10 +295,19 @@ sign_no_str s k e w =
     let g : not (mark.is_str Str) ≡ true = subst (λ (j : TokenKind). not (mark.is_str j) ≡ true) e h in
     cc
 
+template_no_str : (opens sub : Bool) → Str ≡ template_kind opens sub → ⊥
+unfolding template_kind
+template_no_str true true e = cc
+template_no_str true false e = cc
+template_no_str false true e = cc
+template_no_str false false e = cc
+
 pub literal_of : (goal : Goal) (k : TokenKind) (s : List ℕ) → k ≡ Str → Spells goal k s → IsStrLiteral s
 literal_of goal k s e (word w f) = absurd (word_no_str goal.member s (sym e ∙ f))
 literal_of goal k s e (str l f) = l
 literal_of goal k s e (sign f) = absurd (sign_no_str s k e f)
+literal_of goal k s e (private_name name w q f) = cc
+literal_of goal k s e (template opens sub body t q f) = absurd (template_no_str opens sub (sym e ∙ f))
 
 -- ---- comments
 pub record CommentAt (x : List ℕ) (c : Comment) : Type 0 where

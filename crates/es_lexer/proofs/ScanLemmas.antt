@@ -1,9 +1,8 @@
 -- How far a text is read: what is so far read, and what each look adds.
-use Rattle.std.proofs.Common.{◌≡◌, ℕ, ◌+◌, ◌-◌, ◌<◌, ◌≤◌, Bool, true, false, ◌||◌, ◌&&◌, ◌==◌, List, [], ◌∷◌, ◌++◌, length, take, drop, get_or, Option, Some, None, Result, Err, slice_range, IsUtf8, IsCharBoundary, refl, sym, ◌∙◌, ap, subst, arith, length-append, length-drop, append_assoc, append-nil, drop-drop, drop_at, take_at, get_or-drop, eqb-true}
+use Rattle.std.proofs.Common.{◌≡◌, ℕ, ◌+◌, ◌-◌, ◌<◌, ◌≤◌, Bool, true, false, ◌||◌, ◌==◌, List, [], ◌∷◌, ◌++◌, length, take, drop, get_or, Option, Some, None, Result, Err, slice_range, IsUtf8, IsCharBoundary, refl, sym, ◌∙◌, ap, subst, arith, length-append, length-drop, append_assoc, append-nil, drop-drop, drop_at, take_at, get_or-drop, eqb-true}
 use Rattle.std.specs.Prelude.{reverse}
-use Rattle.std.proofs.lemmas.List.{get_or_at, take_rest, reverse-reverse}
+use Rattle.std.proofs.lemmas.List.{get_or_at, take_rest}
 use Rattle.std.proofs.lemmas.Str.{IsCharBoundary-before_ascii, IsCharBoundary-after_ascii, IsCharBoundary-end}
-use Rattle.base.specs.declared.range.Range.{Range}
 use Rattle.es_lexer.specs.declared.bracket.BracketKind.{BracketKind}
 use Rattle.es_lexer.specs.declared.bracket.OpenBracket.{OpenBracket}
 use Rattle.es_lexer.specs.declared.goal.Goal.{Goal}
@@ -25,7 +24,7 @@ use Rattle.es_lexer.specs.Brackets.{role_of}
 use Rattle.es_lexer.specs.Goal.{goal_of, goal_in, state_of, token_state, line_state, comment_state, after_for, headed, divides, member}
 use Rattle.es_lexer.specs.Pieces.{Piece, blank, line_end, comment, token, Open, spelling, text_of, comment_spelling, place_of, count_of, behind, is_behind, line_since, open_at, bracket_of, closer_at, closer_by}
 use Rattle.es_lexer.specs.Readable.{IsPiece, ArePieces, EndsLine}
-use Rattle.es_lexer.specs.Reads.{Reads, tokens_of, comments_of, token_of, comment_of, range_at}
+use Rattle.es_lexer.specs.Reads.{Reads, tokens_of, comments_of, range_at}
 use Rattle.es_lexer.specs.Stops.{Stops, Stuck}
 use Rattle.es_lexer.specs.Look.{look_at}
 use Rattle.es_lexer.specs.Scan as scan

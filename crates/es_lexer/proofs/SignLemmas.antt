@@ -1,16 +1,17 @@
 -- The longest punctuator at the front of a text: what is found is one, and none that may stand there is longer.
-use Rattle.std.proofs.Common.{◌≡◌, ℕ, ◌+◌, ◌<◌, ◌≤◌, Bool, true, false, ◌==◌, ◌&&◌, not, List, [], ◌∷◌, ◌++◌, length, Option, Some, None, IfSome, refl, sym, ◌∙◌, ap, subst, arith, eqb-true, eq-eqb, true≢false, bytes_eq, codes, if◌then◌else◌}
+use Rattle.std.proofs.Common.{◌≡◌, ℕ, ◌<◌, ◌≤◌, Bool, true, false, ◌==◌, ◌&&◌, not, List, [], ◌∷◌, ◌++◌, length, Option, Some, None, IfSome, refl, sym, ◌∙◌, ap, subst, arith, eq-eqb, true≢false, bytes_eq, if◌then◌else◌}
 use Rattle.std.specs.Char.{is_ascii_digit}
 use Rattle.std.proofs.lemmas.Slice.Eq.{bytes_eq-Decides}
 use Rattle.es_lexer.specs.declared.bytes.First.{First}
 use Rattle.es_lexer.specs.declared.bytes.First.TheVariants as first
+use Rattle.es_lexer.specs.declared.bracket.BracketKind.TheVariants.{Curly}
 use Rattle.es_lexer.specs.declared.bracket.Role.{Role}
 use Rattle.es_lexer.specs.declared.bracket.Role.TheVariants.{Opens, Closes, Continues, Plain}
 use Rattle.es_lexer.specs.declared.signs.Sign.{Sign}
 use Rattle.es_lexer.specs.declared.token.TokenKind.{TokenKind}
 use Rattle.es_lexer.specs.declared.token.TokenKind.TheVariants as kind
 use Rattle.es_lexer.specs.Bytes.{first_of}
-use Rattle.es_lexer.specs.Brackets.{role_of, may_close}
+use Rattle.es_lexer.specs.Brackets.{role_of}
 use Rattle.es_lexer.specs.Goal.{begins_digit, may_stand}
 use Rattle.es_lexer.specs.Words.{WordTable}
 use Rattle.es_lexer.specs.Signs.{signs_of_one, signs_of_two, signs_of_three, sign_in, sign_kind, sized, two_before, sign_at}
@@ -60,6 +61,7 @@ sign_passes p (a ∷ b ∷ c ∷ d ∷ s) k f g h w = cc
 abbrev pub is_sign_class : First → Bool
 is_sign_class first.Slash = true
 is_sign_class first.Other = true
+is_sign_class first.Brace = true
 is_sign_class c = false
 
 abbrev begins_sign : List ℕ → TokenKind → Bool
@@ -106,6 +108,32 @@ slash_from b k false e t h = cc
 
 pub slash_is_slash : (b : ℕ) (s : List ℕ) (k : TokenKind) → sign_kind (b ∷ s) ≡ Some k → b ≡ 47 → is_slash k ≡ true
 slash_is_slash b s k w e = slash_from b k (b == 47) refl (eq-eqb b 47 e) (slash_fits (b ∷ s) k w)
+
+-- ---- `}`
+abbrev is_curly : TokenKind → Bool
+is_curly kind.CloseBrace = true
+is_curly k = false
+
+abbrev brace_right : List ℕ → TokenKind → Bool
+brace_right [] k = false
+brace_right (b ∷ s) k = if b == 125 then is_curly k else true
+
+curly_role : (k : TokenKind) → is_curly k ≡ true → role_of k ≡ Closes Curly
+unfolding role_of
+curly_role kind.CloseBrace e = refl
+curly_role k e = cc
+
+brace_from : (b : ℕ) (k : TokenKind) (v : Bool) → (b == 125) ≡ v → v ≡ true
+    → (if v then is_curly k else true) ≡ true → is_curly k ≡ true
+brace_from b k true e t h = h
+brace_from b k false e t h = cc
+
+-- what begins with `}` is one
+pub brace_role : (b : ℕ) (s : List ℕ) (k : TokenKind) → sign_kind (b ∷ s) ≡ Some k → b ≡ 125 → role_of k ≡ Closes Curly
+unfolding signs_of_one signs_of_two signs_of_three
+brace_role b s k w e =
+    curly_role k (brace_from b k (b == 125) refl (eq-eqb b 125 e)
+    (sign_passes brace_right (b ∷ s) k refl refl refl w))
 
 -- ---- `?.`
 abbrev is_chain : TokenKind → Bool
@@ -372,3 +400,7 @@ slash_plain k e = cc
 pub slash_some : sign_kind (47 ∷ []) ≡ None → ⊥
 unfolding sign_kind sign_in signs_of_one
 slash_some e = let f : Some kind.Slash ≡ None = e in cc
+
+pub brace_some : sign_kind (125 ∷ []) ≡ None → ⊥
+unfolding sign_kind sign_in signs_of_one
+brace_some e = let f : Some kind.CloseBrace ≡ None = e in cc

@@ -1,12 +1,14 @@
 -- No token is empty.
-use Rattle.std.proofs.Common.{◌≡◌, ℕ, List, [], ◌∷◌}
+use Rattle.std.proofs.Common.{[]}
 use Rattle.es_lexer.specs.declared.goal.Goal.{Goal}
 use Rattle.es_lexer.specs.declared.token.TokenKind.{TokenKind}
 use Rattle.es_lexer.specs.Signs.{sign_kind}
-use Rattle.es_lexer.specs.Spelling.{Spells, word, str, sign}
+use Rattle.es_lexer.specs.Spelling.{Spells, word, str, sign, private_name, template}
 
 pub not_empty : (goal : Goal) (k : TokenKind) → Spells goal k [] → ⊥
 unfolding sign_kind
 not_empty goal k (word w e) = cc
 not_empty goal k (str l e) = cc
 not_empty goal k (sign e) = cc
+not_empty goal k (private_name name w s e) = cc
+not_empty goal k (template opens sub body t s e) = cc

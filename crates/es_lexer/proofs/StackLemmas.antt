@@ -1,5 +1,5 @@
 -- The brackets that are open behind pieces, and how the tokens get their partners.
-use Rattle.std.proofs.Common.{◌≡◌, ℕ, zero, suc, ◌+◌, ◌<◌, Bool, true, false, List, [], ◌∷◌, ◌++◌, length, Option, Some, None, slice_get, set, refl, sym, ◌∙◌, ap, subst, arith, length-append}
+use Rattle.std.proofs.Common.{◌≡◌, ℕ, zero, suc, ◌+◌, ◌<◌, Bool, List, [], ◌∷◌, ◌++◌, length, Option, Some, None, slice_get, set, refl, sym, ◌∙◌, ap, subst, arith}
 use Rattle.std.specs.List.{AllByRecursion}
 use Rattle.base.specs.declared.range.Range.{Range}
 use Rattle.es_lexer.specs.declared.bracket.BracketKind.{BracketKind}
@@ -7,15 +7,12 @@ use Rattle.es_lexer.specs.declared.bracket.BracketKind.TheVariants.{Template}
 use Rattle.es_lexer.specs.declared.bracket.OpenBracket.{OpenBracket}
 use Rattle.es_lexer.specs.declared.bracket.Role.{Role}
 use Rattle.es_lexer.specs.declared.bracket.Role.TheVariants.{Opens, Closes, Continues, Plain}
-use Rattle.es_lexer.specs.declared.goal.Goal.{Goal}
-use Rattle.es_lexer.specs.declared.goal.State.{State}
 use Rattle.es_lexer.specs.declared.token.TokenKind.{TokenKind}
 use Rattle.es_lexer.specs.declared.token.TokenKind.TheVariants as kind
 use Rattle.es_lexer.specs.declared.token.Token.{Token}
-use Rattle.es_lexer.specs.declared.token.CommentKind.{CommentKind}
 use Rattle.es_lexer.specs.Brackets.{role_of}
-use Rattle.es_lexer.specs.Pieces.{Piece, blank, line_end, comment, token, Open, opened, count_of, open_at, open_behind, number_of, bracket_of, closer_at, closer_by, partner_of, is_behind, line_since}
-use Rattle.es_lexer.specs.Goal.{headed, open_headed, goal_of, goal_in, state_of, token_state, slash_rule, divides, divides_behind, after_for, is_for, is_headed, member, is_member}
+use Rattle.es_lexer.specs.Pieces.{Piece, blank, line_end, comment, token, Open, count_of, open_at, open_behind, number_of, bracket_of, closer_at, closer_by, partner_of, is_behind, line_since}
+use Rattle.es_lexer.specs.Goal.{headed, open_headed, goal_of, goal_in, state_of, token_state, slash_rule, divides, divides_behind, after_for, member}
 use Rattle.es_lexer.specs.Scan as scan
 
 -- ---- the brackets that are open behind pieces, the innermost first

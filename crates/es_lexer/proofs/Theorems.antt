@@ -1,12 +1,12 @@
 -- The laws of readings: a text has one reading or one fault, and not both; where its tokens stand, and what they cut.
-use Rattle.std.proofs.Common.{◌≡◌, ℕ, suc, ◌+◌, ◌<◌, ◌≤◌, false, List, [], length, Option, Some, None, slice_get, slice_range, IsUtf8, IsCharBoundary, refl, sym, ◌∙◌, ap, subst, append-nil, add-one, arith, ◌⊎◌, inl, inr}
+use Rattle.std.proofs.Common.{◌≡◌, ℕ, suc, ◌+◌, ◌<◌, ◌≤◌, false, List, [], length, Some, None, slice_get, slice_range, IsUtf8, IsCharBoundary, refl, sym, ◌∙◌, ap, subst, append-nil, add-one, arith, ◌⊎◌, inl, inr}
 use Rattle.es_lexer.specs.declared.token.Token.{Token}
 use Rattle.es_lexer.specs.declared.token.Comment.{Comment}
 use Rattle.es_lexer.specs.declared.look.Look.TheVariants as look
 use Rattle.es_lexer.specs.declared.error.LexicalKind.{LexicalKind}
 use Rattle.es_lexer.specs.declared.goal.Goal.{Goal}
 use Rattle.es_lexer.specs.Goal.{goal_of}
-use Rattle.es_lexer.specs.Pieces.{Piece, text_of, comment_spelling, behind, open_at, bracket_of}
+use Rattle.es_lexer.specs.Pieces.{Piece, text_of, comment_spelling, behind, open_at}
 use Rattle.es_lexer.specs.Reads.{Reads, tokens_of, comments_of}
 use Rattle.es_lexer.specs.Stops.{Stops, Stuck}
 use Rattle.es_lexer.specs.Look.{end_look, look_at}

@@ -1,5 +1,5 @@
 -- Which tokens open and close brackets (ECMA-262, "Punctuators", "Template Literal Lexical Components").
-use Rattle.std.specs.Prelude.{Bool, true, false, Option, Some, None}
+use Rattle.std.specs.Prelude.{Bool, true, false, Option, Some}
 use Rattle.es_lexer.specs.declared.bracket.BracketKind.{BracketKind}
 use Rattle.es_lexer.specs.declared.bracket.BracketKind.TheVariants.{Round, Square, Curly, Template}
 use Rattle.es_lexer.specs.declared.bracket.Role.{Role}

@@ -3,7 +3,7 @@
 use Rattle.std.specs.Prelude.{ℕ, Bool, false, not, ◌&&◌, ◌||◌, ◌==◌, List, [], ◌∷◌, if◌then◌else◌}
 use Rattle.std.specs.Char.{is_ascii_alphabetic, is_ascii_digit}
 use Rattle.es_lexer.specs.declared.bytes.First.{First}
-use Rattle.es_lexer.specs.declared.bytes.First.TheVariants.{Blank, LineEnd, Start, Quote, Slash, Other}
+use Rattle.es_lexer.specs.declared.bytes.First.TheVariants.{Blank, LineEnd, Start, Quote, Slash, Backtick, Brace, Hash, Other}
 
 -- U+0009 and U+0020
 abbrev pub is_blank : ℕ → Bool
@@ -37,7 +37,10 @@ first_of b =
     else (if is_start b then Start
     else (if is_quote b then Quote
     else (if b == 47 then Slash
-    else Other))))
+    else (if b == 96 then Backtick
+    else (if b == 125 then Brace
+    else (if b == 35 then Hash
+    else Other)))))))
 
 -- `//` or `/*` stands here (Comment)
 unfoldable pub begins_comment : List ℕ → Bool

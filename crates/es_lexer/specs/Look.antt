@@ -1,6 +1,6 @@
 -- What the functions of the crate promise each other: what stands at a place, found by one look forward.
 -- A look at a text goes over it once; places count from the start of the whole text.
-use Rattle.std.specs.Prelude.{ℕ, ◌+◌, ◌-◌, Bool, false, not, ◌||◌, ◌==◌, List, [], ◌∷◌, take, Option, Some, None, if◌then◌else◌}
+use Rattle.std.specs.Prelude.{ℕ, ◌+◌, ◌-◌, Bool, true, false, not, ◌||◌, ◌==◌, List, [], ◌∷◌, take, Option, Some, None, if◌then◌else◌}
 use Rattle.es_lexer.specs.declared.bytes.First.{First}
 use Rattle.es_lexer.specs.declared.bytes.First.TheVariants as first
 use Rattle.es_lexer.specs.declared.bracket.BracketKind.{BracketKind}
@@ -10,10 +10,15 @@ use Rattle.es_lexer.specs.declared.look.Look.{Look}
 use Rattle.es_lexer.specs.declared.look.Look.TheVariants as look
 use Rattle.es_lexer.specs.declared.token.CommentKind.TheVariants.{Line, Block}
 use Rattle.es_lexer.specs.declared.token.TokenKind.TheVariants as kind
-use Rattle.es_lexer.specs.declared.error.LexicalKind.TheVariants.{UnterminatedString, UnterminatedComment, InvalidEscape, InvalidChar, Unbalanced}
+use Rattle.es_lexer.specs.declared.error.LexicalKind.TheVariants.{UnterminatedString, UnterminatedComment, UnterminatedTemplate, InvalidEscape, InvalidChar, Unbalanced}
 use Rattle.es_lexer.specs.Bytes.{first_of, is_part, is_line_end, is_plain, begins_closer}
 use Rattle.es_lexer.specs.Words.{kind_at}
-use Rattle.es_lexer.specs.Brackets.{role_of, may_close}
+use Rattle.es_lexer.specs.declared.bracket.BracketKind.TheVariants.{Template}
+use Rattle.es_spelling.specs.declared.template.TemplateEnd.{TemplateEnd}
+use Rattle.es_spelling.specs.declared.template.TemplateEnd.TheVariants.{Closes, Substitutes, Unclosed}
+use Rattle.es_spelling.specs.Templates.{template_end}
+use Rattle.es_lexer.specs.Spelling.{template_kind}
+use Rattle.es_lexer.specs.Brackets.{role_of, is_open, may_close}
 use Rattle.es_lexer.specs.Signs.{sign_at}
 
 -- where the bytes that pass end
@@ -69,6 +74,28 @@ slash_look goal at (b ∷ rest) =
     else (if b == 42 then block_look at false (at + 2) rest
     else divide_look goal at (b ∷ rest))
 
+-- a template that begins at `at`, or what goes on in one, by what ends it
+unfoldable pub template_look : Bool → ℕ → TemplateEnd → Look
+template_look opens at (Closes end) = look.Token (template_kind opens false) end
+template_look opens at (Substitutes end) = look.Token (template_kind opens true) end
+template_look opens at Unclosed = look.Fault UnterminatedTemplate at
+
+-- a `}` at `at`, before `rest`
+unfoldable pub brace_look : Goal → ℕ → List ℕ → Look
+brace_look goal at rest =
+    if is_open goal.bracket Template then template_look false at (template_end (at + 1) rest)
+    else sign_look goal.bracket at (sign_at (125 ∷ rest))
+
+-- a `#` at `at`, before a byte of this class and others
+unfoldable pub name_look : First → ℕ → List ℕ → Look
+name_look first.Start at rest = look.Token kind.PrivateName (run_end is_part (at + 2) rest)
+name_look class at rest = look.Fault InvalidChar at
+
+-- a `#` at `at`, before `rest`
+unfoldable pub hash_look : ℕ → List ℕ → Look
+hash_look at [] = look.Fault InvalidChar at
+hash_look at (b ∷ rest) = name_look (first_of b) at rest
+
 -- what begins with a byte of this class at `at`, before `rest`
 unfoldable pub class_look : First → Goal → ℕ → ℕ → List ℕ → Look
 class_look first.Blank goal at b rest = look.Blank (at + 1)
@@ -76,6 +103,9 @@ class_look first.LineEnd goal at b rest = look.LineEnd (at + 1)
 class_look first.Start goal at b rest = word_look goal.member at (b ∷ rest)
 class_look first.Quote goal at b rest = string_look b at (at + 1) rest
 class_look first.Slash goal at b rest = slash_look goal at rest
+class_look first.Backtick goal at b rest = template_look true at (template_end (at + 1) rest)
+class_look first.Brace goal at b rest = brace_look goal at rest
+class_look first.Hash goal at b rest = hash_look at rest
 class_look first.Other goal at b rest = sign_look goal.bracket at (sign_at (b ∷ rest))
 
 -- the end of the text, where this is the innermost open bracket

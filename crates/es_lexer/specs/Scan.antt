@@ -1,5 +1,5 @@
 -- What the loop over a text keeps apart from its lists.
-use Rattle.std.specs.Prelude.{ℕ, zero, suc, ◌+◌, ◌-◌, ◌≤◌, Bool, true, false, List, [], ◌∷◌, Option, Some, None, IsCharBoundary, slice_range}
+use Rattle.std.specs.Prelude.{ℕ, zero, suc, ◌+◌, ◌-◌, ◌≤◌, Bool, false, List, [], ◌∷◌, Option, Some, None, IsCharBoundary, slice_range}
 use Rattle.base.specs.declared.range.Range.{Range}
 use Rattle.es_lexer.specs.declared.bracket.BracketKind.{BracketKind}
 use Rattle.es_lexer.specs.declared.bracket.BracketKind.TheVariants.{Template}

@@ -1,14 +1,15 @@
 -- Which texts spell a token, by its kind (ECMA-262, "Tokens").
-use Rattle.std.specs.Prelude.{◌≡◌, ℕ, true, List, [], ◌∷◌, Some}
+use Rattle.std.specs.Prelude.{◌≡◌, ℕ, Bool, true, false, List, [], ◌∷◌, Some}
 use Rattle.std.specs.List.{AllByRecursion}
 use Rattle.es_lexer.specs.declared.bytes.First.TheVariants.{Start}
 use Rattle.es_lexer.specs.declared.goal.Goal.{Goal}
 use Rattle.es_lexer.specs.declared.token.TokenKind.{TokenKind}
-use Rattle.es_lexer.specs.declared.token.TokenKind.TheVariants.{Str}
+use Rattle.es_lexer.specs.declared.token.TokenKind.TheVariants.{Str, PrivateName, TemplateWhole, TemplateHead, TemplateMiddle, TemplateTail}
 use Rattle.es_lexer.specs.Bytes.{first_of, is_part}
 use Rattle.es_lexer.specs.Words.{kind_at}
 use Rattle.es_lexer.specs.Signs.{sign_kind}
 use Rattle.es_lexer.specs.Literals.{IsStrLiteral}
+use Rattle.es_spelling.specs.Templates.{IsTemplateText}
 
 -- each byte continues a word
 abbrev pub AreParts : List ℕ → Type 0
@@ -22,8 +23,28 @@ pub record IsWord (s : List ℕ) : Type 0 where
   pub goes_on : AreParts parts
   pub whole : s ≡ first ∷ parts
 
+-- a template, or what goes on behind a `${` of one, begins with a backtick or with `}`
+unfoldable pub template_start : Bool → ℕ
+template_start true = 96
+template_start false = 125
+
+-- and ends with `${`, or with a backtick
+unfoldable pub template_stop : Bool → List ℕ
+template_stop true = 36 ∷ 123 ∷ []
+template_stop false = 96 ∷ []
+
+-- by whether it begins a template, and whether a `${` ends it ("Template Literal Lexical Components")
+unfoldable pub template_kind : Bool → Bool → TokenKind
+template_kind true true = TemplateHead
+template_kind true false = TemplateWhole
+template_kind false true = TemplateMiddle
+template_kind false false = TemplateTail
+
 -- the text spells a token of this kind there
 pub data Spells (goal : Goal) (k : TokenKind) (s : List ℕ) : Type 0 where
   word : IsWord s → k ≡ kind_at goal.member s → Spells goal k s
   str : IsStrLiteral s → k ≡ Str → Spells goal k s
   sign : sign_kind s ≡ Some k → Spells goal k s
+  private_name : (name : List ℕ) → IsWord name → s ≡ 35 ∷ name → k ≡ PrivateName → Spells goal k s
+  template : (opens substitutes : Bool) (body : List ℕ) → IsTemplateText (template_stop substitutes) body
+      → s ≡ template_start opens ∷ body → k ≡ template_kind opens substitutes → Spells goal k s

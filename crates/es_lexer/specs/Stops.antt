@@ -1,18 +1,30 @@
 -- The first lexical fault of a text: pieces cut a front of it, and nothing can be read behind them.
-use Rattle.std.specs.Prelude.{◌≡◌, ℕ, ◌+◌, true, false, List, [], ◌∷◌, ◌++◌, length, Some, None}
+use Rattle.std.specs.Prelude.{◌≡◌, ℕ, ◌+◌, true, false, List, [], ◌∷◌, ◌++◌, length, Bool, Some, None, ◌⊎◌}
 use Rattle.es_lexer.specs.declared.bracket.BracketKind.{BracketKind}
-use Rattle.es_lexer.specs.declared.bytes.First.TheVariants.{Quote, Slash, Other}
+use Rattle.es_lexer.specs.declared.bytes.First.TheVariants.{Start, Quote, Slash, Brace, Other}
 use Rattle.es_lexer.specs.declared.goal.Goal.{Goal}
 use Rattle.es_lexer.specs.declared.token.TokenKind.{TokenKind}
 use Rattle.es_lexer.specs.declared.error.LexicalKind.{LexicalKind}
-use Rattle.es_lexer.specs.declared.error.LexicalKind.TheVariants.{UnterminatedString, UnterminatedComment, InvalidEscape, InvalidChar, Unbalanced}
+use Rattle.es_lexer.specs.declared.error.LexicalKind.TheVariants.{UnterminatedString, UnterminatedComment, UnterminatedTemplate, InvalidEscape, InvalidChar, Unbalanced}
 use Rattle.es_lexer.specs.Bytes.{first_of, begins_comment, has_closer}
-use Rattle.es_lexer.specs.Brackets.{role_of, may_close}
+use Rattle.es_lexer.specs.declared.bracket.BracketKind.TheVariants.{Template}
+use Rattle.es_lexer.specs.Brackets.{role_of, is_open, may_close}
 use Rattle.es_lexer.specs.Signs.{sign_kind}
 use Rattle.es_lexer.specs.Literals.{ArePlain}
+use Rattle.es_lexer.specs.Spelling.{template_start}
+use Rattle.es_spelling.specs.Templates.{IsUnclosed}
 use Rattle.es_lexer.specs.Goal.{goal_of}
 use Rattle.es_lexer.specs.Pieces.{Piece, text_of, behind}
 use Rattle.es_lexer.specs.Readable.{ArePieces, EndsLine}
+
+-- no name begins here
+abbrev pub BeginsNoName : List ℕ → Type 0
+BeginsNoName [] = Unit {0}
+BeginsNoName (b ∷ rest) = first_of b ≡ Start → ⊥
+
+-- the byte begins nothing but a punctuator: a `}` goes on in a template where a `${` is open
+abbrev pub BeginsSign : Goal → ℕ → Type 0
+BeginsSign goal b = first_of b ≡ Other ⊎ (first_of b ≡ Brace) × (is_open goal.bracket Template ≡ false)
 
 -- nothing can be read from `rest`, which stands at `at`: the kind of the fault, and its place
 pub data Stuck (goal : Goal) (rest : List ℕ) (at : ℕ) (kind : LexicalKind) (place : ℕ) : Type 0 where
@@ -34,9 +46,16 @@ pub data Stuck (goal : Goal) (rest : List ℕ) (at : ℕ) (kind : LexicalKind) (
   lone_slash : (b : ℕ) (after : List ℕ) → rest ≡ b ∷ after → first_of b ≡ Slash → begins_comment rest ≡ false
       → goal.regexp ≡ true → kind ≡ InvalidChar → place ≡ at → Stuck goal rest at kind place
   -- a bracket that doesn't close the innermost open one
-  wrong_closer : (b : ℕ) (after : List ℕ) (k : TokenKind) → rest ≡ b ∷ after → first_of b ≡ Other
+  wrong_closer : (b : ℕ) (after : List ℕ) (k : TokenKind) → rest ≡ b ∷ after → BeginsSign goal b
       → sign_kind (b ∷ []) ≡ Some k → may_close goal.bracket (role_of k) ≡ false
       → kind ≡ Unbalanced → place ≡ at → Stuck goal rest at kind place
+  -- a `#` without a name
+  lone_hash : (after : List ℕ) → rest ≡ 35 ∷ after → BeginsNoName after
+      → kind ≡ InvalidChar → place ≡ at → Stuck goal rest at kind place
+  -- a template without its end, or what goes on in one
+  open_template : (opens : Bool) (body : List ℕ) → rest ≡ template_start opens ∷ body
+      → (opens ≡ false → is_open goal.bracket Template ≡ true) → IsUnclosed body
+      → kind ≡ UnterminatedTemplate → place ≡ at → Stuck goal rest at kind place
   -- a bracket that is open at the text's end
   open_bracket : (bracket : BracketKind) → rest ≡ [] → goal.bracket ≡ Some bracket
       → kind ≡ Unbalanced → place ≡ at → Stuck goal rest at kind place

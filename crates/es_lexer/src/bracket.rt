@@ -4,7 +4,7 @@ ghost use Rattle.es_lexer.specs.Brackets.{role_of, is_open, may_close};
 use crate::token::TokenKind;
 
 /// The kinds of brackets. A template's `${` opens one too.
-#[derive(Clone, Copy, Debug, PartialEq, Eq)]
+#[derive(Clone, Copy)]
 pub enum BracketKind {
     Round,
     Square,
@@ -13,7 +13,7 @@ pub enum BracketKind {
 }
 
 /// What a token does to the brackets around it.
-#[derive(Clone, Copy, Debug, PartialEq, Eq)]
+#[derive(Clone, Copy)]
 pub enum Role {
     Opens(BracketKind),
     Closes(BracketKind),
@@ -23,7 +23,7 @@ pub enum Role {
 }
 
 /// A bracket that isn't closed yet.
-#[derive(Clone, Copy, Debug, Drop, PartialEq, Eq)]
+#[derive(Clone, Copy, Drop)]
 pub struct OpenBracket {
     pub kind: BracketKind,
     /// The number of its token.
@@ -51,7 +51,7 @@ pub fn role_of(kind: TokenKind) -> Role
 }
 
 #[tactic(auto, unfolding(crate::specs::Brackets::is_open))]
-fn is_open(bracket: Option<BracketKind>, kind: BracketKind) -> bool
+pub fn is_open(bracket: Option<BracketKind>, kind: BracketKind) -> bool
     ensures { result ≡ is_open bracket kind }
 {
     match (bracket, kind) {

@@ -2,7 +2,7 @@ ghost use Rattle.std.specs.Prelude.{◌≡◌};
 ghost use Rattle.es_lexer.specs.Bytes.{first_of, is_line_end, is_part, is_plain};
 
 /// What a byte begins, where a token, a comment or a gap is to be read.
-#[derive(Clone, Copy, Debug, PartialEq, Eq)]
+#[derive(Clone, Copy)]
 pub enum First {
     Blank,
     LineEnd,
@@ -12,6 +12,12 @@ pub enum First {
     Quote,
     /// A comment, where `/` or `*` follows, else a punctuator or a regular expression.
     Slash,
+    /// A template.
+    Backtick,
+    /// A closing brace, or what goes on behind `${`.
+    Brace,
+    /// A private name.
+    Hash,
     /// A punctuator, or nothing.
     Other,
 }
@@ -26,6 +32,9 @@ pub fn first_of(b: u8) -> First
         b'a'..=b'z' | b'A'..=b'Z' | b'$' | b'_' => First::Start,
         b'"' | b'\'' => First::Quote,
         b'/' => First::Slash,
+        b'`' => First::Backtick,
+        b'}' => First::Brace,
+        b'#' => First::Hash,
         _ => First::Other,
     }
 }

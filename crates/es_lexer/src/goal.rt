@@ -5,7 +5,7 @@ use crate::bracket::BracketKind;
 use crate::token::TokenKind;
 
 /// What may stand at a place, by what stands before it (ECMA-262, "Lexical Grammar", its goal symbols).
-#[derive(Clone, Copy, Debug, PartialEq, Eq)]
+#[derive(Clone, Copy)]
 pub struct Goal {
     /// The innermost open bracket.
     pub bracket: Option<BracketKind>,
@@ -16,7 +16,7 @@ pub struct Goal {
 }
 
 /// What a token says of a `/` behind it.
-#[derive(Clone, Copy, Debug, PartialEq, Eq)]
+#[derive(Clone, Copy)]
 pub enum SlashRule {
     /// It divides.
     Divides,
@@ -29,7 +29,7 @@ pub enum SlashRule {
 }
 
 /// What is kept of the pieces before a place, its open brackets aside.
-#[derive(Clone, Copy, Debug, PartialEq, Eq)]
+#[derive(Clone, Copy)]
 pub struct State {
     /// Whether a token was read.
     pub any: bool,

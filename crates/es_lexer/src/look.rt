@@ -2,18 +2,19 @@ ghost use Rattle.std.specs.Prelude.{◌≡◌, ℕ, ◌+◌, ◌<◌, ◌≤◌,
 ghost use Rattle.std.specs.Bool.{OnTrue};
 ghost use Rattle.es_lexer.specs.Bytes.{begins_closer, is_part};
 ghost use Rattle.es_lexer.specs.Signs.{sign_at};
-ghost use Rattle.es_lexer.specs.Look.{run_end, is_in_line, word_look, string_stop, string_look, block_look, sign_look, divide_look, slash_look, end_look, look_at};
+ghost use Rattle.es_lexer.specs.Look.{run_end, is_in_line, word_look, string_stop, string_look, block_look, sign_look, template_look, brace_look, name_look, hash_look, divide_look, slash_look, end_look, look_at};
 
-use crate::bracket::{BracketKind, may_close, role_of};
+use crate::bracket::{BracketKind, is_open, may_close, role_of};
 use crate::bytes::{First, first_of, is_line_end, is_part, is_plain};
 use crate::error::LexicalKind;
 use crate::goal::Goal;
 use crate::signs::{Sign, sign_at};
 use crate::token::{CommentKind, TokenKind};
 use crate::words::kind_at;
+use es_spelling::{TemplateEnd, template_from};
 
 /// What stands at a place of a text. An end is the place behind it.
-#[derive(Clone, Copy, Debug, PartialEq, Eq)]
+#[derive(Clone, Copy)]
 pub enum Look {
     /// The text's end.
     End,
@@ -52,7 +53,77 @@ pub fn look_from(goal: Goal, at: usize, text: &[u8]) -> Look
             First::Start => word_from(goal.member, at, text),
             First::Quote => string_from(*b, at, at + 1, rest),
             First::Slash => slash_from(goal, at, text, rest),
+            First::Backtick => template_token(true, at, template_from(at + 1, rest)),
+            First::Brace => brace_from(goal, at, text, rest),
+            First::Hash => hash_from(at, rest),
             First::Other => sign_from(goal.bracket, at, text),
+        },
+    }
+}
+
+/// A template, or what goes on in one, by what ends it.
+#[tactic(auto, unfolding(crate::specs::Look::template_look, crate::specs::Spelling::template_kind))]
+fn template_token(opens: bool, at: usize, end: TemplateEnd) -> Look
+    ensures { result ≡ template_look opens at end }
+{
+    match (end, opens) {
+        (TemplateEnd::Closes(end), true) => Look::Token {
+            kind: TokenKind::TemplateWhole,
+            end,
+        },
+        (TemplateEnd::Closes(end), false) => Look::Token {
+            kind: TokenKind::TemplateTail,
+            end,
+        },
+        (TemplateEnd::Substitutes(end), true) => Look::Token {
+            kind: TokenKind::TemplateHead,
+            end,
+        },
+        (TemplateEnd::Substitutes(end), false) => Look::Token {
+            kind: TokenKind::TemplateMiddle,
+            end,
+        },
+        (TemplateEnd::Unclosed, _) => Look::Fault {
+            kind: LexicalKind::UnterminatedTemplate,
+            at,
+        },
+    }
+}
+
+/// What begins with a `}`: behind an open `${` its template goes on.
+#[tactic(auto, unfolding(crate::specs::Look::brace_look))]
+fn brace_from(goal: Goal, at: usize, whole: &[u8], rest: &[u8]) -> Look
+    requires room { at + 1 + length rest.now < 2 ^ 64 }
+    requires brace { whole.now ≡ 125 ∷ rest.now }
+    ensures { result ≡ brace_look goal at rest.now }
+{
+    if is_open(goal.bracket, BracketKind::Template) {
+        template_token(false, at, template_from(at + 1, rest))
+    } else {
+        sign_from(goal.bracket, at, whole)
+    }
+}
+
+/// What begins with a `#`: a private name.
+#[tactic(auto, unfolding(crate::specs::Look::hash_look, crate::specs::Look::name_look))]
+fn hash_from(at: usize, rest: &[u8]) -> Look
+    requires { at + 1 + length rest.now < 2 ^ 64 }
+    ensures { result ≡ hash_look at rest.now }
+{
+    match rest {
+        [] => Look::Fault {
+            kind: LexicalKind::InvalidChar,
+            at,
+        },
+        [b, parts @ ..] => match first_of(*b) {
+            First::Start => Look::Token {
+                kind: TokenKind::PrivateName,
+                end: word_end_from(at + 2, parts),
+            },
+            _ => Look::Fault {
+                kind: LexicalKind::InvalidChar,
+                at,
+            },
         },
     }
 }

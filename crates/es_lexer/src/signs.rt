@@ -4,7 +4,7 @@ ghost use Rattle.es_lexer.specs.Signs.{sign_kind, sized, two_before, sign_at};
 use crate::token::TokenKind;
 
 /// A punctuator at the front of a text.
-#[derive(Clone, Copy, Debug, PartialEq, Eq)]
+#[derive(Clone, Copy)]
 pub struct Sign {
     pub kind: TokenKind,
     /// In bytes.

@@ -90,6 +90,27 @@ fn texts_have_their_tokens(rt: HostRuntime) -> Result<(), Fail> {
             "=== !== **= <<= >>= ... ??= &&= ||= => ?.a ?:",
             "EqualEqualEqual 0-3, NotEqualEqual 4-7, StarStarEqual 8-11, LessLessEqual 12-15, Greater 16-17, Greater 17-18, Equal 18-19, Ellipsis 20-23, QuestionQuestionEqual 24-27, AmpersandAmpersandEqual 28-31, BarBarEqual 32-35, Arrow 36-38, QuestionDot 39-41, Name 41-42, Question 43-44, Colon 44-45, ",
         ),
+        ("`a`", "TemplateWhole 0-3, "),
+        ("`a${b}c`", "TemplateHead 0-4, Name 4-5, TemplateTail 5-8, "),
+        (
+            "`${`${a}`}`",
+            "TemplateHead 0-3, TemplateHead 3-6, Name 6-7, TemplateTail 7-9, TemplateTail 9-11, ",
+        ),
+        (
+            "`${{}}` / a",
+            "TemplateHead 0-3, OpenBrace 3-4, CloseBrace 4-5, TemplateTail 5-7, Slash 8-9, Name 10-11, ",
+        ),
+        (
+            "`a$b$${c}\\`${d}`",
+            "TemplateHead 0-7, Name 7-8, TemplateMiddle 8-13, Name 13-14, TemplateTail 14-16, ",
+        ),
+        ("`a", "UnterminatedTemplate at byte 0"),
+        ("`a\\", "UnterminatedTemplate at byte 0"),
+        ("`${a}b", "UnterminatedTemplate at byte 4"),
+        ("`${a", "Unbalanced at byte 4"),
+        ("`${(}`", "Unbalanced at byte 4"),
+        ("#a.#b1", "PrivateName 0-2, Dot 2-3, PrivateName 3-6, "),
+        ("# a", "InvalidChar at byte 0"),
         ("(]", "Unbalanced at byte 1"),
         ("(", "Unbalanced at byte 1"),
         ("{[}", "Unbalanced at byte 2"),
@@ -127,6 +148,7 @@ fn brackets_have_their_partners(rt: HostRuntime) -> Result<(), Fail> {
         ("a(b[c]){}", ". 6 . 5 . 3 1 8 7 "),
         ("(()())", "5 2 1 4 3 0 "),
         ("{;}[]", "2 . 0 4 3 "),
+        ("`${a}${b}`", "2 . 4 . 2 "),
     ];
     for (text, want) in rows {
         let got = partners(rt.alloc(), text)?;

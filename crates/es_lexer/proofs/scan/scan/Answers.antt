@@ -1,7 +1,7 @@
 -- What a look adds to what is read.
-use Rattle.std.proofs.Common.{◌+◌, ◌++◌, ◌∷◌, [], refl, ap, ◌∙◌, arith}
+use Rattle.std.proofs.Common.{◌++◌, ◌∷◌, [], refl, ap, ◌∙◌}
 use Rattle.es_lexer.specs.declared.look.Look.TheVariants as look
-use Rattle.es_lexer.proofs.ScanLemmas.{After, TokenAfter, CommentAfter, advance_at, so_far_first, less_left, so_far_as, fault_as}
+use Rattle.es_lexer.proofs.ScanLemmas.{After, advance_at, so_far_first, less_left, so_far_as, fault_as}
 use Rattle.es_lexer.proofs.scan.scan.Goals as goal
 
 pub pieces-init : goal.pieces-init
