@@ -11,8 +11,9 @@ ghost use Rattle.es_parser.specs.Rows.{ended, may_end};
 ghost use Rattle.es_parser.specs.Steps.{Reads, parts};
 
 use base::Range;
+use es_ast::Str;
 use es_lexer::{Token, TokenKind, literal_value};
-use es_tree::{Lang, Mode, Str, SyntaxError};
+use es_tree::{Lang, Mode, SyntaxError};
 use std::alloc::{AllocError, Global};
 
 /// How a text is read, and its tokens.

@@ -9,8 +9,9 @@ ghost use Rattle.es_parser.specs.Steps.{Reads, row_at, by, turns_at, all_of};
 
 use crate::cursor::{Cursor, Parser};
 use base::{Boxed, Items};
+use es_ast::{ImportDecl, ModuleDecl, ModuleItem, Stmt};
 use es_lexer::TokenKind;
-use es_tree::{ImportDecl, ModuleDecl, ModuleItem, Stmt, SyntaxError};
+use es_tree::SyntaxError;
 
 impl Parser<'_> {
     /// 'import' Str END

@@ -9,8 +9,9 @@ ghost use Rattle.es_parser.specs.Rows.{ProgramRow, module_program};
 ghost use Rattle.es_parser.specs.Steps.{Reads, row_at, by};
 
 use crate::cursor::{Cursor, Parser};
+use es_ast::{Module, Program};
 use es_lexer::Token;
-use es_tree::{Lang, Mode, Module, Program, SyntaxError};
+use es_tree::{Lang, Mode, SyntaxError};
 use std::alloc::Global;
 
 /// The most nodes on a path of a tree: the program's own, and 500 below it.

@@ -6,7 +6,7 @@ use crate::diagnostic::ParseDiagnostic;
 use crate::resolution::ResolutionError;
 use base::{Items, Range, SharedBytes, SharedText, Text};
 use data_specifier::DataError;
-use es_tree::{Attribute, DependencyKind};
+use es_walk::{Attribute, DependencyKind};
 use media_type::MediaType;
 use package_ref::PackageRef;
 use std::fmt;

@@ -38,6 +38,6 @@ pub use crate::resolution::{ResolutionError, Resolved, resolve};
 pub use crate::specifier::is_loadable;
 pub use crate::unasked::analyse_unasked;
 pub use data_specifier::DataError;
-pub use es_tree::{Attribute, DependencyKind};
+pub use es_walk::{Attribute, DependencyKind};
 pub use media_type::{MediaType, ModuleKind};
 pub use package_ref::{PackageKind, PackageRef};

@@ -9,7 +9,7 @@ ghost use Rattle.graph_entry.specs.Steps.{GivesEdges};
 use crate::entry::{Dependency, Entry, Module, ModuleError, WasmModule};
 use crate::resolution::{ReadAgain, resolve_from};
 use base::{Items, SharedBytes, Text};
-use es_tree::{Attribute, DependencyKind};
+use es_walk::{Attribute, DependencyKind};
 use std::alloc::{AllocError, Global};
 use url::Url;
 use wasm_dep_analyzer::{Import, ParseError, ParseOptions, WasmDeps};

@@ -1,9 +1,10 @@
 //! Texts with their trees, and every short list of tokens against an enumeration.
 
 use base::Range;
+use es_ast::{ModuleDecl, ModuleItem, Program};
 use es_lexer::{Token, TokenKind, lex_tokens};
 use es_parser::parse_tokens;
-use es_tree::{Lang, Mode, ModuleDecl, ModuleItem, Program, SyntaxError};
+use es_tree::{Lang, Mode, SyntaxError};
 use std::alloc::Global;
 use std::test::Fail;
 
