@@ -16,7 +16,7 @@ use Rattle.es_parser.specs.Rows.{ProgramRow, rule}
 use Rattle.es_parser.specs.Dress.{values, program}
 use Rattle.es_parser.specs.Derives.{Derives, GivesTree}
 use Rattle.es_parser.specs.Steps.{row_at}
-use Rattle.es_parser.proofs.Table.{sets, grammar}
+use Rattle.es_parser.proofs.Table.{sets, grammar, rows_flat}
 use Rattle.es_parser.proofs.TokenLemmas.{length-keys_of}
 
 -- two programs that are one value are one
@@ -29,7 +29,7 @@ module _ (l : Lang) (m : Mode) (x : List ℕ) (ts : List Token) where
       → row_at x ts room (ProgramRow l m) 0 ≡ gives (program tree) to → to ≡ length ts → Derives l m x ts tree
   unfolding row_at
   read_derived room tree to most read ends =
-      let found = read_is_derived rule sets (ProgramRow l m) (grammar l m) (values x ts) (keys_of ts) (program tree)
+      let found = read_is_derived rule sets (ProgramRow l m) (grammar l m) rows_flat (values x ts) (keys_of ts) (program tree)
       (ap (λ n. row_at x ts n (ProgramRow l m) 0) (sym most) ∙ read
       ∙ ap (gives (program tree)) (ends ∙ sym (length-keys_of ts))) in
       record { shape = found.0; shaped = found.1; dressed = found.2 }

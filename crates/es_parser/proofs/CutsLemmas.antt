@@ -67,6 +67,7 @@ build_cuts x _ r vs cuts = tt
 -- a Str that is seen at a place
 abbrev pub IsStrAt : List Token → Sort → ℕ → Type 0
 IsStrAt ts as_str n = is k.Str (seen (keys_of ts) n) ≡ true
+IsStrAt ts _ n = Unit {0}
 
 leaf_cuts : (x : List ℕ) (ts : List Token) → ReadsTokens x ts → (n : ℕ) → is k.Str (seen (keys_of ts) n) ≡ true
     → (t : Option Token) → slice_get ts n ≡ t → Cuts x (str_of x t)
@@ -81,6 +82,7 @@ pub dress_cuts : (x : List ℕ) (ts : List Token) → ReadsTokens x ts → (p : 
 unfolding made
 dress_cuts x ts reads (node l from to ps) leaves = build_cuts x l (span_of ts from to) (dress x ts ps) (dress_cuts x ts reads ps leaves)
 dress_cuts x ts reads (leaf as_str n) leaves = leaf_cuts x ts reads n leaves (slice_get ts n) refl
+dress_cuts x ts reads (leaf _ n) leaves = tt
 dress_cuts x ts reads nil leaves = tt
 dress_cuts x ts reads (cons p ps) leaves = (dress_cuts x ts reads p leaves.0, dress_cuts x ts reads ps leaves.1)
 dress_cuts x ts reads (mark n ps) leaves = dress_cuts x ts reads ps leaves

@@ -6,7 +6,7 @@ use Rattle.es_tree.specs.declared.error.Lang.{Lang}
 use Rattle.es_tree.specs.declared.error.Mode.{Mode}
 use Rattle.es_tree.specs.declared.error.Mode.TheVariants as mode
 use Rattle.es_tree.specs.Key.{Look, is, is_end, is_token}
-use Rattle.es_tree.specs.Checks.{rule_takes, rule_parts_take}
+use Rattle.es_tree.specs.Checks.{rule_takes, rule_parts_take, is_flat}
 use Rattle.es_tree.specs.Tells.{Sets, IsTold, none, implies, rule_starts, rule_tells}
 use Rattle.es_tree.proofs.EachKind.{holds_everywhere, holds_of_each}
 use Rattle.es_tree.proofs.OutLemmas.{clash}
@@ -43,6 +43,13 @@ unfolding rule program module_program one_item item import_item empty_item ended
 parts_take (ProgramRow l mode.Module) = refl
 parts_take (ProgramRow l mode.Script) = refl
 parts_take (ItemRow l m) = refl
+
+-- no rule has turns behind an operand
+pub rows_flat : (r : Row) → is_flat (rule r) ≡ true
+unfolding rule program module_program item import_item empty_item
+rows_flat (ProgramRow l mode.Module) = refl
+rows_flat (ProgramRow l mode.Script) = refl
+rows_flat (ItemRow l m) = refl
 
 -- what a row begins with
 begins : (r : Row) → holds_everywhere (λ x. implies (rule_starts sets (rule r) none x) (first r x)) ≡ true

@@ -34,7 +34,7 @@ derives_cuts l m x ts p reads derived =
     program_cuts x p (dress x ts derived.shape) derived.dressed
     (dress_cuts x ts reads derived.shape
     (row_leaves free (keys_of ts) (IsStrAt ts) rule (rows_keep ts) most_nodes (ProgramRow l m) derived.shape 0 (length (keys_of ts))
-    derived.shaped))
+    derived.shaped.0))
 
 -- keys have at most one plain tree
 pub one_shape : (l : Lang) (m : Mode) (K : List Key) (p q : Plain Label)

@@ -56,6 +56,7 @@ str_of x None = absent
 -- a token that is kept
 abbrev pub leaf_value : List ℕ → List Token → Sort → ℕ → Value
 leaf_value x ts as_str n = str_of x (slice_get ts n)
+leaf_value x ts _ n = absent
 
 -- the items among the turns of a list
 abbrev pub items_in : Value → List ModuleItem

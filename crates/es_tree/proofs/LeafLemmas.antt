@@ -2,9 +2,9 @@
 use Rattle.std.specs.Prelude.{List, true}
 use Rattle.std.proofs.Common.{◌≡◌, ℕ, zero, suc, ◌+◌, subst, sym, inl, inr}
 use Rattle.es_tree.specs.Key.{Key, seen, has_kind}
-use Rattle.es_tree.specs.Form.{Sort, Told, Form, done, tok, punct, row, opt, many, when_, where_, Rule, refuse, make, choose, as_}
+use Rattle.es_tree.specs.Form.{Sort, Told, Form, done, tok, punct, row, opt, many, alt, when_, where_, Rule, refuse, make, choose, as_, pick, wrap}
 use Rattle.es_tree.specs.Plain.{Plain, node, leaf, nil, cons, mark, turn, via}
-use Rattle.es_tree.specs.Fits.{Reading, Turns, Fits, IsBy, Under}
+use Rattle.es_tree.specs.Fits.{Reading, Turns, Wraps, Fits, IsBy, Under}
 
 -- the claim holds of each leaf
 abbrev pub EachLeaf : {Label : Type 0} → (Sort → ℕ → Type 0) → Plain Label → Type 0
@@ -24,6 +24,7 @@ Keeps K P (punct k f) = Keeps K P f
 Keeps K P (row r f) = Keeps K P f
 Keeps K P (opt c g f) = Keeps K P g × Keeps K P f
 Keeps K P (many c g f) = Keeps K P g × Keeps K P f
+Keeps K P (alt t a b f) = Keeps K P a × Keeps K P b × Keeps K P f
 Keeps K P (when_ t f) = Keeps K P f
 Keeps K P (where_ t f) = Keeps K P f
 
@@ -33,6 +34,8 @@ RuleKeeps K P refuse = Unit {0}
 RuleKeeps K P (make l f) = Keeps K P f
 RuleKeeps K P (choose t a b) = RuleKeeps K P a × RuleKeeps K P b
 RuleKeeps K P (as_ w a) = RuleKeeps K P a
+RuleKeeps K P (pick g a b) = RuleKeeps K P a × RuleKeeps K P b
+RuleKeeps K P (wrap l a c f) = RuleKeeps K P a × Keeps K P f
 
 leaves_moved : {Label : Type 0} (P : Sort → ℕ → Type 0) (p q : Plain Label) → p ≡ q → EachLeaf P q → EachLeaf P p
 leaves_moved P p q e h = let Q : Plain _ → Type 0 = λ t. EachLeaf P t in subst Q (sym e) h
@@ -44,6 +47,15 @@ turns_leaves h K P c One each nil from to fit = tt
 turns_leaves h K P c One each (turn q ps) from to fit =
     (each q from fit.0 fit.2, turns_leaves h K P c One each ps fit.0 to fit.3)
 turns_leaves h K P c One each _ from to fit = absurd fit
+
+wraps_leaves : {Label : Type 0} (h : Reading) (K : List Key) (P : Sort → ℕ → Type 0) (l : Label) (c : Told)
+    (A B : Plain Label → ℕ → ℕ → Type 0) → ((q : Plain Label) (from mid : ℕ) → A q from mid → EachLeaf P q)
+    → ((q : Plain Label) (from mid : ℕ) → B q from mid → EachLeaf P q)
+    → (n : ℕ) (p : Plain Label) (from to : ℕ) → Wraps h K l c A B n p from to → EachLeaf P p
+wraps_leaves h K P l c A B one other zero p from to fit = one p from to fit
+wraps_leaves h K P l c A B one other (suc n) p from to fit =
+    leaves_moved P p (node l from to (cons fit.0 fit.1)) fit.3
+    (wraps_leaves h K P l c A B one other n fit.0 from fit.2 fit.4, other fit.1 fit.2 to fit.6)
 
 module _ {Row Label : Type 0} (h : Reading) (K : List Key) (P : Sort → ℕ → Type 0) (Below : Row → Plain Label → ℕ → ℕ → Type 0)
     (below_leaves : (r : Row) (q : Plain Label) (from mid : ℕ) → Below r q from mid → EachLeaf P q) where
@@ -69,6 +81,14 @@ module _ {Row Label : Type 0} (h : Reading) (K : List Key) (P : Sort → ℕ →
         turns_leaves h K P c (Fits h K Below g) (form_leaves g keeps.0) fit.0 from fit.2 fit.4,
         form_leaves f keeps.1 fit.1 fit.2 to fit.5,
       )
+  form_leaves (alt t a b f) keeps p from to fit =
+      leaves_moved P p (cons fit.0 fit.1) fit.3 (
+        elim fit.4 [
+          | inl one ↦ form_leaves a keeps.0 fit.0 from fit.2 one.1
+          | inr other ↦ form_leaves b keeps.1 fit.0 from fit.2 other.1
+        ],
+        form_leaves f keeps.2 fit.1 fit.2 to fit.5,
+      )
   form_leaves (when_ t f) keeps p from to fit = form_leaves f keeps p from to fit.1
   form_leaves (where_ t f) keeps p from to fit = form_leaves f keeps p from to fit.1
 
@@ -81,6 +101,12 @@ module _ {Row Label : Type 0} (h : Reading) (K : List Key) (P : Sort → ℕ →
     | inr other ↦ rule_leaves b keeps.1 p from to other.1
   ]
   rule_leaves (as_ w a) keeps p from to by = leaves_moved P p (via w by.0) by.1 (rule_leaves a keeps by.0 from to by.2)
+  rule_leaves (pick g a b) keeps p from to by = elim by [
+    | inl one ↦ rule_leaves a keeps.0 p from to one.1
+    | inr other ↦ rule_leaves b keeps.1 p from to other.1
+  ]
+  rule_leaves (wrap l a c f) keeps p from to by =
+      wraps_leaves h K P l c (IsBy h K Below a) (Fits h K Below f) (rule_leaves a keeps.0) (form_leaves f keeps.1) by.0 p from to by.1
 
 -- the leaves of a tree of a row
 pub row_leaves : {Row Label : Type 0} (h : Reading) (K : List Key) (P : Sort → ℕ → Type 0) (rule : Row → Rule Row Label)

@@ -3,6 +3,7 @@ pub mod Progress
 pub mod ReaderLemmas
 pub mod FreeLemmas
 pub mod MadeLemmas
+pub mod TallLemmas
 pub mod Theorems
 pub mod EachKind
 pub mod LeafLemmas

@@ -1,10 +1,10 @@
 -- A reader that makes something else of each part answers what is made of the plain tree that the plain reader answers.
 use Rattle.std.specs.Prelude.{List, Bool, true, false}
 use Rattle.std.proofs.Common.{◌≡◌, ℕ, zero, suc, ◌+◌, length, refl, ap}
-use Rattle.es_tree.specs.Key.{Key, Look, seen, has_kind, is}
-use Rattle.es_tree.specs.Form.{test, Form, done, tok, punct, row, opt, many, when_, where_, Rule, refuse, make, choose, as_}
+use Rattle.es_tree.specs.Key.{Key, seen, has_kind, is}
+use Rattle.es_tree.specs.Form.{Guard, test, Form, done, tok, punct, row, opt, many, alt, when_, where_, Rule, refuse, make, choose, as_, pick, wrap}
 use Rattle.es_tree.specs.Plain.{Plain, node, leaf, nil, cons, mark, turn, via, Makes, made, plain}
-use Rattle.es_tree.specs.Reader.{Out, nothing, gives, and_then, changed, only_if, either, read_turns, read_form, read_rule, read_row}
+use Rattle.es_tree.specs.Reader.{Out, nothing, gives, and_then, changed, only_if, either, read_turns, read_wraps, read_form, read_rule, read_row}
 
 module _ {A B : Type 0} (f : A → B) where
   only_if-changed : (t : Bool) (out : Out B) (o : Out A) → out ≡ changed f o → only_if t out ≡ changed f (only_if t o)
@@ -27,19 +27,35 @@ module _ {A B : Type 0} (f : A → B) where
   and_then-changed g h same out (gives a to) e = rw e (same a to)
 
 module _ {Label Made : Type 0} (m : Makes Label Made) (K : List Key) where
-  turns_made : (t : Look) (one : ℕ → Out Made) (each : ℕ → Out (Plain Label)) → ((at : ℕ) → one at ≡ changed (made m) (each at))
+  turns_made : (t : Guard) (one : ℕ → Out Made) (each : ℕ → Out (Plain Label)) → ((at : ℕ) → one at ≡ changed (made m) (each at))
       → (n at : ℕ) → read_turns m K t one n at ≡ changed (made m) (read_turns plain K t each n at)
   unfolding read_turns made
   turns_made t one each same zero at =
-      either-changed (made m) (t (seen K at)) nothing (gives m.of_nil at) nothing (gives nil at) refl refl
+      either-changed (made m) (t K at) nothing (gives m.of_nil at) nothing (gives nil at) refl refl
   turns_made t one each same (suc n) at =
-      either-changed (made m) (t (seen K at)) (and_then (one at) (λ q mid. changed (m.of_turn q) (read_turns m K t one n mid)))
+      either-changed (made m) (t K at) (and_then (one at) (λ q mid. changed (m.of_turn q) (read_turns m K t one n mid)))
       (gives m.of_nil at) (and_then (each at) (λ q mid. changed (turn q) (read_turns plain K t each n mid))) (gives nil at)
       (and_then-changed (made m) (λ q mid. changed (m.of_turn q) (read_turns m K t one n mid))
       (λ q mid. changed (turn q) (read_turns plain K t each n mid))
       (λ q mid. changed-changed (made m) (m.of_turn (made m q)) (turn q) (λ p. refl) (read_turns m K t one n mid)
       (read_turns plain K t each n mid) (turns_made t one each same n mid))
       (one at) (each at) (same at)) refl
+
+  wraps_made : (l : Label) (t : Guard) (parts : ℕ → Out Made) (each : ℕ → Out (Plain Label))
+      → ((at : ℕ) → parts at ≡ changed (made m) (each at)) → (from n : ℕ) (q : Plain Label) (at : ℕ)
+      → read_wraps m K l t parts from n (made m q) at ≡ changed (made m) (read_wraps plain K l t each from n q at)
+  unfolding read_wraps made
+  wraps_made l t parts each same from zero q at =
+      either-changed (made m) (t K at) nothing (gives (made m q) at) nothing (gives q at) refl refl
+  wraps_made l t parts each same from (suc n) q at =
+      either-changed (made m) (t K at)
+      (and_then (parts at) (λ ps to. read_wraps m K l t parts from n (m.of_node l from to (m.of_cons (made m q) ps)) to))
+      (gives (made m q) at)
+      (and_then (each at) (λ ps to. read_wraps plain K l t each from n (node l from to (cons q ps)) to)) (gives q at)
+      (and_then-changed (made m) (λ ps to. read_wraps m K l t parts from n (m.of_node l from to (m.of_cons (made m q) ps)) to)
+      (λ ps to. read_wraps plain K l t each from n (node l from to (cons q ps)) to)
+      (λ ps to. wraps_made l t parts each same from n (node l from to (cons q ps)) to)
+      (parts at) (each at) (same at)) refl
 
 module _ {Row Label Made : Type 0} (m : Makes Label Made) (K : List Key) (below : Row → ℕ → Out Made)
     (under : Row → ℕ → Out (Plain Label)) (same : (r : Row) (at : ℕ) → below r at ≡ changed (made m) (under r at)) where
@@ -69,15 +85,21 @@ module _ {Row Label Made : Type 0} (m : Makes Label Made) (K : List Key) (below 
       rest_made (read_form m K below f) (read_form plain K under f) (form_made f) (below r at) (under r at) (same r at)
   form_made (opt c g f) at =
       rest_made (read_form m K below f) (read_form plain K under f) (form_made f)
-      (either (test c (seen K at)) (read_form m K below g at) (gives m.of_nil at))
-      (either (test c (seen K at)) (read_form plain K under g at) (gives nil at))
-      (either-changed (made m) (test c (seen K at)) (read_form m K below g at) (gives m.of_nil at)
+      (either (test c K at) (read_form m K below g at) (gives m.of_nil at))
+      (either (test c K at) (read_form plain K under g at) (gives nil at))
+      (either-changed (made m) (test c K at) (read_form m K below g at) (gives m.of_nil at)
       (read_form plain K under g at) (gives nil at) (form_made g at) refl)
   form_made (many c g f) at =
       rest_made (read_form m K below f) (read_form plain K under f) (form_made f)
       (read_turns m K (test c) (read_form m K below g) (length K) at)
       (read_turns plain K (test c) (read_form plain K under g) (length K) at)
       (turns_made m K (test c) (read_form m K below g) (read_form plain K under g) (form_made g) (length K) at)
+  form_made (alt t a b f) at =
+      rest_made (read_form m K below f) (read_form plain K under f) (form_made f)
+      (either (t (seen K at)) (read_form m K below a at) (read_form m K below b at))
+      (either (t (seen K at)) (read_form plain K under a at) (read_form plain K under b at))
+      (either-changed (made m) (t (seen K at)) (read_form m K below a at) (read_form m K below b at)
+      (read_form plain K under a at) (read_form plain K under b at) (form_made a at) (form_made b at))
   form_made (when_ t f) at =
       only_if-changed (made m) (t (seen K at)) (read_form m K below f at) (read_form plain K under f at) (form_made f at)
   form_made (where_ t f) at =
@@ -95,6 +117,14 @@ module _ {Row Label Made : Type 0} (m : Makes Label Made) (K : List Key) (below 
   rule_made (as_ w a) at =
       changed-changed (made m) (m.of_via w) (via w) (λ p. refl) (read_rule m K below a at) (read_rule plain K under a at)
       (rule_made a at)
+  rule_made (pick g a b) at =
+      either-changed (made m) (g K at) (read_rule m K below a at) (read_rule m K below b at)
+      (read_rule plain K under a at) (read_rule plain K under b at) (rule_made a at) (rule_made b at)
+  rule_made (wrap l a c f) at =
+      and_then-changed (made m) (λ q mid. read_wraps m K l (test c) (read_form m K below f) at (length K) q mid)
+      (λ q mid. read_wraps plain K l (test c) (read_form plain K under f) at (length K) q mid)
+      (wraps_made m K l (test c) (read_form m K below f) (read_form plain K under f) (form_made f) at (length K))
+      (read_rule m K below a at) (read_rule plain K under a at) (rule_made a at)
 
 -- a row
 pub row_made : {Row Label Made : Type 0} (m : Makes Label Made) (K : List Key) (rule : Row → Rule Row Label) (room : ℕ) (r : Row) (at : ℕ)

@@ -3,9 +3,9 @@ use Rattle.std.specs.Prelude.{List, Option, Some, None, slice_get, ◌||◌, ◌
 use Rattle.std.proofs.Common.{◌≡◌, ℕ, zero, suc, ◌+◌, ◌<◌, ◌≤◌, length, refl, inl, inr, arith}
 use Rattle.std.proofs.lemmas.Option.{slice_get_within}
 use Rattle.es_tree.specs.Key.{Key, seen_of, has_kind}
-use Rattle.es_tree.specs.Form.{Told, Form, done, tok, punct, row, opt, many, when_, where_, Rule, refuse, make, choose, as_}
+use Rattle.es_tree.specs.Form.{Told, Form, done, tok, punct, row, opt, many, alt, when_, where_, Rule, refuse, make, choose, as_, pick, wrap}
 use Rattle.es_tree.specs.Plain.{Plain, nil, turn}
-use Rattle.es_tree.specs.Fits.{Reading, Turns, Fits, IsBy, Under}
+use Rattle.es_tree.specs.Fits.{Reading, Turns, Wraps, Fits, IsBy, Under}
 use Rattle.es_tree.specs.Checks.{takes, rule_takes, IsSteady}
 use Rattle.es_tree.proofs.OutLemmas.{clash}
 
@@ -28,7 +28,7 @@ within_kind K at may None e h = clash h
 stay : (n from to : ℕ) → from ≡ to → IsAhead n false from to
 stay n from to e = record { forward = omega (arith, e); strictly = λ h. clash h; within = λ h. omega (arith, e) }
 
-weaken : (n : ℕ) (b : Bool) (from to : ℕ) → IsAhead n b from to → IsAhead n false from to
+pub weaken : (n : ℕ) (b : Bool) (from to : ℕ) → IsAhead n b from to → IsAhead n false from to
 weaken n b from to a = record { forward = a.forward; strictly = λ h. clash h; within = a.within }
 
 -- the same steps, where one test of taking a token implies the other
@@ -66,6 +66,20 @@ turns_ahead h K c One b n one (turn q ps) from to fit =
     (turns_ahead h K c One b n one ps fit.0 to fit.3)
 turns_ahead h K c One b n one _ from to fit = absurd fit
 
+-- an operand, and the turns behind it
+or_true : (b : Bool) → b ≡ true → b || false ≡ true
+or_true b e = rw e refl
+
+pub wraps_ahead : {Label : Type 0} (h : Reading) (K : List Key) (l : Label) (c : Told) (Operand Parts : Plain Label → ℕ → ℕ → Type 0)
+    (b : Bool) (n : ℕ)
+    → ((q : Plain Label) (from mid : ℕ) → Operand q from mid → IsAhead n b from mid)
+    → ((q : Plain Label) (from mid : ℕ) → Parts q from mid → IsAhead n false from mid)
+    → (k : ℕ) (p : Plain Label) (from to : ℕ) → Wraps h K l c Operand Parts k p from to → IsAhead n b from to
+wraps_ahead h K l c Operand Parts b n one other zero p from to fit = one p from to fit
+wraps_ahead h K l c Operand Parts b n one other (suc k) p from to fit =
+    sharpen n b (b || false) from to (or_true b)
+    (join n b false from fit.2 to (wraps_ahead h K l c Operand Parts b n one other k fit.0 from fit.2 fit.4) (other fit.1 fit.2 to fit.6))
+
 module _ {Row Label : Type 0} (h : Reading) (K : List Key) (solid : Row → Bool)
     (Below : Row → Plain Label → ℕ → ℕ → Type 0)
     (below_ahead : (r : Row) (q : Plain Label) (from mid : ℕ) → Below r q from mid → IsAhead (length K) (solid r) from mid) where
@@ -92,6 +106,16 @@ module _ {Row Label : Type 0} (h : Reading) (K : List Key) (solid : Row → Bool
       join (length K) false (takes solid f) from fit.2 to
       (turns_ahead h K c (Fits h K Below g) (takes solid g) (length K) (fits_ahead g) fit.0 from fit.2 fit.4)
       (fits_ahead f fit.1 fit.2 to fit.5)
+  fits_ahead (alt t a b f) p from to fit =
+      join (length K) (takes solid a && takes solid b) (takes solid f) from fit.2 to
+      (elim fit.4 [
+        | inl one ↦
+            sharpen (length K) (takes solid a && takes solid b) (takes solid a) from fit.2
+            (λ e. (both_hold (takes solid a) (takes solid b) e).0) (fits_ahead a fit.0 from fit.2 one.1)
+        | inr other ↦
+            sharpen (length K) (takes solid a && takes solid b) (takes solid b) from fit.2
+            (λ e. (both_hold (takes solid a) (takes solid b) e).1) (fits_ahead b fit.0 from fit.2 other.1)
+      ]) (fits_ahead f fit.1 fit.2 to fit.5)
   fits_ahead (when_ t f) p from to fit = fits_ahead f p from to fit.1
   fits_ahead (where_ t f) p from to fit = fits_ahead f p from to fit.1
 
@@ -105,6 +129,13 @@ module _ {Row Label : Type 0} (h : Reading) (K : List Key) (solid : Row → Bool
     | inr other ↦ by_ahead b y (λ s. (both_hold (rule_takes solid x) (rule_takes solid y) (e s)).1) p from to other.1
   ]
   by_ahead b (as_ w a) e p from to by = by_ahead b a e by.0 from to by.2
+  by_ahead b (pick g x y) e p from to by = elim by [
+    | inl one ↦ by_ahead b x (λ s. (both_hold (rule_takes solid x) (rule_takes solid y) (e s)).0) p from to one.1
+    | inr other ↦ by_ahead b y (λ s. (both_hold (rule_takes solid x) (rule_takes solid y) (e s)).1) p from to other.1
+  ]
+  by_ahead b (wrap l x c f) e p from to by =
+      wraps_ahead h K l c (IsBy h K Below x) (Fits h K Below f) b (length K) (by_ahead b x e)
+      (λ q at mid one. weaken (length K) (takes solid f) at mid (fits_ahead f q at mid one)) by.0 p from to by.1
 
 -- a row
 pub under_ahead : {Row Label : Type 0} (h : Reading) (K : List Key) (rule : Row → Rule Row Label) (solid : Row → Bool)

@@ -1,17 +1,19 @@
 -- The laws of a grammar whose tests tell, for whatever table of rows.
 use Rattle.std.specs.Prelude.{List, None, true}
-use Rattle.std.proofs.Common.{◌≡◌, length, sym, ap, ◌∙◌, arith}
+use Rattle.std.proofs.Common.{◌≡◌, ◌≤◌, length, sym, ap, ◌∙◌, arith}
 use Rattle.std.proofs.lemmas.Option.{slice_get_past}
 use Rattle.es_tree.specs.Key.{Key, seen, seen_of}
 use Rattle.es_tree.specs.Form.{Rule}
-use Rattle.es_tree.specs.Plain.{Plain, Makes, made, plain}
-use Rattle.es_tree.specs.Fits.{free, chosen, Shape, most_nodes}
+use Rattle.es_tree.specs.Plain.{Plain, Makes, made, plain, tall, Tallied, tallied}
+use Rattle.es_tree.specs.Fits.{free, chosen, Under, Shape, most_nodes}
 use Rattle.es_tree.specs.Reader.{gives, changed, read_row}
+use Rattle.es_tree.specs.Checks.{is_flat}
 use Rattle.es_tree.specs.Tells.{Sets, IsTold}
 use Rattle.es_tree.proofs.OutLemmas.{gives_same, changed-gives}
 use Rattle.es_tree.proofs.ReaderLemmas.{row_fits, row_reads}
 use Rattle.es_tree.proofs.FreeLemmas as Free
 use Rattle.es_tree.proofs.MadeLemmas.{row_made}
+use Rattle.es_tree.proofs.TallLemmas.{under_tall, made_tallied}
 
 -- a grammar whose tests tell, and a row of it that may stand before the end
 pub record IsGrammar {Row Label : Type 0} (rule : Row → Rule Row Label) (s : Sets Row) (start : Row) : Type 0 where
@@ -26,23 +28,49 @@ module _ {Row Label : Type 0} (rule : Row → Rule Row Label) (s : Sets Row) (st
   -- no test bars a reading: what the grammar derives obeys them
   pub free_is_chosen : (K : List Key) (p : Plain Label) → Shape free rule start K p → Shape chosen rule start K p
   unfolding Shape
-  free_is_chosen K p shaped =
-      Free.free_is_chosen K rule s grammar.told most_nodes start p 0 (length K) shaped (ap (s.follow start) (seen-length K) ∙ grammar.ends)
+  free_is_chosen K p shaped = (
+    Free.free_is_chosen K rule s grammar.told most_nodes start p 0 (length K) shaped.0
+        (ap (s.follow start) (seen-length K) ∙ grammar.ends),
+    shaped.1,
+  )
 
   -- and the other way round
   pub chosen_is_free : (K : List Key) (p : Plain Label) → Shape chosen rule start K p → Shape free rule start K p
   unfolding Shape
-  chosen_is_free K p shaped = Free.chosen_is_free K rule most_nodes start p 0 (length K) shaped
+  chosen_is_free K p shaped = (Free.chosen_is_free K rule most_nodes start p 0 (length K) shaped.0, shaped.1)
 
-  -- what the reader answers at the end is made of a tree of the grammar
-  pub read_is_derived : {Made : Type 0} (m : Makes Label Made) (K : List Key) (v : Made)
+  -- what the reader answers at the end is made of a tree that fits
+  read_fits : {Made : Type 0} (m : Makes Label Made) (K : List Key) (v : Made)
+      → read_row m K rule most_nodes start 0 ≡ gives v (length K)
+      → (p : Plain Label) × Under free K rule most_nodes start p 0 (length K) × (made m p ≡ v)
+  read_fits m K v read =
+      let tree = changed-gives (made m) (read_row plain K rule most_nodes start 0) v (length K)
+      (sym (row_made m K rule most_nodes start 0) ∙ read) in (
+        tree.0,
+        Free.chosen_is_free K rule most_nodes start tree.0 0 (length K)
+            (row_fits K rule most_nodes start 0 tree.0 (length K) tree.1),
+        tree.2,
+      )
+
+  -- where no rule has turns behind an operand, it is made of a tree of the grammar
+  pub read_is_derived : ((r : Row) → is_flat (rule r) ≡ true) → {Made : Type 0} (m : Makes Label Made) (K : List Key) (v : Made)
       → read_row m K rule most_nodes start 0 ≡ gives v (length K)
       → (p : Plain Label) × Shape free rule start K p × (made m p ≡ v)
   unfolding Shape
-  read_is_derived m K v read =
-      let tree = changed-gives (made m) (read_row plain K rule most_nodes start 0) v (length K)
-      (sym (row_made m K rule most_nodes start 0) ∙ read) in
-      (tree.0, Free.chosen_is_free K rule most_nodes start tree.0 0 (length K) (row_fits K rule most_nodes start 0 tree.0 (length K) tree.1), tree.2)
+  read_is_derived flat m K v read =
+      let tree = read_fits m K v read in
+      (tree.0, (tree.1, under_tall free K rule flat most_nodes start tree.0 0 (length K) tree.1), tree.2)
+
+  -- and elsewhere where the reader counted no more nodes on a path than may be
+  pub tallied_is_derived : {Made : Type 0} (m : Makes Label Made) (K : List Key) (v : Tallied Made)
+      → read_row (tallied m) K rule most_nodes start 0 ≡ gives v (length K) → v.height ≤ most_nodes
+      → (p : Plain Label) × Shape free rule start K p × (made m p ≡ v.value)
+  unfolding Shape
+  tallied_is_derived m K v read low =
+      let tree = read_fits (tallied m) K v read in
+      let same = sym (made_tallied m tree.0) ∙ tree.2 in
+      let height : tall tree.0 ≡ v.height = ap (λ x. x.height) same in
+      (tree.0, (tree.1, (let le : v.height ≤ most_nodes = low in omega (arith, height))), ap (λ x. x.value) same)
 
   -- what is made of a tree of the grammar is what the reader answers, at the end
   pub derived_is_read : {Made : Type 0} (m : Makes Label Made) (K : List Key) (p : Plain Label)
@@ -51,12 +79,20 @@ module _ {Row Label : Type 0} (rule : Row → Rule Row Label) (s : Sets Row) (st
   derived_is_read m K p shaped =
       row_made m K rule most_nodes start 0
       ∙ ap (changed (made m)) (row_reads K rule s.solid grammar.told.steady most_nodes start p 0 (length K) (omega arith)
-      (free_is_chosen K p shaped))
+      (free_is_chosen K p shaped).0)
+
+  -- with its height
+  pub derived_is_tallied : {Made : Type 0} (m : Makes Label Made) (K : List Key) (p : Plain Label) → Shape free rule start K p
+      → read_row (tallied m) K rule most_nodes start 0 ≡ gives (record { value = made m p; height = tall p }) (length K)
+  derived_is_tallied m K p shaped =
+      derived_is_read (tallied m) K p shaped ∙ ap (λ v. gives v (length K)) (made_tallied m p)
 
   -- the keys of tokens have at most one tree
   pub one_shape : (K : List Key) (p q : Plain Label) → Shape free rule start K p → Shape free rule start K q → p ≡ q
   unfolding Shape
   one_shape K p q one other =
-      let first = row_reads K rule s.solid grammar.told.steady most_nodes start p 0 (length K) (omega arith) (free_is_chosen K p one) in
-      let second = row_reads K rule s.solid grammar.told.steady most_nodes start q 0 (length K) (omega arith) (free_is_chosen K q other) in
+      let first = row_reads K rule s.solid grammar.told.steady most_nodes start p 0 (length K) (omega arith)
+      (free_is_chosen K p one).0 in
+      let second = row_reads K rule s.solid grammar.told.steady most_nodes start q 0 (length K) (omega arith)
+      (free_is_chosen K q other).0 in
       (gives_same p q (length K) (length K) (sym first ∙ second)).0

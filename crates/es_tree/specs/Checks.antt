@@ -1,6 +1,6 @@
 -- What a table of rows has to meet so that its reader reads each of its trees: tests of the table alone, each of which computes.
 use Rattle.std.specs.Prelude.{◌≡◌, Bool, true, false, ◌&&◌, ◌||◌}
-use Rattle.es_tree.specs.Form.{Form, done, tok, punct, row, opt, many, when_, where_, Rule, refuse, make, choose, as_}
+use Rattle.es_tree.specs.Form.{Form, done, tok, punct, row, opt, many, alt, when_, where_, Rule, refuse, make, choose, as_, pick, wrap}
 
 module _ {Row : Type 0} (solid : Row → Bool) where
   -- the form takes a token, whatever is absent, where `solid` tells the rows that do
@@ -11,6 +11,7 @@ module _ {Row : Type 0} (solid : Row → Bool) where
   takes (row r f) = solid r || takes f
   takes (opt c g f) = takes f
   takes (many c g f) = takes f
+  takes (alt t a b f) = (takes a && takes b) || takes f
   takes (when_ t f) = takes f
   takes (where_ t f) = takes f
 
@@ -22,6 +23,7 @@ module _ {Row : Type 0} (solid : Row → Bool) where
   parts_take (row r f) = parts_take f
   parts_take (opt c g f) = takes g && (parts_take g && parts_take f)
   parts_take (many c g f) = takes g && (parts_take g && parts_take f)
+  parts_take (alt t a b f) = parts_take a && (parts_take b && parts_take f)
   parts_take (when_ t f) = parts_take f
   parts_take (where_ t f) = parts_take f
 
@@ -31,6 +33,8 @@ rule_takes solid refuse = true
 rule_takes solid (make l f) = takes solid f
 rule_takes solid (choose t a b) = rule_takes solid a && rule_takes solid b
 rule_takes solid (as_ w a) = rule_takes solid a
+rule_takes solid (pick g a b) = rule_takes solid a && rule_takes solid b
+rule_takes solid (wrap l a c f) = rule_takes solid a
 
 -- each optional part and each turn of the rule takes a token
 abbrev pub rule_parts_take : {Row Label : Type 0} → (Row → Bool) → Rule Row Label → Bool
@@ -38,6 +42,18 @@ rule_parts_take solid refuse = true
 rule_parts_take solid (make l f) = parts_take solid f
 rule_parts_take solid (choose t a b) = rule_parts_take solid a && rule_parts_take solid b
 rule_parts_take solid (as_ w a) = rule_parts_take solid a
+rule_parts_take solid (pick g a b) = rule_parts_take solid a && rule_parts_take solid b
+rule_parts_take solid (wrap l a c f) =
+    rule_takes solid a && (rule_parts_take solid a && (takes solid f && parts_take solid f))
+
+-- the rule has no turns behind an operand, so that its rows are its nodes
+abbrev pub is_flat : {Row Label : Type 0} → Rule Row Label → Bool
+is_flat refuse = true
+is_flat (make l f) = true
+is_flat (choose t a b) = is_flat a && is_flat b
+is_flat (as_ w a) = is_flat a
+is_flat (pick g a b) = is_flat a && is_flat b
+is_flat (wrap l a c f) = false
 
 -- a table all of whose lists end: the rows that `solid` names take a token, and so does each optional part and each turn
 pub record IsSteady {Row Label : Type 0} (rule : Row → Rule Row Label) (solid : Row → Bool) : Type 0 where

@@ -1,5 +1,5 @@
 -- Plain trees, which know of the tokens only their numbers, and what is made of them part by part.
-use Rattle.std.specs.Prelude.{ℕ}
+use Rattle.std.specs.Prelude.{ℕ, zero, suc, max}
 use Rattle.es_tree.specs.Form.{Sort}
 
 -- a tree, or the parts of a node in order
@@ -18,6 +18,16 @@ pub data Plain (Label : Type 0) : Type 0 where
   turn : Plain Label → Plain Label → Plain Label
   -- a node in another role
   via : Label → Plain Label → Plain Label
+
+-- the most nodes on a path of it
+abbrev pub tall : {Label : Type 0} → Plain Label → ℕ
+tall (node l from to ps) = suc (tall ps)
+tall (leaf s n) = zero
+tall nil = zero
+tall (cons p ps) = max (tall p) (tall ps)
+tall (mark n ps) = tall ps
+tall (turn p ps) = max (tall p) (tall ps)
+tall (via w p) = tall p
 
 -- what is made of each part of a plain tree
 pub record Makes (Label Made : Type 0) : Type 0 where
@@ -38,6 +48,23 @@ made m (cons p ps) = m.of_cons (made m p) (made m ps)
 made m (mark n ps) = m.of_mark n (made m ps)
 made m (turn p ps) = m.of_turn (made m p) (made m ps)
 made m (via w p) = m.of_via w (made m p)
+
+-- what is made, with the most nodes on a path of the tree that it is made of
+pub record Tallied (Made : Type 0) : Type 0 where
+  pub value : Made
+  pub height : ℕ
+
+-- what is made of each part, tallied
+abbrev pub tallied : {Label Made : Type 0} → Makes Label Made → Makes Label (Tallied Made)
+tallied m = record {
+  of_node = λ l from to v. record { value = m.of_node l from to v.value; height = suc v.height };
+  of_leaf = λ s n. record { value = m.of_leaf s n; height = zero };
+  of_nil = record { value = m.of_nil; height = zero };
+  of_cons = λ v vs. record { value = m.of_cons v.value vs.value; height = max v.height vs.height };
+  of_mark = λ n vs. record { value = m.of_mark n vs.value; height = vs.height };
+  of_turn = λ v vs. record { value = m.of_turn v.value vs.value; height = max v.height vs.height };
+  of_via = λ w v. record { value = m.of_via w v.value; height = v.height };
+}
 
 -- the plain tree itself
 abbrev pub plain : {Label : Type 0} → Makes Label (Plain Label)

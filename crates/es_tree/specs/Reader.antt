@@ -1,7 +1,7 @@
 -- The reader of a grammar, which obeys the tests that choose. It makes of each part what it is told to: plain trees, or typed ones.
 use Rattle.std.specs.Prelude.{ℕ, zero, suc, ◌+◌, Bool, true, false, List, length}
-use Rattle.es_tree.specs.Key.{Key, Look, seen, has_kind, is}
-use Rattle.es_tree.specs.Form.{test, Form, done, tok, punct, row, opt, many, when_, where_, Rule, refuse, make, choose, as_}
+use Rattle.es_tree.specs.Key.{Key, seen, has_kind, is}
+use Rattle.es_tree.specs.Form.{Guard, test, Form, done, tok, punct, row, opt, many, alt, when_, where_, Rule, refuse, make, choose, as_, pick, wrap}
 use Rattle.es_tree.specs.Plain.{Makes}
 
 -- what a reader answers: nothing, or what it made and the place behind it
@@ -30,10 +30,18 @@ either true a b = a
 either false a b = b
 
 -- the turns of a list, at most so many
-unfoldable pub read_turns : {Label Made : Type 0} → Makes Label Made → List Key → Look → (ℕ → Out Made) → ℕ → ℕ → Out Made
-read_turns m K t one zero at = either (t (seen K at)) nothing (gives m.of_nil at)
+unfoldable pub read_turns : {Label Made : Type 0} → Makes Label Made → List Key → Guard → (ℕ → Out Made) → ℕ → ℕ → Out Made
+read_turns m K t one zero at = either (t K at) nothing (gives m.of_nil at)
 read_turns m K t one (suc n) at =
-    either (t (seen K at)) (and_then (one at) (λ q mid. changed (m.of_turn q) (read_turns m K t one n mid))) (gives m.of_nil at)
+    either (t K at) (and_then (one at) (λ q mid. changed (m.of_turn q) (read_turns m K t one n mid))) (gives m.of_nil at)
+
+-- the turns behind an operand that was read from a place on, at most so many
+unfoldable pub read_wraps : {Label Made : Type 0} → Makes Label Made → List Key → Label → Guard → (ℕ → Out Made) → ℕ → ℕ → Made → ℕ
+    → Out Made
+read_wraps m K l t parts from zero q at = either (t K at) nothing (gives q at)
+read_wraps m K l t parts from (suc n) q at =
+    either (t K at)
+    (and_then (parts at) (λ ps to. read_wraps m K l t parts from n (m.of_node l from to (m.of_cons q ps)) to)) (gives q at)
 
 module _ {Row Label Made : Type 0} (m : Makes Label Made) (K : List Key) where
   -- the parts of a node
@@ -44,10 +52,13 @@ module _ {Row Label Made : Type 0} (m : Makes Label Made) (K : List Key) where
   read_form below (punct k f) at = only_if (is k (seen K at)) (changed (m.of_mark at) (read_form below f (at + 1)))
   read_form below (row r f) at = and_then (below r at) (λ q mid. changed (m.of_cons q) (read_form below f mid))
   read_form below (opt c g f) at =
-      and_then (either (test c (seen K at)) (read_form below g at) (gives m.of_nil at))
+      and_then (either (test c K at) (read_form below g at) (gives m.of_nil at))
       (λ q mid. changed (m.of_cons q) (read_form below f mid))
   read_form below (many c g f) at =
       and_then (read_turns m K (test c) (read_form below g) (length K) at)
+      (λ q mid. changed (m.of_cons q) (read_form below f mid))
+  read_form below (alt t a b f) at =
+      and_then (either (t (seen K at)) (read_form below a at) (read_form below b at))
       (λ q mid. changed (m.of_cons q) (read_form below f mid))
   read_form below (when_ t f) at = only_if (t (seen K at)) (read_form below f at)
   read_form below (where_ t f) at = only_if (t K at) (read_form below f at)
@@ -58,8 +69,11 @@ module _ {Row Label Made : Type 0} (m : Makes Label Made) (K : List Key) where
   read_rule below (make l f) at = and_then (read_form below f at) (λ ps to. gives (m.of_node l at to ps) to)
   read_rule below (choose t a b) at = either (t (seen K at)) (read_rule below a at) (read_rule below b at)
   read_rule below (as_ w a) at = changed (m.of_via w) (read_rule below a at)
+  read_rule below (pick g a b) at = either (g K at) (read_rule below a at) (read_rule below b at)
+  read_rule below (wrap l a c f) at =
+      and_then (read_rule below a at) (λ q mid. read_wraps m K l (test c) (read_form below f) at (length K) q mid)
 
-  -- a row, with at most `room` nodes on a path
+  -- a row, with at most `room` rows on a path
   unfoldable pub read_row : (Row → Rule Row Label) → ℕ → Row → ℕ → Out Made
   read_row rule zero r at = nothing
   read_row rule (suc room) r at = read_rule (read_row rule room) (rule r) at

@@ -2,7 +2,7 @@
 -- the one and those that may begin the other are told apart. A test of the table alone, at each token by itself.
 use Rattle.std.specs.Prelude.{◌≡◌, Bool, true, false, not, ◌&&◌, ◌||◌, Option}
 use Rattle.es_tree.specs.Key.{Look, Seen, has_kind, is}
-use Rattle.es_tree.specs.Form.{Told, hint, taken, test, Form, done, tok, punct, row, opt, many, when_, where_, Rule, refuse, make, choose, as_}
+use Rattle.es_tree.specs.Form.{Told, hint, taken, guarded, Form, done, tok, punct, row, opt, many, alt, when_, where_, Rule, refuse, make, choose, as_, pick, wrap}
 use Rattle.es_tree.specs.Checks.{IsSteady}
 
 -- what is claimed of the rows: the tokens that may begin one, those that may follow one, and whether it always takes a token
@@ -23,11 +23,19 @@ implies a b = not a || b
 abbrev pub may_lack : Told → Look
 may_lack (hint t) x = true
 may_lack (taken t) x = not (t x)
+may_lack (guarded g) x = true
+
+-- where a part is there, its test says so
+abbrev pub tells_has : Told → Look
+tells_has (hint t) x = t x
+tells_has (taken t) x = t x
+tells_has (guarded g) x = true
 
 -- where a part is absent, its test says so
 abbrev pub tells_lack : Told → Look
 tells_lack (hint t) x = not (t x)
 tells_lack (taken t) x = true
+tells_lack (guarded g) x = true
 
 module _ {Row : Type 0} (s : Sets Row) where
   -- the form may begin before this token, where `then_` tells what may stand behind it
@@ -38,6 +46,7 @@ module _ {Row : Type 0} (s : Sets Row) where
   starts (row r f) then_ x = s.first r x || (not (s.solid r) && starts f then_ x)
   starts (opt c g f) then_ x = starts g none x || (may_lack c x && starts f then_ x)
   starts (many c g f) then_ x = starts g none x || (may_lack c x && starts f then_ x)
+  starts (alt t a b f) then_ x = starts a (starts f then_) x || starts b (starts f then_) x
   starts (when_ t f) then_ x = t x && starts f then_ x
   starts (where_ t f) then_ x = starts f then_ x
 
@@ -47,6 +56,8 @@ module _ {Row : Type 0} (s : Sets Row) where
   rule_starts (make l f) then_ x = starts f then_ x
   rule_starts (choose t a b) then_ x = rule_starts a then_ x || rule_starts b then_ x
   rule_starts (as_ w a) then_ x = rule_starts a then_ x
+  rule_starts (pick g a b) then_ x = rule_starts a then_ x || rule_starts b then_ x
+  rule_starts (wrap l a c f) then_ x = rule_starts a none x
 
   -- the tests of the form tell at this token, and each row in it is followed by what may follow it
   abbrev pub tells : Form Row → Look → Look
@@ -55,12 +66,16 @@ module _ {Row : Type 0} (s : Sets Row) where
   tells (punct k f) then_ x = tells f then_ x
   tells (row r f) then_ x = implies (starts f then_ x) (s.follow r x) && tells f then_ x
   tells (opt c g f) then_ x =
-      implies (starts g none x) (test c x)
+      implies (starts g none x) (tells_has c x)
       && (implies (starts f then_ x) (tells_lack c x) && (tells g (starts f then_) x && tells f then_ x))
   tells (many c g f) then_ x =
-      implies (starts g none x) (test c x)
+      implies (starts g none x) (tells_has c x)
       && (implies (starts f then_ x) (tells_lack c x)
       && (tells g (λ y. starts g none y || starts f then_ y) x && tells f then_ x))
+  tells (alt t a b f) then_ x =
+      implies (starts a (starts f then_) x) (t x)
+      && (implies (starts b (starts f then_) x) (not (t x))
+      && (tells a (starts f then_) x && (tells b (starts f then_) x && tells f then_ x)))
   tells (when_ t f) then_ x = tells f then_ x
   tells (where_ t f) then_ x = tells f then_ x
 
@@ -72,6 +87,11 @@ module _ {Row : Type 0} (s : Sets Row) where
       implies (rule_starts a then_ x) (t x)
       && (implies (rule_starts b then_ x) (not (t x)) && (rule_tells a then_ x && rule_tells b then_ x))
   rule_tells (as_ w a) then_ x = rule_tells a then_ x
+  rule_tells (pick g a b) then_ x = rule_tells a then_ x && rule_tells b then_ x
+  rule_tells (wrap l a c f) then_ x =
+      implies (starts f none x) (tells_has c x)
+      && (implies (then_ x) (tells_lack c x)
+      && (rule_tells a (λ y. starts f none y || then_ y) x && tells f (λ y. starts f none y || then_ y) x))
 
 -- a table all of whose lists end and all of whose tests tell
 pub record IsTold {Row Label : Type 0} (rule : Row → Rule Row Label) (s : Sets Row) : Type 0 where
