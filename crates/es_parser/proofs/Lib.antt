@@ -3,5 +3,4 @@ pub mod Table
 pub mod StepLemmas
 pub mod ListLemmas
 pub mod AnswerLemmas
-pub mod CutsLemmas
 pub mod Theorems

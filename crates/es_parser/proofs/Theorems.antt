@@ -1,23 +1,19 @@
 -- The laws of derivations that other crates name.
 use Rattle.std.specs.Prelude.{List}
-use Rattle.std.proofs.Common.{All, ◌≡◌, ℕ, length, sym, ap, ◌∙◌}
+use Rattle.std.proofs.Common.{◌≡◌, ℕ, sym, ap, ◌∙◌}
 use Rattle.es_lexer.specs.declared.token.Token.{Token}
 use Rattle.es_tree.specs.declared.error.Lang.{Lang}
 use Rattle.es_tree.specs.declared.error.Mode.{Mode}
 use Rattle.es_ast.specs.declared.ast.Program.{Program}
 use Rattle.es_tree.specs.Key.{Key, keys_of}
 use Rattle.es_tree.specs.Plain.{Plain}
-use Rattle.es_tree.specs.Fits.{free, chosen, Shape, most_nodes}
+use Rattle.es_tree.specs.Fits.{free, chosen, Shape}
 use Rattle.es_tree.proofs.Theorems as grammars
 use Rattle.es_parser.specs.Rows.{Label, ProgramRow, rule}
 use Rattle.es_parser.specs.Dress.{dress}
 use Rattle.es_parser.specs.Derives.{Derives}
-use Rattle.es_lexer.specs.Reads.{ReadsTokens}
-use Rattle.es_walk.specs.Sites.{sites_of, CutsLiteral}
-use Rattle.es_tree.proofs.LeafLemmas.{row_leaves}
 use Rattle.es_parser.proofs.AnswerLemmas.{program_same}
 use Rattle.es_parser.proofs.Table.{sets, grammar}
-use Rattle.es_parser.proofs.CutsLemmas.{IsStrAt, dress_cuts, rows_keep, program_cuts}
 
 -- tokens have at most one tree
 pub one_tree : (l : Lang) (m : Mode) (x : List ℕ) (ts : List Token) (p q : Program) → Derives l m x ts p → Derives l m x ts q → p ≡ q
@@ -25,16 +21,6 @@ one_tree l m x ts p q one other =
     let same : one.shape ≡ other.shape =
     grammars.one_shape rule sets (ProgramRow l m) (grammar l m) (keys_of ts) one.shape other.shape one.shaped other.shaped in
     program_same p q (sym one.dressed ∙ ap (dress x ts) same ∙ other.dressed)
-
--- each site of a derived tree cuts its literal from the text
-pub derives_cuts : (l : Lang) (m : Mode) (x : List ℕ) (ts : List Token) (p : Program) → ReadsTokens x ts → Derives l m x ts p
-    → All (λ site. CutsLiteral x site.range site.value) (sites_of p)
-unfolding Shape
-derives_cuts l m x ts p reads derived =
-    program_cuts x p (dress x ts derived.shape) derived.dressed
-    (dress_cuts x ts reads derived.shape
-    (row_leaves free (keys_of ts) (IsStrAt ts) rule (rows_keep ts) most_nodes (ProgramRow l m) derived.shape 0 (length (keys_of ts))
-    derived.shaped.0))
 
 -- keys have at most one plain tree
 pub one_shape : (l : Lang) (m : Mode) (K : List Key) (p q : Plain Label)

@@ -5,7 +5,7 @@
 //!   besides. The grammar is a table (`specs/Rows.antt`), in the language of `es_tree` (`specs/Form.antt`,
 //!   `specs/Fits.antt` there).
 //!
-//! Tokens have at most one tree, and each site of a tree cuts its literal from the text (`proofs/Theorems.antt`).
+//! Tokens have at most one tree (`proofs/Theorems.antt`). `es_sites` says that each site of a tree cuts its literal.
 //! Not promised: which token `Syntax` names, and when memory runs out. `docs/GRAMMAR.md` tells the rows in words.
 #![tactic(auto)]
 

@@ -3,7 +3,8 @@ use Rattle.std.proofs.Common.{◌≡◌, List, ℕ}
 use Rattle.es_lexer.proofs.Theorems.{one_reading, one_fault, no_reading_stops}
 use Rattle.es_tree.specs.declared.error.Mode.TheVariants as mode
 use Rattle.es_walk.specs.Sites.{sites_of}
-use Rattle.es_parser.proofs.Theorems.{one_tree, derives_cuts}
+use Rattle.es_parser.proofs.Theorems.{one_tree}
+use Rattle.es_sites.proofs.Theorems.{derives_cuts}
 use Rattle.std.specs.Prelude.{Option}
 use Rattle.graph_entry.specs.declared.answer.LoadAnswer.{LoadAnswer}
 use Rattle.graph_entry.specs.declared.entry.Entry.{Entry}

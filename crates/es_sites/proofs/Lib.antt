@@ -1,0 +1,2 @@
+mod CutsLemmas
+pub mod Theorems
