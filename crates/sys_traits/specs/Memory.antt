@@ -212,7 +212,7 @@ drawn m =
 
 -- ---- answers
 
--- A call and the memory behind it, by the refusal that is answered: want of memory leaves everything, and any other
+-- A call and the memory behind it, by the refusal that is answered: out of memory leaves everything, and any other
 -- answer is that of the call.
 abbrev pub Answered : SysCall → Memory → Option SysErrorKind → Memory → Memory → Type 0
 Answered call after None old new = (call.refusal ≡ None) × (new ≡ after)

@@ -8,7 +8,7 @@ use Rattle.sys_traits.specs.declared.call.SysCall.{SysCall}
 use Rattle.sys_traits.specs.State.{refusal_of}
 use Rattle.sys_traits.specs.Memory.{Memory, Answered, logged, message_of}
 
--- the error of a refusal, which isn't want of memory
+-- the error of a refusal, which isn't `OutOfMemory`
 abbrev pub IsKept : Option SysErrorKind → Option SysError → Type 0
 IsKept None error = error ≡ None
 IsKept (Some NotFound) error = error ≡ Some (record { kind = NotFound; message = message_of NotFound })

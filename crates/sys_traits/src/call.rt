@@ -1,6 +1,7 @@
 //! The calls that a system's log holds.
 use crate::error::SysErrorKind;
-use base::{Items, Text};
+use crate::shared_files::SharedFiles;
+use base::Text;
 
 /// Which call it was.
 #[derive(Clone, Copy, Debug, PartialEq, Eq)]
@@ -29,5 +30,5 @@ pub struct SysCall {
     /// Why the call was refused, if it was.
     pub refusal: Option<SysErrorKind>,
     /// The files that the call left, each with its normalized path.
-    pub files: Items<(Text, Items<u8>)>,
+    pub files: SharedFiles,
 }

@@ -27,7 +27,7 @@ pub struct SysError {
 }
 
 impl SysError {
-    /// Want of memory. Its message takes none.
+    /// That memory ran out. Its message takes none.
     pub fn out_of_memory(alloc: Global) -> SysError
         ensures kind { result.kind ≡ OutOfMemory }
         ensures message { result.message ≡ [] }

@@ -4,6 +4,7 @@ ghost use Rattle.std.specs.Option.{option_copied};
 ghost use Rattle.sys_traits.specs.State.{file_at};
 ghost use Rattle.sys_traits.specs.Files as spec;
 
+use crate::shared_files::SharedFiles;
 use base::{Items, Text};
 use std::alloc::{AllocError, Global};
 use std::cmp::Ordering;
@@ -20,8 +21,8 @@ pub fn find_file<'a>(files: &'a [(Text, Items<u8>)], path: &str) -> Option<&'a [
     None
 }
 
-/// A copy of the files.
-pub fn copy_files(
+// A copy of the files.
+fn copy_files(
     alloc: Global,
     files: &[(Text, Items<u8>)],
 ) -> Result<Items<(Text, Items<u8>)>, AllocError>
@@ -38,7 +39,7 @@ pub fn with_file(
     files: &[(Text, Items<u8>)],
     path: &str,
     bytes: &[u8],
-) -> Result<Items<(Text, Items<u8>)>, AllocError>
+) -> Result<SharedFiles, AllocError>
     ensures { IfOk result (λ new. new ≡ spec.with_file files.now path.now bytes.now) }
 {
     let (before, after) = places_for(files, path);
@@ -47,7 +48,7 @@ pub fn with_file(
     let content = copy_bytes(alloc, bytes)?;
     new.push((name, content))?;
     append_copies(&mut new, &files[after..])?;
-    Ok(new)
+    SharedFiles::new(alloc, new)
 }
 
 /// A copy of the files without that of the path.
@@ -55,7 +56,7 @@ pub fn without_file(
     alloc: Global,
     files: &[(Text, Items<u8>)],
     path: &str,
-) -> Result<Items<(Text, Items<u8>)>, AllocError>
+) -> Result<SharedFiles, AllocError>
     ensures { IfOk result (λ new. new ≡ spec.without_file files.now path.now) }
 {
     let mut new = Items::new(alloc);
@@ -65,7 +66,7 @@ pub fn without_file(
             new.push(copy)?;
         }
     }
-    Ok(new)
+    SharedFiles::new(alloc, new)
 }
 
 /// A copy of bytes.

@@ -12,8 +12,9 @@ mod given;
 
 use crate::call::SysCall;
 use crate::error::{SysError, SysErrorKind};
-use crate::files::{copy_files, find_file};
+use crate::files::find_file;
 use crate::place::{Need, Place, place_of, refusal_at, spot_in};
+use crate::shared_files::SharedFiles;
 use base::{Items, Text};
 use std::alloc::{AllocError, Global};
 use std::marker::Model;
@@ -22,7 +23,7 @@ use std::marker::Model;
 #[derive(Debug, Drop)]
 pub struct InMemorySys {
     folder: Text,
-    files: Items<(Text, Items<u8>)>,
+    files: SharedFiles,
     made: Items<Text>,
     random: Items<u8>,
     // The place of the next random byte.
@@ -65,6 +66,7 @@ impl InMemorySys {
         let folder = given::rooted(alloc, current_dir)?;
         let made = given::folders(alloc, folder.as_str(), files.as_slice(), folders.as_slice())?;
         let files = given::files(alloc, folder.as_str(), made.as_slice(), files.as_slice())?;
+        let files = SharedFiles::new(alloc, files)?;
         Ok(InMemorySys {
             folder,
             files,
@@ -167,14 +169,14 @@ impl InMemorySys {
     {
         let alloc = self.log.allocator();
         let error = error_for(alloc, call.refusal)?;
-        let files = copy_files(alloc, call.files.as_slice())?;
+        let files = call.files.copy()?;
         self.log.push(call)?;
         self.files = files;
         Ok(error)
     }
 }
 
-// The error of a refusal, if there is one; want of memory is that of this call.
+// The error of a refusal, if there is one; that memory ran out is this call's own.
 fn error_for(alloc: Global, refusal: Option<SysErrorKind>) -> Result<Option<SysError>, AllocError>
     ensures { IfOk result (IsKept refusal) }
 {

@@ -7,12 +7,14 @@ mod file;
 mod files;
 mod in_memory;
 mod place;
+mod shared_files;
 mod traits;
 
 pub use call::{SysCall, SysCallKind};
 pub use error::{SysError, SysErrorKind};
 pub use file::SysFile;
 pub use in_memory::InMemorySys;
+pub use shared_files::SharedFiles;
 pub use traits::{
     AtomicWriteFileSys, AtomicWriteFileWithRetriesSys, FsCanonicalize, FsCreateDirAll, FsMetadata,
     FsOpen, FsRemoveFile, FsRename, SysState, SystemRandom, ThreadSleep,

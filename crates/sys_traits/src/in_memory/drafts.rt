@@ -8,9 +8,10 @@ ghost use Rattle.sys_traits.specs.Steps.{Drafts};
 use crate::call::{SysCall, SysCallKind};
 use crate::error::SysErrorKind;
 use crate::file::SysFile;
-use crate::files::{copy_files, find_file, with_file, without_file};
+use crate::files::{find_file, with_file, without_file};
 use crate::in_memory::InMemorySys;
 use crate::place::{Need, Place, is_folder, is_there};
+use crate::shared_files::SharedFiles;
 use base::{Items, Text};
 use std::alloc::{AllocError, Global};
 
@@ -185,17 +186,13 @@ impl InMemorySys {
         })
     }
 
-    fn copied(&self) -> Result<Items<(Text, Items<u8>)>, AllocError>
+    fn copied(&self) -> Result<SharedFiles, AllocError>
         ensures { IfOk result (λ files. files ≡ self.now.files) }
     {
-        copy_files(self.log.allocator(), self.files.as_slice())
+        self.files.copy()
     }
 
-    fn opened(
-        &self,
-        refusal: Option<SysErrorKind>,
-        spot: &str,
-    ) -> Result<Items<(Text, Items<u8>)>, AllocError>
+    fn opened(&self, refusal: Option<SysErrorKind>, spot: &str) -> Result<SharedFiles, AllocError>
         ensures { IfOk result (λ files. files ≡ spec.unless_refused refusal
             (lists.with_file self.now.files spot.now []) self.now.files) }
     {
@@ -205,12 +202,7 @@ impl InMemorySys {
         }
     }
 
-    fn written(
-        &self,
-        place: Place,
-        spot: &str,
-        bytes: &[u8],
-    ) -> Result<Items<(Text, Items<u8>)>, AllocError>
+    fn written(&self, place: Place, spot: &str, bytes: &[u8]) -> Result<SharedFiles, AllocError>
         ensures { IfOk result (λ files. files ≡ spec.files_written self.now spot.now bytes.now place) }
     {
         match place {
@@ -235,11 +227,7 @@ impl InMemorySys {
         }
     }
 
-    fn removed(
-        &self,
-        refusal: Option<SysErrorKind>,
-        spot: &str,
-    ) -> Result<Items<(Text, Items<u8>)>, AllocError>
+    fn removed(&self, refusal: Option<SysErrorKind>, spot: &str) -> Result<SharedFiles, AllocError>
         ensures { IfOk result (λ files. files ≡ spec.unless_refused refusal
             (lists.without_file self.now.files spot.now) self.now.files) }
     {
@@ -254,7 +242,7 @@ impl InMemorySys {
         refusal: Option<SysErrorKind>,
         from: &str,
         to: &str,
-    ) -> Result<Items<(Text, Items<u8>)>, AllocError>
+    ) -> Result<SharedFiles, AllocError>
         ensures { IfOk result (λ files. files ≡ spec.unless_refused refusal
             (lists.moved_file self.now.files from.now to.now) self.now.files) }
     {
@@ -264,7 +252,7 @@ impl InMemorySys {
         }
     }
 
-    fn moved_file(&self, from: &str, to: &str) -> Result<Items<(Text, Items<u8>)>, AllocError>
+    fn moved_file(&self, from: &str, to: &str) -> Result<SharedFiles, AllocError>
         ensures { IfOk result (λ files. files ≡ lists.moved_file self.now.files from.now to.now) }
     {
         let alloc = self.log.allocator();
