@@ -8,7 +8,7 @@ use Rattle.sys_traits.specs.Paths.{Path}
 use Rattle.sys_traits.specs.State.{Told, WhereTold, refusal_of}
 use Rattle.sys_traits.specs.Calls.{FolderCreated, LookedUp}
 use Rattle.deno_path_util.specs.Course.{Deed, naming, folder_of, making, looking, IsFault, IsWrite}
-use Rattle.deno_path_util.specs.Steps.{Stretch, Quiet, IsPassed, IsOver, IsOverAfter, IsNamed, IsLooked}
+use Rattle.deno_path_util.specs.Steps.{Stretch, Quiet, IsPassed, IsOver, IsOverAfter, HasEnding, IsLooked}
 use Rattle.deno_path_util.proofs.ToldLemmas.{told_map, told_two, told_three}
 use Rattle.deno_path_util.proofs.StretchLemmas.{stretch_then, stretch_are, quiet_stretch, quiet_call, quiet_none, quiet_then}
 use Rattle.deno_path_util.proofs.CourseLemmas.{over_done, over_refused, over_again, again_done, again_refused, again_wanted, again_unmade, looked_there, looked_missing, looked_not_seen, looked_wanted}
@@ -21,7 +21,7 @@ told_over_done temporary path content mode x y h =
     (stretch_are path content (Ok tt) (Ok tt) (IsPassed temporary path mode None) (IsOver {A = Unit {0}} temporary path mode (Ok tt)) (λ p o. refl) (over_done temporary path mode)) x y h
 
 pub told_over_refused : (temporary path content : List ℕ) (mode : ℕ) (first e : SysError) → (first.kind ≡ NotFound → ⊥)
-    → IsNamed (naming path) first.kind e.kind e.message → (x y : Option Told)
+    → HasEnding (naming path) first.kind e.kind e.message → (x y : Option Told)
     → WhereTold (Stretch {A = Unit {0}} path content (Err first) (IsPassed temporary path mode (Some first.kind))) x y
     → WhereTold (Stretch {A = Unit {0}} path content (Err e) (IsOver {A = Unit {0}} temporary path mode (Err e))) x y
 told_over_refused temporary path content mode first e not_missing named x y h =
@@ -67,7 +67,7 @@ told_again_done temporary path content mode folder is e x y z h k =
     told_two (FolderCreated folder None) (Stretch {A = Unit {0}} path content (Ok tt) (IsPassed temporary path mode None)) (Stretch {A = Unit {0}} path content (Ok tt) (IsOverAfter {A = Unit {0}} temporary path mode (Ok tt)))
     (made_then path content folder is e (Ok tt) (IsPassed temporary path mode None) (IsOverAfter {A = Unit {0}} temporary path mode (Ok tt)) (again_done temporary path mode)) x y z h k
 
-pub told_again_refused : (temporary path content : List ℕ) (mode : ℕ) (folder : Path) → folder ≡ folder_of path → (second e : SysError) → IsNamed (naming path) second.kind e.kind e.message → (x y z : Option Told)
+pub told_again_refused : (temporary path content : List ℕ) (mode : ℕ) (folder : Path) → folder ≡ folder_of path → (second e : SysError) → HasEnding (naming path) second.kind e.kind e.message → (x y z : Option Told)
     → WhereTold (FolderCreated folder None) x y → WhereTold (Stretch {A = Unit {0}} path content (Err second) (IsPassed temporary path mode (Some second.kind))) y z
     → WhereTold (Stretch {A = Unit {0}} path content (Err e) (IsOverAfter {A = Unit {0}} temporary path mode (Err e))) x z
 told_again_refused temporary path content mode folder is second e named x y z h k =
@@ -101,21 +101,21 @@ told_again_unmade temporary path content mode folder is refused e fault x y z h 
 
 -- ---- the look for a folder that wasn't made
 
-pub told_looked_there : (path : Path) (folder : Path) → folder ≡ folder_of path → (kind : SysErrorKind) (e : SysError) → IsNamed (naming path) NotFound e.kind e.message → (x y : Option Told)
+pub told_looked_there : (path : Path) (folder : Path) → folder ≡ folder_of path → (kind : SysErrorKind) (e : SysError) → HasEnding (naming path) NotFound e.kind e.message → (x y : Option Told)
     → WhereTold (LookedUp folder 1 None) x y → WhereTold (Quiet (IsLooked path kind e)) x y
 told_looked_there path folder is kind e named x y h =
     told_map (LookedUp folder 1 None) (Quiet (IsLooked path kind e))
     (λ a b l. quiet_call Exists folder None 1 None (IsLooked path kind e) a b l.0 l.1 (looked_there path kind e _ (ap (λ f. looking f 1 None ∷ []) is) named)) x y h
 
 pub told_looked_missing : (path : Path) (folder : Path) → folder ≡ folder_of path → (kind : SysErrorKind) (e : SysError)
-    → IsNamed (naming (folder_of path) ++ codes "\nCheck the permission of the directory.") kind e.kind e.message → (x y : Option Told)
+    → HasEnding (naming (folder_of path) ++ codes "\nCheck the permission of the directory.") kind e.kind e.message → (x y : Option Told)
     → WhereTold (LookedUp folder 0 None) x y → WhereTold (Quiet (IsLooked path kind e)) x y
 told_looked_missing path folder is kind e named x y h =
     told_map (LookedUp folder 0 None) (Quiet (IsLooked path kind e))
     (λ a b l. quiet_call Exists folder None 0 None (IsLooked path kind e) a b l.0 l.1 (looked_missing path kind e _ (ap (λ f. looking f 0 None ∷ []) is) named)) x y h
 
 not_seen_quiet : (path : Path) (folder : Path) → folder ≡ folder_of path → (kind seen : SysErrorKind) (e : SysError) → IsFault seen
-    → IsNamed (naming (folder_of path) ++ codes "\nCheck the permission of the directory.") kind e.kind e.message → (a b : Told)
+    → HasEnding (naming (folder_of path) ++ codes "\nCheck the permission of the directory.") kind e.kind e.message → (a b : Told)
     → LookedUp folder 0 (Some seen) a b → Quiet (IsLooked path kind e) a b
 not_seen_quiet path folder is kind NotFound e fault named a b l =
     quiet_call Exists folder None 0 (Some NotFound) (IsLooked path kind e) a b l.0 l.1 (looked_not_seen path kind NotFound e _ tt (ap (λ f. looking f 0 (Some NotFound) ∷ []) is) named)
@@ -124,7 +124,7 @@ not_seen_quiet path folder is kind Failed e fault named a b l =
 not_seen_quiet path folder is kind OutOfMemory e fault named a b l = absurd fault
 
 pub told_looked_not_seen : (path : Path) (folder : Path) → folder ≡ folder_of path → (kind seen : SysErrorKind) (e : SysError) → IsFault seen
-    → IsNamed (naming (folder_of path) ++ codes "\nCheck the permission of the directory.") kind e.kind e.message → (x y : Option Told)
+    → HasEnding (naming (folder_of path) ++ codes "\nCheck the permission of the directory.") kind e.kind e.message → (x y : Option Told)
     → WhereTold (LookedUp folder 0 (Some seen)) x y → WhereTold (Quiet (IsLooked path kind e)) x y
 told_looked_not_seen path folder is kind seen e fault named x y h =
     told_map (LookedUp folder 0 (Some seen)) (Quiet (IsLooked path kind e)) (not_seen_quiet path folder is kind seen e fault named) x y h

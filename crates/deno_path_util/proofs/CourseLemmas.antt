@@ -8,7 +8,7 @@ use Rattle.deno_path_util.specs.Atomic.{atomic_path}
 use Rattle.deno_path_util.specs.Course.{Deed, Pass, pass_deeds, pass_refusal, IsPass, Look, look_deed, look_picked, IsLook, Body, Once, Again, NotMade, body_deeds, body_picked, IsBody, Course, NotDrawn, Drawn, course_deeds, IsCourse, picked, Answer, pass_answer, IsFault, UnlessWant, IsAnswer, IsError, naming, folder_of, making, drawing, draws, IsWrite}
 use Rattle.deno_path_util.specs.Course as course
 use Rattle.deno_path_util.specs.Course.{There, Missing, NotSeen, OfFolder, OfPath}
-use Rattle.deno_path_util.specs.Steps.{IsPassed, IsOver, IsOverAfter, IsNamed, IsLooked}
+use Rattle.deno_path_util.specs.Steps.{IsPassed, IsOver, IsOverAfter, IsNamed, HasEnding, IsLooked}
 use Rattle.deno_path_util.proofs.ToldLemmas.{ended_by}
 
 -- a fact of calls that ended, and one of calls that were begun, carried over
@@ -18,21 +18,28 @@ by_refusal A B C D (Some NotFound) f g h = f h
 by_refusal A B C D (Some Failed) f g h = f h
 by_refusal A B C D (Some OutOfMemory) f g h = g h
 
--- want of memory leaves what was begun
+-- out of memory leaves what was begun
 wanted_by : (A B : Type 0) (kind : SysErrorKind) → kind ≡ OutOfMemory → B → UnlessWant (Some kind) A B
 wanted_by A B kind e h = subst (λ k. UnlessWant (Some k) A B) (sym e) h
 
 -- ---- messages
 
+-- whatever its message was before
+pub has_ending : (ending : List ℕ) (refused : SysErrorKind) (own : List ℕ) (kind : SysErrorKind) (message : List ℕ)
+    → IsNamed ending refused own kind message → HasEnding ending refused kind message
+has_ending ending NotFound own kind message h = by_refusal _ _ _ _ (Some kind) (λ k. (k.0, own, k.1)) (λ u. u) h
+has_ending ending Failed own kind message h = by_refusal _ _ _ _ (Some kind) (λ k. (k.0, own, k.1)) (λ u. u) h
+has_ending ending OutOfMemory own kind message h = h.0
+
 -- an error whose message was given an end, unless memory ran out
-named_error : (ending : List ℕ) (refused : SysErrorKind) (e : SysError) → IsNamed ending refused e.kind e.message
+named_error : (ending : List ℕ) (refused : SysErrorKind) (e : SysError) → HasEnding ending refused e.kind e.message
     → UnlessWant (Some e.kind) (IsError refused ending e) (Unit {0})
 named_error ending NotFound e h = by_refusal _ _ _ _ (Some e.kind) (λ k. record { is = k.0; of_call = k.1; message = k.2 }) (λ u. u) h
 named_error ending Failed e h = by_refusal _ _ _ _ (Some e.kind) (λ k. record { is = k.0; of_call = k.1; message = k.2 }) (λ u. u) h
 named_error ending OutOfMemory e h = subst (λ k. UnlessWant (Some k) (IsError OutOfMemory ending e) (Unit {0})) (sym h) tt
 
--- want of memory is answered as it is
-want_stays : (ending : List ℕ) (e : SysError) → IsNamed ending OutOfMemory e.kind e.message → e.kind ≡ OutOfMemory
+-- out of memory is answered as it is
+want_stays : (ending : List ℕ) (e : SysError) → HasEnding ending OutOfMemory e.kind e.message → e.kind ≡ OutOfMemory
 want_stays ending e h = h
 
 answer_done : (path : Path) (refusal : Option SysErrorKind) → refusal ≡ None → IsAnswer {A = Unit {0}} path (pass_answer refusal) (Ok tt)
@@ -72,7 +79,7 @@ over_done temporary path mode calls h = (Once h.0, (h.1, λ e. let is = h.2 in c
 
 -- one pass is refused otherwise than by `NotFound`
 pub over_refused : (temporary path : Path) (mode : ℕ) (kind : SysErrorKind) (e : SysError) (calls : List Deed)
-    → (kind ≡ NotFound → ⊥) → IsNamed (naming path) kind e.kind e.message → IsPassed temporary path mode (Some kind) calls
+    → (kind ≡ NotFound → ⊥) → HasEnding (naming path) kind e.kind e.message → IsPassed temporary path mode (Some kind) calls
     → IsOver {A = Unit {0}} temporary path mode (Err e) calls
 over_refused temporary path mode NotFound e calls not_missing named h = absurd (not_missing refl)
 over_refused temporary path mode Failed e calls not_missing named h =
@@ -127,7 +134,7 @@ again_refused_by temporary path mode kind e xs ys making' named second is2 refus
 
 -- the folder is made, and the second pass is refused
 pub again_refused : (temporary path : Path) (mode : ℕ) (kind : SysErrorKind) (e : SysError) (xs ys : List Deed) → xs ≡ making (folder_of path) None ∷ []
-    → IsNamed (naming path) kind e.kind e.message → IsPassed temporary path mode (Some kind) ys
+    → HasEnding (naming path) kind e.kind e.message → IsPassed temporary path mode (Some kind) ys
     → IsOverAfter {A = Unit {0}} temporary path mode (Err e) (xs ++ ys)
 again_refused temporary path mode NotFound e xs ys m named h = again_refused_by temporary path mode NotFound e xs ys m (named_error (naming path) NotFound e named) h.0 h.1 h.2 h.3
 again_refused temporary path mode Failed e xs ys m named h = again_refused_by temporary path mode Failed e xs ys m (named_error (naming path) Failed e named) h.0 h.1 h.2 h.3
@@ -162,7 +169,7 @@ again_unmade temporary path mode kind e xs ys fault m looked first is missing =
 
 -- what a look leads to
 pub looked_there : (path : Path) (kind : SysErrorKind) (e : SysError) (calls : List Deed) → calls ≡ look_deed (folder_of path) There ∷ []
-    → IsNamed (naming path) NotFound e.kind e.message → IsLooked path kind e calls
+    → HasEnding (naming path) NotFound e.kind e.message → IsLooked path kind e calls
 looked_there path kind e calls is named =
     by_refusal _ _ _ _ (Some e.kind) (λ error. (There, tt, is, (e, refl, error))) (λ _. (There, tt, [], append-nil calls ∙ is)) (named_error (naming path) NotFound e named)
 
@@ -174,11 +181,11 @@ unmade_by path kind e calls look fine picks is named =
     (λ _. (look, fine, [], append-nil calls ∙ is)) named
 
 pub looked_missing : (path : Path) (kind : SysErrorKind) (e : SysError) (calls : List Deed) → calls ≡ look_deed (folder_of path) Missing ∷ []
-    → IsNamed (naming (folder_of path) ++ codes "\nCheck the permission of the directory.") kind e.kind e.message → IsLooked path kind e calls
+    → HasEnding (naming (folder_of path) ++ codes "\nCheck the permission of the directory.") kind e.kind e.message → IsLooked path kind e calls
 looked_missing path kind e calls is named = unmade_by path kind e calls Missing tt refl is (named_error _ kind e named)
 
 pub looked_not_seen : (path : Path) (kind seen : SysErrorKind) (e : SysError) (calls : List Deed) → IsFault seen → calls ≡ look_deed (folder_of path) (NotSeen seen) ∷ []
-    → IsNamed (naming (folder_of path) ++ codes "\nCheck the permission of the directory.") kind e.kind e.message → IsLooked path kind e calls
+    → HasEnding (naming (folder_of path) ++ codes "\nCheck the permission of the directory.") kind e.kind e.message → IsLooked path kind e calls
 looked_not_seen path kind seen e calls fault is named = unmade_by path kind e calls (NotSeen seen) fault refl is (named_error _ kind e named)
 
 -- the look wanted memory

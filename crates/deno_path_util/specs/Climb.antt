@@ -1,5 +1,5 @@
 -- The real path of a path that need not be there.
-use Rattle.std.specs.Prelude.{◌≡◌, ◌⊎◌, ℕ, List, [], ◌∷◌, length, codes, Option, Some, None, Result, Ok, Err, if◌then◌else◌, ◌==◌, string_bytes}
+use Rattle.std.specs.Prelude.{◌≡◌, ◌⊎◌, ℕ, List, [], ◌∷◌, ◌++◌, length, codes, Option, Some, None, Result, Ok, Err, if◌then◌else◌, ◌==◌, string_bytes}
 use Rattle.std.specs.declared.string.String.{String}
 use Rattle.std.specs.Path.{path_join, path_parent, path_file_name}
 use Rattle.sys_traits.specs.declared.error.SysErrorKind.{SysErrorKind}
@@ -42,7 +42,8 @@ abbrev pub outcome_of : {A : Type 0} → Result (String A) SysError → Outcome
 outcome_of (Ok answer) = Ok (string_bytes answer)
 outcome_of (Err e) = Err e.kind
 
--- the calls climb to this answer, unless memory ran out
+-- the calls climb to this answer; if memory ran out they are the first calls of a climb
 abbrev pub IsClimbed : {A : Type 0} → Path → Result (String A) SysError → List Deed → Type 0
 IsClimbed path (Ok answer) calls = IsClimb calls path (Ok (string_bytes answer))
-IsClimbed path (Err e) calls = UnlessWant (Some e.kind) (IsClimb calls path (Err e.kind)) (Unit {0})
+IsClimbed path (Err e) calls = UnlessWant (Some e.kind) (IsClimb calls path (Err e.kind))
+    ((rest : List Deed) × (outcome : Outcome) × IsClimb (calls ++ rest) path outcome)

@@ -53,7 +53,7 @@ drawing byte refused = record { kind = Random; path = []; to = None; number = by
 abbrev pub sleeping : ℕ → Deed
 sleeping ms = record { kind = Sleep; path = []; to = None; number = ms; refusal = None }
 
--- a refusal by the system, and not for want of memory
+-- a refusal by the system, and not because memory ran out
 abbrev pub IsFault : SysErrorKind → Type 0
 IsFault NotFound = Unit {0}
 IsFault Failed = Unit {0}
@@ -212,13 +212,13 @@ UnlessWant (Some NotFound) ended begun = ended
 UnlessWant (Some Failed) ended begun = ended
 UnlessWant (Some OutOfMemory) ended begun = begun
 
--- These are the calls of an atomic write with this result; on want of memory they are the first calls of one.
+-- These are the calls of an atomic write with this result; if memory ran out they are the first calls of one.
 abbrev pub IsWrite : {A : Type 0} → Path → ℕ → Result A SysError → List Deed → Type 0
 IsWrite path mode result calls = UnlessWant (refusal_of result)
     ((course : Course) × IsCourse course × IsAnswer path (picked course) result × (calls ≡ course_deeds path mode course))
     ((course : Course) × IsCourse course × (rest : List Deed) × (calls ++ rest ≡ course_deeds path mode course))
 
--- the result is the temporary path of four bytes that these calls drew, or the refusal of a byte; on want of memory they
+-- the result is the temporary path of four bytes that these calls drew, or the refusal of a byte; if memory ran out they
 -- drew some
 abbrev pub IsTemporary : {A : Type 0} → Path → Result (String A) SysError → List Deed → Type 0
 IsTemporary path (Ok temporary) calls =

@@ -1,5 +1,6 @@
 -- What the functions of the atomic write promise each other.
 use Rattle.std.specs.Prelude.{◌≡◌, ◌≢◌, ℕ, ◌<◌, length, List, [], ◌∷◌, ◌++◌, Option, Some, None, Result, Ok, Err, codes}
+use Rattle.std.specs.Path.{path_join}
 use Rattle.sys_traits.specs.declared.error.SysErrorKind.{SysErrorKind}
 use Rattle.sys_traits.specs.declared.error.SysErrorKind.TheVariants.{NotFound, Failed, OutOfMemory}
 use Rattle.sys_traits.specs.declared.error.SysError.{SysError}
@@ -65,7 +66,7 @@ IsFour (Err e) calls = UnlessWant (Some e.kind)
     ((bytes : List ℕ) × (length bytes < 4) × (calls ≡ draws bytes ++ drawing 0 (Some e.kind) ∷ []))
     ((bytes : List ℕ) × (length bytes < 4) × (calls ≡ draws bytes))
 
--- the refusal that is answered after a refused rename: want of memory at the removal comes before it
+-- the refusal that is answered after a refused rename: out of memory at the removal comes before it
 abbrev pub removal_answer : SysErrorKind → Option SysErrorKind → SysErrorKind
 removal_answer refused None = refused
 removal_answer refused (Some NotFound) = refused
@@ -78,10 +79,21 @@ IsTakenAway temporary OutOfMemory answered old new = (new ≡ old) × (answered 
 IsTakenAway temporary refused answered old new =
     (removal : Option SysErrorKind) × Removed temporary removal old new × (answered ≡ removal_answer refused removal)
 
--- an error with this end behind its message, or want of memory
-abbrev pub IsNamed : List ℕ → SysErrorKind → SysErrorKind → List ℕ → Type 0
-IsNamed ending OutOfMemory kind message = kind ≡ OutOfMemory
-IsNamed ending refused kind message = UnlessWant (Some kind) ((kind ≡ refused) × (of_call : List ℕ) × (message ≡ of_call ++ ending)) (Unit {0})
+-- the message of an error of this kind has this end behind it now, unless memory ran out; an error that says so stays
+abbrev pub IsNamed : List ℕ → SysErrorKind → List ℕ → SysErrorKind → List ℕ → Type 0
+IsNamed ending OutOfMemory own kind message = (kind ≡ OutOfMemory) × (message ≡ own)
+IsNamed ending refused own kind message = UnlessWant (Some kind) ((kind ≡ refused) × (message ≡ own ++ ending)) (Unit {0})
+
+-- an error of this kind with this end behind some message, unless memory ran out
+abbrev pub HasEnding : List ℕ → SysErrorKind → SysErrorKind → List ℕ → Type 0
+HasEnding ending OutOfMemory kind message = kind ≡ OutOfMemory
+HasEnding ending refused kind message =
+    UnlessWant (Some kind) ((kind ≡ refused) × (of_call : List ℕ) × (message ≡ of_call ++ ending)) (Unit {0})
+
+-- the path with these names behind it, the last of them first
+abbrev pub joined_names : List Path → Path → Path
+joined_names [] path = path
+joined_names (name ∷ names) path = path_join (joined_names names path) name
 
 -- these bytes were drawn, one call each
 abbrev pub AreDrawn : List ℕ → List Deed → Type 0

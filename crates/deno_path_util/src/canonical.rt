@@ -1,11 +1,11 @@
 //! The real path of a path that need not be there.
 ghost use Rattle.std.specs.Prelude.{◌≡◌, IfOk, string_bytes};
-ghost use Rattle.lexical_path.specs.Paths.{joined_path};
+ghost use Rattle.lexical_path.specs.Paths.{joined_path, texts};
 ghost use Rattle.sys_traits.specs.State.{WhereTold, refusal_of, IsCounted};
 ghost use Rattle.deno_path_util.specs.Climb.{IsClimbed};
 ghost use Rattle.deno_path_util.specs.Climb as spec;
 ghost use Rattle.deno_path_util.specs.WriteLaw.{HasCalls, KeepsAll};
-ghost use Rattle.deno_path_util.specs.Steps.{Quiet};
+ghost use Rattle.deno_path_util.specs.Steps.{Quiet, joined_names};
 
 use lexical_path::{file_name, parent};
 use std::alloc::{AllocError, Global};
@@ -15,7 +15,7 @@ use sys_traits::{FsCanonicalize, SysError, SysErrorKind};
 /// The real path of the longest path above this one that is there, with the other names behind it. A relative path
 /// that isn't there at all stands in the current folder.
 ///
-/// The refusal is answered where it isn't `NotFound`, or where no name or no parent is left.
+/// The refusal is answered, its message as it is, where it isn't `NotFound`, or where no name or no parent is left.
 pub fn canonicalize_path_maybe_not_exists<S: FsCanonicalize>(
     alloc: Global,
     sys: &mut S,
@@ -33,24 +33,45 @@ fn climb<S: FsCanonicalize>(alloc: Global, sys: &mut S, path: &str) -> Result<St
     ensures counts { IsCounted (refusal_of result) (S.faults sys.old) (S.faults sys.new) }
     ensures tells { WhereTold (Quiet (IsClimbed path.now result)) (S.told sys.old) (S.told sys.new) }
 {
-    let error = match sys.fs_canonicalize(path) {
-        Ok(found) => return Ok(found),
-        Err(error) => error,
-    };
-    if error.kind != SysErrorKind::NotFound {
-        return Err(error);
+    // The names that aren't there, the last one first.
+    let mut names = Vec::new(alloc);
+    let mut here = path;
+    'missing: loop {
+        let error = match sys.fs_canonicalize(here) {
+            Ok(found) => {
+                return match with_names(found, names) {
+                    Ok(joined) => Ok(joined),
+                    Err(_) => Err(SysError::out_of_memory(alloc)),
+                };
+            }
+            Err(error) => error,
+        };
+        if error.kind != SysErrorKind::NotFound {
+            return Err(error);
+        }
+        let Some(name) = file_name(here) else {
+            return Err(error);
+        };
+        let Some(folder) = parent(here) else {
+            return Err(error);
+        };
+        if let Err(_) = names.push(name) {
+            return Err(SysError::out_of_memory(alloc));
+        }
+        here = or_here(folder);
     }
-    let Some(name) = file_name(path) else {
-        return Err(error);
-    };
-    let Some(folder) = parent(path) else {
-        return Err(error);
-    };
-    let above = climb(alloc, sys, or_here(folder))?;
-    match with_name(above, name) {
-        Ok(joined) => Ok(joined),
-        Err(_) => Err(SysError::out_of_memory(alloc)),
+}
+
+// The path with these names behind it, the last of them first.
+fn with_names(path: String, names: Vec<&str>) -> Result<String, AllocError>
+    ensures { IfOk result (λ s. string_bytes s ≡ joined_names (texts names.entry.items) (string_bytes path)) }
+{
+    let mut names = names;
+    let mut joined = path;
+    'names: while let Some(name) = names.pop() {
+        joined = with_name(joined, name)?;
     }
+    Ok(joined)
 }
 
 // The path with this name behind it, in the same memory.

@@ -7,9 +7,9 @@ use base::Text;
 use std::alloc::{AllocError, Global};
 use sys_traits::{SysError, SysErrorKind};
 
-/// The error, its message naming this path, and then with this end.
+/// The error, with ` (for 'PATH')` and this end behind its message.
 pub fn named(alloc: Global, error: SysError, path: &str, end: &str) -> SysError
-    ensures { IsNamed (naming path.now ++ end.now) error.kind result.kind result.message }
+    ensures { IsNamed (naming path.now ++ end.now) error.kind error.message result.kind result.message }
 {
     if error.kind == SysErrorKind::OutOfMemory {
         return error;

@@ -14,7 +14,7 @@
 //! - The calls of a system as traits, and `InMemorySys`, a system in memory (`sys_traits`).
 //!
 //! The law and the calls are told by what the system tells of its files and its log; one that tells nothing is promised
-//! the causes of refusals alone. Want of memory is the one answer that no clause ties to a cause.
+//! the causes of refusals alone. `OutOfMemory` is the one answer that no clause ties to a cause.
 #![tactic(auto)]
 
 mod atomic;

@@ -11,7 +11,7 @@ use std::alloc::Global;
 use sys_traits::{AtomicWriteFileWithRetriesSys, SysError, SysErrorKind, ThreadSleep};
 
 /// Tries `atomic_write_file` until it succeeds, six times at most, and sleeps 10, 20, 30, 40 and 50 milliseconds
-/// between. After the sixth try its error is answered. Want of memory ends it at once.
+/// between. After the sixth try its error is answered. Where memory runs out it ends at once.
 pub fn atomic_write_file_with_retries<S: AtomicWriteFileWithRetriesSys>(
     alloc: Global,
     sys: &mut S,
