@@ -1,5 +1,5 @@
 -- The `type` among the attributes of an import (ECMA-262, "WithClause"; for `import()`, "ImportCall").
-use Rattle.std.specs.Prelude.{ℕ, Bool, true, false, not, ◌&&◌, List, [], ◌∷◌, Option, Some, None, fold, bytes_eq, codes, if◌then◌else◌}
+use Rattle.std.specs.Prelude.{ℕ, Bool, true, false, ◌&&◌, List, [], ◌∷◌, Option, Some, None, fold, bytes_eq, codes, if◌then◌else◌}
 use Rattle.ts_ast.specs.declared.leaf.Str.{Str}
 use Rattle.es_ast.specs.declared.leaf.ModuleExportName.{ModuleExportName}
 use Rattle.es_ast.specs.declared.leaf.ModuleExportName.TheVariants as vName
@@ -41,9 +41,15 @@ says word (Expr-F.Expr::Ident name) = bytes_eq name.sym word
 says word (Expr-F.Lit (vLit.Str s)) = bytes_eq s.value word
 says word _ = false
 
--- the property is a plain `key: value`
+-- the expression is a word or a string
+abbrev pub is_name : ExprParts → Bool
+is_name (Expr-F.Expr::Ident _) = true
+is_name (Expr-F.Lit (vLit.Str _)) = true
+is_name _ = false
+
+-- the property is a plain `key: value`, whose key is a word or a string
 abbrev pub plain_part : PropParts → Bool
-plain_part (Prop-F.Prop::KeyValue computed _ _ _) = not computed
+plain_part (Prop-F.Prop::KeyValue false key _ _) = is_name (out-Expr key)
 plain_part _ = false
 
 abbrev pub is_plain : Prop → Bool

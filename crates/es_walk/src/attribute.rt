@@ -4,7 +4,7 @@ ghost use Rattle.std.specs.Prelude.{◌≡◌, IfOk};
 ghost use Rattle.std.specs.Option.{option_copied};
 ghost use Rattle.es_ast.specs.declared.ast.Expr.{out-Expr};
 ghost use Rattle.es_ast.specs.declared.ast.Prop.{out-Prop};
-ghost use Rattle.es_walk.specs.Attributes.{spells, last_type, named, attribute_of, says, is_plain as IsPlain, are_plain as ArePlain, given_part, last_given as LastGiven, type_attribute, with_attribute, options_attribute};
+ghost use Rattle.es_walk.specs.Attributes.{spells, last_type, named, attribute_of, says, is_name as IsName, is_plain as IsPlain, are_plain as ArePlain, given_part, last_given as LastGiven, type_attribute, with_attribute, options_attribute};
 
 use crate::site::Attribute;
 use es_ast::{Expr, ImportAttribute, ImportAttributes, Lit, ModuleExportName, Prop, Str};
@@ -101,17 +101,28 @@ fn says(word: &str, key: &Expr) -> bool
     }
 }
 
-/// Whether the property is a plain `key: value`.
+/// Whether the expression is a word or a string.
+fn is_name(key: &Expr) -> bool
+    ensures { result ≡ IsName (out-Expr key.now) }
+{
+    match key {
+        Expr::Ident(_) => true,
+        Expr::Lit(Lit::Str(_)) => true,
+        _ => false,
+    }
+}
+
+/// Whether the property is a plain `key: value`, whose key is a word or a string.
 fn is_plain(prop: &Prop) -> bool
     ensures { result ≡ IsPlain prop.now }
 {
     match prop {
         Prop::KeyValue {
-            computed,
-            key: _,
+            computed: false,
+            key,
             value: _,
             span: _,
-        } => !*computed,
+        } => is_name(key.get()),
         _ => false,
     }
 }
