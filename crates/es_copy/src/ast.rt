@@ -1,7 +1,9 @@
-//! Copies of expressions, statements and what holds them.
+//! Copies of expressions, statements and what holds them: one function for each type, or for a list where a type stands in
+//! lists alone, so that few functions call each other.
 
 ghost use Rattle.std.specs.Prelude.{◌≡◌, IfOk, take};
 
+use crate::boxed::boxed;
 use crate::leaf::{
     export_all, import_decl, lit, named_export, ts_import_equals_decl, ts_namespace_export_decl,
 };
@@ -14,32 +16,22 @@ use std::alloc::{AllocError, Global};
 use ts_copy::TreeCopy;
 
 #[cycle(copy)]
-fn module_item(alloc: Global, it: &ModuleItem) -> Result<ModuleItem, AllocError>
-    ensures { IfOk result (λ copy. copy ≡ it.now) }
-{
-    match it {
-        ModuleItem::ModuleDecl(it) => Ok(ModuleItem::ModuleDecl(module_decl_box(alloc, it.get())?)),
-        ModuleItem::Stmt(it) => Ok(ModuleItem::Stmt(stmt_box(alloc, it.get())?)),
-    }
-}
-
-#[cycle(copy)]
-fn module_decl(alloc: Global, it: &ModuleDecl) -> Result<ModuleDecl, AllocError>
+fn copy_module_decl(alloc: Global, it: &ModuleDecl) -> Result<ModuleDecl, AllocError>
     ensures { IfOk result (λ copy. copy ≡ it.now) }
 {
     match it {
         ModuleDecl::Import(it) => Ok(ModuleDecl::Import(import_decl(alloc, it)?)),
         ModuleDecl::ExportDecl { decl, span } => Ok(ModuleDecl::ExportDecl {
-            decl: decl_box(alloc, decl.get())?,
+            decl: boxed(alloc, copy_decl(alloc, decl.get()))?,
             span: *span,
         }),
         ModuleDecl::ExportNamed(it) => Ok(ModuleDecl::ExportNamed(named_export(alloc, it)?)),
         ModuleDecl::ExportDefaultDecl { decl, span } => Ok(ModuleDecl::ExportDefaultDecl {
-            decl: decl_box(alloc, decl.get())?,
+            decl: boxed(alloc, copy_decl(alloc, decl.get()))?,
             span: *span,
         }),
         ModuleDecl::ExportDefaultExpr { expr, span } => Ok(ModuleDecl::ExportDefaultExpr {
-            expr: expr_box(alloc, expr.get())?,
+            expr: boxed(alloc, copy_expr(alloc, expr.get()))?,
             span: *span,
         }),
         ModuleDecl::ExportAll(it) => Ok(ModuleDecl::ExportAll(export_all(alloc, it)?)),
@@ -47,7 +39,7 @@ fn module_decl(alloc: Global, it: &ModuleDecl) -> Result<ModuleDecl, AllocError>
             alloc, it,
         )?)),
         ModuleDecl::TsExportAssignment { expr, span } => Ok(ModuleDecl::TsExportAssignment {
-            expr: expr_box(alloc, expr.get())?,
+            expr: boxed(alloc, copy_expr(alloc, expr.get()))?,
             span: *span,
         }),
         ModuleDecl::TsNamespaceExport(it) => Ok(ModuleDecl::TsNamespaceExport(
@@ -57,28 +49,28 @@ fn module_decl(alloc: Global, it: &ModuleDecl) -> Result<ModuleDecl, AllocError>
 }
 
 #[cycle(copy)]
-fn stmt(alloc: Global, it: &Stmt) -> Result<Stmt, AllocError>
+fn copy_stmt(alloc: Global, it: &Stmt) -> Result<Stmt, AllocError>
     ensures { IfOk result (λ copy. copy ≡ it.now) }
 {
     match it {
         Stmt::Block { stmts, span } => Ok(Stmt::Block {
-            stmts: stmt_list(alloc, stmts.as_slice())?,
+            stmts: copy_stmts(alloc, stmts.as_slice())?,
             span: *span,
         }),
         Stmt::Empty(span) => Ok(Stmt::Empty(*span)),
         Stmt::Debugger(span) => Ok(Stmt::Debugger(*span)),
         Stmt::With { obj, body, span } => Ok(Stmt::With {
-            obj: expr_box(alloc, obj.get())?,
-            body: stmt_box(alloc, body.get())?,
+            obj: boxed(alloc, copy_expr(alloc, obj.get()))?,
+            body: boxed(alloc, copy_stmt(alloc, body.get()))?,
             span: *span,
         }),
         Stmt::Return { arg, span } => Ok(Stmt::Return {
-            arg: expr_if(alloc, arg)?,
+            arg: copy_expr_if(alloc, arg)?,
             span: *span,
         }),
         Stmt::Labeled { label, body, span } => Ok(Stmt::Labeled {
             label: label.copy(alloc)?,
-            body: stmt_box(alloc, body.get())?,
+            body: boxed(alloc, copy_stmt(alloc, body.get()))?,
             span: *span,
         }),
         Stmt::Break { label, span } => Ok(Stmt::Break {
@@ -95,9 +87,9 @@ fn stmt(alloc: Global, it: &Stmt) -> Result<Stmt, AllocError>
             alt,
             span,
         } => Ok(Stmt::If {
-            test: expr_box(alloc, test.get())?,
-            cons: stmt_box(alloc, cons.get())?,
-            alt: stmt_if(alloc, alt)?,
+            test: boxed(alloc, copy_expr(alloc, test.get()))?,
+            cons: boxed(alloc, copy_stmt(alloc, cons.get()))?,
+            alt: copy_stmt_if(alloc, alt)?,
             span: *span,
         }),
         Stmt::Switch {
@@ -105,12 +97,12 @@ fn stmt(alloc: Global, it: &Stmt) -> Result<Stmt, AllocError>
             cases,
             span,
         } => Ok(Stmt::Switch {
-            discriminant: expr_box(alloc, discriminant.get())?,
-            cases: switch_case_list(alloc, cases.as_slice())?,
+            discriminant: boxed(alloc, copy_expr(alloc, discriminant.get()))?,
+            cases: copy_switch_cases(alloc, cases.as_slice())?,
             span: *span,
         }),
         Stmt::Throw { arg, span } => Ok(Stmt::Throw {
-            arg: expr_box(alloc, arg.get())?,
+            arg: boxed(alloc, copy_expr(alloc, arg.get()))?,
             span: *span,
         }),
         Stmt::Try {
@@ -120,20 +112,20 @@ fn stmt(alloc: Global, it: &Stmt) -> Result<Stmt, AllocError>
             finalizer,
             span,
         } => Ok(Stmt::Try {
-            block: stmt_box(alloc, block.get())?,
-            param: pat_if(alloc, param)?,
-            handler: stmt_if(alloc, handler)?,
-            finalizer: stmt_if(alloc, finalizer)?,
+            block: boxed(alloc, copy_stmt(alloc, block.get()))?,
+            param: copy_pat_if(alloc, param)?,
+            handler: copy_stmt_if(alloc, handler)?,
+            finalizer: copy_stmt_if(alloc, finalizer)?,
             span: *span,
         }),
         Stmt::While { test, body, span } => Ok(Stmt::While {
-            test: expr_box(alloc, test.get())?,
-            body: stmt_box(alloc, body.get())?,
+            test: boxed(alloc, copy_expr(alloc, test.get()))?,
+            body: boxed(alloc, copy_stmt(alloc, body.get()))?,
             span: *span,
         }),
         Stmt::DoWhile { body, test, span } => Ok(Stmt::DoWhile {
-            body: stmt_box(alloc, body.get())?,
-            test: expr_box(alloc, test.get())?,
+            body: boxed(alloc, copy_stmt(alloc, body.get()))?,
+            test: boxed(alloc, copy_expr(alloc, test.get()))?,
             span: *span,
         }),
         Stmt::For {
@@ -143,10 +135,10 @@ fn stmt(alloc: Global, it: &Stmt) -> Result<Stmt, AllocError>
             body,
             span,
         } => Ok(Stmt::For {
-            init: stmt_if(alloc, init)?,
-            test: expr_if(alloc, test)?,
-            update: expr_if(alloc, update)?,
-            body: stmt_box(alloc, body.get())?,
+            init: copy_stmt_if(alloc, init)?,
+            test: copy_expr_if(alloc, test)?,
+            update: copy_expr_if(alloc, update)?,
+            body: boxed(alloc, copy_stmt(alloc, body.get()))?,
             span: *span,
         }),
         Stmt::ForIn {
@@ -157,9 +149,9 @@ fn stmt(alloc: Global, it: &Stmt) -> Result<Stmt, AllocError>
             span,
         } => Ok(Stmt::ForIn {
             kind: *kind,
-            left: pat_box(alloc, left.get())?,
-            right: expr_box(alloc, right.get())?,
-            body: stmt_box(alloc, body.get())?,
+            left: boxed(alloc, copy_pat(alloc, left.get()))?,
+            right: boxed(alloc, copy_expr(alloc, right.get()))?,
+            body: boxed(alloc, copy_stmt(alloc, body.get()))?,
             span: *span,
         }),
         Stmt::ForOf {
@@ -172,21 +164,21 @@ fn stmt(alloc: Global, it: &Stmt) -> Result<Stmt, AllocError>
         } => Ok(Stmt::ForOf {
             is_await: *is_await,
             kind: *kind,
-            left: pat_box(alloc, left.get())?,
-            right: expr_box(alloc, right.get())?,
-            body: stmt_box(alloc, body.get())?,
+            left: boxed(alloc, copy_pat(alloc, left.get()))?,
+            right: boxed(alloc, copy_expr(alloc, right.get()))?,
+            body: boxed(alloc, copy_stmt(alloc, body.get()))?,
             span: *span,
         }),
-        Stmt::Decl(it) => Ok(Stmt::Decl(decl_box(alloc, it.get())?)),
+        Stmt::Decl(it) => Ok(Stmt::Decl(boxed(alloc, copy_decl(alloc, it.get()))?)),
         Stmt::Expr { expr, span } => Ok(Stmt::Expr {
-            expr: expr_box(alloc, expr.get())?,
+            expr: boxed(alloc, copy_expr(alloc, expr.get()))?,
             span: *span,
         }),
     }
 }
 
 #[cycle(copy)]
-fn decl(alloc: Global, it: &Decl) -> Result<Decl, AllocError>
+fn copy_decl(alloc: Global, it: &Decl) -> Result<Decl, AllocError>
     ensures { IfOk result (λ copy. copy ≡ it.now) }
 {
     match it {
@@ -196,7 +188,7 @@ fn decl(alloc: Global, it: &Decl) -> Result<Decl, AllocError>
             span,
         } => Ok(Decl::Class {
             declare: *declare,
-            class: class_box(alloc, class.get())?,
+            class: boxed(alloc, copy_class(alloc, class.get()))?,
             span: *span,
         }),
         Decl::Fn {
@@ -205,7 +197,7 @@ fn decl(alloc: Global, it: &Decl) -> Result<Decl, AllocError>
             span,
         } => Ok(Decl::Fn {
             declare: *declare,
-            function: function_box(alloc, function.get())?,
+            function: boxed(alloc, copy_function(alloc, function.get()))?,
             span: *span,
         }),
         Decl::Var {
@@ -216,7 +208,7 @@ fn decl(alloc: Global, it: &Decl) -> Result<Decl, AllocError>
         } => Ok(Decl::Var {
             declare: *declare,
             kind: *kind,
-            decls: var_declarator_list(alloc, decls.as_slice())?,
+            decls: copy_var_declarators(alloc, decls.as_slice())?,
             span: *span,
         }),
         Decl::TsInterface {
@@ -257,7 +249,7 @@ fn decl(alloc: Global, it: &Decl) -> Result<Decl, AllocError>
             declare: *declare,
             is_const: *is_const,
             id: id.copy(alloc)?,
-            members: ts_enum_member_list(alloc, members.as_slice())?,
+            members: copy_ts_enum_members(alloc, members.as_slice())?,
             span: *span,
         }),
         Decl::TsNamespace {
@@ -270,7 +262,7 @@ fn decl(alloc: Global, it: &Decl) -> Result<Decl, AllocError>
             declare: *declare,
             is_module: *is_module,
             id: id.copy(alloc)?,
-            body: module_item_list(alloc, body.as_slice())?,
+            body: copy_module_items(alloc, body.as_slice())?,
             span: *span,
         }),
         Decl::TsModule {
@@ -283,7 +275,7 @@ fn decl(alloc: Global, it: &Decl) -> Result<Decl, AllocError>
             declare: *declare,
             id: id.copy(alloc)?,
             has_body: *has_body,
-            body: module_item_list(alloc, body.as_slice())?,
+            body: copy_module_items(alloc, body.as_slice())?,
             span: *span,
         }),
         Decl::TsGlobal {
@@ -292,14 +284,14 @@ fn decl(alloc: Global, it: &Decl) -> Result<Decl, AllocError>
             span,
         } => Ok(Decl::TsGlobal {
             declare: *declare,
-            body: module_item_list(alloc, body.as_slice())?,
+            body: copy_module_items(alloc, body.as_slice())?,
             span: *span,
         }),
     }
 }
 
 #[cycle(copy)]
-fn expr(alloc: Global, it: &Expr) -> Result<Expr, AllocError>
+fn copy_expr(alloc: Global, it: &Expr) -> Result<Expr, AllocError>
     ensures { IfOk result (λ copy. copy ≡ it.now) }
 {
     match it {
@@ -310,27 +302,27 @@ fn expr(alloc: Global, it: &Expr) -> Result<Expr, AllocError>
         Expr::Lit(it) => Ok(Expr::Lit(lit(alloc, it)?)),
         Expr::Hole(span) => Ok(Expr::Hole(*span)),
         Expr::Array { elems, span } => Ok(Expr::Array {
-            elems: expr_list(alloc, elems.as_slice())?,
+            elems: copy_exprs(alloc, elems.as_slice())?,
             span: *span,
         }),
         Expr::Spread { expr, span } => Ok(Expr::Spread {
-            expr: expr_box(alloc, expr.get())?,
+            expr: boxed(alloc, copy_expr(alloc, expr.get()))?,
             span: *span,
         }),
         Expr::Object { props, span } => Ok(Expr::Object {
-            props: prop_list(alloc, props.as_slice())?,
+            props: copy_props(alloc, props.as_slice())?,
             span: *span,
         }),
-        Expr::Fn(it) => Ok(Expr::Fn(function_box(alloc, it.get())?)),
-        Expr::Class(it) => Ok(Expr::Class(class_box(alloc, it.get())?)),
-        Expr::Arrow(it) => Ok(Expr::Arrow(function_box(alloc, it.get())?)),
+        Expr::Fn(it) => Ok(Expr::Fn(boxed(alloc, copy_function(alloc, it.get()))?)),
+        Expr::Class(it) => Ok(Expr::Class(boxed(alloc, copy_class(alloc, it.get()))?)),
+        Expr::Arrow(it) => Ok(Expr::Arrow(boxed(alloc, copy_function(alloc, it.get()))?)),
         Expr::Paren { expr, span } => Ok(Expr::Paren {
-            expr: expr_box(alloc, expr.get())?,
+            expr: boxed(alloc, copy_expr(alloc, expr.get()))?,
             span: *span,
         }),
         Expr::Unary { op, arg, span } => Ok(Expr::Unary {
             op: *op,
-            arg: expr_box(alloc, arg.get())?,
+            arg: boxed(alloc, copy_expr(alloc, arg.get()))?,
             span: *span,
         }),
         Expr::Update {
@@ -341,11 +333,11 @@ fn expr(alloc: Global, it: &Expr) -> Result<Expr, AllocError>
         } => Ok(Expr::Update {
             op: *op,
             prefix: *prefix,
-            arg: expr_box(alloc, arg.get())?,
+            arg: boxed(alloc, copy_expr(alloc, arg.get()))?,
             span: *span,
         }),
         Expr::Await { arg, span } => Ok(Expr::Await {
-            arg: expr_box(alloc, arg.get())?,
+            arg: boxed(alloc, copy_expr(alloc, arg.get()))?,
             span: *span,
         }),
         Expr::Yield {
@@ -354,7 +346,7 @@ fn expr(alloc: Global, it: &Expr) -> Result<Expr, AllocError>
             span,
         } => Ok(Expr::Yield {
             delegate: *delegate,
-            arg: expr_if(alloc, arg)?,
+            arg: copy_expr_if(alloc, arg)?,
             span: *span,
         }),
         Expr::Bin {
@@ -364,8 +356,8 @@ fn expr(alloc: Global, it: &Expr) -> Result<Expr, AllocError>
             span,
         } => Ok(Expr::Bin {
             op: *op,
-            left: expr_box(alloc, left.get())?,
-            right: expr_box(alloc, right.get())?,
+            left: boxed(alloc, copy_expr(alloc, left.get()))?,
+            right: boxed(alloc, copy_expr(alloc, right.get()))?,
             span: *span,
         }),
         Expr::Assign {
@@ -375,8 +367,8 @@ fn expr(alloc: Global, it: &Expr) -> Result<Expr, AllocError>
             span,
         } => Ok(Expr::Assign {
             op: *op,
-            left: pat_box(alloc, left.get())?,
-            right: expr_box(alloc, right.get())?,
+            left: boxed(alloc, copy_pat(alloc, left.get()))?,
+            right: boxed(alloc, copy_expr(alloc, right.get()))?,
             span: *span,
         }),
         Expr::Cond {
@@ -385,13 +377,13 @@ fn expr(alloc: Global, it: &Expr) -> Result<Expr, AllocError>
             alt,
             span,
         } => Ok(Expr::Cond {
-            test: expr_box(alloc, test.get())?,
-            cons: expr_box(alloc, cons.get())?,
-            alt: expr_box(alloc, alt.get())?,
+            test: boxed(alloc, copy_expr(alloc, test.get()))?,
+            cons: boxed(alloc, copy_expr(alloc, cons.get()))?,
+            alt: boxed(alloc, copy_expr(alloc, alt.get()))?,
             span: *span,
         }),
         Expr::Seq { exprs, span } => Ok(Expr::Seq {
-            exprs: expr_list(alloc, exprs.as_slice())?,
+            exprs: copy_exprs(alloc, exprs.as_slice())?,
             span: *span,
         }),
         Expr::Member {
@@ -401,7 +393,7 @@ fn expr(alloc: Global, it: &Expr) -> Result<Expr, AllocError>
             prop,
             span,
         } => Ok(Expr::Member {
-            obj: expr_box(alloc, obj.get())?,
+            obj: boxed(alloc, copy_expr(alloc, obj.get()))?,
             optional: *optional,
             is_private: *is_private,
             prop: prop.copy(alloc)?,
@@ -413,9 +405,9 @@ fn expr(alloc: Global, it: &Expr) -> Result<Expr, AllocError>
             prop,
             span,
         } => Ok(Expr::Index {
-            obj: expr_box(alloc, obj.get())?,
+            obj: boxed(alloc, copy_expr(alloc, obj.get()))?,
             optional: *optional,
-            prop: expr_box(alloc, prop.get())?,
+            prop: boxed(alloc, copy_expr(alloc, prop.get()))?,
             span: *span,
         }),
         Expr::Call {
@@ -425,10 +417,10 @@ fn expr(alloc: Global, it: &Expr) -> Result<Expr, AllocError>
             args,
             span,
         } => Ok(Expr::Call {
-            callee: expr_box(alloc, callee.get())?,
+            callee: boxed(alloc, copy_expr(alloc, callee.get()))?,
             optional: *optional,
             type_args: type_args.copy(alloc)?,
-            args: expr_list(alloc, args.as_slice())?,
+            args: copy_exprs(alloc, args.as_slice())?,
             span: *span,
         }),
         Expr::New {
@@ -438,14 +430,14 @@ fn expr(alloc: Global, it: &Expr) -> Result<Expr, AllocError>
             args,
             span,
         } => Ok(Expr::New {
-            callee: expr_box(alloc, callee.get())?,
+            callee: boxed(alloc, copy_expr(alloc, callee.get()))?,
             type_args: type_args.copy(alloc)?,
             has_args: *has_args,
-            args: expr_list(alloc, args.as_slice())?,
+            args: copy_exprs(alloc, args.as_slice())?,
             span: *span,
         }),
         Expr::ImportCall { args, span } => Ok(Expr::ImportCall {
-            args: expr_list(alloc, args.as_slice())?,
+            args: copy_exprs(alloc, args.as_slice())?,
             span: *span,
         }),
         Expr::ImportMeta(span) => Ok(Expr::ImportMeta(*span)),
@@ -456,7 +448,7 @@ fn expr(alloc: Global, it: &Expr) -> Result<Expr, AllocError>
             span,
         } => Ok(Expr::Tpl {
             quasis: quasis.copy(alloc)?,
-            exprs: expr_list(alloc, exprs.as_slice())?,
+            exprs: copy_exprs(alloc, exprs.as_slice())?,
             span: *span,
         }),
         Expr::TaggedTpl {
@@ -465,13 +457,13 @@ fn expr(alloc: Global, it: &Expr) -> Result<Expr, AllocError>
             tpl,
             span,
         } => Ok(Expr::TaggedTpl {
-            tag: expr_box(alloc, tag.get())?,
+            tag: boxed(alloc, copy_expr(alloc, tag.get()))?,
             type_args: type_args.copy(alloc)?,
-            tpl: expr_box(alloc, tpl.get())?,
+            tpl: boxed(alloc, copy_expr(alloc, tpl.get()))?,
             span: *span,
         }),
         Expr::TsNonNull { expr, span } => Ok(Expr::TsNonNull {
-            expr: expr_box(alloc, expr.get())?,
+            expr: boxed(alloc, copy_expr(alloc, expr.get()))?,
             span: *span,
         }),
         Expr::TsAs {
@@ -479,12 +471,12 @@ fn expr(alloc: Global, it: &Expr) -> Result<Expr, AllocError>
             type_ann,
             span,
         } => Ok(Expr::TsAs {
-            expr: expr_box(alloc, expr.get())?,
+            expr: boxed(alloc, copy_expr(alloc, expr.get()))?,
             type_ann: type_ann.copy(alloc)?,
             span: *span,
         }),
         Expr::TsConstAssertion { expr, span } => Ok(Expr::TsConstAssertion {
-            expr: expr_box(alloc, expr.get())?,
+            expr: boxed(alloc, copy_expr(alloc, expr.get()))?,
             span: *span,
         }),
         Expr::TsSatisfies {
@@ -492,7 +484,7 @@ fn expr(alloc: Global, it: &Expr) -> Result<Expr, AllocError>
             type_ann,
             span,
         } => Ok(Expr::TsSatisfies {
-            expr: expr_box(alloc, expr.get())?,
+            expr: boxed(alloc, copy_expr(alloc, expr.get()))?,
             type_ann: type_ann.copy(alloc)?,
             span: *span,
         }),
@@ -500,7 +492,7 @@ fn expr(alloc: Global, it: &Expr) -> Result<Expr, AllocError>
 }
 
 #[cycle(copy)]
-fn pat(alloc: Global, it: &Pat) -> Result<Pat, AllocError>
+fn copy_pat(alloc: Global, it: &Pat) -> Result<Pat, AllocError>
     ensures { IfOk result (λ copy. copy ≡ it.now) }
 {
     match it {
@@ -520,7 +512,7 @@ fn pat(alloc: Global, it: &Pat) -> Result<Pat, AllocError>
             type_ann,
             span,
         } => Ok(Pat::Array {
-            elems: pat_list(alloc, elems.as_slice())?,
+            elems: copy_pats(alloc, elems.as_slice())?,
             optional: *optional,
             type_ann: type_ann.copy(alloc)?,
             span: *span,
@@ -531,7 +523,7 @@ fn pat(alloc: Global, it: &Pat) -> Result<Pat, AllocError>
             type_ann,
             span,
         } => Ok(Pat::Object {
-            props: object_pat_prop_list(alloc, props.as_slice())?,
+            props: copy_object_pat_props(alloc, props.as_slice())?,
             optional: *optional,
             type_ann: type_ann.copy(alloc)?,
             span: *span,
@@ -541,86 +533,21 @@ fn pat(alloc: Global, it: &Pat) -> Result<Pat, AllocError>
             type_ann,
             span,
         } => Ok(Pat::Rest {
-            arg: pat_box(alloc, arg.get())?,
+            arg: boxed(alloc, copy_pat(alloc, arg.get()))?,
             type_ann: type_ann.copy(alloc)?,
             span: *span,
         }),
         Pat::Assign { left, right, span } => Ok(Pat::Assign {
-            left: pat_box(alloc, left.get())?,
-            right: expr_box(alloc, right.get())?,
+            left: boxed(alloc, copy_pat(alloc, left.get()))?,
+            right: boxed(alloc, copy_expr(alloc, right.get()))?,
             span: *span,
         }),
-        Pat::Expr(it) => Ok(Pat::Expr(expr_box(alloc, it.get())?)),
+        Pat::Expr(it) => Ok(Pat::Expr(boxed(alloc, copy_expr(alloc, it.get()))?)),
     }
 }
 
 #[cycle(copy)]
-fn object_pat_prop(alloc: Global, it: &ObjectPatProp) -> Result<ObjectPatProp, AllocError>
-    ensures { IfOk result (λ copy. copy ≡ it.now) }
-{
-    match it {
-        ObjectPatProp::KeyValue {
-            computed,
-            key,
-            value,
-            span,
-        } => Ok(ObjectPatProp::KeyValue {
-            computed: *computed,
-            key: expr_box(alloc, key.get())?,
-            value: pat_box(alloc, value.get())?,
-            span: *span,
-        }),
-        ObjectPatProp::Assign { key, value, span } => Ok(ObjectPatProp::Assign {
-            key: key.copy(alloc)?,
-            value: expr_if(alloc, value)?,
-            span: *span,
-        }),
-        ObjectPatProp::Rest { arg, span } => Ok(ObjectPatProp::Rest {
-            arg: pat_box(alloc, arg.get())?,
-            span: *span,
-        }),
-    }
-}
-
-#[cycle(copy)]
-fn prop(alloc: Global, it: &Prop) -> Result<Prop, AllocError>
-    ensures { IfOk result (λ copy. copy ≡ it.now) }
-{
-    match it {
-        Prop::Spread { expr, span } => Ok(Prop::Spread {
-            expr: expr_box(alloc, expr.get())?,
-            span: *span,
-        }),
-        Prop::Shorthand(it) => Ok(Prop::Shorthand(it.copy(alloc)?)),
-        Prop::KeyValue {
-            computed,
-            key,
-            value,
-            span,
-        } => Ok(Prop::KeyValue {
-            computed: *computed,
-            key: expr_box(alloc, key.get())?,
-            value: expr_box(alloc, value.get())?,
-            span: *span,
-        }),
-        Prop::Method {
-            kind,
-            computed,
-            key,
-            function,
-            span,
-        } => Ok(Prop::Method {
-            kind: *kind,
-            computed: *computed,
-            key: expr_box(alloc, key.get())?,
-            function: function_box(alloc, function.get())?,
-            span: *span,
-        }),
-    }
-}
-
-#[cycle(copy)]
-fn function(alloc: Global, it: &Function) -> Result<Function, AllocError>
+fn copy_function(alloc: Global, it: &Function) -> Result<Function, AllocError>
     ensures { IfOk result (λ copy. copy ≡ it.now) }
 {
     Ok(Function {
@@ -628,139 +555,31 @@ fn function(alloc: Global, it: &Function) -> Result<Function, AllocError>
         is_async: it.is_async,
         is_generator: it.is_generator,
         type_params: it.type_params.copy(alloc)?,
-        params: param_list(alloc, it.params.as_slice())?,
+        params: copy_params(alloc, it.params.as_slice())?,
         return_type: it.return_type.copy(alloc)?,
-        body: stmt_if(alloc, &it.body)?,
+        body: copy_stmt_if(alloc, &it.body)?,
         span: it.span,
     })
 }
 
 #[cycle(copy)]
-fn param(alloc: Global, it: &Param) -> Result<Param, AllocError>
-    ensures { IfOk result (λ copy. copy ≡ it.now) }
-{
-    Ok(Param {
-        modifiers: it.modifiers,
-        pat: pat_box(alloc, it.pat.get())?,
-        span: it.span,
-    })
-}
-
-#[cycle(copy)]
-fn var_declarator(alloc: Global, it: &VarDeclarator) -> Result<VarDeclarator, AllocError>
-    ensures { IfOk result (λ copy. copy ≡ it.now) }
-{
-    Ok(VarDeclarator {
-        name: pat_box(alloc, it.name.get())?,
-        definite: it.definite,
-        init: expr_if(alloc, &it.init)?,
-        span: it.span,
-    })
-}
-
-#[cycle(copy)]
-fn switch_case(alloc: Global, it: &SwitchCase) -> Result<SwitchCase, AllocError>
-    ensures { IfOk result (λ copy. copy ≡ it.now) }
-{
-    Ok(SwitchCase {
-        test: expr_if(alloc, &it.test)?,
-        cons: stmt_list(alloc, it.cons.as_slice())?,
-        span: it.span,
-    })
-}
-
-#[cycle(copy)]
-fn ts_enum_member(alloc: Global, it: &TsEnumMember) -> Result<TsEnumMember, AllocError>
-    ensures { IfOk result (λ copy. copy ≡ it.now) }
-{
-    Ok(TsEnumMember {
-        computed: it.computed,
-        id: expr_box(alloc, it.id.get())?,
-        init: expr_if(alloc, &it.init)?,
-        span: it.span,
-    })
-}
-
-#[cycle(copy)]
-fn class(alloc: Global, it: &Class) -> Result<Class, AllocError>
+fn copy_class(alloc: Global, it: &Class) -> Result<Class, AllocError>
     ensures { IfOk result (λ copy. copy ≡ it.now) }
 {
     Ok(Class {
         ident: it.ident.copy(alloc)?,
         is_abstract: it.is_abstract,
         type_params: it.type_params.copy(alloc)?,
-        super_class: expr_if(alloc, &it.super_class)?,
+        super_class: copy_expr_if(alloc, &it.super_class)?,
         super_type_args: it.super_type_args.copy(alloc)?,
         implements: it.implements.copy(alloc)?,
-        body: class_member_list(alloc, it.body.as_slice())?,
+        body: copy_class_members(alloc, it.body.as_slice())?,
         span: it.span,
     })
 }
 
 #[cycle(copy)]
-fn class_member(alloc: Global, it: &ClassMember) -> Result<ClassMember, AllocError>
-    ensures { IfOk result (λ copy. copy ≡ it.now) }
-{
-    match it {
-        ClassMember::Empty(span) => Ok(ClassMember::Empty(*span)),
-        ClassMember::StaticBlock { stmts, span } => Ok(ClassMember::StaticBlock {
-            stmts: stmt_list(alloc, stmts.as_slice())?,
-            span: *span,
-        }),
-        ClassMember::TsIndexSignature {
-            modifiers,
-            name,
-            of,
-            type_ann,
-            span,
-        } => Ok(ClassMember::TsIndexSignature {
-            modifiers: *modifiers,
-            name: name.copy(alloc)?,
-            of: of.copy(alloc)?,
-            type_ann: type_ann.copy(alloc)?,
-            span: *span,
-        }),
-        ClassMember::Method {
-            modifiers,
-            kind,
-            computed,
-            key,
-            optional,
-            function,
-            span,
-        } => Ok(ClassMember::Method {
-            modifiers: *modifiers,
-            kind: *kind,
-            computed: *computed,
-            key: expr_box(alloc, key.get())?,
-            optional: *optional,
-            function: function_box(alloc, function.get())?,
-            span: *span,
-        }),
-        ClassMember::Prop {
-            modifiers,
-            computed,
-            key,
-            optional,
-            definite,
-            type_ann,
-            value,
-            span,
-        } => Ok(ClassMember::Prop {
-            modifiers: *modifiers,
-            computed: *computed,
-            key: expr_box(alloc, key.get())?,
-            optional: *optional,
-            definite: *definite,
-            type_ann: type_ann.copy(alloc)?,
-            value: expr_if(alloc, value)?,
-            span: *span,
-        }),
-    }
-}
-
-#[cycle(copy)]
-pub(crate) fn module_item_list(
+pub(crate) fn copy_module_items(
     alloc: Global,
     all: &[ModuleItem],
 ) -> Result<Items<ModuleItem>, AllocError>
@@ -768,111 +587,85 @@ pub(crate) fn module_item_list(
 {
     let mut copies = Items::new(alloc);
     for it in all {
-        copies.push(module_item(alloc, it)?)?;
+        match it {
+            ModuleItem::ModuleDecl(it) => copies.push(ModuleItem::ModuleDecl(boxed(
+                alloc,
+                copy_module_decl(alloc, it.get()),
+            )?))?,
+            ModuleItem::Stmt(it) => copies.push(ModuleItem::Stmt(boxed(
+                alloc,
+                copy_stmt(alloc, it.get()),
+            )?))?,
+        }
     }
     Ok(copies)
 }
 
 #[cycle(copy)]
-fn module_decl_box(alloc: Global, it: &ModuleDecl) -> Result<Boxed<ModuleDecl>, AllocError>
-    ensures { IfOk result (λ copy. copy ≡ it.now) }
-{
-    Ok(Boxed::new(alloc, module_decl(alloc, it)?)?)
-}
-
-#[cycle(copy)]
-fn stmt_box(alloc: Global, it: &Stmt) -> Result<Boxed<Stmt>, AllocError>
-    ensures { IfOk result (λ copy. copy ≡ it.now) }
-{
-    Ok(Boxed::new(alloc, stmt(alloc, it)?)?)
-}
-
-#[cycle(copy)]
-pub(crate) fn stmt_list(alloc: Global, all: &[Stmt]) -> Result<Items<Stmt>, AllocError>
+pub(crate) fn copy_stmts(alloc: Global, all: &[Stmt]) -> Result<Items<Stmt>, AllocError>
     ensures { IfOk result (λ copies. copies ≡ all.now) }
 {
     let mut copies = Items::new(alloc);
     for it in all {
-        copies.push(stmt(alloc, it)?)?;
+        copies.push(copy_stmt(alloc, it)?)?;
     }
     Ok(copies)
 }
 
 #[cycle(copy)]
-fn stmt_if(alloc: Global, it: &Option<Boxed<Stmt>>) -> Result<Option<Boxed<Stmt>>, AllocError>
+fn copy_stmt_if(alloc: Global, it: &Option<Boxed<Stmt>>) -> Result<Option<Boxed<Stmt>>, AllocError>
     ensures { IfOk result (λ copy. copy ≡ it.now) }
 {
     match it {
-        Some(it) => Ok(Some(stmt_box(alloc, it.get())?)),
+        Some(it) => Ok(Some(boxed(alloc, copy_stmt(alloc, it.get()))?)),
         None => Ok(None),
     }
 }
 
 #[cycle(copy)]
-fn decl_box(alloc: Global, it: &Decl) -> Result<Boxed<Decl>, AllocError>
-    ensures { IfOk result (λ copy. copy ≡ it.now) }
-{
-    Ok(Boxed::new(alloc, decl(alloc, it)?)?)
-}
-
-#[cycle(copy)]
-fn expr_box(alloc: Global, it: &Expr) -> Result<Boxed<Expr>, AllocError>
-    ensures { IfOk result (λ copy. copy ≡ it.now) }
-{
-    Ok(Boxed::new(alloc, expr(alloc, it)?)?)
-}
-
-#[cycle(copy)]
-fn expr_list(alloc: Global, all: &[Expr]) -> Result<Items<Expr>, AllocError>
+fn copy_exprs(alloc: Global, all: &[Expr]) -> Result<Items<Expr>, AllocError>
     ensures { IfOk result (λ copies. copies ≡ all.now) }
 {
     let mut copies = Items::new(alloc);
     for it in all {
-        copies.push(expr(alloc, it)?)?;
+        copies.push(copy_expr(alloc, it)?)?;
     }
     Ok(copies)
 }
 
 #[cycle(copy)]
-fn expr_if(alloc: Global, it: &Option<Boxed<Expr>>) -> Result<Option<Boxed<Expr>>, AllocError>
+fn copy_expr_if(alloc: Global, it: &Option<Boxed<Expr>>) -> Result<Option<Boxed<Expr>>, AllocError>
     ensures { IfOk result (λ copy. copy ≡ it.now) }
 {
     match it {
-        Some(it) => Ok(Some(expr_box(alloc, it.get())?)),
+        Some(it) => Ok(Some(boxed(alloc, copy_expr(alloc, it.get()))?)),
         None => Ok(None),
     }
 }
 
 #[cycle(copy)]
-fn pat_box(alloc: Global, it: &Pat) -> Result<Boxed<Pat>, AllocError>
-    ensures { IfOk result (λ copy. copy ≡ it.now) }
-{
-    Ok(Boxed::new(alloc, pat(alloc, it)?)?)
-}
-
-#[cycle(copy)]
-fn pat_list(alloc: Global, all: &[Pat]) -> Result<Items<Pat>, AllocError>
+fn copy_pats(alloc: Global, all: &[Pat]) -> Result<Items<Pat>, AllocError>
     ensures { IfOk result (λ copies. copies ≡ all.now) }
 {
     let mut copies = Items::new(alloc);
     for it in all {
-        copies.push(pat(alloc, it)?)?;
+        copies.push(copy_pat(alloc, it)?)?;
     }
     Ok(copies)
 }
 
 #[cycle(copy)]
-fn pat_if(alloc: Global, it: &Option<Boxed<Pat>>) -> Result<Option<Boxed<Pat>>, AllocError>
+fn copy_pat_if(alloc: Global, it: &Option<Boxed<Pat>>) -> Result<Option<Boxed<Pat>>, AllocError>
     ensures { IfOk result (λ copy. copy ≡ it.now) }
 {
     match it {
-        Some(it) => Ok(Some(pat_box(alloc, it.get())?)),
+        Some(it) => Ok(Some(boxed(alloc, copy_pat(alloc, it.get()))?)),
         None => Ok(None),
     }
 }
 
 #[cycle(copy)]
-fn object_pat_prop_list(
+fn copy_object_pat_props(
     alloc: Global,
     all: &[ObjectPatProp],
 ) -> Result<Items<ObjectPatProp>, AllocError>
@@ -880,42 +673,90 @@ fn object_pat_prop_list(
 {
     let mut copies = Items::new(alloc);
     for it in all {
-        copies.push(object_pat_prop(alloc, it)?)?;
+        match it {
+            ObjectPatProp::KeyValue {
+                computed,
+                key,
+                value,
+                span,
+            } => copies.push(ObjectPatProp::KeyValue {
+                computed: *computed,
+                key: boxed(alloc, copy_expr(alloc, key.get()))?,
+                value: boxed(alloc, copy_pat(alloc, value.get()))?,
+                span: *span,
+            })?,
+            ObjectPatProp::Assign { key, value, span } => copies.push(ObjectPatProp::Assign {
+                key: key.copy(alloc)?,
+                value: copy_expr_if(alloc, value)?,
+                span: *span,
+            })?,
+            ObjectPatProp::Rest { arg, span } => copies.push(ObjectPatProp::Rest {
+                arg: boxed(alloc, copy_pat(alloc, arg.get()))?,
+                span: *span,
+            })?,
+        }
     }
     Ok(copies)
 }
 
 #[cycle(copy)]
-fn prop_list(alloc: Global, all: &[Prop]) -> Result<Items<Prop>, AllocError>
+fn copy_props(alloc: Global, all: &[Prop]) -> Result<Items<Prop>, AllocError>
     ensures { IfOk result (λ copies. copies ≡ all.now) }
 {
     let mut copies = Items::new(alloc);
     for it in all {
-        copies.push(prop(alloc, it)?)?;
+        match it {
+            Prop::Spread { expr, span } => copies.push(Prop::Spread {
+                expr: boxed(alloc, copy_expr(alloc, expr.get()))?,
+                span: *span,
+            })?,
+            Prop::Shorthand(it) => copies.push(Prop::Shorthand(it.copy(alloc)?))?,
+            Prop::KeyValue {
+                computed,
+                key,
+                value,
+                span,
+            } => copies.push(Prop::KeyValue {
+                computed: *computed,
+                key: boxed(alloc, copy_expr(alloc, key.get()))?,
+                value: boxed(alloc, copy_expr(alloc, value.get()))?,
+                span: *span,
+            })?,
+            Prop::Method {
+                kind,
+                computed,
+                key,
+                function,
+                span,
+            } => copies.push(Prop::Method {
+                kind: *kind,
+                computed: *computed,
+                key: boxed(alloc, copy_expr(alloc, key.get()))?,
+                function: boxed(alloc, copy_function(alloc, function.get()))?,
+                span: *span,
+            })?,
+        }
     }
     Ok(copies)
 }
 
 #[cycle(copy)]
-fn function_box(alloc: Global, it: &Function) -> Result<Boxed<Function>, AllocError>
-    ensures { IfOk result (λ copy. copy ≡ it.now) }
-{
-    Ok(Boxed::new(alloc, function(alloc, it)?)?)
-}
-
-#[cycle(copy)]
-fn param_list(alloc: Global, all: &[Param]) -> Result<Items<Param>, AllocError>
+fn copy_params(alloc: Global, all: &[Param]) -> Result<Items<Param>, AllocError>
     ensures { IfOk result (λ copies. copies ≡ all.now) }
 {
     let mut copies = Items::new(alloc);
     for it in all {
-        copies.push(param(alloc, it)?)?;
+        copies.push(Param {
+            modifiers: it.modifiers,
+            pat: boxed(alloc, copy_pat(alloc, it.pat.get()))?,
+            span: it.span,
+        })?;
     }
     Ok(copies)
 }
 
 #[cycle(copy)]
-fn var_declarator_list(
+fn copy_var_declarators(
     alloc: Global,
     all: &[VarDeclarator],
 ) -> Result<Items<VarDeclarator>, AllocError>
@@ -923,24 +764,33 @@ fn var_declarator_list(
 {
     let mut copies = Items::new(alloc);
     for it in all {
-        copies.push(var_declarator(alloc, it)?)?;
+        copies.push(VarDeclarator {
+            name: boxed(alloc, copy_pat(alloc, it.name.get()))?,
+            definite: it.definite,
+            init: copy_expr_if(alloc, &it.init)?,
+            span: it.span,
+        })?;
     }
     Ok(copies)
 }
 
 #[cycle(copy)]
-fn switch_case_list(alloc: Global, all: &[SwitchCase]) -> Result<Items<SwitchCase>, AllocError>
+fn copy_switch_cases(alloc: Global, all: &[SwitchCase]) -> Result<Items<SwitchCase>, AllocError>
     ensures { IfOk result (λ copies. copies ≡ all.now) }
 {
     let mut copies = Items::new(alloc);
     for it in all {
-        copies.push(switch_case(alloc, it)?)?;
+        copies.push(SwitchCase {
+            test: copy_expr_if(alloc, &it.test)?,
+            cons: copy_stmts(alloc, it.cons.as_slice())?,
+            span: it.span,
+        })?;
     }
     Ok(copies)
 }
 
 #[cycle(copy)]
-fn ts_enum_member_list(
+fn copy_ts_enum_members(
     alloc: Global,
     all: &[TsEnumMember],
 ) -> Result<Items<TsEnumMember>, AllocError>
@@ -948,25 +798,78 @@ fn ts_enum_member_list(
 {
     let mut copies = Items::new(alloc);
     for it in all {
-        copies.push(ts_enum_member(alloc, it)?)?;
+        copies.push(TsEnumMember {
+            computed: it.computed,
+            id: boxed(alloc, copy_expr(alloc, it.id.get()))?,
+            init: copy_expr_if(alloc, &it.init)?,
+            span: it.span,
+        })?;
     }
     Ok(copies)
 }
 
 #[cycle(copy)]
-fn class_box(alloc: Global, it: &Class) -> Result<Boxed<Class>, AllocError>
-    ensures { IfOk result (λ copy. copy ≡ it.now) }
-{
-    Ok(Boxed::new(alloc, class(alloc, it)?)?)
-}
-
-#[cycle(copy)]
-fn class_member_list(alloc: Global, all: &[ClassMember]) -> Result<Items<ClassMember>, AllocError>
+fn copy_class_members(alloc: Global, all: &[ClassMember]) -> Result<Items<ClassMember>, AllocError>
     ensures { IfOk result (λ copies. copies ≡ all.now) }
 {
     let mut copies = Items::new(alloc);
     for it in all {
-        copies.push(class_member(alloc, it)?)?;
+        match it {
+            ClassMember::Empty(span) => copies.push(ClassMember::Empty(*span))?,
+            ClassMember::StaticBlock { stmts, span } => copies.push(ClassMember::StaticBlock {
+                stmts: copy_stmts(alloc, stmts.as_slice())?,
+                span: *span,
+            })?,
+            ClassMember::TsIndexSignature {
+                modifiers,
+                name,
+                of,
+                type_ann,
+                span,
+            } => copies.push(ClassMember::TsIndexSignature {
+                modifiers: *modifiers,
+                name: name.copy(alloc)?,
+                of: of.copy(alloc)?,
+                type_ann: type_ann.copy(alloc)?,
+                span: *span,
+            })?,
+            ClassMember::Method {
+                modifiers,
+                kind,
+                computed,
+                key,
+                optional,
+                function,
+                span,
+            } => copies.push(ClassMember::Method {
+                modifiers: *modifiers,
+                kind: *kind,
+                computed: *computed,
+                key: boxed(alloc, copy_expr(alloc, key.get()))?,
+                optional: *optional,
+                function: boxed(alloc, copy_function(alloc, function.get()))?,
+                span: *span,
+            })?,
+            ClassMember::Prop {
+                modifiers,
+                computed,
+                key,
+                optional,
+                definite,
+                type_ann,
+                value,
+                span,
+            } => copies.push(ClassMember::Prop {
+                modifiers: *modifiers,
+                computed: *computed,
+                key: boxed(alloc, copy_expr(alloc, key.get()))?,
+                optional: *optional,
+                definite: *definite,
+                type_ann: type_ann.copy(alloc)?,
+                value: copy_expr_if(alloc, value)?,
+                span: *span,
+            })?,
+        }
     }
     Ok(copies)
 }

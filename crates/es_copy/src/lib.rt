@@ -10,6 +10,7 @@
 ghost use Rattle.std.specs.Prelude.{◌≡◌, IfOk};
 
 mod ast;
+mod boxed;
 mod leaf;
 mod program;
 
@@ -20,6 +21,3 @@ pub trait ProgramCopy: Drop {
     fn copy(&self, alloc: Global) -> Result<Self, AllocError>
         ensures { IfOk result (λ copy. copy ≡ self.now) };
 }
-
-#[cfg(test)]
-mod tests;

@@ -1,7 +1,7 @@
 //! Copies of whole programs.
 
 use crate::ProgramCopy;
-use crate::ast::{module_item_list, stmt_list};
+use crate::ast::{copy_module_items, copy_stmts};
 use es_ast::{Module, Program, Script};
 use std::alloc::{AllocError, Global};
 use ts_copy::TreeCopy;
@@ -19,7 +19,7 @@ impl ProgramCopy for Module {
     fn copy(&self, alloc: Global) -> Result<Self, AllocError> {
         Ok(Module {
             shebang: self.shebang.copy(alloc)?,
-            body: module_item_list(alloc, self.body.as_slice())?,
+            body: copy_module_items(alloc, self.body.as_slice())?,
             span: self.span,
         })
     }
@@ -29,7 +29,7 @@ impl ProgramCopy for Script {
     fn copy(&self, alloc: Global) -> Result<Self, AllocError> {
         Ok(Script {
             shebang: self.shebang.copy(alloc)?,
-            body: stmt_list(alloc, self.body.as_slice())?,
+            body: copy_stmts(alloc, self.body.as_slice())?,
             span: self.span,
         })
     }

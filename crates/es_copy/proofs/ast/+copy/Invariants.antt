@@ -1,35 +1,35 @@
 use Rattle.std.proofs.Common.{◌≡◌, take}
 use Rattle.es_copy.proofs.ast.+copy.Given as goal
 
-abbrev pub invariant-module_item_list-loop-it : goal.invariant-module_item_list-loop-it
-invariant-module_item_list-loop-it l = l.copies ≡ take l.it-index l.all
+abbrev pub invariant-copy_module_items-loop-it : goal.invariant-copy_module_items-loop-it
+invariant-copy_module_items-loop-it l = l.copies ≡ take l.it-index l.all
 
-abbrev pub invariant-stmt_list-loop-it : goal.invariant-stmt_list-loop-it
-invariant-stmt_list-loop-it l = l.copies ≡ take l.it-index l.all
+abbrev pub invariant-copy_stmts-loop-it : goal.invariant-copy_stmts-loop-it
+invariant-copy_stmts-loop-it l = l.copies ≡ take l.it-index l.all
 
-abbrev pub invariant-expr_list-loop-it : goal.invariant-expr_list-loop-it
-invariant-expr_list-loop-it l = l.copies ≡ take l.it-index l.all
+abbrev pub invariant-copy_exprs-loop-it : goal.invariant-copy_exprs-loop-it
+invariant-copy_exprs-loop-it l = l.copies ≡ take l.it-index l.all
 
-abbrev pub invariant-pat_list-loop-it : goal.invariant-pat_list-loop-it
-invariant-pat_list-loop-it l = l.copies ≡ take l.it-index l.all
+abbrev pub invariant-copy_pats-loop-it : goal.invariant-copy_pats-loop-it
+invariant-copy_pats-loop-it l = l.copies ≡ take l.it-index l.all
 
-abbrev pub invariant-object_pat_prop_list-loop-it : goal.invariant-object_pat_prop_list-loop-it
-invariant-object_pat_prop_list-loop-it l = l.copies ≡ take l.it-index l.all
+abbrev pub invariant-copy_object_pat_props-loop-it : goal.invariant-copy_object_pat_props-loop-it
+invariant-copy_object_pat_props-loop-it l = l.copies ≡ take l.it-index l.all
 
-abbrev pub invariant-prop_list-loop-it : goal.invariant-prop_list-loop-it
-invariant-prop_list-loop-it l = l.copies ≡ take l.it-index l.all
+abbrev pub invariant-copy_props-loop-it : goal.invariant-copy_props-loop-it
+invariant-copy_props-loop-it l = l.copies ≡ take l.it-index l.all
 
-abbrev pub invariant-param_list-loop-it : goal.invariant-param_list-loop-it
-invariant-param_list-loop-it l = l.copies ≡ take l.it-index l.all
+abbrev pub invariant-copy_params-loop-it : goal.invariant-copy_params-loop-it
+invariant-copy_params-loop-it l = l.copies ≡ take l.it-index l.all
 
-abbrev pub invariant-var_declarator_list-loop-it : goal.invariant-var_declarator_list-loop-it
-invariant-var_declarator_list-loop-it l = l.copies ≡ take l.it-index l.all
+abbrev pub invariant-copy_var_declarators-loop-it : goal.invariant-copy_var_declarators-loop-it
+invariant-copy_var_declarators-loop-it l = l.copies ≡ take l.it-index l.all
 
-abbrev pub invariant-switch_case_list-loop-it : goal.invariant-switch_case_list-loop-it
-invariant-switch_case_list-loop-it l = l.copies ≡ take l.it-index l.all
+abbrev pub invariant-copy_switch_cases-loop-it : goal.invariant-copy_switch_cases-loop-it
+invariant-copy_switch_cases-loop-it l = l.copies ≡ take l.it-index l.all
 
-abbrev pub invariant-ts_enum_member_list-loop-it : goal.invariant-ts_enum_member_list-loop-it
-invariant-ts_enum_member_list-loop-it l = l.copies ≡ take l.it-index l.all
+abbrev pub invariant-copy_ts_enum_members-loop-it : goal.invariant-copy_ts_enum_members-loop-it
+invariant-copy_ts_enum_members-loop-it l = l.copies ≡ take l.it-index l.all
 
-abbrev pub invariant-class_member_list-loop-it : goal.invariant-class_member_list-loop-it
-invariant-class_member_list-loop-it l = l.copies ≡ take l.it-index l.all
+abbrev pub invariant-copy_class_members-loop-it : goal.invariant-copy_class_members-loop-it
+invariant-copy_class_members-loop-it l = l.copies ≡ take l.it-index l.all
