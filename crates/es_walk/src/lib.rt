@@ -17,6 +17,3 @@ mod walk;
 
 pub use site::{Attribute, DependencyKind, Site};
 pub use walk::sites;
-
-#[cfg(test)]
-mod tests;

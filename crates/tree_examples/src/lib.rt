@@ -3,10 +3,18 @@
 #![tactic(auto)]
 
 #[cfg(test)]
+mod decls;
+#[cfg(test)]
 mod exprs;
 #[cfg(test)]
 mod maker;
 #[cfg(test)]
+mod members;
+#[cfg(test)]
 mod stmts;
 #[cfg(test)]
 mod tests;
+#[cfg(test)]
+mod told;
+#[cfg(test)]
+mod types;

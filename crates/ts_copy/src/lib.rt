@@ -20,6 +20,3 @@ pub trait TreeCopy: Drop {
     fn copy(&self, alloc: Global) -> Result<Self, AllocError>
         ensures { IfOk result (λ copy. copy ≡ self.now) };
 }
-
-#[cfg(test)]
-mod tests;

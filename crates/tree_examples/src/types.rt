@@ -1,6 +1,5 @@
 //! A type by hand, its copy, and the copy of the copy.
 
-use crate::TreeCopy;
 use base::{Boxed, Items, Range, Text};
 use std::alloc::{AllocError, Global};
 use std::test::Fail;
@@ -8,6 +7,7 @@ use ts_ast::{
     Ident, MethodKind, TsFnParam, TsKey, TsKeywordTypeKind, TsParamPat, TsPart, TsType,
     TsTypeElement,
 };
+use ts_copy::TreeCopy;
 
 fn name(alloc: Global, sym: &str, start: usize, end: usize) -> Result<Ident, AllocError> {
     Ok(Ident {
