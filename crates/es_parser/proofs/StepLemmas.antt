@@ -13,7 +13,7 @@ use Rattle.es_tree.specs.Form.{as_str}
 use Rattle.es_tree.specs.Reader.{Out, nothing}
 use Rattle.es_parser.specs.Dress.{Value, absent, more, str, leaf_value, end_of, start_of, end_before, span_of, items_in}
 use Rattle.es_parser.specs.Dress.{item as item_value}
-use Rattle.es_parser.specs.Steps.{Reads, all_of}
+use Rattle.es_parser.specs.Steps.{IsRead, all_of}
 use denote.Enum.Bare.{same_true}
 use Rattle.es_lexer.specs.contracts.token.TokenKind.{the_type}
 use Rattle.es_lexer.specs.Literals.{value_of}
@@ -70,9 +70,9 @@ span_tokens ts from to start end other s e = rw (ne_eqb from to other, s, e) ref
 
 -- what an error that is handed on tells
 pub handed_on : {A : Type 0} (value : A → Value) (out : Out Value) (r : Result A SyntaxError) (y e : SyntaxError) (to : ℕ)
-    → r ≡ Err y → y ≡ e → (e ≢ OutOfMemory → out ≡ nothing) → Reads value out r to
+    → r ≡ Err y → y ≡ e → (e ≢ OutOfMemory → out ≡ nothing) → IsRead value out r to
 handed_on {A = A} value out r y e to is_err same told =
-    let P : Result A SyntaxError → Type 0 = λ r. Reads value out r to in
+    let P : Result A SyntaxError → Type 0 = λ r. IsRead value out r to in
     subst P (sym (is_err ∙ ap Err same)) told
 
 -- ---- lists

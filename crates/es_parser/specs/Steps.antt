@@ -10,9 +10,9 @@ use Rattle.es_parser.specs.Rows.{Row, Label, rule}
 use Rattle.es_parser.specs.Dress.{Value, absent, turns, values}
 
 -- the answer is what was read, as a value, and the place behind it; or nothing was read, or memory ran out
-abbrev pub Reads : {A : Type 0} → (A → Value) → Out Value → Result A SyntaxError → ℕ → Type 0
-Reads value out (Ok a) to = out ≡ gives (value a) to
-Reads value out (Err e) to = e ≢ OutOfMemory → out ≡ nothing
+abbrev pub IsRead : {A : Type 0} → (A → Value) → Out Value → Result A SyntaxError → ℕ → Type 0
+IsRead value out (Ok a) to = out ≡ gives (value a) to
+IsRead value out (Err e) to = e ≢ OutOfMemory → out ≡ nothing
 
 -- the reader of a row at a place of the tokens of a text, with at most `room` nodes on a path
 unfoldable pub row_at : List ℕ → List Token → ℕ → Row → ℕ → Out Value

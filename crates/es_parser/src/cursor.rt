@@ -8,7 +8,7 @@ ghost use Rattle.es_tree.specs.Key.{keys_of, seen, is, is_end, is_token, is_afte
 ghost use Rattle.es_tree.specs.Form.{as_str};
 ghost use Rattle.es_parser.specs.Dress.{Value, absent, more, str, leaf_value, end_of, start_of, end_before, span_of};
 ghost use Rattle.es_parser.specs.Rows.{ended, may_end};
-ghost use Rattle.es_parser.specs.Steps.{Reads, parts};
+ghost use Rattle.es_parser.specs.Steps.{IsRead, parts};
 
 use base::Range;
 use es_ast::Str;
@@ -147,7 +147,7 @@ impl Parser<'_> {
     /// END: a `;`, which is taken; or before the end; or before a token on a new line.
     #[tactic(auto, unfolding(crate::specs::Rows::ended))]
     pub fn ended(&self, _room: usize, cursor: &mut Cursor) -> Result<(), SyntaxError>
-        ensures { Reads (λ _. more absent absent)
+        ensures { IsRead (λ _. more absent absent)
             (parts self.now.text.now self.now.tokens.now _room ended cursor.old.at) result cursor.new.at }
     {
         if !self.may_end(cursor.at) {

@@ -5,7 +5,7 @@ ghost use Rattle.es_lexer.specs.Reads.{ReadsTokens};
 ghost use Rattle.es_tree.specs.Key.{keys_of, is_token};
 ghost use Rattle.es_parser.specs.Dress.{item as item_value, more, absent};
 ghost use Rattle.es_parser.specs.Rows.{ItemRow, import_item, empty_item, item, one_item};
-ghost use Rattle.es_parser.specs.Steps.{Reads, row_at, by, turns_at, all_of};
+ghost use Rattle.es_parser.specs.Steps.{IsRead, row_at, by, turns_at, all_of};
 
 use crate::cursor::{Cursor, Parser};
 use base::{Boxed, Items};
@@ -18,7 +18,7 @@ impl Parser<'_> {
     #[tactic(auto, unfolding(crate::specs::Rows::import_item))]
     fn import_item(&self, room: usize, cursor: &mut Cursor) -> Result<ModuleItem, SyntaxError>
         requires { ReadsTokens self.now.text.now self.now.tokens.now }
-        ensures { Reads item_value
+        ensures { IsRead item_value
             (by self.now.text.now self.now.tokens.now room import_item cursor.old.at) result cursor.new.at }
     {
         let from = cursor.at;
@@ -39,7 +39,7 @@ impl Parser<'_> {
     /// ';'
     #[tactic(auto, unfolding(crate::specs::Rows::empty_item))]
     fn empty_item(&self, _room: usize, cursor: &mut Cursor) -> Result<ModuleItem, SyntaxError>
-        ensures { Reads item_value
+        ensures { IsRead item_value
             (by self.now.text.now self.now.tokens.now _room empty_item cursor.old.at) result cursor.new.at }
     {
         let start = cursor.at;
@@ -52,7 +52,7 @@ impl Parser<'_> {
     #[tactic(auto, unfolding(crate::specs::Rows::item))]
     fn item_at(&self, room: usize, cursor: &mut Cursor) -> Result<ModuleItem, SyntaxError>
         requires { ReadsTokens self.now.text.now self.now.tokens.now }
-        ensures { Reads item_value
+        ensures { IsRead item_value
             (by self.now.text.now self.now.tokens.now room item cursor.old.at) result cursor.new.at }
     {
         if self.sees(TokenKind::ImportWord, cursor.at) {
@@ -66,7 +66,7 @@ impl Parser<'_> {
     #[tactic(auto, unfolding(crate::specs::Steps::row_at, es_tree::specs::Reader::read_row, crate::specs::Rows::rule))]
     pub fn item(&self, room: usize, cursor: &mut Cursor) -> Result<ModuleItem, SyntaxError>
         requires { ReadsTokens self.now.text.now self.now.tokens.now }
-        ensures { Reads item_value (row_at self.now.text.now self.now.tokens.now room
+        ensures { IsRead item_value (row_at self.now.text.now self.now.tokens.now room
             (ItemRow self.now.lang self.now.mode) cursor.old.at) result cursor.new.at }
     {
         let below = self.below(room, cursor)?;
@@ -76,7 +76,7 @@ impl Parser<'_> {
     /// Item*
     pub fn items(&self, room: usize, cursor: &mut Cursor) -> Result<Items<ModuleItem>, SyntaxError>
         requires { ReadsTokens self.now.text.now self.now.tokens.now }
-        ensures { Reads (all_of (λ i. more (item_value i) absent))
+        ensures { IsRead (all_of (λ i. more (item_value i) absent))
             (turns_at self.now.text.now self.now.tokens.now (row_at self.now.text.now self.now.tokens.now room)
             is_token (one_item self.now.lang self.now.mode) (length (keys_of self.now.tokens.now)) cursor.old.at)
             result cursor.new.at }

@@ -6,7 +6,7 @@ ghost use Rattle.es_ast.specs.declared.ast.Program.{Program as Tree};
 ghost use Rattle.es_parser.specs.Derives.{Derives, GivesTree};
 ghost use Rattle.es_parser.specs.Dress.{program as program_value};
 ghost use Rattle.es_parser.specs.Rows.{ProgramRow, module_program};
-ghost use Rattle.es_parser.specs.Steps.{Reads, row_at, by};
+ghost use Rattle.es_parser.specs.Steps.{IsRead, row_at, by};
 
 use crate::cursor::{Cursor, Parser};
 use es_ast::{Module, Program};
@@ -22,7 +22,7 @@ impl Parser<'_> {
     #[tactic(auto, using(crate::proofs::StepLemmas::items_of_all), unfolding(crate::specs::Rows::module_program))]
     fn module(&self, room: usize, cursor: &mut Cursor) -> Result<Program, SyntaxError>
         requires { ReadsTokens self.now.text.now self.now.tokens.now }
-        ensures { Reads program_value (by self.now.text.now self.now.tokens.now room
+        ensures { IsRead program_value (by self.now.text.now self.now.tokens.now room
             (module_program self.now.lang self.now.mode) cursor.old.at) result cursor.new.at }
     {
         let from = cursor.at;
@@ -39,7 +39,7 @@ impl Parser<'_> {
     #[tactic(auto, unfolding(crate::specs::Steps::row_at, es_tree::specs::Reader::read_row, crate::specs::Rows::rule, crate::specs::Rows::program))]
     fn program(&self, room: usize, cursor: &mut Cursor) -> Result<Program, SyntaxError>
         requires { ReadsTokens self.now.text.now self.now.tokens.now }
-        ensures { Reads program_value (row_at self.now.text.now self.now.tokens.now room
+        ensures { IsRead program_value (row_at self.now.text.now self.now.tokens.now room
             (ProgramRow self.now.lang self.now.mode) cursor.old.at) result cursor.new.at }
     {
         let below = self.below(room, cursor)?;
