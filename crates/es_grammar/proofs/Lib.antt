@@ -1,0 +1,7 @@
+mod TypeClaims
+mod Claims
+pub mod Theorems
+mod WorkedTypes
+mod WorkedRefusals
+mod WorkedPrograms
+mod WorkedErrors

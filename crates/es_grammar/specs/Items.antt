@@ -1,0 +1,71 @@
+-- Programs and the items of modules (ECMA-262, "Scripts and Modules").
+use Rattle.std.specs.Prelude.{ℕ, ◌+◌, true, false, not, ◌&&◌, ◌||◌}
+use Rattle.es_lexer.specs.declared.token.TokenKind.TheVariants as k
+use Rattle.es_tree.specs.declared.error.Lang.{Lang}
+use Rattle.es_tree.specs.Key.{Look, seen, has_kind, is, is_token}
+use Rattle.es_tree.specs.Form.{as_raw, hint, taken, Guard, Form, done, tok, punct, row, opt, many, when_, Rule, refuse, make, choose, pick}
+use Rattle.es_grammar.specs.Words.{only}
+use Rattle.es_grammar.specs.Rows.{Context, Row, ItemRow, StatementRow, DeclarationRow, FunctionRow, ClassRow, AssignmentRow, Label, ExportDefaultFunction, ExportDefaultClass, ExportDefaultExpression, ExportDeclaration, Module, Script}
+use Rattle.es_grammar.specs.Modules.{import_, export_}
+use Rattle.es_grammar.specs.Expressions.{opens_async_function}
+use Rattle.es_grammar.specs.Statements.{is_variable_word, opens_using, declaration, statement, expression_ended}
+
+-- at the outside of a module, and of a script
+abbrev pub in_module : Context
+in_module = record { script = false; no_in = false; in_async = false }
+
+abbrev pub in_script : Context
+in_script = record { script = true; no_in = false; in_async = false }
+
+-- `import` heads an import but before `(` or `.`
+unfoldable pub opens_import : Guard
+opens_import K at =
+    is k.ImportWord (seen K at) && not (is k.OpenParen (seen K (at + 1)) || is k.Dot (seen K (at + 1)))
+
+unfoldable pub opens_default : Guard
+opens_default K at = is k.DefaultWord (seen K (at + 1))
+
+-- behind `export default` stands a function, a class
+unfoldable pub opens_default_function : Guard
+opens_default_function K at = is k.FunctionWord (seen K (at + 2)) || opens_async_function K (at + 2)
+
+unfoldable pub opens_default_class : Guard
+opens_default_class K at = is k.ClassWord (seen K (at + 2))
+
+-- 'export' 'default' (Fn | Class | Assign END)
+unfoldable pub export_default : Rule Row Label
+export_default =
+    pick opens_default_function
+    (make ExportDefaultFunction (punct k.ExportWord (punct k.DefaultWord (row (FunctionRow false in_module) done))))
+    (pick opens_default_class
+    (make ExportDefaultClass (punct k.ExportWord (punct k.DefaultWord (row (ClassRow false in_module) done))))
+    (make ExportDefaultExpression (punct k.ExportWord (punct k.DefaultWord (row (AssignmentRow in_module) expression_ended)))))
+
+-- behind `export` stands a declaration
+unfoldable pub opens_declaration : Guard
+opens_declaration K at =
+    has_kind is_variable_word (seen K (at + 1)) || (is k.FunctionWord (seen K (at + 1)) || (is k.ClassWord (seen K (at + 1))
+    || (opens_async_function K (at + 1) || opens_using K (at + 1))))
+
+-- Export, with those of Modules.antt: 'export' Decl | 'export' 'default' (Fn | Class | Assign END)
+unfoldable pub export_item : Lang → Rule Row Label
+export_item l =
+    pick opens_default export_default
+    (pick opens_declaration (make ExportDeclaration (punct k.ExportWord (row (DeclarationRow in_module) done))) (export_ l))
+
+-- Item: Import | Export | Stmt
+unfoldable pub item : Lang → Rule Row Label
+item l =
+    pick opens_import (import_ l) (choose (is k.ExportWord) (export_item l) (statement in_module))
+
+-- Shebang?, and what stands behind it
+unfoldable pub shebang_in : Form Row → Form Row
+shebang_in f = opt (taken (is k.Shebang)) (tok as_raw (only k.Shebang) done) f
+
+-- Module: Shebang? Item*
+unfoldable pub module_ : Lang → Rule Row Label
+module_ l = make Module (shebang_in (many (hint is_token) (row (ItemRow l) done) done))
+
+-- Script: Shebang? Stmt*
+unfoldable pub script : Rule Row Label
+script = make Script (shebang_in (many (hint is_token) (row (StatementRow in_script) done) done))
