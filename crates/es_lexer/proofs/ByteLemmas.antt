@@ -1,8 +1,10 @@
 -- What the class of a first byte says of the byte.
-use Rattle.std.proofs.Common.{◌≡◌, ℕ, ◌-◌, ◌≤◌, Bool, true, false, ◌==◌, ◌||◌, not, List, [], ◌∷◌, length, take, drop, get_or, if◌then◌else◌, refl, sym, ◌∙◌, ap, arith, eqb-true, eq-eqb}
+use Rattle.std.proofs.Common.{◌≡◌, ℕ, ◌-◌, ◌≤◌, Bool, true, false, ◌==◌, ◌||◌, not, List, [], ◌∷◌, length, take, drop, get_or, if◌then◌else◌, refl, sym, ◌∙◌, ap, arith, eqb-true, eq-eqb, true≢false}
+use Rattle.std.specs.Char.{is_ascii_digit}
+use Rattle.std.proofs.lemmas.Bool.Decides.{nat_tests}
 use Rattle.std.proofs.lemmas.List.{take_rest}
 use Rattle.es_lexer.specs.declared.bytes.First.{First}
-use Rattle.es_lexer.specs.declared.bytes.First.TheVariants.{Blank, LineEnd, Start, Quote, Slash, Backtick, Brace, Hash, Other}
+use Rattle.es_lexer.specs.declared.bytes.First.TheVariants.{Blank, LineEnd, Start, Quote, Slash, Backtick, Brace, Hash, Digit, Dot, Other}
 use Rattle.es_lexer.specs.Bytes.{is_blank, is_line_end, is_start, is_part, is_quote, is_plain, first_of, begins_comment}
 
 -- the tests that a byte of a class passes
@@ -15,17 +17,28 @@ pub data Classed (b : ℕ) (c : First) : Type 0 where
   backtick : b ≡ 96 → c ≡ Backtick → Classed b c
   brace : b ≡ 125 → c ≡ Brace → Classed b c
   hash : b ≡ 35 → c ≡ Hash → Classed b c
+  digit : is_ascii_digit b ≡ true → c ≡ Digit → Classed b c
+  dot : b ≡ 46 → c ≡ Dot → Classed b c
   other : c ≡ Other → Classed b c
 
 rest_of : ℕ → First
-rest_of b = if b == 96 then Backtick else (if b == 125 then Brace else (if b == 35 then Hash else Other))
+rest_of b =
+    if b == 96 then Backtick
+    else (if b == 125 then Brace
+    else (if b == 35 then Hash
+    else (if is_ascii_digit b then Digit
+    else (if b == 46 then Dot
+    else Other))))
 
-rest_classed : (b : ℕ) (u v w : Bool) → (b == 96) ≡ u → (b == 125) ≡ v → (b == 35) ≡ w → Classed b (rest_of b)
+rest_classed : (b : ℕ) (u v w x y : Bool) → (b == 96) ≡ u → (b == 125) ≡ v → (b == 35) ≡ w → is_ascii_digit b ≡ x
+    → (b == 46) ≡ y → Classed b (rest_of b)
 unfolding rest_of
-rest_classed b true v w p q r = backtick (eqb-true _ _ p) (rw p refl)
-rest_classed b false true w p q r = brace (eqb-true _ _ q) (rw (p, q) refl)
-rest_classed b false false true p q r = hash (eqb-true _ _ r) (rw (p, q, r) refl)
-rest_classed b false false false p q r = other (rw (p, q, r) refl)
+rest_classed b true v w x y p q r s o = backtick (eqb-true _ _ p) (rw p refl)
+rest_classed b false true w x y p q r s o = brace (eqb-true _ _ q) (rw (p, q) refl)
+rest_classed b false false true x y p q r s o = hash (eqb-true _ _ r) (rw (p, q, r) refl)
+rest_classed b false false false true y p q r s o = digit s (rw (p, q, r, s) refl)
+rest_classed b false false false false true p q r s o = dot (eqb-true _ _ o) (rw (p, q, r, s, o) refl)
+rest_classed b false false false false false p q r s o = other (rw (p, q, r, s, o) refl)
 
 classed_by : (b : ℕ) (u v w x z : Bool) → is_blank b ≡ u → is_line_end b ≡ v → is_start b ≡ w → is_quote b ≡ x
     → (b == 47) ≡ z → Classed b (rest_of b) → Classed b (first_of b)
@@ -40,7 +53,7 @@ classed_by b false false false false false p q r s o c = rw (p, q, r, s, o) c
 pub classed : (b : ℕ) → Classed b (first_of b)
 classed b = classed_by b (is_blank b) (is_line_end b) (is_start b) (is_quote b)
     (b == 47) refl refl refl refl refl
-    (rest_classed b (b == 96) (b == 125) (b == 35) refl refl refl)
+    (rest_classed b (b == 96) (b == 125) (b == 35) (is_ascii_digit b) (b == 46) refl refl refl refl refl)
 
 -- a start goes on in its word
 pub start_is_part : (b : ℕ) → first_of b ≡ Start → is_part b ≡ true
@@ -53,6 +66,8 @@ start_is_part b h = elim (classed b) [
   | backtick s e ↦ cc
   | brace s e ↦ cc
   | hash s e ↦ cc
+  | digit s e ↦ cc
+  | dot s e ↦ cc
   | other e ↦ cc
 ]
 
@@ -66,6 +81,8 @@ slash_is b h = elim (classed b) [
   | backtick s e ↦ cc
   | brace s e ↦ cc
   | hash s e ↦ cc
+  | digit s e ↦ cc
+  | dot s e ↦ cc
   | other e ↦ cc
 ]
 
@@ -79,6 +96,8 @@ quote_ends_no_line b h = elim (classed b) [
   | backtick s e ↦ cc
   | brace s e ↦ cc
   | hash s e ↦ cc
+  | digit s e ↦ cc
+  | dot s e ↦ cc
   | other e ↦ cc
 ]
 
@@ -162,6 +181,8 @@ blank_no_line b h = elim (classed b) [
   | backtick s e ↦ cc
   | brace s e ↦ cc
   | hash s e ↦ cc
+  | digit s e ↦ cc
+  | dot s e ↦ cc
   | other e ↦ cc
 ]
 
@@ -175,6 +196,8 @@ line_end_is b h = elim (classed b) [
   | backtick s e ↦ cc
   | brace s e ↦ cc
   | hash s e ↦ cc
+  | digit s e ↦ cc
+  | dot s e ↦ cc
   | other e ↦ cc
 ]
 
@@ -188,6 +211,8 @@ backtick_is b h = elim (classed b) [
   | backtick s e ↦ s
   | brace s e ↦ cc
   | hash s e ↦ cc
+  | digit s e ↦ cc
+  | dot s e ↦ cc
   | other e ↦ cc
 ]
 
@@ -205,6 +230,8 @@ brace_is b h = elim (classed b) [
   | backtick s e ↦ cc
   | brace s e ↦ s
   | hash s e ↦ cc
+  | digit s e ↦ cc
+  | dot s e ↦ cc
   | other e ↦ cc
 ]
 
@@ -222,6 +249,8 @@ hash_is b h = elim (classed b) [
   | backtick s e ↦ cc
   | brace s e ↦ cc
   | hash s e ↦ s
+  | digit s e ↦ cc
+  | dot s e ↦ cc
   | other e ↦ cc
 ]
 
@@ -234,3 +263,75 @@ pub brace_text : (text : List ℕ) → 1 ≤ length text → Brace ≡ first_of 
 brace_text [] l e = absurd (omega arith)
 brace_text (b ∷ rest) l e =
     ap (λ c. c ∷ rest) (brace_is b (sym e)) ∙ ap (λ t. 125 ∷ t) (sym (take_rest (b ∷ rest) 1))
+
+pub dot_is : (b : ℕ) → first_of b ≡ Dot → b ≡ 46
+dot_is b h = elim (classed b) [
+  | blank p e ↦ cc
+  | line_end p e ↦ cc
+  | start s e ↦ cc
+  | quote n q e ↦ cc
+  | slash s e ↦ cc
+  | backtick s e ↦ cc
+  | brace s e ↦ cc
+  | hash s e ↦ cc
+  | digit s e ↦ cc
+  | dot s e ↦ s
+  | other e ↦ cc
+]
+
+pub digit_is : (b : ℕ) → first_of b ≡ Digit → is_ascii_digit b ≡ true
+digit_is b h = elim (classed b) [
+  | blank p e ↦ cc
+  | line_end p e ↦ cc
+  | start s e ↦ cc
+  | quote n q e ↦ cc
+  | slash s e ↦ cc
+  | backtick s e ↦ cc
+  | brace s e ↦ cc
+  | hash s e ↦ cc
+  | digit s e ↦ s
+  | dot s e ↦ cc
+  | other e ↦ cc
+]
+
+pub dot_class : first_of 46 ≡ Dot
+unfolding first_of
+dot_class = refl
+
+-- a digit is nothing else
+digit_no : (b : ℕ) → is_ascii_digit b ≡ true
+    → ((is_blank b ≡ false) × (is_line_end b ≡ false)) × ((is_start b ≡ false) × (is_quote b ≡ false))
+digit_no b e =
+    ((grind (arith, nat_tests), grind (arith, nat_tests)), (grind (arith, nat_tests), grind (arith, nat_tests)))
+
+digit_eq_by : (b n : ℕ) (v : Bool) → (b == n) ≡ v → is_ascii_digit b ≡ true → is_ascii_digit n ≡ false
+    → (b == n) ≡ false
+digit_eq_by b n true p e f = absurd (true≢false (sym e ∙ (ap is_ascii_digit (eqb-true b n p) ∙ f)))
+digit_eq_by b n false p e f = p
+
+digit_eq : (b n : ℕ) → is_ascii_digit b ≡ true → is_ascii_digit n ≡ false → (b == n) ≡ false
+digit_eq b n e f = digit_eq_by b n (b == n) refl e f
+
+-- the class of a digit
+pub digit_class : (b : ℕ) → is_ascii_digit b ≡ true → first_of b ≡ Digit
+unfolding first_of
+digit_class b e =
+    let n : ((is_blank b ≡ false) × (is_line_end b ≡ false)) × ((is_start b ≡ false) × (is_quote b ≡ false)) =
+    digit_no b e in
+    rw (
+      n.0.0,
+      n.0.1,
+      n.1.0,
+      n.1.1,
+      digit_eq b 47 e refl,
+      digit_eq b 96 e refl,
+      digit_eq b 125 e refl,
+      digit_eq b 35 e refl,
+      e,
+    ) refl
+
+pub dot_text : (text : List ℕ) → 1 ≤ length text → Dot ≡ first_of (get_or text 0 0)
+    → text ≡ 46 ∷ take (length text - 1) (drop 1 text)
+dot_text [] l e = absurd (omega arith)
+dot_text (b ∷ rest) l e =
+    ap (λ c. c ∷ rest) (dot_is b (sym e)) ∙ ap (λ t. 46 ∷ t) (sym (take_rest (b ∷ rest) 1))

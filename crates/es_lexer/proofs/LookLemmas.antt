@@ -1,5 +1,5 @@
 -- A look finds a piece or a fault, and each piece and each fault is what a look at it finds.
-use Rattle.std.proofs.Common.{◌≡◌, ℕ, ◌+◌, ◌-◌, ◌≤◌, Bool, true, false, ◌==◌, ◌&&◌, List, [], ◌∷◌, ◌++◌, length, take, Option, Some, None, refl, sym, ◌∙◌, ap, subst, arith, take_at, length-append, append_assoc, eqb-true, true≢false, if◌then◌else◌, ◌⊎◌, inl, inr}
+use Rattle.std.proofs.Common.{◌≡◌, ℕ, ◌+◌, ◌-◌, ◌≤◌, Bool, true, false, not, ◌==◌, ◌||◌, ◌&&◌, List, [], ◌∷◌, ◌++◌, length, take, drop, drop_at, Option, Some, None, refl, sym, ◌∙◌, ap, subst, arith, take_at, length-append, append_assoc, eqb-true, true≢false, if◌then◌else◌, inl, inr}
 use Rattle.std.proofs.lemmas.List.{nil_from_length}
 use Rattle.es_lexer.specs.declared.bracket.BracketKind.{BracketKind}
 use Rattle.es_lexer.specs.declared.bracket.Role.{Role}
@@ -16,28 +16,33 @@ use Rattle.es_lexer.specs.declared.token.CommentKind.{CommentKind}
 use Rattle.es_lexer.specs.declared.token.CommentKind.TheVariants.{Line, Block}
 use Rattle.es_lexer.specs.declared.error.LexicalKind.{LexicalKind}
 use Rattle.es_lexer.specs.declared.error.LexicalKind.TheVariants.{UnterminatedString, UnterminatedComment, UnterminatedTemplate, InvalidEscape, InvalidChar, Unbalanced}
-use Rattle.es_lexer.specs.Bytes.{first_of, is_part, begins_comment, has_closer, has_line_end}
+use Rattle.es_lexer.specs.Bytes.{begins_part, first_of, is_part, begins_comment, has_closer, has_line_end}
 use Rattle.es_lexer.specs.declared.bracket.BracketKind.TheVariants.{Round, Square, Curly, Template}
 use Rattle.es_lexer.specs.Brackets.{role_of, is_open, may_close}
 use Rattle.es_lexer.specs.Signs.{sign_kind, sign_at, sized}
 use Rattle.es_lexer.specs.Words.{kind_at}
 use Rattle.es_lexer.specs.Literals.{IsStrLiteral, ArePlain}
-use Rattle.es_lexer.specs.Spelling.{Spells, word, str, sign, private_name, template, AreParts, IsWord, template_start, template_stop, template_kind}
+use Rattle.es_lexer.specs.Spelling.{Spells, word, str, sign, private_name, template, number, number_kind, AreParts, IsWord, template_start, template_stop, template_kind}
 use Rattle.es_spelling.specs.declared.template.TemplateEnd.{TemplateEnd}
 use Rattle.es_spelling.specs.declared.template.TemplateEnd.TheVariants.{Closes}
 use Rattle.es_spelling.specs.Templates.{template_end, IsTemplateText, IsUnclosed}
+use Rattle.std.specs.Char.{is_ascii_digit}
+use Rattle.es_spelling.specs.declared.number.NumberEnd.{NumberEnd}
+use Rattle.es_spelling.specs.Numbers.{IsNumber, number_end, begins_number, is_digit}
+use Rattle.es_spelling.specs.Numbers as numeral
+use Rattle.es_spelling.proofs.NumberLemmas as digits
 use Rattle.es_spelling.proofs.TemplateLemmas as text
-use Rattle.es_lexer.specs.Goal.{allows, may_stand, begins_digit}
+use Rattle.es_lexer.specs.Goal.{allows, may_stand, stands_apart, begins_digit}
 use Rattle.es_lexer.specs.Pieces.{Piece, blank, line_end, comment, token, spelling, comment_spelling}
 use Rattle.es_lexer.specs.Readable.{IsLongest, IsToken, IsComment, IsByte, IsPiece}
-use Rattle.es_lexer.specs.Stops.{Stuck, open_string, bad_escape, open_comment, no_token, lone_slash, wrong_closer, lone_hash, open_template, open_bracket, BeginsNoName, BeginsSign}
-use Rattle.es_lexer.specs.Look.{run_end, is_in_line, word_look, string_look, sign_look, divide_look, slash_look, template_look, brace_look, name_look, hash_look, class_look, end_look, look_at}
-use Rattle.es_lexer.proofs.ByteLemmas.{start_is_part, slash_is, slash_class, backtick_is, backtick_class, brace_is, brace_class, hash_is, hash_class, no_comment_at}
+use Rattle.es_lexer.specs.Stops.{Stuck, open_string, bad_escape, open_comment, no_token, lone_slash, wrong_closer, lone_hash, open_template, joined, IsLongestNumber, open_bracket, BeginsNoName, BeginsSign}
+use Rattle.es_lexer.specs.Look.{run_end, is_in_line, word_look, string_look, sign_look, divide_look, slash_look, template_look, number_stop, number_look, dot_look, brace_look, name_look, hash_look, class_look, end_look, look_at}
+use Rattle.es_lexer.proofs.ByteLemmas.{start_is_part, slash_is, slash_class, backtick_is, backtick_class, brace_is, brace_class, hash_is, hash_class, digit_is, digit_class, dot_is, dot_class, no_comment_at}
 use Rattle.es_lexer.proofs.RunLemmas.{EndsRun, Run, run, run_end-append, run_end-stop}
 use Rattle.es_lexer.proofs.StringLemmas.{StringFound, closed, escape, unclosed, string_finds, string_closes, string_escapes, string_runs_out}
 use Rattle.es_lexer.proofs.CommentLemmas as remark
 use Rattle.es_lexer.proofs.SignLemmas as mark
-use Rattle.es_lexer.proofs.WordLemmas.{word_free, free_allows}
+use Rattle.es_lexer.proofs.WordLemmas.{word_free, free_allows, free_apart}
 
 -- what a look at a piece answers
 abbrev pub reading_of : ℕ → Piece → Look
@@ -98,6 +103,12 @@ chain_may : (regexp : Bool) (k : TokenKind) (after : List ℕ) → may_stand reg
 unfolding may_stand
 chain_may regexp kind.QuestionDot after e = λ c. remark.not_true (begins_digit after) e
 chain_may regexp k after e = λ c. cc
+
+dot_may : (regexp : Bool) (k : TokenKind) (after : List ℕ) → mark.is_dot k ≡ true → may_stand regexp k after ≡ true
+    → begins_digit after ≡ false
+unfolding may_stand
+dot_may regexp kind.Dot after s e = remark.not_true (begins_digit after) e
+dot_may regexp k after s e = cc
 
 slash_may : (regexp : Bool) (k : TokenKind) (after : List ℕ) → mark.is_slash k ≡ true → may_stand regexp k after ≡ true
     → regexp ≡ false
@@ -163,6 +174,39 @@ brace_same goal at b rest f e =
     brace_looks goal at b rest f ∙ (brace_shut goal at rest e
     ∙ ap (λ c. sign_look goal.bracket at (sign_at (c ∷ rest))) (sym (brace_is b f)))
 
+-- a point without a digit behind it
+point_kind : (b : ℕ) (k : TokenKind) → b ≡ 46 → sign_kind (b ∷ []) ≡ Some k → mark.is_dot k ≡ true
+point_kind b k e w = mark.point_is_dot k (ap (λ c. sign_kind (c ∷ [])) (sym e) ∙ w)
+
+dot_sign : (goal : Goal) (at : ℕ) (rest : List ℕ) → begins_digit rest ≡ false
+    → dot_look goal at rest ≡ sign_look goal.bracket at (sign_at (46 ∷ rest))
+unfolding dot_look
+dot_sign goal at rest e = rw e refl
+
+dot_number : (goal : Goal) (at : ℕ) (rest : List ℕ) → begins_digit rest ≡ true
+    → dot_look goal at rest ≡ number_look at (46 ∷ rest)
+unfolding dot_look
+dot_number goal at rest e = rw e refl
+
+dot_looks : (goal : Goal) (at b : ℕ) (rest : List ℕ) → first_of b ≡ first.Dot
+    → look_at goal at (b ∷ rest) ≡ dot_look goal at rest
+unfolding look_at class_look
+dot_looks goal at b rest f = rw f refl
+
+dot_same : (goal : Goal) (at b : ℕ) (rest : List ℕ) → first_of b ≡ first.Dot → begins_digit rest ≡ false
+    → look_at goal at (b ∷ rest) ≡ sign_look goal.bracket at (sign_at (b ∷ rest))
+dot_same goal at b rest f e =
+    dot_looks goal at b rest f ∙ (dot_sign goal at rest e
+    ∙ ap (λ c. sign_look goal.bracket at (sign_at (c ∷ rest))) (sym (dot_is b f)))
+
+-- no digit stands behind the point of a punctuator
+point_ends : (regexp : Bool) (b : ℕ) (rest after : List ℕ) (k : TokenKind) → b ≡ 46 → sign_kind (b ∷ rest) ≡ Some k
+    → may_stand regexp k after ≡ true → begins_digit (rest ++ after) ≡ false
+unfolding begins_digit
+point_ends regexp b [] after k e w m = dot_may regexp k after (point_kind b k e w) m
+point_ends regexp b (c ∷ rest) after k e w m =
+    remark.not_true (is_ascii_digit c) (mark.dots_go_on b c rest k w e)
+
 slash_same : (goal : Goal) (at b : ℕ) (rest : List ℕ) → first_of b ≡ first.Slash → begins_comment (b ∷ rest) ≡ false
     → goal.regexp ≡ false → look_at goal at (b ∷ rest) ≡ sign_look goal.bracket at (sign_at (b ∷ rest))
 unfolding look_at class_look
@@ -208,6 +252,18 @@ sign_reaches_class goal at b rest after k first.Brace f i w a n =
     mark.sign_reaches (b ∷ rest) after k w (chain_may goal.regexp k after stand) in
     subst (Reached k (at + length (b ∷ rest))) (sym (brace_same goal at b (rest ++ after) f shut))
     (sign_reaches_by goal.bracket at k (length (b ∷ rest)) _ found close)
+sign_reaches_class goal at b rest after k first.Dot f i w a n =
+    let e : b ≡ 46 = dot_is b f in
+    let close : may_close goal.bracket (role_of k) ≡ true =
+    both_left (may_close goal.bracket (role_of k)) (may_stand goal.regexp k after) a in
+    let stand : may_stand goal.regexp k after ≡ true =
+    both_right (may_close goal.bracket (role_of k)) (may_stand goal.regexp k after) a in
+    let found : mark.SignReached k (length (b ∷ rest)) (sign_at ((b ∷ rest) ++ after)) =
+    mark.sign_reaches (b ∷ rest) after k w (chain_may goal.regexp k after stand) in
+    subst (Reached k (at + length (b ∷ rest)))
+    (sym (dot_same goal at b (rest ++ after) f (point_ends goal.regexp b rest after k e w stand)))
+    (sign_reaches_by goal.bracket at k (length (b ∷ rest)) _ found close)
+sign_reaches_class goal at b rest after k first.Digit f i w a n = cc
 sign_reaches_class goal at b rest after k first.Backtick f i w a n = cc
 sign_reaches_class goal at b rest after k first.Hash f i w a n = cc
 sign_reaches_class goal at b rest after k first.Blank f i w a n = cc
@@ -304,31 +360,106 @@ private_reaches goal at k s after name w q e r =
     ∙ (hash_ends at w.first (w.parts ++ after) w.starts ∙ ap (λ n. look.Token kind.PrivateName n) end)))
     (omega arith) (λ p. e)
 
+-- a number's look
+-- what begins a number
+starts_number : (b : ℕ) (rest : List ℕ) → begins_number (b ∷ rest) ≡ true
+    → (is_ascii_digit b || b == 46 && begins_digit rest) ≡ true
+unfolding begins_number begins_digit is_digit numeral.begins_digit
+starts_number b [] h = h
+starts_number b (c ∷ rest) h = h
+
+digit_starts : (b : ℕ) (rest : List ℕ) → is_ascii_digit b ≡ true → begins_number (b ∷ rest) ≡ true
+unfolding begins_number is_digit
+digit_starts b rest e = rw e refl
+
+point_starts : (b : ℕ) (rest : List ℕ) → b ≡ 46 → begins_digit rest ≡ true → begins_number (b ∷ rest) ≡ true
+unfolding begins_number begins_digit is_digit numeral.begins_digit
+point_starts b [] e d = cc
+point_starts b (c ∷ rest) e d = rw e d
+
+start_no_comment_by : (b : ℕ) (rest : List ℕ) (v : Bool) → is_ascii_digit b ≡ v
+    → (is_ascii_digit b || b == 46 && begins_digit rest) ≡ true → begins_comment (b ∷ rest) ≡ false
+start_no_comment_by b rest true p h = no_comment_at b rest first.Digit (digit_class b p) (λ e. cc)
+start_no_comment_by b rest false p h =
+    let g : (b == 46 && begins_digit rest) ≡ true = rw p at h in
+    let e : b ≡ 46 = eqb-true b 46 (both_left (b == 46) (begins_digit rest) g) in
+    no_comment_at b rest first.Dot (ap first_of e ∙ dot_class) (λ e. cc)
+
+number_looks_by : (goal : Goal) (at b : ℕ) (rest : List ℕ) (v : Bool) → is_ascii_digit b ≡ v
+    → (is_ascii_digit b || b == 46 && begins_digit rest) ≡ true → look_at goal at (b ∷ rest) ≡ number_look at (b ∷ rest)
+unfolding look_at class_look
+number_looks_by goal at b rest true p h = rw (digit_class b p) refl
+number_looks_by goal at b rest false p h =
+    let g : (b == 46 && begins_digit rest) ≡ true = rw p at h in
+    let e : b ≡ 46 = eqb-true b 46 (both_left (b == 46) (begins_digit rest) g) in
+    let f : first_of b ≡ first.Dot = ap first_of e ∙ dot_class in
+    rw f (dot_number goal at rest (both_right (b == 46) (begins_digit rest) g)
+    ∙ ap (λ c. number_look at (c ∷ rest)) (sym e))
+
+number_looks : (goal : Goal) (at b : ℕ) (rest : List ℕ) → begins_number (b ∷ rest) ≡ true
+    → look_at goal at (b ∷ rest) ≡ number_look at (b ∷ rest)
+number_looks goal at b rest h = number_looks_by goal at b rest (is_ascii_digit b) refl (starts_number b rest h)
+
+spelled_looks : (goal : Goal) (at : ℕ) (big : Bool) (s after : List ℕ) → IsNumber big s
+    → look_at goal at (s ++ after) ≡ number_look at (s ++ after)
+spelled_looks goal at big [] after i = absurd (digits.no_empty big i)
+spelled_looks goal at big (b ∷ s) after i = number_looks goal at b (s ++ after) (digits.begins big (b ∷ s) after i)
+
+number_stops_by : (n : NumberEnd) (after : List ℕ) (v : Bool) (k : TokenKind) (m : ℕ) → begins_part after ≡ v
+    → number_stop n after ≡ look.Token k m → n.end ≡ m
+unfolding number_stop
+number_stops_by n after true k m p e = let f : look.Fault InvalidChar n.end ≡ look.Token k m = rw p at e in cc
+number_stops_by n after false k m p e =
+    let f : look.Token (number_kind n.big) n.end ≡ look.Token k m = rw p at e in cc
+
+-- where a look at a number's text answers a token, it is no shorter
+number_limits : (goal : Goal) (at : ℕ) (big : Bool) (s after : List ℕ) (k : TokenKind) (m : ℕ) → IsNumber big s
+    → look_at goal at (s ++ after) ≡ look.Token k m → at + length s ≤ m
+unfolding number_look
+number_limits goal at big s after k m i e =
+    let n : (number_end at (s ++ after)).end ≡ m =
+    number_stops_by (number_end at (s ++ after))
+    (drop ((number_end at (s ++ after)).end - at) (s ++ after)) (begins_part _) k m refl
+    (sym (spelled_looks goal at big s after i) ∙ e) in
+    let l : at + length s ≤ (number_end at (s ++ after)).end = digits.number_reaches at big s after i in
+    omega arith
+
+-- what a look at a spelling answers, but for a number's
+pub data Limited (k : TokenKind) (s : List ℕ) (end : ℕ) (found : Look) : Type 0 where
+  by_reach : Reached k end found → Limited k s end found
+  by_number : (big : Bool) → IsNumber big s → k ≡ number_kind big → Limited k s end found
+
 pub reaches : (goal : Goal) (at : ℕ) (k : TokenKind) (s after : List ℕ) → Spells goal k s → allows goal k after ≡ true
-    → begins_comment (s ++ after) ≡ false → Reached k (at + length s) (look_at goal at (s ++ after))
+    → begins_comment (s ++ after) ≡ false → Limited k s (at + length s) (look_at goal at (s ++ after))
 unfolding sign_kind
-reaches goal at k s after (word w e) a n = word_reaches goal at k s after w e
-reaches goal at k s after (str l e) a n = string_reaches goal at k s after l e
+reaches goal at k s after (word w e) a n = by_reach (word_reaches goal at k s after w e)
+reaches goal at k s after (str l e) a n = by_reach (string_reaches goal at k s after l e)
 reaches goal at k [] after (sign e) a n = cc
 reaches goal at k (b ∷ s) after (sign e) a n =
-    sign_reaches_class goal at b s after k (first_of b) refl (mark.sign_begins b s k e) e a n
+    by_reach (sign_reaches_class goal at b s after k (first_of b) refl (mark.sign_begins b s k e) e a n)
 reaches goal at k s after (private_name name w q e) a n =
-    private_reaches goal at k s after name w q e (run is_part (at + 2 + length w.parts) after)
-reaches goal at k s after (template opens sub body t q e) a n = template_reaches goal at k s after opens sub body t q e a
+    by_reach (private_reaches goal at k s after name w q e (run is_part (at + 2 + length w.parts) after))
+reaches goal at k s after (template opens sub body t q e) a n =
+    by_reach (template_reaches goal at k s after opens sub body t q e a)
+reaches goal at k s after (number big i e) a n = by_number big i e
 
 -- ---- so what is found is the longest
-longest_from : (k j : TokenKind) (here there : ℕ) (s more : List ℕ) (at : ℕ) (found : Look) → here ≡ at + length s
-    → there ≡ at + length (s ++ more) → found ≡ look.Token k here → Reached j there found → more ≡ []
-longest_from k j here there s more at found p q e (reached i m f l g) =
-    let ends : here ≡ m = cc in
+longest_from : (goal : Goal) (k j : TokenKind) (s more rest : List ℕ) (at : ℕ)
+    → look_at goal at ((s ++ more) ++ rest) ≡ look.Token k (at + length s)
+    → Limited j (s ++ more) (at + length (s ++ more)) (look_at goal at ((s ++ more) ++ rest)) → more ≡ []
+longest_from goal k j s more rest at e (by_reach (reached i m f l g)) =
+    let ends : at + length s ≡ m = cc in
+    nil_from_length more (omega (arith, length-append s more))
+longest_from goal k j s more rest at e (by_number big i f) =
+    let l : at + length (s ++ more) ≤ at + length s =
+    number_limits goal at big (s ++ more) rest k (at + length s) i e in
     nil_from_length more (omega (arith, length-append s more))
 
 longest_by : (goal : Goal) (at : ℕ) (k : TokenKind) (s after : List ℕ) → begins_comment (s ++ after) ≡ false
     → look_at goal at (s ++ after) ≡ look.Token k (at + length s) → IsLongest goal s after
 longest_by goal at k s after n e j more rest w sp al =
     let same : (s ++ more) ++ rest ≡ s ++ after = append_assoc s more rest ∙ ap (λ t. s ++ t) (sym w) in
-    longest_from k j (at + length s) (at + length (s ++ more)) s more at _ refl refl
-    (ap (look_at goal at) same ∙ e)
+    longest_from goal k j s more rest at (ap (look_at goal at) same ∙ e)
     (reaches goal at j (s ++ more) rest sp al (ap begins_comment same ∙ n))
 
 -- ---- what stands there is found
@@ -414,6 +545,33 @@ template_stuck : (opens : Bool) (at : ℕ) (body : List ℕ) → IsUnclosed body
 unfolding template_look
 template_stuck opens at body u = ap (template_look opens at) (text.unclosed_found (at + 1) body u)
 
+joined_fault : (n : NumberEnd) (after : List ℕ) → begins_part after ≡ true
+    → number_stop n after ≡ look.Fault InvalidChar n.end
+unfolding number_stop
+joined_fault n after e = rw e refl
+
+apart_token : (n : NumberEnd) (after : List ℕ) → begins_part after ≡ false
+    → number_stop n after ≡ look.Token (number_kind n.big) n.end
+unfolding number_stop
+apart_token n after e = rw e refl
+
+-- the longest number is found, and what stands behind it
+number_at : (at : ℕ) (big : Bool) (s after : List ℕ) → IsNumber big s → IsLongestNumber s after
+    → number_look at (s ++ after) ≡ number_stop (record { big = big; end = at + length s }) after
+unfolding number_look
+number_at at big s after i l =
+    let e : number_end at (s ++ after) ≡ record { big = big; end = at + length s } =
+    digits.number_is at big s after i l in
+    ap (λ (n : NumberEnd). number_stop n (drop (n.end - at) (s ++ after))) e
+    ∙ ap (number_stop (record { big = big; end = at + length s }))
+    (drop_at s after (at + length s - at) (omega arith))
+
+number_stuck : (goal : Goal) (at : ℕ) (big : Bool) (s after : List ℕ) → IsNumber big s → IsLongestNumber s after
+    → begins_part after ≡ true → look_at goal at (s ++ after) ≡ look.Fault InvalidChar (at + length s)
+number_stuck goal at big s after i l p =
+    spelled_looks goal at big s after i ∙ (number_at at big s after i l
+    ∙ joined_fault (record { big = big; end = at + length s }) after p)
+
 pub stuck_reads : (goal : Goal) (rest : List ℕ) (at : ℕ) (kind : LexicalKind) (place : ℕ)
     → Stuck goal rest at kind place
     → look_at goal at rest ≡ look.Fault kind place
@@ -434,6 +592,8 @@ stuck_reads goal rest at kind place (lone_hash after w h e p) =
     rw w (hash_looks goal at 35 after hash_class ∙ (hash_stuck at after h ∙ (cc)))
 stuck_reads goal rest at kind place (open_template opens body w h u e p) =
     rw w (template_opens goal at opens body h ∙ (template_stuck opens at body u ∙ (cc)))
+stuck_reads goal rest at kind place (joined big s after w i l b e p) =
+    rw w (number_stuck goal at big s after i l b ∙ (cc))
 stuck_reads goal rest at kind place (open_bracket bracket w b e p) = rw w (rw b cc)
 
 -- ---- and nothing else is found
@@ -444,16 +604,22 @@ pub data Found (goal : Goal) (at : ℕ) (text : List ℕ) (found : Look) : Type 
   fault : (kind : LexicalKind) (place : ℕ) → Stuck goal text at kind place → found ≡ look.Fault kind place
       → Found goal at text found
 
+met_look : (goal : Goal) (at : ℕ) (text other : List ℕ) (found : Look) (k : TokenKind) (m : ℕ) → other ≡ text
+    → look_at goal at other ≡ found → found ≡ look.Token k m → look_at goal at text ≡ look.Token k m
+met_look goal at text other found k m w l e = ap (look_at goal at) (sym w) ∙ (l ∙ e)
+
 -- a token that a look finds
 met : (goal : Goal) (at : ℕ) (k : TokenKind) (s after text : List ℕ) (found : Look) → text ≡ s ++ after
     → Spells goal k s → allows goal k after ≡ true → begins_comment (s ++ after) ≡ false
+    → stands_apart k after ≡ true
     → look_at goal at text ≡ found → found ≡ look.Token k (at + length s) → Found goal at text found
-met goal at k s after text found w sp al n l e =
+met goal at k s after text found w sp al n ap l e =
     let t : IsToken goal k s after = record {
       spells = sp;
       allowed = al;
-      longest = longest_by goal at k s after n (ap (look_at goal at) (sym w) ∙ (l ∙ e));
+      longest = longest_by goal at k s after n (met_look goal at (s ++ after) text found k (at + length s) w l e);
       no_comment = n;
+      apart = ap;
     } in
     piece (token k s) after w t e
 
@@ -468,6 +634,10 @@ word_reads goal at b parts after f h e =
     let front : take (at + length (b ∷ parts) - at) ((b ∷ parts) ++ after) ≡ b ∷ parts =
     take_at (b ∷ parts) after (at + length (b ∷ parts) - at) (omega arith) in
     rw (f, end) (ap (λ w. look.Token (kind_at goal.member w) (at + length (b ∷ parts))) front)
+
+str_apart : (after : List ℕ) → stands_apart kind.Str after ≡ true
+unfolding stands_apart
+str_apart after = refl
 
 str_allows : (goal : Goal) (after : List ℕ) → allows goal kind.Str after ≡ true
 unfolding allows may_close role_of may_stand
@@ -485,6 +655,12 @@ brace_no_slash a f e =
     let class : first.Slash ≡ first.Brace = sym slash_class ∙ (ap first_of (sym same) ∙ f) in
     cc
 
+dot_no_slash : (a : ℕ) → first_of a ≡ first.Dot → (a == 47) ≡ true → ⊥
+dot_no_slash a f e =
+    let same : a ≡ 47 = eqb-true a 47 e in
+    let class : first.Slash ≡ first.Dot = sym slash_class ∙ (ap first_of (sym same) ∙ f) in
+    cc
+
 word_found : (goal : Goal) (at b : ℕ) (rest : List ℕ) → first_of b ≡ first.Start → Run is_part at rest
     → Found goal at (b ∷ rest) (look_at goal at (b ∷ rest))
 word_found goal at b rest f r =
@@ -492,7 +668,8 @@ word_found goal at b rest f r =
     let w : IsWord s = record { first = b; parts = r.front; starts = f; goes_on = r.passes; whole = refl } in
     met goal at (kind_at goal.member s) s r.back (b ∷ rest) _ (ap (λ t. b ∷ t) r.whole) (word w refl)
     (free_allows goal (kind_at goal.member s) r.back (word_free goal.member s))
-    (no_comment_at b (r.front ++ r.back) first.Start f (λ e. cc)) refl
+    (no_comment_at b (r.front ++ r.back) first.Start f (λ e. cc))
+    (free_apart (kind_at goal.member s) r.back (word_free goal.member s)) refl
     (ap (λ t. look_at goal at (b ∷ t)) r.whole ∙ word_reads goal at b r.front r.back f r.passes r.ends)
 
 string_found : (goal : Goal) (at q : ℕ) (rest : List ℕ) → first_of q ≡ first.Quote
@@ -503,7 +680,8 @@ string_found goal at q rest f found l (closed body after w h e) =
     let i : IsStrLiteral s = record { quote = q; body = body; quotes = f; plain = h; whole = refl } in
     let size : at + 1 + length body + 1 ≡ at + length s = omega (arith, length-append body (q ∷ [])) in
     met goal at kind.Str s after (q ∷ rest) found (ap (λ t. q ∷ t) (w ∙ sym (append_assoc body (q ∷ []) after)))
-    (str i refl) (str_allows goal after) (no_comment_at q ((body ++ q ∷ []) ++ after) first.Quote f (λ e. cc)) l
+    (str i refl) (str_allows goal after) (no_comment_at q ((body ++ q ∷ []) ++ after) first.Quote f (λ e. cc))
+    (str_apart after) l
     (e ∙ ap (λ n. look.Token kind.Str n) size)
 string_found goal at q rest f found l (escape body after w h e) =
     fault InvalidEscape (at + 1 + length body) (bad_escape q body after f h (ap (λ t. q ∷ t) w) refl refl) e
@@ -523,6 +701,21 @@ closer_single bracket (a ∷ d ∷ g ∷ []) k w c b rest after e =
     absurd (true≢false (sym (plain_closes bracket (role_of k) (mark.plain_of_three a d g k w)) ∙ c))
 closer_single bracket (a ∷ d ∷ g ∷ h ∷ s) k w c b rest after e = cc
 
+-- a punctuator may begin with `b`
+data SignStarts (goal : Goal) (b : ℕ) (rest : List ℕ) : Type 0 where
+  alone : BeginsSign goal b → SignStarts goal b rest
+  slash : first_of b ≡ first.Slash → goal.regexp ≡ false → SignStarts goal b rest
+  dot : first_of b ≡ first.Dot → begins_digit rest ≡ false → SignStarts goal b rest
+
+dot_fits : (b : ℕ) (rest s after : List ℕ) (k : TokenKind) → b ∷ rest ≡ s ++ after → sign_kind s ≡ Some k
+    → (first_of b ≡ first.Dot → begins_digit rest ≡ false) → mark.is_dot k ≡ true → begins_digit after ≡ false
+dot_fits b rest s after k w sk h d =
+    let e : s ≡ 46 ∷ [] = mark.dot_spells s k sk d in
+    let cut : b ∷ rest ≡ 46 ∷ after = w ∙ ap (λ t. t ++ after) e in
+    let byte : b ≡ 46 = cc in
+    let same : rest ≡ after = cc in
+    subst (λ t. begins_digit t ≡ false) same (h (ap first_of byte ∙ dot_class))
+
 both_true : (u v : Bool) → u ≡ true → v ≡ true → (u && v) ≡ true
 both_true true v p q = q
 both_true false v p q = cc
@@ -530,19 +723,28 @@ both_true false v p q = cc
 -- a punctuator may stand behind what divides
 stands_by : (goal : Goal) (b : ℕ) (rest s after : List ℕ) (k : TokenKind) → b ∷ rest ≡ s ++ after
     → sign_kind s ≡ Some k → mark.ChainFits k after
-    → BeginsSign goal b ⊎ (first_of b ≡ first.Slash) × (goal.regexp ≡ false)
+    → SignStarts goal b rest
     → may_stand goal.regexp k after ≡ true
 unfolding sign_kind
 stands_by goal b rest [] after k w sk h c = cc
-stands_by goal b rest (a ∷ s) after k w sk h (inl (inl f)) =
+stands_by goal b rest (a ∷ s) after k w sk h (alone (inl f)) =
     let same : b ≡ a = cc in
     mark.may_stand_sign a s k goal.regexp after sk h
     (λ e. absurd (other_no_slash a (ap first_of (sym same) ∙ f) e))
-stands_by goal b rest (a ∷ s) after k w sk h (inl (inr p)) =
+    (dot_fits b rest (a ∷ s) after k w sk (λ g. cc))
+stands_by goal b rest (a ∷ s) after k w sk h (alone (inr p)) =
     let same : b ≡ a = cc in
+    let f : first_of b ≡ first.Brace = p.0 in
     mark.may_stand_sign a s k goal.regexp after sk h
     (λ e. absurd (brace_no_slash a (ap first_of (sym same) ∙ p.0) e))
-stands_by goal b rest (a ∷ s) after k w sk h (inr p) = mark.may_stand_sign a s k goal.regexp after sk h (λ e. p.1)
+    (dot_fits b rest (a ∷ s) after k w sk (λ g. cc))
+stands_by goal b rest (a ∷ s) after k w sk h (slash f r) =
+    mark.may_stand_sign a s k goal.regexp after sk h (λ e. r) (dot_fits b rest (a ∷ s) after k w sk (λ g. cc))
+stands_by goal b rest (a ∷ s) after k w sk h (dot f d) =
+    let same : b ≡ a = cc in
+    mark.may_stand_sign a s k goal.regexp after sk h
+    (λ e. absurd (dot_no_slash a (ap first_of (sym same) ∙ f) e))
+    (dot_fits b rest (a ∷ s) after k w sk (λ g. d))
 
 -- no `/` closes a bracket
 slash_no_closer : (goal : Goal) (b : ℕ) (rest s after : List ℕ) (k : TokenKind) → b ∷ rest ≡ s ++ after
@@ -553,12 +755,24 @@ slash_no_closer goal b rest (a ∷ s) after k w sk e m =
     let same : a ≡ 47 = cc in
     true≢false (sym (plain_closes goal.bracket (role_of k) (mark.slash_plain k (mark.slash_is_slash a s k sk same))) ∙ m)
 
+-- nor does a point
+dot_no_closer : (goal : Goal) (b : ℕ) (rest s after : List ℕ) (k : TokenKind) → b ∷ rest ≡ s ++ after
+    → sign_kind s ≡ Some k → b ≡ 46 → may_close goal.bracket (role_of k) ≡ false → ⊥
+unfolding sign_kind
+dot_no_closer goal b rest [] after k w sk e m = cc
+dot_no_closer goal b rest (a ∷ s) after k w sk e m =
+    let same : a ≡ 46 = cc in
+    true≢false (sym (plain_closes goal.bracket (role_of k) (mark.point_plain a s k sk same)) ∙ m)
+
+dot_is_sign : (a : ℕ) → 46 ≡ a → sign_kind (a ∷ []) ≡ None → ⊥
+dot_is_sign a e n = mark.point_some (ap (λ c. sign_kind (c ∷ [])) e ∙ n)
+
 slash_is_sign : (a : ℕ) → 47 ≡ a → sign_kind (a ∷ []) ≡ None → ⊥
 slash_is_sign a e n = mark.slash_some (ap (λ c. sign_kind (c ∷ [])) e ∙ n)
 
 -- a punctuator that begins with `b`, where it is no `/` that may begin a regular expression
 sign_met : (goal : Goal) (at b : ℕ) (rest s after : List ℕ) (k : TokenKind) (v : Bool) (found : Look)
-    → BeginsSign goal b ⊎ (first_of b ≡ first.Slash) × (goal.regexp ≡ false)
+    → SignStarts goal b rest
     → begins_comment (b ∷ rest) ≡ false → look_at goal at (b ∷ rest) ≡ found
     → b ∷ rest ≡ s ++ after → sign_kind s ≡ Some k → mark.ChainFits k after
     → may_close goal.bracket (role_of k) ≡ v
@@ -568,29 +782,34 @@ sign_met goal at b rest s after k true found c n l w sk h m e =
     met goal at k s after (b ∷ rest) found w (sign sk)
     (both_true (may_close goal.bracket (role_of k)) (may_stand goal.regexp k after) m
     (stands_by goal b rest s after k w sk h c))
-    (ap begins_comment (sym w) ∙ n) l e
-sign_met goal at b rest s after k false found (inl f) n l w sk h m e =
+    (ap begins_comment (sym w) ∙ n) (mark.sign_apart s k after sk) l e
+sign_met goal at b rest s after k false found (alone f) n l w sk h m e =
     fault Unbalanced at
     (wrong_closer b rest k refl f (closer_single goal.bracket s k sk m b rest after w) m refl refl) e
-sign_met goal at b rest s after k false found (inr p) n l w sk h m e =
-    absurd (slash_no_closer goal b rest s after k w sk (slash_is b p.0) m)
+sign_met goal at b rest s after k false found (slash f r) n l w sk h m e =
+    absurd (slash_no_closer goal b rest s after k w sk (slash_is b f) m)
+sign_met goal at b rest s after k false found (dot f d) n l w sk h m e =
+    absurd (dot_no_closer goal b rest s after k w sk (dot_is b f) m)
 
 sign_found : (goal : Goal) (at b : ℕ) (rest : List ℕ) (found : Option Sign)
-    → BeginsSign goal b ⊎ (first_of b ≡ first.Slash) × (goal.regexp ≡ false)
+    → SignStarts goal b rest
     → begins_comment (b ∷ rest) ≡ false → look_at goal at (b ∷ rest) ≡ sign_look goal.bracket at found
     → mark.SignFound (b ∷ rest) found → Found goal at (b ∷ rest) (sign_look goal.bracket at found)
 unfolding sign_look
 sign_found goal at b rest found c n l (mark.some s after k w sk h e) =
     sign_met goal at b rest s after k (may_close goal.bracket (role_of k)) _ c n l w sk h refl (rw e refl)
-sign_found goal at b rest found (inl (inl f)) n l (mark.none a after w sk e) =
+sign_found goal at b rest found (alone (inl f)) n l (mark.none a after w sk e) =
     let same : b ≡ a = cc in
     fault InvalidChar at (no_token b rest refl f (rw same sk) refl refl) (rw e refl)
-sign_found goal at b rest found (inl (inr p)) n l (mark.none a after w sk e) =
+sign_found goal at b rest found (alone (inr p)) n l (mark.none a after w sk e) =
     let same : 125 ≡ a = let q : b ≡ 125 = brace_is b p.0 in cc in
     absurd (mark.brace_some (ap (λ c. sign_kind (c ∷ [])) same ∙ sk))
-sign_found goal at b rest found (inr p) n l (mark.none a after w sk e) =
-    let same : 47 ≡ a = let q : b ≡ 47 = slash_is b p.0 in cc in
+sign_found goal at b rest found (slash f r) n l (mark.none a after w sk e) =
+    let same : 47 ≡ a = let q : b ≡ 47 = slash_is b f in cc in
     absurd (slash_is_sign a same sk)
+sign_found goal at b rest found (dot f d) n l (mark.none a after w sk e) =
+    let same : 46 ≡ a = let q : b ≡ 46 = dot_is b f in cc in
+    absurd (dot_is_sign a same sk)
 
 line_found : (goal : Goal) (at : ℕ) (rest : List ℕ) → Run is_in_line (at + 2) rest
     → Found goal at (47 ∷ 47 ∷ rest) (look.Comment Line (run_end is_in_line (at + 2) rest) false)
@@ -622,7 +841,7 @@ divide_found goal at rest true r n l =
     (fault InvalidChar at (lone_slash 47 rest refl slash_class n r refl refl) refl)
 divide_found goal at rest false r n l =
     subst (Found goal at (47 ∷ rest)) (sym (divides_is goal at rest r))
-    (sign_found goal at 47 rest (sign_at (47 ∷ rest)) (inr (slash_class, r)) n
+    (sign_found goal at 47 rest (sign_at (47 ∷ rest)) (slash slash_class r) n
     (l ∙ divides_is goal at rest r) (mark.sign_finds 47 rest))
 
 slash_found_by : (goal : Goal) (at c : ℕ) (rest : List ℕ) (u v : Bool) → (c == 47) ≡ u → (c == 42) ≡ v
@@ -666,7 +885,7 @@ other_class : (goal : Goal) (at b : ℕ) (rest : List ℕ) → first_of b ≡ fi
     → Found goal at (b ∷ rest) (look_at goal at (b ∷ rest))
 other_class goal at b rest f =
     subst (Found goal at (b ∷ rest)) (sym (other_looks goal at b rest f))
-    (sign_found goal at b rest (sign_at (b ∷ rest)) (inl (inl f)) (no_comment_at b rest first.Other f (λ e. cc))
+    (sign_found goal at b rest (sign_at (b ∷ rest)) (alone (inl f)) (no_comment_at b rest first.Other f (λ e. cc))
     (other_looks goal at b rest f) (mark.sign_finds b rest))
 
 kind_allows : (goal : Goal) (opens sub : Bool) (after : List ℕ)
@@ -676,6 +895,13 @@ kind_allows goal true true after h = refl
 kind_allows goal true false after h = refl
 kind_allows goal false true after h = both_true (is_open goal.bracket Template) true (h refl) refl
 kind_allows goal false false after h = both_true (is_open goal.bracket Template) true (h refl) refl
+
+template_apart : (opens sub : Bool) (after : List ℕ) → stands_apart (template_kind opens sub) after ≡ true
+unfolding stands_apart template_kind
+template_apart true true after = refl
+template_apart true false after = refl
+template_apart false true after = refl
+template_apart false false after = refl
 
 start_no_comment : (opens : Bool) (rest : List ℕ) → begins_comment (template_start opens ∷ rest) ≡ false
 unfolding template_start
@@ -690,7 +916,7 @@ template_met : (goal : Goal) (at : ℕ) (opens sub : Bool) (body after rest : Li
 template_met goal at opens sub body after rest found h w t l e =
     met goal at (template_kind opens sub) (template_start opens ∷ body) after (template_start opens ∷ rest) found
     (ap (λ v. template_start opens ∷ v) w) (template opens sub body t refl refl) (kind_allows goal opens sub after h)
-    (start_no_comment opens (body ++ after)) l
+    (start_no_comment opens (body ++ after)) (template_apart opens sub after) l
     (e ∙ ap (λ n. look.Token (template_kind opens sub) n)
     (let q : at + 1 + length body ≡ at + length (template_start opens ∷ body) = omega arith in q))
 
@@ -729,8 +955,12 @@ brace_class_by goal at b rest true o f =
     (template_at goal at false rest (λ e. o))
 brace_class_by goal at b rest false o f =
     subst (Found goal at (b ∷ rest)) (sym (brace_same goal at b rest f o))
-    (sign_found goal at b rest (sign_at (b ∷ rest)) (inl (inr (f, o))) (no_comment_at b rest first.Brace f (λ e. cc))
+    (sign_found goal at b rest (sign_at (b ∷ rest)) (alone (inr (f, o))) (no_comment_at b rest first.Brace f (λ e. cc))
     (brace_same goal at b rest f o) (mark.sign_finds b rest))
+
+private_apart : (after : List ℕ) → stands_apart kind.PrivateName after ≡ true
+unfolding stands_apart
+private_apart after = refl
 
 private_allows : (goal : Goal) (after : List ℕ) → allows goal kind.PrivateName after ≡ true
 unfolding allows may_close role_of may_stand
@@ -743,7 +973,7 @@ private_found goal at b rest f r =
     record { first = b; parts = r.front; starts = f; goes_on = r.passes; whole = refl } in
     met goal at kind.PrivateName (35 ∷ b ∷ r.front) r.back (35 ∷ b ∷ rest) _ (ap (λ t. 35 ∷ b ∷ t) r.whole)
     (private_name (b ∷ r.front) w refl refl) (private_allows goal r.back)
-    (no_comment_at 35 (b ∷ (r.front ++ r.back)) first.Hash hash_class (λ e. cc)) refl
+    (no_comment_at 35 (b ∷ (r.front ++ r.back)) first.Hash hash_class (λ e. cc)) (private_apart r.back) refl
     (hash_looks goal at 35 (b ∷ rest) hash_class ∙ (hash_ends at b rest f
     ∙ ap (λ n. look.Token kind.PrivateName n)
     (r.end ∙ (let q : at + 2 + length r.front ≡ at + length (35 ∷ b ∷ r.front) = omega arith in q))))
@@ -763,6 +993,58 @@ hash_at : (goal : Goal) (at : ℕ) (rest : List ℕ) → Found goal at (35 ∷ r
 hash_at goal at [] = no_name goal at [] tt
 hash_at goal at (b ∷ rest) = hash_byte goal at b rest (first_of b) refl
 
+number_allows : (goal : Goal) (big : Bool) (after : List ℕ) → allows goal (number_kind big) after ≡ true
+unfolding allows number_kind role_of may_close may_stand
+number_allows goal true after = refl
+number_allows goal false after = refl
+
+number_apart : (big : Bool) (after : List ℕ) → begins_part after ≡ false → stands_apart (number_kind big) after ≡ true
+unfolding stands_apart number_kind
+number_apart true after e = ap not e
+number_apart false after e = ap not e
+
+number_no_comment : (big : Bool) (s after : List ℕ) → IsNumber big s → begins_comment (s ++ after) ≡ false
+number_no_comment big [] after i = absurd (digits.no_empty big i)
+number_no_comment big (b ∷ s) after i =
+    start_no_comment_by b (s ++ after) (is_ascii_digit b) refl
+    (starts_number b (s ++ after) (digits.begins big (b ∷ s) after i))
+
+longest_number : (at : ℕ) (big : Bool) (s after : List ℕ)
+    → number_end at (s ++ after) ≡ record { big = big; end = at + length s } → IsLongestNumber s after
+longest_number at big s after e other more rest w i =
+    let same : (s ++ more) ++ rest ≡ s ++ after = append_assoc s more rest ∙ ap (λ t. s ++ t) (sym w) in
+    let l : at + length (s ++ more) ≤ (number_end at ((s ++ more) ++ rest)).end =
+    digits.number_reaches at other (s ++ more) rest i in
+    let end : (number_end at ((s ++ more) ++ rest)).end ≡ at + length s =
+    ap (λ t. (number_end at t).end) same ∙ ap (λ (n : NumberEnd). n.end) e in
+    nil_from_length more (omega (arith, length-append s more))
+
+number_found_by : (goal : Goal) (at : ℕ) (big : Bool) (s after text : List ℕ) (v : Bool) → text ≡ s ++ after
+    → IsNumber big s → IsLongestNumber s after → begins_part after ≡ v → Found goal at text (look_at goal at text)
+number_found_by goal at big s after text true w i l p =
+    fault InvalidChar (at + length s) (joined big s after w i l p refl refl)
+    (ap (look_at goal at) w ∙ number_stuck goal at big s after i l p)
+number_found_by goal at big s after text false w i l p =
+    met goal at (number_kind big) s after text _ w (number big i refl) (number_allows goal big after)
+    (number_no_comment big s after i) (number_apart big after p) refl
+    (ap (look_at goal at) w ∙ (spelled_looks goal at big s after i ∙ (number_at at big s after i l
+    ∙ apart_token (record { big = big; end = at + length s }) after p)))
+
+number_class : (goal : Goal) (at b : ℕ) (rest : List ℕ) → begins_number (b ∷ rest) ≡ true
+    → Found goal at (b ∷ rest) (look_at goal at (b ∷ rest))
+number_class goal at b rest h =
+    let f : digits.NumberFound at (b ∷ rest) (number_end at (b ∷ rest)) = digits.number_finds at b rest h in
+    number_found_by goal at f.big f.part f.after (b ∷ rest) (begins_part f.after) f.whole f.is
+    (longest_number at f.big f.part f.after (ap (number_end at) (sym f.whole) ∙ f.end)) refl
+
+dot_class_by : (goal : Goal) (at b : ℕ) (rest : List ℕ) (v : Bool) → begins_digit rest ≡ v → first_of b ≡ first.Dot
+    → Found goal at (b ∷ rest) (look_at goal at (b ∷ rest))
+dot_class_by goal at b rest true d f = number_class goal at b rest (point_starts b rest (dot_is b f) d)
+dot_class_by goal at b rest false d f =
+    subst (Found goal at (b ∷ rest)) (sym (dot_same goal at b rest f d))
+    (sign_found goal at b rest (sign_at (b ∷ rest)) (dot f d) (no_comment_at b rest first.Dot f (λ e. cc))
+    (dot_same goal at b rest f d) (mark.sign_finds b rest))
+
 class_found : (goal : Goal) (at b : ℕ) (rest : List ℕ) (c : First) → first_of b ≡ c
     → Found goal at (b ∷ rest) (look_at goal at (b ∷ rest))
 unfolding look_at class_look
@@ -781,6 +1063,8 @@ class_found goal at b rest first.Backtick f = tick_class goal at b rest f
 class_found goal at b rest first.Brace f = brace_class_by goal at b rest (is_open goal.bracket Template) refl f
 class_found goal at b rest first.Hash f =
     subst (λ (c : ℕ). Found goal at (c ∷ rest) (look_at goal at (c ∷ rest))) (sym (hash_is b f)) (hash_at goal at rest)
+class_found goal at b rest first.Digit f = number_class goal at b rest (digit_starts b rest (digit_is b f))
+class_found goal at b rest first.Dot f = dot_class_by goal at b rest (begins_digit rest) refl f
 class_found goal at b rest first.Other f = other_class goal at b rest f
 
 end_found : (goal : Goal) (at : ℕ) (bracket : Option BracketKind) → goal.bracket ≡ bracket
@@ -829,11 +1113,33 @@ token_reads_by goal at k s after found t (reached j m f l g) (piece (token i r) 
     let same : k ≡ j = g end in
     f ∙ cc
 
+apart_back : (big : Bool) (after : List ℕ) → stands_apart (number_kind big) after ≡ true → begins_part after ≡ false
+unfolding stands_apart number_kind
+apart_back true after e = remark.not_true (begins_part after) e
+apart_back false after e = remark.not_true (begins_part after) e
+
+number_reads : (goal : Goal) (at : ℕ) (k : TokenKind) (s after : List ℕ) (big : Bool) → IsToken goal k s after
+    → IsNumber big s → k ≡ number_kind big → look_at goal at (s ++ after) ≡ look.Token k (at + length s)
+number_reads goal at k s after big t i e =
+    let l : IsLongestNumber s after =
+    λ other more rest w j. t.longest (number_kind other) more rest w (number other j refl)
+    (number_allows goal other rest) in
+    spelled_looks goal at big s after i ∙ (number_at at big s after i l
+    ∙ (apart_token (record { big = big; end = at + length s }) after
+    (apart_back big after (subst (λ (j : TokenKind). stands_apart j after ≡ true) e t.apart))
+    ∙ ap (λ j. look.Token j (at + length s)) (sym e)))
+
+token_reads_limited : (goal : Goal) (at : ℕ) (k : TokenKind) (s after : List ℕ) → IsToken goal k s after
+    → Limited k s (at + length s) (look_at goal at (s ++ after))
+    → look_at goal at (s ++ after) ≡ look.Token k (at + length s)
+token_reads_limited goal at k s after t (by_reach r) =
+    token_reads_by goal at k s after _ t r (look_finds goal at (s ++ after))
+token_reads_limited goal at k s after t (by_number big i e) = number_reads goal at k s after big t i e
+
 token_reads : (goal : Goal) (at : ℕ) (k : TokenKind) (s after : List ℕ) → IsToken goal k s after
     → look_at goal at (s ++ after) ≡ look.Token k (at + length s)
 token_reads goal at k s after t =
-    token_reads_by goal at k s after _ t (reaches goal at k s after t.spells t.allowed t.no_comment)
-    (look_finds goal at (s ++ after))
+    token_reads_limited goal at k s after t (reaches goal at k s after t.spells t.allowed t.no_comment)
 
 byte_reads : (goal : Goal) (at : ℕ) (s after : List ℕ) (c : First) → (b : IsByte c s)
     → look_at goal at (s ++ after) ≡ class_look c goal at b.byte after

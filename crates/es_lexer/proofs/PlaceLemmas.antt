@@ -15,7 +15,7 @@ use Rattle.es_lexer.specs.Literals.{IsStrLiteral}
 use Rattle.es_lexer.specs.declared.goal.Goal.{Goal}
 use Rattle.es_lexer.specs.Goal.{goal_of}
 use Rattle.es_lexer.specs.Signs.{sign_kind, signs_of_one, signs_of_two, signs_of_three}
-use Rattle.es_lexer.specs.Spelling.{Spells, word, str, sign, private_name, template, template_start, template_stop, template_kind}
+use Rattle.es_lexer.specs.Spelling.{Spells, word, str, sign, private_name, template, number, number_kind, template_start, template_stop, template_kind}
 use Rattle.es_lexer.specs.Pieces.{Piece, blank, line_end, comment, token, comment_spelling, text_of, place_of}
 use Rattle.es_lexer.specs.Readable.{ArePieces}
 use Rattle.es_lexer.specs.Reads.{tokens_of, comments_of, token_of, comment_of}
@@ -24,6 +24,9 @@ use Rattle.es_lexer.proofs.RunLemmas.{Passes}
 use Rattle.es_lexer.proofs.SpellingLemmas.{not_empty}
 use Rattle.es_spelling.specs.Units.{concat}
 use Rattle.es_spelling.specs.Templates.{IsTemplateText}
+use Rattle.std.specs.List.{AllByRecursion}
+use Rattle.es_spelling.proofs.NumberLemmas.{no_empty}
+use Rattle.es_spelling.proofs.AsciiLemmas.{number_ascii}
 use Rattle.es_lexer.proofs.SignLemmas as mark
 use Rattle.es_lexer.proofs.WordLemmas.{word_no_str}
 
@@ -44,6 +47,8 @@ mark_ascii b h = elim (byte.classed b) [
   | byte.backtick s e ↦ cc
   | byte.brace s e ↦ cc
   | byte.hash s e ↦ cc
+  | byte.digit s e ↦ cc
+  | byte.dot s e ↦ cc
   | byte.other e ↦ cc
 ]
 
@@ -82,6 +87,7 @@ first_ascii goal k b rest (private_name name w s e) = let same : b ≡ 35 = cc i
 first_ascii goal k b rest (template opens sub body t s e) =
     let same : b ≡ template_start opens = cc in
     subst (λ (c : ℕ). c < 128) (sym same) (start_ascii opens)
+first_ascii goal k b rest (number big i e) = (number_ascii big (b ∷ rest) i).0
 
 -- a text that ends with an ASCII byte
 pub record EndsAscii (s : List ℕ) : Type 0 where
@@ -101,6 +107,12 @@ last_sign k b [] e =
     record { front = []; last = b; whole = refl; ascii = ltb-true b 128 (and_left (ltb b 128) true e) }
 last_sign k b (c ∷ s) e =
     let l : EndsAscii (c ∷ s) = last_sign k c s (and_right (ltb b 128) (all_ascii (c ∷ s) k) e) in
+    record { front = b ∷ l.front; last = l.last; whole = ap (λ t. b ∷ t) l.whole; ascii = l.ascii }
+
+last_of_ascii : (b : ℕ) (s : List ℕ) → AllByRecursion (λ c. c < 128) (b ∷ s) → EndsAscii (b ∷ s)
+last_of_ascii b [] h = record { front = []; last = b; whole = refl; ascii = h.0 }
+last_of_ascii b (c ∷ s) h =
+    let l : EndsAscii (c ∷ s) = last_of_ascii c s h.1 in
     record { front = b ∷ l.front; last = l.last; whole = ap (λ t. b ∷ t) l.whole; ascii = l.ascii }
 
 last_template : (opens sub : Bool) (body : List ℕ) → IsTemplateText (template_stop sub) body → (s : List ℕ)
@@ -130,6 +142,8 @@ last_ascii goal k s (private_name name w e f) =
     (last_part w.first w.parts (byte.start_is_part w.first w.starts) w.goes_on) in
     record { front = 35 ∷ l.front; last = l.last; whole = e ∙ ap (λ t. 35 ∷ t) l.whole; ascii = l.ascii }
 last_ascii goal k s (template opens sub body t e f) = last_template opens sub body t s e
+last_ascii goal k [] (number big i e) = absurd (no_empty big i)
+last_ascii goal k (b ∷ s) (number big i e) = last_of_ascii b s (number_ascii big (b ∷ s) i)
 last_ascii goal k [] (sign e) = absurd (not_empty goal k (sign e))
 last_ascii goal k (b ∷ s) (sign e) = last_sign k b s (sign_ascii (b ∷ s) k e)
 
@@ -302,11 +316,17 @@ template_no_str true false e = cc
 template_no_str false true e = cc
 template_no_str false false e = cc
 
+number_no_str : (big : Bool) → Str ≡ number_kind big → ⊥
+unfolding number_kind
+number_no_str true e = cc
+number_no_str false e = cc
+
 pub literal_of : (goal : Goal) (k : TokenKind) (s : List ℕ) → k ≡ Str → Spells goal k s → IsStrLiteral s
 literal_of goal k s e (word w f) = absurd (word_no_str goal.member s (sym e ∙ f))
 literal_of goal k s e (str l f) = l
 literal_of goal k s e (sign f) = absurd (sign_no_str s k e f)
 literal_of goal k s e (private_name name w q f) = cc
+literal_of goal k s e (number big i f) = absurd (number_no_str big (sym e ∙ f))
 literal_of goal k s e (template opens sub body t q f) = absurd (template_no_str opens sub (sym e ∙ f))
 
 -- ---- comments

@@ -12,7 +12,7 @@ use Rattle.es_lexer.specs.declared.token.TokenKind.{TokenKind}
 use Rattle.es_lexer.specs.declared.token.TokenKind.TheVariants as kind
 use Rattle.es_lexer.specs.Bytes.{first_of}
 use Rattle.es_lexer.specs.Brackets.{role_of}
-use Rattle.es_lexer.specs.Goal.{begins_digit, may_stand}
+use Rattle.es_lexer.specs.Goal.{begins_digit, may_stand, stands_apart}
 use Rattle.es_lexer.specs.Words.{WordTable}
 use Rattle.es_lexer.specs.Signs.{signs_of_one, signs_of_two, signs_of_three, sign_in, sign_kind, sized, two_before, sign_at}
 
@@ -62,6 +62,7 @@ abbrev pub is_sign_class : First → Bool
 is_sign_class first.Slash = true
 is_sign_class first.Other = true
 is_sign_class first.Brace = true
+is_sign_class first.Dot = true
 is_sign_class c = false
 
 abbrev begins_sign : List ℕ → TokenKind → Bool
@@ -155,6 +156,56 @@ chain_back s k v e t w =
     let other : sign_kind (63 ∷ 46 ∷ []) ≡ Some k = ap sign_kind (sym same) ∙ w in
     let is : kind.QuestionDot ≡ k = cc in
     ap is_chain (sym is)
+
+-- ---- `.`
+abbrev pub is_dot : TokenKind → Bool
+is_dot kind.Dot = true
+is_dot k = false
+
+abbrev dot_right : List ℕ → TokenKind → Bool
+dot_right s k = if is_dot k then bytes_eq s (46 ∷ []) else true
+
+dot_by : (s : List ℕ) (k : TokenKind) (v : Bool) → is_dot k ≡ v → v ≡ true
+    → (if v then bytes_eq s (46 ∷ []) else true) ≡ true → s ≡ 46 ∷ []
+dot_by s k true e t h = (bytes_eq-Decides s (46 ∷ [])).0 h
+dot_by s k false e t h = cc
+
+pub dot_spells : (s : List ℕ) (k : TokenKind) → sign_kind s ≡ Some k → is_dot k ≡ true → s ≡ 46 ∷ []
+unfolding signs_of_one signs_of_two signs_of_three
+dot_spells s k w e = dot_by s k (is_dot k) refl e (sign_passes dot_right s k refl refl refl w)
+
+-- a punctuator that goes on behind a point goes on with no digit
+abbrev dots_right : List ℕ → TokenKind → Bool
+dots_right [] k = true
+dots_right (a ∷ []) k = true
+dots_right (a ∷ b ∷ s) k = if a == 46 then not (is_ascii_digit b) else true
+
+dots_by : (b : ℕ) (v : Bool) → v ≡ true → (if v then not (is_ascii_digit b) else true) ≡ true
+    → not (is_ascii_digit b) ≡ true
+dots_by b true e h = h
+dots_by b false e h = cc
+
+pub dots_go_on : (a b : ℕ) (s : List ℕ) (k : TokenKind) → sign_kind (a ∷ b ∷ s) ≡ Some k → a ≡ 46
+    → not (is_ascii_digit b) ≡ true
+unfolding signs_of_one signs_of_two signs_of_three
+dots_go_on a b s k w e =
+    dots_by b (a == 46) (eq-eqb a 46 e) (sign_passes dots_right (a ∷ b ∷ s) k refl refl refl w)
+
+-- ---- no punctuator is a number
+abbrev is_numeric : TokenKind → Bool
+is_numeric kind.Number = true
+is_numeric kind.BigInt = true
+is_numeric k = false
+
+apart_by : (k : TokenKind) (after : List ℕ) → not (is_numeric k) ≡ true → stands_apart k after ≡ true
+unfolding stands_apart
+apart_by kind.Number after e = cc
+apart_by kind.BigInt after e = cc
+apart_by k after e = refl
+
+pub sign_apart : (s : List ℕ) (k : TokenKind) (after : List ℕ) → sign_kind s ≡ Some k → stands_apart k after ≡ true
+unfolding signs_of_one signs_of_two signs_of_three
+sign_apart s k after w = apart_by k after (sign_passes (λ t j. not (is_numeric j)) s k refl refl refl w)
 
 -- ---- closers are single
 abbrev pub is_plain_role : Role → Bool
@@ -356,22 +407,24 @@ sign_alone b (c ∷ d ∷ after) h =
 -- ---- a punctuator may stand
 -- by its kind: a slash where `/` divides, `?.` before no digit, and no regular expression
 may_by : (k : TokenKind) (regexp : Bool) (after : List ℕ) (v : Bool) → ChainFits k after → (v ≡ true → regexp ≡ false)
+    → (is_dot k ≡ true → begins_digit after ≡ false)
     → ((if v then is_slash k else not (is_slash k)) && not (is_regexp k)) ≡ true → may_stand regexp k after ≡ true
 unfolding may_stand
-may_by kind.RegExp regexp after true h r e = cc
-may_by kind.RegExp regexp after false h r e = cc
-may_by kind.Slash regexp after true h r e = ap not (r refl)
-may_by kind.Slash regexp after false h r e = cc
-may_by kind.SlashEqual regexp after true h r e = ap not (r refl)
-may_by kind.SlashEqual regexp after false h r e = cc
-may_by kind.QuestionDot regexp after v h r e = ap not (h refl)
-may_by k regexp after v h r e = refl
+may_by kind.RegExp regexp after true h r d e = cc
+may_by kind.RegExp regexp after false h r d e = cc
+may_by kind.Slash regexp after true h r d e = ap not (r refl)
+may_by kind.Slash regexp after false h r d e = cc
+may_by kind.SlashEqual regexp after true h r d e = ap not (r refl)
+may_by kind.SlashEqual regexp after false h r d e = cc
+may_by kind.Dot regexp after v h r d e = ap not (d refl)
+may_by kind.QuestionDot regexp after v h r d e = ap not (h refl)
+may_by k regexp after v h r d e = refl
 
 -- what stands behind it and before it
 pub may_stand_sign : (b : ℕ) (s : List ℕ) (k : TokenKind) (regexp : Bool) (after : List ℕ)
     → sign_kind (b ∷ s) ≡ Some k → ChainFits k after → ((b == 47) ≡ true → regexp ≡ false)
-    → may_stand regexp k after ≡ true
-may_stand_sign b s k regexp after w h r = may_by k regexp after (b == 47) h r (slash_fits (b ∷ s) k w)
+    → (is_dot k ≡ true → begins_digit after ≡ false) → may_stand regexp k after ≡ true
+may_stand_sign b s k regexp after w h r d = may_by k regexp after (b == 47) h r d (slash_fits (b ∷ s) k w)
 
 -- a punctuator's size is within the text
 pub size_within : (s : List ℕ) → IfSome (sign_at s) (λ g. g.size ≤ length s)
@@ -404,3 +457,26 @@ slash_some e = let f : Some kind.Slash ≡ None = e in cc
 pub brace_some : sign_kind (125 ∷ []) ≡ None → ⊥
 unfolding sign_kind sign_in signs_of_one
 brace_some e = let f : Some kind.CloseBrace ≡ None = e in cc
+
+-- a point
+pub point_is_dot : (k : TokenKind) → sign_kind (46 ∷ []) ≡ Some k → is_dot k ≡ true
+unfolding sign_kind sign_in signs_of_one
+point_is_dot k w = let e : kind.Dot ≡ k = cc in ap is_dot (sym e)
+
+pub point_some : sign_kind (46 ∷ []) ≡ None → ⊥
+unfolding sign_kind sign_in signs_of_one
+point_some e = let f : Some kind.Dot ≡ None = e in cc
+
+abbrev point_right : List ℕ → TokenKind → Bool
+point_right [] k = true
+point_right (a ∷ s) k = if a == 46 then is_plain_role (role_of k) else true
+
+point_by : (k : TokenKind) (v : Bool) → v ≡ true → (if v then is_plain_role (role_of k) else true) ≡ true
+    → is_plain_role (role_of k) ≡ true
+point_by k true e h = h
+point_by k false e h = cc
+
+pub point_plain : (a : ℕ) (s : List ℕ) (k : TokenKind) → sign_kind (a ∷ s) ≡ Some k → a ≡ 46
+    → is_plain_role (role_of k) ≡ true
+unfolding signs_of_one signs_of_two signs_of_three role_of
+point_plain a s k w e = point_by k (a == 46) (eq-eqb a 46 e) (sign_passes point_right (a ∷ s) k refl refl refl w)

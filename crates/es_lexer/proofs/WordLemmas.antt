@@ -4,7 +4,7 @@ use Rattle.es_lexer.specs.declared.goal.Goal.{Goal}
 use Rattle.es_lexer.specs.declared.token.TokenKind.{TokenKind}
 use Rattle.es_lexer.specs.declared.token.TokenKind.TheVariants as kind
 use Rattle.es_lexer.specs.Brackets.{role_of, may_close}
-use Rattle.es_lexer.specs.Goal.{allows, may_stand}
+use Rattle.es_lexer.specs.Goal.{allows, may_stand, stands_apart}
 use Rattle.es_lexer.specs.Words.{WordTable, kind_in, word_kind, is_keyword, kind_at, words_of, words_of_two, words_of_three, words_of_four, words_of_five, words_of_six, words_of_seven, words_of_eight, words_of_nine, words_of_ten, words_of_eleven}
 
 -- neither a Str nor a token that may stand at some places only
@@ -19,6 +19,9 @@ is_free kind.RegExp = false
 is_free kind.Slash = false
 is_free kind.SlashEqual = false
 is_free kind.QuestionDot = false
+is_free kind.Dot = false
+is_free kind.Number = false
+is_free kind.BigInt = false
 is_free k = true
 
 pub free_allows : (goal : Goal) (k : TokenKind) (after : List ℕ) → is_free k ≡ true → allows goal k after ≡ true
@@ -33,6 +36,9 @@ free_allows goal kind.RegExp after e = cc
 free_allows goal kind.Slash after e = cc
 free_allows goal kind.SlashEqual after e = cc
 free_allows goal kind.QuestionDot after e = cc
+free_allows goal kind.Dot after e = cc
+free_allows goal kind.Number after e = cc
+free_allows goal kind.BigInt after e = cc
 free_allows goal k after e = refl
 
 abbrev all_free : WordTable → Bool
@@ -81,3 +87,10 @@ pub word_no_str : (member : Bool) (s : List ℕ) → kind.Str ≡ kind_at member
 word_no_str member s e =
     let g : is_free kind.Str ≡ true = subst (λ (j : TokenKind). is_free j ≡ true) (sym e) (word_free member s) in
     cc
+
+-- what is no number stands apart
+pub free_apart : (k : TokenKind) (after : List ℕ) → is_free k ≡ true → stands_apart k after ≡ true
+unfolding stands_apart
+free_apart kind.Number after e = cc
+free_apart kind.BigInt after e = cc
+free_apart k after e = refl

@@ -3,7 +3,7 @@
 use Rattle.std.specs.Prelude.{ℕ, Bool, false, not, ◌&&◌, ◌||◌, ◌==◌, List, [], ◌∷◌, if◌then◌else◌}
 use Rattle.std.specs.Char.{is_ascii_alphabetic, is_ascii_digit}
 use Rattle.es_lexer.specs.declared.bytes.First.{First}
-use Rattle.es_lexer.specs.declared.bytes.First.TheVariants.{Blank, LineEnd, Start, Quote, Slash, Backtick, Brace, Hash, Other}
+use Rattle.es_lexer.specs.declared.bytes.First.TheVariants.{Blank, LineEnd, Start, Quote, Slash, Backtick, Brace, Hash, Digit, Dot, Other}
 
 -- U+0009 and U+0020
 abbrev pub is_blank : ℕ → Bool
@@ -40,7 +40,9 @@ first_of b =
     else (if b == 96 then Backtick
     else (if b == 125 then Brace
     else (if b == 35 then Hash
-    else Other)))))))
+    else (if is_ascii_digit b then Digit
+    else (if b == 46 then Dot
+    else Other)))))))))
 
 -- `//` or `/*` stands here (Comment)
 unfoldable pub begins_comment : List ℕ → Bool
@@ -63,3 +65,8 @@ has_closer (a ∷ rest) = begins_closer (a ∷ rest) || has_closer rest
 unfoldable pub has_line_end : List ℕ → Bool
 has_line_end [] = false
 has_line_end (b ∷ rest) = is_line_end b || has_line_end rest
+
+-- a part of a name stands here
+unfoldable pub begins_part : List ℕ → Bool
+begins_part [] = false
+begins_part (b ∷ rest) = is_part b

@@ -1,6 +1,6 @@
 -- What the functions of the crate promise each other: what stands at a place, found by one look forward.
 -- A look at a text goes over it once; places count from the start of the whole text.
-use Rattle.std.specs.Prelude.{ℕ, ◌+◌, ◌-◌, Bool, true, false, not, ◌||◌, ◌==◌, List, [], ◌∷◌, take, Option, Some, None, if◌then◌else◌}
+use Rattle.std.specs.Prelude.{ℕ, ◌+◌, ◌-◌, Bool, true, false, not, ◌||◌, ◌==◌, List, [], ◌∷◌, take, drop, Option, Some, None, if◌then◌else◌}
 use Rattle.es_lexer.specs.declared.bytes.First.{First}
 use Rattle.es_lexer.specs.declared.bytes.First.TheVariants as first
 use Rattle.es_lexer.specs.declared.bracket.BracketKind.{BracketKind}
@@ -11,13 +11,16 @@ use Rattle.es_lexer.specs.declared.look.Look.TheVariants as look
 use Rattle.es_lexer.specs.declared.token.CommentKind.TheVariants.{Line, Block}
 use Rattle.es_lexer.specs.declared.token.TokenKind.TheVariants as kind
 use Rattle.es_lexer.specs.declared.error.LexicalKind.TheVariants.{UnterminatedString, UnterminatedComment, UnterminatedTemplate, InvalidEscape, InvalidChar, Unbalanced}
-use Rattle.es_lexer.specs.Bytes.{first_of, is_part, is_line_end, is_plain, begins_closer}
+use Rattle.es_lexer.specs.Bytes.{begins_part, first_of, is_part, is_line_end, is_plain, begins_closer}
 use Rattle.es_lexer.specs.Words.{kind_at}
 use Rattle.es_lexer.specs.declared.bracket.BracketKind.TheVariants.{Template}
 use Rattle.es_spelling.specs.declared.template.TemplateEnd.{TemplateEnd}
 use Rattle.es_spelling.specs.declared.template.TemplateEnd.TheVariants.{Closes, Substitutes, Unclosed}
 use Rattle.es_spelling.specs.Templates.{template_end}
-use Rattle.es_lexer.specs.Spelling.{template_kind}
+use Rattle.es_spelling.specs.declared.number.NumberEnd.{NumberEnd}
+use Rattle.es_spelling.specs.Numbers.{number_end}
+use Rattle.es_lexer.specs.Goal.{begins_digit}
+use Rattle.es_lexer.specs.Spelling.{template_kind, number_kind}
 use Rattle.es_lexer.specs.Brackets.{role_of, is_open, may_close}
 use Rattle.es_lexer.specs.Signs.{sign_at}
 
@@ -96,6 +99,21 @@ unfoldable pub hash_look : ℕ → List ℕ → Look
 hash_look at [] = look.Fault InvalidChar at
 hash_look at (b ∷ rest) = name_look (first_of b) at rest
 
+-- a number, before this text
+unfoldable pub number_stop : NumberEnd → List ℕ → Look
+number_stop number after =
+    if begins_part after then look.Fault InvalidChar number.end else look.Token (number_kind number.big) number.end
+
+-- a number at `at`, at the front of `text`
+unfoldable pub number_look : ℕ → List ℕ → Look
+number_look at text =
+    let number = number_end at text in number_stop number (drop (number.end - at) text)
+
+-- a point at `at`, before `rest`
+unfoldable pub dot_look : Goal → ℕ → List ℕ → Look
+dot_look goal at rest =
+    if begins_digit rest then number_look at (46 ∷ rest) else sign_look goal.bracket at (sign_at (46 ∷ rest))
+
 -- what begins with a byte of this class at `at`, before `rest`
 unfoldable pub class_look : First → Goal → ℕ → ℕ → List ℕ → Look
 class_look first.Blank goal at b rest = look.Blank (at + 1)
@@ -106,6 +124,8 @@ class_look first.Slash goal at b rest = slash_look goal at rest
 class_look first.Backtick goal at b rest = template_look true at (template_end (at + 1) rest)
 class_look first.Brace goal at b rest = brace_look goal at rest
 class_look first.Hash goal at b rest = hash_look at rest
+class_look first.Digit goal at b rest = number_look at (b ∷ rest)
+class_look first.Dot goal at b rest = dot_look goal at rest
 class_look first.Other goal at b rest = sign_look goal.bracket at (sign_at (b ∷ rest))
 
 -- the end of the text, where this is the innermost open bracket

@@ -9,7 +9,7 @@ use Rattle.es_lexer.specs.declared.token.CommentKind.{CommentKind}
 use Rattle.es_lexer.specs.declared.token.CommentKind.TheVariants.{Line, Block}
 use Rattle.es_lexer.specs.Bytes.{first_of, is_line_end, begins_comment, has_closer}
 use Rattle.es_lexer.specs.Spelling.{Spells}
-use Rattle.es_lexer.specs.Goal.{goal_of, allows}
+use Rattle.es_lexer.specs.Goal.{goal_of, allows, stands_apart}
 use Rattle.es_lexer.specs.Pieces.{Piece, blank, line_end, comment, token, text_of}
 
 -- no token that may stand here has a longer spelling
@@ -23,6 +23,7 @@ pub record IsToken (goal : Goal) (k : TokenKind) (s after : List ℕ) : Type 0 w
   pub allowed : allows goal k after ≡ true
   pub longest : IsLongest goal s after
   pub no_comment : begins_comment (s ++ after) ≡ false
+  pub apart : stands_apart k after ≡ true
 
 -- the text ends here, or a line end stands here
 abbrev pub EndsLine : List ℕ → Type 0

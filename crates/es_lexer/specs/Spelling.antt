@@ -4,12 +4,13 @@ use Rattle.std.specs.List.{AllByRecursion}
 use Rattle.es_lexer.specs.declared.bytes.First.TheVariants.{Start}
 use Rattle.es_lexer.specs.declared.goal.Goal.{Goal}
 use Rattle.es_lexer.specs.declared.token.TokenKind.{TokenKind}
-use Rattle.es_lexer.specs.declared.token.TokenKind.TheVariants.{Str, PrivateName, TemplateWhole, TemplateHead, TemplateMiddle, TemplateTail}
+use Rattle.es_lexer.specs.declared.token.TokenKind.TheVariants.{Str, Number, BigInt, PrivateName, TemplateWhole, TemplateHead, TemplateMiddle, TemplateTail}
 use Rattle.es_lexer.specs.Bytes.{first_of, is_part}
 use Rattle.es_lexer.specs.Words.{kind_at}
 use Rattle.es_lexer.specs.Signs.{sign_kind}
 use Rattle.es_lexer.specs.Literals.{IsStrLiteral}
 use Rattle.es_spelling.specs.Templates.{IsTemplateText}
+use Rattle.es_spelling.specs.Numbers.{IsNumber}
 
 -- each byte continues a word
 abbrev pub AreParts : List ℕ → Type 0
@@ -40,6 +41,11 @@ template_kind true false = TemplateWhole
 template_kind false true = TemplateMiddle
 template_kind false false = TemplateTail
 
+-- a number, or a BigInt ("Numeric Literals")
+unfoldable pub number_kind : Bool → TokenKind
+number_kind true = BigInt
+number_kind false = Number
+
 -- the text spells a token of this kind there
 pub data Spells (goal : Goal) (k : TokenKind) (s : List ℕ) : Type 0 where
   word : IsWord s → k ≡ kind_at goal.member s → Spells goal k s
@@ -48,3 +54,4 @@ pub data Spells (goal : Goal) (k : TokenKind) (s : List ℕ) : Type 0 where
   private_name : (name : List ℕ) → IsWord name → s ≡ 35 ∷ name → k ≡ PrivateName → Spells goal k s
   template : (opens substitutes : Bool) (body : List ℕ) → IsTemplateText (template_stop substitutes) body
       → s ≡ template_start opens ∷ body → k ≡ template_kind opens substitutes → Spells goal k s
+  number : (big : Bool) → IsNumber big s → k ≡ number_kind big → Spells goal k s

@@ -6,13 +6,14 @@ use Rattle.es_lexer.specs.declared.goal.Goal.{Goal}
 use Rattle.es_lexer.specs.declared.token.TokenKind.{TokenKind}
 use Rattle.es_lexer.specs.declared.error.LexicalKind.{LexicalKind}
 use Rattle.es_lexer.specs.declared.error.LexicalKind.TheVariants.{UnterminatedString, UnterminatedComment, UnterminatedTemplate, InvalidEscape, InvalidChar, Unbalanced}
-use Rattle.es_lexer.specs.Bytes.{first_of, begins_comment, has_closer}
+use Rattle.es_lexer.specs.Bytes.{first_of, begins_comment, has_closer, begins_part}
 use Rattle.es_lexer.specs.declared.bracket.BracketKind.TheVariants.{Template}
 use Rattle.es_lexer.specs.Brackets.{role_of, is_open, may_close}
 use Rattle.es_lexer.specs.Signs.{sign_kind}
 use Rattle.es_lexer.specs.Literals.{ArePlain}
 use Rattle.es_lexer.specs.Spelling.{template_start}
 use Rattle.es_spelling.specs.Templates.{IsUnclosed}
+use Rattle.es_spelling.specs.Numbers.{IsNumber}
 use Rattle.es_lexer.specs.Goal.{goal_of}
 use Rattle.es_lexer.specs.Pieces.{Piece, text_of, behind}
 use Rattle.es_lexer.specs.Readable.{ArePieces, EndsLine}
@@ -25,6 +26,11 @@ BeginsNoName (b ∷ rest) = first_of b ≡ Start → ⊥
 -- the byte begins nothing but a punctuator: a `}` goes on in a template where a `${` is open
 abbrev pub BeginsSign : Goal → ℕ → Type 0
 BeginsSign goal b = first_of b ≡ Other ⊎ (first_of b ≡ Brace) × (is_open goal.bracket Template ≡ false)
+
+-- no longer text at this place is a number
+abbrev pub IsLongestNumber : List ℕ → List ℕ → Type 0
+IsLongestNumber s after = (big : Bool) (more rest : List ℕ) → after ≡ more ++ rest → IsNumber big (s ++ more)
+    → more ≡ []
 
 -- nothing can be read from `rest`, which stands at `at`: the kind of the fault, and its place
 pub data Stuck (goal : Goal) (rest : List ℕ) (at : ℕ) (kind : LexicalKind) (place : ℕ) : Type 0 where
@@ -52,6 +58,9 @@ pub data Stuck (goal : Goal) (rest : List ℕ) (at : ℕ) (kind : LexicalKind) (
   -- a `#` without a name
   lone_hash : (after : List ℕ) → rest ≡ 35 ∷ after → BeginsNoName after
       → kind ≡ InvalidChar → place ≡ at → Stuck goal rest at kind place
+  -- a part of a name, or a wrong `_`, right behind a number
+  joined : (big : Bool) (s after : List ℕ) → rest ≡ s ++ after → IsNumber big s → IsLongestNumber s after
+      → begins_part after ≡ true → kind ≡ InvalidChar → place ≡ at + length s → Stuck goal rest at kind place
   -- a template without its end, or what goes on in one
   open_template : (opens : Bool) (body : List ℕ) → rest ≡ template_start opens ∷ body
       → (opens ≡ false → is_open goal.bracket Template ≡ true) → IsUnclosed body

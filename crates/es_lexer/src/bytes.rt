@@ -1,5 +1,5 @@
 ghost use Rattle.std.specs.Prelude.{◌≡◌};
-ghost use Rattle.es_lexer.specs.Bytes.{first_of, is_line_end, is_part, is_plain};
+ghost use Rattle.es_lexer.specs.Bytes.{begins_part, first_of, is_line_end, is_part, is_plain};
 
 /// What a byte begins, where a token, a comment or a gap is to be read.
 #[derive(Clone, Copy)]
@@ -18,6 +18,10 @@ pub enum First {
     Brace,
     /// A private name.
     Hash,
+    /// A number.
+    Digit,
+    /// A number, where a digit follows, else a punctuator.
+    Dot,
     /// A punctuator, or nothing.
     Other,
 }
@@ -35,6 +39,8 @@ pub fn first_of(b: u8) -> First
         b'`' => First::Backtick,
         b'}' => First::Brace,
         b'#' => First::Hash,
+        b'0'..=b'9' => First::Digit,
+        b'.' => First::Dot,
         _ => First::Other,
     }
 }
@@ -56,4 +62,15 @@ pub fn is_plain(quote: u8, b: u8) -> bool
     ensures { result ≡ is_plain quote b }
 {
     b != quote && b != b'\\' && b != b'\n' && b != b'\r'
+}
+
+/// Whether a part of a name stands here.
+#[tactic(auto, unfolding(crate::specs::Bytes::begins_part))]
+pub fn begins_part(text: &[u8]) -> bool
+    ensures { result ≡ begins_part text.now }
+{
+    match text {
+        [] => false,
+        [b, ..] => is_part(*b),
+    }
 }

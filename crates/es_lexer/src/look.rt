@@ -2,16 +2,17 @@ ghost use Rattle.std.specs.Prelude.{◌≡◌, ℕ, ◌+◌, ◌<◌, ◌≤◌,
 ghost use Rattle.std.specs.Bool.{OnTrue};
 ghost use Rattle.es_lexer.specs.Bytes.{begins_closer, is_part};
 ghost use Rattle.es_lexer.specs.Signs.{sign_at};
-ghost use Rattle.es_lexer.specs.Look.{run_end, is_in_line, word_look, string_stop, string_look, block_look, sign_look, template_look, brace_look, name_look, hash_look, divide_look, slash_look, end_look, look_at};
+ghost use Rattle.es_lexer.specs.Spelling.{number_kind};
+ghost use Rattle.es_lexer.specs.Look.{run_end, is_in_line, word_look, string_stop, string_look, block_look, sign_look, template_look, number_stop, number_look, dot_look, brace_look, name_look, hash_look, divide_look, slash_look, end_look, look_at};
 
 use crate::bracket::{BracketKind, is_open, may_close, role_of};
-use crate::bytes::{First, first_of, is_line_end, is_part, is_plain};
+use crate::bytes::{First, begins_part, first_of, is_line_end, is_part, is_plain};
 use crate::error::LexicalKind;
 use crate::goal::Goal;
 use crate::signs::{Sign, sign_at};
 use crate::token::{CommentKind, TokenKind};
 use crate::words::kind_at;
-use es_spelling::{TemplateEnd, template_from};
+use es_spelling::{NumberEnd, TemplateEnd, number_from, template_from};
 
 /// What stands at a place of a text. An end is the place behind it.
 #[derive(Clone, Copy)]
@@ -56,8 +57,68 @@ pub fn look_from(goal: Goal, at: usize, text: &[u8]) -> Look
             First::Backtick => template_token(true, at, template_from(at + 1, rest)),
             First::Brace => brace_from(goal, at, text, rest),
             First::Hash => hash_from(at, rest),
+            First::Digit => number_token(at, text),
+            First::Dot => dot_from(goal, at, text, rest),
             First::Other => sign_from(goal.bracket, at, text),
         },
+    }
+}
+
+/// The number at the front of `text`.
+#[tactic(auto, unfolding(crate::specs::Look::number_look))]
+fn number_token(at: usize, text: &[u8]) -> Look
+    requires { at + length text.now < 2 ^ 64 }
+    ensures { result ≡ number_look at text.now }
+{
+    let number = number_from(at, text);
+    number_before(number, &text[number.end - at..])
+}
+
+/// A number before this text.
+#[tactic(auto, unfolding(crate::specs::Look::number_stop))]
+fn number_before(number: NumberEnd, after: &[u8]) -> Look
+    ensures { result ≡ number_stop number after.now }
+{
+    if begins_part(after) {
+        Look::Fault {
+            kind: LexicalKind::InvalidChar,
+            at: number.end,
+        }
+    } else {
+        Look::Token {
+            kind: number_kind(number.big),
+            end: number.end,
+        }
+    }
+}
+
+#[tactic(auto, unfolding(crate::specs::Spelling::number_kind))]
+fn number_kind(big: bool) -> TokenKind
+    ensures { result ≡ number_kind big }
+{
+    if big {
+        TokenKind::BigInt
+    } else {
+        TokenKind::Number
+    }
+}
+
+/// What begins with a point: a number, where a digit follows.
+#[tactic(auto, unfolding(crate::specs::Look::dot_look, crate::specs::Goal::begins_digit))]
+fn dot_from(goal: Goal, at: usize, whole: &[u8], rest: &[u8]) -> Look
+    requires room { at + length whole.now < 2 ^ 64 }
+    requires dot { whole.now ≡ 46 ∷ rest.now }
+    ensures { result ≡ dot_look goal at rest.now }
+{
+    match rest {
+        [] => sign_from(goal.bracket, at, whole),
+        [b, ..] => {
+            if b.is_ascii_digit() {
+                number_token(at, whole)
+            } else {
+                sign_from(goal.bracket, at, whole)
+            }
+        }
     }
 }
 

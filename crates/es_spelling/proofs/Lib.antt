@@ -1,2 +1,6 @@
 pub mod UnitLemmas
 pub mod TemplateLemmas
+pub mod ReaderLemmas
+pub mod DigitLemmas
+pub mod NumberLemmas
+pub mod AsciiLemmas

@@ -187,3 +187,16 @@ pub turn_fits : (at n : ℕ) (s t : List ℕ) → t ≡ drop n s → n ≤ lengt
 turn_fits at n s t e l f =
     let size : length t ≡ length (drop n s) = ap length e in
     omega (arith, length-drop n s)
+
+-- one turn of a loop that keeps the rest alone
+pub record RestTurn (size : List ℕ → ℕ) (s t text : List ℕ) : Type 0 where
+  pub same : units_rest size 0 t ≡ units_rest size 0 text
+  pub less : length t ≤ length text
+
+pub rest_turn : (size : List ℕ → ℕ) (n : ℕ) (s t text : List ℕ) → n ≡ size s → 0 < n → n ≤ length s
+    → t ≡ drop n s → units_rest size 0 s ≡ units_rest size 0 text → length s ≤ length text
+    → RestTurn size s t text
+rest_turn size n s t text e l w d q m =
+    let one : Turn size 0 0 n s t s = turn size 0 0 n s t s e l w d refl refl in
+    let size : length t ≡ length (drop n s) = ap length d in
+    record { same = one.rest ∙ q; less = omega (arith, length-drop n s) }

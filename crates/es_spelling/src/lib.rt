@@ -1,9 +1,11 @@
-//! Where the spellings of tokens with a body end (ECMA-262, "Lexical Grammar"): templates, regular expressions, numbers.
+//! Where numbers and the text of templates end (ECMA-262, "Numeric Literals", "Template Literal Lexical Components").
 //!
 //! Each call is given the bytes of the text from a place on, and that place. What it answers is a function of the text
 //! (`specs/`); `proofs/` shows that it is the end of the spelling that stands there, and of no other.
 #![tactic(auto)]
 
+mod number;
 mod template;
 
+pub use number::{NumberEnd, Radix, number_from};
 pub use template::{TemplateEnd, template_from};
