@@ -1,19 +1,21 @@
 -- The laws of the grammar.
 use Rattle.std.specs.Prelude.{List, Bool}
-use Rattle.std.proofs.Common.{◌≡◌}
+use Rattle.std.proofs.Common.{◌≡◌, length}
 use Rattle.es_tree.specs.declared.error.Lang.{Lang}
 use Rattle.es_tree.specs.declared.error.Mode.{Mode}
 use Rattle.es_tree.specs.declared.error.Mode.TheVariants as mode
 use Rattle.es_tree.specs.Key.{Key}
 use Rattle.es_tree.specs.Plain.{Plain}
-use Rattle.es_tree.specs.Fits.{free, chosen, Shape}
+use Rattle.es_tree.specs.Fits.{free, chosen, Shape, most_nodes}
 use Rattle.es_tree.proofs.Theorems as grammars
 use Rattle.es_grammar.specs.Rows.{ModuleRow, ScriptRow}
 use Rattle.es_grammar.specs.Rows as programs
 use Rattle.es_grammar.specs.Table.{rule}
-use Rattle.es_grammar.specs.Conditions.{IsProgram}
+use Rattle.es_grammar.specs.Conditions.{IsProgram, program_row}
 use Rattle.es_grammar.specs.TypeRows.{TypeRow, Label}
 use Rattle.es_grammar.specs.TypeTable.{type_rule}
+use Rattle.es_grammar.specs.Order.{StandsBetween}
+use Rattle.es_grammar.proofs.OrderLemmas.{row_stands}
 use Rattle.es_grammar.proofs.Claims.{modules, scripts}
 use Rattle.es_grammar.proofs.Claims as claims
 use Rattle.es_grammar.proofs.TypeClaims.{sets, types}
@@ -53,6 +55,12 @@ pub one_program : (l : Lang) (m : Mode) (K : List Key) (p q : Plain programs.Lab
 one_program l mode.Module K p q one other = one_module l K p q one.shaped other.shaped
 one_program l mode.Script K p q one other = one_script K p q one.shaped other.shaped
 
+-- the parts of a program stand in order, each within the range of the node that holds it
+pub program_ordered : (l : Lang) (m : Mode) (K : List Key) (p : Plain programs.Label) → IsProgram l m K p
+    → StandsBetween 0 (length K) p
+unfolding Shape
+program_ordered l m K p program = row_stands free K rule most_nodes (program_row l m) p 0 (length K) program.shaped.0
+
 -- ---- types
 
 -- keys have at most one tree as a type
@@ -68,3 +76,8 @@ free_type_is_chosen c = grammars.free_is_chosen type_rule sets (TypeRow c) (type
 pub chosen_type_is_free : (c : Bool) (K : List Key) (p : Plain Label)
     → Shape chosen type_rule (TypeRow c) K p → Shape free type_rule (TypeRow c) K p
 chosen_type_is_free c = grammars.chosen_is_free type_rule sets (TypeRow c) (types c)
+
+-- the parts of a type stand in order, each within the range of the node that holds it
+pub type_ordered : (c : Bool) (K : List Key) (p : Plain Label) → Shape free type_rule (TypeRow c) K p → StandsBetween 0 (length K) p
+unfolding Shape
+type_ordered c K p shaped = row_stands free K type_rule most_nodes (TypeRow c) p 0 (length K) shaped.0

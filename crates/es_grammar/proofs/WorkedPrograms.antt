@@ -8,7 +8,7 @@ use Rattle.es_tree.specs.Form.{as_kind, as_name, as_raw, as_str, as_there}
 use Rattle.es_tree.specs.Plain.{node, leaf, nil, cons, mark, turn, via}
 use Rattle.es_tree.specs.Fits.{most_nodes}
 use Rattle.es_tree.specs.Reader.{gives, read_turns, read_wraps, read_row}
-use Rattle.es_grammar.specs.Rows.{AccessorProperty, Arguments, ArrayLiteral, ArrayPattern, Assignment, AsyncFunction, AsyncNameArrow, Attributes, BareImport, Binary, Block, CallPost, Chain, Class, Conditional, Declarator, DefaultAndClause, DefaultPattern, DoStatement, ExportAll, ExportDeclaration, ExportDefaultExpression, ExportDefaultFunction, ExportNames, ExportedName, ExpressionStatement, FieldMember, ForAwaitStatement, ForEachStatement, ForStatement, FromImport, Function, IfStatement, ImportCall, ImportMeta, KeyValue, LabelledStatement, MemberPost, MethodMember, Module, Name, NameArrow, NamePattern, NameProperty, NamedImports, Namespace, New, ObjectLiteral, ObjectPattern, OptionalPost, Parameters, Parenthesized, ParenthesizedArrow, PatternAssignment, PrivateIn, PrivateKey, RenamedImport, ReturnStatement, Script, Shorthand, Signature, Spread, SwitchStatement, Target, Template, TemplateParts, TryStatement, UnaryExpression, UpdatePostfix, UpdatePrefix, Using, UsingDeclaration, VariableDeclaration, VariableHead, Variables, WithStatement, WordKey}
+use Rattle.es_grammar.specs.Rows.{AccessorProperty, Arguments, ArrayLiteral, ArrayPattern, Assignment, AsyncFunction, AsyncNameArrow, Attributes, BareImport, Binary, Block, CallPost, Chain, Class, Conditional, Declarator, DefaultAndClause, DefaultPattern, DoStatement, ExportAll, ExportDeclaration, ExportDefaultExpression, ExportDefaultFunction, ExportNames, ExportedName, ExpressionStatement, FieldMember, ForAwaitStatement, ForEachStatement, ForStatement, FromImport, Function, IfStatement, ImportCall, ImportMeta, KeyValue, LabelledStatement, MemberPost, MethodMember, Module, Name, NameArrow, NamePattern, NameProperty, NamedImports, Namespace, New, ObjectLiteral, ObjectPattern, OptionalPost, Parameters, Parenthesized, ParenthesizedArrow, PatternAssignment, PrivateIn, PrivateKey, RenamedImport, ReturnStatement, Script, Shorthand, Signature, Spread, SwitchStatement, Target, Template, TemplateParts, TryStatement, UnaryExpression, UpdatePostfix, UpdatePrefix, Using, UsingDeclaration, VariableDeclaration, VariableHead, Variables, WithStatement, WordKey, Yield}
 use Rattle.es_grammar.specs.TypeReader.{one, joined, paired, line, line_paired}
 use Rattle.es_grammar.specs.ProgramReader.{read_program}
 use Rattle.es_grammar.specs.Words.{is_name, is_word, is_name_or_this, is_numeric, is_sign, is_accessor_word, is_near, begins_key}
@@ -382,6 +382,15 @@ declarations :
     Module 0 8 (cons nil (cons (turn (cons (node AsyncFunction 0 8 (mark 0 (mark 1 (cons (cons (leaf as_there 2)
     nil) (cons (leaf as_name 3) (cons (node Signature 4 6 (mark 4 (cons (node Parameters 5 5 (cons nil (cons nil
     nil))) (mark 5 nil)))) (cons (node Block 6 8 (mark 6 (cons nil (mark 7 nil)))) nil))))))) nil) nil) nil))) 8)
+    -- function * a ( ) { yield⏎ b }
+    × (read_program lang.Es mode.Module (one k.FunctionWord ∷ one k.Star ∷ one k.Name ∷ paired k.OpenParen 4 ∷ paired
+    k.CloseParen 3 ∷ paired k.OpenBrace 8 ∷ one k.YieldWord ∷ line k.Name ∷ paired k.CloseBrace 5 ∷ []) ≡ gives
+    (node Module 0 9 (cons nil (cons (turn (cons (node Function 0 9 (mark 0 (cons (cons (leaf as_there 1) nil)
+    (cons (leaf as_name 2) (cons (node Signature 3 5 (mark 3 (cons (node Parameters 4 4 (cons nil (cons nil nil)))
+    (mark 4 nil)))) (cons (node Block 5 9 (mark 5 (cons (turn (cons (node ExpressionStatement 6 7 (cons (node
+    Yield 6 7 (mark 6 (cons nil nil))) (cons nil nil))) nil) (turn (cons (node ExpressionStatement 7 8 (cons (node
+    Name 7 8 (cons (leaf as_name 7) nil)) (cons nil nil))) nil) nil)) (mark 8 nil)))) nil)))))) nil) nil) nil)))
+    9)
     -- class a extends b { static c = d ; e ( ) { } #f }
     × (read_program lang.Es mode.Module (one k.ClassWord ∷ one k.Name ∷ one k.ExtendsWord ∷ one k.Name ∷ paired
     k.OpenBrace 16 ∷ one k.StaticWord ∷ one k.Name ∷ one k.Equal ∷ one k.Name ∷ one k.Semicolon ∷ one k.Name ∷
@@ -420,7 +429,7 @@ unfolding read_program read_row read_turns read_wraps most_nodes is_name is_word
     opens_default opens_default_function opens_default_class export_default opens_declaration export_item item
     shebang_in module_ script rule
 declarations =
-    (refl, refl, refl)
+    (refl, refl, refl, refl)
 
 -- imports and exports
 items :

@@ -19,6 +19,10 @@ use Rattle.es_grammar.specs.TypeTable.{type_rule}
 refused :
     -- nothing
     (read_type ([]) ≡ nothing)
+    -- a extends b ? c : () => asserts d extends e ? f : g
+    × (read_type (one k.Name ∷ one k.ExtendsWord ∷ one k.Name ∷ one k.Question ∷ one k.Name ∷ one k.Colon ∷ paired
+    k.OpenParen 7 ∷ paired k.CloseParen 6 ∷ one k.Arrow ∷ one k.AssertsWord ∷ one k.Name ∷ one k.ExtendsWord ∷
+    one k.Name ∷ one k.Question ∷ one k.Name ∷ one k.Colon ∷ one k.Name ∷ []) ≡ nothing)
     -- a b
     × (read_type (one k.Name ∷ one k.Name ∷ []) ≡ gives (node Entity 0 1 (cons (leaf as_name 0) (cons nil nil))) 1)
     -- a |
@@ -57,7 +61,7 @@ unfolding read_type read_row read_turns read_wraps most_nodes
     function_type opens_constructor constructor_type any_type is_label label_in element is_asserted_name
     opens_asserts opens_predicate result type_rule
 refused =
-    (refl, refl, refl, refl, refl, refl, refl, refl, refl, refl, refl)
+    (refl, refl, refl, refl, refl, refl, refl, refl, refl, refl, refl, refl)
 
 -- guards and wrong parts
 refused_more :

@@ -1,5 +1,7 @@
 -- kinds of tokens, and what the written guards look at
 pub mod Words
+-- the parts of a tree stand in order
+pub mod Order
 -- programs, as far as they stand: their rows, the areas of their table, the table
 pub mod Rows
 pub mod Modules
