@@ -7,11 +7,11 @@ import unittest
 
 TOOL = os.path.join(os.path.dirname(os.path.dirname(os.path.abspath(__file__))), "check-links")
 FILES = {
-    "README.md": "# One\n\nA [page](docs/PAGE.md#the-second-part) and `Reads`.\n",
-    "docs/PAGE.md": "# Page\n\n## The second part\n\n| crate `lexer` | `scan` | `Reads`, specs/Reads.antt |\n",
-    "crates/lexer/README.md": "# lexer\n\nThe call `read_all` is what `Reads` of `specs/Reads.antt` says.\n",
+    "README.md": "# One\n\nA [page](docs/PAGE.md#the-second-part) and `IsRead`.\n",
+    "docs/PAGE.md": "# Page\n\n## The second part\n\n| crate `lexer` | `scan` | `IsRead`, specs/Reads.antt |\n",
+    "crates/lexer/README.md": "# lexer\n\nThe call `read_all` is what `IsRead` of `specs/Reads.antt` says.\n",
     "crates/lexer/src/scan.rt": "pub fn read_all()\n    ensures read { 0 ≡ 0 }\n",
-    "crates/lexer/specs/Reads.antt": "pub record Reads (x : ℕ) : Type 0 where\n  pub whole : x ≡ x\n",
+    "crates/lexer/specs/Reads.antt": "pub record IsRead (x : ℕ) : Type 0 where\n  pub whole : x ≡ x\n",
     "crates/lexer/must-fail/reads_nothing.edit": "",
 }
 
@@ -64,10 +64,10 @@ class CheckLinks(unittest.TestCase):
         for _ in range(2):  # what is a link stays as it is
             self.assertEqual(self.told("--write"), (0, ["links: 3 pages, 0 faults"]))
             wanted = {
-                "README.md": "# One\n\nA [page](docs/PAGE.md#the-second-part) and [`Reads`](crates/lexer/specs/Reads.antt).\n",
+                "README.md": "# One\n\nA [page](docs/PAGE.md#the-second-part) and [`IsRead`](crates/lexer/specs/Reads.antt).\n",
                 "docs/PAGE.md": "# Page\n\n## The second part\n\n"
-                                "| crate [`lexer`](../crates/lexer/README.md) | `scan` | [`Reads`](../crates/lexer/specs/Reads.antt) |\n",
-                "crates/lexer/README.md": "# lexer\n\nThe call [`read_all`](src/scan.rt) is what [`Reads`](specs/Reads.antt) of "
+                                "| crate [`lexer`](../crates/lexer/README.md) | `scan` | [`IsRead`](../crates/lexer/specs/Reads.antt) |\n",
+                "crates/lexer/README.md": "# lexer\n\nThe call [`read_all`](src/scan.rt) is what [`IsRead`](specs/Reads.antt) of "
                                           "[`specs/Reads.antt`](specs/Reads.antt) says.\n",
             }
             for path, text in wanted.items():
