@@ -1,9 +1,7 @@
 //! std's readers and writers as sources and sinks: the trusted edge.
 ghost use Rattle.std.specs.Prelude.{◌≡◌, ◌≤◌, length, None, IfOk};
 
-use crate::faults::Faults;
-use crate::sink::Sink;
-use crate::source::{Failed, Source};
+use graph_run::{Failed, Faults, Sink, Source};
 use std::io::{Read, Write};
 
 /// A reader as a source. Each error of the reader is a fault.

@@ -1,31 +1,13 @@
-//! The program: the module graph of a JSON bundle, from the bytes that come in to the bytes that go out.
+//! The program: `graph_run::run` over standard input and standard output.
 //!
-//! - `run`: reads a bundle, writes the report of its graph, and answers a `Status` (`Wrote`, `specs/Run.antt`).
-//!   `main` calls it with the words behind its name, standard input and standard output.
-//! - `report`: the text of a graph (`report_of`, `specs/Report.antt`).
-//! - `Source`, `Sink`: what gives and takes bytes (`specs/Transfer.antt`), in memory (`specs/Memory.antt`) and over
-//!   std's readers and writers, which are the trusted edge.
-//!
-//! Want of memory is the one answer without a cause.
+//! `main` hands on the words behind the program's name, and ends with the status of the run. `ReadSource` and
+//! `WriteSink` are the trusted edge: that std's reader and writer move the bytes that they say.
 #![tactic(auto)]
 
 mod adapters;
-mod faults;
-mod memory;
-mod program;
-mod reports;
-mod sink;
-mod source;
-mod status;
-#[cfg(test)]
-mod tests;
-mod transfer;
-mod verdict;
-mod words;
 
 use crate::adapters::{ReadSource, WriteSink};
-use crate::program::run;
-use crate::status::Status;
+use graph_run::{Status, run};
 use std::process::ExitCode;
 use std::{env, io};
 

@@ -1,0 +1,20 @@
+-- What is due for the bundle, or for a value that says none.
+use Rattle.std.proofs.Common.{ap, Err}
+use Rattle.graph_run.specs.Run.{bundle, no_bundle}
+use Rattle.graph_bundle.proofs.BundleLemmas.{bundle_plain}
+use Rattle.graph_bundle.proofs.BundleLemmas.{IfOk-map}
+use Rattle.graph_run.proofs.verdict.due_for.Goals as goal
+
+pub due_for_bundle-requires : goal.due_for_bundle-requires
+due_for_bundle-requires c = bundle_plain _ _ c.in-Ok.ensures.bundle.2
+
+pub returns-in-Ok : goal.returns-in-Ok
+returns-in-Ok c =
+    let (value, json, says) = c.in-Ok.ensures.bundle in
+    IfOk-map c.due_for_bundle.result _ _
+    (λ due of. bundle c.in-Ok.bundle (record { within = c.requires; value = value; json = json; says = says }) of) c.due_for_bundle.ensures
+
+pub returns-in-Err-NotBundle : goal.returns-in-Err-NotBundle
+returns-in-Err-NotBundle c =
+    let (value, json, none) = c.in-Err-NotBundle.ensures.not_bundle (ap Err c.in-Err-NotBundle.field-0-is) in
+    IfOk-map c.refusal-in-Err-NotBundle.result _ _ (λ due d. no_bundle c.requires value json none d.0 d.1) c.refusal-in-Err-NotBundle.ensures

@@ -1,0 +1,119 @@
+-- A whole run of the program: what is due for an input, and what was written.
+use Rattle.std.specs.Prelude.{◌≡◌, ℕ, ◌+◌, ◌<◌, ◌≤◌, Bool, true, false, List, [], ◌∷◌, ◌++◌, length, bytes_eq, codes, decimal, Option, Some, None, IfSome}
+use Rattle.std.specs.List.{IsDistinct}
+use Rattle.std.specs.Io.KnownBytes.{Appends, Keeps}
+use Rattle.serde_json.specs.Data.{Data}
+use Rattle.graph_entry.specs.Analysed.{Analysed}
+use Rattle.deno_graph.specs.Reach.{Specifier, Answers, IsReached, has}
+use Rattle.deno_graph.specs.Graph.{GraphData, IsGraph, texts}
+use Rattle.deno_graph.specs.Memory.{tells}
+use Rattle.graph_bundle.specs.declared.bundle.Bundle.{Bundle}
+use Rattle.graph_run.specs.declared.status.Status.{Status}
+use Rattle.graph_run.specs.declared.status.Status.TheVariants.{Done, BuildRefused, BadInput, ReadFault, WriteFault, NoMemory, Usage}
+use Rattle.graph_run.specs.Transfer.{input_limit, TookPart}
+use Rattle.graph_bundle.specs.Bundle.{IsJson, bundle_of}
+use Rattle.graph_run.specs.Report.{report_of, line_end}
+
+-- the words are the one form of the program
+abbrev pub is_form : List (List ℕ) → Bool
+is_form [] = false
+is_form (word ∷ []) = bytes_eq word (codes "build")
+is_form (word ∷ second ∷ more) = false
+
+-- ---- the lines of the refusals
+
+abbrev pub usage_line : List ℕ
+usage_line = codes "usage: graph_tool build" ++ line_end
+
+abbrev pub too_long_line : List ℕ
+too_long_line = codes "error InputTooLong" ++ line_end
+
+abbrev pub not_json_line : List ℕ
+not_json_line = codes "error NotJson" ++ line_end
+
+abbrev pub not_bundle_line : List ℕ
+not_bundle_line = codes "error Bundle" ++ line_end
+
+abbrev pub too_many_line : ℕ → List ℕ
+too_many_line seen = codes "error TooManyModules " ++ decimal seen ++ line_end
+
+-- ---- what is due
+
+-- the graph of a bundle: of its roots, over its modules; a specifier without module is `Absent`
+pub record IsGraphOf (bundle : Bundle) (graph : GraphData) : Type 0 where
+  pub roots : graph.roots ≡ bundle.roots
+  pub entries : IsGraph Analysed (texts bundle.roots) (tells bundle.modules) graph.entries
+
+-- one specifier more than the limit is reached
+pub record HasMoreThan (starts : List Specifier) (answers : Answers) (limit : ℕ) : Type 0 where
+  pub members : List Specifier
+  pub counted : length members ≡ limit + 1
+  pub once : IsDistinct bytes_eq members
+  pub reached : (s : Specifier) → has members s ≡ true → IsReached Analysed starts answers s
+
+-- more is reached than the bundle allows
+abbrev pub IsTooLarge : Bundle → Type 0
+IsTooLarge bundle = HasMoreThan (texts bundle.roots) (tells bundle.modules) bundle.options.limit
+
+-- what is due for a bundle
+pub data OfBundle (bundle : Bundle) (status : Status) (text : List ℕ) : Type 0 where
+  -- the report of its graph
+  graph : (graph : GraphData) → IsGraphOf bundle graph → status ≡ Done → text ≡ report_of graph → OfBundle bundle status text
+  -- it is too large
+  large : IsTooLarge bundle → status ≡ BuildRefused → text ≡ too_many_line (bundle.options.limit + 1) → OfBundle bundle status text
+
+-- the input is a JSON text of this bundle, and not too long
+pub record IsInput (input : List ℕ) (bundle : Bundle) : Type 0 where
+  pub within : length input ≤ input_limit
+  pub value : Data
+  pub json : IsJson input value
+  pub says : bundle_of value ≡ Some bundle
+
+-- what is due for an input
+pub data IsDue (input : List ℕ) (status : Status) (text : List ℕ) : Type 0 where
+  -- it is too long
+  long : input_limit < length input → status ≡ BadInput → text ≡ too_long_line → IsDue input status text
+  -- else it is no JSON text
+  no_json : length input ≤ input_limit → ((value : Data) → ¬ IsJson input value) → status ≡ BadInput → text ≡ not_json_line
+      → IsDue input status text
+  -- else its value is no bundle
+  no_bundle : length input ≤ input_limit → (value : Data) → IsJson input value → bundle_of value ≡ None → status ≡ BadInput
+      → text ≡ not_bundle_line → IsDue input status text
+  -- what is due for its bundle
+  bundle : (bundle : Bundle) → IsInput input bundle → OfBundle bundle status text → IsDue input status text
+
+-- ---- what was written and counted
+
+-- the due text was written whole, where the input is told
+abbrev pub WroteDue : Option (List ℕ) → Option (List ℕ) → Option (List ℕ) → Status → Type 0
+WroteDue input old new status = IfSome input (λ bytes. (text : List ℕ) × IsDue bytes status text × Appends old new text)
+
+-- a part from the front of the due text was written
+abbrev pub WrotePart : Bool → Option (List ℕ) → Option (List ℕ) → Option (List ℕ) → Type 0
+WrotePart false input old new = TookPart old new usage_line
+WrotePart true input old new =
+    IfSome input (λ bytes. (status : Status) × (text : List ℕ) × IsDue bytes status text × TookPart old new text)
+
+-- What was written, by the status: the due text, nothing, or a part of what was due. `form` tells whether the words are the form.
+abbrev pub Wrote : Bool → Option (List ℕ) → Option (List ℕ) → Option (List ℕ) → Status → Type 0
+Wrote form input old new Done = WroteDue input old new Done
+Wrote form input old new BuildRefused = WroteDue input old new BuildRefused
+Wrote form input old new BadInput = WroteDue input old new BadInput
+Wrote form input old new ReadFault = Keeps old new
+Wrote form input old new WriteFault = WrotePart form input old new
+Wrote form input old new NoMemory = Keeps old new
+Wrote form input old new Usage = Appends old new usage_line
+
+-- the count of failed reads rose exactly at `ReadFault`
+abbrev pub ReadsCounted : ℕ → ℕ → Status → Type 0
+ReadsCounted old new ReadFault = old < new
+ReadsCounted old new _ = new ≡ old
+
+-- the count of failed writes rose exactly at `WriteFault`
+abbrev pub WritesCounted : ℕ → ℕ → Status → Type 0
+WritesCounted old new WriteFault = old < new
+WritesCounted old new _ = new ≡ old
+
+-- the input is no bundle, or too long
+abbrev pub IsRefused : List ℕ → Type 0
+IsRefused input = (bundle : Bundle) → ¬ IsInput input bundle

@@ -1,0 +1,60 @@
+-- What the crate's functions promise each other.
+use Rattle.std.specs.Prelude.{◌≡◌, ℕ, ◌+◌, List, [], ◌++◌, Option, Some, None, IsSome, ◌⊎◌, ◌<◌, String, string_bytes, ⊤}
+use Rattle.deno_graph.specs.declared.error.BuildError.{BuildError}
+use Rattle.deno_graph.specs.declared.error.BuildError.TheVariants.{NotYet, TooManyModules, UnaskedAnswer, Finished, OutOfMemory}
+use Rattle.deno_graph.specs.Reach.{Specifier, Answers}
+use Rattle.deno_graph.specs.Builder.{Building}
+use Rattle.std.specs.Io.KnownBytes.{Appends}
+use Rattle.graph_run.specs.declared.status.Status.{Status}
+use Rattle.graph_run.specs.declared.status.Status.TheVariants.{Done, BuildRefused, BadInput, ReadFault, WriteFault, NoMemory, Usage}
+use Rattle.graph_run.specs.Transfer.{TookPart}
+use Rattle.graph_run.specs.Run.{HasMoreThan}
+
+-- a text was put behind a string
+abbrev pub Adds : {A : Type 0} → String A → String A → List ℕ → Type 0
+Adds old new text = string_bytes new ≡ string_bytes old ++ text
+
+-- the builder's loader is as it was made: nothing was asked, and it tells how often it will wait
+pub record IsNew {L : Type 0} (b : Building L) : Type 0 where
+  pub asked : b.asked_before ≡ []
+  pub log : b.log_before ≡ []
+  pub patient : IsSome b.patience
+
+-- how many waits are left, where that is told
+abbrev pub waits_left : Option ℕ → ℕ
+waits_left None = 0
+waits_left (Some n) = n
+
+-- an error of a builder is no more than it may say: that too much is reached
+abbrev pub SaysLarge : List Specifier → Answers → ℕ → BuildError → Type 0
+SaysLarge starts answers limit NotYet = ⊤
+SaysLarge starts answers limit (TooManyModules seen) = HasMoreThan starts answers limit × (seen ≡ limit + 1)
+SaysLarge starts answers limit (UnaskedAnswer url) = ⊤
+SaysLarge starts answers limit Finished = ⊤
+SaysLarge starts answers limit OutOfMemory = ⊤
+
+-- a status that a text is due for
+abbrev pub IsVerdict : Status → Type 0
+IsVerdict Done = ⊤
+IsVerdict BuildRefused = ⊤
+IsVerdict BadInput = ⊤
+IsVerdict ReadFault = ⊥
+IsVerdict WriteFault = ⊥
+IsVerdict NoMemory = ⊥
+IsVerdict Usage = ⊥
+
+-- a status at which nothing is written
+abbrev pub IsStop : Status → Type 0
+IsStop Done = ⊥
+IsStop BuildRefused = ⊥
+IsStop BadInput = ⊥
+IsStop ReadFault = ⊤
+IsStop WriteFault = ⊥
+IsStop NoMemory = ⊤
+IsStop Usage = ⊥
+
+-- the text was written whole and the status answered, or a write failed behind a part of it
+abbrev pub IsWritten : Status → List ℕ → Option (List ℕ) → Option (List ℕ) → ℕ → ℕ → Status → Type 0
+IsWritten status text old new failed fails result =
+    ((result ≡ status) × Appends old new text × (fails ≡ failed))
+    ⊎ ((result ≡ WriteFault) × TookPart old new text × (failed < fails))

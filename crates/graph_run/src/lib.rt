@@ -1,0 +1,32 @@
+//! A whole run: from the bytes of a JSON bundle to the bytes of its graph's report.
+//!
+//! - `run`: reads a bundle, writes the report of its graph, and answers a `Status` (`Wrote`, `specs/Run.antt`).
+//! - `report`: the text of a graph (`report_of`, `specs/Report.antt`).
+//! - `read_all`, `write_all`: a source whole, a text whole (`specs/Transfer.antt`).
+//! - `Source`, `Sink`: what gives and takes bytes, counting its failures by `Faults`. `MemorySource` and `MemorySink`
+//!   are in memory (`specs/Memory.antt`).
+//!
+//! Want of memory is the one answer without a cause.
+#![tactic(auto)]
+
+mod faults;
+mod memory;
+mod program;
+mod reports;
+mod sink;
+mod source;
+mod status;
+#[cfg(test)]
+mod tests;
+mod transfer;
+mod verdict;
+mod words;
+
+pub use faults::Faults;
+pub use memory::{MemorySink, MemorySource};
+pub use program::run;
+pub use reports::report;
+pub use sink::Sink;
+pub use source::{Failed, Source};
+pub use status::Status;
+pub use transfer::{INPUT_LIMIT, ReadError, read_all, write_all};

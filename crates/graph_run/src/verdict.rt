@@ -1,0 +1,132 @@
+//! What is due for an input: the report of its graph, or the line of a refusal.
+ghost use Rattle.std.specs.Prelude.{◌≡◌, ◌≤◌, ◌↔◌, Err, length, IfOk, IfErr, IsTrue, string_bytes};
+ghost use Rattle.url.specs.Parts.{Parts};
+ghost use Rattle.graph_entry.specs.Analysed.{Analysed};
+ghost use Rattle.deno_graph.specs.Graph.{IsGraph, texts};
+ghost use Rattle.deno_graph.specs.Memory.{tells};
+ghost use Rattle.deno_graph.specs.Builder.{OnlyPlain};
+ghost use Rattle.graph_run.specs.Transfer.{input_limit};
+ghost use Rattle.graph_run.specs.Report.{report_of};
+ghost use Rattle.graph_run.specs.Run.{IsDue, OfBundle, IsGraphOf, too_many_line};
+ghost use Rattle.graph_run.specs.Steps.{IsNew, SaysLarge};
+
+use crate::reports::report;
+use crate::status::Status;
+use deno_graph::{BuildError, GraphBuild, MemoryLoader, ModuleGraph};
+use graph_bundle::{Bundle, BundleFault, read_bundle};
+use std::alloc::{AllocError, Global};
+
+/// How the run ends once the text is written.
+#[derive(Drop)]
+pub struct Due {
+    pub status: Status,
+    pub text: String,
+}
+
+/// What is due for an input that is not too long.
+pub fn due_for(alloc: Global, bytes: &[u8]) -> Result<Due, AllocError>
+    requires { length bytes.now ≤ input_limit }
+    ensures { IfOk result (λ due. IsDue bytes.now due.status (string_bytes due.text)) }
+{
+    match read_bundle(alloc, bytes) {
+        Ok(bundle) => due_for_bundle(alloc, bundle),
+        Err(BundleFault::NotJson) => refusal(alloc, "error NotJson\n"),
+        Err(BundleFault::NotBundle) => refusal(alloc, "error Bundle\n"),
+        Err(BundleFault::OutOfMemory) => Err(AllocError),
+    }
+}
+
+/// The line of a refusal of the input.
+pub fn refusal(alloc: Global, line: &str) -> Result<Due, AllocError>
+    ensures { IfOk result (λ due. (due.status ≡ Status.BadInput) × (string_bytes due.text ≡ line.now)) }
+{
+    Ok(Due {
+        status: Status::BadInput,
+        text: String::from_str(alloc, line)?,
+    })
+}
+
+/// What is due for a bundle.
+fn due_for_bundle(alloc: Global, bundle: Bundle) -> Result<Due, AllocError>
+    requires { OnlyPlain bundle.options }
+    ensures { IfOk result (λ due. OfBundle bundle due.status (string_bytes due.text)) }
+{
+    match build(alloc, bundle) {
+        Ok(graph) => done(alloc, &graph),
+        Err(BuildError::TooManyModules { seen }) => too_large(alloc, seen),
+        Err(_) => Err(AllocError),
+    }
+}
+
+fn done(alloc: Global, graph: &ModuleGraph) -> Result<Due, AllocError>
+    ensures { IfOk result (λ due. (due.status ≡ Status.Done) × (string_bytes due.text ≡ report_of graph.now)) }
+{
+    Ok(Due {
+        status: Status::Done,
+        text: report(alloc, graph)?,
+    })
+}
+
+fn too_large(alloc: Global, seen: usize) -> Result<Due, AllocError>
+    ensures { IfOk result (λ due. (due.status ≡ Status.BuildRefused) × (string_bytes due.text ≡ too_many_line seen)) }
+{
+    Ok(Due {
+        status: Status::BuildRefused,
+        text: format!(in alloc; "error TooManyModules {seen}\n")?,
+    })
+}
+
+/// The graph of a bundle. A loader in memory answers only what it is asked for, so the errors left are
+/// a bundle that is too large and want of memory.
+fn build(alloc: Global, bundle: Bundle) -> Result<ModuleGraph, BuildError>
+    requires { OnlyPlain bundle.options }
+    ensures graph { IfOk result (IsGraphOf bundle) }
+    ensures large { IfErr result
+        (SaysLarge (texts bundle.roots) (tells bundle.modules) bundle.options.limit) }
+{
+    let mut build = new_build(alloc, bundle)?;
+    poll_to_end(&mut build)
+}
+
+/// A builder of the graph of a bundle, over a loader in memory that has its modules.
+fn new_build(alloc: Global, bundle: Bundle) -> Result<GraphBuild<MemoryLoader>, BuildError>
+    requires { OnlyPlain bundle.options }
+    ensures new { IfOk result (λ build. IsNew build.inner) }
+    ensures roots { IfOk result (λ build. build.inner.roots ≡ bundle.roots) }
+    ensures limit { IfOk result (λ build. build.inner.limit ≡ bundle.options.limit) }
+    ensures modules { IfOk result (λ build. build.inner.loader.modules ≡ bundle.modules) }
+    ensures refused { IfErr result (λ e. e ≡ BuildError.OutOfMemory) }
+{
+    let Bundle {
+        roots,
+        options,
+        modules,
+        arrival,
+    } = bundle;
+    let loader = MemoryLoader::new(alloc, modules, arrival).map_err(|_| BuildError::OutOfMemory)?;
+    GraphBuild::new(alloc, roots, options, loader).map_err(|_| BuildError::OutOfMemory)
+}
+
+/// Polls until there is another answer than `NotYet`.
+fn poll_to_end(build: &mut GraphBuild<MemoryLoader>) -> Result<ModuleGraph, BuildError>
+    requires { IsNew build.old.inner }
+    ensures graph { IfOk result (λ graph. IsGraph Analysed (texts build.old.inner.roots)
+        (tells build.old.inner.loader.modules) graph.entries) }
+    ensures roots { IfOk result (λ graph. graph.roots ≡ build.old.inner.roots) }
+    ensures large { IfErr result (SaysLarge (texts build.old.inner.roots)
+        (tells build.old.inner.loader.modules) build.old.inner.limit) }
+{
+    'polls: loop {
+        let answer = build.poll();
+        if !waits(&answer) {
+            return answer;
+        }
+    }
+}
+
+/// Whether the builder wants to be polled again.
+fn waits(answer: &Result<ModuleGraph, BuildError>) -> bool
+    ensures { IsTrue result ↔ (answer.now ≡ Err BuildError.NotYet) }
+{
+    matches!(answer, Err(BuildError::NotYet))
+}

@@ -1,8 +1,0 @@
--- A refused input is answered by its line.
-use Rattle.std.proofs.Common.{string_bytes}
-use Rattle.graph_tool.proofs.RunLemmas.{refused_written}
-use Rattle.graph_tool.proofs.program.run.Goals as goal
-
-pub returns-in-Ok-clause-refused : goal.returns-in-Ok-clause-refused
-returns-in-Ok-clause-refused g c =
-    refused_written _ _ _ c.in-Ok.due.status (string_bytes c.in-Ok.due.text) c.as_str.result.now _ _ _ c.in-Ok.ensures.due c.finish-in-Ok.ensures _ _ _
