@@ -1,6 +1,7 @@
 //! A whole run: from the bytes of a JSON bundle to the bytes of its graph's report.
 //!
 //! - `run`: reads a bundle, writes the report of its graph, and answers a `Status` (`Wrote`, `specs/Run.antt`).
+//! - `due_for`: what is due for the bytes of an input: a status, and the report or the line of a refusal (`IsDue`).
 //! - `report`: the text of a graph (`report_of`, `specs/Report.antt`).
 //! - `read_all`, `write_all`: a source whole, a text whole (`specs/Transfer.antt`).
 //! - `Source`, `Sink`: what gives and takes bytes, counting its failures by `Faults`. `MemorySource` and `MemorySink`
@@ -16,8 +17,6 @@ mod reports;
 mod sink;
 mod source;
 mod status;
-#[cfg(test)]
-mod tests;
 mod transfer;
 mod verdict;
 mod words;
@@ -30,3 +29,4 @@ pub use sink::Sink;
 pub use source::{Failed, Source};
 pub use status::Status;
 pub use transfer::{INPUT_LIMIT, ReadError, read_all, write_all};
+pub use verdict::{Due, due_for, refusal};

@@ -7,3 +7,5 @@ mod entries;
 mod graphs;
 #[cfg(test)]
 mod media_types;
+#[cfg(test)]
+mod runs;

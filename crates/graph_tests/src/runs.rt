@@ -2,8 +2,7 @@
 
 ghost use Rattle.std.specs.Prelude.{◌<◌};
 
-use crate::memory::{MemorySink, MemorySource};
-use crate::program::run;
+use graph_run::{MemorySink, MemorySource, run};
 use std::alloc::{AllocError, Global};
 use std::test::Fail;
 
