@@ -11,7 +11,8 @@ use Rattle.deno_graph.specs.declared.slot.Slot.{Slot}
 use Rattle.deno_graph.specs.declared.slot.Slot.TheVariants.{Queued, Asked, Done}
 use Rattle.deno_graph.specs.Reach.{Specifier, Log, Meaning, answer_to, has, IsEntry, IsReached}
 use Rattle.deno_graph.specs.Slots.{Slots, HasGrown}
-use Rattle.deno_graph.specs.Builder.{IsOutstanding, IsAwaited, IsOrderlyAfter}
+use Rattle.deno_graph.specs.Events.{IsOutstanding}
+use Rattle.deno_graph.specs.Builder.{IsAwaited, IsOrderlyAfter}
 use Rattle.deno_graph.specs.Building.{IsBuilding, no_one, this_one, IsWritten}
 use Rattle.deno_graph.proofs.ReachLemmas.{answer_kept, answer_other, entry_grows, reached_grows}
 use Rattle.deno_graph.proofs.SlotsLemmas.{has_append, has_left, has_right, has_one, has_same}
@@ -64,7 +65,7 @@ building_popped meaning starts asked log slots rest s b = record {
   sound = b.sound;
   done = b.done;
   closed = b.closed;
-  waits = λ t out h. b.waits t refl h;
+  outstanding = λ t out h. b.outstanding t refl h;
   queued = λ t out h. (queued t out (has_append rest (s ∷ []) t (b.queued t refl h).0), (b.queued t refl h).1);
   listed = λ t h. ((b.listed t (has_left rest (s ∷ []) t h)).0, false_from (bytes_eq t s) (λ e. apart t h e));
   holds = λ t e n. holds t e n;
@@ -100,7 +101,7 @@ building_asked meaning starts asked log slots new todo s b here fresh w = record
   sound = λ t x h. sound t x (bytes_eq t s) refl h;
   done = λ t e h. b.done t e (elsewhere t (Done e) (λ q. cc) h);
   closed = λ t u e h among. written_some slots new s u Asked w (b.closed t u e (elsewhere t (Done e) (λ q. cc) h) among);
-  waits = λ t out h. waits t (bytes_eq t s) refl h;
+  outstanding = λ t out h. outstanding t (bytes_eq t s) refl h;
   queued = λ t out h. queued t (bytes_eq t s) refl h;
   listed = λ t h. (written_there slots new s t Asked w (b.listed t h).1 ∙ (b.listed t h).0, refl);
   holds = λ t e n. absurd cc;
@@ -125,10 +126,10 @@ building_asked meaning starts asked log slots new todo s b here fresh w = record
     none_yet None e = e
     none_yet (Some a) e = absurd (let h = b.answered s a e in cc)
 
-    waits : (t : Specifier) (c : Bool) → bytes_eq t s ≡ c → new t ≡ Some Asked → IsOutstanding (asked ++ s ∷ []) log t
-    waits t true e h = (has_right asked (s ∷ []) t (has_one s t ∙ e), ap (answer_to log) (text_same s t e) ∙ none_yet (answer_to log s) refl)
-    waits t false e h =
-        let old = b.waits t e (sym (written_there slots new s t Asked w e) ∙ h) in (has_left asked (s ∷ []) t old.0, old.1)
+    outstanding : (t : Specifier) (c : Bool) → bytes_eq t s ≡ c → new t ≡ Some Asked → IsOutstanding (asked ++ s ∷ []) log t
+    outstanding t true e h = (has_right asked (s ∷ []) t (has_one s t ∙ e), ap (answer_to log) (text_same s t e) ∙ none_yet (answer_to log s) refl)
+    outstanding t false e h =
+        let old = b.outstanding t e (sym (written_there slots new s t Asked w e) ∙ h) in (has_left asked (s ∷ []) t old.0, old.1)
 
     not_asked : (t : Specifier) → bytes_eq t s ≡ false → has asked t ≡ false → (has asked t ≡ true) ⊎ (has (s ∷ []) t ≡ true) → ⊥
     not_asked t e f (inl h) = cc
@@ -144,7 +145,7 @@ building_asked meaning starts asked log slots new todo s b here fresh w = record
     asked_slot t (inl h) n = written_some slots new s t Asked w (b.asked_slot t h) n
     asked_slot t (inr h) n = let g = written_here slots new s t Asked w (sym (has_one s t) ∙ h) in cc
 
--- ---- an answer came for one that waits
+-- ---- an answer came for one that outstanding
 
 -- one more answer that was awaited
 pub orderly_push : (meaning : Meaning) (starts : List Specifier) (before log : Log) (s : Specifier) (a : LoadAnswer)
@@ -161,7 +162,7 @@ building_answered meaning starts asked log slots todo s a b here loads =
       sound = λ t x h. reached_grows meaning starts (answer_to log) (answer_to (log ++ (s, a) ∷ [])) within t (b.sound t x h);
       done = λ t e h. entry_grows meaning (answer_to log) (answer_to (log ++ (s, a) ∷ [])) within t e (b.done t e h);
       closed = b.closed;
-      waits = λ t out h. let old = b.waits t refl h in (old.0, answer_other log s a t out ∙ old.1);
+      outstanding = λ t out h. let old = b.outstanding t refl h in (old.0, answer_other log s a t out ∙ old.1);
       queued = λ t out h. b.queued t refl h;
       listed = λ t h. ((b.listed t h).0, false_from (bytes_eq t s) (λ e. let g = ap slots (text_same s t e) ∙ here in let q = (b.listed t h).0 in cc));
       holds = λ t e n. let g = ap slots (text_same s t e) ∙ here in cc;
@@ -169,11 +170,11 @@ building_answered meaning starts asked log slots todo s a b here loads =
       asked_slot = b.asked_slot;
       answered = λ t c h. answered t c (bytes_eq t s) refl h;
       orderly = orderly_push meaning starts [] log s a b.orderly
-          (record { reached = b.sound s Asked here; loads = loads; open_yet = (b.waits s refl here).1 });
+          (record { reached = b.sound s Asked here; loads = loads; open_yet = (b.outstanding s refl here).1 });
     }
   where
     answered : (t : Specifier) (c : LoadAnswer) (d : Bool) → bytes_eq t s ≡ d → answer_to (log ++ (s, a) ∷ []) t ≡ Some c → has asked t ≡ true
-    answered t c true e h = has_same asked s t e ∙ (b.waits s refl here).0
+    answered t c true e h = has_same asked s t e ∙ (b.outstanding s refl here).0
     answered t c false e h = b.answered t c (sym (answer_other log s a t e) ∙ h)
 
 -- ---- what came is reached
@@ -186,7 +187,7 @@ building_grown meaning starts in_hand asked log slots new todo later come b g re
   sound = λ t x h. sound t x (g.fresh t x h);
   done = λ t e h. b.done t e (old_one t (Done e) (λ q. cc) (g.fresh t (Done e) h));
   closed = λ t u e h among n. closed u (slots u) refl (b.closed t u e (old_one t (Done e) (λ q. cc) (g.fresh t (Done e) h)) among) n;
-  waits = λ t out h. b.waits t out (old_one t Asked (λ q. cc) (g.fresh t Asked h));
+  outstanding = λ t out h. b.outstanding t out (old_one t Asked (λ q. cc) (g.fresh t Asked h));
   queued = λ t out h. queued t out h (g.fresh t Queued h);
   listed = λ t h. listed t (g.listed t h);
   holds = λ t e n. closed t (slots t) refl (b.holds t e) n;
@@ -227,7 +228,7 @@ building_filled meaning starts asked log slots new todo s e b reached is_entry c
   sound = λ t x h. sound t x (bytes_eq t s) refl h;
   done = λ t f h. done t f (bytes_eq t s) refl h;
   closed = λ t u f h among. written_some slots new s u (Done e) w (shut t u f (bytes_eq t s) refl h among);
-  waits = λ t out h. waits t (bytes_eq t s) refl h;
+  outstanding = λ t out h. outstanding t (bytes_eq t s) refl h;
   queued = λ t out h. queued t (bytes_eq t s) refl h;
   listed = λ t h. (written_there slots new s t (Done e) w (b.listed t h).1 ∙ (b.listed t h).0, refl);
   holds = λ t h n. absurd cc;
@@ -257,9 +258,9 @@ building_filled meaning starts asked log slots new todo s e b reached is_entry c
         closed u (ap (λ (g : Entry). has (targets g) u) same ∙ among)
     shut t u f false d h among = b.closed t u f (sym (written_there slots new s t (Done e) w d) ∙ h) among
 
-    waits : (t : Specifier) (c : Bool) → bytes_eq t s ≡ c → new t ≡ Some Asked → IsOutstanding asked log t
-    waits t true d h = absurd (let g = written_here slots new s t (Done e) w d in cc)
-    waits t false d h = b.waits t d (sym (written_there slots new s t (Done e) w d) ∙ h)
+    outstanding : (t : Specifier) (c : Bool) → bytes_eq t s ≡ c → new t ≡ Some Asked → IsOutstanding asked log t
+    outstanding t true d h = absurd (let g = written_here slots new s t (Done e) w d in cc)
+    outstanding t false d h = b.outstanding t d (sym (written_there slots new s t (Done e) w d) ∙ h)
 
     queued : (t : Specifier) (c : Bool) → bytes_eq t s ≡ c → new t ≡ Some Queued → (has todo t ≡ true) × (has asked t ≡ false)
     queued t true d h = absurd (let g = written_here slots new s t (Done e) w d in cc)

@@ -1,4 +1,5 @@
 pub mod EntriesLemmas
+pub mod EventsLemmas
 pub mod BuilderLemmas
 pub mod ReachLemmas
 pub mod ByTextLemmas

@@ -13,6 +13,8 @@ use Rattle.std.specs.Cmp.Lexicographic.{nat_list_eq_equiv}
 use Rattle.std.proofs.lemmas.List.{drop-append-le, map-append}
 use Rattle.std.proofs.Common.{length-drop}
 use Rattle.std.proofs.lemmas.Map.Keys.{IsDistinct-push, IsDistinct-cons}
+use Rattle.std.specs.declared.alloc.AllocError.{AllocError}
+use Rattle.deno_graph.specs.declared.progress.Progress.{Progress}
 use Rattle.url.specs.Parts.{Parts}
 use Rattle.graph_entry.specs.declared.answer.LoadAnswer.{LoadAnswer}
 use Rattle.graph_entry.specs.declared.entry.Entry.{Entry}
@@ -23,56 +25,54 @@ use Rattle.deno_graph.specs.declared.slot.Slot.TheVariants.{Queued, Asked, Done}
 use Rattle.deno_graph.specs.declared.reaching.Reaching.{Reaching}
 use Rattle.deno_graph.specs.Reach.{Specifier, Log, Answers, Meaning, answer_to, has, IsEntry, IsReached, Leads, IsFunctional}
 use Rattle.deno_graph.specs.Graph.{texts}
-use Rattle.deno_graph.specs.Builder.{gained, IsKept, IsToldLog, IsTooMany, SomeOutstanding, EachAnswered, IsOrderly, IsOrderlyAfter, IsUnawaitedOver}
+use Rattle.deno_graph.specs.Builder.{last_of, before_last, IsOwn, IsKept, IsToldLog, IsTooMany, SomeOutstanding, EachAnswered, IsOrderly, IsOrderlyAfter, IsUnawaitedOver, IsInTime, CameInTime}
+use Rattle.deno_graph.specs.Events.{Event, Requested, Answered, asked_of, log_of, IsOutstanding, IsTimely, requests, answers}
+use Rattle.deno_graph.specs.declared.loader.LoaderPoll.TheVariants.{Answer}
+use Rattle.deno_graph.proofs.EventsLemmas.{asked_of-append, log_of-append, asked_of-request, log_of-request, asked_of-answer, log_of-answer, length-events, timely_asked, timely_answer}
+use Rattle.deno_graph.proofs.BuilderLemmas.{last_of-more, last_of-push, length-last_of, before_last-last, before_last-more, before_last-push, own_of}
 use Rattle.deno_graph.specs.Slots.{Slots, IsOverfull}
 use Rattle.deno_graph.specs.Building.{IsBuilding, no_one, this_one}
 use Rattle.deno_graph.specs.Reaching.{slots_of, IsMarked, IsFilled, HasReached, Fills, Grows}
 use Rattle.deno_graph.specs.declared.reaching.GrowError.{GrowError}
 use Rattle.deno_graph.specs.declared.reaching.GrowError.TheVariants.{TooMany, OutOfMemory}
-use Rattle.deno_graph.specs.Loader.{NeverRises, Falls}
-use Rattle.deno_graph.specs.Progress.{At, at, IsLive, IsInHand, starts_at, own_asked, own_log, slots_at, todo_at, IsKeptAt, Deals, Adds, GoesOnAt, OnlyAsks, FillsUnasked, Takes, Turns, Runs, Begins}
+use Rattle.deno_graph.specs.Loader.{LoaderData, HasStarted, HasPolled, NeverRises, Falls}
+use Rattle.deno_graph.specs.Progress.{At, at, IsLive, IsInHand, starts_at, own_count, own_events, own_asked, own_log, slots_at, todo_at, IsKeptAt, Deals, GoOn, GoesOnAt, OnlyAsks, FillsUnasked, Takes, Turns, Runs, Begins, AsksNext, AsksAll}
 use Rattle.deno_graph.proofs.ReachLemmas.{reached_least, entry_once, answer_here, reached_start, reached_on, reached_grows, answer_kept, answer_later}
 use Rattle.deno_graph.proofs.SlotsLemmas.{has_append, has_one, has_same, none_equal}
 use Rattle.deno_graph.proofs.BuildingLemmas.{text_same, written_some, building_popped, popped_slot, building_asked, building_answered, building_grown, building_filled}
 
--- ---- what a list gained
-
--- one more
-pub gained-push : {A : Type 0} (n : ℕ) (xs : List A) (x : A) → n ≤ length xs → gained (n + 1) (xs ++ x ∷ []) ≡ gained n xs ++ x ∷ []
-gained-push n xs x fits =
-    ap (λ k. drop k (xs ++ x ∷ [])) (count (length-append xs (x ∷ []))) ∙ drop-append-le (length xs - n) xs (x ∷ []) (omega arith)
-  where
-    count : length (xs ++ x ∷ []) ≡ length xs + 1 → length (xs ++ x ∷ []) - (n + 1) ≡ length xs - n
-    count h = omega arith
-
-pub length-gained : {A : Type 0} (n : ℕ) (xs : List A) → n ≤ length xs → length (gained n xs) ≡ n
-length-gained n xs fits = length-drop (length xs - n) xs ∙ omega arith
-
 -- ---- what holds at all times
 
 -- one more request
-pub kept_asked : (meaning : Meaning) (starts asked : List Specifier) (log : Log) (told : Answers) (n m : ℕ) (s : Specifier)
-    → IsKept meaning starts asked log told n m → loadable s ≡ true → has (gained n asked) s ≡ false
-    → IsReached meaning starts (answer_to (gained m log)) s → IsKept meaning starts (asked ++ s ∷ []) log told (n + 1) m
-kept_asked meaning starts asked log told n m s k loads fresh reached = record {
-  asked_fits = omega (arith, k.asked_fits, length-append asked (s ∷ []));
-  taken_fits = k.taken_fits;
-  behind = omega (arith, k.behind);
-  asking = rw (gained-push n asked s k.asked_fits) (record {
-    once = IsDistinct-push nat_list_eq_equiv (gained n asked) s k.asking.once fresh;
-    loads = λ t h. loaded t (has_append (gained n asked) (s ∷ []) t h);
-    reached = λ t h. there t (has_append (gained n asked) (s ∷ []) t h);
-  });
-  as_told = k.as_told;
+pub kept_asked : (meaning : Meaning) (starts : List Specifier) (events : List Event) (told : Answers) (n m : ℕ) (s : Specifier)
+    → IsKept meaning starts events told n m → loadable s ≡ true → has (asked_of (last_of (n + m) events)) s ≡ false
+    → IsReached meaning starts (answer_to (log_of (last_of (n + m) events))) s
+    → IsKept meaning starts (events ++ Requested s ∷ []) told (n + 1) m
+kept_asked meaning starts events told n m s k loads fresh reached = record {
+  fits = omega (arith, k.fits, length-append events (Requested s ∷ []));
+  own = subst (λ (l : List Event). IsOwn meaning starts l told (n + 1) m)
+      (sym (last_of-push (n + m) ((n + 1) + m) events (Requested s) k.fits (omega arith))) grown;
 }
   where
-    loaded : (t : Specifier) → (has (gained n asked) t ≡ true) ⊎ (has (s ∷ []) t ≡ true) → loadable t ≡ true
-    loaded t (inl h) = k.asking.loads t h
+    own : List Event
+    own = last_of (n + m) events
+
+    loaded : (t : Specifier) → (has (asked_of own) t ≡ true) ⊎ (has (s ∷ []) t ≡ true) → loadable t ≡ true
+    loaded t (inl h) = k.own.asking.loads t h
     loaded t (inr h) = ap loadable (text_same s t (sym (has_one s t) ∙ h)) ∙ loads
 
-    there : (t : Specifier) → (has (gained n asked) t ≡ true) ⊎ (has (s ∷ []) t ≡ true) → IsReached meaning starts (answer_to (gained m log)) t
-    there t (inl h) = k.asking.reached t h
-    there t (inr h) = subst (IsReached meaning starts (answer_to (gained m log))) (sym (text_same s t (sym (has_one s t) ∙ h))) reached
+    there : (t : Specifier) → (has (asked_of own) t ≡ true) ⊎ (has (s ∷ []) t ≡ true) → IsReached meaning starts (answer_to (log_of own)) t
+    there t (inl h) = k.own.asking.reached t h
+    there t (inr h) = subst (IsReached meaning starts (answer_to (log_of own))) (sym (text_same s t (sym (has_one s t) ∙ h))) reached
+
+    grown : IsOwn meaning starts (own ++ Requested s ∷ []) told (n + 1) m
+    grown = own_of meaning starts (own ++ Requested s ∷ []) told (asked_of own ++ s ∷ []) (log_of own) (n + 1) m (asked_of-request own s) (log_of-request own s)
+        (omega (arith, k.own.asked_counted, length-append (asked_of own) (s ∷ []))) k.own.taken_counted (omega (arith, k.own.behind))
+        (record {
+          once = IsDistinct-push nat_list_eq_equiv (asked_of own) s k.own.asking.once fresh;
+          loads = λ t h. loaded t (has_append (asked_of own) (s ∷ []) t h);
+          reached = λ t h. there t (has_append (asked_of own) (s ∷ []) t h);
+        }) k.own.as_told
 
 -- one more answer, as it was told
 pub told_push : (told : Answers) (log : Log) (s : Specifier) (a : LoadAnswer) → IsToldLog told log
@@ -90,26 +90,32 @@ told_push told log s a h as_told t c b given is = by (answer_to log t) refl
     by (Some d) e = sym (some_one d c (sym (answer_kept log ((s, a) ∷ []) t d e) ∙ given)) ∙ h t d b e is
     by None e = last (bytes_eq t s) refl (sym (answer_later log ((s, a) ∷ []) t e) ∙ given)
 
-pub kept_answered : (meaning : Meaning) (starts asked : List Specifier) (log : Log) (told : Answers) (n m : ℕ) (s : Specifier) (a : LoadAnswer)
-    → IsKept meaning starts asked log told n m → m ≤ n → ((b : LoadAnswer) → told s ≡ Some b → a ≡ b)
-    → IsKept meaning starts asked (log ++ (s, a) ∷ []) told n (m + 1)
-kept_answered meaning starts asked log told n m s a k le as_told = record {
-  asked_fits = k.asked_fits;
-  taken_fits = omega (arith, k.taken_fits, length-append log ((s, a) ∷ []));
-  behind = omega arith;
-  asking = rw (gained-push m log (s, a) k.taken_fits) (record {
-    once = k.asking.once;
-    loads = k.asking.loads;
-    reached = λ t h. reached_grows meaning starts (answer_to (gained m log)) (answer_to (gained m log ++ (s, a) ∷ []))
-        (answer_kept (gained m log) ((s, a) ∷ [])) t (k.asking.reached t h);
-  });
-  as_told = rw (gained-push m log (s, a) k.taken_fits) (told_push told (gained m log) s a k.as_told as_told);
+pub kept_answered : (meaning : Meaning) (starts : List Specifier) (events : List Event) (told : Answers) (n m : ℕ) (s : Specifier) (a : LoadAnswer)
+    → IsKept meaning starts events told n m → m ≤ n → ((b : LoadAnswer) → told s ≡ Some b → a ≡ b)
+    → IsKept meaning starts (events ++ Answered s a ∷ []) told n (m + 1)
+kept_answered meaning starts events told n m s a k le as_told = record {
+  fits = omega (arith, k.fits, length-append events (Answered s a ∷ []));
+  own = subst (λ (l : List Event). IsOwn meaning starts l told n (m + 1))
+      (sym (last_of-push (n + m) (n + (m + 1)) events (Answered s a) k.fits (omega arith))) grown;
 }
+  where
+    own : List Event
+    own = last_of (n + m) events
+
+    grown : IsOwn meaning starts (own ++ Answered s a ∷ []) told n (m + 1)
+    grown = own_of meaning starts (own ++ Answered s a ∷ []) told (asked_of own) (log_of own ++ (s, a) ∷ []) n (m + 1) (asked_of-answer own s a)
+        (log_of-answer own s a) k.own.asked_counted (omega (arith, k.own.taken_counted, length-append (log_of own) ((s, a) ∷ []))) (omega arith)
+        (record {
+          once = k.own.asking.once;
+          loads = k.own.asking.loads;
+          reached = λ t h. reached_grows meaning starts (answer_to (log_of own)) (answer_to (log_of own ++ (s, a) ∷ []))
+              (answer_kept (log_of own) ((s, a) ∷ [])) t (k.own.asking.reached t h);
+        }) (told_push told (log_of own) s a k.own.as_told as_told)
 
 -- ---- a specifier is taken in hand and asked for
 
 pub live_popped : (meaning : Meaning) (x : At) (rest : List Parts) (url : Parts) → IsLive meaning x → x.progress.reaching.todo ≡ rest ++ url ∷ []
-    → IsInHand meaning (at x.asked x.log x.told x.pending x.standing x.patience (record {
+    → IsInHand meaning (at x.loader (record {
       roots = x.progress.roots;
       reaching = record { reached = x.progress.reaching.reached; todo = rest; limit = x.progress.reaching.limit };
       asked = x.progress.asked;
@@ -129,28 +135,37 @@ live_popped meaning x rest url v is =
       building = building_popped meaning (starts_at x) (own_asked x) (own_log x) (slots_at x) (texts rest) (text_of url) building;
       queued = known.0;
       fresh = known.1;
+      timely = v.timely;
       rooted = v.rooted;
     }
 
-pub live_asked : (meaning : Meaning) (x : At) (s : Specifier) (count : ℕ) (stands : ℕ × ℕ) (left : Option ℕ) (new : Reaching)
-    → IsInHand meaning x s → loadable s ≡ true → IsMarked s Asked x.progress.reaching new → new.limit ≡ x.progress.reaching.limit
-    → IsLive meaning (at (x.asked ++ s ∷ []) x.log x.told count stands left (record {
+pub live_asked : (meaning : Meaning) (x : At) (s : Specifier) (now : LoaderData) (new : Reaching)
+    → IsInHand meaning x s → loadable s ≡ true → HasStarted s x.loader now (Ok tt) → IsMarked s Asked x.progress.reaching new
+    → new.limit ≡ x.progress.reaching.limit
+    → IsLive meaning (at now (record {
       roots = x.progress.roots;
       reaching = new;
       asked = x.progress.asked + 1;
       taken = x.progress.taken;
       begun = x.progress.begun;
     }))
-live_asked meaning x s count stands left new v loads marked same = record {
-  kept = kept_asked meaning (starts_at x) x.asked x.log x.told x.progress.asked x.progress.taken s v.kept loads v.fresh
-      (v.building.sound s Queued v.queued);
+live_asked meaning x s now new v loads started marked same = record {
+  kept = rw (started.events, started.told)
+      (kept_asked meaning (starts_at x) x.loader.events x.loader.told x.progress.asked x.progress.taken s v.kept loads v.fresh
+      (v.building.sound s Queued v.queued));
   behind = omega (arith, v.behind);
   counted = rw (marked.counted, marked.todo) (omega (arith, v.counted));
   room = rw (marked.counted, same) v.room;
-  building = rw (gained-push x.progress.asked x.asked s v.kept.asked_fits, marked.todo)
-      (building_asked meaning (starts_at x) (own_asked x) (own_log x) (slots_at x) (slots_of new) (todo_at x) s v.building v.queued v.fresh marked.written);
+  building = subst (λ (l : List Event). IsBuilding meaning (starts_at x) no_one (asked_of l) (log_of l) (slots_of new) (texts new.todo)) (sym later)
+      (rw (asked_of-request (own_events x) s, log_of-request (own_events x) s, marked.todo)
+      (building_asked meaning (starts_at x) (own_asked x) (own_log x) (slots_at x) (slots_of new) (todo_at x) s v.building v.queued v.fresh marked.written));
+  timely = subst IsTimely (sym later) (timely_asked (own_events x) (Requested s ∷ []) v.timely refl);
   rooted = λ b t h. written_some (slots_at x) (slots_of new) s t Asked marked.written (v.rooted b t h);
 }
+  where
+    later : last_of ((x.progress.asked + 1) + x.progress.taken) now.events ≡ own_events x ++ Requested s ∷ []
+    later = ap (λ (l : List Event). last_of ((x.progress.asked + 1) + x.progress.taken) l) started.events
+        ∙ last_of-push (own_count x) ((x.progress.asked + 1) + x.progress.taken) x.loader.events (Requested s) v.kept.fits (omega arith)
 
 -- ---- too much is reached
 
@@ -198,7 +213,7 @@ building_entry meaning starts asked log s e old new b reached is_entry f =
 
 pub live_alone : (meaning : Meaning) (x : At) (s : Specifier) (e : Entry) (new : Reaching) → IsInHand meaning x s → loadable s ≡ false
     → meaning s None e → IsFilled s e x.progress.reaching new
-    → IsLive meaning (at x.asked x.log x.told x.pending x.standing x.patience (record {
+    → IsLive meaning (at x.loader (record {
       roots = x.progress.roots;
       reaching = new;
       asked = x.progress.asked;
@@ -212,6 +227,7 @@ live_alone meaning x s e new v alone means f = record {
   room = f.room;
   building = building_entry meaning (starts_at x) (own_asked x) (own_log x) s e x.progress.reaching new v.building
       (v.building.sound s Queued v.queued) (inr (alone, means)) f;
+  timely = v.timely;
   rooted = λ b t h. filled_some s t e x.progress.reaching new f (v.rooted b t h);
 }
 
@@ -225,7 +241,7 @@ too_many_alone meaning x s e limit seen v alone means full =
 -- dealing with one that no loader is asked for
 pub deals_alone : (x : At) (s : Specifier) (new : Reaching) (r : Result (Unit {0}) GrowError) → IsInHand Analysed x s → loadable s ≡ false
     → FillsUnasked s x.progress.reaching new r → new.limit ≡ x.progress.reaching.limit
-    → Deals Analysed x (at x.asked x.log x.told x.pending x.standing x.patience (record {
+    → Deals Analysed x (at x.loader (record {
       roots = x.progress.roots;
       reaching = new;
       asked = x.progress.asked;
@@ -239,15 +255,20 @@ deals_alone x s new (Err OutOfMemory) v alone f same = tt
 
 -- ---- one step after another
 
-pub adds_none : {A : Type 0} (xs : List A) (n : ℕ) → Adds xs xs n n
-adds_none xs n = record { more = []; is = sym (append-nil xs); counted = omega arith }
+pub go_on_none : (events : List Event) (n m : ℕ) → GoOn events events n m n m
+go_on_none events n m = record { more = []; is = sym (append-nil events); asked_counted = omega arith; taken_counted = omega arith }
 
-pub adds_more : {A : Type 0} (xs ys zs : List A) (n m k : ℕ) → Adds xs ys n m → Adds ys zs m k → Adds xs zs n k
-adds_more xs ys zs n m k a b = record {
-  more = a.more ++ b.more;
-  is = b.is ∙ ap (λ w. w ++ b.more) a.is ∙ append_assoc xs a.more b.more;
-  counted = omega (arith, a.counted, b.counted, length-append a.more b.more);
-}
+pub go_on_more : (xs ys zs : List Event) (n m n1 m1 n2 m2 : ℕ) → GoOn xs ys n m n1 m1 → GoOn ys zs n1 m1 n2 m2 → GoOn xs zs n m n2 m2
+go_on_more xs ys zs n m n1 m1 n2 m2 a b =
+    let asks : length (asked_of (a.more ++ b.more)) ≡ length (asked_of a.more) + length (asked_of b.more) =
+    ap length (asked_of-append a.more b.more) ∙ length-append (asked_of a.more) (asked_of b.more) in
+    let gave : length (log_of (a.more ++ b.more)) ≡ length (log_of a.more) + length (log_of b.more) =
+    ap length (log_of-append a.more b.more) ∙ length-append (log_of a.more) (log_of b.more) in record {
+      more = a.more ++ b.more;
+      is = b.is ∙ ap (λ w. w ++ b.more) a.is ∙ append_assoc xs a.more b.more;
+      asked_counted = omega (arith, a.asked_counted, b.asked_counted, asks);
+      taken_counted = omega (arith, a.taken_counted, b.taken_counted, gave);
+    }
 
 pub never_rises_same : (a : Option ℕ) → NeverRises a a
 never_rises_same None = tt
@@ -273,88 +294,209 @@ pub goes_same : (x : At) → GoesOnAt x x
 goes_same x = record {
   roots = refl;
   limit = refl;
-  asked = adds_none x.asked x.progress.asked;
-  log = adds_none x.log x.progress.taken;
+  events = go_on_none x.loader.events x.progress.asked x.progress.taken;
   told = refl;
   pending = omega arith;
-  patience = never_rises_same x.patience;
+  patience = never_rises_same x.loader.patience;
+  fair = λ h. h;
 }
 
 pub goes_more : (x y z : At) → GoesOnAt x y → GoesOnAt y z → GoesOnAt x z
 goes_more x y z g h = record {
   roots = h.roots ∙ g.roots;
   limit = h.limit ∙ g.limit;
-  asked = adds_more x.asked y.asked z.asked x.progress.asked y.progress.asked z.progress.asked g.asked h.asked;
-  log = adds_more x.log y.log z.log x.progress.taken y.progress.taken z.progress.taken g.log h.log;
+  events = go_on_more x.loader.events y.loader.events z.loader.events x.progress.asked x.progress.taken y.progress.asked y.progress.taken
+      z.progress.asked z.progress.taken g.events h.events;
   told = h.told ∙ g.told;
   pending = omega (arith, g.pending, h.pending);
-  patience = never_rises_more x.patience y.patience z.patience g.patience h.patience;
+  patience = never_rises_more x.loader.patience y.loader.patience z.loader.patience g.patience h.patience;
+  fair = λ f. h.fair (g.fair f);
 }
 
 pub only_asks_same : (x : At) → OnlyAsks x x
-only_asks_same x = record { goes = goes_same x; log = refl; taken = refl; begun = refl; pending = refl; standing = refl }
+unfolding goes_same go_on_none
+only_asks_same x = record { goes = goes_same x; none = refl; taken = refl; begun = refl; pending = refl; standing = refl }
 
 pub only_asks_more : (x y z : At) → OnlyAsks x y → OnlyAsks y z → OnlyAsks x z
+unfolding goes_more go_on_more
 only_asks_more x y z g h = record {
   goes = goes_more x y z g.goes h.goes;
-  log = h.log ∙ g.log;
+  none = log_of-append g.goes.events.more h.goes.events.more ∙ ap (λ (l : Log). l ++ log_of h.goes.events.more) g.none ∙ h.none;
   taken = h.taken ∙ g.taken;
   begun = h.begun ∙ g.begun;
   pending = h.pending ∙ g.pending;
   standing = h.standing ∙ g.standing;
 }
 
--- what a builder was answered, after some steps
-pub gained-more : {A : Type 0} (n : ℕ) (xs more : List A) → n ≤ length xs → gained (n + length more) (xs ++ more) ≡ gained n xs ++ more
-gained-more n xs more fits =
-    ap (λ k. drop k (xs ++ more)) (count (length-append xs more)) ∙ drop-append-le (length xs - n) xs more (omega arith)
-  where
-    count : length (xs ++ more) ≡ length xs + length more → length (xs ++ more) - (n + length more) ≡ length xs - n
-    count h = omega arith
+-- nothing befell the loader
+pub asks_still : (x : At) (new : Progress) → new.roots ≡ x.progress.roots → new.reaching.limit ≡ x.progress.reaching.limit
+    → new.asked ≡ x.progress.asked → new.taken ≡ x.progress.taken → new.begun ≡ x.progress.begun → OnlyAsks x (at x.loader new)
+asks_still x new roots limit asked taken begun = record {
+  goes = record {
+    roots = roots;
+    limit = limit;
+    events = record { more = []; is = sym (append-nil x.loader.events); asked_counted = omega (arith, asked); taken_counted = omega (arith, taken) };
+    told = refl;
+    pending = omega arith;
+    patience = never_rises_same x.loader.patience;
+    fair = λ h. h;
+  };
+  none = refl;
+  taken = taken;
+  begun = begun;
+  pending = refl;
+  standing = refl;
+}
 
-pub gained_adds : {A : Type 0} (xs ys : List A) (n m : ℕ) (a : Adds xs ys n m) → n ≤ length xs → gained m ys ≡ gained n xs ++ a.more
-gained_adds xs ys n m a fits = rw (a.is, a.counted) (gained-more n xs a.more fits)
+-- a request is asked, and nothing else
+pub asks_one : (x : At) (s : Specifier) (now : LoaderData) (new : Progress) → HasStarted s x.loader now (Ok tt)
+    → new.roots ≡ x.progress.roots → new.reaching.limit ≡ x.progress.reaching.limit → new.asked ≡ x.progress.asked + 1 → new.taken ≡ x.progress.taken
+    → new.begun ≡ x.progress.begun → OnlyAsks x (at now new)
+asks_one x s now new h roots limit asked taken begun = record {
+  goes = record {
+    roots = roots;
+    limit = limit;
+    events = record { more = Requested s ∷ []; is = h.events; asked_counted = asked; taken_counted = omega (arith, taken) };
+    told = h.told;
+    pending = omega (arith, h.pending);
+    patience = h.patience;
+    fair = h.fair;
+  };
+  none = refl;
+  taken = taken;
+  begun = begun;
+  pending = h.pending;
+  standing = h.standing;
+}
+
+-- a request was refused, and nothing changed but what the loader tells
+pub asks_none : (x : At) (s : Specifier) (now : LoaderData) (e : AllocError) → HasStarted s x.loader now (Err e) → OnlyAsks x (at now x.progress)
+asks_none x s now e h = record {
+  goes = record {
+    roots = refl;
+    limit = refl;
+    events = record { more = []; is = h.events ∙ sym (append-nil x.loader.events); asked_counted = omega arith; taken_counted = omega arith };
+    told = h.told;
+    pending = omega (arith, h.pending);
+    patience = h.patience;
+    fair = h.fair;
+  };
+  none = refl;
+  taken = refl;
+  begun = refl;
+  pending = h.pending;
+  standing = h.standing;
+}
+
+-- a builder's own events, after some steps
+pub own_after : (x y : At) → IsKeptAt Analysed x → (g : GoesOnAt x y) → own_events y ≡ own_events x ++ g.events.more
+own_after x y k g =
+    ap (λ (n : ℕ). last_of n y.loader.events) (omega (arith, g.events.asked_counted, g.events.taken_counted, length-events g.events.more))
+    ∙ ap (λ (l : List Event). last_of (own_count x + length g.events.more) l) g.events.is
+    ∙ last_of-more (own_count x) x.loader.events g.events.more k.fits
+
+-- and what befell the loader before, which stays
+pub before_after : (x y : At) → IsKeptAt Analysed x → (g : GoesOnAt x y) → before_last (own_count y) y.loader.events ≡ before_last (own_count x) x.loader.events
+before_after x y k g =
+    ap (λ (n : ℕ). before_last n y.loader.events) (omega (arith, g.events.asked_counted, g.events.taken_counted, length-events g.events.more))
+    ∙ ap (λ (l : List Event). before_last (own_count x + length g.events.more) l) g.events.is
+    ∙ before_last-more (own_count x) x.loader.events g.events.more k.fits
+
+-- and its own answers, where the loader was only asked
+pub log_after_asks : (x y : At) → IsKeptAt Analysed x → OnlyAsks x y → own_log y ≡ own_log x
+log_after_asks x y k a =
+    ap log_of (own_after x y k a.goes) ∙ log_of-append (own_events x) a.goes.events.more
+    ∙ ap (λ (l : Log). own_log x ++ l) a.none ∙ append-nil (own_log x)
 
 -- too much was reached before the loader was asked
-pub too_many_asked : (meaning : Meaning) (x y : At) (limit seen : ℕ) → OnlyAsks x y
-    → IsTooMany meaning (starts_at y) (own_log y) limit seen → IsTooMany meaning (starts_at x) (own_log x) limit seen
-too_many_asked meaning x y limit seen a h =
-    rw (← ap texts a.goes.roots, ← a.log, ← a.taken) h
+pub too_many_asked : (x y : At) (limit seen : ℕ) → IsKeptAt Analysed x → OnlyAsks x y
+    → IsTooMany Analysed (starts_at y) (own_log y) limit seen → IsTooMany Analysed (starts_at x) (own_log x) limit seen
+too_many_asked x y limit seen k a h =
+    subst (λ (l : Log). IsTooMany Analysed (starts_at x) l limit seen) (log_after_asks x y k a)
+    (subst (λ (ss : List Specifier). IsTooMany Analysed ss (own_log y) limit seen) (ap texts a.goes.roots) h)
 
-pub too_many_later : (meaning : Meaning) (x y : At) (limit seen : ℕ) → OnlyAsks x y
-    → IsTooMany meaning (starts_at x) (own_log x) limit seen → IsTooMany meaning (starts_at x) (own_log y) limit seen
-too_many_later meaning x y limit seen a h = rw (a.log, a.taken) h
+pub too_many_later : (x y : At) (limit seen : ℕ) → IsKeptAt Analysed x → OnlyAsks x y
+    → IsTooMany Analysed (starts_at x) (own_log x) limit seen → IsTooMany Analysed (starts_at x) (own_log y) limit seen
+too_many_later x y limit seen k a h =
+    subst (λ (l : Log). IsTooMany Analysed (starts_at x) l limit seen) (sym (log_after_asks x y k a)) h
+
+-- why the worklist wasn't emptied, told from an earlier state
+pub asks_all_err : (x y z : At) (e : GrowError) → IsKeptAt Analysed x → OnlyAsks x y → AsksNext Analysed y z (Err e) → AsksAll Analysed x z (Err e)
+asks_all_err x y z (TooMany seen) k a h =
+    too_many_asked x y x.progress.reaching.limit seen k a
+    (subst (λ (n : ℕ). IsTooMany Analysed (starts_at y) (own_log y) n seen) a.goes.limit h)
+asks_all_err x y z OutOfMemory k a h = tt
+
+-- ---- in time
+
+-- a builder that goes on
+pub live_in_time : (x : At) → IsLive Analysed x → IsInTime Analysed (starts_at x) (own_events x)
+live_in_time x v = record { orderly = v.building.orderly; timely = v.timely }
+
+-- and after its loader was only asked
+pub asked_in_time : (x y : At) → IsLive Analysed x → OnlyAsks x y → IsInTime Analysed (starts_at x) (own_events y)
+asked_in_time x y v a = record {
+  orderly = subst (IsOrderly Analysed (starts_at x)) (sym (log_after_asks x y v.kept a)) v.building.orderly;
+  timely = subst IsTimely (sym (own_after x y v.kept a.goes)) (timely_asked (own_events x) a.goes.events.more v.timely a.none);
+}
+
+-- told from an earlier state
+pub in_time_after : {A : Type 0} (x y : At) (r : Result A BuildError) (events : List Event) → GoesOnAt x y
+    → CameInTime Analysed (starts_at y) events r → CameInTime Analysed (starts_at x) events r
+in_time_after x y r events g h = subst (λ (ss : List Specifier). CameInTime Analysed ss events r) (ap texts g.roots) h
+
+-- an error of one result is that of another
+pub in_time_err : (A B : Type 0) (starts : List Specifier) (events : List Event) (e : BuildError)
+    → CameInTime {A = A} Analysed starts events (Err e) → CameInTime {A = B} Analysed starts events (Err e)
+in_time_err A B starts events error.NotYet h = h
+in_time_err A B starts events (error.TooManyModules seen) h = h
+in_time_err A B starts events (error.UnaskedAnswer url) h = h
+in_time_err A B starts events error.Finished h = h
+in_time_err A B starts events error.OutOfMemory h = h
 
 -- ---- an answer is taken
 
 -- the loader answers one that waits
-pub live_answered : (meaning : Meaning) (x : At) (s : Specifier) (a : LoadAnswer) (e : Entry) (count : ℕ) (stands : ℕ × ℕ) (left : Option ℕ) (new : Reaching)
-    → IsLive meaning x → x.progress.taken < x.progress.asked → slots_at x s ≡ Some Asked → meaning s (Some a) e → IsFilled s e x.progress.reaching new
-    → ((b : LoadAnswer) → x.told s ≡ Some b → a ≡ b)
-    → IsLive meaning (at x.asked (x.log ++ (s, a) ∷ []) x.told count stands left (record {
+pub live_answered : (x : At) (url : Parts) (a : LoadAnswer) (e : Entry) (now : LoaderData) (new : Reaching)
+    → IsLive Analysed x → x.progress.taken < x.progress.asked → HasPolled x.loader now (Ok (Answer url a)) → slots_at x (text_of url) ≡ Some Asked
+    → Analysed (text_of url) (Some a) e → IsFilled (text_of url) e x.progress.reaching new
+    → IsLive Analysed (at now (record {
       roots = x.progress.roots;
       reaching = new;
       asked = x.progress.asked;
       taken = x.progress.taken + 1;
       begun = x.progress.begun;
     }))
-live_answered meaning x s a e count stands left new v fewer waits means f as_told =
-    let own : List Specifier = own_asked x in
-    let log : Log = own_log x in
-    let waiting = v.building.waits s refl waits in
-    let loads : loadable s ≡ true = v.kept.asking.loads s waiting.0 in
-    let later = building_answered meaning (starts_at x) own log (slots_at x) (todo_at x) s a v.building waits loads in
-    record {
-      kept = kept_answered meaning (starts_at x) x.asked x.log x.told x.progress.asked x.progress.taken s a v.kept v.behind as_told;
-      behind = omega arith;
-      counted = omega (arith, v.counted, f.counted);
-      room = f.room;
-      building = rw (gained-push x.progress.taken x.log (s, a) v.kept.taken_fits)
-          (building_entry meaning (starts_at x) own (log ++ (s, a) ∷ []) s e x.progress.reaching new later
-          (later.sound s Asked waits)
-          (inl (record { loads = loads; answer = a; given = answer_here log s a waiting.1; means = means })) f);
-      rooted = λ b t h. filled_some s t e x.progress.reaching new f (v.rooted b t h);
-    }
+live_answered x url a e now new v fewer polled open_slot means f = record {
+  kept = rw (polled.events, polled.told)
+      (kept_answered Analysed (starts_at x) x.loader.events x.loader.told x.progress.asked x.progress.taken s a v.kept v.behind polled.as_told);
+  behind = omega arith;
+  counted = omega (arith, v.counted, f.counted);
+  room = f.room;
+  building = subst (λ (l : List Event). IsBuilding Analysed (starts_at x) no_one (asked_of l) (log_of l) (slots_of new) (texts new.todo)) (sym later)
+      (rw (asked_of-answer (own_events x) s a, log_of-answer (own_events x) s a)
+      (building_entry Analysed (starts_at x) (own_asked x) (own_log x ++ (s, a) ∷ []) s e x.progress.reaching new built
+      (built.sound s Asked open_slot)
+      (inl (record { loads = loads; answer = a; given = answer_here (own_log x) s a is_open.1; means = means })) f));
+  timely = subst IsTimely (sym later) (timely_answer (own_events x) s a v.timely is_open);
+  rooted = λ b t h. filled_some s t e x.progress.reaching new f (v.rooted b t h);
+}
+  where
+    s : Specifier
+    s = text_of url
+
+    is_open : IsOutstanding (own_asked x) (own_log x) s
+    is_open = v.building.outstanding s refl open_slot
+
+    loads : loadable s ≡ true
+    loads = v.kept.own.asking.loads s is_open.0
+
+    built : IsBuilding Analysed (starts_at x) (this_one s) (own_asked x) (own_log x ++ (s, a) ∷ []) (slots_at x) (todo_at x)
+    built = building_answered Analysed (starts_at x) (own_asked x) (own_log x) (slots_at x) (todo_at x) s a v.building open_slot loads
+
+    later : last_of (x.progress.asked + (x.progress.taken + 1)) now.events ≡ own_events x ++ Answered s a ∷ []
+    later = ap (λ (l : List Event). last_of (x.progress.asked + (x.progress.taken + 1)) l) polled.events
+        ∙ last_of-push (own_count x) (x.progress.asked + (x.progress.taken + 1)) x.loader.events (Answered s a) v.kept.fits (omega arith)
 
 -- ---- what is outstanding
 
@@ -377,8 +519,8 @@ way_in meaning once x v begun empty =
     from r s leads None d there = absurd (there d)
     from r s leads (Some Queued) d there = absurd (not_queued r d)
     from r s leads (Some Asked) d there =
-        let w = v.building.waits r refl d in
-        absurd (no_answer r leads.entry w.1 (v.kept.asking.loads r w.0) leads.is_entry)
+        let w = v.building.outstanding r refl d in
+        absurd (no_answer r leads.entry w.1 (v.kept.own.asking.loads r w.0) leads.is_entry)
     from r s leads (Some (Done e)) d there =
         let same : leads.entry ≡ e = entry_once meaning once (answer_to (own_log x)) r leads.entry e leads.is_entry (v.building.done r e d) in
         v.building.closed r s e d (ap (λ (f : Entry). has (targets f) s) (sym same) ∙ leads.among)
@@ -474,44 +616,143 @@ unawaited_now meaning once x v begun empty s not_asked = by (slots_at x s) refl
     by (Some Asked) d = absurd (not_asked d)
     by (Some (Done e)) d = from e (v.building.done s e d)
 
+-- nor is it outstanding
+pub settled_now : (x : At) → IsLive Analysed x → (s : Specifier) → (slots_at x s ≡ Some Asked → ⊥) → IsOutstanding (own_asked x) (own_log x) s → ⊥
+settled_now x v s not_asked is_open = by (slots_at x s) refl
+  where
+    from : (e : Entry) → IsEntry Analysed (answer_to (own_log x)) s e → ⊥
+    from e (inl a) = let g = a.given in let n = is_open.1 in cc
+    from e (inr u) = let g = u.0 in let l = v.kept.own.asking.loads s is_open.0 in cc
+
+    by : (o : Option Slot) → slots_at x s ≡ o → ⊥
+    by None d = v.building.asked_slot s is_open.0 d
+    by (Some Queued) d = let h = (v.building.queued s refl d).1 in let k = is_open.0 in cc
+    by (Some Asked) d = not_asked d
+    by (Some (Done e)) d = from e (v.building.done s e d)
+
+-- a builder after an answer was taken: its own events
+pub own_answered : (x y : At) (url : Parts) (a : LoadAnswer) → IsKeptAt Analysed x → HasPolled x.loader y.loader (Ok (Answer url a))
+    → y.progress.asked ≡ x.progress.asked → y.progress.taken ≡ x.progress.taken + 1 → own_events y ≡ own_events x ++ Answered (text_of url) a ∷ []
+own_answered x y url a k polled asked taken =
+    ap (λ (l : List Event). last_of (own_count y) l) polled.events
+    ∙ last_of-push (own_count x) (own_count y) x.loader.events (Answered (text_of url) a) k.fits (omega (arith, asked, taken))
+
+-- the answers and requests of one list are those of an equal one
+same_counts : (s : Specifier) (xs ys : List Event) → xs ≡ ys → answers xs s < requests xs s → answers ys s < requests ys s
+same_counts s xs ys is = subst (λ (l : List Event). answers l s < requests l s) is
+
 -- the loader answers, and it is refused
 pub turns_refused : (x y : At) (url : Parts) (a : LoadAnswer) (new : Reaching) (e : BuildError)
     → IsLive Analysed x → x.progress.begun ≡ true → x.progress.reaching.todo ≡ [] → x.progress.taken < x.progress.asked
-    → Takes url a x.progress.reaching new (Err e)
-    → own_asked y ≡ own_asked x → own_log y ≡ own_log x ++ (text_of url, a) ∷ [] → y.pending ≡ x.pending
+    → Takes url a x.progress.reaching new (Err e) → HasPolled x.loader y.loader (Ok (Answer url a))
+    → y.progress.asked ≡ x.progress.asked → y.progress.taken ≡ x.progress.taken + 1
     → Turns Analysed x y (Err e)
-turns_refused x y url a new (error.TooManyModules seen) v begun empty fewer refused asked log pending =
+turns_refused x y url a new (error.TooManyModules seen) v begun empty fewer refused polled asked taken =
     let s : Specifier = text_of url in
-    let waiting = v.building.waits s refl refused.0 in
-    let loads : loadable s ≡ true = v.kept.asking.loads s waiting.0 in
+    let is_open = v.building.outstanding s refl refused.0 in
+    let loads : loadable s ≡ true = v.kept.own.asking.loads s is_open.0 in
     let later = building_answered Analysed (starts_at x) (own_asked x) (own_log x) (slots_at x) (todo_at x) s a v.building refused.0 loads in
-    rw log (too_many Analysed (starts_at x) (targets refused.1.0) (own_log x ++ (s, a) ∷ []) (slots_at x) x.progress.reaching.limit seen refused.1.2 later.sound
+    subst (λ (l : Log). IsTooMany Analysed (starts_at x) l x.progress.reaching.limit seen)
+    (sym (ap log_of (own_answered x y url a v.kept polled asked taken) ∙ log_of-answer (own_events x) s a))
+    (too_many Analysed (starts_at x) (targets refused.1.0) (own_log x ++ (s, a) ∷ []) (slots_at x) x.progress.reaching.limit seen refused.1.2 later.sound
     (λ t h. reached_on Analysed (starts_at x) (answer_to (own_log x ++ (s, a) ∷ [])) s t (later.sound s Asked refused.0)
     (record {
       entry = refused.1.0;
-      is_entry = inl (record { loads = loads; answer = a; given = answer_here (own_log x) s a waiting.1; means = refused.1.1 });
+      is_entry = inl (record { loads = loads; answer = a; given = answer_here (own_log x) s a is_open.1; means = refused.1.1 });
       among = h;
     })))
-turns_refused x y url a new (error.UnaskedAnswer other) v begun empty fewer refused asked log pending =
-    let same : text_of other ≡ text_of url = ap text_of refused.0 in record {
-      before = own_log x;
+turns_refused x y url a new (error.UnaskedAnswer other) v begun empty fewer refused polled asked taken =
+    let same : text_of other ≡ text_of url = ap text_of refused.0 in
+    let last : own_events y ≡ own_events x ++ Answered (text_of url) a ∷ [] = own_answered x y url a v.kept polled asked taken in
+    let asks : own_asked y ≡ own_asked x = ap asked_of last ∙ asked_of-answer (own_events x) (text_of url) a in record {
+      before = own_events x;
       answer = a;
-      last = rw same log;
-      earlier = ([], sym (append-nil (own_log x)));
+      last = rw same last;
+      goes_on = ([], sym (append-nil (own_events x)));
       orderly = v.building.orderly;
-      waits = rw asked (one_open (own_asked x) (own_log x) v.kept.asking.once
-          (omega (arith, length-gained x.progress.asked x.asked v.kept.asked_fits, length-gained x.progress.taken x.log v.kept.taken_fits)));
+      outstanding = rw asks (one_open (own_asked x) (own_log x) v.kept.own.asking.once
+          (omega (arith, v.kept.own.asked_counted, v.kept.own.taken_counted, fewer)));
+      settled = rw (asks, same) (settled_now x v (text_of url) refused.1);
       unawaited = λ once. rw same (unawaited_now Analysed once x v begun empty (text_of url) refused.1);
-      pending = pending;
+      pending = polled.pending;
+      fair = λ f. rw same (same_counts (text_of url) x.loader.events (before_last (own_count y) y.loader.events ++ own_events x) whole (polled.fair f).1);
     }
-turns_refused x y url a new error.OutOfMemory v begun empty fewer refused asked log pending = tt
-turns_refused x y url a new error.NotYet v begun empty fewer refused asked log pending = absurd refused
-turns_refused x y url a new error.Finished v begun empty fewer refused asked log pending = absurd refused
+  where
+    first : before_last (own_count y) y.loader.events ≡ before_last (own_count x) x.loader.events
+    first = ap (λ (l : List Event). before_last (own_count y) l) polled.events
+        ∙ before_last-push (own_count x) (own_count y) x.loader.events (Answered (text_of url) a) v.kept.fits (omega (arith, asked, taken))
+
+    whole : x.loader.events ≡ before_last (own_count y) y.loader.events ++ own_events x
+    whole = sym (ap (λ (l : List Event). l ++ own_events x) first ∙ before_last-last (own_count x) x.loader.events)
+turns_refused x y url a new error.OutOfMemory v begun empty fewer refused polled asked taken = tt
+turns_refused x y url a new error.NotYet v begun empty fewer refused polled asked taken = absurd refused
+turns_refused x y url a new error.Finished v begun empty fewer refused polled asked taken = absurd refused
+
+-- an answer that was awaited came in time
+pub answered_in_time : (x y : At) (url : Parts) (a : LoadAnswer) → IsLive Analysed x → slots_at x (text_of url) ≡ Some Asked
+    → HasPolled x.loader y.loader (Ok (Answer url a)) → y.progress.asked ≡ x.progress.asked → y.progress.taken ≡ x.progress.taken + 1
+    → IsInTime Analysed (starts_at x) (own_events y)
+answered_in_time x y url a v open_slot polled asked taken =
+    let s : Specifier = text_of url in
+    let is_open = v.building.outstanding s refl open_slot in
+    let loads : loadable s ≡ true = v.kept.own.asking.loads s is_open.0 in
+    let later = building_answered Analysed (starts_at x) (own_asked x) (own_log x) (slots_at x) (todo_at x) s a v.building open_slot loads in
+    subst (IsInTime Analysed (starts_at x)) (sym (own_answered x y url a v.kept polled asked taken)) (record {
+      orderly = rw (log_of-answer (own_events x) s a) later.orderly;
+      timely = timely_answer (own_events x) s a v.timely is_open;
+    })
+
+-- whatever came of the answer, it came in time, or it is the one that is told
+pub taken_in_time : (A : Type 0) (x y : At) (url : Parts) (a : LoadAnswer) (new : Reaching) (e : BuildError)
+    → IsLive Analysed x → Takes url a x.progress.reaching new (Err e) → HasPolled x.loader y.loader (Ok (Answer url a))
+    → y.progress.asked ≡ x.progress.asked → y.progress.taken ≡ x.progress.taken + 1
+    → CameInTime {A = A} Analysed (starts_at x) (own_events y) (Err e)
+taken_in_time A x y url a new (error.TooManyModules seen) v took polled asked taken = answered_in_time x y url a v took.0 polled asked taken
+taken_in_time A x y url a new error.OutOfMemory v took polled asked taken = answered_in_time x y url a v took polled asked taken
+taken_in_time A x y url a new (error.UnaskedAnswer other) v took polled asked taken = (
+  own_events x,
+  a,
+  own_answered x y url a v.kept polled asked taken
+      ∙ ap (λ (s : Specifier). own_events x ++ Answered s a ∷ []) (sym (ap text_of took.0)),
+  live_in_time x v,
+)
+taken_in_time A x y url a new error.NotYet v took polled asked taken = absurd took
+taken_in_time A x y url a new error.Finished v took polled asked taken = absurd took
+
+-- what holds at all times, after an answer
+pub kept_polled : (x y : At) (url : Parts) (a : LoadAnswer) → IsLive Analysed x → HasPolled x.loader y.loader (Ok (Answer url a))
+    → y.progress.roots ≡ x.progress.roots → y.progress.asked ≡ x.progress.asked → y.progress.taken ≡ x.progress.taken + 1 → IsKeptAt Analysed y
+kept_polled x y url a v polled roots asked taken =
+    rw (roots, asked, taken, polled.events, polled.told)
+    (kept_answered Analysed (starts_at x) x.loader.events x.loader.told x.progress.asked x.progress.taken (text_of url) a v.kept v.behind polled.as_told)
+
+-- and after a request
+pub kept_started : (x y : At) (s : Specifier) → IsInHand Analysed x s → loadable s ≡ true → HasStarted s x.loader y.loader (Ok tt)
+    → y.progress.roots ≡ x.progress.roots → y.progress.asked ≡ x.progress.asked + 1 → y.progress.taken ≡ x.progress.taken → IsKeptAt Analysed y
+kept_started x y s v loads started roots asked taken =
+    rw (roots, asked, taken, started.events, started.told)
+    (kept_asked Analysed (starts_at x) x.loader.events x.loader.told x.progress.asked x.progress.taken s v.kept loads v.fresh
+    (v.building.sound s Queued v.queued))
+
+-- an answer is one event more
+pub goes_polled : (x y : At) (url : Parts) (a : LoadAnswer) → HasPolled x.loader y.loader (Ok (Answer url a))
+    → y.progress.roots ≡ x.progress.roots → y.progress.reaching.limit ≡ x.progress.reaching.limit → y.progress.asked ≡ x.progress.asked
+    → y.progress.taken ≡ x.progress.taken + 1 → GoesOnAt x y
+goes_polled x y url a polled roots limit asked taken = record {
+  roots = roots;
+  limit = limit;
+  events = record { more = Answered (text_of url) a ∷ []; is = polled.events; asked_counted = omega (arith, asked); taken_counted = taken };
+  told = polled.told;
+  pending = omega (arith, polled.pending);
+  patience = polled.patience.no_more;
+  fair = λ f. (polled.fair f).0;
+}
 
 -- ---- turn after turn
 
 -- why a turn ends, told from an earlier state
-pub errs_after : (x y z : At) (e : BuildError) → IsKeptAt Analysed x → GoesOnAt x y → y.pending ≡ x.pending → Turns Analysed y z (Err e) → Turns Analysed x z (Err e)
+pub errs_after : (x y z : At) (e : BuildError) → IsKeptAt Analysed x → GoesOnAt x y → y.loader.pending ≡ x.loader.pending → Turns Analysed y z (Err e)
+    → Turns Analysed x z (Err e)
 errs_after x y z error.NotYet k g same t = record {
   live = t.live;
   asked_all = t.asked_all;
@@ -519,20 +760,24 @@ errs_after x y z error.NotYet k g same t = record {
   open_yet = t.open_yet;
   counted = rw (← same) t.counted;
   standing = t.standing;
-  patience = λ fewer. falls_after x.patience y.patience z.patience g.patience (t.patience fewer);
+  patience = λ fewer. falls_after x.loader.patience y.loader.patience z.loader.patience g.patience (t.patience fewer);
 }
 errs_after x y z (error.TooManyModules seen) k g same t = rw (← ap texts g.roots, ← g.limit) t
-errs_after x y z (error.UnaskedAnswer url) k g same t =
-    let more = gained_adds x.log y.log x.progress.taken y.progress.taken g.log k.taken_fits in record {
-      before = t.before;
-      answer = t.answer;
-      last = t.last;
-      earlier = (g.log.more ++ t.earlier.0, t.earlier.1 ∙ ap (λ w. w ++ t.earlier.0) more ∙ append_assoc (own_log x) g.log.more t.earlier.0);
-      orderly = rw (← ap texts g.roots) t.orderly;
-      waits = t.waits;
-      unawaited = λ once. rw (← ap texts g.roots) (t.unawaited once);
-      pending = t.pending ∙ same;
-    }
+errs_after x y z (error.UnaskedAnswer url) k g same t = record {
+  before = t.before;
+  answer = t.answer;
+  last = t.last;
+  goes_on = (
+    g.events.more ++ t.goes_on.0,
+    t.goes_on.1 ∙ ap (λ w. w ++ t.goes_on.0) (own_after x y k g) ∙ append_assoc (own_events x) g.events.more t.goes_on.0,
+  );
+  orderly = rw (← ap texts g.roots) t.orderly;
+  outstanding = t.outstanding;
+  settled = t.settled;
+  unawaited = λ once. rw (← ap texts g.roots) (t.unawaited once);
+  pending = t.pending ∙ same;
+  fair = λ f. t.fair (g.fair f);
+}
 errs_after x y z error.OutOfMemory k g same t = tt
 errs_after x y z error.Finished k g same t = absurd t
 
@@ -553,7 +798,7 @@ runs_err x z error.Finished t = t
 -- ---- the roots are reached
 
 pub live_begun : (meaning : Meaning) (x : At) (new : Reaching) → IsLive meaning x → HasReached (starts_at x) x.progress.reaching new
-    → IsLive meaning (at x.asked x.log x.told x.pending x.standing x.patience (record {
+    → IsLive meaning (at x.loader (record {
       roots = x.progress.roots;
       reaching = new;
       asked = x.progress.asked;
@@ -567,6 +812,7 @@ live_begun meaning x new v r = record {
   room = r.room;
   building = building_grown meaning (starts_at x) no_one (own_asked x) (own_log x) (slots_at x) (slots_of new) (todo_at x) (texts new.todo) (starts_at x)
       v.building r.grown (reached_start meaning (starts_at x) (answer_to (own_log x)));
+  timely = v.timely;
   rooted = λ b t h. r.grown.came t h;
 }
 

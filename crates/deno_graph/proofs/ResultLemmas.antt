@@ -1,10 +1,10 @@
 -- What a builder has when a run ends.
-use Rattle.std.proofs.Common.{◌≡◌, inl, inr, ◌≤◌, ◌<◌, ◌-◌, ℕ, ◌+◌, true, false, List, [], ◌∷◌, ◌++◌, length, map, take, refl, sym, ◌∙◌, ap, subst, arith, Option, Some, None, Result, Err, append-nil, append_assoc, length-append}
+use Rattle.std.proofs.Common.{◌≡◌, ◌⊎◌, inl, inr, ◌≤◌, ◌<◌, ◌-◌, ℕ, ◌+◌, Bool, true, false, List, [], ◌∷◌, ◌++◌, length, map, take, refl, sym, ◌∙◌, ap, subst, arith, Option, Some, None, Result, Err, append-nil, append_assoc, length-append}
 use Rattle.std.specs.Prelude.{bytes_eq, is_some, option_map}
 use Rattle.std.specs.List.{IsDistinct}
 use Rattle.std.specs.List.Sorted.{IsStrictlySortedBy}
 use Rattle.std.specs.Map.{keys_of}
-use Rattle.std.proofs.lemmas.List.{take_all, length-map, take-append-le}
+use Rattle.std.proofs.lemmas.List.{take_all, length-map, map-append}
 use Rattle.std.proofs.Common.{length-take-le}
 use Rattle.std.proofs.lemmas.Map.Made.{lookup-map_values, length-le_from_is_member}
 use Rattle.url.specs.Parts.{Parts}
@@ -16,16 +16,19 @@ use Rattle.deno_graph.specs.declared.slot.Slot.TheVariants.{Queued, Asked, Done}
 use Rattle.deno_graph.specs.Reach.{Specifier, Log, Meaning, answer_to, has, IsEntry, IsReached, IsReach, IsFunctional}
 use Rattle.deno_graph.specs.Graph.{texts, members_of, IsGraph, IsAscending}
 use Rattle.deno_graph.specs.ByText.{value_at}
-use Rattle.deno_graph.specs.Builder.{earlier, IsAskedFor, EachAnswered, ReachesAtMost, IsOrderly, IsOrderlyAfter, IsAwaited, IsUnawaited, IsUnawaitedOver, IsNotYet, IsTooMany, Building, starts, HasHistory}
+use Rattle.deno_graph.specs.Events.{Event, Answered, asked_of, log_of, IsOutstanding, IsTimely, IsSettled, times, requests, answers}
+use Rattle.deno_graph.specs.Building.{IsBuilding, no_one}
+use Rattle.deno_graph.specs.Builder.{last_of, before_last, SomeOutstanding, IsFairly, IsAskedFor, EachAnswered, ReachesAtMost, IsOrderly, IsOrderlyAfter, IsAwaited, IsUnawaited, IsUnawaitedOver, IsNotYet, IsTooMany, Building, starts, HasHistory}
 use Rattle.deno_graph.specs.declared.error.BuildError.{BuildError}
 use Rattle.deno_graph.specs.declared.error.BuildError.TheVariants as error
-use Rattle.deno_graph.specs.Progress.{At, IsLive, starts_at, own_asked, own_log, slots_at, IsThrough, IsPaused, IsUnasked, GoesOnAt, Adds, IsKeptAt}
-use Rattle.deno_graph.specs.Inside.{IsInside, all_done}
+use Rattle.deno_graph.specs.Progress.{At, IsLive, starts_at, own_count, own_events, own_asked, own_log, slots_at, todo_at, IsThrough, IsPaused, IsUnasked, GoesOnAt, IsKeptAt}
+use Rattle.deno_graph.specs.Inside.{IsInside, all_done, AreDone, HaveEntries, seen_of}
 use Rattle.graph_entry.specs.Analysed.{Analysed}
 use Rattle.std.specs.Cmp.Lexicographic.{nat_list_eq_equiv}
 use Rattle.deno_graph.proofs.ByTextLemmas.{url_cmp, keys_at, has-keys_at, sorted-keys_at, distinct_sorted, length-keys_at}
-use Rattle.deno_graph.proofs.BuilderLemmas.{gained-zero, kept_new}
-use Rattle.deno_graph.proofs.ProgressLemmas.{way_in, length-gained, distinct_log, all_answered, one_open, gained_adds}
+use Rattle.deno_graph.proofs.EventsLemmas.{asked_of-append, log_of-append, asked_of-answer, log_of-answer, length-events, times-append, is_outstanding, not_among}
+use Rattle.deno_graph.proofs.BuilderLemmas.{last_of-zero, before_last-last, before_last-more, kept_new}
+use Rattle.deno_graph.proofs.ProgressLemmas.{way_in, distinct_log, all_answered, one_open, own_after, before_after}
 
 -- ---- what is reached
 
@@ -58,7 +61,7 @@ module _ (meaning : Meaning) (once : IsFunctional meaning) (x : At) (v : IsLive 
 
   -- the loadable ones of them are asked for
   pub asked_now : IsAskedFor meaning (starts_at x) (own_asked x) (own_log x)
-  asked_now = record { asking = v.kept.asking; all = λ t r loads. by t (slots_at x t) refl r loads }
+  asked_now = record { asking = v.kept.own.asking; all = λ t r loads. by t (slots_at x t) refl r loads }
     where
       from : (t : Specifier) (e : Entry) → IsEntry meaning (answer_to (own_log x)) t e → loadable t ≡ true → has (own_asked x) t ≡ true
       from t e (inl a) loads = v.building.answered t a.answer a.given
@@ -67,7 +70,7 @@ module _ (meaning : Meaning) (once : IsFunctional meaning) (x : At) (v : IsLive 
       by : (t : Specifier) (o : Option Slot) → slots_at x t ≡ o → IsReached meaning (starts_at x) (answer_to (own_log x)) t → loadable t ≡ true → has (own_asked x) t ≡ true
       by t None d r loads = absurd (way_in meaning once x v begun empty t r d)
       by t (Some Queued) d r loads = absurd (let h = (v.building.queued t refl d).0 in let none = ap (λ (l : List Parts). has (texts l) t) empty in cc)
-      by t (Some Asked) d r loads = (v.building.waits t refl d).0
+      by t (Some Asked) d r loads = (v.building.outstanding t refl d).0
       by t (Some (Done e)) d r loads = from t e (v.building.done t e d) loads
 
   -- ---- the graph
@@ -94,7 +97,69 @@ module _ (meaning : Meaning) (once : IsFunctional meaning) (x : At) (v : IsLive 
 pub answered_now : (meaning : Meaning) (x : At) → IsLive meaning x → x.progress.taken ≡ x.progress.asked → EachAnswered (own_asked x) (own_log x)
 answered_now meaning x v all =
     all_answered (own_asked x) (own_log x) (distinct_log meaning (starts_at x) (own_log x) v.building.orderly) v.building.answered
-    (omega (arith, length-gained x.progress.asked x.asked v.kept.asked_fits, length-gained x.progress.taken x.log v.kept.taken_fits))
+    (omega (arith, v.kept.own.asked_counted, v.kept.own.taken_counted, all))
+
+-- of slots that all have an entry the first has one, and so have the others
+pub done_first : (x : Parts × Slot) (xs slots : List (Parts × Slot)) → slots ≡ x ∷ xs → AreDone slots
+    → (((x.1 ≡ Queued) ⊎ (x.1 ≡ Asked)) → ⊥) × AreDone xs
+done_first x xs slots is d = by d.entries (sym is ∙ d.is)
+  where
+    open_not : (y : Slot) (e : Entry) → y ≡ Done e → ((y ≡ Queued) ⊎ (y ≡ Asked)) → ⊥
+    open_not y e s (inl q) = let n = sym q ∙ s in cc
+    open_not y e s (inr a) = let n = sym a ∙ s in cc
+
+    by : (es : List (Parts × Entry)) → x ∷ xs ≡ all_done es → (((x.1 ≡ Queued) ⊎ (x.1 ≡ Asked)) → ⊥) × AreDone xs
+    by [] h = absurd cc
+    by (e ∷ es) h =
+        let first : x ≡ (e.0, Done e.1) = cc in
+        let rest : xs ≡ all_done es = cc in
+        (open_not x.1 e.1 (ap (λ (y : Parts × Slot). y.1) first), record { entries = es; is = rest })
+
+-- one slot more that has its entry
+pub done_push : (yielded : List (Parts × Slot)) (entries new : List (Parts × Entry)) (url : Parts) (slot : Slot) (e : Entry)
+    → yielded ≡ all_done entries → slot ≡ Done e → new ≡ entries ++ (url, e) ∷ [] → yielded ++ (url, slot) ∷ [] ≡ all_done new
+done_push yielded entries new url slot e so_far is longer =
+    ap (λ (l : List (Parts × Slot)). l ++ (url, slot) ∷ []) so_far
+    ∙ ap (λ (y : Slot). all_done entries ++ (url, y) ∷ []) is
+    ∙ sym (map-append (λ (x : Parts × Entry). (x.0, Done x.1)) entries ((url, e) ∷ []))
+    ∙ ap all_done (sym longer)
+
+-- a slot that waits for nothing has an entry
+done_of : (y : Slot) → (y ≡ Queued → ⊥) × (y ≡ Asked → ⊥) → (e : Entry) × (y ≡ Done e)
+done_of Queued h = absurd (h.0 refl)
+done_of Asked h = absurd (h.1 refl)
+done_of (Done e) h = (e, refl)
+
+-- slots that wait for nothing all have their entries
+done_from : (slots : List (Parts × Slot)) → IsDistinct bytes_eq (keys_at slots)
+    → HaveEntries slots → AreDone slots
+unfolding IsDistinct
+done_from [] once each = record { entries = []; is = refl }
+done_from (x ∷ xs) once each =
+    let d = done_of x.1 (each (text_of x.0) x.1 (rw (nat_list_eq_equiv.refl (text_of x.0)) refl)) in
+    let rest = done_from xs once.1 (λ t y h. by t y (bytes_eq t (text_of x.0)) refl h) in record {
+      entries = (x.0, d.0) ∷ rest.entries;
+      is = subst (λ (y : Slot). x ∷ xs ≡ (x.0, y) ∷ all_done rest.entries) d.1 (ap (λ (l : List (Parts × Slot)). x ∷ l) rest.is);
+    }
+  where
+    by : (t : Specifier) (y : Slot) (b : Bool) → bytes_eq t (text_of x.0) ≡ b → value_at xs t ≡ Some y → (y ≡ Queued → ⊥) × (y ≡ Asked → ⊥)
+    by t y true e h =
+        let out : has (keys_at xs) t ≡ false = not_among t (text_of x.0) (keys_at xs) e once.0 in
+        let among : has (keys_at xs) t ≡ true = has-keys_at xs t ∙ ap is_some h in absurd cc
+    by t y false e h = each t y (rw e h)
+
+-- so no slot waits for its entry
+pub none_open : (x : At) → IsLive Analysed x → x.progress.taken ≡ x.progress.asked → x.progress.reaching.todo ≡ []
+    → HaveEntries x.progress.reaching.reached.entries
+none_open x v all empty t y d = (
+  λ q. let h = (v.building.queued t refl (d ∙ ap Some q)).0 in let none = ap (λ (l : List Parts). has (texts l) t) empty in cc,
+  λ a. let w = v.building.outstanding t refl (d ∙ ap Some a) in
+      let some = answered_now Analysed x v all t w.0 in let none = ap is_some w.1 in cc,
+)
+
+-- and each has its entry, in a map
+pub done_sorted : (slots : List (Parts × Slot)) → IsStrictlySortedBy url_cmp (keys_of slots) → HaveEntries slots → AreDone slots
+done_sorted slots sorted have = done_from slots (distinct_sorted (keys_at slots) (sorted-keys_at slots sorted)) have
 
 -- so many entries as slots
 pub length_entries : (slots : List (Parts × Slot)) (entries : List (Parts × Entry)) → slots ≡ map (λ e. (e.0, Done e.1)) entries → length slots ≡ length entries
@@ -111,69 +176,127 @@ ascending_done slots entries sorted is = rw (← (ap keys_at is ∙ marked entri
 -- ---- what `poll` answers
 
 -- what stood before the last so many
-pub length-earlier : {A : Type 0} (n : ℕ) (xs : List A) → length (earlier n xs) ≡ length xs - n
-length-earlier n xs = length-take-le (length xs - n) xs (omega arith)
+pub length-before_last : {A : Type 0} (n : ℕ) (xs : List A) → length (before_last n xs) ≡ length xs - n
+length-before_last n xs = length-take-le (length xs - n) xs (omega arith)
 
--- what contracts see of a builder is what it has
-pub record IsBuildingOf {L : Type 0} (x : At) (b : Building L) : Type 0 where
-  pub roots : b.roots ≡ x.progress.roots
-  pub limit : b.limit ≡ x.progress.reaching.limit
-  pub asked : b.asked ≡ own_asked x
-  pub log : b.log ≡ own_log x
-  pub asked_before : b.asked_before ≡ earlier x.progress.asked x.asked
-  pub log_before : b.log_before ≡ earlier x.progress.taken x.log
-  pub pending : b.pending ≡ x.pending
-  pub standing : b.standing ≡ x.standing
-  pub patience : b.patience ≡ x.patience
-
-pub result_graph : IsFunctional Analysed → {L : Type 0} (x y : At) (old : Building L) (slots : List (Parts × Slot)) (entries : List (Parts × Entry)) → IsBuildingOf x old
+pub result_graph : IsFunctional Analysed → (x y : At) (slots : List (Parts × Slot)) (entries : List (Parts × Entry))
     → IsThrough Analysed x y → GoesOnAt x y → slots ≡ y.progress.reaching.reached.entries → IsStrictlySortedBy url_cmp (keys_of slots) → slots ≡ all_done entries
-    → IsGraph Analysed (starts old) (answer_to (own_log y)) entries
-result_graph once x y old slots entries of t g is sorted done =
-    rw (of.roots, ← g.roots)
+    → IsGraph Analysed (starts_at x) (answer_to (own_log y)) entries
+result_graph once x y slots entries t g is sorted done =
+    subst (λ (ss : List Specifier). IsGraph Analysed ss (answer_to (own_log y)) entries) (ap texts g.roots)
     (graph_now Analysed once y t.live t.begun t.asked_all entries (rw (← is) sorted) (sym is ∙ done))
 
-pub result_asked : IsFunctional Analysed → {L : Type 0} (x y : At) (old : Building L) → IsBuildingOf x old
-    → IsThrough Analysed x y → GoesOnAt x y → IsAskedFor Analysed (starts old) (own_asked y) (own_log y)
-result_asked once x y old of t g = rw (of.roots, ← g.roots) (asked_now Analysed once y t.live t.begun t.asked_all)
+pub result_asked : IsFunctional Analysed → (x y : At) → IsThrough Analysed x y → GoesOnAt x y → IsAskedFor Analysed (starts_at x) (own_asked y) (own_log y)
+result_asked once x y t g =
+    subst (λ (ss : List Specifier). IsAskedFor Analysed ss (own_asked y) (own_log y)) (ap texts g.roots)
+    (asked_now Analysed once y t.live t.begun t.asked_all)
 
-pub result_not_yet : IsFunctional Analysed → {L : Type 0} (x y : At) (old new : Building L) → IsBuildingOf x old → IsBuildingOf y new
+pub result_not_yet : IsFunctional Analysed → {L : Type 0} (l m : L) (x y : At) (f g1 : Bool)
     → IsPaused Analysed x y → GoesOnAt x y → IsKeptAt Analysed x → IsStrictlySortedBy url_cmp (keys_of y.progress.reaching.reached.entries)
-    → IsNotYet Analysed old new
-result_not_yet once x y old new of by p g k sorted =
-    let sized = length-gained y.progress.asked y.asked p.live.kept.asked_fits in
-    let taken = length-gained y.progress.taken y.log p.live.kept.taken_fits in record {
-      orderly = rw (of.roots, ← g.roots, by.log) p.live.building.orderly;
-      asked = rw (of.roots, ← g.roots, by.asked, by.log) (asked_now Analysed once y p.live p.begun p.asked_all);
-      within = rw (of.roots, ← g.roots, of.limit, ← g.limit, by.log) (within_now Analysed once y p.live p.begun p.asked_all sorted);
-      waits = rw (by.asked, by.log) (one_open (own_asked y) (own_log y) p.live.kept.asking.once (omega (arith, sized, taken, p.open_yet)));
-      counted = rw (of.pending, by.pending) p.counted;
-      stands = rw (by.standing, p.standing, by.log_before, by.log, length-earlier y.progress.taken y.log, taken) (omega (arith, p.live.kept.taken_fits));
-      stood_open = rw (by.standing, p.standing, by.asked_before, length-earlier y.progress.asked y.asked, by.asked, by.log)
-          (rw (take_all (length y.asked - (length y.asked - y.progress.asked)) (own_asked y) (omega (arith, sized, p.live.kept.asked_fits)))
-          (one_open (own_asked y) (own_log y) p.live.kept.asking.once (omega (arith, sized, taken, p.open_yet))));
-      patience = λ even. rw (of.patience, by.patience) (p.patience (behind even));
-    }
-  where
-    behind : length old.asked_before ≡ length old.log_before → length y.log < length y.asked
-    behind even =
-        let a : length old.asked_before ≡ length x.asked - x.progress.asked = ap length of.asked_before ∙ length-earlier x.progress.asked x.asked in
-        let l : length old.log_before ≡ length x.log - x.progress.taken = ap length of.log_before ∙ length-earlier x.progress.taken x.log in
-        let longer : length y.asked ≡ length x.asked + length g.asked.more = ap length g.asked.is ∙ length-append x.asked g.asked.more in
-        let more : length y.log ≡ length x.log + length g.log.more = ap length g.log.is ∙ length-append x.log g.log.more in
-        omega (arith, a, l, longer, more, g.asked.counted, g.log.counted, k.asked_fits, k.taken_fits, p.open_yet)
-
-pub result_unasked : IsFunctional Analysed → {L : Type 0} (x y : At) (old new : Building L) (s : Specifier) → IsBuildingOf x old → IsBuildingOf y new
-    → IsUnasked Analysed x y s → IsUnawaited Analysed 1 old new s
-result_unasked once x y old new s of by u = record {
-  before = u.before;
-  answer = u.answer;
-  last = by.log ∙ u.last;
-  gained = (u.earlier.0, u.earlier.1 ∙ ap (λ w. w ++ u.earlier.0) (sym of.log));
-  orderly = rw of.roots u.orderly;
-  waits = rw by.asked u.waits;
-  unawaited = rw of.roots (u.unawaited once);
+    → IsNotYet Analysed (seen_of l x f) (seen_of m y g1)
+result_not_yet once l m x y f g1 p g k sorted = record {
+  orderly = from (λ ss. IsOrderly Analysed ss (own_log y)) p.live.building.orderly;
+  asked = from (λ ss. IsAskedFor Analysed ss (own_asked y) (own_log y)) (asked_now Analysed once y p.live p.begun p.asked_all);
+  within = subst (λ (n : ℕ). ReachesAtMost Analysed (starts_at x) (answer_to (own_log y)) n) g.limit
+      (from (λ ss. ReachesAtMost Analysed ss (answer_to (own_log y)) y.progress.reaching.limit) (within_now Analysed once y p.live p.begun p.asked_all sorted));
+  outstanding = open_now;
+  counted = p.counted;
+  stands = ap (λ (s : ℕ × ℕ). s.1) p.standing ∙ ap length (sym logs) ∙ length-append logs_before (own_log y);
+  stood_open = subst (λ (n : ℕ). SomeOutstanding (take (n - length asks_before) (own_asked y)) (own_log y)) (sym (ap (λ (s : ℕ × ℕ). s.0) p.standing))
+      (subst (λ (l : List Specifier). SomeOutstanding l (own_log y)) (sym (take_all (length (asked_of y.loader.events) - length asks_before) (own_asked y) long)) open_now);
+  patience = λ even. p.patience (behind even);
 }
+  where
+    from : (P : List Specifier → Type 0) → P (starts_at y) → P (starts_at x)
+    from P h = subst P (ap texts g.roots) h
+
+    asks_before : List Specifier
+    asks_before = asked_of (before_last (own_count y) y.loader.events)
+
+    logs_before : Log
+    logs_before = log_of (before_last (own_count y) y.loader.events)
+
+    asks : asks_before ++ own_asked y ≡ asked_of y.loader.events
+    asks = sym (asked_of-append (before_last (own_count y) y.loader.events) (own_events y)) ∙ ap asked_of (before_last-last (own_count y) y.loader.events)
+
+    logs : logs_before ++ own_log y ≡ log_of y.loader.events
+    logs = sym (log_of-append (before_last (own_count y) y.loader.events) (own_events y)) ∙ ap log_of (before_last-last (own_count y) y.loader.events)
+
+    open_now : SomeOutstanding (own_asked y) (own_log y)
+    open_now = one_open (own_asked y) (own_log y) p.live.kept.own.asking.once (omega (arith, p.live.kept.own.asked_counted, p.live.kept.own.taken_counted, p.open_yet))
+
+    long : length (own_asked y) ≤ length (asked_of y.loader.events) - length asks_before
+    long = let n = ap length asks in omega (arith, n, length-append asks_before (own_asked y))
+
+    earlier_same : before_last (own_count y) y.loader.events ≡ before_last (own_count x) x.loader.events
+    earlier_same = before_after x y k g
+
+    behind : length (asked_of (before_last (own_count x) x.loader.events)) ≡ length (log_of (before_last (own_count x) x.loader.events))
+        → length (log_of y.loader.events) < length (asked_of y.loader.events)
+    behind even =
+        let a : length asks_before ≡ length (asked_of (before_last (own_count x) x.loader.events)) = ap (λ (l : List Event). length (asked_of l)) earlier_same in
+        let b : length logs_before ≡ length (log_of (before_last (own_count x) x.loader.events)) = ap (λ (l : List Event). length (log_of l)) earlier_same in
+        let m : length (asks_before ++ own_asked y) ≡ length (asked_of y.loader.events) = ap length asks in
+        let n : length (logs_before ++ own_log y) ≡ length (log_of y.loader.events) = ap length logs in
+        omega (
+          arith,
+          even,
+          a,
+          b,
+          m,
+          n,
+          length-append asks_before (own_asked y),
+          length-append logs_before (own_log y),
+          p.live.kept.own.asked_counted,
+          p.live.kept.own.taken_counted,
+          p.open_yet,
+        )
+
+pub result_unasked : IsFunctional Analysed → {L : Type 0} (l m : L) (x y : At) (f g1 : Bool) (s : Specifier)
+    → IsUnasked Analysed x y s → IsUnawaited Analysed 1 (seen_of l x f) (seen_of m y g1) s
+result_unasked once l m x y f g1 s u = record {
+  before = log_of u.before;
+  answer = u.answer;
+  last = ap log_of u.last ∙ log_of-answer u.before s u.answer;
+  gained = (log_of u.goes_on.0, ap log_of u.goes_on.1 ∙ log_of-append (own_events x) u.goes_on.0);
+  orderly = u.orderly;
+  outstanding = u.outstanding;
+  settled = u.settled;
+  unawaited = u.unawaited once;
+}
+
+-- of a loader that answers open requests alone no answer is unasked, where none was open before
+pub fairly : (x y : At) (s : Specifier) → IsKeptAt Analysed x → IsKeptAt Analysed y → GoesOnAt x y → IsUnasked Analysed x y s → x.loader.fair ≡ true
+    → IsSettled (before_last (own_count x) x.loader.events) → ⊥
+fairly x y s kx ky g u fair none_open =
+    u.settled (subst (λ (l : List Specifier). IsOutstanding l (log_of u.before) s) (sym asks)
+    (is_outstanding u.before s (subst (IsDistinct bytes_eq) asks ky.own.asking.once)
+    (omega (arith, more, le, length_requests, length_answers))))
+  where
+    first : List Event
+    first = before_last (own_count y) y.loader.events
+
+    asks : own_asked y ≡ asked_of u.before
+    asks = ap asked_of u.last ∙ asked_of-answer u.before s u.answer
+
+    more : answers (first ++ u.before) s < requests (first ++ u.before) s
+    more = u.fair fair
+
+    le : requests first s ≤ answers first s
+    le = subst (λ (l : List Event). requests l s ≤ answers l s) (sym (before_after x y kx g)) (none_open s)
+
+    length_requests : requests (first ++ u.before) s ≡ requests first s + requests u.before s
+    length_requests = ap (times s) (asked_of-append first u.before) ∙ times-append s (asked_of first) (asked_of u.before)
+
+    length_answers : answers (first ++ u.before) s ≡ answers first s + answers u.before s
+    length_answers = ap (λ (l : Log). times s (keys_of l)) (log_of-append first u.before)
+        ∙ ap (times s) (map-append (λ (e : Specifier × LoadAnswer). e.0) (log_of first) (log_of u.before))
+        ∙ times-append s (keys_of (log_of first)) (keys_of (log_of u.before))
+
+-- as `poll` says it
+pub result_fair : {L A : Type 0} (l : L) (x y : At) (f : Bool) (url : Parts) → IsKeptAt Analysed x → IsKeptAt Analysed y → GoesOnAt x y
+    → IsUnasked Analysed x y (text_of url) → IsFairly {A = A} x.loader (seen_of l x f) (Err (error.UnaskedAnswer url))
+result_fair l x y f url kx ky g u = λ fair none_open s same. fairly x y (text_of url) kx ky g u fair none_open
 
 -- more than are reached aren't reached
 pub too_many_none : (meaning : Meaning) (starts0 : List Specifier) (log : Log) (limit seen : ℕ)
@@ -215,71 +338,54 @@ inside_new meaning x a t b r d = record {
     behind = omega arith;
     counted = rw (d, r) (omega arith);
     room = rw r (omega arith);
-    building = record {
+    building = subst (λ (l : List Event). IsBuilding meaning (starts_at x) no_one (asked_of l) (log_of l) (slots_at x) (todo_at x)) (sym nothing) (record {
       sound = λ u y h. absurd (let n = none u in cc);
       done = λ u e h. absurd (let n = none u in cc);
       closed = λ u w e h. absurd (let n = none u in cc);
-      waits = λ u out h. absurd (let n = none u in cc);
+      outstanding = λ u out h. absurd (let n = none u in cc);
       queued = λ u out h. absurd (let n = none u in cc);
       listed = λ u h. absurd (let n = ap (λ (l : List Parts). has (texts l) u) d in cc);
       holds = λ u h. absurd cc;
       todo_once = rw d tt;
-      asked_slot = λ u h. absurd (let n = ap (λ (l : List Specifier). has l u) none_asked in cc);
-      answered = λ u c h. absurd (let n = ap (λ (l : Log). answer_to l u) none_taken in cc);
-      orderly = rw none_taken tt;
-    };
+      asked_slot = λ u h. absurd cc;
+      answered = λ u c h. absurd cc;
+      orderly = tt;
+    });
+    timely = subst IsTimely (sym nothing) tt;
     rooted = λ e. absurd cc;
   };
 }
   where
     kept : IsKeptAt meaning x
-    kept = rw (a, t) (kept_new meaning (starts_at x) x.asked x.log x.told)
+    kept = rw (a, t) (kept_new meaning (starts_at x) x.loader.events x.loader.told)
 
     none : (u : Specifier) → slots_at x u ≡ None
     none u = ap (λ (es : List (Parts × Slot)). value_at es u) r
 
-    none_asked : own_asked x ≡ []
-    none_asked = rw a (gained-zero x.asked)
-
-    none_taken : own_log x ≡ []
-    none_taken = rw t (gained-zero x.log)
+    nothing : own_events x ≡ []
+    nothing = ap (λ (n : ℕ). last_of n x.loader.events) (omega (arith, a, t)) ∙ last_of-zero x.loader.events
 
 -- ---- history
 
--- what stood before what a list gained stays
-earlier_adds : {A : Type 0} (xs ys : List A) (n m : ℕ) (a : Adds xs ys n m) → n ≤ length xs → earlier m ys ≡ earlier n xs
-earlier_adds xs ys n m a fits = rw (a.is, a.counted)
-    (ap (λ k. take k (xs ++ a.more)) (count (length-append xs a.more)) ∙ take-append-le (length xs - n) xs a.more (omega arith))
-  where
-    count : length (xs ++ a.more) ≡ length xs + length a.more → length (xs ++ a.more) - (n + length a.more) ≡ length xs - n
-    count h = omega arith
-
-pub result_history : {L : Type 0} (x y : At) (old new : Building L) → IsBuildingOf x old → IsBuildingOf y new
-    → GoesOnAt x y → IsKeptAt Analysed x → IsKeptAt Analysed y → HasHistory old new
-result_history x y old new of by g k l = record {
-  roots = by.roots ∙ g.roots ∙ sym of.roots;
-  limit = by.limit ∙ g.limit ∙ sym of.limit;
-  asked_before = by.asked_before ∙ earlier_adds x.asked y.asked x.progress.asked y.progress.asked g.asked k.asked_fits ∙ sym of.asked_before;
-  log_before = by.log_before ∙ earlier_adds x.log y.log x.progress.taken y.progress.taken g.log k.taken_fits ∙ sym of.log_before;
-  asked = (
-    g.asked.more,
-    by.asked ∙ gained_adds x.asked y.asked x.progress.asked y.progress.asked g.asked k.asked_fits
-        ∙ ap (λ w. w ++ g.asked.more) (sym of.asked),
-  );
-  log = (
-    g.log.more,
-    by.log ∙ gained_adds x.log y.log x.progress.taken y.progress.taken g.log k.taken_fits
-        ∙ ap (λ w. w ++ g.log.more) (sym of.log),
-  );
-  pending = rw (of.pending, by.pending) g.pending;
-  patience = rw (of.patience, by.patience) g.patience;
-  answers = rw (by.log, by.asked) (omega (arith, l.behind, length-gained y.progress.asked y.asked l.asked_fits, length-gained y.progress.taken y.log l.taken_fits));
+pub result_history : {L : Type 0} (l m : L) (x y : At) (f g1 : Bool) → GoesOnAt x y → IsKeptAt Analysed x → IsKeptAt Analysed y
+    → HasHistory (seen_of l x f) (seen_of m y g1)
+result_history l m x y f g1 g k j = record {
+  roots = g.roots;
+  limit = g.limit;
+  events_before = before_after x y k g;
+  events = (g.events.more, own_after x y k g);
+  asked_before = ap asked_of (before_after x y k g);
+  log_before = ap log_of (before_after x y k g);
+  asked = (asked_of g.events.more, ap asked_of (own_after x y k g) ∙ asked_of-append (own_events x) g.events.more);
+  log = (log_of g.events.more, ap log_of (own_after x y k g) ∙ log_of-append (own_events x) g.events.more);
+  pending = g.pending;
+  patience = g.patience;
+  answers = omega (arith, j.own.behind, j.own.asked_counted, j.own.taken_counted);
 }
 
-pub result_too_many : {L : Type 0} (x : At) (old : Building L) (log : Log) (seen : ℕ) → IsBuildingOf x old
-    → IsTooMany Analysed (starts_at x) log x.progress.reaching.limit seen → ReachesAtMost Analysed (starts old) (answer_to log) old.limit → ⊥
-result_too_many x old log seen of t r =
-    too_many_none Analysed (starts_at x) log x.progress.reaching.limit seen t (rw (← of.limit, ← ap texts of.roots) r)
+pub result_too_many : (x : At) (log : Log) (seen : ℕ)
+    → IsTooMany Analysed (starts_at x) log x.progress.reaching.limit seen → ReachesAtMost Analysed (starts_at x) (answer_to log) x.progress.reaching.limit → ⊥
+result_too_many x log seen t r = too_many_none Analysed (starts_at x) log x.progress.reaching.limit seen t r
 
 -- one unasked answer is another only for the same specifier
 pub unasked_same : {A : Type 0} (s t : Parts)

@@ -1,22 +1,26 @@
 -- A graph under construction, and what `poll` answers of it.
-use Rattle.std.specs.Prelude.{◌≡◌, ◌⊎◌, ℕ, ◌+◌, ◌-◌, ◌≤◌, Bool, true, false, List, [], ◌∷◌, ◌++◌, length, take, drop, bytes_eq, Option, Some, None, IsSome, IsOkUnless, Result}
+use Rattle.std.specs.Prelude.{◌≡◌, ◌⊎◌, ℕ, ◌+◌, ◌-◌, ◌≤◌, Bool, true, false, List, [], ◌∷◌, ◌++◌, length, take, drop, bytes_eq, Option, Some, None, IsSome, IsOkUnless, Result, Ok, Err}
 use Rattle.std.specs.List.{IsDistinct}
 use Rattle.url.specs.Parts.{Parts}
 use Rattle.graph_entry.specs.declared.answer.LoadAnswer.{LoadAnswer}
-use Rattle.graph_entry.specs.Specifier.{loadable}
+use Rattle.graph_entry.specs.Specifier.{text_of, loadable}
 use Rattle.graph_entry.specs.declared.kind.GraphKind.TheVariants.{All}
 use Rattle.deno_graph.specs.declared.options.BuildOptions.{BuildOptions}
 use Rattle.deno_graph.specs.declared.error.BuildError.{BuildError}
-use Rattle.deno_graph.specs.declared.error.BuildError.TheVariants.{OutOfMemory}
+use Rattle.deno_graph.specs.declared.error.BuildError.TheVariants.{NotYet, TooManyModules, UnaskedAnswer, Finished, OutOfMemory}
 use Rattle.deno_graph.specs.Reach.{Specifier, Log, Answers, Meaning, answer_to, has, IsReached, IsReach}
 use Rattle.deno_graph.specs.Graph.{texts}
-use Rattle.deno_graph.specs.Loader.{HasRisen, NeverRises, Falls}
+use Rattle.deno_graph.specs.Events.{Event, Answered, asked_of, log_of, IsOutstanding, IsTimely, IsSettled}
+use Rattle.deno_graph.specs.Loader.{LoaderData, HasRisen, NeverRises, Falls}
 
--- What contracts see of a builder. `asked` and `log` are what the loader's lists gained since the builder was made.
+-- What contracts see of a builder. `events` is what befell its loader since the builder was made; `asked` and `log` are
+-- the requests and the answers of it.
 pub record Building (L : Type 0) : Type 0 where
   pub loader : L
   pub roots : List Parts
   pub limit : ℕ
+  pub events : List Event
+  pub events_before : List Event
   pub asked : List Specifier
   pub log : Log
   pub asked_before : List Specifier
@@ -48,6 +52,11 @@ IsOrderlyAfter meaning starts before (x ∷ rest) =
 abbrev pub IsOrderly : Meaning → List Specifier → Log → Type 0
 IsOrderly meaning starts log = IsOrderlyAfter meaning starts [] log
 
+-- in time: each answer was awaited, and outstanding, when it came
+pub record IsInTime (meaning : Meaning) (starts : List Specifier) (events : List Event) : Type 0 where
+  pub orderly : IsOrderly meaning starts (log_of events)
+  pub timely : IsTimely events
+
 -- whatever is asked is reached and loadable, and is asked once
 pub record IsAsking (meaning : Meaning) (starts : List Specifier) (asked : List Specifier) (log : Log) : Type 0 where
   pub once : IsDistinct bytes_eq asked
@@ -62,10 +71,6 @@ pub record IsAskedFor (meaning : Meaning) (starts : List Specifier) (asked : Lis
 -- whatever is asked is answered
 abbrev pub EachAnswered : List Specifier → Log → Type 0
 EachAnswered asked log = (s : Specifier) → has asked s ≡ true → IsSome (answer_to log s)
-
--- the specifier is asked and has no answer yet
-abbrev pub IsOutstanding : List Specifier → Log → Specifier → Type 0
-IsOutstanding asked log s = (has asked s ≡ true) × (answer_to log s ≡ None)
 
 -- some specifier is outstanding
 abbrev pub SomeOutstanding : List Specifier → Log → Type 0
@@ -82,38 +87,45 @@ IsToldLog told log = (s : Specifier) (a b : LoadAnswer) → answer_to log s ≡ 
 -- ---- what a call does
 
 -- the last of a list, so many
-abbrev pub gained : {A : Type 0} → ℕ → List A → List A
-gained n xs = drop (length xs - n) xs
+abbrev pub last_of : {A : Type 0} → ℕ → List A → List A
+last_of n xs = drop (length xs - n) xs
 
 -- what stands before the last so many
-abbrev pub earlier : {A : Type 0} → ℕ → List A → List A
-earlier n xs = take (length xs - n) xs
+abbrev pub before_last : {A : Type 0} → ℕ → List A → List A
+before_last n xs = take (length xs - n) xs
 
--- what holds of a builder at all times: it counts its own requests and answers, and asks for what is reached
-pub record IsKept (meaning : Meaning) (starts : List Specifier) (asked : List Specifier) (log : Log) (told : Answers) (own_asked own_taken : ℕ) : Type 0 where
-  pub asked_fits : own_asked ≤ length asked
-  pub taken_fits : own_taken ≤ length log
+-- what holds of the builder's own events: requests and answers are counted, and what is reached is asked for
+pub record IsOwn (meaning : Meaning) (starts : List Specifier) (own : List Event) (told : Answers) (own_asked own_taken : ℕ) : Type 0 where
+  pub asked_counted : length (asked_of own) ≡ own_asked
+  pub taken_counted : length (log_of own) ≡ own_taken
   pub behind : own_taken ≤ own_asked + 1
-  pub asking : IsAsking meaning starts (gained own_asked asked) (gained own_taken log)
-  pub as_told : IsToldLog told (gained own_taken log)
+  pub asking : IsAsking meaning starts (asked_of own) (log_of own)
+  pub as_told : IsToldLog told (log_of own)
+
+-- what holds of a builder at all times: so many of its loader's last events are its own
+pub record IsKept (meaning : Meaning) (starts : List Specifier) (events : List Event) (told : Answers) (own_asked own_taken : ℕ) : Type 0 where
+  pub fits : own_asked + own_taken ≤ length events
+  pub own : IsOwn meaning starts (last_of (own_asked + own_taken) events) told own_asked own_taken
 
 -- what this crate builds today: every edge is followed, and nothing outside imports
 abbrev pub OnlyPlain : BuildOptions → Type 0
 OnlyPlain options = (options.kind ≡ All) × (options.skip_dynamic_deps ≡ false) × (options.imports ≡ [])
 
--- a new builder over a loader with these lists and numbers: nothing is asked yet, and the lists count from now on
-abbrev pub new_building : {L : Type 0} → List Parts → ℕ → L → List Specifier → Log → ℕ → ℕ × ℕ → Option ℕ → Building L
-new_building given_roots most given first_asked first_log count stands left = record {
+-- a new builder over a loader: nothing is asked yet, and the loader's events count from now on
+abbrev pub new_building : {L : Type 0} → List Parts → ℕ → L → LoaderData → Building L
+new_building given_roots most given seen = record {
   loader = given;
   roots = given_roots;
   limit = most;
+  events = [];
+  events_before = seen.events;
   asked = [];
   log = [];
-  asked_before = first_asked;
-  log_before = first_log;
-  pending = count;
-  standing = stands;
-  patience = left;
+  asked_before = asked_of seen.events;
+  log_before = log_of seen.events;
+  pending = seen.pending;
+  standing = seen.standing;
+  patience = seen.patience;
   finished = false;
 }
 
@@ -121,10 +133,12 @@ new_building given_roots most given first_asked first_log count stands left = re
 abbrev pub GoesOn : {A : Type 0} → List A → List A → Type 0
 GoesOn {A} old new = (more : List A) × (new ≡ old ++ more)
 
--- what every call keeps: both lists go on, the counts go one way, and all else stays
+-- what every call keeps: the lists go on, the counts go one way, and all else stays
 pub record HasHistory {L : Type 0} (old new : Building L) : Type 0 where
   pub roots : new.roots ≡ old.roots
   pub limit : new.limit ≡ old.limit
+  pub events_before : new.events_before ≡ old.events_before
+  pub events : GoesOn old.events new.events
   pub asked_before : new.asked_before ≡ old.asked_before
   pub log_before : new.log_before ≡ old.log_before
   pub asked : GoesOn old.asked new.asked
@@ -133,6 +147,17 @@ pub record HasHistory {L : Type 0} (old new : Building L) : Type 0 where
   pub patience : NeverRises old.patience new.patience
   pub answers : length new.log ≤ length new.asked + 1
 
+-- On every answer each answer of the loader came in time, but the last one of `UnaskedAnswer`; and of a builder that was
+-- finished nothing is said.
+abbrev pub CameInTime : {A : Type 0} → Meaning → List Specifier → List Event → Result A BuildError → Type 0
+CameInTime meaning starts events (Ok graph) = IsInTime meaning starts events
+CameInTime meaning starts events (Err NotYet) = IsInTime meaning starts events
+CameInTime meaning starts events (Err (TooManyModules seen)) = IsInTime meaning starts events
+CameInTime meaning starts events (Err (UnaskedAnswer url)) =
+    (before : List Event) × (answer : LoadAnswer) × (events ≡ before ++ Answered (text_of url) answer ∷ []) × IsInTime meaning starts before
+CameInTime meaning starts events (Err Finished) = Unit {0}
+CameInTime meaning starts events (Err OutOfMemory) = IsInTime meaning starts events
+
 -- ---- the causes of the errors
 
 -- why the graph isn't there yet
@@ -140,7 +165,7 @@ pub record IsNotYet (meaning : Meaning) {L : Type 0} (old new : Building L) : Ty
   pub orderly : IsOrderly meaning (starts old) new.log
   pub asked : IsAskedFor meaning (starts old) new.asked new.log
   pub within : ReachesAtMost meaning (starts old) (answer_to new.log) old.limit
-  pub waits : SomeOutstanding new.asked new.log
+  pub outstanding : SomeOutstanding new.asked new.log
   pub counted : HasRisen old.pending new.pending
   -- the last `Pending` came after the last answer
   pub stands : new.standing.1 ≡ length new.log_before + length new.log
@@ -161,7 +186,9 @@ pub record IsUnawaited (meaning : Meaning) (batch : ℕ) {L : Type 0} (old new :
   pub last : new.log ≡ before ++ (s, answer) ∷ []
   pub gained : GoesOn old.log before
   pub orderly : IsOrderly meaning (starts old) before
-  pub waits : SomeOutstanding new.asked before
+  pub outstanding : SomeOutstanding new.asked before
+  -- but not this specifier
+  pub settled : IsOutstanding new.asked before s → ⊥
   pub unawaited : IsUnawaitedOver meaning batch (starts old) before s
 
 -- counting stopped at the first reached specifier above the limit
@@ -171,6 +198,10 @@ pub record IsTooMany (meaning : Meaning) (starts : List Specifier) (log : Log) (
   pub counted : length members ≡ seen
   pub once : IsDistinct bytes_eq members
   pub reached : (s : Specifier) → has members s ≡ true → IsReached meaning starts (answer_to log) s
+
+-- no answer is unasked of a loader that tells that it answers open requests alone, where none was open when the builder was made
+abbrev pub IsFairly : {L A : Type 0} → LoaderData → Building L → Result A BuildError → Type 0
+IsFairly seen old result = seen.fair ≡ true → IsSettled old.events_before → (s : Parts) → result ≡ Err (UnaskedAnswer s) → ⊥
 
 -- ---- and when there is none
 

@@ -8,7 +8,8 @@ use Rattle.deno_graph.specs.declared.slot.Slot.{Slot}
 use Rattle.deno_graph.specs.declared.slot.Slot.TheVariants.{Queued, Asked, Done}
 use Rattle.deno_graph.specs.Reach.{Specifier, Log, Meaning, answer_to, has, IsEntry, IsReached}
 use Rattle.deno_graph.specs.Slots.{Slots}
-use Rattle.deno_graph.specs.Builder.{IsOutstanding, IsOrderly}
+use Rattle.deno_graph.specs.Events.{IsOutstanding}
+use Rattle.deno_graph.specs.Builder.{IsOrderly}
 
 -- the slots say what was asked and answered, but for those in hand
 pub record IsBuilding (meaning : Meaning) (starts : List Specifier) (in_hand : Specifier → Bool)
@@ -16,7 +17,7 @@ pub record IsBuilding (meaning : Meaning) (starts : List Specifier) (in_hand : S
   pub sound : (t : Specifier) (x : Slot) → slots t ≡ Some x → IsReached meaning starts (answer_to log) t
   pub done : (t : Specifier) (e : Entry) → slots t ≡ Some (Done e) → IsEntry meaning (answer_to log) t e
   pub closed : (t u : Specifier) (e : Entry) → slots t ≡ Some (Done e) → has (targets e) u ≡ true → slots u ≡ None → ⊥
-  pub waits : (t : Specifier) → in_hand t ≡ false → slots t ≡ Some Asked → IsOutstanding asked log t
+  pub outstanding : (t : Specifier) → in_hand t ≡ false → slots t ≡ Some Asked → IsOutstanding asked log t
   pub queued : (t : Specifier) → in_hand t ≡ false → slots t ≡ Some Queued → (has todo t ≡ true) × (has asked t ≡ false)
   pub listed : (t : Specifier) → has todo t ≡ true → (slots t ≡ Some Queued) × (in_hand t ≡ false)
   pub holds : (t : Specifier) → in_hand t ≡ true → slots t ≡ None → ⊥

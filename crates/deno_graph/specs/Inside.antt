@@ -1,11 +1,32 @@
 -- What holds of a builder's inner part.
-use Rattle.std.specs.Prelude.{◌≡◌, Bool, false, List, map}
+use Rattle.std.specs.Prelude.{◌≡◌, Bool, false, List, map, Some}
 use Rattle.url.specs.Parts.{Parts}
 use Rattle.graph_entry.specs.declared.entry.Entry.{Entry}
 use Rattle.deno_graph.specs.declared.slot.Slot.{Slot}
-use Rattle.deno_graph.specs.declared.slot.Slot.TheVariants.{Done}
-use Rattle.deno_graph.specs.Reach.{Meaning}
-use Rattle.deno_graph.specs.Progress.{At, IsKeptAt, IsLive}
+use Rattle.deno_graph.specs.declared.slot.Slot.TheVariants.{Queued, Asked, Done}
+use Rattle.deno_graph.specs.Reach.{Specifier, Meaning}
+use Rattle.deno_graph.specs.ByText.{value_at}
+use Rattle.deno_graph.specs.Events.{asked_of, log_of}
+use Rattle.deno_graph.specs.Builder.{Building, before_last}
+use Rattle.deno_graph.specs.Progress.{At, IsKeptAt, IsLive, own_count, own_events}
+
+-- what contracts see of a builder
+abbrev pub seen_of : {L : Type 0} → L → At → Bool → Building L
+seen_of given x over = record {
+  loader = given;
+  roots = x.progress.roots;
+  limit = x.progress.reaching.limit;
+  events = own_events x;
+  events_before = before_last (own_count x) x.loader.events;
+  asked = asked_of (own_events x);
+  log = log_of (own_events x);
+  asked_before = asked_of (before_last (own_count x) x.loader.events);
+  log_before = log_of (before_last (own_count x) x.loader.events);
+  pending = x.loader.pending;
+  standing = x.loader.standing;
+  patience = x.loader.patience;
+  finished = over;
+}
 
 -- until it is finished, the builder can go on
 pub record IsInside (meaning : Meaning) (x : At) (finished : Bool) : Type 0 where
@@ -15,3 +36,12 @@ pub record IsInside (meaning : Meaning) (x : At) (finished : Bool) : Type 0 wher
 -- slots that all have an entry
 abbrev pub all_done : List (Parts × Entry) → List (Parts × Slot)
 all_done entries = map (λ e. (e.0, Done e.1)) entries
+
+-- each slot has an entry
+pub record AreDone (slots : List (Parts × Slot)) : Type 0 where
+  pub entries : List (Parts × Entry)
+  pub is : slots ≡ all_done entries
+
+-- no slot of a specifier waits for its entry
+abbrev pub HaveEntries : List (Parts × Slot) → Type 0
+HaveEntries slots = (s : Specifier) (x : Slot) → value_at slots s ≡ Some x → (x ≡ Queued → ⊥) × (x ≡ Asked → ⊥)

@@ -2,6 +2,7 @@
 pub mod Reach
 pub mod Graph
 pub mod Entries
+pub mod Events
 pub mod Loader
 pub mod Memory
 pub mod Builder

@@ -15,42 +15,36 @@ use Rattle.deno_graph.specs.declared.reaching.Reaching.{Reaching}
 use Rattle.deno_graph.specs.declared.progress.Progress.{Progress}
 use Rattle.deno_graph.specs.Reach.{Specifier, Log, Answers, Meaning, has, IsFunctional}
 use Rattle.deno_graph.specs.Graph.{texts}
-use Rattle.deno_graph.specs.Loader.{HasRisen, NeverRises, Falls}
-use Rattle.deno_graph.specs.Builder.{gained, IsKept, IsOrderly, IsTooMany, IsUnawaitedOver, SomeOutstanding}
+use Rattle.deno_graph.specs.Events.{Event, Requested, Answered, asked_of, log_of, IsOutstanding, IsTimely, requests, answers}
+use Rattle.deno_graph.specs.Loader.{LoaderData, HasRisen, NeverRises, Falls}
+use Rattle.deno_graph.specs.Builder.{last_of, before_last, IsKept, IsOrderly, IsTooMany, IsUnawaitedOver, SomeOutstanding}
 use Rattle.deno_graph.specs.Slots.{Slots, IsOverfull}
 use Rattle.deno_graph.specs.Building.{IsBuilding, no_one, this_one}
 use Rattle.deno_graph.specs.Reaching.{slots_of, IsFilled}
 
 -- a loader's data, and how far the builder is
 pub record At : Type 0 where
-  pub asked : List Specifier
-  pub log : Log
-  pub told : Answers
-  pub pending : ℕ
-  pub standing : ℕ × ℕ
-  pub patience : Option ℕ
+  pub loader : LoaderData
   pub progress : Progress
 
-abbrev pub at : List Specifier → Log → Answers → ℕ → ℕ × ℕ → Option ℕ → Progress → At
-at asked0 log0 told0 pending0 standing0 patience0 progress0 = record {
-  asked = asked0;
-  log = log0;
-  told = told0;
-  pending = pending0;
-  standing = standing0;
-  patience = patience0;
-  progress = progress0;
-}
+abbrev pub at : LoaderData → Progress → At
+at loader0 progress0 = record { loader = loader0; progress = progress0 }
 
--- the roots, and what this builder asked and was answered
+-- the roots, and what befell the loader since this builder was made: what it asked and was answered
 abbrev pub starts_at : At → List Specifier
 starts_at x = texts x.progress.roots
 
+abbrev pub own_count : At → ℕ
+own_count x = x.progress.asked + x.progress.taken
+
+abbrev pub own_events : At → List Event
+own_events x = last_of (own_count x) x.loader.events
+
 abbrev pub own_asked : At → List Specifier
-own_asked x = gained x.progress.asked x.asked
+own_asked x = asked_of (own_events x)
 
 abbrev pub own_log : At → Log
-own_log x = gained x.progress.taken x.log
+own_log x = log_of (own_events x)
 
 -- the slots and the worklist
 abbrev pub slots_at : At → Slots
@@ -61,7 +55,7 @@ todo_at x = texts x.progress.reaching.todo
 
 -- what holds at all times
 abbrev pub IsKeptAt : Meaning → At → Type 0
-IsKeptAt meaning x = IsKept meaning (starts_at x) x.asked x.log x.told x.progress.asked x.progress.taken
+IsKeptAt meaning x = IsKept meaning (starts_at x) x.loader.events x.loader.told x.progress.asked x.progress.taken
 
 -- the roots are reached once the builder has begun
 abbrev pub IsRooted : At → Type 0
@@ -74,6 +68,7 @@ pub record IsLive (meaning : Meaning) (x : At) : Type 0 where
   pub counted : x.progress.asked + length x.progress.reaching.todo ≤ length x.progress.reaching.reached.entries
   pub room : length x.progress.reaching.reached.entries ≤ x.progress.reaching.limit
   pub building : IsBuilding meaning (starts_at x) no_one (own_asked x) (own_log x) (slots_at x) (todo_at x)
+  pub timely : IsTimely (own_events x)
   pub rooted : IsRooted x
 
 -- the same with one specifier in hand, which was taken from the worklist
@@ -85,32 +80,34 @@ pub record IsInHand (meaning : Meaning) (x : At) (s : Specifier) : Type 0 where
   pub building : IsBuilding meaning (starts_at x) (this_one s) (own_asked x) (own_log x) (slots_at x) (todo_at x)
   pub queued : slots_at x s ≡ Some Queued
   pub fresh : has (own_asked x) s ≡ false
+  pub timely : IsTimely (own_events x)
   pub rooted : IsRooted x
 
--- a list gained something at its end, and it is counted
-pub record Adds {A : Type 0} (old new : List A) (n m : ℕ) : Type 0 where
-  pub more : List A
+-- the events go on, and requests and answers are counted
+pub record GoOn (old new : List Event) (asked taken asked_now taken_now : ℕ) : Type 0 where
+  pub more : List Event
   pub is : new ≡ old ++ more
-  pub counted : m ≡ n + length more
+  pub asked_counted : asked_now ≡ asked + length (asked_of more)
+  pub taken_counted : taken_now ≡ taken + length (log_of more)
 
 -- what every step keeps
 pub record GoesOnAt (old new : At) : Type 0 where
   pub roots : new.progress.roots ≡ old.progress.roots
   pub limit : new.progress.reaching.limit ≡ old.progress.reaching.limit
-  pub asked : Adds old.asked new.asked old.progress.asked new.progress.asked
-  pub log : Adds old.log new.log old.progress.taken new.progress.taken
-  pub told : new.told ≡ old.told
-  pub pending : old.pending ≤ new.pending
-  pub patience : NeverRises old.patience new.patience
+  pub events : GoOn old.loader.events new.loader.events old.progress.asked old.progress.taken new.progress.asked new.progress.taken
+  pub told : new.loader.told ≡ old.loader.told
+  pub pending : old.loader.pending ≤ new.loader.pending
+  pub patience : NeverRises old.loader.patience new.loader.patience
+  pub fair : old.loader.fair ≡ true → new.loader.fair ≡ true
 
 -- the loader was only asked
 pub record OnlyAsks (old new : At) : Type 0 where
   pub goes : GoesOnAt old new
-  pub log : new.log ≡ old.log
+  pub none : log_of goes.events.more ≡ []
   pub taken : new.progress.taken ≡ old.progress.taken
   pub begun : new.progress.begun ≡ old.progress.begun
-  pub pending : new.pending ≡ old.pending
-  pub standing : new.standing ≡ old.standing
+  pub pending : new.loader.pending ≡ old.loader.pending
+  pub standing : new.loader.standing ≡ old.loader.standing
 
 -- the next specifier of the worklist is dealt with, which makes the work less
 pub record IsOneOn (meaning : Meaning) (old new : At) : Type 0 where
@@ -164,7 +161,7 @@ Takes url answer old new (Err (error.TooManyModules seen)) = (slots_of old (text
     × ((entry : Entry) × Analysed (text_of url) (Some answer) entry × IsOverfull (targets entry) (slots_of old) old.limit seen)
 Takes url answer old new (Err (error.UnaskedAnswer other)) =
     (other ≡ url) × (slots_of old (text_of url) ≡ Some Asked → ⊥)
-Takes url answer old new (Err error.OutOfMemory) = Unit {0}
+Takes url answer old new (Err error.OutOfMemory) = slots_of old (text_of url) ≡ Some Asked
 Takes url answer old new (Err error.NotYet) = ⊥
 Takes url answer old new (Err error.Finished) = ⊥
 
@@ -174,20 +171,24 @@ pub record IsPaused (meaning : Meaning) (old new : At) : Type 0 where
   pub asked_all : new.progress.reaching.todo ≡ []
   pub begun : new.progress.begun ≡ true
   pub open_yet : new.progress.taken < new.progress.asked
-  pub counted : HasRisen old.pending new.pending
-  pub standing : new.standing ≡ (length new.asked, length new.log)
-  pub patience : length new.log < length new.asked → Falls old.patience new.patience
+  pub counted : HasRisen old.loader.pending new.loader.pending
+  pub standing : new.loader.standing ≡ (length (asked_of new.loader.events), length (log_of new.loader.events))
+  pub patience : length (log_of new.loader.events) < length (asked_of new.loader.events) → Falls old.loader.patience new.loader.patience
 
 -- the last answer wasn't awaited
 pub record IsUnasked (meaning : Meaning) (old new : At) (s : Specifier) : Type 0 where
-  pub before : Log
+  pub before : List Event
   pub answer : LoadAnswer
-  pub last : own_log new ≡ before ++ (s, answer) ∷ []
-  pub earlier : (more : Log) × (before ≡ own_log old ++ more)
-  pub orderly : IsOrderly meaning (starts_at old) before
-  pub waits : SomeOutstanding (own_asked new) before
-  pub unawaited : IsFunctional meaning → IsUnawaitedOver meaning 1 (starts_at old) before s
-  pub pending : new.pending ≡ old.pending
+  pub last : own_events new ≡ before ++ Answered s answer ∷ []
+  pub goes_on : (more : List Event) × (before ≡ own_events old ++ more)
+  pub orderly : IsOrderly meaning (starts_at old) (log_of before)
+  pub outstanding : SomeOutstanding (own_asked new) (log_of before)
+  pub settled : IsOutstanding (own_asked new) (log_of before) s → ⊥
+  pub unawaited : IsFunctional meaning → IsUnawaitedOver meaning 1 (starts_at old) (log_of before) s
+  pub pending : new.loader.pending ≡ old.loader.pending
+  -- and a loader that answers open requests alone had one
+  pub fair : old.loader.fair ≡ true
+      → answers (before_last (own_count new) new.loader.events ++ before) s < requests (before_last (own_count new) new.loader.events ++ before) s
 
 -- all is asked for and answered
 pub record IsThrough (meaning : Meaning) (old new : At) : Type 0 where
@@ -195,7 +196,7 @@ pub record IsThrough (meaning : Meaning) (old new : At) : Type 0 where
   pub asked_all : new.progress.reaching.todo ≡ []
   pub begun : new.progress.begun ≡ true
   pub all_taken : new.progress.taken ≡ new.progress.asked
-  pub pending : new.pending ≡ old.pending
+  pub pending : new.loader.pending ≡ old.loader.pending
 
 -- why a run ends
 abbrev pub Runs : Meaning → At → At → Result (Unit {0}) BuildError → Type 0
@@ -210,7 +211,7 @@ Runs meaning old new (Err error.OutOfMemory) = Unit {0}
 -- one turn of a run: it is through, or it goes on with one answer more
 abbrev pub Turns : Meaning → At → At → Result Bool BuildError → Type 0
 Turns meaning old new (Ok true) = IsLive meaning new × (new.progress.begun ≡ true)
-    × (new.progress.taken ≡ old.progress.taken + 1) × (new.pending ≡ old.pending)
+    × (new.progress.taken ≡ old.progress.taken + 1) × (new.loader.pending ≡ old.loader.pending)
 Turns meaning old new (Ok false) = IsThrough meaning old new
 Turns meaning old new (Err error.NotYet) = IsPaused meaning old new
 Turns meaning old new (Err (error.TooManyModules seen)) =

@@ -5,7 +5,7 @@ ghost use Rattle.graph_entry.specs.Specifier.{text_of};
 ghost use Rattle.graph_entry.specs.Analysed.{Analysed};
 ghost use Rattle.deno_graph.specs.Reach.{answer_to};
 ghost use Rattle.deno_graph.specs.Graph.{IsGraph, EachEdgeCuts};
-ghost use Rattle.deno_graph.specs.Builder.{starts, new_building, IsOrderly, IsAsking, IsAskedFor, EachAnswered, IsToldLog, HasHistory, IsNotYet, IsUnawaited, IsTooMany, IsComplete, OnlyPlain};
+ghost use Rattle.deno_graph.specs.Builder.{starts, new_building, IsOrderly, IsAsking, IsAskedFor, EachAnswered, IsToldLog, HasHistory, IsNotYet, IsUnawaited, IsTooMany, IsComplete, IsFairly, CameInTime, OnlyPlain};
 
 use crate::error::BuildError;
 use crate::finish::finish;
@@ -37,28 +37,15 @@ struct Inner<L: Loader + Drop> {
 
 impl<L: Loader + Drop> Model for Inner<L> {
     ghost use Rattle.graph_entry.specs.Analysed.{Analysed};
-    ghost use Rattle.deno_graph.specs.Builder.{Building, gained, earlier};
+    ghost use Rattle.deno_graph.specs.Builder.{Building};
     ghost use Rattle.deno_graph.specs.Progress.{at};
-    ghost use Rattle.deno_graph.specs.Inside.{IsInside};
+    ghost use Rattle.deno_graph.specs.Inside.{IsInside, seen_of};
 
     ghost Value = { Building L };
 
-    ghost view = { λ b. record {
-      loader = b.loader;
-      roots = b.progress.roots;
-      limit = b.progress.reaching.limit;
-      asked = gained b.progress.asked (L.asked b.loader);
-      log = gained b.progress.taken (L.log b.loader);
-      asked_before = earlier b.progress.asked (L.asked b.loader);
-      log_before = earlier b.progress.taken (L.log b.loader);
-      pending = L.pending b.loader;
-      standing = L.standing b.loader;
-      patience = L.patience b.loader;
-      finished = b.finished;
-    } };
+    ghost view = { λ b. seen_of b.loader (at (L.seen b.loader) b.progress) b.finished };
 
-    ghost invariant = { λ b. IsInside Analysed (at (L.asked b.loader) (L.log b.loader) (L.told b.loader)
-        (L.pending b.loader) (L.standing b.loader) (L.patience b.loader) b.progress) b.finished };
+    ghost invariant = { λ b. IsInside Analysed (at (L.seen b.loader) b.progress) b.finished };
 }
 
 impl<L: Loader + Drop> GraphBuild<L> {
@@ -70,8 +57,7 @@ impl<L: Loader + Drop> GraphBuild<L> {
         loader: L,
     ) -> Result<GraphBuild<L>, AllocError>
         requires { OnlyPlain options }
-        ensures { IfOk result (λ b. b.inner ≡ new_building roots options.limit loader (L.asked loader)
-            (L.log loader) (L.pending loader) (L.standing loader) (L.patience loader)) }
+        ensures { IfOk result (λ b. b.inner ≡ new_building roots options.limit loader (L.seen loader)) }
     {
         let BuildOptions {
             kind: _,
@@ -122,10 +108,15 @@ impl<L: Loader + Drop> GraphBuild<L> {
         ensures finished { (result ≡ Err BuildError.Finished) ↔ (self.old.inner.finished ≡ true) }
         // And when there is one, unless memory runs out.
         ensures complete { IsComplete Analysed self.old.inner self.new.inner result }
+        // No answer is unasked of a loader that answers open requests alone.
+        ensures fair { IsFairly (L.seen self.old.inner.loader) self.old.inner result }
         // On every answer.
+        ensures in_time { CameInTime Analysed (starts self.old.inner) self.new.inner.events result }
         ensures asking { IsAsking Analysed (starts self.old.inner) self.new.inner.asked self.new.inner.log }
-        ensures told { IsToldLog (L.told self.new.inner.loader) self.new.inner.log }
-        ensures telling { L.told self.new.inner.loader ≡ L.told self.old.inner.loader }
+        ensures told { IsToldLog ((L.seen self.new.inner.loader).told) self.new.inner.log }
+        ensures telling { (L.seen self.new.inner.loader).told ≡ (L.seen self.old.inner.loader).told }
+        ensures stays_fair { (L.seen self.old.inner.loader).fair ≡ true →
+            (L.seen self.new.inner.loader).fair ≡ true }
         ensures history { HasHistory self.old.inner self.new.inner }
         ensures idle { self.old.inner.finished ≡ true → self.new ≡ self.old }
         ensures later { (self.new.inner.finished ≡ false) ↔ (result ≡ Err BuildError.NotYet) }
@@ -176,9 +167,12 @@ impl<L: Loader + Drop> Inner<L> {
             IsTooMany Analysed (starts self.old) self.new.log self.old.limit seen }
         ensures finished { (result ≡ Err BuildError.Finished) ↔ (self.old.finished ≡ true) }
         ensures complete { IsComplete Analysed self.old self.new result }
+        ensures fair { IsFairly (L.seen self.old.loader) self.old result }
+        ensures in_time { CameInTime Analysed (starts self.old) self.new.events result }
         ensures asking { IsAsking Analysed (starts self.old) self.new.asked self.new.log }
-        ensures told { IsToldLog (L.told self.new.loader) self.new.log }
-        ensures telling { L.told self.new.loader ≡ L.told self.old.loader }
+        ensures told { IsToldLog ((L.seen self.new.loader).told) self.new.log }
+        ensures telling { (L.seen self.new.loader).told ≡ (L.seen self.old.loader).told }
+        ensures stays_fair { (L.seen self.old.loader).fair ≡ true → (L.seen self.new.loader).fair ≡ true }
         ensures history { HasHistory self.old self.new }
         ensures idle { self.old.finished ≡ true → self.new ≡ self.old }
         ensures later { (self.new.finished ≡ false) ↔ (result ≡ Err BuildError.NotYet) }
@@ -200,12 +194,15 @@ impl<L: Loader + Drop> Inner<L> {
             }
             Err(BuildError::NotYet) => {
                 self.finished = false;
+                // The proof learns from it that the map is in order.
                 let _count = self.progress.reaching.reached.len();
                 Err(BuildError::NotYet)
             }
             Err(BuildError::TooManyModules { seen }) => Err(BuildError::TooManyModules { seen }),
             Err(BuildError::UnaskedAnswer(specifier)) => Err(BuildError::UnaskedAnswer(specifier)),
-            Err(BuildError::OutOfMemory | BuildError::Finished) => Err(BuildError::OutOfMemory),
+            Err(BuildError::OutOfMemory) => Err(BuildError::OutOfMemory),
+            // A run of a builder that goes on never says so.
+            Err(BuildError::Finished) => unreachable!(),
         }
     }
 }

@@ -6,16 +6,16 @@ use url::Url;
 #[derive(Debug, Drop, PartialEq, Eq, Error)]
 pub enum BuildError {
     /// The loader has nothing to give yet: poll again.
-    #[error("not all modules are loaded yet")]
+    #[error("NotYet")]
     NotYet,
     /// Counting stopped at `seen`, the first number above the limit.
-    #[error("too many modules: {seen} or more")]
+    #[error("TooManyModules")]
     TooManyModules { seen: usize },
     /// The loader answered for a specifier that was not awaited.
-    #[error("the loader answered for {0}, which it was not asked for or had answered before")]
+    #[error("UnaskedAnswer")]
     UnaskedAnswer(Url),
     /// An earlier poll gave the graph or an error other than `NotYet`.
-    #[error("the graph is finished")]
+    #[error("Finished")]
     Finished,
     #[error("out of memory")]
     OutOfMemory,

@@ -5,7 +5,7 @@ ghost use Rattle.std.specs.List.Sorted.{IsStrictlySortedBy};
 ghost use Rattle.std.specs.Ordering.{nat_cmp};
 ghost use Rattle.std.specs.Cmp.Lexicographic.{slice_cmp};
 ghost use Rattle.url.specs.Parts.{serialize};
-ghost use Rattle.deno_graph.specs.Inside.{all_done};
+ghost use Rattle.deno_graph.specs.Inside.{all_done, AreDone, HaveEntries};
 
 use crate::graph::ModuleGraph;
 use crate::slot::Slot;
@@ -22,12 +22,14 @@ pub fn finish(
     roots: &[Url],
     reached: &mut BTreeMap<Url, Slot>,
 ) -> Result<ModuleGraph, AllocError>
+    requires { HaveEntries reached.old.entries }
     ensures roots { IfOk result (λ g. g.roots ≡ roots.now) }
     ensures entries { IfOk result (λ g. reached.old.entries ≡ all_done g.entries) }
     ensures ordered { OnOk result (IsStrictlySortedBy
         (λ a b. slice_cmp nat_cmp (serialize a) (serialize b)) (keys_of reached.old.entries)) }
 {
     let roots = copies(alloc, roots)?;
+    // The proof learns from it that the map is in order.
     let _count = reached.len();
     let taken = mem::replace(reached, BTreeMap::new(alloc));
     let entries = entries_of(alloc, taken)?;
@@ -39,14 +41,14 @@ fn entries_of(
     alloc: Global,
     reached: BTreeMap<Url, Slot>,
 ) -> Result<Items<(Url, Entry)>, AllocError>
+    requires { AreDone reached.entries }
     ensures { IfOk result (λ entries. reached.entries ≡ all_done entries) }
 {
     let mut entries = Items::new(alloc);
     for (url, slot) in reached {
         match slot {
             Slot::Done(entry) => entries.push((url, entry))?,
-            // A run that is through leaves no slot open.
-            Slot::Queued | Slot::Asked => return Err(AllocError),
+            Slot::Queued | Slot::Asked => unreachable!(),
         }
     }
     Ok(entries)

@@ -6,7 +6,7 @@
 //!   modules in memory (`specs/Memory.antt`).
 //! - `ModuleGraph::{roots, entry, entries}`: look into the graph.
 //!
-//! Want of memory is the one answer that no clause ties to a cause.
+//! `OutOfMemory` is the one answer that no clause ties to a cause.
 #![tactic(auto)]
 
 mod build;

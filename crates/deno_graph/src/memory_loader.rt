@@ -4,9 +4,8 @@ ghost use Rattle.std.specs.Option.{option_copied};
 ghost use Rattle.std.specs.List.{remove};
 ghost use Rattle.graph_entry.specs.Specifier.{text_of};
 ghost use Rattle.deno_graph.specs.ByText.{value_at};
-ghost use Rattle.deno_graph.specs.Graph.{texts};
-ghost use Rattle.deno_graph.specs.Loader.{log_after, standing_after, IsCounted, NeverRises, IsPatient, IsAsTold};
-ghost use Rattle.deno_graph.specs.Memory.{new_memory, module_answer, tells, text_log, is_pending, waits_for, settled, next_answered, is_dropped, named, IsTaken, IsStarted, IsPolled, IsIndex};
+ghost use Rattle.deno_graph.specs.Loader.{HasStarted, HasPolled};
+ghost use Rattle.deno_graph.specs.Memory.{new_memory, module_answer, data_of, settled, next_answered, is_dropped, named, IsTaken, IsStarted, IsPolled, IsIndex};
 
 use crate::by_text::{find, put};
 use crate::loader::{Loader, LoaderPoll};
@@ -38,6 +37,8 @@ pub struct MemoryLoader {
     arrival: Items<Arrival>,
     // How many items of the arrival list are used up.
     next: usize,
+    // Which came first: `true` for each request, `false` for each answer.
+    order: Vec<bool>,
     asked: Items<Url>,
     log: Items<(Url, LoadAnswer)>,
     waiting: VecDeque<Url>,
@@ -47,21 +48,25 @@ pub struct MemoryLoader {
 
 impl Model for MemoryLoader {
     ghost use Rattle.std.specs.Prelude.{drop};
-    ghost use Rattle.deno_graph.specs.Memory.{Memory, IsKeptMemory};
+    ghost use Rattle.std.specs.List.{list_any};
+    ghost use Rattle.deno_graph.specs.Memory.{Memory, IsKeptMemory, is_forced};
 
     ghost Value = { Memory };
 
     ghost view = { λ m. record {
       modules = m.modules;
       arrival = drop m.next m.arrival;
+      order = m.order.items;
       asked = m.asked;
       log = m.log;
       waiting = m.waiting.items;
       pending = m.pending;
       standing = m.standing;
+      forced = list_any is_forced m.arrival;
     } };
 
-    ghost invariant = { λ m. IsKeptMemory m.modules m.places.entries m.asked m.log m.waiting.items };
+    ghost invariant = { λ m. IsKeptMemory m.modules m.places.entries m.arrival m.order.items m.asked m.log
+        m.waiting.items };
 }
 
 impl MemoryLoader {
@@ -80,6 +85,7 @@ impl MemoryLoader {
             places,
             arrival,
             next: 0,
+            order: Vec::new(alloc),
             asked: Items::new(alloc),
             log: Items::new(alloc),
             waiting: VecDeque::new(alloc),
@@ -104,48 +110,25 @@ impl MemoryLoader {
 }
 
 impl Loader for MemoryLoader {
-    ghost asked = { λ m. texts m.asked };
-
-    ghost log = { λ m. text_log m.log };
-
-    ghost pending = { λ m. m.pending };
-
-    ghost standing = { λ m. m.standing };
-
-    ghost patience = { λ m. Some (count_by is_pending m.arrival) };
-
-    ghost told = { λ m. tells m.modules };
+    ghost seen = { data_of };
 
     fn start(&mut self, specifier: &Url) -> Result<(), AllocError>
-        ensures started { IsStarted self.old specifier.now result self.new }
-        ensures asked { texts self.new.asked ≡
-            (if is_ok result then texts self.old.asked ++ text_of specifier.now ∷ [] else texts self.old.asked) }
-        ensures log { text_log self.new.log ≡ text_log self.old.log }
-        ensures pending { self.new.pending ≡ self.old.pending }
-        ensures standing { self.new.standing ≡ self.old.standing }
-        ensures patience { NeverRises (Some (count_by is_pending self.old.arrival))
-            (Some (count_by is_pending self.new.arrival)) }
-        ensures told { tells self.new.modules ≡ tells self.old.modules }
+        ensures exact { IsStarted self.old specifier.now result self.new }
+        ensures started { HasStarted (text_of specifier.now) (data_of self.old) (data_of self.new) result }
     {
         let request = specifier.clone()?;
         let waiting = specifier.clone()?;
         self.waiting.reserve(1)?;
+        self.order.reserve(1)?;
         self.asked.push(request)?;
         self.waiting.push_back(waiting)?;
+        self.order.push(true)?;
         Ok(())
     }
 
     fn poll(&mut self) -> Result<LoaderPoll, AllocError>
-        ensures polled { IsPolled self.old result self.new }
-        ensures asked { texts self.new.asked ≡ texts self.old.asked }
-        ensures log { text_log self.new.log ≡ log_after (text_log self.old.log) result }
-        ensures pending { IsCounted self.old.pending self.new.pending result }
-        ensures standing { self.new.standing ≡
-            standing_after (texts self.old.asked) (text_log self.old.log) self.old.standing result }
-        ensures patience { IsPatient (texts self.old.asked) (text_log self.old.log)
-            (Some (count_by is_pending self.old.arrival)) (Some (count_by is_pending self.new.arrival)) result }
-        ensures told { tells self.new.modules ≡ tells self.old.modules }
-        ensures as_told { IsAsTold (tells self.old.modules) result }
+        ensures exact { IsPolled self.old result self.new }
+        ensures polled { HasPolled (data_of self.old) (data_of self.new) result }
     {
         let (answered, after) = turn(self.arrival.as_slice(), self.next, &self.waiting);
         let Some(url) = answered else {
@@ -158,7 +141,9 @@ impl Loader for MemoryLoader {
         let url = url.clone()?;
         let answer = answer_for(self.modules.as_slice(), &self.places, &url)?;
         let kept = answer.copy()?;
+        self.order.reserve(1)?;
         self.log.push((logged, kept))?;
+        self.order.push(false)?;
         settle(&mut self.waiting, &url);
         self.next = after;
         Ok(LoaderPoll::Answer(url, answer))

@@ -2,7 +2,9 @@
 ghost use Rattle.std.specs.Prelude.{◌≡◌, ◌+◌, ◌≤◌, ◌<◌, ℕ, true, []};
 ghost use Rattle.graph_entry.specs.Specifier.{text_of, loadable};
 ghost use Rattle.graph_entry.specs.Analysed.{Analysed};
-ghost use Rattle.deno_graph.specs.Progress.{at, IsKeptAt, IsLive, IsInHand, GoesOnAt, OnlyAsks, Begins, Deals, AsksNext, AsksAll, Turns, Runs};
+ghost use Rattle.deno_graph.specs.Graph.{texts};
+ghost use Rattle.deno_graph.specs.Builder.{CameInTime};
+ghost use Rattle.deno_graph.specs.Progress.{at, own_events, IsKeptAt, IsLive, IsInHand, GoesOnAt, OnlyAsks, Begins, Deals, AsksNext, AsksAll, Turns, Runs};
 
 use crate::error::BuildError;
 use crate::loader::{Loader, LoaderPoll};
@@ -26,22 +28,11 @@ pub struct Progress {
 impl Progress {
     /// Asks for all that is reached and takes answers until nothing is outstanding.
     pub fn run<L: Loader>(&mut self, alloc: Global, loader: &mut L) -> Result<(), BuildError>
-        requires live { IsLive Analysed
-            (at (L.asked loader.old) (L.log loader.old) (L.told loader.old)
-            (L.pending loader.old) (L.standing loader.old) (L.patience loader.old) self.old) }
-        ensures runs { Runs Analysed
-            (at (L.asked loader.old) (L.log loader.old) (L.told loader.old)
-            (L.pending loader.old) (L.standing loader.old) (L.patience loader.old) self.old)
-            (at (L.asked loader.new) (L.log loader.new) (L.told loader.new)
-            (L.pending loader.new) (L.standing loader.new) (L.patience loader.new) self.new) result }
-        ensures kept { IsKeptAt Analysed
-            (at (L.asked loader.new) (L.log loader.new) (L.told loader.new)
-            (L.pending loader.new) (L.standing loader.new) (L.patience loader.new) self.new) }
-        ensures goes { GoesOnAt
-            (at (L.asked loader.old) (L.log loader.old) (L.told loader.old)
-            (L.pending loader.old) (L.standing loader.old) (L.patience loader.old) self.old)
-            (at (L.asked loader.new) (L.log loader.new) (L.told loader.new)
-            (L.pending loader.new) (L.standing loader.new) (L.patience loader.new) self.new) }
+        requires live { IsLive Analysed (at (L.seen loader.old) self.old) }
+        ensures runs { Runs Analysed (at (L.seen loader.old) self.old) (at (L.seen loader.new) self.new) result }
+        ensures in_time { CameInTime Analysed (texts self.old.roots) (own_events (at (L.seen loader.new) self.new)) result }
+        ensures kept { IsKeptAt Analysed (at (L.seen loader.new) self.new) }
+        ensures goes { GoesOnAt (at (L.seen loader.old) self.old) (at (L.seen loader.new) self.new) }
     {
         match self.begin(loader) {
             Ok(()) => {}
@@ -59,23 +50,12 @@ impl Progress {
 
     // Reaches the roots, the first time. The loader is there for the contract.
     fn begin<L: Loader>(&mut self, loader: &mut L) -> Result<(), GrowError>
-        requires live { IsLive Analysed
-            (at (L.asked loader.old) (L.log loader.old) (L.told loader.old)
-            (L.pending loader.old) (L.standing loader.old) (L.patience loader.old) self.old) }
-        ensures begins { Begins Analysed
-            (at (L.asked loader.old) (L.log loader.old) (L.told loader.old)
-            (L.pending loader.old) (L.standing loader.old) (L.patience loader.old) self.old)
-            (at (L.asked loader.new) (L.log loader.new) (L.told loader.new)
-            (L.pending loader.new) (L.standing loader.new) (L.patience loader.new) self.new) result }
-        ensures kept { IsKeptAt Analysed
-            (at (L.asked loader.new) (L.log loader.new) (L.told loader.new)
-            (L.pending loader.new) (L.standing loader.new) (L.patience loader.new) self.new) }
-        ensures goes { GoesOnAt
-            (at (L.asked loader.old) (L.log loader.old) (L.told loader.old)
-            (L.pending loader.old) (L.standing loader.old) (L.patience loader.old) self.old)
-            (at (L.asked loader.new) (L.log loader.new) (L.told loader.new)
-            (L.pending loader.new) (L.standing loader.new) (L.patience loader.new) self.new) }
+        requires live { IsLive Analysed (at (L.seen loader.old) self.old) }
+        ensures begins { Begins Analysed (at (L.seen loader.old) self.old) (at (L.seen loader.new) self.new) result }
+        ensures kept { IsKeptAt Analysed (at (L.seen loader.new) self.new) }
+        ensures goes { GoesOnAt (at (L.seen loader.old) self.old) (at (L.seen loader.new) self.new) }
         ensures stays { loader.new ≡ loader.old }
+        ensures counts { (self.new.asked ≡ self.old.asked) × (self.new.taken ≡ self.old.taken) }
     {
         let _ = loader;
         if self.begun {
@@ -92,23 +72,12 @@ impl Progress {
 
     // Asks for all that is reached, and takes one answer. `false`: nothing is outstanding.
     fn turn<L: Loader>(&mut self, alloc: Global, loader: &mut L) -> Result<bool, BuildError>
-        requires live { IsLive Analysed
-            (at (L.asked loader.old) (L.log loader.old) (L.told loader.old)
-            (L.pending loader.old) (L.standing loader.old) (L.patience loader.old) self.old) }
+        requires live { IsLive Analysed (at (L.seen loader.old) self.old) }
         requires begun { self.old.begun ≡ true }
-        ensures turns { Turns Analysed
-            (at (L.asked loader.old) (L.log loader.old) (L.told loader.old)
-            (L.pending loader.old) (L.standing loader.old) (L.patience loader.old) self.old)
-            (at (L.asked loader.new) (L.log loader.new) (L.told loader.new)
-            (L.pending loader.new) (L.standing loader.new) (L.patience loader.new) self.new) result }
-        ensures kept { IsKeptAt Analysed
-            (at (L.asked loader.new) (L.log loader.new) (L.told loader.new)
-            (L.pending loader.new) (L.standing loader.new) (L.patience loader.new) self.new) }
-        ensures goes { GoesOnAt
-            (at (L.asked loader.old) (L.log loader.old) (L.told loader.old)
-            (L.pending loader.old) (L.standing loader.old) (L.patience loader.old) self.old)
-            (at (L.asked loader.new) (L.log loader.new) (L.told loader.new)
-            (L.pending loader.new) (L.standing loader.new) (L.patience loader.new) self.new) }
+        ensures turns { Turns Analysed (at (L.seen loader.old) self.old) (at (L.seen loader.new) self.new) result }
+        ensures in_time { CameInTime Analysed (texts self.old.roots) (own_events (at (L.seen loader.new) self.new)) result }
+        ensures kept { IsKeptAt Analysed (at (L.seen loader.new) self.new) }
+        ensures goes { GoesOnAt (at (L.seen loader.old) self.old) (at (L.seen loader.new) self.new) }
     {
         match self.ask_all(alloc, loader) {
             Ok(()) => {}
@@ -123,26 +92,16 @@ impl Progress {
 
     // Takes one answer.
     fn poll<L: Loader>(&mut self, alloc: Global, loader: &mut L) -> Result<bool, BuildError>
-        requires live { IsLive Analysed
-            (at (L.asked loader.old) (L.log loader.old) (L.told loader.old)
-            (L.pending loader.old) (L.standing loader.old) (L.patience loader.old) self.old) }
+        requires live { IsLive Analysed (at (L.seen loader.old) self.old) }
         requires begun { self.old.begun ≡ true }
         requires asked_all { self.old.reaching.todo ≡ [] }
         requires open_yet { self.old.taken < self.old.asked }
-        ensures turns { Turns Analysed
-            (at (L.asked loader.old) (L.log loader.old) (L.told loader.old)
-            (L.pending loader.old) (L.standing loader.old) (L.patience loader.old) self.old)
-            (at (L.asked loader.new) (L.log loader.new) (L.told loader.new)
-            (L.pending loader.new) (L.standing loader.new) (L.patience loader.new) self.new) result }
-        ensures kept { IsKeptAt Analysed
-            (at (L.asked loader.new) (L.log loader.new) (L.told loader.new)
-            (L.pending loader.new) (L.standing loader.new) (L.patience loader.new) self.new) }
-        ensures goes { GoesOnAt
-            (at (L.asked loader.old) (L.log loader.old) (L.told loader.old)
-            (L.pending loader.old) (L.standing loader.old) (L.patience loader.old) self.old)
-            (at (L.asked loader.new) (L.log loader.new) (L.told loader.new)
-            (L.pending loader.new) (L.standing loader.new) (L.patience loader.new) self.new) }
+        ensures turns { Turns Analysed (at (L.seen loader.old) self.old) (at (L.seen loader.new) self.new) result }
+        ensures in_time { CameInTime Analysed (texts self.old.roots) (own_events (at (L.seen loader.new) self.new)) result }
+        ensures kept { IsKeptAt Analysed (at (L.seen loader.new) self.new) }
+        ensures goes { GoesOnAt (at (L.seen loader.old) self.old) (at (L.seen loader.new) self.new) }
     {
+        // The proof learns from it that one can be added to the lower count.
         let _asked = self.asked;
         match loader.poll() {
             Ok(LoaderPoll::Answer(specifier, answer)) => {
@@ -159,22 +118,10 @@ impl Progress {
 
     // Empties the worklist.
     fn ask_all<L: Loader>(&mut self, alloc: Global, loader: &mut L) -> Result<(), GrowError>
-        requires live { IsLive Analysed
-            (at (L.asked loader.old) (L.log loader.old) (L.told loader.old)
-            (L.pending loader.old) (L.standing loader.old) (L.patience loader.old) self.old) }
-        ensures all { AsksAll Analysed
-            (at (L.asked loader.old) (L.log loader.old) (L.told loader.old)
-            (L.pending loader.old) (L.standing loader.old) (L.patience loader.old) self.old)
-            (at (L.asked loader.new) (L.log loader.new) (L.told loader.new)
-            (L.pending loader.new) (L.standing loader.new) (L.patience loader.new) self.new) result }
-        ensures kept { IsKeptAt Analysed
-            (at (L.asked loader.new) (L.log loader.new) (L.told loader.new)
-            (L.pending loader.new) (L.standing loader.new) (L.patience loader.new) self.new) }
-        ensures asks { OnlyAsks
-            (at (L.asked loader.old) (L.log loader.old) (L.told loader.old)
-            (L.pending loader.old) (L.standing loader.old) (L.patience loader.old) self.old)
-            (at (L.asked loader.new) (L.log loader.new) (L.told loader.new)
-            (L.pending loader.new) (L.standing loader.new) (L.patience loader.new) self.new) }
+        requires live { IsLive Analysed (at (L.seen loader.old) self.old) }
+        ensures all { AsksAll Analysed (at (L.seen loader.old) self.old) (at (L.seen loader.new) self.new) result }
+        ensures kept { IsKeptAt Analysed (at (L.seen loader.new) self.new) }
+        ensures asks { OnlyAsks (at (L.seen loader.old) self.old) (at (L.seen loader.new) self.new) }
     {
         'asking: loop {
             match self.ask_next(alloc, loader) {
@@ -187,22 +134,10 @@ impl Progress {
 
     // Deals with the next specifier of the worklist. `false`: there is none.
     fn ask_next<L: Loader>(&mut self, alloc: Global, loader: &mut L) -> Result<bool, GrowError>
-        requires live { IsLive Analysed
-            (at (L.asked loader.old) (L.log loader.old) (L.told loader.old)
-            (L.pending loader.old) (L.standing loader.old) (L.patience loader.old) self.old) }
-        ensures next { AsksNext Analysed
-            (at (L.asked loader.old) (L.log loader.old) (L.told loader.old)
-            (L.pending loader.old) (L.standing loader.old) (L.patience loader.old) self.old)
-            (at (L.asked loader.new) (L.log loader.new) (L.told loader.new)
-            (L.pending loader.new) (L.standing loader.new) (L.patience loader.new) self.new) result }
-        ensures kept { IsKeptAt Analysed
-            (at (L.asked loader.new) (L.log loader.new) (L.told loader.new)
-            (L.pending loader.new) (L.standing loader.new) (L.patience loader.new) self.new) }
-        ensures asks { OnlyAsks
-            (at (L.asked loader.old) (L.log loader.old) (L.told loader.old)
-            (L.pending loader.old) (L.standing loader.old) (L.patience loader.old) self.old)
-            (at (L.asked loader.new) (L.log loader.new) (L.told loader.new)
-            (L.pending loader.new) (L.standing loader.new) (L.patience loader.new) self.new) }
+        requires live { IsLive Analysed (at (L.seen loader.old) self.old) }
+        ensures next { AsksNext Analysed (at (L.seen loader.old) self.old) (at (L.seen loader.new) self.new) result }
+        ensures kept { IsKeptAt Analysed (at (L.seen loader.new) self.new) }
+        ensures asks { OnlyAsks (at (L.seen loader.old) self.old) (at (L.seen loader.new) self.new) }
     {
         let Some(url) = self.reaching.todo.pop() else {
             return Ok(false);
@@ -215,22 +150,10 @@ impl Progress {
 
     // Asks for the specifier in hand, or gives it its entry where no loader is asked for it.
     fn deal<L: Loader>(&mut self, alloc: Global, loader: &mut L, url: Url) -> Result<(), GrowError>
-        requires in_hand { IsInHand Analysed
-            (at (L.asked loader.old) (L.log loader.old) (L.told loader.old)
-            (L.pending loader.old) (L.standing loader.old) (L.patience loader.old) self.old) (text_of url) }
-        ensures deals { Deals Analysed
-            (at (L.asked loader.old) (L.log loader.old) (L.told loader.old)
-            (L.pending loader.old) (L.standing loader.old) (L.patience loader.old) self.old)
-            (at (L.asked loader.new) (L.log loader.new) (L.told loader.new)
-            (L.pending loader.new) (L.standing loader.new) (L.patience loader.new) self.new) result }
-        ensures kept { IsKeptAt Analysed
-            (at (L.asked loader.new) (L.log loader.new) (L.told loader.new)
-            (L.pending loader.new) (L.standing loader.new) (L.patience loader.new) self.new) }
-        ensures asks { OnlyAsks
-            (at (L.asked loader.old) (L.log loader.old) (L.told loader.old)
-            (L.pending loader.old) (L.standing loader.old) (L.patience loader.old) self.old)
-            (at (L.asked loader.new) (L.log loader.new) (L.told loader.new)
-            (L.pending loader.new) (L.standing loader.new) (L.patience loader.new) self.new) }
+        requires in_hand { IsInHand Analysed (at (L.seen loader.old) self.old) (text_of url) }
+        ensures deals { Deals Analysed (at (L.seen loader.old) self.old) (at (L.seen loader.new) self.new) result }
+        ensures kept { IsKeptAt Analysed (at (L.seen loader.new) self.new) }
+        ensures asks { OnlyAsks (at (L.seen loader.old) self.old) (at (L.seen loader.new) self.new) }
     {
         if is_loadable(&url) {
             self.ask(loader, url)
@@ -241,24 +164,13 @@ impl Progress {
 
     // Asks for the specifier in hand.
     fn ask<L: Loader>(&mut self, loader: &mut L, url: Url) -> Result<(), GrowError>
-        requires in_hand { IsInHand Analysed
-            (at (L.asked loader.old) (L.log loader.old) (L.told loader.old)
-            (L.pending loader.old) (L.standing loader.old) (L.patience loader.old) self.old) (text_of url) }
+        requires in_hand { IsInHand Analysed (at (L.seen loader.old) self.old) (text_of url) }
         requires loads { loadable (text_of url) ≡ true }
-        ensures deals { Deals Analysed
-            (at (L.asked loader.old) (L.log loader.old) (L.told loader.old)
-            (L.pending loader.old) (L.standing loader.old) (L.patience loader.old) self.old)
-            (at (L.asked loader.new) (L.log loader.new) (L.told loader.new)
-            (L.pending loader.new) (L.standing loader.new) (L.patience loader.new) self.new) result }
-        ensures kept { IsKeptAt Analysed
-            (at (L.asked loader.new) (L.log loader.new) (L.told loader.new)
-            (L.pending loader.new) (L.standing loader.new) (L.patience loader.new) self.new) }
-        ensures asks { OnlyAsks
-            (at (L.asked loader.old) (L.log loader.old) (L.told loader.old)
-            (L.pending loader.old) (L.standing loader.old) (L.patience loader.old) self.old)
-            (at (L.asked loader.new) (L.log loader.new) (L.told loader.new)
-            (L.pending loader.new) (L.standing loader.new) (L.patience loader.new) self.new) }
+        ensures deals { Deals Analysed (at (L.seen loader.old) self.old) (at (L.seen loader.new) self.new) result }
+        ensures kept { IsKeptAt Analysed (at (L.seen loader.new) self.new) }
+        ensures asks { OnlyAsks (at (L.seen loader.old) self.old) (at (L.seen loader.new) self.new) }
     {
+        // The proof learns from it that one can be added to the count, which stays below it.
         let _limit = self.reaching.limit;
         match loader.start(&url) {
             Ok(()) => {}

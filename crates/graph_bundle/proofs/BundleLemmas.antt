@@ -2,17 +2,10 @@
 use Rattle.std.proofs.Common.{◌≡◌, refl, sym, ◌∙◌, ap, subst, ℕ, zero, suc, ◌+◌, ◌<◌, Bool, true, false, true≢false, cond, not, ◌&&◌, ◌||◌, List, [], ◌∷◌, ◌++◌, length, get_or, take, drop, map, Option, Some, None, option_map, option_and_then, Result, Ok, Err, IfOk, if◌then◌else◌, bytes_eq, String, string_bytes, Global, arith}
 use Rattle.std.proofs.lemmas.List.{take_more, map-append}
 use Rattle.std.proofs.lemmas.Slice.Eq.{bytes_eq-Decides}
-use Rattle.std.specs.declared.cmp.Ordering.{Ordering}
-use Rattle.std.specs.declared.cmp.Ordering.TheVariants.{Less, Equal, Greater}
-use Rattle.std.specs.Ordering.{nat_cmp, match_ordering}
-use Rattle.std.specs.Cmp.Lexicographic.{slice_cmp}
-use Rattle.std.specs.String.{string_cmp}
-use Rattle.std.specs.BTreeMap.{insert_entry}
-use Rattle.std.specs.Str.{str_to_ascii_lowercase}
 use Rattle.std.specs.BTreeSet.{BTreeSet, contains_text}
 use Rattle.url.specs.Parts.{Parts}
 use Rattle.graph_entry.specs.declared.answer.LoadAnswer.{LoadAnswer}
-use Rattle.graph_entry.specs.Headers.{entry_of, entries_of}
+use Rattle.graph_entry.specs.Headers.{HeaderList, with_header}
 use Rattle.graph_entry.specs.Specifier.{text_of}
 use Rattle.deno_graph.specs.Reach.{has}
 use Rattle.deno_graph.specs.Builder.{OnlyPlain}
@@ -21,7 +14,7 @@ use Rattle.serde_json.specs.Find.{as_array, as_str}
 use Rattle.serde_json.specs.View.{view, items_of, items_view, members_view}
 use Rattle.serde_json.specs.declared.value.Value.{Value}
 use Rattle.graph_bundle.specs.declared.bundle.Bundle.{Bundle}
-use Rattle.graph_bundle.specs.Bundle.{bundle_of, specifiers, are_distinct, plain_bundle, count_members, items_list, each_of, all_some, with_header, headers_onto}
+use Rattle.graph_bundle.specs.Bundle.{bundle_of, specifiers, are_distinct, plain_bundle, count_members, items_list, each_of, all_some, headers_onto}
 
 -- what holds of an `Ok` may be weakened
 pub IfOk-map : {T E : Type 0} (r : Result T E) (P Q : T → Type 0) → ((x : T) → P x → Q x) → IfOk r P → IfOk r Q
@@ -45,6 +38,23 @@ parts_plain (Some p) bundle is = chosen_plain (are_distinct p.1) p.0 p.1 bundle 
 pub bundle_plain : (value : Data) (bundle : Bundle) → bundle_of value ≡ Some bundle → OnlyPlain bundle.options
 unfolding bundle_of
 bundle_plain value bundle is = parts_plain _ bundle is
+
+-- nor has it an arrival list
+chosen_unforced : (b : Bool) (given : List Parts) (modules : List (Parts × LoadAnswer)) (bundle : Bundle)
+    → (if b then Some (plain_bundle given modules) else None) ≡ Some bundle → bundle.arrival ≡ []
+chosen_unforced true given modules bundle is =
+    let same : plain_bundle given modules ≡ bundle = cc in
+    subst (λ (b : Bundle). b.arrival ≡ []) same refl
+chosen_unforced false given modules bundle is = absurd (cc)
+
+parts_unforced : (parts : Option (List Parts × List (Parts × LoadAnswer))) (bundle : Bundle)
+    → option_and_then (λ p. if are_distinct p.1 then Some (plain_bundle p.0 p.1) else None) parts ≡ Some bundle → bundle.arrival ≡ []
+parts_unforced None bundle is = absurd (cc)
+parts_unforced (Some p) bundle is = chosen_unforced (are_distinct p.1) p.0 p.1 bundle is
+
+pub bundle_unforced : (value : Data) (bundle : Bundle) → bundle_of value ≡ Some bundle → bundle.arrival ≡ []
+unfolding bundle_of
+bundle_unforced value bundle is = parts_unforced _ bundle is
 
 -- ---- members and items
 
@@ -153,28 +163,12 @@ not_true false is = refl
 
 -- ---- headers
 
-match_same : {A B : Type 0} (f : A → B) (o : Ordering) (x y z : A) → f (match_ordering o x y z) ≡ match_ordering o (f x) (f y) (f z)
-match_same f Less x y z = refl
-match_same f Equal x y z = refl
-match_same f Greater x y z = refl
-
--- an entry goes to its place among the entries' texts
-pub entries_of-insert : (es : List (String Global × String Global)) (name value : String Global)
-    → entries_of (insert_entry string_cmp es name value) ≡ insert_entry (slice_cmp nat_cmp) (entries_of es) (string_bytes name) (string_bytes value)
-entries_of-insert [] name value = refl
-entries_of-insert (e ∷ es) name value =
-    match_same entries_of (string_cmp name e.0) _ _ _
-    ∙ ap (λ rest. match_ordering (string_cmp name e.0) (entry_of (name, value) ∷ entry_of e ∷ entries_of es) ((string_bytes e.0, string_bytes value) ∷ entries_of es) (entry_of e ∷ rest))
-    (entries_of-insert es name value)
-
 -- one more member goes into the headers
-pub header_more : (headers after : List (String Global × String Global)) (name : String Global) (value : Value) (rest : List (String Global × Value))
-    (key text : String Global) → as_str (view value) ≡ Some (string_bytes text) → string_bytes key ≡ str_to_ascii_lowercase (string_bytes name)
-    → after ≡ insert_entry string_cmp headers key text
-    → headers_onto (entries_of headers) (members_view ((name, value) ∷ rest)) ≡ headers_onto (entries_of after) (members_view rest)
-header_more headers after name value rest key text says named put =
+pub header_more : (headers after : HeaderList) (name : String Global) (value : Value) (rest : List (String Global × Value))
+    (text : String Global) → as_str (view value) ≡ Some (string_bytes text)
+    → after ≡ with_header headers (string_bytes name) (string_bytes text)
+    → headers_onto headers (members_view ((name, value) ∷ rest)) ≡ headers_onto after (members_view rest)
+header_more headers after name value rest text says put =
     let ms = members_view rest in
-    ap (option_and_then (λ t. headers_onto (with_header (entries_of headers) (string_bytes name) t) ms)) says
-    ∙ ap (λ k. headers_onto (insert_entry (slice_cmp nat_cmp) (entries_of headers) k (string_bytes text)) ms) (sym named)
-    ∙ ap (λ es. headers_onto es ms) (sym (entries_of-insert headers key text))
-    ∙ ap (λ (es : List (String Global × String Global)). headers_onto (entries_of es) ms) (sym put)
+    ap (option_and_then (λ t. headers_onto (with_header headers (string_bytes name) t) ms)) says
+    ∙ ap (λ (es : HeaderList). headers_onto es ms) (sym put)

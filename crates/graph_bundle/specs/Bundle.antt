@@ -1,10 +1,6 @@
 -- Bundles: what a JSON value says of roots and modules (this project's profile; JSON is that of RFC 8259).
 use Rattle.std.specs.Prelude.{◌≡◌, ℕ, ◌+◌, ◌==◌, ◌&&◌, Bool, true, false, not, List, [], ◌∷◌, map, codes, Option, Some, None, option_map, option_and_then, if◌then◌else◌, IsUtf8}
 use Rattle.std.specs.Result.{result_ok}
-use Rattle.std.specs.Ordering.{nat_cmp}
-use Rattle.std.specs.Cmp.Lexicographic.{slice_cmp}
-use Rattle.std.specs.BTreeMap.{insert_entry}
-use Rattle.std.specs.Str.{str_to_ascii_lowercase}
 use Rattle.serde_json.specs.Data.{Data, Items, no_items, item, Members, no_members, member}
 use Rattle.serde_json.specs.Read.{read}
 use Rattle.serde_json.specs.Find.{get, get_member, as_object, as_array, as_str}
@@ -13,6 +9,7 @@ use Rattle.base64.specs.Engines.{standard}
 use Rattle.url.specs.Parts.{Parts}
 use Rattle.url.specs.Parser.{parse_url}
 use Rattle.graph_entry.specs.Specifier.{text_of}
+use Rattle.graph_entry.specs.Headers.{HeaderList, with_header}
 use Rattle.graph_entry.specs.declared.kind.GraphKind.TheVariants.{All}
 use Rattle.graph_entry.specs.declared.answer.LoadAnswer.{LoadAnswer}
 use Rattle.graph_entry.specs.declared.answer.LoadAnswer.TheVariants.{Content}
@@ -59,10 +56,6 @@ each_of read_one value = option_and_then (λ items. all_some (map read_one (item
 
 -- ---- bundles
 
--- headers by their names
-abbrev pub HeaderList : Type 0
-HeaderList = List (List ℕ × List ℕ)
-
 -- a URL by its text (URL Standard, "URL parsing", without a base)
 abbrev pub url_of : Data → Option Parts
 url_of value = option_and_then (λ text. result_ok (parse_url None text)) (as_str value)
@@ -81,10 +74,6 @@ content_from None None = None
 -- a module's content
 abbrev pub content_of : Data → Option (List ℕ)
 content_of value = content_from (get (codes "text") value) (get (codes "base64") value)
-
--- the headers with one more: its name in ASCII lower case, where an equal name takes the new value
-abbrev pub with_header : HeaderList → List ℕ → List ℕ → HeaderList
-with_header headers name value = insert_entry (slice_cmp nat_cmp) headers (str_to_ascii_lowercase name) value
 
 -- The headers with those of the members behind them, if each is a text. Members stand in the order of their names, so
 -- of two names that become one the greater as written counts.

@@ -4,7 +4,7 @@
 //!   say none.
 //! - `Bundle`: its roots, its modules with their answers, and what is built of them.
 //!
-//! Want of memory is the one answer without a cause.
+//! Running out of memory is the one answer without a cause.
 #![tactic(auto)]
 
 mod bundle;

@@ -12,7 +12,6 @@ use base64::engine::general_purpose::STANDARD;
 use deno_graph::{Headers, LoadAnswer};
 use serde_json::{Map, Value};
 use std::alloc::{AllocError, Global};
-use std::collections::BTreeMap;
 use url::Url;
 
 /// The module that a value says.
@@ -127,14 +126,13 @@ fn headers_of(alloc: Global, value: &Value) -> Result<Option<Headers>, AllocErro
 fn each_header(alloc: Global, members: &Map<String, Value>) -> Result<Option<Headers>, AllocError>
     ensures { IfOk result (λ headers. headers ≡ headers_onto [] (members_view members.now.entries)) }
 {
-    let mut headers = BTreeMap::new(alloc);
+    let mut headers = Headers::new(alloc);
     for (name, value) in members.iter() {
         let Some(text) = value.as_str() else {
             return Ok(None);
         };
-        let name = name.as_str().to_ascii_lowercase(alloc)?;
         let text = String::from_str(alloc, text)?;
-        drop(headers.insert(name, text)?);
+        headers.insert(alloc, name.as_str(), text)?;
     }
-    Ok(Some(Headers::from_map(headers)))
+    Ok(Some(headers))
 }

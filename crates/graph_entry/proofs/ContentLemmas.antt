@@ -72,7 +72,7 @@ imports-CutsName s bytes deps reads = along deps.imports (cuts_names true bytes 
     along (i ∷ is) cuts =
         All-cons (λ i. CutsName bytes (wasm_dependency s i)) i is (i.module_range, refl, cuts.0.0, cuts.0.1, cuts.0.2) (along is cuts.1)
 
--- the edge of an import keeps no want of room
+-- the edge of an import never keeps that room ran out
 pub imports-KeepsReasonOf : (s bytes : List ℕ) → HoldsOfImports KeepsReasonOf s bytes
 imports-KeepsReasonOf s bytes deps reads k i within = resolve-kept s (slice_index_or deps.imports k i).origin
 

@@ -119,6 +119,6 @@ pub All-CutsFrom : (s text : List ℕ) (sites : List Site) → All (λ site. Cut
     → All (λ site. CutsFrom text (dependency_of s site)) sites
 All-CutsFrom s text sites cuts k site within = ((slice_index_or sites k site).range, refl, cuts k site within)
 
--- the edge of a site keeps no want of room
+-- the edge of a site never keeps that room ran out
 pub All-KeepsReasonOf : (s text : List ℕ) (sites : List Site) → All (λ site. KeepsReasonOf text (dependency_of s site)) sites
 All-KeepsReasonOf s text sites k site within = resolve-kept s (slice_index_or sites k site).value

@@ -1,4 +1,4 @@
--- No entry's fault is want of memory.
+-- No entry's fault is that memory ran out.
 use Rattle.std.proofs.Common.{◌≡◌, ◌≢◌, sym, subst, refl, List, ℕ}
 use Rattle.std.specs.Prelude.{Bool, true, false, ◌==◌, codes, take, position, Option, Some, None, MatchOption, Result, Ok, Err}
 use Rattle.es_lexer.specs.declared.token.Token.{Token}
@@ -67,7 +67,7 @@ by_kind-fault s media bytes (Some module_kind.Wasm) made makes = OfWasm-fault s 
 
 -- ---- where no loader is asked
 
--- no reading of a `data:` URL is refused for want of memory
+-- no reading of a `data:` URL is refused because memory ran out
 abbrev told : Result DataModule DataError → Type 0
 told (Ok held) = Unit {0}
 told (Err e) = e ≢ data_url.OutOfMemory
@@ -103,7 +103,7 @@ OfUnasked-fault s true made makes = OfData-fault s (data_of s) made (data_of-tol
 OfUnasked-fault s false made (with_package p names is) = subst KeepsFault (sym is) tt
 OfUnasked-fault s false made (no_package none is) = subst KeepsFault (sym is) tt
 
--- what an answer makes keeps no want of memory
+-- what an answer makes keeps no fault that memory ran out
 pub Analysed-fault : (s : List ℕ) (a : Option LoadAnswer) (made : Entry) → Analysed s a made → KeepsFault made
 unfolding Analysed
 Analysed-fault s (Some (answer.Content headers bytes)) made is =

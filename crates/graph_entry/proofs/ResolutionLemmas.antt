@@ -3,7 +3,7 @@ use Rattle.std.proofs.Common.{◌≡◌, ◌⊎◌, inl, inr, sym, ◌∙◌, ap
 use Rattle.url.specs.declared.error.ParseError.{ParseError}
 use Rattle.url.specs.Parser.{Parsed, IsOutOfRoom}
 
--- a refusal that is not for want of room is the reader's own
+-- a refusal unless room ran out is the reader's own
 pub kept_refusal : {T : Type 0} (expected : Parsed T) (e k : ParseError)
     → (expected ≡ Err e) ⊎ IsOutOfRoom e → (k ≡ e) × (¬ IsOutOfRoom e) → expected ≡ Err k
 kept_refusal expected e k (inl same) kept = same ∙ ap Err (sym kept.0)

@@ -1,4 +1,4 @@
--- No refusal of the URL parser's definition is want of room: the standard's own reasons are all that it gives.
+-- No refusal of the URL parser's definition is that room ran out: the standard's own reasons are all that it gives.
 use Rattle.std.proofs.Common.{inl, inr, subst, Bool, true, false, List, ℕ}
 use Rattle.std.specs.Prelude.{Option, Some, None, Ok, Err, IfErr, if◌then◌else◌}
 use Rattle.std.specs.Result.{result_map_both}
@@ -12,15 +12,16 @@ use Rattle.url.specs.Parser.{Parsed, and_then, IsOutOfRoom, parse_port, parse_au
 use Rattle.file_url.specs.declared.errors.SpecifierError.TheVariants as specifier
 use Rattle.file_url.specs.Imports as imports
 use Rattle.file_url.specs.Imports.{refusal, target_of, relative_import, import_read, import_of}
-use Rattle.graph_entry.specs.Resolution.{KeepsReason, kept_of, resolve}
+use Rattle.graph_entry.specs.declared.resolution.ResolutionError.TheVariants.{InvalidDowngrade, InvalidLocalImport}
+use Rattle.graph_entry.specs.Resolution.{Resolved, KeepsReason, kept_of, resolve, is_downgrade, is_local_import, allowed, allowed_from}
 
--- this refusal is not want of room
+-- this refusal is not that room ran out
 abbrev pub IsReason : ParseError → Type 0
 IsReason OutOfMemory = ⊥
 IsReason Overflow = ⊥
 IsReason _ = Unit {0}
 
--- the refusal, if it is one, is not want of room
+-- the refusal, if it is one, is not that room ran out
 pub record IsTold {T : Type 0} (read : Parsed T) : Type 0 where
   pub told : IfErr read IsReason
 
@@ -182,8 +183,22 @@ read-kept (Err CannotSet) referrer text told also = kept_refusal CannotSet told.
 read-kept (Err OutOfMemory) referrer text told also = kept_refusal OutOfMemory told.told
 read-kept (Err Overflow) referrer text told also = kept_refusal Overflow told.told
 
--- want of room is never an edge's reason
+-- a target that isn't allowed has a reason of its own
+allowed-kept : (referrer target : Parts) → KeepsReason (allowed referrer target)
+allowed-kept referrer target = by (is_downgrade referrer target) (is_local_import referrer target)
+  where
+    by : (b c : Bool) → KeepsReason (if b then Err InvalidDowngrade else if c then Err InvalidLocalImport else Ok target)
+    by true c = tt
+    by false true = tt
+    by false false = tt
+
+from-kept : (base : Parsed Parts) (r : Resolved) → KeepsReason r → KeepsReason (allowed_from base r)
+from-kept (Ok referrer) (Ok target) kept = allowed-kept referrer target
+from-kept (Ok referrer) (Err e) kept = kept
+from-kept (Err e) r kept = kept
+
+-- that room ran out is never an edge's reason
 pub resolve-kept : (referrer text : List ℕ) → KeepsReason (resolve referrer text)
 unfolding resolve import_of
 resolve-kept referrer text =
-    read-kept _ _ text (parse_url-told None text) (parse_url-told None referrer)
+    from-kept (parse_url None referrer) _ (read-kept _ _ text (parse_url-told None text) (parse_url-told None referrer))

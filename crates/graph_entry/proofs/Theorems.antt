@@ -37,12 +37,12 @@ analysed_cuts s =
     All-CutsFrom s text (sites_of tree) (derives_cuts lang mode.Module text tokens tree reads derived))
     (imports-CutsName s)
 
--- an edge without target never keeps want of room as its reason
+-- an edge without target never keeps as its reason that room ran out
 pub analysed_reasons : (s : List ℕ) (a : Option LoadAnswer) (made : Entry) → Analysed s a made → EachEdge KeepsReasonOf KeepsReasonOf made
 analysed_reasons s =
     Analysed-edges KeepsReasonOf KeepsReasonOf s (λ text lang tokens tree reads derived. All-KeepsReasonOf s text (sites_of tree))
     (imports-KeepsReasonOf s)
 
--- an entry's fault is never want of memory
+-- an entry's fault is never that memory ran out
 pub analysed_faults : (s : List ℕ) (a : Option LoadAnswer) (made : Entry) → Analysed s a made → KeepsFault made
 analysed_faults = Analysed-fault

@@ -22,7 +22,7 @@ use Rattle.graph_entry.specs.declared.entry.Dependency.{Dependency}
 use Rattle.graph_entry.specs.declared.entry.Module.TheVariants.{Js}
 use Rattle.graph_entry.specs.declared.entry.Entry.{Entry}
 use Rattle.graph_entry.specs.declared.entry.Entry.TheVariants as entry
-use Rattle.graph_entry.specs.declared.entry.ModuleError.TheVariants.{Missing, UnsupportedMediaType, Parse, DataUrl, PackageReference, NotBuilt}
+use Rattle.graph_entry.specs.declared.entry.ModuleError.TheVariants.{Missing, Loading, UnsupportedMediaType, Parse, DataUrl, PackageReference, NotBuilt}
 use Rattle.media_type.specs.declared.media_type.MediaType.{MediaType}
 use Rattle.media_type.specs.declared.media_type.MediaType.TheVariants.{TypeScript, Mts, JavaScript, Mjs, Unknown}
 use Rattle.media_type.specs.declared.media_type.ModuleKind.{ModuleKind}
@@ -142,9 +142,9 @@ abbrev pub OfAnswer : List ℕ → LoadAnswer → Entry → Type 0
 OfAnswer s (answer.Content headers bytes) made =
     OfContent s (by_header (media_type_read (parse_url None s)) (value_of (codes "content-type") headers)) bytes made
 OfAnswer s (answer.Redirect target) made = made ≡ not_built
-OfAnswer s answer.External made = made ≡ not_built
+OfAnswer s answer.External made = made ≡ entry.External
 OfAnswer s answer.Absent made = made ≡ entry.Error Missing
-OfAnswer s answer.Failed made = made ≡ not_built
+OfAnswer s answer.Failed made = made ≡ entry.Error Loading
 
 -- what a `data:` specifier makes: the content that it holds, whose media type no path tells
 abbrev pub OfData : List ℕ → Result DataModule DataError → Entry → Type 0

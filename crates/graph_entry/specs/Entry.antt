@@ -9,7 +9,7 @@ use Rattle.graph_entry.specs.declared.entry.Module.TheVariants.{Js, Json, Wasm}
 use Rattle.graph_entry.specs.declared.entry.Entry.{Entry}
 use Rattle.graph_entry.specs.declared.entry.Entry.TheVariants as entry
 use Rattle.graph_entry.specs.declared.entry.ModuleError.{ModuleError}
-use Rattle.graph_entry.specs.declared.entry.ModuleError.TheVariants.{Missing, UnsupportedMediaType, Decode, Parse, WasmParse, DataUrl, PackageReference, NotBuilt, OutOfMemory}
+use Rattle.graph_entry.specs.declared.entry.ModuleError.TheVariants.{Missing, Loading, UnsupportedMediaType, Decode, Parse, WasmParse, DataUrl, PackageReference, NotBuilt, OutOfMemory}
 use Rattle.wasm_dep_analyzer.specs.declared.error.ParseError.TheVariants as wasm
 use Rattle.data_specifier.specs.declared.error.DataError.TheVariants as data_url
 use Rattle.graph_entry.specs.Specifier.{text_of}
@@ -39,7 +39,7 @@ CutsName bytes d =
     (range : Range) × (d.range ≡ Some range) × (range.start ≤ range.end) × (range.end ≤ length bytes)
     × (slice_range bytes range.start range.end ≡ d.text)
 
--- the reason for which the edge has no target, if it has none, is not want of room
+-- the reason for which the edge has no target, if it has none, is not that room ran out
 abbrev pub KeepsReasonOf : List ℕ → Dependency → Type 0
 KeepsReasonOf text d = KeepsReason d.resolution
 
@@ -57,7 +57,7 @@ EachEdge P Q (entry.Error e) = Unit {0}
 abbrev pub EdgesCut : Entry → Type 0
 EdgesCut made = EachEdge CutsFrom CutsName made
 
--- the fault of the entry, if it has one, is not want of memory
+-- the fault of the entry, if it has one, is not that memory ran out
 abbrev pub KeepsFault : Entry → Type 0
 KeepsFault (entry.Error (WasmParse wasm.OutOfMemory)) = ⊥
 KeepsFault (entry.Error (DataUrl data_url.OutOfMemory)) = ⊥
@@ -67,6 +67,7 @@ KeepsFault _ = Unit {0}
 -- the name of an error, as reports write it
 abbrev pub name_of_error : ModuleError → List ℕ
 name_of_error Missing = codes "Missing"
+name_of_error Loading = codes "Loading"
 name_of_error (UnsupportedMediaType m) = codes "UnsupportedMediaType"
 name_of_error Decode = codes "Decode"
 name_of_error (Parse d) = codes "Parse"

@@ -1,35 +1,69 @@
--- What a specifier in a source leads to: the answer of `import_of`, where the referrer is read again from its text.
-use Rattle.std.specs.Prelude.{ℕ, List, codes, None, Result, Ok, Err}
+-- What a specifier in a source leads to: the answer of `import_of`, where the referrer is read again from its text, unless the
+-- referrer's scheme may not lead to the target's.
+use Rattle.std.specs.Prelude.{ℕ, Bool, ◌&&◌, ◌||◌, List, codes, bytes_eq, None, Result, Ok, Err, if◌then◌else◌}
 use Rattle.url.specs.declared.error.ParseError.TheVariants as url
 use Rattle.url.specs.Parts.{Parts}
-use Rattle.url.specs.Parser.{parse_url, IsOutOfRoom}
+use Rattle.url.specs.Parser.{Parsed, parse_url, IsOutOfRoom}
 use Rattle.file_url.specs.declared.errors.SpecifierError.TheVariants as specifier
 use Rattle.file_url.specs.Imports as imports
 use Rattle.graph_entry.specs.declared.resolution.ResolutionError.{ResolutionError}
-use Rattle.graph_entry.specs.declared.resolution.ResolutionError.TheVariants.{ImportPrefixMissing, InvalidUrl}
+use Rattle.graph_entry.specs.declared.resolution.ResolutionError.TheVariants.{ImportPrefixMissing, InvalidUrl, InvalidDowngrade, InvalidLocalImport}
 
 -- a target, or why there is none
 abbrev pub Resolved : Type 0
 Resolved = Result Parts ResolutionError
 
--- what an edge keeps of the answer of an import; that is never want of memory (`resolve-kept`, proofs/RoomLemmas.antt)
+-- what an edge keeps of the answer of an import; that is never that memory ran out (`resolve-kept`, proofs/RoomLemmas.antt)
 abbrev pub kept_of : imports.Resolved → Resolved
 kept_of (Ok url) = Ok url
 kept_of (Err (specifier.ImportPrefixMissing text)) = Err (ImportPrefixMissing text)
 kept_of (Err (specifier.InvalidUrl e)) = Err (InvalidUrl e)
 kept_of (Err specifier.OutOfMemory) = Err (InvalidUrl url.OutOfMemory)
 
+-- the URL has this scheme
+abbrev pub has_scheme : List ℕ → Parts → Bool
+has_scheme scheme url = bytes_eq url.scheme scheme
+
+-- from https to http (this project's profile)
+abbrev pub is_downgrade : Parts → Parts → Bool
+is_downgrade referrer target = has_scheme (codes "https") referrer && has_scheme (codes "http") target
+
+-- from the net to a file (this project's profile)
+abbrev pub is_local_import : Parts → Parts → Bool
+is_local_import referrer target = (has_scheme (codes "http") referrer || has_scheme (codes "https") referrer) && has_scheme (codes "file") target
+
+-- the target, or why the referrer may not lead to it
+abbrev pub allowed : Parts → Parts → Resolved
+allowed referrer target =
+    if is_downgrade referrer target then Err InvalidDowngrade
+    else if is_local_import referrer target then Err InvalidLocalImport
+    else Ok target
+
+-- what a referrer that was read again leads to
+abbrev pub allowed_from : Parsed Parts → Resolved → Resolved
+allowed_from (Ok referrer) (Ok target) = allowed referrer target
+allowed_from (Ok referrer) (Err e) = Err e
+allowed_from (Err e) resolved = resolved
+
+-- what the text leads to from a referrer that was read again
+abbrev pub resolved_from : Parsed Parts → List ℕ → Resolved
+resolved_from base text = allowed_from base (kept_of (imports.import_of base text))
+
 -- what the text leads to from the module at the referrer's text
 unfoldable pub resolve : List ℕ → List ℕ → Resolved
-resolve referrer text = kept_of (imports.import_of (parse_url None referrer) text)
+resolve referrer text = resolved_from (parse_url None referrer) text
 
--- the reason that an edge keeps, if it keeps one, is not want of room
+-- the reason that an edge keeps, if it keeps one, is not that room ran out
 abbrev pub KeepsReason : Resolved → Type 0
 KeepsReason (Ok url) = Unit {0}
 KeepsReason (Err (ImportPrefixMissing text)) = Unit {0}
 KeepsReason (Err (InvalidUrl e)) = ¬ IsOutOfRoom e
+KeepsReason (Err InvalidDowngrade) = Unit {0}
+KeepsReason (Err InvalidLocalImport) = Unit {0}
 
 -- the name of a refusal, as reports write it
 abbrev pub name_of_error : ResolutionError → List ℕ
 name_of_error (ImportPrefixMissing text) = codes "ImportPrefixMissing"
 name_of_error (InvalidUrl e) = codes "InvalidUrl"
+name_of_error InvalidDowngrade = codes "InvalidDowngrade"
+name_of_error InvalidLocalImport = codes "InvalidLocalImport"

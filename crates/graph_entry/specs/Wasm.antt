@@ -33,6 +33,6 @@ pub data OfWasm (s : List ℕ) (bytes : List ℕ) (made : Entry) : Type 0 where
   -- the module that they are
   with_imports : (deps : Deps) → ReadsModule true bytes (Ok deps) → made ≡ wasm_module s bytes deps.imports
       → OfWasm s bytes made
-  -- they are none: the first fault, which is never want of memory
+  -- they are none: the first fault, which is never that memory ran out
   faulty : (e : ParseError) → e ≢ OutOfMemory → ReadsModule true bytes (Err e) → made ≡ entry.Error (WasmParse e)
       → OfWasm s bytes made

@@ -38,8 +38,10 @@ pub fn analyse(alloc: Global, specifier: &Url, answer: LoadAnswer) -> Result<Ent
         LoadAnswer::Content { headers, bytes } => {
             analyse_content(alloc, specifier, &headers, bytes)
         }
-        LoadAnswer::Redirect(_) | LoadAnswer::External | LoadAnswer::Failed => Ok(not_built()),
+        LoadAnswer::Redirect(_) => Ok(not_built()),
+        LoadAnswer::External => Ok(Entry::External),
         LoadAnswer::Absent => Ok(Entry::Error(ModuleError::Missing)),
+        LoadAnswer::Failed => Ok(Entry::Error(ModuleError::Loading)),
     }
 }
 
@@ -184,7 +186,7 @@ fn analyse_text(alloc: Global, source: Source<'_>, text: &str) -> Result<Entry, 
     }
 }
 
-// The fault of a text, where it isn't want of memory.
+// The fault of a text, unless memory ran out.
 fn fault_of(error: LexError) -> Result<LexicalError, AllocError>
     ensures { IfOk result (λ fault. error ≡ LexError.Lexical fault) }
 {

@@ -80,15 +80,17 @@ pub struct Dependency {
 pub enum ModuleError {
     /// There is no such module.
     Missing,
+    /// The loader could not tell.
+    Loading,
     /// Content of this media type is no module.
     UnsupportedMediaType(MediaType),
     /// The bytes of a source or of JSON are no text.
     Decode,
     /// The source is no module.
     Parse(ParseDiagnostic),
-    /// The bytes are no WebAssembly module. Never for want of memory.
+    /// The bytes are no WebAssembly module. Never that memory ran out.
     WasmParse(ParseError),
-    /// The `data:` URL holds nothing. Never for want of memory.
+    /// The `data:` URL holds nothing. Never that memory ran out.
     DataUrl(DataError),
     /// The `npm:` or `jsr:` specifier names no package.
     PackageReference,
@@ -105,6 +107,7 @@ impl ModuleError {
     {
         match self {
             ModuleError::Missing => "Missing",
+            ModuleError::Loading => "Loading",
             ModuleError::UnsupportedMediaType(_) => "UnsupportedMediaType",
             ModuleError::Decode => "Decode",
             ModuleError::Parse(_) => "Parse",
@@ -120,18 +123,8 @@ impl ModuleError {
 impl fmt::Display for ModuleError {
     fn fmt<W: fmt::Write>(&self, f: &mut fmt::Formatter<W>) -> fmt::Result {
         match self {
-            ModuleError::Missing => write!(f, "module not found"),
-            ModuleError::UnsupportedMediaType(media_type) => {
-                let name = media_type.name();
-                write!(f, "unsupported media type: {name}")
-            }
-            ModuleError::Decode => write!(f, "content is not UTF-8"),
-            ModuleError::Parse(diagnostic) => write!(f, "{diagnostic}"),
-            ModuleError::WasmParse(error) => write!(f, "{error}"),
-            ModuleError::DataUrl(error) => write!(f, "{error}"),
-            ModuleError::PackageReference => write!(f, "not a reference to a package"),
-            ModuleError::NotBuilt => write!(f, "not built by this version"),
-            ModuleError::OutOfMemory => write!(f, "out of memory"),
+            ModuleError::OutOfMemory => f.write_str("out of memory"),
+            _ => f.write_str(self.name()),
         }
     }
 }

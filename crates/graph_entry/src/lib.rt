@@ -1,7 +1,7 @@
 //! What one loader answer makes of one specifier: the layer below the graph's builder.
 //!
 //! - `analyse(specifier, answer)`: the entry that the answer makes (`Analysed`, `specs/Analysed.antt`): a module with
-//!   its text or bytes and its edges, or why there is none. Both ways; only want of memory may refuse.
+//!   its text or bytes and its edges, or why there is none. Both ways, unless memory runs out.
 //! - `analyse_unasked(specifier)`: the same where no loader is asked for the specifier: what a `data:` URL holds, or
 //!   the package of an `npm:` or `jsr:` specifier.
 //! - `resolve(text, referrer)`: what a specifier in a source leads to (`resolve`, `specs/Resolution.antt`).
@@ -10,7 +10,7 @@
 //!   that an entry leads to.
 //!
 //! A specifier is its text. One answer makes at most one entry of it (`analysed_once`, `proofs/Theorems.antt`), whose
-//! edges cut their literals or names from the module (`analysed_cuts`), and which keeps no want of memory
+//! edges cut their literals or names from the module (`analysed_cuts`), and whose faults are never that memory ran out
 //! (`analysed_faults`). `docs/RESOLUTION.md` tells the rules in words.
 //! Not promised: the range of a `Syntax` fault, what `Display` and `Debug` write, and when memory runs out.
 #![tactic(auto)]

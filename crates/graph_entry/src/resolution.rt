@@ -8,16 +8,20 @@ ghost use Rattle.graph_entry.specs.Resolution as spec;
 use base::Text;
 use file_url::{SpecifierError, resolve_import_from};
 use std::alloc::{AllocError, Global};
-use thiserror::Error;
+use std::fmt;
 use url::{ParseError, Url};
 
 /// Why a specifier in a source has no target.
-#[derive(Debug, Drop, PartialEq, Eq, Error)]
+#[derive(Debug, Drop, PartialEq, Eq)]
 pub enum ResolutionError {
-    #[error("relative import path \"{specifier}\" not prefixed with / or ./ or ../")]
+    /// The text is no URL, and doesn't begin by `/`, `./` or `../`.
     ImportPrefixMissing { specifier: Text },
-    #[error("invalid URL: {0}")]
+    /// It can't be read as a URL.
     InvalidUrl(ParseError),
+    /// The referrer is https, and the target http.
+    InvalidDowngrade,
+    /// The referrer is http or https, and the target a file.
+    InvalidLocalImport,
 }
 
 impl ResolutionError {
@@ -31,6 +35,8 @@ impl ResolutionError {
                 }
             }
             ResolutionError::InvalidUrl(error) => ResolutionError::InvalidUrl(*error),
+            ResolutionError::InvalidDowngrade => ResolutionError::InvalidDowngrade,
+            ResolutionError::InvalidLocalImport => ResolutionError::InvalidLocalImport,
         })
     }
 
@@ -41,14 +47,22 @@ impl ResolutionError {
         match self {
             ResolutionError::ImportPrefixMissing { .. } => "ImportPrefixMissing",
             ResolutionError::InvalidUrl(_) => "InvalidUrl",
+            ResolutionError::InvalidDowngrade => "InvalidDowngrade",
+            ResolutionError::InvalidLocalImport => "InvalidLocalImport",
         }
+    }
+}
+
+impl fmt::Display for ResolutionError {
+    fn fmt<W: fmt::Write>(&self, f: &mut fmt::Formatter<W>) -> fmt::Result {
+        f.write_str(self.name())
     }
 }
 
 /// A target, or why there is none.
 pub type Resolved = Result<Url, ResolutionError>;
 
-/// A URL's text read again; a refusal is kept where it isn't for want of memory.
+/// A URL's text read again; a refusal is kept, unless memory ran out.
 pub type ReadAgain = Result<Url, ParseError>;
 
 /// What the text of a specifier leads to from the module at the referrer (HTML, "resolve a module specifier").
@@ -70,8 +84,39 @@ pub fn read_again(alloc: Global, specifier: &Url) -> Result<ReadAgain, AllocErro
     }
 }
 
-/// The target of a text, from a referrer that was read again.
+/// What a text leads to from a referrer that was read again.
 pub fn resolve_from(alloc: Global, base: &ReadAgain, text: &str) -> Result<Resolved, AllocError>
+    ensures { IfOk result (λ r. r ≡ spec.resolved_from base.now text.now) }
+{
+    let resolved = target_from(alloc, base, text)?;
+    Ok(allowed_from(base, resolved))
+}
+
+// Where the referrer may lead to the target, the target.
+fn allowed_from(base: &ReadAgain, resolved: Resolved) -> Resolved
+    ensures { result ≡ spec.allowed_from base.now resolved }
+{
+    match (base, resolved) {
+        (Ok(referrer), Ok(target)) => allowed(referrer, target),
+        (_, resolved) => resolved,
+    }
+}
+
+fn allowed(referrer: &Url, target: Url) -> Resolved
+    ensures { result ≡ spec.allowed referrer.now target }
+{
+    let secure = referrer.scheme() == "https";
+    if secure && target.scheme() == "http" {
+        return Err(ResolutionError::InvalidDowngrade);
+    }
+    if (referrer.scheme() == "http" || secure) && target.scheme() == "file" {
+        return Err(ResolutionError::InvalidLocalImport);
+    }
+    Ok(target)
+}
+
+// The target of a text, whatever the referrer may lead to.
+fn target_from(alloc: Global, base: &ReadAgain, text: &str) -> Result<Resolved, AllocError>
     ensures { IfOk result (λ r. r ≡ spec.kept_of (import_of base.now text.now)) }
 {
     match resolve_import_from(alloc, text, base) {
@@ -84,7 +129,7 @@ pub fn resolve_from(alloc: Global, base: &ReadAgain, text: &str) -> Result<Resol
     }
 }
 
-// A refusal that isn't for want of memory.
+// A refusal, unless memory ran out.
 fn kept(error: ParseError) -> Result<ParseError, AllocError>
     ensures { IfOk result (λ e. (e ≡ error) × ¬ IsOutOfRoom error) }
 {

@@ -1,5 +1,5 @@
 -- A graph over a log is the graph over the answers that the loader tells, since the log's answers are those.
-use Rattle.std.proofs.Common.{◌≡◌, refl, sym, ◌∙◌, ap, List, Option, Some, IsSome, None, Result, Ok, Err, IfOk, IfErr, subst, ℕ, ◌<◌}
+use Rattle.std.proofs.Common.{◌≡◌, refl, sym, ◌∙◌, ap, List, Option, Some, IsSome, None, Result, Ok, Err, IfOk, IfErr, subst, ℕ, ◌<◌, ◌≤◌, [], arith}
 use Rattle.url.specs.Parts.{Parts}
 use Rattle.graph_entry.specs.declared.answer.LoadAnswer.{LoadAnswer}
 use Rattle.graph_entry.specs.Analysed.{Analysed}
@@ -8,6 +8,7 @@ use Rattle.deno_graph.specs.Graph.{GraphData, IsGraph}
 use Rattle.deno_graph.specs.declared.error.BuildError.{BuildError}
 use Rattle.deno_graph.specs.declared.error.BuildError.TheVariants.{NotYet, TooManyModules, UnaskedAnswer, Finished, OutOfMemory}
 use Rattle.deno_graph.specs.Memory.{tells, module_answer}
+use Rattle.deno_graph.specs.Events.{Event, IsSettled}
 use Rattle.deno_graph.specs.Loader.{Falls, NeverRises}
 use Rattle.deno_graph.specs.Builder.{IsToldLog, IsTooMany}
 use Rattle.deno_graph.proofs.Theorems.{graph_told, reached_grows}
@@ -30,14 +31,15 @@ built_graph (Ok g) from starts log now modules same_starts same_told as_told gra
     (subst (λ (told : Answers). IsGraph Analysed from told g.entries) same_told over_told)
 built_graph (Err e) from starts log now modules same_starts same_told as_told graph = tt
 
--- where it refused for want of room, more is reached over its loader's modules
+-- an error that it ends with is that more is reached over its loader's modules, or that memory ran out
 pub refused_large : (r : Result GraphData BuildError) (from starts : List Specifier) (log : Log) (now modules : List (Parts × LoadAnswer)) (limit bound : ℕ)
     → from ≡ starts → limit ≡ bound → tells now ≡ tells modules → IsToldLog (tells now) log
     → ((seen : ℕ) → r ≡ Err (TooManyModules seen) → IsTooMany Analysed from log limit seen)
+    → (r ≡ Err NotYet → ⊥) → ((s : Parts) → r ≡ Err (UnaskedAnswer s) → ⊥) → (r ≡ Err Finished → ⊥)
     → IfErr r (SaysLarge starts (tells modules) bound)
-refused_large (Ok g) from starts log now modules limit bound same_starts same_limit same_told as_told large = tt
-refused_large (Err NotYet) from starts log now modules limit bound same_starts same_limit same_told as_told large = tt
-refused_large (Err (TooManyModules seen)) from starts log now modules limit bound same_starts same_limit same_told as_told large =
+refused_large (Ok g) from starts log now modules limit bound same_starts same_limit same_told as_told large no_wait no_unasked no_end = tt
+refused_large (Err NotYet) from starts log now modules limit bound same_starts same_limit same_told as_told large no_wait no_unasked no_end = no_wait refl
+refused_large (Err (TooManyModules seen)) from starts log now modules limit bound same_starts same_limit same_told as_told large no_wait no_unasked no_end =
     let many = large seen refl in
     let over_told : SaysLarge from (tells now) limit (TooManyModules seen) = (
       record {
@@ -51,9 +53,14 @@ refused_large (Err (TooManyModules seen)) from starts log now modules limit boun
     subst (λ (ss : List Specifier). SaysLarge ss (tells modules) bound (TooManyModules seen)) same_starts
     (subst (λ (n : ℕ). SaysLarge from (tells modules) n (TooManyModules seen)) same_limit
     (subst (λ (told : Answers). SaysLarge from told limit (TooManyModules seen)) same_told over_told))
-refused_large (Err (UnaskedAnswer url)) from starts log now modules limit bound same_starts same_limit same_told as_told large = tt
-refused_large (Err Finished) from starts log now modules limit bound same_starts same_limit same_told as_told large = tt
-refused_large (Err OutOfMemory) from starts log now modules limit bound same_starts same_limit same_told as_told large = tt
+refused_large (Err (UnaskedAnswer url)) from starts log now modules limit bound same_starts same_limit same_told as_told large no_wait no_unasked no_end =
+    no_unasked url refl
+refused_large (Err Finished) from starts log now modules limit bound same_starts same_limit same_told as_told large no_wait no_unasked no_end = no_end refl
+refused_large (Err OutOfMemory) from starts log now modules limit bound same_starts same_limit same_told as_told large no_wait no_unasked no_end = tt
+
+-- where nothing befell a loader, no request of it is open
+pub settled_none : (events : List Event) → events ≡ [] → IsSettled events
+settled_none events is = rw is (λ s. omega arith)
 
 -- a told patience that falls leaves fewer waits
 pub fewer_waits : (old new : Option ℕ) → IsSome old → Falls old new → waits_left new < waits_left old

@@ -1,10 +1,10 @@
 -- What several reads or writes, one after the other, do to known bytes.
-use Rattle.std.proofs.Common.{ℕ, ◌+◌, List, take, drop, sym, ◌∙◌, subst, Option, None, Some}
+use Rattle.std.proofs.Common.{ℕ, ◌+◌, ◌≤◌, List, [], ◌++◌, length, length-append, arith, take, drop, sym, ◌∙◌, subst, Option, None, Some}
 use Rattle.std.proofs.Math.Seq.{take-add}
 use Rattle.std.proofs.lemmas.List.{take-append-drop}
 use Rattle.std.proofs.KnownBytes.{Appends-trans, Consumes-trans}
 use Rattle.std.specs.Io.KnownBytes.{Appends, Consumes, Keeps}
-use Rattle.graph_run.specs.Transfer.{TookPart, Grew}
+use Rattle.graph_run.specs.Transfer.{ReadAtMost, TookPart, Grew}
 
 -- bytes that were taken stay taken over a write that fails
 pub Appends-kept : (a b c : Option (List ℕ)) (bytes : List ℕ) → Appends a b bytes → Keeps b c → Appends a c bytes
@@ -27,3 +27,21 @@ TookPart-front a b c text at took kept = (take at text, drop at text, sym (take-
 pub Consumes-grown : (a b c : Option (List ℕ)) (before after : List ℕ) → Consumes a b before → Grew b c before after → Consumes a c after
 Consumes-grown a b c before after gave grew =
     subst (Consumes a c) (sym grew.1) (Consumes-trans a b c before grew.0 gave grew.2)
+
+-- nothing was read
+pub ReadAtMost-none : (a b : Option (List ℕ)) (most : ℕ) → Keeps a b → ReadAtMost most a b
+ReadAtMost-none a b most kept = ([], omega arith, none a b kept)
+  where
+    none : (x y : Option (List ℕ)) → Keeps x y → Consumes x y []
+    none None y h = tt
+    none (Some xs) None h = absurd h
+    none (Some xs) (Some ys) h = sym h
+
+-- so many bytes, and then no more than there is room for
+pub ReadAtMost-more : (a b c : Option (List ℕ)) (before : List ℕ) (n most : ℕ) → Consumes a b before → ReadAtMost n b c → length before + n ≤ most
+    → ReadAtMost most a c
+ReadAtMost-more a b c before n most gave more fits = (
+  before ++ more.0,
+  omega (arith, more.1, fits, length-append before more.0),
+  Consumes-trans a b c before more.0 gave more.2,
+)

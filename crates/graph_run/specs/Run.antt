@@ -1,5 +1,5 @@
 -- A whole run of the program: what is due for an input, and what was written.
-use Rattle.std.specs.Prelude.{◌≡◌, ℕ, ◌+◌, ◌<◌, ◌≤◌, Bool, true, false, List, [], ◌∷◌, ◌++◌, length, bytes_eq, codes, decimal, Option, Some, None, IfSome}
+use Rattle.std.specs.Prelude.{◌≡◌, ℕ, ◌+◌, ◌<◌, ◌≤◌, Bool, true, false, List, [], ◌∷◌, ◌++◌, length, bytes_eq, codes, decimal, Option, Some, None, IfSome, ◌⊎◌}
 use Rattle.std.specs.List.{IsDistinct}
 use Rattle.std.specs.Io.KnownBytes.{Appends, Keeps}
 use Rattle.serde_json.specs.Data.{Data}
@@ -7,6 +7,7 @@ use Rattle.graph_entry.specs.Analysed.{Analysed}
 use Rattle.deno_graph.specs.Reach.{Specifier, Answers, IsReached, has}
 use Rattle.deno_graph.specs.Graph.{GraphData, IsGraph, texts}
 use Rattle.deno_graph.specs.Memory.{tells}
+use Rattle.deno_graph.specs.Builder.{ReachesAtMost}
 use Rattle.graph_bundle.specs.declared.bundle.Bundle.{Bundle}
 use Rattle.graph_run.specs.declared.status.Status.{Status}
 use Rattle.graph_run.specs.declared.status.Status.TheVariants.{Done, BuildRefused, BadInput, ReadFault, WriteFault, NoMemory, Usage}
@@ -39,10 +40,11 @@ too_many_line seen = codes "error TooManyModules " ++ decimal seen ++ line_end
 
 -- ---- what is due
 
--- the graph of a bundle: of its roots, over its modules; a specifier without module is `Absent`
+-- the graph of a bundle: of its roots, over its modules, within its limit; a specifier without module is `Absent`
 pub record IsGraphOf (bundle : Bundle) (graph : GraphData) : Type 0 where
   pub roots : graph.roots ≡ bundle.roots
   pub entries : IsGraph Analysed (texts bundle.roots) (tells bundle.modules) graph.entries
+  pub within : length graph.entries ≤ bundle.options.limit
 
 -- one specifier more than the limit is reached
 pub record HasMoreThan (starts : List Specifier) (answers : Answers) (limit : ℕ) : Type 0 where
@@ -54,6 +56,10 @@ pub record HasMoreThan (starts : List Specifier) (answers : Answers) (limit : �
 -- more is reached than the bundle allows
 abbrev pub IsTooLarge : Bundle → Type 0
 IsTooLarge bundle = HasMoreThan (texts bundle.roots) (tells bundle.modules) bundle.options.limit
+
+-- no more is reached than the bundle allows
+abbrev pub IsWithinLimit : Bundle → Type 0
+IsWithinLimit bundle = ReachesAtMost Analysed (texts bundle.roots) (tells bundle.modules) bundle.options.limit
 
 -- what is due for a bundle
 pub data OfBundle (bundle : Bundle) (status : Status) (text : List ℕ) : Type 0 where
@@ -117,3 +123,20 @@ WritesCounted old new _ = new ≡ old
 -- the input is no bundle, or too long
 abbrev pub IsRefused : List ℕ → Type 0
 IsRefused input = (bundle : Bundle) → ¬ IsInput input bundle
+
+-- the input is a bundle whose graph is too large
+pub record IsLargeInput (input : List ℕ) : Type 0 where
+  pub bundle : Bundle
+  pub says : IsInput input bundle
+  pub large : IsTooLarge bundle
+
+-- the input is a bundle whose graph is within its limit
+pub record IsSmallInput (input : List ℕ) : Type 0 where
+  pub bundle : Bundle
+  pub says : IsInput input bundle
+  pub small : IsWithinLimit bundle
+
+-- With the form as words, where no count of faults rose and memory sufficed, this is the status.
+abbrev pub Always : Bool → ℕ → ℕ → ℕ → ℕ → Status → Status → Type 0
+Always form reads_old reads_new writes_old writes_new result due =
+    form ≡ true → reads_new ≡ reads_old → writes_new ≡ writes_old → (result ≡ due) ⊎ (result ≡ NoMemory)

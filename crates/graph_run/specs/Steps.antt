@@ -1,8 +1,9 @@
 -- What the crate's functions promise each other.
-use Rattle.std.specs.Prelude.{◌≡◌, ℕ, ◌+◌, List, [], ◌++◌, Option, Some, None, IsSome, ◌⊎◌, ◌<◌, String, string_bytes, ⊤}
+use Rattle.std.specs.Prelude.{◌≡◌, ℕ, ◌+◌, Bool, true, false, List, [], ◌++◌, Option, Some, None, IsSome, ◌⊎◌, ◌<◌, String, string_bytes, ⊤}
 use Rattle.deno_graph.specs.declared.error.BuildError.{BuildError}
 use Rattle.deno_graph.specs.declared.error.BuildError.TheVariants.{NotYet, TooManyModules, UnaskedAnswer, Finished, OutOfMemory}
 use Rattle.deno_graph.specs.Reach.{Specifier, Answers}
+use Rattle.deno_graph.specs.Loader.{LoaderData}
 use Rattle.deno_graph.specs.Builder.{Building}
 use Rattle.std.specs.Io.KnownBytes.{Appends}
 use Rattle.graph_run.specs.declared.status.Status.{Status}
@@ -14,23 +15,24 @@ use Rattle.graph_run.specs.Run.{HasMoreThan}
 abbrev pub Adds : {A : Type 0} → String A → String A → List ℕ → Type 0
 Adds old new text = string_bytes new ≡ string_bytes old ++ text
 
--- the builder's loader is as it was made: nothing was asked, and it tells how often it will wait
-pub record IsNew {L : Type 0} (b : Building L) : Type 0 where
-  pub asked : b.asked_before ≡ []
-  pub log : b.log_before ≡ []
+-- nothing befell the builder's loader yet, which tells how often it will wait and answers open requests alone; and the builder goes on
+pub record IsNew {L : Type 0} (seen : LoaderData) (b : Building L) : Type 0 where
+  pub events : b.events_before ≡ []
   pub patient : IsSome b.patience
+  pub fair : seen.fair ≡ true
+  pub goes_on : b.finished ≡ false
 
 -- how many waits are left, where that is told
 abbrev pub waits_left : Option ℕ → ℕ
 waits_left None = 0
 waits_left (Some n) = n
 
--- an error of a builder is no more than it may say: that too much is reached
+-- such a builder ends with an error only where too much is reached, or because memory ran out
 abbrev pub SaysLarge : List Specifier → Answers → ℕ → BuildError → Type 0
-SaysLarge starts answers limit NotYet = ⊤
+SaysLarge starts answers limit NotYet = ⊥
 SaysLarge starts answers limit (TooManyModules seen) = HasMoreThan starts answers limit × (seen ≡ limit + 1)
-SaysLarge starts answers limit (UnaskedAnswer url) = ⊤
-SaysLarge starts answers limit Finished = ⊤
+SaysLarge starts answers limit (UnaskedAnswer url) = ⊥
+SaysLarge starts answers limit Finished = ⊥
 SaysLarge starts answers limit OutOfMemory = ⊤
 
 -- a status that a text is due for

@@ -1,5 +1,5 @@
 -- Reads and writes: bytes and the count of failures. A told list of bytes is `Some`; of `None` nothing is claimed.
-use Rattle.std.specs.Prelude.{◌≡◌, ℕ, ◌+◌, ◌<◌, List, ◌++◌, length, Option, Result, MatchResult}
+use Rattle.std.specs.Prelude.{◌≡◌, ℕ, ◌+◌, ◌<◌, ◌≤◌, List, ◌++◌, length, Option, Result, MatchResult}
 use Rattle.std.specs.Io.KnownBytes.{Consumes, Appends}
 use Rattle.graph_run.specs.declared.transfer.ReadError.{ReadError}
 use Rattle.graph_run.specs.declared.transfer.ReadError.TheVariants.{TooLong, Fault, OutOfMemory}
@@ -25,6 +25,10 @@ IsCountedRead old new result = MatchResult result (λ _. new ≡ old) (CountsRea
 -- one byte more than the limit was read, and no other
 abbrev pub GaveTooMuch : Option (List ℕ) → Option (List ℕ) → Type 0
 GaveTooMuch old new = (bytes : List ℕ) × (length bytes ≡ input_limit + 1) × Consumes old new bytes
+
+-- no more than so many bytes were read
+abbrev pub ReadAtMost : ℕ → Option (List ℕ) → Option (List ℕ) → Type 0
+ReadAtMost most old new = (bytes : List ℕ) × (length bytes ≤ most) × Consumes old new bytes
 
 -- a part from the front of the text was taken
 abbrev pub TookPart : Option (List ℕ) → Option (List ℕ) → List ℕ → Type 0

@@ -7,7 +7,7 @@
 //! - `Source`, `Sink`: what gives and takes bytes, counting its failures by `Faults`. `MemorySource` and `MemorySink`
 //!   are in memory (`specs/Memory.antt`).
 //!
-//! Want of memory is the one answer without a cause.
+//! Running out of memory is the one answer without a cause.
 #![tactic(auto)]
 
 mod faults;

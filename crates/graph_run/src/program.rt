@@ -1,7 +1,8 @@
 //! All that the program does, over a source and a sink.
-ghost use Rattle.std.specs.Prelude.{◌≡◌, ◌⊎◌, ◌↔◌, true, false, map, IfSome, IfOk, IfErr, string_bytes, MatchResult};
+ghost use Rattle.std.specs.Prelude.{◌≡◌, ◌+◌, ◌⊎◌, ◌↔◌, true, false, map, IfSome, IfOk, IfErr, string_bytes, MatchResult};
 ghost use Rattle.std.specs.Io.KnownBytes.{IsAtEnd};
-ghost use Rattle.graph_run.specs.Run.{is_form, Wrote, ReadsCounted, WritesCounted, IsRefused, IsDue};
+ghost use Rattle.graph_run.specs.Run.{is_form, Wrote, ReadsCounted, WritesCounted, IsRefused, IsLargeInput, IsSmallInput, Always, IsDue};
+ghost use Rattle.graph_run.specs.Transfer.{input_limit, ReadAtMost};
 ghost use Rattle.graph_run.specs.Steps.{IsVerdict, IsStop, IsWritten};
 
 use crate::sink::Sink;
@@ -30,10 +31,15 @@ pub fn run<S: Source, K: Sink>(
     ensures unread { is_form (map string_bytes words.now) ≡ false → source.new ≡ source.old }
     ensures reads { ReadsCounted (S.faults source.old) (S.faults source.new) result }
     ensures writes { WritesCounted (K.faults sink.old) (K.faults sink.new) result }
-    ensures refused { IfSome (S.left source.old) (λ input. IsRefused input
-        → is_form (map string_bytes words.now) ≡ true
-        → S.faults source.new ≡ S.faults source.old → K.faults sink.new ≡ K.faults sink.old
-        → (result ≡ Status.BadInput) ⊎ (result ≡ Status.NoMemory)) }
+    ensures refused { IfSome (S.left source.old) (λ input. IsRefused input → Always (is_form (map string_bytes words.now))
+        (S.faults source.old) (S.faults source.new) (K.faults sink.old) (K.faults sink.new) result Status.BadInput) }
+    ensures large { IfSome (S.left source.old) (λ input. IsLargeInput input → Always (is_form (map string_bytes words.now))
+        (S.faults source.old) (S.faults source.new) (K.faults sink.old) (K.faults sink.new) result Status.BuildRefused) }
+    // And when there is one.
+    ensures complete { IfSome (S.left source.old) (λ input. IsSmallInput input → Always (is_form (map string_bytes words.now))
+        (S.faults source.old) (S.faults source.new) (K.faults sink.old) (K.faults sink.new) result Status.Done) }
+    // Reading stops at the first byte too many.
+    ensures stops { ReadAtMost (input_limit + 1) (S.left source.old) (S.left source.new) }
 {
     if !is_build(words) {
         return finish(sink, Status::Usage, "usage: graph_tool build\n");
@@ -51,6 +57,7 @@ fn find_due<S: Source>(alloc: Global, source: &mut S) -> Result<Due, Status>
     ensures verdict { IfOk result (λ due. IsVerdict due.status) }
     ensures ended { IfOk result (λ due. due.status ≡ Status.Done → IsAtEnd (S.left source.new)) }
     ensures stopped { IfErr result IsStop }
+    ensures stops { ReadAtMost (input_limit + 1) (S.left source.old) (S.left source.new) }
     ensures count { MatchResult result (λ _. S.faults source.new ≡ S.faults source.old)
         (ReadsCounted (S.faults source.old) (S.faults source.new)) }
 {

@@ -7,7 +7,7 @@ use thiserror::Error;
 
 /// A read or a write that failed. The count of faults rose by it.
 #[derive(Clone, Copy, Debug, PartialEq, Eq, Error)]
-#[error("the bytes could not be moved")]
+#[error("Failed")]
 pub struct Failed;
 
 /// What gives bytes.

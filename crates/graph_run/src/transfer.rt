@@ -2,7 +2,7 @@
 ghost use Rattle.std.specs.Prelude.{◌≡◌, ◌≢◌, ℕ, ◌+◌, ◌<◌, ◌≤◌, List, ◌++◌, length, vec_len, IfOk, IfErr, OnOk, OnErr};
 ghost use Rattle.std.specs.Io.KnownBytes.{Consumes, IsAtEnd, Appends, ReadConsumes};
 ghost use Rattle.graph_run.specs.declared.transfer.ReadError.TheVariants.{OutOfMemory};
-ghost use Rattle.graph_run.specs.Transfer.{IsCounted, IsCountedRead, input_limit, GaveTooMuch, TookPart, Grew};
+ghost use Rattle.graph_run.specs.Transfer.{IsCounted, IsCountedRead, input_limit, GaveTooMuch, ReadAtMost, TookPart, Grew};
 
 use crate::sink::Sink;
 use crate::source::{Failed, Source};
@@ -39,6 +39,7 @@ pub fn read_all<S: Source>(alloc: Global, source: &mut S) -> Result<Vec<u8>, Rea
     ensures ended { OnOk result (IsAtEnd (S.left source.new)) }
     ensures within { IfOk result (λ bytes. length bytes.items ≤ input_limit) }
     ensures long { result ≡ Err ReadError.TooLong → GaveTooMuch (S.left source.old) (S.left source.new) }
+    ensures stops { ReadAtMost (input_limit + 1) (S.left source.old) (S.left source.new) }
     ensures count { IsCountedRead (S.faults source.old) (S.faults source.new) result }
 {
     let mut bytes = Vec::new(alloc);
@@ -73,6 +74,7 @@ fn take_part<S: Source>(
         (Grew (S.left source.old) (S.left source.new) bytes.old.items bytes.new.items) }
     ensures ended { IfOk result (λ n. n ≡ 0 → IsAtEnd (S.left source.new)) }
     ensures refused { IfErr result (λ e. e ≢ ReadError.TooLong) }
+    ensures stops { ReadAtMost (length chunk.old) (S.left source.old) (S.left source.new) }
     ensures count { IsCountedRead (S.faults source.old) (S.faults source.new) result }
 {
     let n = read_part(source, chunk)?;

@@ -1,9 +1,9 @@
 //! What is due for an input: the report of its graph, or the line of a refusal.
-ghost use Rattle.std.specs.Prelude.{◌≡◌, ◌≤◌, ◌↔◌, Err, length, IfOk, IfErr, IsTrue, string_bytes};
+ghost use Rattle.std.specs.Prelude.{◌≡◌, [], ◌≤◌, ◌↔◌, Err, length, IfOk, IfErr, IsTrue, string_bytes};
 ghost use Rattle.url.specs.Parts.{Parts};
 ghost use Rattle.graph_entry.specs.Analysed.{Analysed};
 ghost use Rattle.deno_graph.specs.Graph.{IsGraph, texts};
-ghost use Rattle.deno_graph.specs.Memory.{tells};
+ghost use Rattle.deno_graph.specs.Memory.{tells, data_of};
 ghost use Rattle.deno_graph.specs.Builder.{OnlyPlain};
 ghost use Rattle.graph_run.specs.Transfer.{input_limit};
 ghost use Rattle.graph_run.specs.Report.{report_of};
@@ -48,13 +48,17 @@ pub fn refusal(alloc: Global, line: &str) -> Result<Due, AllocError>
 
 /// What is due for a bundle.
 fn due_for_bundle(alloc: Global, bundle: Bundle) -> Result<Due, AllocError>
-    requires { OnlyPlain bundle.options }
+    requires plain { OnlyPlain bundle.options }
+    requires unforced { bundle.arrival ≡ [] }
     ensures { IfOk result (λ due. OfBundle bundle due.status (string_bytes due.text)) }
 {
     match build(alloc, bundle) {
         Ok(graph) => done(alloc, &graph),
         Err(BuildError::TooManyModules { seen }) => too_large(alloc, seen),
-        Err(_) => Err(AllocError),
+        Err(BuildError::OutOfMemory) => Err(AllocError),
+        Err(BuildError::NotYet) => unreachable!(),
+        Err(BuildError::UnaskedAnswer(_)) => unreachable!(),
+        Err(BuildError::Finished) => unreachable!(),
     }
 }
 
@@ -76,10 +80,11 @@ fn too_large(alloc: Global, seen: usize) -> Result<Due, AllocError>
     })
 }
 
-/// The graph of a bundle. A loader in memory answers only what it is asked for, so the errors left are
-/// a bundle that is too large and want of memory.
+/// The graph of a bundle. A loader in memory without a forced answer answers only what it is asked for, so the
+/// errors left are a bundle that is too large and `OutOfMemory`.
 fn build(alloc: Global, bundle: Bundle) -> Result<ModuleGraph, BuildError>
-    requires { OnlyPlain bundle.options }
+    requires plain { OnlyPlain bundle.options }
+    requires unforced { bundle.arrival ≡ [] }
     ensures graph { IfOk result (IsGraphOf bundle) }
     ensures large { IfErr result
         (SaysLarge (texts bundle.roots) (tells bundle.modules) bundle.options.limit) }
@@ -90,8 +95,9 @@ fn build(alloc: Global, bundle: Bundle) -> Result<ModuleGraph, BuildError>
 
 /// A builder of the graph of a bundle, over a loader in memory that has its modules.
 fn new_build(alloc: Global, bundle: Bundle) -> Result<GraphBuild<MemoryLoader>, BuildError>
-    requires { OnlyPlain bundle.options }
-    ensures new { IfOk result (λ build. IsNew build.inner) }
+    requires plain { OnlyPlain bundle.options }
+    requires unforced { bundle.arrival ≡ [] }
+    ensures new { IfOk result (λ build. IsNew (data_of build.inner.loader) build.inner) }
     ensures roots { IfOk result (λ build. build.inner.roots ≡ bundle.roots) }
     ensures limit { IfOk result (λ build. build.inner.limit ≡ bundle.options.limit) }
     ensures modules { IfOk result (λ build. build.inner.loader.modules ≡ bundle.modules) }
@@ -109,23 +115,24 @@ fn new_build(alloc: Global, bundle: Bundle) -> Result<GraphBuild<MemoryLoader>, 
 
 /// Polls until there is another answer than `NotYet`.
 fn poll_to_end(build: &mut GraphBuild<MemoryLoader>) -> Result<ModuleGraph, BuildError>
-    requires { IsNew build.old.inner }
+    requires { IsNew (data_of build.old.inner.loader) build.old.inner }
     ensures graph { IfOk result (λ graph. IsGraph Analysed (texts build.old.inner.roots)
         (tells build.old.inner.loader.modules) graph.entries) }
     ensures roots { IfOk result (λ graph. graph.roots ≡ build.old.inner.roots) }
+    ensures within { IfOk result (λ graph. length graph.entries ≤ build.old.inner.limit) }
     ensures large { IfErr result (SaysLarge (texts build.old.inner.roots)
         (tells build.old.inner.loader.modules) build.old.inner.limit) }
 {
     'polls: loop {
         let answer = build.poll();
-        if !waits(&answer) {
+        if !is_not_yet(&answer) {
             return answer;
         }
     }
 }
 
 /// Whether the builder wants to be polled again.
-fn waits(answer: &Result<ModuleGraph, BuildError>) -> bool
+fn is_not_yet(answer: &Result<ModuleGraph, BuildError>) -> bool
     ensures { IsTrue result ↔ (answer.now ≡ Err BuildError.NotYet) }
 {
     matches!(answer, Err(BuildError::NotYet))

@@ -3,7 +3,7 @@
 use base::{Range, SharedBytes, Text};
 use graph_entry::{
     Dependency, DependencyKind, Entry, Headers, LoadAnswer, Module, ModuleError, PackageKind,
-    PackageRef, analyse, analyse_unasked, is_loadable, resolve,
+    PackageRef, ResolutionError, SyntaxErrorKind, analyse, analyse_unasked, is_loadable, resolve,
 };
 use std::alloc::Global;
 use std::collections::BTreeMap;
@@ -120,6 +120,13 @@ fn resolves_specifiers_case_by_case(rt: HostRuntime) -> Result<(), Fail> {
         ("file:///x/a.ts", "?q", "ImportPrefixMissing"),
         ("file:///x/a.ts", "https://", "InvalidUrl"),
         ("blob:x", "./b.ts", "InvalidUrl"),
+        ("https://h/a.ts", "http://h/b.ts", "InvalidDowngrade"),
+        ("https://h/a.ts", "//h/b.ts", "https://h/b.ts"),
+        ("http://h/a.ts", "https://h/b.ts", "https://h/b.ts"),
+        ("https://h/a.ts", "file:///b.ts", "InvalidLocalImport"),
+        ("http://h/a.ts", "file:///b.ts", "InvalidLocalImport"),
+        ("file:///a.ts", "http://h/b.ts", "http://h/b.ts"),
+        ("data:text/javascript,", "file:///b.ts", "file:///b.ts"),
     ];
     for (referrer, text, want) in cases {
         let referrer = url(rt.alloc(), referrer)?;
@@ -266,6 +273,17 @@ fn reads_what_no_loader_is_asked_for(rt: HostRuntime) -> Result<(), Fail> {
     Ok(())
 }
 
+fn headers(alloc: Global, rows: &[(&str, &str)]) -> Result<Headers, Fail> {
+    let mut map = BTreeMap::new(alloc);
+    for (name, value) in rows {
+        map.insert(
+            String::from_str(alloc, name)?,
+            String::from_str(alloc, value)?,
+        )?;
+    }
+    Ok(Headers::from_map(alloc, map)?)
+}
+
 #[test]
 fn reads_the_content_type(rt: HostRuntime) -> Result<(), Fail> {
     let cases = [
@@ -279,17 +297,18 @@ fn reads_the_content_type(rt: HostRuntime) -> Result<(), Fail> {
         ("file:///a.ts", "text/html", "UnsupportedMediaType"),
     ];
     for (specifier, content_type, want) in cases {
-        let mut map = BTreeMap::new(rt.alloc());
-        map.insert(
-            String::from_str(rt.alloc(), "content-type")?,
-            String::from_str(rt.alloc(), content_type)?,
-        )?;
-        let answer = LoadAnswer::Content {
-            headers: Headers::from_map(map),
-            bytes: SharedBytes::from_slice(rt.alloc(), b"")?,
-        };
-        let entry = analyse(rt.alloc(), &url(rt.alloc(), specifier)?, answer)?;
-        assert_eq!(rt; shown(rt.alloc(), &entry)?.as_str(), want, "{specifier}");
+        for name in ["content-type", "Content-Type", "CONTENT-TYPE"] {
+            let answer = LoadAnswer::Content {
+                headers: headers(rt.alloc(), &[(name, content_type)])?,
+                bytes: SharedBytes::from_slice(rt.alloc(), b"")?,
+            };
+            let entry = analyse(rt.alloc(), &url(rt.alloc(), specifier)?, answer)?;
+            assert_eq!(rt;
+                shown(rt.alloc(), &entry)?.as_str(),
+                want,
+                "{specifier} {name}"
+            );
+        }
     }
     Ok(())
 }
@@ -299,8 +318,8 @@ fn makes_entries_of_other_answers(rt: HostRuntime) -> Result<(), Fail> {
     let specifier = url(rt.alloc(), "file:///a.ts")?;
     let cases = [
         (LoadAnswer::Absent, "Missing"),
-        (LoadAnswer::Failed, "NotBuilt"),
-        (LoadAnswer::External, "NotBuilt"),
+        (LoadAnswer::Failed, "Loading"),
+        (LoadAnswer::External, "no module"),
         (LoadAnswer::Redirect(specifier.clone()?), "NotBuilt"),
     ];
     for (answer, want) in cases {
@@ -312,14 +331,27 @@ fn makes_entries_of_other_answers(rt: HostRuntime) -> Result<(), Fail> {
 
 #[test]
 fn copies_headers(rt: HostRuntime) -> Result<(), Fail> {
-    let mut map = BTreeMap::new(rt.alloc());
-    map.insert(
-        String::from_str(rt.alloc(), "content-type")?,
-        String::from_str(rt.alloc(), "text/plain")?,
-    )?;
-    let copy = Headers::from_map(map).copy()?;
-    let value = copy.as_map().get("content-type").ok_or("no header")?;
-    assert_eq!(rt; value.as_str(), "text/plain");
+    let rows = [
+        ("Content-Type", "text/html"),
+        ("content-type", "text/plain"),
+    ];
+    let copy = headers(rt.alloc(), &rows)?.copy()?;
+    assert_eq!(rt; copy.as_map().len(), 1);
     assert_eq!(rt; copy.content_type(), Some("text/plain"));
+    Ok(())
+}
+
+#[test]
+fn displays_names(rt: HostRuntime) -> Result<(), Fail> {
+    let alloc = rt.alloc();
+    let missing = ModuleError::Missing;
+    let memory = ModuleError::OutOfMemory;
+    let refused = ResolutionError::InvalidDowngrade;
+    let lexical = SyntaxErrorKind::Syntax;
+    let line = format!(in alloc; "{missing} {memory} {refused} {lexical}")?;
+    assert_eq!(rt;
+        line.as_str(),
+        "Missing out of memory InvalidDowngrade Syntax"
+    );
     Ok(())
 }

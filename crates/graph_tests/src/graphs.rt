@@ -188,3 +188,21 @@ fn takes_answers_in_any_order(rt: HostRuntime) -> Result<(), Fail> {
     }
     Ok(())
 }
+
+#[test]
+fn displays_names_of_errors(rt: HostRuntime) -> Result<(), Fail> {
+    let alloc = rt.alloc();
+    let url = Url::parse(alloc, "file:///a.ts")?;
+    let cases = [
+        (BuildError::NotYet, "NotYet"),
+        (BuildError::TooManyModules { seen: 3 }, "TooManyModules"),
+        (BuildError::UnaskedAnswer(url), "UnaskedAnswer"),
+        (BuildError::Finished, "Finished"),
+        (BuildError::OutOfMemory, "out of memory"),
+    ];
+    for (error, want) in cases {
+        let line = format!(in alloc; "{error}")?;
+        assert_eq!(rt; line.as_str(), want);
+    }
+    Ok(())
+}

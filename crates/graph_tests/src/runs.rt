@@ -74,6 +74,14 @@ fn rows_of_the_first_path(rt: HostRuntime) -> Result<(), Fail> {
             "0 root file:///a.ts\nfile:///a.ts error Parse\nentries 1\n",
         ),
         (
+            r#"{"roots":["https://h/a.ts"],"modules":[{"specifier":"https://h/a.ts","text":"import \"http://h/b.ts\";"}]}"#,
+            "0 root https://h/a.ts\nhttps://h/a.ts module TypeScript 23\n  import 7-22 \"http://h/b.ts\" - ! InvalidDowngrade\nentries 1\n",
+        ),
+        (
+            r#"{"roots":["http://h/a.ts"],"modules":[{"specifier":"http://h/a.ts","text":"import \"file:///b.ts\";"}]}"#,
+            "0 root http://h/a.ts\nhttp://h/a.ts module TypeScript 22\n  import 7-21 \"file:///b.ts\" - ! InvalidLocalImport\nentries 1\n",
+        ),
+        (
             r#"{"roots":["npm:x"],"modules":[]}"#,
             "0 root npm:x\nnpm:x package npm \"x\" - -\nentries 1\n",
         ),

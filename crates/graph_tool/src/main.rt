@@ -5,6 +5,8 @@
 #![tactic(auto)]
 
 mod adapters;
+#[cfg(test)]
+mod tests;
 
 use crate::adapters::{ReadSource, WriteSink};
 use graph_run::{Status, run};

@@ -1,5 +1,8 @@
-use Rattle.deno_graph.proofs.ResultLemmas.{ascending_done}
+use Rattle.deno_graph.proofs.ResultLemmas.{ascending_done, done_sorted}
 use Rattle.deno_graph.proofs.finish.finish.Goals as goal
+
+pub entries_of-requires : goal.entries_of-requires
+entries_of-requires c = rw c.replace-taken.ensures.value (done_sorted c.args.reached.now.entries c.len-count.ensures.ordered c.requires)
 
 pub new-requires-2 : goal.new-requires-2
 new-requires-2 c =

@@ -1,10 +1,8 @@
 use Rattle.std.proofs.Common.{◌≡◌, []}
 use Rattle.serde_json.specs.View.{members_view}
-use Rattle.graph_entry.specs.Headers.{entries_of}
 use Rattle.graph_bundle.specs.Bundle.{headers_onto}
 use Rattle.graph_bundle.proofs.module.each_header.Given as goal
 
 -- the headers so far, with those of the members that are left, are those of all members
 abbrev pub invariant-loop-name : goal.invariant-loop-name
-invariant-loop-name l =
-    headers_onto [] (members_view l.members.entries) ≡ headers_onto (entries_of l.headers.entries) (members_view l.name-iterator)
+invariant-loop-name l = headers_onto [] (members_view l.members.entries) ≡ headers_onto l.headers (members_view l.name-iterator)

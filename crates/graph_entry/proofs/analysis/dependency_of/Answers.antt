@@ -1,9 +1,8 @@
-use Rattle.std.proofs.Common.{◌≡◌, ◌∙◌, ap, List, ℕ, None, refl}
+use Rattle.std.proofs.Common.{◌≡◌, ◌∙◌, ap, List, ℕ, refl}
 use Rattle.url.specs.Parts.{Parts}
-use Rattle.url.specs.Parser.{Parsed, parse_url}
-use Rattle.file_url.specs.Imports.{import_of}
+use Rattle.url.specs.Parser.{Parsed}
 use Rattle.graph_entry.specs.Specifier.{text_of}
-use Rattle.graph_entry.specs.Resolution.{resolve, kept_of}
+use Rattle.graph_entry.specs.Resolution.{resolve, resolved_from}
 use Rattle.graph_entry.proofs.analysis.dependency_of.Goals as goal
 
 -- the base is the specifier's text read again, and the text is the site's value
@@ -13,6 +12,6 @@ returns c =
     let s = text_of c.args.source.specifier.now in
     let found : c.in_ok-resolution.resolution ≡ resolve s c.args.site.value
     = c.in_ok-resolution.ensures
-    ∙ ap (λ (t : List ℕ). kept_of (import_of c.args.source.base.now t)) c.as_str.ensures
-    ∙ ap (λ (b : Parsed Parts). kept_of (import_of b c.args.site.value)) c.requires in
+    ∙ ap (λ (t : List ℕ). resolved_from c.args.source.base.now t) c.as_str.ensures
+    ∙ ap (λ (b : Parsed Parts). resolved_from b c.args.site.value) c.requires in
     rw found refl

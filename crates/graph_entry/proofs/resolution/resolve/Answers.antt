@@ -1,8 +1,7 @@
 use Rattle.std.proofs.Common.{◌≡◌, subst, None, IfOk}
 use Rattle.url.specs.Parts.{Parts}
 use Rattle.url.specs.Parser.{Parsed, parse_url}
-use Rattle.file_url.specs.Imports.{import_of}
-use Rattle.graph_entry.specs.Resolution.{resolve, kept_of}
+use Rattle.graph_entry.specs.Resolution.{resolve, resolved_from}
 use Rattle.graph_entry.proofs.resolution.resolve.Goals as goal
 
 -- the base is the referrer's text read again
@@ -10,5 +9,5 @@ pub returns : goal.returns
 unfolding resolve
 returns c =
     let P : Parsed Parts → Type 0 = λ b. IfOk c.resolve_from.result
-    (λ r. r ≡ kept_of (import_of b c.args.text.now)) in
+    (λ r. r ≡ resolved_from b c.args.text.now) in
     subst P c.in_ok-base.ensures c.resolve_from.ensures

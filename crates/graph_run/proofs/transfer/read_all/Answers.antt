@@ -1,8 +1,9 @@
 -- Each read gives the next bytes; a read of nothing ends the source.
-use Rattle.std.proofs.Common.{◌∙◌, refl, arith}
+use Rattle.std.proofs.Common.{◌≡◌, ◌≤◌, ◌+◌, ℕ, length, vec_len, ◌∙◌, refl, sym, arith}
 use Rattle.std.proofs.lemmas.List.{length-take}
-use Rattle.std.proofs.KnownBytes.{Consumes-nil}
-use Rattle.graph_run.proofs.TransferLemmas.{Consumes-grown}
+use Rattle.std.proofs.KnownBytes.{Consumes-nil, Keeps-refl}
+use Rattle.graph_run.specs.Transfer.{input_limit}
+use Rattle.graph_run.proofs.TransferLemmas.{Consumes-grown, ReadAtMost-none, ReadAtMost-more}
 use Rattle.graph_run.proofs.transfer.read_all.Goals as goal
 
 pub parts-init : goal.parts-init

@@ -1,12 +1,12 @@
 -- What is due for the bundle, or for a value that says none.
 use Rattle.std.proofs.Common.{ap, Err}
 use Rattle.graph_run.specs.Run.{bundle, no_bundle}
-use Rattle.graph_bundle.proofs.BundleLemmas.{bundle_plain}
+use Rattle.graph_bundle.proofs.BundleLemmas.{bundle_plain, bundle_unforced}
 use Rattle.graph_bundle.proofs.BundleLemmas.{IfOk-map}
 use Rattle.graph_run.proofs.verdict.due_for.Goals as goal
 
 pub due_for_bundle-requires : goal.due_for_bundle-requires
-due_for_bundle-requires c = bundle_plain _ _ c.in-Ok.ensures.bundle.2
+due_for_bundle-requires c = record { plain = bundle_plain _ _ c.in-Ok.ensures.bundle.2; unforced = bundle_unforced _ _ c.in-Ok.ensures.bundle.2 }
 
 pub returns-in-Ok : goal.returns-in-Ok
 returns-in-Ok c =

@@ -1,22 +1,26 @@
 -- The builder's clauses, over what its loader tells.
-use Rattle.std.proofs.Common.{ap, ◌∙◌}
+use Rattle.std.proofs.Common.{ap, ◌∙◌, sym}
 use Rattle.deno_graph.specs.Graph.{texts}
-use Rattle.graph_run.proofs.GraphLemmas.{built_graph, refused_large}
+use Rattle.graph_run.proofs.GraphLemmas.{built_graph, refused_large, settled_none, fewer_waits, stays_told}
 use Rattle.graph_run.proofs.verdict.poll_to_end.Goals as goal
 
-pub returns-then-not-waits-clause-graph : goal.returns-then-not-waits-clause-graph
-returns-then-not-waits-clause-graph c =
+pub returns-then-not-is_not_yet-clause-graph : goal.returns-then-not-is_not_yet-clause-graph
+returns-then-not-is_not_yet-clause-graph c =
     let polled = c.poll-answer in
     let new = c.poll-answer.new.self.inner in
     built_graph polled.result (texts c.polls.build.inner.roots) (texts c.args.build.now.inner.roots) new.log
     new.loader.modules c.args.build.now.inner.loader.modules (ap texts c.polls.invariant.roots)
     (polled.ensures.telling ∙ c.polls.invariant.told) polled.ensures.told polled.ensures.graph
 
-pub returns-then-not-waits-clause-large : goal.returns-then-not-waits-clause-large
-returns-then-not-waits-clause-large c =
+pub returns-then-not-is_not_yet-clause-large : goal.returns-then-not-is_not_yet-clause-large
+returns-then-not-is_not_yet-clause-large c =
     let polled = c.poll-answer in
     let new = c.poll-answer.new.self.inner in
+    let old = c.polls.invariant.new in
     refused_large polled.result (texts c.polls.build.inner.roots) (texts c.args.build.now.inner.roots) new.log
     new.loader.modules c.args.build.now.inner.loader.modules c.polls.build.inner.limit c.args.build.now.inner.limit
     (ap texts c.polls.invariant.roots) c.polls.invariant.limit (polled.ensures.telling ∙ c.polls.invariant.told) polled.ensures.told
     polled.ensures.too_many
+    (λ is. ?)
+    (polled.ensures.fair old.fair (settled_none c.polls.build.inner.events_before old.events))
+    (λ is. let over = polled.ensures.finished.0 is in let goes = old.goes_on in absurd cc)

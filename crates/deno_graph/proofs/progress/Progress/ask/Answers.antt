@@ -1,24 +1,46 @@
-use Rattle.std.proofs.Common.{refl}
+use Rattle.std.proofs.Common.{◌+◌, refl}
 use Rattle.graph_entry.specs.Analysed.{Analysed}
-use Rattle.deno_graph.proofs.ProgressLemmas.{live_asked, kept_asked}
+use Rattle.deno_graph.specs.Progress.{at}
+use Rattle.deno_graph.proofs.ProgressLemmas.{live_asked, kept_started, asks_one, asks_none}
 use Rattle.deno_graph.proofs.progress.Progress.ask.Goals as goal
 
 pub returns-in-Ok-mark_asked-clause-deals : goal.returns-in-Ok-mark_asked-clause-deals
 returns-in-Ok-mark_asked-clause-deals g c = (
-  rw (c.in-Ok.ensures.asked, c.in-Ok.ensures.log, c.in-Ok.ensures.told)
-      (live_asked Analysed _ _ _ _ _ c.mark_asked.new.self c.requires.in_hand c.requires.loads c.in-Ok-mark_asked.ensures.ok
-      c.in-Ok-mark_asked.ensures.limit),
+  live_asked Analysed (at (g.L.Loader.seen c.args.loader.now) c.args.self.now) _ (g.L.Loader.seen c.start.new.self) c.mark_asked.new.self c.requires.in_hand
+      c.requires.loads c.in-Ok.ensures.started c.in-Ok-mark_asked.ensures.ok c.in-Ok-mark_asked.ensures.limit,
   rw (c.in-Ok-mark_asked.ensures.ok.counted, c.in-Ok-mark_asked.ensures.ok.todo) refl,
 )
 
 pub returns-in-Ok-mark_asked-clause-kept : goal.returns-in-Ok-mark_asked-clause-kept
 returns-in-Ok-mark_asked-clause-kept g c =
-    rw (c.in-Ok.ensures.asked, c.in-Ok.ensures.log, c.in-Ok.ensures.told)
-    (kept_asked Analysed _ _ _ _ _ _ _ c.requires.in_hand.kept c.requires.loads c.requires.in_hand.fresh
-    (c.requires.in_hand.building.sound _ _ c.requires.in_hand.queued))
+    kept_started (at (g.L.Loader.seen c.args.loader.now) c.args.self.now) (at (g.L.Loader.seen c.start.new.self) (record {
+      roots = c.args.self.now.roots;
+      reaching = c.mark_asked.new.self;
+      asked = c.args.self.now.asked + 1;
+      taken = c.args.self.now.taken;
+      begun = c.args.self.now.begun;
+    })) _ c.requires.in_hand c.requires.loads c.in-Ok.ensures.started refl refl refl
+
+pub returns-in-Ok-mark_asked-clause-asks : goal.returns-in-Ok-mark_asked-clause-asks
+returns-in-Ok-mark_asked-clause-asks g c =
+    asks_one (at (g.L.Loader.seen c.args.loader.now) c.args.self.now) _ (g.L.Loader.seen c.start.new.self) _ c.in-Ok.ensures.started refl
+    c.in-Ok-mark_asked.ensures.limit refl refl refl
 
 pub returns-in-Err-mark_asked-clause-kept : goal.returns-in-Err-mark_asked-clause-kept
 returns-in-Err-mark_asked-clause-kept g c =
-    rw (c.in-Ok.ensures.asked, c.in-Ok.ensures.log, c.in-Ok.ensures.told)
-    (kept_asked Analysed _ _ _ _ _ _ _ c.requires.in_hand.kept c.requires.loads c.requires.in_hand.fresh
-    (c.requires.in_hand.building.sound _ _ c.requires.in_hand.queued))
+    kept_started (at (g.L.Loader.seen c.args.loader.now) c.args.self.now) (at (g.L.Loader.seen c.start.new.self) (record {
+      roots = c.args.self.now.roots;
+      reaching = c.mark_asked.new.self;
+      asked = c.args.self.now.asked + 1;
+      taken = c.args.self.now.taken;
+      begun = c.args.self.now.begun;
+    })) _ c.requires.in_hand c.requires.loads c.in-Ok.ensures.started refl refl refl
+
+pub returns-in-Err-mark_asked-clause-asks : goal.returns-in-Err-mark_asked-clause-asks
+returns-in-Err-mark_asked-clause-asks g c =
+    asks_one (at (g.L.Loader.seen c.args.loader.now) c.args.self.now) _ (g.L.Loader.seen c.start.new.self) _ c.in-Ok.ensures.started refl
+    c.in-Err-mark_asked.ensures.limit refl refl refl
+
+pub returns-in-Err-clause-asks : goal.returns-in-Err-clause-asks
+returns-in-Err-clause-asks g c =
+    asks_none (at (g.L.Loader.seen c.args.loader.now) c.args.self.now) _ (g.L.Loader.seen c.start.new.self) _ c.in-Err.ensures.started

@@ -6,13 +6,8 @@ use Rattle.deno_graph.proofs.progress.Progress.ask_all.Given as goal
 -- the builder goes on, and the loader was only asked
 abbrev pub invariant-asking : goal.invariant-asking
 invariant-asking g l = record {
-  live : IsLive Analysed (at (g.L.Loader.asked l.loader) (g.L.Loader.log l.loader) (g.L.Loader.told l.loader)
-      (g.L.Loader.pending l.loader) (g.L.Loader.standing l.loader) (g.L.Loader.patience l.loader) l.self);
-  asks : OnlyAsks
-      (at (g.L.Loader.asked l.fn.loader) (g.L.Loader.log l.fn.loader) (g.L.Loader.told l.fn.loader)
-      (g.L.Loader.pending l.fn.loader) (g.L.Loader.standing l.fn.loader) (g.L.Loader.patience l.fn.loader) l.fn.self)
-      (at (g.L.Loader.asked l.loader) (g.L.Loader.log l.loader) (g.L.Loader.told l.loader)
-      (g.L.Loader.pending l.loader) (g.L.Loader.standing l.loader) (g.L.Loader.patience l.loader) l.self);
+  live : IsLive Analysed (at (g.L.Loader.seen l.loader) l.self);
+  asks : OnlyAsks (at (g.L.Loader.seen l.fn.loader) l.fn.self) (at (g.L.Loader.seen l.loader) l.self);
 }
 
 -- what is on the worklist, and what can still come

@@ -1,6 +1,43 @@
+use Rattle.std.proofs.Common.{refl}
 use Rattle.graph_entry.specs.Analysed.{Analysed}
-use Rattle.deno_graph.proofs.ProgressLemmas.{live_popped}
+use Rattle.deno_graph.specs.Progress.{at}
+use Rattle.deno_graph.proofs.ProgressLemmas.{live_popped, asks_still, only_asks_more}
 use Rattle.deno_graph.proofs.progress.Progress.ask_next.Goals as goal
 
 pub deal-requires : goal.deal-requires
 deal-requires g c = record { in_hand = live_popped Analysed _ c.pop.new.self c.in-Some.url c.requires.live c.in-Some.ensures }
+
+-- taking a specifier from the worklist asks nothing
+pub returns-in_default-clause-asks : goal.returns-in_default-clause-asks
+returns-in_default-clause-asks g c =
+    asks_still (at (g.L.Loader.seen c.args.loader.now) c.args.self.now) (record {
+      roots = c.args.self.now.roots;
+      reaching = record { reached = c.args.self.now.reaching.reached; todo = c.pop.new.self; limit = c.args.self.now.reaching.limit };
+      asked = c.args.self.now.asked;
+      taken = c.args.self.now.taken;
+      begun = c.args.self.now.begun;
+    }) refl refl refl refl refl
+
+pub returns-in-Ok-clause-asks : goal.returns-in-Ok-clause-asks
+returns-in-Ok-clause-asks g c =
+    only_asks_more _ _ _
+    (asks_still (at (g.L.Loader.seen c.args.loader.now) c.args.self.now) (record {
+      roots = c.args.self.now.roots;
+      reaching = record { reached = c.args.self.now.reaching.reached; todo = c.pop.new.self; limit = c.args.self.now.reaching.limit };
+      asked = c.args.self.now.asked;
+      taken = c.args.self.now.taken;
+      begun = c.args.self.now.begun;
+    }) refl refl refl refl refl)
+    c.deal.ensures.asks
+
+pub returns-in-Err-clause-asks : goal.returns-in-Err-clause-asks
+returns-in-Err-clause-asks g c =
+    only_asks_more _ _ _
+    (asks_still (at (g.L.Loader.seen c.args.loader.now) c.args.self.now) (record {
+      roots = c.args.self.now.roots;
+      reaching = record { reached = c.args.self.now.reaching.reached; todo = c.pop.new.self; limit = c.args.self.now.reaching.limit };
+      asked = c.args.self.now.asked;
+      taken = c.args.self.now.taken;
+      begun = c.args.self.now.begun;
+    }) refl refl refl refl refl)
+    c.deal.ensures.asks

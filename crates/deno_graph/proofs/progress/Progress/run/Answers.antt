@@ -1,6 +1,6 @@
-use Rattle.std.proofs.Common.{◌∙◌}
+use Rattle.std.proofs.Common.{Bool, Err, ◌∙◌}
 use Rattle.deno_graph.specs.Progress.{at}
-use Rattle.deno_graph.proofs.ProgressLemmas.{goes_more, errs_after, runs_err}
+use Rattle.deno_graph.proofs.ProgressLemmas.{goes_more, errs_after, runs_err, in_time_after, in_time_err}
 use Rattle.deno_graph.proofs.progress.Progress.run.Goals as goal
 
 pub turns-preserved : goal.turns-preserved
@@ -21,16 +21,17 @@ returns-in-Err-clause-goes g c = goes_more _ _ _ c.turns.invariant.goes c.turn.e
 pub returns-in-Err-clause-runs : goal.returns-in-Err-clause-runs
 returns-in-Err-clause-runs g c =
     runs_err
-    (at (g.L.Loader.asked c.args.loader.now) (g.L.Loader.log c.args.loader.now) (g.L.Loader.told c.args.loader.now)
-    (g.L.Loader.pending c.args.loader.now) (g.L.Loader.standing c.args.loader.now) (g.L.Loader.patience c.args.loader.now) c.args.self.now)
-    (at (g.L.Loader.asked c.turn.new.loader) (g.L.Loader.log c.turn.new.loader) (g.L.Loader.told c.turn.new.loader)
-    (g.L.Loader.pending c.turn.new.loader) (g.L.Loader.standing c.turn.new.loader) (g.L.Loader.patience c.turn.new.loader) c.turn.new.self)
+    (at (g.L.Loader.seen c.args.loader.now) c.args.self.now)
+    (at (g.L.Loader.seen c.turn.new.loader) c.turn.new.self)
     c.in-Err.error
     (errs_after
-    (at (g.L.Loader.asked c.args.loader.now) (g.L.Loader.log c.args.loader.now) (g.L.Loader.told c.args.loader.now)
-    (g.L.Loader.pending c.args.loader.now) (g.L.Loader.standing c.args.loader.now) (g.L.Loader.patience c.args.loader.now) c.args.self.now)
-    (at (g.L.Loader.asked c.turns.loader) (g.L.Loader.log c.turns.loader) (g.L.Loader.told c.turns.loader)
-    (g.L.Loader.pending c.turns.loader) (g.L.Loader.standing c.turns.loader) (g.L.Loader.patience c.turns.loader) c.turns.self)
-    (at (g.L.Loader.asked c.turn.new.loader) (g.L.Loader.log c.turn.new.loader) (g.L.Loader.told c.turn.new.loader)
-    (g.L.Loader.pending c.turn.new.loader) (g.L.Loader.standing c.turn.new.loader) (g.L.Loader.patience c.turn.new.loader) c.turn.new.self)
+    (at (g.L.Loader.seen c.args.loader.now) c.args.self.now)
+    (at (g.L.Loader.seen c.turns.loader) c.turns.self)
+    (at (g.L.Loader.seen c.turn.new.loader) c.turn.new.self)
     c.in-Err.error c.requires.live.kept c.turns.invariant.goes c.turns.invariant.pending c.in-Err.ensures.turns)
+
+pub returns-in-Err-clause-in_time : goal.returns-in-Err-clause-in_time
+returns-in-Err-clause-in_time g c =
+    in_time_err Bool (Unit {0}) _ _ c.in-Err.error
+    (in_time_after {A = Bool} (at (g.L.Loader.seen c.args.loader.now) c.args.self.now) (at (g.L.Loader.seen c.turns.loader) c.turns.self) (Err c.in-Err.error) _
+    c.turns.invariant.goes c.in-Err.ensures.in_time)

@@ -6,15 +6,10 @@ use Rattle.deno_graph.proofs.progress.Progress.run.Given as goal
 -- the builder goes on, and the pending count is what it was
 abbrev pub invariant-turns : goal.invariant-turns
 invariant-turns g l = record {
-  live : IsLive Analysed (at (g.L.Loader.asked l.loader) (g.L.Loader.log l.loader) (g.L.Loader.told l.loader)
-      (g.L.Loader.pending l.loader) (g.L.Loader.standing l.loader) (g.L.Loader.patience l.loader) l.self);
+  live : IsLive Analysed (at (g.L.Loader.seen l.loader) l.self);
   begun : l.self.begun ≡ true;
-  goes : GoesOnAt
-      (at (g.L.Loader.asked l.fn.loader) (g.L.Loader.log l.fn.loader) (g.L.Loader.told l.fn.loader)
-      (g.L.Loader.pending l.fn.loader) (g.L.Loader.standing l.fn.loader) (g.L.Loader.patience l.fn.loader) l.fn.self)
-      (at (g.L.Loader.asked l.loader) (g.L.Loader.log l.loader) (g.L.Loader.told l.loader)
-      (g.L.Loader.pending l.loader) (g.L.Loader.standing l.loader) (g.L.Loader.patience l.loader) l.self);
-  pending : g.L.Loader.pending l.loader ≡ g.L.Loader.pending l.fn.loader;
+  goes : GoesOnAt (at (g.L.Loader.seen l.fn.loader) l.fn.self) (at (g.L.Loader.seen l.loader) l.self);
+  pending : (g.L.Loader.seen l.loader).pending ≡ (g.L.Loader.seen l.fn.loader).pending;
 }
 
 -- the answers that can still be taken

@@ -1,0 +1,30 @@
+use Rattle.std.proofs.Common.{rules, ◌≡◌, ◌++◌, ◌∷◌, [], true, subst, Ok}
+use Rattle.deno_graph.specs.Graph.{texts}
+use Rattle.deno_graph.specs.contracts.memory_loader.MemoryLoader.{the_view}
+use Rattle.deno_graph.specs.Memory.{Memory, text_log, IsOrderOf}
+use Rattle.deno_graph.proofs.MemoryLemmas.{kept_request, started_data}
+use Rattle.deno_graph.proofs.memory_loader.MemoryLoaderLoader.start.Goals as goal
+
+pub invariant_of-self-2 : goal.invariant_of-self-2
+invariant_of-self-2 c =
+    let order : c.push-2.new.self.items ≡ c.self.inside.order.items ++ true ∷ [] = search rules in
+    let asked : c.push.new.self ≡ c.self.inside.asked ++ c.args.specifier.now ∷ [] = search rules in
+    let waiting : c.push_back.new.self.items ≡ c.self.inside.waiting.items ++ c.args.specifier.now ∷ [] = search rules in
+    kept_request _ _ _ _ _ _ _ _ _ _ c.args.specifier.now c.self.invariant order asked waiting
+
+pub returns-clause-started : goal.returns-clause-started
+returns-clause-started c =
+    started_data c.args.self.now (the_view record {
+      modules = c.self.inside.modules;
+      places = c.self.inside.places;
+      arrival = c.self.inside.arrival;
+      next = c.self.inside.next;
+      order = c.push-2.new.self;
+      asked = c.push.new.self;
+      log = c.self.inside.log;
+      waiting = c.push_back.new.self;
+      pending = c.self.inside.pending;
+      standing = c.self.inside.standing;
+    }) c.args.specifier.now (Ok tt)
+    (subst (λ (m : Memory). IsOrderOf m.order (texts m.asked) (text_log m.log)) c.self.view_is c.self.invariant.ordered)
+    (search rules)
