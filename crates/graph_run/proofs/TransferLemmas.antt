@@ -1,9 +1,9 @@
 -- What several reads or writes, one after the other, do to known bytes.
-use Rattle.std.proofs.Common.{ℕ, ◌+◌, ◌≤◌, List, [], ◌++◌, length, length-append, arith, take, drop, sym, ◌∙◌, subst, Option, None, Some}
+use Rattle.std.proofs.Common.{ℕ, ◌+◌, ◌≤◌, List, [], ◌++◌, length, length-append, arith, take, drop, sym, ◌∙◌, subst, Option, None, Some, Result, Ok, Err}
 use Rattle.std.proofs.Math.Seq.{take-add}
-use Rattle.std.proofs.lemmas.List.{take-append-drop}
+use Rattle.std.proofs.lemmas.List.{take-append-drop, length-take}
 use Rattle.std.proofs.KnownBytes.{Appends-trans, Consumes-trans}
-use Rattle.std.specs.Io.KnownBytes.{Appends, Consumes, Keeps}
+use Rattle.std.specs.Io.KnownBytes.{Appends, Consumes, Keeps, ReadConsumes}
 use Rattle.graph_run.specs.Transfer.{ReadAtMost, TookPart, Grew}
 
 -- bytes that were taken stay taken over a write that fails
@@ -45,3 +45,9 @@ ReadAtMost-more a b c before n most gave more fits = (
   omega (arith, more.1, fits, length-append before more.0),
   Consumes-trans a b c before more.0 gave more.2,
 )
+
+-- one read gives no more than its buffer holds
+pub ReadAtMost-read : (E : Type 0) (a b : Option (List ℕ)) (r : Result ℕ E) (buffer : List ℕ) (most : ℕ) → ReadConsumes a b r buffer
+    → length buffer ≤ most → ReadAtMost most a b
+ReadAtMost-read E a b (Ok n) buffer most read fits = (take n buffer, omega (arith, fits, length-take n buffer), read.0)
+ReadAtMost-read E a b (Err e) buffer most kept fits = ReadAtMost-none a b most kept

@@ -89,6 +89,7 @@ fn read_part<S: Source>(source: &mut S, buffer: &mut [u8]) -> Result<usize, Read
     ensures bytes { ReadConsumes (S.left source.old) (S.left source.new) result buffer.new }
     ensures count { IsCounted (S.faults source.old) (S.faults source.new) result }
     ensures failed { IfErr result (λ e. e ≡ ReadError.Fault) }
+    ensures stops { ReadAtMost (length buffer.old) (S.left source.old) (S.left source.new) }
 {
     source.read(buffer).map_err(|_| ReadError::Fault)
 }

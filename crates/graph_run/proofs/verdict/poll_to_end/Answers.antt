@@ -1,5 +1,5 @@
 -- The builder's clauses, over what its loader tells.
-use Rattle.std.proofs.Common.{ap, ◌∙◌, sym}
+use Rattle.std.proofs.Common.{rules, ap, ◌∙◌, sym}
 use Rattle.deno_graph.specs.Graph.{texts}
 use Rattle.graph_run.proofs.GraphLemmas.{built_graph, refused_large, settled_none, fewer_waits, stays_told}
 use Rattle.graph_run.proofs.verdict.poll_to_end.Goals as goal
@@ -21,6 +21,6 @@ returns-then-not-is_not_yet-clause-large c =
     new.loader.modules c.args.build.now.inner.loader.modules c.polls.build.inner.limit c.args.build.now.inner.limit
     (ap texts c.polls.invariant.roots) c.polls.invariant.limit (polled.ensures.telling ∙ c.polls.invariant.told) polled.ensures.told
     polled.ensures.too_many
-    (λ is. ?)
+    (λ is. let yes = c.is_not_yet.ensures.1 is in search rules)
     (polled.ensures.fair old.fair (settled_none c.polls.build.inner.events_before old.events))
     (λ is. let over = polled.ensures.finished.0 is in let goes = old.goes_on in absurd cc)
