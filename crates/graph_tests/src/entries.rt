@@ -182,7 +182,7 @@ fn makes_modules_of_sources(rt: HostRuntime) -> Result<(), Fail> {
 #[test]
 fn says_why_there_is_no_module(rt: HostRuntime) -> Result<(), Fail> {
     let cases: [(&str, &[u8], &str); 12] = [
-        ("file:///a.ts", b"const x = 1;", "Parse InvalidChar 10-10"),
+        ("file:///a.ts", b"const \x01;", "Parse InvalidChar 6-6"),
         (
             "file:///a.ts",
             b"import \"a",
