@@ -48,7 +48,7 @@ one_bundle input b c h k =
 -- for an input that is a bundle what is due is that of the bundle
 due_of : (input : List ℕ) (status : Status) (text : List ℕ) (b : Bundle) → IsInput input b → IsDue input status text → OfBundle b status text
 due_of input status text b says (long lt _ _) = absurd (omega (arith, lt, says.within))
-due_of input status text b says (no_json _ no _ _) = absurd (no says.value says.json)
+due_of input status text b says (no_json _ never _ _) = absurd (never says.value says.json)
 due_of input status text b says (no_bundle _ value json none _ _) =
     let same : says.value ≡ value = one_value input says.value value says.json json in
     let both : Some b ≡ None = sym says.says ∙ ap bundle_of same ∙ none in absurd cc

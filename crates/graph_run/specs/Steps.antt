@@ -18,6 +18,8 @@ Adds old new text = string_bytes new ≡ string_bytes old ++ text
 -- nothing befell the builder's loader yet, which tells how often it will wait and answers open requests alone; and the builder goes on
 pub record IsNew {L : Type 0} (seen : LoaderData) (b : Building L) : Type 0 where
   pub events : b.events_before ≡ []
+  pub asked : b.asked_before ≡ []
+  pub log : b.log_before ≡ []
   pub patient : IsSome b.patience
   pub fair : seen.fair ≡ true
   pub goes_on : b.finished ≡ false
