@@ -6,8 +6,6 @@ mod failures;
 #[cfg(test)]
 mod packages;
 #[cfg(test)]
-mod pairs;
-#[cfg(test)]
 mod records;
 #[cfg(test)]
 mod repetitions;

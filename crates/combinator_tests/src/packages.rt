@@ -5,7 +5,7 @@ use std::alloc::Global;
 use std::test::Fail;
 use url::Url;
 
-// The package of the URL as a line, or the error's name.
+// The package of the URL as a line, or what the error displays.
 fn shown(alloc: Global, text: &str) -> Result<String, Fail> {
     let url = Url::parse(alloc, text)?;
     match parse_package_ref(alloc, &url) {
@@ -22,7 +22,7 @@ fn shown(alloc: Global, text: &str) -> Result<String, Fail> {
             let sub_path = copy.sub_path.as_ref().map_or("-", |t| t.as_str());
             Ok(format!(in alloc; "{kind} {} {requirement} {sub_path}", copy.name)?)
         }
-        Err(error) => Ok(format!(in alloc; "{error:?}")?),
+        Err(error) => Ok(format!(in alloc; "{error}")?),
     }
 }
 
@@ -77,7 +77,7 @@ fn refuses_other_texts(rt: HostRuntime) -> Result<(), Fail> {
             "{text}"
         );
     }
-    let told = format!(in rt.alloc(); "{}", PackageError::NotAReference)?;
-    assert_eq!(rt; told.as_str(), "not a reference to a package");
+    let none = format!(in rt.alloc(); "{}", PackageError::OutOfMemory)?;
+    assert_eq!(rt; none.as_str(), "out of memory");
     Ok(())
 }

@@ -1,6 +1,10 @@
+ghost use Rattle.std.specs.Prelude.{◌<◌, length, IfOk};
+ghost use Rattle.monch_core.specs.Outcome.{IsSuffix};
+
 use monch::{
-    Combinator, ParseError, ParseResult, ch, many_till, many_till_fold, many0, many0_count, many1,
-    separated_count, separated_fold, separated_list, tag,
+    Combinator, ParseError, ParseResult, ch, from_fn, many_till, many_till_fold, many0,
+    many0_count, many1, next_char, one_of, separated_count, separated_fold, separated_list, tag,
+    whitespace,
 };
 
 /// What a list leaves, and how many values it has.
@@ -53,6 +57,11 @@ fn lists_any_number(rt: HostRuntime) {
     ] {
         assert_eq!(rt; listed(&list, text), expected);
     }
+}
+
+#[test]
+#[tactic(auto, using(monch::proofs::Theorems::char_advances))]
+fn lists_characters_of_several_bytes(rt: HostRuntime) {
     let list = many0(rt.alloc(), ch('€'));
     assert_eq!(rt; listed(&list, "€€ß"), Some(("ß", 2)));
 }
@@ -77,6 +86,38 @@ fn lists_with_separators(rt: HostRuntime) {
     ] {
         assert_eq!(rt; listed(&list, text), expected);
     }
+}
+
+#[test]
+fn lists_one_of_several(rt: HostRuntime) {
+    let list = many1(rt.alloc(), one_of("abc"));
+    for (text, expected) in [("abcd", Some(("d", 3))), ("d", None)] {
+        assert_eq!(rt; listed(&list, text), expected);
+    }
+}
+
+/// A hexadecimal digit: a plain function, which says what `from_fn` and a repetition want of it.
+fn hex_digit<'a>(input: &'a str) -> ParseResult<'a, char>
+    ensures suffix { IfOk result (λ p. IsSuffix p.0.now input.now) }
+    ensures shorter { IfOk result (λ p. length p.0.now < length input.now) }
+{
+    let (rest, digit) = next_char(input)?;
+    if digit.is_ascii_hexdigit() {
+        Ok((rest, digit))
+    } else {
+        ParseError::backtrace()
+    }
+}
+
+#[test]
+#[tactic(auto, using(monch::proofs::Theorems::call_advances))]
+fn lists_what_a_function_reads(rt: HostRuntime) {
+    let list = many1(rt.alloc(), from_fn(hex_digit));
+    for (text, expected) in [("0aFg", Some(("g", 3))), ("g", None)] {
+        assert_eq!(rt; listed(&list, text), expected);
+    }
+    let list = many0(rt.alloc(), from_fn(|input| whitespace(input)));
+    assert_eq!(rt; listed(&list, " \ta"), Some(("a", 1)));
 }
 
 #[test]

@@ -1,5 +1,5 @@
 -- The meanings of combinators that call a closure.
-use Rattle.std.specs.Prelude.{◌≡◌, ℕ, Bool, List, Result, Ok, Err, IfOk}
+use Rattle.std.specs.Prelude.{◌≡◌, ◌<◌, ℕ, Bool, List, length, Result, Ok, Err, IfOk}
 use Rattle.std.specs.Borrow.{Bor}
 use Rattle.std.specs.Fn.{Shared, FnReturns, FnReturnsAt}
 use Rattle.monch_core.specs.declared.error.ParseError.{ParseError}
@@ -14,6 +14,11 @@ module _ {F O : Type 0} (calls : Shared F (Bor (List ℕ) × Unit {0}) (Result (
   -- where a call succeeds, what it leaves is a suffix of the text
   abbrev pub AnswersSuffix : Type 0
   AnswersSuffix = (text : List ℕ) (r : Result (Bor (List ℕ) × O) ParseError) → FnReturnsAt calls f text r → IfOk r (λ p. IsSuffix p.0.now text)
+
+  -- where a call succeeds, what it leaves is shorter than the text
+  abbrev pub AnswersShorter : Type 0
+  AnswersShorter = (text : List ℕ) (r : Result (Bor (List ℕ) × O) ParseError) → FnReturnsAt calls f text r
+      → IfOk r (λ p. length p.0.now < length text)
 
 -- the outcome that a result behind references stands for
 abbrev pub seen_behind : {O : Type 0} → Result (Bor (Bor (List ℕ) × O)) (Bor ParseError) → Outcome O

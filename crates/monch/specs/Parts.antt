@@ -82,7 +82,7 @@ GivesWithInput other part text (refused (failure input message)) =
     (input ≡ other) × (before : List ℕ) × part text (refused (failure before message))
 GivesWithInput other part text (refused no_memory) = part text (refused no_memory)
 
--- the failure with a message above its own, or want of memory
+-- the failure with a message above its own, unless memory runs out
 abbrev pub IsToldAbove : List ℕ → List ℕ → List ℕ → Refusal → Type 0
 IsToldAbove context input told why = (why ≡ failure input (below context told)) ⊎ (why ≡ no_memory)
 
@@ -106,7 +106,7 @@ GivesWithContext context part text (refused (failure input message)) =
 GivesWithContext context part text (refused no_memory) = part text (refused no_memory) ⊎ MayFail part text
 
 -- the part where the condition may hold of its outcome. Else a failure: one of the part keeps its text and has the
--- message above its own, and any other outcome fails at the text with the message. Want of memory is handed on.
+-- message above its own, and any other outcome fails at the text with the message. Out of memory is handed on.
 module _ {A : Type 0} (part : Meaning A) (holds : Outcome A → Bool → Type 0) (context : List ℕ) where
   -- the part may have an outcome of which the condition may not hold
   abbrev pub MayBeDenied : List ℕ → Type 0

@@ -5,6 +5,7 @@ ghost use Rattle.monch.specs.Suffix.{GivesFirst-suffix};
 use crate::choices::Or;
 use monch_core::{Combinator, ParseError, ParseResult};
 
+/// What `or3` answers: the first of three alternatives that does not backtrack.
 #[derive(Drop)]
 pub struct Or3<A, B, C> {
     pub(crate) first: A,
@@ -33,6 +34,7 @@ impl<
     ghost leaves_suffix = { λ s can. GivesFirst-suffix (A.gives s.first ∷ B.gives s.rest.first ∷ C.gives s.rest.second ∷ []) (A.leaves_suffix s.first can.0, (B.leaves_suffix s.rest.first can.1, (C.leaves_suffix s.rest.second can.2, tt))) };
 }
 
+/// What `or4` answers: the first of four alternatives that does not backtrack.
 #[derive(Drop)]
 pub struct Or4<A, B, C, D> {
     pub(crate) first: A,
@@ -62,6 +64,7 @@ impl<
     ghost leaves_suffix = { λ s can. GivesFirst-suffix (A.gives s.first ∷ B.gives s.rest.first ∷ C.gives s.rest.rest.first ∷ D.gives s.rest.rest.second ∷ []) (A.leaves_suffix s.first can.0, (B.leaves_suffix s.rest.first can.1, (C.leaves_suffix s.rest.rest.first can.2, (D.leaves_suffix s.rest.rest.second can.3, tt)))) };
 }
 
+/// What `or5` answers: the first of five alternatives that does not backtrack.
 #[derive(Drop)]
 pub struct Or5<A, B, C, D, E> {
     pub(crate) first: A,
@@ -92,6 +95,7 @@ impl<
     ghost leaves_suffix = { λ s can. GivesFirst-suffix (A.gives s.first ∷ B.gives s.rest.first ∷ C.gives s.rest.rest.first ∷ D.gives s.rest.rest.rest.first ∷ E.gives s.rest.rest.rest.second ∷ []) (A.leaves_suffix s.first can.0, (B.leaves_suffix s.rest.first can.1, (C.leaves_suffix s.rest.rest.first can.2, (D.leaves_suffix s.rest.rest.rest.first can.3, (E.leaves_suffix s.rest.rest.rest.second can.4, tt))))) };
 }
 
+/// What `or6` answers: the first of six alternatives that does not backtrack.
 #[derive(Drop)]
 pub struct Or6<A, B, C, D, E, F> {
     pub(crate) first: A,
@@ -123,6 +127,7 @@ impl<
     ghost leaves_suffix = { λ s can. GivesFirst-suffix (A.gives s.first ∷ B.gives s.rest.first ∷ C.gives s.rest.rest.first ∷ D.gives s.rest.rest.rest.first ∷ E.gives s.rest.rest.rest.rest.first ∷ F.gives s.rest.rest.rest.rest.second ∷ []) (A.leaves_suffix s.first can.0, (B.leaves_suffix s.rest.first can.1, (C.leaves_suffix s.rest.rest.first can.2, (D.leaves_suffix s.rest.rest.rest.first can.3, (E.leaves_suffix s.rest.rest.rest.rest.first can.4, (F.leaves_suffix s.rest.rest.rest.rest.second can.5, tt)))))) };
 }
 
+/// What `or7` answers: the first of seven alternatives that does not backtrack.
 #[derive(Drop)]
 pub struct Or7<A, B, C, D, E, F, G> {
     pub(crate) first: A,

@@ -23,6 +23,7 @@ fn denied<'a, O: Drop>(
     }
 }
 
+/// What `assert` answers: the part where a condition holds of its result, else a failure.
 #[derive(Drop)]
 pub struct Assert<'a, A, F> {
     pub(crate) alloc: Global,
@@ -57,6 +58,7 @@ impl<
     ghost leaves_suffix = { λ s can text rest value given. A.leaves_suffix s.part can.0 _ _ _ given.0 };
 }
 
+/// What `assert_exists` answers: the part where it succeeds, else a failure.
 #[derive(Drop)]
 pub struct AssertExists<'a, A> {
     pub(crate) alloc: Global,

@@ -1,3 +1,5 @@
+ghost use Rattle.std.specs.Prelude.{◌<◌, length, IfOk};
+ghost use Rattle.monch_core.specs.Outcome.{IsSuffix};
 ghost use Rattle.monch_core.specs.Seen.{seen};
 ghost use Rattle.monch.specs.Leaves.{GivesSkipWhile, GivesWhitespace, IsPassingFront, TestsWhitespace};
 
@@ -14,14 +16,18 @@ fn behind_whitespace(text: &str) -> &str
 
 /// Skips the longest front of white space, as Unicode has it.
 pub fn skip_whitespace<'a>(input: &'a str) -> ParseResult<'a, ()>
-    ensures { GivesSkipWhile TestsWhitespace input.now (seen result) }
+    ensures value { GivesSkipWhile TestsWhitespace input.now (seen result) }
+    ensures suffix { IfOk result (λ p. IsSuffix p.0.now input.now) }
 {
     Ok((behind_whitespace(input), ()))
 }
 
 /// The longest front of white space, as Unicode has it. Where there is none it backtracks.
+#[tactic(auto, using(monch_repeat::proofs::AdvanceLemmas::shorter_behind))]
 pub fn whitespace<'a>(input: &'a str) -> ParseResult<'a, &'a str>
-    ensures { GivesWhitespace input.now (seen result) }
+    ensures value { GivesWhitespace input.now (seen result) }
+    ensures suffix { IfOk result (λ p. IsSuffix p.0.now input.now) }
+    ensures shorter { IfOk result (λ p. length p.0.now < length input.now) }
 {
     let rest = behind_whitespace(input);
     let blanks = taken(input, rest);

@@ -4,6 +4,7 @@ ghost use Rattle.monch.specs.Suffix.{GivesFirst-suffix, GivesMaybe-suffix};
 
 use monch_core::{Combinator, ParseError, ParseResult};
 
+/// What `or` answers: the first of two alternatives that does not backtrack.
 #[derive(Drop)]
 pub struct Or<A, B> {
     pub(crate) first: A,
@@ -27,6 +28,7 @@ impl<'a, A: Combinator<'a>, B: Combinator<'a, Output = A::Output>> Combinator<'a
     ghost leaves_suffix = { λ s can. GivesFirst-suffix (A.gives s.first ∷ B.gives s.second ∷ []) (A.leaves_suffix s.first can.0, (B.leaves_suffix s.second can.1, tt)) };
 }
 
+/// What `maybe` answers: some value of the part, or none where it backtracks.
 #[derive(Drop)]
 pub struct Maybe<A> {
     pub(crate) part: A,

@@ -39,6 +39,7 @@ impl<T> IsEmptyable for Vec<T> {
     }
 }
 
+/// What `if_not_empty` answers: the part's value where it is not empty, else a backtrack.
 #[derive(Drop)]
 pub struct IfNotEmpty<A> {
     pub(crate) part: A,
@@ -62,6 +63,7 @@ impl<'a, O: IsEmptyable + Drop, A: Combinator<'a, Output = O>> Combinator<'a> fo
     ghost leaves_suffix = { λ s can text rest value given. A.leaves_suffix s.part can _ _ _ given.0 };
 }
 
+/// What `if_true` answers: the part's value where a condition holds of it, else a backtrack.
 #[derive(Drop)]
 pub struct IfTrue<A, F> {
     pub(crate) part: A,
@@ -87,6 +89,7 @@ impl<'a, O: Drop, A: Combinator<'a, Output = O>, F: Fn(&O) -> bool> Combinator<'
     ghost leaves_suffix = { λ s can text rest value given. A.leaves_suffix s.part can.0 _ _ _ given.0 };
 }
 
+/// What `check_not` answers: nothing where the part backtracks or fails, a backtrack where it succeeds.
 #[derive(Drop)]
 pub struct CheckNot<'a, A> {
     pub(crate) part: A,

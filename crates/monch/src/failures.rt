@@ -18,7 +18,7 @@ fn joined(alloc: Global, context: &str, message: &str) -> Result<String, AllocEr
     Ok(text)
 }
 
-// The failure with this message above its own, or want of memory.
+// The failure with this message above its own, unless memory runs out.
 pub(crate) fn told_above<'a>(
     alloc: Global,
     context: &str,
@@ -35,6 +35,7 @@ pub(crate) fn told_above<'a>(
     }
 }
 
+/// What `with_failure_input` answers: the part, with another text in its failure.
 #[derive(Drop)]
 pub struct WithFailureInput<'a, A> {
     pub(crate) input: &'a str,
@@ -61,6 +62,7 @@ impl<'a, A: Combinator<'a>> Combinator<'a> for WithFailureInput<'a, A> {
     ghost leaves_suffix = { λ s can text rest value given. A.leaves_suffix s.part can _ _ _ given };
 }
 
+/// What `with_error_context` answers: the part, with a message above that of its failure.
 #[derive(Drop)]
 pub struct WithErrorContext<'a, A> {
     pub(crate) alloc: Global,

@@ -4,6 +4,7 @@ ghost use Rattle.monch.specs.Suffix.{GivesCall-suffix};
 
 use monch_core::{Combinator, ParseResult};
 
+/// What `from_fn` answers: a function as a combinator. Its `parse` calls the function.
 #[derive(Drop)]
 pub struct FnCombinator<F> {
     pub(crate) function: F,

@@ -4,6 +4,8 @@ ghost use Rattle.monch.specs.Handled.{GivesHandled};
 use monch_core::{Combinator, HandledError, ParseError, ParseErrorFailure, ParseResult};
 use std::alloc::Global;
 
+/// What `map_res` answers: what a function makes of the part's whole result. It is no `Combinator`: its `parse`
+/// answers the function's value.
 #[derive(Drop)]
 pub struct MapRes<A, F> {
     pub(crate) part: A,
@@ -24,6 +26,8 @@ impl<A, F> MapRes<A, F> {
     }
 }
 
+/// What `with_failure_handling` answers: a whole text, read with the part. It is no `Combinator`: its `parse` answers
+/// a plain result.
 #[derive(Drop)]
 pub struct WithFailureHandling<A> {
     pub(crate) alloc: Global,

@@ -6,6 +6,7 @@ ghost use Rattle.monch.specs.Leaves.{GivesChar, GivesOneOf};
 use crate::text::split_first_char;
 use monch_core::{Combinator, ParseError, ParseResult};
 
+/// What `ch` answers: one character.
 #[derive(Drop)]
 pub struct Ch {
     pub(crate) character: char,
@@ -28,6 +29,7 @@ impl<'a> Combinator<'a> for Ch {
     ghost leaves_suffix = { λ s can text rest value given. (_, given.1) };
 }
 
+/// What `one_of` answers: one of several characters.
 #[derive(Drop)]
 pub struct OneOf<'m> {
     pub(crate) characters: &'m str,

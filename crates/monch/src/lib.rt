@@ -5,7 +5,7 @@
 //!   `specs/Handled.antt`). The makers with their rows stand in `README.md`.
 //! - What a success leaves is a suffix of the text: the law `leaves_suffix` of the trait, from `monch_core`.
 //! - `or` to `or7` answer as the first alternative that does not backtrack (`GivesFirst-answers`,
-//!   `proofs/Theorems.antt`), and want of memory comes only where memory is taken (the laws `..-in_room`).
+//!   `proofs/Theorems.antt`), and `OutOfMemory` comes only where memory is taken (the laws `..-in_room`).
 //!
 //! The repetitions stand in `monch_repeat`. Not promised: when memory runs out, and how long a call takes.
 #![tactic(auto)]

@@ -1,3 +1,5 @@
+//! A function for each combinator, in the order of the table in `README.md`.
+
 ghost use Rattle.std.specs.Prelude.{◌≡◌};
 
 use crate::alternatives::{Or3, Or4, Or5, Or6, Or7};
@@ -16,11 +18,20 @@ use monch_core::{Combinator, ParseError, ParseResult};
 use std::alloc::Global;
 use std::marker::PhantomData;
 
+// ---- without parts
+
 /// The first character, where it is this one.
 pub fn ch(character: char) -> Ch
     ensures { result ≡ record { character = character } }
 {
     Ch { character }
+}
+
+/// The first character, where it is one of those of this text.
+pub fn one_of(value: &str) -> OneOf<'_>
+    ensures { result.characters.now ≡ value.now }
+{
+    OneOf { characters: value }
 }
 
 /// The slice of the text where it begins with this value.
@@ -37,12 +48,43 @@ pub fn tag_owned(value: String) -> TagOwned
     TagOwned { value }
 }
 
-/// The function as a combinator. What it leaves of a text has to be a suffix of it.
+/// Skips the longest front of characters on which the condition holds.
+pub fn skip_while<F: Fn(char) -> bool>(condition: F) -> SkipWhile<F>
+    ensures { result ≡ record { condition = condition } }
+{
+    SkipWhile { condition }
+}
+
+/// The longest front of characters on which the condition holds.
+pub fn take_while<F: Fn(char) -> bool>(condition: F) -> TakeWhile<F>
+    ensures { result ≡ record { condition = condition } }
+{
+    TakeWhile { condition }
+}
+
+/// Skips the longest front of bytes on which the condition holds. It may hold of no byte from 0x80 on.
+pub fn skip_while_byte<F: Fn(u8) -> bool>(condition: F) -> SkipWhileByte<F>
+    ensures { result ≡ record { condition = condition } }
+{
+    SkipWhileByte { condition }
+}
+
+/// The longest front of bytes on which the condition holds. It may hold of no byte from 0x80 on.
+pub fn take_while_byte<F: Fn(u8) -> bool>(condition: F) -> TakeWhileByte<F>
+    ensures { result ≡ record { condition = condition } }
+{
+    TakeWhileByte { condition }
+}
+
+/// The function as a combinator. What it leaves of a text has to be a suffix of it, as a clause of the function says:
+/// `ensures { IfOk result (λ p. IsSuffix p.0.now input.now) }`.
 pub fn from_fn<'a, O, F: Fn(&'a str) -> ParseResult<'a, O>>(function: F) -> FnCombinator<F>
     ensures { result ≡ record { function = function } }
 {
     FnCombinator { function }
 }
+
+// ---- one part
 
 /// The slice that the part takes.
 pub fn substring<'a, A>(part: A) -> Substring<'a, A>
@@ -76,145 +118,23 @@ pub fn map<'a, O, R, A: Combinator<'a, Output = O>, F: Fn(O) -> R>(
     }
 }
 
+/// What the function makes of the part's whole result.
+pub fn map_res<'a, O, R, A: Combinator<'a, Output = O>, F: Fn(ParseResult<'a, O>) -> R>(
+    part: A,
+    function: F,
+) -> MapRes<A, F>
+    ensures { result ≡ record { part = part; function = function } }
+{
+    MapRes { part, function }
+}
+
+// ---- alternatives
+
 /// The first alternative that does not backtrack.
 pub fn or<A, B>(first: A, second: B) -> Or<A, B>
     ensures { result ≡ record { first = first; second = second } }
 {
     Or { first, second }
-}
-
-/// The first, then the second on its rest, and both values.
-pub fn pair<A, B>(first: A, second: B) -> Pair<A, B>
-    ensures { result ≡ record { first = first; second = second } }
-{
-    Pair { first, second }
-}
-
-/// The first, then the second on its rest, and the value of the second.
-pub fn preceded<'a, A, B>(first: A, second: B) -> Preceded<'a, A, B>
-    ensures first { result.first ≡ first }
-    ensures second { result.second ≡ second }
-{
-    Preceded {
-        first,
-        second,
-        of: PhantomData,
-    }
-}
-
-/// Skips the longest front of characters on which the condition holds.
-pub fn skip_while<F: Fn(char) -> bool>(condition: F) -> SkipWhile<F>
-    ensures { result ≡ record { condition = condition } }
-{
-    SkipWhile { condition }
-}
-
-/// The longest front of characters on which the condition holds.
-pub fn take_while<F: Fn(char) -> bool>(condition: F) -> TakeWhile<F>
-    ensures { result ≡ record { condition = condition } }
-{
-    TakeWhile { condition }
-}
-
-/// The part's value where it is not empty, else a backtrack.
-pub fn if_not_empty<A>(part: A) -> IfNotEmpty<A>
-    ensures { result ≡ record { part = part } }
-{
-    IfNotEmpty { part }
-}
-
-/// The first character, where it is one of those of this text.
-pub fn one_of(value: &str) -> OneOf<'_>
-    ensures { result.characters.now ≡ value.now }
-{
-    OneOf { characters: value }
-}
-
-/// The first, then the second on its rest, and the value of the first.
-pub fn terminated<'a, A, B>(first: A, second: B) -> Terminated<'a, A, B>
-    ensures first { result.first ≡ first }
-    ensures second { result.second ≡ second }
-{
-    Terminated {
-        first,
-        second,
-        of: PhantomData,
-    }
-}
-
-/// The three, each on the rest of the one before, and the value of the second.
-pub fn delimited<'a, A, B, C>(first: A, second: B, third: C) -> Delimited<'a, A, B, C>
-    ensures first { result.first ≡ first }
-    ensures second { result.second ≡ second }
-    ensures third { result.third ≡ third }
-{
-    Delimited {
-        first,
-        second,
-        third,
-        of: PhantomData,
-    }
-}
-
-/// Skips the longest front of bytes on which the condition holds. It may hold of no byte from 0x80 on.
-pub fn skip_while_byte<F: Fn(u8) -> bool>(condition: F) -> SkipWhileByte<F>
-    ensures { result ≡ record { condition = condition } }
-{
-    SkipWhileByte { condition }
-}
-
-/// The longest front of bytes on which the condition holds. It may hold of no byte from 0x80 on.
-pub fn take_while_byte<F: Fn(u8) -> bool>(condition: F) -> TakeWhileByte<F>
-    ensures { result ≡ record { condition = condition } }
-{
-    TakeWhileByte { condition }
-}
-
-/// The part's value where the condition holds of it, else a backtrack.
-pub fn if_true<'a, O, A: Combinator<'a, Output = O>, F: Fn(&O) -> bool>(
-    part: A,
-    condition: F,
-) -> IfTrue<A, F>
-    ensures { result ≡ record { part = part; condition = condition } }
-{
-    IfTrue { part, condition }
-}
-
-/// Nothing, with nothing taken, where the part backtracks or fails. A backtrack where it succeeds.
-pub fn check_not<'a, A>(part: A) -> CheckNot<'a, A>
-    ensures { result.part ≡ part }
-{
-    CheckNot {
-        part,
-        of: PhantomData,
-    }
-}
-
-/// The part, with this text in place of that of its failure.
-pub fn with_failure_input<'a, A>(new_input: &'a str, part: A) -> WithFailureInput<'a, A>
-    ensures input { result.input.now ≡ new_input.now }
-    ensures part { result.part ≡ part }
-{
-    WithFailureInput {
-        input: new_input,
-        part,
-    }
-}
-
-/// The part, with this message and an empty line above the message of its failure.
-pub fn with_error_context<'a, A>(
-    alloc: Global,
-    part: A,
-    message: &'a str,
-) -> WithErrorContext<'a, A>
-    ensures part { result.part ≡ part }
-    ensures message { result.message.now ≡ message.now }
-{
-    WithErrorContext {
-        alloc,
-        part,
-        message,
-    }
 }
 
 /// The first alternative that does not backtrack.
@@ -302,18 +222,86 @@ pub fn or7<A, B, C, D, E, F, G>(
     }
 }
 
-/// What the function makes of the part's whole result.
-pub fn map_res<'a, O, R, A: Combinator<'a, Output = O>, F: Fn(ParseResult<'a, O>) -> R>(
-    part: A,
-    function: F,
-) -> MapRes<A, F>
-    ensures { result ≡ record { part = part; function = function } }
+// ---- parts behind each other
+
+/// The first, then the second on its rest, and both values.
+pub fn pair<A, B>(first: A, second: B) -> Pair<A, B>
+    ensures { result ≡ record { first = first; second = second } }
 {
-    MapRes { part, function }
+    Pair { first, second }
 }
 
+/// The first, then the second on its rest, and the value of the second.
+pub fn preceded<'a, A, B>(first: A, second: B) -> Preceded<'a, A, B>
+    ensures first { result.first ≡ first }
+    ensures second { result.second ≡ second }
+{
+    Preceded {
+        first,
+        second,
+        of: PhantomData,
+    }
+}
+
+/// The first, then the second on its rest, and the value of the first.
+pub fn terminated<'a, A, B>(first: A, second: B) -> Terminated<'a, A, B>
+    ensures first { result.first ≡ first }
+    ensures second { result.second ≡ second }
+{
+    Terminated {
+        first,
+        second,
+        of: PhantomData,
+    }
+}
+
+/// The three, each on the rest of the one before, and the value of the second.
+pub fn delimited<'a, A, B, C>(first: A, second: B, third: C) -> Delimited<'a, A, B, C>
+    ensures first { result.first ≡ first }
+    ensures second { result.second ≡ second }
+    ensures third { result.third ≡ third }
+{
+    Delimited {
+        first,
+        second,
+        third,
+        of: PhantomData,
+    }
+}
+
+// ---- conditions
+
+/// The part's value where the condition holds of it, else a backtrack.
+pub fn if_true<'a, O, A: Combinator<'a, Output = O>, F: Fn(&O) -> bool>(
+    part: A,
+    condition: F,
+) -> IfTrue<A, F>
+    ensures { result ≡ record { part = part; condition = condition } }
+{
+    IfTrue { part, condition }
+}
+
+/// The part's value where it is not empty, else a backtrack.
+pub fn if_not_empty<A>(part: A) -> IfNotEmpty<A>
+    ensures { result ≡ record { part = part } }
+{
+    IfNotEmpty { part }
+}
+
+/// Nothing, with nothing taken, where the part backtracks or fails. A backtrack where it succeeds.
+pub fn check_not<'a, A>(part: A) -> CheckNot<'a, A>
+    ensures { result.part ≡ part }
+{
+    CheckNot {
+        part,
+        of: PhantomData,
+    }
+}
+
+// ---- failures
+
 /// The part where the condition holds of its result. Else a failure: one of the part has this message above its own, and
-/// any other result fails at the text. The condition isn't asked about want of memory.
+/// any other result fails at the text. The condition isn't asked about an `OutOfMemory`.
 pub fn assert<
     'a,
     O,
@@ -338,6 +326,33 @@ pub fn assert_exists<'a, A>(alloc: Global, part: A, message: &'a str) -> AssertE
     ensures message { result.message.now ≡ message.now }
 {
     AssertExists {
+        alloc,
+        part,
+        message,
+    }
+}
+
+/// The part, with this text in place of that of its failure.
+pub fn with_failure_input<'a, A>(new_input: &'a str, part: A) -> WithFailureInput<'a, A>
+    ensures input { result.input.now ≡ new_input.now }
+    ensures part { result.part ≡ part }
+{
+    WithFailureInput {
+        input: new_input,
+        part,
+    }
+}
+
+/// The part, with this message and an empty line above the message of its failure.
+pub fn with_error_context<'a, A>(
+    alloc: Global,
+    part: A,
+    message: &'a str,
+) -> WithErrorContext<'a, A>
+    ensures part { result.part ≡ part }
+    ensures message { result.message.now ≡ message.now }
+{
+    WithErrorContext {
         alloc,
         part,
         message,

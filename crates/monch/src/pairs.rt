@@ -4,6 +4,7 @@ ghost use Rattle.monch.specs.Suffix.{GivesPair-suffix, GivesPreceded-suffix, Giv
 use monch_core::{Combinator, ParseResult};
 use std::marker::PhantomData;
 
+/// What `pair` answers: two parts, one behind the other, and both values.
 #[derive(Drop)]
 pub struct Pair<A, B> {
     pub(crate) first: A,
@@ -30,6 +31,7 @@ where
     ghost leaves_suffix = { λ s can. GivesPair-suffix (A.gives s.first) (B.gives s.second) (A.leaves_suffix s.first can.0) (B.leaves_suffix s.second can.1) };
 }
 
+/// What `preceded` answers: two parts, one behind the other, and the value of the second.
 #[derive(Drop)]
 pub struct Preceded<'a, A, B> {
     pub(crate) first: A,
@@ -53,6 +55,7 @@ impl<'a, O: Drop, A: Combinator<'a, Output = O>, B: Combinator<'a>> Combinator<'
     ghost leaves_suffix = { λ s can. GivesPreceded-suffix (A.gives s.first) (B.gives s.second) (A.leaves_suffix s.first can.0) (B.leaves_suffix s.second can.1) };
 }
 
+/// What `terminated` answers: two parts, one behind the other, and the value of the first.
 #[derive(Drop)]
 pub struct Terminated<'a, A, B> {
     pub(crate) first: A,
@@ -80,6 +83,7 @@ where
     ghost leaves_suffix = { λ s can. GivesTerminated-suffix (A.gives s.first) (B.gives s.second) (A.leaves_suffix s.first can.0) (B.leaves_suffix s.second can.1) };
 }
 
+/// What `delimited` answers: three parts, one behind the other, and the value of the second.
 #[derive(Drop)]
 pub struct Delimited<'a, A, B, C> {
     pub(crate) first: A,

@@ -4,6 +4,7 @@ ghost use Rattle.monch.specs.Leaves.{GivesTag};
 use crate::text::taken;
 use monch_core::{Combinator, ParseError, ParseResult};
 
+/// What `tag` answers: a text that is borrowed.
 #[derive(Drop)]
 pub struct Tag<'m> {
     pub(crate) value: &'m str,
@@ -26,6 +27,7 @@ impl<'a, 'm> Combinator<'a> for Tag<'m> {
     ghost leaves_suffix = { λ s can text rest value given. (_, given.1) };
 }
 
+/// What `tag_owned` answers: a text that is owned.
 #[derive(Drop)]
 pub struct TagOwned {
     pub(crate) value: String,

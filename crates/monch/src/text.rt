@@ -1,4 +1,4 @@
-ghost use Rattle.std.specs.Prelude.{◌≡◌, [], ◌++◌, MatchOption};
+ghost use Rattle.std.specs.Prelude.{◌≡◌, ◌<◌, [], ◌++◌, length, IfOk, MatchOption};
 ghost use Rattle.std.specs.Char.{encode_utf8};
 ghost use Rattle.monch_core.specs.Outcome.{IsSuffix};
 ghost use Rattle.monch_core.specs.Seen.{seen};
@@ -24,8 +24,11 @@ pub(crate) fn split_first_char(text: &str) -> Option<(char, &str)>
 }
 
 /// The first character. The empty text backtracks.
+#[tactic(auto, using(crate::proofs::FrontLemmas::behind_is_shorter))]
 pub fn next_char<'a>(input: &'a str) -> ParseResult<'a, char>
-    ensures { GivesNextChar input.now (seen result) }
+    ensures value { GivesNextChar input.now (seen result) }
+    ensures suffix { IfOk result (λ p. IsSuffix p.0.now input.now) }
+    ensures shorter { IfOk result (λ p. length p.0.now < length input.now) }
 {
     match split_first_char(input) {
         Some((first, rest)) => Ok((rest, first)),

@@ -5,6 +5,7 @@ use crate::text::taken;
 use monch_core::{Combinator, ParseResult};
 use std::marker::PhantomData;
 
+/// What `substring` answers: the slice that the part takes.
 #[derive(Drop)]
 pub struct Substring<'a, A> {
     pub(crate) part: A,
@@ -29,6 +30,7 @@ where
     ghost leaves_suffix = { λ s can text rest value given. (_, given.2) };
 }
 
+/// What `map` answers: what a function makes of the part's value.
 #[derive(Drop)]
 pub struct Map<'a, A, F> {
     pub(crate) part: A,

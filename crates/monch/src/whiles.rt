@@ -19,6 +19,7 @@ pub(crate) fn behind_passing<'a, F: Fn(char) -> bool>(text: &'a str, passes: &F)
     rest
 }
 
+/// What `skip_while` answers: the longest front of characters on which a condition holds, skipped.
 #[derive(Drop)]
 pub struct SkipWhile<F> {
     pub(crate) condition: F,
@@ -38,6 +39,7 @@ impl<'a, F: Fn(char) -> bool> Combinator<'a> for SkipWhile<F> {
     ghost leaves_suffix = { λ s can text rest value given. (given.0, given.1.split) };
 }
 
+/// What `take_while` answers: the longest front of characters on which a condition holds, as a slice.
 #[derive(Drop)]
 pub struct TakeWhile<F> {
     pub(crate) condition: F,
@@ -75,6 +77,7 @@ fn behind_passing_bytes<'a, F: Fn(u8) -> bool>(text: &'a str, passes: &F) -> &'a
     &text[end..]
 }
 
+/// What `skip_while_byte` answers: the longest front of bytes on which a condition holds, skipped.
 #[derive(Drop)]
 pub struct SkipWhileByte<F> {
     pub(crate) condition: F,
@@ -94,6 +97,7 @@ impl<'a, F: Fn(u8) -> bool> Combinator<'a> for SkipWhileByte<F> {
     ghost leaves_suffix = { λ s can text rest value given. (given.0, given.1.split) };
 }
 
+/// What `take_while_byte` answers: the longest front of bytes on which a condition holds, as a slice.
 #[derive(Drop)]
 pub struct TakeWhileByte<F> {
     pub(crate) condition: F,

@@ -3,7 +3,7 @@
 //! - `Combinator<'a>`: reads a value from the front of a text. Its meaning `gives` is a relation from the text to the
 //!   outcomes that there may be (`Outcome`, `specs/Outcome.antt`): a rest and a value, or a refusal. `parse` answers
 //!   one of them (`seen`, `specs/Seen.antt`). Its law `leaves_suffix` is that the rest of a success is a suffix.
-//! - `ParseError`: a backtrack, a failure as a whole, or want of memory.
+//! - `ParseError`: a backtrack, a failure as a whole, or `OutOfMemory`.
 //! - `ParseErrorFailure::into_error`: the message, and the first 60 characters of the text as snippet (`IsToldAs`,
 //!   `specs/Failures.antt`).
 //!

@@ -7,7 +7,7 @@ use Rattle.monch_repeat.specs.Items.{IsItem, EndsItems, GivesItems, nothing_left
 use Rattle.monch_repeat.specs.Separated as separated
 use Rattle.monch_repeat.specs.Separated.{IsSeparated, EndsSeparated, GivesSeparated, no_separator, separator_refused}
 
--- an outcome that is no want of memory
+-- an outcome other than out of memory
 abbrev pub IsInRoom : {O : Type 0} → Outcome O → Type 0
 IsInRoom outcome = outcome ≢ refused no_memory
 

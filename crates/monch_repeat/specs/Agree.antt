@@ -1,9 +1,9 @@
--- When two outcomes say the same of a text, want of memory aside.
+-- When two outcomes say the same of a text, unless memory runs out.
 use Rattle.std.specs.Prelude.{◌≡◌, ◌⊎◌, ℕ, List, length, ⊤}
 use Rattle.std.specs.Global.{Vec}
 use Rattle.monch_core.specs.Outcome.{no_memory, Outcome, success, refused, Meaning}
 
--- the same rest and values in this relation, or the same refusal, or want of memory in one of them
+-- the same rest and values in this relation, or the same refusal, or out of memory in one of them
 abbrev pub Agrees : {O P : Type 0} → (O → P → Type 0) → Outcome O → Outcome P → Type 0
 Agrees R (success rest value) (success also other) = (rest ≡ also) × R value other
 Agrees R (success rest value) (refused why) = why ≡ no_memory

@@ -10,7 +10,7 @@ use thiserror::Error;
 #[derive(Clone, Copy, Debug, PartialEq, Eq, PartialOrd, Ord, Hash, Error)]
 pub enum PackageError {
     /// The URL's text is no `npm:` or `jsr:` reference.
-    #[error("not a reference to a package")]
+    #[error("NotAReference")]
     NotAReference,
     #[error("out of memory")]
     OutOfMemory,

@@ -1,7 +1,7 @@
 //! References to packages, as `npm:chalk@5` and `jsr:@std/path@^1/posix`.
 //!
 //! - `parse_package_ref(url)`: the record that the grammar derives from the URL's text (`IsReference`,
-//!   `specs/Reference.antt`), or `NotAReference` exactly where it derives none, want of memory aside. It is read with the
+//!   `specs/Reference.antt`), or `NotAReference` exactly where it derives none, unless memory runs out. It is read with the
 //!   combinators of `monch`.
 //! - `PackageRef::copy`: an equal value.
 //!
