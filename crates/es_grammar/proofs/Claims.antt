@@ -1,5 +1,5 @@
 -- The tests of the table of programs bar no reading. What is claimed of the rows is computed at each kind of token.
-use Rattle.std.specs.Prelude.{Bool, true, false, not, ◌||◌}
+use Rattle.std.specs.Prelude.{Bool, true, false, ◌||◌}
 use Rattle.std.proofs.Common.{◌≡◌, refl}
 use Rattle.es_lexer.specs.declared.token.TokenKind.TheVariants as k
 use Rattle.es_tree.specs.declared.error.Lang.{Lang}
@@ -25,8 +25,10 @@ use Rattle.es_grammar.specs.Table.{rule}
 abbrev begins_chain : Look
 begins_chain x =
     has_kind is_name x || (has_kind is_numeric x || (is k.Str x || (is k.RegExp x || (is k.TemplateWhole x
-    || (is k.TemplateHead x || (is k.OpenParen x || (is k.OpenBracket x || (is k.OpenBrace x || (has_kind is_literal_word x
-    || (is k.FunctionWord x || (is k.ClassWord x || (is k.SuperWord x || (is k.ImportWord x || is k.NewWord x)))))))))))))
+    || (is k.TemplateHead x || (is k.OpenParen x || (is k.OpenBracket x || (is k.OpenBrace x
+    || (has_kind is_literal_word x
+    || (is k.FunctionWord x || (is k.ClassWord x || (is k.SuperWord x || (is k.ImportWord x
+    || is k.NewWord x)))))))))))))
 
 abbrev begins_pattern : Look
 begins_pattern x = has_kind is_name x || (is k.OpenBracket x || is k.OpenBrace x)
@@ -56,7 +58,8 @@ first ScriptRow x = is_token x
 first (StatementRow c) x = begins_expression x || begins_keyword x
 first (BlockRow c) x = is k.OpenBrace x
 first (DeclarationRow c) x =
-    has_kind is_variable_word x || (is k.FunctionWord x || (is k.ClassWord x || (is k.UsingWord x || (is k.AwaitWord x || is k.AsyncWord x))))
+    has_kind is_variable_word x || (is k.FunctionWord x || (is k.ClassWord x || (is k.UsingWord x
+    || (is k.AwaitWord x || is k.AsyncWord x))))
 first (VariablesRow c) x = has_kind is_variable_word x
 first (DeclaratorRow c) x = begins_pattern x
 first (UsingRow c) x = is k.UsingWord x || is k.AwaitWord x

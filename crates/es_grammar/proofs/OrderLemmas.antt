@@ -1,13 +1,14 @@
 -- Whatever the table, the parts of a tree that fits it stand in order, each within the range of the node that holds it.
 use Rattle.std.specs.Prelude.{List}
-use Rattle.std.proofs.Common.{◌≡◌, ℕ, zero, suc, ◌+◌, ◌≤◌, sym, subst, inl, inr, arith}
+use Rattle.std.proofs.Common.{◌≡◌, ℕ, zero, suc, ◌+◌, sym, subst, inl, inr, arith}
 use Rattle.es_tree.specs.Key.{Key}
 use Rattle.es_tree.specs.Form.{Told, Form, done, tok, punct, row, opt, many, alt, when_, where_, Rule, refuse, make, choose, as_, pick, wrap}
 use Rattle.es_tree.specs.Plain.{Plain, node, leaf, nil, cons, mark, turn, via}
 use Rattle.es_tree.specs.Fits.{Reading, Turns, Wraps, Fits, IsBy, Under}
 use Rattle.es_grammar.specs.Order.{StandsBetween}
 
-stands_moved : {Label : Type 0} (from to : ℕ) (p q : Plain Label) → p ≡ q → StandsBetween from to q → StandsBetween from to p
+stands_moved : {Label : Type 0} (from to : ℕ) (p q : Plain Label) → p ≡ q → StandsBetween from to q
+    → StandsBetween from to p
 stands_moved from to p q e h = let Q : Plain _ → Type 0 = λ t. StandsBetween from to t in subst Q (sym e) h
 
 turns_stand : {Label : Type 0} (h : Reading) (K : List Key) (c : Told) (One : Plain Label → ℕ → ℕ → Type 0)
@@ -53,8 +54,12 @@ module _ {Row Label : Type 0} (h : Reading) (K : List Key) (Below : Row → Plai
         form_stands f fit.1 fit.2 to fit.5,
       )
   form_stands (many c g f) p from to fit =
-      stands_moved from to p (cons fit.0 fit.1) fit.3
-      (fit.2, turns_stand h K c (Fits h K Below g) (form_stands g) fit.0 from fit.2 fit.4, form_stands f fit.1 fit.2 to fit.5)
+      stands_moved from to p (cons fit.0 fit.1) fit.3 (
+        fit.2,
+        turns_stand h K c (Fits h K Below g)
+            (form_stands g) fit.0 from fit.2 fit.4,
+        form_stands f fit.1 fit.2 to fit.5,
+      )
   form_stands (alt t a b f) p from to fit =
       stands_moved from to p (cons fit.0 fit.1) fit.3 (
         fit.2,
@@ -67,7 +72,8 @@ module _ {Row Label : Type 0} (h : Reading) (K : List Key) (Below : Row → Plai
   form_stands (when_ t f) p from to fit = form_stands f p from to fit.1
   form_stands (where_ t f) p from to fit = form_stands f p from to fit.1
 
-  rule_stands : (a : Rule Row Label) (p : Plain Label) (from to : ℕ) → IsBy h K Below a p from to → StandsBetween from to p
+  rule_stands : (a : Rule Row Label) (p : Plain Label) (from to : ℕ) → IsBy h K Below a p from to
+      → StandsBetween from to p
   rule_stands refuse p from to by = absurd by
   rule_stands (make l f) p from to by =
       stands_moved from to p (node l from to by.0) by.1 (omega arith, omega arith, form_stands f by.0 from to by.2)

@@ -1,10 +1,11 @@
 -- The laws of the grammar.
 use Rattle.std.specs.Prelude.{List, Bool}
-use Rattle.std.proofs.Common.{◌≡◌, length}
+use Rattle.std.proofs.Common.{◌≡◌, length, subst}
 use Rattle.es_tree.specs.declared.error.Lang.{Lang}
 use Rattle.es_tree.specs.declared.error.Mode.{Mode}
 use Rattle.es_tree.specs.declared.error.Mode.TheVariants as mode
-use Rattle.es_tree.specs.Key.{Key}
+use Rattle.es_lexer.specs.declared.token.Token.{Token}
+use Rattle.es_tree.specs.Key.{Key, keys_of}
 use Rattle.es_tree.specs.Plain.{Plain}
 use Rattle.es_tree.specs.Fits.{free, chosen, Shape, most_nodes}
 use Rattle.es_tree.proofs.Theorems as grammars
@@ -42,16 +43,19 @@ pub one_script : (K : List Key) (p q : Plain programs.Label)
     → Shape free rule ScriptRow K p → Shape free rule ScriptRow K q → p ≡ q
 one_script = grammars.one_shape rule claims.sets ScriptRow scripts
 
-pub free_script_is_chosen : (K : List Key) (p : Plain programs.Label) → Shape free rule ScriptRow K p → Shape chosen rule ScriptRow K p
+pub free_script_is_chosen : (K : List Key) (p : Plain programs.Label) → Shape free rule ScriptRow K p
+    → Shape chosen rule ScriptRow K p
 free_script_is_chosen = grammars.free_is_chosen rule claims.sets ScriptRow scripts
 
-pub chosen_script_is_free : (K : List Key) (p : Plain programs.Label) → Shape chosen rule ScriptRow K p → Shape free rule ScriptRow K p
+pub chosen_script_is_free : (K : List Key) (p : Plain programs.Label) → Shape chosen rule ScriptRow K p
+    → Shape free rule ScriptRow K p
 chosen_script_is_free = grammars.chosen_is_free rule claims.sets ScriptRow scripts
 
 -- ---- programs
 
 -- keys have at most one tree in a language and a mode
-pub one_program : (l : Lang) (m : Mode) (K : List Key) (p q : Plain programs.Label) → IsProgram l m K p → IsProgram l m K q → p ≡ q
+pub one_program : (l : Lang) (m : Mode) (K : List Key) (p q : Plain programs.Label) → IsProgram l m K p
+    → IsProgram l m K q → p ≡ q
 one_program l mode.Module K p q one other = one_module l K p q one.shaped other.shaped
 one_program l mode.Script K p q one other = one_script K p q one.shaped other.shaped
 
@@ -60,6 +64,12 @@ pub program_ordered : (l : Lang) (m : Mode) (K : List Key) (p : Plain programs.L
     → StandsBetween 0 (length K) p
 unfolding Shape
 program_ordered l m K p program = row_stands free K rule most_nodes (program_row l m) p 0 (length K) program.shaped.0
+
+-- a tree is a program by the keys of its tokens alone: whatever leaves them as they are, as other literals do, leaves
+-- it
+pub program_by_keys : (l : Lang) (m : Mode) (xs ys : List Token) (p : Plain programs.Label) → keys_of xs ≡ keys_of ys
+    → IsProgram l m (keys_of xs) p → IsProgram l m (keys_of ys) p
+program_by_keys l m xs ys p same program = let P : List Key → Type 0 = λ K. IsProgram l m K p in subst P same program
 
 -- ---- types
 
@@ -78,6 +88,7 @@ pub chosen_type_is_free : (c : Bool) (K : List Key) (p : Plain Label)
 chosen_type_is_free c = grammars.chosen_is_free type_rule sets (TypeRow c) (types c)
 
 -- the parts of a type stand in order, each within the range of the node that holds it
-pub type_ordered : (c : Bool) (K : List Key) (p : Plain Label) → Shape free type_rule (TypeRow c) K p → StandsBetween 0 (length K) p
+pub type_ordered : (c : Bool) (K : List Key) (p : Plain Label) → Shape free type_rule (TypeRow c) K p
+    → StandsBetween 0 (length K) p
 unfolding Shape
 type_ordered c K p shaped = row_stands free K type_rule most_nodes (TypeRow c) p 0 (length K) shaped.0

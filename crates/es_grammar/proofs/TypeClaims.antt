@@ -1,4 +1,5 @@
--- The tests of the types' table bar no reading. What is claimed of the rows is checked by computing it at each kind of token.
+-- The tests of the types' table bar no reading. What is claimed of the rows is checked by computing it at each kind of
+-- token.
 use Rattle.std.specs.Prelude.{Bool, true, false, ◌||◌}
 use Rattle.std.proofs.Common.{◌≡◌, refl}
 use Rattle.es_lexer.specs.declared.token.TokenKind.TheVariants as k
@@ -57,7 +58,19 @@ sets = record { first = first; follow = follow; solid = solid }
 
 -- each row but that of parameters takes a token, and so does each part that may be absent
 rows_take : (r : Row) → solid r ≡ true → rule_takes solid (type_rule r) ≡ true
-unfolding is_name is_word is_name_or_this is_numeric is_sign is_accessor_word is_near begins_key further_names entity opens_arguments no_arguments reference import_type arguments is_modifier opens_modifier type_parameter type_parameters parameters_in mark_in type_in list_before is_parameter parameters has_mark no_mark name_pattern array_pattern object_pattern pattern parameter pattern_element pattern_key opens_value pattern_property result_in is_separator may_separate separator opens_parameters call_signature opens_construct construct_signature opens_readonly shows_index opens_index index_signature opens_accessor accessor_signature opens_method method_signature property_signature is_property_key readonly_property member computed_key key is_literal_word begins_type parenthesized_type members_type shows_mapped opens_mapped sign_in begins_signed mapped_type tuple_type type_query opens_this_reference is_type_word is_keyword_type template_types number_type primary_type opens_brackets brackets_in array_types is_type_operator opens_operator opens_infer operand_type operands_in intersection_type union_type opens_condition no_condition conditional_type opens_function function_type opens_constructor constructor_type any_type is_label label_in element is_asserted_name opens_asserts opens_predicate result type_rule
+unfolding is_name is_word is_name_or_this is_numeric is_sign is_accessor_word is_near begins_key further_names entity
+    opens_arguments no_arguments reference import_type arguments is_modifier opens_modifier type_parameter
+    type_parameters parameters_in mark_in type_in list_before is_parameter parameters has_mark no_mark name_pattern
+    array_pattern object_pattern pattern parameter pattern_element pattern_key opens_value pattern_property result_in
+    is_separator may_separate separator opens_parameters call_signature opens_construct construct_signature
+    opens_readonly shows_index opens_index index_signature opens_accessor accessor_signature opens_method
+    method_signature property_signature is_property_key readonly_property member computed_key key is_literal_word
+    begins_type parenthesized_type members_type shows_mapped opens_mapped sign_in begins_signed mapped_type tuple_type
+    type_query opens_this_reference is_type_word is_keyword_type template_types number_type primary_type
+    opens_brackets brackets_in array_types is_type_operator opens_operator opens_infer operand_type operands_in
+    intersection_type union_type opens_condition no_condition conditional_type opens_function function_type
+    opens_constructor constructor_type any_type is_label label_in element is_asserted_name opens_asserts
+    opens_predicate result type_rule
 rows_take (TypeRow true) h = refl
 rows_take (TypeRow false) h = refl
 rows_take IntersectionRow h = refl
@@ -80,7 +93,19 @@ rows_take PatternPropertyRow h = refl
 rows_take PatternKeyRow h = refl
 
 parts_take : (r : Row) → rule_parts_take solid (type_rule r) ≡ true
-unfolding is_name is_word is_name_or_this is_numeric is_sign is_accessor_word is_near begins_key further_names entity opens_arguments no_arguments reference import_type arguments is_modifier opens_modifier type_parameter type_parameters parameters_in mark_in type_in list_before is_parameter parameters has_mark no_mark name_pattern array_pattern object_pattern pattern parameter pattern_element pattern_key opens_value pattern_property result_in is_separator may_separate separator opens_parameters call_signature opens_construct construct_signature opens_readonly shows_index opens_index index_signature opens_accessor accessor_signature opens_method method_signature property_signature is_property_key readonly_property member computed_key key is_literal_word begins_type parenthesized_type members_type shows_mapped opens_mapped sign_in begins_signed mapped_type tuple_type type_query opens_this_reference is_type_word is_keyword_type template_types number_type primary_type opens_brackets brackets_in array_types is_type_operator opens_operator opens_infer operand_type operands_in intersection_type union_type opens_condition no_condition conditional_type opens_function function_type opens_constructor constructor_type any_type is_label label_in element is_asserted_name opens_asserts opens_predicate result type_rule
+unfolding is_name is_word is_name_or_this is_numeric is_sign is_accessor_word is_near begins_key further_names entity
+    opens_arguments no_arguments reference import_type arguments is_modifier opens_modifier type_parameter
+    type_parameters parameters_in mark_in type_in list_before is_parameter parameters has_mark no_mark name_pattern
+    array_pattern object_pattern pattern parameter pattern_element pattern_key opens_value pattern_property result_in
+    is_separator may_separate separator opens_parameters call_signature opens_construct construct_signature
+    opens_readonly shows_index opens_index index_signature opens_accessor accessor_signature opens_method
+    method_signature property_signature is_property_key readonly_property member computed_key key is_literal_word
+    begins_type parenthesized_type members_type shows_mapped opens_mapped sign_in begins_signed mapped_type tuple_type
+    type_query opens_this_reference is_type_word is_keyword_type template_types number_type primary_type
+    opens_brackets brackets_in array_types is_type_operator opens_operator opens_infer operand_type operands_in
+    intersection_type union_type opens_condition no_condition conditional_type opens_function function_type
+    opens_constructor constructor_type any_type is_label label_in element is_asserted_name opens_asserts
+    opens_predicate result type_rule
 parts_take (TypeRow true) = refl
 parts_take (TypeRow false) = refl
 parts_take IntersectionRow = refl
@@ -104,7 +129,19 @@ parts_take PatternKeyRow = refl
 
 -- what a row begins with
 begins : (r : Row) → holds_everywhere (λ x. implies (rule_starts sets (type_rule r) none x) (first r x)) ≡ true
-unfolding is_name is_word is_name_or_this is_numeric is_sign is_accessor_word is_near begins_key further_names entity opens_arguments no_arguments reference import_type arguments is_modifier opens_modifier type_parameter type_parameters parameters_in mark_in type_in list_before is_parameter parameters has_mark no_mark name_pattern array_pattern object_pattern pattern parameter pattern_element pattern_key opens_value pattern_property result_in is_separator may_separate separator opens_parameters call_signature opens_construct construct_signature opens_readonly shows_index opens_index index_signature opens_accessor accessor_signature opens_method method_signature property_signature is_property_key readonly_property member computed_key key is_literal_word begins_type parenthesized_type members_type shows_mapped opens_mapped sign_in begins_signed mapped_type tuple_type type_query opens_this_reference is_type_word is_keyword_type template_types number_type primary_type opens_brackets brackets_in array_types is_type_operator opens_operator opens_infer operand_type operands_in intersection_type union_type opens_condition no_condition conditional_type opens_function function_type opens_constructor constructor_type any_type is_label label_in element is_asserted_name opens_asserts opens_predicate result type_rule holds_everywhere
+unfolding is_name is_word is_name_or_this is_numeric is_sign is_accessor_word is_near begins_key further_names entity
+    opens_arguments no_arguments reference import_type arguments is_modifier opens_modifier type_parameter
+    type_parameters parameters_in mark_in type_in list_before is_parameter parameters has_mark no_mark name_pattern
+    array_pattern object_pattern pattern parameter pattern_element pattern_key opens_value pattern_property result_in
+    is_separator may_separate separator opens_parameters call_signature opens_construct construct_signature
+    opens_readonly shows_index opens_index index_signature opens_accessor accessor_signature opens_method
+    method_signature property_signature is_property_key readonly_property member computed_key key is_literal_word
+    begins_type parenthesized_type members_type shows_mapped opens_mapped sign_in begins_signed mapped_type tuple_type
+    type_query opens_this_reference is_type_word is_keyword_type template_types number_type primary_type
+    opens_brackets brackets_in array_types is_type_operator opens_operator opens_infer operand_type operands_in
+    intersection_type union_type opens_condition no_condition conditional_type opens_function function_type
+    opens_constructor constructor_type any_type is_label label_in element is_asserted_name opens_asserts
+    opens_predicate result type_rule holds_everywhere
 begins (TypeRow true) = refl
 begins (TypeRow false) = refl
 begins IntersectionRow = refl
@@ -128,7 +165,19 @@ begins PatternKeyRow = refl
 
 -- each test tells
 tests_tell : (r : Row) → holds_everywhere (rule_tells sets (type_rule r) (follow r)) ≡ true
-unfolding is_name is_word is_name_or_this is_numeric is_sign is_accessor_word is_near begins_key further_names entity opens_arguments no_arguments reference import_type arguments is_modifier opens_modifier type_parameter type_parameters parameters_in mark_in type_in list_before is_parameter parameters has_mark no_mark name_pattern array_pattern object_pattern pattern parameter pattern_element pattern_key opens_value pattern_property result_in is_separator may_separate separator opens_parameters call_signature opens_construct construct_signature opens_readonly shows_index opens_index index_signature opens_accessor accessor_signature opens_method method_signature property_signature is_property_key readonly_property member computed_key key is_literal_word begins_type parenthesized_type members_type shows_mapped opens_mapped sign_in begins_signed mapped_type tuple_type type_query opens_this_reference is_type_word is_keyword_type template_types number_type primary_type opens_brackets brackets_in array_types is_type_operator opens_operator opens_infer operand_type operands_in intersection_type union_type opens_condition no_condition conditional_type opens_function function_type opens_constructor constructor_type any_type is_label label_in element is_asserted_name opens_asserts opens_predicate result type_rule holds_everywhere
+unfolding is_name is_word is_name_or_this is_numeric is_sign is_accessor_word is_near begins_key further_names entity
+    opens_arguments no_arguments reference import_type arguments is_modifier opens_modifier type_parameter
+    type_parameters parameters_in mark_in type_in list_before is_parameter parameters has_mark no_mark name_pattern
+    array_pattern object_pattern pattern parameter pattern_element pattern_key opens_value pattern_property result_in
+    is_separator may_separate separator opens_parameters call_signature opens_construct construct_signature
+    opens_readonly shows_index opens_index index_signature opens_accessor accessor_signature opens_method
+    method_signature property_signature is_property_key readonly_property member computed_key key is_literal_word
+    begins_type parenthesized_type members_type shows_mapped opens_mapped sign_in begins_signed mapped_type tuple_type
+    type_query opens_this_reference is_type_word is_keyword_type template_types number_type primary_type
+    opens_brackets brackets_in array_types is_type_operator opens_operator opens_infer operand_type operands_in
+    intersection_type union_type opens_condition no_condition conditional_type opens_function function_type
+    opens_constructor constructor_type any_type is_label label_in element is_asserted_name opens_asserts
+    opens_predicate result type_rule holds_everywhere
 tests_tell (TypeRow true) = refl
 tests_tell (TypeRow false) = refl
 tests_tell IntersectionRow = refl

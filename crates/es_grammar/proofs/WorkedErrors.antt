@@ -6,7 +6,7 @@ use Rattle.es_tree.specs.declared.error.Lang.TheVariants as lang
 use Rattle.es_tree.specs.declared.error.Mode.TheVariants as mode
 use Rattle.es_tree.specs.Fits.{most_nodes}
 use Rattle.es_tree.specs.Reader.{nothing, read_turns, read_wraps, read_row}
-use Rattle.es_grammar.specs.TypeReader.{one, joined, paired, line, line_paired}
+use Rattle.es_grammar.specs.TypeReader.{one, paired, line}
 use Rattle.es_grammar.specs.ProgramReader.{read_program}
 use Rattle.es_grammar.specs.Words.{is_name, is_word, is_name_or_this, is_numeric, is_sign, is_accessor_word, is_near, begins_key}
 use Rattle.es_grammar.specs.Modules.{may_end, ended, word_or_str_in, names_in, attributes, attributes_ended, from_ended, opens_type_import, opens_type_name, type_word_in, is_renamed, is_no_type_as_as, import_specifier, named, has_comma, clause, entity, opens_equals, shows_require, opens_require, equals_in, required, opens_bare, import_, export_specifier, opens_type_export, opens_all, opens_exported_equals, opens_exported_require, opens_namespace, export_}

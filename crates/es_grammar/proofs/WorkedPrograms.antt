@@ -1,4 +1,5 @@
--- Programs of the plain language and their trees: each is what the reader of the table answers, by computing it. A line end is written ⏎.
+-- Programs of the plain language and their trees: each is what the reader of the table answers, by computing it. A line
+-- end is written ⏎.
 use Rattle.std.specs.Prelude.{[], ◌∷◌}
 use Rattle.std.proofs.Common.{◌≡◌, refl}
 use Rattle.es_lexer.specs.declared.token.TokenKind.TheVariants as k
@@ -9,7 +10,7 @@ use Rattle.es_tree.specs.Plain.{node, leaf, nil, cons, mark, turn, via}
 use Rattle.es_tree.specs.Fits.{most_nodes}
 use Rattle.es_tree.specs.Reader.{gives, read_turns, read_wraps, read_row}
 use Rattle.es_grammar.specs.Rows.{AccessorProperty, Arguments, ArrayLiteral, ArrayPattern, Assignment, AsyncFunction, AsyncNameArrow, Attributes, BareImport, Binary, Block, CallPost, Chain, Class, Conditional, Declarator, DefaultAndClause, DefaultPattern, DoStatement, ExportAll, ExportDeclaration, ExportDefaultExpression, ExportDefaultFunction, ExportNames, ExportedName, ExpressionStatement, FieldMember, ForAwaitStatement, ForEachStatement, ForStatement, FromImport, Function, IfStatement, ImportCall, ImportMeta, KeyValue, LabelledStatement, MemberPost, MethodMember, Module, Name, NameArrow, NamePattern, NameProperty, NamedImports, Namespace, New, ObjectLiteral, ObjectPattern, OptionalPost, Parameters, Parenthesized, ParenthesizedArrow, PatternAssignment, PrivateIn, PrivateKey, RenamedImport, ReturnStatement, Script, Shorthand, Signature, Spread, SwitchStatement, Target, Template, TemplateParts, TryStatement, UnaryExpression, UpdatePostfix, UpdatePrefix, Using, UsingDeclaration, VariableDeclaration, VariableHead, Variables, WithStatement, WordKey, Yield}
-use Rattle.es_grammar.specs.TypeReader.{one, joined, paired, line, line_paired}
+use Rattle.es_grammar.specs.TypeReader.{one, joined, paired, line}
 use Rattle.es_grammar.specs.ProgramReader.{read_program}
 use Rattle.es_grammar.specs.Words.{is_name, is_word, is_name_or_this, is_numeric, is_sign, is_accessor_word, is_near, begins_key}
 use Rattle.es_grammar.specs.Modules.{may_end, ended, word_or_str_in, names_in, attributes, attributes_ended, from_ended, opens_type_import, opens_type_name, type_word_in, is_renamed, is_no_type_as_as, import_specifier, named, has_comma, clause, entity, opens_equals, shows_require, opens_require, equals_in, required, opens_bare, import_, export_specifier, opens_type_export, opens_all, opens_exported_equals, opens_exported_require, opens_namespace, export_}

@@ -1,11 +1,11 @@
 -- Types and their trees: each is what the table's reader answers, by computing it. A line end is written ⏎.
-use Rattle.std.specs.Prelude.{[], ◌∷◌, true}
+use Rattle.std.specs.Prelude.{[], ◌∷◌}
 use Rattle.std.proofs.Common.{◌≡◌, refl}
 use Rattle.es_lexer.specs.declared.token.TokenKind.TheVariants as k
 use Rattle.es_tree.specs.Form.{as_kind, as_name, as_raw, as_str, as_there}
 use Rattle.es_tree.specs.Plain.{node, leaf, nil, cons, mark, turn}
 use Rattle.es_tree.specs.Fits.{most_nodes}
-use Rattle.es_tree.specs.Reader.{nothing, gives, read_turns, read_wraps, read_row}
+use Rattle.es_tree.specs.Reader.{gives, read_turns, read_wraps, read_row}
 use Rattle.es_grammar.specs.TypeRows.{AccessorSignature, ArrayPattern, ArrayTypes, AssertsResult, CallSignature, ComputedKey, ConditionalType, ConstructSignature, ConstructorType, Entity, FunctionType, ImportType, IndexSignature, InferType, IntersectionType, KeyProperty, KeywordType, LabelledElement, LeadingIntersectionType, LeadingUnionType, MappedType, MarkedParameter, MembersType, MethodSignature, NamePattern, NameProperty, NumberKey, NumberType, ObjectPattern, OptionalElement, Parameters, ParenthesizedType, PredicateResult, PropertySignature, ReadonlyProperty, Reference, RestElement, RestPattern, RestProperty, StrType, TemplateType, TemplateTypes, ThisParameter, ThisType, TupleType, TypeArguments, TypeOperator, TypeParameters, TypeQuery, UnionType, WordKey, WordPatternKey, WordType}
 use Rattle.es_grammar.specs.TypeReader.{one, paired, line, line_paired, read_type}
 use Rattle.es_grammar.specs.Words.{is_name, is_word, is_name_or_this, is_numeric, is_sign, is_accessor_word, is_near, begins_key}

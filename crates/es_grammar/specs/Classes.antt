@@ -1,7 +1,7 @@
 -- Members of classes (ECMA-262, "Class Definitions").
-use Rattle.std.specs.Prelude.{ℕ, ◌+◌, Bool, true, false, not, ◌&&◌, ◌||◌}
+use Rattle.std.specs.Prelude.{◌+◌, true, not, ◌&&◌, ◌||◌}
 use Rattle.es_lexer.specs.declared.token.TokenKind.TheVariants as k
-use Rattle.es_tree.specs.Key.{seen, has_kind, is}
+use Rattle.es_tree.specs.Key.{seen, is}
 use Rattle.es_tree.specs.Form.{as_kind, as_there, guarded, taken, Guard, Form, done, tok, punct, row, opt, where_, Rule, make, choose, pick}
 use Rattle.es_grammar.specs.Words.{only, is_accessor_word, is_near}
 use Rattle.es_grammar.specs.Rows.{Context, Row, BlockRow, KeyRow, AssignmentRow, Label, EmptyMember, StaticBlock, AccessorMember, AsyncMember, GeneratorMember, MethodMember, FieldMember, AccessorField}
@@ -28,7 +28,8 @@ behind_static g K at = (opens_static K at && g K (at + 1)) || (not (opens_static
 -- behind the modifiers stands a key that is none
 unfoldable pub is_plain_member : Guard
 is_plain_member K at =
-    not (opens_static K at) && (not (opens_accessor true K at) && (not (opens_async true K at) && not (opens_field_accessor K at)))
+    not (opens_static K at) && (not (opens_accessor true K at) && (not (opens_async true K at)
+    && not (opens_field_accessor K at)))
 
 unfoldable pub opens_static_block : Guard
 opens_static_block K at = is k.StaticWord (seen K at) && is k.OpenBrace (seen K (at + 1))
@@ -41,7 +42,8 @@ static_in f = opt (guarded opens_static) (tok as_there (only k.StaticWord) done)
 unfoldable pub value_in : Context → Form Row → Form Row
 value_in c f = opt (taken (is k.Equal)) (punct k.Equal (row (AssignmentRow c) (where_ ends_expression done))) f
 
--- Member: ';' | 'static' Block | 'static'? ('get' | 'set' | 'async'? '*'?) Key Sig Block | 'static'? 'accessor'? Key ('=' Assign)? END
+-- Member: ';' | 'static' Block | 'static'? ('get' | 'set' | 'async'? '*'?) Key Sig Block | 'static'? 'accessor'? Key
+-- ('=' Assign)? END
 unfoldable pub member : Context → Rule Row Label
 member c =
     choose (is k.Semicolon) (make EmptyMember (punct k.Semicolon done))
@@ -53,7 +55,8 @@ member c =
     (pick (behind_static opens_star)
     (make GeneratorMember (static_in (punct k.Star (where_ is_plain_member (method_in true c)))))
     (pick (behind_static opens_field_accessor)
-    (make AccessorField (static_in (punct k.AccessorWord (where_ is_plain_member (row (KeyRow true c) (value_in c ended))))))
+    (make AccessorField (static_in (punct k.AccessorWord (where_ is_plain_member (row (KeyRow true c)
+    (value_in c ended))))))
     (pick (behind_static opens_method)
     (make MethodMember (static_in (where_ is_plain_member (method_in true c))))
     (make FieldMember (static_in (where_ is_plain_member (row (KeyRow true c) (value_in c ended)))))))))))

@@ -1,10 +1,11 @@
--- What is asked of a tree besides the rows: what is assigned to, or updated, is a simple target (ECMA-262, "AssignmentTargetType").
+-- What is asked of a tree besides the rows: what is assigned to, or updated, is a simple target (ECMA-262,
+-- "AssignmentTargetType").
 use Rattle.std.specs.Prelude.{Bool, true, false, ◌≡◌, ◌&&◌, List}
 use Rattle.es_tree.specs.declared.error.Lang.{Lang}
 use Rattle.es_tree.specs.declared.error.Mode.{Mode}
 use Rattle.es_tree.specs.declared.error.Mode.TheVariants as mode
 use Rattle.es_tree.specs.Key.{Key}
-use Rattle.es_tree.specs.Plain.{Plain, node, leaf, nil, cons, mark, turn, via}
+use Rattle.es_tree.specs.Plain.{Plain, node, cons, mark, turn, via}
 use Rattle.es_tree.specs.Fits.{free, Shape}
 use Rattle.es_grammar.specs.Rows.{Row, ModuleRow, ScriptRow, Label, Name, Parenthesized, Chain, MemberPost, IndexPost, Assignment, UpdatePostfix, UpdatePrefix}
 use Rattle.es_grammar.specs.Table.{rule}

@@ -1,11 +1,11 @@
 -- Expressions (ECMA-262, "ECMAScript Language: Expressions"), templates, and what may stand behind them.
-use Rattle.std.specs.Prelude.{ℕ, zero, suc, ◌+◌, ◌-◌, Bool, true, false, not, ◌&&◌, ◌||◌, if◌then◌else◌, List, Option, Some, None, slice_get}
+use Rattle.std.specs.Prelude.{ℕ, ◌+◌, ◌-◌, Bool, true, false, not, ◌&&◌, ◌||◌, List, Option, Some, None, slice_get}
 use Rattle.es_lexer.specs.declared.token.TokenKind.{TokenKind}
 use Rattle.es_lexer.specs.declared.token.TokenKind.TheVariants as k
 use Rattle.es_tree.specs.Key.{Key, Look, seen, same_kind, has_kind, is, is_end}
-use Rattle.es_tree.specs.Form.{as_str, as_name, as_raw, as_kind, as_there, hint, taken, guarded, Guard, Form, done, tok, punct, row, opt, many, alt, when_, where_, Rule, make, choose, as_, pick, wrap}
-use Rattle.es_grammar.specs.Words.{only, is_between, is_name, is_word, is_numeric, is_accessor_word, is_near, is_other, begins_key, partner_of, closes_before}
-use Rattle.es_grammar.specs.Rows.{Context, Row, BlockRow, SignatureRow, ParametersRow, PatternRow, PropertyRow, KeyRow, ExpressionRow, AssignmentRow, AndRow, BitOrRow, BitXorRow, BitAndRow, EqualityRow, RelationRow, ShiftRow, SumRow, ProductRow, PowerRow, UnaryRow, ChainRow, CalleeRow, PostRow, MemberPostRow, ArgumentsRow, ElementRow, TemplateRow, MemberRow, Label, AsyncFunction, Function, Class, Sequence, Yield, PatternAssignment, Assignment, NameArrow, ParenthesizedArrow, AsyncNameArrow, AsyncParenthesizedArrow, Conditional, Binary, PrivateIn, UnaryExpression, AwaitExpression, UpdatePrefix, UpdatePostfix, Chain, MemberPost, IndexPost, CallPost, TemplatePost, OptionalPost, Super, ImportCall, ImportMeta, NewTarget, New, Arguments, Name, Word, Number, Str, RegExp, Template, TemplateParts, Parenthesized, ArrayLiteral, ObjectLiteral, Spread}
+use Rattle.es_tree.specs.Form.{as_str, as_name, as_raw, as_kind, as_there, hint, taken, guarded, Guard, Form, done, tok, punct, row, opt, many, alt, when_, where_, Rule, make, choose, pick, wrap}
+use Rattle.es_grammar.specs.Words.{only, is_between, is_name, is_numeric, is_near, is_other, partner_of, closes_before}
+use Rattle.es_grammar.specs.Rows.{Context, Row, BlockRow, SignatureRow, ParametersRow, PatternRow, PropertyRow, ExpressionRow, AssignmentRow, AndRow, BitOrRow, BitXorRow, BitAndRow, EqualityRow, RelationRow, ShiftRow, SumRow, ProductRow, PowerRow, UnaryRow, ChainRow, CalleeRow, PostRow, MemberPostRow, ArgumentsRow, ElementRow, TemplateRow, MemberRow, Label, AsyncFunction, Function, Class, Sequence, Yield, PatternAssignment, Assignment, NameArrow, ParenthesizedArrow, AsyncNameArrow, AsyncParenthesizedArrow, Conditional, Binary, PrivateIn, UnaryExpression, AwaitExpression, UpdatePrefix, UpdatePostfix, Chain, MemberPost, IndexPost, CallPost, TemplatePost, OptionalPost, Super, ImportCall, ImportMeta, NewTarget, New, Arguments, Name, Word, Number, Str, RegExp, Template, TemplateParts, Parenthesized, ArrayLiteral, ObjectLiteral, Spread}
 
 -- the same place, outside the head of a `for`, and inside one, and in an async function
 abbrev pub outside : Context → Context
@@ -38,7 +38,8 @@ is_equality kind = is_between k.EqualEqual k.NotEqualEqual kind
 
 unfoldable pub is_relation : TokenKind → Bool
 is_relation kind =
-    same_kind kind k.Less || (same_kind kind k.LessEqual || (same_kind kind k.InstanceofWord || same_kind kind k.InWord))
+    same_kind kind k.Less || (same_kind kind k.LessEqual || (same_kind kind k.InstanceofWord
+    || same_kind kind k.InWord))
 
 -- an assignment operator of one token
 unfoldable pub is_assignment : TokenKind → Bool
@@ -101,7 +102,8 @@ is_body K None = false
 unfoldable pub follows_arrow_body : Guard
 follows_arrow_body K at = is k.CloseBrace (seen K (at - 1)) && is_body K (partner_of (slice_get K (at - 1)))
 
--- behind an expression a statement may end here, where the next token doesn't go on with it; behind a body of an arrow only `,` would
+-- behind an expression a statement may end here, where the next token doesn't go on with it; behind a body of an arrow
+-- only `,` would
 unfoldable pub ends_expression : Guard
 ends_expression K at =
     (is k.Semicolon (seen K at) || (is k.CloseBrace (seen K at) || is_end (seen K at)))
@@ -210,7 +212,8 @@ name_in false f = opt (taken (has_kind is_name)) (tok as_name is_name done) f
 -- 'function' '*'? Name? Sig Block
 unfoldable pub function : Bool → Context → Rule Row Label
 function named c =
-    make Function (punct k.FunctionWord (star_in (name_in named (row (SignatureRow (outside c)) (row (BlockRow (outside c)) done)))))
+    make Function (punct k.FunctionWord (star_in (name_in named (row (SignatureRow (outside c)) (row (BlockRow
+    (outside c)) done)))))
 
 -- 'async' ~ 'function' '*'? Name? Sig Block
 unfoldable pub async_function : Bool → Context → Rule Row Label
@@ -227,17 +230,20 @@ unfoldable pub class_ : Bool → Context → Rule Row Label
 class_ named c =
     make Class (punct k.ClassWord (name_in named
     (opt (taken (is k.ExtendsWord)) (punct k.ExtendsWord (row (ChainRow (outside c)) done))
-    (punct k.OpenBrace (many (hint (is_other k.CloseBrace)) (row (MemberRow (outside c)) done) (punct k.CloseBrace done))))))
+    (punct k.OpenBrace (many (hint (is_other k.CloseBrace)) (row (MemberRow (outside c)) done)
+    (punct k.CloseBrace done))))))
 
 unfoldable pub is_literal_word : TokenKind → Bool
 is_literal_word kind =
-    same_kind kind k.ThisWord || (same_kind kind k.NullWord || (same_kind kind k.TrueWord || same_kind kind k.FalseWord))
+    same_kind kind k.ThisWord || (same_kind kind k.NullWord || (same_kind kind k.TrueWord
+    || same_kind kind k.FalseWord))
 
 -- Prim
 unfoldable pub primary : Context → Rule Row Label
 primary c =
     choose (is k.OpenParen)
-    (make Parenthesized (where_ is_no_arrow_head (punct k.OpenParen (row (ExpressionRow (outside c)) (punct k.CloseParen done)))))
+    (make Parenthesized (where_ is_no_arrow_head (punct k.OpenParen (row (ExpressionRow (outside c))
+    (punct k.CloseParen done)))))
     (choose (is k.OpenBracket) (array_literal (outside c))
     (choose (is k.OpenBrace) (object_literal (outside c))
     (choose (is k.FunctionWord) (function false c)
@@ -323,7 +329,8 @@ post c =
 
 -- Chain: Base Post*
 unfoldable pub chain : Context → Rule Row Label
-chain c = wrap Chain (base c) (taken begins_post) (row (PostRow c) (many (taken begins_post) (row (PostRow c) done) done))
+chain c =
+    wrap Chain (base c) (taken begins_post) (row (PostRow c) (many (taken begins_post) (row (PostRow c) done) done))
 
 -- Chain1: a Chain with no Args and no `?.`
 unfoldable pub callee : Context → Rule Row Label
@@ -346,7 +353,8 @@ no_update_here x = not (is_update_here x)
 unfoldable pub update : Context → Rule Row Label
 update c =
     choose (has_kind is_update) (make UpdatePrefix (tok as_kind is_update (row (UnaryRow c) done)))
-    (wrap UpdatePostfix (chain c) (taken is_update_here) (when_ is_near (tok as_kind is_update (when_ no_update_here done))))
+    (wrap UpdatePostfix (chain c) (taken is_update_here) (when_ is_near (tok as_kind is_update
+    (when_ no_update_here done))))
 
 -- ('delete' | 'void' | 'typeof' | '+' | '-' | '~' | '!') Unary
 unfoldable pub prefix : Context → Rule Row Label
@@ -405,7 +413,8 @@ private_in c =
 unfoldable pub relation : Context → Rule Row Label
 relation c =
     wrap Binary (choose (is k.PrivateName) (private_in c) (shift c)) (guarded (opens_relation c))
-    (alt (is k.Greater) (tok as_kind (only k.Greater) (opt (guarded (joins k.Equal)) (tok as_there (only k.Equal) done) done))
+    (alt (is k.Greater) (tok as_kind (only k.Greater) (opt (guarded (joins k.Equal)) (tok as_there
+    (only k.Equal) done) done))
     (tok as_kind is_relation done) (row (ShiftRow c) done))
 
 unfoldable pub equality : Context → Rule Row Label
@@ -442,7 +451,8 @@ binary c = level (only k.BarBar) (AndRow c) (and_ c (coalesce c))
 unfoldable pub conditional : Context → Rule Row Label
 conditional c =
     wrap Conditional (binary c) (taken (is k.Question))
-    (punct k.Question (row (AssignmentRow c) (punct k.Colon (row (AssignmentRow c) (when_ (is_other k.Question) done)))))
+    (punct k.Question (row (AssignmentRow c) (punct k.Colon (row (AssignmentRow c) (when_
+    (is_other k.Question) done)))))
 
 -- ---- assignments
 
@@ -481,7 +491,8 @@ assignment c =
 unfoldable pub expression : Context → Rule Row Label
 expression c =
     wrap Sequence (assignment c) (taken (is k.Comma))
-    (punct k.Comma (row (AssignmentRow c) (many (taken (is k.Comma)) (punct k.Comma (row (AssignmentRow c) done)) done)))
+    (punct k.Comma (row (AssignmentRow c) (many (taken (is k.Comma)) (punct k.Comma (row
+    (AssignmentRow c) done)) done)))
 
 -- AElem
 unfoldable pub element : Context → Rule Row Label

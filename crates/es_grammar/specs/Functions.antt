@@ -1,8 +1,9 @@
--- Parameters and patterns (ECMA-262, "Function Definitions" and "Destructuring Binding Patterns"), keys, and properties of objects.
+-- Parameters and patterns (ECMA-262, "Function Definitions" and "Destructuring Binding Patterns"), keys, and properties
+-- of objects.
 use Rattle.std.specs.Prelude.{ℕ, ◌+◌, Bool, true, false, not, ◌&&◌, ◌||◌, Option, Some, None, slice_get}
 use Rattle.es_lexer.specs.declared.token.TokenKind.TheVariants as k
 use Rattle.es_tree.specs.Key.{Look, seen, has_kind, is}
-use Rattle.es_tree.specs.Form.{as_str, as_name, as_raw, as_kind, as_there, hint, taken, Guard, Form, done, tok, punct, row, opt, many, alt, when_, where_, Rule, make, choose, as_, pick, wrap}
+use Rattle.es_tree.specs.Form.{as_str, as_name, as_raw, as_kind, hint, taken, Guard, Form, done, tok, punct, row, opt, many, alt, when_, where_, Rule, make, choose, as_, pick, wrap}
 use Rattle.es_grammar.specs.Words.{only, is_name, is_word, is_numeric, is_accessor_word, is_near, is_other, begins_key, partner_of, closes_before}
 use Rattle.es_grammar.specs.Rows.{Context, Row, BlockRow, SignatureRow, ParametersRow, ParameterRow, PatternRow, InnerPatternRow, PatternElementRow, PatternPropertyRow, KeyRow, AssignmentRow, Label, Target, Signature, Parameters, DefaultParameter, NamePattern, ArrayPattern, ObjectPattern, RestPattern, DefaultPattern, RestProperty, KeyPattern, NameProperty, WordKey, StrKey, NumberKey, ComputedKey, PrivateKey, SpreadProperty, AccessorProperty, AsyncProperty, GeneratorProperty, MethodProperty, KeyValue, Shorthand}
 use Rattle.es_grammar.specs.Expressions.{outside, async_in, chain, star_in}
@@ -25,7 +26,8 @@ array_pattern t c =
 unfoldable pub object_pattern : Bool → Context → Rule Row Label
 object_pattern t c =
     make ObjectPattern (punct k.OpenBrace (many (hint (is_other k.CloseBrace))
-    (row (PatternPropertyRow t c) (opt (taken (is_other k.CloseBrace)) (punct k.Comma done) done)) (punct k.CloseBrace done)))
+    (row (PatternPropertyRow t c) (opt (taken (is_other k.CloseBrace)) (punct k.Comma done) done))
+    (punct k.CloseBrace done)))
 
 -- a pattern inside a pattern that is assigned to: `[` or `{` whose closer is followed by `=`, `,`, `]` or `}`
 unfoldable pub follows_pattern : Look
@@ -132,7 +134,8 @@ opens_accessor p K at = has_kind is_accessor_word (seen K at) && starts_key p (s
 -- `async` is one before a key or `*` on its line
 unfoldable pub opens_async : Bool → Guard
 opens_async p K at =
-    is k.AsyncWord (seen K at) && (is_near (seen K (at + 1)) && (starts_key p (seen K (at + 1)) || is k.Star (seen K (at + 1))))
+    is k.AsyncWord (seen K at) && (is_near (seen K (at + 1)) && (starts_key p (seen K (at + 1))
+    || is k.Star (seen K (at + 1))))
 
 -- behind a modifier stands a key that is none
 unfoldable pub is_plain_key : Guard
@@ -162,5 +165,6 @@ property c =
     (make AsyncProperty (punct k.AsyncWord (star_in (where_ is_plain_key (async_method_in false (outside c))))))
     (choose (is k.Star) (make GeneratorProperty (punct k.Star (where_ is_plain_key (method_in false (outside c)))))
     (pick opens_method (make MethodProperty (method_in false (outside c)))
-    (pick opens_value (make KeyValue (row (KeyRow false (outside c)) (punct k.Colon (row (AssignmentRow (outside c)) done))))
+    (pick opens_value (make KeyValue (row (KeyRow false (outside c)) (punct k.Colon (row (AssignmentRow
+    (outside c)) done))))
     (make Shorthand (tok as_name is_name done)))))))

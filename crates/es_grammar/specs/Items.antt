@@ -1,14 +1,14 @@
 -- Programs and the items of modules (ECMA-262, "Scripts and Modules").
-use Rattle.std.specs.Prelude.{ℕ, ◌+◌, true, false, not, ◌&&◌, ◌||◌}
+use Rattle.std.specs.Prelude.{◌+◌, true, false, not, ◌&&◌, ◌||◌}
 use Rattle.es_lexer.specs.declared.token.TokenKind.TheVariants as k
 use Rattle.es_tree.specs.declared.error.Lang.{Lang}
-use Rattle.es_tree.specs.Key.{Look, seen, has_kind, is, is_token}
-use Rattle.es_tree.specs.Form.{as_raw, hint, taken, Guard, Form, done, tok, punct, row, opt, many, when_, Rule, refuse, make, choose, pick}
+use Rattle.es_tree.specs.Key.{seen, has_kind, is, is_token}
+use Rattle.es_tree.specs.Form.{as_raw, hint, taken, Guard, Form, done, tok, punct, row, opt, many, Rule, make, choose, pick}
 use Rattle.es_grammar.specs.Words.{only}
 use Rattle.es_grammar.specs.Rows.{Context, Row, ItemRow, StatementRow, DeclarationRow, FunctionRow, ClassRow, AssignmentRow, Label, ExportDefaultFunction, ExportDefaultClass, ExportDefaultExpression, ExportDeclaration, Module, Script}
 use Rattle.es_grammar.specs.Modules.{import_, export_}
 use Rattle.es_grammar.specs.Expressions.{opens_async_function}
-use Rattle.es_grammar.specs.Statements.{is_variable_word, opens_using, declaration, statement, expression_ended}
+use Rattle.es_grammar.specs.Statements.{is_variable_word, opens_using, statement, expression_ended}
 
 -- at the outside of a module, and of a script
 abbrev pub in_module : Context
@@ -39,19 +39,22 @@ export_default =
     (make ExportDefaultFunction (punct k.ExportWord (punct k.DefaultWord (row (FunctionRow false in_module) done))))
     (pick opens_default_class
     (make ExportDefaultClass (punct k.ExportWord (punct k.DefaultWord (row (ClassRow false in_module) done))))
-    (make ExportDefaultExpression (punct k.ExportWord (punct k.DefaultWord (row (AssignmentRow in_module) expression_ended)))))
+    (make ExportDefaultExpression (punct k.ExportWord (punct k.DefaultWord (row
+    (AssignmentRow in_module) expression_ended)))))
 
 -- behind `export` stands a declaration
 unfoldable pub opens_declaration : Guard
 opens_declaration K at =
-    has_kind is_variable_word (seen K (at + 1)) || (is k.FunctionWord (seen K (at + 1)) || (is k.ClassWord (seen K (at + 1))
+    has_kind is_variable_word (seen K (at + 1)) || (is k.FunctionWord (seen K (at + 1))
+    || (is k.ClassWord (seen K (at + 1))
     || (opens_async_function K (at + 1) || opens_using K (at + 1))))
 
 -- Export, with those of Modules.antt: 'export' Decl | 'export' 'default' (Fn | Class | Assign END)
 unfoldable pub export_item : Lang → Rule Row Label
 export_item l =
     pick opens_default export_default
-    (pick opens_declaration (make ExportDeclaration (punct k.ExportWord (row (DeclarationRow in_module) done))) (export_ l))
+    (pick opens_declaration (make ExportDeclaration (punct k.ExportWord (row (DeclarationRow in_module) done)))
+    (export_ l))
 
 -- Item: Import | Export | Stmt
 unfoldable pub item : Lang → Rule Row Label

@@ -57,7 +57,8 @@ opens_index K at = shows_index K at || (opens_readonly K at && shows_index K (at
 unfoldable pub index_signature : Rule Row Label
 index_signature =
     make IndexSignature (opt (taken (is k.ReadonlyWord)) (tok as_there (only k.ReadonlyWord) done)
-    (punct k.OpenBracket (tok as_name is_name (punct k.Colon (row (TypeRow true) (punct k.CloseBracket (type_in separator)))))))
+    (punct k.OpenBracket (tok as_name is_name (punct k.Colon (row (TypeRow true) (punct k.CloseBracket
+    (type_in separator)))))))
 
 -- `get` and `set` are modifiers before a key
 unfoldable pub opens_accessor : Guard

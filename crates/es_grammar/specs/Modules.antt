@@ -1,12 +1,11 @@
 -- Imports, and exports of names (ECMA-262, "Imports" and "Exports"; the handbook of TypeScript, "Modules").
 use Rattle.std.specs.Prelude.{ℕ, ◌+◌, Bool, true, false, not, ◌&&◌, ◌||◌}
-use Rattle.es_lexer.specs.declared.token.TokenKind.{TokenKind}
 use Rattle.es_lexer.specs.declared.token.TokenKind.TheVariants as k
 use Rattle.es_tree.specs.declared.error.Lang.{Lang}
 use Rattle.es_tree.specs.declared.error.Lang.TheVariants as lang
 use Rattle.es_tree.specs.Key.{Look, seen, has_kind, is, is_end, is_after_line}
 use Rattle.es_tree.specs.Form.{as_str, as_name, as_there, hint, taken, guarded, Guard, Form, done, tok, punct, row, opt, many, alt, when_, where_, Rule, make, choose, pick}
-use Rattle.es_grammar.specs.Words.{only, is_name, is_word, is_name_or_this, is_near, is_other}
+use Rattle.es_grammar.specs.Words.{only, is_name, is_word, is_name_or_this, is_other}
 use Rattle.es_grammar.specs.Rows.{Row, ClauseRow, NamedRow, ImportSpecifierRow, ExportSpecifierRow, AttributesRow, EntityRow, Label, BareImport, FromImport, RequireImport, EntityImport, ExportedRequireImport, ExportedEntityImport, DefaultClause, DefaultAndClause, Namespace, NamedImports, RenamedImport, ImportedName, ExportAll, ExportNames, ExportNamespace, ExportedName, Attributes, Entity}
 
 -- the language is TypeScript
@@ -109,7 +108,8 @@ clause l =
 
 -- Entity: (Name | 'this') ('.' Name)*
 unfoldable pub entity : Rule Row Label
-entity = make Entity (tok as_name is_name_or_this (many (taken (is k.Dot)) (punct k.Dot (tok as_name is_name done)) done))
+entity =
+    make Entity (tok as_name is_name_or_this (many (taken (is k.Dot)) (punct k.Dot (tok as_name is_name done)) done))
 
 -- the place behind the modifier `type`
 abbrev pub behind_type : Bool → ℕ → ℕ

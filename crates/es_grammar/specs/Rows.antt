@@ -1,7 +1,6 @@
 -- The rows of the table of programs, and the alternatives that make a node.
 use Rattle.std.specs.Prelude.{Bool}
 use Rattle.es_tree.specs.declared.error.Lang.{Lang}
-use Rattle.es_tree.specs.declared.error.Mode.{Mode}
 
 -- where a row stands: in a script, in the head of a `for` where `in` is no operator, in an async function
 pub record Context : Type 0 where
@@ -30,7 +29,8 @@ pub data Row : Type 0 where
   DeclaratorRow : Context → Row
   UsingRow : Context → Row
   HeadRow : Context → Row
-  -- functions and classes, whose name may lack or not (true); parameters and patterns: in a pattern that is assigned to (true) targets stand in place of names
+  -- functions and classes, whose name may lack or not (true); parameters and patterns: in a pattern that is assigned to
+  -- (true) targets stand in place of names
   FunctionRow : Bool → Context → Row
   ClassRow : Bool → Context → Row
   SignatureRow : Context → Row
@@ -82,10 +82,13 @@ pub data Label : Type 0 where
   VariableDeclaration UsingDeclaration Variables Declarator Using VariableHead UsingHead Target : Label
   AsyncFunction Function Signature Parameters DefaultParameter : Label
   NamePattern ArrayPattern ObjectPattern RestPattern DefaultPattern RestProperty KeyPattern NameProperty : Label
-  Class EmptyMember StaticBlock AccessorMember AsyncMember GeneratorMember MethodMember FieldMember AccessorField : Label
+  Class EmptyMember StaticBlock AccessorMember : Label
+  AsyncMember GeneratorMember MethodMember FieldMember AccessorField : Label
   WordKey StrKey NumberKey ComputedKey PrivateKey : Label
-  Sequence Yield PatternAssignment Assignment NameArrow ParenthesizedArrow AsyncNameArrow AsyncParenthesizedArrow : Label
+  Sequence Yield PatternAssignment Assignment : Label
+  NameArrow ParenthesizedArrow AsyncNameArrow AsyncParenthesizedArrow : Label
   Conditional Binary PrivateIn UnaryExpression AwaitExpression UpdatePrefix UpdatePostfix : Label
-  Chain MemberPost IndexPost CallPost TemplatePost OptionalPost Super ImportCall ImportMeta NewTarget New Arguments : Label
+  Chain MemberPost IndexPost CallPost TemplatePost OptionalPost : Label
+  Super ImportCall ImportMeta NewTarget New Arguments : Label
   Name Word Number Str RegExp Template TemplateParts Parenthesized ArrayLiteral ObjectLiteral Spread : Label
   SpreadProperty AccessorProperty AsyncProperty GeneratorProperty MethodProperty KeyValue Shorthand : Label

@@ -20,7 +20,9 @@ condition_in c f = punct k.OpenParen (row (ExpressionRow c) (punct k.CloseParen 
 
 -- Block: '{' Stmt* '}'
 unfoldable pub block : Context → Rule Row Label
-block c = make Block (punct k.OpenBrace (many (hint (is_other k.CloseBrace)) (row (StatementRow c) done) (punct k.CloseBrace done)))
+block c =
+    make Block (punct k.OpenBrace (many (hint (is_other k.CloseBrace)) (row (StatementRow c) done)
+    (punct k.CloseBrace done)))
 
 -- ---- declarations
 
@@ -100,7 +102,8 @@ opens_head_pattern K at = (is k.OpenBracket (seen K at) || is k.OpenBrace (seen 
 -- Head: ('var' | 'let' | 'const') Pat | ('await' ~)? 'using' ~ Name | Target
 unfoldable pub head : Context → Rule Row Label
 head c =
-    choose (has_kind is_variable_word) (make VariableHead (tok as_kind is_variable_word (row (PatternRow false c) done)))
+    choose (has_kind is_variable_word) (make VariableHead (tok as_kind is_variable_word (row
+    (PatternRow false c) done)))
     (pick opens_using (make UsingHead (using_in c (tok as_name is_name done)))
     (pick opens_head_pattern (pattern true c) (target (in_head c))))
 
@@ -124,7 +127,8 @@ unfoldable pub for_ : Context → Rule Row Label
 for_ c =
     make ForStatement (punct k.ForWord (punct k.OpenParen (start_in c (punct k.Semicolon
     (opt (taken (is_other k.Semicolon)) (row (ExpressionRow c) done) (punct k.Semicolon
-    (opt (taken (is_other k.CloseParen)) (row (ExpressionRow c) done) (punct k.CloseParen (row (StatementRow c) done)))))))))
+    (opt (taken (is_other k.CloseParen)) (row (ExpressionRow c) done) (punct k.CloseParen (row
+    (StatementRow c) done)))))))))
 
 -- 'for' '(' Head ('in' Expr | 'of' Assign) ')' Stmt
 unfoldable pub for_each : Context → Rule Row Label
@@ -156,7 +160,8 @@ is_value_here x = is_near x && begins_expression x
 -- 'return' (~ Expr)? END
 unfoldable pub return_ : Context → Rule Row Label
 return_ c =
-    make ReturnStatement (punct k.ReturnWord (alt is_value_here (when_ is_near (row (ExpressionRow c) expression_ended)) ended done))
+    make ReturnStatement (punct k.ReturnWord (alt is_value_here (when_ is_near (row
+    (ExpressionRow c) expression_ended)) ended done))
 
 -- a clause of `switch` begins here, and its statements end before such a clause or `}`
 unfoldable pub is_case : Look
@@ -185,7 +190,8 @@ finally_in c = punct k.FinallyWord (row (BlockRow c) done)
 unfoldable pub try_ : Context → Rule Row Label
 try_ c =
     make TryStatement (punct k.TryWord (row (BlockRow c) (alt (is k.CatchWord)
-    (punct k.CatchWord (opt (taken (is k.OpenParen)) (punct k.OpenParen (row (PatternRow false c) (punct k.CloseParen done)))
+    (punct k.CatchWord (opt (taken (is k.OpenParen)) (punct k.OpenParen (row (PatternRow false c)
+    (punct k.CloseParen done)))
     (row (BlockRow c) (opt (taken (is k.FinallyWord)) (finally_in c) done)))) (finally_in c) done)))
 
 unfoldable pub is_script : Context → Guard
@@ -217,12 +223,14 @@ keyword_statement c other =
     (choose (is k.ContinueWord) (make ContinueStatement (punct k.ContinueWord label_ended))
     (choose (is k.BreakWord) (make BreakStatement (punct k.BreakWord label_ended))
     (choose (is k.ReturnWord) (return_ c)
-    (choose (is k.ThrowWord) (make ThrowStatement (punct k.ThrowWord (when_ is_near (row (ExpressionRow c) expression_ended))))
+    (choose (is k.ThrowWord) (make ThrowStatement (punct k.ThrowWord (when_ is_near (row
+    (ExpressionRow c) expression_ended))))
     (choose (is k.SwitchWord) (switch_ c)
     (choose (is k.TryWord) (try_ c)
     (choose (is k.DebuggerWord) (make DebuggerStatement (punct k.DebuggerWord ended))
     (choose (is k.WithWord)
-    (make WithStatement (punct k.WithWord (where_ (is_script c) (condition_in c (row (StatementRow c) done))))) other)))))))))))
+    (make WithStatement (punct k.WithWord (where_ (is_script c) (condition_in c (row
+    (StatementRow c) done))))) other)))))))))))
 
 -- Decl: Var END | Using END | Fn | Class
 unfoldable pub declaration : Context → Rule Row Label → Rule Row Label

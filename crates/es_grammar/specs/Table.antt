@@ -1,5 +1,4 @@
 -- The table of programs: the rule of each row.
-use Rattle.std.specs.Prelude.{Bool}
 use Rattle.es_tree.specs.Form.{Rule, refuse}
 use Rattle.es_grammar.specs.Rows.{Row, ModuleRow, ScriptRow, ItemRow, ClauseRow, NamedRow, ImportSpecifierRow, ExportSpecifierRow, AttributesRow, EntityRow, StatementRow, BlockRow, DeclarationRow, VariablesRow, DeclaratorRow, UsingRow, HeadRow, FunctionRow, ClassRow, SignatureRow, ParametersRow, ParameterRow, PatternRow, InnerPatternRow, PatternElementRow, PatternPropertyRow, MemberRow, PropertyRow, KeyRow, ExpressionRow, AssignmentRow, AndRow, BitOrRow, BitXorRow, BitAndRow, EqualityRow, RelationRow, ShiftRow, SumRow, ProductRow, PowerRow, UnaryRow, ChainRow, CalleeRow, PostRow, MemberPostRow, ArgumentsRow, ElementRow, TemplateRow, Label}
 use Rattle.es_grammar.specs.Modules.{clause, named, import_specifier, export_specifier, attributes, entity}

@@ -24,7 +24,8 @@ no_arguments x = not (opens_arguments x)
 
 -- Ref: Entity (~ TArgs)?
 unfoldable pub reference : (TokenKind → Bool) → Rule Row Label
-reference may = wrap Reference (entity may) (taken opens_arguments) (when_ is_near (row ArgumentsRow (when_ no_arguments done)))
+reference may =
+    wrap Reference (entity may) (taken opens_arguments) (when_ is_near (row ArgumentsRow (when_ no_arguments done)))
 
 -- ImportT: 'import' '(' Str ')' ('.' Entity)? TArgs?
 unfoldable pub import_type : Rule Row Label

@@ -8,7 +8,8 @@ use Rattle.es_tree.specs.Reader.{Out, read_row}
 use Rattle.es_grammar.specs.TypeRows.{TypeRow, Label}
 use Rattle.es_grammar.specs.TypeTable.{type_rule}
 
--- a token on the line of the one before it, that is no bracket, and one that is, with the number of the bracket that matches it
+-- a token on the line of the one before it, that is no bracket, and one that is, with the number of the bracket that
+-- matches it
 abbrev pub one : TokenKind → Key
 one kind = record { kind = kind; line_before = false; partner = None; adjacent = false }
 

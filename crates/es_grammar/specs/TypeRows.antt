@@ -35,7 +35,8 @@ pub data Label : Type 0 where
   TypeQuery ParenthesizedType MembersType TupleType MappedType : Label
   Entity Reference ImportType TypeArguments TypeParameters : Label
   RestElement LabelledElement OptionalElement : Label
-  CallSignature ConstructSignature IndexSignature AccessorSignature MethodSignature PropertySignature ReadonlyProperty : Label
+  CallSignature ConstructSignature IndexSignature : Label
+  AccessorSignature MethodSignature PropertySignature ReadonlyProperty : Label
   WordKey StrKey NumberKey ComputedKey : Label
   AssertsResult PredicateResult : Label
   Parameters ThisParameter MarkedParameter : Label

@@ -12,7 +12,8 @@ use Rattle.es_grammar.specs.Parameters.{parameters_in, mark_in, type_in, list_be
 -- a literal word: `null`, `void`, `true`, `false`
 unfoldable pub is_literal_word : TokenKind → Bool
 is_literal_word kind =
-    same_kind kind k.NullWord || (same_kind kind k.VoidWord || (same_kind kind k.TrueWord || same_kind kind k.FalseWord))
+    same_kind kind k.NullWord || (same_kind kind k.VoidWord || (same_kind kind k.TrueWord
+    || same_kind kind k.FalseWord))
 
 -- a token that can begin a type
 unfoldable pub begins_type : Look
@@ -32,11 +33,13 @@ parenthesized_type = make ParenthesizedType (punct k.OpenParen (row (TypeRow tru
 -- '{' TMember* '}'
 unfoldable pub members_type : Rule Row Label
 members_type =
-    make MembersType (punct k.OpenBrace (many (hint (is_other k.CloseBrace)) (row MemberRow done) (punct k.CloseBrace done)))
+    make MembersType (punct k.OpenBrace (many (hint (is_other k.CloseBrace)) (row MemberRow done)
+    (punct k.CloseBrace done)))
 
 -- '[' Name 'in'
 unfoldable pub shows_mapped : Guard
-shows_mapped K at = is k.OpenBracket (seen K at) && (has_kind is_name (seen K (at + 1)) && is k.InWord (seen K (at + 2)))
+shows_mapped K at =
+    is k.OpenBracket (seen K at) && (has_kind is_name (seen K (at + 1)) && is k.InWord (seen K (at + 2)))
 
 -- `{` is Mapped where the tokens show `[ Name in`, behind `readonly`, `+ readonly` or `- readonly` too
 unfoldable pub opens_mapped : Guard
@@ -113,7 +116,8 @@ primary_type =
     (choose (is k.ImportWord) import_type
     (choose (is k.ThisWord)
     (pick opens_this_reference (reference (only k.ThisWord)) (make ThisType (tok as_there (only k.ThisWord) done)))
-    (choose (has_kind is_name) (pick is_keyword_type (make KeywordType (tok as_kind is_type_word done)) (reference is_name))
+    (choose (has_kind is_name) (pick is_keyword_type (make KeywordType (tok as_kind is_type_word done))
+    (reference is_name))
     (choose (is k.Str) (make StrType (tok as_str (only k.Str) done))
     (choose (is k.TemplateWhole) (make TemplateType (tok as_raw (only k.TemplateWhole) done))
     (choose (is k.TemplateHead) template_types
@@ -133,7 +137,8 @@ brackets_in f =
 -- TPrim (~ '[' Type? ']')*
 unfoldable pub array_types : Rule Row Label
 array_types =
-    wrap ArrayTypes primary_type (taken opens_brackets) (brackets_in (many (taken opens_brackets) (brackets_in done) done))
+    wrap ArrayTypes primary_type (taken opens_brackets) (brackets_in (many (taken opens_brackets)
+    (brackets_in done) done))
 
 -- `keyof`, `unique`, `readonly`
 unfoldable pub is_type_operator : TokenKind → Bool
@@ -176,7 +181,8 @@ opens_condition x = is_near x && is k.ExtendsWord x
 unfoldable pub no_condition : Look
 no_condition x = not (opens_condition x)
 
--- Union (~ 'extends' Type '?' Type ':' Type)?, whose `extends` operand holds no conditional type outside deeper brackets
+-- Union (~ 'extends' Type '?' Type ':' Type)?, whose `extends` operand holds no conditional type outside deeper
+-- brackets
 unfoldable pub conditional_type : Bool → Rule Row Label
 conditional_type true =
     wrap ConditionalType union_type (taken opens_condition)
@@ -231,7 +237,8 @@ element =
 
 -- ---- results
 
--- `is` behind `asserts` is the name that is asserted where a token on a new line, `{`, `is`, or one that can't begin a type
+-- `is` behind `asserts` is the name that is asserted where a token on a new line, `{`, `is`, or one that can't begin a
+-- type
 -- follows it
 unfoldable pub is_asserted_name : Look
 is_asserted_name x = is_end x || (is_after_line x || (is k.OpenBrace x || (is k.IsWord x || not (begins_type x))))
@@ -241,7 +248,8 @@ opens_asserts K at =
     is k.AssertsWord (seen K at) && (is_near (seen K (at + 1)) && (has_kind is_name_or_this (seen K (at + 1))
     && (is_other k.IsWord (seen K (at + 1)) || is_asserted_name (seen K (at + 2)))))
 
--- a name before `is` on its line, where a token that can begin a type follows: so `keyof is []` is a predicate of `keyof`
+-- a name before `is` on its line, where a token that can begin a type follows: so `keyof is []` is a predicate of
+-- `keyof`
 unfoldable pub opens_predicate : Guard
 opens_predicate K at =
     has_kind is_name_or_this (seen K at) && (is_near (seen K (at + 1)) && (is k.IsWord (seen K (at + 1))
