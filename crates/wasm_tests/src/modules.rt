@@ -210,6 +210,10 @@ fn keeps_faults_of_types_in_the_exports(rt: HostRuntime) -> Result<(), Fail> {
         let deps = WasmDeps::parse(alloc, &bytes, ParseOptions { skip_types: false })?;
         assert_eq!(rt; deps.exports.len(), 1);
         for export in &deps.exports {
+            if let ExportType::Function(Ok(signature)) = &export.export_type {
+                assert!(rt; signature.copy()? == *signature);
+                assert_eq!(rt; signature.params.as_slice(), [ValueType::I32].as_slice());
+            }
             let found = match &export.export_type {
                 ExportType::Function(Err(fault)) => Some(*fault),
                 ExportType::Global(Err(fault)) => Some(*fault),
