@@ -8,6 +8,110 @@ use sys_traits::{
     SysFile,
 };
 
+/// Calls one after the other, each with its answer and its entry.
+const TURNS: [(&str, &str); 19] = [
+    ("open e/t", "ok: Open e/t - 438 /d/e/t= /d/f=old /g/h/k=old"),
+    (
+        "write ./e/t abc",
+        "ok: WriteAll ./e/t - 0 /d/e/t=abc /d/f=old /g/h/k=old",
+    ),
+    ("rename e/t f", "ok: Rename e/t f 0 /d/f=abc /g/h/k=old"),
+    (
+        "rename f ../d/f",
+        "ok: Rename f ../d/f 0 /d/f=abc /g/h/k=old",
+    ),
+    ("exists e/t", "ok: Exists e/t - 0 /d/f=abc /g/h/k=old"),
+    (
+        "remove e/t",
+        "not found: Remove e/t - 0 /d/f=abc /g/h/k=old",
+    ),
+    (
+        "open a/b/c",
+        "not found: Open a/b/c - 438 /d/f=abc /g/h/k=old",
+    ),
+    (
+        "rename f a/b/c",
+        "not found: Rename f a/b/c 0 /d/f=abc /g/h/k=old",
+    ),
+    ("make a/b", "ok: CreateDirAll a/b - 0 /d/f=abc /g/h/k=old"),
+    ("exists a", "ok: Exists a - 1 /d/f=abc /g/h/k=old"),
+    (
+        "write a/b/c x",
+        "not found: WriteAll a/b/c - 0 /d/f=abc /g/h/k=old",
+    ),
+    (
+        "open a/b/c",
+        "ok: Open a/b/c - 438 /d/a/b/c= /d/f=abc /g/h/k=old",
+    ),
+    ("remove f", "ok: Remove f - 0 /d/a/b/c= /g/h/k=old"),
+    (
+        "real e/../f",
+        "not found: Canonicalize e/../f - 0 /d/a/b/c= /g/h/k=old",
+    ),
+    (
+        "real a/b",
+        "ok: Canonicalize a/b /d/a/b 0 /d/a/b/c= /g/h/k=old",
+    ),
+    ("random", "ok: Random  - 7 /d/a/b/c= /g/h/k=old"),
+    ("random", "ok: Random  - 255 /d/a/b/c= /g/h/k=old"),
+    ("random", "ok: Random  - 7 /d/a/b/c= /g/h/k=old"),
+    ("sleep", "ok: Sleep  - 9 /d/a/b/c= /g/h/k=old"),
+];
+
+/// Calls that find a folder where they need a file, or a file where they need a folder, each with its entry.
+const CLASHES: [(&str, &str); 12] = [
+    ("open e", "Open e - 438"),
+    ("open /g", "Open /g - 438"),
+    ("open f/x", "Open f/x - 438"),
+    ("write e/e2 abc", "WriteAll e/e2 - 0"),
+    ("remove /", "Remove / - 0"),
+    ("rename e x", "Rename e x 0"),
+    ("rename f e", "Rename f e 0"),
+    ("rename f f/x", "Rename f f/x 0"),
+    ("make f", "CreateDirAll f - 0"),
+    ("make f/x/y", "CreateDirAll f/x/y - 0"),
+    ("exists f/x", "Exists f/x - 0"),
+    ("real f/x", "Canonicalize f/x - 0"),
+];
+
+/// Calls that are to fail, each with its answer and its entry.
+const LISTED: [(&str, &str); 10] = [
+    (
+        "open f",
+        "the call failed: Open f - 438 /d/f=old /g/h/k=old",
+    ),
+    (
+        "write f abcde",
+        "the call failed: WriteAll f - 0 /d/f=ab /g/h/k=old",
+    ),
+    (
+        "write x abcde",
+        "the call failed: WriteAll x - 0 /d/f=old /g/h/k=old",
+    ),
+    (
+        "remove f",
+        "the call failed: Remove f - 0 /d/f=old /g/h/k=old",
+    ),
+    (
+        "rename f x",
+        "the call failed: Rename f x 0 /d/f=old /g/h/k=old",
+    ),
+    (
+        "make x",
+        "the call failed: CreateDirAll x - 0 /d/f=old /g/h/k=old",
+    ),
+    (
+        "exists f",
+        "the call failed: Exists f - 0 /d/f=old /g/h/k=old",
+    ),
+    (
+        "real f",
+        "the call failed: Canonicalize f - 0 /d/f=old /g/h/k=old",
+    ),
+    ("random", "the call failed: Random  - 0 /d/f=old /g/h/k=old"),
+    ("sleep", "ok: Sleep  - 9 /d/f=old /g/h/k=old"),
+];
+
 fn texts(alloc: Global, given: &str) -> Result<Items<Text>, Fail> {
     let mut texts = Items::new(alloc);
     for text in given.split_whitespace() {
@@ -112,82 +216,15 @@ fn turn(alloc: Global, sys: &mut InMemorySys, line: &str) -> Result<String, Fail
 
 #[test]
 fn calls_answer_and_change_files(rt: HostRuntime) -> Result<(), Fail> {
-    let rows = [
-        ("open e/t", "ok: Open e/t - 438 /d/e/t= /d/f=old /g/h/k=old"),
-        (
-            "write ./e/t abc",
-            "ok: WriteAll ./e/t - 0 /d/e/t=abc /d/f=old /g/h/k=old",
-        ),
-        ("rename e/t f", "ok: Rename e/t f 0 /d/f=abc /g/h/k=old"),
-        (
-            "rename f ../d/f",
-            "ok: Rename f ../d/f 0 /d/f=abc /g/h/k=old",
-        ),
-        ("exists e/t", "ok: Exists e/t - 0 /d/f=abc /g/h/k=old"),
-        (
-            "remove e/t",
-            "not found: Remove e/t - 0 /d/f=abc /g/h/k=old",
-        ),
-        (
-            "open a/b/c",
-            "not found: Open a/b/c - 438 /d/f=abc /g/h/k=old",
-        ),
-        (
-            "rename f a/b/c",
-            "not found: Rename f a/b/c 0 /d/f=abc /g/h/k=old",
-        ),
-        ("make a/b", "ok: CreateDirAll a/b - 0 /d/f=abc /g/h/k=old"),
-        ("exists a", "ok: Exists a - 1 /d/f=abc /g/h/k=old"),
-        (
-            "write a/b/c x",
-            "not found: WriteAll a/b/c - 0 /d/f=abc /g/h/k=old",
-        ),
-        (
-            "open a/b/c",
-            "ok: Open a/b/c - 438 /d/a/b/c= /d/f=abc /g/h/k=old",
-        ),
-        ("remove f", "ok: Remove f - 0 /d/a/b/c= /g/h/k=old"),
-        (
-            "real e/../f",
-            "not found: Canonicalize e/../f - 0 /d/a/b/c= /g/h/k=old",
-        ),
-        (
-            "real a/b",
-            "ok: Canonicalize a/b /d/a/b 0 /d/a/b/c= /g/h/k=old",
-        ),
-        ("random", "ok: Random  - 7 /d/a/b/c= /g/h/k=old"),
-        ("random", "ok: Random  - 255 /d/a/b/c= /g/h/k=old"),
-        ("random", "ok: Random  - 7 /d/a/b/c= /g/h/k=old"),
-        ("sleep", "ok: Sleep  - 9 /d/a/b/c= /g/h/k=old"),
-    ];
-    let mut sys = system(rt.alloc(), &[])?;
-    for (line, want) in rows {
-        assert_eq!(rt; turn(rt.alloc(), &mut sys, line)?.as_str(), want);
+    let alloc = rt.alloc();
+    let mut sys = system(alloc, &[])?;
+    for (line, want) in TURNS {
+        assert_eq!(rt; turn(alloc, &mut sys, line)?.as_str(), want);
     }
     assert_eq!(rt; sys.file("/g/h/k"), Some(b"old".as_slice()));
     assert_eq!(rt; sys.file("/d/f"), None);
-    Ok(())
-}
-
-#[test]
-fn files_and_folders_in_each_others_place(rt: HostRuntime) -> Result<(), Fail> {
-    let rows = [
-        ("open e", "Open e - 438"),
-        ("open /g", "Open /g - 438"),
-        ("open f/x", "Open f/x - 438"),
-        ("write e/e2 abc", "WriteAll e/e2 - 0"),
-        ("remove /", "Remove / - 0"),
-        ("rename e x", "Rename e x 0"),
-        ("rename f e", "Rename f e 0"),
-        ("rename f f/x", "Rename f f/x 0"),
-        ("make f", "CreateDirAll f - 0"),
-        ("make f/x/y", "CreateDirAll f/x/y - 0"),
-        ("exists f/x", "Exists f/x - 0"),
-        ("real f/x", "Canonicalize f/x - 0"),
-    ];
-    let alloc = rt.alloc();
     let mut sys = system(alloc, &[])?;
-    for (line, call) in rows {
+    for (line, call) in CLASHES {
         let want = format!(in alloc; "the call failed: {call} /d/f=old /g/h/k=old")?;
         assert_eq!(rt; turn(alloc, &mut sys, line)?, want);
     }
@@ -196,44 +233,8 @@ fn files_and_folders_in_each_others_place(rt: HostRuntime) -> Result<(), Fail> {
 
 #[test]
 fn listed_calls_fail(rt: HostRuntime) -> Result<(), Fail> {
-    let rows = [
-        (
-            "open f",
-            "the call failed: Open f - 438 /d/f=old /g/h/k=old",
-        ),
-        (
-            "write f abcde",
-            "the call failed: WriteAll f - 0 /d/f=ab /g/h/k=old",
-        ),
-        (
-            "write x abcde",
-            "the call failed: WriteAll x - 0 /d/f=old /g/h/k=old",
-        ),
-        (
-            "remove f",
-            "the call failed: Remove f - 0 /d/f=old /g/h/k=old",
-        ),
-        (
-            "rename f x",
-            "the call failed: Rename f x 0 /d/f=old /g/h/k=old",
-        ),
-        (
-            "make x",
-            "the call failed: CreateDirAll x - 0 /d/f=old /g/h/k=old",
-        ),
-        (
-            "exists f",
-            "the call failed: Exists f - 0 /d/f=old /g/h/k=old",
-        ),
-        (
-            "real f",
-            "the call failed: Canonicalize f - 0 /d/f=old /g/h/k=old",
-        ),
-        ("random", "the call failed: Random  - 0 /d/f=old /g/h/k=old"),
-        ("sleep", "ok: Sleep  - 9 /d/f=old /g/h/k=old"),
-    ];
     let alloc = rt.alloc();
-    for (line, want) in rows {
+    for (line, want) in LISTED {
         let mut sys = system(alloc, &[1, 3])?;
         let _ = turn(alloc, &mut sys, "random")?;
         assert_eq!(rt; turn(alloc, &mut sys, line)?.as_str(), want);

@@ -36,6 +36,10 @@ fn lists(rt: HostRuntime) -> Result<(), Fail> {
     assert_eq!(rt; items.get(3), None);
     assert_eq!(rt; items.pop(), Some(3));
     assert_eq!(rt; items.len(), 2);
+    let copy = items.copy()?;
+    assert!(rt; copy == items);
+    items.push(4)?;
+    assert!(rt; copy != items);
     let again = Items::from_vec(items.into_vec());
     assert!(rt; !again.is_empty());
     Ok(())

@@ -18,10 +18,7 @@ fn system(alloc: Global, old: &str, failing: &[u64]) -> Result<InMemorySys, Fail
             files.push((Text::from_str(alloc, path)?, bytes))?;
         }
     }
-    let mut numbers = Items::new(alloc);
-    for number in failing {
-        numbers.push(*number)?;
-    }
+    let numbers = Items::from_vec(failing.to_vec(alloc)?);
     let random = Items::from_vec([0x3D].to_vec(alloc)?);
     let here = Text::from_str(alloc, "/")?;
     Ok(InMemorySys::new(alloc, files, Items::new(alloc), here, random, numbers)?)
@@ -207,17 +204,20 @@ fn six_tries(rt: HostRuntime) -> Result<(), Fail> {
     Ok(())
 }
 
-// Real paths below the folder `/a/b/c`, in the current folder `/a/b`.
+// Real paths in the current folder `/a/b`, where the folder `/a/b/c` is there, and refusals, which keep their text.
 #[test]
 fn real_paths(rt: HostRuntime) -> Result<(), Fail> {
     let alloc = rt.alloc();
+    let none: [u64; 0] = [];
     for row in [
-        ("c/d/e", "/a/b/c/d/e"),
-        ("x", "/a/b/x"),
-        ("/q/r/", "/q/r"),
-        ("c", "/a/b/c"),
+        ("c/d/e", none.as_slice(), "/a/b/c/d/e"),
+        ("x", &none, "/a/b/x"),
+        ("/q/r/", &none, "/q/r"),
+        ("c", &none, "/a/b/c"),
+        ("c/d/e", &[0], "Failed: the call failed"),
+        ("c/d/e", &[1], "Failed: the call failed"),
     ] {
-        let (path, expected) = row;
+        let (path, failing, expected) = row;
         let mut folders = Items::new(alloc);
         folders.push(Text::from_str(alloc, "/a/b/c")?)?;
         let mut sys = InMemorySys::new(
@@ -226,12 +226,13 @@ fn real_paths(rt: HostRuntime) -> Result<(), Fail> {
             folders,
             Text::from_str(alloc, "/a/b")?,
             Items::new(alloc),
-            Items::new(alloc),
+            Items::from_vec(failing.to_vec(alloc)?),
         )?;
-        match canonicalize_path_maybe_not_exists(alloc, &mut sys, path) {
-            Ok(real) => assert_eq!(rt; real.as_str(), expected),
-            Err(error) => assert_eq!(rt; error.message.as_str(), expected),
-        }
+        let got = match canonicalize_path_maybe_not_exists(alloc, &mut sys, path) {
+            Ok(real) => real,
+            Err(error) => format!(in alloc; "{:?}: {}", error.kind, error)?,
+        };
+        assert_eq!(rt; got.as_str(), expected, "{path}");
     }
     Ok(())
 }
