@@ -36,9 +36,8 @@ fn shown(alloc: Global, entry: &Entry) -> Result<String, Fail> {
             let end = fault.range.end;
             Ok(format!(in alloc; "Parse {kind} {start}-{end}")?)
         }
-        Entry::Error(error @ ModuleError::WasmParse(_)) => {
-            let name = error.name();
-            Ok(format!(in alloc; "{name} {error}")?)
+        Entry::Error(ModuleError::WasmParse(fault)) => {
+            Ok(format!(in alloc; "WasmParse {fault}")?)
         }
         Entry::Error(error) => Ok(String::from_str(alloc, error.name())?),
         Entry::Package(package) => shown_package(alloc, package),
