@@ -1,0 +1,211 @@
+//! The sites of a source, in rooms of the caller's.
+ghost use Rattle.std.specs.Prelude.{◌≡◌, ◌&&◌, nat_le, length, vec_len, IfOk, OnErr};
+ghost use Rattle.graph_c.specs.Answer.{AnswersSites, TellsFinding, fits, found_in, kind_number, lexical_number, fault_of, place_of, status_of, records_from, record_of, values_of};
+
+use crate::finding::{Finding, finding_of};
+use crate::room::put;
+use es_lexer::LexicalKind;
+use es_walk::{DependencyKind, Site};
+use std::alloc::{AllocError, Global};
+
+/// A place where a source names another module. Places are bytes from 0, and an end is the byte behind.
+#[repr(C)]
+#[derive(Clone, Copy)]
+pub struct SourceSite {
+    pub kind: u32,
+    pub type_only: bool,
+    /// The literal in the text, with its quotes.
+    pub start: usize,
+    pub end: usize,
+    /// Its value in the room for values.
+    pub value_start: usize,
+    pub value_end: usize,
+}
+
+/// What a call tells beside its rooms.
+#[repr(C)]
+#[derive(Clone, Copy)]
+pub struct Answer {
+    /// How many sites the source has, and how many bytes their values.
+    pub sites: usize,
+    pub value_bytes: usize,
+    /// The kind of the lexical fault, or 0, and the byte of the text where a fault is.
+    pub fault: u32,
+    pub place: usize,
+}
+
+const NO_MEMORY: u32 = 5;
+
+/// Writes the sites of the source into the rooms, and answers how that ended.
+pub fn answer_sites(
+    alloc: Global,
+    text: &[u8],
+    media_type: u32,
+    sites: &mut [SourceSite],
+    values: &mut [u8],
+    answer: &mut Answer,
+) -> u32
+    ensures { AnswersSites media_type text.now sites.old sites.new values.old values.new answer.new result }
+{
+    let Ok(finding) = finding_of(alloc, media_type, text) else {
+        return no_memory(answer);
+    };
+    match tell(alloc, &finding, sites, values, answer) {
+        Ok(status) => status,
+        Err(_) => no_memory(answer),
+    }
+}
+
+fn no_memory(answer: &mut Answer) -> u32
+    ensures status { result ≡ 5 }
+    ensures told { answer.new ≡ record { sites = 0; value_bytes = 0; fault = 0; place = 0 } }
+{
+    *answer = Answer {
+        sites: 0,
+        value_bytes: 0,
+        fault: 0,
+        place: 0,
+    };
+    NO_MEMORY
+}
+
+fn tell(
+    alloc: Global,
+    finding: &Finding,
+    sites: &mut [SourceSite],
+    values: &mut [u8],
+    answer: &mut Answer,
+) -> Result<u32, AllocError>
+    ensures told { IfOk result
+        (TellsFinding finding.now sites.old sites.new values.old values.new answer.new) }
+    ensures kept { OnErr result ((sites.new ≡ sites.old) × (values.new ≡ values.old)) }
+{
+    let laid = lay_out(alloc, found_in(finding))?;
+    let needed_sites = laid.sites.len();
+    let needed_values = laid.values.len();
+    let fit = are_within(needed_sites, sites.len(), needed_values, values.len());
+    *answer = Answer {
+        sites: needed_sites,
+        value_bytes: needed_values,
+        fault: fault_of(finding),
+        place: place_of(finding),
+    };
+    if fit {
+        put(sites, laid.sites.as_slice());
+        put(values, laid.values.as_slice());
+    }
+    Ok(status_of(finding, fit))
+}
+
+fn are_within(sites: usize, sites_room: usize, values: usize, values_room: usize) -> bool
+    ensures { result ≡ (nat_le sites sites_room && nat_le values values_room) }
+{
+    sites <= sites_room && values <= values_room
+}
+
+/// Records of sites, and their values, one behind the other.
+#[derive(Drop)]
+struct Laid {
+    sites: Vec<SourceSite>,
+    values: Vec<u8>,
+}
+
+fn lay_out(alloc: Global, found: &[Site]) -> Result<Laid, AllocError>
+    ensures sites { IfOk result (λ laid. laid.sites.items ≡ records_from 0 found.now) }
+    ensures values { IfOk result (λ laid. laid.values.items ≡ values_of found.now) }
+    ensures counted { IfOk result (λ laid. vec_len laid.sites ≡ length found.now) }
+    ensures filled { IfOk result (λ laid. vec_len laid.values ≡ length (values_of found.now)) }
+{
+    let mut sites = Vec::new(alloc);
+    let mut values = Vec::new(alloc);
+    for site in found {
+        let start = values.len();
+        values.extend_from_slice(site.value.as_str().as_bytes())?;
+        sites.push(record_of(site, start, values.len()))?;
+    }
+    Ok(Laid { sites, values })
+}
+
+fn record_of(site: &Site, value_start: usize, value_end: usize) -> SourceSite
+    ensures { result ≡ record_of site.now value_start value_end }
+{
+    SourceSite {
+        kind: kind_number(site.kind),
+        type_only: site.type_only,
+        start: site.range.start,
+        end: site.range.end,
+        value_start,
+        value_end,
+    }
+}
+
+fn found_in(finding: &Finding) -> &[Site]
+    ensures { result.now ≡ found_in finding.now }
+{
+    match finding {
+        Finding::Found(sites) => sites.as_slice(),
+        _ => &[],
+    }
+}
+
+fn kind_number(kind: DependencyKind) -> u32
+    ensures { result ≡ kind_number kind }
+{
+    match kind {
+        DependencyKind::Import => 0,
+        DependencyKind::Export => 1,
+        DependencyKind::ImportEquals => 2,
+        DependencyKind::Dynamic => 3,
+        DependencyKind::ReferencePath => 4,
+        DependencyKind::ReferenceTypes => 5,
+        DependencyKind::Wasm => 6,
+        DependencyKind::Referrer => 7,
+    }
+}
+
+fn fault_of(finding: &Finding) -> u32
+    ensures { result ≡ fault_of finding.now }
+{
+    match finding {
+        Finding::Lexical(fault) => lexical_number(fault.kind),
+        _ => 0,
+    }
+}
+
+fn lexical_number(kind: LexicalKind) -> u32
+    ensures { result ≡ lexical_number kind }
+{
+    match kind {
+        LexicalKind::UnterminatedString => 1,
+        LexicalKind::UnterminatedComment => 2,
+        LexicalKind::UnterminatedTemplate => 3,
+        LexicalKind::UnterminatedRegExp => 4,
+        LexicalKind::InvalidEscape => 5,
+        LexicalKind::InvalidChar => 6,
+        LexicalKind::Unbalanced => 7,
+    }
+}
+
+fn place_of(finding: &Finding) -> usize
+    ensures { result ≡ place_of finding.now }
+{
+    match finding {
+        Finding::Lexical(fault) => fault.at,
+        Finding::Syntax(at) => *at,
+        _ => 0,
+    }
+}
+
+fn status_of(finding: &Finding, fit: bool) -> u32
+    ensures { result ≡ status_of fit finding.now }
+{
+    match finding {
+        Finding::Found(_) => { if fit { 0 } else { 4 } }
+        Finding::TooLong => 6,
+        Finding::NoUtf8 => 7,
+        Finding::NoMediaType => 8,
+        Finding::NotRead => 9,
+        Finding::Lexical(_) => 10,
+        Finding::Syntax(_) => 11,
+    }
+}

@@ -1,0 +1,51 @@
+//! The calls of the C library (`include/joravelsu.h` tells them to C).
+//!
+//! - `joravelsu_build(bundle)`: the report of a bundle's graph, or the line of a refusal (`Builds`, `specs/Build.antt`).
+//! - `joravelsu_sites(text, media_type)`: where a source names other modules, or why it has no sites (`AnswersSites`,
+//!   `specs/Answer.antt`).
+//!
+//! Both write into rooms of the caller's, all or nothing, and tell what room they need. They keep no state. A
+//! call fails besides only where memory runs out.
+//! Not promised: the place of a syntax error, and when memory runs out.
+#![tactic(auto)]
+
+ghost use Rattle.graph_c.specs.Build.{Builds};
+ghost use Rattle.graph_c.specs.Answer.{AnswersSites};
+
+mod answer;
+mod build;
+mod finding;
+mod media_types;
+mod room;
+
+use crate::answer::{Answer, SourceSite, answer_sites};
+use crate::build::build_report;
+use std::alloc::Global;
+
+/// Builds the graph of a bundle, and writes its report into the room.
+#[unsafe(no_mangle)]
+pub extern "C" fn joravelsu_build(
+    alloc: Global,
+    bundle: &[u8],
+    room: &mut [u8],
+    needed: &mut usize,
+) -> u32
+    ensures { Builds bundle.now room.old room.new needed.new result }
+{
+    build_report(alloc, bundle, room, needed)
+}
+
+/// Finds the sites of a source, and writes a record for each, and their values into the second room.
+#[unsafe(no_mangle)]
+pub extern "C" fn joravelsu_sites(
+    alloc: Global,
+    text: &[u8],
+    media_type: u32,
+    sites: &mut [SourceSite],
+    values: &mut [u8],
+    answer: &mut Answer,
+) -> u32
+    ensures { AnswersSites media_type text.now sites.old sites.new values.old values.new answer.new result }
+{
+    answer_sites(alloc, text, media_type, sites, values, answer)
+}

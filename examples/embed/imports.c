@@ -1,0 +1,119 @@
+/* Prints where a source names other modules: imports FILE
+ * Each line is FILE:LINE:COLUMN: KIND "VALUE", both from 1, the column in bytes. The media type is by the file's ending. */
+#include <joravelsu.h>
+
+#include <stdio.h>
+#include <stdlib.h>
+#include <string.h>
+
+static const char *const kinds[] = {"import", "export", "import-equals", "dynamic"};
+
+static uint32_t media_type_of(const char *path)
+{
+    const char *ending = strrchr(path, '.');
+    if (ending && strcmp(ending, ".ts") == 0)
+        return JORAVELSU_TYPESCRIPT;
+    if (ending && strcmp(ending, ".mts") == 0)
+        return JORAVELSU_MTS;
+    if (ending && strcmp(ending, ".mjs") == 0)
+        return JORAVELSU_MJS;
+    return JORAVELSU_JAVASCRIPT;
+}
+
+/* The whole file, or NULL. */
+static uint8_t *read_whole(const char *path, size_t *length)
+{
+    FILE *file = fopen(path, "rb");
+    uint8_t *bytes = NULL;
+    size_t room = 0;
+    *length = 0;
+    while (file && !ferror(file)) {
+        if (*length == room) {
+            uint8_t *more = realloc(bytes, room = room ? 2 * room : 4096);
+            if (!more)
+                break;
+            bytes = more;
+        }
+        size_t n = fread(bytes + *length, 1, room - *length, file);
+        *length += n;
+        if (n == 0) {
+            fclose(file);
+            return bytes;
+        }
+    }
+    if (file)
+        fclose(file);
+    free(bytes);
+    return NULL;
+}
+
+/* The line and the column of a place, both from 1. */
+static void find_place(const uint8_t *text, size_t place, size_t *line, size_t *column)
+{
+    *line = 1;
+    *column = 1;
+    for (size_t i = 0; i < place; i++) {
+        *column += 1;
+        if (text[i] == '\n') {
+            *line += 1;
+            *column = 1;
+        }
+    }
+}
+
+/* Both rooms, made as large as the call says. */
+static uint32_t find_sites(const uint8_t *text, size_t length, uint32_t media_type, joravelsu_site **sites,
+                           uint8_t **values, joravelsu_answer *answer)
+{
+    size_t sites_room = 64, values_room = 4096;
+    for (;;) {
+        *sites = malloc(sites_room * sizeof **sites);
+        *values = malloc(values_room);
+        if (!*sites || !*values)
+            return JORAVELSU_NO_MEMORY;
+        uint32_t status = joravelsu_sites(text, length, media_type, *sites, sites_room, *values, values_room, answer);
+        if (status != JORAVELSU_NO_ROOM)
+            return status;
+        free(*sites);
+        free(*values);
+        sites_room = answer->sites + 1;
+        values_room = answer->value_bytes + 1;
+    }
+}
+
+int main(int count, char **words)
+{
+    if (count != 2) {
+        fprintf(stderr, "usage: imports FILE\n");
+        return 64;
+    }
+    size_t length;
+    uint8_t *bytes = read_whole(words[1], &length);
+    if (!bytes) {
+        perror(words[1]);
+        return 1;
+    }
+    /* Places count from behind a byte order mark. */
+    const uint8_t *text = length >= 3 && memcmp(bytes, "\xEF\xBB\xBF", 3) == 0 ? bytes + 3 : bytes;
+    joravelsu_site *sites;
+    uint8_t *values;
+    joravelsu_answer answer;
+    uint32_t status = find_sites(bytes, length, media_type_of(words[1]), &sites, &values, &answer);
+    size_t line, column;
+    if (status == JORAVELSU_DONE)
+        for (size_t i = 0; i < answer.sites; i++) {
+            find_place(text, sites[i].start, &line, &column);
+            printf("%s:%zu:%zu: %s%s \"%.*s\"\n", words[1], line, column, kinds[sites[i].kind],
+                   sites[i].type_only ? "-type" : "", (int)(sites[i].value_end - sites[i].value_start),
+                   (const char *)values + sites[i].value_start);
+        }
+    else if (status == JORAVELSU_LEXICAL_FAULT || status == JORAVELSU_SYNTAX_FAULT) {
+        find_place(text, answer.place, &line, &column);
+        fprintf(stderr, "%s:%zu:%zu: this isn't read\n", words[1], line, column);
+    } else
+        fprintf(stderr, "%s: status %u\n", words[1], (unsigned)status);
+    free(sites);
+    free(values);
+    free(bytes);
+    return (int)status;
+}

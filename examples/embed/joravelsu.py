@@ -1,0 +1,134 @@
+"""Module graphs and import sites of JavaScript and TypeScript, by the C library.
+
+    >>> imports_of('import "./b.ts";', TYPESCRIPT)
+    [Site(kind='import', type_only=False, start=7, end=15, value='./b.ts')]
+
+The library is found by the variable JORAVELSU_LIBRARY, the path of libjoravelsu.so, or else by the system.
+"""
+from __future__ import annotations
+
+import ctypes
+import os
+from typing import NamedTuple
+
+DTS, DMTS, DCTS, TYPESCRIPT, MTS, CTS, TSX, JAVASCRIPT, MJS, CJS, JSX, JSON, WASM = range(13)
+
+_DONE, _BAD_BUNDLE, _NO_ROOM, _NO_MEMORY = 0, 2, 4, 5
+_KINDS = ("import", "export", "import-equals", "dynamic", "reference-path", "reference-types", "wasm", "referrer")
+_MARK = b"\xef\xbb\xbf"
+_REASONS = {
+    6: "the text is over 16 MiB",
+    7: "the text is no UTF-8",
+    8: "no media type has this number",
+    9: "sources of this media type aren't read yet",
+    10: "a part of the text is no token",
+    11: "the tokens are no module of the grammar that is read",
+}
+
+
+class Site(NamedTuple):
+    """A place where a source names another module."""
+
+    kind: str
+    """import, export, import-equals or dynamic."""
+    type_only: bool
+    """Whether nothing is loaded when the program runs."""
+    start: int
+    """The string literal, with its quotes: its first byte in the text, from 0."""
+    end: int
+    """The byte behind it."""
+    value: str
+    """The literal's value."""
+
+
+class SourceError(ValueError):
+    """Why a source has no sites. `status` is the library's; `place` is the byte of the text at which a fault is, or None."""
+
+    def __init__(self, status: int, place: int | None):
+        at = "" if place is None else f" at byte {place}"
+        super().__init__(_REASONS.get(status, f"status {status}") + at)
+        self.status = status
+        self.place = place
+
+
+class BundleError(ValueError):
+    """Why a bundle has no graph: the line that the program writes for it."""
+
+
+class _Site(ctypes.Structure):
+    _fields_ = [
+        ("kind", ctypes.c_uint32),
+        ("type_only", ctypes.c_bool),
+        ("start", ctypes.c_size_t),
+        ("end", ctypes.c_size_t),
+        ("value_start", ctypes.c_size_t),
+        ("value_end", ctypes.c_size_t),
+    ]
+
+
+class _Answer(ctypes.Structure):
+    _fields_ = [
+        ("sites", ctypes.c_size_t),
+        ("value_bytes", ctypes.c_size_t),
+        ("fault", ctypes.c_uint32),
+        ("place", ctypes.c_size_t),
+    ]
+
+
+def _load() -> ctypes.CDLL:
+    library = ctypes.CDLL(os.environ.get("JORAVELSU_LIBRARY", "libjoravelsu.so"))
+    size, text = ctypes.c_size_t, ctypes.c_char_p
+    library.joravelsu_build.argtypes = [text, size, text, size, ctypes.POINTER(size)]
+    library.joravelsu_build.restype = ctypes.c_uint32
+    rooms = [ctypes.POINTER(_Site), size, text, size]
+    library.joravelsu_sites.argtypes = [text, size, ctypes.c_uint32, *rooms, ctypes.POINTER(_Answer)]
+    library.joravelsu_sites.restype = ctypes.c_uint32
+    return library
+
+
+_library = _load()
+
+
+def imports_of(text: str | bytes, media_type: int) -> list[Site]:
+    """The sites of a source, in the order of the text. Raises SourceError where it has none.
+
+    Places are bytes of the text in UTF-8, behind a byte order mark where one stands in front.
+    """
+    source = text.encode() if isinstance(text, str) else bytes(text)
+    answer = _Answer()
+    sites_room, values_room = 64, 4096
+    while True:
+        sites, values = (_Site * sites_room)(), ctypes.create_string_buffer(values_room)
+        status = _library.joravelsu_sites(
+            source, len(source), media_type, sites, sites_room, values, values_room, ctypes.byref(answer)
+        )
+        if status == _NO_MEMORY:
+            raise MemoryError
+        if status == _DONE:
+            held = values.raw
+            return [
+                Site(_KINDS[it.kind], it.type_only, it.start, it.end, held[it.value_start : it.value_end].decode())
+                for it in sites[: answer.sites]
+            ]
+        if status != _NO_ROOM:
+            raise SourceError(status, answer.place if status >= 10 else None)
+        sites_room, values_room = answer.sites, answer.value_bytes
+
+
+def graph(bundle: str | bytes) -> str:
+    """The report of a bundle's graph. Raises BundleError where there is none."""
+    source = bundle.encode() if isinstance(bundle, str) else bytes(bundle)
+    needed = ctypes.c_size_t()
+    room_length = 2 * len(source) + 4096
+    while True:
+        room = ctypes.create_string_buffer(room_length)
+        status = _library.joravelsu_build(source, len(source), room, room_length, ctypes.byref(needed))
+        if status == _NO_MEMORY:
+            raise MemoryError
+        if status == _NO_ROOM:
+            room_length = needed.value
+            continue
+        report = room.raw[: needed.value].decode()
+        if status != _DONE:
+            raise BundleError(report.strip())
+        return report
