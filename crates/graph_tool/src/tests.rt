@@ -41,7 +41,7 @@ fn bytes_go_through_a_pipe(rt: HostRuntime) -> Result<(), Fail> {
     assert_eq!(rt; source.read(&mut buffer), Ok(8));
     assert_eq!(rt; &buffer, b"some byt");
     assert_eq!(rt; source.read(&mut buffer), Ok(2));
-    assert_eq!(rt; &buffer[..2], b"es");
+    assert_eq!(rt; &buffer[..2], b"es".as_slice());
     assert_eq!(rt; source.read(&mut buffer), Ok(0), "the end");
     Ok(())
 }
