@@ -1,13 +1,14 @@
 //! Exports, before their types are looked up (WebAssembly Core, "Export Section").
 
-ghost use Rattle.std.specs.Prelude.{◌≡◌, map};
+ghost use Rattle.std.specs.Prelude.{◌≡◌, map, refl};
+ghost use Rattle.std.proofs.lemmas.List.{map_push};
 ghost use Rattle.wasm_dep_analyzer.specs.Reading.{Gives, GivesInRoom};
-ghost use Rattle.wasm_dep_analyzer.specs.Values.{items_at, all_items};
-ghost use Rattle.wasm_dep_analyzer.specs.Exports.{export_kind_of, export_at, listed, has_function, has_global};
+ghost use Rattle.wasm_dep_analyzer.specs.Values.{all_items};
+ghost use Rattle.wasm_dep_analyzer.specs.Exports.{Listed, export_kind_of, export_at, listed, has_function, has_global};
 ghost use Rattle.wasm_dep_analyzer.specs.Exports as spec;
 
 use crate::error::ParseError;
-use crate::values::{read_name, read_u8, read_u32};
+use crate::values::{ReadItem, read_items, read_name, read_u8, read_u32};
 use std::alloc::Global;
 
 /// What is exported.
@@ -63,22 +64,29 @@ fn read_export<'a>(input: &'a [u8]) -> Result<(ExportItem<'a>, &'a [u8]), ParseE
     Ok((ExportItem { name, kind, index }, rest))
 }
 
-fn read_exports<'a>(
-    alloc: Global,
-    count: u32,
-    input: &'a [u8],
-) -> Result<(Vec<ExportItem<'a>>, &'a [u8]), ParseError>
-    ensures { GivesInRoom (λ read. (map listed read.0.items, read.1.now)) result
-        (items_at export_at count input.now) }
-{
-    let mut exports = Vec::new(alloc);
-    let mut rest = input;
-    for _ in 0..count {
-        let (export, after) = read_export(rest)?;
-        exports.push(export)?;
-        rest = after;
+/// Reads exports.
+#[derive(Clone, Copy)]
+struct ExportItems;
+
+impl<'a> ReadItem<'a> for ExportItems {
+    type Item = ExportItem<'a>;
+
+    ghost Shown = { Listed };
+
+    ghost show = { listed };
+
+    ghost show_all = { map listed };
+
+    ghost shows_more = { λ items last. map_push listed items last };
+
+    ghost item = { λ _. export_at };
+
+    #[tactic(auto, using(crate::proofs::LoopLemmas::fault_is))]
+    fn read(&self, input: &'a [u8]) -> Result<(ExportItem<'a>, &'a [u8]), ParseError> {
+        read_export(input)
     }
-    Ok((exports, rest))
+
+    ghost shows_none = { refl };
 }
 
 fn is_function(export: &ExportItem) -> bool
@@ -113,7 +121,7 @@ pub fn export_section<'a>(alloc: Global, payload: &'a [u8]) -> Result<Exports<'a
     ensures { GivesInRoom (λ exports. map listed exports.items.items) result (all_items export_at payload.now) }
 {
     let (count, rest) = read_u32(payload)?;
-    let (items, _) = read_exports(alloc, count, rest)?;
+    let (items, _) = read_items(alloc, &ExportItems, count, rest)?;
     let functions = has_function(&items);
     let globals = has_global(&items);
     Ok(Exports {

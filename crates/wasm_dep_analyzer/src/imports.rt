@@ -1,15 +1,16 @@
 //! Imports and their types (WebAssembly Core, "Types" and "Import Section").
 
-ghost use Rattle.std.specs.Prelude.{◌≡◌, ◌-◌, length, map};
+ghost use Rattle.std.specs.Prelude.{◌≡◌, ◌-◌, length, map, refl};
+ghost use Rattle.std.proofs.lemmas.List.{map_push};
 ghost use Rattle.wasm_dep_analyzer.specs.Reading.{Gives, GivesInRoom};
-ghost use Rattle.wasm_dep_analyzer.specs.Values.{items_at, all_items};
-ghost use Rattle.wasm_dep_analyzer.specs.Imports.{import_at, imported};
+ghost use Rattle.wasm_dep_analyzer.specs.Values.{all_items};
+ghost use Rattle.wasm_dep_analyzer.specs.Imports.{Imported, import_at, imported};
 ghost use Rattle.wasm_dep_analyzer.specs.Types.{value_type_of, value_type_at, maximum_at, limits_at, mutability_of, global_type_at, table_at, tag_at, function_at, memory_at, global_at, import_type_of, import_type_at};
 
 use crate::deps::Import;
 use crate::error::ParseError;
 use crate::types::{GlobalType, ImportType, Limits, MemoryType, TableType, TagType, ValueType};
-use crate::values::{read_name, read_u8, read_u32};
+use crate::values::{ReadItem, read_items, read_name, read_u8, read_u32};
 use base::Range;
 use std::alloc::Global;
 
@@ -176,23 +177,31 @@ fn read_import<'a>(end: usize, input: &'a [u8]) -> Result<(Import<'a>, &'a [u8])
     ))
 }
 
-fn read_imports<'a>(
-    alloc: Global,
+/// Reads imports in a payload that ends at `end`.
+#[derive(Clone, Copy)]
+struct Imports {
     end: usize,
-    count: u32,
-    input: &'a [u8],
-) -> Result<(Vec<Import<'a>>, &'a [u8]), ParseError>
-    ensures { GivesInRoom (λ read. (map imported read.0.items, read.1.now)) result
-        (items_at (import_at end) count input.now) }
-{
-    let mut imports = Vec::new(alloc);
-    let mut rest = input;
-    for _ in 0..count {
-        let (import, after) = read_import(end, rest)?;
-        imports.push(import)?;
-        rest = after;
+}
+
+impl<'a> ReadItem<'a> for Imports {
+    type Item = Import<'a>;
+
+    ghost Shown = { Imported };
+
+    ghost show = { imported };
+
+    ghost show_all = { map imported };
+
+    ghost shows_more = { λ items last. map_push imported items last };
+
+    ghost item = { λ reader. import_at reader.end };
+
+    #[tactic(auto, using(crate::proofs::LoopLemmas::fault_is))]
+    fn read(&self, input: &'a [u8]) -> Result<(Import<'a>, &'a [u8]), ParseError> {
+        read_import(self.end, input)
     }
-    Ok((imports, rest))
+
+    ghost shows_none = { refl };
 }
 
 /// The imports of an import section, whose payload ends at `end`.
@@ -205,6 +214,6 @@ pub fn import_section<'a>(
     ensures { GivesInRoom (λ imports. map imported imports.items) result (all_items (import_at end) payload.now) }
 {
     let (count, rest) = read_u32(payload)?;
-    let (imports, _) = read_imports(alloc, end, count, rest)?;
+    let (imports, _) = read_items(alloc, &Imports { end }, count, rest)?;
     Ok(imports)
 }

@@ -1,34 +1,45 @@
 //! The types of a module's functions and globals (WebAssembly Core, "Type Section", "Function Section" and
 //! "Global Section").
 
-ghost use Rattle.std.specs.Prelude.{◌≡◌, length};
+ghost use Rattle.std.specs.Prelude.{◌≡◌, ℕ, length, refl};
+ghost use Rattle.wasm_dep_analyzer.specs.declared.types.ValueType.{ValueType};
+ghost use Rattle.wasm_dep_analyzer.specs.declared.types.FunctionSignature.{FunctionSignature};
+ghost use Rattle.wasm_dep_analyzer.specs.declared.types.GlobalType.{GlobalType};
 ghost use Rattle.wasm_dep_analyzer.specs.Reading.{Gives, GivesInRoom};
-ghost use Rattle.wasm_dep_analyzer.specs.Values.{u32_at, items_at, vector_at};
+ghost use Rattle.wasm_dep_analyzer.specs.Values.{u32_at, vector_at};
 ghost use Rattle.wasm_dep_analyzer.specs.Types.{value_type_at, signature_at};
 ghost use Rattle.wasm_dep_analyzer.specs.Module.{own_items, behind_end, global_at};
 
 use crate::error::ParseError;
 use crate::imports::{read_global_type, read_value_type};
 use crate::types::{FunctionSignature, GlobalType, ValueType};
-use crate::values::{read_u8, read_u32};
+use crate::values::{ReadItem, read_items, read_u8, read_u32};
 use base::Items;
 use std::alloc::Global;
 
-fn read_value_types(
-    alloc: Global,
-    count: u32,
-    input: &[u8],
-) -> Result<(Vec<ValueType>, &[u8]), ParseError>
-    ensures { GivesInRoom (λ read. (read.0.items, read.1.now)) result (items_at value_type_at count input.now) }
-{
-    let mut items = Vec::new(alloc);
-    let mut rest = input;
-    for _ in 0..count {
-        let (item, after) = read_value_type(rest)?;
-        items.push(item)?;
-        rest = after;
+/// Reads value types.
+#[derive(Clone, Copy)]
+struct ValueTypes;
+
+impl<'a> ReadItem<'a> for ValueTypes {
+    type Item = ValueType;
+
+    ghost Shown = { ValueType };
+
+    ghost show = { λ x. x };
+
+    ghost show_all = { λ xs. xs };
+
+    ghost shows_more = { λ items last. refl };
+
+    ghost item = { λ _. value_type_at };
+
+    #[tactic(auto, using(crate::proofs::LoopLemmas::fault_is))]
+    fn read(&self, input: &'a [u8]) -> Result<(ValueType, &'a [u8]), ParseError> {
+        read_value_type(input)
     }
-    Ok((items, rest))
+
+    ghost shows_none = { refl };
 }
 
 /// A count and so many value types.
@@ -37,7 +48,7 @@ fn value_types(alloc: Global, input: &[u8]) -> Result<(Items<ValueType>, &[u8]),
     ensures { GivesInRoom (λ read. (read.0, read.1.now)) result (vector_at value_type_at input.now) }
 {
     let (count, rest) = read_u32(input)?;
-    let (items, rest) = read_value_types(alloc, count, rest)?;
+    let (items, rest) = read_items(alloc, &ValueTypes, count, rest)?;
     Ok((Items::from_vec(items), rest))
 }
 
@@ -54,21 +65,31 @@ fn read_signature(alloc: Global, input: &[u8]) -> Result<(FunctionSignature, &[u
     Ok((FunctionSignature { params, returns }, rest))
 }
 
-fn read_signatures(
+/// Reads function types.
+#[derive(Clone, Copy)]
+struct Signatures {
     alloc: Global,
-    count: u32,
-    input: &[u8],
-) -> Result<(Vec<FunctionSignature>, &[u8]), ParseError>
-    ensures { GivesInRoom (λ read. (read.0.items, read.1.now)) result (items_at signature_at count input.now) }
-{
-    let mut items = Vec::new(alloc);
-    let mut rest = input;
-    for _ in 0..count {
-        let (item, after) = read_signature(alloc, rest)?;
-        items.push(item)?;
-        rest = after;
+}
+
+impl<'a> ReadItem<'a> for Signatures {
+    type Item = FunctionSignature;
+
+    ghost Shown = { FunctionSignature };
+
+    ghost show = { λ x. x };
+
+    ghost show_all = { λ xs. xs };
+
+    ghost shows_more = { λ items last. refl };
+
+    ghost item = { λ _. signature_at };
+
+    #[tactic(auto, using(crate::proofs::LoopLemmas::fault_is))]
+    fn read(&self, input: &'a [u8]) -> Result<(FunctionSignature, &'a [u8]), ParseError> {
+        read_signature(self.alloc, input)
     }
-    Ok((items, rest))
+
+    ghost shows_none = { refl };
 }
 
 /// The function types of a type section.
@@ -80,21 +101,33 @@ pub fn type_section(alloc: Global, payload: &[u8]) -> Result<Vec<FunctionSignatu
         return Ok(Vec::new(alloc));
     }
     let (count, rest) = read_u32(payload)?;
-    let (items, _) = read_signatures(alloc, count, rest)?;
+    let (items, _) = read_items(alloc, &Signatures { alloc }, count, rest)?;
     Ok(items)
 }
 
-fn read_numbers(alloc: Global, count: u32, input: &[u8]) -> Result<(Vec<u32>, &[u8]), ParseError>
-    ensures { GivesInRoom (λ read. (read.0.items, read.1.now)) result (items_at u32_at count input.now) }
-{
-    let mut items = Vec::new(alloc);
-    let mut rest = input;
-    for _ in 0..count {
-        let (item, after) = read_u32(rest)?;
-        items.push(item)?;
-        rest = after;
+/// Reads numbers.
+#[derive(Clone, Copy)]
+struct Numbers;
+
+impl<'a> ReadItem<'a> for Numbers {
+    type Item = u32;
+
+    ghost Shown = { ℕ };
+
+    ghost show = { λ x. x };
+
+    ghost show_all = { λ xs. xs };
+
+    ghost shows_more = { λ items last. refl };
+
+    ghost item = { λ _. u32_at };
+
+    #[tactic(auto, using(crate::proofs::LoopLemmas::fault_is))]
+    fn read(&self, input: &'a [u8]) -> Result<(u32, &'a [u8]), ParseError> {
+        read_u32(input)
     }
-    Ok((items, rest))
+
+    ghost shows_none = { refl };
 }
 
 /// The type numbers of a function section.
@@ -106,7 +139,7 @@ pub fn function_section(alloc: Global, payload: &[u8]) -> Result<Vec<u32>, Parse
         return Ok(Vec::new(alloc));
     }
     let (count, rest) = read_u32(payload)?;
-    let (items, _) = read_numbers(alloc, count, rest)?;
+    let (items, _) = read_items(alloc, &Numbers, count, rest)?;
     Ok(items)
 }
 
@@ -133,21 +166,29 @@ fn read_global(input: &[u8]) -> Result<(GlobalType, &[u8]), ParseError>
     Ok((global, rest))
 }
 
-fn read_globals(
-    alloc: Global,
-    count: u32,
-    input: &[u8],
-) -> Result<(Vec<GlobalType>, &[u8]), ParseError>
-    ensures { GivesInRoom (λ read. (read.0.items, read.1.now)) result (items_at global_at count input.now) }
-{
-    let mut items = Vec::new(alloc);
-    let mut rest = input;
-    for _ in 0..count {
-        let (item, after) = read_global(rest)?;
-        items.push(item)?;
-        rest = after;
+/// Reads globals.
+#[derive(Clone, Copy)]
+struct Globals;
+
+impl<'a> ReadItem<'a> for Globals {
+    type Item = GlobalType;
+
+    ghost Shown = { GlobalType };
+
+    ghost show = { λ x. x };
+
+    ghost show_all = { λ xs. xs };
+
+    ghost shows_more = { λ items last. refl };
+
+    ghost item = { λ _. global_at };
+
+    #[tactic(auto, using(crate::proofs::LoopLemmas::fault_is))]
+    fn read(&self, input: &'a [u8]) -> Result<(GlobalType, &'a [u8]), ParseError> {
+        read_global(input)
     }
-    Ok((items, rest))
+
+    ghost shows_none = { refl };
 }
 
 /// The types of a global section.
@@ -159,6 +200,6 @@ pub fn global_section(alloc: Global, payload: &[u8]) -> Result<Vec<GlobalType>, 
         return Ok(Vec::new(alloc));
     }
     let (count, rest) = read_u32(payload)?;
-    let (items, _) = read_globals(alloc, count, rest)?;
+    let (items, _) = read_items(alloc, &Globals, count, rest)?;
     Ok(items)
 }

@@ -1,10 +1,11 @@
-//! Bytes, numbers and names at the front of the bytes (WebAssembly Core, "Values").
+//! Bytes, numbers, names and lists of items at the front of the bytes (WebAssembly Core, "Values" and "Vectors").
 
-ghost use Rattle.std.specs.Prelude.{◌≡◌, ◌<◌, ◌*◌, ◌^◌, ◌≤◌, IfOk, length};
-ghost use Rattle.wasm_dep_analyzer.specs.Reading.{Gives};
-ghost use Rattle.wasm_dep_analyzer.specs.Values.{u8_at, number_at, u32_at, bytes_at, text_of, name_at};
+ghost use Rattle.std.specs.Prelude.{◌≡◌, ◌<◌, ◌*◌, ◌^◌, ◌≤◌, ℕ, List, [], ◌∷◌, ◌++◌, IfOk, length};
+ghost use Rattle.wasm_dep_analyzer.specs.Reading.{Read, Gives, GivesInRoom};
+ghost use Rattle.wasm_dep_analyzer.specs.Values.{u8_at, number_at, u32_at, bytes_at, text_of, name_at, items_at};
 
 use crate::error::ParseError;
+use std::alloc::Global;
 
 /// The first byte.
 pub fn read_u8(input: &[u8]) -> Result<(u8, &[u8]), ParseError>
@@ -75,4 +76,47 @@ pub fn read_name(input: &[u8]) -> Result<(&str, &[u8]), ParseError>
     let (bytes, rest) = read_bytes(count, rest)?;
     let name = text(bytes)?;
     Ok((name, rest))
+}
+
+/// What reads one item at the front of the bytes.
+pub trait ReadItem<'a> {
+    type Item;
+
+    // An item, and a list of items, as contracts see them.
+    ghost Shown: { Type 0 };
+
+    ghost show: { Self.Item → Shown };
+
+    ghost show_all: { List Self.Item → List Shown };
+
+    ghost shows_more: { (items : List Self.Item) (last : Self.Item) → show_all (items ++ last ∷ []) ≡ show_all items ++ show last ∷ [] };
+
+    // What reading one item gives.
+    ghost item: { Self → List ℕ → Read Shown };
+
+    fn read(&self, input: &'a [u8]) -> Result<(Self::Item, &'a [u8]), ParseError>
+        ensures { GivesInRoom (λ read. (show read.0, read.1.now)) result (item self.now input.now) };
+
+    ghost shows_none: { show_all [] ≡ [] };
+}
+
+/// So many items, one behind the other. Memory grows by what was read, and not by the count.
+pub fn read_items<'a, R: ReadItem<'a>>(
+    alloc: Global,
+    reader: &R,
+    count: u32,
+    input: &'a [u8],
+) -> Result<(Vec<R::Item>, &'a [u8]), ParseError>
+where
+    R::Item: Drop,
+    ensures { GivesInRoom (λ read. (R.show_all read.0.items, read.1.now)) result (items_at (R.item reader.now) count input.now) }
+{
+    let mut items = Vec::new(alloc);
+    let mut rest = input;
+    for _ in 0..count {
+        let (item, after) = reader.read(rest)?;
+        items.push(item)?;
+        rest = after;
+    }
+    Ok((items, rest))
 }
