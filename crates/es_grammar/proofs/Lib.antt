@@ -1,6 +1,6 @@
 mod TypeClaims
 mod Claims
-mod OrderLemmas
+pub mod OrderLemmas
 pub mod Theorems
 mod WorkedTypes
 mod WorkedRefusals

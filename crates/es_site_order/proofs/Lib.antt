@@ -1,0 +1,3 @@
+mod AscendLemmas
+mod StandLemmas
+pub mod Theorems
