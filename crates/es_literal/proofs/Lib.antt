@@ -1,0 +1,4 @@
+pub mod UnitLemmas
+pub mod StringLemmas
+pub mod ValueLemmas
+pub mod QuoteLemmas
