@@ -1,0 +1,3 @@
+pub mod ChangesLemmas
+pub mod OrderLemmas
+pub mod Theorems
