@@ -295,18 +295,27 @@ fn path_of(alloc: Global, call: &str, url: &Url) -> Result<String, Fail> {
 }
 
 #[test]
-fn urls_and_paths(rt: HostRuntime) -> Result<(), Fail> {
-    let alloc = rt.alloc();
+fn imports_have_their_urls(rt: HostRuntime) -> Result<(), Fail> {
     for (call, text, referrer, want) in IMPORTS {
-        let got = import(alloc, call, text, referrer)?;
+        let got = import(rt.alloc(), call, text, referrer)?;
         assert_eq!(rt; got.as_str(), want, "{call} {text}");
     }
+    Ok(())
+}
+
+#[test]
+fn paths_have_their_urls(rt: HostRuntime) -> Result<(), Fail> {
     for (call, text, folder, want) in PATHS {
-        let got = url_of(alloc, call, text, folder)?;
+        let got = url_of(rt.alloc(), call, text, folder)?;
         assert_eq!(rt; got.as_str(), want, "{call} {text}");
     }
+    Ok(())
+}
+
+#[test]
+fn urls_have_their_paths(rt: HostRuntime) -> Result<(), Fail> {
     for (call, text, _, want) in URLS {
-        let got = path_of(alloc, call, &url(alloc, text)?)?;
+        let got = path_of(rt.alloc(), call, &url(rt.alloc(), text)?)?;
         assert_eq!(rt; got.as_str(), want, "{call} {text}");
     }
     Ok(())
