@@ -11,7 +11,9 @@ use Rattle.es_tree.proofs.EachKind.{holds_everywhere, holds_of_each}
 use Rattle.es_tree.proofs.OutLemmas.{clash}
 use Rattle.es_tree.proofs.FreeLemmas.{holds_then}
 use Rattle.es_tree.proofs.Theorems.{IsGrammar}
-use Rattle.es_grammar.specs.Rows.{Context, Row, ModuleRow, ScriptRow, ItemRow, ClauseRow, NamedRow, ImportSpecifierRow, ExportSpecifierRow, AttributesRow, EntityRow, StatementRow, BlockRow, DeclarationRow, VariablesRow, DeclaratorRow, UsingRow, HeadRow, SignatureRow, ParametersRow, ParameterRow, PatternRow, InnerPatternRow, PatternElementRow, PatternPropertyRow, FunctionRow, ClassRow, MemberRow, PropertyRow, KeyRow, ExpressionRow, AssignmentRow, AndRow, BitOrRow, BitXorRow, BitAndRow, EqualityRow, RelationRow, ShiftRow, SumRow, ProductRow, PowerRow, UnaryRow, ChainRow, CalleeRow, PostRow, MemberPostRow, ArgumentsRow, ElementRow, TemplateRow}
+use Rattle.es_grammar.specs.declared.rows.Context.{Context}
+use Rattle.es_grammar.specs.declared.rows.Row.{Row}
+use Rattle.es_grammar.specs.declared.rows.Row.TheVariants.{ModuleRow, ScriptRow, ItemRow, ClauseRow, NamedRow, ImportSpecifierRow, ExportSpecifierRow, AttributesRow, EntityRow, StatementRow, BlockRow, DeclarationRow, VariablesRow, DeclaratorRow, UsingRow, HeadRow, SignatureRow, ParametersRow, ParameterRow, PatternRow, InnerPatternRow, PatternElementRow, PatternPropertyRow, FunctionRow, ClassRow, MemberRow, PropertyRow, KeyRow, ExpressionRow, AssignmentRow, AndRow, BitOrRow, BitXorRow, BitAndRow, EqualityRow, RelationRow, ShiftRow, SumRow, ProductRow, PowerRow, UnaryRow, ChainRow, CalleeRow, PostRow, MemberPostRow, ArgumentsRow, ElementRow, TemplateRow}
 use Rattle.es_grammar.specs.Words.{is_name, is_word, is_name_or_this, is_numeric, is_sign, is_accessor_word, is_near, begins_key}
 use Rattle.es_grammar.specs.Modules.{may_end, ended, word_or_str_in, names_in, attributes, attributes_ended, from_ended, opens_type_import, opens_type_name, type_word_in, is_renamed, is_no_type_as_as, import_specifier, named, has_comma, clause, entity, opens_equals, shows_require, opens_require, equals_in, required, opens_bare, import_, export_specifier, opens_type_export, opens_all, opens_exported_equals, opens_exported_require, opens_namespace, export_}
 use Rattle.es_grammar.specs.Expressions.{is_prefix, is_update, is_product, is_sum, is_equality, is_relation, is_assignment, is_property_name, joins, opens_greater, opens_right_shift, opens_right_assignment, begins_expression, continues_expression, follows_arrow_body, ends_expression, is_arrow, no_arrow, opens_plain_arrow, opens_async_arrow, opens_arrow, arrow_in, plain_arrow, opens_async_parenthesis, async_arrow, template, spread, array_literal, object_literal, is_no_arrow_head, opens_async_function, star_in, name_in, function, async_function, any_function, class_, is_literal_word, primary, opens_property, has_argument, import_call, is_module, import_meta, follows_super, base, arguments, begins_member, begins_post, member_post, optional_post, post, chain, callee, may_await, is_update_here, no_update_here, update, prefix, await_, unary, power, level, product, sum, opens_shift, shift, opens_relation, may_test, private_in, relation, equality, bit_and, bit_xor, bit_or, and_, no_mix, coalesce, binary, conditional, opens_pattern, opens_assignment, is_operand, yield_, assignment, expression, element}

@@ -9,8 +9,8 @@ use Rattle.es_tree.specs.Key.{Key, keys_of}
 use Rattle.es_tree.specs.Plain.{Plain}
 use Rattle.es_tree.specs.Fits.{free, chosen, Shape, most_nodes}
 use Rattle.es_tree.proofs.Theorems as grammars
-use Rattle.es_grammar.specs.Rows.{ModuleRow, ScriptRow}
-use Rattle.es_grammar.specs.Rows as programs
+use Rattle.es_grammar.specs.declared.rows.Row.TheVariants.{ModuleRow, ScriptRow}
+use Rattle.es_grammar.specs.declared.rows.Label as programs
 use Rattle.es_grammar.specs.Table.{rule}
 use Rattle.es_grammar.specs.Conditions.{IsProgram, program_row}
 use Rattle.es_grammar.specs.TypeRows.{TypeRow, Label}

@@ -9,7 +9,7 @@ use Rattle.es_tree.specs.Form.{as_kind, as_name, as_raw, as_str, as_there}
 use Rattle.es_tree.specs.Plain.{node, leaf, nil, cons, mark, turn, via}
 use Rattle.es_tree.specs.Fits.{most_nodes}
 use Rattle.es_tree.specs.Reader.{gives, read_turns, read_wraps, read_row}
-use Rattle.es_grammar.specs.Rows.{AccessorProperty, Arguments, ArrayLiteral, ArrayPattern, Assignment, AsyncFunction, AsyncNameArrow, Attributes, BareImport, Binary, Block, CallPost, Chain, Class, Conditional, Declarator, DefaultAndClause, DefaultPattern, DoStatement, ExportAll, ExportDeclaration, ExportDefaultExpression, ExportDefaultFunction, ExportNames, ExportedName, ExpressionStatement, FieldMember, ForAwaitStatement, ForEachStatement, ForStatement, FromImport, Function, IfStatement, ImportCall, ImportMeta, KeyValue, LabelledStatement, MemberPost, MethodMember, Module, Name, NameArrow, NamePattern, NameProperty, NamedImports, Namespace, New, ObjectLiteral, ObjectPattern, OptionalPost, Parameters, Parenthesized, ParenthesizedArrow, PatternAssignment, PrivateIn, PrivateKey, RenamedImport, ReturnStatement, Script, Shorthand, Signature, Spread, SwitchStatement, Target, Template, TemplateParts, TryStatement, UnaryExpression, UpdatePostfix, UpdatePrefix, Using, UsingDeclaration, VariableDeclaration, VariableHead, Variables, WithStatement, WordKey, Yield}
+use Rattle.es_grammar.specs.declared.rows.Label.TheVariants.{AccessorProperty, Arguments, ArrayLiteral, ArrayPattern, Assignment, AsyncFunction, AsyncNameArrow, Attributes, BareImport, Binary, Block, CallPost, Chain, Class, Conditional, Declarator, DefaultAndClause, DefaultPattern, DoStatement, ExportAll, ExportDeclaration, ExportDefaultExpression, ExportDefaultFunction, ExportNames, ExportedName, ExpressionStatement, FieldMember, ForAwaitStatement, ForEachStatement, ForStatement, FromImport, Function, IfStatement, ImportCall, ImportMeta, KeyValue, LabelledStatement, MemberPost, MethodMember, Module, Name, NameArrow, NamePattern, NameProperty, NamedImports, Namespace, New, ObjectLiteral, ObjectPattern, OptionalPost, Parameters, Parenthesized, ParenthesizedArrow, PatternAssignment, PrivateIn, PrivateKey, RenamedImport, ReturnStatement, Script, Shorthand, Signature, Spread, SwitchStatement, Target, Template, TemplateParts, TryStatement, UnaryExpression, UpdatePostfix, UpdatePrefix, Using, UsingDeclaration, VariableDeclaration, VariableHead, Variables, WithStatement, WordKey, Yield}
 use Rattle.es_grammar.specs.TypeReader.{one, joined, paired, line}
 use Rattle.es_grammar.specs.ProgramReader.{read_program}
 use Rattle.es_grammar.specs.Words.{is_name, is_word, is_name_or_this, is_numeric, is_sign, is_accessor_word, is_near, begins_key}

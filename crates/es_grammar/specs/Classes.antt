@@ -4,7 +4,11 @@ use Rattle.es_lexer.specs.declared.token.TokenKind.TheVariants as k
 use Rattle.es_tree.specs.Key.{seen, is}
 use Rattle.es_tree.specs.Form.{as_kind, as_there, guarded, taken, Guard, Form, done, tok, punct, row, opt, where_, Rule, make, choose, pick}
 use Rattle.es_grammar.specs.Words.{only, is_accessor_word, is_near}
-use Rattle.es_grammar.specs.Rows.{Context, Row, BlockRow, KeyRow, AssignmentRow, Label, EmptyMember, StaticBlock, AccessorMember, AsyncMember, GeneratorMember, MethodMember, FieldMember, AccessorField}
+use Rattle.es_grammar.specs.declared.rows.Context.{Context}
+use Rattle.es_grammar.specs.declared.rows.Row.{Row}
+use Rattle.es_grammar.specs.declared.rows.Row.TheVariants.{BlockRow, KeyRow, AssignmentRow}
+use Rattle.es_grammar.specs.declared.rows.Label.{Label}
+use Rattle.es_grammar.specs.declared.rows.Label.TheVariants.{EmptyMember, StaticBlock, AccessorMember, AsyncMember, GeneratorMember, MethodMember, FieldMember, AccessorField}
 use Rattle.es_grammar.specs.Modules.{ended}
 use Rattle.es_grammar.specs.Expressions.{star_in, ends_expression}
 use Rattle.es_grammar.specs.Functions.{starts_key, opens_accessor, opens_async, opens_star, opens_method, method_in, async_method_in}

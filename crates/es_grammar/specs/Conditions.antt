@@ -7,7 +7,10 @@ use Rattle.es_tree.specs.declared.error.Mode.TheVariants as mode
 use Rattle.es_tree.specs.Key.{Key}
 use Rattle.es_tree.specs.Plain.{Plain, node, cons, mark, turn, via}
 use Rattle.es_tree.specs.Fits.{free, Shape}
-use Rattle.es_grammar.specs.Rows.{Row, ModuleRow, ScriptRow, Label, Name, Parenthesized, Chain, MemberPost, IndexPost, Assignment, UpdatePostfix, UpdatePrefix}
+use Rattle.es_grammar.specs.declared.rows.Row.{Row}
+use Rattle.es_grammar.specs.declared.rows.Row.TheVariants.{ModuleRow, ScriptRow}
+use Rattle.es_grammar.specs.declared.rows.Label.{Label}
+use Rattle.es_grammar.specs.declared.rows.Label.TheVariants.{Name, Parenthesized, Chain, MemberPost, IndexPost, Assignment, UpdatePostfix, UpdatePrefix}
 use Rattle.es_grammar.specs.Table.{rule}
 
 -- `.a` or `[a]`

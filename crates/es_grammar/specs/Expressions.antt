@@ -5,7 +5,11 @@ use Rattle.es_lexer.specs.declared.token.TokenKind.TheVariants as k
 use Rattle.es_tree.specs.Key.{Key, Look, seen, same_kind, has_kind, is, is_end}
 use Rattle.es_tree.specs.Form.{as_str, as_name, as_raw, as_kind, as_there, hint, taken, guarded, Guard, Form, done, tok, punct, row, opt, many, alt, when_, where_, Rule, make, choose, pick, wrap}
 use Rattle.es_grammar.specs.Words.{only, is_between, is_name, is_numeric, is_near, is_other, partner_of, closes_before}
-use Rattle.es_grammar.specs.Rows.{Context, Row, BlockRow, SignatureRow, ParametersRow, PatternRow, PropertyRow, ExpressionRow, AssignmentRow, AndRow, BitOrRow, BitXorRow, BitAndRow, EqualityRow, RelationRow, ShiftRow, SumRow, ProductRow, PowerRow, UnaryRow, ChainRow, CalleeRow, PostRow, MemberPostRow, ArgumentsRow, ElementRow, TemplateRow, MemberRow, Label, AsyncFunction, Function, Class, Sequence, Yield, PatternAssignment, Assignment, NameArrow, ParenthesizedArrow, AsyncNameArrow, AsyncParenthesizedArrow, Conditional, Binary, PrivateIn, UnaryExpression, AwaitExpression, UpdatePrefix, UpdatePostfix, Chain, MemberPost, IndexPost, CallPost, TemplatePost, OptionalPost, Super, ImportCall, ImportMeta, NewTarget, New, Arguments, Name, Word, Number, Str, RegExp, Template, TemplateParts, Parenthesized, ArrayLiteral, ObjectLiteral, Spread}
+use Rattle.es_grammar.specs.declared.rows.Context.{Context}
+use Rattle.es_grammar.specs.declared.rows.Row.{Row}
+use Rattle.es_grammar.specs.declared.rows.Row.TheVariants.{BlockRow, SignatureRow, ParametersRow, PatternRow, PropertyRow, ExpressionRow, AssignmentRow, AndRow, BitOrRow, BitXorRow, BitAndRow, EqualityRow, RelationRow, ShiftRow, SumRow, ProductRow, PowerRow, UnaryRow, ChainRow, CalleeRow, PostRow, MemberPostRow, ArgumentsRow, ElementRow, TemplateRow, MemberRow}
+use Rattle.es_grammar.specs.declared.rows.Label.{Label}
+use Rattle.es_grammar.specs.declared.rows.Label.TheVariants.{AsyncFunction, Function, Class, Sequence, Yield, PatternAssignment, Assignment, NameArrow, ParenthesizedArrow, AsyncNameArrow, AsyncParenthesizedArrow, Conditional, Binary, PrivateIn, UnaryExpression, AwaitExpression, UpdatePrefix, UpdatePostfix, Chain, MemberPost, IndexPost, CallPost, TemplatePost, OptionalPost, Super, ImportCall, ImportMeta, NewTarget, New, Arguments, Name, Word, Number, Str, RegExp, Template, TemplateParts, Parenthesized, ArrayLiteral, ObjectLiteral, Spread}
 
 -- the same place, outside the head of a `for`, and inside one, and in an async function
 abbrev pub outside : Context → Context

@@ -5,7 +5,11 @@ use Rattle.es_lexer.specs.declared.token.TokenKind.TheVariants as k
 use Rattle.es_tree.specs.Key.{Look, seen, has_kind, is}
 use Rattle.es_tree.specs.Form.{as_str, as_name, as_raw, as_kind, hint, taken, Guard, Form, done, tok, punct, row, opt, many, alt, when_, where_, Rule, make, choose, as_, pick, wrap}
 use Rattle.es_grammar.specs.Words.{only, is_name, is_word, is_numeric, is_accessor_word, is_near, is_other, begins_key, partner_of, closes_before}
-use Rattle.es_grammar.specs.Rows.{Context, Row, BlockRow, SignatureRow, ParametersRow, ParameterRow, PatternRow, InnerPatternRow, PatternElementRow, PatternPropertyRow, KeyRow, AssignmentRow, Label, Target, Signature, Parameters, DefaultParameter, NamePattern, ArrayPattern, ObjectPattern, RestPattern, DefaultPattern, RestProperty, KeyPattern, NameProperty, WordKey, StrKey, NumberKey, ComputedKey, PrivateKey, SpreadProperty, AccessorProperty, AsyncProperty, GeneratorProperty, MethodProperty, KeyValue, Shorthand}
+use Rattle.es_grammar.specs.declared.rows.Context.{Context}
+use Rattle.es_grammar.specs.declared.rows.Row.{Row}
+use Rattle.es_grammar.specs.declared.rows.Row.TheVariants.{BlockRow, SignatureRow, ParametersRow, ParameterRow, PatternRow, InnerPatternRow, PatternElementRow, PatternPropertyRow, KeyRow, AssignmentRow}
+use Rattle.es_grammar.specs.declared.rows.Label.{Label}
+use Rattle.es_grammar.specs.declared.rows.Label.TheVariants.{Target, Signature, Parameters, DefaultParameter, NamePattern, ArrayPattern, ObjectPattern, RestPattern, DefaultPattern, RestProperty, KeyPattern, NameProperty, WordKey, StrKey, NumberKey, ComputedKey, PrivateKey, SpreadProperty, AccessorProperty, AsyncProperty, GeneratorProperty, MethodProperty, KeyValue, Shorthand}
 use Rattle.es_grammar.specs.Expressions.{outside, async_in, chain, star_in}
 
 -- ---- patterns

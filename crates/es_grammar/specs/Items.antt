@@ -5,7 +5,11 @@ use Rattle.es_tree.specs.declared.error.Lang.{Lang}
 use Rattle.es_tree.specs.Key.{seen, has_kind, is, is_token}
 use Rattle.es_tree.specs.Form.{as_raw, hint, taken, Guard, Form, done, tok, punct, row, opt, many, Rule, make, choose, pick}
 use Rattle.es_grammar.specs.Words.{only}
-use Rattle.es_grammar.specs.Rows.{Context, Row, ItemRow, StatementRow, DeclarationRow, FunctionRow, ClassRow, AssignmentRow, Label, ExportDefaultFunction, ExportDefaultClass, ExportDefaultExpression, ExportDeclaration, Module, Script}
+use Rattle.es_grammar.specs.declared.rows.Context.{Context}
+use Rattle.es_grammar.specs.declared.rows.Row.{Row}
+use Rattle.es_grammar.specs.declared.rows.Row.TheVariants.{ItemRow, StatementRow, DeclarationRow, FunctionRow, ClassRow, AssignmentRow}
+use Rattle.es_grammar.specs.declared.rows.Label.{Label}
+use Rattle.es_grammar.specs.declared.rows.Label.TheVariants.{ExportDefaultFunction, ExportDefaultClass, ExportDefaultExpression, ExportDeclaration, Module, Script}
 use Rattle.es_grammar.specs.Modules.{import_, export_}
 use Rattle.es_grammar.specs.Expressions.{opens_async_function}
 use Rattle.es_grammar.specs.Statements.{is_variable_word, opens_using, statement, expression_ended}

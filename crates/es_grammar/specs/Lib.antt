@@ -2,8 +2,7 @@
 pub mod Words
 -- the parts of a tree stand in order
 pub mod Order
--- programs, as far as they stand: their rows, the areas of their table, the table
-pub mod Rows
+-- programs, as far as they stand: the areas of their table, the table; their rows are in src/rows.rt
 pub mod Modules
 pub mod Expressions
 pub mod Functions

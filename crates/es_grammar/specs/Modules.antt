@@ -6,7 +6,10 @@ use Rattle.es_tree.specs.declared.error.Lang.TheVariants as lang
 use Rattle.es_tree.specs.Key.{Look, seen, has_kind, is, is_end, is_after_line}
 use Rattle.es_tree.specs.Form.{as_str, as_name, as_there, hint, taken, guarded, Guard, Form, done, tok, punct, row, opt, many, alt, when_, where_, Rule, make, choose, pick}
 use Rattle.es_grammar.specs.Words.{only, is_name, is_word, is_name_or_this, is_other}
-use Rattle.es_grammar.specs.Rows.{Row, ClauseRow, NamedRow, ImportSpecifierRow, ExportSpecifierRow, AttributesRow, EntityRow, Label, BareImport, FromImport, RequireImport, EntityImport, ExportedRequireImport, ExportedEntityImport, DefaultClause, DefaultAndClause, Namespace, NamedImports, RenamedImport, ImportedName, ExportAll, ExportNames, ExportNamespace, ExportedName, Attributes, Entity}
+use Rattle.es_grammar.specs.declared.rows.Row.{Row}
+use Rattle.es_grammar.specs.declared.rows.Row.TheVariants.{ClauseRow, NamedRow, ImportSpecifierRow, ExportSpecifierRow, AttributesRow, EntityRow}
+use Rattle.es_grammar.specs.declared.rows.Label.{Label}
+use Rattle.es_grammar.specs.declared.rows.Label.TheVariants.{BareImport, FromImport, RequireImport, EntityImport, ExportedRequireImport, ExportedEntityImport, DefaultClause, DefaultAndClause, Namespace, NamedImports, RenamedImport, ImportedName, ExportAll, ExportNames, ExportNamespace, ExportedName, Attributes, Entity}
 
 -- the language is TypeScript
 abbrev pub is_typescript : Lang → Bool

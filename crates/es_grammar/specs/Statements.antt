@@ -5,7 +5,11 @@ use Rattle.es_lexer.specs.declared.token.TokenKind.TheVariants as k
 use Rattle.es_tree.specs.Key.{Key, Look, seen, same_kind, has_kind, is}
 use Rattle.es_tree.specs.Form.{as_name, as_kind, as_there, hint, taken, Guard, Form, done, tok, punct, row, opt, many, alt, when_, where_, Rule, make, choose, pick, wrap, guarded}
 use Rattle.es_grammar.specs.Words.{only, is_name, is_near, is_other, partner_of, closes_before}
-use Rattle.es_grammar.specs.Rows.{Context, Row, StatementRow, BlockRow, VariablesRow, DeclaratorRow, UsingRow, HeadRow, PatternRow, ExpressionRow, AssignmentRow, Label, Block, EmptyStatement, ExpressionStatement, LabelledStatement, IfStatement, ForStatement, ForEachStatement, ForAwaitStatement, WhileStatement, DoStatement, ContinueStatement, BreakStatement, ReturnStatement, ThrowStatement, SwitchStatement, TryStatement, DebuggerStatement, WithStatement, VariableDeclaration, UsingDeclaration, Variables, Declarator, Using, VariableHead, UsingHead}
+use Rattle.es_grammar.specs.declared.rows.Context.{Context}
+use Rattle.es_grammar.specs.declared.rows.Row.{Row}
+use Rattle.es_grammar.specs.declared.rows.Row.TheVariants.{StatementRow, BlockRow, VariablesRow, DeclaratorRow, UsingRow, HeadRow, PatternRow, ExpressionRow, AssignmentRow}
+use Rattle.es_grammar.specs.declared.rows.Label.{Label}
+use Rattle.es_grammar.specs.declared.rows.Label.TheVariants.{Block, EmptyStatement, ExpressionStatement, LabelledStatement, IfStatement, ForStatement, ForEachStatement, ForAwaitStatement, WhileStatement, DoStatement, ContinueStatement, BreakStatement, ReturnStatement, ThrowStatement, SwitchStatement, TryStatement, DebuggerStatement, WithStatement, VariableDeclaration, UsingDeclaration, Variables, Declarator, Using, VariableHead, UsingHead}
 use Rattle.es_grammar.specs.Modules.{ended}
 use Rattle.es_grammar.specs.Expressions.{outside, in_head, begins_expression, ends_expression, opens_async_function, function, async_function, class_, may_await}
 use Rattle.es_grammar.specs.Functions.{target, pattern}

@@ -1,6 +1,8 @@
 -- The table of programs: the rule of each row.
 use Rattle.es_tree.specs.Form.{Rule, refuse}
-use Rattle.es_grammar.specs.Rows.{Row, ModuleRow, ScriptRow, ItemRow, ClauseRow, NamedRow, ImportSpecifierRow, ExportSpecifierRow, AttributesRow, EntityRow, StatementRow, BlockRow, DeclarationRow, VariablesRow, DeclaratorRow, UsingRow, HeadRow, FunctionRow, ClassRow, SignatureRow, ParametersRow, ParameterRow, PatternRow, InnerPatternRow, PatternElementRow, PatternPropertyRow, MemberRow, PropertyRow, KeyRow, ExpressionRow, AssignmentRow, AndRow, BitOrRow, BitXorRow, BitAndRow, EqualityRow, RelationRow, ShiftRow, SumRow, ProductRow, PowerRow, UnaryRow, ChainRow, CalleeRow, PostRow, MemberPostRow, ArgumentsRow, ElementRow, TemplateRow, Label}
+use Rattle.es_grammar.specs.declared.rows.Row.{Row}
+use Rattle.es_grammar.specs.declared.rows.Row.TheVariants.{ModuleRow, ScriptRow, ItemRow, ClauseRow, NamedRow, ImportSpecifierRow, ExportSpecifierRow, AttributesRow, EntityRow, StatementRow, BlockRow, DeclarationRow, VariablesRow, DeclaratorRow, UsingRow, HeadRow, FunctionRow, ClassRow, SignatureRow, ParametersRow, ParameterRow, PatternRow, InnerPatternRow, PatternElementRow, PatternPropertyRow, MemberRow, PropertyRow, KeyRow, ExpressionRow, AssignmentRow, AndRow, BitOrRow, BitXorRow, BitAndRow, EqualityRow, RelationRow, ShiftRow, SumRow, ProductRow, PowerRow, UnaryRow, ChainRow, CalleeRow, PostRow, MemberPostRow, ArgumentsRow, ElementRow, TemplateRow}
+use Rattle.es_grammar.specs.declared.rows.Label.{Label}
 use Rattle.es_grammar.specs.Modules.{clause, named, import_specifier, export_specifier, attributes, entity}
 use Rattle.es_grammar.specs.Expressions.{any_function, class_, template, arguments, post, member_post, chain, callee, unary, power, product, sum, shift, relation, equality, bit_and, bit_xor, bit_or, and_, assignment, expression, element}
 use Rattle.es_grammar.specs.Functions.{pattern, inner_pattern, pattern_element, pattern_property, parameters, parameter, signature, key, property}
