@@ -1,0 +1,2 @@
+-- what is seen of a token
+pub mod Sight
