@@ -1,4 +1,4 @@
-"""Tests of the module, and of the calls on bad input: python3 test_joravelsu.py. tools/try-library runs them."""
+"""Tests of the module, and of the calls on bad input: python3 test_joravelsu.py. tools/check-library runs them."""
 import concurrent.futures
 import ctypes
 import os
