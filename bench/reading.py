@@ -1,9 +1,11 @@
 """What the benches of single crates share: a program that reads its input some times over, and the time of one reading.
 
-The program reads standard input, and reads it again for each word that it is given. The processor time of one reading
-is the difference of two runs, over the readings that one has more.
+The program reads standard input, and reads it again for each word that it is given. What one reading takes is the difference
+of two runs, over the readings that one has more: processor time in the program and in the system for it, and, where valgrind
+is there, the instructions in the program, which other work on the machine leaves as they are.
 """
 import os
+import re
 import shutil
 import subprocess
 import sys
@@ -11,41 +13,58 @@ import sys
 ROOT = os.path.dirname(os.path.dirname(os.path.abspath(__file__)))
 RUNS = 5
 MORE = 20
+MORE_COUNTED = 2
 
 
 def make_program(folder, name, crates, lines, main, printed):
-    """Proves and builds a program of this main over copies of these crates; `printed` is what it prints of no input."""
+    """Proves and builds a program of this main over copies of these crates; `printed` is what it prints of no input.
+
+    What the gate proved of the same files on this machine isn't proved again.
+    """
     for crate in crates:
         copy = os.path.join(folder, "crates", crate)
-        shutil.copytree(os.path.join(ROOT, "crates", crate), copy, ignore=shutil.ignore_patterns("out"))
+        shutil.copytree(os.path.join(ROOT, "crates", crate), copy, ignore=shutil.ignore_patterns("out", "must-fail"))
     where = os.path.join(folder, "crates", name)
     os.makedirs(os.path.join(where, "src"))
     for file, text in (("src/main.rt", main), ("stdin", ""), ("stdout", printed)):
         with open(os.path.join(where, file), "w") as made:
             made.write(text)
+    shutil.copyfile(os.path.join(ROOT, "HANDLES"), os.path.join(folder, "HANDLES"))
     with open(os.path.join(folder, "crates.txt"), "w") as file:
         file.write("\n".join(lines) + "\n")
-    subprocess.run(["rt", "run"], cwd=where, check=True, stdout=subprocess.DEVNULL)
+    subprocess.run(["rt", "ci"], cwd=folder, check=True, stdout=subprocess.DEVNULL)
     return os.path.join(where, "out", name)
 
 
 def seconds(program, path, times):
-    """Processor time of so many readings."""
+    """Processor time of so many readings, in the program and in the system."""
     with open(path, "rb") as source:
         child = subprocess.Popen([program] + ["again"] * times, stdin=source, stdout=subprocess.DEVNULL)
         _, status, usage = os.wait4(child.pid, 0)
     child.returncode = os.waitstatus_to_exitcode(status)
     if child.returncode != 0:
         sys.exit(f"bench: the program ended with status {child.returncode}")
-    return usage.ru_utime + usage.ru_stime
+    return usage.ru_utime, usage.ru_stime
+
+
+def instructions(program, path, times):
+    """How many instructions so many readings take in the program."""
+    words = ["valgrind", "--tool=callgrind", "--callgrind-out-file=/dev/null", program] + ["again"] * times
+    with open(path, "rb") as source:
+        ran = subprocess.run(words, stdin=source, stdout=subprocess.DEVNULL, stderr=subprocess.PIPE, check=True)
+    return int(re.search(rb"Collected\s*:\s*(\d+)", ran.stderr)[1])
 
 
 def measure(program, folder, label, data):
-    """Prints the time of one reading of the data, and its speed."""
+    """Prints what one reading of the data takes, and its speed, by the least time of each kind."""
     path = os.path.join(folder, "input")
     with open(path, "wb") as file:
         file.write(data)
-    one = min(seconds(program, path, 1) for _ in range(RUNS))
-    many = min(seconds(program, path, 1 + MORE) for _ in range(RUNS))
-    each = (many - one) / MORE
-    print(f"{label}: {len(data)} bytes, {1000 * each:.2f} ms a reading, {len(data) / each / 1e6:.0f} MB/s", flush=True)
+    one, many = ([seconds(program, path, times) for _ in range(RUNS)] for times in (1, 1 + MORE))
+    own, of_system = ((min(it[i] for it in many) - min(it[i] for it in one)) / MORE for i in (0, 1))
+    said = f"{label}: {len(data)} bytes, {1000 * own:.1f} ms a reading and {1000 * of_system:.1f} in the system, "
+    said += f"{len(data) / (own + of_system) / 1e6:.0f} MB/s"
+    if shutil.which("valgrind"):
+        count = instructions(program, path, 1 + MORE_COUNTED) - instructions(program, path, 1)
+        said += f", {count / MORE_COUNTED / len(data):.1f} instructions a byte"
+    print(said, flush=True)
