@@ -1,6 +1,6 @@
 -- What is seen of the keys of tokens is what stands in the tokens.
 use Rattle.std.specs.Prelude.{List, [], ◌∷◌, Option, Some, None, slice_get, Bool, true, false, ◌&&◌, ◌==◌}
-use Rattle.std.proofs.Common.{◌≡◌, ℕ, zero, suc, ◌+◌, ◌-◌, ◌≤◌, length, refl, sym, ap, ◌∙◌, arith}
+use Rattle.std.proofs.Common.{◌≡◌, ℕ, zero, suc, ◌-◌, ◌≤◌, length, refl, sym, ap, ◌∙◌, arith}
 use Rattle.std.proofs.lemmas.Option.{slice_get_past}
 use Rattle.es_lexer.specs.declared.token.Token.{Token}
 use Rattle.es_lexer.specs.declared.token.TokenKind.{TokenKind}
@@ -41,6 +41,15 @@ seen_some ts at t e = ap token_seen e ∙ sym (seen-keys_of ts at)
 -- no token behind the last
 pub seen_none : (ts : List Token) (at : ℕ) → None ≡ slice_get ts at → None ≡ seen (keys_of ts) at
 seen_none ts at e = ap token_seen e ∙ sym (seen-keys_of ts at)
+
+-- a test of a token that is there
+pub look_some : (t : Look) (ts : List Token) (at : ℕ) (tok : Token) → Some tok ≡ slice_get ts at
+    → t (Some (record { kind = tok.kind; line_before = tok.line_before })) ≡ t (seen (keys_of ts) at)
+look_some t ts at tok e = ap t (seen_some ts at tok e)
+
+-- a test at the end
+pub look_none : (t : Look) (ts : List Token) (at : ℕ) → None ≡ slice_get ts at → t None ≡ t (seen (keys_of ts) at)
+look_none t ts at e = ap t (seen_none ts at e)
 
 pub seen_past : (ts : List Token) (at : ℕ) → length ts ≤ at → None ≡ seen (keys_of ts) at
 seen_past ts at past = seen_none ts at (sym (slice_get_past ts at past))

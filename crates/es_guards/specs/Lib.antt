@@ -1,2 +1,4 @@
 -- what is seen of a token
 pub mod Sight
+-- tests and guards by name
+pub mod Named

@@ -1,7 +1,7 @@
 //! Tests of the kind of a token.
 
 ghost use Rattle.std.specs.Prelude.{◌≡◌};
-ghost use Rattle.es_grammar.specs.Words.{is_name, is_word, is_name_or_this, is_numeric, is_sign, is_accessor_word};
+ghost use Rattle.es_grammar.specs.Words.{is_name, is_word, is_name_or_this, is_numeric, is_accessor_word};
 ghost use Rattle.es_grammar.specs.Expressions.{is_prefix, is_update, is_product, is_sum, is_equality, is_relation, is_assignment, is_property_name, is_literal_word};
 ghost use Rattle.es_grammar.specs.Statements.{is_variable_word};
 
@@ -41,14 +41,6 @@ pub fn is_numeric(kind: TokenKind) -> bool
     ensures { result ≡ is_numeric kind }
 {
     kind == TokenKind::Number || kind == TokenKind::BigInt
-}
-
-/// `+` or `-`
-#[tactic(auto, unfolding(es_grammar::specs::Words::is_sign))]
-pub fn is_sign(kind: TokenKind) -> bool
-    ensures { result ≡ is_sign kind }
-{
-    kind == TokenKind::Plus || kind == TokenKind::Minus
 }
 
 /// `get` or `set`

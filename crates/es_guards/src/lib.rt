@@ -1,19 +1,25 @@
 //! The guards of the grammar of programs, over the tokens of a text.
 //!
-//! - `Tokens`: the tokens of a text, with what is seen at a place.
-//! - `Seen` and its functions: the tests of the next token, or of the end.
-//! - `is_name` and the other functions: the tests of a kind of token.
+//! - `Tokens`: the tokens of a text, with what is seen at a place, and a method for each test of the next token and each
+//!   guard of the table of `es_grammar`.
+//! - `Kinds`, `Ahead`, `Guard`: tests and guards named by a value; `is_kind`, `sees_ahead`, `holds` ask them.
 //!
-//! Each answers what its definition in `es_grammar` says of the keys of the tokens.
+//! Each answers what its definition in `es_grammar` says of the keys of the tokens. None asks anything of the place.
 #![tactic(auto)]
 
+mod classes;
+mod expressions;
+mod functions;
+mod holds;
 mod kinds;
 mod looks;
+mod modules;
+mod named;
+mod statements;
 mod tokens;
+mod words;
 
-pub use kinds::{
-    is_accessor_word, is_assignment, is_equality, is_literal_word, is_name, is_name_or_this,
-    is_numeric, is_prefix, is_product, is_property_name, is_relation, is_sign, is_sum, is_update,
-    is_variable_word, is_word,
-};
+pub use holds::is_of;
+pub use looks::Seen;
+pub use named::{Ahead, Guard, Kinds};
 pub use tokens::Tokens;

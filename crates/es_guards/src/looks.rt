@@ -2,9 +2,9 @@
 
 ghost use Rattle.std.specs.Prelude.{◌≡◌};
 ghost use Rattle.es_tree.specs.Key.{has_kind, is, is_end, is_token, is_after_line};
-ghost use Rattle.es_grammar.specs.Words.{is_name, is_word, is_name_or_this, is_numeric, is_accessor_word, is_near, begins_key};
+ghost use Rattle.es_grammar.specs.Words.{is_name, is_word, is_numeric, is_accessor_word, is_near, begins_key};
 ghost use Rattle.es_grammar.specs.Modules.{may_end};
-ghost use Rattle.es_grammar.specs.Expressions.{is_prefix, is_update, is_product, is_sum, is_equality, is_relation, is_assignment, is_property_name, is_literal_word, is_arrow, begins_expression, continues_expression, begins_member};
+ghost use Rattle.es_grammar.specs.Expressions.{is_prefix, is_update, is_product, is_sum, is_equality, is_relation, is_assignment, is_arrow, begins_expression, continues_expression, begins_member};
 ghost use Rattle.es_grammar.specs.Functions.{follows_pattern, starts_key};
 ghost use Rattle.es_grammar.specs.Statements.{is_variable_word, is_each, is_case};
 ghost use Rattle.es_guards.specs.Sight.{sight};
@@ -90,17 +90,6 @@ pub fn has_word(next: Option<Seen>) -> bool
 {
     match next {
         Some(seen) => kinds::is_word(seen.kind),
-        None => false,
-    }
-}
-
-/// A name or `this`.
-#[tactic(auto, unfolding(crate::specs::Sight::sight))]
-pub fn has_name_or_this(next: Option<Seen>) -> bool
-    ensures { result ≡ has_kind is_name_or_this (sight next) }
-{
-    match next {
-        Some(seen) => kinds::is_name_or_this(seen.kind),
         None => false,
     }
 }
@@ -200,28 +189,6 @@ pub fn has_assignment(next: Option<Seen>) -> bool
 {
     match next {
         Some(seen) => kinds::is_assignment(seen.kind),
-        None => false,
-    }
-}
-
-/// A name, or a private one.
-#[tactic(auto, unfolding(crate::specs::Sight::sight))]
-pub fn has_property_name(next: Option<Seen>) -> bool
-    ensures { result ≡ has_kind is_property_name (sight next) }
-{
-    match next {
-        Some(seen) => kinds::is_property_name(seen.kind),
-        None => false,
-    }
-}
-
-/// `this`, `null`, `true`, `false`
-#[tactic(auto, unfolding(crate::specs::Sight::sight))]
-pub fn has_literal_word(next: Option<Seen>) -> bool
-    ensures { result ≡ has_kind is_literal_word (sight next) }
-{
-    match next {
-        Some(seen) => kinds::is_literal_word(seen.kind),
         None => false,
     }
 }

@@ -1,4 +1,4 @@
-use Rattle.std.proofs.Common.{◌≤◌, ◌+◌, length, arith}
+use Rattle.std.proofs.Common.{◌+◌, arith}
 use Rattle.es_guards.specs.Sight.{sight}
 use Rattle.es_guards.proofs.TokenLemmas.{seen_past}
 use Rattle.es_guards.proofs.tokens.Tokens.seen_after.Goals as goal
