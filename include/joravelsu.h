@@ -1,6 +1,6 @@
 /* Module graphs and import sites of JavaScript and TypeScript. Link with -ljoravelsu.
  *
- * Each call works on what it is handed alone: it keeps no state, never ends the process, and may be called from several
+ * Each call works on its arguments alone: it keeps no state, never ends the process, and may be called from several
  * threads at a time, on rooms that no other call has at that time. It takes memory by malloc and frees all of it before it
  * returns. It may not be called from a signal handler.
  *
@@ -23,14 +23,14 @@ enum {
     JORAVELSU_DONE = 0,            /* the report or the sites were written */
     JORAVELSU_TOO_MANY_MODULES = 1,/* build: more is reached than the bundle allows; a line that says so was written */
     JORAVELSU_BAD_BUNDLE = 2,      /* build: over 16 MiB, no JSON, or no bundle; a line that says which was written */
-    JORAVELSU_NO_ROOM = 4,         /* a room is too small: nothing was written, and what is needed is told */
+    JORAVELSU_NO_ROOM = 4,         /* a room is too small: nothing was written, and the call answers what is needed */
     JORAVELSU_NO_MEMORY = 5,       /* out of memory: nothing was written */
     JORAVELSU_TOO_LONG = 6,        /* sites: the text is over 16 MiB */
     JORAVELSU_NO_UTF8 = 7,         /* sites: the text is no UTF-8 */
     JORAVELSU_NO_MEDIA_TYPE = 8,   /* sites: no media type has this number */
     JORAVELSU_NOT_READ = 9,        /* sites: sources of this media type aren't read yet */
-    JORAVELSU_LEXICAL_FAULT = 10,  /* sites: a part of the text is no token; the answer tells which fault, and where */
-    JORAVELSU_SYNTAX_FAULT = 11    /* sites: the tokens are no module of the grammar that is read today; the answer tells where
+    JORAVELSU_LEXICAL_FAULT = 10,  /* sites: a part of the text is no token; the answer says which fault, and where */
+    JORAVELSU_SYNTAX_FAULT = 11    /* sites: the tokens are no module of the grammar that is read today; the answer says where
                                       that was noticed (the one place that no proof covers) */
 };
 
@@ -80,7 +80,7 @@ typedef struct joravelsu_site {
     size_t value_end;
 } joravelsu_site;
 
-/* What joravelsu_sites tells beside its rooms. */
+/* What joravelsu_sites answers beside its rooms. */
 typedef struct joravelsu_answer {
     size_t sites;       /* how many sites the text has: what the room for sites must hold */
     size_t value_bytes; /* how many bytes their values have: what the room for values must hold */
@@ -88,7 +88,7 @@ typedef struct joravelsu_answer {
     size_t place;       /* where the fault is, else 0 */
 } joravelsu_answer;
 
-/* The report of the graph of a bundle, as docs/REPORT.md tells both.
+/* The report of the graph of a bundle, as docs/REPORT.md describes both.
  *
  * bundle, bundle_length: a bundle as JSON. Over 16 MiB is JORAVELSU_BAD_BUNDLE.
  * room, room_length: where the report is written, in UTF-8, not ended by a 0. It never has more than *needed bytes of it.
@@ -105,7 +105,7 @@ uint32_t joravelsu_build(const uint8_t *bundle, size_t bundle_length, uint8_t *r
  * media_type: JORAVELSU_TYPESCRIPT or another of its list.
  * sites, sites_length: a record for each site is written here; the length counts records.
  * values, values_length: the values of all sites are written here, one behind the other.
- * answer: always written; where a room is too small, it tells what both must hold.
+ * answer: always written; where a room is too small, it says what both must hold.
  *
  * Answers JORAVELSU_DONE, or why nothing was written into the rooms: JORAVELSU_NO_MEDIA_TYPE before _NOT_READ, _TOO_LONG,
  * _NO_UTF8, the fault, _NO_ROOM, in this order; JORAVELSU_NO_MEMORY at any time.
