@@ -42,7 +42,8 @@ behind_end text place some within is =
     (line_index-more text (place - 1) (omega arith) is)
 
 -- each place before the start of a line is in an earlier one
-pub before_start : (text : List ℕ) (line place pos : ℕ) → IsStart text line place → pos < place → line_index text pos < line
+pub before_start : (text : List ℕ) (line place pos : ℕ) → IsStart text line place → pos < place
+    → line_index text pos < line
 before_start text line place pos start early =
     let more = behind_end text place (omega arith) start.within (start.first (omega arith)) in
     let rises = line_index-mono text pos (place - 1) (omega arith) in
@@ -53,11 +54,13 @@ before_start text line place pos start early =
 pub HasStarts-first : (text : List ℕ) → HasStarts text 0 (0 ∷ [])
 HasStarts-first text = record {
   count = refl;
-  each = λ line inside. let e : line ≡ 0 = omega arith in rw e (record { within = omega arith; here = refl; first = λ some. absurd (omega (arith, some)) });
+  each = λ line inside. let e : line ≡ 0 = omega arith in
+      rw e (record { within = omega arith; here = refl; first = λ some. absurd (omega (arith, some)) });
 }
 
 -- a byte that ends no line starts none
-pub HasStarts-same : (text : List ℕ) (place : ℕ) (starts : List ℕ) → place < length text → (get_or text place 0 == 10) ≡ false
+pub HasStarts-same : (text : List ℕ) (place : ℕ) (starts : List ℕ) → place < length text
+    → (get_or text place 0 == 10) ≡ false
     → HasStarts text place starts → HasStarts text (place + 1) starts
 HasStarts-same text place starts inside other so_far = record {
   count = so_far.count ∙ ap (λ (n : ℕ). n + 1) (sym (line_index-same text place inside other));
@@ -75,7 +78,8 @@ each_push text starts place each last line inside =
     elim (eq-or-lt_of_le near) [
       | inl here ↦ subst (λ (p : ℕ). IsStart text line p) (sym (get_or_push starts place 0 line (sym here)))
           (subst (λ (n : ℕ). IsStart text n place) (sym here) last)
-      | inr early ↦ subst (λ (p : ℕ). IsStart text line p) (sym (get_or_append_left starts (place ∷ []) 0 line early)) (each line early)
+      | inr early ↦ subst (λ (p : ℕ). IsStart text line p) (sym (get_or_append_left starts (place ∷ []) 0 line early))
+          (each line early)
     ]
 
 -- behind a line end the next line starts
@@ -103,7 +107,9 @@ starts_by text starts pos line table inside order =
 has_started : (text starts : List ℕ) (pos line : ℕ) → IsTable text starts → line < length starts
     → line ≤ line_index text pos → get_or starts line 0 ≤ pos
 has_started text starts pos line table inside order =
-    let least : get_or starts line 0 < pos + 1 = lt_of_not-le (λ late. let early : line_index text pos < line = before_start text line (get_or starts line 0) pos (table.each line inside) (omega arith) in
+    let least : get_or starts line 0 < pos + 1 =
+    lt_of_not-le (λ late. let early : line_index text pos < line =
+    before_start text line (get_or starts line 0) pos (table.each line inside) (omega arith) in
     absurd (omega (arith, early, order))) in
     omega arith
 
@@ -121,8 +127,10 @@ pub lines_up_to : (text starts : List ℕ) (pos count : ℕ) → IsTable text st
 lines_up_to text starts pos count table within bound point =
     let all : line_index text pos ≤ line_index text (length text) = line_index-mono text pos (length text) within in
     let most : count < line_index text pos + 2 = lt_of_not-le (λ (many : line_index text pos + 2 ≤ count).
-    let passes : leb (get_or starts (line_index text pos + 1) 0) pos ≡ true = point.0 (line_index text pos + 1) 0 (omega arith) (omega arith) in
-    let early : line_index text pos + 1 ≤ line_index text pos = starts_by text starts pos (line_index text pos + 1) table (omega arith) (leb-true _ _ passes) in
+    let passes : leb (get_or starts (line_index text pos + 1) 0) pos ≡ true =
+    point.0 (line_index text pos + 1) 0 (omega arith) (omega arith) in
+    let early : line_index text pos + 1 ≤ line_index text pos =
+    starts_by text starts pos (line_index text pos + 1) table (omega arith) (leb-true _ _ passes) in
     absurd (omega (arith, early))) in
     let least : line_index text pos < count = lt_of_not-le (λ (few : count ≤ line_index text pos).
     let here : count < length starts = omega (arith, table.count, all) in
@@ -139,7 +147,8 @@ stops_before text line next start =
     let some : 0 < next = lt_of_not-le (λ (none : next ≤ 0). let e : next ≡ 0 = omega arith in
     let first : line_index text 0 ≡ line + 1 = subst (λ (p : ℕ). line_index text p ≡ line + 1) e start.here in
     absurd (omega (arith, first))) in
-    let more : line_index text next ≡ line_index text (next - 1) + 1 = behind_end text next some start.within (start.first some) in
+    let more : line_index text next ≡ line_index text (next - 1) + 1 =
+    behind_end text next some start.within (start.first some) in
     record {
       within = omega (arith, start.within);
       here = omega (arith, more, start.here);
@@ -147,7 +156,8 @@ stops_before text line next start =
     }
 
 -- the last line stops with the text
-pub stops_with_text : (text starts : List ℕ) (line : ℕ) → IsTable text starts → line ≤ last_line text → length starts ≤ line + 1
+pub stops_with_text : (text starts : List ℕ) (line : ℕ) → IsTable text starts → line ≤ last_line text
+    → length starts ≤ line + 1
     → IsStop text line (length text)
 stops_with_text text starts line table order none = record {
   within = omega arith;
@@ -156,7 +166,8 @@ stops_with_text text starts line table order none = record {
 }
 
 -- no place of a line stands before its start
-pub starts_first : (text : List ℕ) (line start pos : ℕ) → IsStart text line start → line_index text pos ≡ line → start ≤ pos
+pub starts_first : (text : List ℕ) (line start pos : ℕ) → IsStart text line start → line_index text pos ≡ line
+    → start ≤ pos
 starts_first text line start pos starts here =
     let least : start < pos + 1 = lt_of_not-le (λ (late : pos + 1 ≤ start).
     let early : line_index text pos < line = before_start text line start pos starts (omega arith) in
@@ -164,24 +175,28 @@ starts_first text line start pos starts here =
     omega arith
 
 -- and none behind the place where it stops
-pub stops_last : (text : List ℕ) (line stop pos : ℕ) → IsStop text line stop → pos ≤ length text → line_index text pos ≡ line
+pub stops_last : (text : List ℕ) (line stop pos : ℕ) → IsStop text line stop → pos ≤ length text
+    → line_index text pos ≡ line
     → pos ≤ stop
 stops_last text line stop pos stops within here =
     let most : pos < stop + 1 = lt_of_not-le (λ (late : stop + 1 ≤ pos).
-    let more : line_index text (stop + 1) ≡ line_index text stop + 1 = line_index-more text stop (omega arith) (stops.last (omega arith)) in
+    let more : line_index text (stop + 1) ≡ line_index text stop + 1 =
+    line_index-more text stop (omega arith) (stops.last (omega arith)) in
     let order : line_index text (stop + 1) ≤ line_index text pos = line_index-mono text (stop + 1) pos late in
     absurd (omega (arith, more, order, here, stops.here))) in
     omega arith
 
 -- ---- where a text may be cut
 -- the start of a line is between characters
-pub start_boundary : (text : List ℕ) (line start : ℕ) → IsUtf8 text → IsStart text line start → IsCharBoundary text start
+pub start_boundary : (text : List ℕ) (line start : ℕ) → IsUtf8 text → IsStart text line start
+    → IsCharBoundary text start
 start_boundary text line start utf8 starts =
     elim (eq-zero-or-pos start) [
       | inl none ↦ subst (IsCharBoundary text) (sym none) (IsCharBoundary-start text utf8)
       | inr some ↦ let back : start - 1 + 1 ≡ start = omega arith in
           subst (IsCharBoundary text) back
-          (IsCharBoundary-after_ascii text (start - 1) utf8 (omega (arith, starts.within, some)) (omega (arith, starts.first some)))
+          (IsCharBoundary-after_ascii text (start - 1) utf8 (omega (arith, starts.within, some))
+          (omega (arith, starts.first some)))
     ]
 
 -- so is the place where it stops
@@ -211,7 +226,8 @@ cuts_return text line start stop true tells starts stops =
     let told : (0 < stop) × (stop < length text) × (get_or text (stop - 1) 0 ≡ 13) = tells refl in
     let first : start ≤ stop = starts_first text line start stop starts stops.here in
     let apart : start < stop = lt_of_not-le (λ (late : stop ≤ start). let e : start ≡ stop = omega arith in
-    let ends : get_or text (stop - 1) 0 ≡ 10 = subst (λ (p : ℕ). get_or text (p - 1) 0 ≡ 10) e (starts.first (omega (arith, told.0))) in
+    let ends : get_or text (stop - 1) 0 ≡ 10 =
+    subst (λ (p : ℕ). get_or text (p - 1) 0 ≡ 10) e (starts.first (omega (arith, told.0))) in
     absurd (omega (arith, ends, told.2))) in
     record {
       order = omega arith;
@@ -225,7 +241,8 @@ return_tells : (text : List ℕ) (stop : ℕ)
 return_tells text stop holds = (grind (arith, nat_tests), grind (arith, nat_tests), grind (arith, nat_tests))
 
 -- from its start to its end a line can be cut out
-pub cuts_line : (text : List ℕ) (line start end : ℕ) → IsStart text line start → IsEnd text line end → CutsLine text start end
+pub cuts_line : (text : List ℕ) (line start end : ℕ) → IsStart text line start → IsEnd text line end
+    → CutsLine text start end
 cuts_line text line start end starts ends =
     subst (CutsLine text start) (sym ends.value)
     (cuts_return text line start ends.stop _ (return_tells text ends.stop) starts ends.stops)
@@ -233,11 +250,13 @@ cuts_line text line start end starts ends =
 -- a text has no more characters than bytes
 pub length-chars-le : (text : List ℕ) → IsUtf8 text → length (chars text) ≤ length text
 length-chars-le text utf8 =
-    subst (λ (bytes : List ℕ). length (chars text) ≤ length bytes) (encodes-chars text utf8) (length-le-encodes (chars text))
+    subst (λ (bytes : List ℕ). length (chars text) ≤ length bytes) (encodes-chars text utf8)
+    (length-le-encodes (chars text))
 
 -- ---- what is read of the table
 -- the same table of the same text
-pub table_at : (text text' starts starts' : List ℕ) → IsTable text starts → text ≡ text' → starts' ≡ starts → IsTable text' starts'
+pub table_at : (text text' starts starts' : List ℕ) → IsTable text starts → text ≡ text' → starts' ≡ starts
+    → IsTable text' starts'
 table_at text text' starts starts' table same is =
     subst (λ (list : List ℕ). IsTable text' list) (sym is) (subst (λ (bytes : List ℕ). IsTable bytes starts) same table)
 

@@ -60,23 +60,30 @@ not_empty x xs e = true≢false (ap filled e)
 
 -- ---- the first element
 -- an element that stands before the first one of a sorted list ties with none of it
-none_ties : {X : Type 0} (lt : X → X → Bool) → IsStrictWeakOrder lt → (y z : X) (zs : List X) → IsSortedBy lt (z ∷ zs) → lt y z ≡ true
+none_ties : {X : Type 0} (lt : X → X → Bool) → IsStrictWeakOrder lt → (y z : X) (zs : List X) → IsSortedBy lt (z ∷ zs)
+    → lt y z ≡ true
     → (k : ℕ) (d : X) → k < length (z ∷ zs) → ties lt y (get_or (z ∷ zs) k d) ≡ false
 none_ties lt order y z zs sorted before k d inside =
     elim (is_or_not (lt y (get_or (z ∷ zs) k d))) [
       | inl first ↦ ties_not lt y (get_or (z ∷ zs) k d) first
-      | inr late ↦ absurd (true≢false (sym before ∙ order.chain y (get_or (z ∷ zs) k d) z late (sorted_far lt order (z ∷ zs) sorted 0 k d (omega arith) inside)))
+      | inr late ↦ absurd (true≢false
+          (sym before ∙ order.chain y (get_or (z ∷ zs) k d) z late
+          (sorted_far lt order (z ∷ zs) sorted 0 k d (omega arith) inside)))
     ]
 
 -- where both lists have the same elements of each tie, the first of the one stands not before that of the other
-not_before : {X : Type 0} (lt : X → X → Bool) → IsStrictWeakOrder lt → (y z : X) (ys zs : List X) → IsSortedBy lt (z ∷ zs)
+not_before : {X : Type 0} (lt : X → X → Bool) → IsStrictWeakOrder lt → (y z : X) (ys zs : List X)
+    → IsSortedBy lt (z ∷ zs)
     → filter (ties lt y) (y ∷ ys) ≡ filter (ties lt y) (z ∷ zs) → lt y z ≡ false
 not_before {X} lt order y z ys zs sorted same =
     let itself : lt y y ≡ false = not_before_itself lt order y in
-    let one : filter (ties lt y) (y ∷ ys) ≡ y ∷ filter (ties lt y) ys = first_kept lt y y ys (ties_both lt y y itself itself) in
+    let one : filter (ties lt y) (y ∷ ys) ≡ y ∷ filter (ties lt y) ys =
+    first_kept lt y y ys (ties_both lt y y itself itself) in
     elim (is_or_not (lt y z)) [
       | inr not_so ↦ not_so
-      | inl before ↦ absurd (not_empty y (filter (ties lt y) ys) (sym one ∙ same ∙ none_kept (ties lt y) (z ∷ zs) (none_ties lt order y z zs sorted before)))
+      | inl before ↦ absurd
+          (not_empty y (filter (ties lt y) ys)
+          (sym one ∙ same ∙ none_kept (ties lt y) (z ∷ zs) (none_ties lt order y z zs sorted before)))
     ]
 
 -- the one first element is the other
@@ -88,7 +95,8 @@ same_first lt order y z ys zs ups downs same =
     let left : lt z y ≡ false = not_before lt order z y zs ys ups (sym (same z)) in
     let itself : lt y y ≡ false = not_before_itself lt order y in
     let both : y ∷ filter (ties lt y) ys ≡ z ∷ filter (ties lt y) zs =
-    sym (first_kept lt y y ys (ties_both lt y y itself itself)) ∙ same y ∙ first_kept lt y z zs (ties_both lt y z right left) in
+    sym (first_kept lt y y ys (ties_both lt y y itself itself)) ∙ same y
+    ∙ first_kept lt y z zs (ties_both lt y z right left) in
     ap (λ list. get_or list 0 y) both
 
 -- two sorted lists with the same elements of each tie, in the same order, are one
@@ -97,13 +105,15 @@ pub one_sorted : {X : Type 0} (lt : X → X → Bool) → IsStrictWeakOrder lt �
 one_sorted lt order [] [] ups downs same = refl
 one_sorted lt order [] (z ∷ zs) ups downs same =
     let itself = not_before_itself lt order z in
-    absurd (not_empty z (filter (ties lt z) zs) (sym (first_kept lt z z zs (ties_both lt z z itself itself)) ∙ sym (same z)))
+    absurd (not_empty z (filter (ties lt z) zs)
+    (sym (first_kept lt z z zs (ties_both lt z z itself itself)) ∙ sym (same z)))
 one_sorted lt order (y ∷ ys) [] ups downs same =
     let itself = not_before_itself lt order y in
     absurd (not_empty y (filter (ties lt y) ys) (sym (first_kept lt y y ys (ties_both lt y y itself itself)) ∙ same y))
 one_sorted {X} lt order (y ∷ ys) (z ∷ zs) ups downs same =
     let first : y ≡ z = same_first lt order y z ys zs ups downs same in
     let behind : (x : X) → filter (ties lt x) ys ≡ filter (ties lt x) zs =
-    λ x. rest_kept (ties lt x y) y (filter (ties lt x) ys) (filter (ties lt x) zs) (same x ∙ ap (λ w. filter (ties lt x) (w ∷ zs)) (sym first)) in
+    λ x. rest_kept (ties lt x y) y (filter (ties lt x) ys) (filter (ties lt x) zs)
+    (same x ∙ ap (λ w. filter (ties lt x) (w ∷ zs)) (sym first)) in
     let rest : ys ≡ zs = one_sorted lt order ys zs (sorted_rest lt y ys ups) (sorted_rest lt z zs downs) behind in
     ap (λ w. w ∷ ys) first ∙ ap (λ list. z ∷ list) rest

@@ -11,10 +11,12 @@ use Rattle.text_changes.proofs.OrderLemmas.{one_sorted}
 orders : IsStrictWeakOrder is_before
 orders =
     ranks_by
-    (then_total (on_total (λ (c : TextChange). c.range.start) nat_cmp_total) (on_total (λ (c : TextChange). c.range.end) nat_cmp_total))
+    (then_total (on_total (λ (c : TextChange). c.range.start) nat_cmp_total)
+    (on_total (λ (c : TextChange). c.range.end) nat_cmp_total))
     (λ (c : TextChange). c)
 
 -- given changes have one order
-pub one_order : (given first second : List TextChange) → AreInOrder given first → AreInOrder given second → first ≡ second
+pub one_order : (given first second : List TextChange) → AreInOrder given first → AreInOrder given second
+    → first ≡ second
 one_order given first second one other =
     one_sorted is_before orders first second one.ascending other.ascending (λ x. one.stable x ∙ sym (other.stable x))

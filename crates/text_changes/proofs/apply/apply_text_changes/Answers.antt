@@ -10,5 +10,7 @@ returns-clause-unchanged c =
     λ none. IfOk-weaker c.applied.result
     (λ text. string_bytes text ≡ changed c.args.source.now 0 c.as_slice.result.now)
     (λ text. string_bytes text ≡ c.args.source.now)
-    (λ text is. is ∙ ap (changed c.args.source.now 0) c.as_slice.ensures.value ∙ changed-none c.args.source.now c.args.changes.items c.in_ok-changes.changes.items none c.in_ok-changes.ensures)
+    (λ text is. is ∙ ap (changed c.args.source.now 0) c.as_slice.ensures.value
+    ∙ changed-none c.args.source.now c.args.changes.items c.in_ok-changes.changes.items none
+    c.in_ok-changes.ensures)
     c.applied.ensures.value

@@ -6,6 +6,8 @@ use Rattle.text_changes.proofs.apply.in_order.Goals as goal
 pub returns : goal.returns
 returns c = record {
   same = c.in_ok-sort_by_key.ensures.permutation;
-  ascending = c.in_ok-sort_by_key.ensures.sorted (λ p. record { 0 = p.range.start; 1 = p.range.end }) (answers_always _ _ _ (λ f a r g h. search rules));
-  stable = c.in_ok-sort_by_key.ensures.stable (λ p. record { 0 = p.range.start; 1 = p.range.end }) (answers_always _ _ _ (λ f a r g h. search rules));
+  ascending = c.in_ok-sort_by_key.ensures.sorted (λ p. record { 0 = p.range.start; 1 = p.range.end })
+      (answers_always _ _ _ (λ f a r g h. search rules));
+  stable = c.in_ok-sort_by_key.ensures.stable (λ p. record { 0 = p.range.start; 1 = p.range.end })
+      (answers_always _ _ _ (λ f a r g h. search rules));
 }
