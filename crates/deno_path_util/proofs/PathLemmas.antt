@@ -159,18 +159,18 @@ names_joined base path =
 -- ---- the last name
 
 -- a part that is kept as a name
-pub record IsKept (name : List ℕ) : Type 0 where
+pub record IsName (name : List ℕ) : Type 0 where
   pub said : is_nothing name ≡ false
   pub down : bytes_eq name parent_dir ≡ false
 
-kept_after : (names : List (List ℕ)) (name : List ℕ) → IsKept name → after_part names name ≡ names ++ name ∷ []
+kept_after : (names : List (List ℕ)) (name : List ℕ) → IsName name → after_part names name ≡ names ++ name ∷ []
 kept_after names name is = cond-false _ _ _ is.said ∙ cond-false _ _ _ is.down
 
 -- the path ends with this name
 pub record EndsWith (name path : List ℕ) : Type 0 where
   pub front : List (List ℕ)
   pub names : path_names path ≡ front ++ name ∷ []
-  pub kept : IsKept name
+  pub kept : IsName name
 
 -- a path that ends with a name does so from each folder, normalized
 names_in : (folder name path : List ℕ) → EndsWith name path → (front : List (List ℕ)) × (names_of (path_in folder path) ≡ front ++ name ∷ [])

@@ -2,7 +2,7 @@
 use Rattle.std.proofs.Common.{◌≡◌, ◌≤◌, ◌<◌, ℕ, Option, None, Some, ◌⊎◌, inl, inr, subst, sym, refl, arith}
 use Rattle.sys_traits.specs.declared.error.SysErrorKind.{SysErrorKind}
 use Rattle.sys_traits.specs.declared.error.SysErrorKind.TheVariants.{NotFound, Failed, OutOfMemory}
-use Rattle.sys_traits.specs.State.{Told, WhereTold, IsCounted}
+use Rattle.sys_traits.specs.State.{Told, WhereTold, CountsFault}
 use Rattle.deno_path_util.specs.Course.{UnlessWant, IsFault}
 
 pub told_map : (R Q : Told → Told → Type 0) → ((a b : Told) → R a b → Q a b) → (x y : Option Told) → WhereTold R x y → WhereTold Q x y
@@ -46,24 +46,24 @@ ended_by A B Failed f h = h
 ended_by A B OutOfMemory f h = absurd f
 
 -- the count rose, or memory ran out, and then it didn't fall
-pub counted_on : (kind : SysErrorKind) (old between new : ℕ) → IsCounted (Some kind) old between → between ≤ new → IsCounted (Some kind) old new
+pub counted_on : (kind : SysErrorKind) (old between new : ℕ) → CountsFault (Some kind) old between → between ≤ new → CountsFault (Some kind) old new
 counted_on NotFound old between new h l = omega arith
 counted_on Failed old between new h l = omega arith
 counted_on OutOfMemory old between new h l = omega arith
 
 -- the count never falls
-pub falls_never : (kind : SysErrorKind) (old new : ℕ) → IsCounted (Some kind) old new → old ≤ new
+pub falls_never : (kind : SysErrorKind) (old new : ℕ) → CountsFault (Some kind) old new → old ≤ new
 falls_never NotFound old new h = omega arith
 falls_never Failed old new h = omega arith
 falls_never OutOfMemory old new h = h
 
 pub counted_or : (kind answered : SysErrorKind) (old between new : ℕ) → (answered ≡ kind) ⊎ (answered ≡ OutOfMemory)
-    → IsCounted (Some kind) old between → between ≤ new → IsCounted (Some answered) old new
-counted_or kind answered old between new (inl e) h l = subst (λ k. IsCounted (Some k) old new) (sym e) (counted_on kind old between new h l)
+    → CountsFault (Some kind) old between → between ≤ new → CountsFault (Some answered) old new
+counted_or kind answered old between new (inl e) h l = subst (λ k. CountsFault (Some k) old new) (sym e) (counted_on kind old between new h l)
 counted_or kind answered old between new (inr e) h l =
-    subst (λ k. IsCounted (Some k) old new) (sym e) (let h' = falls_never kind old between h in omega arith)
+    subst (λ k. CountsFault (Some k) old new) (sym e) (let h' = falls_never kind old between h in omega arith)
 
-pub counted_after : (kind : SysErrorKind) (old between new : ℕ) → old ≤ between → IsCounted (Some kind) between new → IsCounted (Some kind) old new
+pub counted_after : (kind : SysErrorKind) (old between new : ℕ) → old ≤ between → CountsFault (Some kind) between new → CountsFault (Some kind) old new
 counted_after NotFound old between new l h = omega arith
 counted_after Failed old between new l h = omega arith
 counted_after OutOfMemory old between new l h = omega arith
@@ -75,7 +75,7 @@ fault_unless Failed n = tt
 fault_unless OutOfMemory n = absurd (n refl)
 
 -- the system's refusal raises the count
-pub counted_fault : (kind : SysErrorKind) (old new : ℕ) → IsFault kind → IsCounted (Some kind) old new → old < new
+pub counted_fault : (kind : SysErrorKind) (old new : ℕ) → IsFault kind → CountsFault (Some kind) old new → old < new
 counted_fault NotFound old new f h = omega arith
 counted_fault Failed old new f h = omega arith
 counted_fault OutOfMemory old new f h = absurd f

@@ -5,7 +5,7 @@ use Rattle.sys_traits.specs.declared.error.SysErrorKind.TheVariants.{NotFound, F
 use Rattle.sys_traits.specs.declared.error.SysError.{SysError}
 use Rattle.sys_traits.specs.declared.call.SysCallKind.TheVariants.{Sleep}
 use Rattle.sys_traits.specs.Paths.{Path}
-use Rattle.sys_traits.specs.State.{Told, WhereTold, refusal_of, IsCounted}
+use Rattle.sys_traits.specs.State.{Told, WhereTold, refusal_of, CountsFault}
 use Rattle.sys_traits.specs.Calls.{Slept}
 use Rattle.deno_path_util.specs.Course.{Deed, sleeping, IsFault, IsWrite}
 use Rattle.deno_path_util.specs.Tries.{IsLast, IsRefusedTry, IsSleepless, IsTried, IsCountedSix}
@@ -84,7 +84,7 @@ told_sleepless path content mode more ms e o fault want x y z w h k l =
     (λ xs ys before v. before (Err o) ys (inr (inr (record { error = e; fault = fault; write = v; want = ap (λ t. Some t) want })))) a b c p
     (stretch_are path content (Err e) (Err o) (IsWrite {A = Unit {0}} path mode (Err e)) (IsWrite {A = Unit {0}} path mode (Err e)) (λ p f. refl) (λ xs v. v) b c q))) x y z w h k l
 
-pub counted_six : (kind : SysErrorKind) (old between new : ℕ) → old + 5 ≤ between → IsCounted (Some kind) between new → IsCountedSix (Some kind) old new
+pub counted_six : (kind : SysErrorKind) (old between new : ℕ) → old + 5 ≤ between → CountsFault (Some kind) between new → IsCountedSix (Some kind) old new
 counted_six NotFound old between new l h = omega arith
 counted_six Failed old between new l h = omega arith
 counted_six OutOfMemory old between new l h = omega arith

@@ -1,6 +1,6 @@
 //! Files that are replaced in one step.
 ghost use Rattle.std.specs.Prelude.{◌≡◌, ◌≤◌, IsSome};
-ghost use Rattle.sys_traits.specs.State.{WhereTold, refusal_of, IsCounted};
+ghost use Rattle.sys_traits.specs.State.{WhereTold, refusal_of, CountsFault};
 ghost use Rattle.lexical_path.specs.Paths.{file_name};
 ghost use Rattle.deno_path_util.specs.Atomic.{atomic_path};
 ghost use Rattle.deno_path_util.specs.Course.{IsWrite, IsFault};
@@ -34,7 +34,7 @@ pub fn atomic_write_file<S: AtomicWriteFileSys>(
     requires { IsSome (file_name file_path.now) }
     ensures law { WhereTold (WriteLaw file_path.now bytes.now result) (S.told sys.old) (S.told sys.new) }
     ensures calls { WhereTold (HasCalls (IsWrite file_path.now mode result)) (S.told sys.old) (S.told sys.new) }
-    ensures faults { IsCounted (refusal_of result) (S.faults sys.old) (S.faults sys.new) }
+    ensures faults { CountsFault (refusal_of result) (S.faults sys.old) (S.faults sys.new) }
 {
     write_file(alloc, sys, file_path, bytes, mode)
 }
@@ -48,7 +48,7 @@ pub fn write_file<S: AtomicWriteFileSys>(
     mode: u32,
 ) -> Result<(), SysError>
     requires { IsSome (file_name path.now) }
-    ensures counts { IsCounted (refusal_of result) (S.faults sys.old) (S.faults sys.new) }
+    ensures counts { CountsFault (refusal_of result) (S.faults sys.old) (S.faults sys.new) }
     ensures tells { WhereTold (Stretch path.now bytes.now result (IsWrite path.now mode result))
         (S.told sys.old) (S.told sys.new) }
 {
@@ -66,7 +66,7 @@ fn write_over<S: AtomicWriteFileSys>(
     mode: u32,
 ) -> Result<(), SysError>
     requires { IsApart temporary.now path.now }
-    ensures counts { IsCounted (refusal_of result) (S.faults sys.old) (S.faults sys.new) }
+    ensures counts { CountsFault (refusal_of result) (S.faults sys.old) (S.faults sys.new) }
     ensures tells { WhereTold (Stretch path.now bytes.now result (IsOver temporary.now path.now mode result))
         (S.told sys.old) (S.told sys.new) }
 {
@@ -93,7 +93,7 @@ fn write_again<S: AtomicWriteFileSys>(
 ) -> Result<(), SysError>
     requires apart { IsApart temporary.now path.now }
     requires missing { first.kind ≡ SysErrorKind.NotFound }
-    ensures counts { IsCounted (refusal_of result) (S.faults sys.old) (S.faults sys.new) }
+    ensures counts { CountsFault (refusal_of result) (S.faults sys.old) (S.faults sys.new) }
     ensures tells { WhereTold (Stretch path.now bytes.now result (IsOverAfter temporary.now path.now mode result))
         (S.told sys.old) (S.told sys.new) }
 {

@@ -1,7 +1,7 @@
 //! The real path of a path that need not be there.
 ghost use Rattle.std.specs.Prelude.{◌≡◌, IfOk, string_bytes};
 ghost use Rattle.lexical_path.specs.Paths.{joined_path, texts};
-ghost use Rattle.sys_traits.specs.State.{WhereTold, refusal_of, IsCounted};
+ghost use Rattle.sys_traits.specs.State.{WhereTold, refusal_of, CountsFault};
 ghost use Rattle.deno_path_util.specs.Climb.{IsClimbed};
 ghost use Rattle.deno_path_util.specs.Climb as spec;
 ghost use Rattle.deno_path_util.specs.WriteLaw.{HasCalls, KeepsAll};
@@ -23,14 +23,14 @@ pub fn canonicalize_path_maybe_not_exists<S: FsCanonicalize>(
 ) -> Result<String, SysError>
     ensures calls { WhereTold (HasCalls (IsClimbed path.now result)) (S.told sys.old) (S.told sys.new) }
     ensures files { WhereTold KeepsAll (S.told sys.old) (S.told sys.new) }
-    ensures faults { IsCounted (refusal_of result) (S.faults sys.old) (S.faults sys.new) }
+    ensures faults { CountsFault (refusal_of result) (S.faults sys.old) (S.faults sys.new) }
 {
     climb(alloc, sys, path)
 }
 
 // The same, its calls told in one.
 fn climb<S: FsCanonicalize>(alloc: Global, sys: &mut S, path: &str) -> Result<String, SysError>
-    ensures counts { IsCounted (refusal_of result) (S.faults sys.old) (S.faults sys.new) }
+    ensures counts { CountsFault (refusal_of result) (S.faults sys.old) (S.faults sys.new) }
     ensures tells { WhereTold (Quiet (IsClimbed path.now result)) (S.told sys.old) (S.told sys.new) }
 {
     // The names that aren't there, the last one first.

@@ -1,6 +1,6 @@
 //! One pass of an atomic write: the temporary file is opened, written and renamed.
 ghost use Rattle.std.specs.Prelude.{◌≡◌, ◌≤◌, ◌⊎◌};
-ghost use Rattle.sys_traits.specs.State.{WhereTold, refusal_of, IsCounted};
+ghost use Rattle.sys_traits.specs.State.{WhereTold, refusal_of, CountsFault};
 ghost use Rattle.deno_path_util.specs.Steps.{Stretch, IsApart, IsPassed, IsTakenAway};
 
 use sys_traits::{AtomicWriteFileSys, FsOpen, FsRemoveFile, FsRename, SysError, SysErrorKind};
@@ -15,7 +15,7 @@ pub fn pass<S: AtomicWriteFileSys>(
     mode: u32,
 ) -> Result<(), SysError>
     requires { IsApart temporary.now path.now }
-    ensures counts { IsCounted (refusal_of result) (S.faults sys.old) (S.faults sys.new) }
+    ensures counts { CountsFault (refusal_of result) (S.faults sys.old) (S.faults sys.new) }
     ensures tells { WhereTold (Stretch path.now bytes.now result
         (IsPassed temporary.now path.now mode (refusal_of result))) (S.told sys.old) (S.told sys.new) }
 {

@@ -1,6 +1,6 @@
 //! The atomic write, tried several times.
 ghost use Rattle.std.specs.Prelude.{◌≡◌, ◌≤◌, IsSome};
-ghost use Rattle.sys_traits.specs.State.{WhereTold, refusal_of, IsCounted};
+ghost use Rattle.sys_traits.specs.State.{WhereTold, refusal_of, CountsFault};
 ghost use Rattle.lexical_path.specs.Paths.{file_name};
 ghost use Rattle.deno_path_util.specs.WriteLaw.{WriteLaw, HasCalls};
 ghost use Rattle.deno_path_util.specs.Tries.{IsTried, IsCountedSix};

@@ -1,6 +1,6 @@
 //! The temporary path beside a file.
 ghost use Rattle.std.specs.Prelude.{◌≡◌, ℕ, ◌<◌, IfOk, IsSome, length, map, string_bytes, Result};
-ghost use Rattle.sys_traits.specs.State.{WhereTold, refusal_of, IsCounted};
+ghost use Rattle.sys_traits.specs.State.{WhereTold, refusal_of, CountsFault};
 ghost use Rattle.lexical_path.specs.Paths.{file_name};
 ghost use Rattle.deno_path_util.specs.Atomic.{atomic_path, IsTemporaryPath};
 ghost use Rattle.deno_path_util.specs.Atomic as spec;
@@ -23,7 +23,7 @@ pub fn get_atomic_path<S: SystemRandom>(
     ensures path { IfOk result (λ temporary. IsTemporaryPath path.now (string_bytes temporary)) }
     ensures calls { WhereTold (HasCalls (IsTemporary path.now result)) (S.told sys.old) (S.told sys.new) }
     ensures files { WhereTold KeepsAll (S.told sys.old) (S.told sys.new) }
-    ensures faults { IsCounted (refusal_of result) (S.faults sys.old) (S.faults sys.new) }
+    ensures faults { CountsFault (refusal_of result) (S.faults sys.old) (S.faults sys.new) }
 {
     temporary_path(alloc, sys, path)
 }
@@ -37,7 +37,7 @@ pub fn temporary_path<S: SystemRandom>(
     requires { IsSome (file_name path.now) }
     ensures path { IfOk result (λ temporary. IsTemporaryPath path.now (string_bytes temporary)) }
     ensures tells { WhereTold (Quiet (IsTemporary path.now result)) (S.told sys.old) (S.told sys.new) }
-    ensures counts { IsCounted (refusal_of result) (S.faults sys.old) (S.faults sys.new) }
+    ensures counts { CountsFault (refusal_of result) (S.faults sys.old) (S.faults sys.new) }
 {
     let bytes = four_bytes(sys)?;
     match beside(alloc, path, &bytes) {
@@ -48,7 +48,7 @@ pub fn temporary_path<S: SystemRandom>(
 
 fn four_bytes<S: SystemRandom>(sys: &mut S) -> Result<[u8; 4], SysError>
     ensures four { IfOk result (λ bytes. length bytes ≡ 4) }
-    ensures counts { IsCounted (refusal_of result) (S.faults sys.old) (S.faults sys.new) }
+    ensures counts { CountsFault (refusal_of result) (S.faults sys.old) (S.faults sys.new) }
     ensures tells { WhereTold (Quiet (IsFour result)) (S.told sys.old) (S.told sys.new) }
 {
     let first = sys.sys_random_u8()?;

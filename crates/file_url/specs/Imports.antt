@@ -21,15 +21,15 @@ refusal url.Overflow = OutOfMemory
 refusal e = InvalidUrl e
 
 -- a URL is the target, and a refusal is the reason that there is none
-abbrev pub target_of : Parsed Parts → Resolved
-target_of (Ok url) = Ok url
-target_of (Err e) = Err (refusal e)
+abbrev pub resolved_as : Parsed Parts → Resolved
+resolved_as (Ok url) = Ok url
+resolved_as (Err e) = Err (refusal e)
 
 -- a text that is no URL: joined to its referrer if it begins with `/`, `./` or `../`
 abbrev pub relative_import : Parsed Parts → List ℕ → Resolved
 relative_import referrer text =
     if has_relative_prefix text
-    then target_of (and_then referrer (λ base. parse_url (Some base) text))
+    then resolved_as (and_then referrer (λ base. parse_url (Some base) text))
     else Err (ImportPrefixMissing text)
 
 -- by what reading the text gave: a URL stands for itself

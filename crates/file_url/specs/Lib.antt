@@ -1,5 +1,5 @@
 -- ---- what the public contracts rest on
-pub mod Answers
+pub mod Expected
 pub mod Imports
 pub mod FileUrls
 pub mod WindowsPaths

@@ -66,9 +66,9 @@ IsNoPath url (Url kept) = (kept ≡ url) × LacksPath url
 IsNoPath url OutOfMemory = Unit {0}
 
 -- the URL is kept, unless memory runs out
-abbrev pub IsKept : Parts → UrlToFilePathError → Type 0
-IsKept url (Url kept) = kept ≡ url
-IsKept url OutOfMemory = Unit {0}
+abbrev pub KeepsUrl : Parts → UrlToFilePathError → Type 0
+KeepsUrl url (Url kept) = kept ≡ url
+KeepsUrl url OutOfMemory = Unit {0}
 
 -- the path of a URL that has one, or why it has none
 abbrev pub IsPathOf : {A : Type 0} → Parts → Result (String A) UrlToFilePathError → Type 0

@@ -4,7 +4,7 @@ ghost use Rattle.std.specs.Cow.{cow_str_bytes};
 ghost use Rattle.lexical_path.specs.Paths.{texts, joined_path};
 ghost use Rattle.file_url.specs.declared.errors.PathToUrlError.TheVariants as to_url;
 ghost use Rattle.file_url.specs.declared.errors.ResolveUrlOrPathError.TheVariants as resolve;
-ghost use Rattle.file_url.specs.Answers.{Answers};
+ghost use Rattle.file_url.specs.Expected.{IsExpected};
 ghost use Rattle.file_url.specs.FileUrls as spec;
 
 use crate::errors::{PathToUrlError, ResolveUrlOrPathError};
@@ -19,27 +19,27 @@ use url::{ParseError, Url};
 ///
 /// `Path` of the normalized path exactly where that doesn't begin with `/`.
 pub fn url_from_file_path(alloc: Global, path: &str) -> Result<Url, PathToUrlError>
-    ensures { Answers to_url.OutOfMemory result (spec.url_of_path false path.now) }
+    ensures { IsExpected to_url.OutOfMemory result (spec.url_of_path false path.now) }
 {
     url_from_path(alloc, path, false)
 }
 
 /// The URL of a folder's path, which ends with `/`; else as `url_from_file_path`.
 pub fn url_from_directory_path(alloc: Global, path: &str) -> Result<Url, PathToUrlError>
-    ensures { Answers to_url.OutOfMemory result (spec.url_of_path true path.now) }
+    ensures { IsExpected to_url.OutOfMemory result (spec.url_of_path true path.now) }
 {
     url_from_path(alloc, path, true)
 }
 
 fn url_from_path(alloc: Global, path: &str, folder: bool) -> Result<Url, PathToUrlError>
-    ensures { Answers to_url.OutOfMemory result (spec.url_of_path folder path.now) }
+    ensures { IsExpected to_url.OutOfMemory result (spec.url_of_path folder path.now) }
 {
     let normal = normalize_path(alloc, CowStr::Borrowed(path))?;
     url_from_normal(alloc, normal.as_str(), folder)
 }
 
 fn url_from_normal(alloc: Global, path: &str, folder: bool) -> Result<Url, PathToUrlError>
-    ensures { Answers to_url.OutOfMemory result (spec.url_of_normal folder path.now) }
+    ensures { IsExpected to_url.OutOfMemory result (spec.url_of_normal folder path.now) }
 {
     if !path.starts_with('/') {
         let path = Text::from_str(alloc, path)?;
@@ -60,7 +60,7 @@ pub fn plain_parts(alloc: Global, path: &str) -> Result<Vec<&str>, AllocError>
 
 /// The URL of a path as seen from the current folder, as `url_from_file_path`.
 pub fn resolve_path(alloc: Global, path_str: &str, current_dir: &str) -> Result<Url, PathToUrlError>
-    ensures { Answers to_url.OutOfMemory result (spec.url_of_path false (joined_path current_dir.now path_str.now)) }
+    ensures { IsExpected to_url.OutOfMemory result (spec.url_of_path false (joined_path current_dir.now path_str.now)) }
 {
     let path = join_path(alloc, current_dir, path_str)?;
     url_from_file_path(alloc, path.as_str())
@@ -74,7 +74,7 @@ pub fn resolve_url_or_path(
     specifier: &str,
     current_dir: &str,
 ) -> Result<Url, ResolveUrlOrPathError>
-    ensures value { Answers resolve.OutOfMemory result (spec.url_or_path specifier.now current_dir.now) }
+    ensures value { IsExpected resolve.OutOfMemory result (spec.url_or_path specifier.now current_dir.now) }
     ensures reason { IfErr result spec.KeepsReason }
 {
     if specifier_has_uri_scheme(specifier) {

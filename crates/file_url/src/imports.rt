@@ -2,7 +2,7 @@
 ghost use Rattle.std.specs.Prelude.{◌≡◌, Ok, IfErr};
 ghost use Rattle.url.specs.Parts.{Parts};
 ghost use Rattle.url.specs.Parser.{parse_url};
-ghost use Rattle.file_url.specs.Answers.{Answers};
+ghost use Rattle.file_url.specs.Expected.{IsExpected};
 ghost use Rattle.file_url.specs.declared.errors.SpecifierError.TheVariants.{OutOfMemory};
 ghost use Rattle.file_url.specs.Imports as spec;
 
@@ -16,7 +16,7 @@ use url::{ParseError, Url};
 /// begins with `/`, `./` or `../` (HTML, "resolve a module specifier", without an import map).
 #[tactic(auto, unfolding(crate::specs::Imports::import_of), using(crate::proofs::ImportsLemmas::import_refused, crate::proofs::ImportsLemmas::refusal_keeps))]
 pub fn resolve_import(alloc: Global, specifier: &str, referrer: &Url) -> Result<Url, SpecifierError>
-    ensures value { Answers OutOfMemory result (spec.import_of (Ok referrer.now) specifier.now) }
+    ensures value { IsExpected OutOfMemory result (spec.import_of (Ok referrer.now) specifier.now) }
     ensures reason { IfErr result spec.KeepsReason }
 {
     match Url::parse(alloc, specifier) {
@@ -33,7 +33,7 @@ pub fn resolve_import_from(
     specifier: &str,
     referrer: &Result<Url, ParseError>,
 ) -> Result<Url, SpecifierError>
-    ensures value { Answers OutOfMemory result (spec.import_of referrer.now specifier.now) }
+    ensures value { IsExpected OutOfMemory result (spec.import_of referrer.now specifier.now) }
     ensures reason { IfErr result spec.KeepsReason }
 {
     match referrer {
@@ -43,7 +43,7 @@ pub fn resolve_import_from(
 }
 
 fn resolve_relative(alloc: Global, specifier: &str, referrer: &Url) -> Result<Url, SpecifierError>
-    ensures value { Answers OutOfMemory result (spec.relative_import (Ok referrer.now) specifier.now) }
+    ensures value { IsExpected OutOfMemory result (spec.relative_import (Ok referrer.now) specifier.now) }
     ensures reason { IfErr result spec.KeepsReason }
 {
     if !has_relative_prefix(specifier) {
@@ -61,7 +61,7 @@ fn refused_unless_absolute(
     specifier: &str,
     error: ParseError,
 ) -> Result<Url, SpecifierError>
-    ensures value { Answers OutOfMemory result (spec.import_of (Err error) specifier.now) }
+    ensures value { IsExpected OutOfMemory result (spec.import_of (Err error) specifier.now) }
     ensures reason { IfErr result spec.KeepsReason }
 {
     match Url::parse(alloc, specifier) {

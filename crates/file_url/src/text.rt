@@ -3,7 +3,7 @@ ghost use Rattle.std.specs.Prelude.{◌≡◌, [], ◌++◌, codes, None, IfOk, 
 ghost use Rattle.std.specs.List.{flat_map};
 ghost use Rattle.lexical_path.specs.Paths.{texts};
 ghost use Rattle.file_url.specs.declared.errors.PathToUrlError.TheVariants.{OutOfMemory};
-ghost use Rattle.file_url.specs.Answers.{Answers};
+ghost use Rattle.file_url.specs.Expected.{IsExpected};
 ghost use Rattle.file_url.specs.FileUrls as spec;
 
 use crate::errors::PathToUrlError;
@@ -19,7 +19,7 @@ pub fn file_url(
     folder: bool,
     names: &[&str],
 ) -> Result<Url, PathToUrlError>
-    ensures { Answers OutOfMemory result (spec.file_url host.now folder (texts names.now)) }
+    ensures { IsExpected OutOfMemory result (spec.file_url host.now folder (texts names.now)) }
 {
     let text = file_text(alloc, host, folder, names)?;
     match Url::parse(alloc, text.as_str()) {

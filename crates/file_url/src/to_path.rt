@@ -81,7 +81,7 @@ pub fn url_to_file_path(alloc: Global, url: &Url) -> Result<String, UrlToFilePat
 }
 
 fn kept(url: &Url) -> UrlToFilePathError
-    ensures { spec.IsKept url.now result }
+    ensures { spec.KeepsUrl url.now result }
 {
     match url.clone() {
         Ok(url) => UrlToFilePathError::Url(url),

@@ -4,7 +4,7 @@ ghost use Rattle.std.specs.List.{flat_map, list_all, list_any, prefix_len};
 ghost use Rattle.lexical_path.specs.Paths.{texts, path_of};
 ghost use Rattle.lexical_path.specs.Specifiers.{begins};
 ghost use Rattle.file_url.specs.declared.errors.PathToUrlError.TheVariants.{OutOfMemory};
-ghost use Rattle.file_url.specs.Answers.{Answers};
+ghost use Rattle.file_url.specs.Expected.{IsExpected};
 ghost use Rattle.file_url.specs.WindowsPaths as spec;
 
 use crate::errors::PathToUrlError;
@@ -21,21 +21,21 @@ use url::{ParseError, Url};
 ///
 /// `Path` of the path exactly where it has no backslash and a component is `.` or `..`.
 pub fn url_from_file_path_wasm(alloc: Global, path: &str) -> Result<Url, PathToUrlError>
-    ensures { Answers OutOfMemory result (spec.wasm_url_of_path false path.now) }
+    ensures { IsExpected OutOfMemory result (spec.wasm_url_of_path false path.now) }
 {
     url_from_path_wasm(alloc, path, false)
 }
 
 /// The URL of a folder's path, which ends with `/`; else as `url_from_file_path_wasm`.
 pub fn url_from_directory_path_wasm(alloc: Global, path: &str) -> Result<Url, PathToUrlError>
-    ensures { Answers OutOfMemory result (spec.wasm_url_of_path true path.now) }
+    ensures { IsExpected OutOfMemory result (spec.wasm_url_of_path true path.now) }
 {
     url_from_path_wasm(alloc, path, true)
 }
 
 #[tactic(auto, unfolding(crate::specs::WindowsPaths::wasm_url_of_path))]
 fn url_from_path_wasm(alloc: Global, path: &str, folder: bool) -> Result<Url, PathToUrlError>
-    ensures { Answers OutOfMemory result (spec.wasm_url_of_path folder path.now) }
+    ensures { IsExpected OutOfMemory result (spec.wasm_url_of_path folder path.now) }
 {
     if has_backslash(path.as_bytes()) {
         backslash_url(alloc, path, folder)
@@ -53,7 +53,7 @@ fn has_backslash(path: &[u8]) -> bool
 // ---- a path without backslash
 
 fn slash_url(alloc: Global, path: &str, folder: bool) -> Result<Url, PathToUrlError>
-    ensures { Answers OutOfMemory result (spec.slash_url folder path.now) }
+    ensures { IsExpected OutOfMemory result (spec.slash_url folder path.now) }
 {
     if has_dot_component(path) {
         let path = Text::from_str(alloc, path)?;
@@ -78,7 +78,7 @@ fn has_parent_dir(path: &str) -> bool
 // ---- a path with backslashes
 
 fn backslash_url(alloc: Global, path: &str, folder: bool) -> Result<Url, PathToUrlError>
-    ensures { Answers OutOfMemory result (spec.backslash_url folder (spec.first_step path.now)) }
+    ensures { IsExpected OutOfMemory result (spec.backslash_url folder (spec.first_step path.now)) }
 {
     let (host, rest) = first_step(alloc, path)?;
     let names = backslash_parts(alloc, rest)?;

@@ -11,7 +11,7 @@ use Rattle.url.specs.Parts.{Parts}
 use Rattle.url.specs.Parser.{Parsed, and_then, IsOutOfRoom, parse_port, parse_authority, after_double_slash, parse_non_special, parse_relative, after_file_double_slash, parse_file, parse_not_file, parse_body, parse_parts, parse_without_scheme, parse_by_scheme, parse_url}
 use Rattle.file_url.specs.declared.errors.SpecifierError.TheVariants as specifier
 use Rattle.file_url.specs.Imports as imports
-use Rattle.file_url.specs.Imports.{refusal, target_of, relative_import, import_read, import_of}
+use Rattle.file_url.specs.Imports.{refusal, resolved_as, relative_import, import_read, import_of}
 use Rattle.graph_entry.specs.declared.resolution.ResolutionError.TheVariants.{InvalidDowngrade, InvalidLocalImport}
 use Rattle.graph_entry.specs.Resolution.{Resolved, KeepsReason, kept_of, resolve, is_downgrade, is_local_import, allowed, allowed_from}
 
@@ -153,9 +153,9 @@ kept_refusal OutOfMemory reason = absurd reason
 kept_refusal Overflow reason = absurd reason
 kept_refusal _ reason = not_room _ reason
 
-target_of-kept : (read : Parsed Parts) → IsTold read → KeepsReason (kept_of (target_of read))
-target_of-kept (Ok url) told = tt
-target_of-kept (Err e) told = kept_refusal e told.told
+resolved_as-kept : (read : Parsed Parts) → IsTold read → KeepsReason (kept_of (resolved_as read))
+resolved_as-kept (Ok url) told = tt
+resolved_as-kept (Err e) told = kept_refusal e told.told
 
 kept_if : (b : Bool) (x y : imports.Resolved) → KeepsReason (kept_of x) → KeepsReason (kept_of y) → KeepsReason (kept_of (if b then x else y))
 kept_if true x y one two = one
@@ -164,8 +164,8 @@ kept_if false x y one two = two
 relative-kept : (referrer : Parsed Parts) (text : List ℕ) → IsTold referrer → KeepsReason (kept_of (relative_import referrer text))
 relative-kept referrer text told =
     let joined = and_then referrer (λ base. parse_url (Some base) text) in
-    kept_if _ (target_of joined) (Err (specifier.ImportPrefixMissing text))
-    (target_of-kept joined (told_then referrer (λ base. parse_url (Some base) text) told (λ base. parse_url-told (Some base) text))) tt
+    kept_if _ (resolved_as joined) (Err (specifier.ImportPrefixMissing text))
+    (resolved_as-kept joined (told_then referrer (λ base. parse_url (Some base) text) told (λ base. parse_url-told (Some base) text))) tt
 
 read-kept : (read referrer : Parsed Parts) (text : List ℕ) → IsTold read → IsTold referrer
     → KeepsReason (kept_of (import_read read referrer text))

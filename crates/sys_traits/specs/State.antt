@@ -42,11 +42,11 @@ shortage_of (Ok _) = None
 shortage_of (Err _) = Some OutOfMemory
 
 -- the count of faults never falls, and rises with each `NotFound` and each `Failed`
-abbrev pub IsCounted : Option SysErrorKind → ℕ → ℕ → Type 0
-IsCounted None old new = old ≤ new
-IsCounted (Some NotFound) old new = old < new
-IsCounted (Some Failed) old new = old < new
-IsCounted (Some OutOfMemory) old new = old ≤ new
+abbrev pub CountsFault : Option SysErrorKind → ℕ → ℕ → Type 0
+CountsFault None old new = old ≤ new
+CountsFault (Some NotFound) old new = old < new
+CountsFault (Some Failed) old new = old < new
+CountsFault (Some OutOfMemory) old new = old ≤ new
 
 -- a call that took place: it is the new last entry of the log, with the files that it left
 pub record IsCall (kind : SysCallKind) (path : Path) (to : Option Path) (number : ℕ) (refusal : Option SysErrorKind)

@@ -9,11 +9,11 @@ use Rattle.sys_traits.specs.State.{refusal_of}
 use Rattle.sys_traits.specs.Memory.{Memory, Answered, logged, message_of}
 
 -- the error of a refusal, which isn't `OutOfMemory`
-abbrev pub IsKept : Option SysErrorKind → Option SysError → Type 0
-IsKept None error = error ≡ None
-IsKept (Some NotFound) error = error ≡ Some (record { kind = NotFound; message = message_of NotFound })
-IsKept (Some Failed) error = error ≡ Some (record { kind = Failed; message = message_of Failed })
-IsKept (Some OutOfMemory) error = ⊥
+abbrev pub IsErrorOf : Option SysErrorKind → Option SysError → Type 0
+IsErrorOf None error = error ≡ None
+IsErrorOf (Some NotFound) error = error ≡ Some (record { kind = NotFound; message = message_of NotFound })
+IsErrorOf (Some Failed) error = error ≡ Some (record { kind = Failed; message = message_of Failed })
+IsErrorOf (Some OutOfMemory) error = ⊥
 
 -- the draft is of this call, and what is to be answered is so
 abbrev pub Drafts : {V : Type 0} → Result (SysCall × V) AllocError → SysCall → (V → Type 0) → Type 0

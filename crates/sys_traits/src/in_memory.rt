@@ -4,7 +4,7 @@ ghost use Rattle.std.specs.Option.{option_copied};
 ghost use Rattle.sys_traits.specs.Paths as paths;
 ghost use Rattle.sys_traits.specs.State.{file_at};
 ghost use Rattle.sys_traits.specs.Memory as spec;
-ghost use Rattle.sys_traits.specs.Steps.{Ran, IsKept};
+ghost use Rattle.sys_traits.specs.Steps.{Ran, IsErrorOf};
 
 mod calls;
 mod drafts;
@@ -164,7 +164,7 @@ impl InMemorySys {
     // Logs the call, after which the files are those that it left.
     fn keep(&mut self, call: SysCall) -> Result<Option<SysError>, AllocError>
         ensures { MatchResult result
-            (λ error. IsKept call.refusal error × (self.new ≡ spec.logged self.old call))
+            (λ error. IsErrorOf call.refusal error × (self.new ≡ spec.logged self.old call))
             (λ _. self.new ≡ self.old) }
     {
         let alloc = self.log.allocator();
@@ -178,7 +178,7 @@ impl InMemorySys {
 
 // The error of a refusal, if there is one; that memory ran out is this call's own.
 fn error_for(alloc: Global, refusal: Option<SysErrorKind>) -> Result<Option<SysError>, AllocError>
-    ensures { IfOk result (IsKept refusal) }
+    ensures { IfOk result (IsErrorOf refusal) }
 {
     let Some(kind) = refusal else {
         return Ok(None);

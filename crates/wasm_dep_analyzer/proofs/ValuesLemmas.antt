@@ -10,7 +10,7 @@ use Rattle.std.specs.Str.Lossy.{utf8_valid_len}
 use Rattle.wasm_dep_analyzer.specs.declared.error.ParseError.{ParseError}
 use Rattle.wasm_dep_analyzer.specs.declared.error.ParseError.TheVariants.{UnexpectedEof, IntegerOverflow, InvalidUtf8}
 use Rattle.wasm_dep_analyzer.specs.Reading.{◌>>=◌}
-use Rattle.wasm_dep_analyzer.specs.Values.{u8_at, number_at, u32_at, bytes_at, text_of, name_at}
+use Rattle.wasm_dep_analyzer.specs.Values.{u8_at, number_at, u32_at, bytes_at, utf8_text, name_at}
 
 -- a value as reading gives it
 abbrev gives : {A : Type 0} → A → Result A ParseError
@@ -138,11 +138,11 @@ bytes_are count bytes spelled rest h =
 
 -- a name is spelled in front of the rest
 pub name_stands : (bytes name rest : List ℕ) → name_at bytes ≡ Ok (name, rest) → EndsIn bytes (name ++ rest)
-unfolding name_at text_of
+unfolding name_at utf8_text
 name_stands bytes name rest h =
-    let count = bind_ok (u32_at bytes) (λ count. bytes_at count.0 count.1 >>= λ spelled. text_of spelled.0 >>= λ text. Ok (text, spelled.1)) (name, rest) h in
-    let spelled = bind_ok (bytes_at count.0.0 count.0.1) (λ spelled. text_of spelled.0 >>= λ text. Ok (text, spelled.1)) (name, rest) count.2 in
-    let text = bind_ok (text_of spelled.0.0) (λ text. Ok (text, spelled.0.1)) (name, rest) spelled.2 in
+    let count = bind_ok (u32_at bytes) (λ count. bytes_at count.0 count.1 >>= λ spelled. utf8_text spelled.0 >>= λ text. Ok (text, spelled.1)) (name, rest) h in
+    let spelled = bind_ok (bytes_at count.0.0 count.0.1) (λ spelled. utf8_text spelled.0 >>= λ text. Ok (text, spelled.1)) (name, rest) count.2 in
+    let text = bind_ok (utf8_text spelled.0.0) (λ text. Ok (text, spelled.0.1)) (name, rest) spelled.2 in
     let pair : (text.0, spelled.0.1) ≡ (name, rest) = given_once (text.0, spelled.0.1) (name, rest) text.2 in
     let same : spelled.0.0 ≡ text.0 = guard_ok (eqb (utf8_valid_len spelled.0.0) (length spelled.0.0)) (InvalidUtf8 (utf8_valid_len spelled.0.0)) spelled.0.0 text.0 text.1 in
     let stands : count.0.1 ≡ spelled.0.0 ++ spelled.0.1 = bytes_are count.0.0 count.0.1 spelled.0.0 spelled.0.1 spelled.1 in
@@ -157,9 +157,9 @@ length-name bytes name rest h =
     omega (arith, ap length stands.1, length-append stands.0 (name ++ rest), length-append name rest)
 
 -- a text is read as it is
-pub text_of-text : (bytes text : List ℕ) → text ≡ bytes → IsUtf8 bytes → text_of bytes ≡ Ok text
-unfolding text_of
-text_of-text bytes text same valid = rw (utf8_valid_len-IsUtf8 bytes valid, eq-eqb (length bytes) (length bytes) refl, same) refl
+pub utf8_text-text : (bytes text : List ℕ) → text ≡ bytes → IsUtf8 bytes → utf8_text bytes ≡ Ok text
+unfolding utf8_text
+utf8_text-text bytes text same valid = rw (utf8_valid_len-IsUtf8 bytes valid, eq-eqb (length bytes) (length bytes) refl, same) refl
 
 -- a test that does not hold fails
 pub not_true : (b : Bool) → (b ≡ true → ⊥) → b ≡ false
@@ -167,8 +167,8 @@ not_true true h = absurd (h refl)
 not_true false h = refl
 
 -- other bytes are a fault behind their longest front that is a text
-pub text_of-fault : (bytes : List ℕ) (n : ℕ) → n ≡ utf8_valid_len bytes → ¬ (IsUtf8 bytes) → IsUtf8 (take n bytes) → text_of bytes ≡ Err (InvalidUtf8 n)
-unfolding text_of
-text_of-fault bytes n same invalid front =
+pub utf8_text-fault : (bytes : List ℕ) (n : ℕ) → n ≡ utf8_valid_len bytes → ¬ (IsUtf8 bytes) → IsUtf8 (take n bytes) → utf8_text bytes ≡ Err (InvalidUtf8 n)
+unfolding utf8_text
+utf8_text-fault bytes n same invalid front =
     let differs : utf8_valid_len bytes ≢ length bytes = λ e. invalid (subst IsUtf8 (ap (λ (k : ℕ). take k bytes) (same ∙ e) ∙ take-length bytes) front) in
     rw (not_true (eqb (utf8_valid_len bytes) (length bytes)) (λ e. differs (eqb-true _ _ e)), same) refl

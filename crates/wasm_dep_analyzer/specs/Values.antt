@@ -29,15 +29,15 @@ abbrev pub bytes_at : ℕ → List ℕ → Read (List ℕ)
 bytes_at count bytes = if nat_lt (length bytes) count then Err UnexpectedEof else Ok (take count bytes, drop count bytes)
 
 -- a text, or the fault behind its longest front that is one
-unfoldable pub text_of : List ℕ → Result (List ℕ) ParseError
-text_of bytes = if utf8_valid_len bytes == length bytes then Ok bytes else Err (InvalidUtf8 (utf8_valid_len bytes))
+unfoldable pub utf8_text : List ℕ → Result (List ℕ) ParseError
+utf8_text bytes = if utf8_valid_len bytes == length bytes then Ok bytes else Err (InvalidUtf8 (utf8_valid_len bytes))
 
 -- a length and a text of so many bytes ("Names")
 unfoldable pub name_at : List ℕ → Read (List ℕ)
 name_at bytes = do
   count ← u32_at bytes
   spelled ← bytes_at count.0 count.1
-  text ← text_of spelled.0
+  text ← utf8_text spelled.0
   Ok (text, spelled.1)
 
 -- so many items, one behind the other

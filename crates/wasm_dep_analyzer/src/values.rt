@@ -2,7 +2,7 @@
 
 ghost use Rattle.std.specs.Prelude.{◌≡◌, ◌<◌, ◌*◌, ◌^◌, ◌≤◌, ℕ, List, [], ◌∷◌, ◌++◌, IfOk, length};
 ghost use Rattle.wasm_dep_analyzer.specs.Reading.{Read, Gives, GivesInRoom};
-ghost use Rattle.wasm_dep_analyzer.specs.Values.{u8_at, number_at, u32_at, bytes_at, text_of, name_at, items_at};
+ghost use Rattle.wasm_dep_analyzer.specs.Values.{u8_at, number_at, u32_at, bytes_at, utf8_text, name_at, items_at};
 
 use crate::error::ParseError;
 use std::alloc::Global;
@@ -59,7 +59,7 @@ pub fn read_bytes(count: u32, input: &[u8]) -> Result<(&[u8], &[u8]), ParseError
 }
 
 fn text(bytes: &[u8]) -> Result<&str, ParseError>
-    ensures { Gives (λ text. text.now) result (text_of bytes.now) }
+    ensures { Gives (λ text. text.now) result (utf8_text bytes.now) }
 {
     match str::from_utf8(bytes) {
         Ok(text) => Ok(text),

@@ -1,7 +1,7 @@
 //! The calls of a system in memory. Each says exactly what it answers, and keeps what its trait promises.
 ghost use Rattle.std.specs.Prelude.{◌≡◌, Some, length, slice_index, IfOk, IfErr, string_bytes};
 ghost use Rattle.sys_traits.specs.Paths.{spot};
-ghost use Rattle.sys_traits.specs.State.{WhereTold, refusal_of, shortage_of, IsCounted};
+ghost use Rattle.sys_traits.specs.State.{WhereTold, refusal_of, shortage_of, CountsFault};
 ghost use Rattle.sys_traits.specs.Calls.{Canonicalized, FolderCreated, LookedUp, Opened, Written, Removed, Renamed, Drawn, Slept, answered_path, answered_truth, answered_byte};
 ghost use Rattle.sys_traits.specs.Memory as spec;
 ghost use Rattle.sys_traits.specs.Memory.{Answered, faults_of, told_of};
@@ -27,7 +27,7 @@ impl FsCanonicalize for InMemorySys {
             Answered call (spec.logged self.old call) (refusal_of result) self.old self.new }
         ensures value { IfOk result (λ answer. string_bytes answer ≡ spot self.old.folder path.now) }
         ensures message { IfErr result (λ e. e.message ≡ spec.message_of e.kind) }
-        ensures counts { IsCounted (refusal_of result) (faults_of self.old) (faults_of self.new) }
+        ensures counts { CountsFault (refusal_of result) (faults_of self.old) (faults_of self.new) }
         ensures tells { WhereTold (Canonicalized path.now (answered_path string_bytes result) (refusal_of result))
             (Some (told_of self.old)) (Some (told_of self.new)) }
     {
@@ -41,7 +41,7 @@ impl FsCreateDirAll for InMemorySys {
         ensures exact { Answered (spec.creating self.old path.now) (spec.created self.old path.now)
             (refusal_of result) self.old self.new }
         ensures message { IfErr result (λ e. e.message ≡ spec.message_of e.kind) }
-        ensures counts { IsCounted (refusal_of result) (faults_of self.old) (faults_of self.new) }
+        ensures counts { CountsFault (refusal_of result) (faults_of self.old) (faults_of self.new) }
         ensures tells { WhereTold (FolderCreated path.now (refusal_of result))
             (Some (told_of self.old)) (Some (told_of self.new)) }
     {
@@ -59,7 +59,7 @@ impl FsMetadata for InMemorySys {
         ensures value { IfOk result (λ there. there ≡ spec.is_there
             (spec.place_of self.old.files self.old.made (spot self.old.folder path.now))) }
         ensures message { IfErr result (λ e. e.message ≡ spec.message_of e.kind) }
-        ensures counts { IsCounted (refusal_of result) (faults_of self.old) (faults_of self.new) }
+        ensures counts { CountsFault (refusal_of result) (faults_of self.old) (faults_of self.new) }
         ensures tells { WhereTold (LookedUp path.now (answered_truth result) (refusal_of result))
             (Some (told_of self.old)) (Some (told_of self.new)) }
     {
@@ -74,7 +74,7 @@ impl FsOpen for InMemorySys {
             Answered call (spec.logged self.old call) (refusal_of result) self.old self.new }
         ensures value { IfOk result (λ file. (file.id ≡ length self.old.log) × (file.path ≡ path.now)) }
         ensures message { IfErr result (λ e. e.message ≡ spec.message_of e.kind) }
-        ensures counts { IsCounted (refusal_of result) (faults_of self.old) (faults_of self.new) }
+        ensures counts { CountsFault (refusal_of result) (faults_of self.old) (faults_of self.new) }
         ensures tells { WhereTold (Opened path.now mode (refusal_of result))
             (Some (told_of self.old)) (Some (told_of self.new)) }
         ensures named { IfOk result (λ file. file.path ≡ path.now) }
@@ -87,7 +87,7 @@ impl FsOpen for InMemorySys {
         ensures exact { let call = spec.writing self.old file.path bytes.now in
             Answered call (spec.logged self.old call) (refusal_of result) self.old self.new }
         ensures message { IfErr result (λ e. e.message ≡ spec.message_of e.kind) }
-        ensures counts { IsCounted (refusal_of result) (faults_of self.old) (faults_of self.new) }
+        ensures counts { CountsFault (refusal_of result) (faults_of self.old) (faults_of self.new) }
         ensures tells { WhereTold (Written file.path bytes.now (refusal_of result))
             (Some (told_of self.old)) (Some (told_of self.new)) }
     {
@@ -101,7 +101,7 @@ impl FsRemoveFile for InMemorySys {
         ensures exact { let call = spec.removing self.old path.now in
             Answered call (spec.logged self.old call) (refusal_of result) self.old self.new }
         ensures message { IfErr result (λ e. e.message ≡ spec.message_of e.kind) }
-        ensures counts { IsCounted (refusal_of result) (faults_of self.old) (faults_of self.new) }
+        ensures counts { CountsFault (refusal_of result) (faults_of self.old) (faults_of self.new) }
         ensures tells { WhereTold (Removed path.now (refusal_of result))
             (Some (told_of self.old)) (Some (told_of self.new)) }
     {
@@ -115,7 +115,7 @@ impl FsRename for InMemorySys {
         ensures exact { let call = spec.renaming self.old from.now to.now in
             Answered call (spec.logged self.old call) (refusal_of result) self.old self.new }
         ensures message { IfErr result (λ e. e.message ≡ spec.message_of e.kind) }
-        ensures counts { IsCounted (refusal_of result) (faults_of self.old) (faults_of self.new) }
+        ensures counts { CountsFault (refusal_of result) (faults_of self.old) (faults_of self.new) }
         ensures tells { WhereTold (Renamed from.now to.now (refusal_of result))
             (Some (told_of self.old)) (Some (told_of self.new)) }
     {
@@ -130,7 +130,7 @@ impl SystemRandom for InMemorySys {
             (refusal_of result) self.old self.new }
         ensures value { IfOk result (λ byte. byte ≡ slice_index self.old.random self.old.next) }
         ensures message { IfErr result (λ e. e.message ≡ spec.message_of e.kind) }
-        ensures counts { IsCounted (refusal_of result) (faults_of self.old) (faults_of self.new) }
+        ensures counts { CountsFault (refusal_of result) (faults_of self.old) (faults_of self.new) }
         ensures tells { WhereTold (Drawn (answered_byte result) (refusal_of result))
             (Some (told_of self.old)) (Some (told_of self.new)) }
     {
@@ -145,7 +145,7 @@ impl ThreadSleep for InMemorySys {
     fn thread_sleep_ms(&mut self, ms: u64) -> Result<(), AllocError>
         ensures exact { let call = spec.sleeping self.old ms in
             Answered call (spec.logged self.old call) (shortage_of result) self.old self.new }
-        ensures counts { IsCounted (shortage_of result) (faults_of self.old) (faults_of self.new) }
+        ensures counts { CountsFault (shortage_of result) (faults_of self.old) (faults_of self.new) }
         ensures tells { WhereTold (Slept ms (shortage_of result))
             (Some (told_of self.old)) (Some (told_of self.new)) }
     {
