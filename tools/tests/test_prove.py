@@ -1,0 +1,76 @@
+"""Tests of tools/prove: which crates stand below one, and when a kept archive counts as that of the same sources."""
+import importlib.machinery
+import importlib.util
+import os
+import tempfile
+import unittest
+
+TOOL = os.path.join(os.path.dirname(os.path.dirname(os.path.abspath(__file__))), "prove")
+LOADER = importlib.machinery.SourceFileLoader("prove", TOOL)
+SPEC = importlib.util.spec_from_loader("prove", LOADER)
+prove = importlib.util.module_from_spec(SPEC)
+LOADER.exec_module(prove)
+
+FILES = {
+    "crates.txt": "low:\nside: low\nhigh staticlib: low url\n",
+    "KIT-ID": "kit 1\n",
+    "crates/low/src/lib.rt": "one\n",
+    "crates/low/proofs/a/B.antt": "two\n",
+    "crates/low/README.md": "three\n",
+    "crates/side/src/lib.rt": "four\n",
+    "crates/high/src/lib.rt": "five\n",
+}
+
+
+class Folder(unittest.TestCase):
+    def setUp(self):
+        room = tempfile.TemporaryDirectory()
+        self.addCleanup(room.cleanup)
+        self.room, root, kept = room.name, prove.ROOT, prove.KEPT
+        prove.ROOT, prove.KEPT = room.name, os.path.join(room.name, "kept")
+        self.addCleanup(lambda: (setattr(prove, "ROOT", root), setattr(prove, "KEPT", kept)))
+        for path, text in FILES.items():
+            self.write(path, text)
+
+    def write(self, path, text):
+        place = os.path.join(self.room, path)
+        os.makedirs(os.path.dirname(place), exist_ok=True)
+        with open(place, "w", encoding="utf-8") as file:
+            file.write(text)
+
+    def sum(self):
+        return prove.sum_of("high", prove.listed_crates(), {"low"}, self.room)
+
+
+class Prove(Folder):
+    def test_crates_below(self):
+        self.assertEqual(set(prove.crates_below("high", prove.listed_crates())), {"low", "high"})
+
+    def test_an_archive_is_that_of_its_sources(self):
+        first = self.sum()
+        for path, changes in (
+            ("crates/low/README.md", False),
+            ("crates/side/src/lib.rt", False),
+            ("crates/low/src/lib.rt", True),
+            ("crates/low/proofs/a/B.antt", True),
+            ("crates/high/specs/New.antt", True),
+            ("KIT-ID", True),
+        ):
+            self.write(path, "other\n")
+            self.assertEqual(self.sum() != first, changes, path)
+            first = self.sum()
+
+    def test_the_latest_archives_are_kept(self):
+        self.write("made.a", "archive")
+        for number in range(prove.MOST_KEPT + 3):
+            place = os.path.join(prove.KEPT, f"{number}.a")
+            prove.keep(os.path.join(self.room, "made.a"), place)
+            os.utime(place, (number, number))
+        self.assertEqual(sorted(os.listdir(prove.KEPT)), sorted(f"{number}.a" for number in range(3, prove.MOST_KEPT + 3)))
+
+    def test_nothing_is_built_over_what_is_not_proved(self):
+        self.assertFalse(prove.are_built({"low"}))
+
+
+if __name__ == "__main__":
+    unittest.main()
