@@ -1,11 +1,12 @@
 -- What the class of a first byte says of the byte.
-use Rattle.std.proofs.Common.{◌≡◌, ℕ, ◌-◌, ◌≤◌, Bool, true, false, ◌==◌, ◌||◌, not, List, [], ◌∷◌, length, take, drop, get_or, if◌then◌else◌, refl, sym, ◌∙◌, ap, arith, eqb-true, eq-eqb, true≢false}
+use Rattle.std.proofs.Common.{◌≡◌, ℕ, ◌-◌, ◌≤◌, Bool, true, false, ◌==◌, ◌&&◌, ◌||◌, List, [], ◌∷◌, length, take, drop, get_or, if◌then◌else◌, refl, sym, ◌∙◌, ap, arith, eqb-true, true≢false}
 use Rattle.std.specs.Char.{is_ascii_digit}
 use Rattle.std.proofs.lemmas.Bool.Decides.{nat_tests}
 use Rattle.std.proofs.lemmas.List.{take_rest}
 use Rattle.es_lexer.specs.declared.bytes.First.{First}
 use Rattle.es_lexer.specs.declared.bytes.First.TheVariants.{Blank, LineEnd, Start, Quote, Slash, Backtick, Brace, Hash, Digit, Dot, Other}
-use Rattle.es_lexer.specs.Bytes.{is_blank, is_line_end, is_start, is_part, is_quote, is_plain, first_of, begins_comment}
+use Rattle.es_literal.specs.Strings.{is_quote as is_string_quote}
+use Rattle.es_lexer.specs.Bytes.{is_blank, is_line_end, is_start, is_part, is_quote, first_of, begins_comment}
 
 -- the tests that a byte of a class passes
 pub data Classed (b : ℕ) (c : First) : Type 0 where
@@ -86,12 +87,13 @@ slash_is b h = elim (classed b) [
   | other e ↦ cc
 ]
 
-pub quote_ends_no_line : (b : ℕ) → first_of b ≡ Quote → is_line_end b ≡ false
-quote_ends_no_line b h = elim (classed b) [
+pub quote_is : (b : ℕ) → first_of b ≡ Quote → is_string_quote b ≡ true
+unfolding is_string_quote
+quote_is b h = elim (classed b) [
   | blank p e ↦ cc
   | line_end p e ↦ cc
   | start s e ↦ cc
-  | quote n q e ↦ n
+  | quote n q e ↦ q
   | slash s e ↦ cc
   | backtick s e ↦ cc
   | brace s e ↦ cc
@@ -101,13 +103,26 @@ quote_ends_no_line b h = elim (classed b) [
   | other e ↦ cc
 ]
 
+double_class : first_of 34 ≡ Quote
+unfolding first_of
+double_class = refl
+
+single_class : first_of 39 ≡ Quote
+unfolding first_of
+single_class = refl
+
+quote_by : (q : ℕ) (u v : Bool) → (q == 34) ≡ u → (q == 39) ≡ v → (u || v) ≡ true → first_of q ≡ Quote
+quote_by q true v p r e = ap first_of (eqb-true q 34 p) ∙ double_class
+quote_by q false true p r e = ap first_of (eqb-true q 39 r) ∙ single_class
+quote_by q false false p r e = cc
+
+pub quote_class : (q : ℕ) → is_string_quote q ≡ true → first_of q ≡ Quote
+unfolding is_string_quote
+quote_class q e = quote_by q (q == 34) (q == 39) refl refl e
+
 pub slash_class : first_of 47 ≡ Slash
 unfolding first_of
 slash_class = refl
-
-pub backslash_class : first_of 92 ≡ Other
-unfolding first_of
-backslash_class = refl
 
 -- a byte of another class than a number is not that number
 apart_by : (b n : ℕ) (c d : First) → first_of b ≡ c → first_of n ≡ d → (c ≡ d → ⊥) → (v : Bool) → (b == n) ≡ v
@@ -125,39 +140,6 @@ unfolding begins_comment
 no_comment_at b [] c p differ = refl
 no_comment_at b (d ∷ rest) c p differ = rw (apart b 47 c Slash p slash_class differ) refl
 
--- a quote, a backslash and a line end are not plain
-pub quote_not_plain : (mark : ℕ) → is_plain mark mark ≡ false
-unfolding is_plain
-quote_not_plain mark = rw (eq-eqb mark mark refl) refl
-
-not_plain_92 : (v : Bool) → not (v || true || is_line_end 92) ≡ false
-not_plain_92 true = refl
-not_plain_92 false = refl
-
-pub backslash_not_plain : (mark : ℕ) → is_plain mark 92 ≡ false
-unfolding is_plain
-backslash_not_plain mark = not_plain_92 (92 == mark)
-
-not_plain_end : (u v : Bool) → not (u || v || true) ≡ false
-not_plain_end true true = refl
-not_plain_end true false = refl
-not_plain_end false true = refl
-not_plain_end false false = refl
-
-pub line_end_not_plain : (mark b : ℕ) → is_line_end b ≡ true → is_plain mark b ≡ false
-unfolding is_plain
-line_end_not_plain mark b e = rw e (not_plain_end (b == mark) (b == 92))
-
--- a byte that isn't plain is the quote, a backslash or a line end
-plain_left : (v : Bool) → not (false || false || v) ≡ false → v ≡ true
-plain_left true e = refl
-plain_left false e = cc
-
-pub not_plain_ends : (mark b : ℕ) → is_plain mark b ≡ false → (b == mark) ≡ false → (b == 92) ≡ false
-    → is_line_end b ≡ true
-unfolding is_plain
-not_plain_ends mark b e p q = plain_left (is_line_end b) (rw (p, q) at e)
-
 -- the text of which the first byte is of the slash's class
 pub slash_text : (text : List ℕ) → 1 ≤ length text → Slash ≡ first_of (get_or text 0 0)
     → text ≡ 47 ∷ take (length text - 1) (drop 1 text)
@@ -165,15 +147,33 @@ slash_text [] l e = absurd (omega arith)
 slash_text (b ∷ rest) l e =
     ap (λ c. c ∷ rest) (slash_is b (sym e)) ∙ ap (λ t. 47 ∷ t) (sym (take_rest (b ∷ rest) 1))
 
-blank_not_end : (b : ℕ) (u v : Bool) → (b == 9) ≡ u → (b == 32) ≡ v → (u || v) ≡ true → is_line_end b ≡ false
-blank_not_end b true v p q e = rw (eqb-true b 9 p) refl
-blank_not_end b false true p q e = rw (eqb-true b 32 q) refl
-blank_not_end b false false p q e = cc
+blank_not_end : (b : ℕ) (u v w x : Bool) → (b == 9) ≡ u → (b == 11) ≡ v → (b == 12) ≡ w → (b == 32) ≡ x
+    → (u || v || w || x) ≡ true → is_line_end b ≡ false
+blank_not_end b true v w x p q r s e = rw (eqb-true b 9 p) refl
+blank_not_end b false true w x p q r s e = rw (eqb-true b 11 q) refl
+blank_not_end b false false true x p q r s e = rw (eqb-true b 12 r) refl
+blank_not_end b false false false true p q r s e = rw (eqb-true b 32 s) refl
+blank_not_end b false false false false p q r s e = cc
 
 -- a blank is no line end
 pub blank_no_line : (b : ℕ) → first_of b ≡ Blank → is_line_end b ≡ false
 blank_no_line b h = elim (classed b) [
-  | blank p e ↦ blank_not_end b (b == 9) (b == 32) refl refl p
+  | blank p e ↦ blank_not_end b (b == 9) (b == 11) (b == 12) (b == 32) refl refl refl refl p
+  | line_end p e ↦ cc
+  | start s e ↦ cc
+  | quote n q e ↦ cc
+  | slash s e ↦ cc
+  | backtick s e ↦ cc
+  | brace s e ↦ cc
+  | hash s e ↦ cc
+  | digit s e ↦ cc
+  | dot s e ↦ cc
+  | other e ↦ cc
+]
+
+pub blank_is : (b : ℕ) → first_of b ≡ Blank → is_blank b ≡ true
+blank_is b h = elim (classed b) [
+  | blank p e ↦ p
   | line_end p e ↦ cc
   | start s e ↦ cc
   | quote n q e ↦ cc
@@ -257,6 +257,18 @@ hash_is b h = elim (classed b) [
 pub hash_class : first_of 35 ≡ Hash
 unfolding first_of
 hash_class = refl
+
+mark_class : first_of 33 ≡ Other
+unfolding first_of
+mark_class = refl
+
+and_false : (u : Bool) → (u && false) ≡ false
+and_false true = refl
+and_false false = refl
+
+-- what begins a name is no `!`
+pub start_no_mark : (front : Bool) (b : ℕ) → first_of b ≡ Start → (front && b == 33) ≡ false
+start_no_mark front b f = rw (apart b 33 Start Other f mark_class (λ e. cc)) (and_false front)
 
 pub brace_text : (text : List ℕ) → 1 ≤ length text → Brace ≡ first_of (get_or text 0 0)
     → text ≡ 125 ∷ take (length text - 1) (drop 1 text)

@@ -6,7 +6,7 @@ use Rattle.es_lexer.specs.declared.token.Comment.{Comment}
 use Rattle.es_lexer.specs.declared.token.CommentKind.{CommentKind}
 use Rattle.es_lexer.specs.declared.token.CommentKind.TheVariants.{Line, Block}
 use Rattle.es_lexer.specs.Bytes.{is_line_end, has_line_end}
-use Rattle.es_lexer.specs.Pieces.{Piece, blank, line_end, comment, token, comment_spelling, text_of, place_of, is_behind, line_since}
+use Rattle.es_lexer.specs.Pieces.{Piece, blank, line_end, comment, token, comment_spelling, pieces_text, place_of, is_behind, line_since}
 use Rattle.es_lexer.specs.Readable.{IsByte, ArePieces}
 use Rattle.es_lexer.specs.Reads.{tokens_of, comments_of, token_of, comment_of}
 use Rattle.es_lexer.proofs.ByteLemmas as byte
@@ -79,14 +79,14 @@ without_comment false false t e h = refl
 
 -- the first token among pieces
 pub line_of_first : (ps before : List Piece) (x front gap after : List ℕ) (u : Token)
-    → x ≡ front ++ (gap ++ (text_of ps ++ after)) → Between x front gap before → ArePieces before ps after
+    → x ≡ front ++ (gap ++ (pieces_text ps ++ after)) → Between x front gap before → ArePieces before ps after
     → slice_get (tokens_of before ps) 0 ≡ Some u
     → u.line_before ≡ has_line_end (slice_range x (length front) u.range.start)
 unfolding tokens_of line_since is_behind
 line_of_first [] before x front gap after u w b h g = cc
 line_of_first (blank s ∷ ps) before x front gap after u w b h g =
     line_of_first ps (blank s ∷ before) x front (gap ++ s) after u
-    (more_gap x front gap s (text_of ps ++ after) (w ∙ ap (λ t. front ++ (gap ++ t)) (append_assoc s (text_of ps) after)))
+    (more_gap x front gap s (pieces_text ps ++ after) (w ∙ ap (λ t. front ++ (gap ++ t)) (append_assoc s (pieces_text ps) after)))
     (record {
       behind = b.behind;
       line = b.line ∙ sym (lines-append gap s ∙ (ap (λ v. has_line_end gap || v) (blank_lines s h.0)
@@ -95,7 +95,7 @@ line_of_first (blank s ∷ ps) before x front gap after u w b h g =
     }) h.1 g
 line_of_first (line_end s ∷ ps) before x front gap after u w b h g =
     line_of_first ps (line_end s ∷ before) x front (gap ++ s) after u
-    (more_gap x front gap s (text_of ps ++ after) (w ∙ ap (λ t. front ++ (gap ++ t)) (append_assoc s (text_of ps) after)))
+    (more_gap x front gap s (pieces_text ps ++ after) (w ∙ ap (λ t. front ++ (gap ++ t)) (append_assoc s (pieces_text ps) after)))
     (record {
       behind = b.behind;
       line = b.behind ∙ sym (lines-append gap s ∙ (ap (λ v. has_line_end gap || v) (line_lines s h.0)
@@ -104,8 +104,8 @@ line_of_first (line_end s ∷ ps) before x front gap after u w b h g =
     }) h.1 g
 line_of_first (comment kind t ∷ ps) before x front gap after u w b h g =
     line_of_first ps (comment kind t ∷ before) x front (gap ++ comment_spelling kind t) after u
-    (more_gap x front gap (comment_spelling kind t) (text_of ps ++ after)
-    (w ∙ ap (λ v. front ++ (gap ++ v)) (append_assoc (comment_spelling kind t) (text_of ps) after)))
+    (more_gap x front gap (comment_spelling kind t) (pieces_text ps ++ after)
+    (w ∙ ap (λ v. front ++ (gap ++ v)) (append_assoc (comment_spelling kind t) (pieces_text ps) after)))
     (record {
       behind = b.behind;
       line = with_comment (line_since before) (is_behind before) (has_line_end t) (has_line_end gap) b.line b.behind
@@ -116,36 +116,36 @@ line_of_first (comment kind t ∷ ps) before x front gap after u w b h g =
 line_of_first (token k s ∷ ps) before x front gap after u w b h g =
     let same : token_of before k s ps ≡ u = cc in
     subst (λ (v : Token). v.line_before ≡ has_line_end (slice_range x (length front) v.range.start)) same
-    (b.line ∙ ap has_line_end (sym (cut_gap x front gap (text_of (token k s ∷ ps) ++ after) (place_of before) w b.place)))
+    (b.line ∙ ap has_line_end (sym (cut_gap x front gap (pieces_text (token k s ∷ ps) ++ after) (place_of before) w b.place)))
 
 -- and each token behind another
 pub line_of_next : (ps before : List Piece) (x front after : List ℕ) (n : ℕ) (t u : Token)
-    → x ≡ front ++ (text_of ps ++ after) → place_of before ≡ length front → ArePieces before ps after
+    → x ≡ front ++ (pieces_text ps ++ after) → place_of before ≡ length front → ArePieces before ps after
     → slice_get (tokens_of before ps) n ≡ Some t → slice_get (tokens_of before ps) (suc n) ≡ Some u
     → u.line_before ≡ has_line_end (slice_range x t.range.end u.range.start)
 unfolding tokens_of line_since is_behind has_line_end
 line_of_next [] before x front after n t u w p h f g = cc
 line_of_next (blank s ∷ ps) before x front after n t u w p h f g =
-    line_of_next ps (blank s ∷ before) x (front ++ s) after n t u (shift x front s (text_of ps) after w)
+    line_of_next ps (blank s ∷ before) x (front ++ s) after n t u (shift x front s (pieces_text ps) after w)
     (moved (place_of before) front s p) h.1 f g
 line_of_next (line_end s ∷ ps) before x front after n t u w p h f g =
-    line_of_next ps (line_end s ∷ before) x (front ++ s) after n t u (shift x front s (text_of ps) after w)
+    line_of_next ps (line_end s ∷ before) x (front ++ s) after n t u (shift x front s (pieces_text ps) after w)
     (moved (place_of before) front s p) h.1 f g
 line_of_next (comment kind s ∷ ps) before x front after n t u w p h f g =
     line_of_next ps (comment kind s ∷ before) x (front ++ comment_spelling kind s) after n t u
-    (shift x front (comment_spelling kind s) (text_of ps) after w)
+    (shift x front (comment_spelling kind s) (pieces_text ps) after w)
     (moved (place_of before) front (comment_spelling kind s) p) h.1 f g
 line_of_next (token k s ∷ ps) before x front after zero t u w p h f g =
     let same : token_of before k s ps ≡ t = cc in
     let end : place_of before + length s ≡ length (front ++ s) = moved (place_of before) front s p in
     let next : u.line_before ≡ has_line_end (slice_range x (length (front ++ s)) u.range.start) =
-    line_of_first ps (token k s ∷ before) x (front ++ s) [] after u (shift x front s (text_of ps) after w)
+    line_of_first ps (token k s ∷ before) x (front ++ s) [] after u (shift x front s (pieces_text ps) after w)
     (record { behind = refl; line = refl; place = omega arith }) h.1 g in
     subst (λ (v : Token). u.line_before ≡ has_line_end (slice_range x v.range.end u.range.start)) same
     (subst (λ (m : ℕ). u.line_before ≡ has_line_end (slice_range x m u.range.start)) (sym end) next)
 line_of_next (token k s ∷ ps) before x front after (suc n) t u w p h f g =
     line_of_next ps (token k s ∷ before) x (front ++ s) after n t u
-    (shift x front s (text_of ps) after w) (moved (place_of before) front s p) h.1 f g
+    (shift x front s (pieces_text ps) after w) (moved (place_of before) front s p) h.1 f g
 
 -- none stands before the first token
 pub first_line : (ps before : List Piece) (u : Token) → is_behind before ≡ false → line_since before ≡ false

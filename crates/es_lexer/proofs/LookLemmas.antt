@@ -15,18 +15,24 @@ use Rattle.es_lexer.specs.declared.token.TokenKind.TheVariants as kind
 use Rattle.es_lexer.specs.declared.token.CommentKind.{CommentKind}
 use Rattle.es_lexer.specs.declared.token.CommentKind.TheVariants.{Line, Block}
 use Rattle.es_lexer.specs.declared.error.LexicalKind.{LexicalKind}
-use Rattle.es_lexer.specs.declared.error.LexicalKind.TheVariants.{UnterminatedString, UnterminatedComment, UnterminatedTemplate, InvalidEscape, InvalidChar, Unbalanced}
-use Rattle.es_lexer.specs.Bytes.{begins_part, first_of, is_part, begins_comment, has_closer, has_line_end}
+use Rattle.es_lexer.specs.declared.error.LexicalKind.TheVariants.{UnterminatedString, UnterminatedComment, UnterminatedTemplate, UnterminatedRegExp, InvalidEscape, InvalidChar, Unbalanced}
+use Rattle.es_lexer.specs.Bytes.{begins_part, begins_mark, first_of, is_line_end, is_part, begins_comment, has_closer, has_line_end}
 use Rattle.es_lexer.specs.declared.bracket.BracketKind.TheVariants.{Round, Square, Curly, Template}
 use Rattle.es_lexer.specs.Brackets.{role_of, is_open, may_close}
 use Rattle.es_lexer.specs.Signs.{sign_kind, sign_at, sized}
 use Rattle.es_lexer.specs.Words.{kind_at}
-use Rattle.es_lexer.specs.Literals.{IsStrLiteral, ArePlain}
-use Rattle.es_lexer.specs.Spelling.{Spells, word, str, sign, private_name, template, number, number_kind, AreParts, IsWord, template_start, template_stop, template_kind}
+use Rattle.es_literal.specs.declared.string.StringEnd.{StringEnd}
+use Rattle.es_literal.specs.Strings.{IsString, IsStringEnd, closes, invalid, unclosed as cut, Begins, begins_quote, string_end}
+use Rattle.es_literal.proofs.StringLemmas as literal
+use Rattle.es_spelling.specs.Units.{concat}
+use Rattle.es_lexer.specs.Spelling.{Spells, word, str, sign, private_name, template, number, regexp as expression, shebang, number_kind, AreParts, IsWord, IsRegExp, template_start, template_stop, template_kind}
+use Rattle.es_spelling.specs.RegExps.{IsBody, body_end}
+use Rattle.es_spelling.proofs.RegExpLemmas as pattern
 use Rattle.es_spelling.specs.declared.template.TemplateEnd.{TemplateEnd}
 use Rattle.es_spelling.specs.declared.template.TemplateEnd.TheVariants.{Closes}
 use Rattle.es_spelling.specs.Templates.{template_end, IsTemplateText, IsUnclosed}
 use Rattle.std.specs.Char.{is_ascii_digit}
+use Rattle.std.specs.List.{AllByRecursion}
 use Rattle.es_spelling.specs.declared.number.NumberEnd.{NumberEnd}
 use Rattle.es_spelling.specs.Numbers.{IsNumber, number_end, begins_number, is_digit}
 use Rattle.es_spelling.specs.Numbers as numeral
@@ -35,11 +41,10 @@ use Rattle.es_spelling.proofs.TemplateLemmas as text
 use Rattle.es_lexer.specs.Goal.{allows, may_stand, stands_apart, begins_digit}
 use Rattle.es_lexer.specs.Pieces.{Piece, blank, line_end, comment, token, spelling, comment_spelling}
 use Rattle.es_lexer.specs.Readable.{IsLongest, IsToken, IsComment, IsByte, IsPiece}
-use Rattle.es_lexer.specs.Stops.{Stuck, open_string, bad_escape, open_comment, no_token, lone_slash, wrong_closer, lone_hash, open_template, joined, IsLongestNumber, open_bracket, BeginsNoName, BeginsSign}
-use Rattle.es_lexer.specs.Look.{run_end, is_in_line, word_look, string_look, sign_look, divide_look, slash_look, template_look, number_stop, number_look, dot_look, brace_look, name_look, hash_look, class_look, end_look, look_at}
-use Rattle.es_lexer.proofs.ByteLemmas.{start_is_part, slash_is, slash_class, backtick_is, backtick_class, brace_is, brace_class, hash_is, hash_class, digit_is, digit_class, dot_is, dot_class, no_comment_at}
+use Rattle.es_lexer.specs.Stops.{Stuck, open_string, bad_escape, open_comment, no_token, open_regexp, wrong_closer, lone_hash, open_template, joined, IsLongestNumber, open_bracket, BeginsNoName, BeginsNoBody, BeginsSign}
+use Rattle.es_lexer.specs.Look.{run_end, is_in_line, word_look, string_look, sign_look, regexp_look, divide_look, slash_look, template_look, number_stop, number_look, dot_look, brace_look, name_look, hash_look, class_look, end_look, look_at}
+use Rattle.es_lexer.proofs.ByteLemmas.{start_is_part, start_no_mark, quote_class, quote_is, slash_is, slash_class, backtick_is, backtick_class, brace_is, brace_class, hash_is, hash_class, digit_is, digit_class, dot_is, dot_class, no_comment_at}
 use Rattle.es_lexer.proofs.RunLemmas.{EndsRun, Run, run, run_end-append, run_end-stop}
-use Rattle.es_lexer.proofs.StringLemmas.{StringFound, closed, escape, unclosed, string_finds, string_closes, string_escapes, string_runs_out}
 use Rattle.es_lexer.proofs.CommentLemmas as remark
 use Rattle.es_lexer.proofs.SignLemmas as mark
 use Rattle.es_lexer.proofs.WordLemmas.{word_free, free_allows, free_apart}
@@ -75,13 +80,20 @@ word_reaches_by goal at b parts after f h r =
     (λ e. ap (kind_at goal.member) (sym (take_at (b ∷ parts) after (at + length (b ∷ parts) + length r.front - at)
     (omega arith))))
 
-string_reads : (goal : Goal) (at mark : ℕ) (body after : List ℕ) → first_of mark ≡ first.Quote → ArePlain mark body
-    → look_at goal at (mark ∷ (body ++ mark ∷ after)) ≡ look.Token kind.Str (at + length (mark ∷ (body ++ mark ∷ [])))
+-- a string literal's look
+string_looks : (goal : Goal) (at b : ℕ) (rest : List ℕ) → first_of b ≡ first.Quote
+    → look_at goal at (b ∷ rest) ≡ string_look at (string_end at (b ∷ rest))
 unfolding look_at class_look
-string_reads goal at mark body after f h =
-    let size : at + 1 + length body + 1 ≡ at + length (mark ∷ (body ++ mark ∷ [])) =
-    omega (arith, length-append body (mark ∷ [])) in
-    rw f (string_closes mark at (at + 1) body after h ∙ ap (λ n. look.Token kind.Str n) size)
+string_looks goal at b rest f = rw f refl
+
+string_reads : (goal : Goal) (at : ℕ) (s after : List ℕ) → IsString s
+    → look_at goal at (s ++ after) ≡ look.Token kind.Str (at + length s)
+unfolding string_look
+string_reads goal at s after l =
+    let here : look_at goal at (s ++ after) ≡ string_look at (string_end at (s ++ after)) =
+    subst (λ (t : List ℕ). look_at goal at (t ++ after) ≡ string_look at (string_end at (t ++ after))) (sym l.whole)
+    (string_looks goal at l.quote ((concat l.units ++ l.quote ∷ []) ++ after) (quote_class l.quote l.quotes)) in
+    here ∙ ap (string_look at) (literal.closes_found at s after l)
 
 plain_closes : (bracket : Option BracketKind) (r : Role) → mark.is_plain_role r ≡ true → may_close bracket r ≡ true
 unfolding may_close
@@ -117,6 +129,10 @@ slash_may regexp kind.Slash after s e = remark.not_true regexp e
 slash_may regexp kind.SlashEqual after s e = remark.not_true regexp e
 slash_may regexp k after s e = cc
 
+slash_looks : (goal : Goal) (at : ℕ) (rest : List ℕ) → look_at goal at (47 ∷ rest) ≡ slash_look goal at rest
+unfolding look_at class_look
+slash_looks goal at rest = rw slash_class refl
+
 -- a `/` that begins no comment
 no_comment_divides : (goal : Goal) (at : ℕ) (rest : List ℕ) → begins_comment (47 ∷ rest) ≡ false
     → slash_look goal at rest ≡ divide_look goal at rest
@@ -130,7 +146,7 @@ unfolding divide_look
 divides_is goal at rest e = rw e refl
 
 divides_not : (goal : Goal) (at : ℕ) (rest : List ℕ) → goal.regexp ≡ true
-    → divide_look goal at rest ≡ look.Fault InvalidChar at
+    → divide_look goal at rest ≡ regexp_look at (body_end (at + 1) rest) rest
 unfolding divide_look
 divides_not goal at rest e = rw e refl
 
@@ -282,16 +298,10 @@ word_reaches goal at k s after w e =
     (subst (λ (t : List ℕ). Reached (kind_at goal.member t) (at + length t) (look_at goal at (t ++ after)))
     (sym w.whole) r)
 
-string_reaches : (goal : Goal) (at : ℕ) (k : TokenKind) (s after : List ℕ) → IsStrLiteral s → k ≡ kind.Str
+string_reaches : (goal : Goal) (at : ℕ) (k : TokenKind) (s after : List ℕ) → IsString s → k ≡ kind.Str
     → Reached k (at + length s) (look_at goal at (s ++ after))
 string_reaches goal at k s after l e =
-    let found : look_at goal at ((l.quote ∷ (l.body ++ l.quote ∷ [])) ++ after) ≡ look.Token kind.Str
-    (at + length (l.quote ∷ (l.body ++ l.quote ∷ []))) =
-    ap (λ t. look_at goal at (l.quote ∷ t)) (append_assoc l.body (l.quote ∷ []) after)
-    ∙ string_reads goal at l.quote l.body after l.quotes l.plain in
-    let here : look_at goal at (s ++ after) ≡ look.Token kind.Str (at + length s) =
-    subst (λ (t : List ℕ). look_at goal at (t ++ after) ≡ look.Token kind.Str (at + length t)) (sym l.whole) found in
-    reached kind.Str (at + length s) here (omega arith) (λ q. e)
+    reached kind.Str (at + length s) (string_reads goal at s after l) (omega arith) (λ q. e)
 
 -- a template, or what goes on in one
 tick_looks : (goal : Goal) (at b : ℕ) (rest : List ℕ) → first_of b ≡ first.Backtick
@@ -300,7 +310,7 @@ unfolding look_at class_look
 tick_looks goal at b rest f = rw f refl
 
 hash_looks : (goal : Goal) (at b : ℕ) (rest : List ℕ) → first_of b ≡ first.Hash
-    → look_at goal at (b ∷ rest) ≡ hash_look at rest
+    → look_at goal at (b ∷ rest) ≡ hash_look goal.front at rest
 unfolding look_at class_look
 hash_looks goal at b rest f = rw f refl
 
@@ -341,10 +351,41 @@ template_reaches goal at k s after opens sub body t w e a =
     (ap (λ v. look_at goal at (v ++ after)) w ∙ found) (omega arith) (λ q. e)
 
 -- a private name
-hash_ends : (at b : ℕ) (rest : List ℕ) → first_of b ≡ first.Start
-    → hash_look at (b ∷ rest) ≡ look.Token kind.PrivateName (run_end is_part (at + 2) rest)
-unfolding hash_look name_look
-hash_ends at b rest f = rw f refl
+hash_names : (front : Bool) (at b : ℕ) (rest : List ℕ) → (front && b == 33) ≡ false
+    → hash_look front at (b ∷ rest) ≡ name_look (first_of b) at rest
+unfolding hash_look
+hash_names front at b rest n = rw n refl
+
+name_starts : (at b : ℕ) (rest : List ℕ) → first_of b ≡ first.Start
+    → name_look (first_of b) at rest ≡ look.Token kind.PrivateName (run_end is_part (at + 2) rest)
+unfolding name_look
+name_starts at b rest f = rw f refl
+
+hash_ends : (front : Bool) (at b : ℕ) (rest : List ℕ) → first_of b ≡ first.Start
+    → hash_look front at (b ∷ rest) ≡ look.Token kind.PrivateName (run_end is_part (at + 2) rest)
+hash_ends front at b rest f = hash_names front at b rest (start_no_mark front b f) ∙ name_starts at b rest f
+
+-- a shebang
+hash_marks : (front : Bool) (at : ℕ) (rest : List ℕ) → front ≡ true
+    → hash_look front at (33 ∷ rest) ≡ look.Token kind.Shebang (run_end is_in_line (at + 2) rest)
+unfolding hash_look
+hash_marks front at rest f = rw f refl
+
+shebang_looks : (goal : Goal) (at : ℕ) (rest : List ℕ) → goal.front ≡ true
+    → look_at goal at (35 ∷ 33 ∷ rest) ≡ look.Token kind.Shebang (run_end is_in_line (at + 2) rest)
+shebang_looks goal at rest f = hash_looks goal at 35 (33 ∷ rest) hash_class ∙ hash_marks goal.front at rest f
+
+shebang_reaches : (goal : Goal) (at : ℕ) (k : TokenKind) (s after text : List ℕ)
+    → AllByRecursion (λ b. is_line_end b ≡ false) text → goal.front ≡ true → s ≡ 35 ∷ 33 ∷ text → k ≡ kind.Shebang
+    → Run is_in_line (at + 2 + length text) after → Reached k (at + length s) (look_at goal at (s ++ after))
+shebang_reaches goal at k s after text h f q e r =
+    let size : length s ≡ length (35 ∷ 33 ∷ text) = ap length q in
+    reached kind.Shebang (at + 2 + length text + length r.front)
+    (ap (λ v. look_at goal at (v ++ after)) q
+    ∙ (shebang_looks goal at (text ++ after) f
+    ∙ ap (λ n. look.Token kind.Shebang n)
+    (run_end-append is_in_line (at + 2) text after (remark.in_line text h) ∙ r.end)))
+    (omega arith) (λ p. e)
 
 private_reaches : (goal : Goal) (at : ℕ) (k : TokenKind) (s after name : List ℕ) → (w : IsWord name) → s ≡ 35 ∷ name
     → k ≡ kind.PrivateName → Run is_part (at + 2 + length w.parts) after
@@ -357,8 +398,52 @@ private_reaches goal at k s after name w q e r =
     reached kind.PrivateName (at + 2 + length w.parts + length r.front)
     (ap (λ v. look_at goal at (v ++ after)) whole
     ∙ (hash_looks goal at 35 (w.first ∷ (w.parts ++ after)) hash_class
-    ∙ (hash_ends at w.first (w.parts ++ after) w.starts ∙ ap (λ n. look.Token kind.PrivateName n) end)))
+    ∙ (hash_ends goal.front at w.first (w.parts ++ after) w.starts ∙ ap (λ n. look.Token kind.PrivateName n) end)))
     (omega arith) (λ p. e)
+
+-- a regular expression
+regexp_looks : (goal : Goal) (at : ℕ) (rest : List ℕ) → begins_comment (47 ∷ rest) ≡ false → goal.regexp ≡ true
+    → look_at goal at (47 ∷ rest) ≡ regexp_look at (body_end (at + 1) rest) rest
+regexp_looks goal at rest n r = slash_looks goal at rest ∙ (no_comment_divides goal at rest n ∙ divides_not goal at rest r)
+
+body_reads : (at : ℕ) (body after : List ℕ) → IsBody body
+    → regexp_look at (body_end (at + 1) (body ++ after)) (body ++ after)
+    ≡ look.Token kind.RegExp (run_end is_part (at + 1 + length body) after)
+unfolding regexp_look
+body_reads at body after i =
+    ap (λ found. regexp_look at found (body ++ after)) (pattern.body_found (at + 1) body after i)
+    ∙ ap (λ t. look.Token kind.RegExp (run_end is_part (at + 1 + length body) t))
+    (drop_at body after (at + 1 + length body - (at + 1)) (omega arith))
+
+regexp_reads : (goal : Goal) (at : ℕ) (body flags after : List ℕ) → IsBody body
+    → begins_comment (47 ∷ (body ++ (flags ++ after))) ≡ false → goal.regexp ≡ true → AreParts flags
+    → (r : Run is_part (at + 1 + length body + length flags) after)
+    → look_at goal at (47 ∷ (body ++ (flags ++ after)))
+    ≡ look.Token kind.RegExp (at + 1 + length body + length flags + length r.front)
+regexp_reads goal at body flags after i n g h r =
+    regexp_looks goal at (body ++ (flags ++ after)) n g
+    ∙ (body_reads at body (flags ++ after) i
+    ∙ ap (λ e. look.Token kind.RegExp e) (run_end-append is_part (at + 1 + length body) flags after h ∙ r.end))
+
+regexp_may : (goal : Goal) (k : TokenKind) (after : List ℕ) → k ≡ kind.RegExp → allows goal k after ≡ true
+    → goal.regexp ≡ true
+unfolding allows may_stand
+regexp_may goal k after e a =
+    both_right (may_close goal.bracket (role_of kind.RegExp)) goal.regexp
+    (subst (λ (j : TokenKind). (may_close goal.bracket (role_of j) && may_stand goal.regexp j after) ≡ true) e a)
+
+regexp_reaches : (goal : Goal) (at : ℕ) (k : TokenKind) (s after : List ℕ) → (i : IsRegExp s) → k ≡ kind.RegExp
+    → allows goal k after ≡ true → begins_comment (s ++ after) ≡ false
+    → Run is_part (at + 1 + length i.body + length i.flags) after → Reached k (at + length s) (look_at goal at (s ++ after))
+regexp_reaches goal at k s after i e a n r =
+    let cut : s ++ after ≡ 47 ∷ (i.body ++ (i.flags ++ after)) =
+    ap (λ t. t ++ after) i.whole ∙ ap (λ t. 47 ∷ t) (append_assoc i.body i.flags after) in
+    let size : length s ≡ length (47 ∷ (i.body ++ i.flags)) = ap length i.whole in
+    reached kind.RegExp (at + 1 + length i.body + length i.flags + length r.front)
+    (ap (look_at goal at) cut
+    ∙ regexp_reads goal at i.body i.flags after i.closes (ap begins_comment (sym cut) ∙ n) (regexp_may goal k after e a)
+    i.goes_on r)
+    (omega (arith, length-append i.body i.flags)) (λ q. e)
 
 -- a number's look
 -- what begins a number
@@ -441,6 +526,11 @@ reaches goal at k s after (private_name name w q e) a n =
     by_reach (private_reaches goal at k s after name w q e (run is_part (at + 2 + length w.parts) after))
 reaches goal at k s after (template opens sub body t q e) a n =
     by_reach (template_reaches goal at k s after opens sub body t q e a)
+reaches goal at k s after (expression i e) a n =
+    by_reach (regexp_reaches goal at k s after i e a n
+    (run is_part (at + 1 + length i.body + length i.flags) after))
+reaches goal at k s after (shebang text h f q e) a n =
+    by_reach (shebang_reaches goal at k s after text h f q e (run is_in_line (at + 2 + length text) after))
 reaches goal at k s after (number big i e) a n = by_number big i e
 
 -- ---- so what is found is the longest
@@ -479,12 +569,18 @@ comment_reads goal at Block text after h =
     (remark.block_closes at false (at + 2) text after h ∙ ap (λ n. look.Comment Block n (has_line_end text)) size)
 
 -- ---- so is what breaks there
-slash_stuck : (goal : Goal) (at b : ℕ) (after : List ℕ) → first_of b ≡ first.Slash
-    → begins_comment (b ∷ after) ≡ false → goal.regexp ≡ true → look_at goal at (b ∷ after) ≡ look.Fault InvalidChar at
-unfolding look_at class_look divide_look
-slash_stuck goal at b after f n r =
-    rw f (no_comment_divides goal at after (subst (λ (c : ℕ). begins_comment (c ∷ after) ≡ false) (slash_is b f) n)
-    ∙ rw r refl)
+no_body_by : (at : ℕ) (text : List ℕ) (found : Option ℕ) → BeginsNoBody text → pattern.BodyFound at text found
+    → found ≡ None
+no_body_by at text found h (pattern.closes s after w i e) = absurd (h s after w i)
+no_body_by at text found h (pattern.none n e) = e
+
+regexp_stuck : (goal : Goal) (at : ℕ) (text : List ℕ) → begins_comment (47 ∷ text) ≡ false → goal.regexp ≡ true
+    → BeginsNoBody text → look_at goal at (47 ∷ text) ≡ look.Fault UnterminatedRegExp at
+unfolding regexp_look
+regexp_stuck goal at text n r h =
+    regexp_looks goal at text n r
+    ∙ ap (λ found. regexp_look at found text)
+    (no_body_by (at + 1) text (body_end (at + 1) text) h (pattern.body_finds (at + 1) text))
 
 block_stuck : (goal : Goal) (at : ℕ) (body : List ℕ) → has_closer body ≡ false
     → slash_look goal at (42 ∷ body) ≡ look.Fault UnterminatedComment at
@@ -528,10 +624,11 @@ unfolding name_look
 name_stuck first.Start at rest h = absurd (h refl)
 name_stuck c at rest h = refl
 
-hash_stuck : (at : ℕ) (after : List ℕ) → BeginsNoName after → hash_look at after ≡ look.Fault InvalidChar at
-unfolding hash_look
-hash_stuck at [] h = refl
-hash_stuck at (b ∷ rest) h = name_stuck (first_of b) at rest h
+hash_stuck : (front : Bool) (at : ℕ) (after : List ℕ) → BeginsNoName after → (front && begins_mark after) ≡ false
+    → hash_look front at after ≡ look.Fault InvalidChar at
+unfolding hash_look begins_mark
+hash_stuck front at [] h n = refl
+hash_stuck front at (b ∷ rest) h n = rw n (name_stuck (first_of b) at rest h)
 
 template_opens : (goal : Goal) (at : ℕ) (opens : Bool) (rest : List ℕ)
     → (opens ≡ false → is_open goal.bracket Template ≡ true)
@@ -572,24 +669,31 @@ number_stuck goal at big s after i l p =
     spelled_looks goal at big s after i ∙ (number_at at big s after i l
     ∙ joined_fault (record { big = big; end = at + length s }) after p)
 
+-- a text that begins like a literal
+string_begins : {Back : ℕ → List ℕ → Type 0} (goal : Goal) (at : ℕ) (text : List ℕ) → Begins Back text
+    → look_at goal at text ≡ string_look at (string_end at text)
+string_begins goal at text b =
+    subst (λ (t : List ℕ). look_at goal at t ≡ string_look at (string_end at t)) (sym b.whole)
+    (string_looks goal at b.quote (concat b.units ++ b.back) (quote_class b.quote b.quotes))
+
 pub stuck_reads : (goal : Goal) (rest : List ℕ) (at : ℕ) (kind : LexicalKind) (place : ℕ)
     → Stuck goal rest at kind place
     → look_at goal at rest ≡ look.Fault kind place
-unfolding look_at class_look end_look
-stuck_reads goal rest at kind place (open_string q body after f h w l e p) =
-    rw w (rw f (string_runs_out q at (at + 1) body after f h l ∙ (cc)))
-stuck_reads goal rest at kind place (bad_escape q body after f h w e p) =
-    rw w (rw f (string_escapes q at (at + 1) body after f h ∙ (cc)))
+unfolding look_at class_look end_look string_look
+stuck_reads goal rest at kind place (open_string b e p) =
+    string_begins goal at rest b ∙ (ap (string_look at) (literal.unclosed_found at rest b) ∙ (cc))
+stuck_reads goal rest at kind place (bad_escape b e p) =
+    string_begins goal at rest b ∙ (ap (string_look at) (literal.invalid_found at rest b) ∙ (cc))
 stuck_reads goal rest at kind place (open_comment body w h e p) =
     rw w (rw slash_class (block_stuck goal at body h ∙ (cc)))
 stuck_reads goal rest at kind place (no_token b after w f n e p) =
     rw w (rw f (nothing_stuck goal.bracket at b after n ∙ (cc)))
-stuck_reads goal rest at kind place (lone_slash b after w f n r e p) =
-    rw w (slash_stuck goal at b after f (rw w at n) r ∙ (cc))
+stuck_reads goal rest at kind place (open_regexp text w n r h e p) =
+    rw w (regexp_stuck goal at text (rw w at n) r h ∙ (cc))
 stuck_reads goal rest at kind place (wrong_closer b after k w f s c e p) =
     rw w (sign_looks goal at b after f ∙ (closer_stuck goal.bracket at b after k s c ∙ (cc)))
-stuck_reads goal rest at kind place (lone_hash after w h e p) =
-    rw w (hash_looks goal at 35 after hash_class ∙ (hash_stuck at after h ∙ (cc)))
+stuck_reads goal rest at kind place (lone_hash after w h n e p) =
+    rw w (hash_looks goal at 35 after hash_class ∙ (hash_stuck goal.front at after h n ∙ (cc)))
 stuck_reads goal rest at kind place (open_template opens body w h u e p) =
     rw w (template_opens goal at opens body h ∙ (template_stuck opens at body u ∙ (cc)))
 stuck_reads goal rest at kind place (joined big s after w i l b e p) =
@@ -672,21 +776,20 @@ word_found goal at b rest f r =
     (free_apart (kind_at goal.member s) r.back (word_free goal.member s)) refl
     (ap (λ t. look_at goal at (b ∷ t)) r.whole ∙ word_reads goal at b r.front r.back f r.passes r.ends)
 
-string_found : (goal : Goal) (at q : ℕ) (rest : List ℕ) → first_of q ≡ first.Quote
-    → (found : Look) → look_at goal at (q ∷ rest) ≡ found → StringFound q at (at + 1) rest found
-    → Found goal at (q ∷ rest) found
-string_found goal at q rest f found l (closed body after w h e) =
-    let s : List ℕ = q ∷ (body ++ q ∷ []) in
-    let i : IsStrLiteral s = record { quote = q; body = body; quotes = f; plain = h; whole = refl } in
-    let size : at + 1 + length body + 1 ≡ at + length s = omega (arith, length-append body (q ∷ [])) in
-    met goal at kind.Str s after (q ∷ rest) found (ap (λ t. q ∷ t) (w ∙ sym (append_assoc body (q ∷ []) after)))
-    (str i refl) (str_allows goal after) (no_comment_at q ((body ++ q ∷ []) ++ after) first.Quote f (λ e. cc))
-    (str_apart after) l
-    (e ∙ ap (λ n. look.Token kind.Str n) size)
-string_found goal at q rest f found l (escape body after w h e) =
-    fault InvalidEscape (at + 1 + length body) (bad_escape q body after f h (ap (λ t. q ∷ t) w) refl refl) e
-string_found goal at q rest f found l (unclosed body after w h m e) =
-    fault UnterminatedString at (open_string q body after f h (ap (λ t. q ∷ t) w) m refl refl) e
+string_found : (goal : Goal) (at q : ℕ) (rest : List ℕ) (end : StringEnd) → first_of q ≡ first.Quote
+    → string_end at (q ∷ rest) ≡ end → IsStringEnd at (q ∷ rest) end
+    → Found goal at (q ∷ rest) (look_at goal at (q ∷ rest))
+unfolding string_look
+string_found goal at q rest end f l (closes s after w i e) =
+    met goal at kind.Str s after (q ∷ rest) _ w (str i refl) (str_allows goal after)
+    (ap begins_comment (sym w) ∙ no_comment_at q rest first.Quote f (λ e. cc)) (str_apart after) refl
+    (string_looks goal at q rest f ∙ ap (string_look at) (l ∙ e))
+string_found goal at q rest end f l (invalid b e) =
+    fault InvalidEscape (at + 1 + length (concat b.units)) (bad_escape b refl refl)
+    (string_looks goal at q rest f ∙ ap (string_look at) (l ∙ e))
+string_found goal at q rest end f l (cut b e) =
+    fault UnterminatedString at (open_string b refl refl)
+    (string_looks goal at q rest f ∙ ap (string_look at) (l ∙ e))
 
 -- a punctuator that isn't single is plain, so a closer is single
 closer_single : (bracket : Option BracketKind) (s : List ℕ) (k : TokenKind) → sign_kind s ≡ Some k
@@ -833,12 +936,57 @@ block_found goal at rest found (remark.closed text after w h e) =
 block_found goal at rest found (remark.unclosed h e) =
     fault UnterminatedComment at (open_comment rest refl h refl refl) e
 
+-- a regular expression, or none
+regexp_allows : (goal : Goal) (after : List ℕ) → goal.regexp ≡ true → allows goal kind.RegExp after ≡ true
+unfolding allows may_close role_of may_stand
+regexp_allows goal after r = r
+
+regexp_apart : (after : List ℕ) → stands_apart kind.RegExp after ≡ true
+unfolding stands_apart
+regexp_apart after = refl
+
+opens_same : (body x y : List ℕ) → IsBody body → begins_comment (47 ∷ (body ++ x)) ≡ begins_comment (47 ∷ (body ++ y))
+unfolding begins_comment
+opens_same [] x y i =
+    let e : length {A = ℕ} [] ≡ length (concat i.units ++ 47 ∷ []) = ap length i.whole in
+    absurd (omega (arith, length-append (concat i.units) (47 ∷ [])))
+opens_same (b ∷ body) x y i = refl
+
+regexp_met : (goal : Goal) (at : ℕ) (rest body after : List ℕ) → goal.regexp ≡ true → begins_comment (47 ∷ rest) ≡ false
+    → rest ≡ body ++ after → IsBody body → Run is_part (at + 1 + length body) after
+    → Found goal at (47 ∷ rest) (look_at goal at (47 ∷ rest))
+regexp_met goal at rest body after g n w i r =
+    let s : List ℕ = 47 ∷ (body ++ r.front) in
+    let text : rest ≡ body ++ (r.front ++ r.back) = w ∙ ap (λ t. body ++ t) r.whole in
+    let whole : 47 ∷ rest ≡ s ++ r.back =
+    ap (λ t. 47 ∷ t) (text ∙ sym (append_assoc body r.front r.back)) in
+    let front : begins_comment s ≡ false =
+    opens_same body r.front (r.front ++ r.back) i ∙ (ap (λ t. begins_comment (47 ∷ t)) (sym text) ∙ n) in
+    let is : IsRegExp s =
+    record { body = body; flags = r.front; closes = i; opens = front; goes_on = r.passes; whole = refl } in
+    let size : at + 1 + length body + length r.front ≡ at + length s = omega (arith, length-append body r.front) in
+    met goal at kind.RegExp s r.back (47 ∷ rest) _ whole (expression is refl) (regexp_allows goal r.back g)
+    (ap begins_comment (sym whole) ∙ n) (regexp_apart r.back) refl
+    (regexp_looks goal at rest n g
+    ∙ (ap (λ t. regexp_look at (body_end (at + 1) t) t) w
+    ∙ (body_reads at body after i ∙ ap (λ e. look.Token kind.RegExp e) (r.end ∙ size))))
+
+regexp_found : (goal : Goal) (at : ℕ) (rest : List ℕ) (found : Option ℕ) → goal.regexp ≡ true
+    → begins_comment (47 ∷ rest) ≡ false → body_end (at + 1) rest ≡ found → pattern.BodyFound (at + 1) rest found
+    → Found goal at (47 ∷ rest) (look_at goal at (47 ∷ rest))
+unfolding regexp_look
+regexp_found goal at rest found g n l (pattern.closes body after w i e) =
+    regexp_met goal at rest body after g n w i (run is_part (at + 1 + length body) after)
+regexp_found goal at rest found g n l (pattern.none h e) =
+    fault UnterminatedRegExp at (open_regexp rest refl n g h refl refl)
+    (regexp_looks goal at rest n g ∙ ap (λ f. regexp_look at f rest) (l ∙ e))
+
 -- a `/` that begins no comment
 divide_found : (goal : Goal) (at : ℕ) (rest : List ℕ) (v : Bool) → goal.regexp ≡ v → begins_comment (47 ∷ rest) ≡ false
     → look_at goal at (47 ∷ rest) ≡ divide_look goal at rest → Found goal at (47 ∷ rest) (divide_look goal at rest)
 divide_found goal at rest true r n l =
-    subst (Found goal at (47 ∷ rest)) (sym (divides_not goal at rest r))
-    (fault InvalidChar at (lone_slash 47 rest refl slash_class n r refl refl) refl)
+    subst (Found goal at (47 ∷ rest)) l
+    (regexp_found goal at rest (body_end (at + 1) rest) r n refl (pattern.body_finds (at + 1) rest))
 divide_found goal at rest false r n l =
     subst (Found goal at (47 ∷ rest)) (sym (divides_is goal at rest r))
     (sign_found goal at 47 rest (sign_at (47 ∷ rest)) (slash slash_class r) n
@@ -861,20 +1009,15 @@ unfolding slash_look begins_comment
 slash_found goal at [] l = divide_found goal at [] goal.regexp refl refl l
 slash_found goal at (c ∷ rest) l = slash_found_by goal at c rest (c == 47) (c == 42) refl refl l
 
-slash_looks : (goal : Goal) (at : ℕ) (rest : List ℕ) → look_at goal at (47 ∷ rest) ≡ slash_look goal at rest
-unfolding look_at class_look
-slash_looks goal at rest = rw slash_class refl
-
-string_looks : (goal : Goal) (at b : ℕ) (rest : List ℕ) → first_of b ≡ first.Quote
-    → look_at goal at (b ∷ rest) ≡ string_look b at (at + 1) rest
-unfolding look_at class_look
-string_looks goal at b rest f = rw f refl
+quote_starts : (b : ℕ) (rest : List ℕ) → first_of b ≡ first.Quote → begins_quote (b ∷ rest) ≡ true
+unfolding begins_quote
+quote_starts b rest f = quote_is b f
 
 string_class : (goal : Goal) (at b : ℕ) (rest : List ℕ) → first_of b ≡ first.Quote
     → Found goal at (b ∷ rest) (look_at goal at (b ∷ rest))
 string_class goal at b rest f =
-    string_found goal at b rest f _ refl
-    (subst (StringFound b at (at + 1) rest) (sym (string_looks goal at b rest f)) (string_finds b at (at + 1) rest))
+    string_found goal at b rest (string_end at (b ∷ rest)) f refl
+    (literal.string_finds at (b ∷ rest) (quote_starts b rest f))
 
 other_looks : (goal : Goal) (at b : ℕ) (rest : List ℕ) → first_of b ≡ first.Other
     → look_at goal at (b ∷ rest) ≡ sign_look goal.bracket at (sign_at (b ∷ rest))
@@ -974,24 +1117,59 @@ private_found goal at b rest f r =
     met goal at kind.PrivateName (35 ∷ b ∷ r.front) r.back (35 ∷ b ∷ rest) _ (ap (λ t. 35 ∷ b ∷ t) r.whole)
     (private_name (b ∷ r.front) w refl refl) (private_allows goal r.back)
     (no_comment_at 35 (b ∷ (r.front ++ r.back)) first.Hash hash_class (λ e. cc)) (private_apart r.back) refl
-    (hash_looks goal at 35 (b ∷ rest) hash_class ∙ (hash_ends at b rest f
+    (hash_looks goal at 35 (b ∷ rest) hash_class ∙ (hash_ends goal.front at b rest f
     ∙ ap (λ n. look.Token kind.PrivateName n)
     (r.end ∙ (let q : at + 2 + length r.front ≡ at + length (35 ∷ b ∷ r.front) = omega arith in q))))
 
-no_name : (goal : Goal) (at : ℕ) (rest : List ℕ) → BeginsNoName rest
+no_name : (goal : Goal) (at : ℕ) (rest : List ℕ) → BeginsNoName rest → (goal.front && begins_mark rest) ≡ false
     → Found goal at (35 ∷ rest) (look_at goal at (35 ∷ rest))
-no_name goal at rest h =
-    fault InvalidChar at (lone_hash rest refl h refl refl)
-    (hash_looks goal at 35 rest hash_class ∙ hash_stuck at rest h)
+no_name goal at rest h n =
+    fault InvalidChar at (lone_hash rest refl h n refl refl)
+    (hash_looks goal at 35 rest hash_class ∙ hash_stuck goal.front at rest h n)
 
-hash_byte : (goal : Goal) (at b : ℕ) (rest : List ℕ) (c : First) → first_of b ≡ c
+shebang_apart : (after : List ℕ) → stands_apart kind.Shebang after ≡ true
+unfolding stands_apart
+shebang_apart after = refl
+
+shebang_allows : (goal : Goal) (after : List ℕ) → allows goal kind.Shebang after ≡ true
+unfolding allows may_close role_of may_stand
+shebang_allows goal after = refl
+
+shebang_found : (goal : Goal) (at : ℕ) (rest : List ℕ) → goal.front ≡ true → Run is_in_line (at + 2) rest
+    → Found goal at (35 ∷ 33 ∷ rest) (look_at goal at (35 ∷ 33 ∷ rest))
+shebang_found goal at rest f r =
+    met goal at kind.Shebang (35 ∷ 33 ∷ r.front) r.back (35 ∷ 33 ∷ rest) _ (ap (λ t. 35 ∷ 33 ∷ t) r.whole)
+    (shebang r.front (remark.in_line_back r.front r.passes) f refl refl) (shebang_allows goal r.back)
+    (no_comment_at 35 (33 ∷ (r.front ++ r.back)) first.Hash hash_class (λ e. cc)) (shebang_apart r.back) refl
+    (shebang_looks goal at rest f
+    ∙ ap (λ n. look.Token kind.Shebang n)
+    (r.end ∙ (let q : at + 2 + length r.front ≡ at + length (35 ∷ 33 ∷ r.front) = omega arith in q)))
+
+no_mark : (front : Bool) (b : ℕ) (rest : List ℕ) → (front && b == 33) ≡ false → (front && begins_mark (b ∷ rest)) ≡ false
+unfolding begins_mark
+no_mark front b rest n = n
+
+hash_byte : (goal : Goal) (at b : ℕ) (rest : List ℕ) (c : First) → first_of b ≡ c → (goal.front && b == 33) ≡ false
     → Found goal at (35 ∷ b ∷ rest) (look_at goal at (35 ∷ b ∷ rest))
-hash_byte goal at b rest first.Start f = private_found goal at b rest f (run is_part (at + 2) rest)
-hash_byte goal at b rest c f = no_name goal at (b ∷ rest) (λ g. cc)
+hash_byte goal at b rest first.Start f n = private_found goal at b rest f (run is_part (at + 2) rest)
+hash_byte goal at b rest c f n = no_name goal at (b ∷ rest) (λ g. cc) (no_mark goal.front b rest n)
+
+hash_by : (goal : Goal) (at b : ℕ) (rest : List ℕ) (v : Bool) → (goal.front && b == 33) ≡ v
+    → Found goal at (35 ∷ b ∷ rest) (look_at goal at (35 ∷ b ∷ rest))
+hash_by goal at b rest true e =
+    subst (λ (c : ℕ). Found goal at (35 ∷ c ∷ rest) (look_at goal at (35 ∷ c ∷ rest)))
+    (sym (eqb-true b 33 (both_right goal.front (b == 33) e)))
+    (shebang_found goal at rest (both_left goal.front (b == 33) e) (run is_in_line (at + 2) rest))
+hash_by goal at b rest false e = hash_byte goal at b rest (first_of b) refl e
+
+nothing_marked : (front : Bool) → (front && begins_mark []) ≡ false
+unfolding begins_mark
+nothing_marked true = refl
+nothing_marked false = refl
 
 hash_at : (goal : Goal) (at : ℕ) (rest : List ℕ) → Found goal at (35 ∷ rest) (look_at goal at (35 ∷ rest))
-hash_at goal at [] = no_name goal at [] tt
-hash_at goal at (b ∷ rest) = hash_byte goal at b rest (first_of b) refl
+hash_at goal at [] = no_name goal at [] tt (nothing_marked goal.front)
+hash_at goal at (b ∷ rest) = hash_by goal at b rest (goal.front && b == 33) refl
 
 number_allows : (goal : Goal) (big : Bool) (after : List ℕ) → allows goal (number_kind big) after ≡ true
 unfolding allows number_kind role_of may_close may_stand

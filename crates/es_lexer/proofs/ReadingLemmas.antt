@@ -9,7 +9,7 @@ use Rattle.es_lexer.specs.declared.error.LexicalKind.{LexicalKind}
 use Rattle.es_lexer.specs.declared.goal.Goal.{Goal}
 use Rattle.es_lexer.specs.declared.bracket.BracketKind.{BracketKind}
 use Rattle.es_lexer.specs.Goal.{goal_of}
-use Rattle.es_lexer.specs.Pieces.{Piece, blank, line_end, comment, token, spelling, text_of, comment_spelling, behind}
+use Rattle.es_lexer.specs.Pieces.{Piece, blank, line_end, comment, token, spelling, pieces_text, comment_spelling, behind}
 use Rattle.es_lexer.specs.Readable.{IsPiece, ArePieces}
 use Rattle.es_lexer.specs.Stops.{Stuck}
 use Rattle.es_lexer.specs.Look.{end_look, look_at}
@@ -122,18 +122,18 @@ pub record Once (ps qs : List Piece) (a b : List ℕ) : Type 0 where
 once_more : (p q : Piece) (ps qs : List Piece) (a b : List ℕ) → p ≡ q → Once ps qs a b → Once (p ∷ ps) (q ∷ qs) a b
 once_more p q ps qs a b e o = let f : ps ≡ qs = o.pieces in record { pieces = cc; rests = o.rests }
 
-pub once : (before : List Piece) (ps qs : List Piece) (a b : List ℕ) → text_of ps ++ a ≡ text_of qs ++ b
+pub once : (before : List Piece) (ps qs : List Piece) (a b : List ℕ) → pieces_text ps ++ a ≡ pieces_text qs ++ b
     → ArePieces before ps a → ArePieces before qs b → Halts (goal_of (behind before ps)) a
     → Halts (goal_of (behind before qs)) b → Once ps qs a b
 once before [] [] a b w f g h i = record { pieces = refl; rests = w }
 once before [] (q ∷ qs) a b w f g h i =
-    absurd (h q (text_of qs ++ b) (w ∙ append_assoc (spelling q) (text_of qs) b) g.0)
+    absurd (h q (pieces_text qs ++ b) (w ∙ append_assoc (spelling q) (pieces_text qs) b) g.0)
 once before (p ∷ ps) [] a b w f g h i =
-    absurd (i p (text_of ps ++ a) (sym w ∙ append_assoc (spelling p) (text_of ps) a) f.0)
+    absurd (i p (pieces_text ps ++ a) (sym w ∙ append_assoc (spelling p) (pieces_text ps) a) f.0)
 once before (p ∷ ps) (q ∷ qs) a b w f g h i =
-    let s : Same p q (text_of ps ++ a) (text_of qs ++ b) =
-    same_piece (goal_of before) p q (text_of ps ++ a) (text_of qs ++ b)
-    (sym (append_assoc (spelling p) (text_of ps) a) ∙ (w ∙ append_assoc (spelling q) (text_of qs) b)) f.0 g.0 in
+    let s : Same p q (pieces_text ps ++ a) (pieces_text qs ++ b) =
+    same_piece (goal_of before) p q (pieces_text ps ++ a) (pieces_text qs ++ b)
+    (sym (append_assoc (spelling p) (pieces_text ps) a) ∙ (w ∙ append_assoc (spelling q) (pieces_text qs) b)) f.0 g.0 in
     let others : ArePieces (p ∷ before) qs b =
     subst (λ (r : Piece). ArePieces (r ∷ before) qs b) (sym s.pieces) g.1 in
     let halts : Halts (goal_of (behind (p ∷ before) qs)) b =

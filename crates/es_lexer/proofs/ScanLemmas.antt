@@ -21,8 +21,8 @@ use Rattle.es_lexer.specs.declared.error.LexError.{LexError}
 use Rattle.es_lexer.specs.declared.error.LexError.TheVariants.{Lexical}
 use Rattle.es_lexer.specs.Bytes.{has_line_end, is_line_end}
 use Rattle.es_lexer.specs.Brackets.{role_of}
-use Rattle.es_lexer.specs.Goal.{goal_of, goal_in, state_of, token_state, line_state, comment_state, after_for, headed, divides, member}
-use Rattle.es_lexer.specs.Pieces.{Piece, blank, line_end, comment, token, Open, spelling, text_of, comment_spelling, place_of, count_of, behind, is_behind, line_since, open_at, bracket_of, closer_at, closer_by}
+use Rattle.es_lexer.specs.Goal.{goal_of, goal_in, state_of, is_front, token_state, blank_state, line_state, comment_state, after_for, headed, divides, member}
+use Rattle.es_lexer.specs.Pieces.{Piece, blank, line_end, comment, token, Open, spelling, pieces_text, comment_spelling, place_of, count_of, behind, is_behind, line_since, open_at, bracket_of, closer_at, closer_by}
 use Rattle.es_lexer.specs.Readable.{IsPiece, ArePieces, EndsLine}
 use Rattle.es_lexer.specs.Reads.{Reads, tokens_of, comments_of, range_at}
 use Rattle.es_lexer.specs.Stops.{Stops, Stuck}
@@ -37,9 +37,9 @@ use Rattle.es_lexer.proofs.StackLemmas as stack
 pub record Cut (x : List ℕ) (ts : List Token) (cs : List Comment) (after : List ℕ) (place : ℕ)
     (before : List Piece) : Type 0 where
   pub pieces : List Piece
-  pub whole : x ≡ text_of pieces ++ after
+  pub whole : x ≡ pieces_text pieces ++ after
   pub each : ArePieces [] pieces after
-  pub place_is : place ≡ length (text_of pieces)
+  pub place_is : place ≡ length (pieces_text pieces)
   pub tokens_are : ts ≡ tokens_of [] pieces
   pub comments_are : cs ≡ comments_of [] pieces
   pub behind_is : before ≡ behind [] pieces
@@ -50,9 +50,9 @@ filled before ps ts = stack.fill (stack.opens_of before) (λ d. closer_at d (cou
 
 -- pieces of what is left go on with what is read so far
 abbrev pub GoesOn : List ℕ → List Piece → ℕ → List Token → List Comment → Type 0
-GoesOn x before at ts cs = (ps : List Piece) (after : List ℕ) → drop at x ≡ text_of ps ++ after
+GoesOn x before at ts cs = (ps : List Piece) (after : List ℕ) → drop at x ≡ pieces_text ps ++ after
     → ArePieces before ps after
-    → Cut x (filled before ps ts ++ tokens_of before ps) (cs ++ comments_of before ps) after (at + length (text_of ps))
+    → Cut x (filled before ps ts ++ tokens_of before ps) (cs ++ comments_of before ps) after (at + length (pieces_text ps))
     (behind before ps)
 
 -- the text is read up to a place
@@ -104,12 +104,12 @@ ends_within x s after at h w =
 -- what goes on behind the piece goes on with it
 goes_past : (x : List ℕ) (before : List Piece) (at : ℕ) (ts : List Token) (cs : List Comment) (p : Piece)
     → GoesOn x before at ts cs → (n : Next x before at p) → (ps : List Piece) (after : List ℕ)
-    → drop (at + length (spelling p)) x ≡ text_of ps ++ after → ArePieces (p ∷ before) ps after
+    → drop (at + length (spelling p)) x ≡ pieces_text ps ++ after → ArePieces (p ∷ before) ps after
     → Cut x (filled before (p ∷ ps) ts ++ tokens_of before (p ∷ ps)) (cs ++ comments_of before (p ∷ ps)) after
-    (at + length (text_of (p ∷ ps))) (behind (p ∷ before) ps)
+    (at + length (pieces_text (p ∷ ps))) (behind (p ∷ before) ps)
 goes_past x before at ts cs p g n ps after w h =
-    let rest : n.after ≡ text_of ps ++ after = sym (rest_is x (spelling p) n.after at n.cut) ∙ w in
-    g (p ∷ ps) after (n.cut ∙ (ap (λ t. spelling p ++ t) rest ∙ sym (append_assoc (spelling p) (text_of ps) after)))
+    let rest : n.after ≡ pieces_text ps ++ after = sym (rest_is x (spelling p) n.after at n.cut) ∙ w in
+    g (p ∷ ps) after (n.cut ∙ (ap (λ t. spelling p ++ t) rest ∙ sym (append_assoc (spelling p) (pieces_text ps) after)))
     (subst (IsPiece (goal_of before) p) rest n.fits, h)
 
 same_cut : (x : List ℕ) (ts us : List Token) (cs ds : List Comment) (after : List ℕ) (m n : ℕ)
@@ -126,8 +126,8 @@ same_cut x ts us cs ds after m n before p q r c = record {
 }
 
 sizes : (at : ℕ) (p : Piece) (ps : List Piece)
-    → at + length (text_of (p ∷ ps)) ≡ at + length (spelling p) + length (text_of ps)
-sizes at p ps = omega (arith, length-append (spelling p) (text_of ps))
+    → at + length (pieces_text (p ∷ ps)) ≡ at + length (spelling p) + length (pieces_text ps)
+sizes at p ps = omega (arith, length-append (spelling p) (pieces_text ps))
 
 -- ---- the tokens behind each piece
 blank_tokens : (s : List ℕ) (before ps : List Piece) (ts : List Token)
@@ -189,13 +189,13 @@ token_comments k s before ps = refl
 -- ---- each piece goes on
 blank_goes : (x : List ℕ) (at : ℕ) (state : State) (brackets : List OpenBracket) (ts : List Token) (cs : List Comment)
     (b : List ℕ) → (s : SoFar x at state brackets ts cs)
-    → Next x s.before at (blank b) → SoFar x (at + length b) state brackets ts cs
-unfolding comments_of stack.opens_of count_of state_of is_behind line_since divides member headed after_for
+    → Next x s.before at (blank b) → SoFar x (at + length b) (blank_state state) brackets ts cs
+unfolding comments_of stack.opens_of count_of state_of is_behind line_since divides member headed after_for is_front
 blank_goes x at state brackets ts cs b s n = record {
   within = ends_within x b n.after at s.within n.cut;
   before = blank b ∷ s.before;
   place = ap (λ m. m + length b) s.place;
-  state_is = s.state_is;
+  state_is = ap blank_state s.state_is;
   open_is = s.open_is;
   count_is = s.count_is;
   goes = λ ps after w h. same_cut x _ _ _ _ after _ _ _ (blank_tokens b s.before ps ts) refl (sizes at (blank b) ps)
@@ -205,7 +205,7 @@ blank_goes x at state brackets ts cs b s n = record {
 line_goes : (x : List ℕ) (at : ℕ) (state : State) (brackets : List OpenBracket) (ts : List Token) (cs : List Comment)
     (b : List ℕ) → (s : SoFar x at state brackets ts cs)
     → Next x s.before at (line_end b) → SoFar x (at + length b) (line_state state) brackets ts cs
-unfolding comments_of stack.opens_of count_of state_of is_behind line_since divides member headed after_for
+unfolding comments_of stack.opens_of count_of state_of is_behind line_since divides member headed after_for is_front
 line_goes x at state brackets ts cs b s n = record {
   within = ends_within x b n.after at s.within n.cut;
   before = line_end b ∷ s.before;
@@ -222,7 +222,7 @@ comment_goes : (x : List ℕ) (at : ℕ) (state : State) (brackets : List OpenBr
     → Next x s.before at (comment kind text)
     → SoFar x (at + length (comment_spelling kind text)) (comment_state state (has_line_end text)) brackets ts
     (cs ++ record { kind = kind; range = range_at at (length (comment_spelling kind text)); text = text } ∷ [])
-unfolding comments_of stack.opens_of count_of state_of is_behind line_since divides member headed after_for
+unfolding comments_of stack.opens_of count_of state_of is_behind line_since divides member headed after_for is_front
 comment_goes x at state brackets ts cs kind text s n = record {
   within = ends_within x (comment_spelling kind text) n.after at s.within n.cut;
   before = comment kind text ∷ s.before;
@@ -310,7 +310,7 @@ pub record CommentAfter (x : List ℕ) (at : ℕ) (state : State) (brackets : Li
 -- what is known behind a look
 abbrev pub After : List ℕ → ℕ → State → List OpenBracket → List Token → List Comment → Look → Type 0
 After x at state brackets ts cs look.End = Reads x ts cs
-After x at state brackets ts cs (look.Blank end) = (at < end) × SoFar x end state brackets ts cs
+After x at state brackets ts cs (look.Blank end) = (at < end) × SoFar x end (blank_state state) brackets ts cs
 After x at state brackets ts cs (look.LineEnd end) = (at < end) × SoFar x end (line_state state) brackets ts cs
 After x at state brackets ts cs (look.Comment kind end lines) = CommentAfter x at state brackets ts cs kind end lines
 After x at state brackets ts cs (look.Token k end) = TokenAfter x at state brackets ts cs k end
@@ -347,7 +347,7 @@ end_after x at state brackets ts cs s b w =
     (ap bracket_of (sym (closed_at s.before b)) ∙ stack.bracket_is s.before) in
     record {
       pieces = c.pieces;
-      whole = c.whole ∙ append-nil (text_of c.pieces);
+      whole = c.whole ∙ append-nil (pieces_text c.pieces);
       each = c.each;
       all_closed = ap (open_at 0) (sym c.behind_is) ∙ closed_at s.before b;
       tokens_are = sym (append-nil ts) ∙ (ap (λ us. us ++ []) (sym (filled_none s.before [] ts none)) ∙ c.tokens_are);
@@ -361,7 +361,7 @@ unfolding tokens_of comments_of
 fault_after x at state brackets ts cs kind place s h =
     let c : Cut x (filled s.before [] ts ++ []) (cs ++ []) (drop at x) (at + 0) s.before =
     s.goes [] (drop at x) refl tt in
-    let here : at ≡ length (text_of c.pieces) = let e : at + 0 ≡ length (text_of c.pieces) = c.place_is in
+    let here : at ≡ length (pieces_text c.pieces) = let e : at + 0 ≡ length (pieces_text c.pieces) = c.place_is in
     omega arith in
     record {
       pieces = c.pieces;

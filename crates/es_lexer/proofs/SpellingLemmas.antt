@@ -3,7 +3,7 @@ use Rattle.std.proofs.Common.{[]}
 use Rattle.es_lexer.specs.declared.goal.Goal.{Goal}
 use Rattle.es_lexer.specs.declared.token.TokenKind.{TokenKind}
 use Rattle.es_lexer.specs.Signs.{sign_kind}
-use Rattle.es_lexer.specs.Spelling.{Spells, word, str, sign, private_name, template, number}
+use Rattle.es_lexer.specs.Spelling.{Spells, word, str, sign, private_name, template, number, regexp, shebang}
 use Rattle.es_spelling.proofs.NumberLemmas.{no_empty}
 
 pub not_empty : (goal : Goal) (k : TokenKind) → Spells goal k [] → ⊥
@@ -14,3 +14,5 @@ not_empty goal k (sign e) = cc
 not_empty goal k (private_name name w s e) = cc
 not_empty goal k (template opens sub body t s e) = cc
 not_empty goal k (number big i e) = no_empty big i
+not_empty goal k (regexp i e) = cc
+not_empty goal k (shebang text h f w e) = cc

@@ -12,7 +12,7 @@ use Rattle.es_lexer.specs.declared.token.TokenKind.TheVariants as kind
 use Rattle.es_lexer.specs.declared.token.Token.{Token}
 use Rattle.es_lexer.specs.Brackets.{role_of}
 use Rattle.es_lexer.specs.Pieces.{Piece, blank, line_end, comment, token, Open, count_of, open_at, open_behind, number_of, bracket_of, closer_at, closer_by, partner_of, is_behind, line_since}
-use Rattle.es_lexer.specs.Goal.{headed, open_headed, goal_of, goal_in, state_of, token_state, slash_rule, divides, divides_behind, after_for, member}
+use Rattle.es_lexer.specs.Goal.{headed, open_headed, goal_of, goal_in, state_of, token_state, slash_rule, divides, divides_behind, after_for, member, is_front}
 use Rattle.es_lexer.specs.Scan as scan
 
 -- ---- the brackets that are open behind pieces, the innermost first
@@ -112,7 +112,7 @@ by_closed k line before os = refl
 pub state_behind : (before : List Piece) (k : TokenKind) (s : List ℕ)
     → token_state (state_of before) k (scan.is_headed (scan.closed_of (role_of k) (opens_of before)))
     ≡ state_of (token k s ∷ before)
-unfolding token_state state_of is_behind line_since divides member headed after_for
+unfolding token_state state_of is_behind line_since divides member headed after_for is_front
 state_behind before k s =
     rw (by_closed k (line_since before) (divides before) (opens_of before), ← headed_is before) refl
 

@@ -6,13 +6,13 @@ use Rattle.es_lexer.specs.declared.look.Look.TheVariants as look
 use Rattle.es_lexer.specs.declared.error.LexicalKind.{LexicalKind}
 use Rattle.es_lexer.specs.declared.goal.Goal.{Goal}
 use Rattle.es_lexer.specs.Goal.{goal_of}
-use Rattle.es_lexer.specs.Pieces.{Piece, text_of, comment_spelling, behind, open_at}
+use Rattle.es_lexer.specs.Pieces.{Piece, pieces_text, comment_spelling, behind, open_at}
 use Rattle.es_lexer.specs.Reads.{Reads, tokens_of, comments_of}
 use Rattle.es_lexer.specs.Stops.{Stops, Stuck}
 use Rattle.es_lexer.specs.Look.{end_look, look_at}
 use Rattle.es_lexer.proofs.LookLemmas.{stuck_reads}
 use Rattle.es_lexer.specs.declared.token.TokenKind.TheVariants.{Str}
-use Rattle.es_lexer.specs.Literals.{IsStrLiteral}
+use Rattle.es_literal.specs.Strings.{IsString}
 use Rattle.es_lexer.specs.Spelling.{Spells}
 use Rattle.es_lexer.proofs.PlaceLemmas.{TokenAt, token_at, not_nothing, boundaries, ascends, cuts, literal_of, comment_at, comment_cuts}
 use Rattle.es_lexer.specs.Bytes.{has_line_end}
@@ -31,7 +31,7 @@ pub one_reading : (x : List ℕ) (ts us : List Token) (cs ds : List Comment) →
     → (ts ≡ us) × (cs ≡ ds)
 one_reading x ts us cs ds r s =
     let o : Once r.pieces s.pieces [] [] = once [] r.pieces s.pieces [] []
-    (append-nil (text_of r.pieces) ∙ (sym r.whole ∙ (s.whole ∙ sym (append-nil (text_of s.pieces)))))
+    (append-nil (pieces_text r.pieces) ∙ (sym r.whole ∙ (s.whole ∙ sym (append-nil (pieces_text s.pieces)))))
     r.each s.each (halts_at_end _) (halts_at_end _) in (
       r.tokens_are ∙ (ap (tokens_of []) o.pieces ∙ sym s.tokens_are),
       r.comments_are
@@ -39,7 +39,7 @@ one_reading x ts us cs ds r s =
     )
 
 same_look : (ps qs : List Piece) (a b : List ℕ) → ps ≡ qs → a ≡ b
-    → look_at (goal_of (behind [] ps)) (length (text_of ps)) a ≡ look_at (goal_of (behind [] qs)) (length (text_of qs)) b
+    → look_at (goal_of (behind [] ps)) (length (pieces_text ps)) a ≡ look_at (goal_of (behind [] qs)) (length (pieces_text qs)) b
 same_look ps qs a b p q = cc
 
 -- at the end of a text of which all brackets are closed
@@ -68,10 +68,10 @@ pub no_reading_stops : (x : List ℕ) (ts : List Token) (cs : List Comment) (k :
     → Stops x k at → ⊥
 no_reading_stops x ts cs k at r s =
     let o : Once r.pieces s.pieces [] s.rest = once [] r.pieces s.pieces [] s.rest
-    (append-nil (text_of r.pieces) ∙ (sym r.whole ∙ s.whole)) r.each s.each (halts_at_end _)
+    (append-nil (pieces_text r.pieces) ∙ (sym r.whole ∙ s.whole)) r.each s.each (halts_at_end _)
     (halts_at_fault _ s.rest _ k at s.stuck) in
     let same : look.End ≡ look.Fault k at =
-    sym (end_by (goal_of (behind [] r.pieces)) (length (text_of r.pieces))
+    sym (end_by (goal_of (behind [] r.pieces)) (length (pieces_text r.pieces))
     (closed_goal (behind [] r.pieces) r.all_closed))
     ∙ (same_look r.pieces s.pieces [] s.rest o.pieces o.rests ∙ stuck_reads _ s.rest _ k at s.stuck) in
     cc
@@ -80,7 +80,7 @@ no_reading_stops x ts cs k at r s =
 reads_at : (x : List ℕ) (ts : List Token) (cs : List Comment) (n : ℕ) (t : Token) → Reads x ts cs
     → slice_get ts n ≡ Some t → TokenAt x 0 t
 reads_at x ts cs n t r g =
-    token_at r.pieces [] x [] [] n t (r.whole ∙ sym (append-nil (text_of r.pieces))) refl r.each
+    token_at r.pieces [] x [] [] n t (r.whole ∙ sym (append-nil (pieces_text r.pieces))) refl r.each
     (ap (λ us. slice_get us n) (sym r.tokens_are) ∙ g)
 
 -- a token is not empty and ends within the text
@@ -93,13 +93,15 @@ reads_within x ts cs n t r g = not_nothing x 0 t (reads_at x ts cs n t r g)
 pub reads_boundary : (x : List ℕ) (ts : List Token) (cs : List Comment) (n : ℕ) (t : Token) → IsUtf8 x
     → Reads x ts cs → slice_get ts n ≡ Some t
     → IsCharBoundary x t.range.start × IsCharBoundary x t.range.end
-reads_boundary x ts cs n t u r g = boundaries x 0 t u (reads_at x ts cs n t r g)
+reads_boundary x ts cs n t u r g =
+    boundaries r.pieces [] x [] [] n t (r.whole ∙ sym (append-nil (pieces_text r.pieces))) refl r.each tt
+    (ap (λ us. slice_get us n) (sym r.tokens_are) ∙ g)
 
 -- it ends where the next one begins, or before
 pub reads_ascend : (x : List ℕ) (ts : List Token) (cs : List Comment) (n : ℕ) (t u : Token) → Reads x ts cs
     → slice_get ts n ≡ Some t → slice_get ts (n + 1) ≡ Some u → t.range.end ≤ u.range.start
 reads_ascend x ts cs n t u r f g =
-    ascends r.pieces [] x [] [] n t u (r.whole ∙ sym (append-nil (text_of r.pieces))) refl r.each
+    ascends r.pieces [] x [] [] n t u (r.whole ∙ sym (append-nil (pieces_text r.pieces))) refl r.each
     (ap (λ us. slice_get us n) (sym r.tokens_are) ∙ f)
     (ap (λ us. slice_get us (suc n)) (sym r.tokens_are) ∙ (ap (slice_get ts) (sym (add-one n)) ∙ g))
 
@@ -114,7 +116,7 @@ reads_spells x ts cs n t r g =
 -- a Str's slice is a string literal
 pub reads_str : (x : List ℕ) (ts : List Token) (cs : List Comment) (n : ℕ) (t : Token) → Reads x ts cs
     → slice_get ts n ≡ Some t → t.kind ≡ Str
-    → IsStrLiteral (slice_range x t.range.start t.range.end)
+    → IsString (slice_range x t.range.start t.range.end)
 reads_str x ts cs n t r g e = let s : (goal : Goal) × Spells goal t.kind (slice_range x t.range.start t.range.end) = reads_spells x ts cs n t r g in
     literal_of s.0 t.kind _ e s.1
 
@@ -123,7 +125,7 @@ pub reads_comment : (x : List ℕ) (ts : List Token) (cs : List Comment) (n : �
     → slice_get cs n ≡ Some c
     → slice_range x c.range.start c.range.end ≡ comment_spelling c.kind c.text
 reads_comment x ts cs n c r g =
-    comment_cuts x c (comment_at r.pieces [] x [] [] n c (r.whole ∙ sym (append-nil (text_of r.pieces))) refl
+    comment_cuts x c (comment_at r.pieces [] x [] [] n c (r.whole ∙ sym (append-nil (pieces_text r.pieces))) refl
     (ap (λ ds. slice_get ds n) (sym r.comments_are) ∙ g))
 
 -- ---- what stands between tokens
@@ -132,7 +134,7 @@ pub reads_line_before : (x : List ℕ) (ts : List Token) (cs : List Comment) (n 
     → slice_get ts n ≡ Some t → slice_get ts (n + 1) ≡ Some u
     → u.line_before ≡ has_line_end (slice_range x t.range.end u.range.start)
 reads_line_before x ts cs n t u r f g =
-    line_of_next r.pieces [] x [] [] n t u (r.whole ∙ sym (append-nil (text_of r.pieces))) refl r.each
+    line_of_next r.pieces [] x [] [] n t u (r.whole ∙ sym (append-nil (pieces_text r.pieces))) refl r.each
     (ap (λ us. slice_get us n) (sym r.tokens_are) ∙ f)
     (ap (λ us. slice_get us (suc n)) (sym r.tokens_are) ∙ (ap (slice_get ts) (sym (add-one n)) ∙ g))
 
@@ -168,7 +170,7 @@ whole_text x (reads ps w h e) =
         comments_of [] ps,
         record {
           pieces = ps;
-          whole = w ∙ append-nil (text_of ps);
+          whole = w ∙ append-nil (pieces_text ps);
           each = h;
           all_closed = e;
           tokens_are = refl;
@@ -187,7 +189,7 @@ whole_text x (stops ps rest k place w h s) =
           whole = w;
           each = h;
           stuck = subst (λ (n : ℕ). Stuck (goal_of (behind [] ps)) rest n k place)
-              (let q : 0 + length (text_of ps) ≡ length (text_of ps) = omega arith in q) s;
+              (let q : 0 + length (pieces_text ps) ≡ length (pieces_text ps) = omega arith in q) s;
         },
       ),
     )

@@ -5,7 +5,7 @@ use Rattle.es_lexer.specs.declared.goal.Goal.{Goal}
 use Rattle.es_lexer.specs.declared.token.CommentKind.{CommentKind}
 use Rattle.es_lexer.specs.declared.token.CommentKind.TheVariants.{Line, Block}
 use Rattle.es_lexer.specs.Goal.{goal_of}
-use Rattle.es_lexer.specs.Pieces.{Piece, blank, line_end, comment, token, Open, spelling, comment_spelling, text_of, behind, open_at, bracket_of}
+use Rattle.es_lexer.specs.Pieces.{Piece, blank, line_end, comment, token, Open, spelling, comment_spelling, pieces_text, behind, open_at, bracket_of}
 use Rattle.es_lexer.specs.Readable.{IsPiece, ArePieces}
 use Rattle.es_lexer.specs.Stops.{Stuck}
 use Rattle.es_lexer.specs.Look.{look_at}
@@ -14,10 +14,10 @@ use Rattle.es_lexer.proofs.LookLemmas.{Found, ended, piece, fault, look_finds}
 
 -- the text at a place, behind these pieces, reads to its end or stops
 pub data Ended (before : List Piece) (at : ℕ) (text : List ℕ) : Type 0 where
-  reads : (ps : List Piece) → text ≡ text_of ps ++ [] → ArePieces before ps [] → open_at 0 (behind before ps) ≡ None
+  reads : (ps : List Piece) → text ≡ pieces_text ps ++ [] → ArePieces before ps [] → open_at 0 (behind before ps) ≡ None
       → Ended before at text
-  stops : (ps : List Piece) (rest : List ℕ) (k : LexicalKind) (place : ℕ) → text ≡ text_of ps ++ rest
-      → ArePieces before ps rest → Stuck (goal_of (behind before ps)) rest (at + length (text_of ps)) k place
+  stops : (ps : List Piece) (rest : List ℕ) (k : LexicalKind) (place : ℕ) → text ≡ pieces_text ps ++ rest
+      → ArePieces before ps rest → Stuck (goal_of (behind before ps)) rest (at + length (pieces_text ps)) k place
       → Ended before at text
 
 comment_bytes : (kind : CommentKind) (text : List ℕ) → 0 < length (comment_spelling kind text)
@@ -45,15 +45,15 @@ closed_at before e = none_by (open_at 0 before) e
 more : (before : List Piece) (at : ℕ) (p : Piece) (after text : List ℕ) → text ≡ spelling p ++ after
     → IsPiece (goal_of before) p after → Ended (p ∷ before) (at + length (spelling p)) after → Ended before at text
 more before at p after text w h (reads ps v each e) =
-    reads (p ∷ ps) (w ∙ (ap (λ t. spelling p ++ t) v ∙ sym (append_assoc (spelling p) (text_of ps) [])))
+    reads (p ∷ ps) (w ∙ (ap (λ t. spelling p ++ t) v ∙ sym (append_assoc (spelling p) (pieces_text ps) [])))
     (subst (IsPiece (goal_of before) p) v h, each) e
 more before at p after text w h (stops ps rest k place v each s) =
     stops (p ∷ ps) rest k place
-    (w ∙ (ap (λ t. spelling p ++ t) v ∙ sym (append_assoc (spelling p) (text_of ps) rest)))
+    (w ∙ (ap (λ t. spelling p ++ t) v ∙ sym (append_assoc (spelling p) (pieces_text ps) rest)))
     (subst (IsPiece (goal_of before) p) v h, each)
     (subst (λ (n : ℕ). Stuck (goal_of (behind (p ∷ before) ps)) rest n k place)
-    (let e : at + length (spelling p) + length (text_of ps) ≡ at + length (spelling p ++ text_of ps) =
-    omega (arith, length-append (spelling p) (text_of ps)) in e) s)
+    (let e : at + length (spelling p) + length (pieces_text ps) ≡ at + length (spelling p ++ pieces_text ps) =
+    omega (arith, length-append (spelling p) (pieces_text ps)) in e) s)
 
 cut_step : (fuel : ℕ) → ((before : List Piece) (at : ℕ) (text : List ℕ) → length text ≤ fuel → Ended before at text)
     → (before : List Piece) (at : ℕ) (text : List ℕ) → length text ≤ suc fuel

@@ -1,13 +1,13 @@
 -- Classes of bytes (ECMA-262, "White Space", "Line Terminators", "Names and Keywords").
 -- All of them are ASCII: a byte from 128 on begins nothing and continues no word.
-use Rattle.std.specs.Prelude.{ℕ, Bool, false, not, ◌&&◌, ◌||◌, ◌==◌, List, [], ◌∷◌, if◌then◌else◌}
+use Rattle.std.specs.Prelude.{ℕ, Bool, false, ◌&&◌, ◌||◌, ◌==◌, List, [], ◌∷◌, if◌then◌else◌}
 use Rattle.std.specs.Char.{is_ascii_alphabetic, is_ascii_digit}
 use Rattle.es_lexer.specs.declared.bytes.First.{First}
 use Rattle.es_lexer.specs.declared.bytes.First.TheVariants.{Blank, LineEnd, Start, Quote, Slash, Backtick, Brace, Hash, Digit, Dot, Other}
 
--- U+0009 and U+0020
+-- U+0009, U+000B, U+000C and U+0020
 abbrev pub is_blank : ℕ → Bool
-is_blank b = b == 9 || b == 32
+is_blank b = b == 9 || b == 11 || b == 12 || b == 32
 
 -- U+000A and U+000D
 abbrev pub is_line_end : ℕ → Bool
@@ -24,10 +24,6 @@ is_part b = is_start b || is_ascii_digit b
 -- `"` and `'`
 abbrev pub is_quote : ℕ → Bool
 is_quote b = b == 34 || b == 39
-
--- what stands for itself between two such quotes (DoubleStringCharacter, SingleStringCharacter)
-unfoldable pub is_plain : ℕ → ℕ → Bool
-is_plain quote b = not (b == quote || b == 92 || is_line_end b)
 
 -- the table of first bytes
 unfoldable pub first_of : ℕ → First
@@ -65,6 +61,11 @@ has_closer (a ∷ rest) = begins_closer (a ∷ rest) || has_closer rest
 unfoldable pub has_line_end : List ℕ → Bool
 has_line_end [] = false
 has_line_end (b ∷ rest) = is_line_end b || has_line_end rest
+
+-- `!` stands here
+unfoldable pub begins_mark : List ℕ → Bool
+begins_mark [] = false
+begins_mark (b ∷ rest) = b == 33
 
 -- a part of a name stands here
 unfoldable pub begins_part : List ℕ → Bool

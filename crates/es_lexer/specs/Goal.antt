@@ -146,12 +146,18 @@ member (line_end s ∷ before) = member before
 member (comment c text ∷ before) = member before
 member (token k s ∷ before) = is_member k
 
+-- ---- the front
+unfoldable pub is_front : List Piece → Bool
+is_front [] = true
+is_front (p ∷ before) = false
+
 -- ---- the goal
 unfoldable pub goal_of : List Piece → Goal
 goal_of before = record {
   bracket = bracket_of (open_at 0 before);
   regexp = not (divides before);
   member = member before;
+  front = is_front before;
 }
 
 unfoldable pub begins_digit : List ℕ → Bool
@@ -186,6 +192,7 @@ state_of before = record {
   member = member before;
   headed = headed before;
   after_for = after_for before;
+  front = is_front before;
 }
 
 unfoldable pub token_state : State → TokenKind → Bool → State
@@ -196,13 +203,17 @@ token_state state k closed = record {
   member = is_member k;
   headed = is_headed k state.after_for;
   after_for = is_for k;
+  front = false;
 }
 
+abbrev pub blank_state : State → State
+blank_state state = record state { front = false }
+
 abbrev pub line_state : State → State
-line_state state = record state { line = state.any }
+line_state state = record state { line = state.any; front = false }
 
 abbrev pub comment_state : State → Bool → State
-comment_state state lines = record state { line = state.line || state.any && lines }
+comment_state state lines = record state { line = state.line || state.any && lines; front = false }
 
 abbrev pub goal_in : State → Option BracketKind → Goal
-goal_in state bracket = record { bracket = bracket; regexp = not state.divides; member = state.member }
+goal_in state bracket = record { bracket = bracket; regexp = not state.divides; member = state.member; front = state.front }

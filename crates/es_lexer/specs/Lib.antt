@@ -2,7 +2,6 @@
 pub mod Bytes
 pub mod Words
 pub mod Signs
-pub mod Literals
 pub mod Brackets
 pub mod Pieces
 pub mod Goal

@@ -1,6 +1,6 @@
 -- What the functions of the crate promise each other: what stands at a place, found by one look forward.
 -- A look at a text goes over it once; places count from the start of the whole text.
-use Rattle.std.specs.Prelude.{ℕ, ◌+◌, ◌-◌, Bool, true, false, not, ◌||◌, ◌==◌, List, [], ◌∷◌, take, drop, Option, Some, None, if◌then◌else◌}
+use Rattle.std.specs.Prelude.{ℕ, ◌+◌, ◌-◌, Bool, true, false, not, ◌&&◌, ◌||◌, ◌==◌, List, [], ◌∷◌, take, drop, Option, Some, None, if◌then◌else◌}
 use Rattle.es_lexer.specs.declared.bytes.First.{First}
 use Rattle.es_lexer.specs.declared.bytes.First.TheVariants as first
 use Rattle.es_lexer.specs.declared.bracket.BracketKind.{BracketKind}
@@ -10,15 +10,19 @@ use Rattle.es_lexer.specs.declared.look.Look.{Look}
 use Rattle.es_lexer.specs.declared.look.Look.TheVariants as look
 use Rattle.es_lexer.specs.declared.token.CommentKind.TheVariants.{Line, Block}
 use Rattle.es_lexer.specs.declared.token.TokenKind.TheVariants as kind
-use Rattle.es_lexer.specs.declared.error.LexicalKind.TheVariants.{UnterminatedString, UnterminatedComment, UnterminatedTemplate, InvalidEscape, InvalidChar, Unbalanced}
-use Rattle.es_lexer.specs.Bytes.{begins_part, first_of, is_part, is_line_end, is_plain, begins_closer}
+use Rattle.es_lexer.specs.declared.error.LexicalKind.TheVariants.{UnterminatedString, UnterminatedComment, UnterminatedTemplate, UnterminatedRegExp, InvalidEscape, InvalidChar, Unbalanced}
+use Rattle.es_lexer.specs.Bytes.{begins_part, first_of, is_part, is_line_end, begins_closer}
 use Rattle.es_lexer.specs.Words.{kind_at}
 use Rattle.es_lexer.specs.declared.bracket.BracketKind.TheVariants.{Template}
 use Rattle.es_spelling.specs.declared.template.TemplateEnd.{TemplateEnd}
 use Rattle.es_spelling.specs.declared.template.TemplateEnd.TheVariants.{Closes, Substitutes, Unclosed}
 use Rattle.es_spelling.specs.Templates.{template_end}
+use Rattle.es_spelling.specs.RegExps.{body_end}
 use Rattle.es_spelling.specs.declared.number.NumberEnd.{NumberEnd}
 use Rattle.es_spelling.specs.Numbers.{number_end}
+use Rattle.es_literal.specs.declared.string.StringEnd.{StringEnd}
+use Rattle.es_literal.specs.declared.string.StringEnd.TheVariants as string
+use Rattle.es_literal.specs.Strings.{string_end}
 use Rattle.es_lexer.specs.Goal.{begins_digit}
 use Rattle.es_lexer.specs.Spelling.{template_kind, number_kind}
 use Rattle.es_lexer.specs.Brackets.{role_of, is_open, may_close}
@@ -38,18 +42,11 @@ unfoldable pub word_look : Bool → ℕ → List ℕ → Look
 word_look member at text =
     let end = run_end is_part at text in look.Token (kind_at member (take (end - at) text)) end
 
--- the string literal that began at `start`, at a byte that isn't plain
-unfoldable pub string_stop : ℕ → ℕ → ℕ → ℕ → Look
-string_stop quote start at b =
-    if b == quote then look.Token kind.Str (at + 1)
-    else (if b == 92 then look.Fault InvalidEscape at
-    else look.Fault UnterminatedString start)
-
--- the string literal that began at `start`, from `at` on
-unfoldable pub string_look : ℕ → ℕ → ℕ → List ℕ → Look
-string_look quote start at [] = look.Fault UnterminatedString start
-string_look quote start at (b ∷ rest) =
-    if is_plain quote b then string_look quote start (at + 1) rest else string_stop quote start at b
+-- a string literal at `at`, by its end
+unfoldable pub string_look : ℕ → StringEnd → Look
+string_look at (string.Closes end) = look.Token kind.Str end
+string_look at (string.InvalidEscape place) = look.Fault InvalidEscape place
+string_look at string.Unclosed = look.Fault UnterminatedString at
 
 -- the block comment that began at `start`, from `at` on; `line` says whether a line end stood in it so far
 unfoldable pub block_look : ℕ → Bool → ℕ → List ℕ → Look
@@ -64,10 +61,15 @@ sign_look bracket at None = look.Fault InvalidChar at
 sign_look bracket at (Some sign) =
     if may_close bracket (role_of sign.kind) then look.Token sign.kind (at + sign.size) else look.Fault Unbalanced at
 
+-- a regular expression at `at`, by the place behind its body, before the text behind its first `/`
+unfoldable pub regexp_look : ℕ → Option ℕ → List ℕ → Look
+regexp_look at None rest = look.Fault UnterminatedRegExp at
+regexp_look at (Some end) rest = look.Token kind.RegExp (run_end is_part end (drop (end - (at + 1)) rest))
+
 -- a `/` at `at` that begins no comment
 unfoldable pub divide_look : Goal → ℕ → List ℕ → Look
 divide_look goal at rest =
-    if goal.regexp then look.Fault InvalidChar at else sign_look goal.bracket at (sign_at (47 ∷ rest))
+    if goal.regexp then regexp_look at (body_end (at + 1) rest) rest else sign_look goal.bracket at (sign_at (47 ∷ rest))
 
 -- what begins with a `/` at `at`, before `rest`
 unfoldable pub slash_look : Goal → ℕ → List ℕ → Look
@@ -94,10 +96,11 @@ unfoldable pub name_look : First → ℕ → List ℕ → Look
 name_look first.Start at rest = look.Token kind.PrivateName (run_end is_part (at + 2) rest)
 name_look class at rest = look.Fault InvalidChar at
 
--- a `#` at `at`, before `rest`
-unfoldable pub hash_look : ℕ → List ℕ → Look
-hash_look at [] = look.Fault InvalidChar at
-hash_look at (b ∷ rest) = name_look (first_of b) at rest
+-- a `#` at `at`, at the text's front or not, before `rest`
+unfoldable pub hash_look : Bool → ℕ → List ℕ → Look
+hash_look front at [] = look.Fault InvalidChar at
+hash_look front at (b ∷ rest) =
+    if front && b == 33 then look.Token kind.Shebang (run_end is_in_line (at + 2) rest) else name_look (first_of b) at rest
 
 -- a number, before this text
 unfoldable pub number_stop : NumberEnd → List ℕ → Look
@@ -119,11 +122,11 @@ unfoldable pub class_look : First → Goal → ℕ → ℕ → List ℕ → Look
 class_look first.Blank goal at b rest = look.Blank (at + 1)
 class_look first.LineEnd goal at b rest = look.LineEnd (at + 1)
 class_look first.Start goal at b rest = word_look goal.member at (b ∷ rest)
-class_look first.Quote goal at b rest = string_look b at (at + 1) rest
+class_look first.Quote goal at b rest = string_look at (string_end at (b ∷ rest))
 class_look first.Slash goal at b rest = slash_look goal at rest
 class_look first.Backtick goal at b rest = template_look true at (template_end (at + 1) rest)
 class_look first.Brace goal at b rest = brace_look goal at rest
-class_look first.Hash goal at b rest = hash_look at rest
+class_look first.Hash goal at b rest = hash_look goal.front at rest
 class_look first.Digit goal at b rest = number_look at (b ∷ rest)
 class_look first.Dot goal at b rest = dot_look goal at rest
 class_look first.Other goal at b rest = sign_look goal.bracket at (sign_at (b ∷ rest))

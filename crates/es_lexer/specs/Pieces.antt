@@ -31,8 +31,8 @@ spelling (comment kind text) = comment_spelling kind text
 spelling (token k s) = s
 
 -- the text that the pieces make
-abbrev pub text_of : List Piece → List ℕ
-text_of pieces = flat_map spelling pieces
+abbrev pub pieces_text : List Piece → List ℕ
+pieces_text pieces = flat_map spelling pieces
 
 -- all pieces up to the end of these, the latest first
 abbrev pub behind : List Piece → List Piece → List Piece

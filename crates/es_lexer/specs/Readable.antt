@@ -10,7 +10,7 @@ use Rattle.es_lexer.specs.declared.token.CommentKind.TheVariants.{Line, Block}
 use Rattle.es_lexer.specs.Bytes.{first_of, is_line_end, begins_comment, has_closer}
 use Rattle.es_lexer.specs.Spelling.{Spells}
 use Rattle.es_lexer.specs.Goal.{goal_of, allows, stands_apart}
-use Rattle.es_lexer.specs.Pieces.{Piece, blank, line_end, comment, token, text_of}
+use Rattle.es_lexer.specs.Pieces.{Piece, blank, line_end, comment, token, pieces_text}
 
 -- no token that may stand here has a longer spelling
 abbrev pub IsLongest : Goal → List ℕ → List ℕ → Type 0
@@ -52,4 +52,4 @@ IsPiece goal (token k s) after = IsToken goal k s after
 abbrev pub ArePieces : List Piece → List Piece → List ℕ → Type 0
 ArePieces before [] after = Unit {0}
 ArePieces before (p ∷ pieces) after =
-    IsPiece (goal_of before) p (text_of pieces ++ after) × ArePieces (p ∷ before) pieces after
+    IsPiece (goal_of before) p (pieces_text pieces ++ after) × ArePieces (p ∷ before) pieces after

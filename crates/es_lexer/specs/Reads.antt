@@ -6,7 +6,7 @@ use Rattle.es_lexer.specs.declared.token.Token.{Token}
 use Rattle.es_lexer.specs.declared.token.Comment.{Comment}
 use Rattle.es_lexer.specs.declared.token.CommentKind.{CommentKind}
 use Rattle.es_lexer.specs.Brackets.{role_of}
-use Rattle.es_lexer.specs.Pieces.{Piece, blank, line_end, comment, token, comment_spelling, text_of, place_of, line_since, open_at, behind, partner_of}
+use Rattle.es_lexer.specs.Pieces.{Piece, blank, line_end, comment, token, comment_spelling, pieces_text, place_of, line_since, open_at, behind, partner_of}
 use Rattle.es_lexer.specs.Readable.{ArePieces}
 
 -- the bytes of a text of this length at this place
@@ -48,7 +48,7 @@ comments_of before (token k s ∷ pieces) = comments_of (token k s ∷ before) p
 pub record Reads (x : List ℕ) (tokens : List Token) (comments : List Comment) : Type 0 where
   -- the text in pieces
   pub pieces : List Piece
-  pub whole : x ≡ text_of pieces
+  pub whole : x ≡ pieces_text pieces
   pub each : ArePieces [] pieces []
   -- no bracket is open behind them
   pub all_closed : open_at 0 (behind [] pieces) ≡ None

@@ -1,16 +1,17 @@
 -- Which texts spell a token, by its kind (ECMA-262, "Tokens").
-use Rattle.std.specs.Prelude.{◌≡◌, ℕ, Bool, true, false, List, [], ◌∷◌, Some}
+use Rattle.std.specs.Prelude.{◌≡◌, ℕ, Bool, true, false, List, [], ◌∷◌, ◌++◌, Some}
 use Rattle.std.specs.List.{AllByRecursion}
 use Rattle.es_lexer.specs.declared.bytes.First.TheVariants.{Start}
 use Rattle.es_lexer.specs.declared.goal.Goal.{Goal}
 use Rattle.es_lexer.specs.declared.token.TokenKind.{TokenKind}
-use Rattle.es_lexer.specs.declared.token.TokenKind.TheVariants.{Str, Number, BigInt, PrivateName, TemplateWhole, TemplateHead, TemplateMiddle, TemplateTail}
-use Rattle.es_lexer.specs.Bytes.{first_of, is_part}
+use Rattle.es_lexer.specs.declared.token.TokenKind.TheVariants.{Shebang, Str, RegExp, Number, BigInt, PrivateName, TemplateWhole, TemplateHead, TemplateMiddle, TemplateTail}
+use Rattle.es_lexer.specs.Bytes.{first_of, is_line_end, is_part, begins_comment}
 use Rattle.es_lexer.specs.Words.{kind_at}
 use Rattle.es_lexer.specs.Signs.{sign_kind}
-use Rattle.es_lexer.specs.Literals.{IsStrLiteral}
 use Rattle.es_spelling.specs.Templates.{IsTemplateText}
 use Rattle.es_spelling.specs.Numbers.{IsNumber}
+use Rattle.es_spelling.specs.RegExps.{IsBody}
+use Rattle.es_literal.specs.Strings.{IsString}
 
 -- each byte continues a word
 abbrev pub AreParts : List ℕ → Type 0
@@ -46,12 +47,25 @@ unfoldable pub number_kind : Bool → TokenKind
 number_kind true = BigInt
 number_kind false = Number
 
+-- a body that begins with neither `/` nor `*`, its `/`, and flags ("Regular Expression Literals")
+pub record IsRegExp (s : List ℕ) : Type 0 where
+  pub body : List ℕ
+  pub flags : List ℕ
+  pub closes : IsBody body
+  pub opens : begins_comment s ≡ false
+  pub goes_on : AreParts flags
+  pub whole : s ≡ 47 ∷ (body ++ flags)
+
 -- the text spells a token of this kind there
 pub data Spells (goal : Goal) (k : TokenKind) (s : List ℕ) : Type 0 where
   word : IsWord s → k ≡ kind_at goal.member s → Spells goal k s
-  str : IsStrLiteral s → k ≡ Str → Spells goal k s
+  str : IsString s → k ≡ Str → Spells goal k s
   sign : sign_kind s ≡ Some k → Spells goal k s
   private_name : (name : List ℕ) → IsWord name → s ≡ 35 ∷ name → k ≡ PrivateName → Spells goal k s
   template : (opens substitutes : Bool) (body : List ℕ) → IsTemplateText (template_stop substitutes) body
       → s ≡ template_start opens ∷ body → k ≡ template_kind opens substitutes → Spells goal k s
   number : (big : Bool) → IsNumber big s → k ≡ number_kind big → Spells goal k s
+  regexp : IsRegExp s → k ≡ RegExp → Spells goal k s
+  -- up to the line's end ("Hashbang Comments")
+  shebang : (text : List ℕ) → AllByRecursion (λ b. is_line_end b ≡ false) text → goal.front ≡ true → s ≡ 35 ∷ 33 ∷ text
+      → k ≡ Shebang → Spells goal k s

@@ -1,27 +1,33 @@
 -- The first lexical fault of a text: pieces cut a front of it, and nothing can be read behind them.
-use Rattle.std.specs.Prelude.{◌≡◌, ℕ, ◌+◌, true, false, List, [], ◌∷◌, ◌++◌, length, Bool, Some, None, ◌⊎◌}
+use Rattle.std.specs.Prelude.{◌≡◌, ℕ, ◌+◌, true, false, List, [], ◌∷◌, ◌++◌, length, Bool, ◌&&◌, Some, None, ◌⊎◌}
 use Rattle.es_lexer.specs.declared.bracket.BracketKind.{BracketKind}
-use Rattle.es_lexer.specs.declared.bytes.First.TheVariants.{Start, Quote, Slash, Brace, Other}
+use Rattle.es_lexer.specs.declared.bytes.First.TheVariants.{Start, Brace, Other}
 use Rattle.es_lexer.specs.declared.goal.Goal.{Goal}
 use Rattle.es_lexer.specs.declared.token.TokenKind.{TokenKind}
 use Rattle.es_lexer.specs.declared.error.LexicalKind.{LexicalKind}
-use Rattle.es_lexer.specs.declared.error.LexicalKind.TheVariants.{UnterminatedString, UnterminatedComment, UnterminatedTemplate, InvalidEscape, InvalidChar, Unbalanced}
-use Rattle.es_lexer.specs.Bytes.{first_of, begins_comment, has_closer, begins_part}
+use Rattle.es_lexer.specs.declared.error.LexicalKind.TheVariants.{UnterminatedString, UnterminatedComment, UnterminatedTemplate, UnterminatedRegExp, InvalidEscape, InvalidChar, Unbalanced}
+use Rattle.es_lexer.specs.Bytes.{first_of, begins_comment, begins_mark, has_closer, begins_part}
 use Rattle.es_lexer.specs.declared.bracket.BracketKind.TheVariants.{Template}
 use Rattle.es_lexer.specs.Brackets.{role_of, is_open, may_close}
 use Rattle.es_lexer.specs.Signs.{sign_kind}
-use Rattle.es_lexer.specs.Literals.{ArePlain}
 use Rattle.es_lexer.specs.Spelling.{template_start}
+use Rattle.es_spelling.specs.Units.{concat}
+use Rattle.es_spelling.specs.RegExps.{IsBody}
 use Rattle.es_spelling.specs.Templates.{IsUnclosed}
+use Rattle.es_literal.specs.Strings.{Begins, IsBad, IsCut}
 use Rattle.es_spelling.specs.Numbers.{IsNumber}
 use Rattle.es_lexer.specs.Goal.{goal_of}
-use Rattle.es_lexer.specs.Pieces.{Piece, text_of, behind}
-use Rattle.es_lexer.specs.Readable.{ArePieces, EndsLine}
+use Rattle.es_lexer.specs.Pieces.{Piece, pieces_text, behind}
+use Rattle.es_lexer.specs.Readable.{ArePieces}
 
 -- no name begins here
 abbrev pub BeginsNoName : List ℕ → Type 0
 BeginsNoName [] = Unit {0}
 BeginsNoName (b ∷ rest) = first_of b ≡ Start → ⊥
+
+-- no body of a regular expression begins here
+abbrev pub BeginsNoBody : List ℕ → Type 0
+BeginsNoBody text = (body after : List ℕ) → text ≡ body ++ after → IsBody body → ⊥
 
 -- the byte begins nothing but a punctuator: a `}` goes on in a template where a `${` is open
 abbrev pub BeginsSign : Goal → ℕ → Type 0
@@ -35,12 +41,10 @@ IsLongestNumber s after = (big : Bool) (more rest : List ℕ) → after ≡ more
 -- nothing can be read from `rest`, which stands at `at`: the kind of the fault, and its place
 pub data Stuck (goal : Goal) (rest : List ℕ) (at : ℕ) (kind : LexicalKind) (place : ℕ) : Type 0 where
   -- a string literal without its end
-  open_string : (quote : ℕ) (body after : List ℕ) → first_of quote ≡ Quote → ArePlain quote body
-      → rest ≡ quote ∷ (body ++ after) → EndsLine after → kind ≡ UnterminatedString → place ≡ at
+  open_string : Begins (λ quote back. IsCut back) rest → kind ≡ UnterminatedString → place ≡ at
       → Stuck goal rest at kind place
-  -- a `\` in a string literal: no escape is read
-  bad_escape : (quote : ℕ) (body after : List ℕ) → first_of quote ≡ Quote → ArePlain quote body
-      → rest ≡ quote ∷ (body ++ 92 ∷ after) → kind ≡ InvalidEscape → place ≡ at + 1 + length body
+  -- a `\` in a string literal that begins no escape
+  bad_escape : (b : Begins IsBad rest) → kind ≡ InvalidEscape → place ≡ at + 1 + length (concat b.units)
       → Stuck goal rest at kind place
   -- a block comment without its end
   open_comment : (body : List ℕ) → rest ≡ 47 ∷ 42 ∷ body → has_closer body ≡ false
@@ -48,15 +52,15 @@ pub data Stuck (goal : Goal) (rest : List ℕ) (at : ℕ) (kind : LexicalKind) (
   -- a character that begins nothing
   no_token : (b : ℕ) (after : List ℕ) → rest ≡ b ∷ after → first_of b ≡ Other → sign_kind (b ∷ []) ≡ None
       → kind ≡ InvalidChar → place ≡ at → Stuck goal rest at kind place
-  -- a `/` that begins neither a comment nor a punctuator: no regular expression is read
-  lone_slash : (b : ℕ) (after : List ℕ) → rest ≡ b ∷ after → first_of b ≡ Slash → begins_comment rest ≡ false
-      → goal.regexp ≡ true → kind ≡ InvalidChar → place ≡ at → Stuck goal rest at kind place
+  -- a regular expression without its end
+  open_regexp : (text : List ℕ) → rest ≡ 47 ∷ text → begins_comment rest ≡ false → goal.regexp ≡ true → BeginsNoBody text
+      → kind ≡ UnterminatedRegExp → place ≡ at → Stuck goal rest at kind place
   -- a bracket that doesn't close the innermost open one
   wrong_closer : (b : ℕ) (after : List ℕ) (k : TokenKind) → rest ≡ b ∷ after → BeginsSign goal b
       → sign_kind (b ∷ []) ≡ Some k → may_close goal.bracket (role_of k) ≡ false
       → kind ≡ Unbalanced → place ≡ at → Stuck goal rest at kind place
-  -- a `#` without a name
-  lone_hash : (after : List ℕ) → rest ≡ 35 ∷ after → BeginsNoName after
+  -- a `#` that begins neither a private name nor, at the text's front, a shebang
+  lone_hash : (after : List ℕ) → rest ≡ 35 ∷ after → BeginsNoName after → (goal.front && begins_mark after) ≡ false
       → kind ≡ InvalidChar → place ≡ at → Stuck goal rest at kind place
   -- a part of a name, or a wrong `_`, right behind a number
   joined : (big : Bool) (s after : List ℕ) → rest ≡ s ++ after → IsNumber big s → IsLongestNumber s after
@@ -73,6 +77,6 @@ pub data Stuck (goal : Goal) (rest : List ℕ) (at : ℕ) (kind : LexicalKind) (
 pub record Stops (x : List ℕ) (kind : LexicalKind) (place : ℕ) : Type 0 where
   pub pieces : List Piece
   pub rest : List ℕ
-  pub whole : x ≡ text_of pieces ++ rest
+  pub whole : x ≡ pieces_text pieces ++ rest
   pub each : ArePieces [] pieces rest
-  pub stuck : Stuck (goal_of (behind [] pieces)) rest (length (text_of pieces)) kind place
+  pub stuck : Stuck (goal_of (behind [] pieces)) rest (length (pieces_text pieces)) kind place

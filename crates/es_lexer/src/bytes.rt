@@ -1,5 +1,5 @@
 ghost use Rattle.std.specs.Prelude.{◌≡◌};
-ghost use Rattle.es_lexer.specs.Bytes.{begins_part, first_of, is_line_end, is_part, is_plain};
+ghost use Rattle.es_lexer.specs.Bytes.{begins_part, first_of, is_line_end, is_part};
 
 /// What a byte begins, where a token, a comment or a gap is to be read.
 #[derive(Clone, Copy)]
@@ -31,7 +31,7 @@ pub fn first_of(b: u8) -> First
     ensures { result ≡ first_of b }
 {
     match b {
-        b'\t' | b' ' => First::Blank,
+        b'\t' | 0x0B | 0x0C | b' ' => First::Blank,
         b'\n' | b'\r' => First::LineEnd,
         b'a'..=b'z' | b'A'..=b'Z' | b'$' | b'_' => First::Start,
         b'"' | b'\'' => First::Quote,
@@ -55,13 +55,6 @@ pub fn is_line_end(b: u8) -> bool
     ensures { result ≡ is_line_end b }
 {
     b == b'\n' || b == b'\r'
-}
-
-#[tactic(auto, unfolding(crate::specs::Bytes::is_plain))]
-pub fn is_plain(quote: u8, b: u8) -> bool
-    ensures { result ≡ is_plain quote b }
-{
-    b != quote && b != b'\\' && b != b'\n' && b != b'\r'
 }
 
 /// Whether a part of a name stands here.

@@ -1,5 +1,5 @@
 ghost use Rattle.std.specs.Prelude.{◌≡◌};
-ghost use Rattle.es_lexer.specs.Goal.{slash_rule, is_member, is_for, divides_behind, is_headed, token_state, line_state, comment_state, goal_in};
+ghost use Rattle.es_lexer.specs.Goal.{slash_rule, is_member, is_for, divides_behind, is_headed, token_state, blank_state, line_state, comment_state, goal_in};
 
 use crate::bracket::BracketKind;
 use crate::token::TokenKind;
@@ -13,6 +13,8 @@ pub struct Goal {
     pub regexp: bool,
     /// Whether the latest token is `.` or `?.`, so that a keyword is a name.
     pub member: bool,
+    /// Whether the text begins here.
+    pub front: bool,
 }
 
 /// What a token says of a `/` behind it.
@@ -42,6 +44,8 @@ pub struct State {
     pub headed: bool,
     /// Whether the latest token is `for`.
     pub after_for: bool,
+    /// Whether nothing was read.
+    pub front: bool,
 }
 
 #[tactic(auto, unfolding(crate::specs::Goal::slash_rule))]
@@ -177,6 +181,17 @@ pub fn token_state(state: State, kind: TokenKind, headed: bool) -> State
         member: is_member(kind),
         headed: is_headed(kind, state.after_for),
         after_for: is_for(kind),
+        front: false,
+    }
+}
+
+/// The state behind a blank.
+pub fn blank_state(state: State) -> State
+    ensures { result ≡ blank_state state }
+{
+    State {
+        front: false,
+        ..state
     }
 }
 
@@ -186,6 +201,7 @@ pub fn line_state(state: State) -> State
 {
     State {
         line: state.any,
+        front: false,
         ..state
     }
 }
@@ -196,6 +212,7 @@ pub fn comment_state(state: State, line_end: bool) -> State
 {
     State {
         line: state.line || state.any && line_end,
+        front: false,
         ..state
     }
 }
@@ -208,5 +225,6 @@ pub fn goal_in(state: State, bracket: Option<BracketKind>) -> Goal
         bracket,
         regexp: !state.divides,
         member: state.member,
+        front: state.front,
     }
 }

@@ -2,7 +2,7 @@
 //!
 //! - `lex_tokens(text)`: the one pair of lists of tokens and comments that reads the text (`Reads`, `specs/Reads.antt`),
 //!   or the first fault (`Stops`, `specs/Stops.antt`). Both ways: only want of memory may refuse besides.
-//! - `literal_value(literal)`: the value of a string literal (`value_of`, `specs/Literals.antt`).
+//! - `literal_value(literal)`: the value of a string literal; `quote(text)`: the literal of a text (both of `es_literal`).
 //!
 //! Places are bytes of the text, from 0. `docs/TOKENS.md` tells the rules in words.
 //! Not promised: what `Display` and `Debug` write, and when memory runs out.
@@ -12,7 +12,6 @@ mod bracket;
 mod bytes;
 mod error;
 mod goal;
-mod literals;
 mod look;
 mod scan;
 mod signs;
@@ -21,6 +20,6 @@ mod token;
 mod words;
 
 pub use error::{LexError, LexicalError, LexicalKind};
-pub use literals::{LiteralValue, literal_value};
+pub use es_literal::{LiteralValue, literal_value, quote};
 pub use scan::lex_tokens;
 pub use token::{Comment, CommentKind, Lexed, Token, TokenKind};

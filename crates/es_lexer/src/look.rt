@@ -1,18 +1,19 @@
-ghost use Rattle.std.specs.Prelude.{◌≡◌, ℕ, ◌+◌, ◌<◌, ◌≤◌, ◌^◌, List, ◌∷◌, false, length};
+ghost use Rattle.std.specs.Prelude.{◌≡◌, ◌+◌, ◌<◌, ◌≤◌, ◌^◌, ◌∷◌, false, length, IfSome};
 ghost use Rattle.std.specs.Bool.{OnTrue};
 ghost use Rattle.es_lexer.specs.Bytes.{begins_closer, is_part};
 ghost use Rattle.es_lexer.specs.Signs.{sign_at};
 ghost use Rattle.es_lexer.specs.Spelling.{number_kind};
-ghost use Rattle.es_lexer.specs.Look.{run_end, is_in_line, word_look, string_stop, string_look, block_look, sign_look, template_look, number_stop, number_look, dot_look, brace_look, name_look, hash_look, divide_look, slash_look, end_look, look_at};
+ghost use Rattle.es_lexer.specs.Look.{run_end, is_in_line, word_look, string_look, block_look, sign_look, template_look, number_stop, number_look, dot_look, brace_look, name_look, hash_look, regexp_look, divide_look, slash_look, end_look, look_at};
 
 use crate::bracket::{BracketKind, is_open, may_close, role_of};
-use crate::bytes::{First, begins_part, first_of, is_line_end, is_part, is_plain};
+use crate::bytes::{First, begins_part, first_of, is_line_end, is_part};
 use crate::error::LexicalKind;
 use crate::goal::Goal;
 use crate::signs::{Sign, sign_at};
 use crate::token::{CommentKind, TokenKind};
 use crate::words::kind_at;
-use es_spelling::{NumberEnd, TemplateEnd, number_from, template_from};
+use es_literal::{StringEnd, string_from};
+use es_spelling::{NumberEnd, TemplateEnd, number_from, regexp_from, template_from};
 
 /// What stands at a place of a text. An end is the place behind it.
 #[derive(Clone, Copy)]
@@ -52,11 +53,11 @@ pub fn look_from(goal: Goal, at: usize, text: &[u8]) -> Look
             First::Blank => Look::Blank { end: at + 1 },
             First::LineEnd => Look::LineEnd { end: at + 1 },
             First::Start => word_from(goal.member, at, text),
-            First::Quote => string_from(*b, at, at + 1, rest),
+            First::Quote => string_token(at, string_from(at, text)),
             First::Slash => slash_from(goal, at, text, rest),
             First::Backtick => template_token(true, at, template_from(at + 1, rest)),
             First::Brace => brace_from(goal, at, text, rest),
-            First::Hash => hash_from(at, rest),
+            First::Hash => hash_from(goal.front, at, rest),
             First::Digit => number_token(at, text),
             First::Dot => dot_from(goal, at, text, rest),
             First::Other => sign_from(goal.bracket, at, text),
@@ -165,26 +166,44 @@ fn brace_from(goal: Goal, at: usize, whole: &[u8], rest: &[u8]) -> Look
     }
 }
 
-/// What begins with a `#`: a private name.
-#[tactic(auto, unfolding(crate::specs::Look::hash_look, crate::specs::Look::name_look))]
-fn hash_from(at: usize, rest: &[u8]) -> Look
+/// What begins with a `#`: a private name, or at the text's front a shebang.
+#[tactic(auto, unfolding(crate::specs::Look::hash_look))]
+fn hash_from(front: bool, at: usize, rest: &[u8]) -> Look
     requires { at + 1 + length rest.now < 2 ^ 64 }
-    ensures { result ≡ hash_look at rest.now }
+    ensures { result ≡ hash_look front at rest.now }
 {
     match rest {
         [] => Look::Fault {
             kind: LexicalKind::InvalidChar,
             at,
         },
-        [b, parts @ ..] => match first_of(*b) {
-            First::Start => Look::Token {
-                kind: TokenKind::PrivateName,
-                end: word_end_from(at + 2, parts),
-            },
-            _ => Look::Fault {
-                kind: LexicalKind::InvalidChar,
-                at,
-            },
+        [b, more @ ..] => {
+            if front && *b == b'!' {
+                Look::Token {
+                    kind: TokenKind::Shebang,
+                    end: line_end_from(at + 2, more),
+                }
+            } else {
+                name_from(first_of(*b), at, more)
+            }
+        }
+    }
+}
+
+/// A private name, whose name begins with a byte of this class, which stands before the text.
+#[tactic(auto, unfolding(crate::specs::Look::name_look))]
+fn name_from(class: First, at: usize, text: &[u8]) -> Look
+    requires { at + 2 + length text.now < 2 ^ 64 }
+    ensures { result ≡ name_look class at text.now }
+{
+    match class {
+        First::Start => Look::Token {
+            kind: TokenKind::PrivateName,
+            end: word_end_from(at + 2, text),
+        },
+        _ => Look::Fault {
+            kind: LexicalKind::InvalidChar,
+            at,
         },
     }
 }
@@ -229,47 +248,24 @@ fn sign_from(bracket: Option<BracketKind>, at: usize, text: &[u8]) -> Look
     }
 }
 
+/// A string literal, by its end.
 #[tactic(auto, unfolding(crate::specs::Look::string_look))]
-fn string_from(quote: u8, start: usize, first: usize, bytes: &[u8]) -> Look
-    requires { first + length bytes.now < 2 ^ 64 }
-    ensures { result ≡ string_look quote start first bytes.now }
+fn string_token(at: usize, end: StringEnd) -> Look
+    ensures { result ≡ string_look at end }
 {
-    let mut at = first;
-    let mut rest = bytes;
-    while let [b, after @ ..] = rest {
-        if !is_plain(quote, *b) {
-            return string_end(quote, start, at, *b);
-        }
-        rest = after;
-        at += 1;
-    }
-    Look::Fault {
-        kind: LexicalKind::UnterminatedString,
-        at: start,
-    }
-}
-
-/// A string literal at a byte that can't go on in it.
-#[tactic(auto, unfolding(crate::specs::Look::string_stop))]
-fn string_end(quote: u8, start: usize, at: usize, b: u8) -> Look
-    requires { at + 1 < 2 ^ 64 }
-    ensures { result ≡ string_stop quote start at b }
-{
-    if b == quote {
-        Look::Token {
+    match end {
+        StringEnd::Closes(end) => Look::Token {
             kind: TokenKind::Str,
-            end: at + 1,
-        }
-    } else if b == b'\\' {
-        Look::Fault {
+            end,
+        },
+        StringEnd::InvalidEscape(at) => Look::Fault {
             kind: LexicalKind::InvalidEscape,
             at,
-        }
-    } else {
-        Look::Fault {
+        },
+        StringEnd::Unclosed => Look::Fault {
             kind: LexicalKind::UnterminatedString,
-            at: start,
-        }
+            at,
+        },
     }
 }
 
@@ -286,23 +282,40 @@ fn slash_from(goal: Goal, at: usize, whole: &[u8], rest: &[u8]) -> Look
             line_end: false,
         },
         [b'*', text @ ..] => block_from(at, at + 2, text),
-        _ => divide_from(goal, at, whole),
+        _ => divide_from(goal, at, whole, rest),
     }
 }
 
 /// A `/` that begins no comment.
 #[tactic(auto, unfolding(crate::specs::Look::divide_look))]
-fn divide_from(goal: Goal, at: usize, whole: &[u8]) -> Look
-    requires { at + length whole.now < 2 ^ 64 }
-    ensures { (rest : List ℕ) → whole.now ≡ 47 ∷ rest → result ≡ divide_look goal at rest }
+fn divide_from(goal: Goal, at: usize, whole: &[u8], rest: &[u8]) -> Look
+    requires room { at + 1 + length rest.now < 2 ^ 64 }
+    requires slash { whole.now ≡ 47 ∷ rest.now }
+    ensures { result ≡ divide_look goal at rest.now }
 {
     if goal.regexp {
-        Look::Fault {
-            kind: LexicalKind::InvalidChar,
-            at,
-        }
+        regexp_token(at, regexp_from(at + 1, rest), rest)
     } else {
         sign_from(goal.bracket, at, whole)
+    }
+}
+
+/// A regular expression, by the place behind its body. The text stands behind the `/` that begins it.
+#[tactic(auto, unfolding(crate::specs::Look::regexp_look))]
+fn regexp_token(at: usize, body: Option<usize>, text: &[u8]) -> Look
+    requires room { at + 1 + length text.now < 2 ^ 64 }
+    requires within { IfSome body (λ end. (at + 1 ≤ end) × (end ≤ at + 1 + length text.now)) }
+    ensures { result ≡ regexp_look at body text.now }
+{
+    match body {
+        Some(end) => Look::Token {
+            kind: TokenKind::RegExp,
+            end: word_end_from(end, &text[end - (at + 1)..]),
+        },
+        None => Look::Fault {
+            kind: LexicalKind::UnterminatedRegExp,
+            at,
+        },
     }
 }
 

@@ -10,7 +10,7 @@ ghost use Rattle.es_lexer.specs.Goal.{state_of};
 ghost use Rattle.es_lexer.specs.Scan.{text_end, HasCommentText, comment_at};
 
 use crate::error::{LexError, LexicalError};
-use crate::goal::{State, comment_state, goal_in, line_state, token_state};
+use crate::goal::{State, blank_state, comment_state, goal_in, line_state, token_state};
 use crate::look::{Look, look_from};
 use crate::stack::{innermost, push_token};
 use crate::token::{Comment, CommentKind, Lexed};
@@ -44,7 +44,10 @@ fn scan(alloc: Global, text: &str) -> Result<Lexed, LexError>
     'pieces: loop {
         match look_from(goal_in(state, innermost(&brackets)), at, &bytes[at..]) {
             Look::End => return Ok(Lexed { tokens, comments }),
-            Look::Blank { end } => at = end,
+            Look::Blank { end } => {
+                state = blank_state(state);
+                at = end;
+            }
             Look::LineEnd { end } => {
                 state = line_state(state);
                 at = end;
@@ -72,7 +75,7 @@ fn scan(alloc: Global, text: &str) -> Result<Lexed, LexError>
 }
 
 /// The state at the front of a text.
-#[tactic(auto, unfolding(crate::specs::Goal::state_of, crate::specs::Goal::after_for, crate::specs::Goal::headed, crate::specs::Goal::divides, crate::specs::Goal::member, crate::specs::Pieces::is_behind, crate::specs::Pieces::line_since))]
+#[tactic(auto, unfolding(crate::specs::Goal::state_of, crate::specs::Goal::after_for, crate::specs::Goal::is_front, crate::specs::Goal::headed, crate::specs::Goal::divides, crate::specs::Goal::member, crate::specs::Pieces::is_behind, crate::specs::Pieces::line_since))]
 fn first_state() -> State
     ensures { result ≡ state_of [] }
 {
@@ -83,6 +86,7 @@ fn first_state() -> State
         member: false,
         headed: false,
         after_for: false,
+        front: true,
     }
 }
 

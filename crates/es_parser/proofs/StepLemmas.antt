@@ -16,7 +16,7 @@ use Rattle.es_parser.specs.Dress.{item as item_value}
 use Rattle.es_parser.specs.Steps.{IsRead, all_of}
 use denote.Enum.Bare.{same_true}
 use Rattle.es_lexer.specs.contracts.token.TokenKind.{the_type}
-use Rattle.es_lexer.specs.Literals.{value_of}
+use Rattle.es_literal.specs.Values.{value_of, is_lone}
 use Rattle.es_parser.proofs.TokenLemmas.{seen_some, seen_none}
 
 -- ---- tokens
@@ -40,7 +40,7 @@ kind_seen ts at tok kind there e = same_true the_type tt tok.kind kind (look_som
 
 -- a string literal that is kept, by its token
 pub literal_leaf : (x : List ℕ) (ts : List Token) (at : ℕ) (tok : Token) (text : List ℕ) (lone : Bool) → slice_get ts at ≡ Some tok
-    → text ≡ value_of (slice_range x tok.range.start tok.range.end) → lone ≡ false
+    → text ≡ value_of (slice_range x tok.range.start tok.range.end) → lone ≡ is_lone (slice_range x tok.range.start tok.range.end)
     → leaf_value x ts as_str at ≡ str (record { value = text; lone = lone; span = tok.range })
 literal_leaf x ts at tok text lone there v l = rw (there, v, l) refl
 

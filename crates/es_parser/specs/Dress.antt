@@ -2,7 +2,7 @@
 use Rattle.std.specs.Prelude.{ℕ, zero, suc, ◌==◌, false, List, [], ◌∷◌, Option, Some, None, if◌then◌else◌, slice_get, slice_range}
 use Rattle.base.specs.declared.range.Range.{Range}
 use Rattle.es_lexer.specs.declared.token.Token.{Token}
-use Rattle.es_lexer.specs.Literals.{value_of}
+use Rattle.es_literal.specs.Values.{value_of, is_lone}
 use Rattle.es_ast.specs.declared.ast.Program.{Program}
 use Rattle.es_ast.specs.declared.ast.Program.TheVariants as vProgram
 use Rattle.es_ast.specs.declared.ast.ModuleItem.{ModuleItem}
@@ -50,7 +50,9 @@ span_of ts from to =
 
 -- a string literal with its value
 abbrev pub str_of : List ℕ → Option Token → Value
-str_of x (Some t) = str (record { value = value_of (slice_range x t.range.start t.range.end); lone = false; span = t.range })
+str_of x (Some t) =
+    let literal = slice_range x t.range.start t.range.end in
+    str (record { value = value_of literal; lone = is_lone literal; span = t.range })
 str_of x None = absent
 
 -- a token that is kept

@@ -12,7 +12,8 @@ ghost use Rattle.es_parser.specs.Steps.{IsRead, parts};
 
 use base::Range;
 use es_ast::Str;
-use es_lexer::{Token, TokenKind, literal_value};
+use es_lexer::{Token, TokenKind};
+use es_literal::literal_value;
 use es_tree::{Lang, Mode, SyntaxError};
 use std::alloc::{AllocError, Global};
 

@@ -4,3 +4,4 @@ pub mod ReaderLemmas
 pub mod DigitLemmas
 pub mod NumberLemmas
 pub mod AsciiLemmas
+pub mod RegExpLemmas

@@ -200,3 +200,9 @@ rest_turn size n s t text e l w d q m =
     let one : Turn size 0 0 n s t s = turn size 0 0 n s t s e l w d refl refl in
     let size : length t ≡ length (drop n s) = ap length d in
     record { same = one.rest ∙ q; less = omega (arith, length-drop n s) }
+
+-- the place behind the text stays
+pub turn_place : (at n : ℕ) (s t : List ℕ) → t ≡ drop n s → n ≤ length s → at + n + length t ≡ at + length s
+turn_place at n s t e l =
+    let size : length t ≡ length (drop n s) = ap length e in
+    omega (arith, length-drop n s)

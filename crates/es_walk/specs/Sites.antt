@@ -2,7 +2,8 @@
 use Rattle.std.specs.Prelude.{◌≡◌, ℕ, ◌≤◌, Bool, false, List, [], ◌∷◌, ◌++◌, length, map, slice_range, Option, Some, None}
 use Rattle.std.specs.List.{flat_map}
 use Rattle.base.specs.declared.range.Range.{Range}
-use Rattle.es_lexer.specs.Literals.{IsStrLiteral, value_of}
+use Rattle.es_literal.specs.Strings.{IsString}
+use Rattle.es_literal.specs.Values.{value_of}
 use Rattle.ts_ast.specs.declared.leaf.Str.{Str}
 use Rattle.es_ast.specs.declared.leaf.ImportDecl.{ImportDecl}
 use Rattle.es_ast.specs.declared.leaf.NamedExport.{NamedExport}
@@ -44,7 +45,7 @@ abbrev pub CutsLiteral : List ℕ → Range → List ℕ → Type 0
 CutsLiteral text range value =
     (range.start ≤ range.end)
     × (range.end ≤ length text)
-    × IsStrLiteral (slice_range text range.start range.end)
+    × IsString (slice_range text range.start range.end)
     × (value_of (slice_range text range.start range.end) ≡ value)
 
 -- ---- the sites that a node is itself

@@ -62,9 +62,9 @@ fn texts_have_their_tokens(rt: HostRuntime) -> Result<(), Fail> {
         ("/*/*/ //*/", "block 0-5 [/], line 6-10 [*/], "),
         ("'a", "UnterminatedString at byte 0"),
         ("; 'a\nb'", "UnterminatedString at byte 2"),
-        ("'a\\'", "InvalidEscape at byte 2"),
+        ("'a\\'", "UnterminatedString at byte 0"),
         ("a /* b", "UnterminatedComment at byte 2"),
-        ("/", "InvalidChar at byte 0"),
+        ("/", "UnterminatedRegExp at byte 0"),
         (
             "a/b/c",
             "Name 0-1, Slash 1-2, Name 2-3, Slash 3-4, Name 4-5, ",
@@ -73,15 +73,15 @@ fn texts_have_their_tokens(rt: HostRuntime) -> Result<(), Fail> {
             "(b)/c /= d",
             "OpenParen 0-1, Name 1-2, CloseParen 2-3, Slash 3-4, Name 4-5, SlashEqual 6-8, Name 9-10, ",
         ),
-        ("if (b) /c", "InvalidChar at byte 7"),
-        ("for await (b) /c", "InvalidChar at byte 14"),
+        ("if (b) /c", "UnterminatedRegExp at byte 7"),
+        ("for await (b) /c", "UnterminatedRegExp at byte 14"),
         (
             "await (b) /c",
             "AwaitWord 0-5, OpenParen 6-7, Name 7-8, CloseParen 8-9, Slash 10-11, Name 11-12, ",
         ),
         ("a! / b", "Name 0-1, Exclamation 1-2, Slash 3-4, Name 5-6, "),
-        ("a\n! / b", "InvalidChar at byte 4"),
-        ("return /b", "InvalidChar at byte 7"),
+        ("a\n! / b", "UnterminatedRegExp at byte 4"),
+        ("return /b", "UnterminatedRegExp at byte 7"),
         (
             "x.if / y.as?.import",
             "Name 0-1, Dot 1-2, Name 2-4, Slash 5-6, Name 7-8, Dot 8-9, AsWord 9-11, QuestionDot 11-13, Name 13-19, ",
@@ -144,6 +144,31 @@ fn texts_have_their_tokens(rt: HostRuntime) -> Result<(), Fail> {
         ("0_1", "InvalidChar at byte 1"),
         ("0x", "InvalidChar at byte 1"),
         ("1e+", "InvalidChar at byte 1"),
+        (
+            "x = /[/]/g;",
+            "Name 0-1, Equal 2-3, RegExp 4-10, Semicolon 10-11, ",
+        ),
+        (
+            "if (a) /b/.test(c)",
+            "IfWord 0-2, OpenParen 3-4, Name 4-5, CloseParen 5-6, RegExp 7-10, Dot 10-11, Name 11-15, OpenParen 15-16, Name 16-17, CloseParen 17-18, ",
+        ),
+        ("/\\//i/a", "RegExp 0-5, Slash 5-6, Name 6-7, "),
+        ("/[\\]/]/", "RegExp 0-7, "),
+        ("/]/", "RegExp 0-3, "),
+        ("/[/", "UnterminatedRegExp at byte 0"),
+        ("/a\n/", "UnterminatedRegExp at byte 0"),
+        ("/a\\\n/", "UnterminatedRegExp at byte 0"),
+        ("/a\u{2028}/", "UnterminatedRegExp at byte 0"),
+        ("'\\x41\\u0041\\u{10FFFF}\\0\\\r\n'", "Str 0-27, "),
+        ("'\u{2028}'", "Str 0-5, "),
+        ("\"\\x4\"", "InvalidEscape at byte 1"),
+        ("'\\u{110000}'", "InvalidEscape at byte 1"),
+        ("'\\u{}", "InvalidEscape at byte 1"),
+        ("'\\", "UnterminatedString at byte 0"),
+        ("#!a //\n#b", "Shebang 0-6, *PrivateName 7-9, "),
+        ("#!", "Shebang 0-2, "),
+        (" #!a", "InvalidChar at byte 1"),
+        ("a\u{b}b\u{c}c", "Name 0-1, Name 2-3, Name 4-5, "),
         ("a\u{e9}", "InvalidChar at byte 1"),
         ("'\u{e9}' // \u{20ac}", "Str 0-4, line 5-11 [ \u{20ac}], "),
     ];
@@ -185,10 +210,25 @@ fn brackets_have_their_partners(rt: HostRuntime) -> Result<(), Fail> {
 }
 
 #[test]
-fn a_literal_stands_for_the_text_between_its_quotes(rt: HostRuntime) -> Result<(), Fail> {
-    let literal = "'./b.ts'";
-    let value = literal_value(rt.alloc(), literal)?;
-    assert_eq!(rt; value.text.as_str(), "./b.ts");
-    assert!(rt; !value.lone);
+fn a_literal_has_its_value(rt: HostRuntime) -> Result<(), Fail> {
+    let rows = [
+        ("'./b.ts'", "./b.ts", false),
+        ("'\\x41\\u0042\\u{1F600}\\103\\q'", "AB\u{1F600}Cq", false),
+        (
+            "\"\\b\\t\\n\\v\\f\\r\\0\"",
+            "\u{8}\t\n\u{B}\u{C}\r\0",
+            false,
+        ),
+        ("'a\\\r\nb\\\u{2028}c'", "abc", false),
+        ("'\\uD83D\\uDE00'", "\u{1F600}", false),
+        ("'\\uD83D'", "\u{FFFD}", true),
+        ("'\\uDE00\\uD83Da'", "\u{FFFD}\u{FFFD}a", true),
+        ("'\\400\\8'", " 08", false),
+    ];
+    for (literal, text, lone) in rows {
+        let value = literal_value(rt.alloc(), literal)?;
+        assert_eq!(rt; value.text.as_str(), text, "{literal:?}");
+        assert_eq!(rt; value.lone, lone, "{literal:?}");
+    }
     Ok(())
 }

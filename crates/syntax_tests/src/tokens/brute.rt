@@ -22,6 +22,30 @@ fn is_word_byte(b: u8) -> bool {
     b.is_ascii_alphanumeric() || b == b'$' || b == b'_'
 }
 
+/// Whether these bytes may stand before an `end`, each behind a `\` or by itself; a line end only behind one, if at all.
+fn are_units(bytes: &[u8], end: u8, lines: bool) -> bool {
+    let mut escaped = false;
+    for b in bytes.iter() {
+        if is_line_end(*b) && !(escaped && lines) || *b == end && !escaped {
+            return false;
+        }
+        escaped = !escaped && *b == b'\\';
+    }
+    !escaped
+}
+
+/// Whether a regular expression goes on so behind its first `/`.
+fn is_regexp(text: &[u8]) -> bool {
+    let Some(end) = text.iter().rposition(|b| *b == b'/') else {
+        return false;
+    };
+    let (body, flags) = text.split_at(end);
+    end > 0
+        && !text.starts_with(b"*")
+        && are_units(body, b'/', false)
+        && flags.iter().skip(1).all(|b| is_word_byte(*b))
+}
+
 /// The kind that the whole text spells, where `/` divides or begins a regular expression.
 fn spelled(text: &[u8], divides: bool) -> Option<TokenKind> {
     match text {
@@ -30,14 +54,17 @@ fn spelled(text: &[u8], divides: bool) -> Option<TokenKind> {
         [b'*', b'*'] => Some(TokenKind::StarStar),
         [b'/'] if divides => Some(TokenKind::Slash),
         [first, .., last] if (*first == b'"' || *first == b'\'') && first == last => {
-            let inside = text.get(1..text.len() - 1)?;
-            let plain = |b: &u8| *b != *first && *b != b'\\' && !is_line_end(*b);
-            if inside.iter().all(plain) {
+            if are_units(text.get(1..text.len() - 1)?, *first, true) {
                 Some(TokenKind::Str)
             } else {
                 None
             }
         }
+        [b'/', body @ ..] if !divides => if is_regexp(body) {
+            Some(TokenKind::RegExp)
+        } else {
+            None
+        },
         [first, ..] if !first.is_ascii_digit() && text.iter().all(|b| is_word_byte(*b)) => Some(
             TokenKind::Name,
         ),
@@ -82,15 +109,8 @@ fn fault_at(text: &[u8]) -> (&'static str, usize) {
         return ("UnterminatedComment", 0);
     }
     match text {
-        [first, inside @ ..] if *first == b'"' || *first == b'\'' => {
-            let stop = inside
-                .iter()
-                .position(|b| *b == *first || *b == b'\\' || is_line_end(*b));
-            match stop {
-                Some(n) if inside.get(n) == Some(&b'\\') => ("InvalidEscape", n.saturating_add(1)),
-                _ => ("UnterminatedString", 0),
-            }
-        }
+        [b'"' | b'\'', ..] => ("UnterminatedString", 0),
+        [b'/', ..] => ("UnterminatedRegExp", 0),
         _ => ("InvalidChar", 0),
     }
 }
@@ -137,7 +157,9 @@ fn slow(alloc: Global, text: &str) -> Result<String, AllocError> {
             }
         }
         if let Piece::Token(kind, _) = piece {
-            divides = kind == TokenKind::Name || kind == TokenKind::Str;
+            divides = kind == TokenKind::Name
+                || kind == TokenKind::Str
+                || kind == TokenKind::RegExp;
             behind = true;
             line = false;
         } else if behind && part.iter().any(|b| is_line_end(*b)) {

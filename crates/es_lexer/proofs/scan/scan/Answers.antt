@@ -40,8 +40,8 @@ pieces-smaller-in-LineEnd c =
 pub pieces-preserved-in-Blank : goal.pieces-preserved-in-Blank
 pieces-preserved-in-Blank c = record {
   same = c.pieces.invariant.same;
-  so_far = (advance_at c.args.text.now c.as_bytes-bytes.result.now c.pieces.at c.pieces.state c.pieces.brackets c.pieces.tokens c.pieces.comments _ _ _
-      c.utf8.text c.pieces.invariant.same c.pieces.invariant.so_far c.innermost.ensures c.goal_in.ensures c.in-Blank.ensures).1;
+  so_far = so_far_as _ _ _ _ _ _ _ _ (advance_at c.args.text.now c.as_bytes-bytes.result.now c.pieces.at c.pieces.state c.pieces.brackets c.pieces.tokens c.pieces.comments _ _ _
+      c.utf8.text c.pieces.invariant.same c.pieces.invariant.so_far c.innermost.ensures c.goal_in.ensures c.in-Blank.ensures).1 c.blank_state-state.ensures refl;
 }
 
 pub pieces-preserved-in-LineEnd : goal.pieces-preserved-in-LineEnd

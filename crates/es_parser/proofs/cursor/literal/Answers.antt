@@ -1,5 +1,5 @@
 use Rattle.std.proofs.Common.{◌<◌, arith}
-use Rattle.es_lexer.proofs.Theorems.{reads_within, reads_boundary, reads_str}
+use Rattle.es_lexer.proofs.Theorems.{reads_within, reads_boundary}
 use Rattle.es_parser.proofs.cursor.literal.Goals as goal
 
 -- a token isn't empty and splits no character
@@ -16,9 +16,3 @@ range-requires-clause-start_boundary c = λ _.
 pub range-requires-clause-end_boundary : goal.range-requires-clause-end_boundary
 range-requires-clause-end_boundary c =
     (reads_boundary c.args.text.now c.args.tokens.now c.requires.read.0 c.args.at c.args.token c.utf8.text c.requires.read.1 c.requires.token).1
-
--- a Str spells a string literal
-pub literal_value-requires : goal.literal_value-requires
-literal_value-requires c =
-    rw c.range.ensures.value
-    (reads_str c.args.text.now c.args.tokens.now c.requires.read.0 c.args.at c.args.token c.requires.read.1 c.requires.token c.requires.str)
