@@ -1,0 +1,2 @@
+//! The typed tree of a program from its plain tree.
+#![tactic(auto)]
