@@ -1,12 +1,12 @@
 -- What the class of a first byte says of the byte.
-use Rattle.std.proofs.Common.{◌≡◌, ℕ, ◌-◌, ◌≤◌, Bool, true, false, ◌==◌, ◌&&◌, ◌||◌, List, [], ◌∷◌, length, take, drop, get_or, if◌then◌else◌, refl, sym, ◌∙◌, ap, arith, eqb-true, true≢false}
+use Rattle.std.proofs.Common.{◌≡◌, ℕ, ◌-◌, ◌≤◌, nat_le, Bool, true, false, ◌==◌, ◌&&◌, ◌||◌, List, [], ◌∷◌, length, take, drop, get_or, if◌then◌else◌, refl, sym, ◌∙◌, ap, arith, eqb-true, true≢false}
 use Rattle.std.specs.Char.{is_ascii_digit}
 use Rattle.std.proofs.lemmas.Bool.Decides.{nat_tests}
 use Rattle.std.proofs.lemmas.List.{take_rest}
 use Rattle.es_lexer.specs.declared.bytes.First.{First}
-use Rattle.es_lexer.specs.declared.bytes.First.TheVariants.{Blank, LineEnd, Start, Quote, Slash, Backtick, Brace, Hash, Digit, Dot, Other}
+use Rattle.es_lexer.specs.declared.bytes.First.TheVariants.{Blank, LineEnd, Start, Quote, Slash, Backtick, Brace, Hash, Digit, Dot, Wide, Other}
 use Rattle.es_literal.specs.Strings.{is_quote as is_string_quote}
-use Rattle.es_lexer.specs.Bytes.{is_blank, is_line_end, is_start, is_part, is_quote, first_of, begins_comment}
+use Rattle.es_lexer.specs.Bytes.{is_blank, is_line_end, is_start, is_quote, first_of, begins_comment}
 
 -- the tests that a byte of a class passes
 pub data Classed (b : ℕ) (c : First) : Type 0 where
@@ -20,6 +20,7 @@ pub data Classed (b : ℕ) (c : First) : Type 0 where
   hash : b ≡ 35 → c ≡ Hash → Classed b c
   digit : is_ascii_digit b ≡ true → c ≡ Digit → Classed b c
   dot : b ≡ 46 → c ≡ Dot → Classed b c
+  wide : 128 ≤ b → c ≡ Wide → Classed b c
   other : c ≡ Other → Classed b c
 
 rest_of : ℕ → First
@@ -29,17 +30,22 @@ rest_of b =
     else (if b == 35 then Hash
     else (if is_ascii_digit b then Digit
     else (if b == 46 then Dot
-    else Other))))
+    else (if nat_le 128 b then Wide
+    else Other)))))
 
-rest_classed : (b : ℕ) (u v w x y : Bool) → (b == 96) ≡ u → (b == 125) ≡ v → (b == 35) ≡ w → is_ascii_digit b ≡ x
-    → (b == 46) ≡ y → Classed b (rest_of b)
+high_of : (b : ℕ) → nat_le 128 b ≡ true → 128 ≤ b
+high_of b e = grind (arith, nat_tests)
+
+rest_classed : (b : ℕ) (u v w x y z : Bool) → (b == 96) ≡ u → (b == 125) ≡ v → (b == 35) ≡ w → is_ascii_digit b ≡ x
+    → (b == 46) ≡ y → nat_le 128 b ≡ z → Classed b (rest_of b)
 unfolding rest_of
-rest_classed b true v w x y p q r s o = backtick (eqb-true _ _ p) (rw p refl)
-rest_classed b false true w x y p q r s o = brace (eqb-true _ _ q) (rw (p, q) refl)
-rest_classed b false false true x y p q r s o = hash (eqb-true _ _ r) (rw (p, q, r) refl)
-rest_classed b false false false true y p q r s o = digit s (rw (p, q, r, s) refl)
-rest_classed b false false false false true p q r s o = dot (eqb-true _ _ o) (rw (p, q, r, s, o) refl)
-rest_classed b false false false false false p q r s o = other (rw (p, q, r, s, o) refl)
+rest_classed b true v w x y z p q r s o h = backtick (eqb-true _ _ p) (rw p refl)
+rest_classed b false true w x y z p q r s o h = brace (eqb-true _ _ q) (rw (p, q) refl)
+rest_classed b false false true x y z p q r s o h = hash (eqb-true _ _ r) (rw (p, q, r) refl)
+rest_classed b false false false true y z p q r s o h = digit s (rw (p, q, r, s) refl)
+rest_classed b false false false false true z p q r s o h = dot (eqb-true _ _ o) (rw (p, q, r, s, o) refl)
+rest_classed b false false false false false true p q r s o h = wide (high_of b h) (rw (p, q, r, s, o, h) refl)
+rest_classed b false false false false false false p q r s o h = other (rw (p, q, r, s, o, h) refl)
 
 classed_by : (b : ℕ) (u v w x z : Bool) → is_blank b ≡ u → is_line_end b ≡ v → is_start b ≡ w → is_quote b ≡ x
     → (b == 47) ≡ z → Classed b (rest_of b) → Classed b (first_of b)
@@ -54,14 +60,14 @@ classed_by b false false false false false p q r s o c = rw (p, q, r, s, o) c
 pub classed : (b : ℕ) → Classed b (first_of b)
 classed b = classed_by b (is_blank b) (is_line_end b) (is_start b) (is_quote b)
     (b == 47) refl refl refl refl refl
-    (rest_classed b (b == 96) (b == 125) (b == 35) (is_ascii_digit b) (b == 46) refl refl refl refl refl)
+    (rest_classed b (b == 96) (b == 125) (b == 35) (is_ascii_digit b) (b == 46) (nat_le 128 b) refl refl refl refl refl
+    refl)
 
--- a start goes on in its word
-pub start_is_part : (b : ℕ) → first_of b ≡ Start → is_part b ≡ true
-start_is_part b h = elim (classed b) [
+pub start_is : (b : ℕ) → first_of b ≡ Start → is_start b ≡ true
+start_is b h = elim (classed b) [
   | blank p e ↦ cc
   | line_end p e ↦ cc
-  | start s e ↦ rw s refl
+  | start s e ↦ s
   | quote n q e ↦ cc
   | slash s e ↦ cc
   | backtick s e ↦ cc
@@ -69,6 +75,7 @@ start_is_part b h = elim (classed b) [
   | hash s e ↦ cc
   | digit s e ↦ cc
   | dot s e ↦ cc
+  | wide l e ↦ cc
   | other e ↦ cc
 ]
 
@@ -84,6 +91,7 @@ slash_is b h = elim (classed b) [
   | hash s e ↦ cc
   | digit s e ↦ cc
   | dot s e ↦ cc
+  | wide l e ↦ cc
   | other e ↦ cc
 ]
 
@@ -100,6 +108,7 @@ quote_is b h = elim (classed b) [
   | hash s e ↦ cc
   | digit s e ↦ cc
   | dot s e ↦ cc
+  | wide l e ↦ cc
   | other e ↦ cc
 ]
 
@@ -168,6 +177,7 @@ blank_no_line b h = elim (classed b) [
   | hash s e ↦ cc
   | digit s e ↦ cc
   | dot s e ↦ cc
+  | wide l e ↦ cc
   | other e ↦ cc
 ]
 
@@ -183,6 +193,7 @@ blank_is b h = elim (classed b) [
   | hash s e ↦ cc
   | digit s e ↦ cc
   | dot s e ↦ cc
+  | wide l e ↦ cc
   | other e ↦ cc
 ]
 
@@ -198,6 +209,7 @@ line_end_is b h = elim (classed b) [
   | hash s e ↦ cc
   | digit s e ↦ cc
   | dot s e ↦ cc
+  | wide l e ↦ cc
   | other e ↦ cc
 ]
 
@@ -213,6 +225,7 @@ backtick_is b h = elim (classed b) [
   | hash s e ↦ cc
   | digit s e ↦ cc
   | dot s e ↦ cc
+  | wide l e ↦ cc
   | other e ↦ cc
 ]
 
@@ -232,6 +245,7 @@ brace_is b h = elim (classed b) [
   | hash s e ↦ cc
   | digit s e ↦ cc
   | dot s e ↦ cc
+  | wide l e ↦ cc
   | other e ↦ cc
 ]
 
@@ -251,6 +265,7 @@ hash_is b h = elim (classed b) [
   | hash s e ↦ s
   | digit s e ↦ cc
   | dot s e ↦ cc
+  | wide l e ↦ cc
   | other e ↦ cc
 ]
 
@@ -266,9 +281,9 @@ and_false : (u : Bool) → (u && false) ≡ false
 and_false true = refl
 and_false false = refl
 
--- what begins a name is no `!`
-pub start_no_mark : (front : Bool) (b : ℕ) → first_of b ≡ Start → (front && b == 33) ≡ false
-start_no_mark front b f = rw (apart b 33 Start Other f mark_class (λ e. cc)) (and_false front)
+-- what is of another class than `!` is none
+pub no_mark_by : (front : Bool) (b : ℕ) (c : First) → first_of b ≡ c → (c ≡ Other → ⊥) → (front && b == 33) ≡ false
+no_mark_by front b c f d = rw (apart b 33 c Other f mark_class d) (and_false front)
 
 pub brace_text : (text : List ℕ) → 1 ≤ length text → Brace ≡ first_of (get_or text 0 0)
     → text ≡ 125 ∷ take (length text - 1) (drop 1 text)
@@ -288,6 +303,7 @@ dot_is b h = elim (classed b) [
   | hash s e ↦ cc
   | digit s e ↦ cc
   | dot s e ↦ s
+  | wide l e ↦ cc
   | other e ↦ cc
 ]
 
@@ -303,6 +319,7 @@ digit_is b h = elim (classed b) [
   | hash s e ↦ cc
   | digit s e ↦ s
   | dot s e ↦ cc
+  | wide l e ↦ cc
   | other e ↦ cc
 ]
 
@@ -347,3 +364,32 @@ pub dot_text : (text : List ℕ) → 1 ≤ length text → Dot ≡ first_of (get
 dot_text [] l e = absurd (omega arith)
 dot_text (b ∷ rest) l e =
     ap (λ c. c ∷ rest) (dot_is b (sym e)) ∙ ap (λ t. 46 ∷ t) (sym (take_rest (b ∷ rest) 1))
+
+-- the class of a start, and of a byte past ASCII
+start_no : (b : ℕ) → is_start b ≡ true → (is_blank b ≡ false) × (is_line_end b ≡ false)
+start_no b e = (grind (arith, nat_tests), grind (arith, nat_tests))
+
+pub start_class : (b : ℕ) → is_start b ≡ true → first_of b ≡ Start
+unfolding first_of
+start_class b e = let n : (is_blank b ≡ false) × (is_line_end b ≡ false) = start_no b e in rw (n.0, n.1, e) refl
+
+wide_no : (b : ℕ) → 128 ≤ b
+    → ((is_blank b ≡ false) × (is_line_end b ≡ false)) × ((is_start b ≡ false) × (is_quote b ≡ false))
+wide_no b l =
+    ((grind (arith, nat_tests), grind (arith, nat_tests)), (grind (arith, nat_tests), grind (arith, nat_tests)))
+
+wide_no_sign : (b : ℕ) → 128 ≤ b
+    → (((b == 47) ≡ false) × ((b == 96) ≡ false)) × (((b == 125) ≡ false) × ((b == 35) ≡ false))
+wide_no_sign b l =
+    ((grind (arith, nat_tests), grind (arith, nat_tests)), (grind (arith, nat_tests), grind (arith, nat_tests)))
+
+wide_no_number : (b : ℕ) → 128 ≤ b → ((is_ascii_digit b ≡ false) × ((b == 46) ≡ false)) × (nat_le 128 b ≡ true)
+wide_no_number b l = ((grind (arith, nat_tests), grind (arith, nat_tests)), grind (arith, nat_tests))
+
+pub wide_class : (b : ℕ) → 128 ≤ b → first_of b ≡ Wide
+unfolding first_of
+wide_class b l =
+    let m = wide_no b l in
+    let n = wide_no_sign b l in
+    let o = wide_no_number b l in
+    rw (m.0.0, m.0.1, m.1.0, m.1.1, n.0.0, n.0.1, n.1.0, n.1.1, o.0.0, o.0.1, o.1) refl

@@ -7,8 +7,11 @@ use Rattle.es_lexer.specs.declared.token.CommentKind.{CommentKind}
 use Rattle.es_lexer.specs.declared.token.CommentKind.TheVariants.{Line, Block}
 use Rattle.es_lexer.specs.Bytes.{is_line_end, has_line_end}
 use Rattle.es_lexer.specs.Pieces.{Piece, blank, line_end, comment, token, comment_spelling, pieces_text, place_of, is_behind, line_since}
-use Rattle.es_lexer.specs.Readable.{IsByte, ArePieces}
+use Rattle.es_lexer.specs.Readable.{IsByte, IsWideBlank, ArePieces}
 use Rattle.es_lexer.specs.Reads.{tokens_of, comments_of, token_of, comment_of}
+use Rattle.std.specs.List.{AllByRecursion}
+use Rattle.std.proofs.lemmas.Bool.Decides.{nat_tests}
+use Rattle.es_wide.proofs.WideLemmas.{blank_high}
 use Rattle.es_lexer.proofs.ByteLemmas as byte
 use Rattle.es_lexer.proofs.PlaceLemmas.{shift, moved}
 
@@ -32,9 +35,18 @@ lines-append (b ∷ s) t = ap (λ v. is_line_end b || v) (lines-append s t)
     ∙ sym (or_assoc (is_line_end b) (has_line_end s) (has_line_end t))
 
 -- ---- the text behind the latest token
-blank_lines : (s : List ℕ) → IsByte first.Blank s → has_line_end s ≡ false
+high_no_line : (b : ℕ) → 128 ≤ b → is_line_end b ≡ false
+high_no_line b l = grind (arith, nat_tests)
+
+high_lines : (s : List ℕ) → AllByRecursion (λ b. 128 ≤ b) s → has_line_end s ≡ false
 unfolding has_line_end
-blank_lines s b = ap has_line_end b.whole ∙ rw (byte.blank_no_line b.byte b.is) refl
+high_lines [] h = refl
+high_lines (b ∷ s) h = rw (high_no_line b h.0) (high_lines s h.1)
+
+blank_lines : (s : List ℕ) → IsByte first.Blank s ⊎ IsWideBlank s → has_line_end s ≡ false
+unfolding has_line_end
+blank_lines s (inl b) = ap has_line_end b.whole ∙ rw (byte.blank_no_line b.byte b.is) refl
+blank_lines s (inr b) = high_lines s (blank_high s b.0 b.1)
 
 line_lines : (s : List ℕ) → IsByte first.LineEnd s → has_line_end s ≡ true
 unfolding has_line_end
@@ -86,7 +98,8 @@ unfolding tokens_of line_since is_behind
 line_of_first [] before x front gap after u w b h g = cc
 line_of_first (blank s ∷ ps) before x front gap after u w b h g =
     line_of_first ps (blank s ∷ before) x front (gap ++ s) after u
-    (more_gap x front gap s (pieces_text ps ++ after) (w ∙ ap (λ t. front ++ (gap ++ t)) (append_assoc s (pieces_text ps) after)))
+    (more_gap x front gap s (pieces_text ps ++ after)
+    (w ∙ ap (λ t. front ++ (gap ++ t)) (append_assoc s (pieces_text ps) after)))
     (record {
       behind = b.behind;
       line = b.line ∙ sym (lines-append gap s ∙ (ap (λ v. has_line_end gap || v) (blank_lines s h.0)
@@ -95,7 +108,8 @@ line_of_first (blank s ∷ ps) before x front gap after u w b h g =
     }) h.1 g
 line_of_first (line_end s ∷ ps) before x front gap after u w b h g =
     line_of_first ps (line_end s ∷ before) x front (gap ++ s) after u
-    (more_gap x front gap s (pieces_text ps ++ after) (w ∙ ap (λ t. front ++ (gap ++ t)) (append_assoc s (pieces_text ps) after)))
+    (more_gap x front gap s (pieces_text ps ++ after)
+    (w ∙ ap (λ t. front ++ (gap ++ t)) (append_assoc s (pieces_text ps) after)))
     (record {
       behind = b.behind;
       line = b.behind ∙ sym (lines-append gap s ∙ (ap (λ v. has_line_end gap || v) (line_lines s h.0)
@@ -116,7 +130,8 @@ line_of_first (comment kind t ∷ ps) before x front gap after u w b h g =
 line_of_first (token k s ∷ ps) before x front gap after u w b h g =
     let same : token_of before k s ps ≡ u = cc in
     subst (λ (v : Token). v.line_before ≡ has_line_end (slice_range x (length front) v.range.start)) same
-    (b.line ∙ ap has_line_end (sym (cut_gap x front gap (pieces_text (token k s ∷ ps) ++ after) (place_of before) w b.place)))
+    (b.line ∙ ap has_line_end
+    (sym (cut_gap x front gap (pieces_text (token k s ∷ ps) ++ after) (place_of before) w b.place)))
 
 -- and each token behind another
 pub line_of_next : (ps before : List Piece) (x front after : List ℕ) (n : ℕ) (t u : Token)
@@ -155,7 +170,8 @@ first_line [] before u b l g = cc
 first_line (blank s ∷ ps) before u b l g = first_line ps (blank s ∷ before) u b l g
 first_line (line_end s ∷ ps) before u b l g = first_line ps (line_end s ∷ before) u b b g
 first_line (comment kind t ∷ ps) before u b l g =
-    first_line ps (comment kind t ∷ before) u b (without_comment (line_since before) (is_behind before) (has_line_end t) l b) g
+    first_line ps (comment kind t ∷ before) u b
+    (without_comment (line_since before) (is_behind before) (has_line_end t) l b) g
 first_line (token k s ∷ ps) before u b l g =
     let same : token_of before k s ps ≡ u = cc in
     subst (λ (v : Token). v.line_before ≡ false) same l

@@ -1,5 +1,5 @@
 -- A look finds a piece or a fault, and each piece and each fault is what a look at it finds.
-use Rattle.std.proofs.Common.{◌≡◌, ℕ, ◌+◌, ◌-◌, ◌≤◌, Bool, true, false, not, ◌==◌, ◌||◌, ◌&&◌, List, [], ◌∷◌, ◌++◌, length, take, drop, drop_at, Option, Some, None, refl, sym, ◌∙◌, ap, subst, arith, take_at, length-append, append_assoc, eqb-true, true≢false, if◌then◌else◌, inl, inr}
+use Rattle.std.proofs.Common.{◌≡◌, ℕ, zero, suc, ◌+◌, ◌-◌, ◌<◌, ◌≤◌, Bool, true, false, not, ◌==◌, ◌||◌, ◌&&◌, List, [], ◌∷◌, ◌++◌, length, take, drop, drop_at, Option, Some, None, refl, sym, ◌∙◌, ap, subst, arith, take_at, length-append, append_assoc, eqb-true, true≢false, if◌then◌else◌, inl, inr}
 use Rattle.std.proofs.lemmas.List.{nil_from_length}
 use Rattle.es_lexer.specs.declared.bracket.BracketKind.{BracketKind}
 use Rattle.es_lexer.specs.declared.bracket.Role.{Role}
@@ -16,7 +16,7 @@ use Rattle.es_lexer.specs.declared.token.CommentKind.{CommentKind}
 use Rattle.es_lexer.specs.declared.token.CommentKind.TheVariants.{Line, Block}
 use Rattle.es_lexer.specs.declared.error.LexicalKind.{LexicalKind}
 use Rattle.es_lexer.specs.declared.error.LexicalKind.TheVariants.{UnterminatedString, UnterminatedComment, UnterminatedTemplate, UnterminatedRegExp, InvalidEscape, InvalidChar, Unbalanced}
-use Rattle.es_lexer.specs.Bytes.{begins_part, begins_mark, first_of, is_line_end, is_part, begins_comment, has_closer, has_line_end}
+use Rattle.es_lexer.specs.Bytes.{begins_part, begins_name, begins_mark, first_of, is_line_end, is_start, begins_comment, has_closer, has_line_end}
 use Rattle.es_lexer.specs.declared.bracket.BracketKind.TheVariants.{Round, Square, Curly, Template}
 use Rattle.es_lexer.specs.Brackets.{role_of, is_open, may_close}
 use Rattle.es_lexer.specs.Signs.{sign_kind, sign_at, sized}
@@ -41,10 +41,13 @@ use Rattle.es_spelling.proofs.TemplateLemmas as text
 use Rattle.es_lexer.specs.Goal.{allows, may_stand, stands_apart, begins_digit}
 use Rattle.es_lexer.specs.Pieces.{Piece, blank, line_end, comment, token, spelling, comment_spelling}
 use Rattle.es_lexer.specs.Readable.{IsLongest, IsToken, IsComment, IsByte, IsPiece}
-use Rattle.es_lexer.specs.Stops.{Stuck, open_string, bad_escape, open_comment, no_token, open_regexp, wrong_closer, lone_hash, open_template, joined, IsLongestNumber, open_bracket, BeginsNoName, BeginsNoBody, BeginsSign}
-use Rattle.es_lexer.specs.Look.{run_end, is_in_line, word_look, string_look, sign_look, regexp_look, divide_look, slash_look, template_look, number_stop, number_look, dot_look, brace_look, name_look, hash_look, class_look, end_look, look_at}
-use Rattle.es_lexer.proofs.ByteLemmas.{start_is_part, start_no_mark, quote_class, quote_is, slash_is, slash_class, backtick_is, backtick_class, brace_is, brace_class, hash_is, hash_class, digit_is, digit_class, dot_is, dot_class, no_comment_at}
-use Rattle.es_lexer.proofs.RunLemmas.{EndsRun, Run, run, run_end-append, run_end-stop}
+use Rattle.es_lexer.specs.Stops.{Stuck, open_string, bad_escape, open_comment, no_token, no_character, open_regexp, wrong_closer, lone_hash, open_template, joined, IsLongestNumber, open_bracket, BeginsNoBody, BeginsSign}
+use Rattle.es_lexer.specs.Look.{run_end, is_in_line, word_end, word_look, string_look, sign_look, regexp_look, divide_look, slash_look, template_look, number_stop, number_look, dot_look, brace_look, name_look, wide_look, hash_look, class_look, end_look, look_at}
+use Rattle.es_lexer.proofs.ByteLemmas.{start_is, wide_class, no_mark_by, quote_class, quote_is, slash_is, slash_class, backtick_is, backtick_class, brace_is, brace_class, hash_is, hash_class, digit_is, digit_class, dot_is, dot_class, no_comment_at}
+use Rattle.es_lexer.proofs.RunLemmas.{Run, run, run_end-append, run_end-stop}
+use Rattle.es_lexer.proofs.PartLemmas.{not_zero, Parts, parts, parts_pass, name_class, name_more, name_front, name_no_comment}
+use Rattle.es_wide.specs.Wide.{wide_size, wide_blank}
+use Rattle.es_wide.proofs.WideLemmas as wide
 use Rattle.es_lexer.proofs.CommentLemmas as remark
 use Rattle.es_lexer.proofs.SignLemmas as mark
 use Rattle.es_lexer.proofs.WordLemmas.{word_free, free_allows, free_apart}
@@ -68,17 +71,36 @@ both_right false v e = cc
 pub data Reached (k : TokenKind) (end : ℕ) (found : Look) : Type 0 where
   reached : (j : TokenKind) (m : ℕ) → found ≡ look.Token j m → end ≤ m → (end ≡ m → k ≡ j) → Reached k end found
 
-word_reaches_by : (goal : Goal) (at b : ℕ) (parts after : List ℕ) → first_of b ≡ first.Start → AreParts parts
-    → Run is_part (at + length (b ∷ parts)) after
-    → Reached (kind_at goal.member (b ∷ parts)) (at + length (b ∷ parts)) (look_at goal at (b ∷ (parts ++ after)))
-unfolding look_at class_look word_look
-word_reaches_by goal at b parts after f h r =
-    let end : run_end is_part at ((b ∷ parts) ++ after) ≡ at + length (b ∷ parts) + length r.front =
-    run_end-append is_part at (b ∷ parts) after (start_is_part b f, h) ∙ r.end in
-    reached (kind_at goal.member (take (at + length (b ∷ parts) + length r.front - at) ((b ∷ parts) ++ after)))
-    (at + length (b ∷ parts) + length r.front) (rw (f, end) refl) (omega arith)
-    (λ e. ap (kind_at goal.member) (sym (take_at (b ∷ parts) after (at + length (b ∷ parts) + length r.front - at)
-    (omega arith))))
+-- a name's look
+word_looks : (member : Bool) (at : ℕ) (text : List ℕ) (end : ℕ) → word_end at text ≡ end
+    → word_look member at text ≡ look.Token (kind_at member (take (end - at) text)) end
+unfolding word_look
+word_looks member at text end e = rw e refl
+
+wide_looks : (goal : Goal) (at b : ℕ) (rest : List ℕ) → first_of b ≡ first.Wide
+    → look_at goal at (b ∷ rest) ≡ wide_look goal at (b ∷ rest)
+unfolding look_at class_look
+wide_looks goal at b rest f = rw f refl
+
+start_looks : (goal : Goal) (at b : ℕ) (rest : List ℕ) → first_of b ≡ first.Start
+    → look_at goal at (b ∷ rest) ≡ word_look goal.member at (b ∷ rest)
+unfolding look_at class_look
+start_looks goal at b rest f = rw f refl
+
+char_looks : (goal : Goal) (at : ℕ) (text : List ℕ) (n : ℕ) → wide_size text ≡ n → 0 < n
+    → wide_look goal at text ≡ word_look goal.member at text
+unfolding wide_look
+char_looks goal at text zero e l = absurd (omega arith)
+char_looks goal at text (suc n) e l = rw (e, not_zero (suc n) (omega arith)) refl
+
+name_looks : (goal : Goal) (at : ℕ) (text : List ℕ) → begins_name text ≡ true
+    → look_at goal at text ≡ word_look goal.member at text
+unfolding begins_name
+name_looks goal at [] e = cc
+name_looks goal at (b ∷ rest) e = elim (name_class b rest e) [
+  | inl f ↦ start_looks goal at b rest f
+  | inr p ↦ wide_looks goal at b rest p.0 ∙ char_looks goal at (b ∷ rest) (wide_size (b ∷ rest)) refl p.1
+]
 
 -- a string literal's look
 string_looks : (goal : Goal) (at b : ℕ) (rest : List ℕ) → first_of b ≡ first.Quote
@@ -103,7 +125,8 @@ plain_closes bracket Continues e = cc
 plain_closes bracket Plain e = refl
 
 sign_reaches_by : (bracket : Option BracketKind) (at : ℕ) (k : TokenKind) (n : ℕ) (found : Option Sign)
-    → mark.SignReached k n found → may_close bracket (role_of k) ≡ true → Reached k (at + n) (sign_look bracket at found)
+    → mark.SignReached k n found → may_close bracket (role_of k) ≡ true
+    → Reached k (at + n) (sign_look bracket at found)
 unfolding sign_look
 sign_reaches_by bracket at k n found (mark.same e) c = rw e (rw c (reached k (at + n) refl (omega arith) (λ e. refl)))
 sign_reaches_by bracket at k n found (mark.longer j m e l p) c =
@@ -138,7 +161,8 @@ no_comment_divides : (goal : Goal) (at : ℕ) (rest : List ℕ) → begins_comme
     → slash_look goal at rest ≡ divide_look goal at rest
 unfolding slash_look begins_comment
 no_comment_divides goal at [] n = refl
-no_comment_divides goal at (c ∷ rest) n = rw (remark.or_left (c == 47) (c == 42) n, remark.or_right (c == 47) (c == 42) n) refl
+no_comment_divides goal at (c ∷ rest) n =
+    rw (remark.or_left (c == 47) (c == 42) n, remark.or_right (c == 47) (c == 42) n) refl
 
 divides_is : (goal : Goal) (at : ℕ) (rest : List ℕ) → goal.regexp ≡ false
     → divide_look goal at rest ≡ sign_look goal.bracket at (sign_at (47 ∷ rest))
@@ -285,18 +309,20 @@ sign_reaches_class goal at b rest after k first.Hash f i w a n = cc
 sign_reaches_class goal at b rest after k first.Blank f i w a n = cc
 sign_reaches_class goal at b rest after k first.LineEnd f i w a n = cc
 sign_reaches_class goal at b rest after k first.Start f i w a n = cc
+sign_reaches_class goal at b rest after k first.Wide f i w a n = cc
 sign_reaches_class goal at b rest after k first.Quote f i w a n = cc
 
 word_reaches : (goal : Goal) (at : ℕ) (k : TokenKind) (s after : List ℕ) → IsWord s → k ≡ kind_at goal.member s
-    → Reached k (at + length s) (look_at goal at (s ++ after))
-word_reaches goal at k s after w e =
-    let r : Reached (kind_at goal.member (w.first ∷ w.parts)) (at + length (w.first ∷ w.parts))
-    (look_at goal at (w.first ∷ (w.parts ++ after))) =
-    word_reaches_by goal at w.first w.parts after w.starts w.goes_on
-    (run is_part (at + length (w.first ∷ w.parts)) after) in
-    subst (λ (j : TokenKind). Reached j (at + length s) (look_at goal at (s ++ after))) (sym e)
-    (subst (λ (t : List ℕ). Reached (kind_at goal.member t) (at + length t) (look_at goal at (t ++ after)))
-    (sym w.whole) r)
+    → Parts (at + length s) after → Reached k (at + length s) (look_at goal at (s ++ after))
+word_reaches goal at k s after w e r =
+    let end : word_end at (s ++ after) ≡ at + length s + length r.front = parts_pass at s after w.goes_on ∙ r.end in
+    reached (kind_at goal.member (take (at + length s + length r.front - at) (s ++ after)))
+    (at + length s + length r.front)
+    (name_looks goal at (s ++ after) (name_more s after w.starts)
+    ∙ word_looks goal.member at (s ++ after) (at + length s + length r.front) end)
+    (omega arith)
+    (λ q. e ∙ ap (kind_at goal.member)
+    (sym (take_at s after (at + length s + length r.front - at) (omega arith))))
 
 string_reaches : (goal : Goal) (at : ℕ) (k : TokenKind) (s after : List ℕ) → IsString s → k ≡ kind.Str
     → Reached k (at + length s) (look_at goal at (s ++ after))
@@ -352,18 +378,27 @@ template_reaches goal at k s after opens sub body t w e a =
 
 -- a private name
 hash_names : (front : Bool) (at b : ℕ) (rest : List ℕ) → (front && b == 33) ≡ false
-    → hash_look front at (b ∷ rest) ≡ name_look (first_of b) at rest
+    → hash_look front at (b ∷ rest) ≡ name_look at (b ∷ rest)
 unfolding hash_look
 hash_names front at b rest n = rw n refl
 
-name_starts : (at b : ℕ) (rest : List ℕ) → first_of b ≡ first.Start
-    → name_look (first_of b) at rest ≡ look.Token kind.PrivateName (run_end is_part (at + 2) rest)
+name_starts : (at : ℕ) (text : List ℕ) → begins_name text ≡ true
+    → name_look at text ≡ look.Token kind.PrivateName (word_end (at + 1) text)
 unfolding name_look
-name_starts at b rest f = rw f refl
+name_starts at text e = rw e refl
 
-hash_ends : (front : Bool) (at b : ℕ) (rest : List ℕ) → first_of b ≡ first.Start
-    → hash_look front at (b ∷ rest) ≡ look.Token kind.PrivateName (run_end is_part (at + 2) rest)
-hash_ends front at b rest f = hash_names front at b rest (start_no_mark front b f) ∙ name_starts at b rest f
+name_no_mark : (front : Bool) (b : ℕ) (rest : List ℕ) → begins_name (b ∷ rest) ≡ true → (front && b == 33) ≡ false
+name_no_mark front b rest e = elim (name_class b rest e) [
+  | inl f ↦ no_mark_by front b first.Start f (λ g. cc)
+  | inr p ↦ no_mark_by front b first.Wide p.0 (λ g. cc)
+]
+
+hash_ends : (front : Bool) (at : ℕ) (text : List ℕ) → begins_name text ≡ true
+    → hash_look front at text ≡ look.Token kind.PrivateName (word_end (at + 1) text)
+unfolding begins_name
+hash_ends front at [] e = cc
+hash_ends front at (b ∷ rest) e =
+    hash_names front at b rest (name_no_mark front b rest e) ∙ name_starts at (b ∷ rest) e
 
 -- a shebang
 hash_marks : (front : Bool) (at : ℕ) (rest : List ℕ) → front ≡ true
@@ -388,42 +423,43 @@ shebang_reaches goal at k s after text h f q e r =
     (omega arith) (λ p. e)
 
 private_reaches : (goal : Goal) (at : ℕ) (k : TokenKind) (s after name : List ℕ) → (w : IsWord name) → s ≡ 35 ∷ name
-    → k ≡ kind.PrivateName → Run is_part (at + 2 + length w.parts) after
+    → k ≡ kind.PrivateName → Parts (at + 1 + length name) after
     → Reached k (at + length s) (look_at goal at (s ++ after))
 private_reaches goal at k s after name w q e r =
-    let whole : s ≡ 35 ∷ w.first ∷ w.parts = q ∙ ap (λ t. 35 ∷ t) w.whole in
-    let size : length s ≡ length (35 ∷ w.first ∷ w.parts) = ap length whole in
-    let end : run_end is_part (at + 2) (w.parts ++ after) ≡ at + 2 + length w.parts + length r.front =
-    run_end-append is_part (at + 2) w.parts after w.goes_on ∙ r.end in
-    reached kind.PrivateName (at + 2 + length w.parts + length r.front)
-    (ap (λ v. look_at goal at (v ++ after)) whole
-    ∙ (hash_looks goal at 35 (w.first ∷ (w.parts ++ after)) hash_class
-    ∙ (hash_ends goal.front at w.first (w.parts ++ after) w.starts ∙ ap (λ n. look.Token kind.PrivateName n) end)))
+    let size : length s ≡ length (35 ∷ name) = ap length q in
+    let end : word_end (at + 1) (name ++ after) ≡ at + 1 + length name + length r.front =
+    parts_pass (at + 1) name after w.goes_on ∙ r.end in
+    reached kind.PrivateName (at + 1 + length name + length r.front)
+    (ap (λ v. look_at goal at (v ++ after)) q
+    ∙ (hash_looks goal at 35 (name ++ after) hash_class
+    ∙ (hash_ends goal.front at (name ++ after) (name_more name after w.starts)
+    ∙ ap (λ n. look.Token kind.PrivateName n) end)))
     (omega arith) (λ p. e)
 
 -- a regular expression
 regexp_looks : (goal : Goal) (at : ℕ) (rest : List ℕ) → begins_comment (47 ∷ rest) ≡ false → goal.regexp ≡ true
     → look_at goal at (47 ∷ rest) ≡ regexp_look at (body_end (at + 1) rest) rest
-regexp_looks goal at rest n r = slash_looks goal at rest ∙ (no_comment_divides goal at rest n ∙ divides_not goal at rest r)
+regexp_looks goal at rest n r =
+    slash_looks goal at rest ∙ (no_comment_divides goal at rest n ∙ divides_not goal at rest r)
 
 body_reads : (at : ℕ) (body after : List ℕ) → IsBody body
     → regexp_look at (body_end (at + 1) (body ++ after)) (body ++ after)
-    ≡ look.Token kind.RegExp (run_end is_part (at + 1 + length body) after)
+    ≡ look.Token kind.RegExp (word_end (at + 1 + length body) after)
 unfolding regexp_look
 body_reads at body after i =
     ap (λ found. regexp_look at found (body ++ after)) (pattern.body_found (at + 1) body after i)
-    ∙ ap (λ t. look.Token kind.RegExp (run_end is_part (at + 1 + length body) t))
+    ∙ ap (λ t. look.Token kind.RegExp (word_end (at + 1 + length body) t))
     (drop_at body after (at + 1 + length body - (at + 1)) (omega arith))
 
 regexp_reads : (goal : Goal) (at : ℕ) (body flags after : List ℕ) → IsBody body
     → begins_comment (47 ∷ (body ++ (flags ++ after))) ≡ false → goal.regexp ≡ true → AreParts flags
-    → (r : Run is_part (at + 1 + length body + length flags) after)
+    → (r : Parts (at + 1 + length body + length flags) after)
     → look_at goal at (47 ∷ (body ++ (flags ++ after)))
     ≡ look.Token kind.RegExp (at + 1 + length body + length flags + length r.front)
 regexp_reads goal at body flags after i n g h r =
     regexp_looks goal at (body ++ (flags ++ after)) n g
     ∙ (body_reads at body (flags ++ after) i
-    ∙ ap (λ e. look.Token kind.RegExp e) (run_end-append is_part (at + 1 + length body) flags after h ∙ r.end))
+    ∙ ap (λ e. look.Token kind.RegExp e) (parts_pass (at + 1 + length body) flags after h ∙ r.end))
 
 regexp_may : (goal : Goal) (k : TokenKind) (after : List ℕ) → k ≡ kind.RegExp → allows goal k after ≡ true
     → goal.regexp ≡ true
@@ -434,7 +470,7 @@ regexp_may goal k after e a =
 
 regexp_reaches : (goal : Goal) (at : ℕ) (k : TokenKind) (s after : List ℕ) → (i : IsRegExp s) → k ≡ kind.RegExp
     → allows goal k after ≡ true → begins_comment (s ++ after) ≡ false
-    → Run is_part (at + 1 + length i.body + length i.flags) after → Reached k (at + length s) (look_at goal at (s ++ after))
+    → Parts (at + 1 + length i.body + length i.flags) after → Reached k (at + length s) (look_at goal at (s ++ after))
 regexp_reaches goal at k s after i e a n r =
     let cut : s ++ after ≡ 47 ∷ (i.body ++ (i.flags ++ after)) =
     ap (λ t. t ++ after) i.whole ∙ ap (λ t. 47 ∷ t) (append_assoc i.body i.flags after) in
@@ -517,18 +553,18 @@ pub data Limited (k : TokenKind) (s : List ℕ) (end : ℕ) (found : Look) : Typ
 pub reaches : (goal : Goal) (at : ℕ) (k : TokenKind) (s after : List ℕ) → Spells goal k s → allows goal k after ≡ true
     → begins_comment (s ++ after) ≡ false → Limited k s (at + length s) (look_at goal at (s ++ after))
 unfolding sign_kind
-reaches goal at k s after (word w e) a n = by_reach (word_reaches goal at k s after w e)
+reaches goal at k s after (word w e) a n = by_reach (word_reaches goal at k s after w e (parts (at + length s) after))
 reaches goal at k s after (str l e) a n = by_reach (string_reaches goal at k s after l e)
 reaches goal at k [] after (sign e) a n = cc
 reaches goal at k (b ∷ s) after (sign e) a n =
     by_reach (sign_reaches_class goal at b s after k (first_of b) refl (mark.sign_begins b s k e) e a n)
 reaches goal at k s after (private_name name w q e) a n =
-    by_reach (private_reaches goal at k s after name w q e (run is_part (at + 2 + length w.parts) after))
+    by_reach (private_reaches goal at k s after name w q e (parts (at + 1 + length name) after))
 reaches goal at k s after (template opens sub body t q e) a n =
     by_reach (template_reaches goal at k s after opens sub body t q e a)
 reaches goal at k s after (expression i e) a n =
     by_reach (regexp_reaches goal at k s after i e a n
-    (run is_part (at + 1 + length i.body + length i.flags) after))
+    (parts (at + 1 + length i.body + length i.flags) after))
 reaches goal at k s after (shebang text h f q e) a n =
     by_reach (shebang_reaches goal at k s after text h f q e (run is_in_line (at + 2 + length text) after))
 reaches goal at k s after (number big i e) a n = by_number big i e
@@ -619,16 +655,21 @@ unfolding look_at class_look
 sign_looks goal at b rest (inl f) = rw f refl
 sign_looks goal at b rest (inr p) = brace_same goal at b rest p.0 p.1
 
-name_stuck : (c : First) (at : ℕ) (rest : List ℕ) → (c ≡ first.Start → ⊥) → name_look c at rest ≡ look.Fault InvalidChar at
+name_stuck : (at : ℕ) (text : List ℕ) → begins_name text ≡ false → name_look at text ≡ look.Fault InvalidChar at
 unfolding name_look
-name_stuck first.Start at rest h = absurd (h refl)
-name_stuck c at rest h = refl
+name_stuck at text e = rw e refl
 
-hash_stuck : (front : Bool) (at : ℕ) (after : List ℕ) → BeginsNoName after → (front && begins_mark after) ≡ false
-    → hash_look front at after ≡ look.Fault InvalidChar at
+hash_stuck : (front : Bool) (at : ℕ) (after : List ℕ) → begins_name after ≡ false
+    → (front && begins_mark after) ≡ false → hash_look front at after ≡ look.Fault InvalidChar at
 unfolding hash_look begins_mark
 hash_stuck front at [] h n = refl
-hash_stuck front at (b ∷ rest) h n = rw n (name_stuck (first_of b) at rest h)
+hash_stuck front at (b ∷ rest) h n = rw n (name_stuck at (b ∷ rest) h)
+
+-- what is no character of a word and no blank
+char_stuck : (goal : Goal) (at : ℕ) (text : List ℕ) → wide_size text ≡ 0 → wide_blank text ≡ 0
+    → wide_look goal at text ≡ look.Fault InvalidChar at
+unfolding wide_look
+char_stuck goal at text e f = rw (e, f) refl
 
 template_opens : (goal : Goal) (at : ℕ) (opens : Bool) (rest : List ℕ)
     → (opens ≡ false → is_open goal.bracket Template ≡ true)
@@ -690,6 +731,8 @@ stuck_reads goal rest at kind place (no_token b after w f n e p) =
     rw w (rw f (nothing_stuck goal.bracket at b after n ∙ (cc)))
 stuck_reads goal rest at kind place (open_regexp text w n r h e p) =
     rw w (regexp_stuck goal at text (rw w at n) r h ∙ (cc))
+stuck_reads goal rest at kind place (no_character b after w f m n e p) =
+    rw w (wide_looks goal at b after f ∙ (char_stuck goal at (b ∷ after) (rw w at m) (rw w at n) ∙ (cc)))
 stuck_reads goal rest at kind place (wrong_closer b after k w f s c e p) =
     rw w (sign_looks goal at b after f ∙ (closer_stuck goal.bracket at b after k s c ∙ (cc)))
 stuck_reads goal rest at kind place (lone_hash after w h n e p) =
@@ -727,18 +770,6 @@ met goal at k s after text found w sp al n ap l e =
     } in
     piece (token k s) after w t e
 
-word_reads : (goal : Goal) (at b : ℕ) (parts after : List ℕ) → first_of b ≡ first.Start → AreParts parts
-    → EndsRun is_part after
-    → look_at goal at (b ∷ (parts ++ after)) ≡ look.Token (kind_at goal.member (b ∷ parts)) (at + length (b ∷ parts))
-unfolding look_at class_look word_look
-word_reads goal at b parts after f h e =
-    let end : run_end is_part at ((b ∷ parts) ++ after) ≡ at + length (b ∷ parts) =
-    run_end-append is_part at (b ∷ parts) after (start_is_part b f, h)
-    ∙ run_end-stop is_part (at + length (b ∷ parts)) after e in
-    let front : take (at + length (b ∷ parts) - at) ((b ∷ parts) ++ after) ≡ b ∷ parts =
-    take_at (b ∷ parts) after (at + length (b ∷ parts) - at) (omega arith) in
-    rw (f, end) (ap (λ w. look.Token (kind_at goal.member w) (at + length (b ∷ parts))) front)
-
 str_apart : (after : List ℕ) → stands_apart kind.Str after ≡ true
 unfolding stands_apart
 str_apart after = refl
@@ -765,16 +796,54 @@ dot_no_slash a f e =
     let class : first.Slash ≡ first.Dot = sym slash_class ∙ (ap first_of (sym same) ∙ f) in
     cc
 
-word_found : (goal : Goal) (at b : ℕ) (rest : List ℕ) → first_of b ≡ first.Start → Run is_part at rest
-    → Found goal at (b ∷ rest) (look_at goal at (b ∷ rest))
-word_found goal at b rest f r =
-    let s : List ℕ = b ∷ r.front in
-    let w : IsWord s = record { first = b; parts = r.front; starts = f; goes_on = r.passes; whole = refl } in
-    met goal at (kind_at goal.member s) s r.back (b ∷ rest) _ (ap (λ t. b ∷ t) r.whole) (word w refl)
-    (free_allows goal (kind_at goal.member s) r.back (word_free goal.member s))
-    (no_comment_at b (r.front ++ r.back) first.Start f (λ e. cc))
-    (free_apart (kind_at goal.member s) r.back (word_free goal.member s)) refl
-    (ap (λ t. look_at goal at (b ∷ t)) r.whole ∙ word_reads goal at b r.front r.back f r.passes r.ends)
+word_met : (goal : Goal) (at : ℕ) (text : List ℕ) → begins_name text ≡ true → Parts at text
+    → Found goal at text (look_at goal at text)
+word_met goal at text h r =
+    let w : IsWord r.front =
+    record { starts = name_front text r.front r.back h r.whole r.passes r.ends; goes_on = r.passes } in
+    met goal at (kind_at goal.member r.front) r.front r.back text _ r.whole (word w refl)
+    (free_allows goal (kind_at goal.member r.front) r.back (word_free goal.member r.front))
+    (ap begins_comment (sym r.whole) ∙ name_no_comment text h)
+    (free_apart (kind_at goal.member r.front) r.back (word_free goal.member r.front)) refl
+    (name_looks goal at text h
+    ∙ (word_looks goal.member at text (at + length r.front) r.end
+    ∙ ap (λ t. look.Token (kind_at goal.member t) (at + length r.front))
+    (ap (take (at + length r.front - at)) r.whole
+    ∙ take_at r.front r.back (at + length r.front - at) (omega arith))))
+
+start_name : (b : ℕ) (rest : List ℕ) → is_start b ≡ true → begins_name (b ∷ rest) ≡ true
+unfolding begins_name
+start_name b rest e = rw e refl
+
+or_true : (u : Bool) → (u || true) ≡ true
+or_true true = refl
+or_true false = refl
+
+char_name : (b : ℕ) (rest : List ℕ) (n : ℕ) → wide_size (b ∷ rest) ≡ suc n → begins_name (b ∷ rest) ≡ true
+unfolding begins_name
+char_name b rest n e = rw (e, not_zero (suc n) (omega arith)) (or_true (is_start b))
+
+blank_looks : (goal : Goal) (at : ℕ) (text : List ℕ) (n : ℕ) → wide_blank text ≡ suc n
+    → wide_look goal at text ≡ look.Blank (at + suc n)
+unfolding wide_look
+blank_looks goal at text n e =
+    rw (wide.blank_no_char text n e, e, not_zero (suc n) (omega arith)) refl
+
+blank_met : (goal : Goal) (at b : ℕ) (rest : List ℕ) (n : ℕ) → first_of b ≡ first.Wide → wide_blank (b ∷ rest) ≡ suc n
+    → wide.Blank (b ∷ rest) (suc n) → Found goal at (b ∷ rest) (look_at goal at (b ∷ rest))
+blank_met goal at b rest n f e r =
+    let long : length r.blank ≡ suc n = r.long in
+    piece (blank r.blank) r.after r.whole (inr (omega arith, r.is))
+    (wide_looks goal at b rest f ∙ (blank_looks goal at (b ∷ rest) n e
+    ∙ ap (λ m. look.Blank (at + m)) (sym long)))
+
+wide_found : (goal : Goal) (at b : ℕ) (rest : List ℕ) (m n : ℕ) → first_of b ≡ first.Wide → wide_size (b ∷ rest) ≡ m
+    → wide_blank (b ∷ rest) ≡ n → Found goal at (b ∷ rest) (look_at goal at (b ∷ rest))
+wide_found goal at b rest (suc m) n f e w = word_met goal at (b ∷ rest) (char_name b rest m e) (parts at (b ∷ rest))
+wide_found goal at b rest zero (suc n) f e w = blank_met goal at b rest n f w (wide.blank_front (b ∷ rest) n w)
+wide_found goal at b rest zero zero f e w =
+    fault InvalidChar at (no_character b rest refl f e w refl refl)
+    (wide_looks goal at b rest f ∙ char_stuck goal at (b ∷ rest) e w)
 
 string_found : (goal : Goal) (at q : ℕ) (rest : List ℕ) (end : StringEnd) → first_of q ≡ first.Quote
     → string_end at (q ∷ rest) ≡ end → IsStringEnd at (q ∷ rest) end
@@ -856,7 +925,8 @@ unfolding sign_kind
 slash_no_closer goal b rest [] after k w sk e m = cc
 slash_no_closer goal b rest (a ∷ s) after k w sk e m =
     let same : a ≡ 47 = cc in
-    true≢false (sym (plain_closes goal.bracket (role_of k) (mark.slash_plain k (mark.slash_is_slash a s k sk same))) ∙ m)
+    true≢false (sym (plain_closes goal.bracket (role_of k) (mark.slash_plain k (mark.slash_is_slash a s k sk same)))
+    ∙ m)
 
 -- nor does a point
 dot_no_closer : (goal : Goal) (b : ℕ) (rest s after : List ℕ) (k : TokenKind) → b ∷ rest ≡ s ++ after
@@ -953,7 +1023,7 @@ opens_same [] x y i =
 opens_same (b ∷ body) x y i = refl
 
 regexp_met : (goal : Goal) (at : ℕ) (rest body after : List ℕ) → goal.regexp ≡ true → begins_comment (47 ∷ rest) ≡ false
-    → rest ≡ body ++ after → IsBody body → Run is_part (at + 1 + length body) after
+    → rest ≡ body ++ after → IsBody body → Parts (at + 1 + length body) after
     → Found goal at (47 ∷ rest) (look_at goal at (47 ∷ rest))
 regexp_met goal at rest body after g n w i r =
     let s : List ℕ = 47 ∷ (body ++ r.front) in
@@ -976,7 +1046,7 @@ regexp_found : (goal : Goal) (at : ℕ) (rest : List ℕ) (found : Option ℕ) �
     → Found goal at (47 ∷ rest) (look_at goal at (47 ∷ rest))
 unfolding regexp_look
 regexp_found goal at rest found g n l (pattern.closes body after w i e) =
-    regexp_met goal at rest body after g n w i (run is_part (at + 1 + length body) after)
+    regexp_met goal at rest body after g n w i (parts (at + 1 + length body) after)
 regexp_found goal at rest found g n l (pattern.none h e) =
     fault UnterminatedRegExp at (open_regexp rest refl n g h refl refl)
     (regexp_looks goal at rest n g ∙ ap (λ f. regexp_look at f rest) (l ∙ e))
@@ -1109,19 +1179,19 @@ private_allows : (goal : Goal) (after : List ℕ) → allows goal kind.PrivateNa
 unfolding allows may_close role_of may_stand
 private_allows goal after = refl
 
-private_found : (goal : Goal) (at b : ℕ) (rest : List ℕ) → first_of b ≡ first.Start → Run is_part (at + 2) rest
-    → Found goal at (35 ∷ b ∷ rest) (look_at goal at (35 ∷ b ∷ rest))
-private_found goal at b rest f r =
-    let w : IsWord (b ∷ r.front) =
-    record { first = b; parts = r.front; starts = f; goes_on = r.passes; whole = refl } in
-    met goal at kind.PrivateName (35 ∷ b ∷ r.front) r.back (35 ∷ b ∷ rest) _ (ap (λ t. 35 ∷ b ∷ t) r.whole)
-    (private_name (b ∷ r.front) w refl refl) (private_allows goal r.back)
-    (no_comment_at 35 (b ∷ (r.front ++ r.back)) first.Hash hash_class (λ e. cc)) (private_apart r.back) refl
-    (hash_looks goal at 35 (b ∷ rest) hash_class ∙ (hash_ends goal.front at b rest f
+private_found : (goal : Goal) (at : ℕ) (text : List ℕ) → begins_name text ≡ true → Parts (at + 1) text
+    → Found goal at (35 ∷ text) (look_at goal at (35 ∷ text))
+private_found goal at text h r =
+    let w : IsWord r.front =
+    record { starts = name_front text r.front r.back h r.whole r.passes r.ends; goes_on = r.passes } in
+    met goal at kind.PrivateName (35 ∷ r.front) r.back (35 ∷ text) _ (ap (λ t. 35 ∷ t) r.whole)
+    (private_name r.front w refl refl) (private_allows goal r.back)
+    (no_comment_at 35 (r.front ++ r.back) first.Hash hash_class (λ e. cc)) (private_apart r.back) refl
+    (hash_looks goal at 35 text hash_class ∙ (hash_ends goal.front at text h
     ∙ ap (λ n. look.Token kind.PrivateName n)
-    (r.end ∙ (let q : at + 2 + length r.front ≡ at + length (35 ∷ b ∷ r.front) = omega arith in q))))
+    (r.end ∙ (let q : at + 1 + length r.front ≡ at + length (35 ∷ r.front) = omega arith in q))))
 
-no_name : (goal : Goal) (at : ℕ) (rest : List ℕ) → BeginsNoName rest → (goal.front && begins_mark rest) ≡ false
+no_name : (goal : Goal) (at : ℕ) (rest : List ℕ) → begins_name rest ≡ false → (goal.front && begins_mark rest) ≡ false
     → Found goal at (35 ∷ rest) (look_at goal at (35 ∷ rest))
 no_name goal at rest h n =
     fault InvalidChar at (lone_hash rest refl h n refl refl)
@@ -1145,14 +1215,15 @@ shebang_found goal at rest f r =
     ∙ ap (λ n. look.Token kind.Shebang n)
     (r.end ∙ (let q : at + 2 + length r.front ≡ at + length (35 ∷ 33 ∷ r.front) = omega arith in q)))
 
-no_mark : (front : Bool) (b : ℕ) (rest : List ℕ) → (front && b == 33) ≡ false → (front && begins_mark (b ∷ rest)) ≡ false
+no_mark : (front : Bool) (b : ℕ) (rest : List ℕ) → (front && b == 33) ≡ false
+    → (front && begins_mark (b ∷ rest)) ≡ false
 unfolding begins_mark
 no_mark front b rest n = n
 
-hash_byte : (goal : Goal) (at b : ℕ) (rest : List ℕ) (c : First) → first_of b ≡ c → (goal.front && b == 33) ≡ false
-    → Found goal at (35 ∷ b ∷ rest) (look_at goal at (35 ∷ b ∷ rest))
-hash_byte goal at b rest first.Start f n = private_found goal at b rest f (run is_part (at + 2) rest)
-hash_byte goal at b rest c f n = no_name goal at (b ∷ rest) (λ g. cc) (no_mark goal.front b rest n)
+hash_byte : (goal : Goal) (at b : ℕ) (rest : List ℕ) (v : Bool) → begins_name (b ∷ rest) ≡ v
+    → (goal.front && b == 33) ≡ false → Found goal at (35 ∷ b ∷ rest) (look_at goal at (35 ∷ b ∷ rest))
+hash_byte goal at b rest true h n = private_found goal at (b ∷ rest) h (parts (at + 1) (b ∷ rest))
+hash_byte goal at b rest false h n = no_name goal at (b ∷ rest) h (no_mark goal.front b rest n)
 
 hash_by : (goal : Goal) (at b : ℕ) (rest : List ℕ) (v : Bool) → (goal.front && b == 33) ≡ v
     → Found goal at (35 ∷ b ∷ rest) (look_at goal at (35 ∷ b ∷ rest))
@@ -1160,15 +1231,19 @@ hash_by goal at b rest true e =
     subst (λ (c : ℕ). Found goal at (35 ∷ c ∷ rest) (look_at goal at (35 ∷ c ∷ rest)))
     (sym (eqb-true b 33 (both_right goal.front (b == 33) e)))
     (shebang_found goal at rest (both_left goal.front (b == 33) e) (run is_in_line (at + 2) rest))
-hash_by goal at b rest false e = hash_byte goal at b rest (first_of b) refl e
+hash_by goal at b rest false e = hash_byte goal at b rest (begins_name (b ∷ rest)) refl e
 
 nothing_marked : (front : Bool) → (front && begins_mark []) ≡ false
 unfolding begins_mark
 nothing_marked true = refl
 nothing_marked false = refl
 
+nothing_named : begins_name [] ≡ false
+unfolding begins_name
+nothing_named = refl
+
 hash_at : (goal : Goal) (at : ℕ) (rest : List ℕ) → Found goal at (35 ∷ rest) (look_at goal at (35 ∷ rest))
-hash_at goal at [] = no_name goal at [] tt (nothing_marked goal.front)
+hash_at goal at [] = no_name goal at [] nothing_named (nothing_marked goal.front)
 hash_at goal at (b ∷ rest) = hash_by goal at b rest (goal.front && b == 33) refl
 
 number_allows : (goal : Goal) (big : Bool) (after : List ℕ) → allows goal (number_kind big) after ≡ true
@@ -1227,10 +1302,13 @@ class_found : (goal : Goal) (at b : ℕ) (rest : List ℕ) (c : First) → first
     → Found goal at (b ∷ rest) (look_at goal at (b ∷ rest))
 unfolding look_at class_look
 class_found goal at b rest first.Blank f =
-    rw f (piece (blank (b ∷ [])) rest refl (record { byte = b; whole = refl; is = f }) refl)
+    rw f (piece (blank (b ∷ [])) rest refl (inl (record { byte = b; whole = refl; is = f })) refl)
 class_found goal at b rest first.LineEnd f =
     rw f (piece (line_end (b ∷ [])) rest refl (record { byte = b; whole = refl; is = f }) refl)
-class_found goal at b rest first.Start f = word_found goal at b rest f (run is_part at rest)
+class_found goal at b rest first.Start f =
+    word_met goal at (b ∷ rest) (start_name b rest (start_is b f)) (parts at (b ∷ rest))
+class_found goal at b rest first.Wide f =
+    wide_found goal at b rest (wide_size (b ∷ rest)) (wide_blank (b ∷ rest)) f refl refl
 class_found goal at b rest first.Quote f =
     string_class goal at b rest f
 class_found goal at b rest first.Slash f =
@@ -1324,11 +1402,24 @@ byte_reads : (goal : Goal) (at : ℕ) (s after : List ℕ) (c : First) → (b : 
 unfolding look_at
 byte_reads goal at s after c b = rw (b.whole, b.is) refl
 
+long_reads : (goal : Goal) (at b : ℕ) (rest : List ℕ) (n : ℕ) → wide_blank (b ∷ rest) ≡ suc n
+    → look_at goal at (b ∷ rest) ≡ look.Blank (at + suc n)
+long_reads goal at b rest n e =
+    wide_looks goal at b rest (wide_class b (let l : 192 ≤ b = wide.blank_begins b rest n e in omega arith))
+    ∙ blank_looks goal at (b ∷ rest) n e
+
+blank_reads : (goal : Goal) (at : ℕ) (s after : List ℕ) → 0 < length s → wide_blank s ≡ length s
+    → look_at goal at (s ++ after) ≡ look.Blank (at + length s)
+blank_reads goal at [] after l e = absurd (omega arith)
+blank_reads goal at (b ∷ s) after l e =
+    long_reads goal at b (s ++ after) (length s) (wide.blank_local (b ∷ s) after l e)
+
 pub piece_reads : (goal : Goal) (at : ℕ) (piece : Piece) (after : List ℕ) → IsPiece goal piece after
     → look_at goal at (spelling piece ++ after) ≡ reading_of at piece
 unfolding class_look
-piece_reads goal at (blank s) after h =
+piece_reads goal at (blank s) after (inl h) =
     byte_reads goal at s after first.Blank h ∙ ap (λ t. look.Blank (at + length t)) (sym h.whole)
+piece_reads goal at (blank s) after (inr h) = blank_reads goal at s after h.0 h.1
 piece_reads goal at (line_end s) after h =
     byte_reads goal at s after first.LineEnd h ∙ ap (λ t. look.LineEnd (at + length t)) (sym h.whole)
 piece_reads goal at (comment kind text) after h = comment_reads goal at kind text after h

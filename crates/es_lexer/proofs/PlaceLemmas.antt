@@ -1,5 +1,5 @@
 -- Where the tokens of a reading stand in the text, and what they cut from it.
-use Rattle.std.proofs.Common.{◌≡◌, ℕ, zero, suc, ◌+◌, ◌-◌, ◌<◌, ◌≤◌, Bool, true, false, not, ◌&&◌, List, [], ◌∷◌, ◌++◌, length, take, drop, get_or, Some, slice_get, slice_range, IsCharBoundary, refl, sym, ◌∙◌, ap, subst, arith, length-append, append_assoc, drop_at, take_at}
+use Rattle.std.proofs.Common.{◌≡◌, ℕ, zero, suc, ◌+◌, ◌-◌, ◌<◌, ◌≤◌, Bool, true, false, not, ◌&&◌, List, [], ◌∷◌, ◌++◌, length, take, drop, get_or, Some, slice_get, slice_range, IsCharBoundary, refl, sym, ◌∙◌, ap, subst, arith, length-append, append_assoc, drop_at, take_at, inl, inr}
 use Rattle.std.proofs.lemmas.List.{get_or_at}
 use Rattle.std.proofs.Math.Dec.{ltb}
 use Rattle.std.proofs.lemmas.Bool.Decides.{nat_tests}
@@ -13,7 +13,7 @@ use Rattle.es_lexer.specs.declared.token.CommentKind.{CommentKind}
 use Rattle.es_lexer.specs.declared.token.CommentKind.TheVariants.{Line, Block}
 use Rattle.es_lexer.specs.declared.token.TokenKind.{TokenKind}
 use Rattle.es_lexer.specs.declared.token.TokenKind.TheVariants.{Str}
-use Rattle.es_lexer.specs.Bytes.{first_of, is_blank, is_line_end, is_part, is_quote}
+use Rattle.es_lexer.specs.Bytes.{first_of, is_blank, is_line_end, is_start, is_quote, begins_name}
 use Rattle.es_literal.specs.Strings.{IsString}
 use Rattle.es_lexer.specs.declared.goal.Goal.{Goal}
 use Rattle.es_lexer.specs.Goal.{goal_of}
@@ -22,6 +22,9 @@ use Rattle.es_lexer.specs.Spelling.{Spells, word, str, sign, private_name, templ
 use Rattle.es_lexer.specs.Pieces.{Piece, blank, line_end, comment, token, spelling, comment_spelling, pieces_text, place_of}
 use Rattle.es_lexer.specs.Readable.{IsByte, IsPiece, ArePieces}
 use Rattle.es_lexer.specs.Reads.{tokens_of, comments_of, token_of, comment_of}
+use Rattle.es_wide.specs.Wide.{wide_blank}
+use Rattle.es_wide.proofs.WideLemmas.{blank_begins}
+use Rattle.es_lexer.proofs.PartLemmas.{name_class, name_high}
 use Rattle.es_lexer.proofs.ByteLemmas as byte
 use Rattle.es_lexer.proofs.SpellingLemmas.{not_empty}
 use Rattle.es_spelling.proofs.AsciiLemmas.{number_ascii}
@@ -29,8 +32,8 @@ use Rattle.es_lexer.proofs.SignLemmas as mark
 use Rattle.es_lexer.proofs.WordLemmas.{word_no_str}
 
 -- ---- bytes of tokens are ASCII at both ends
-part_ascii : (b : ℕ) → is_part b ≡ true → b < 128
-part_ascii b e = grind (arith, nat_tests)
+start_ascii : (b : ℕ) → is_start b ≡ true → b < 128
+start_ascii b e = grind (arith, nat_tests)
 
 quote_ascii : (b : ℕ) → is_quote b ≡ true → b < 128
 quote_ascii b e = grind (arith, nat_tests)
@@ -59,6 +62,7 @@ mark_ascii b h = elim (byte.classed b) [
   | byte.hash s e ↦ cc
   | byte.digit s e ↦ cc
   | byte.dot s e ↦ cc
+  | byte.wide l e ↦ cc
   | byte.other e ↦ cc
 ]
 
@@ -79,27 +83,38 @@ and_right : (u v : Bool) → (u && v) ≡ true → v ≡ true
 and_right true v e = e
 and_right false v e = cc
 
-start_ascii : (opens : Bool) → template_start opens < 128
+template_ascii : (opens : Bool) → template_start opens < 128
 unfolding template_start
-start_ascii true = omega arith
-start_ascii false = omega arith
+template_ascii true = omega arith
+template_ascii false = omega arith
 
-first_ascii : (goal : Goal) (k : TokenKind) (b : ℕ) (rest : List ℕ) → Spells goal k (b ∷ rest) → b < 128
-first_ascii goal k b rest (word w e) =
-    let same : b ≡ w.first = cc in
-    part_ascii b (byte.start_is_part b (ap first_of same ∙ w.starts))
-first_ascii goal k b rest (str l e) =
+-- the first byte of a token is ASCII, or begins a character
+abbrev Begins : ℕ → Type 0
+Begins b = 128 ≤ b → 192 ≤ b
+
+ascii_begins : (b : ℕ) → b < 128 → Begins b
+ascii_begins b l = λ h. absurd (omega arith)
+
+name_begins : (b : ℕ) (rest : List ℕ) → begins_name (b ∷ rest) ≡ true → Begins b
+name_begins b rest e = elim (name_class b rest e) [
+  | inl f ↦ ascii_begins b (start_ascii b (byte.start_is b f))
+  | inr p ↦ λ h. let l : 194 ≤ b = name_high b rest p.1 in omega arith
+]
+
+first_begins : (goal : Goal) (k : TokenKind) (b : ℕ) (rest : List ℕ) → Spells goal k (b ∷ rest) → Begins b
+first_begins goal k b rest (word w e) = name_begins b rest w.starts
+first_begins goal k b rest (str l e) =
     let same : b ≡ l.quote = cc in
-    mark_ascii b (ap first_of same ∙ byte.quote_class l.quote l.quotes)
-first_ascii goal k b rest (sign e) =
-    ltb-true b 128 (and_left (ltb b 128) (all_ascii rest k) (sign_ascii (b ∷ rest) k e))
-first_ascii goal k b rest (private_name name w s e) = let same : b ≡ 35 = cc in omega arith
-first_ascii goal k b rest (template opens sub body t s e) =
+    ascii_begins b (mark_ascii b (ap first_of same ∙ byte.quote_class l.quote l.quotes))
+first_begins goal k b rest (sign e) =
+    ascii_begins b (ltb-true b 128 (and_left (ltb b 128) (all_ascii rest k) (sign_ascii (b ∷ rest) k e)))
+first_begins goal k b rest (private_name name w s e) = let same : b ≡ 35 = cc in ascii_begins b (omega arith)
+first_begins goal k b rest (template opens sub body t s e) =
     let same : b ≡ template_start opens = cc in
-    subst (λ (c : ℕ). c < 128) (sym same) (start_ascii opens)
-first_ascii goal k b rest (shebang text h f w e) = let same : b ≡ 35 = cc in omega arith
-first_ascii goal k b rest (regexp i e) = let same : b ≡ 47 = cc in omega arith
-first_ascii goal k b rest (number big i e) = (number_ascii big (b ∷ rest) i).0
+    ascii_begins b (subst (λ (c : ℕ). c < 128) (sym same) (template_ascii opens))
+first_begins goal k b rest (shebang text h f w e) = let same : b ≡ 35 = cc in ascii_begins b (omega arith)
+first_begins goal k b rest (regexp i e) = let same : b ≡ 47 = cc in ascii_begins b (omega arith)
+first_begins goal k b rest (number big i e) = ascii_begins b (number_ascii big (b ∷ rest) i).0
 
 -- ---- a token in the text
 pub record TokenAt (x : List ℕ) (low : ℕ) (t : Token) : Type 0 where
@@ -234,15 +249,20 @@ byte_starts s rest c i l = subst (λ (t : List ℕ). StartsChar (t ++ rest)) (sy
 
 token_starts : (goal : Goal) (k : TokenKind) (s rest : List ℕ) → Spells goal k s → StartsChar (s ++ rest)
 token_starts goal k [] rest h = absurd (not_empty goal k h)
-token_starts goal k (b ∷ s) rest h = ascii_starts b (s ++ rest) (first_ascii goal k b s h)
+token_starts goal k (b ∷ s) rest h = first_begins goal k b s h
 
 comment_starts : (kind : CommentKind) (text rest : List ℕ) → StartsChar (comment_spelling kind text ++ rest)
 unfolding comment_spelling
 comment_starts Line text rest = ascii_starts 47 (47 ∷ (text ++ rest)) (omega arith)
 comment_starts Block text rest = ascii_starts 47 (42 ∷ ((text ++ 42 ∷ 47 ∷ []) ++ rest)) (omega arith)
 
+blank_starts : (s rest : List ℕ) → 0 < length s → wide_blank s ≡ length s → StartsChar (s ++ rest)
+blank_starts [] rest l e = absurd (omega arith)
+blank_starts (b ∷ s) rest l e = λ h. blank_begins b s (length s) e
+
 piece_starts : (goal : Goal) (p : Piece) (after rest : List ℕ) → IsPiece goal p after → StartsChar (spelling p ++ rest)
-piece_starts goal (blank s) after rest h = byte_starts s rest first.Blank h (blank_ascii h.byte h.is)
+piece_starts goal (blank s) after rest (inl h) = byte_starts s rest first.Blank h (blank_ascii h.byte h.is)
+piece_starts goal (blank s) after rest (inr h) = blank_starts s rest h.0 h.1
 piece_starts goal (line_end s) after rest h = byte_starts s rest first.LineEnd h (line_ascii h.byte h.is)
 piece_starts goal (comment kind text) after rest h = comment_starts kind text rest
 piece_starts goal (token k s) after rest h = token_starts goal k s rest h.spells
@@ -254,7 +274,8 @@ pieces_start (p ∷ ps) before after h s =
     subst StartsChar (sym (append_assoc (spelling p) (pieces_text ps) after))
     (piece_starts (goal_of before) p (pieces_text ps ++ after) (pieces_text ps ++ after) h.0)
 
-cut_at : (x front back : List ℕ) (at : ℕ) → x ≡ front ++ back → at ≡ length front → StartsChar back → IsCharBoundary x at
+cut_at : (x front back : List ℕ) (at : ℕ) → x ≡ front ++ back → at ≡ length front → StartsChar back
+    → IsCharBoundary x at
 cut_at x front [] at w p s =
     let size : length x ≡ length (front ++ []) = ap length w in
     let here : length x ≡ at = omega (arith, length-append front []) in
@@ -334,7 +355,8 @@ pub record CommentAt (x : List ℕ) (c : Comment) : Type 0 where
   pub ends : c.range.end ≡ length front + length (comment_spelling c.kind c.text)
 
 pub comment_at : (ps before : List Piece) (x front after : List ℕ) (n : ℕ) (c : Comment)
-    → x ≡ front ++ (pieces_text ps ++ after) → place_of before ≡ length front → slice_get (comments_of before ps) n ≡ Some c
+    → x ≡ front ++ (pieces_text ps ++ after) → place_of before ≡ length front
+    → slice_get (comments_of before ps) n ≡ Some c
     → CommentAt x c
 unfolding comments_of
 comment_at [] before x front after n c w p g = cc

@@ -1,10 +1,11 @@
 -- How far a text is read: what is so far read, and what each look adds.
-use Rattle.std.proofs.Common.{◌≡◌, ℕ, ◌+◌, ◌-◌, ◌<◌, ◌≤◌, Bool, true, false, ◌||◌, ◌==◌, List, [], ◌∷◌, ◌++◌, length, take, drop, get_or, Option, Some, None, Result, Err, slice_range, IsUtf8, IsCharBoundary, refl, sym, ◌∙◌, ap, subst, arith, length-append, length-drop, append_assoc, append-nil, drop-drop, drop_at, take_at, get_or-drop, eqb-true}
+use Rattle.std.proofs.Common.{◌≡◌, ℕ, ◌+◌, ◌-◌, ◌<◌, ◌≤◌, Bool, true, false, ◌||◌, ◌==◌, List, [], ◌∷◌, ◌++◌, length, take, drop, get_or, Option, Some, None, Result, Err, slice_range, IsUtf8, IsCharBoundary, refl, sym, ◌∙◌, ap, subst, arith, length-append, length-drop, append_assoc, append-nil, drop-drop, drop_at, take_at, get_or-drop, eqb-true, ◌⊎◌, inl, inr}
 use Rattle.std.specs.Prelude.{reverse}
 use Rattle.std.proofs.lemmas.List.{get_or_at, take_rest}
 use Rattle.std.proofs.lemmas.Str.{IsCharBoundary-before_ascii, IsCharBoundary-after_ascii, IsCharBoundary-end}
 use Rattle.es_lexer.specs.declared.bracket.BracketKind.{BracketKind}
 use Rattle.es_lexer.specs.declared.bracket.OpenBracket.{OpenBracket}
+use Rattle.es_lexer.specs.declared.bytes.First.TheVariants.{Blank}
 use Rattle.es_lexer.specs.declared.goal.Goal.{Goal}
 use Rattle.es_lexer.specs.declared.goal.State.{State}
 use Rattle.es_lexer.specs.declared.look.Look.{Look}
@@ -23,7 +24,7 @@ use Rattle.es_lexer.specs.Bytes.{has_line_end, is_line_end}
 use Rattle.es_lexer.specs.Brackets.{role_of}
 use Rattle.es_lexer.specs.Goal.{goal_of, goal_in, state_of, is_front, token_state, blank_state, line_state, comment_state, after_for, headed, divides, member}
 use Rattle.es_lexer.specs.Pieces.{Piece, blank, line_end, comment, token, Open, spelling, pieces_text, comment_spelling, place_of, count_of, behind, is_behind, line_since, open_at, bracket_of, closer_at, closer_by}
-use Rattle.es_lexer.specs.Readable.{IsPiece, ArePieces, EndsLine}
+use Rattle.es_lexer.specs.Readable.{IsByte, IsWideBlank, IsPiece, ArePieces, EndsLine}
 use Rattle.es_lexer.specs.Reads.{Reads, tokens_of, comments_of, range_at}
 use Rattle.es_lexer.specs.Stops.{Stops, Stuck}
 use Rattle.es_lexer.specs.Look.{look_at}
@@ -52,7 +53,8 @@ filled before ps ts = stack.fill (stack.opens_of before) (λ d. closer_at d (cou
 abbrev pub GoesOn : List ℕ → List Piece → ℕ → List Token → List Comment → Type 0
 GoesOn x before at ts cs = (ps : List Piece) (after : List ℕ) → drop at x ≡ pieces_text ps ++ after
     → ArePieces before ps after
-    → Cut x (filled before ps ts ++ tokens_of before ps) (cs ++ comments_of before ps) after (at + length (pieces_text ps))
+    → Cut x (filled before ps ts ++ tokens_of before ps) (cs ++ comments_of before ps) after
+    (at + length (pieces_text ps))
     (behind before ps)
 
 -- the text is read up to a place
@@ -422,13 +424,15 @@ opened x after at a b u h w l =
 
 comment_as : (x : List ℕ) (at : ℕ) (state : State) (brackets : List OpenBracket) (ts : List Token) (cs : List Comment)
     (kind : CommentKind) (text : List ℕ) (n : ℕ) (t : List ℕ) → text ≡ t
-    → SoFar x n state brackets ts (cs ++ record { kind = kind; range = record { start = at; end = n }; text = text } ∷ [])
+    → SoFar x n state brackets ts
+    (cs ++ record { kind = kind; range = record { start = at; end = n }; text = text } ∷ [])
     → SoFar x n state brackets ts (cs ++ record { kind = kind; range = record { start = at; end = n }; text = t } ∷ [])
 comment_as x at state brackets ts cs kind text n t q s =
     subst (λ (v : List ℕ). SoFar x n state brackets ts
     (cs ++ record { kind = kind; range = record { start = at; end = n }; text = v } ∷ [])) q s
 
-comment_after : (x : List ℕ) (at : ℕ) (state : State) (brackets : List OpenBracket) (ts : List Token) (cs : List Comment)
+comment_after : (x : List ℕ) (at : ℕ) (state : State) (brackets : List OpenBracket) (ts : List Token)
+    (cs : List Comment)
     (kind : CommentKind) (text : List ℕ) → IsUtf8 x
     → (s : SoFar x at state brackets ts cs) → Next x s.before at (comment kind text)
     → CommentAfter x at state brackets ts cs kind (at + length (comment_spelling kind text)) (has_line_end text)
@@ -445,7 +449,8 @@ comment_after x at state brackets ts cs Line text u s n =
         starts = opened x (text ++ n.after) at 47 47 u s.within cut (omega arith);
         stops = line_stop x (47 ∷ 47 ∷ text) n.after at s.within cut n.fits.1;
       };
-      goes = comment_as x at _ brackets ts cs Line text _ _ (sym is) (comment_goes x at state brackets ts cs Line text s n);
+      goes = comment_as x at _ brackets ts cs Line text _ _ (sym is)
+          (comment_goes x at state brackets ts cs Line text s n);
     }
 comment_after x at state brackets ts cs Block text u s n =
     let size : length (47 ∷ 42 ∷ (text ++ 42 ∷ 47 ∷ [])) ≡ length text + 4 =
@@ -467,21 +472,27 @@ comment_after x at state brackets ts cs Block text u s n =
             (IsCharBoundary-before_ascii x (at + length (47 ∷ 42 ∷ text))
             (behind_within x (47 ∷ 42 ∷ text) (47 ∷ n.after) at 42 s.within cut) star);
       };
-      goes = comment_as x at _ brackets ts cs Block text _ _ (sym is) (comment_goes x at state brackets ts cs Block text s n);
+      goes = comment_as x at _ brackets ts cs Block text _ _ (sym is)
+          (comment_goes x at state brackets ts cs Block text s n);
     }
 
 token_size : (goal : Goal) (k : TokenKind) (t after : List ℕ) → IsPiece goal (token k t) after → 0 < length t
 token_size goal k [] after h = absurd (not_empty goal k h.spells)
 token_size goal k (b ∷ t) after h = omega arith
 
+blank_size : (b : List ℕ) → IsByte Blank b ⊎ IsWideBlank b → 0 < length b
+blank_size b (inl h) = let e : length b ≡ 1 = ap length h.whole in omega arith
+blank_size b (inr h) = h.0
+
 piece_after : (x : List ℕ) (at : ℕ) (state : State) (brackets : List OpenBracket) (ts : List Token) (cs : List Comment)
     (p : Piece) → IsUtf8 x
     → (s : SoFar x at state brackets ts cs) → Next x s.before at p → After x at state brackets ts cs (reading_of at p)
 piece_after x at state brackets ts cs (blank b) u s n =
-    let size : length b ≡ 1 = ap length n.fits.whole in (omega arith, blank_goes x at state brackets ts cs b s n)
+    let size : 0 < length b = blank_size b n.fits in (omega arith, blank_goes x at state brackets ts cs b s n)
 piece_after x at state brackets ts cs (line_end b) u s n =
     let size : length b ≡ 1 = ap length n.fits.whole in (omega arith, line_goes x at state brackets ts cs b s n)
-piece_after x at state brackets ts cs (comment kind text) u s n = comment_after x at state brackets ts cs kind text u s n
+piece_after x at state brackets ts cs (comment kind text) u s n =
+    comment_after x at state brackets ts cs kind text u s n
 piece_after x at state brackets ts cs (token k t) u s n =
     token_goes x at state brackets ts cs k t (token_size (goal_of s.before) k t n.after n.fits) s n
 
@@ -527,7 +538,8 @@ pub less_left : (x y : List ℕ) (at end : ℕ) → y ≡ x → at < end → end
 less_left x y at end w p q = let e : length y ≡ length x = ap length w in omega arith
 
 -- the state said in other words
-pub so_far_as : (x : List ℕ) (at : ℕ) (v w : State) (brackets : List OpenBracket) (ts : List Token) (cs ds : List Comment)
+pub so_far_as : (x : List ℕ) (at : ℕ) (v w : State) (brackets : List OpenBracket) (ts : List Token)
+    (cs ds : List Comment)
     → SoFar x at v brackets ts cs → w ≡ v → ds ≡ cs → SoFar x at w brackets ts ds
 so_far_as x at v w brackets ts cs ds s p q =
     subst (λ (c : List Comment). SoFar x at w brackets ts c) (sym q)

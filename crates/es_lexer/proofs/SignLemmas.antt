@@ -357,7 +357,8 @@ pub plain_of_two : (a b : ℕ) (j : TokenKind) → sign_kind (a ∷ b ∷ []) �
 plain_of_two a b j e =
     both_left (is_plain_role (role_of j)) (is_plain_sign (sign_kind (a ∷ []))) (two_plain a b j e)
 
-pub plain_of_three : (a b c : ℕ) (j : TokenKind) → sign_kind (a ∷ b ∷ c ∷ []) ≡ Some j → is_plain_role (role_of j) ≡ true
+pub plain_of_three : (a b c : ℕ) (j : TokenKind) → sign_kind (a ∷ b ∷ c ∷ []) ≡ Some j
+    → is_plain_role (role_of j) ≡ true
 plain_of_three a b c j e =
     both_left (is_plain_role (role_of j)) (is_plain_sign (sign_kind (a ∷ []))) (three_plain a b c j e)
 

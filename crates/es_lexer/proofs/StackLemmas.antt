@@ -238,7 +238,8 @@ pub fill_role : (r : Role) (os : List OpenBracket) (n : ℕ) (later : ℕ → Op
     ≡ fill os (λ d. closer_by d r n later) ts ++ with_partner k range line (partner_by r os later) ∷ []
 unfolding fill closer_by partner_by scan.pushed scan.left_of scan.joined scan.closed_of scan.numbered
 fill_role (Opens j) os n later ts k range line v e h =
-    fill_open os (record { kind = j; number = n; headed = v }) later (λ d. closer_by d (Opens j) n later) ts k range line
+    fill_open os (record { kind = j; number = n; headed = v }) later (λ d. closer_by d (Opens j) n later) ts k range
+    line
     None e (subst (λ (m : ℕ). Below m os) e h) (opens_later n j later)
 fill_role (Closes j) [] n later ts k range line v e h = refl
 fill_role (Closes j) (o ∷ os) n later ts k range line v e h =
@@ -255,7 +256,8 @@ fill_role Plain os n later ts k range line v e h =
     fill-append os later ts _ (subst (λ (m : ℕ). Below m os) e h)
     ∙ ap (λ us. us ++ with_partner k range line None ∷ []) (fill_same os later _ ts (plain_later n later))
 
-pub joined_length : (closed : Option OpenBracket) (n : ℕ) (ts : List Token) → length (scan.joined closed n ts) ≡ length ts
+pub joined_length : (closed : Option OpenBracket) (n : ℕ) (ts : List Token)
+    → length (scan.joined closed n ts) ≡ length ts
 unfolding scan.joined
 joined_length None n ts = refl
 joined_length (Some o) n ts = length-partnered ts o.number (Some n)

@@ -39,7 +39,8 @@ one_reading x ts us cs ds r s =
     )
 
 same_look : (ps qs : List Piece) (a b : List ℕ) → ps ≡ qs → a ≡ b
-    → look_at (goal_of (behind [] ps)) (length (pieces_text ps)) a ≡ look_at (goal_of (behind [] qs)) (length (pieces_text qs)) b
+    → look_at (goal_of (behind [] ps)) (length (pieces_text ps)) a
+    ≡ look_at (goal_of (behind [] qs)) (length (pieces_text qs)) b
 same_look ps qs a b p q = cc
 
 -- at the end of a text of which all brackets are closed
@@ -117,7 +118,8 @@ reads_spells x ts cs n t r g =
 pub reads_str : (x : List ℕ) (ts : List Token) (cs : List Comment) (n : ℕ) (t : Token) → Reads x ts cs
     → slice_get ts n ≡ Some t → t.kind ≡ Str
     → IsString (slice_range x t.range.start t.range.end)
-reads_str x ts cs n t r g e = let s : (goal : Goal) × Spells goal t.kind (slice_range x t.range.start t.range.end) = reads_spells x ts cs n t r g in
+reads_str x ts cs n t r g e = let s : (goal : Goal) × Spells goal t.kind (slice_range x t.range.start t.range.end) =
+    reads_spells x ts cs n t r g in
     literal_of s.0 t.kind _ e s.1
 
 -- a comment's slice is its text within its delimiters

@@ -1,5 +1,5 @@
 -- Each text is cut into pieces up to its end or up to a fault.
-use Rattle.std.proofs.Common.{◌≡◌, ℕ, zero, suc, ◌+◌, ◌<◌, ◌≤◌, List, [], ◌∷◌, ◌++◌, length, Option, Some, None, refl, sym, ◌∙◌, ap, subst, arith, length-append, append_assoc}
+use Rattle.std.proofs.Common.{◌≡◌, ℕ, zero, suc, ◌+◌, ◌<◌, ◌≤◌, List, [], ◌∷◌, ◌++◌, length, Option, Some, None, refl, sym, ◌∙◌, ap, subst, arith, length-append, append_assoc, inl, inr}
 use Rattle.es_lexer.specs.declared.error.LexicalKind.{LexicalKind}
 use Rattle.es_lexer.specs.declared.goal.Goal.{Goal}
 use Rattle.es_lexer.specs.declared.token.CommentKind.{CommentKind}
@@ -27,7 +27,8 @@ comment_bytes Block text = omega arith
 
 -- a piece is not empty
 some_bytes : (goal : Goal) (p : Piece) (after : List ℕ) → IsPiece goal p after → 0 < length (spelling p)
-some_bytes goal (blank s) after h = let e : length s ≡ 1 = ap length h.whole in omega arith
+some_bytes goal (blank s) after (inl h) = let e : length s ≡ 1 = ap length h.whole in omega arith
+some_bytes goal (blank s) after (inr h) = h.0
 some_bytes goal (line_end s) after h = let e : length s ≡ 1 = ap length h.whole in omega arith
 some_bytes goal (comment kind text) after h = comment_bytes kind text
 some_bytes goal (token k []) after h = absurd (not_empty goal k h.spells)

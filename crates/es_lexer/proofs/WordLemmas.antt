@@ -50,7 +50,8 @@ free_if true a b p q = p
 free_if false a b p q = q
 
 words_free : (n : ℕ) → all_free (words_of n) ≡ true
-unfolding words_of words_of_two words_of_three words_of_four words_of_five words_of_six words_of_seven words_of_eight words_of_nine words_of_ten words_of_eleven
+unfolding words_of words_of_two words_of_three words_of_four words_of_five words_of_six words_of_seven words_of_eight
+    words_of_nine words_of_ten words_of_eleven
 words_free n =
     free_if (n == 2) _ _ refl (free_if (n == 3) _ _ refl (free_if (n == 4) _ _ refl (free_if (n == 5) _ _ refl
     (free_if (n == 6) _ _ refl

@@ -1,9 +1,10 @@
 -- Classes of bytes (ECMA-262, "White Space", "Line Terminators", "Names and Keywords").
--- All of them are ASCII: a byte from 128 on begins nothing and continues no word.
-use Rattle.std.specs.Prelude.{ℕ, Bool, false, ◌&&◌, ◌||◌, ◌==◌, List, [], ◌∷◌, if◌then◌else◌}
+-- A character past ASCII is told by all its bytes.
+use Rattle.std.specs.Prelude.{ℕ, Bool, false, not, nat_le, ◌&&◌, ◌||◌, ◌==◌, List, [], ◌∷◌, if◌then◌else◌}
 use Rattle.std.specs.Char.{is_ascii_alphabetic, is_ascii_digit}
+use Rattle.es_wide.specs.Wide.{wide_size}
 use Rattle.es_lexer.specs.declared.bytes.First.{First}
-use Rattle.es_lexer.specs.declared.bytes.First.TheVariants.{Blank, LineEnd, Start, Quote, Slash, Backtick, Brace, Hash, Digit, Dot, Other}
+use Rattle.es_lexer.specs.declared.bytes.First.TheVariants.{Blank, LineEnd, Start, Quote, Slash, Backtick, Brace, Hash, Digit, Dot, Wide, Other}
 
 -- U+0009, U+000B, U+000C and U+0020
 abbrev pub is_blank : ℕ → Bool
@@ -38,7 +39,8 @@ first_of b =
     else (if b == 35 then Hash
     else (if is_ascii_digit b then Digit
     else (if b == 46 then Dot
-    else Other)))))))))
+    else (if nat_le 128 b then Wide
+    else Other))))))))))
 
 -- `//` or `/*` stands here (Comment)
 unfoldable pub begins_comment : List ℕ → Bool
@@ -67,7 +69,16 @@ unfoldable pub begins_mark : List ℕ → Bool
 begins_mark [] = false
 begins_mark (b ∷ rest) = b == 33
 
+-- the size of the part of a name that stands here, or 0 (IdentifierPart)
+unfoldable pub part_unit : List ℕ → ℕ
+part_unit [] = 0
+part_unit (b ∷ rest) = if is_part b then 1 else wide_size (b ∷ rest)
+
 -- a part of a name stands here
 unfoldable pub begins_part : List ℕ → Bool
-begins_part [] = false
-begins_part (b ∷ rest) = is_part b
+begins_part text = not (part_unit text == 0)
+
+-- the start of a name stands here (IdentifierStart)
+unfoldable pub begins_name : List ℕ → Bool
+begins_name [] = false
+begins_name (b ∷ rest) = is_start b || not (wide_size (b ∷ rest) == 0)

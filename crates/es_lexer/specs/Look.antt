@@ -11,12 +11,14 @@ use Rattle.es_lexer.specs.declared.look.Look.TheVariants as look
 use Rattle.es_lexer.specs.declared.token.CommentKind.TheVariants.{Line, Block}
 use Rattle.es_lexer.specs.declared.token.TokenKind.TheVariants as kind
 use Rattle.es_lexer.specs.declared.error.LexicalKind.TheVariants.{UnterminatedString, UnterminatedComment, UnterminatedTemplate, UnterminatedRegExp, InvalidEscape, InvalidChar, Unbalanced}
-use Rattle.es_lexer.specs.Bytes.{begins_part, first_of, is_part, is_line_end, begins_closer}
+use Rattle.es_lexer.specs.Bytes.{begins_part, begins_name, first_of, part_unit, is_line_end, begins_closer}
 use Rattle.es_lexer.specs.Words.{kind_at}
 use Rattle.es_lexer.specs.declared.bracket.BracketKind.TheVariants.{Template}
 use Rattle.es_spelling.specs.declared.template.TemplateEnd.{TemplateEnd}
 use Rattle.es_spelling.specs.declared.template.TemplateEnd.TheVariants.{Closes, Substitutes, Unclosed}
 use Rattle.es_spelling.specs.Templates.{template_end}
+use Rattle.es_spelling.specs.Units.{units_end}
+use Rattle.es_wide.specs.Wide.{wide_size, wide_blank}
 use Rattle.es_spelling.specs.RegExps.{body_end}
 use Rattle.es_spelling.specs.declared.number.NumberEnd.{NumberEnd}
 use Rattle.es_spelling.specs.Numbers.{number_end}
@@ -37,10 +39,14 @@ run_end p at (b ∷ rest) = if p b then run_end p (at + 1) rest else at
 abbrev pub is_in_line : ℕ → Bool
 is_in_line b = not (is_line_end b)
 
+-- where the parts of a name end
+unfoldable pub word_end : ℕ → List ℕ → ℕ
+word_end at text = units_end part_unit at 0 text
+
 -- the word that stands at `at`, at the front of `text`, right after `.` or not
 unfoldable pub word_look : Bool → ℕ → List ℕ → Look
 word_look member at text =
-    let end = run_end is_part at text in look.Token (kind_at member (take (end - at) text)) end
+    let end = word_end at text in look.Token (kind_at member (take (end - at) text)) end
 
 -- a string literal at `at`, by its end
 unfoldable pub string_look : ℕ → StringEnd → Look
@@ -64,7 +70,7 @@ sign_look bracket at (Some sign) =
 -- a regular expression at `at`, by the place behind its body, before the text behind its first `/`
 unfoldable pub regexp_look : ℕ → Option ℕ → List ℕ → Look
 regexp_look at None rest = look.Fault UnterminatedRegExp at
-regexp_look at (Some end) rest = look.Token kind.RegExp (run_end is_part end (drop (end - (at + 1)) rest))
+regexp_look at (Some end) rest = look.Token kind.RegExp (word_end end (drop (end - (at + 1)) rest))
 
 -- a `/` at `at` that begins no comment
 unfoldable pub divide_look : Goal → ℕ → List ℕ → Look
@@ -91,16 +97,16 @@ brace_look goal at rest =
     if is_open goal.bracket Template then template_look false at (template_end (at + 1) rest)
     else sign_look goal.bracket at (sign_at (125 ∷ rest))
 
--- a `#` at `at`, before a byte of this class and others
-unfoldable pub name_look : First → ℕ → List ℕ → Look
-name_look first.Start at rest = look.Token kind.PrivateName (run_end is_part (at + 2) rest)
-name_look class at rest = look.Fault InvalidChar at
+-- a `#` at `at`, before this text
+unfoldable pub name_look : ℕ → List ℕ → Look
+name_look at text =
+    if begins_name text then look.Token kind.PrivateName (word_end (at + 1) text) else look.Fault InvalidChar at
 
 -- a `#` at `at`, at the text's front or not, before `rest`
 unfoldable pub hash_look : Bool → ℕ → List ℕ → Look
 hash_look front at [] = look.Fault InvalidChar at
 hash_look front at (b ∷ rest) =
-    if front && b == 33 then look.Token kind.Shebang (run_end is_in_line (at + 2) rest) else name_look (first_of b) at rest
+    if front && b == 33 then look.Token kind.Shebang (run_end is_in_line (at + 2) rest) else name_look at (b ∷ rest)
 
 -- a number, before this text
 unfoldable pub number_stop : NumberEnd → List ℕ → Look
@@ -117,6 +123,13 @@ unfoldable pub dot_look : Goal → ℕ → List ℕ → Look
 dot_look goal at rest =
     if begins_digit rest then number_look at (46 ∷ rest) else sign_look goal.bracket at (sign_at (46 ∷ rest))
 
+-- a character past ASCII at `at`, at the front of `text`
+unfoldable pub wide_look : Goal → ℕ → List ℕ → Look
+wide_look goal at text =
+    if not (wide_size text == 0) then word_look goal.member at text
+    else (if not (wide_blank text == 0) then look.Blank (at + wide_blank text)
+    else look.Fault InvalidChar at)
+
 -- what begins with a byte of this class at `at`, before `rest`
 unfoldable pub class_look : First → Goal → ℕ → ℕ → List ℕ → Look
 class_look first.Blank goal at b rest = look.Blank (at + 1)
@@ -129,6 +142,7 @@ class_look first.Brace goal at b rest = brace_look goal at rest
 class_look first.Hash goal at b rest = hash_look goal.front at rest
 class_look first.Digit goal at b rest = number_look at (b ∷ rest)
 class_look first.Dot goal at b rest = dot_look goal at rest
+class_look first.Wide goal at b rest = wide_look goal at (b ∷ rest)
 class_look first.Other goal at b rest = sign_look goal.bracket at (sign_at (b ∷ rest))
 
 -- the end of the text, where this is the innermost open bracket

@@ -1,6 +1,7 @@
 -- Which pieces may stand at a place (ECMA-262, "Lexical Grammar").
-use Rattle.std.specs.Prelude.{◌≡◌, ℕ, true, false, List, [], ◌∷◌, ◌++◌}
+use Rattle.std.specs.Prelude.{◌≡◌, ℕ, ◌<◌, true, false, List, [], ◌∷◌, ◌++◌, length, ◌⊎◌}
 use Rattle.std.specs.List.{AllByRecursion}
+use Rattle.es_wide.specs.Wide.{wide_blank}
 use Rattle.es_lexer.specs.declared.bytes.First.{First}
 use Rattle.es_lexer.specs.declared.bytes.First.TheVariants.{Blank, LineEnd}
 use Rattle.es_lexer.specs.declared.goal.Goal.{Goal}
@@ -41,9 +42,13 @@ pub record IsByte (class : First) (s : List ℕ) : Type 0 where
   pub whole : s ≡ byte ∷ []
   pub is : first_of byte ≡ class
 
+-- a blank past ASCII
+abbrev pub IsWideBlank : List ℕ → Type 0
+IsWideBlank s = (0 < length s) × (wide_blank s ≡ length s)
+
 -- the piece may stand before this text
 abbrev pub IsPiece : Goal → Piece → List ℕ → Type 0
-IsPiece goal (blank s) after = IsByte Blank s
+IsPiece goal (blank s) after = IsByte Blank s ⊎ IsWideBlank s
 IsPiece goal (line_end s) after = IsByte LineEnd s
 IsPiece goal (comment kind text) after = IsComment kind text after
 IsPiece goal (token k s) after = IsToken goal k s after

@@ -1,29 +1,28 @@
 -- Which texts spell a token, by its kind (ECMA-262, "Tokens").
 use Rattle.std.specs.Prelude.{◌≡◌, ℕ, Bool, true, false, List, [], ◌∷◌, ◌++◌, Some}
 use Rattle.std.specs.List.{AllByRecursion}
-use Rattle.es_lexer.specs.declared.bytes.First.TheVariants.{Start}
 use Rattle.es_lexer.specs.declared.goal.Goal.{Goal}
 use Rattle.es_lexer.specs.declared.token.TokenKind.{TokenKind}
 use Rattle.es_lexer.specs.declared.token.TokenKind.TheVariants.{Shebang, Str, RegExp, Number, BigInt, PrivateName, TemplateWhole, TemplateHead, TemplateMiddle, TemplateTail}
-use Rattle.es_lexer.specs.Bytes.{first_of, is_line_end, is_part, begins_comment}
+use Rattle.es_lexer.specs.Bytes.{is_line_end, part_unit, begins_comment, begins_name}
 use Rattle.es_lexer.specs.Words.{kind_at}
 use Rattle.es_lexer.specs.Signs.{sign_kind}
+use Rattle.es_spelling.specs.Units.{concat, AreUnits}
 use Rattle.es_spelling.specs.Templates.{IsTemplateText}
 use Rattle.es_spelling.specs.Numbers.{IsNumber}
 use Rattle.es_spelling.specs.RegExps.{IsBody}
 use Rattle.es_literal.specs.Strings.{IsString}
 
--- each byte continues a word
-abbrev pub AreParts : List ℕ → Type 0
-AreParts s = AllByRecursion (λ b. is_part b ≡ true) s
+-- parts of a name in a row
+pub record AreParts (s : List ℕ) : Type 0 where
+  pub units : List (List ℕ)
+  pub each : AreUnits part_unit units []
+  pub whole : s ≡ concat units
 
--- a start and parts ("Names and Keywords", IdentifierName)
+-- those that begin with a start ("Names and Keywords", IdentifierName)
 pub record IsWord (s : List ℕ) : Type 0 where
-  pub first : ℕ
-  pub parts : List ℕ
-  pub starts : first_of first ≡ Start
-  pub goes_on : AreParts parts
-  pub whole : s ≡ first ∷ parts
+  pub starts : begins_name s ≡ true
+  pub goes_on : AreParts s
 
 -- a template, or what goes on behind a `${` of one, begins with a backtick or with `}`
 unfoldable pub template_start : Bool → ℕ

@@ -1,17 +1,18 @@
 -- The first lexical fault of a text: pieces cut a front of it, and nothing can be read behind them.
 use Rattle.std.specs.Prelude.{◌≡◌, ℕ, ◌+◌, true, false, List, [], ◌∷◌, ◌++◌, length, Bool, ◌&&◌, Some, None, ◌⊎◌}
 use Rattle.es_lexer.specs.declared.bracket.BracketKind.{BracketKind}
-use Rattle.es_lexer.specs.declared.bytes.First.TheVariants.{Start, Brace, Other}
+use Rattle.es_lexer.specs.declared.bytes.First.TheVariants.{Brace, Wide, Other}
 use Rattle.es_lexer.specs.declared.goal.Goal.{Goal}
 use Rattle.es_lexer.specs.declared.token.TokenKind.{TokenKind}
 use Rattle.es_lexer.specs.declared.error.LexicalKind.{LexicalKind}
 use Rattle.es_lexer.specs.declared.error.LexicalKind.TheVariants.{UnterminatedString, UnterminatedComment, UnterminatedTemplate, UnterminatedRegExp, InvalidEscape, InvalidChar, Unbalanced}
-use Rattle.es_lexer.specs.Bytes.{first_of, begins_comment, begins_mark, has_closer, begins_part}
+use Rattle.es_lexer.specs.Bytes.{first_of, begins_comment, begins_mark, has_closer, begins_part, begins_name}
 use Rattle.es_lexer.specs.declared.bracket.BracketKind.TheVariants.{Template}
 use Rattle.es_lexer.specs.Brackets.{role_of, is_open, may_close}
 use Rattle.es_lexer.specs.Signs.{sign_kind}
 use Rattle.es_lexer.specs.Spelling.{template_start}
 use Rattle.es_spelling.specs.Units.{concat}
+use Rattle.es_wide.specs.Wide.{wide_size, wide_blank}
 use Rattle.es_spelling.specs.RegExps.{IsBody}
 use Rattle.es_spelling.specs.Templates.{IsUnclosed}
 use Rattle.es_literal.specs.Strings.{Begins, IsBad, IsCut}
@@ -19,11 +20,6 @@ use Rattle.es_spelling.specs.Numbers.{IsNumber}
 use Rattle.es_lexer.specs.Goal.{goal_of}
 use Rattle.es_lexer.specs.Pieces.{Piece, pieces_text, behind}
 use Rattle.es_lexer.specs.Readable.{ArePieces}
-
--- no name begins here
-abbrev pub BeginsNoName : List ℕ → Type 0
-BeginsNoName [] = Unit {0}
-BeginsNoName (b ∷ rest) = first_of b ≡ Start → ⊥
 
 -- no body of a regular expression begins here
 abbrev pub BeginsNoBody : List ℕ → Type 0
@@ -52,6 +48,9 @@ pub data Stuck (goal : Goal) (rest : List ℕ) (at : ℕ) (kind : LexicalKind) (
   -- a character that begins nothing
   no_token : (b : ℕ) (after : List ℕ) → rest ≡ b ∷ after → first_of b ≡ Other → sign_kind (b ∷ []) ≡ None
       → kind ≡ InvalidChar → place ≡ at → Stuck goal rest at kind place
+  -- a character past ASCII that is no blank and stands in no word, or bytes that are none
+  no_character : (b : ℕ) (after : List ℕ) → rest ≡ b ∷ after → first_of b ≡ Wide → wide_size rest ≡ 0
+      → wide_blank rest ≡ 0 → kind ≡ InvalidChar → place ≡ at → Stuck goal rest at kind place
   -- a regular expression without its end
   open_regexp : (text : List ℕ) → rest ≡ 47 ∷ text → begins_comment rest ≡ false → goal.regexp ≡ true → BeginsNoBody text
       → kind ≡ UnterminatedRegExp → place ≡ at → Stuck goal rest at kind place
@@ -60,7 +59,7 @@ pub data Stuck (goal : Goal) (rest : List ℕ) (at : ℕ) (kind : LexicalKind) (
       → sign_kind (b ∷ []) ≡ Some k → may_close goal.bracket (role_of k) ≡ false
       → kind ≡ Unbalanced → place ≡ at → Stuck goal rest at kind place
   -- a `#` that begins neither a private name nor, at the text's front, a shebang
-  lone_hash : (after : List ℕ) → rest ≡ 35 ∷ after → BeginsNoName after → (goal.front && begins_mark after) ≡ false
+  lone_hash : (after : List ℕ) → rest ≡ 35 ∷ after → begins_name after ≡ false → (goal.front && begins_mark after) ≡ false
       → kind ≡ InvalidChar → place ≡ at → Stuck goal rest at kind place
   -- a part of a name, or a wrong `_`, right behind a number
   joined : (big : Bool) (s after : List ℕ) → rest ≡ s ++ after → IsNumber big s → IsLongestNumber s after

@@ -1,5 +1,7 @@
-ghost use Rattle.std.specs.Prelude.{◌≡◌};
-ghost use Rattle.es_lexer.specs.Bytes.{begins_part, first_of, is_line_end, is_part};
+ghost use Rattle.std.specs.Prelude.{◌≡◌, ◌≤◌, length};
+ghost use Rattle.es_lexer.specs.Bytes.{begins_name, begins_part, first_of, is_line_end, is_part, is_start, part_unit};
+
+use es_wide::wide_size;
 
 /// What a byte begins, where a token, a comment or a gap is to be read.
 #[derive(Clone, Copy)]
@@ -22,6 +24,8 @@ pub enum First {
     Digit,
     /// A number, where a digit follows, else a punctuator.
     Dot,
+    /// A character past ASCII.
+    Wide,
     /// A punctuator, or nothing.
     Other,
 }
@@ -41,11 +45,12 @@ pub fn first_of(b: u8) -> First
         b'#' => First::Hash,
         b'0'..=b'9' => First::Digit,
         b'.' => First::Dot,
+        0x80..=0xFF => First::Wide,
         _ => First::Other,
     }
 }
 
-pub fn is_part(b: u8) -> bool
+fn is_part(b: u8) -> bool
     ensures { result ≡ is_part b }
 {
     matches!(b, b'a'..=b'z' | b'A'..=b'Z' | b'0'..=b'9' | b'$' | b'_')
@@ -57,13 +62,39 @@ pub fn is_line_end(b: u8) -> bool
     b == b'\n' || b == b'\r'
 }
 
+/// The size of the part of a name that stands here, 0 where none does.
+#[tactic(auto, unfolding(crate::specs::Bytes::part_unit))]
+pub fn part_unit(text: &[u8]) -> usize
+    ensures value { result ≡ part_unit text.now }
+    ensures within { result ≤ length text.now }
+{
+    match text {
+        [] => 0,
+        [b, ..] => { if is_part(*b) { 1 } else { wide_size(text) } }
+    }
+}
+
 /// Whether a part of a name stands here.
 #[tactic(auto, unfolding(crate::specs::Bytes::begins_part))]
 pub fn begins_part(text: &[u8]) -> bool
     ensures { result ≡ begins_part text.now }
 {
+    part_unit(text) != 0
+}
+
+/// Whether the start of a name stands here.
+#[tactic(auto, unfolding(crate::specs::Bytes::begins_name))]
+pub fn begins_name(text: &[u8]) -> bool
+    ensures { result ≡ begins_name text.now }
+{
     match text {
         [] => false,
-        [b, ..] => is_part(*b),
+        [b, ..] => is_start(*b) || wide_size(text) != 0,
     }
+}
+
+fn is_start(b: u8) -> bool
+    ensures { result ≡ is_start b }
+{
+    matches!(b, b'a'..=b'z' | b'A'..=b'Z' | b'$' | b'_')
 }

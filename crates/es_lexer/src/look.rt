@@ -1,12 +1,12 @@
 ghost use Rattle.std.specs.Prelude.{◌≡◌, ◌+◌, ◌<◌, ◌≤◌, ◌^◌, ◌∷◌, false, length, IfSome};
 ghost use Rattle.std.specs.Bool.{OnTrue};
-ghost use Rattle.es_lexer.specs.Bytes.{begins_closer, is_part};
+ghost use Rattle.es_lexer.specs.Bytes.{begins_closer};
 ghost use Rattle.es_lexer.specs.Signs.{sign_at};
 ghost use Rattle.es_lexer.specs.Spelling.{number_kind};
-ghost use Rattle.es_lexer.specs.Look.{run_end, is_in_line, word_look, string_look, block_look, sign_look, template_look, number_stop, number_look, dot_look, brace_look, name_look, hash_look, regexp_look, divide_look, slash_look, end_look, look_at};
+ghost use Rattle.es_lexer.specs.Look.{run_end, is_in_line, word_end, word_look, string_look, block_look, sign_look, template_look, number_stop, number_look, dot_look, brace_look, name_look, wide_look, hash_look, regexp_look, divide_look, slash_look, end_look, look_at};
 
 use crate::bracket::{BracketKind, is_open, may_close, role_of};
-use crate::bytes::{First, begins_part, first_of, is_line_end, is_part};
+use crate::bytes::{First, begins_name, begins_part, first_of, is_line_end, part_unit};
 use crate::error::LexicalKind;
 use crate::goal::Goal;
 use crate::signs::{Sign, sign_at};
@@ -14,6 +14,7 @@ use crate::token::{CommentKind, TokenKind};
 use crate::words::kind_at;
 use es_literal::{StringEnd, string_from};
 use es_spelling::{NumberEnd, TemplateEnd, number_from, regexp_from, template_from};
+use es_wide::{wide_blank, wide_size};
 
 /// What stands at a place of a text. An end is the place behind it.
 #[derive(Clone, Copy)]
@@ -60,6 +61,7 @@ pub fn look_from(goal: Goal, at: usize, text: &[u8]) -> Look
             First::Hash => hash_from(goal.front, at, rest),
             First::Digit => number_token(at, text),
             First::Dot => dot_from(goal, at, text, rest),
+            First::Wide => wide_from(goal, at, text),
             First::Other => sign_from(goal.bracket, at, text),
         },
     }
@@ -184,27 +186,48 @@ fn hash_from(front: bool, at: usize, rest: &[u8]) -> Look
                     end: line_end_from(at + 2, more),
                 }
             } else {
-                name_from(first_of(*b), at, more)
+                name_from(at, rest)
             }
         }
     }
 }
 
-/// A private name, whose name begins with a byte of this class, which stands before the text.
+/// A private name, whose name stands at the front of the text.
 #[tactic(auto, unfolding(crate::specs::Look::name_look))]
-fn name_from(class: First, at: usize, text: &[u8]) -> Look
-    requires { at + 2 + length text.now < 2 ^ 64 }
-    ensures { result ≡ name_look class at text.now }
+fn name_from(at: usize, text: &[u8]) -> Look
+    requires { at + 1 + length text.now < 2 ^ 64 }
+    ensures { result ≡ name_look at text.now }
 {
-    match class {
-        First::Start => Look::Token {
+    if begins_name(text) {
+        Look::Token {
             kind: TokenKind::PrivateName,
-            end: word_end_from(at + 2, text),
-        },
-        _ => Look::Fault {
+            end: word_end_from(at + 1, text),
+        }
+    } else {
+        Look::Fault {
             kind: LexicalKind::InvalidChar,
             at,
-        },
+        }
+    }
+}
+
+/// What begins with a character past ASCII: a word, or a blank.
+#[tactic(auto, unfolding(crate::specs::Look::wide_look))]
+fn wide_from(goal: Goal, at: usize, text: &[u8]) -> Look
+    requires { at + length text.now < 2 ^ 64 }
+    ensures { result ≡ wide_look goal at text.now }
+{
+    if wide_size(text) != 0 {
+        return word_from(goal.member, at, text);
+    }
+    let size = wide_blank(text);
+    if size != 0 {
+        Look::Blank { end: at + size }
+    } else {
+        Look::Fault {
+            kind: LexicalKind::InvalidChar,
+            at,
+        }
     }
 }
 
@@ -369,21 +392,23 @@ fn word_from(member: bool, at: usize, text: &[u8]) -> Look
     }
 }
 
-#[tactic(auto, unfolding(crate::specs::Look::run_end))]
-fn word_end_from(first: usize, bytes: &[u8]) -> usize
-    requires { first + length bytes.now < 2 ^ 64 }
-    ensures value { result ≡ run_end is_part first bytes.now }
+/// The place behind the parts of a name that stand at `first`.
+#[tactic(auto, unfolding(crate::specs::Look::word_end))]
+fn word_end_from(first: usize, text: &[u8]) -> usize
+    requires { first + length text.now < 2 ^ 64 }
+    ensures value { result ≡ word_end first text.now }
     ensures forward { first ≤ result }
-    ensures within { result ≤ first + length bytes.now }
+    ensures within { result ≤ first + length text.now }
 {
     let mut at = first;
-    let mut rest = bytes;
-    while let [b, after @ ..] = rest {
-        if !is_part(*b) {
+    let mut rest = text;
+    'parts: loop {
+        let size = part_unit(rest);
+        if size == 0 {
             break;
         }
-        rest = after;
-        at += 1;
+        rest = &rest[size..];
+        at += size;
     }
     at
 }

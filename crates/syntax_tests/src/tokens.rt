@@ -169,7 +169,16 @@ fn texts_have_their_tokens(rt: HostRuntime) -> Result<(), Fail> {
         ("#!", "Shebang 0-2, "),
         (" #!a", "InvalidChar at byte 1"),
         ("a\u{b}b\u{c}c", "Name 0-1, Name 2-3, Name 4-5, "),
-        ("a\u{e9}", "InvalidChar at byte 1"),
+        ("a\u{e9}", "Name 0-3, "),
+        ("\u{e9}\u{4e2d}\u{1f600}1 x", "Name 0-10, Name 11-12, "),
+        ("#\u{3c0}.if\u{aa}", "PrivateName 0-3, Dot 3-4, Name 4-8, "),
+        (
+            "\u{feff}a\u{a0}b\u{2003}c\u{202f}\u{3000}",
+            "Name 3-4, Name 6-7, Name 10-11, ",
+        ),
+        ("a\u{2028}b", "InvalidChar at byte 1"),
+        ("1\u{e9}", "InvalidChar at byte 1"),
+        ("/a/\u{e9}g", "RegExp 0-6, "),
         ("'\u{e9}' // \u{20ac}", "Str 0-4, line 5-11 [ \u{20ac}], "),
     ];
     for (text, want) in rows {

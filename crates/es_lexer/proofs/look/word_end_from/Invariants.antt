@@ -1,15 +1,15 @@
--- The word ends where what is left of it does.
+-- The parts end where those of what is left do.
 use Rattle.std.proofs.Common.{◌≡◌, ◌+◌, ◌≤◌, length}
-use Rattle.es_lexer.specs.Bytes.{is_part}
-use Rattle.es_lexer.specs.Look.{run_end}
+use Rattle.es_spelling.specs.Units.{units_end}
+use Rattle.es_lexer.specs.Bytes.{part_unit}
 use Rattle.es_lexer.proofs.look.word_end_from.Given as goal
 
-abbrev pub invariant-loop-rest : goal.invariant-loop-rest
-invariant-loop-rest l = record {
-  same : run_end is_part l.at l.rest ≡ run_end is_part l.first l.bytes;
-  place : l.at + length l.rest ≡ l.first + length l.bytes;
+abbrev pub invariant-parts : goal.invariant-parts
+invariant-parts l = record {
+  end : units_end part_unit l.at 0 l.rest ≡ units_end part_unit l.first 0 l.text;
+  place : l.at + length l.rest ≡ l.first + length l.text;
   forward : l.first ≤ l.at;
 }
 
-abbrev pub decreases-loop-rest : goal.decreases-loop-rest
-decreases-loop-rest l = length l.rest
+abbrev pub decreases-parts : goal.decreases-parts
+decreases-parts l = length l.rest

@@ -7,70 +7,93 @@ use Rattle.es_lexer.proofs.scan.scan.Goals as goal
 pub pieces-init : goal.pieces-init
 pieces-init c = record {
   same = c.as_bytes-bytes.ensures.value;
-  so_far = so_far_first c.args.text.now _ _ _ _ c.first_state-state.ensures c.new-brackets.ensures c.new-tokens.ensures c.new-comments.ensures;
+  so_far = so_far_first c.args.text.now _ _ _ _ c.first_state-state.ensures c.new-brackets.ensures c.new-tokens.ensures
+      c.new-comments.ensures;
 }
 
 -- ---- the end, and a fault
 pub returns-in-End-clause-read : goal.returns-in-End-clause-read
 returns-in-End-clause-read c =
-    advance_at c.args.text.now c.as_bytes-bytes.result.now c.pieces.at c.pieces.state c.pieces.brackets c.pieces.tokens c.pieces.comments _ _ _
+    advance_at c.args.text.now c.as_bytes-bytes.result.now c.pieces.at c.pieces.state c.pieces.brackets c.pieces.tokens
+    c.pieces.comments _ _ _
     c.utf8.text c.pieces.invariant.same c.pieces.invariant.so_far c.innermost.ensures c.goal_in.ensures c.in-End.ensures
 
 pub returns-in-Fault-clause-stopped : goal.returns-in-Fault-clause-stopped
 returns-in-Fault-clause-stopped c e w = fault_as c.args.text.now c.in-Fault.kind c.in-Fault.at
-    (advance_at c.args.text.now c.as_bytes-bytes.result.now c.pieces.at c.pieces.state c.pieces.brackets c.pieces.tokens c.pieces.comments _ _ _
-    c.utf8.text c.pieces.invariant.same c.pieces.invariant.so_far c.innermost.ensures c.goal_in.ensures c.in-Fault.ensures) e w
+    (advance_at c.args.text.now c.as_bytes-bytes.result.now c.pieces.at c.pieces.state c.pieces.brackets
+    c.pieces.tokens c.pieces.comments _ _ _
+    c.utf8.text c.pieces.invariant.same c.pieces.invariant.so_far c.innermost.ensures c.goal_in.ensures
+    c.in-Fault.ensures) e w
 
 pub pieces-smaller-in-Blank : goal.pieces-smaller-in-Blank
 pieces-smaller-in-Blank c =
-    let after : After c.args.text.now c.pieces.at c.pieces.state c.pieces.brackets c.pieces.tokens c.pieces.comments (look.Blank c.in-Blank.end) =
-    advance_at c.args.text.now c.as_bytes-bytes.result.now c.pieces.at c.pieces.state c.pieces.brackets c.pieces.tokens c.pieces.comments _ _ _
-    c.utf8.text c.pieces.invariant.same c.pieces.invariant.so_far c.innermost.ensures c.goal_in.ensures c.in-Blank.ensures in
+    let after : After c.args.text.now c.pieces.at c.pieces.state c.pieces.brackets c.pieces.tokens c.pieces.comments
+    (look.Blank c.in-Blank.end) =
+    advance_at c.args.text.now c.as_bytes-bytes.result.now c.pieces.at c.pieces.state c.pieces.brackets c.pieces.tokens
+    c.pieces.comments _ _ _
+    c.utf8.text c.pieces.invariant.same c.pieces.invariant.so_far c.innermost.ensures c.goal_in.ensures
+    c.in-Blank.ensures in
     less_left c.args.text.now c.as_bytes-bytes.result.now c.pieces.at c.in-Blank.end c.pieces.invariant.same
     after.0 after.1.within
 
 pub pieces-smaller-in-LineEnd : goal.pieces-smaller-in-LineEnd
 pieces-smaller-in-LineEnd c =
-    let after : After c.args.text.now c.pieces.at c.pieces.state c.pieces.brackets c.pieces.tokens c.pieces.comments (look.LineEnd c.in-LineEnd.end) =
-    advance_at c.args.text.now c.as_bytes-bytes.result.now c.pieces.at c.pieces.state c.pieces.brackets c.pieces.tokens c.pieces.comments _ _ _
-    c.utf8.text c.pieces.invariant.same c.pieces.invariant.so_far c.innermost.ensures c.goal_in.ensures c.in-LineEnd.ensures in
+    let after : After c.args.text.now c.pieces.at c.pieces.state c.pieces.brackets c.pieces.tokens c.pieces.comments
+    (look.LineEnd c.in-LineEnd.end) =
+    advance_at c.args.text.now c.as_bytes-bytes.result.now c.pieces.at c.pieces.state c.pieces.brackets c.pieces.tokens
+    c.pieces.comments _ _ _
+    c.utf8.text c.pieces.invariant.same c.pieces.invariant.so_far c.innermost.ensures c.goal_in.ensures
+    c.in-LineEnd.ensures in
     less_left c.args.text.now c.as_bytes-bytes.result.now c.pieces.at c.in-LineEnd.end c.pieces.invariant.same
     after.0 after.1.within
 
 pub pieces-preserved-in-Blank : goal.pieces-preserved-in-Blank
 pieces-preserved-in-Blank c = record {
   same = c.pieces.invariant.same;
-  so_far = so_far_as _ _ _ _ _ _ _ _ (advance_at c.args.text.now c.as_bytes-bytes.result.now c.pieces.at c.pieces.state c.pieces.brackets c.pieces.tokens c.pieces.comments _ _ _
-      c.utf8.text c.pieces.invariant.same c.pieces.invariant.so_far c.innermost.ensures c.goal_in.ensures c.in-Blank.ensures).1 c.blank_state-state.ensures refl;
+  so_far = so_far_as _ _ _ _ _ _ _ _
+      (advance_at c.args.text.now c.as_bytes-bytes.result.now c.pieces.at c.pieces.state c.pieces.brackets
+      c.pieces.tokens c.pieces.comments _ _ _
+      c.utf8.text c.pieces.invariant.same c.pieces.invariant.so_far c.innermost.ensures c.goal_in.ensures
+      c.in-Blank.ensures).1 c.blank_state-state.ensures refl;
 }
 
 pub pieces-preserved-in-LineEnd : goal.pieces-preserved-in-LineEnd
 pieces-preserved-in-LineEnd c = record {
   same = c.pieces.invariant.same;
-  so_far = so_far_as _ _ _ _ _ _ _ _ (advance_at c.args.text.now c.as_bytes-bytes.result.now c.pieces.at c.pieces.state c.pieces.brackets c.pieces.tokens c.pieces.comments _ _ _
-      c.utf8.text c.pieces.invariant.same c.pieces.invariant.so_far c.innermost.ensures c.goal_in.ensures c.in-LineEnd.ensures).1 c.line_state-state.ensures refl;
+  so_far = so_far_as _ _ _ _ _ _ _ _
+      (advance_at c.args.text.now c.as_bytes-bytes.result.now c.pieces.at c.pieces.state c.pieces.brackets
+      c.pieces.tokens c.pieces.comments _ _ _
+      c.utf8.text c.pieces.invariant.same c.pieces.invariant.so_far c.innermost.ensures c.goal_in.ensures
+      c.in-LineEnd.ensures).1 c.line_state-state.ensures refl;
 }
 
 -- ---- comments
 pub comment_from-requires : goal.comment_from-requires
 comment_from-requires c =
-    (advance_at c.args.text.now c.as_bytes-bytes.result.now c.pieces.at c.pieces.state c.pieces.brackets c.pieces.tokens c.pieces.comments _ _ _
-    c.utf8.text c.pieces.invariant.same c.pieces.invariant.so_far c.innermost.ensures c.goal_in.ensures c.in-Comment.ensures).has_text
+    (advance_at c.args.text.now c.as_bytes-bytes.result.now c.pieces.at c.pieces.state c.pieces.brackets
+    c.pieces.tokens c.pieces.comments _ _ _
+    c.utf8.text c.pieces.invariant.same c.pieces.invariant.so_far c.innermost.ensures c.goal_in.ensures
+    c.in-Comment.ensures).has_text
 
 pub pieces-smaller-in-Comment : goal.pieces-smaller-in-Comment
 pieces-smaller-in-Comment c =
     let after : After c.args.text.now c.pieces.at c.pieces.state c.pieces.brackets c.pieces.tokens c.pieces.comments
     (look.Comment c.in-Comment.kind c.in-Comment.end c.in-Comment.line_end) =
-    advance_at c.args.text.now c.as_bytes-bytes.result.now c.pieces.at c.pieces.state c.pieces.brackets c.pieces.tokens c.pieces.comments _ _ _
-    c.utf8.text c.pieces.invariant.same c.pieces.invariant.so_far c.innermost.ensures c.goal_in.ensures c.in-Comment.ensures in
-    less_left c.args.text.now c.as_bytes-bytes.result.now c.pieces.at c.in-Comment.end c.pieces.invariant.same after.forward after.goes.within
+    advance_at c.args.text.now c.as_bytes-bytes.result.now c.pieces.at c.pieces.state c.pieces.brackets c.pieces.tokens
+    c.pieces.comments _ _ _
+    c.utf8.text c.pieces.invariant.same c.pieces.invariant.so_far c.innermost.ensures c.goal_in.ensures
+    c.in-Comment.ensures in
+    less_left c.args.text.now c.as_bytes-bytes.result.now c.pieces.at c.in-Comment.end c.pieces.invariant.same
+    after.forward after.goes.within
 
 pub pieces-preserved-in-Comment : goal.pieces-preserved-in-Comment
 pieces-preserved-in-Comment c = record {
   same = c.pieces.invariant.same;
   so_far = so_far_as _ _ _ _ _ _ _ _
-      (advance_at c.args.text.now c.as_bytes-bytes.result.now c.pieces.at c.pieces.state c.pieces.brackets c.pieces.tokens c.pieces.comments _ _ _
-      c.utf8.text c.pieces.invariant.same c.pieces.invariant.so_far c.innermost.ensures c.goal_in.ensures c.in-Comment.ensures).goes
+      (advance_at c.args.text.now c.as_bytes-bytes.result.now c.pieces.at c.pieces.state c.pieces.brackets
+      c.pieces.tokens c.pieces.comments _ _ _
+      c.utf8.text c.pieces.invariant.same c.pieces.invariant.so_far c.innermost.ensures c.goal_in.ensures
+      c.in-Comment.ensures).goes
       c.comment_state-state.ensures
       (c.in_ok-push-in-Comment.ensures.ok
       ∙ ap (λ d. c.pieces.comments ++ d ∷ []) c.in_ok-comment_from-in-Comment.ensures);
@@ -81,19 +104,25 @@ pub pieces-smaller : goal.pieces-smaller
 pieces-smaller c =
     let after : After c.args.text.now c.pieces.at c.pieces.state c.pieces.brackets c.pieces.tokens c.pieces.comments
     (look.Token c.in-Token.kind c.in-Token.end) =
-    advance_at c.args.text.now c.as_bytes-bytes.result.now c.pieces.at c.pieces.state c.pieces.brackets c.pieces.tokens c.pieces.comments _ _ _
-    c.utf8.text c.pieces.invariant.same c.pieces.invariant.so_far c.innermost.ensures c.goal_in.ensures c.in-Token.ensures in
-    less_left c.args.text.now c.as_bytes-bytes.result.now c.pieces.at c.in-Token.end c.pieces.invariant.same after.forward after.within
+    advance_at c.args.text.now c.as_bytes-bytes.result.now c.pieces.at c.pieces.state c.pieces.brackets c.pieces.tokens
+    c.pieces.comments _ _ _
+    c.utf8.text c.pieces.invariant.same c.pieces.invariant.so_far c.innermost.ensures c.goal_in.ensures
+    c.in-Token.ensures in
+    less_left c.args.text.now c.as_bytes-bytes.result.now c.pieces.at c.in-Token.end c.pieces.invariant.same
+    after.forward after.within
 
 pub pieces-preserved : goal.pieces-preserved
 pieces-preserved c =
     let after : After c.args.text.now c.pieces.at c.pieces.state c.pieces.brackets c.pieces.tokens c.pieces.comments
     (look.Token c.in-Token.kind c.in-Token.end) =
-    advance_at c.args.text.now c.as_bytes-bytes.result.now c.pieces.at c.pieces.state c.pieces.brackets c.pieces.tokens c.pieces.comments _ _ _
-    c.utf8.text c.pieces.invariant.same c.pieces.invariant.so_far c.innermost.ensures c.goal_in.ensures c.in-Token.ensures in
+    advance_at c.args.text.now c.as_bytes-bytes.result.now c.pieces.at c.pieces.state c.pieces.brackets c.pieces.tokens
+    c.pieces.comments _ _ _
+    c.utf8.text c.pieces.invariant.same c.pieces.invariant.so_far c.innermost.ensures c.goal_in.ensures
+    c.in-Token.ensures in
     record {
       same = c.pieces.invariant.same;
       so_far = so_far_as _ _ _ _ _ _ _ _
-          (after.goes _ _ _ c.in_ok-closed-in-Token.ensures.closed c.in_ok-closed-in-Token.ensures.tokens c.in_ok-closed-in-Token.ensures.brackets)
+          (after.goes _ _ _ c.in_ok-closed-in-Token.ensures.closed c.in_ok-closed-in-Token.ensures.tokens
+          c.in_ok-closed-in-Token.ensures.brackets)
           c.token_state-state.ensures refl;
     }
