@@ -16,12 +16,31 @@ MORE = 20
 MORE_COUNTED = 2
 
 
-def make_program(folder, name, crates, lines, main, printed):
+def rows_below(crates):
+    """The rows of crates.txt of these crates and of all crates below them, those below first."""
+    with open(os.path.join(ROOT, "crates.txt"), encoding="utf-8") as file:
+        rows = [line.split("#")[0].strip() for line in file]
+    rows = {row.split(":")[0].split()[0]: row for row in rows if row}
+    found = {}
+
+    def add(crate):
+        if crate in rows and crate not in found:
+            for below in rows[crate].partition(":")[2].split():
+                add(below)
+            found[crate] = rows[crate]
+
+    for crate in crates:
+        add(crate)
+    return found
+
+
+def make_program(folder, name, crates, main, printed):
     """Proves and builds a program of this main over copies of these crates; `printed` is what it prints of no input.
 
     What the gate proved of the same files on this machine isn't proved again.
     """
-    for crate in crates:
+    rows = rows_below(crates)
+    for crate in rows:
         copy = os.path.join(folder, "crates", crate)
         shutil.copytree(os.path.join(ROOT, "crates", crate), copy, ignore=shutil.ignore_patterns("out", "must-fail"))
     where = os.path.join(folder, "crates", name)
@@ -31,7 +50,7 @@ def make_program(folder, name, crates, lines, main, printed):
             made.write(text)
     shutil.copyfile(os.path.join(ROOT, "HANDLES"), os.path.join(folder, "HANDLES"))
     with open(os.path.join(folder, "crates.txt"), "w") as file:
-        file.write("\n".join(lines) + "\n")
+        file.write("\n".join([*rows.values(), f"{name}: {' '.join(crates)}"]) + "\n")
     subprocess.run(["rt", "ci"], cwd=folder, check=True, stdout=subprocess.DEVNULL)
     return os.path.join(where, "out", name)
 
