@@ -1,0 +1,171 @@
+//! Assignments and whole expressions.
+
+ghost use Rattle.es_grammar.specs.Expressions.{yield_, assignment, expression, element};
+
+use crate::arrows::{AsyncArrow, PlainArrow};
+use crate::operators::Conditional;
+use crate::primary::Spread;
+use es_grammar::{Context, Label, Row};
+use es_lexer::TokenKind;
+use es_reader::Ahead::Is;
+use es_reader::Told::{Guarded, Taken};
+use es_reader::{
+    Ahead, Alt, Choose, Cursor, Done, Grammar, Guard, Input, Kinds, Make, Many, Measured, OfRow,
+    Opt, Pick, Punct, ReadsRule, Sort, Tok, When, Wrap,
+};
+use es_tree::SyntaxError;
+
+/// 'yield' (~ '*'? Assign)?
+#[derive(Clone, Copy)]
+pub struct Yield(pub Context);
+
+impl ReadsRule for Yield {
+    ghost rule = { λ s. yield_ s.0 };
+
+    #[tactic(auto, unfolding(es_grammar::specs::Expressions::yield_))]
+    fn read<F: Fn(Input<'_>, usize, Row, &mut Cursor) -> Result<Measured, SyntaxError>>(
+        &self,
+        grammar: &Grammar<'_, F>,
+        cursor: &mut Cursor,
+    ) -> Result<Measured, SyntaxError> {
+        Make(
+            Label::Yield,
+            Punct(
+                TokenKind::YieldWord,
+                Opt(
+                    Taken(Ahead::Operand),
+                    When(
+                        Ahead::Near,
+                        Opt(
+                            Taken(Is(TokenKind::Star)),
+                            Tok(Sort::There, Kinds::Only(TokenKind::Star), Done),
+                            OfRow(Row::AssignmentRow(self.0), Done),
+                        ),
+                    ),
+                    Done,
+                ),
+            ),
+        )
+        .read(grammar, cursor)
+    }
+}
+
+/// Assign: Arrow | 'yield' (~ '*'? Assign)? | Target AssignOp Assign | Cond
+#[derive(Clone, Copy)]
+pub struct Assignment(pub Context);
+
+impl ReadsRule for Assignment {
+    ghost rule = { λ s. assignment s.0 };
+
+    #[tactic(auto, unfolding(es_grammar::specs::Expressions::assignment))]
+    fn read<F: Fn(Input<'_>, usize, Row, &mut Cursor) -> Result<Measured, SyntaxError>>(
+        &self,
+        grammar: &Grammar<'_, F>,
+        cursor: &mut Cursor,
+    ) -> Result<Measured, SyntaxError> {
+        let outside = Context {
+            no_in: false,
+            ..self.0
+        };
+        Pick(
+            Guard::OpensArrow,
+            Pick(
+                Guard::OpensAsyncArrow,
+                AsyncArrow(self.0),
+                PlainArrow(self.0),
+            ),
+            Choose(
+                Is(TokenKind::YieldWord),
+                Yield(self.0),
+                Pick(
+                    Guard::OpensPattern,
+                    Make(
+                        Label::PatternAssignment,
+                        OfRow(
+                            Row::PatternRow(true, outside),
+                            Punct(TokenKind::Equal, OfRow(Row::AssignmentRow(self.0), Done)),
+                        ),
+                    ),
+                    Wrap(
+                        Label::Assignment,
+                        Conditional(self.0),
+                        Guarded(Guard::OpensAssignment),
+                        Alt(
+                            Is(TokenKind::Greater),
+                            Tok(
+                                Sort::Kind,
+                                Kinds::Only(TokenKind::Greater),
+                                Tok(
+                                    Sort::There,
+                                    Kinds::Only(TokenKind::Greater),
+                                    Opt(
+                                        Guarded(Guard::Joins(TokenKind::Greater)),
+                                        Tok(Sort::There, Kinds::Only(TokenKind::Greater), Done),
+                                        Tok(Sort::There, Kinds::Only(TokenKind::Equal), Done),
+                                    ),
+                                ),
+                            ),
+                            Tok(Sort::Kind, Kinds::Assignment, Done),
+                            OfRow(Row::AssignmentRow(self.0), Done),
+                        ),
+                    ),
+                ),
+            ),
+        )
+        .read(grammar, cursor)
+    }
+}
+
+/// Expr: Assign (',' Assign)*
+#[derive(Clone, Copy)]
+pub struct Expression(pub Context);
+
+impl ReadsRule for Expression {
+    ghost rule = { λ s. expression s.0 };
+
+    #[tactic(auto, unfolding(es_grammar::specs::Expressions::expression))]
+    fn read<F: Fn(Input<'_>, usize, Row, &mut Cursor) -> Result<Measured, SyntaxError>>(
+        &self,
+        grammar: &Grammar<'_, F>,
+        cursor: &mut Cursor,
+    ) -> Result<Measured, SyntaxError> {
+        Wrap(
+            Label::Sequence,
+            Assignment(self.0),
+            Taken(Is(TokenKind::Comma)),
+            Punct(
+                TokenKind::Comma,
+                OfRow(
+                    Row::AssignmentRow(self.0),
+                    Many(
+                        Taken(Is(TokenKind::Comma)),
+                        Punct(TokenKind::Comma, OfRow(Row::AssignmentRow(self.0), Done)),
+                        Done,
+                    ),
+                ),
+            ),
+        )
+        .read(grammar, cursor)
+    }
+}
+
+/// AElem: '...'? Assign
+#[derive(Clone, Copy)]
+pub struct Element(pub Context);
+
+impl ReadsRule for Element {
+    ghost rule = { λ s. element s.0 };
+
+    #[tactic(auto, unfolding(es_grammar::specs::Expressions::element))]
+    fn read<F: Fn(Input<'_>, usize, Row, &mut Cursor) -> Result<Measured, SyntaxError>>(
+        &self,
+        grammar: &Grammar<'_, F>,
+        cursor: &mut Cursor,
+    ) -> Result<Measured, SyntaxError> {
+        let outside = Context {
+            no_in: false,
+            ..self.0
+        };
+        Choose(Is(TokenKind::Ellipsis), Spread(self.0), Assignment(outside)).read(grammar, cursor)
+    }
+}
