@@ -1,9 +1,7 @@
-//! Tests of tokens, of the language of grammars and of the parser, by their public calls.
+//! Tests of the language of grammars and of the parser, by their public calls.
 #![tactic(auto)]
 
 #[cfg(test)]
 mod errors;
-#[cfg(test)]
-mod tokens;
 #[cfg(test)]
 mod trees;
