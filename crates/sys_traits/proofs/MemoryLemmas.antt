@@ -1,5 +1,5 @@
 -- A system in memory: from what a call exactly does to what its trait promises of the files.
-use Rattle.std.proofs.Common.{◌≡◌, ◌≢◌, ℕ, Bool, true, false, cond, List, [], ◌∷◌, ◌++◌, refl, sym, ap, subst, ◌∙◌, Some, None, Ok, Err, IfOk, Result, Option, nat_cmp}
+use Rattle.std.proofs.Common.{◌≡◌, ◌≢◌, ℕ, Bool, true, false, cond, List, [], ◌∷◌, ◌++◌, refl, sym, ap, subst, ◌∙◌, Some, None, Ok, Err, Result, Option, nat_cmp}
 use Rattle.std.specs.Prelude.{bytes_eq, not, is_some, unwrap_or}
 use Rattle.std.specs.Cmp.Lexicographic.{slice_cmp, nat_list_cmp_total, texts_ties, bytes_decides}
 use Rattle.std.specs.FinMap.{slice_cmp-IsAntisymmetric, nat_cmp-IsAntisymmetric}
@@ -15,7 +15,7 @@ use Rattle.sys_traits.specs.declared.place.Place.TheVariants as places
 use Rattle.sys_traits.specs.declared.place.Need.TheVariants as needs
 use Rattle.sys_traits.specs.declared.call.SysCallKind.TheVariants.{Open, WriteAll, Remove, Rename}
 use Rattle.sys_traits.specs.Paths.{Path, spot, parent_of}
-use Rattle.sys_traits.specs.State.{Files, file_at, Told, IsCall, refusal_of}
+use Rattle.sys_traits.specs.State.{Files, file_at, IsCall, refusal_of}
 use Rattle.sys_traits.specs.Calls.{Change, Ends, KeepsFiles, TouchesFile, SetsFile, MovesFile, Opened, Written, Removed, Renamed}
 use Rattle.sys_traits.specs.Files.{with_file, without_file, moved_file}
 use Rattle.sys_traits.specs.Memory.{Memory, Answered, logged, told_of, unless_refused, first_refusal, refusal_in, refusal_at, is_listed, place_of, files_written, half, is_blocked, is_folder, opening, writing, removing, renaming}

@@ -3,7 +3,6 @@ use Rattle.std.specs.Prelude.{◌≡◌, ◌≢◌, ℕ, Bool, true, false, List
 use Rattle.sys_traits.specs.declared.error.SysErrorKind.{SysErrorKind}
 use Rattle.sys_traits.specs.declared.error.SysErrorKind.TheVariants.{NotFound, Failed, OutOfMemory}
 use Rattle.sys_traits.specs.declared.error.SysError.{SysError}
-use Rattle.sys_traits.specs.declared.call.SysCallKind.{SysCallKind}
 use Rattle.sys_traits.specs.declared.call.SysCallKind.TheVariants.{Canonicalize, CreateDirAll, Exists, Open, WriteAll, Remove, Rename, Random, Sleep}
 use Rattle.sys_traits.specs.Paths.{Path, spot}
 use Rattle.sys_traits.specs.State.{file_at, Told, IsCall}

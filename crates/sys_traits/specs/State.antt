@@ -1,23 +1,13 @@
 -- What a system tells of itself, and what one call does to it.
-use Rattle.std.specs.Prelude.{◌≡◌, ◌≢◌, ◌<◌, ◌≤◌, ℕ, List, [], ◌∷◌, ◌++◌, Option, Some, None, Result, Ok, Err}
-use Rattle.std.specs.Ordering.{nat_cmp}
-use Rattle.std.specs.Cmp.Lexicographic.{slice_cmp}
-use Rattle.std.specs.FinMap.{find}
+use Rattle.std.specs.Prelude.{◌≡◌, ◌<◌, ◌≤◌, ℕ, List, [], ◌∷◌, ◌++◌, Option, Some, None, Result, Ok, Err}
 use Rattle.std.specs.declared.alloc.AllocError.{AllocError}
 use Rattle.sys_traits.specs.declared.error.SysErrorKind.{SysErrorKind}
 use Rattle.sys_traits.specs.declared.error.SysErrorKind.TheVariants.{NotFound, Failed, OutOfMemory}
 use Rattle.sys_traits.specs.declared.error.SysError.{SysError}
 use Rattle.sys_traits.specs.declared.call.SysCall.{SysCall}
 use Rattle.sys_traits.specs.declared.call.SysCallKind.{SysCallKind}
-use Rattle.sys_traits.specs.Paths.{Path, spot}
-
--- files: the bytes at each normalized path
-abbrev pub Files : Type 0
-Files = List (Path × List ℕ)
-
--- the bytes that a path reads, if there is a file
-abbrev pub file_at : Files → Path → Option (List ℕ)
-file_at files path = find (slice_cmp nat_cmp) path files
+use Rattle.sys_traits.specs.Paths.{Path}
+pub use Rattle.sys_traits.specs.Files.{Files, file_at}
 
 -- what a system may tell: its current folder, its files, and its calls so far
 pub record Told : Type 0 where

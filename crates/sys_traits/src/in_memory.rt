@@ -12,7 +12,6 @@ mod given;
 
 use crate::call::SysCall;
 use crate::error::{SysError, SysErrorKind};
-use crate::files::find_file;
 use crate::place::{Need, Place, place_of, refusal_at, spot_in};
 use crate::shared_files::SharedFiles;
 use base::{Items, Text};
@@ -89,7 +88,7 @@ impl InMemorySys {
     pub fn file(&self, path: &str) -> Option<&[u8]>
         ensures { option_copied result ≡ file_at self.now.files path.now }
     {
-        find_file(self.files.as_slice(), path)
+        self.files.get(path)
     }
 
     fn spot(&self, path: &str) -> Result<String, AllocError>
@@ -101,7 +100,7 @@ impl InMemorySys {
     fn place(&self, spot: &str) -> Place
         ensures { result ≡ spec.place_of self.now.files self.now.made spot.now }
     {
-        place_of(self.files.as_slice(), self.made.as_slice(), spot)
+        place_of(&self.files, self.made.as_slice(), spot)
     }
 
     // Whether the next call is one that is to fail.

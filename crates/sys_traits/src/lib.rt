@@ -4,7 +4,7 @@
 mod call;
 mod error;
 mod file;
-mod files;
+mod file_map;
 mod in_memory;
 mod place;
 mod shared_files;
@@ -13,6 +13,7 @@ mod traits;
 pub use call::{SysCall, SysCallKind};
 pub use error::{SysError, SysErrorKind};
 pub use file::SysFile;
+pub use file_map::FileBytes;
 pub use in_memory::InMemorySys;
 pub use shared_files::SharedFiles;
 pub use traits::{

@@ -5,8 +5,8 @@ ghost use Rattle.sys_traits.specs.Paths as paths;
 ghost use Rattle.sys_traits.specs.Memory as spec;
 
 use crate::error::SysErrorKind;
-use crate::files::find_file;
-use base::{Items, Text};
+use crate::shared_files::SharedFiles;
+use base::Text;
 use lexical_path::{parent, path_in};
 use std::alloc::{AllocError, Global};
 
@@ -65,14 +65,14 @@ pub fn spot_in(alloc: Global, folder: &str, path: &str) -> Result<String, AllocE
 }
 
 /// What is at this normalized path.
-pub fn place_of(files: &[(Text, Items<u8>)], made: &[Text], path: &str) -> Place
+pub fn place_of(files: &SharedFiles, made: &[Text], path: &str) -> Place
     ensures { result ≡ spec.place_of files.now made.now path.now }
 {
     if is_blocked(files, path) {
         Place::Blocked
     } else if is_folder(made, path) {
         Place::Folder
-    } else if find_file(files, path).is_some() {
+    } else if files.get(path).is_some() {
         Place::File
     } else if is_folder(made, parent_of(path)) {
         Place::Free
@@ -108,10 +108,16 @@ pub fn parent_of(path: &str) -> &str
     }
 }
 
-fn is_blocked(files: &[(Text, Items<u8>)], path: &str) -> bool
+// A file stands at a front of the path that ends before a `/`.
+fn is_blocked(files: &SharedFiles, path: &str) -> bool
     ensures { result ≡ spec.is_blocked files.now path.now }
 {
-    files.iter().any(|file| is_below(file.0.as_str(), path))
+    for (end, byte) in path.as_bytes().iter().enumerate() {
+        if *byte == b'/' && files.get(&path[..end]).is_some() {
+            return true;
+        }
+    }
+    false
 }
 
 fn has_at_or_below(made: &[Text], path: &str) -> bool

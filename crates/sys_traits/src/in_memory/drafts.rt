@@ -8,7 +8,7 @@ ghost use Rattle.sys_traits.specs.Steps.{Drafts};
 use crate::call::{SysCall, SysCallKind};
 use crate::error::SysErrorKind;
 use crate::file::SysFile;
-use crate::files::{find_file, with_file, without_file};
+use crate::file_map::FileBytes;
 use crate::in_memory::InMemorySys;
 use crate::place::{Need, Place, is_folder, is_there};
 use crate::shared_files::SharedFiles;
@@ -197,7 +197,7 @@ impl InMemorySys {
             (lists.with_file self.now.files spot.now []) self.now.files) }
     {
         match refusal {
-            None => with_file(self.log.allocator(), self.files.as_slice(), spot, b""),
+            None => self.with_file(spot, b""),
             Some(_) => self.copied(),
         }
     }
@@ -206,12 +206,7 @@ impl InMemorySys {
         ensures { IfOk result (λ files. files ≡ spec.files_written self.now spot.now bytes.now place) }
     {
         match place {
-            Place::File => with_file(
-                self.log.allocator(),
-                self.files.as_slice(),
-                spot,
-                self.kept_of(bytes),
-            ),
+            Place::File => self.with_file(spot, self.kept_of(bytes)),
             Place::Folder | Place::Free | Place::Missing | Place::Blocked => self.copied(),
         }
     }
@@ -232,7 +227,7 @@ impl InMemorySys {
             (lists.without_file self.now.files spot.now) self.now.files) }
     {
         match refusal {
-            None => without_file(self.log.allocator(), self.files.as_slice(), spot),
+            None => self.without_file(spot),
             Some(_) => self.copied(),
         }
     }
@@ -256,11 +251,33 @@ impl InMemorySys {
         ensures { IfOk result (λ files. files ≡ lists.moved_file self.now.files from.now to.now) }
     {
         let alloc = self.log.allocator();
-        let rest = without_file(alloc, self.files.as_slice(), from)?;
-        match find_file(self.files.as_slice(), from) {
-            Some(content) => with_file(alloc, rest.as_slice(), to, content),
-            None => with_file(alloc, rest.as_slice(), to, b""),
-        }
+        let mut files = self.files.to_map()?;
+        let bytes = match files.take(from) {
+            Some(bytes) => bytes,
+            None => FileBytes::new(alloc, b"")?,
+        };
+        files.put(String::from_str(alloc, to)?, bytes)?;
+        SharedFiles::new(alloc, files)
+    }
+
+    fn with_file(&self, spot: &str, bytes: &[u8]) -> Result<SharedFiles, AllocError>
+        ensures { IfOk result (λ files. files ≡ lists.with_file self.now.files spot.now bytes.now) }
+    {
+        let alloc = self.log.allocator();
+        let mut files = self.files.to_map()?;
+        files.put(
+            String::from_str(alloc, spot)?,
+            FileBytes::new(alloc, bytes)?,
+        )?;
+        SharedFiles::new(alloc, files)
+    }
+
+    fn without_file(&self, spot: &str) -> Result<SharedFiles, AllocError>
+        ensures { IfOk result (λ files. files ≡ lists.without_file self.now.files spot.now) }
+    {
+        let mut files = self.files.to_map()?;
+        drop(files.take(spot));
+        SharedFiles::new(self.log.allocator(), files)
     }
 
     fn made_after(

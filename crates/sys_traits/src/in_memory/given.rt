@@ -1,14 +1,12 @@
 //! What a new system in memory is given.
 ghost use Rattle.std.specs.Prelude.{◌≡◌, ◌++◌, map, IfOk, OnOk};
 ghost use Rattle.sys_traits.specs.Paths.{spot, parent_of};
-ghost use Rattle.sys_traits.specs.Files.{with_file};
 ghost use Rattle.sys_traits.specs.Memory as spec;
 
-use crate::files::copy_bytes;
+use crate::file_map::{FileBytes, FileMap};
 use crate::place::{is_folder, parent_of, spot_in};
 use base::{Items, Text};
 use std::alloc::{AllocError, Global};
-use std::collections::BTreeMap;
 
 // The path, with a `/` in front where it has none.
 pub fn rooted(alloc: Global, path: Text) -> Result<Text, AllocError>
@@ -78,43 +76,17 @@ pub fn files(
     folder: &str,
     made: &[Text],
     files: &[(Text, Items<u8>)],
-) -> Result<Items<(Text, Items<u8>)>, AllocError>
+) -> Result<FileMap, AllocError>
     ensures { IfOk result (λ kept. kept ≡ spec.given_files folder.now made.now files.now) }
 {
-    let mut kept = BTreeMap::new(alloc);
+    let mut kept = FileMap::new(alloc);
     let mut at = files.len();
     while 0 < at {
         at -= 1;
         let spot = spot_in(alloc, folder, files[at].0.as_str())?;
         if !is_folder(made, spot.as_str()) {
-            let content = copy_bytes(alloc, files[at].1.as_slice())?;
-            put(&mut kept, Text::from_string(spot), content)?;
+            kept.put(spot, FileBytes::new(alloc, files[at].1.as_slice())?)?;
         }
     }
-    drained(alloc, kept)
-}
-
-fn put(
-    kept: &mut BTreeMap<Text, Items<u8>>,
-    path: Text,
-    content: Items<u8>,
-) -> Result<(), AllocError>
-    ensures { OnOk result (kept.new.entries ≡ with_file kept.old.entries path content) }
-{
-    kept.insert(path, content)?;
-    Ok(())
-}
-
-// The entries, in their order.
-fn drained(
-    alloc: Global,
-    kept: BTreeMap<Text, Items<u8>>,
-) -> Result<Items<(Text, Items<u8>)>, AllocError>
-    ensures { IfOk result (λ list. list ≡ kept.entries) }
-{
-    let mut list = Items::new(alloc);
-    for entry in kept {
-        list.push(entry)?;
-    }
-    Ok(list)
+    Ok(kept)
 }

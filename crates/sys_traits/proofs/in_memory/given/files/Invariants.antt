@@ -5,7 +5,7 @@ use Rattle.sys_traits.proofs.in_memory.given.files.Given as goal
 abbrev pub invariant-loop-at : goal.invariant-loop-at
 invariant-loop-at l = record {
   within : l.at ≤ length l.files;
-  so_far : l.kept.entries ≡ given_files l.folder l.made (drop l.at l.files);
+  so_far : l.kept ≡ given_files l.folder l.made (drop l.at l.files);
 }
 
 abbrev pub decreases-loop-at : goal.decreases-loop-at
