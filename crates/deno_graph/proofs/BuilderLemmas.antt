@@ -2,7 +2,7 @@
 use Rattle.std.proofs.Common.{◌≡◌, ◌+◌, ◌-◌, ◌≤◌, ℕ, List, [], ◌∷◌, ◌++◌, length, take, drop, ap, sym, subst, refl, ◌∙◌, arith, length-append, length-drop}
 use Rattle.std.proofs.lemmas.List.{drop_all, drop-append-le, take-append-drop, take-append-le}
 use Rattle.std.specs.List.{IsDistinct}
-use Rattle.deno_graph.specs.Reach.{Specifier, Log, Answers, Meaning}
+use Rattle.deno_graph.specs.Reach.{Specifier, Log, Answers, Rules}
 use Rattle.deno_graph.specs.Events.{Event, asked_of, log_of}
 use Rattle.deno_graph.specs.Builder.{last_of, before_last, IsAsking, IsToldLog, IsOwn, IsKept}
 
@@ -43,11 +43,11 @@ before_last-push n m xs x fits is = ap (λ k. before_last k (xs ++ x ∷ [])) is
 
 -- ---- a new builder
 
-pub kept_new : (meaning : Meaning) (starts : List Specifier) (events : List Event) (told : Answers) → IsKept meaning starts events told 0 0
+pub kept_new : (rules : Rules) (starts : List Specifier) (events : List Event) (told : Answers) → IsKept rules starts events told 0 0
 unfolding IsDistinct
-kept_new meaning starts events told = record {
+kept_new rules starts events told = record {
   fits = omega arith;
-  own = subst (λ (own : List Event). IsOwn meaning starts own told 0 0) (sym (last_of-zero events)) (record {
+  own = subst (λ (own : List Event). IsOwn rules starts own told 0 0) (sym (last_of-zero events)) (record {
     asked_counted = refl;
     taken_counted = refl;
     behind = omega arith;
@@ -57,14 +57,14 @@ kept_new meaning starts events told = record {
 }
 
 -- what holds of a builder's own events, by its requests and its answers
-pub own_of : (meaning : Meaning) (starts : List Specifier) (own : List Event) (told : Answers) (asked : List Specifier) (log : Log) (n m : ℕ)
-    → asked_of own ≡ asked → log_of own ≡ log → length asked ≡ n → length log ≡ m → m ≤ n + 1 → IsAsking meaning starts asked log → IsToldLog told log
-    → IsOwn meaning starts own told n m
-own_of meaning starts own told asked log n m asks gave many answers behind asking as_told = record {
+pub own_of : (rules : Rules) (starts : List Specifier) (own : List Event) (told : Answers) (asked : List Specifier) (log : Log) (n m : ℕ)
+    → asked_of own ≡ asked → log_of own ≡ log → length asked ≡ n → length log ≡ m → m ≤ n + 1 → IsAsking rules starts asked log → IsToldLog told log
+    → IsOwn rules starts own told n m
+own_of rules starts own told asked log n m asks gave many answers behind asking as_told = record {
   asked_counted = ap length asks ∙ many;
   taken_counted = ap length gave ∙ answers;
   behind = behind;
-  asking = subst (λ (a : List Specifier). IsAsking meaning starts a (log_of own)) (sym asks)
-      (subst (λ (l : Log). IsAsking meaning starts asked l) (sym gave) asking);
+  asking = subst (λ (a : List Specifier). IsAsking rules starts a (log_of own)) (sym asks)
+      (subst (λ (l : Log). IsAsking rules starts asked l) (sym gave) asking);
   as_told = subst (λ (l : Log). IsToldLog told l) (sym gave) as_told;
 }

@@ -6,10 +6,10 @@ use Rattle.std.specs.Cmp.Lexicographic.{nat_list_eq_equiv, same_text}
 use Rattle.graph_entry.specs.declared.answer.LoadAnswer.{LoadAnswer}
 use Rattle.graph_entry.specs.declared.entry.Entry.{Entry}
 use Rattle.graph_entry.specs.Specifier.{loadable}
-use Rattle.graph_entry.specs.Entry.{targets}
 use Rattle.deno_graph.specs.declared.slot.Slot.{Slot}
 use Rattle.deno_graph.specs.declared.slot.Slot.TheVariants.{Queued, Asked, Done}
-use Rattle.deno_graph.specs.Reach.{Specifier, Log, Meaning, answer_to, has, IsEntry, IsReached}
+use Rattle.deno_graph.specs.Rules.{targets}
+use Rattle.deno_graph.specs.Reach.{Specifier, Log, Rules, answer_to, has, IsEntry, IsReached}
 use Rattle.deno_graph.specs.Slots.{Slots, HasGrown}
 use Rattle.deno_graph.specs.Events.{IsOutstanding}
 use Rattle.deno_graph.specs.Builder.{IsAwaited, IsOrderlyAfter}
@@ -59,9 +59,9 @@ distinct_last (x ∷ xs) y h =
     last [] h = h.0
     last (z ∷ ys) h = last ys h.1
 
-pub building_popped : (meaning : Meaning) (starts asked : List Specifier) (log : Log) (slots : Slots) (rest : List Specifier) (s : Specifier)
-    → IsBuilding meaning starts no_one asked log slots (rest ++ s ∷ []) → IsBuilding meaning starts (this_one s) asked log slots rest
-building_popped meaning starts asked log slots rest s b = record {
+pub building_popped : (rules : Rules) (starts asked : List Specifier) (log : Log) (slots : Slots) (rest : List Specifier) (s : Specifier)
+    → IsBuilding rules starts no_one asked log slots (rest ++ s ∷ []) → IsBuilding rules starts (this_one s) asked log slots rest
+building_popped rules starts asked log slots rest s b = record {
   sound = b.sound;
   done = b.done;
   closed = b.closed;
@@ -86,18 +86,18 @@ building_popped meaning starts asked log slots rest s b = record {
     holds t e n = let q = (b.listed t (has_right rest (s ∷ []) t (has_one s t ∙ e))).0 in cc
 
 -- what is known of the one that was taken
-pub popped_slot : (meaning : Meaning) (starts asked : List Specifier) (log : Log) (slots : Slots) (rest : List Specifier) (s : Specifier)
-    → IsBuilding meaning starts no_one asked log slots (rest ++ s ∷ []) → (slots s ≡ Some Queued) × (has asked s ≡ false)
-popped_slot meaning starts asked log slots rest s b =
+pub popped_slot : (rules : Rules) (starts asked : List Specifier) (log : Log) (slots : Slots) (rest : List Specifier) (s : Specifier)
+    → IsBuilding rules starts no_one asked log slots (rest ++ s ∷ []) → (slots s ≡ Some Queued) × (has asked s ≡ false)
+popped_slot rules starts asked log slots rest s b =
     let q : slots s ≡ Some Queued = (b.listed s (has_right rest (s ∷ []) s (has_one s s ∙ nat_list_eq_equiv.refl s))).0 in
     (q, (b.queued s refl q).1)
 
 -- ---- the one in hand is asked for
 
-pub building_asked : (meaning : Meaning) (starts asked : List Specifier) (log : Log) (slots new : Slots) (todo : List Specifier) (s : Specifier)
-    → IsBuilding meaning starts (this_one s) asked log slots todo → slots s ≡ Some Queued → has asked s ≡ false
-    → IsWritten slots new s Asked → IsBuilding meaning starts no_one (asked ++ s ∷ []) log new todo
-building_asked meaning starts asked log slots new todo s b here fresh w = record {
+pub building_asked : (rules : Rules) (starts asked : List Specifier) (log : Log) (slots new : Slots) (todo : List Specifier) (s : Specifier)
+    → IsBuilding rules starts (this_one s) asked log slots todo → slots s ≡ Some Queued → has asked s ≡ false
+    → IsWritten slots new s Asked → IsBuilding rules starts no_one (asked ++ s ∷ []) log new todo
+building_asked rules starts asked log slots new todo s b here fresh w = record {
   sound = λ t x h. sound t x (bytes_eq t s) refl h;
   done = λ t e h. b.done t e (elsewhere t (Done e) (λ q. cc) h);
   closed = λ t u e h among. written_some slots new s u Asked w (b.closed t u e (elsewhere t (Done e) (λ q. cc) h) among);
@@ -118,7 +118,7 @@ building_asked meaning starts asked log slots new todo s b here fresh w = record
         by true e = absurd (differs (sym h ∙ written_here slots new s t Asked w e))
         by false e = sym (written_there slots new s t Asked w e) ∙ h
 
-    sound : (t : Specifier) (x : Slot) (c : Bool) → bytes_eq t s ≡ c → new t ≡ Some x → IsReached meaning starts (answer_to log) t
+    sound : (t : Specifier) (x : Slot) (c : Bool) → bytes_eq t s ≡ c → new t ≡ Some x → IsReached rules starts (answer_to log) t
     sound t x true e h = b.sound t Queued (ap slots (text_same s t e) ∙ here)
     sound t x false e h = b.sound t x (sym (written_there slots new s t Asked w e) ∙ h)
 
@@ -148,19 +148,19 @@ building_asked meaning starts asked log slots new todo s b here fresh w = record
 -- ---- an answer came for one that outstanding
 
 -- one more answer that was awaited
-pub orderly_push : (meaning : Meaning) (starts : List Specifier) (before log : Log) (s : Specifier) (a : LoadAnswer)
-    → IsOrderlyAfter meaning starts before log → IsAwaited meaning starts (before ++ log) s → IsOrderlyAfter meaning starts before (log ++ (s, a) ∷ [])
-orderly_push meaning starts before [] s a h w = (rw (sym (append-nil before)) w, tt)
-orderly_push meaning starts before (x ∷ log) s a h w =
-    (h.0, orderly_push meaning starts (before ++ x ∷ []) log s a h.1 (rw append_assoc w))
+pub orderly_push : (rules : Rules) (starts : List Specifier) (before log : Log) (s : Specifier) (a : LoadAnswer)
+    → IsOrderlyAfter rules starts before log → IsAwaited rules starts (before ++ log) s → IsOrderlyAfter rules starts before (log ++ (s, a) ∷ [])
+orderly_push rules starts before [] s a h w = (rw (sym (append-nil before)) w, tt)
+orderly_push rules starts before (x ∷ log) s a h w =
+    (h.0, orderly_push rules starts (before ++ x ∷ []) log s a h.1 (rw append_assoc w))
 
-pub building_answered : (meaning : Meaning) (starts asked : List Specifier) (log : Log) (slots : Slots) (todo : List Specifier) (s : Specifier) (a : LoadAnswer)
-    → IsBuilding meaning starts no_one asked log slots todo → slots s ≡ Some Asked → loadable s ≡ true
-    → IsBuilding meaning starts (this_one s) asked (log ++ (s, a) ∷ []) slots todo
-building_answered meaning starts asked log slots todo s a b here loads =
+pub building_answered : (rules : Rules) (starts asked : List Specifier) (log : Log) (slots : Slots) (todo : List Specifier) (s : Specifier) (a : LoadAnswer)
+    → IsBuilding rules starts no_one asked log slots todo → slots s ≡ Some Asked → loadable s ≡ true
+    → IsBuilding rules starts (this_one s) asked (log ++ (s, a) ∷ []) slots todo
+building_answered rules starts asked log slots todo s a b here loads =
     let within = answer_kept log ((s, a) ∷ []) in record {
-      sound = λ t x h. reached_grows meaning starts (answer_to log) (answer_to (log ++ (s, a) ∷ [])) within t (b.sound t x h);
-      done = λ t e h. entry_grows meaning (answer_to log) (answer_to (log ++ (s, a) ∷ [])) within t e (b.done t e h);
+      sound = λ t x h. reached_grows rules starts (answer_to log) (answer_to (log ++ (s, a) ∷ [])) within t (b.sound t x h);
+      done = λ t e h. entry_grows rules (answer_to log) (answer_to (log ++ (s, a) ∷ [])) within t e (b.done t e h);
       closed = b.closed;
       outstanding = λ t out h. let old = b.outstanding t refl h in (old.0, answer_other log s a t out ∙ old.1);
       queued = λ t out h. b.queued t refl h;
@@ -169,7 +169,7 @@ building_answered meaning starts asked log slots todo s a b here loads =
       todo_once = b.todo_once;
       asked_slot = b.asked_slot;
       answered = λ t c h. answered t c (bytes_eq t s) refl h;
-      orderly = orderly_push meaning starts [] log s a b.orderly
+      orderly = orderly_push rules starts [] log s a b.orderly
           (record { reached = b.sound s Asked here; loads = loads; open_yet = (b.outstanding s refl here).1 });
     }
   where
@@ -179,11 +179,11 @@ building_answered meaning starts asked log slots todo s a b here loads =
 
 -- ---- what came is reached
 
-pub building_grown : (meaning : Meaning) (starts : List Specifier) (in_hand : Specifier → Bool) (asked : List Specifier) (log : Log) (slots new : Slots) (todo later come : List Specifier)
-    → IsBuilding meaning starts in_hand asked log slots todo → HasGrown come slots new todo later
-    → ((t : Specifier) → has come t ≡ true → IsReached meaning starts (answer_to log) t)
-    → IsBuilding meaning starts in_hand asked log new later
-building_grown meaning starts in_hand asked log slots new todo later come b g reached = record {
+pub building_grown : (rules : Rules) (starts : List Specifier) (in_hand : Specifier → Bool) (asked : List Specifier) (log : Log) (slots new : Slots) (todo later come : List Specifier)
+    → IsBuilding rules starts in_hand asked log slots todo → HasGrown come slots new todo later
+    → ((t : Specifier) → has come t ≡ true → IsReached rules starts (answer_to log) t)
+    → IsBuilding rules starts in_hand asked log new later
+building_grown rules starts in_hand asked log slots new todo later come b g reached = record {
   sound = λ t x h. sound t x (g.fresh t x h);
   done = λ t e h. b.done t e (old_one t (Done e) (λ q. cc) (g.fresh t (Done e) h));
   closed = λ t u e h among n. closed u (slots u) refl (b.closed t u e (old_one t (Done e) (λ q. cc) (g.fresh t (Done e) h)) among) n;
@@ -197,7 +197,7 @@ building_grown meaning starts in_hand asked log slots new todo later come b g re
   orderly = b.orderly;
 }
   where
-    sound : (t : Specifier) (x : Slot) → (slots t ≡ Some x) ⊎ ((slots t ≡ None) × (has come t ≡ true) × (x ≡ Queued)) → IsReached meaning starts (answer_to log) t
+    sound : (t : Specifier) (x : Slot) → (slots t ≡ Some x) ⊎ ((slots t ≡ None) × (has come t ≡ true) × (x ≡ Queued)) → IsReached rules starts (answer_to log) t
     sound t x (inl h) = b.sound t x h
     sound t x (inr h) = reached t h.1
 
@@ -220,11 +220,11 @@ building_grown meaning starts in_hand asked log slots new todo later come b g re
 
 -- ---- the one in hand has its entry
 
-pub building_filled : (meaning : Meaning) (starts asked : List Specifier) (log : Log) (slots new : Slots) (todo : List Specifier) (s : Specifier) (e : Entry)
-    → IsBuilding meaning starts (this_one s) asked log slots todo → IsReached meaning starts (answer_to log) s → IsEntry meaning (answer_to log) s e
-    → ((u : Specifier) → has (targets e) u ≡ true → slots u ≡ None → ⊥)
-    → IsWritten slots new s (Done e) → IsBuilding meaning starts no_one asked log new todo
-building_filled meaning starts asked log slots new todo s e b reached is_entry closed w = record {
+pub building_filled : (rules : Rules) (starts asked : List Specifier) (log : Log) (slots new : Slots) (todo : List Specifier) (s : Specifier) (e : Entry)
+    → IsBuilding rules starts (this_one s) asked log slots todo → IsReached rules starts (answer_to log) s → IsEntry rules (answer_to log) s e
+    → ((u : Specifier) → has (targets rules e) u ≡ true → slots u ≡ None → ⊥)
+    → IsWritten slots new s (Done e) → IsBuilding rules starts no_one asked log new todo
+building_filled rules starts asked log slots new todo s e b reached is_entry closed w = record {
   sound = λ t x h. sound t x (bytes_eq t s) refl h;
   done = λ t f h. done t f (bytes_eq t s) refl h;
   closed = λ t u f h among. written_some slots new s u (Done e) w (shut t u f (bytes_eq t s) refl h among);
@@ -238,24 +238,24 @@ building_filled meaning starts asked log slots new todo s e b reached is_entry c
   orderly = b.orderly;
 }
   where
-    sound : (t : Specifier) (x : Slot) (c : Bool) → bytes_eq t s ≡ c → new t ≡ Some x → IsReached meaning starts (answer_to log) t
-    sound t x true d h = subst (IsReached meaning starts (answer_to log)) (sym (text_same s t d)) reached
+    sound : (t : Specifier) (x : Slot) (c : Bool) → bytes_eq t s ≡ c → new t ≡ Some x → IsReached rules starts (answer_to log) t
+    sound t x true d h = subst (IsReached rules starts (answer_to log)) (sym (text_same s t d)) reached
     sound t x false d h = b.sound t x (sym (written_there slots new s t (Done e) w d) ∙ h)
 
     same_entry : (f g : Entry) → Some (Done f) ≡ Some (Done g) → f ≡ g
     same_entry f g h = cc
 
-    done : (t : Specifier) (f : Entry) (c : Bool) → bytes_eq t s ≡ c → new t ≡ Some (Done f) → IsEntry meaning (answer_to log) t f
+    done : (t : Specifier) (f : Entry) (c : Bool) → bytes_eq t s ≡ c → new t ≡ Some (Done f) → IsEntry rules (answer_to log) t f
     done t f true d h =
         let same = same_entry e f (sym (written_here slots new s t (Done e) w d) ∙ h) in
-        subst (λ (u : Specifier). IsEntry meaning (answer_to log) u f) (sym (text_same s t d))
-        (subst (λ (g : Entry). IsEntry meaning (answer_to log) s g) same is_entry)
+        subst (λ (u : Specifier). IsEntry rules (answer_to log) u f) (sym (text_same s t d))
+        (subst (λ (g : Entry). IsEntry rules (answer_to log) s g) same is_entry)
     done t f false d h = b.done t f (sym (written_there slots new s t (Done e) w d) ∙ h)
 
-    shut : (t u : Specifier) (f : Entry) (c : Bool) → bytes_eq t s ≡ c → new t ≡ Some (Done f) → has (targets f) u ≡ true → slots u ≡ None → ⊥
+    shut : (t u : Specifier) (f : Entry) (c : Bool) → bytes_eq t s ≡ c → new t ≡ Some (Done f) → has (targets rules f) u ≡ true → slots u ≡ None → ⊥
     shut t u f true d h among =
         let same = same_entry e f (sym (written_here slots new s t (Done e) w d) ∙ h) in
-        closed u (ap (λ (g : Entry). has (targets g) u) same ∙ among)
+        closed u (ap (λ (g : Entry). has (targets rules g) u) same ∙ among)
     shut t u f false d h among = b.closed t u f (sym (written_there slots new s t (Done e) w d) ∙ h) among
 
     outstanding : (t : Specifier) (c : Bool) → bytes_eq t s ≡ c → new t ≡ Some Asked → IsOutstanding asked log t

@@ -1,4 +1,4 @@
--- What befell a loader: requests and answers of parts of it, and what is outstanding.
+-- What happened to a loader: requests and answers of parts of it, and what is outstanding.
 use Rattle.std.proofs.Common.{◌≡◌, inl, inr, ◌≤◌, ◌<◌, ℕ, ◌+◌, Bool, true, false, List, [], ◌∷◌, ◌++◌, length, refl, sym, ◌∙◌, ap, subst, arith, Option, Some, None, append-nil, append_assoc, length-append}
 use Rattle.std.specs.Prelude.{bytes_eq, ◌||◌, is_some, if◌then◌else◌}
 use Rattle.std.specs.List.{IsDistinct, AllByRecursion}

@@ -7,6 +7,8 @@ pub mod SlotsLemmas
 pub mod ReachingLemmas
 pub mod BuildingLemmas
 pub mod ProgressLemmas
+pub mod FinalLemmas
+pub mod SettlingLemmas
 pub mod ResultLemmas
 pub mod Theorems
 pub mod MemoryLemmas

@@ -5,7 +5,6 @@ use Rattle.std.specs.List.{IsDistinct, list_any}
 use Rattle.std.proofs.lemmas.Map.Made.{length-le_from_is_member, is_some-lookup}
 use Rattle.std.proofs.lemmas.Map.Entries.{length-keys_of}
 use Rattle.std.proofs.lemmas.List.{take_all}
-use Rattle.graph_entry.specs.Analysed.{Analysed}
 use Rattle.deno_graph.specs.declared.error.BuildError.{BuildError}
 use Rattle.deno_graph.specs.declared.error.BuildError.TheVariants as error
 use Rattle.std.specs.Map.{keys_of}
@@ -19,11 +18,11 @@ use Rattle.url.specs.Parts.{Parts}
 use Rattle.graph_entry.specs.declared.answer.LoadAnswer.{LoadAnswer}
 use Rattle.graph_entry.specs.declared.entry.Entry.{Entry}
 use Rattle.graph_entry.specs.Specifier.{text_of, loadable}
-use Rattle.graph_entry.specs.Entry.{targets}
 use Rattle.deno_graph.specs.declared.slot.Slot.{Slot}
 use Rattle.deno_graph.specs.declared.slot.Slot.TheVariants.{Queued, Asked, Done}
 use Rattle.deno_graph.specs.declared.reaching.Reaching.{Reaching}
-use Rattle.deno_graph.specs.Reach.{Specifier, Log, Answers, Meaning, answer_to, has, IsEntry, IsReached, Leads, IsFunctional}
+use Rattle.deno_graph.specs.Rules.{targets}
+use Rattle.deno_graph.specs.Reach.{Specifier, Log, Answers, Rules, answer_to, has, IsEntry, IsReached, Leads, IsFunctional}
 use Rattle.deno_graph.specs.Graph.{texts}
 use Rattle.deno_graph.specs.Builder.{last_of, before_last, IsOwn, IsKept, IsToldLog, IsTooMany, SomeOutstanding, EachAnswered, IsOrderly, IsOrderlyAfter, IsUnawaitedOver, IsInTime, CameInTime}
 use Rattle.deno_graph.specs.Events.{Event, Requested, Answered, asked_of, log_of, IsOutstanding, IsTimely, requests, answers}
@@ -44,13 +43,13 @@ use Rattle.deno_graph.proofs.BuildingLemmas.{text_same, written_some, building_p
 -- ---- what holds at all times
 
 -- one more request
-pub kept_asked : (meaning : Meaning) (starts : List Specifier) (events : List Event) (told : Answers) (n m : ℕ) (s : Specifier)
-    → IsKept meaning starts events told n m → loadable s ≡ true → has (asked_of (last_of (n + m) events)) s ≡ false
-    → IsReached meaning starts (answer_to (log_of (last_of (n + m) events))) s
-    → IsKept meaning starts (events ++ Requested s ∷ []) told (n + 1) m
-kept_asked meaning starts events told n m s k loads fresh reached = record {
+pub kept_asked : (rules : Rules) (starts : List Specifier) (events : List Event) (told : Answers) (n m : ℕ) (s : Specifier)
+    → IsKept rules starts events told n m → loadable s ≡ true → has (asked_of (last_of (n + m) events)) s ≡ false
+    → IsReached rules starts (answer_to (log_of (last_of (n + m) events))) s
+    → IsKept rules starts (events ++ Requested s ∷ []) told (n + 1) m
+kept_asked rules starts events told n m s k loads fresh reached = record {
   fits = omega (arith, k.fits, length-append events (Requested s ∷ []));
-  own = subst (λ (l : List Event). IsOwn meaning starts l told (n + 1) m)
+  own = subst (λ (l : List Event). IsOwn rules starts l told (n + 1) m)
       (sym (last_of-push (n + m) ((n + 1) + m) events (Requested s) k.fits (omega arith))) grown;
 }
   where
@@ -61,12 +60,12 @@ kept_asked meaning starts events told n m s k loads fresh reached = record {
     loaded t (inl h) = k.own.asking.loads t h
     loaded t (inr h) = ap loadable (text_same s t (sym (has_one s t) ∙ h)) ∙ loads
 
-    there : (t : Specifier) → (has (asked_of own) t ≡ true) ⊎ (has (s ∷ []) t ≡ true) → IsReached meaning starts (answer_to (log_of own)) t
+    there : (t : Specifier) → (has (asked_of own) t ≡ true) ⊎ (has (s ∷ []) t ≡ true) → IsReached rules starts (answer_to (log_of own)) t
     there t (inl h) = k.own.asking.reached t h
-    there t (inr h) = subst (IsReached meaning starts (answer_to (log_of own))) (sym (text_same s t (sym (has_one s t) ∙ h))) reached
+    there t (inr h) = subst (IsReached rules starts (answer_to (log_of own))) (sym (text_same s t (sym (has_one s t) ∙ h))) reached
 
-    grown : IsOwn meaning starts (own ++ Requested s ∷ []) told (n + 1) m
-    grown = own_of meaning starts (own ++ Requested s ∷ []) told (asked_of own ++ s ∷ []) (log_of own) (n + 1) m (asked_of-request own s) (log_of-request own s)
+    grown : IsOwn rules starts (own ++ Requested s ∷ []) told (n + 1) m
+    grown = own_of rules starts (own ++ Requested s ∷ []) told (asked_of own ++ s ∷ []) (log_of own) (n + 1) m (asked_of-request own s) (log_of-request own s)
         (omega (arith, k.own.asked_counted, length-append (asked_of own) (s ∷ []))) k.own.taken_counted (omega (arith, k.own.behind))
         (record {
           once = IsDistinct-push nat_list_eq_equiv (asked_of own) s k.own.asking.once fresh;
@@ -90,75 +89,75 @@ told_push told log s a h as_told t c b given is = by (answer_to log t) refl
     by (Some d) e = sym (some_one d c (sym (answer_kept log ((s, a) ∷ []) t d e) ∙ given)) ∙ h t d b e is
     by None e = last (bytes_eq t s) refl (sym (answer_later log ((s, a) ∷ []) t e) ∙ given)
 
-pub kept_answered : (meaning : Meaning) (starts : List Specifier) (events : List Event) (told : Answers) (n m : ℕ) (s : Specifier) (a : LoadAnswer)
-    → IsKept meaning starts events told n m → m ≤ n → ((b : LoadAnswer) → told s ≡ Some b → a ≡ b)
-    → IsKept meaning starts (events ++ Answered s a ∷ []) told n (m + 1)
-kept_answered meaning starts events told n m s a k le as_told = record {
+pub kept_answered : (rules : Rules) (starts : List Specifier) (events : List Event) (told : Answers) (n m : ℕ) (s : Specifier) (a : LoadAnswer)
+    → IsKept rules starts events told n m → m ≤ n → ((b : LoadAnswer) → told s ≡ Some b → a ≡ b)
+    → IsKept rules starts (events ++ Answered s a ∷ []) told n (m + 1)
+kept_answered rules starts events told n m s a k le as_told = record {
   fits = omega (arith, k.fits, length-append events (Answered s a ∷ []));
-  own = subst (λ (l : List Event). IsOwn meaning starts l told n (m + 1))
+  own = subst (λ (l : List Event). IsOwn rules starts l told n (m + 1))
       (sym (last_of-push (n + m) (n + (m + 1)) events (Answered s a) k.fits (omega arith))) grown;
 }
   where
     own : List Event
     own = last_of (n + m) events
 
-    grown : IsOwn meaning starts (own ++ Answered s a ∷ []) told n (m + 1)
-    grown = own_of meaning starts (own ++ Answered s a ∷ []) told (asked_of own) (log_of own ++ (s, a) ∷ []) n (m + 1) (asked_of-answer own s a)
+    grown : IsOwn rules starts (own ++ Answered s a ∷ []) told n (m + 1)
+    grown = own_of rules starts (own ++ Answered s a ∷ []) told (asked_of own) (log_of own ++ (s, a) ∷ []) n (m + 1) (asked_of-answer own s a)
         (log_of-answer own s a) k.own.asked_counted (omega (arith, k.own.taken_counted, length-append (log_of own) ((s, a) ∷ []))) (omega arith)
         (record {
           once = k.own.asking.once;
           loads = k.own.asking.loads;
-          reached = λ t h. reached_grows meaning starts (answer_to (log_of own)) (answer_to (log_of own ++ (s, a) ∷ []))
+          reached = λ t h. reached_grows rules starts (answer_to (log_of own)) (answer_to (log_of own ++ (s, a) ∷ []))
               (answer_kept (log_of own) ((s, a) ∷ [])) t (k.own.asking.reached t h);
         }) (told_push told (log_of own) s a k.own.as_told as_told)
 
 -- ---- a specifier is taken in hand and asked for
 
-pub live_popped : (meaning : Meaning) (x : At) (rest : List Parts) (url : Parts) → IsLive meaning x → x.progress.reaching.todo ≡ rest ++ url ∷ []
-    → IsInHand meaning (at x.loader (record {
+pub live_popped : (rules : Rules) (x : At) (rest : List Parts) (url : Parts) → IsLive rules x → x.progress.reaching.todo ≡ rest ++ url ∷ []
+    → IsInHand rules (at x.loader (record {
       roots = x.progress.roots;
       reaching = record { reached = x.progress.reaching.reached; todo = rest; limit = x.progress.reaching.limit };
       asked = x.progress.asked;
       taken = x.progress.taken;
       begun = x.progress.begun;
     })) (text_of url)
-live_popped meaning x rest url v is =
+live_popped rules x rest url v is =
     let same : todo_at x ≡ texts rest ++ text_of url ∷ [] = ap texts is ∙ map-append text_of rest (url ∷ []) in
     let long : length x.progress.reaching.todo ≡ length rest + 1 = ap length is ∙ length-append rest (url ∷ []) in
-    let building : IsBuilding meaning (starts_at x) no_one (own_asked x) (own_log x) (slots_at x) (texts rest ++ text_of url ∷ []) =
-    subst (IsBuilding meaning (starts_at x) no_one (own_asked x) (own_log x) (slots_at x)) same v.building in
-    let known = popped_slot meaning (starts_at x) (own_asked x) (own_log x) (slots_at x) (texts rest) (text_of url) building in record {
+    let building : IsBuilding rules (starts_at x) no_one (own_asked x) (own_log x) (slots_at x) (texts rest ++ text_of url ∷ []) =
+    subst (IsBuilding rules (starts_at x) no_one (own_asked x) (own_log x) (slots_at x)) same v.building in
+    let known = popped_slot rules (starts_at x) (own_asked x) (own_log x) (slots_at x) (texts rest) (text_of url) building in record {
       kept = v.kept;
       behind = v.behind;
       counted = omega (arith, v.counted, long);
       room = v.room;
-      building = building_popped meaning (starts_at x) (own_asked x) (own_log x) (slots_at x) (texts rest) (text_of url) building;
+      building = building_popped rules (starts_at x) (own_asked x) (own_log x) (slots_at x) (texts rest) (text_of url) building;
       queued = known.0;
       fresh = known.1;
       timely = v.timely;
       rooted = v.rooted;
     }
 
-pub live_asked : (meaning : Meaning) (x : At) (s : Specifier) (now : LoaderData) (new : Reaching)
-    → IsInHand meaning x s → loadable s ≡ true → HasStarted s x.loader now (Ok tt) → IsMarked s Asked x.progress.reaching new
+pub live_asked : (rules : Rules) (x : At) (s : Specifier) (now : LoaderData) (new : Reaching)
+    → IsInHand rules x s → loadable s ≡ true → HasStarted s x.loader now (Ok tt) → IsMarked s Asked x.progress.reaching new
     → new.limit ≡ x.progress.reaching.limit
-    → IsLive meaning (at now (record {
+    → IsLive rules (at now (record {
       roots = x.progress.roots;
       reaching = new;
       asked = x.progress.asked + 1;
       taken = x.progress.taken;
       begun = x.progress.begun;
     }))
-live_asked meaning x s now new v loads started marked same = record {
+live_asked rules x s now new v loads started marked same = record {
   kept = rw (started.events, started.told)
-      (kept_asked meaning (starts_at x) x.loader.events x.loader.told x.progress.asked x.progress.taken s v.kept loads v.fresh
+      (kept_asked rules (starts_at x) x.loader.events x.loader.told x.progress.asked x.progress.taken s v.kept loads v.fresh
       (v.building.sound s Queued v.queued));
   behind = omega (arith, v.behind);
   counted = rw (marked.counted, marked.todo) (omega (arith, v.counted));
   room = rw (marked.counted, same) v.room;
-  building = subst (λ (l : List Event). IsBuilding meaning (starts_at x) no_one (asked_of l) (log_of l) (slots_of new) (texts new.todo)) (sym later)
+  building = subst (λ (l : List Event). IsBuilding rules (starts_at x) no_one (asked_of l) (log_of l) (slots_of new) (texts new.todo)) (sym later)
       (rw (asked_of-request (own_events x) s, log_of-request (own_events x) s, marked.todo)
-      (building_asked meaning (starts_at x) (own_asked x) (own_log x) (slots_at x) (slots_of new) (todo_at x) s v.building v.queued v.fresh marked.written));
+      (building_asked rules (starts_at x) (own_asked x) (own_log x) (slots_at x) (slots_of new) (todo_at x) s v.building v.queued v.fresh marked.written));
   timely = subst IsTimely (sym later) (timely_asked (own_events x) (Requested s ∷ []) v.timely refl);
   rooted = λ b t h. written_some (slots_at x) (slots_of new) s t Asked marked.written (v.rooted b t h);
 }
@@ -169,12 +168,12 @@ live_asked meaning x s now new v loads started marked same = record {
 
 -- ---- too much is reached
 
-pub too_many : (meaning : Meaning) (starts come : List Specifier) (log : Log) (slots : Slots) (limit seen : ℕ)
+pub too_many : (rules : Rules) (starts come : List Specifier) (log : Log) (slots : Slots) (limit seen : ℕ)
     → IsOverfull come slots limit seen
-    → ((t : Specifier) (x : Slot) → slots t ≡ Some x → IsReached meaning starts (answer_to log) t)
-    → ((t : Specifier) → has come t ≡ true → IsReached meaning starts (answer_to log) t)
-    → IsTooMany meaning starts log limit seen
-too_many meaning starts come log slots limit seen full sound reached = record {
+    → ((t : Specifier) (x : Slot) → slots t ≡ Some x → IsReached rules starts (answer_to log) t)
+    → ((t : Specifier) → has come t ≡ true → IsReached rules starts (answer_to log) t)
+    → IsTooMany rules starts log limit seen
+too_many rules starts come log slots limit seen full sound reached = record {
   above = full.above;
   members = full.members;
   counted = full.counted;
@@ -182,76 +181,76 @@ too_many meaning starts come log slots limit seen full sound reached = record {
   reached = λ t h. there t (full.each t h);
 }
   where
-    from : (t : Specifier) (o : Option Slot) → slots t ≡ o → (slots t ≡ None → ⊥) → IsReached meaning starts (answer_to log) t
+    from : (t : Specifier) (o : Option Slot) → slots t ≡ o → (slots t ≡ None → ⊥) → IsReached rules starts (answer_to log) t
     from t None e h = absurd (h e)
     from t (Some x) e h = sound t x e
 
-    there : (t : Specifier) → (slots t ≡ None → ⊥) ⊎ (has come t ≡ true) → IsReached meaning starts (answer_to log) t
+    there : (t : Specifier) → (slots t ≡ None → ⊥) ⊎ (has come t ≡ true) → IsReached rules starts (answer_to log) t
     there t (inl h) = from t (slots t) refl h
     there t (inr h) = reached t h
 
 -- ---- the specifier in hand has its entry
 
 -- what came keeps a slot through both steps
-filled_some : (s t : Specifier) (e : Entry) (old new : Reaching) → IsFilled s e old new → (slots_of old t ≡ None → ⊥) → slots_of new t ≡ None → ⊥
-filled_some s t e old new f h = written_some f.between (slots_of new) s t (Done e) f.written (between (slots_of old t) refl)
+filled_some : {rules : Rules} → (s t : Specifier) (e : Entry) (old new : Reaching) → IsFilled rules s e old new → (slots_of old t ≡ None → ⊥) → slots_of new t ≡ None → ⊥
+filled_some {rules} s t e old new f h = written_some f.between (slots_of new) s t (Done e) f.written (between (slots_of old t) refl)
   where
     between : (o : Option Slot) → slots_of old t ≡ o → f.between t ≡ None → ⊥
     between None d n = h d
     between (Some x) d n = let k = f.grown.kept t x d in cc
 
 -- the entry of the specifier in hand fills its slot
-pub building_entry : (meaning : Meaning) (starts asked : List Specifier) (log : Log) (s : Specifier) (e : Entry) (old new : Reaching)
-    → IsBuilding meaning starts (this_one s) asked log (slots_of old) (texts old.todo) → IsReached meaning starts (answer_to log) s
-    → IsEntry meaning (answer_to log) s e → IsFilled s e old new
-    → IsBuilding meaning starts no_one asked log (slots_of new) (texts new.todo)
-building_entry meaning starts asked log s e old new b reached is_entry f =
-    building_filled meaning starts asked log f.between (slots_of new) (texts new.todo) s e
-    (building_grown meaning starts (this_one s) asked log (slots_of old) f.between (texts old.todo) (texts new.todo) (targets e) b f.grown
-    (λ t h. reached_on meaning starts (answer_to log) s t reached (record { entry = e; is_entry = is_entry; among = h })))
+pub building_entry : (rules : Rules) (starts asked : List Specifier) (log : Log) (s : Specifier) (e : Entry) (old new : Reaching)
+    → IsBuilding rules starts (this_one s) asked log (slots_of old) (texts old.todo) → IsReached rules starts (answer_to log) s
+    → IsEntry rules (answer_to log) s e → IsFilled rules s e old new
+    → IsBuilding rules starts no_one asked log (slots_of new) (texts new.todo)
+building_entry rules starts asked log s e old new b reached is_entry f =
+    building_filled rules starts asked log f.between (slots_of new) (texts new.todo) s e
+    (building_grown rules starts (this_one s) asked log (slots_of old) f.between (texts old.todo) (texts new.todo) (targets rules e) b f.grown
+    (λ t h. reached_on rules starts (answer_to log) s t reached (record { entry = e; is_entry = is_entry; among = h })))
     reached is_entry f.grown.came f.written
 
-pub live_alone : (meaning : Meaning) (x : At) (s : Specifier) (e : Entry) (new : Reaching) → IsInHand meaning x s → loadable s ≡ false
-    → meaning s None e → IsFilled s e x.progress.reaching new
-    → IsLive meaning (at x.loader (record {
+pub live_alone : (rules : Rules) (x : At) (s : Specifier) (e : Entry) (new : Reaching) → IsInHand rules x s → loadable s ≡ false
+    → rules.means s None e → IsFilled rules s e x.progress.reaching new
+    → IsLive rules (at x.loader (record {
       roots = x.progress.roots;
       reaching = new;
       asked = x.progress.asked;
       taken = x.progress.taken;
       begun = x.progress.begun;
     }))
-live_alone meaning x s e new v alone means f = record {
+live_alone rules x s e new v alone means f = record {
   kept = v.kept;
   behind = v.behind;
   counted = omega (arith, v.counted, f.counted);
   room = f.room;
-  building = building_entry meaning (starts_at x) (own_asked x) (own_log x) s e x.progress.reaching new v.building
+  building = building_entry rules (starts_at x) (own_asked x) (own_log x) s e x.progress.reaching new v.building
       (v.building.sound s Queued v.queued) (inr (alone, means)) f;
   timely = v.timely;
   rooted = λ b t h. filled_some s t e x.progress.reaching new f (v.rooted b t h);
 }
 
-pub too_many_alone : (meaning : Meaning) (x : At) (s : Specifier) (e : Entry) (limit seen : ℕ) → IsInHand meaning x s → loadable s ≡ false
-    → meaning s None e → IsOverfull (targets e) (slots_at x) limit seen → IsTooMany meaning (starts_at x) (own_log x) limit seen
-too_many_alone meaning x s e limit seen v alone means full =
-    too_many meaning (starts_at x) (targets e) (own_log x) (slots_at x) limit seen full v.building.sound
-    (λ t h. reached_on meaning (starts_at x) (answer_to (own_log x)) s t (v.building.sound s Queued v.queued)
+pub too_many_alone : (rules : Rules) (x : At) (s : Specifier) (e : Entry) (limit seen : ℕ) → IsInHand rules x s → loadable s ≡ false
+    → rules.means s None e → IsOverfull (targets rules e) (slots_at x) limit seen → IsTooMany rules (starts_at x) (own_log x) limit seen
+too_many_alone rules x s e limit seen v alone means full =
+    too_many rules (starts_at x) (targets rules e) (own_log x) (slots_at x) limit seen full v.building.sound
+    (λ t h. reached_on rules (starts_at x) (answer_to (own_log x)) s t (v.building.sound s Queued v.queued)
     (record { entry = e; is_entry = inr (alone, means); among = h }))
 
 -- dealing with one that no loader is asked for
-pub deals_alone : (x : At) (s : Specifier) (new : Reaching) (r : Result (Unit {0}) GrowError) → IsInHand Analysed x s → loadable s ≡ false
-    → FillsUnasked s x.progress.reaching new r → new.limit ≡ x.progress.reaching.limit
-    → Deals Analysed x (at x.loader (record {
+pub deals_alone : {rules : Rules} → (x : At) (s : Specifier) (new : Reaching) (r : Result (Unit {0}) GrowError) → IsInHand rules x s → loadable s ≡ false
+    → FillsUnasked rules s x.progress.reaching new r → new.limit ≡ x.progress.reaching.limit
+    → Deals rules x (at x.loader (record {
       roots = x.progress.roots;
       reaching = new;
       asked = x.progress.asked;
       taken = x.progress.taken;
       begun = x.progress.begun;
     })) r
-deals_alone x s new (Ok done) v alone f same = (live_alone Analysed x s f.0 new v alone f.1 f.2, f.2.counted)
-deals_alone x s new (Err (TooMany seen)) v alone full same =
-    too_many_alone Analysed x s full.0 x.progress.reaching.limit seen v alone full.1 full.2
-deals_alone x s new (Err OutOfMemory) v alone f same = tt
+deals_alone {rules} x s new (Ok done) v alone f same = (live_alone rules x s f.0 new v alone f.1 f.2, f.2.counted)
+deals_alone {rules} x s new (Err (TooMany seen)) v alone full same =
+    too_many_alone rules x s full.0 x.progress.reaching.limit seen v alone full.1 full.2
+deals_alone {rules} x s new (Err OutOfMemory) v alone f same = tt
 
 -- ---- one step after another
 
@@ -328,7 +327,7 @@ only_asks_more x y z g h = record {
   standing = h.standing ∙ g.standing;
 }
 
--- nothing befell the loader
+-- nothing happened to the loader
 pub asks_still : (x : At) (new : Progress) → new.roots ≡ x.progress.roots → new.reaching.limit ≡ x.progress.reaching.limit
     → new.asked ≡ x.progress.asked → new.taken ≡ x.progress.taken → new.begun ≡ x.progress.begun → OnlyAsks x (at x.loader new)
 asks_still x new roots limit asked taken begun = record {
@@ -389,93 +388,93 @@ asks_none x s now e h = record {
 }
 
 -- a builder's own events, after some steps
-pub own_after : (x y : At) → IsKeptAt Analysed x → (g : GoesOnAt x y) → own_events y ≡ own_events x ++ g.events.more
-own_after x y k g =
+pub own_after : {rules : Rules} → (x y : At) → IsKeptAt rules x → (g : GoesOnAt x y) → own_events y ≡ own_events x ++ g.events.more
+own_after {rules} x y k g =
     ap (λ (n : ℕ). last_of n y.loader.events) (omega (arith, g.events.asked_counted, g.events.taken_counted, length-events g.events.more))
     ∙ ap (λ (l : List Event). last_of (own_count x + length g.events.more) l) g.events.is
     ∙ last_of-more (own_count x) x.loader.events g.events.more k.fits
 
--- and what befell the loader before, which stays
-pub before_after : (x y : At) → IsKeptAt Analysed x → (g : GoesOnAt x y) → before_last (own_count y) y.loader.events ≡ before_last (own_count x) x.loader.events
-before_after x y k g =
+-- and what happened to the loader before, which stays
+pub before_after : {rules : Rules} → (x y : At) → IsKeptAt rules x → (g : GoesOnAt x y) → before_last (own_count y) y.loader.events ≡ before_last (own_count x) x.loader.events
+before_after {rules} x y k g =
     ap (λ (n : ℕ). before_last n y.loader.events) (omega (arith, g.events.asked_counted, g.events.taken_counted, length-events g.events.more))
     ∙ ap (λ (l : List Event). before_last (own_count x + length g.events.more) l) g.events.is
     ∙ before_last-more (own_count x) x.loader.events g.events.more k.fits
 
 -- and its own answers, where the loader was only asked
-pub log_after_asks : (x y : At) → IsKeptAt Analysed x → OnlyAsks x y → own_log y ≡ own_log x
-log_after_asks x y k a =
+pub log_after_asks : {rules : Rules} → (x y : At) → IsKeptAt rules x → OnlyAsks x y → own_log y ≡ own_log x
+log_after_asks {rules} x y k a =
     ap log_of (own_after x y k a.goes) ∙ log_of-append (own_events x) a.goes.events.more
     ∙ ap (λ (l : Log). own_log x ++ l) a.none ∙ append-nil (own_log x)
 
 -- too much was reached before the loader was asked
-pub too_many_asked : (x y : At) (limit seen : ℕ) → IsKeptAt Analysed x → OnlyAsks x y
-    → IsTooMany Analysed (starts_at y) (own_log y) limit seen → IsTooMany Analysed (starts_at x) (own_log x) limit seen
-too_many_asked x y limit seen k a h =
-    subst (λ (l : Log). IsTooMany Analysed (starts_at x) l limit seen) (log_after_asks x y k a)
-    (subst (λ (ss : List Specifier). IsTooMany Analysed ss (own_log y) limit seen) (ap texts a.goes.roots) h)
+pub too_many_asked : {rules : Rules} → (x y : At) (limit seen : ℕ) → IsKeptAt rules x → OnlyAsks x y
+    → IsTooMany rules (starts_at y) (own_log y) limit seen → IsTooMany rules (starts_at x) (own_log x) limit seen
+too_many_asked {rules} x y limit seen k a h =
+    subst (λ (l : Log). IsTooMany rules (starts_at x) l limit seen) (log_after_asks x y k a)
+    (subst (λ (ss : List Specifier). IsTooMany rules ss (own_log y) limit seen) (ap texts a.goes.roots) h)
 
-pub too_many_later : (x y : At) (limit seen : ℕ) → IsKeptAt Analysed x → OnlyAsks x y
-    → IsTooMany Analysed (starts_at x) (own_log x) limit seen → IsTooMany Analysed (starts_at x) (own_log y) limit seen
-too_many_later x y limit seen k a h =
-    subst (λ (l : Log). IsTooMany Analysed (starts_at x) l limit seen) (sym (log_after_asks x y k a)) h
+pub too_many_later : {rules : Rules} → (x y : At) (limit seen : ℕ) → IsKeptAt rules x → OnlyAsks x y
+    → IsTooMany rules (starts_at x) (own_log x) limit seen → IsTooMany rules (starts_at x) (own_log y) limit seen
+too_many_later {rules} x y limit seen k a h =
+    subst (λ (l : Log). IsTooMany rules (starts_at x) l limit seen) (sym (log_after_asks x y k a)) h
 
 -- why the worklist wasn't emptied, told from an earlier state
-pub asks_all_err : (x y z : At) (e : GrowError) → IsKeptAt Analysed x → OnlyAsks x y → AsksNext Analysed y z (Err e) → AsksAll Analysed x z (Err e)
-asks_all_err x y z (TooMany seen) k a h =
+pub asks_all_err : {rules : Rules} → (x y z : At) (e : GrowError) → IsKeptAt rules x → OnlyAsks x y → AsksNext rules y z (Err e) → AsksAll rules x z (Err e)
+asks_all_err {rules} x y z (TooMany seen) k a h =
     too_many_asked x y x.progress.reaching.limit seen k a
-    (subst (λ (n : ℕ). IsTooMany Analysed (starts_at y) (own_log y) n seen) a.goes.limit h)
-asks_all_err x y z OutOfMemory k a h = tt
+    (subst (λ (n : ℕ). IsTooMany rules (starts_at y) (own_log y) n seen) a.goes.limit h)
+asks_all_err {rules} x y z OutOfMemory k a h = tt
 
 -- ---- in time
 
 -- a builder that goes on
-pub live_in_time : (x : At) → IsLive Analysed x → IsInTime Analysed (starts_at x) (own_events x)
-live_in_time x v = record { orderly = v.building.orderly; timely = v.timely }
+pub live_in_time : {rules : Rules} → (x : At) → IsLive rules x → IsInTime rules (starts_at x) (own_events x)
+live_in_time {rules} x v = record { orderly = v.building.orderly; timely = v.timely }
 
 -- and after its loader was only asked
-pub asked_in_time : (x y : At) → IsLive Analysed x → OnlyAsks x y → IsInTime Analysed (starts_at x) (own_events y)
-asked_in_time x y v a = record {
-  orderly = subst (IsOrderly Analysed (starts_at x)) (sym (log_after_asks x y v.kept a)) v.building.orderly;
+pub asked_in_time : {rules : Rules} → (x y : At) → IsLive rules x → OnlyAsks x y → IsInTime rules (starts_at x) (own_events y)
+asked_in_time {rules} x y v a = record {
+  orderly = subst (IsOrderly rules (starts_at x)) (sym (log_after_asks x y v.kept a)) v.building.orderly;
   timely = subst IsTimely (sym (own_after x y v.kept a.goes)) (timely_asked (own_events x) a.goes.events.more v.timely a.none);
 }
 
 -- told from an earlier state
-pub in_time_after : {A : Type 0} (x y : At) (r : Result A BuildError) (events : List Event) → GoesOnAt x y
-    → CameInTime Analysed (starts_at y) events r → CameInTime Analysed (starts_at x) events r
-in_time_after x y r events g h = subst (λ (ss : List Specifier). CameInTime Analysed ss events r) (ap texts g.roots) h
+pub in_time_after : {A : Type 0} (rules : Rules) (x y : At) (r : Result A BuildError) (events : List Event) → GoesOnAt x y
+    → CameInTime rules (starts_at y) events r → CameInTime rules (starts_at x) events r
+in_time_after rules x y r events g h = subst (λ (ss : List Specifier). CameInTime rules ss events r) (ap texts g.roots) h
 
 -- an error of one result is that of another
-pub in_time_err : (A B : Type 0) (starts : List Specifier) (events : List Event) (e : BuildError)
-    → CameInTime {A = A} Analysed starts events (Err e) → CameInTime {A = B} Analysed starts events (Err e)
-in_time_err A B starts events error.NotYet h = h
-in_time_err A B starts events (error.TooManyModules seen) h = h
-in_time_err A B starts events (error.UnaskedAnswer url) h = h
-in_time_err A B starts events error.Finished h = h
-in_time_err A B starts events error.OutOfMemory h = h
+pub in_time_err : (rules : Rules) (A B : Type 0) (starts : List Specifier) (events : List Event) (e : BuildError)
+    → CameInTime {A = A} rules starts events (Err e) → CameInTime {A = B} rules starts events (Err e)
+in_time_err rules A B starts events error.NotYet h = h
+in_time_err rules A B starts events (error.TooManyModules seen) h = h
+in_time_err rules A B starts events (error.UnaskedAnswer url) h = h
+in_time_err rules A B starts events error.Finished h = h
+in_time_err rules A B starts events error.OutOfMemory h = h
 
 -- ---- an answer is taken
 
 -- the loader answers one that waits
-pub live_answered : (x : At) (url : Parts) (a : LoadAnswer) (e : Entry) (now : LoaderData) (new : Reaching)
-    → IsLive Analysed x → x.progress.taken < x.progress.asked → HasPolled x.loader now (Ok (Answer url a)) → slots_at x (text_of url) ≡ Some Asked
-    → Analysed (text_of url) (Some a) e → IsFilled (text_of url) e x.progress.reaching new
-    → IsLive Analysed (at now (record {
+pub live_answered : {rules : Rules} → (x : At) (url : Parts) (a : LoadAnswer) (e : Entry) (now : LoaderData) (new : Reaching)
+    → IsLive rules x → x.progress.taken < x.progress.asked → HasPolled x.loader now (Ok (Answer url a)) → slots_at x (text_of url) ≡ Some Asked
+    → rules.means (text_of url) (Some a) e → IsFilled rules (text_of url) e x.progress.reaching new
+    → IsLive rules (at now (record {
       roots = x.progress.roots;
       reaching = new;
       asked = x.progress.asked;
       taken = x.progress.taken + 1;
       begun = x.progress.begun;
     }))
-live_answered x url a e now new v fewer polled open_slot means f = record {
+live_answered {rules} x url a e now new v fewer polled open_slot means f = record {
   kept = rw (polled.events, polled.told)
-      (kept_answered Analysed (starts_at x) x.loader.events x.loader.told x.progress.asked x.progress.taken s a v.kept v.behind polled.as_told);
+      (kept_answered rules (starts_at x) x.loader.events x.loader.told x.progress.asked x.progress.taken s a v.kept v.behind polled.as_told);
   behind = omega arith;
   counted = omega (arith, v.counted, f.counted);
   room = f.room;
-  building = subst (λ (l : List Event). IsBuilding Analysed (starts_at x) no_one (asked_of l) (log_of l) (slots_of new) (texts new.todo)) (sym later)
+  building = subst (λ (l : List Event). IsBuilding rules (starts_at x) no_one (asked_of l) (log_of l) (slots_of new) (texts new.todo)) (sym later)
       (rw (asked_of-answer (own_events x) s a, log_of-answer (own_events x) s a)
-      (building_entry Analysed (starts_at x) (own_asked x) (own_log x ++ (s, a) ∷ []) s e x.progress.reaching new built
+      (building_entry rules (starts_at x) (own_asked x) (own_log x ++ (s, a) ∷ []) s e x.progress.reaching new built
       (built.sound s Asked open_slot)
       (inl (record { loads = loads; answer = a; given = answer_here (own_log x) s a is_open.1; means = means })) f));
   timely = subst IsTimely (sym later) (timely_answer (own_events x) s a v.timely is_open);
@@ -491,8 +490,8 @@ live_answered x url a e now new v fewer polled open_slot means f = record {
     loads : loadable s ≡ true
     loads = v.kept.own.asking.loads s is_open.0
 
-    built : IsBuilding Analysed (starts_at x) (this_one s) (own_asked x) (own_log x ++ (s, a) ∷ []) (slots_at x) (todo_at x)
-    built = building_answered Analysed (starts_at x) (own_asked x) (own_log x) (slots_at x) (todo_at x) s a v.building open_slot loads
+    built : IsBuilding rules (starts_at x) (this_one s) (own_asked x) (own_log x ++ (s, a) ∷ []) (slots_at x) (todo_at x)
+    built = building_answered rules (starts_at x) (own_asked x) (own_log x) (slots_at x) (todo_at x) s a v.building open_slot loads
 
     later : last_of (x.progress.asked + (x.progress.taken + 1)) now.events ≡ own_events x ++ Answered s a ∷ []
     later = ap (λ (l : List Event). last_of (x.progress.asked + (x.progress.taken + 1)) l) polled.events
@@ -501,29 +500,29 @@ live_answered x url a e now new v fewer polled open_slot means f = record {
 -- ---- what is outstanding
 
 -- whatever is reached has a slot, where the worklist is empty
-pub way_in : (meaning : Meaning) → IsFunctional meaning → (x : At) → IsLive meaning x → x.progress.begun ≡ true → x.progress.reaching.todo ≡ []
-    → (t : Specifier) → IsReached meaning (starts_at x) (answer_to (own_log x)) t → slots_at x t ≡ None → ⊥
-way_in meaning once x v begun empty =
-    reached_least meaning (starts_at x) (answer_to (own_log x)) (λ t. slots_at x t ≡ None → ⊥)
+pub way_in : (rules : Rules) → IsFunctional rules → (x : At) → IsLive rules x → x.progress.begun ≡ true → x.progress.reaching.todo ≡ []
+    → (t : Specifier) → IsReached rules (starts_at x) (answer_to (own_log x)) t → slots_at x t ≡ None → ⊥
+way_in rules once x v begun empty =
+    reached_least rules (starts_at x) (answer_to (own_log x)) (λ t. slots_at x t ≡ None → ⊥)
     (v.rooted begun)
     (λ r s there leads. from r s leads (slots_at x r) refl there)
   where
     not_queued : (t : Specifier) → slots_at x t ≡ Some Queued → ⊥
     not_queued t q = let h = (v.building.queued t refl q).0 in let none = ap (λ (l : List Parts). has (texts l) t) empty in cc
 
-    no_answer : (r : Specifier) (e : Entry) → answer_to (own_log x) r ≡ None → loadable r ≡ true → IsEntry meaning (answer_to (own_log x)) r e → ⊥
+    no_answer : (r : Specifier) (e : Entry) → answer_to (own_log x) r ≡ None → loadable r ≡ true → IsEntry rules (answer_to (own_log x)) r e → ⊥
     no_answer r e none loads (inl a) = let g = a.given in cc
     no_answer r e none loads (inr u) = let g = u.0 in cc
 
-    from : (r s : Specifier) → Leads meaning (answer_to (own_log x)) r s → (o : Option Slot) → slots_at x r ≡ o → (slots_at x r ≡ None → ⊥) → slots_at x s ≡ None → ⊥
+    from : (r s : Specifier) → Leads rules (answer_to (own_log x)) r s → (o : Option Slot) → slots_at x r ≡ o → (slots_at x r ≡ None → ⊥) → slots_at x s ≡ None → ⊥
     from r s leads None d there = absurd (there d)
     from r s leads (Some Queued) d there = absurd (not_queued r d)
     from r s leads (Some Asked) d there =
         let w = v.building.outstanding r refl d in
         absurd (no_answer r leads.entry w.1 (v.kept.own.asking.loads r w.0) leads.is_entry)
     from r s leads (Some (Done e)) d there =
-        let same : leads.entry ≡ e = entry_once meaning once (answer_to (own_log x)) r leads.entry e leads.is_entry (v.building.done r e d) in
-        v.building.closed r s e d (ap (λ (f : Entry). has (targets f) s) (sym same) ∙ leads.among)
+        let same : leads.entry ≡ e = entry_once rules once (answer_to (own_log x)) r leads.entry e leads.is_entry (v.building.done r e d) in
+        v.building.closed r s e d (ap (λ (f : Entry). has (targets rules f) s) (sym same) ∙ leads.among)
 
 -- some specifier of a list has no answer, or each has one
 search_open : (log : Log) (xs : List Specifier)
@@ -559,19 +558,19 @@ one_open asked log once fewer = by (search_open log asked)
         absurd (omega (arith, bound, length-keys_of log))
 
 -- answers that were awaited are for different specifiers
-distinct_after : (meaning : Meaning) (starts : List Specifier) (before log : Log) → IsOrderlyAfter meaning starts before log
+distinct_after : (rules : Rules) (starts : List Specifier) (before log : Log) → IsOrderlyAfter rules starts before log
     → IsDistinct bytes_eq (keys_of before) → IsDistinct bytes_eq (keys_of (before ++ log))
-distinct_after meaning starts before [] h once = rw append-nil once
-distinct_after meaning starts before (x ∷ log) h once =
+distinct_after rules starts before [] h once = rw append-nil once
+distinct_after rules starts before (x ∷ log) h once =
     let apart : list_any (bytes_eq x.0) (keys_of before) ≡ false =
     sym (is_some-lookup (bytes_eq x.0) before) ∙ ap is_some h.0.open_yet in
     let longer : IsDistinct bytes_eq (keys_of (before ++ x ∷ [])) =
     rw (map-append (λ (e : Specifier × LoadAnswer). e.0) before (x ∷ [])) (IsDistinct-push nat_list_eq_equiv (keys_of before) x.0 once apart) in
-    rw (sym (append_assoc before (x ∷ []) log)) (distinct_after meaning starts (before ++ x ∷ []) log h.1 longer)
+    rw (sym (append_assoc before (x ∷ []) log)) (distinct_after rules starts (before ++ x ∷ []) log h.1 longer)
 
-pub distinct_log : (meaning : Meaning) (starts : List Specifier) (log : Log) → IsOrderly meaning starts log → IsDistinct bytes_eq (keys_of log)
+pub distinct_log : (rules : Rules) (starts : List Specifier) (log : Log) → IsOrderly rules starts log → IsDistinct bytes_eq (keys_of log)
 unfolding IsDistinct
-distinct_log meaning starts log h = distinct_after meaning starts [] log h tt
+distinct_log rules starts log h = distinct_after rules starts [] log h tt
 
 -- all asked are answered, where as many came
 pub all_answered : (asked : List Specifier) (log : Log) → IsDistinct bytes_eq (keys_of log)
@@ -599,28 +598,28 @@ all_answered asked log once answered fits s h = by (answer_to log s) refl
 -- ---- an answer that isn't awaited
 
 -- what has no waiting slot isn't awaited, where the worklist is empty
-pub unawaited_now : (meaning : Meaning) → IsFunctional meaning → (x : At) → IsLive meaning x → x.progress.begun ≡ true → x.progress.reaching.todo ≡ []
-    → (s : Specifier) → (slots_at x s ≡ Some Asked → ⊥) → IsUnawaitedOver meaning 1 (starts_at x) (own_log x) s
-unawaited_now meaning once x v begun empty s not_asked = by (slots_at x s) refl
+pub unawaited_now : (rules : Rules) → IsFunctional rules → (x : At) → IsLive rules x → x.progress.begun ≡ true → x.progress.reaching.todo ≡ []
+    → (s : Specifier) → (slots_at x s ≡ Some Asked → ⊥) → IsUnawaitedOver rules 1 (starts_at x) (own_log x) s
+unawaited_now rules once x v begun empty s not_asked = by (slots_at x s) refl
   where
     whole : take (length (own_log x) - 0) (own_log x) ≡ own_log x
     whole = take_all (length (own_log x) - 0) (own_log x) (omega arith)
 
-    from : (e : Entry) → IsEntry meaning (answer_to (own_log x)) s e → IsUnawaitedOver meaning 1 (starts_at x) (own_log x) s
+    from : (e : Entry) → IsEntry rules (answer_to (own_log x)) s e → IsUnawaitedOver rules 1 (starts_at x) (own_log x) s
     from e (inl a) = inl (rw a.given refl)
     from e (inr u) = inr (λ r loads. let g = u.0 in cc)
 
-    by : (o : Option Slot) → slots_at x s ≡ o → IsUnawaitedOver meaning 1 (starts_at x) (own_log x) s
-    by None d = inr (λ r loads. way_in meaning once x v begun empty s (subst (λ (l : Log). IsReached meaning (starts_at x) (answer_to l) s) whole r) d)
+    by : (o : Option Slot) → slots_at x s ≡ o → IsUnawaitedOver rules 1 (starts_at x) (own_log x) s
+    by None d = inr (λ r loads. way_in rules once x v begun empty s (subst (λ (l : Log). IsReached rules (starts_at x) (answer_to l) s) whole r) d)
     by (Some Queued) d = absurd (let h = (v.building.queued s refl d).0 in let none = ap (λ (l : List Parts). has (texts l) s) empty in cc)
     by (Some Asked) d = absurd (not_asked d)
     by (Some (Done e)) d = from e (v.building.done s e d)
 
 -- nor is it outstanding
-pub settled_now : (x : At) → IsLive Analysed x → (s : Specifier) → (slots_at x s ≡ Some Asked → ⊥) → IsOutstanding (own_asked x) (own_log x) s → ⊥
-settled_now x v s not_asked is_open = by (slots_at x s) refl
+pub settled_now : {rules : Rules} → (x : At) → IsLive rules x → (s : Specifier) → (slots_at x s ≡ Some Asked → ⊥) → IsOutstanding (own_asked x) (own_log x) s → ⊥
+settled_now {rules} x v s not_asked is_open = by (slots_at x s) refl
   where
-    from : (e : Entry) → IsEntry Analysed (answer_to (own_log x)) s e → ⊥
+    from : (e : Entry) → IsEntry rules (answer_to (own_log x)) s e → ⊥
     from e (inl a) = let g = a.given in let n = is_open.1 in cc
     from e (inr u) = let g = u.0 in let l = v.kept.own.asking.loads s is_open.0 in cc
 
@@ -631,9 +630,9 @@ settled_now x v s not_asked is_open = by (slots_at x s) refl
     by (Some (Done e)) d = from e (v.building.done s e d)
 
 -- a builder after an answer was taken: its own events
-pub own_answered : (x y : At) (url : Parts) (a : LoadAnswer) → IsKeptAt Analysed x → HasPolled x.loader y.loader (Ok (Answer url a))
+pub own_answered : {rules : Rules} → (x y : At) (url : Parts) (a : LoadAnswer) → IsKeptAt rules x → HasPolled x.loader y.loader (Ok (Answer url a))
     → y.progress.asked ≡ x.progress.asked → y.progress.taken ≡ x.progress.taken + 1 → own_events y ≡ own_events x ++ Answered (text_of url) a ∷ []
-own_answered x y url a k polled asked taken =
+own_answered {rules} x y url a k polled asked taken =
     ap (λ (l : List Event). last_of (own_count y) l) polled.events
     ∙ last_of-push (own_count x) (own_count y) x.loader.events (Answered (text_of url) a) k.fits (omega (arith, asked, taken))
 
@@ -642,26 +641,26 @@ same_counts : (s : Specifier) (xs ys : List Event) → xs ≡ ys → answers xs 
 same_counts s xs ys is = subst (λ (l : List Event). answers l s < requests l s) is
 
 -- the loader answers, and it is refused
-pub turns_refused : (x y : At) (url : Parts) (a : LoadAnswer) (new : Reaching) (e : BuildError)
-    → IsLive Analysed x → x.progress.begun ≡ true → x.progress.reaching.todo ≡ [] → x.progress.taken < x.progress.asked
-    → Takes url a x.progress.reaching new (Err e) → HasPolled x.loader y.loader (Ok (Answer url a))
+pub turns_refused : {rules : Rules} → (x y : At) (url : Parts) (a : LoadAnswer) (new : Reaching) (e : BuildError)
+    → IsLive rules x → x.progress.begun ≡ true → x.progress.reaching.todo ≡ [] → x.progress.taken < x.progress.asked
+    → Takes rules url a x.progress.reaching new (Err e) → HasPolled x.loader y.loader (Ok (Answer url a))
     → y.progress.asked ≡ x.progress.asked → y.progress.taken ≡ x.progress.taken + 1
-    → Turns Analysed x y (Err e)
-turns_refused x y url a new (error.TooManyModules seen) v begun empty fewer refused polled asked taken =
+    → Turns rules x y (Err e)
+turns_refused {rules} x y url a new (error.TooManyModules seen) v begun empty fewer refused polled asked taken =
     let s : Specifier = text_of url in
     let is_open = v.building.outstanding s refl refused.0 in
     let loads : loadable s ≡ true = v.kept.own.asking.loads s is_open.0 in
-    let later = building_answered Analysed (starts_at x) (own_asked x) (own_log x) (slots_at x) (todo_at x) s a v.building refused.0 loads in
-    subst (λ (l : Log). IsTooMany Analysed (starts_at x) l x.progress.reaching.limit seen)
+    let later = building_answered rules (starts_at x) (own_asked x) (own_log x) (slots_at x) (todo_at x) s a v.building refused.0 loads in
+    subst (λ (l : Log). IsTooMany rules (starts_at x) l x.progress.reaching.limit seen)
     (sym (ap log_of (own_answered x y url a v.kept polled asked taken) ∙ log_of-answer (own_events x) s a))
-    (too_many Analysed (starts_at x) (targets refused.1.0) (own_log x ++ (s, a) ∷ []) (slots_at x) x.progress.reaching.limit seen refused.1.2 later.sound
-    (λ t h. reached_on Analysed (starts_at x) (answer_to (own_log x ++ (s, a) ∷ [])) s t (later.sound s Asked refused.0)
+    (too_many rules (starts_at x) (targets rules refused.1.0) (own_log x ++ (s, a) ∷ []) (slots_at x) x.progress.reaching.limit seen refused.1.2 later.sound
+    (λ t h. reached_on rules (starts_at x) (answer_to (own_log x ++ (s, a) ∷ [])) s t (later.sound s Asked refused.0)
     (record {
       entry = refused.1.0;
       is_entry = inl (record { loads = loads; answer = a; given = answer_here (own_log x) s a is_open.1; means = refused.1.1 });
       among = h;
     })))
-turns_refused x y url a new (error.UnaskedAnswer other) v begun empty fewer refused polled asked taken =
+turns_refused {rules} x y url a new (error.UnaskedAnswer other) v begun empty fewer refused polled asked taken =
     let same : text_of other ≡ text_of url = ap text_of refused.0 in
     let last : own_events y ≡ own_events x ++ Answered (text_of url) a ∷ [] = own_answered x y url a v.kept polled asked taken in
     let asks : own_asked y ≡ own_asked x = ap asked_of last ∙ asked_of-answer (own_events x) (text_of url) a in record {
@@ -673,7 +672,7 @@ turns_refused x y url a new (error.UnaskedAnswer other) v begun empty fewer refu
       outstanding = rw asks (one_open (own_asked x) (own_log x) v.kept.own.asking.once
           (omega (arith, v.kept.own.asked_counted, v.kept.own.taken_counted, fewer)));
       settled = rw (asks, same) (settled_now x v (text_of url) refused.1);
-      unawaited = λ once. rw same (unawaited_now Analysed once x v begun empty (text_of url) refused.1);
+      unawaited = λ once. rw same (unawaited_now rules once x v begun empty (text_of url) refused.1);
       pending = polled.pending;
       fair = λ f. rw same (same_counts (text_of url) x.loader.events (before_last (own_count y) y.loader.events ++ own_events x) whole (polled.fair f).1);
     }
@@ -684,54 +683,54 @@ turns_refused x y url a new (error.UnaskedAnswer other) v begun empty fewer refu
 
     whole : x.loader.events ≡ before_last (own_count y) y.loader.events ++ own_events x
     whole = sym (ap (λ (l : List Event). l ++ own_events x) first ∙ before_last-last (own_count x) x.loader.events)
-turns_refused x y url a new error.OutOfMemory v begun empty fewer refused polled asked taken = tt
-turns_refused x y url a new error.NotYet v begun empty fewer refused polled asked taken = absurd refused
-turns_refused x y url a new error.Finished v begun empty fewer refused polled asked taken = absurd refused
+turns_refused {rules} x y url a new error.OutOfMemory v begun empty fewer refused polled asked taken = tt
+turns_refused {rules} x y url a new error.NotYet v begun empty fewer refused polled asked taken = absurd refused
+turns_refused {rules} x y url a new error.Finished v begun empty fewer refused polled asked taken = absurd refused
 
 -- an answer that was awaited came in time
-pub answered_in_time : (x y : At) (url : Parts) (a : LoadAnswer) → IsLive Analysed x → slots_at x (text_of url) ≡ Some Asked
+pub answered_in_time : {rules : Rules} → (x y : At) (url : Parts) (a : LoadAnswer) → IsLive rules x → slots_at x (text_of url) ≡ Some Asked
     → HasPolled x.loader y.loader (Ok (Answer url a)) → y.progress.asked ≡ x.progress.asked → y.progress.taken ≡ x.progress.taken + 1
-    → IsInTime Analysed (starts_at x) (own_events y)
-answered_in_time x y url a v open_slot polled asked taken =
+    → IsInTime rules (starts_at x) (own_events y)
+answered_in_time {rules} x y url a v open_slot polled asked taken =
     let s : Specifier = text_of url in
     let is_open = v.building.outstanding s refl open_slot in
     let loads : loadable s ≡ true = v.kept.own.asking.loads s is_open.0 in
-    let later = building_answered Analysed (starts_at x) (own_asked x) (own_log x) (slots_at x) (todo_at x) s a v.building open_slot loads in
-    subst (IsInTime Analysed (starts_at x)) (sym (own_answered x y url a v.kept polled asked taken)) (record {
+    let later = building_answered rules (starts_at x) (own_asked x) (own_log x) (slots_at x) (todo_at x) s a v.building open_slot loads in
+    subst (IsInTime rules (starts_at x)) (sym (own_answered x y url a v.kept polled asked taken)) (record {
       orderly = rw (log_of-answer (own_events x) s a) later.orderly;
       timely = timely_answer (own_events x) s a v.timely is_open;
     })
 
 -- whatever came of the answer, it came in time, or it is the one that is told
-pub taken_in_time : (A : Type 0) (x y : At) (url : Parts) (a : LoadAnswer) (new : Reaching) (e : BuildError)
-    → IsLive Analysed x → Takes url a x.progress.reaching new (Err e) → HasPolled x.loader y.loader (Ok (Answer url a))
+pub taken_in_time : {rules : Rules} → (A : Type 0) (x y : At) (url : Parts) (a : LoadAnswer) (new : Reaching) (e : BuildError)
+    → IsLive rules x → Takes rules url a x.progress.reaching new (Err e) → HasPolled x.loader y.loader (Ok (Answer url a))
     → y.progress.asked ≡ x.progress.asked → y.progress.taken ≡ x.progress.taken + 1
-    → CameInTime {A = A} Analysed (starts_at x) (own_events y) (Err e)
-taken_in_time A x y url a new (error.TooManyModules seen) v took polled asked taken = answered_in_time x y url a v took.0 polled asked taken
-taken_in_time A x y url a new error.OutOfMemory v took polled asked taken = answered_in_time x y url a v took polled asked taken
-taken_in_time A x y url a new (error.UnaskedAnswer other) v took polled asked taken = (
+    → CameInTime {A = A} rules (starts_at x) (own_events y) (Err e)
+taken_in_time {rules} A x y url a new (error.TooManyModules seen) v took polled asked taken = answered_in_time x y url a v took.0 polled asked taken
+taken_in_time {rules} A x y url a new error.OutOfMemory v took polled asked taken = answered_in_time x y url a v took polled asked taken
+taken_in_time {rules} A x y url a new (error.UnaskedAnswer other) v took polled asked taken = (
   own_events x,
   a,
   own_answered x y url a v.kept polled asked taken
       ∙ ap (λ (s : Specifier). own_events x ++ Answered s a ∷ []) (sym (ap text_of took.0)),
   live_in_time x v,
 )
-taken_in_time A x y url a new error.NotYet v took polled asked taken = absurd took
-taken_in_time A x y url a new error.Finished v took polled asked taken = absurd took
+taken_in_time {rules} A x y url a new error.NotYet v took polled asked taken = absurd took
+taken_in_time {rules} A x y url a new error.Finished v took polled asked taken = absurd took
 
 -- what holds at all times, after an answer
-pub kept_polled : (x y : At) (url : Parts) (a : LoadAnswer) → IsLive Analysed x → HasPolled x.loader y.loader (Ok (Answer url a))
-    → y.progress.roots ≡ x.progress.roots → y.progress.asked ≡ x.progress.asked → y.progress.taken ≡ x.progress.taken + 1 → IsKeptAt Analysed y
-kept_polled x y url a v polled roots asked taken =
+pub kept_polled : {rules : Rules} → (x y : At) (url : Parts) (a : LoadAnswer) → IsLive rules x → HasPolled x.loader y.loader (Ok (Answer url a))
+    → y.progress.roots ≡ x.progress.roots → y.progress.asked ≡ x.progress.asked → y.progress.taken ≡ x.progress.taken + 1 → IsKeptAt rules y
+kept_polled {rules} x y url a v polled roots asked taken =
     rw (roots, asked, taken, polled.events, polled.told)
-    (kept_answered Analysed (starts_at x) x.loader.events x.loader.told x.progress.asked x.progress.taken (text_of url) a v.kept v.behind polled.as_told)
+    (kept_answered rules (starts_at x) x.loader.events x.loader.told x.progress.asked x.progress.taken (text_of url) a v.kept v.behind polled.as_told)
 
 -- and after a request
-pub kept_started : (x y : At) (s : Specifier) → IsInHand Analysed x s → loadable s ≡ true → HasStarted s x.loader y.loader (Ok tt)
-    → y.progress.roots ≡ x.progress.roots → y.progress.asked ≡ x.progress.asked + 1 → y.progress.taken ≡ x.progress.taken → IsKeptAt Analysed y
-kept_started x y s v loads started roots asked taken =
+pub kept_started : {rules : Rules} → (x y : At) (s : Specifier) → IsInHand rules x s → loadable s ≡ true → HasStarted s x.loader y.loader (Ok tt)
+    → y.progress.roots ≡ x.progress.roots → y.progress.asked ≡ x.progress.asked + 1 → y.progress.taken ≡ x.progress.taken → IsKeptAt rules y
+kept_started {rules} x y s v loads started roots asked taken =
     rw (roots, asked, taken, started.events, started.told)
-    (kept_asked Analysed (starts_at x) x.loader.events x.loader.told x.progress.asked x.progress.taken s v.kept loads v.fresh
+    (kept_asked rules (starts_at x) x.loader.events x.loader.told x.progress.asked x.progress.taken s v.kept loads v.fresh
     (v.building.sound s Queued v.queued))
 
 -- an answer is one event more
@@ -751,9 +750,9 @@ goes_polled x y url a polled roots limit asked taken = record {
 -- ---- turn after turn
 
 -- why a turn ends, told from an earlier state
-pub errs_after : (x y z : At) (e : BuildError) → IsKeptAt Analysed x → GoesOnAt x y → y.loader.pending ≡ x.loader.pending → Turns Analysed y z (Err e)
-    → Turns Analysed x z (Err e)
-errs_after x y z error.NotYet k g same t = record {
+pub errs_after : {rules : Rules} → (x y z : At) (e : BuildError) → IsKeptAt rules x → GoesOnAt x y → y.loader.pending ≡ x.loader.pending → Turns rules y z (Err e)
+    → Turns rules x z (Err e)
+errs_after {rules} x y z error.NotYet k g same t = record {
   live = t.live;
   asked_all = t.asked_all;
   begun = t.begun;
@@ -762,8 +761,8 @@ errs_after x y z error.NotYet k g same t = record {
   standing = t.standing;
   patience = λ fewer. falls_after x.loader.patience y.loader.patience z.loader.patience g.patience (t.patience fewer);
 }
-errs_after x y z (error.TooManyModules seen) k g same t = rw (← ap texts g.roots, ← g.limit) t
-errs_after x y z (error.UnaskedAnswer url) k g same t = record {
+errs_after {rules} x y z (error.TooManyModules seen) k g same t = rw (← ap texts g.roots, ← g.limit) t
+errs_after {rules} x y z (error.UnaskedAnswer url) k g same t = record {
   before = t.before;
   answer = t.answer;
   last = t.last;
@@ -778,47 +777,47 @@ errs_after x y z (error.UnaskedAnswer url) k g same t = record {
   pending = t.pending ∙ same;
   fair = λ f. t.fair (g.fair f);
 }
-errs_after x y z error.OutOfMemory k g same t = tt
-errs_after x y z error.Finished k g same t = absurd t
+errs_after {rules} x y z error.OutOfMemory k g same t = tt
+errs_after {rules} x y z error.Finished k g same t = absurd t
 
 -- a turn after the loader was only asked
-pub turns_after : (x y z : At) (r : Result Bool BuildError) → IsKeptAt Analysed x → OnlyAsks x y → GoesOnAt y z → Turns Analysed y z r → Turns Analysed x z r
-turns_after x y z (Ok true) k a g t = (t.0, t.1, t.2 ∙ ap (λ n. n + 1) a.taken, t.3 ∙ a.pending)
-turns_after x y z (Ok false) k a g t = record { live = t.live; asked_all = t.asked_all; begun = t.begun; all_taken = t.all_taken; pending = t.pending ∙ a.pending }
-turns_after x y z (Err e) k a g t = errs_after x y z e k a.goes a.pending t
+pub turns_after : {rules : Rules} → (x y z : At) (r : Result Bool BuildError) → IsKeptAt rules x → OnlyAsks x y → GoesOnAt y z → Turns rules y z r → Turns rules x z r
+turns_after {rules} x y z (Ok true) k a g t = (t.0, t.1, t.2 ∙ ap (λ n. n + 1) a.taken, t.3 ∙ a.pending)
+turns_after {rules} x y z (Ok false) k a g t = record { live = t.live; asked_all = t.asked_all; begun = t.begun; all_taken = t.all_taken; pending = t.pending ∙ a.pending }
+turns_after {rules} x y z (Err e) k a g t = errs_after x y z e k a.goes a.pending t
 
 -- a run ends as its last turn does
-pub runs_err : (x z : At) (e : BuildError) → Turns Analysed x z (Err e) → Runs Analysed x z (Err e)
-runs_err x z error.NotYet t = t
-runs_err x z (error.TooManyModules seen) t = t
-runs_err x z (error.UnaskedAnswer url) t = t
-runs_err x z error.OutOfMemory t = t
-runs_err x z error.Finished t = t
+pub runs_err : (rules : Rules) (x z : At) (e : BuildError) → Turns rules x z (Err e) → Runs rules x z (Err e)
+runs_err rules x z error.NotYet t = t
+runs_err rules x z (error.TooManyModules seen) t = t
+runs_err rules x z (error.UnaskedAnswer url) t = t
+runs_err rules x z error.OutOfMemory t = t
+runs_err rules x z error.Finished t = t
 
 -- ---- the roots are reached
 
-pub live_begun : (meaning : Meaning) (x : At) (new : Reaching) → IsLive meaning x → HasReached (starts_at x) x.progress.reaching new
-    → IsLive meaning (at x.loader (record {
+pub live_begun : (rules : Rules) (x : At) (new : Reaching) → IsLive rules x → HasReached (starts_at x) x.progress.reaching new
+    → IsLive rules (at x.loader (record {
       roots = x.progress.roots;
       reaching = new;
       asked = x.progress.asked;
       taken = x.progress.taken;
       begun = true;
     }))
-live_begun meaning x new v r = record {
+live_begun rules x new v r = record {
   kept = v.kept;
   behind = v.behind;
   counted = omega (arith, v.counted, r.counted);
   room = r.room;
-  building = building_grown meaning (starts_at x) no_one (own_asked x) (own_log x) (slots_at x) (slots_of new) (todo_at x) (texts new.todo) (starts_at x)
-      v.building r.grown (reached_start meaning (starts_at x) (answer_to (own_log x)));
+  building = building_grown rules (starts_at x) no_one (own_asked x) (own_log x) (slots_at x) (slots_of new) (todo_at x) (texts new.todo) (starts_at x)
+      v.building r.grown (reached_start rules (starts_at x) (answer_to (own_log x)));
   timely = v.timely;
   rooted = λ b t h. r.grown.came t h;
 }
 
-pub begins_err : (meaning : Meaning) (x : At) (e : GrowError) (new : Reaching) → IsLive meaning x → Grows (starts_at x) x.progress.reaching new (Err e)
-    → (y : At) → Begins meaning x y (Err e)
-begins_err meaning x (TooMany seen) new v full y =
-    too_many meaning (starts_at x) (starts_at x) (own_log x) (slots_at x) x.progress.reaching.limit seen full v.building.sound
-    (reached_start meaning (starts_at x) (answer_to (own_log x)))
-begins_err meaning x OutOfMemory new v full y = tt
+pub begins_err : (rules : Rules) (x : At) (e : GrowError) (new : Reaching) → IsLive rules x → Grows (starts_at x) x.progress.reaching new (Err e)
+    → (y : At) → Begins rules x y (Err e)
+begins_err rules x (TooMany seen) new v full y =
+    too_many rules (starts_at x) (starts_at x) (own_log x) (slots_at x) x.progress.reaching.limit seen full v.building.sound
+    (reached_start rules (starts_at x) (answer_to (own_log x)))
+begins_err rules x OutOfMemory new v full y = tt

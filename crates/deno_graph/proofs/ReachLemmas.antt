@@ -4,7 +4,7 @@ use Rattle.std.specs.Prelude.{bytes_eq}
 use Rattle.std.specs.Cmp.Lexicographic.{nat_list_eq_equiv}
 use Rattle.graph_entry.specs.declared.answer.LoadAnswer.{LoadAnswer}
 use Rattle.graph_entry.specs.declared.entry.Entry.{Entry}
-use Rattle.deno_graph.specs.Reach.{IsFunctional, Specifier, Answers, Log, Meaning, answer_to, has, IsEntry, Leads, IsWay, IsReached}
+use Rattle.deno_graph.specs.Reach.{IsFunctional, Specifier, Answers, Log, Rules, answer_to, has, IsEntry, Leads, IsWay, IsReached}
 
 -- each answer of the first is an answer of the second
 abbrev pub IsWithin : Answers → Answers → Type 0
@@ -13,61 +13,61 @@ IsWithin few many = (s : Specifier) (a : LoadAnswer) → few s ≡ Some a → ma
 -- ---- reach is closed
 
 -- each start is reached
-pub reached_start : (meaning : Meaning) (starts : List Specifier) (answers : Answers) (s : Specifier)
-    → has starts s ≡ true → IsReached meaning starts answers s
-reached_start meaning starts answers s h = record { way = []; leads_here = h }
+pub reached_start : (rules : Rules) (starts : List Specifier) (answers : Answers) (s : Specifier)
+    → has starts s ≡ true → IsReached rules starts answers s
+reached_start rules starts answers s h = record { way = []; leads_here = h }
 
 -- and what a step leads to from there
-pub reached_on : (meaning : Meaning) (starts : List Specifier) (answers : Answers) (r s : Specifier)
-    → IsReached meaning starts answers r → Leads meaning answers r s → IsReached meaning starts answers s
-reached_on meaning starts answers r s reached leads = record { way = r ∷ reached.way; leads_here = (reached.leads_here, leads) }
+pub reached_on : (rules : Rules) (starts : List Specifier) (answers : Answers) (r s : Specifier)
+    → IsReached rules starts answers r → Leads rules answers r s → IsReached rules starts answers s
+reached_on rules starts answers r s reached leads = record { way = r ∷ reached.way; leads_here = (reached.leads_here, leads) }
 
 -- ---- reach is least
 
 -- whatever has the starts and is closed under steps has all that is reached
-pub reached_least : (meaning : Meaning) (starts : List Specifier) (answers : Answers) (P : Specifier → Type 0)
+pub reached_least : (rules : Rules) (starts : List Specifier) (answers : Answers) (P : Specifier → Type 0)
     → ((s : Specifier) → has starts s ≡ true → P s)
-    → ((r s : Specifier) → P r → Leads meaning answers r s → P s)
-    → (s : Specifier) → IsReached meaning starts answers s → P s
-reached_least meaning starts answers P begins steps s reached = along reached.way s reached.leads_here
+    → ((r s : Specifier) → P r → Leads rules answers r s → P s)
+    → (s : Specifier) → IsReached rules starts answers s → P s
+reached_least rules starts answers P begins steps s reached = along reached.way s reached.leads_here
   where
-    along : (way : List Specifier) (s : Specifier) → IsWay meaning starts answers way s → P s
+    along : (way : List Specifier) (s : Specifier) → IsWay rules starts answers way s → P s
     along [] s h = begins s h
     along (r ∷ way) s h = steps r s (along way r h.0) h.1
 
 -- ---- reach grows
 
 -- an entry stays as answers come
-pub entry_grows : (meaning : Meaning) (few many : Answers) → IsWithin few many → (s : Specifier) (e : Entry)
-    → IsEntry meaning few s e → IsEntry meaning many s e
-entry_grows meaning few many within s e (inl a) =
+pub entry_grows : (rules : Rules) (few many : Answers) → IsWithin few many → (s : Specifier) (e : Entry)
+    → IsEntry rules few s e → IsEntry rules many s e
+entry_grows rules few many within s e (inl a) =
     inl (record { loads = a.loads; answer = a.answer; given = within s a.answer a.given; means = a.means })
-entry_grows meaning few many within s e (inr u) = inr u
+entry_grows rules few many within s e (inr u) = inr u
 
 -- a step stays
-pub leads_grows : (meaning : Meaning) (few many : Answers) → IsWithin few many → (r s : Specifier)
-    → Leads meaning few r s → Leads meaning many r s
-leads_grows meaning few many within r s l =
-    record { entry = l.entry; is_entry = entry_grows meaning few many within r l.entry l.is_entry; among = l.among }
+pub leads_grows : (rules : Rules) (few many : Answers) → IsWithin few many → (r s : Specifier)
+    → Leads rules few r s → Leads rules many r s
+leads_grows rules few many within r s l =
+    record { entry = l.entry; is_entry = entry_grows rules few many within r l.entry l.is_entry; among = l.among }
 
 -- what is reached stays reached
-pub reached_grows : (meaning : Meaning) (starts : List Specifier) (few many : Answers) → IsWithin few many → (s : Specifier)
-    → IsReached meaning starts few s → IsReached meaning starts many s
-reached_grows meaning starts few many within =
-    reached_least meaning starts few (IsReached meaning starts many)
-    (reached_start meaning starts many)
-    (λ r s reached leads. reached_on meaning starts many r s reached (leads_grows meaning few many within r s leads))
+pub reached_grows : (rules : Rules) (starts : List Specifier) (few many : Answers) → IsWithin few many → (s : Specifier)
+    → IsReached rules starts few s → IsReached rules starts many s
+reached_grows rules starts few many within =
+    reached_least rules starts few (IsReached rules starts many)
+    (reached_start rules starts many)
+    (λ r s reached leads. reached_on rules starts many r s reached (leads_grows rules few many within r s leads))
 
 -- ---- entries are determined
 
 -- a specifier has at most one entry
-pub entry_once : (meaning : Meaning) → IsFunctional meaning → (answers : Answers) (s : Specifier) (e f : Entry)
-    → IsEntry meaning answers s e → IsEntry meaning answers s f → e ≡ f
-entry_once meaning once answers s e f (inl a) (inl b) =
-    once s (Some b.answer) e f (subst (λ x. meaning s x e) (sym a.given ∙ b.given) a.means) b.means
-entry_once meaning once answers s e f (inl a) (inr u) = absurd cc
-entry_once meaning once answers s e f (inr u) (inl b) = absurd cc
-entry_once meaning once answers s e f (inr u) (inr v) = once s None e f u.1 v.1
+pub entry_once : (rules : Rules) → IsFunctional rules → (answers : Answers) (s : Specifier) (e f : Entry)
+    → IsEntry rules answers s e → IsEntry rules answers s f → e ≡ f
+entry_once rules once answers s e f (inl a) (inl b) =
+    once s (Some b.answer) e f (subst (λ x. rules.means s x e) (sym a.given ∙ b.given) a.means) b.means
+entry_once rules once answers s e f (inl a) (inr u) = absurd cc
+entry_once rules once answers s e f (inr u) (inl b) = absurd cc
+entry_once rules once answers s e f (inr u) (inr v) = once s None e f u.1 v.1
 
 -- ---- answers in the order in which they came
 

@@ -1,10 +1,17 @@
 -- Reaching one specifier after another.
-use Rattle.std.proofs.Common.{◌≡◌, ◌⊎◌, inl, inr, ◌≤◌, ◌<◌, zero, suc, ℕ, ◌+◌, Bool, true, false, List, [], ◌∷◌, ◌++◌, length, take, get_or, refl, ◌∙◌, arith, Option, Some, None, Err, add-one}
+use Rattle.std.proofs.Common.{◌≡◌, ◌⊎◌, inl, inr, ◌≤◌, ◌<◌, zero, suc, ℕ, ◌+◌, Bool, true, false, List, [], ◌∷◌, ◌++◌, length, take, get_or, refl, sym, subst, ◌∙◌, arith, Option, Some, None, Result, Err, add-one}
 use Rattle.std.specs.Prelude.{bytes_eq, ◌||◌, option_to_list}
 use Rattle.std.specs.List.{filter_map, cons_option}
 use Rattle.std.proofs.lemmas.List.{map_more}
 use Rattle.url.specs.Parts.{Parts}
+use Rattle.media_type.specs.MediaType.{is_typed}
 use Rattle.graph_entry.specs.Specifier.{text_of}
+use Rattle.graph_entry.specs.declared.entry.Dependency.{Dependency}
+use Rattle.graph_entry.specs.declared.entry.JsModule.{JsModule}
+use Rattle.graph_entry.specs.declared.entry.Module.{Module}
+use Rattle.graph_entry.specs.declared.entry.Module.TheVariants.{Js}
+use Rattle.deno_graph.specs.declared.following.Following.{Following}
+use Rattle.deno_graph.specs.Rules.{edges_of, led_to, has_types, is_followed}
 use Rattle.deno_graph.specs.declared.reaching.Reaching.{Reaching}
 use Rattle.deno_graph.specs.declared.reaching.GrowError.{GrowError}
 use Rattle.deno_graph.specs.declared.reaching.GrowError.TheVariants.{TooMany, OutOfMemory}
@@ -49,6 +56,16 @@ grows_err xs ys zs a b c (TooMany seen) g same wider full =
     overfull_wide (xs ++ ys) zs (slots_of a) a.limit seen wider
     (overfull_more xs ys (slots_of a) (slots_of b) (texts a.todo) (texts b.todo) a.limit seen g.grown (rw (← same) full))
 grows_err xs ys zs a b c OutOfMemory g same wider full = tt
+
+-- what the edges of a source lead to is what those of its module lead to
+pub grows_source : (following : Following) (m : JsModule) (importer : Module) (typed : Bool) (ds : List Dependency) (a b : Reaching) (r : Result (Unit {0}) GrowError)
+    → importer ≡ Js m → typed ≡ is_typed m.media_type → ds ≡ m.dependencies
+    → Grows (filter_map (led_to (is_followed following typed)) ds) a b r
+    → Grows (filter_map (led_to (is_followed following (has_types importer))) (edges_of importer)) a b r
+grows_source following m importer typed ds a b r is types edges g =
+    subst (λ (x : Module). Grows (filter_map (led_to (is_followed following (has_types x))) (edges_of x)) a b r) (sym is)
+    (subst (λ (t : Bool). Grows (filter_map (led_to (is_followed following t)) m.dependencies) a b r) types
+    (subst (λ (es : List Dependency). Grows (filter_map (led_to (is_followed following typed)) es) a b r) edges g))
 
 -- ---- the first of a list
 

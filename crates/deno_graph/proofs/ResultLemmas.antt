@@ -11,9 +11,10 @@ use Rattle.url.specs.Parts.{Parts}
 use Rattle.graph_entry.specs.declared.answer.LoadAnswer.{LoadAnswer}
 use Rattle.graph_entry.specs.declared.entry.Entry.{Entry}
 use Rattle.graph_entry.specs.Specifier.{text_of, loadable}
+use Rattle.deno_graph.specs.declared.following.Following.{Following}
 use Rattle.deno_graph.specs.declared.slot.Slot.{Slot}
 use Rattle.deno_graph.specs.declared.slot.Slot.TheVariants.{Queued, Asked, Done}
-use Rattle.deno_graph.specs.Reach.{Specifier, Log, Meaning, answer_to, has, IsEntry, IsReached, IsReach, IsFunctional}
+use Rattle.deno_graph.specs.Reach.{Specifier, Log, Rules, answer_to, has, IsEntry, IsReached, IsReach, IsFunctional}
 use Rattle.deno_graph.specs.Graph.{texts, members_of, IsGraph, IsAscending}
 use Rattle.deno_graph.specs.ByText.{value_at}
 use Rattle.deno_graph.specs.Events.{Event, Answered, asked_of, log_of, IsOutstanding, IsTimely, IsSettled, times, requests, answers}
@@ -23,7 +24,8 @@ use Rattle.deno_graph.specs.declared.error.BuildError.{BuildError}
 use Rattle.deno_graph.specs.declared.error.BuildError.TheVariants as error
 use Rattle.deno_graph.specs.Progress.{At, IsLive, starts_at, own_count, own_events, own_asked, own_log, slots_at, todo_at, IsThrough, IsPaused, IsUnasked, GoesOnAt, IsKeptAt}
 use Rattle.deno_graph.specs.Inside.{IsInside, all_done, AreDone, HaveEntries, seen_of}
-use Rattle.graph_entry.specs.Analysed.{Analysed}
+use Rattle.deno_graph.specs.Settling.{settled, finals_of, AreSettled}
+use Rattle.deno_graph.proofs.FinalLemmas.{graph_settled}
 use Rattle.std.specs.Cmp.Lexicographic.{nat_list_eq_equiv}
 use Rattle.deno_graph.proofs.ByTextLemmas.{url_cmp, keys_at, has-keys_at, sorted-keys_at, distinct_sorted, length-keys_at}
 use Rattle.deno_graph.proofs.EventsLemmas.{asked_of-append, log_of-append, asked_of-answer, log_of-answer, length-events, times-append, is_outstanding, not_among}
@@ -32,18 +34,18 @@ use Rattle.deno_graph.proofs.ProgressLemmas.{way_in, distinct_log, all_answered,
 
 -- ---- what is reached
 
-module _ (meaning : Meaning) (once : IsFunctional meaning) (x : At) (v : IsLive meaning x)
+module _ (rules : Rules) (once : IsFunctional rules) (x : At) (v : IsLive rules x)
     (begun : x.progress.begun ≡ true) (empty : x.progress.reaching.todo ≡ []) where
   -- the specifiers with a slot are the reached ones
   pub reach_now : IsStrictlySortedBy url_cmp (keys_of x.progress.reaching.reached.entries)
-      → IsReach meaning (starts_at x) (answer_to (own_log x)) (keys_at x.progress.reaching.reached.entries)
+      → IsReach rules (starts_at x) (answer_to (own_log x)) (keys_at x.progress.reaching.reached.entries)
   reach_now sorted = record {
     once = distinct_sorted (keys_at x.progress.reaching.reached.entries) (sorted-keys_at x.progress.reaching.reached.entries sorted);
     reached = λ t h. reached t (slots_at x t) refl (sym (has-keys_at x.progress.reaching.reached.entries t) ∙ h);
-    all = λ t r. has-keys_at x.progress.reaching.reached.entries t ∙ some (slots_at x t) (way_in meaning once x v begun empty t r);
+    all = λ t r. has-keys_at x.progress.reaching.reached.entries t ∙ some (slots_at x t) (way_in rules once x v begun empty t r);
   }
     where
-      reached : (t : Specifier) (o : Option Slot) → slots_at x t ≡ o → is_some (slots_at x t) ≡ true → IsReached meaning (starts_at x) (answer_to (own_log x)) t
+      reached : (t : Specifier) (o : Option Slot) → slots_at x t ≡ o → is_some (slots_at x t) ≡ true → IsReached rules (starts_at x) (answer_to (own_log x)) t
       reached t (Some y) e h = v.building.sound t y e
       reached t None e h = absurd (let n = ap is_some e in cc)
 
@@ -52,7 +54,7 @@ module _ (meaning : Meaning) (once : IsFunctional meaning) (x : At) (v : IsLive 
       some None h = absurd (h refl)
 
   pub within_now : IsStrictlySortedBy url_cmp (keys_of x.progress.reaching.reached.entries)
-      → ReachesAtMost meaning (starts_at x) (answer_to (own_log x)) x.progress.reaching.limit
+      → ReachesAtMost rules (starts_at x) (answer_to (own_log x)) x.progress.reaching.limit
   within_now sorted = (
     keys_at x.progress.reaching.reached.entries,
     reach_now sorted,
@@ -60,43 +62,42 @@ module _ (meaning : Meaning) (once : IsFunctional meaning) (x : At) (v : IsLive 
   )
 
   -- the loadable ones of them are asked for
-  pub asked_now : IsAskedFor meaning (starts_at x) (own_asked x) (own_log x)
+  pub asked_now : IsAskedFor rules (starts_at x) (own_asked x) (own_log x)
   asked_now = record { asking = v.kept.own.asking; all = λ t r loads. by t (slots_at x t) refl r loads }
     where
-      from : (t : Specifier) (e : Entry) → IsEntry meaning (answer_to (own_log x)) t e → loadable t ≡ true → has (own_asked x) t ≡ true
+      from : (t : Specifier) (e : Entry) → IsEntry rules (answer_to (own_log x)) t e → loadable t ≡ true → has (own_asked x) t ≡ true
       from t e (inl a) loads = v.building.answered t a.answer a.given
       from t e (inr u) loads = absurd (let g = u.0 in cc)
 
-      by : (t : Specifier) (o : Option Slot) → slots_at x t ≡ o → IsReached meaning (starts_at x) (answer_to (own_log x)) t → loadable t ≡ true → has (own_asked x) t ≡ true
-      by t None d r loads = absurd (way_in meaning once x v begun empty t r d)
+      by : (t : Specifier) (o : Option Slot) → slots_at x t ≡ o → IsReached rules (starts_at x) (answer_to (own_log x)) t → loadable t ≡ true → has (own_asked x) t ≡ true
+      by t None d r loads = absurd (way_in rules once x v begun empty t r d)
       by t (Some Queued) d r loads = absurd (let h = (v.building.queued t refl d).0 in let none = ap (λ (l : List Parts). has (texts l) t) empty in cc)
       by t (Some Asked) d r loads = (v.building.outstanding t refl d).0
       by t (Some (Done e)) d r loads = from t e (v.building.done t e d) loads
 
   -- ---- the graph
 
-  -- the entries of finished slots
-  pub graph_now : (entries : List (Parts × Entry)) → IsStrictlySortedBy url_cmp (keys_of x.progress.reaching.reached.entries)
-      → x.progress.reaching.reached.entries ≡ map (λ e. (e.0, Done e.1)) entries
-      → IsGraph meaning (starts_at x) (answer_to (own_log x)) entries
-  graph_now entries sorted is = record {
-    ascending = rw (← same) (sorted-keys_at x.progress.reaching.reached.entries sorted);
-    members = rw (← same) (reach_now sorted);
-    each = λ s e h. v.building.done s e (ap (λ (es : List (Parts × Slot)). value_at es s) is
-        ∙ lookup-map_values Done (λ url. bytes_eq s (text_of url)) entries ∙ ap (option_map Done) h);
-  }
+  -- what the entries of finished slots become
+  pub graph_now : (firsts : List (Parts × Entry)) → IsStrictlySortedBy url_cmp (keys_of x.progress.reaching.reached.entries)
+      → x.progress.reaching.reached.entries ≡ map (λ e. (e.0, Done e.1)) firsts
+      → IsGraph rules (starts_at x) (answer_to (own_log x)) (finals_of rules firsts)
+  graph_now firsts sorted is =
+      graph_settled rules (starts_at x) (answer_to (own_log x)) firsts (rw (← same) (reach_now sorted)) once
+      (λ s e h. v.building.done s e (ap (λ (es : List (Parts × Slot)). value_at es s) is
+      ∙ lookup-map_values Done (λ url. bytes_eq s (text_of url)) firsts ∙ ap (option_map Done) h))
+      (rw (← same) (sorted-keys_at x.progress.reaching.reached.entries sorted))
     where
       marked : (es : List (Parts × Entry)) → keys_at (map (λ e. (e.0, Done e.1)) es) ≡ members_of es
       marked [] = refl
       marked (e ∷ es) = rw (marked es) refl
 
-      same : keys_at x.progress.reaching.reached.entries ≡ members_of entries
-      same = ap keys_at is ∙ marked entries
+      same : keys_at x.progress.reaching.reached.entries ≡ members_of firsts
+      same = ap keys_at is ∙ marked firsts
 
 -- all that was asked is answered, where as many answers were taken
-pub answered_now : (meaning : Meaning) (x : At) → IsLive meaning x → x.progress.taken ≡ x.progress.asked → EachAnswered (own_asked x) (own_log x)
-answered_now meaning x v all =
-    all_answered (own_asked x) (own_log x) (distinct_log meaning (starts_at x) (own_log x) v.building.orderly) v.building.answered
+pub answered_now : (rules : Rules) (x : At) → IsLive rules x → x.progress.taken ≡ x.progress.asked → EachAnswered (own_asked x) (own_log x)
+answered_now rules x v all =
+    all_answered (own_asked x) (own_log x) (distinct_log rules (starts_at x) (own_log x) v.building.orderly) v.building.answered
     (omega (arith, v.kept.own.asked_counted, v.kept.own.taken_counted, all))
 
 -- of slots that all have an entry the first has one, and so have the others
@@ -149,12 +150,12 @@ done_from (x ∷ xs) once each =
     by t y false e h = each t y (rw e h)
 
 -- so no slot waits for its entry
-pub none_open : (x : At) → IsLive Analysed x → x.progress.taken ≡ x.progress.asked → x.progress.reaching.todo ≡ []
+pub none_open : {rules : Rules} → (x : At) → IsLive rules x → x.progress.taken ≡ x.progress.asked → x.progress.reaching.todo ≡ []
     → HaveEntries x.progress.reaching.reached.entries
-none_open x v all empty t y d = (
+none_open {rules} x v all empty t y d = (
   λ q. let h = (v.building.queued t refl (d ∙ ap Some q)).0 in let none = ap (λ (l : List Parts). has (texts l) t) empty in cc,
   λ a. let w = v.building.outstanding t refl (d ∙ ap Some a) in
-      let some = answered_now Analysed x v all t w.0 in let none = ap is_some w.1 in cc,
+      let some = answered_now rules x v all t w.0 in let none = ap is_some w.1 in cc,
 )
 
 -- and each has its entry, in a map
@@ -162,8 +163,10 @@ pub done_sorted : (slots : List (Parts × Slot)) → IsStrictlySortedBy url_cmp 
 done_sorted slots sorted have = done_from slots (distinct_sorted (keys_at slots) (sorted-keys_at slots sorted)) have
 
 -- so many entries as slots
-pub length_entries : (slots : List (Parts × Slot)) (entries : List (Parts × Entry)) → slots ≡ map (λ e. (e.0, Done e.1)) entries → length slots ≡ length entries
-length_entries slots entries is = ap length is ∙ length-map entries (λ e. (e.0, Done e.1))
+pub length_entries : (rules : Rules) (slots : List (Parts × Slot)) (entries : List (Parts × Entry)) → AreSettled rules slots entries → length slots ≡ length entries
+length_entries rules slots entries s =
+    ap length s.done ∙ length-map s.firsts (λ e. (e.0, Done e.1))
+    ∙ sym (ap length s.is ∙ length-map s.firsts (λ e. (e.0, settled rules s.firsts e.1)))
 
 -- the entries of finished slots are in order
 pub ascending_done : (slots : List (Parts × Slot)) (entries : List (Parts × Entry)) → IsStrictlySortedBy url_cmp (keys_of slots) → slots ≡ all_done entries → IsAscending entries
@@ -179,26 +182,33 @@ ascending_done slots entries sorted is = rw (← (ap keys_at is ∙ marked entri
 pub length-before_last : {A : Type 0} (n : ℕ) (xs : List A) → length (before_last n xs) ≡ length xs - n
 length-before_last n xs = length-take-le (length xs - n) xs (omega arith)
 
-pub result_graph : IsFunctional Analysed → (x y : At) (slots : List (Parts × Slot)) (entries : List (Parts × Entry))
-    → IsThrough Analysed x y → GoesOnAt x y → slots ≡ y.progress.reaching.reached.entries → IsStrictlySortedBy url_cmp (keys_of slots) → slots ≡ all_done entries
-    → IsGraph Analysed (starts_at x) (answer_to (own_log y)) entries
-result_graph once x y slots entries t g is sorted done =
-    subst (λ (ss : List Specifier). IsGraph Analysed ss (answer_to (own_log y)) entries) (ap texts g.roots)
-    (graph_now Analysed once y t.live t.begun t.asked_all entries (rw (← is) sorted) (sym is ∙ done))
+pub result_graph : {rules : Rules} → IsFunctional rules → (x y : At) (slots : List (Parts × Slot)) (entries : List (Parts × Entry))
+    → IsThrough rules x y → GoesOnAt x y → slots ≡ y.progress.reaching.reached.entries → IsStrictlySortedBy url_cmp (keys_of slots)
+    → AreSettled rules slots entries → IsGraph rules (starts_at x) (answer_to (own_log y)) entries
+result_graph {rules} once x y slots entries t g is sorted all =
+    subst (λ (ss : List Specifier). IsGraph rules ss (answer_to (own_log y)) entries) (ap texts g.roots)
+    (subst (IsGraph rules (starts_at y) (answer_to (own_log y))) (sym all.is)
+    (graph_now rules once y t.live t.begun t.asked_all all.firsts (rw (← is) sorted) (sym is ∙ all.done)))
 
-pub result_asked : IsFunctional Analysed → (x y : At) → IsThrough Analysed x y → GoesOnAt x y → IsAskedFor Analysed (starts_at x) (own_asked y) (own_log y)
-result_asked once x y t g =
-    subst (λ (ss : List Specifier). IsAskedFor Analysed ss (own_asked y) (own_log y)) (ap texts g.roots)
-    (asked_now Analysed once y t.live t.begun t.asked_all)
+pub result_limit : {rules : Rules} → (x y : At) (slots : List (Parts × Slot)) (entries : List (Parts × Entry)) → IsThrough rules x y → GoesOnAt x y
+    → slots ≡ y.progress.reaching.reached.entries → AreSettled rules slots entries → length entries ≤ x.progress.reaching.limit
+result_limit {rules} x y slots entries t g is all =
+    let same : length entries ≡ length y.progress.reaching.reached.entries = sym (length_entries rules slots entries all) ∙ ap length is in
+    omega (arith, same, t.live.room, g.limit)
 
-pub result_not_yet : IsFunctional Analysed → {L : Type 0} (l m : L) (x y : At) (f g1 : Bool)
-    → IsPaused Analysed x y → GoesOnAt x y → IsKeptAt Analysed x → IsStrictlySortedBy url_cmp (keys_of y.progress.reaching.reached.entries)
-    → IsNotYet Analysed (seen_of l x f) (seen_of m y g1)
-result_not_yet once l m x y f g1 p g k sorted = record {
-  orderly = from (λ ss. IsOrderly Analysed ss (own_log y)) p.live.building.orderly;
-  asked = from (λ ss. IsAskedFor Analysed ss (own_asked y) (own_log y)) (asked_now Analysed once y p.live p.begun p.asked_all);
-  within = subst (λ (n : ℕ). ReachesAtMost Analysed (starts_at x) (answer_to (own_log y)) n) g.limit
-      (from (λ ss. ReachesAtMost Analysed ss (answer_to (own_log y)) y.progress.reaching.limit) (within_now Analysed once y p.live p.begun p.asked_all sorted));
+pub result_asked : {rules : Rules} → IsFunctional rules → (x y : At) → IsThrough rules x y → GoesOnAt x y → IsAskedFor rules (starts_at x) (own_asked y) (own_log y)
+result_asked {rules} once x y t g =
+    subst (λ (ss : List Specifier). IsAskedFor rules ss (own_asked y) (own_log y)) (ap texts g.roots)
+    (asked_now rules once y t.live t.begun t.asked_all)
+
+pub result_not_yet : {rules : Rules} → IsFunctional rules → {L : Type 0} (l m : L) (w : Following) (x y : At) (f g1 : Bool)
+    → IsPaused rules x y → GoesOnAt x y → IsKeptAt rules x → IsStrictlySortedBy url_cmp (keys_of y.progress.reaching.reached.entries)
+    → IsNotYet rules (seen_of l w x f) (seen_of m w y g1)
+result_not_yet {rules} once l m w x y f g1 p g k sorted = record {
+  orderly = from (λ ss. IsOrderly rules ss (own_log y)) p.live.building.orderly;
+  asked = from (λ ss. IsAskedFor rules ss (own_asked y) (own_log y)) (asked_now rules once y p.live p.begun p.asked_all);
+  within = subst (λ (n : ℕ). ReachesAtMost rules (starts_at x) (answer_to (own_log y)) n) g.limit
+      (from (λ ss. ReachesAtMost rules ss (answer_to (own_log y)) y.progress.reaching.limit) (within_now rules once y p.live p.begun p.asked_all sorted));
   outstanding = open_now;
   counted = p.counted;
   stands = ap (λ (s : ℕ × ℕ). s.1) p.standing ∙ ap length (sym logs) ∙ length-append logs_before (own_log y);
@@ -252,13 +262,13 @@ result_not_yet once l m x y f g1 p g k sorted = record {
           p.open_yet,
         )
 
-pub result_unasked : IsFunctional Analysed → {L : Type 0} (l m : L) (x y : At) (f g1 : Bool) (s : Specifier)
-    → IsUnasked Analysed x y s → IsUnawaited Analysed 1 (seen_of l x f) (seen_of m y g1) s
-result_unasked once l m x y f g1 s u = record {
+pub result_unasked : {rules : Rules} → IsFunctional rules → {L : Type 0} (l m : L) (w : Following) (x y : At) (f g1 : Bool) (s : Specifier)
+    → IsUnasked rules x y s → IsUnawaited rules 1 (seen_of l w x f) (seen_of m w y g1) s
+result_unasked {rules} once l m w x y f g1 s u = record {
   before = log_of u.before;
   answer = u.answer;
   last = ap log_of u.last ∙ log_of-answer u.before s u.answer;
-  gained = (log_of u.goes_on.0, ap log_of u.goes_on.1 ∙ log_of-append (own_events x) u.goes_on.0);
+  goes_on = (log_of u.goes_on.0, ap log_of u.goes_on.1 ∙ log_of-append (own_events x) u.goes_on.0);
   orderly = u.orderly;
   outstanding = u.outstanding;
   settled = u.settled;
@@ -266,9 +276,9 @@ result_unasked once l m x y f g1 s u = record {
 }
 
 -- of a loader that answers open requests alone no answer is unasked, where none was open before
-pub fairly : (x y : At) (s : Specifier) → IsKeptAt Analysed x → IsKeptAt Analysed y → GoesOnAt x y → IsUnasked Analysed x y s → x.loader.fair ≡ true
+pub fairly : {rules : Rules} → (x y : At) (s : Specifier) → IsKeptAt rules x → IsKeptAt rules y → GoesOnAt x y → IsUnasked rules x y s → x.loader.fair ≡ true
     → IsSettled (before_last (own_count x) x.loader.events) → ⊥
-fairly x y s kx ky g u fair none_open =
+fairly {rules} x y s kx ky g u fair none_open =
     u.settled (subst (λ (l : List Specifier). IsOutstanding l (log_of u.before) s) (sym asks)
     (is_outstanding u.before s (subst (IsDistinct bytes_eq) asks ky.own.asking.once)
     (omega (arith, more, le, length_requests, length_answers))))
@@ -294,51 +304,51 @@ fairly x y s kx ky g u fair none_open =
         ∙ times-append s (keys_of (log_of first)) (keys_of (log_of u.before))
 
 -- as `poll` says it
-pub result_fair : {L A : Type 0} (l : L) (x y : At) (f : Bool) (url : Parts) → IsKeptAt Analysed x → IsKeptAt Analysed y → GoesOnAt x y
-    → IsUnasked Analysed x y (text_of url) → IsFairly {A = A} x.loader (seen_of l x f) (Err (error.UnaskedAnswer url))
-result_fair l x y f url kx ky g u = λ fair none_open s same. fairly x y (text_of url) kx ky g u fair none_open
+pub result_fair : {rules : Rules} → {L A : Type 0} (l : L) (w : Following) (x y : At) (f : Bool) (url : Parts) → IsKeptAt rules x → IsKeptAt rules y → GoesOnAt x y
+    → IsUnasked rules x y (text_of url) → IsFairly {A = A} x.loader (seen_of l w x f) (Err (error.UnaskedAnswer url))
+result_fair {rules} l w x y f url kx ky g u = λ fair none_open s same. fairly x y (text_of url) kx ky g u fair none_open
 
 -- more than are reached aren't reached
-pub too_many_none : (meaning : Meaning) (starts0 : List Specifier) (log : Log) (limit seen : ℕ)
-    → IsTooMany meaning starts0 log limit seen → ReachesAtMost meaning starts0 (answer_to log) limit → ⊥
-too_many_none meaning starts0 log limit seen t r =
+pub too_many_none : (rules : Rules) (starts0 : List Specifier) (log : Log) (limit seen : ℕ)
+    → IsTooMany rules starts0 log limit seen → ReachesAtMost rules starts0 (answer_to log) limit → ⊥
+too_many_none rules starts0 log limit seen t r =
     let bound : length t.members ≤ length r.0 =
     length-le_from_is_member nat_list_eq_equiv t.members r.0 t.once (λ q h. r.1.all q (t.reached q h)) in
     omega (arith, bound, r.2, t.above, t.counted)
 
 -- the last of awaited answers was awaited
-orderly_last : (meaning : Meaning) (starts0 : List Specifier) (before log : Log) (s : Specifier) (a : LoadAnswer)
-    → IsOrderlyAfter meaning starts0 before (log ++ (s, a) ∷ []) → IsAwaited meaning starts0 (before ++ log) s
-orderly_last meaning starts0 before [] s a h = rw append-nil h.0
-orderly_last meaning starts0 before (x ∷ log) s a h =
-    rw (sym (append_assoc before (x ∷ []) log)) (orderly_last meaning starts0 (before ++ x ∷ []) log s a h.1)
+orderly_last : (rules : Rules) (starts0 : List Specifier) (before log : Log) (s : Specifier) (a : LoadAnswer)
+    → IsOrderlyAfter rules starts0 before (log ++ (s, a) ∷ []) → IsAwaited rules starts0 (before ++ log) s
+orderly_last rules starts0 before [] s a h = rw append-nil h.0
+orderly_last rules starts0 before (x ∷ log) s a h =
+    rw (sym (append_assoc before (x ∷ []) log)) (orderly_last rules starts0 (before ++ x ∷ []) log s a h.1)
 
-pub unawaited_none : (meaning : Meaning) {L : Type 0} (old new : Building L) (s : Specifier) → IsUnawaited meaning 1 old new s
-    → IsOrderly meaning (starts old) new.log → ⊥
-unawaited_none meaning old new s u h = by u.unawaited
+pub unawaited_none : (rules : Rules) {L : Type 0} (old new : Building L) (s : Specifier) → IsUnawaited rules 1 old new s
+    → IsOrderly rules (starts old) new.log → ⊥
+unawaited_none rules old new s u h = by u.unawaited
   where
-    awaited : IsAwaited meaning (starts old) u.before s
-    awaited = orderly_last meaning (starts old) [] u.before s u.answer (subst (IsOrderly meaning (starts old)) u.last h)
+    awaited : IsAwaited rules (starts old) u.before s
+    awaited = orderly_last rules (starts old) [] u.before s u.answer (subst (IsOrderly rules (starts old)) u.last h)
 
     whole : take (length u.before - 0) u.before ≡ u.before
     whole = take_all (length u.before - 0) u.before (omega arith)
 
-    by : IsUnawaitedOver meaning 1 (starts old) u.before s → ⊥
+    by : IsUnawaitedOver rules 1 (starts old) u.before s → ⊥
     by (inl some) = let none = ap is_some awaited.open_yet in cc
-    by (inr never) = never (subst (λ (l : Log). IsReached meaning (starts old) (answer_to l) s) (sym whole) awaited.reached) awaited.loads
+    by (inr never) = never (subst (λ (l : Log). IsReached rules (starts old) (answer_to l) s) (sym whole) awaited.reached) awaited.loads
 
 -- a builder that begins has nothing
-pub inside_new : (meaning : Meaning) (x : At) → x.progress.asked ≡ 0 → x.progress.taken ≡ 0 → x.progress.begun ≡ false
-    → x.progress.reaching.reached.entries ≡ [] → x.progress.reaching.todo ≡ [] → IsInside meaning x false
+pub inside_new : (rules : Rules) (x : At) → x.progress.asked ≡ 0 → x.progress.taken ≡ 0 → x.progress.begun ≡ false
+    → x.progress.reaching.reached.entries ≡ [] → x.progress.reaching.todo ≡ [] → IsInside rules x false
 unfolding IsDistinct
-inside_new meaning x a t b r d = record {
+inside_new rules x a t b r d = record {
   kept = kept;
   live = λ e. record {
     kept = kept;
     behind = omega arith;
     counted = rw (d, r) (omega arith);
     room = rw r (omega arith);
-    building = subst (λ (l : List Event). IsBuilding meaning (starts_at x) no_one (asked_of l) (log_of l) (slots_at x) (todo_at x)) (sym nothing) (record {
+    building = subst (λ (l : List Event). IsBuilding rules (starts_at x) no_one (asked_of l) (log_of l) (slots_at x) (todo_at x)) (sym nothing) (record {
       sound = λ u y h. absurd (let n = none u in cc);
       done = λ u e h. absurd (let n = none u in cc);
       closed = λ u w e h. absurd (let n = none u in cc);
@@ -356,8 +366,8 @@ inside_new meaning x a t b r d = record {
   };
 }
   where
-    kept : IsKeptAt meaning x
-    kept = rw (a, t) (kept_new meaning (starts_at x) x.loader.events x.loader.told)
+    kept : IsKeptAt rules x
+    kept = rw (a, t) (kept_new rules (starts_at x) x.loader.events x.loader.told)
 
     none : (u : Specifier) → slots_at x u ≡ None
     none u = ap (λ (es : List (Parts × Slot)). value_at es u) r
@@ -367,9 +377,10 @@ inside_new meaning x a t b r d = record {
 
 -- ---- history
 
-pub result_history : {L : Type 0} (l m : L) (x y : At) (f g1 : Bool) → GoesOnAt x y → IsKeptAt Analysed x → IsKeptAt Analysed y
-    → HasHistory (seen_of l x f) (seen_of m y g1)
-result_history l m x y f g1 g k j = record {
+pub result_history : {rules : Rules} → {L : Type 0} (l m : L) (w : Following) (x y : At) (f g1 : Bool) → GoesOnAt x y → IsKeptAt rules x → IsKeptAt rules y
+    → HasHistory (seen_of l w x f) (seen_of m w y g1)
+result_history {rules} l m w x y f g1 g k j = record {
+  following = refl;
   roots = g.roots;
   limit = g.limit;
   events_before = before_after x y k g;
@@ -383,9 +394,9 @@ result_history l m x y f g1 g k j = record {
   answers = omega (arith, j.own.behind, j.own.asked_counted, j.own.taken_counted);
 }
 
-pub result_too_many : (x : At) (log : Log) (seen : ℕ)
-    → IsTooMany Analysed (starts_at x) log x.progress.reaching.limit seen → ReachesAtMost Analysed (starts_at x) (answer_to log) x.progress.reaching.limit → ⊥
-result_too_many x log seen t r = too_many_none Analysed (starts_at x) log x.progress.reaching.limit seen t r
+pub result_too_many : {rules : Rules} → (x : At) (log : Log) (seen : ℕ)
+    → IsTooMany rules (starts_at x) log x.progress.reaching.limit seen → ReachesAtMost rules (starts_at x) (answer_to log) x.progress.reaching.limit → ⊥
+result_too_many {rules} x log seen t r = too_many_none rules (starts_at x) log x.progress.reaching.limit seen t r
 
 -- one unasked answer is another only for the same specifier
 pub unasked_same : {A : Type 0} (s t : Parts)

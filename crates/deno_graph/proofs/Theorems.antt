@@ -4,68 +4,85 @@ use Rattle.std.specs.Prelude.{IsSome, is_some, Result, Ok, Err, IfOk}
 use Rattle.url.specs.Parts.{Parts}
 use Rattle.graph_entry.specs.declared.answer.LoadAnswer.{LoadAnswer}
 use Rattle.graph_entry.specs.declared.entry.Entry.{Entry}
-use Rattle.graph_entry.specs.Entry.{targets, EdgesCut}
-use Rattle.graph_entry.specs.Analysed.{Analysed}
+use Rattle.graph_entry.specs.declared.entry.Entry.TheVariants as entry
+use Rattle.graph_entry.specs.Entry.{EdgesCut}
+use Rattle.deno_graph.specs.declared.following.Following.{Following}
+use Rattle.deno_graph.specs.Rules.{targets, rules_of}
 use Rattle.graph_entry.proofs.Theorems.{analysed_once, analysed_cuts}
-use Rattle.deno_graph.specs.Reach.{Specifier, Answers, Log, Meaning, answer_to, has, IsEntry, Leads, IsReached, IsFunctional}
+use Rattle.deno_graph.specs.Reach.{Specifier, Answers, Log, Rules, answer_to, has, IsEntry, Leads, IsReached, IsFunctional}
+use Rattle.deno_graph.specs.Final.{IsFinal, redirect, too_far, with_module, same}
 use Rattle.deno_graph.specs.Graph.{entry_of, GraphData, IsGraph, EachEdgeCuts}
 use Rattle.deno_graph.specs.Builder.{IsToldLog}
 use Rattle.deno_graph.proofs.ReachLemmas.{reached_least, reached_start, reached_on, entry_once}
+use Rattle.deno_graph.proofs.FinalLemmas.{first_of, final_agrees, final_cuts}
 use Rattle.deno_graph.proofs.ByTextLemmas.{has-keys_at}
 pub use Rattle.deno_graph.proofs.ReachLemmas.{IsWithin, reached_start, reached_on, reached_least, reached_grows, entry_once}
 
+-- an answer means at most one entry
+pub rules_once : (following : Following) → IsFunctional (rules_of following)
+rules_once following = analysed_once
+
 -- each edge of a graph's module cuts from the module's text the literal whose value is the edge's text
-pub edges_cut : (starts : List Specifier) (answers : Answers) (entries : List (Parts × Entry)) → IsGraph Analysed starts answers entries
+pub edges_cut : (following : Following) (starts : List Specifier) (answers : Answers) (entries : List (Parts × Entry)) → IsGraph (rules_of following) starts answers entries
     → EachEdgeCuts entries
-edges_cut starts answers entries g s e h = by (g.each s e h)
+edges_cut following starts answers entries g s e h = by (g.each s e h)
   where
-    by : IsEntry Analysed answers s e → EdgesCut e
-    by (inl a) = analysed_cuts s (Some a.answer) e a.means
-    by (inr u) = analysed_cuts s None e u.1
+    first : (f : Entry) → IsEntry (rules_of following) answers s f → EdgesCut f
+    first f (inl a) = analysed_cuts s (Some a.answer) f a.means
+    first f (inr u) = analysed_cuts s None f u.1
+
+    by : IsFinal (rules_of following) answers s e → EdgesCut e
+    by (redirect target is_entry last leads stays is) = subst EdgesCut (sym is) tt
+    by (too_far target is_entry far is) = subst EdgesCut (sym is) tt
+    by (with_module m is_entry edges all is) = subst EdgesCut (sym is) (final_cuts (rules_of following) answers m edges (first (entry.Module m) is_entry) all)
+    by (same f is_entry stays plain is) = subst EdgesCut (sym is) (first f is_entry)
 
 -- the same of a graph that is answered
-pub answered_cut : {Refused : Type 0} (starts : List Specifier) (answers : Answers) (result : Result GraphData Refused)
-    → IfOk result (λ g. IsGraph Analysed starts answers g.entries) → IfOk result (λ g. EachEdgeCuts g.entries)
-answered_cut starts answers (Ok g) graph = edges_cut starts answers g.entries graph
-answered_cut starts answers (Err e) graph = tt
+pub answered_cut : {Refused : Type 0} (following : Following) (starts : List Specifier) (answers : Answers) (result : Result GraphData Refused)
+    → IfOk result (λ g. IsGraph (rules_of following) starts answers g.entries) → IfOk result (λ g. EachEdgeCuts g.entries)
+answered_cut following starts answers (Ok g) graph = edges_cut following starts answers g.entries graph
+answered_cut following starts answers (Err e) graph = tt
 
 -- ---- the graph over answers that were told
 
 -- whatever has an entry over the first answers has it over the second
-pub entry_agrees : (meaning : Meaning) (few many : Answers) (s : Specifier) (e : Entry)
-    → ((a : LoadAnswer) → few s ≡ Some a → many s ≡ Some a) → IsEntry meaning few s e → IsEntry meaning many s e
-entry_agrees meaning few many s e same (inl a) = inl (record { loads = a.loads; answer = a.answer; given = same a.answer a.given; means = a.means })
-entry_agrees meaning few many s e same (inr u) = inr u
+pub entry_agrees : (rules : Rules) (few many : Answers) (s : Specifier) (e : Entry)
+    → ((a : LoadAnswer) → few s ≡ Some a → many s ≡ Some a) → IsEntry rules few s e → IsEntry rules many s e
+entry_agrees rules few many s e alike (inl a) = inl (record { loads = a.loads; answer = a.answer; given = alike a.answer a.given; means = a.means })
+entry_agrees rules few many s e alike (inr u) = inr u
 
-module _ (meaning : Meaning) (once : IsFunctional meaning) (starts : List Specifier) (log told : Answers) (entries : List (Parts × Entry))
-    (g : IsGraph meaning starts log entries)
-    (same : (s : Specifier) → IsReached meaning starts log s → (a : LoadAnswer) → log s ≡ Some a → told s ≡ Some a) where
+module _ (rules : Rules) (once : IsFunctional rules) (starts : List Specifier) (log told : Answers) (entries : List (Parts × Entry))
+    (g : IsGraph rules starts log entries)
+    (alike : (s : Specifier) → IsReached rules starts log s → (a : LoadAnswer) → log s ≡ Some a → told s ≡ Some a) where
   -- what is reached over the log is reached over what was told
-  there : (s : Specifier) → IsReached meaning starts log s → IsReached meaning starts log s × IsReached meaning starts told s
-  there = reached_least meaning starts log (λ s. IsReached meaning starts log s × IsReached meaning starts told s)
-      (λ s h. (reached_start meaning starts log s h, reached_start meaning starts told s h))
+  there : (s : Specifier) → IsReached rules starts log s → IsReached rules starts log s × IsReached rules starts told s
+  there = reached_least rules starts log (λ s. IsReached rules starts log s × IsReached rules starts told s)
+      (λ s h. (reached_start rules starts log s h, reached_start rules starts told s h))
       (λ r s p l. (
-        reached_on meaning starts log r s p.0 l,
-        reached_on meaning starts told r s p.1 (record { entry = l.entry; is_entry = entry_agrees meaning log told r l.entry (same r p.0) l.is_entry; among = l.among }),
+        reached_on rules starts log r s p.0 l,
+        reached_on rules starts told r s p.1 (record { entry = l.entry; is_entry = entry_agrees rules log told r l.entry (alike r p.0) l.is_entry; among = l.among }),
       ))
 
-  -- and back: a reached specifier has its entry in the graph
-  back : (s : Specifier) → IsReached meaning starts told s → IsReached meaning starts log s
-  back = reached_least meaning starts told (IsReached meaning starts log) (reached_start meaning starts log)
-      (λ r s p l. from r s p l (entry_of entries r) refl)
+  -- whatever has an entry over what was told has it over the log, where it's reached
+  own_entry : (s : Specifier) (e : Entry) → IsReached rules starts log s → IsEntry rules told s e → IsEntry rules log s e
+  own_entry s e p is_entry = by (entry_of entries s) refl
     where
-      has_entry : (r : Specifier) → IsReached meaning starts log r → is_some (entry_of entries r) ≡ true
-      has_entry r p = sym (has-keys_at entries r) ∙ g.members.all r p
+      by : (o : Option Entry) → entry_of entries s ≡ o → IsEntry rules log s e
+      by None d =
+          let there : is_some (entry_of entries s) ≡ true = sym (has-keys_at entries s) ∙ g.members.all s p in
+          let nothing = ap is_some d in absurd cc
+      by (Some f) d =
+          let own = first_of rules log s f (g.each s f d) in
+          subst (IsEntry rules log s)
+          (entry_once rules once told s own.0 e (entry_agrees rules log told s own.0 (alike s p) own.1) is_entry) own.1
 
-      from : (r s : Specifier) → IsReached meaning starts log r → Leads meaning told r s → (o : Option Entry) → entry_of entries r ≡ o → IsReached meaning starts log s
-      from r s p l None d = absurd (let n = has_entry r p in let m = ap is_some d in cc)
-      from r s p l (Some e) d =
-          let own : IsEntry meaning log r e = g.each r e d in
-          let equal : l.entry ≡ e = entry_once meaning once told r l.entry e l.is_entry (entry_agrees meaning log told r e (same r p) own) in
-          reached_on meaning starts log r s p (record { entry = e; is_entry = own; among = ap (λ (f : Entry). has (targets f) s) (sym equal) ∙ l.among })
+  -- and back
+  back : (s : Specifier) → IsReached rules starts told s → IsReached rules starts log s
+  back = reached_least rules starts told (IsReached rules starts log) (reached_start rules starts log)
+      (λ r s p l. reached_on rules starts log r s p (record { entry = l.entry; is_entry = own_entry r l.entry p l.is_entry; among = l.among }))
 
   -- the graph over the log is the graph over what was told, where they agree on all that is reached
-  pub graph_agrees : IsGraph meaning starts told entries
+  pub graph_agrees : IsGraph rules starts told entries
   graph_agrees = record {
     ascending = g.ascending;
     members = record {
@@ -73,14 +90,15 @@ module _ (meaning : Meaning) (once : IsFunctional meaning) (starts : List Specif
       reached = λ s h. (there s (g.members.reached s h)).1;
       all = λ s p. g.members.all s (back s p);
     };
-    each = λ s e h. entry_agrees meaning log told s e (same s (g.members.reached s (has-keys_at entries s ∙ ap is_some h))) (g.each s e h);
+    each = λ s e h. final_agrees rules starts log told (λ r f p. entry_agrees rules log told r f (alike r p)) own_entry s e
+        (g.members.reached s (has-keys_at entries s ∙ ap is_some h)) (g.each s e h);
   }
 
 -- the same for a log of answers that were told, where each was
-pub graph_told : (starts : List Specifier) (log : Log) (told : Answers) (entries : List (Parts × Entry)) → IsGraph Analysed starts (answer_to log) entries
-    → IsToldLog told log → ((s : Specifier) → IsSome (told s)) → IsGraph Analysed starts told entries
-graph_told starts log told entries g is all =
-    graph_agrees Analysed analysed_once starts (answer_to log) told entries g (λ s p a h. by s a h (told s) refl)
+pub graph_told : (following : Following) (starts : List Specifier) (log : Log) (told : Answers) (entries : List (Parts × Entry)) → IsGraph (rules_of following) starts (answer_to log) entries
+    → IsToldLog told log → ((s : Specifier) → IsSome (told s)) → IsGraph (rules_of following) starts told entries
+graph_told following starts log told entries g is all =
+    graph_agrees (rules_of following) (rules_once following) starts (answer_to log) told entries g (λ s p a h. by s a h (told s) refl)
   where
     by : (s : Specifier) (a : LoadAnswer) → answer_to log s ≡ Some a → (o : Option LoadAnswer) → told s ≡ o → told s ≡ Some a
     by s a h None d = absurd (let n = all s in let m = ap is_some d in cc)

@@ -4,19 +4,21 @@ use Rattle.std.specs.List.{IsDistinct}
 use Rattle.url.specs.Parts.{Parts}
 use Rattle.graph_entry.specs.declared.answer.LoadAnswer.{LoadAnswer}
 use Rattle.graph_entry.specs.Specifier.{text_of, loadable}
-use Rattle.graph_entry.specs.declared.kind.GraphKind.TheVariants.{All}
 use Rattle.deno_graph.specs.declared.options.BuildOptions.{BuildOptions}
+use Rattle.deno_graph.specs.declared.following.Following.{Following}
 use Rattle.deno_graph.specs.declared.error.BuildError.{BuildError}
 use Rattle.deno_graph.specs.declared.error.BuildError.TheVariants.{NotYet, TooManyModules, UnaskedAnswer, Finished, OutOfMemory}
-use Rattle.deno_graph.specs.Reach.{Specifier, Log, Answers, Meaning, answer_to, has, IsReached, IsReach}
+use Rattle.deno_graph.specs.Rules.{rules_of}
+use Rattle.deno_graph.specs.Reach.{Specifier, Log, Answers, Rules, answer_to, has, IsReached, IsReach}
 use Rattle.deno_graph.specs.Graph.{texts}
 use Rattle.deno_graph.specs.Events.{Event, Answered, asked_of, log_of, IsOutstanding, IsTimely, IsSettled}
 use Rattle.deno_graph.specs.Loader.{LoaderData, HasRisen, NeverRises, Falls}
 
--- What contracts see of a builder. `events` is what befell its loader since the builder was made; `asked` and `log` are
+-- What contracts see of a builder. `events` is what happened to its loader since the builder was made; `asked` and `log` are
 -- the requests and the answers of it.
 pub record Building (L : Type 0) : Type 0 where
   pub loader : L
+  pub following : Following
   pub roots : List Parts
   pub limit : ℕ
   pub events : List Event
@@ -30,6 +32,10 @@ pub record Building (L : Type 0) : Type 0 where
   pub patience : Option ℕ
   pub finished : Bool
 
+-- the rules of its graph
+abbrev pub graph_rules : {L : Type 0} → Building L → Rules
+graph_rules b = rules_of b.following
+
 -- the starts of reach: the roots
 abbrev pub starts : {L : Type 0} → Building L → List Specifier
 starts b = texts b.roots
@@ -37,36 +43,36 @@ starts b = texts b.roots
 -- ---- the list asked and the log
 
 -- the specifier is reached and loadable, and has no answer yet
-pub record IsAwaited (meaning : Meaning) (starts : List Specifier) (log : Log) (s : Specifier) : Type 0 where
-  pub reached : IsReached meaning starts (answer_to log) s
+pub record IsAwaited (rules : Rules) (starts : List Specifier) (log : Log) (s : Specifier) : Type 0 where
+  pub reached : IsReached rules starts (answer_to log) s
   pub loads : loadable s ≡ true
   pub open_yet : answer_to log s ≡ None
 
 -- after the answers so far, each further one was awaited when it came
-abbrev pub IsOrderlyAfter : Meaning → List Specifier → Log → Log → Type 0
-IsOrderlyAfter meaning starts before [] = Unit {0}
-IsOrderlyAfter meaning starts before (x ∷ rest) =
-    IsAwaited meaning starts before x.0 × IsOrderlyAfter meaning starts (before ++ x ∷ []) rest
+abbrev pub IsOrderlyAfter : Rules → List Specifier → Log → Log → Type 0
+IsOrderlyAfter rules starts before [] = Unit {0}
+IsOrderlyAfter rules starts before (x ∷ rest) =
+    IsAwaited rules starts before x.0 × IsOrderlyAfter rules starts (before ++ x ∷ []) rest
 
 -- each answer was awaited when it came
-abbrev pub IsOrderly : Meaning → List Specifier → Log → Type 0
-IsOrderly meaning starts log = IsOrderlyAfter meaning starts [] log
+abbrev pub IsOrderly : Rules → List Specifier → Log → Type 0
+IsOrderly rules starts log = IsOrderlyAfter rules starts [] log
 
 -- in time: each answer was awaited, and outstanding, when it came
-pub record IsInTime (meaning : Meaning) (starts : List Specifier) (events : List Event) : Type 0 where
-  pub orderly : IsOrderly meaning starts (log_of events)
+pub record IsInTime (rules : Rules) (starts : List Specifier) (events : List Event) : Type 0 where
+  pub orderly : IsOrderly rules starts (log_of events)
   pub timely : IsTimely events
 
 -- whatever is asked is reached and loadable, and is asked once
-pub record IsAsking (meaning : Meaning) (starts : List Specifier) (asked : List Specifier) (log : Log) : Type 0 where
+pub record IsAsking (rules : Rules) (starts : List Specifier) (asked : List Specifier) (log : Log) : Type 0 where
   pub once : IsDistinct bytes_eq asked
   pub loads : (s : Specifier) → has asked s ≡ true → loadable s ≡ true
-  pub reached : (s : Specifier) → has asked s ≡ true → IsReached meaning starts (answer_to log) s
+  pub reached : (s : Specifier) → has asked s ≡ true → IsReached rules starts (answer_to log) s
 
 -- the loadable specifiers that are reached are asked, each once, and nothing else
-pub record IsAskedFor (meaning : Meaning) (starts : List Specifier) (asked : List Specifier) (log : Log) : Type 0 where
-  pub asking : IsAsking meaning starts asked log
-  pub all : (s : Specifier) → IsReached meaning starts (answer_to log) s → loadable s ≡ true → has asked s ≡ true
+pub record IsAskedFor (rules : Rules) (starts : List Specifier) (asked : List Specifier) (log : Log) : Type 0 where
+  pub asking : IsAsking rules starts asked log
+  pub all : (s : Specifier) → IsReached rules starts (answer_to log) s → loadable s ≡ true → has asked s ≡ true
 
 -- whatever is asked is answered
 abbrev pub EachAnswered : List Specifier → Log → Type 0
@@ -77,8 +83,8 @@ abbrev pub SomeOutstanding : List Specifier → Log → Type 0
 SomeOutstanding asked log = (s : Specifier) × IsOutstanding asked log s
 
 -- at most so many specifiers are reached
-abbrev pub ReachesAtMost : Meaning → List Specifier → Answers → ℕ → Type 0
-ReachesAtMost meaning starts answers limit = (members : List Specifier) × IsReach meaning starts answers members × (length members ≤ limit)
+abbrev pub ReachesAtMost : Rules → List Specifier → Answers → ℕ → Type 0
+ReachesAtMost rules starts answers limit = (members : List Specifier) × IsReach rules starts answers members × (length members ≤ limit)
 
 -- the answers are those that were told, where any was
 abbrev pub IsToldLog : Answers → Log → Type 0
@@ -95,28 +101,33 @@ abbrev pub before_last : {A : Type 0} → ℕ → List A → List A
 before_last n xs = take (length xs - n) xs
 
 -- what holds of the builder's own events: requests and answers are counted, and what is reached is asked for
-pub record IsOwn (meaning : Meaning) (starts : List Specifier) (own : List Event) (told : Answers) (own_asked own_taken : ℕ) : Type 0 where
+pub record IsOwn (rules : Rules) (starts : List Specifier) (own : List Event) (told : Answers) (own_asked own_taken : ℕ) : Type 0 where
   pub asked_counted : length (asked_of own) ≡ own_asked
   pub taken_counted : length (log_of own) ≡ own_taken
   pub behind : own_taken ≤ own_asked + 1
-  pub asking : IsAsking meaning starts (asked_of own) (log_of own)
+  pub asking : IsAsking rules starts (asked_of own) (log_of own)
   pub as_told : IsToldLog told (log_of own)
 
 -- what holds of a builder at all times: so many of its loader's last events are its own
-pub record IsKept (meaning : Meaning) (starts : List Specifier) (events : List Event) (told : Answers) (own_asked own_taken : ℕ) : Type 0 where
+pub record IsKept (rules : Rules) (starts : List Specifier) (events : List Event) (told : Answers) (own_asked own_taken : ℕ) : Type 0 where
   pub fits : own_asked + own_taken ≤ length events
-  pub own : IsOwn meaning starts (last_of (own_asked + own_taken) events) told own_asked own_taken
+  pub own : IsOwn rules starts (last_of (own_asked + own_taken) events) told own_asked own_taken
 
--- what this crate builds today: every edge is followed, and nothing outside imports
+-- what this crate builds today: nothing outside imports
 abbrev pub OnlyPlain : BuildOptions → Type 0
-OnlyPlain options = (options.kind ≡ All) × (options.skip_dynamic_deps ≡ false) × (options.imports ≡ [])
+OnlyPlain options = options.imports ≡ []
+
+-- which edges the options let a graph follow
+abbrev pub following_of : BuildOptions → Following
+following_of options = record { kind = options.kind; skip_dynamic_deps = options.skip_dynamic_deps }
 
 -- a new builder over a loader: nothing is asked yet, and the loader's events count from now on
-abbrev pub new_building : {L : Type 0} → List Parts → ℕ → L → LoaderData → Building L
-new_building given_roots most given seen = record {
+abbrev pub new_building : {L : Type 0} → List Parts → BuildOptions → L → LoaderData → Building L
+new_building given_roots options given seen = record {
   loader = given;
+  following = following_of options;
   roots = given_roots;
-  limit = most;
+  limit = options.limit;
   events = [];
   events_before = seen.events;
   asked = [];
@@ -135,6 +146,7 @@ GoesOn {A} old new = (more : List A) × (new ≡ old ++ more)
 
 -- what every call keeps: the lists go on, the counts go one way, and all else stays
 pub record HasHistory {L : Type 0} (old new : Building L) : Type 0 where
+  pub following : new.following ≡ old.following
   pub roots : new.roots ≡ old.roots
   pub limit : new.limit ≡ old.limit
   pub events_before : new.events_before ≡ old.events_before
@@ -149,22 +161,22 @@ pub record HasHistory {L : Type 0} (old new : Building L) : Type 0 where
 
 -- On every answer each answer of the loader came in time, but the last one of `UnaskedAnswer`; and of a builder that was
 -- finished nothing is said.
-abbrev pub CameInTime : {A : Type 0} → Meaning → List Specifier → List Event → Result A BuildError → Type 0
-CameInTime meaning starts events (Ok graph) = IsInTime meaning starts events
-CameInTime meaning starts events (Err NotYet) = IsInTime meaning starts events
-CameInTime meaning starts events (Err (TooManyModules seen)) = IsInTime meaning starts events
-CameInTime meaning starts events (Err (UnaskedAnswer url)) =
-    (before : List Event) × (answer : LoadAnswer) × (events ≡ before ++ Answered (text_of url) answer ∷ []) × IsInTime meaning starts before
-CameInTime meaning starts events (Err Finished) = Unit {0}
-CameInTime meaning starts events (Err OutOfMemory) = IsInTime meaning starts events
+abbrev pub CameInTime : {A : Type 0} → Rules → List Specifier → List Event → Result A BuildError → Type 0
+CameInTime rules starts events (Ok graph) = IsInTime rules starts events
+CameInTime rules starts events (Err NotYet) = IsInTime rules starts events
+CameInTime rules starts events (Err (TooManyModules seen)) = IsInTime rules starts events
+CameInTime rules starts events (Err (UnaskedAnswer url)) =
+    (before : List Event) × (answer : LoadAnswer) × (events ≡ before ++ Answered (text_of url) answer ∷ []) × IsInTime rules starts before
+CameInTime rules starts events (Err Finished) = Unit {0}
+CameInTime rules starts events (Err OutOfMemory) = IsInTime rules starts events
 
 -- ---- the causes of the errors
 
 -- why the graph isn't there yet
-pub record IsNotYet (meaning : Meaning) {L : Type 0} (old new : Building L) : Type 0 where
-  pub orderly : IsOrderly meaning (starts old) new.log
-  pub asked : IsAskedFor meaning (starts old) new.asked new.log
-  pub within : ReachesAtMost meaning (starts old) (answer_to new.log) old.limit
+pub record IsNotYet (rules : Rules) {L : Type 0} (old new : Building L) : Type 0 where
+  pub orderly : IsOrderly rules (starts old) new.log
+  pub asked : IsAskedFor rules (starts old) new.asked new.log
+  pub within : ReachesAtMost rules (starts old) (answer_to new.log) old.limit
   pub outstanding : SomeOutstanding new.asked new.log
   pub counted : HasRisen old.pending new.pending
   -- the last `Pending` came after the last answer
@@ -174,30 +186,30 @@ pub record IsNotYet (meaning : Meaning) {L : Type 0} (old new : Building L) : Ty
   pub patience : length old.asked_before ≡ length old.log_before → Falls old.patience new.patience
 
 -- no answer for the specifier was awaited: it had one, or it isn't a loadable specifier that is reached
-abbrev pub IsUnawaitedOver : Meaning → ℕ → List Specifier → Log → Specifier → Type 0
-IsUnawaitedOver meaning batch starts before s =
+abbrev pub IsUnawaitedOver : Rules → ℕ → List Specifier → Log → Specifier → Type 0
+IsUnawaitedOver rules batch starts before s =
     IsSome (answer_to before s)
-    ⊎ (IsReached meaning starts (answer_to (take (length before - (batch - 1)) before)) s → loadable s ≡ true → ⊥)
+    ⊎ (IsReached rules starts (answer_to (take (length before - (batch - 1)) before)) s → loadable s ≡ true → ⊥)
 
 -- the last answer wasn't awaited when it came; `batch` answers were taken before any of them was analysed
-pub record IsUnawaited (meaning : Meaning) (batch : ℕ) {L : Type 0} (old new : Building L) (s : Specifier) : Type 0 where
+pub record IsUnawaited (rules : Rules) (batch : ℕ) {L : Type 0} (old new : Building L) (s : Specifier) : Type 0 where
   pub before : Log
   pub answer : LoadAnswer
   pub last : new.log ≡ before ++ (s, answer) ∷ []
-  pub gained : GoesOn old.log before
-  pub orderly : IsOrderly meaning (starts old) before
+  pub goes_on : GoesOn old.log before
+  pub orderly : IsOrderly rules (starts old) before
   pub outstanding : SomeOutstanding new.asked before
   -- but not this specifier
   pub settled : IsOutstanding new.asked before s → ⊥
-  pub unawaited : IsUnawaitedOver meaning batch (starts old) before s
+  pub unawaited : IsUnawaitedOver rules batch (starts old) before s
 
 -- counting stopped at the first reached specifier above the limit
-pub record IsTooMany (meaning : Meaning) (starts : List Specifier) (log : Log) (limit seen : ℕ) : Type 0 where
+pub record IsTooMany (rules : Rules) (starts : List Specifier) (log : Log) (limit seen : ℕ) : Type 0 where
   pub above : seen ≡ limit + 1
   pub members : List Specifier
   pub counted : length members ≡ seen
   pub once : IsDistinct bytes_eq members
-  pub reached : (s : Specifier) → has members s ≡ true → IsReached meaning starts (answer_to log) s
+  pub reached : (s : Specifier) → has members s ≡ true → IsReached rules starts (answer_to log) s
 
 -- no answer is unasked of a loader that tells that it answers open requests alone, where none was open when the builder was made
 abbrev pub IsFairly : {L A : Type 0} → LoaderData → Building L → Result A BuildError → Type 0
@@ -207,10 +219,10 @@ IsFairly seen old result = seen.fair ≡ true → IsSettled old.events_before �
 
 -- A live builder gives the graph, unless memory runs out: where at most `limit` specifiers are reached, each answer was
 -- awaited, and the pending count neither rose nor stands at its last value.
-abbrev pub IsComplete : Meaning → {L A : Type 0} → Building L → Building L → Result A BuildError → Type 0
-IsComplete meaning old new result =
+abbrev pub IsComplete : Rules → {L A : Type 0} → Building L → Building L → Result A BuildError → Type 0
+IsComplete rules old new result =
     old.finished ≡ false
-    → ReachesAtMost meaning (starts old) (answer_to new.log) old.limit
-    → IsOrderly meaning (starts old) new.log
+    → ReachesAtMost rules (starts old) (answer_to new.log) old.limit
+    → IsOrderly rules (starts old) new.log
     → (HasRisen old.pending new.pending → ⊥)
     → IsOkUnless result OutOfMemory

@@ -3,20 +3,20 @@ use Rattle.std.specs.Prelude.{◌≡◌, Bool, true, false, cond, List, bytes_eq
 use Rattle.std.specs.List.{IsDistinct}
 use Rattle.graph_entry.specs.declared.answer.LoadAnswer.{LoadAnswer}
 use Rattle.graph_entry.specs.declared.entry.Entry.{Entry}
-use Rattle.graph_entry.specs.Entry.{targets}
 use Rattle.deno_graph.specs.declared.slot.Slot.{Slot}
 use Rattle.deno_graph.specs.declared.slot.Slot.TheVariants.{Queued, Asked, Done}
-use Rattle.deno_graph.specs.Reach.{Specifier, Log, Meaning, answer_to, has, IsEntry, IsReached}
+use Rattle.deno_graph.specs.Rules.{targets}
+use Rattle.deno_graph.specs.Reach.{Specifier, Log, Rules, answer_to, has, IsEntry, IsReached}
 use Rattle.deno_graph.specs.Slots.{Slots}
 use Rattle.deno_graph.specs.Events.{IsOutstanding}
 use Rattle.deno_graph.specs.Builder.{IsOrderly}
 
 -- the slots say what was asked and answered, but for those in hand
-pub record IsBuilding (meaning : Meaning) (starts : List Specifier) (in_hand : Specifier → Bool)
+pub record IsBuilding (rules : Rules) (starts : List Specifier) (in_hand : Specifier → Bool)
     (asked : List Specifier) (log : Log) (slots : Slots) (todo : List Specifier) : Type 0 where
-  pub sound : (t : Specifier) (x : Slot) → slots t ≡ Some x → IsReached meaning starts (answer_to log) t
-  pub done : (t : Specifier) (e : Entry) → slots t ≡ Some (Done e) → IsEntry meaning (answer_to log) t e
-  pub closed : (t u : Specifier) (e : Entry) → slots t ≡ Some (Done e) → has (targets e) u ≡ true → slots u ≡ None → ⊥
+  pub sound : (t : Specifier) (x : Slot) → slots t ≡ Some x → IsReached rules starts (answer_to log) t
+  pub done : (t : Specifier) (e : Entry) → slots t ≡ Some (Done e) → IsEntry rules (answer_to log) t e
+  pub closed : (t u : Specifier) (e : Entry) → slots t ≡ Some (Done e) → has (targets rules e) u ≡ true → slots u ≡ None → ⊥
   pub outstanding : (t : Specifier) → in_hand t ≡ false → slots t ≡ Some Asked → IsOutstanding asked log t
   pub queued : (t : Specifier) → in_hand t ≡ false → slots t ≡ Some Queued → (has todo t ≡ true) × (has asked t ≡ false)
   pub listed : (t : Specifier) → has todo t ≡ true → (slots t ≡ Some Queued) × (in_hand t ≡ false)
@@ -24,7 +24,7 @@ pub record IsBuilding (meaning : Meaning) (starts : List Specifier) (in_hand : S
   pub todo_once : IsDistinct bytes_eq todo
   pub asked_slot : (t : Specifier) → has asked t ≡ true → slots t ≡ None → ⊥
   pub answered : (t : Specifier) (a : LoadAnswer) → answer_to log t ≡ Some a → has asked t ≡ true
-  pub orderly : IsOrderly meaning starts log
+  pub orderly : IsOrderly rules starts log
 
 -- nothing is in hand
 abbrev pub no_one : Specifier → Bool

@@ -1,4 +1,4 @@
--- What befell a loader, in time: it was asked for specifiers, and it answered.
+-- What happened to a loader, in time: it was asked for specifiers, and it answered.
 use Rattle.std.specs.Prelude.{◌≡◌, ℕ, ◌+◌, ◌≤◌, Bool, true, List, [], ◌∷◌, ◌++◌, bytes_eq, Option, None, if◌then◌else◌}
 use Rattle.std.specs.Map.{keys_of}
 use Rattle.graph_entry.specs.declared.answer.LoadAnswer.{LoadAnswer}

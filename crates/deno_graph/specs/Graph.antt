@@ -1,14 +1,17 @@
 -- The graph: the entries of all that is reached, by the text of the specifiers.
-use Rattle.std.specs.Prelude.{◌≡◌, List, map, bytes_eq, Option, Some}
+use Rattle.std.specs.Prelude.{◌≡◌, ℕ, zero, suc, List, map, bytes_eq, Option, Some, None, option_and_then}
 use Rattle.std.specs.Map.{lookup}
 use Rattle.std.specs.List.Sorted.{IsStrictlySortedBy}
 use Rattle.std.specs.Ordering.{nat_cmp}
 use Rattle.std.specs.Cmp.Lexicographic.{slice_cmp}
 use Rattle.url.specs.Parts.{Parts}
+use Rattle.graph_entry.specs.declared.entry.Module.{Module}
 use Rattle.graph_entry.specs.declared.entry.Entry.{Entry}
+use Rattle.graph_entry.specs.declared.entry.Entry.TheVariants as entry
 use Rattle.graph_entry.specs.Specifier.{text_of}
 use Rattle.graph_entry.specs.Entry.{EdgesCut}
-use Rattle.deno_graph.specs.Reach.{Specifier, Answers, Meaning, IsEntry, IsReach}
+use Rattle.deno_graph.specs.Reach.{Specifier, Answers, Rules, IsReach}
+use Rattle.deno_graph.specs.Final.{most_redirects, redirect_of, IsFinal}
 
 -- what contracts see of a graph: its roots as handed in, and its entries
 pub record GraphData : Type 0 where
@@ -27,15 +30,45 @@ members_of entries = map (λ e. text_of e.0) entries
 abbrev pub entry_of : List (Parts × Entry) → Specifier → Option Entry
 entry_of entries s = lookup (λ url. bytes_eq s (text_of url)) entries
 
+-- the place that is led to from here, or this one
+abbrev pub on_from : Specifier → (Specifier → Specifier) → Option Specifier → Specifier
+on_from s later None = s
+on_from s later (Some t) = later t
+
+-- where a specifier redirects to
+abbrev pub redirected : List (Parts × Entry) → Specifier → Option Specifier
+redirected entries s = option_and_then redirect_of (entry_of entries s)
+
+-- where the redirects from a specifier lead, over so many of them at most
+abbrev pub resolved_over : List (Parts × Entry) → ℕ → Specifier → Specifier
+resolved_over entries zero s = s
+resolved_over entries (suc n) s = on_from s (resolved_over entries n) (redirected entries s)
+
+-- where the redirects from a specifier lead
+abbrev pub resolved : List (Parts × Entry) → Specifier → Specifier
+resolved entries s = resolved_over entries most_redirects s
+
+-- the module of an entry
+abbrev pub module_of : Entry → Option Module
+module_of (entry.Redirect target) = None
+module_of (entry.Module m) = Some m
+module_of (entry.Package held) = None
+module_of entry.External = None
+module_of (entry.Error e) = None
+
+-- the module that a specifier leads to
+abbrev pub module_at : List (Parts × Entry) → Specifier → Option Module
+module_at entries s = option_and_then module_of (entry_of entries (resolved entries s))
+
 -- the entries are in the order of the bytes of their specifiers, none twice
 abbrev pub IsAscending : List (Parts × Entry) → Type 0
 IsAscending entries = IsStrictlySortedBy (slice_cmp nat_cmp) (members_of entries)
 
 -- the entries are those of the reached specifiers, in the order of their bytes
-pub record IsGraph (meaning : Meaning) (starts : List Specifier) (answers : Answers) (entries : List (Parts × Entry)) : Type 0 where
+pub record IsGraph (rules : Rules) (starts : List Specifier) (answers : Answers) (entries : List (Parts × Entry)) : Type 0 where
   pub ascending : IsAscending entries
-  pub members : IsReach meaning starts answers (members_of entries)
-  pub each : (s : Specifier) (e : Entry) → entry_of entries s ≡ Some e → IsEntry meaning answers s e
+  pub members : IsReach rules starts answers (members_of entries)
+  pub each : (s : Specifier) (e : Entry) → entry_of entries s ≡ Some e → IsFinal rules answers s e
 
 -- each source edge's range cuts from its module's text the literal whose value is the edge's text
 abbrev pub EachEdgeCuts : List (Parts × Entry) → Type 0

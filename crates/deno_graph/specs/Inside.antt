@@ -2,18 +2,20 @@
 use Rattle.std.specs.Prelude.{◌≡◌, Bool, false, List, map, Some}
 use Rattle.url.specs.Parts.{Parts}
 use Rattle.graph_entry.specs.declared.entry.Entry.{Entry}
+use Rattle.deno_graph.specs.declared.following.Following.{Following}
 use Rattle.deno_graph.specs.declared.slot.Slot.{Slot}
 use Rattle.deno_graph.specs.declared.slot.Slot.TheVariants.{Queued, Asked, Done}
-use Rattle.deno_graph.specs.Reach.{Specifier, Meaning}
+use Rattle.deno_graph.specs.Reach.{Specifier, Rules}
 use Rattle.deno_graph.specs.ByText.{value_at}
 use Rattle.deno_graph.specs.Events.{asked_of, log_of}
 use Rattle.deno_graph.specs.Builder.{Building, before_last}
 use Rattle.deno_graph.specs.Progress.{At, IsKeptAt, IsLive, own_count, own_events}
 
 -- what contracts see of a builder
-abbrev pub seen_of : {L : Type 0} → L → At → Bool → Building L
-seen_of given x over = record {
+abbrev pub seen_of : {L : Type 0} → L → Following → At → Bool → Building L
+seen_of given followed x over = record {
   loader = given;
+  following = followed;
   roots = x.progress.roots;
   limit = x.progress.reaching.limit;
   events = own_events x;
@@ -29,9 +31,9 @@ seen_of given x over = record {
 }
 
 -- until it is finished, the builder can go on
-pub record IsInside (meaning : Meaning) (x : At) (finished : Bool) : Type 0 where
-  pub kept : IsKeptAt meaning x
-  pub live : finished ≡ false → IsLive meaning x
+pub record IsInside (rules : Rules) (x : At) (finished : Bool) : Type 0 where
+  pub kept : IsKeptAt rules x
+  pub live : finished ≡ false → IsLive rules x
 
 -- slots that all have an entry
 abbrev pub all_done : List (Parts × Entry) → List (Parts × Slot)

@@ -1,5 +1,7 @@
 -- ---- what the public contracts rest on
+pub mod Rules
 pub mod Reach
+pub mod Final
 pub mod Graph
 pub mod Entries
 pub mod Events
@@ -16,3 +18,4 @@ pub mod Building
 pub mod Reaching
 pub mod Progress
 pub mod Inside
+pub mod Settling

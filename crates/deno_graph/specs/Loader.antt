@@ -8,7 +8,7 @@ use Rattle.deno_graph.specs.declared.loader.LoaderPoll.TheVariants.{Pending, Ans
 use Rattle.deno_graph.specs.Reach.{Specifier, Log, Answers}
 use Rattle.deno_graph.specs.Events.{Event, Requested, Answered, asked_of, log_of, requests, answers}
 
--- What contracts see of a loader: what befell it; how often nothing had come; how many were asked and answered when nothing
+-- What contracts see of a loader: what happened to it; how often nothing had come; how many were asked and answered when nothing
 -- had come for the last time; how often nothing will come yet while something is asked for, where that is told; the answer
 -- that it will give for a specifier, where that is told; and whether it tells that it answers open requests alone.
 pub record LoaderData : Type 0 where

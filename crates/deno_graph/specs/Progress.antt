@@ -4,8 +4,6 @@ use Rattle.url.specs.Parts.{Parts}
 use Rattle.graph_entry.specs.declared.answer.LoadAnswer.{LoadAnswer}
 use Rattle.graph_entry.specs.declared.entry.Entry.{Entry}
 use Rattle.graph_entry.specs.Specifier.{text_of}
-use Rattle.graph_entry.specs.Entry.{targets}
-use Rattle.graph_entry.specs.Analysed.{Analysed}
 use Rattle.deno_graph.specs.declared.error.BuildError.{BuildError}
 use Rattle.deno_graph.specs.declared.error.BuildError.TheVariants as error
 use Rattle.deno_graph.specs.declared.slot.Slot.TheVariants.{Queued, Asked}
@@ -13,7 +11,8 @@ use Rattle.deno_graph.specs.declared.reaching.GrowError.{GrowError}
 use Rattle.deno_graph.specs.declared.reaching.GrowError.TheVariants as grow
 use Rattle.deno_graph.specs.declared.reaching.Reaching.{Reaching}
 use Rattle.deno_graph.specs.declared.progress.Progress.{Progress}
-use Rattle.deno_graph.specs.Reach.{Specifier, Log, Answers, Meaning, has, IsFunctional}
+use Rattle.deno_graph.specs.Rules.{targets}
+use Rattle.deno_graph.specs.Reach.{Specifier, Log, Answers, Rules, has, IsFunctional}
 use Rattle.deno_graph.specs.Graph.{texts}
 use Rattle.deno_graph.specs.Events.{Event, Requested, Answered, asked_of, log_of, IsOutstanding, IsTimely, requests, answers}
 use Rattle.deno_graph.specs.Loader.{LoaderData, HasRisen, NeverRises, Falls}
@@ -30,7 +29,7 @@ pub record At : Type 0 where
 abbrev pub at : LoaderData → Progress → At
 at loader0 progress0 = record { loader = loader0; progress = progress0 }
 
--- the roots, and what befell the loader since this builder was made: what it asked and was answered
+-- the roots, and what happened to the loader since this builder was made: what it asked and was answered
 abbrev pub starts_at : At → List Specifier
 starts_at x = texts x.progress.roots
 
@@ -54,30 +53,30 @@ abbrev pub todo_at : At → List Specifier
 todo_at x = texts x.progress.reaching.todo
 
 -- what holds at all times
-abbrev pub IsKeptAt : Meaning → At → Type 0
-IsKeptAt meaning x = IsKept meaning (starts_at x) x.loader.events x.loader.told x.progress.asked x.progress.taken
+abbrev pub IsKeptAt : Rules → At → Type 0
+IsKeptAt rules x = IsKept rules (starts_at x) x.loader.events x.loader.told x.progress.asked x.progress.taken
 
 -- the roots are reached once the builder has begun
 abbrev pub IsRooted : At → Type 0
 IsRooted x = x.progress.begun ≡ true → (t : Specifier) → has (starts_at x) t ≡ true → slots_at x t ≡ None → ⊥
 
 -- what holds while the builder goes on
-pub record IsLive (meaning : Meaning) (x : At) : Type 0 where
-  pub kept : IsKeptAt meaning x
+pub record IsLive (rules : Rules) (x : At) : Type 0 where
+  pub kept : IsKeptAt rules x
   pub behind : x.progress.taken ≤ x.progress.asked
   pub counted : x.progress.asked + length x.progress.reaching.todo ≤ length x.progress.reaching.reached.entries
   pub room : length x.progress.reaching.reached.entries ≤ x.progress.reaching.limit
-  pub building : IsBuilding meaning (starts_at x) no_one (own_asked x) (own_log x) (slots_at x) (todo_at x)
+  pub building : IsBuilding rules (starts_at x) no_one (own_asked x) (own_log x) (slots_at x) (todo_at x)
   pub timely : IsTimely (own_events x)
   pub rooted : IsRooted x
 
 -- the same with one specifier in hand, which was taken from the worklist
-pub record IsInHand (meaning : Meaning) (x : At) (s : Specifier) : Type 0 where
-  pub kept : IsKeptAt meaning x
+pub record IsInHand (rules : Rules) (x : At) (s : Specifier) : Type 0 where
+  pub kept : IsKeptAt rules x
   pub behind : x.progress.taken ≤ x.progress.asked
   pub counted : x.progress.asked + length x.progress.reaching.todo + 1 ≤ length x.progress.reaching.reached.entries
   pub room : length x.progress.reaching.reached.entries ≤ x.progress.reaching.limit
-  pub building : IsBuilding meaning (starts_at x) (this_one s) (own_asked x) (own_log x) (slots_at x) (todo_at x)
+  pub building : IsBuilding rules (starts_at x) (this_one s) (own_asked x) (own_log x) (slots_at x) (todo_at x)
   pub queued : slots_at x s ≡ Some Queued
   pub fresh : has (own_asked x) s ≡ false
   pub timely : IsTimely (own_events x)
@@ -110,64 +109,64 @@ pub record OnlyAsks (old new : At) : Type 0 where
   pub standing : new.loader.standing ≡ old.loader.standing
 
 -- the next specifier of the worklist is dealt with, which makes the work less
-pub record IsOneOn (meaning : Meaning) (old new : At) : Type 0 where
-  pub live : IsLive meaning new
+pub record IsOneOn (rules : Rules) (old new : At) : Type 0 where
+  pub live : IsLive rules new
   pub less : length new.progress.reaching.reached.entries + length old.progress.reaching.todo
       ≡ length old.progress.reaching.reached.entries + length new.progress.reaching.todo + 1
 
 -- the roots are reached
-abbrev pub Begins : Meaning → At → At → Result (Unit {0}) GrowError → Type 0
-Begins meaning old new (Ok done) = IsLive meaning new × (new.progress.begun ≡ true)
-Begins meaning old new (Err (grow.TooMany seen)) =
-    IsTooMany meaning (starts_at old) (own_log old) old.progress.reaching.limit seen
-Begins meaning old new (Err grow.OutOfMemory) = Unit {0}
+abbrev pub Begins : Rules → At → At → Result (Unit {0}) GrowError → Type 0
+Begins rules old new (Ok done) = IsLive rules new × (new.progress.begun ≡ true)
+Begins rules old new (Err (grow.TooMany seen)) =
+    IsTooMany rules (starts_at old) (own_log old) old.progress.reaching.limit seen
+Begins rules old new (Err grow.OutOfMemory) = Unit {0}
 
 -- one specifier is in hand, and then it is dealt with
-abbrev pub Deals : Meaning → At → At → Result (Unit {0}) GrowError → Type 0
-Deals meaning old new (Ok done) = IsLive meaning new
+abbrev pub Deals : Rules → At → At → Result (Unit {0}) GrowError → Type 0
+Deals rules old new (Ok done) = IsLive rules new
     × (length new.progress.reaching.reached.entries + length old.progress.reaching.todo
     ≡ length old.progress.reaching.reached.entries + length new.progress.reaching.todo)
-Deals meaning old new (Err (grow.TooMany seen)) =
-    IsTooMany meaning (starts_at old) (own_log old) old.progress.reaching.limit seen
-Deals meaning old new (Err grow.OutOfMemory) = Unit {0}
+Deals rules old new (Err (grow.TooMany seen)) =
+    IsTooMany rules (starts_at old) (own_log old) old.progress.reaching.limit seen
+Deals rules old new (Err grow.OutOfMemory) = Unit {0}
 
 -- the worklist has a next specifier or is empty
-abbrev pub AsksNext : Meaning → At → At → Result Bool GrowError → Type 0
-AsksNext meaning old new (Ok true) = IsOneOn meaning old new
-AsksNext meaning old new (Ok false) = IsLive meaning new × (new.progress.reaching.todo ≡ [])
-AsksNext meaning old new (Err (grow.TooMany seen)) =
-    IsTooMany meaning (starts_at old) (own_log old) old.progress.reaching.limit seen
-AsksNext meaning old new (Err grow.OutOfMemory) = Unit {0}
+abbrev pub AsksNext : Rules → At → At → Result Bool GrowError → Type 0
+AsksNext rules old new (Ok true) = IsOneOn rules old new
+AsksNext rules old new (Ok false) = IsLive rules new × (new.progress.reaching.todo ≡ [])
+AsksNext rules old new (Err (grow.TooMany seen)) =
+    IsTooMany rules (starts_at old) (own_log old) old.progress.reaching.limit seen
+AsksNext rules old new (Err grow.OutOfMemory) = Unit {0}
 
 -- the worklist is empty
-abbrev pub AsksAll : Meaning → At → At → Result (Unit {0}) GrowError → Type 0
-AsksAll meaning old new (Ok done) = IsLive meaning new × (new.progress.reaching.todo ≡ [])
-AsksAll meaning old new (Err (grow.TooMany seen)) =
-    IsTooMany meaning (starts_at old) (own_log old) old.progress.reaching.limit seen
-AsksAll meaning old new (Err grow.OutOfMemory) = Unit {0}
+abbrev pub AsksAll : Rules → At → At → Result (Unit {0}) GrowError → Type 0
+AsksAll rules old new (Ok done) = IsLive rules new × (new.progress.reaching.todo ≡ [])
+AsksAll rules old new (Err (grow.TooMany seen)) =
+    IsTooMany rules (starts_at old) (own_log old) old.progress.reaching.limit seen
+AsksAll rules old new (Err grow.OutOfMemory) = Unit {0}
 
 -- a specifier that no loader is asked for has its entry
-abbrev pub FillsUnasked : Specifier → Reaching → Reaching → Result (Unit {0}) GrowError → Type 0
-FillsUnasked s old new (Ok done) = (entry : Entry) × Analysed s None entry × IsFilled s entry old new
-FillsUnasked s old new (Err (grow.TooMany seen)) =
-    (entry : Entry) × Analysed s None entry × IsOverfull (targets entry) (slots_of old) old.limit seen
-FillsUnasked s old new (Err grow.OutOfMemory) = Unit {0}
+abbrev pub FillsUnasked : Rules → Specifier → Reaching → Reaching → Result (Unit {0}) GrowError → Type 0
+FillsUnasked rules s old new (Ok done) = (entry : Entry) × rules.means s None entry × IsFilled rules s entry old new
+FillsUnasked rules s old new (Err (grow.TooMany seen)) =
+    (entry : Entry) × rules.means s None entry × IsOverfull (targets rules entry) (slots_of old) old.limit seen
+FillsUnasked rules s old new (Err grow.OutOfMemory) = Unit {0}
 
 -- an answer for a specifier that waits becomes its entry
-abbrev pub Takes : Parts → LoadAnswer → Reaching → Reaching → Result (Unit {0}) BuildError → Type 0
-Takes url answer old new (Ok done) = (slots_of old (text_of url) ≡ Some Asked)
-    × ((entry : Entry) × Analysed (text_of url) (Some answer) entry × IsFilled (text_of url) entry old new)
-Takes url answer old new (Err (error.TooManyModules seen)) = (slots_of old (text_of url) ≡ Some Asked)
-    × ((entry : Entry) × Analysed (text_of url) (Some answer) entry × IsOverfull (targets entry) (slots_of old) old.limit seen)
-Takes url answer old new (Err (error.UnaskedAnswer other)) =
+abbrev pub Takes : Rules → Parts → LoadAnswer → Reaching → Reaching → Result (Unit {0}) BuildError → Type 0
+Takes rules url answer old new (Ok done) = (slots_of old (text_of url) ≡ Some Asked)
+    × ((entry : Entry) × rules.means (text_of url) (Some answer) entry × IsFilled rules (text_of url) entry old new)
+Takes rules url answer old new (Err (error.TooManyModules seen)) = (slots_of old (text_of url) ≡ Some Asked)
+    × ((entry : Entry) × rules.means (text_of url) (Some answer) entry × IsOverfull (targets rules entry) (slots_of old) old.limit seen)
+Takes rules url answer old new (Err (error.UnaskedAnswer other)) =
     (other ≡ url) × (slots_of old (text_of url) ≡ Some Asked → ⊥)
-Takes url answer old new (Err error.OutOfMemory) = slots_of old (text_of url) ≡ Some Asked
-Takes url answer old new (Err error.NotYet) = ⊥
-Takes url answer old new (Err error.Finished) = ⊥
+Takes rules url answer old new (Err error.OutOfMemory) = slots_of old (text_of url) ≡ Some Asked
+Takes rules url answer old new (Err error.NotYet) = ⊥
+Takes rules url answer old new (Err error.Finished) = ⊥
 
 -- the builder waits for its loader
-pub record IsPaused (meaning : Meaning) (old new : At) : Type 0 where
-  pub live : IsLive meaning new
+pub record IsPaused (rules : Rules) (old new : At) : Type 0 where
+  pub live : IsLive rules new
   pub asked_all : new.progress.reaching.todo ≡ []
   pub begun : new.progress.begun ≡ true
   pub open_yet : new.progress.taken < new.progress.asked
@@ -176,46 +175,46 @@ pub record IsPaused (meaning : Meaning) (old new : At) : Type 0 where
   pub patience : length (log_of new.loader.events) < length (asked_of new.loader.events) → Falls old.loader.patience new.loader.patience
 
 -- the last answer wasn't awaited
-pub record IsUnasked (meaning : Meaning) (old new : At) (s : Specifier) : Type 0 where
+pub record IsUnasked (rules : Rules) (old new : At) (s : Specifier) : Type 0 where
   pub before : List Event
   pub answer : LoadAnswer
   pub last : own_events new ≡ before ++ Answered s answer ∷ []
   pub goes_on : (more : List Event) × (before ≡ own_events old ++ more)
-  pub orderly : IsOrderly meaning (starts_at old) (log_of before)
+  pub orderly : IsOrderly rules (starts_at old) (log_of before)
   pub outstanding : SomeOutstanding (own_asked new) (log_of before)
   pub settled : IsOutstanding (own_asked new) (log_of before) s → ⊥
-  pub unawaited : IsFunctional meaning → IsUnawaitedOver meaning 1 (starts_at old) (log_of before) s
+  pub unawaited : IsFunctional rules → IsUnawaitedOver rules 1 (starts_at old) (log_of before) s
   pub pending : new.loader.pending ≡ old.loader.pending
   -- and a loader that answers open requests alone had one
   pub fair : old.loader.fair ≡ true
       → answers (before_last (own_count new) new.loader.events ++ before) s < requests (before_last (own_count new) new.loader.events ++ before) s
 
 -- all is asked for and answered
-pub record IsThrough (meaning : Meaning) (old new : At) : Type 0 where
-  pub live : IsLive meaning new
+pub record IsThrough (rules : Rules) (old new : At) : Type 0 where
+  pub live : IsLive rules new
   pub asked_all : new.progress.reaching.todo ≡ []
   pub begun : new.progress.begun ≡ true
   pub all_taken : new.progress.taken ≡ new.progress.asked
   pub pending : new.loader.pending ≡ old.loader.pending
 
 -- why a run ends
-abbrev pub Runs : Meaning → At → At → Result (Unit {0}) BuildError → Type 0
-Runs meaning old new (Ok done) = IsThrough meaning old new
-Runs meaning old new (Err error.NotYet) = IsPaused meaning old new
-Runs meaning old new (Err (error.TooManyModules seen)) =
-    IsTooMany meaning (starts_at old) (own_log new) old.progress.reaching.limit seen
-Runs meaning old new (Err (error.UnaskedAnswer url)) = IsUnasked meaning old new (text_of url)
-Runs meaning old new (Err error.Finished) = ⊥
-Runs meaning old new (Err error.OutOfMemory) = Unit {0}
+abbrev pub Runs : Rules → At → At → Result (Unit {0}) BuildError → Type 0
+Runs rules old new (Ok done) = IsThrough rules old new
+Runs rules old new (Err error.NotYet) = IsPaused rules old new
+Runs rules old new (Err (error.TooManyModules seen)) =
+    IsTooMany rules (starts_at old) (own_log new) old.progress.reaching.limit seen
+Runs rules old new (Err (error.UnaskedAnswer url)) = IsUnasked rules old new (text_of url)
+Runs rules old new (Err error.Finished) = ⊥
+Runs rules old new (Err error.OutOfMemory) = Unit {0}
 
 -- one turn of a run: it is through, or it goes on with one answer more
-abbrev pub Turns : Meaning → At → At → Result Bool BuildError → Type 0
-Turns meaning old new (Ok true) = IsLive meaning new × (new.progress.begun ≡ true)
+abbrev pub Turns : Rules → At → At → Result Bool BuildError → Type 0
+Turns rules old new (Ok true) = IsLive rules new × (new.progress.begun ≡ true)
     × (new.progress.taken ≡ old.progress.taken + 1) × (new.loader.pending ≡ old.loader.pending)
-Turns meaning old new (Ok false) = IsThrough meaning old new
-Turns meaning old new (Err error.NotYet) = IsPaused meaning old new
-Turns meaning old new (Err (error.TooManyModules seen)) =
-    IsTooMany meaning (starts_at old) (own_log new) old.progress.reaching.limit seen
-Turns meaning old new (Err (error.UnaskedAnswer url)) = IsUnasked meaning old new (text_of url)
-Turns meaning old new (Err error.Finished) = ⊥
-Turns meaning old new (Err error.OutOfMemory) = Unit {0}
+Turns rules old new (Ok false) = IsThrough rules old new
+Turns rules old new (Err error.NotYet) = IsPaused rules old new
+Turns rules old new (Err (error.TooManyModules seen)) =
+    IsTooMany rules (starts_at old) (own_log new) old.progress.reaching.limit seen
+Turns rules old new (Err (error.UnaskedAnswer url)) = IsUnasked rules old new (text_of url)
+Turns rules old new (Err error.Finished) = ⊥
+Turns rules old new (Err error.OutOfMemory) = Unit {0}

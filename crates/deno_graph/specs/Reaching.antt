@@ -4,10 +4,10 @@ use Rattle.deno_graph.specs.declared.reaching.Reaching.{Reaching}
 use Rattle.deno_graph.specs.declared.reaching.GrowError.{GrowError}
 use Rattle.deno_graph.specs.declared.reaching.GrowError.TheVariants.{TooMany, OutOfMemory}
 use Rattle.graph_entry.specs.declared.entry.Entry.{Entry}
-use Rattle.graph_entry.specs.Entry.{targets}
 use Rattle.deno_graph.specs.declared.slot.Slot.{Slot}
 use Rattle.deno_graph.specs.declared.slot.Slot.TheVariants.{Done}
 use Rattle.deno_graph.specs.Building.{IsWritten}
+use Rattle.deno_graph.specs.Rules.{Rules, targets}
 use Rattle.deno_graph.specs.Reach.{Specifier}
 use Rattle.deno_graph.specs.Graph.{texts}
 use Rattle.deno_graph.specs.ByText.{value_at}
@@ -36,15 +36,15 @@ pub record IsMarked (s : Specifier) (x : Slot) (old new : Reaching) : Type 0 whe
   pub counted : length new.reached.entries ≡ length old.reached.entries
 
 -- what an entry leads to is reached, and then the entry is there
-pub record IsFilled (s : Specifier) (entry : Entry) (old new : Reaching) : Type 0 where
+pub record IsFilled (rules : Rules) (s : Specifier) (entry : Entry) (old new : Reaching) : Type 0 where
   pub between : Slots
-  pub grown : HasGrown (targets entry) (slots_of old) between (texts old.todo) (texts new.todo)
+  pub grown : HasGrown (targets rules entry) (slots_of old) between (texts old.todo) (texts new.todo)
   pub written : IsWritten between (slots_of new) s (Done entry)
   pub counted : length new.reached.entries + length old.todo ≡ length old.reached.entries + length new.todo
   pub room : length new.reached.entries ≤ new.limit
 
 -- an entry is there, or it leads to too much
-abbrev pub Fills : Specifier → Entry → Reaching → Reaching → Result (Unit {0}) GrowError → Type 0
-Fills s entry old new (Ok done) = IsFilled s entry old new
-Fills s entry old new (Err (TooMany seen)) = IsOverfull (targets entry) (slots_of old) old.limit seen
-Fills s entry old new (Err OutOfMemory) = Unit {0}
+abbrev pub Fills : Rules → Specifier → Entry → Reaching → Reaching → Result (Unit {0}) GrowError → Type 0
+Fills rules s entry old new (Ok done) = IsFilled rules s entry old new
+Fills rules s entry old new (Err (TooMany seen)) = IsOverfull (targets rules entry) (slots_of old) old.limit seen
+Fills rules s entry old new (Err OutOfMemory) = Unit {0}

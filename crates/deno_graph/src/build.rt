@@ -2,13 +2,13 @@
 ghost use Rattle.std.specs.Prelude.{◌≡◌, ◌≤◌, ℕ, [], true, false, ◌↔◌, length, IfOk, OnOk, Err};
 ghost use Rattle.url.specs.Parts.{Parts};
 ghost use Rattle.graph_entry.specs.Specifier.{text_of};
-ghost use Rattle.graph_entry.specs.Analysed.{Analysed};
 ghost use Rattle.deno_graph.specs.Reach.{answer_to};
 ghost use Rattle.deno_graph.specs.Graph.{IsGraph, EachEdgeCuts};
-ghost use Rattle.deno_graph.specs.Builder.{starts, new_building, IsOrderly, IsAsking, IsAskedFor, EachAnswered, IsToldLog, HasHistory, IsNotYet, IsUnawaited, IsTooMany, IsComplete, IsFairly, CameInTime, OnlyPlain};
+ghost use Rattle.deno_graph.specs.Builder.{graph_rules, starts, new_building, IsOrderly, IsAsking, IsAskedFor, EachAnswered, IsToldLog, HasHistory, IsNotYet, IsUnawaited, IsTooMany, IsComplete, IsFairly, CameInTime, OnlyPlain};
 
 use crate::error::BuildError;
 use crate::finish::finish;
+use crate::following::Following;
 use crate::graph::ModuleGraph;
 use crate::loader::Loader;
 use crate::options::BuildOptions;
@@ -31,21 +31,22 @@ pub struct GraphBuild<L: Loader + Drop> {
 struct Inner<L: Loader + Drop> {
     alloc: Global,
     loader: L,
+    following: Following,
     progress: Progress,
     finished: bool,
 }
 
 impl<L: Loader + Drop> Model for Inner<L> {
-    ghost use Rattle.graph_entry.specs.Analysed.{Analysed};
+    ghost use Rattle.deno_graph.specs.Rules.{rules_of};
     ghost use Rattle.deno_graph.specs.Builder.{Building};
     ghost use Rattle.deno_graph.specs.Progress.{at};
     ghost use Rattle.deno_graph.specs.Inside.{IsInside, seen_of};
 
     ghost Value = { Building L };
 
-    ghost view = { λ b. seen_of b.loader (at (L.seen b.loader) b.progress) b.finished };
+    ghost view = { λ b. seen_of b.loader b.following (at (L.seen b.loader) b.progress) b.finished };
 
-    ghost invariant = { λ b. IsInside Analysed (at (L.seen b.loader) b.progress) b.finished };
+    ghost invariant = { λ b. IsInside (rules_of b.following) (at (L.seen b.loader) b.progress) b.finished };
 }
 
 impl<L: Loader + Drop> GraphBuild<L> {
@@ -57,18 +58,22 @@ impl<L: Loader + Drop> GraphBuild<L> {
         loader: L,
     ) -> Result<GraphBuild<L>, AllocError>
         requires { OnlyPlain options }
-        ensures { IfOk result (λ b. b.inner ≡ new_building roots options.limit loader (L.seen loader)) }
+        ensures { IfOk result (λ b. b.inner ≡ new_building roots options loader (L.seen loader)) }
     {
         let BuildOptions {
-            kind: _,
+            kind,
             limit,
-            skip_dynamic_deps: _,
+            skip_dynamic_deps,
             imports: _,
         } = options;
         Ok(GraphBuild {
             inner: Inner {
                 alloc,
                 loader,
+                following: Following {
+                    kind,
+                    skip_dynamic_deps,
+                },
                 progress: Progress {
                     roots,
                     reaching: Reaching::new(alloc, limit),
@@ -86,33 +91,33 @@ impl<L: Loader + Drop> GraphBuild<L> {
     pub fn poll(&mut self) -> Result<ModuleGraph, BuildError>
         // The graph is that of the roots and the answers.
         ensures graph { IfOk result (λ g.
-            IsGraph Analysed (starts self.old.inner) (answer_to self.new.inner.log) g.entries) }
+            IsGraph (graph_rules self.old.inner) (starts self.old.inner) (answer_to self.new.inner.log) g.entries) }
         ensures cuts { IfOk result (λ g. EachEdgeCuts g.entries) }
         ensures roots { IfOk result (λ g. g.roots ≡ self.old.inner.roots) }
         // Each answer was awaited when it came; what was asked is what the graph needs, and is answered.
-        ensures orderly { OnOk result (IsOrderly Analysed (starts self.old.inner) self.new.inner.log) }
+        ensures orderly { OnOk result (IsOrderly (graph_rules self.old.inner) (starts self.old.inner) self.new.inner.log) }
         ensures asked { OnOk result
-            (IsAskedFor Analysed (starts self.old.inner) self.new.inner.asked self.new.inner.log) }
+            (IsAskedFor (graph_rules self.old.inner) (starts self.old.inner) self.new.inner.asked self.new.inner.log) }
         ensures answered { OnOk result (EachAnswered self.new.inner.asked self.new.inner.log) }
         ensures limit { IfOk result (λ g. length g.entries ≤ self.old.inner.limit) }
         ensures pending { OnOk result (self.new.inner.pending ≡ self.old.inner.pending) }
         // Why there is no graph.
         ensures not_yet { result ≡ Err BuildError.NotYet →
-            IsNotYet Analysed self.old.inner self.new.inner }
+            IsNotYet (graph_rules self.old.inner) self.old.inner self.new.inner }
         ensures unasked { (s : Parts) → result ≡ Err (BuildError.UnaskedAnswer s) →
-            IsUnawaited Analysed 1 self.old.inner self.new.inner (text_of s) }
+            IsUnawaited (graph_rules self.old.inner) 1 self.old.inner self.new.inner (text_of s) }
         ensures unasked_pending { (s : Parts) → result ≡ Err (BuildError.UnaskedAnswer s) →
             self.new.inner.pending ≡ self.old.inner.pending }
         ensures too_many { (seen : ℕ) → result ≡ Err (BuildError.TooManyModules seen) →
-            IsTooMany Analysed (starts self.old.inner) self.new.inner.log self.old.inner.limit seen }
+            IsTooMany (graph_rules self.old.inner) (starts self.old.inner) self.new.inner.log self.old.inner.limit seen }
         ensures finished { (result ≡ Err BuildError.Finished) ↔ (self.old.inner.finished ≡ true) }
         // And when there is one, unless memory runs out.
-        ensures complete { IsComplete Analysed self.old.inner self.new.inner result }
+        ensures complete { IsComplete (graph_rules self.old.inner) self.old.inner self.new.inner result }
         // No answer is unasked of a loader that answers open requests alone.
         ensures fair { IsFairly (L.seen self.old.inner.loader) self.old.inner result }
         // On every answer.
-        ensures in_time { CameInTime Analysed (starts self.old.inner) self.new.inner.events result }
-        ensures asking { IsAsking Analysed (starts self.old.inner) self.new.inner.asked self.new.inner.log }
+        ensures in_time { CameInTime (graph_rules self.old.inner) (starts self.old.inner) self.new.inner.events result }
+        ensures asking { IsAsking (graph_rules self.old.inner) (starts self.old.inner) self.new.inner.asked self.new.inner.log }
         ensures told { IsToldLog ((L.seen self.new.inner.loader).told) self.new.inner.log }
         ensures telling { (L.seen self.new.inner.loader).told ≡ (L.seen self.old.inner.loader).told }
         ensures stays_fair { (L.seen self.old.inner.loader).fair ≡ true →
@@ -139,6 +144,7 @@ impl<L: Loader + Drop> GraphBuild<L> {
         let Inner {
             alloc: _,
             loader,
+            following: _,
             progress: _,
             finished: _,
         } = inner;
@@ -149,27 +155,27 @@ impl<L: Loader + Drop> GraphBuild<L> {
 impl<L: Loader + Drop> Inner<L> {
     fn poll(&mut self) -> Result<ModuleGraph, BuildError>
         ensures graph { IfOk result (λ g.
-            IsGraph Analysed (starts self.old) (answer_to self.new.log) g.entries) }
+            IsGraph (graph_rules self.old) (starts self.old) (answer_to self.new.log) g.entries) }
         ensures roots { IfOk result (λ g. g.roots ≡ self.old.roots) }
-        ensures orderly { OnOk result (IsOrderly Analysed (starts self.old) self.new.log) }
+        ensures orderly { OnOk result (IsOrderly (graph_rules self.old) (starts self.old) self.new.log) }
         ensures asked { OnOk result
-            (IsAskedFor Analysed (starts self.old) self.new.asked self.new.log) }
+            (IsAskedFor (graph_rules self.old) (starts self.old) self.new.asked self.new.log) }
         ensures answered { OnOk result (EachAnswered self.new.asked self.new.log) }
         ensures limit { IfOk result (λ g. length g.entries ≤ self.old.limit) }
         ensures pending { OnOk result (self.new.pending ≡ self.old.pending) }
         ensures not_yet { result ≡ Err BuildError.NotYet →
-            IsNotYet Analysed self.old self.new }
+            IsNotYet (graph_rules self.old) self.old self.new }
         ensures unasked { (s : Parts) → result ≡ Err (BuildError.UnaskedAnswer s) →
-            IsUnawaited Analysed 1 self.old self.new (text_of s) }
+            IsUnawaited (graph_rules self.old) 1 self.old self.new (text_of s) }
         ensures unasked_pending { (s : Parts) → result ≡ Err (BuildError.UnaskedAnswer s) →
             self.new.pending ≡ self.old.pending }
         ensures too_many { (seen : ℕ) → result ≡ Err (BuildError.TooManyModules seen) →
-            IsTooMany Analysed (starts self.old) self.new.log self.old.limit seen }
+            IsTooMany (graph_rules self.old) (starts self.old) self.new.log self.old.limit seen }
         ensures finished { (result ≡ Err BuildError.Finished) ↔ (self.old.finished ≡ true) }
-        ensures complete { IsComplete Analysed self.old self.new result }
+        ensures complete { IsComplete (graph_rules self.old) self.old self.new result }
         ensures fair { IsFairly (L.seen self.old.loader) self.old result }
-        ensures in_time { CameInTime Analysed (starts self.old) self.new.events result }
-        ensures asking { IsAsking Analysed (starts self.old) self.new.asked self.new.log }
+        ensures in_time { CameInTime (graph_rules self.old) (starts self.old) self.new.events result }
+        ensures asking { IsAsking (graph_rules self.old) (starts self.old) self.new.asked self.new.log }
         ensures told { IsToldLog ((L.seen self.new.loader).told) self.new.log }
         ensures telling { (L.seen self.new.loader).told ≡ (L.seen self.old.loader).told }
         ensures stays_fair { (L.seen self.old.loader).fair ≡ true → (L.seen self.new.loader).fair ≡ true }
@@ -181,10 +187,14 @@ impl<L: Loader + Drop> Inner<L> {
             return Err(BuildError::Finished);
         }
         self.finished = true;
-        match self.progress.run(self.alloc, &mut self.loader) {
+        match self
+            .progress
+            .run(self.alloc, self.following, &mut self.loader)
+        {
             Ok(()) => {
                 match finish(
                     self.alloc,
+                    self.following,
                     self.progress.roots.as_slice(),
                     &mut self.progress.reaching.reached,
                 ) {

@@ -5,9 +5,13 @@ ghost use Rattle.std.specs.List.Sorted.{IsStrictlySortedBy};
 ghost use Rattle.std.specs.Ordering.{nat_cmp};
 ghost use Rattle.std.specs.Cmp.Lexicographic.{slice_cmp};
 ghost use Rattle.url.specs.Parts.{serialize};
+ghost use Rattle.deno_graph.specs.Rules.{rules_of};
 ghost use Rattle.deno_graph.specs.Inside.{all_done, AreDone, HaveEntries};
+ghost use Rattle.deno_graph.specs.Settling.{AreSettled};
 
+use crate::following::Following;
 use crate::graph::ModuleGraph;
+use crate::settle::settle;
 use crate::slot::Slot;
 use base::Items;
 use graph_entry::Entry;
@@ -19,12 +23,13 @@ use url::Url;
 /// The graph of these roots and of what was reached, which is taken out.
 pub fn finish(
     alloc: Global,
+    following: Following,
     roots: &[Url],
     reached: &mut BTreeMap<Url, Slot>,
 ) -> Result<ModuleGraph, AllocError>
     requires { HaveEntries reached.old.entries }
     ensures roots { IfOk result (λ g. g.roots ≡ roots.now) }
-    ensures entries { IfOk result (λ g. reached.old.entries ≡ all_done g.entries) }
+    ensures entries { IfOk result (λ g. AreSettled (rules_of following) reached.old.entries g.entries) }
     ensures ordered { OnOk result (IsStrictlySortedBy
         (λ a b. slice_cmp nat_cmp (serialize a) (serialize b)) (keys_of reached.old.entries)) }
 {
@@ -32,7 +37,8 @@ pub fn finish(
     // The proof learns from it that the map is in order.
     let _count = reached.len();
     let taken = mem::replace(reached, BTreeMap::new(alloc));
-    let entries = entries_of(alloc, taken)?;
+    let firsts = entries_of(alloc, taken)?;
+    let entries = settle(alloc, following, firsts)?;
     Ok(ModuleGraph::new(roots, entries))
 }
 

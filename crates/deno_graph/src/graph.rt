@@ -1,14 +1,14 @@
 //! The finished graph.
-ghost use Rattle.std.specs.Prelude.{◌≡◌, IfOk};
+ghost use Rattle.std.specs.Prelude.{◌≡◌, IfOk, option_map};
 ghost use Rattle.std.specs.Option.{option_copied};
 ghost use Rattle.std.specs.Ordering.{nat_cmp};
 ghost use Rattle.std.specs.Cmp.Lexicographic.{slice_cmp};
 ghost use Rattle.graph_entry.specs.Specifier.{text_of};
-ghost use Rattle.deno_graph.specs.Graph.{entry_of, IsAscending};
+ghost use Rattle.deno_graph.specs.Graph.{entry_of, redirected, resolved, module_at, IsAscending};
 ghost use Rattle.deno_graph.specs.Entries.{entries_left};
 
 use base::Items;
-use graph_entry::Entry;
+use graph_entry::{Entry, Module};
 use std::alloc::AllocError;
 use std::cmp::Ordering;
 use std::marker::Model;
@@ -55,6 +55,20 @@ impl ModuleGraph {
         entry_in(self.entries.as_slice(), specifier)
     }
 
+    /// Where the redirects from a specifier lead: the specifier itself, if it has none.
+    pub fn resolve<'a>(&'a self, specifier: &'a Url) -> &'a Url
+        ensures { text_of result.now ≡ resolved self.now.entries (text_of specifier.now) }
+    {
+        resolve_in(self.entries.as_slice(), specifier)
+    }
+
+    /// The module there, if there is one.
+    pub fn get(&self, specifier: &Url) -> Option<&Module>
+        ensures { option_copied result ≡ module_at self.now.entries (text_of specifier.now) }
+    {
+        module_in(self.entries.as_slice(), specifier)
+    }
+
     /// All entries, by the bytes of their specifiers.
     pub fn entries(&self) -> Result<Entries<'_>, AllocError>
         ensures { IfOk result (λ it. entries_left it ≡ self.now.entries) }
@@ -65,8 +79,9 @@ impl ModuleGraph {
     }
 }
 
+/// The entry of a specifier, among entries by the bytes of their specifiers.
 // Narrows the places where the specifier can be, by halves.
-fn entry_in<'a>(entries: &'a [(Url, Entry)], specifier: &Url) -> Option<&'a Entry>
+pub fn entry_in<'a>(entries: &'a [(Url, Entry)], specifier: &Url) -> Option<&'a Entry>
     requires { IsAscending entries.now }
     ensures { option_copied result ≡ entry_of entries.now (text_of specifier.now) }
 {
@@ -81,6 +96,43 @@ fn entry_in<'a>(entries: &'a [(Url, Entry)], specifier: &Url) -> Option<&'a Entr
         }
     }
     None
+}
+
+/// Where the entry of a specifier redirects to, if it does.
+pub fn redirect_in<'a>(entries: &'a [(Url, Entry)], specifier: &Url) -> Option<&'a Url>
+    requires { IsAscending entries.now }
+    ensures { option_map text_of (option_copied result) ≡ redirected entries.now (text_of specifier.now) }
+{
+    match entry_in(entries, specifier)? {
+        Entry::Redirect(target) => Some(target),
+        Entry::Module(_) | Entry::Package(_) | Entry::External | Entry::Error(_) => None,
+    }
+}
+
+// Where the redirects from a specifier lead.
+fn resolve_in<'a>(entries: &'a [(Url, Entry)], specifier: &'a Url) -> &'a Url
+    requires { IsAscending entries.now }
+    ensures { text_of result.now ≡ resolved entries.now (text_of specifier.now) }
+{
+    let mut at = specifier;
+    for _ in 0..10_u32 {
+        match redirect_in(entries, at) {
+            Some(next) => at = next,
+            None => return at,
+        }
+    }
+    at
+}
+
+/// The module that a specifier leads to.
+pub fn module_in<'a>(entries: &'a [(Url, Entry)], specifier: &Url) -> Option<&'a Module>
+    requires { IsAscending entries.now }
+    ensures { option_copied result ≡ module_at entries.now (text_of specifier.now) }
+{
+    match entry_in(entries, resolve_in(entries, specifier))? {
+        Entry::Module(found) => Some(found),
+        Entry::Redirect(_) | Entry::Package(_) | Entry::External | Entry::Error(_) => None,
+    }
 }
 
 // By their texts.

@@ -13,12 +13,14 @@ mod build;
 mod by_text;
 mod error;
 mod finish;
+mod following;
 mod graph;
 mod loader;
 mod memory_loader;
 mod options;
 mod progress;
 mod reaching;
+mod settle;
 mod slot;
 
 pub use build::GraphBuild;

@@ -2,8 +2,8 @@
 ghost use Rattle.std.specs.Prelude.{◌↔◌, IsTrue, Some, IsSome, ◌≡◌, ◌+◌, ◌≤◌, ℕ, [], ◌∷◌, length, OnOk, Err, option_to_list};
 ghost use Rattle.std.specs.List.{filter_map};
 ghost use Rattle.graph_entry.specs.Specifier.{text_of};
-ghost use Rattle.graph_entry.specs.Entry.{target_of, targets};
 ghost use Rattle.deno_graph.specs.declared.slot.Slot.TheVariants.{Asked};
+ghost use Rattle.deno_graph.specs.Rules.{edges_of, led_to, targets, has_types, is_followed, rules_of};
 ghost use Rattle.deno_graph.specs.Graph.{texts};
 ghost use Rattle.deno_graph.specs.ByText.{value_at};
 ghost use Rattle.deno_graph.specs.Slots.{HasGrown, IsOverfull};
@@ -12,6 +12,7 @@ ghost use Rattle.deno_graph.specs.Progress.{FillsUnasked, Takes};
 
 use crate::by_text::{find, has, put};
 use crate::error::BuildError;
+use crate::following::Following;
 use crate::slot::Slot;
 use base::Items;
 use graph_entry::{Dependency, Entry, LoadAnswer, Module, analyse, analyse_unasked};
@@ -93,34 +94,51 @@ impl Reaching {
     }
 
     /// Reaches what an entry leads to.
-    #[tactic(auto, unfolding(graph_entry::specs::Entry::targets))]
-    pub fn reach_targets(&mut self, entry: &Entry) -> Result<(), GrowError>
+    #[tactic(auto, unfolding(crate::specs::Rules::targets))]
+    pub fn reach_targets(&mut self, following: Following, entry: &Entry) -> Result<(), GrowError>
         requires room { length self.old.reached.entries ≤ self.old.limit }
-        ensures grows { Grows (targets entry.now) self.old self.new result }
+        ensures grows { Grows (targets (rules_of following) entry.now) self.old self.new result }
         ensures limit { self.new.limit ≡ self.old.limit }
     {
         match entry {
-            Entry::Module(Module::Js(module)) => {
-                self.reach_dependencies(module.dependencies.as_slice())
-            }
-            Entry::Module(Module::Wasm(module)) => {
-                self.reach_dependencies(module.dependencies.as_slice())
-            }
-            Entry::Module(Module::Json(_))
-            | Entry::Redirect(_)
-            | Entry::Package(_)
-            | Entry::External
-            | Entry::Error(_) => Ok(()),
+            Entry::Redirect(target) => self.reach(target),
+            Entry::Module(importer) => self.reach_edges(following, importer),
+            Entry::Package(_) | Entry::External | Entry::Error(_) => Ok(()),
         }
     }
 
-    fn reach_dependencies(&mut self, dependencies: &[Dependency]) -> Result<(), GrowError>
+    // Reaches the targets of the followed edges of a module.
+    fn reach_edges(&mut self, following: Following, importer: &Module) -> Result<(), GrowError>
         requires room { length self.old.reached.entries ≤ self.old.limit }
-        ensures grows { Grows (filter_map target_of dependencies.now) self.old self.new result }
+        ensures grows { Grows (filter_map (led_to (is_followed following (has_types importer.now)))
+            (edges_of importer.now)) self.old self.new result }
+        ensures limit { self.new.limit ≡ self.old.limit }
+    {
+        match importer {
+            Module::Js(source) => {
+                let typed = source.media_type.is_typed();
+                self.reach_dependencies(following, typed, source.dependencies.as_slice())
+            }
+            Module::Wasm(binary) => {
+                self.reach_dependencies(following, false, binary.dependencies.as_slice())
+            }
+            Module::Json(_) => Ok(()),
+        }
+    }
+
+    // Reaches the targets of edges of a module with types, or without.
+    fn reach_dependencies(
+        &mut self,
+        following: Following,
+        typed: bool,
+        dependencies: &[Dependency],
+    ) -> Result<(), GrowError>
+        requires room { length self.old.reached.entries ≤ self.old.limit }
+        ensures grows { Grows (filter_map (led_to (is_followed following typed)) dependencies.now) self.old self.new result }
         ensures limit { self.new.limit ≡ self.old.limit }
     {
         for dependency in dependencies {
-            match self.reach_dependency(dependency) {
+            match self.reach_dependency(following, typed, dependency) {
                 Ok(()) => {}
                 Err(error) => return Err(error),
             }
@@ -128,11 +146,19 @@ impl Reaching {
         Ok(())
     }
 
-    fn reach_dependency(&mut self, dependency: &Dependency) -> Result<(), GrowError>
+    fn reach_dependency(
+        &mut self,
+        following: Following,
+        typed: bool,
+        dependency: &Dependency,
+    ) -> Result<(), GrowError>
         requires room { length self.old.reached.entries ≤ self.old.limit }
-        ensures grows { Grows (option_to_list (target_of dependency.now)) self.old self.new result }
+        ensures grows { Grows (option_to_list (led_to (is_followed following typed) dependency.now)) self.old self.new result }
         ensures limit { self.new.limit ≡ self.old.limit }
     {
+        if !following.is_followed(typed, dependency) {
+            return Ok(());
+        }
         match &dependency.resolution {
             Ok(target) => self.reach(target),
             Err(_) => Ok(()),
@@ -149,13 +175,13 @@ impl Reaching {
     }
 
     /// The specifier has this entry: what the entry leads to is reached.
-    pub fn fill(&mut self, url: Url, entry: Entry) -> Result<(), GrowError>
+    pub fn fill(&mut self, following: Following, url: Url, entry: Entry) -> Result<(), GrowError>
         requires room { length self.old.reached.entries ≤ self.old.limit }
         requires there { IsSome (value_at self.old.reached.entries (text_of url)) }
-        ensures fills { Fills (text_of url) entry self.old self.new result }
+        ensures fills { Fills (rules_of following) (text_of url) entry self.old self.new result }
         ensures limit { self.new.limit ≡ self.old.limit }
     {
-        match self.reach_targets(&entry) {
+        match self.reach_targets(following, &entry) {
             Ok(()) => {}
             Err(error) => return Err(error),
         }
@@ -166,14 +192,19 @@ impl Reaching {
     }
 
     /// The specifier, which no loader is asked for, has its entry: what the entry leads to is reached.
-    pub fn fill_unasked(&mut self, alloc: Global, url: Url) -> Result<(), GrowError>
+    pub fn fill_unasked(
+        &mut self,
+        alloc: Global,
+        following: Following,
+        url: Url,
+    ) -> Result<(), GrowError>
         requires room { length self.old.reached.entries ≤ self.old.limit }
         requires there { IsSome (value_at self.old.reached.entries (text_of url)) }
-        ensures fills { FillsUnasked (text_of url) self.old self.new result }
+        ensures fills { FillsUnasked (rules_of following) (text_of url) self.old self.new result }
         ensures limit { self.new.limit ≡ self.old.limit }
     {
         match analyse_unasked(alloc, &url) {
-            Ok(entry) => self.fill(url, entry),
+            Ok(entry) => self.fill(following, url, entry),
             Err(_) => Err(GrowError::OutOfMemory),
         }
     }
@@ -182,11 +213,12 @@ impl Reaching {
     pub fn take(
         &mut self,
         alloc: Global,
+        following: Following,
         specifier: Url,
         answer: LoadAnswer,
     ) -> Result<(), BuildError>
         requires room { length self.old.reached.entries ≤ self.old.limit }
-        ensures takes { Takes specifier answer self.old self.new result }
+        ensures takes { Takes (rules_of following) specifier answer self.old self.new result }
         ensures limit { self.new.limit ≡ self.old.limit }
     {
         if !self.is_asked(&specifier) {
@@ -196,7 +228,7 @@ impl Reaching {
             Ok(entry) => entry,
             Err(_) => return Err(BuildError::OutOfMemory),
         };
-        match self.fill(specifier, entry) {
+        match self.fill(following, specifier, entry) {
             Ok(()) => Ok(()),
             Err(GrowError::TooMany { seen }) => Err(BuildError::TooManyModules { seen }),
             Err(GrowError::OutOfMemory) => Err(BuildError::OutOfMemory),

@@ -26,7 +26,7 @@ chosen_plain : (b : Bool) (given : List Parts) (modules : List (Parts × LoadAns
     → (if b then Some (plain_bundle given modules) else None) ≡ Some bundle → OnlyPlain bundle.options
 chosen_plain true given modules bundle is =
     let same : plain_bundle given modules ≡ bundle = cc in
-    subst (λ (b : Bundle). OnlyPlain b.options) same (refl, refl, refl)
+    subst (λ (b : Bundle). OnlyPlain b.options) same refl
 chosen_plain false given modules bundle is = absurd (cc)
 
 parts_plain : (parts : Option (List Parts × List (Parts × LoadAnswer))) (bundle : Bundle)

@@ -28,7 +28,7 @@ use Rattle.package_ref.specs.Reference.{IsReference}
 use Rattle.package_ref.proofs.Theorems.{one_reference}
 use Rattle.graph_entry.specs.declared.entry.Entry.TheVariants as entry
 use Rattle.graph_entry.specs.Specifier.{begins}
-use Rattle.graph_entry.specs.Headers.{value_of}
+use Rattle.graph_entry.specs.Headers.{header_value}
 use Rattle.graph_entry.specs.ModuleText.{without_mark}
 use Rattle.graph_entry.specs.Analysed.{Analysed, OfContent, OfData, OfPackage, with_package, no_package, OfUnasked, by_header, OfKind, OfBytes, OfText, OfTokens, with_tree, no_tree, with_tokens, no_tokens, with_text, no_text, module_of, no_module, unsupported, at_place, language_of, media_type_read, not_built}
 use Rattle.graph_entry.proofs.ContentLemmas.{OfJson-once, OfWasm-once}
@@ -130,7 +130,7 @@ pub Analysed-once : ((text : List ℕ) → HasOneReading text) → (s : List ℕ
     → Analysed s a made → Analysed s a other → made ≡ other
 unfolding Analysed
 Analysed-once laws s (Some (answer.Content headers bytes)) made other is so =
-    OfContent-once s (by_header (media_type_read (parse_url None s)) (value_of (codes "content-type") headers)) bytes made other
+    OfContent-once s (by_header (media_type_read (parse_url None s)) (header_value (codes "content-type") headers)) bytes made other
     (laws (without_mark bytes)) is so
 Analysed-once laws s (Some (answer.Redirect target)) made other is so = is ∙ sym so
 Analysed-once laws s (Some answer.External) made other is so = is ∙ sym so

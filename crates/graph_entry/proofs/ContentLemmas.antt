@@ -29,15 +29,15 @@ OfJson-once bytes made other (no_json not is) (with_json utf8 so) = absurd (not 
 OfJson-once bytes made other (no_json not is) (no_json also so) = is ∙ sym so
 
 -- the entry of an outcome
-abbrev entry_of : List ℕ → List ℕ → Result Deps ParseError → Entry
-entry_of s bytes (Ok deps) = wasm_module s bytes deps.imports
-entry_of s bytes (Err e) = entry.Error (WasmParse e)
+abbrev outcome_entry : List ℕ → List ℕ → Result Deps ParseError → Entry
+outcome_entry s bytes (Ok deps) = wasm_module s bytes deps.imports
+outcome_entry s bytes (Err e) = entry.Error (WasmParse e)
 
 pub OfWasm-once : (s bytes : List ℕ) (made other : Entry) → OfWasm s bytes made → OfWasm s bytes other → made ≡ other
 OfWasm-once s bytes made other makes also = one makes also
   where
-    same : (a b : Result Deps ParseError) → ReadsModule true bytes a → ReadsModule true bytes b → entry_of s bytes a ≡ entry_of s bytes b
-    same a b h k = ap (entry_of s bytes) (one_outcome true bytes a b h k)
+    same : (a b : Result Deps ParseError) → ReadsModule true bytes a → ReadsModule true bytes b → outcome_entry s bytes a ≡ outcome_entry s bytes b
+    same a b h k = ap (outcome_entry s bytes) (one_outcome true bytes a b h k)
 
     one : OfWasm s bytes made → OfWasm s bytes other → made ≡ other
     one (with_imports d reads is) (with_imports e too so) = is ∙ same (Ok d) (Ok e) reads too ∙ sym so

@@ -26,7 +26,7 @@ use Rattle.data_specifier.specs.declared.data_module.DataModule.{DataModule}
 use Rattle.data_specifier.specs.declared.error.DataError.{DataError}
 use Rattle.data_specifier.specs.Data.{data_of}
 use Rattle.graph_entry.specs.Specifier.{begins}
-use Rattle.graph_entry.specs.Headers.{value_of}
+use Rattle.graph_entry.specs.Headers.{header_value}
 use Rattle.graph_entry.specs.ModuleText.{without_mark}
 use Rattle.graph_entry.specs.Analysed.{Analysed, OfContent, OfData, OfPackage, with_package, no_package, OfUnasked, by_header, language_of, media_type_read, OfKind, OfBytes, OfText, OfTokens, with_tree, no_tree, with_tokens, no_tokens, with_text, no_text, dependency_of, not_built, unsupported}
 use Rattle.graph_entry.proofs.ContentLemmas.{HoldsOfImports, OfJson-edges, OfWasm-edges}
@@ -104,7 +104,7 @@ pub Analysed-edges : (P Q : List ℕ → Dependency → Type 0) (s : List ℕ) �
     → ((bytes : List ℕ) → HoldsOfImports Q s bytes) → (a : Option LoadAnswer) (made : Entry) → Analysed s a made → EachEdge P Q made
 unfolding Analysed
 Analysed-edges P Q s sites imports (Some (answer.Content headers bytes)) made is =
-    OfContent-edges P Q s (by_header (media_type_read (parse_url None s)) (value_of (codes "content-type") headers)) bytes made
+    OfContent-edges P Q s (by_header (media_type_read (parse_url None s)) (header_value (codes "content-type") headers)) bytes made
     (sites (without_mark bytes)) (imports bytes) is
 Analysed-edges P Q s sites imports (Some (answer.Redirect target)) made is = subst (EachEdge P Q) (sym is) tt
 Analysed-edges P Q s sites imports (Some answer.External) made is = subst (EachEdge P Q) (sym is) tt

@@ -22,7 +22,7 @@ use Rattle.data_specifier.specs.declared.error.DataError.{DataError}
 use Rattle.data_specifier.specs.declared.error.DataError.TheVariants as data_url
 use Rattle.data_specifier.specs.Data.{content_of, or_no_base64, body_of, with_mime, data_at, data_of}
 use Rattle.graph_entry.specs.Specifier.{begins}
-use Rattle.graph_entry.specs.Headers.{value_of}
+use Rattle.graph_entry.specs.Headers.{header_value}
 use Rattle.graph_entry.specs.Entry.{KeepsFault}
 use Rattle.graph_entry.specs.Json.{OfJson, with_json, no_json}
 use Rattle.graph_entry.specs.Wasm.{OfWasm, with_imports, faulty}
@@ -107,7 +107,7 @@ OfUnasked-fault s false made (no_package none is) = subst KeepsFault (sym is) tt
 pub Analysed-fault : (s : List ℕ) (a : Option LoadAnswer) (made : Entry) → Analysed s a made → KeepsFault made
 unfolding Analysed
 Analysed-fault s (Some (answer.Content headers bytes)) made is =
-    let media = by_header (media_type_read (parse_url None s)) (value_of (codes "content-type") headers) in
+    let media = by_header (media_type_read (parse_url None s)) (header_value (codes "content-type") headers) in
     by_kind-fault s media bytes (kind_of media) made is
 Analysed-fault s (Some (answer.Redirect target)) made is = subst KeepsFault (sym is) tt
 Analysed-fault s (Some answer.External) made is = subst KeepsFault (sym is) tt

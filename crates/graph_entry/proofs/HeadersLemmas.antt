@@ -10,7 +10,7 @@ use Rattle.std.specs.Cmp.Lexicographic.{slice_cmp}
 use Rattle.std.specs.String.{string_cmp}
 use Rattle.std.proofs.lemmas.Map.Text.{is_eq-slice_cmp}
 use Rattle.std.specs.List.{AllZip}
-use Rattle.graph_entry.specs.Headers.{header_of, headers_of, value_of, HeaderList, with_header, with_headers}
+use Rattle.graph_entry.specs.Headers.{header_of, headers_of, header_value, HeaderList, with_header, with_headers}
 
 -- entries whose names and values have the same texts are shown as the same list
 pub headers_of-clone : {A : Type 0} (es fs : List (String A × String A))
@@ -25,14 +25,14 @@ headers_of-clone [] (f ∷ fs) same = absurd same
 headers_of-clone (e ∷ es) [] same = absurd same
 
 -- a value by its name, and by the name's text
-pub value_of-get : {A : Type 0} (name : List ℕ) (es : List (String A × String A))
-    → option_map string_bytes (lookup (is_at (λ k. slice_cmp nat_cmp name (string_bytes k))) es) ≡ value_of name (headers_of es)
-value_of-get name [] = refl
-value_of-get name (e ∷ es) = rw (is_eq-slice_cmp name (string_bytes e.0)) (by (bytes_eq name (string_bytes e.0)) (value_of-get name es))
+pub header_value-get : {A : Type 0} (name : List ℕ) (es : List (String A × String A))
+    → option_map string_bytes (lookup (is_at (λ k. slice_cmp nat_cmp name (string_bytes k))) es) ≡ header_value name (headers_of es)
+header_value-get name [] = refl
+header_value-get name (e ∷ es) = rw (is_eq-slice_cmp name (string_bytes e.0)) (by (bytes_eq name (string_bytes e.0)) (header_value-get name es))
   where
-    by : (b : Bool) → option_map string_bytes (lookup (is_at (λ k. slice_cmp nat_cmp name (string_bytes k))) es) ≡ value_of name (headers_of es)
+    by : (b : Bool) → option_map string_bytes (lookup (is_at (λ k. slice_cmp nat_cmp name (string_bytes k))) es) ≡ header_value name (headers_of es)
         → option_map string_bytes (cond b (Some e.1) (lookup (is_at (λ k. slice_cmp nat_cmp name (string_bytes k))) es))
-        ≡ cond b (Some (string_bytes e.1)) (value_of name (headers_of es))
+        ≡ cond b (Some (string_bytes e.1)) (header_value name (headers_of es))
     by true rest = refl
     by false rest = rest
 

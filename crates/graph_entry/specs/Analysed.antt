@@ -36,7 +36,7 @@ use Rattle.data_specifier.specs.Data.{data_of}
 use Rattle.package_ref.specs.declared.reference.PackageRef.{PackageRef}
 use Rattle.package_ref.specs.Reference.{IsReference}
 use Rattle.graph_entry.specs.Specifier.{begins}
-use Rattle.graph_entry.specs.Headers.{value_of}
+use Rattle.graph_entry.specs.Headers.{header_value}
 use Rattle.graph_entry.specs.ModuleText.{without_mark}
 use Rattle.graph_entry.specs.Json.{no_utf8, OfJson}
 use Rattle.graph_entry.specs.Wasm.{OfWasm}
@@ -140,8 +140,8 @@ by_header by_path (Some header) = with_content_type by_path header
 -- what a loader's answer makes of this specifier
 abbrev pub OfAnswer : List ℕ → LoadAnswer → Entry → Type 0
 OfAnswer s (answer.Content headers bytes) made =
-    OfContent s (by_header (media_type_read (parse_url None s)) (value_of (codes "content-type") headers)) bytes made
-OfAnswer s (answer.Redirect target) made = made ≡ not_built
+    OfContent s (by_header (media_type_read (parse_url None s)) (header_value (codes "content-type") headers)) bytes made
+OfAnswer s (answer.Redirect target) made = made ≡ entry.Redirect target
 OfAnswer s answer.External made = made ≡ entry.External
 OfAnswer s answer.Absent made = made ≡ entry.Error Missing
 OfAnswer s answer.Failed made = made ≡ entry.Error Loading

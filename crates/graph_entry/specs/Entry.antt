@@ -1,6 +1,5 @@
 -- Entries of a graph: their targets, their edges' places and their errors.
 use Rattle.std.specs.Prelude.{◌≡◌, ℕ, ◌≤◌, List, [], length, slice_range, All, codes, Option, Some, option_map}
-use Rattle.std.specs.List.{filter_map}
 use Rattle.std.specs.Result.{result_ok}
 use Rattle.base.specs.declared.range.Range.{Range}
 use Rattle.es_walk.specs.Sites.{CutsLiteral}
@@ -9,25 +8,15 @@ use Rattle.graph_entry.specs.declared.entry.Module.TheVariants.{Js, Json, Wasm}
 use Rattle.graph_entry.specs.declared.entry.Entry.{Entry}
 use Rattle.graph_entry.specs.declared.entry.Entry.TheVariants as entry
 use Rattle.graph_entry.specs.declared.entry.ModuleError.{ModuleError}
-use Rattle.graph_entry.specs.declared.entry.ModuleError.TheVariants.{Missing, Loading, UnsupportedMediaType, Decode, Parse, WasmParse, DataUrl, PackageReference, NotBuilt, OutOfMemory}
+use Rattle.graph_entry.specs.declared.entry.ModuleError.TheVariants.{Missing, Loading, TooManyRedirects, UnsupportedMediaType, Decode, Parse, WasmParse, DataUrl, PackageReference, NotBuilt, OutOfMemory}
 use Rattle.wasm_dep_analyzer.specs.declared.error.ParseError.TheVariants as wasm
 use Rattle.data_specifier.specs.declared.error.DataError.TheVariants as data_url
 use Rattle.graph_entry.specs.Specifier.{text_of}
 use Rattle.graph_entry.specs.Resolution.{KeepsReason}
 
 -- the text of an edge's target
-abbrev pub target_of : Dependency → Option (List ℕ)
-target_of d = option_map text_of (result_ok d.resolution)
-
--- the texts that an entry leads to: the targets of its edges, in order; each edge with a target is followed
-unfoldable pub targets : Entry → List (List ℕ)
-targets (entry.Module (Js m)) = filter_map target_of m.dependencies
-targets (entry.Module (Json m)) = []
-targets (entry.Module (Wasm m)) = filter_map target_of m.dependencies
-targets (entry.Package held) = []
-targets (entry.Redirect target) = []
-targets entry.External = []
-targets (entry.Error e) = []
+abbrev pub edge_target : Dependency → Option (List ℕ)
+edge_target d = option_map text_of (result_ok d.resolution)
 
 -- the edge's range cuts from the text a string literal whose value is the edge's text
 abbrev pub CutsFrom : List ℕ → Dependency → Type 0
@@ -68,6 +57,7 @@ KeepsFault _ = Unit {0}
 abbrev pub name_of_error : ModuleError → List ℕ
 name_of_error Missing = codes "Missing"
 name_of_error Loading = codes "Loading"
+name_of_error (TooManyRedirects target) = codes "TooManyRedirects"
 name_of_error (UnsupportedMediaType m) = codes "UnsupportedMediaType"
 name_of_error Decode = codes "Decode"
 name_of_error (Parse d) = codes "Parse"

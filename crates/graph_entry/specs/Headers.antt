@@ -15,8 +15,8 @@ abbrev pub headers_of : {A : Type 0} → List (String A × String A) → List (L
 headers_of es = map header_of es
 
 -- the value of a header
-abbrev pub value_of : List ℕ → List (List ℕ × List ℕ) → Option (List ℕ)
-value_of name headers = lookup (bytes_eq name) headers
+abbrev pub header_value : List ℕ → List (List ℕ × List ℕ) → Option (List ℕ)
+header_value name headers = lookup (bytes_eq name) headers
 
 -- headers by their names
 abbrev pub HeaderList : Type 0

@@ -7,7 +7,7 @@ use Rattle.url.specs.Parser.{Parsed, parse_url, IsOutOfRoom}
 use Rattle.file_url.specs.declared.errors.SpecifierError.TheVariants as specifier
 use Rattle.file_url.specs.Imports as imports
 use Rattle.graph_entry.specs.declared.resolution.ResolutionError.{ResolutionError}
-use Rattle.graph_entry.specs.declared.resolution.ResolutionError.TheVariants.{ImportPrefixMissing, InvalidUrl, InvalidDowngrade, InvalidLocalImport}
+use Rattle.graph_entry.specs.declared.resolution.ResolutionError.TheVariants.{ImportPrefixMissing, InvalidUrl, InvalidDowngrade, InvalidLocalImport, InvalidTypeAssertion}
 
 -- a target, or why there is none
 abbrev pub Resolved : Type 0
@@ -60,6 +60,7 @@ KeepsReason (Err (ImportPrefixMissing text)) = Unit {0}
 KeepsReason (Err (InvalidUrl e)) = ¬ IsOutOfRoom e
 KeepsReason (Err InvalidDowngrade) = Unit {0}
 KeepsReason (Err InvalidLocalImport) = Unit {0}
+KeepsReason (Err InvalidTypeAssertion) = Unit {0}
 
 -- the name of a refusal, as reports write it
 abbrev pub name_of_error : ResolutionError → List ℕ
@@ -67,3 +68,4 @@ name_of_error (ImportPrefixMissing text) = codes "ImportPrefixMissing"
 name_of_error (InvalidUrl e) = codes "InvalidUrl"
 name_of_error InvalidDowngrade = codes "InvalidDowngrade"
 name_of_error InvalidLocalImport = codes "InvalidLocalImport"
+name_of_error InvalidTypeAssertion = codes "InvalidTypeAssertion"

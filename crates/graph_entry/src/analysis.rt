@@ -4,7 +4,7 @@ ghost use Rattle.url.specs.Parser.{parse_url};
 ghost use Rattle.es_lexer.specs.Reads.{ReadsTokens};
 ghost use Rattle.es_walk.specs.Sites.{sites_of};
 ghost use Rattle.graph_entry.specs.Specifier.{text_of};
-ghost use Rattle.graph_entry.specs.Headers.{value_of};
+ghost use Rattle.graph_entry.specs.Headers.{header_value};
 ghost use Rattle.graph_entry.specs.Diagnosis.{told_range};
 ghost use Rattle.graph_entry.specs.Steps.{IsReadAgain};
 ghost use Rattle.graph_entry.specs.Analysed as spec;
@@ -38,7 +38,7 @@ pub fn analyse(alloc: Global, specifier: &Url, answer: LoadAnswer) -> Result<Ent
         LoadAnswer::Content { headers, bytes } => {
             analyse_content(alloc, specifier, &headers, bytes)
         }
-        LoadAnswer::Redirect(_) => Ok(not_built()),
+        LoadAnswer::Redirect(target) => Ok(Entry::Redirect(target)),
         LoadAnswer::External => Ok(Entry::External),
         LoadAnswer::Absent => Ok(Entry::Error(ModuleError::Missing)),
         LoadAnswer::Failed => Ok(Entry::Error(ModuleError::Loading)),
@@ -59,7 +59,7 @@ fn analyse_content(
 ) -> Result<Entry, AllocError>
     ensures { IfOk result (OfContent (text_of specifier.now)
         (spec.by_header (spec.media_type_read (parse_url None (text_of specifier.now)))
-        (value_of (codes "content-type") headers.now)) bytes) }
+        (header_value (codes "content-type") headers.now)) bytes) }
 {
     let base = read_again(alloc, specifier)?;
     let media_type = media_type_by(alloc, &base, headers)?;
@@ -73,7 +73,7 @@ fn media_type_by(
     headers: &Headers,
 ) -> Result<MediaType, AllocError>
     ensures { IfOk result (λ m. m ≡ spec.by_header
-        (spec.media_type_read base.now) (value_of (codes "content-type") headers.now)) }
+        (spec.media_type_read base.now) (header_value (codes "content-type") headers.now)) }
 {
     let by_path = media_type_read(alloc, base)?;
     match headers.content_type() {

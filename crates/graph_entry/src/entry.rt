@@ -82,6 +82,9 @@ pub enum ModuleError {
     Missing,
     /// The loader could not tell.
     Loading,
+    /// The answers redirect more often than redirects are followed, or for ever: first to this specifier. Never what one
+    /// answer means.
+    TooManyRedirects(Url),
     /// Content of this media type is no module.
     UnsupportedMediaType(MediaType),
     /// The bytes of a source or of JSON are no text.
@@ -108,6 +111,7 @@ impl ModuleError {
         match self {
             ModuleError::Missing => "Missing",
             ModuleError::Loading => "Loading",
+            ModuleError::TooManyRedirects(_) => "TooManyRedirects",
             ModuleError::UnsupportedMediaType(_) => "UnsupportedMediaType",
             ModuleError::Decode => "Decode",
             ModuleError::Parse(_) => "Parse",

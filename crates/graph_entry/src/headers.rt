@@ -2,7 +2,7 @@
 ghost use Rattle.std.specs.Prelude.{◌≡◌, [], IfOk, OnOk, string_bytes};
 ghost use Rattle.std.specs.Prelude.{codes};
 ghost use Rattle.std.specs.Option.{option_copied};
-ghost use Rattle.graph_entry.specs.Headers.{headers_of, value_of, with_header, with_headers};
+ghost use Rattle.graph_entry.specs.Headers.{headers_of, header_value, with_header, with_headers};
 
 use std::alloc::{AllocError, Global};
 use std::collections::BTreeMap;
@@ -61,7 +61,7 @@ impl Headers {
 
     /// The value of the header `content-type`.
     pub fn content_type(&self) -> Option<&str>
-        ensures { option_copied result ≡ value_of (codes "content-type") self.now }
+        ensures { option_copied result ≡ header_value (codes "content-type") self.now }
     {
         match self.entries.get("content-type") {
             Some(value) => Some(value.as_str()),

@@ -6,8 +6,7 @@
 //!   the package of an `npm:` or `jsr:` specifier.
 //! - `resolve(text, referrer)`: what a specifier in a source leads to (`resolve`, `specs/Resolution.antt`).
 //! - `is_loadable(specifier)`: whether a loader is asked for it (`loadable`, `specs/Specifier.antt`).
-//! - `Entry`, `LoadAnswer` and their parts are plain data in contracts; `targets` (`specs/Entry.antt`) are the texts
-//!   that an entry leads to.
+//! - `Entry`, `LoadAnswer` and their parts are plain data in contracts.
 //!
 //! A specifier is its text. One answer makes at most one entry of it (`analysed_once`, `proofs/Theorems.antt`), whose
 //! edges cut their literals or names from the module (`analysed_cuts`), and whose faults are never that memory ran out

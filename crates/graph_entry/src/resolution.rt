@@ -22,6 +22,8 @@ pub enum ResolutionError {
     InvalidDowngrade,
     /// The referrer is http or https, and the target a file.
     InvalidLocalImport,
+    /// The import attribute doesn't fit the module at the edge's end. Never what a text and a referrer lead to.
+    InvalidTypeAssertion,
 }
 
 impl ResolutionError {
@@ -37,6 +39,7 @@ impl ResolutionError {
             ResolutionError::InvalidUrl(error) => ResolutionError::InvalidUrl(*error),
             ResolutionError::InvalidDowngrade => ResolutionError::InvalidDowngrade,
             ResolutionError::InvalidLocalImport => ResolutionError::InvalidLocalImport,
+            ResolutionError::InvalidTypeAssertion => ResolutionError::InvalidTypeAssertion,
         })
     }
 
@@ -49,6 +52,7 @@ impl ResolutionError {
             ResolutionError::InvalidUrl(_) => "InvalidUrl",
             ResolutionError::InvalidDowngrade => "InvalidDowngrade",
             ResolutionError::InvalidLocalImport => "InvalidLocalImport",
+            ResolutionError::InvalidTypeAssertion => "InvalidTypeAssertion",
         }
     }
 }

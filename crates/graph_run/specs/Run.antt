@@ -3,11 +3,11 @@ use Rattle.std.specs.Prelude.{◌≡◌, ℕ, ◌+◌, ◌<◌, ◌≤◌, Bool,
 use Rattle.std.specs.List.{IsDistinct}
 use Rattle.std.specs.Io.KnownBytes.{Appends, Keeps}
 use Rattle.serde_json.specs.Data.{Data}
-use Rattle.graph_entry.specs.Analysed.{Analysed}
+use Rattle.deno_graph.specs.Rules.{Rules, rules_of}
 use Rattle.deno_graph.specs.Reach.{Specifier, Answers, IsReached, has}
 use Rattle.deno_graph.specs.Graph.{GraphData, IsGraph, texts}
 use Rattle.deno_graph.specs.Memory.{tells}
-use Rattle.deno_graph.specs.Builder.{ReachesAtMost}
+use Rattle.deno_graph.specs.Builder.{ReachesAtMost, following_of}
 use Rattle.graph_bundle.specs.declared.bundle.Bundle.{Bundle}
 use Rattle.graph_run.specs.declared.status.Status.{Status}
 use Rattle.graph_run.specs.declared.status.Status.TheVariants.{Done, BuildRefused, BadInput, ReadFault, WriteFault, NoMemory, Usage}
@@ -40,26 +40,30 @@ too_many_line seen = codes "error TooManyModules " ++ decimal seen ++ line_end
 
 -- ---- what is due
 
+-- the rules of the graph of a bundle
+abbrev pub bundle_rules : Bundle → Rules
+bundle_rules bundle = rules_of (following_of bundle.options)
+
 -- the graph of a bundle: of its roots, over its modules, within its limit; a specifier without module is `Absent`
 pub record IsGraphOf (bundle : Bundle) (graph : GraphData) : Type 0 where
   pub roots : graph.roots ≡ bundle.roots
-  pub entries : IsGraph Analysed (texts bundle.roots) (tells bundle.modules) graph.entries
+  pub entries : IsGraph (bundle_rules bundle) (texts bundle.roots) (tells bundle.modules) graph.entries
   pub within : length graph.entries ≤ bundle.options.limit
 
 -- one specifier more than the limit is reached
-pub record HasMoreThan (starts : List Specifier) (answers : Answers) (limit : ℕ) : Type 0 where
+pub record HasMoreThan (rules : Rules) (starts : List Specifier) (answers : Answers) (limit : ℕ) : Type 0 where
   pub members : List Specifier
   pub counted : length members ≡ limit + 1
   pub once : IsDistinct bytes_eq members
-  pub reached : (s : Specifier) → has members s ≡ true → IsReached Analysed starts answers s
+  pub reached : (s : Specifier) → has members s ≡ true → IsReached rules starts answers s
 
 -- more is reached than the bundle allows
 abbrev pub IsTooLarge : Bundle → Type 0
-IsTooLarge bundle = HasMoreThan (texts bundle.roots) (tells bundle.modules) bundle.options.limit
+IsTooLarge bundle = HasMoreThan (bundle_rules bundle) (texts bundle.roots) (tells bundle.modules) bundle.options.limit
 
 -- no more is reached than the bundle allows
 abbrev pub IsWithinLimit : Bundle → Type 0
-IsWithinLimit bundle = ReachesAtMost Analysed (texts bundle.roots) (tells bundle.modules) bundle.options.limit
+IsWithinLimit bundle = ReachesAtMost (bundle_rules bundle) (texts bundle.roots) (tells bundle.modules) bundle.options.limit
 
 -- what is due for a bundle
 pub data OfBundle (bundle : Bundle) (status : Status) (text : List ℕ) : Type 0 where

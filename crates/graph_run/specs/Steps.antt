@@ -2,7 +2,7 @@
 use Rattle.std.specs.Prelude.{◌≡◌, ℕ, ◌+◌, Bool, true, false, List, [], ◌++◌, Option, Some, None, IsSome, ◌⊎◌, ◌<◌, String, string_bytes, ⊤}
 use Rattle.deno_graph.specs.declared.error.BuildError.{BuildError}
 use Rattle.deno_graph.specs.declared.error.BuildError.TheVariants.{NotYet, TooManyModules, UnaskedAnswer, Finished, OutOfMemory}
-use Rattle.deno_graph.specs.Reach.{Specifier, Answers}
+use Rattle.deno_graph.specs.Reach.{Specifier, Answers, Rules}
 use Rattle.deno_graph.specs.Loader.{LoaderData}
 use Rattle.deno_graph.specs.Builder.{Building}
 use Rattle.std.specs.Io.KnownBytes.{Appends}
@@ -15,7 +15,7 @@ use Rattle.graph_run.specs.Run.{HasMoreThan}
 abbrev pub Adds : {A : Type 0} → String A → String A → List ℕ → Type 0
 Adds old new text = string_bytes new ≡ string_bytes old ++ text
 
--- nothing befell the builder's loader yet, which tells how often it will wait and answers open requests alone; and the builder goes on
+-- nothing happened to the builder's loader yet, which tells how often it will wait and answers open requests alone; and the builder goes on
 pub record IsNew {L : Type 0} (seen : LoaderData) (b : Building L) : Type 0 where
   pub events : b.events_before ≡ []
   pub asked : b.asked_before ≡ []
@@ -30,12 +30,12 @@ waits_left None = 0
 waits_left (Some n) = n
 
 -- such a builder ends with an error only where too much is reached, or because memory ran out
-abbrev pub SaysLarge : List Specifier → Answers → ℕ → BuildError → Type 0
-SaysLarge starts answers limit NotYet = ⊥
-SaysLarge starts answers limit (TooManyModules seen) = HasMoreThan starts answers limit × (seen ≡ limit + 1)
-SaysLarge starts answers limit (UnaskedAnswer url) = ⊥
-SaysLarge starts answers limit Finished = ⊥
-SaysLarge starts answers limit OutOfMemory = ⊤
+abbrev pub SaysLarge : Rules → List Specifier → Answers → ℕ → BuildError → Type 0
+SaysLarge rules starts answers limit NotYet = ⊥
+SaysLarge rules starts answers limit (TooManyModules seen) = HasMoreThan rules starts answers limit × (seen ≡ limit + 1)
+SaysLarge rules starts answers limit (UnaskedAnswer url) = ⊥
+SaysLarge rules starts answers limit Finished = ⊥
+SaysLarge rules starts answers limit OutOfMemory = ⊤
 
 -- a status that a text is due for
 abbrev pub IsVerdict : Status → Type 0

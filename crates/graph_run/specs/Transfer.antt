@@ -9,8 +9,8 @@ abbrev pub input_limit : ℕ
 input_limit = 16777216
 
 -- a call that failed raised the count, and no other did
-abbrev pub IsCounted : {T E : Type 0} → ℕ → ℕ → Result T E → Type 0
-IsCounted old new result = MatchResult result (λ _. new ≡ old) (λ _. old < new)
+abbrev pub CountsFailure : {T E : Type 0} → ℕ → ℕ → Result T E → Type 0
+CountsFailure old new result = MatchResult result (λ _. new ≡ old) (λ _. old < new)
 
 -- a count of failed reads behind this error
 abbrev pub CountsRead : ℕ → ℕ → ReadError → Type 0
@@ -19,8 +19,8 @@ CountsRead old new TooLong = new ≡ old
 CountsRead old new OutOfMemory = new ≡ old
 
 -- only a failed read raised the count
-abbrev pub IsCountedRead : {T : Type 0} → ℕ → ℕ → Result T ReadError → Type 0
-IsCountedRead old new result = MatchResult result (λ _. new ≡ old) (CountsRead old new)
+abbrev pub CountsReadFailure : {T : Type 0} → ℕ → ℕ → Result T ReadError → Type 0
+CountsReadFailure old new result = MatchResult result (λ _. new ≡ old) (CountsRead old new)
 
 -- one byte more than the limit was read, and no other
 abbrev pub GaveTooMuch : Option (List ℕ) → Option (List ℕ) → Type 0

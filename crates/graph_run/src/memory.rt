@@ -1,7 +1,7 @@
 //! A source and a sink in memory, which fail at the calls that are listed.
 ghost use Rattle.std.specs.Prelude.{◌≡◌, ℕ, ◌+◌, ◌-◌, ◌^◌, ◌<◌, ◌≤◌, ◌&&◌, ◌||◌, ◌==◌, min, List, [], ◌∷◌, length, Some, IfOk, is_err, OnErr};
 ghost use Rattle.std.specs.Io.KnownBytes.{ReadConsumes, WriteAppends};
-ghost use Rattle.graph_run.specs.Transfer.{IsCounted};
+ghost use Rattle.graph_run.specs.Transfer.{CountsFailure};
 ghost use Rattle.graph_run.specs.Memory.{is_listed, next_call};
 
 use crate::faults::Faults;
@@ -34,7 +34,7 @@ impl Calls {
         ensures failed { is_err result ≡ is_listed self.old.next self.old.failing.items }
         ensures next { self.new.next ≡ next_call self.old.next }
         ensures listed { self.new.failing ≡ self.old.failing }
-        ensures count { IsCounted self.old.faults.count self.new.faults.count result }
+        ensures count { CountsFailure self.old.faults.count self.new.faults.count result }
     {
         let fails = self.failing.contains(&self.next);
         self.next = self.next.saturating_add(1);
@@ -110,7 +110,7 @@ impl Source for MemorySource {
         requires { 0 < length buffer.old }
         ensures bound { IfOk result (λ n. n ≤ length buffer.new) }
         ensures bytes { ReadConsumes (Some self.old.left) (Some self.new.left) result buffer.new }
-        ensures count { IsCounted self.old.faults self.new.faults result }
+        ensures count { CountsFailure self.old.faults self.new.faults result }
         ensures failed { is_err result ≡ is_listed self.old.next self.old.failing }
         ensures piece { IfOk result
             (λ n. n ≡ min (min self.old.piece (length buffer.new)) (length self.old.left)) }
@@ -197,7 +197,7 @@ impl Sink for MemorySink {
         requires { 0 < length bytes.now }
         ensures bound { IfOk result (λ n. (0 < n) × (n ≤ length bytes.now)) }
         ensures bytes { WriteAppends (Some self.old.taken) (Some self.new.taken) result bytes.now }
-        ensures count { IsCounted self.old.faults self.new.faults result }
+        ensures count { CountsFailure self.old.faults self.new.faults result }
         ensures failed { is_err result ≡ (is_listed self.old.next self.old.failing
             || (length self.old.taken == self.old.room)) }
         ensures piece { IfOk result (λ n. n ≡ min (min self.old.piece (length bytes.now))

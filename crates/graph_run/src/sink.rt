@@ -1,7 +1,7 @@
 //! Where the program's bytes go.
 ghost use Rattle.std.specs.Prelude.{◌≡◌, ℕ, ◌<◌, ◌≤◌, List, length, IfOk, Option};
 ghost use Rattle.std.specs.Io.KnownBytes.{WriteAppends};
-ghost use Rattle.graph_run.specs.Transfer.{IsCounted};
+ghost use Rattle.graph_run.specs.Transfer.{CountsFailure};
 
 use crate::source::Failed;
 
@@ -18,5 +18,5 @@ pub trait Sink {
         requires { 0 < length bytes.now }
         ensures bound { IfOk result (λ n. (0 < n) × (n ≤ length bytes.now)) }
         ensures bytes { WriteAppends (taken self.old) (taken self.new) result bytes.now }
-        ensures count { IsCounted (faults self.old) (faults self.new) result };
+        ensures count { CountsFailure (faults self.old) (faults self.new) result };
 }

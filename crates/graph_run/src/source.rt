@@ -1,7 +1,7 @@
 //! Where the program's bytes come from.
 ghost use Rattle.std.specs.Prelude.{◌≡◌, ℕ, ◌<◌, ◌≤◌, List, length, IfOk, Option};
 ghost use Rattle.std.specs.Io.KnownBytes.{ReadConsumes};
-ghost use Rattle.graph_run.specs.Transfer.{IsCounted};
+ghost use Rattle.graph_run.specs.Transfer.{CountsFailure};
 
 use thiserror::Error;
 
@@ -23,5 +23,5 @@ pub trait Source {
         requires { 0 < length buffer.old }
         ensures bound { IfOk result (λ n. n ≤ length buffer.new) }
         ensures bytes { ReadConsumes (left self.old) (left self.new) result buffer.new }
-        ensures count { IsCounted (faults self.old) (faults self.new) result };
+        ensures count { CountsFailure (faults self.old) (faults self.new) result };
 }

@@ -2,7 +2,7 @@
 ghost use Rattle.std.specs.Prelude.{◌≡◌, ◌≢◌, ℕ, ◌+◌, ◌<◌, ◌≤◌, List, ◌++◌, length, vec_len, IfOk, IfErr, OnOk, OnErr};
 ghost use Rattle.std.specs.Io.KnownBytes.{Consumes, IsAtEnd, Appends, ReadConsumes};
 ghost use Rattle.graph_run.specs.declared.transfer.ReadError.TheVariants.{OutOfMemory};
-ghost use Rattle.graph_run.specs.Transfer.{IsCounted, IsCountedRead, input_limit, GaveTooMuch, ReadAtMost, TookPart, Grew};
+ghost use Rattle.graph_run.specs.Transfer.{CountsFailure, CountsReadFailure, input_limit, GaveTooMuch, ReadAtMost, TookPart, Grew};
 
 use crate::sink::Sink;
 use crate::source::{Failed, Source};
@@ -40,7 +40,7 @@ pub fn read_all<S: Source>(alloc: Global, source: &mut S) -> Result<Vec<u8>, Rea
     ensures within { IfOk result (λ bytes. length bytes.items ≤ input_limit) }
     ensures long { result ≡ Err ReadError.TooLong → GaveTooMuch (S.left source.old) (S.left source.new) }
     ensures stops { ReadAtMost (input_limit + 1) (S.left source.old) (S.left source.new) }
-    ensures count { IsCountedRead (S.faults source.old) (S.faults source.new) result }
+    ensures count { CountsReadFailure (S.faults source.old) (S.faults source.new) result }
 {
     let mut bytes = Vec::new(alloc);
     let mut chunk = blank(alloc, CHUNK)?;
@@ -75,7 +75,7 @@ fn take_part<S: Source>(
     ensures ended { IfOk result (λ n. n ≡ 0 → IsAtEnd (S.left source.new)) }
     ensures refused { IfErr result (λ e. e ≢ ReadError.TooLong) }
     ensures stops { ReadAtMost (length chunk.old) (S.left source.old) (S.left source.new) }
-    ensures count { IsCountedRead (S.faults source.old) (S.faults source.new) result }
+    ensures count { CountsReadFailure (S.faults source.old) (S.faults source.new) result }
 {
     let n = read_part(source, chunk)?;
     bytes.extend_from_slice(&chunk[..n])?;
@@ -87,7 +87,7 @@ fn read_part<S: Source>(source: &mut S, buffer: &mut [u8]) -> Result<usize, Read
     requires { 0 < length buffer.old }
     ensures bound { IfOk result (λ n. n ≤ length buffer.new) }
     ensures bytes { ReadConsumes (S.left source.old) (S.left source.new) result buffer.new }
-    ensures count { IsCounted (S.faults source.old) (S.faults source.new) result }
+    ensures count { CountsFailure (S.faults source.old) (S.faults source.new) result }
     ensures failed { IfErr result (λ e. e ≡ ReadError.Fault) }
     ensures stops { ReadAtMost (length buffer.old) (S.left source.old) (S.left source.new) }
 {
@@ -98,7 +98,7 @@ fn read_part<S: Source>(source: &mut S, buffer: &mut [u8]) -> Result<usize, Read
 pub fn write_all<K: Sink>(sink: &mut K, bytes: &[u8]) -> Result<(), Failed>
     ensures whole { OnOk result (Appends (K.taken sink.old) (K.taken sink.new) bytes.now) }
     ensures part { OnErr result (TookPart (K.taken sink.old) (K.taken sink.new) bytes.now) }
-    ensures count { IsCounted (K.faults sink.old) (K.faults sink.new) result }
+    ensures count { CountsFailure (K.faults sink.old) (K.faults sink.new) result }
 {
     let mut at = 0;
     'rest: while at < bytes.len() {

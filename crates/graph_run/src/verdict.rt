@@ -1,13 +1,12 @@
 //! What is due for an input: the report of its graph, or the line of a refusal.
 ghost use Rattle.std.specs.Prelude.{◌≡◌, [], ◌≤◌, ◌↔◌, Err, length, IfOk, IfErr, IsTrue, string_bytes};
 ghost use Rattle.url.specs.Parts.{Parts};
-ghost use Rattle.graph_entry.specs.Analysed.{Analysed};
 ghost use Rattle.deno_graph.specs.Graph.{IsGraph, texts};
 ghost use Rattle.deno_graph.specs.Memory.{tells, data_of};
-ghost use Rattle.deno_graph.specs.Builder.{OnlyPlain};
+ghost use Rattle.deno_graph.specs.Builder.{graph_rules, following_of, OnlyPlain};
 ghost use Rattle.graph_run.specs.Transfer.{input_limit};
 ghost use Rattle.graph_run.specs.Report.{report_of};
-ghost use Rattle.graph_run.specs.Run.{IsDue, OfBundle, IsGraphOf, too_many_line};
+ghost use Rattle.graph_run.specs.Run.{IsDue, OfBundle, IsGraphOf, bundle_rules, too_many_line};
 ghost use Rattle.graph_run.specs.Steps.{IsNew, SaysLarge};
 
 use crate::reports::report;
@@ -87,7 +86,7 @@ fn build(alloc: Global, bundle: Bundle) -> Result<ModuleGraph, BuildError>
     requires unforced { bundle.arrival ≡ [] }
     ensures graph { IfOk result (IsGraphOf bundle) }
     ensures large { IfErr result
-        (SaysLarge (texts bundle.roots) (tells bundle.modules) bundle.options.limit) }
+        (SaysLarge (bundle_rules bundle) (texts bundle.roots) (tells bundle.modules) bundle.options.limit) }
 {
     let mut build = new_build(alloc, bundle)?;
     poll_to_end(&mut build)
@@ -98,6 +97,7 @@ fn new_build(alloc: Global, bundle: Bundle) -> Result<GraphBuild<MemoryLoader>, 
     requires plain { OnlyPlain bundle.options }
     requires unforced { bundle.arrival ≡ [] }
     ensures new { IfOk result (λ build. IsNew (data_of build.inner.loader) build.inner) }
+    ensures following { IfOk result (λ build. build.inner.following ≡ following_of bundle.options) }
     ensures roots { IfOk result (λ build. build.inner.roots ≡ bundle.roots) }
     ensures limit { IfOk result (λ build. build.inner.limit ≡ bundle.options.limit) }
     ensures modules { IfOk result (λ build. build.inner.loader.modules ≡ bundle.modules) }
@@ -116,11 +116,11 @@ fn new_build(alloc: Global, bundle: Bundle) -> Result<GraphBuild<MemoryLoader>, 
 /// Polls until there is another answer than `NotYet`.
 fn poll_to_end(build: &mut GraphBuild<MemoryLoader>) -> Result<ModuleGraph, BuildError>
     requires { IsNew (data_of build.old.inner.loader) build.old.inner }
-    ensures graph { IfOk result (λ graph. IsGraph Analysed (texts build.old.inner.roots)
+    ensures graph { IfOk result (λ graph. IsGraph (graph_rules build.old.inner) (texts build.old.inner.roots)
         (tells build.old.inner.loader.modules) graph.entries) }
     ensures roots { IfOk result (λ graph. graph.roots ≡ build.old.inner.roots) }
     ensures within { IfOk result (λ graph. length graph.entries ≤ build.old.inner.limit) }
-    ensures large { IfErr result (SaysLarge (texts build.old.inner.roots)
+    ensures large { IfErr result (SaysLarge (graph_rules build.old.inner) (texts build.old.inner.roots)
         (tells build.old.inner.loader.modules) build.old.inner.limit) }
 {
     'polls: loop {

@@ -41,7 +41,8 @@ fn shown(alloc: Global, entry: &Entry) -> Result<String, Fail> {
         }
         Entry::Error(error) => Ok(String::from_str(alloc, error.name())?),
         Entry::Package(package) => shown_package(alloc, package),
-        Entry::Redirect(_) | Entry::External => Ok(String::from_str(alloc, "no module")?),
+        Entry::Redirect(_) => Ok(String::from_str(alloc, "redirect")?),
+        Entry::External => Ok(String::from_str(alloc, "no module")?),
     }
 }
 
@@ -319,7 +320,7 @@ fn makes_entries_of_other_answers(rt: HostRuntime) -> Result<(), Fail> {
         (LoadAnswer::Absent, "Missing"),
         (LoadAnswer::Failed, "Loading"),
         (LoadAnswer::External, "no module"),
-        (LoadAnswer::Redirect(specifier.clone()?), "NotBuilt"),
+        (LoadAnswer::Redirect(specifier.clone()?), "redirect"),
     ];
     for (answer, want) in cases {
         let entry = analyse(rt.alloc(), &specifier, answer.copy()?)?;

@@ -1,9 +1,12 @@
 //! Graphs of small bundles, and each public call once on its happy path.
+ghost use Rattle.std.specs.Prelude.{◌≡◌, []};
+
 use base::{Items, SharedBytes};
 use deno_graph::{
     Arrival, BuildError, BuildOptions, Entry, GraphBuild, GraphKind, Headers, LoadAnswer,
     MemoryLoader, Module, ModuleGraph, SpecifierError, resolve_import,
 };
+use graph_run::report;
 use std::alloc::Global;
 use std::test::Fail;
 use url::Url;
@@ -34,6 +37,17 @@ fn arrivals(alloc: Global, letters: &str) -> Result<Items<Arrival>, Fail> {
     Ok(items)
 }
 
+fn options(alloc: Global, kind: GraphKind, limit: usize) -> BuildOptions
+    ensures { result.imports ≡ [] }
+{
+    BuildOptions {
+        kind,
+        limit,
+        skip_dynamic_deps: false,
+        imports: Items::new(alloc),
+    }
+}
+
 fn builder(
     alloc: Global,
     roots: &[&str],
@@ -41,18 +55,40 @@ fn builder(
     limit: usize,
     letters: &str,
 ) -> Result<GraphBuild<MemoryLoader>, Fail> {
+    let given = options(alloc, GraphKind::All, limit);
+    let arrival = arrivals(alloc, letters)?;
+    build_of(alloc, roots, modules(alloc, sources)?, given, arrival)
+}
+
+fn build_of(
+    alloc: Global,
+    roots: &[&str],
+    modules: Items<(Url, LoadAnswer)>,
+    options: BuildOptions,
+    arrival: Items<Arrival>,
+) -> Result<GraphBuild<MemoryLoader>, Fail>
+    requires { options.imports ≡ [] }
+{
     let mut urls = Items::new(alloc);
     for root in roots {
         urls.push(Url::parse(alloc, root)?)?;
     }
-    let options = BuildOptions {
-        kind: GraphKind::All,
-        limit,
-        skip_dynamic_deps: false,
-        imports: Items::new(alloc),
-    };
-    let loader = MemoryLoader::new(alloc, modules(alloc, sources)?, arrivals(alloc, letters)?)?;
+    let loader = MemoryLoader::new(alloc, modules, arrival)?;
     Ok(GraphBuild::new(alloc, urls, options, loader)?)
+}
+
+// A module for each line of sources and redirects.
+fn with_redirects(
+    alloc: Global,
+    sources: &[(&str, &str)],
+    redirects: &[(&str, &str)],
+) -> Result<Items<(Url, LoadAnswer)>, Fail> {
+    let mut modules = modules(alloc, sources)?;
+    for (specifier, target) in redirects {
+        let answer = LoadAnswer::Redirect(Url::parse(alloc, target)?);
+        modules.push((Url::parse(alloc, specifier)?, answer))?;
+    }
+    Ok(modules)
 }
 
 // The answer of a poll as a line: the specifiers with what they are, or the error.
@@ -85,7 +121,8 @@ fn word(entry: &Entry) -> &'static str {
         Entry::Module(Module::Wasm(_)) => " wasm",
         Entry::Error(error) => error.name(),
         Entry::Package(_) => " package",
-        Entry::Redirect(_) | Entry::External => " no module",
+        Entry::Redirect(_) => " redirect",
+        Entry::External => " external",
     }
 }
 
@@ -185,6 +222,114 @@ fn takes_answers_in_any_order(rt: HostRuntime) -> Result<(), Fail> {
         assert_eq!(rt; line.as_str(), first, "first poll of {letters}");
         let line = polled(alloc, &mut build)?;
         assert_eq!(rt; line.as_str(), second, "second poll of {letters}");
+    }
+    Ok(())
+}
+
+// Twelve roots by their letters, each but the last one a redirect to the next.
+fn chain(alloc: Global, letters: &str) -> Result<String, Fail> {
+    let mut urls = Items::new(alloc);
+    let mut answers = Items::new(alloc);
+    let mut last: Option<Url> = None;
+    for letter in "abcdefghijkl".chars() {
+        let text = format!(in alloc; "file:///{letter}.ts")?;
+        let url = Url::parse(alloc, text.as_str())?;
+        if let Some(before) = last {
+            answers.push((before, LoadAnswer::Redirect(url.clone()?)))?;
+        }
+        last = Some(url.clone()?);
+        urls.push(url)?;
+    }
+    let given = options(alloc, GraphKind::All, 12);
+    let loader = MemoryLoader::new(alloc, answers, arrivals(alloc, letters)?)?;
+    let mut build = GraphBuild::new(alloc, urls, given, loader)?;
+    polled(alloc, &mut build)
+}
+
+#[test]
+fn follows_at_most_ten_redirects(rt: HostRuntime) -> Result<(), Fail> {
+    let want = "12 file:///a.tsTooManyRedirects file:///b.ts redirect file:///c.ts redirect \
+file:///d.ts redirect file:///e.ts redirect file:///f.ts redirect file:///g.ts redirect file:///h.ts redirect \
+file:///i.ts redirect file:///j.ts redirect file:///k.ts redirect file:///l.tsMissing";
+    for letters in ["abcdefghijkl", "lkjihgfedcba"] {
+        let line = chain(rt.alloc(), letters)?;
+        assert_eq!(rt; line.as_str(), want, "{letters}");
+    }
+    Ok(())
+}
+
+#[test]
+fn follows_redirects(rt: HostRuntime) -> Result<(), Fail> {
+    let alloc = rt.alloc();
+    let cases: [(&[(&str, &str)], &str); 3] = [
+        (
+            &[("file:///a.ts", "file:///a.ts")],
+            "1 file:///a.tsTooManyRedirects",
+        ),
+        (
+            &[("file:///a.ts", "file:///b.ts"), ("file:///b.ts", "file:///a.ts")],
+            "1 file:///a.tsTooManyRedirects file:///b.tsTooManyRedirects",
+        ),
+        (
+            &[("file:///a.ts", "file:///v/c.ts"), ("file:///d.ts", "file:///v/c.ts")],
+            "1 file:///a.ts redirect file:///d.ts redirect file:///v/c.ts module",
+        ),
+    ];
+    let sources = [("file:///v/c.ts", "import \"../d.ts\";")];
+    for (redirects, want) in cases {
+        let given = options(alloc, GraphKind::All, 9);
+        let answers = with_redirects(alloc, &sources, redirects)?;
+        let mut build = build_of(alloc, &["file:///a.ts"], answers, given, Items::new(alloc))?;
+        let line = polled(alloc, &mut build)?;
+        assert_eq!(rt; line.as_str(), want);
+        assert_eq!(rt; build.loader().asked().len(), build.loader().log().len());
+    }
+    Ok(())
+}
+
+#[test]
+fn compares_attributes_with_modules(rt: HostRuntime) -> Result<(), Fail> {
+    let alloc = rt.alloc();
+    let row = "import 7-15 \"./b.ts\" - ";
+    let cases = [
+        ("file:///b.ts", "-> file:///b.ts"),
+        ("file:///b.json", "! InvalidTypeAssertion"),
+        ("file:///b.txt", "-> file:///b.ts"),
+        ("file:///b.wasm", "-> file:///b.ts"),
+    ];
+    for (target, want) in cases {
+        let sources = [
+            ("file:///a.ts", "import \"./b.ts\";"),
+            ("file:///b.json", ""),
+            ("file:///b.txt", ""),
+            ("file:///b.wasm", ""),
+        ];
+        let answers = with_redirects(alloc, &sources, &[("file:///b.ts", target)])?;
+        let given = options(alloc, GraphKind::All, 9);
+        let mut build = build_of(alloc, &["file:///a.ts"], answers, given, Items::new(alloc))?;
+        let graph = build.poll()?;
+        let lines = report(alloc, &graph)?;
+        let line = format!(in alloc; "  {row}{want}\n")?;
+        assert!(rt; lines.as_str().contains(line.as_str()), "{target}: {lines}");
+    }
+    Ok(())
+}
+
+#[test]
+fn follows_the_edges_of_a_kind(rt: HostRuntime) -> Result<(), Fail> {
+    let alloc = rt.alloc();
+    let cases = [
+        (GraphKind::All, "file:///a.js", "1 file:///a.js module file:///b.tsMissing"),
+        (GraphKind::CodeOnly, "file:///a.js", "1 file:///a.js module file:///b.tsMissing"),
+        (GraphKind::TypesOnly, "file:///a.js", "1 file:///a.js module"),
+        (GraphKind::TypesOnly, "file:///a.ts", "1 file:///a.ts module file:///b.tsMissing"),
+    ];
+    for (kind, root, want) in cases {
+        let given = options(alloc, kind, 9);
+        let answers = modules(alloc, &[(root, "import \"./b.ts\";")])?;
+        let mut build = build_of(alloc, &[root], answers, given, Items::new(alloc))?;
+        let line = polled(alloc, &mut build)?;
+        assert_eq!(rt; line.as_str(), want, "{kind:?}");
     }
     Ok(())
 }

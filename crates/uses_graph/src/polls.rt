@@ -1,9 +1,8 @@
 //! The loop over a builder's polls.
 ghost use Rattle.std.specs.Prelude.{IfOk};
-ghost use Rattle.graph_entry.specs.Analysed.{Analysed};
 ghost use Rattle.deno_graph.specs.Reach.{answer_to};
 ghost use Rattle.deno_graph.specs.Graph.{IsGraph};
-ghost use Rattle.deno_graph.specs.Builder.{starts};
+ghost use Rattle.deno_graph.specs.Builder.{graph_rules, starts};
 
 use deno_graph::{BuildError, GraphBuild, Loader, ModuleGraph};
 
@@ -15,7 +14,7 @@ pub fn poll_for<L: Loader + Drop>(
 ) -> Result<ModuleGraph, BuildError>
     // The graph is that of the roots and of what the loader has answered.
     ensures { IfOk result (λ graph.
-        IsGraph Analysed (starts build.old.inner) (answer_to build.new.inner.log) graph.entries) }
+        IsGraph (graph_rules build.old.inner) (starts build.old.inner) (answer_to build.new.inner.log) graph.entries) }
 {
     for _ in 0..polls {
         match build.poll() {

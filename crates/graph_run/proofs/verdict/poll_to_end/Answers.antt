@@ -1,6 +1,11 @@
 -- The builder's clauses, over what its loader tells.
-use Rattle.std.proofs.Common.{rules, ap, ◌∙◌, sym}
-use Rattle.deno_graph.specs.Graph.{texts}
+use Rattle.std.proofs.Common.{rules, ap, subst, ◌∙◌, sym}
+use Rattle.std.specs.Prelude.{IfOk, IfErr}
+use Rattle.deno_graph.specs.declared.following.Following.{Following}
+use Rattle.deno_graph.specs.Rules.{rules_of}
+use Rattle.deno_graph.specs.Graph.{IsGraph, texts}
+use Rattle.deno_graph.specs.Memory.{tells}
+use Rattle.graph_run.specs.Steps.{SaysLarge}
 use Rattle.graph_run.proofs.GraphLemmas.{built_graph, refused_large, settled_none, fewer_waits, stays_told}
 use Rattle.graph_run.proofs.verdict.poll_to_end.Goals as goal
 
@@ -8,19 +13,23 @@ pub returns-then-not-is_not_yet-clause-graph : goal.returns-then-not-is_not_yet-
 returns-then-not-is_not_yet-clause-graph c =
     let polled = c.poll-answer in
     let new = c.poll-answer.new.self.inner in
-    built_graph polled.result (texts c.polls.build.inner.roots) (texts c.args.build.now.inner.roots) new.log
+    subst (λ (w : Following). IfOk polled.result (λ g. IsGraph (rules_of w) (texts c.args.build.now.inner.roots) (tells c.args.build.now.inner.loader.modules) g.entries))
+    c.polls.invariant.following
+    (built_graph c.polls.build.inner.following polled.result (texts c.polls.build.inner.roots) (texts c.args.build.now.inner.roots) new.log
     new.loader.modules c.args.build.now.inner.loader.modules (ap texts c.polls.invariant.roots)
-    (polled.ensures.telling ∙ c.polls.invariant.told) polled.ensures.told polled.ensures.graph
+    (polled.ensures.telling ∙ c.polls.invariant.told) polled.ensures.told polled.ensures.graph)
 
 pub returns-then-not-is_not_yet-clause-large : goal.returns-then-not-is_not_yet-clause-large
 returns-then-not-is_not_yet-clause-large c =
     let polled = c.poll-answer in
     let new = c.poll-answer.new.self.inner in
     let old = c.polls.invariant.new in
-    refused_large polled.result (texts c.polls.build.inner.roots) (texts c.args.build.now.inner.roots) new.log
+    subst (λ (w : Following). IfErr polled.result (SaysLarge (rules_of w) (texts c.args.build.now.inner.roots) (tells c.args.build.now.inner.loader.modules) c.args.build.now.inner.limit))
+    c.polls.invariant.following
+    (refused_large c.polls.build.inner.following polled.result (texts c.polls.build.inner.roots) (texts c.args.build.now.inner.roots) new.log
     new.loader.modules c.args.build.now.inner.loader.modules c.polls.build.inner.limit c.args.build.now.inner.limit
     (ap texts c.polls.invariant.roots) c.polls.invariant.limit (polled.ensures.telling ∙ c.polls.invariant.told) polled.ensures.told
     polled.ensures.too_many
     (λ is. let yes = c.is_not_yet.ensures.1 is in search rules)
     (polled.ensures.fair old.fair (settled_none c.polls.build.inner.events_before old.events))
-    (λ is. let over = polled.ensures.finished.0 is in let goes = old.goes_on in absurd cc)
+    (λ is. let over = polled.ensures.finished.0 is in let goes = old.goes_on in absurd cc))

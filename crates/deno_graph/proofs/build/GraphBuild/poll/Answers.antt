@@ -3,4 +3,4 @@ use Rattle.deno_graph.proofs.Theorems.{answered_cut}
 use Rattle.deno_graph.proofs.build.GraphBuild.poll.Goals as goal
 
 pub returns-clause-cuts : goal.returns-clause-cuts
-returns-clause-cuts g c = answered_cut _ _ c.poll.result c.poll.ensures.graph
+returns-clause-cuts g c = answered_cut _ _ _ c.poll.result c.poll.ensures.graph

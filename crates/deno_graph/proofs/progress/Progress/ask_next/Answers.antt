@@ -1,11 +1,11 @@
 use Rattle.std.proofs.Common.{refl}
-use Rattle.graph_entry.specs.Analysed.{Analysed}
+use Rattle.deno_graph.specs.Rules.{rules_of}
 use Rattle.deno_graph.specs.Progress.{at}
 use Rattle.deno_graph.proofs.ProgressLemmas.{live_popped, asks_still, only_asks_more}
 use Rattle.deno_graph.proofs.progress.Progress.ask_next.Goals as goal
 
 pub deal-requires : goal.deal-requires
-deal-requires g c = record { in_hand = live_popped Analysed _ c.pop.new.self c.in-Some.url c.requires.live c.in-Some.ensures }
+deal-requires g c = record { in_hand = live_popped (rules_of c.args.following) _ c.pop.new.self c.in-Some.url c.requires.live c.in-Some.ensures }
 
 -- taking a specifier from the worklist asks nothing
 pub returns-in_default-clause-asks : goal.returns-in_default-clause-asks

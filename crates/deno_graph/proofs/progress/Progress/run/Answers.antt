@@ -1,4 +1,5 @@
 use Rattle.std.proofs.Common.{Bool, Err, ◌∙◌}
+use Rattle.deno_graph.specs.Rules.{rules_of}
 use Rattle.deno_graph.specs.Progress.{at}
 use Rattle.deno_graph.proofs.ProgressLemmas.{goes_more, errs_after, runs_err, in_time_after, in_time_err}
 use Rattle.deno_graph.proofs.progress.Progress.run.Goals as goal
@@ -20,7 +21,7 @@ returns-in-Err-clause-goes g c = goes_more _ _ _ c.turns.invariant.goes c.turn.e
 
 pub returns-in-Err-clause-runs : goal.returns-in-Err-clause-runs
 returns-in-Err-clause-runs g c =
-    runs_err
+    runs_err (rules_of c.args.following)
     (at (g.L.Loader.seen c.args.loader.now) c.args.self.now)
     (at (g.L.Loader.seen c.turn.new.loader) c.turn.new.self)
     c.in-Err.error
@@ -32,6 +33,6 @@ returns-in-Err-clause-runs g c =
 
 pub returns-in-Err-clause-in_time : goal.returns-in-Err-clause-in_time
 returns-in-Err-clause-in_time g c =
-    in_time_err Bool (Unit {0}) _ _ c.in-Err.error
-    (in_time_after {A = Bool} (at (g.L.Loader.seen c.args.loader.now) c.args.self.now) (at (g.L.Loader.seen c.turns.loader) c.turns.self) (Err c.in-Err.error) _
+    in_time_err (rules_of c.args.following) Bool (Unit {0}) _ _ c.in-Err.error
+    (in_time_after {A = Bool} (rules_of c.args.following) (at (g.L.Loader.seen c.args.loader.now) c.args.self.now) (at (g.L.Loader.seen c.turns.loader) c.turns.self) (Err c.in-Err.error) _
     c.turns.invariant.goes c.in-Err.ensures.in_time)

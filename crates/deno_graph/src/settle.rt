@@ -1,0 +1,289 @@
+//! What becomes of the first entries of all that is reached: the entries of the graph.
+ghost use Rattle.std.specs.Prelude.{◌≡◌, length, map, IfOk, if◌then◌else◌};
+ghost use Rattle.graph_entry.specs.Specifier.{text_of};
+ghost use Rattle.deno_graph.specs.Rules.{edges_of, has_types, rules_of};
+ghost use Rattle.deno_graph.specs.Graph.{IsAscending};
+ghost use Rattle.deno_graph.specs.Final.{fits, refused_edge, with_edges};
+ghost use Rattle.deno_graph.specs.Settling as spec;
+ghost use Rattle.deno_graph.specs.Settling.{finals_of, verdict_of, settled_edge};
+
+use crate::following::Following;
+use crate::graph::{module_in, redirect_in};
+use base::Items;
+use graph_entry::{
+    Attribute, Dependency, Entry, JsModule, Module, ModuleError, ResolutionError, WasmModule,
+};
+use std::alloc::{AllocError, Global};
+use url::Url;
+
+/// What is to become of a first entry.
+#[derive(Drop)]
+pub enum Verdict {
+    /// It stays.
+    Kept,
+    /// It redirects further than redirects are followed.
+    TooFar,
+    /// It is a module: which of its edges are refused for their attributes.
+    Judged(Items<bool>),
+}
+
+/// The entries of the graph, of the first entries of all that is reached.
+pub fn settle(
+    alloc: Global,
+    following: Following,
+    firsts: Items<(Url, Entry)>,
+) -> Result<Items<(Url, Entry)>, AllocError>
+    requires { IsAscending firsts }
+    ensures { IfOk result (λ entries. entries ≡ finals_of (rules_of following) firsts) }
+{
+    let verdicts = verdicts_of(alloc, following, firsts.as_slice())?;
+    settle_each(alloc, following, firsts, verdicts.as_slice())
+}
+
+fn verdicts_of(
+    alloc: Global,
+    following: Following,
+    firsts: &[(Url, Entry)],
+) -> Result<Items<Verdict>, AllocError>
+    requires { IsAscending firsts.now }
+    ensures { IfOk result (λ verdicts. verdicts
+        ≡ map (λ e. verdict_of (rules_of following) firsts.now e.1) firsts.now) }
+{
+    let mut verdicts = Items::new(alloc);
+    for first in firsts {
+        verdicts.push(judge(alloc, following, firsts, &first.1)?)?;
+    }
+    Ok(verdicts)
+}
+
+fn judge(
+    alloc: Global,
+    following: Following,
+    firsts: &[(Url, Entry)],
+    first: &Entry,
+) -> Result<Verdict, AllocError>
+    requires { IsAscending firsts.now }
+    ensures { IfOk result (λ v. v ≡ verdict_of (rules_of following) firsts.now first.now) }
+{
+    match first {
+        Entry::Redirect(target) => Ok(far_or_kept(leads_on(firsts, target))),
+        Entry::Module(module) => Ok(Verdict::Judged(misfits(alloc, following, firsts, module)?)),
+        Entry::Package(_) | Entry::External | Entry::Error(_) => Ok(Verdict::Kept),
+    }
+}
+
+fn far_or_kept(is_far: bool) -> Verdict
+    ensures { result ≡ if is_far then Verdict.TooFar else Verdict.Kept }
+{
+    if is_far {
+        Verdict::TooFar
+    } else {
+        Verdict::Kept
+    }
+}
+
+// Whether from here as many redirects lead on as are followed.
+fn leads_on(firsts: &[(Url, Entry)], specifier: &Url) -> bool
+    requires { IsAscending firsts.now }
+    ensures { result ≡ spec.leads_on firsts.now (text_of specifier.now) }
+{
+    let mut at = specifier;
+    for _ in 0..10_u32 {
+        match redirect_in(firsts, at) {
+            Some(next) => at = next,
+            None => return false,
+        }
+    }
+    true
+}
+
+// Which edges of a module are refused for their attributes.
+fn misfits(
+    alloc: Global,
+    following: Following,
+    firsts: &[(Url, Entry)],
+    importer: &Module,
+) -> Result<Items<bool>, AllocError>
+    requires { IsAscending firsts.now }
+    ensures { IfOk result (λ refused. refused
+        ≡ map (spec.is_misfit (rules_of following) firsts.now importer.now) (edges_of importer.now)) }
+{
+    match importer {
+        Module::Js(source) => {
+            let typed = source.media_type.is_typed();
+            misfits_among(
+                alloc,
+                following,
+                typed,
+                firsts,
+                source.dependencies.as_slice(),
+            )
+        }
+        Module::Wasm(binary) => {
+            misfits_among(
+                alloc,
+                following,
+                false,
+                firsts,
+                binary.dependencies.as_slice(),
+            )
+        }
+        Module::Json(_) => Ok(Items::new(alloc)),
+    }
+}
+
+// The same for edges of a module with types, or without.
+fn misfits_among(
+    alloc: Global,
+    following: Following,
+    typed: bool,
+    firsts: &[(Url, Entry)],
+    edges: &[Dependency],
+) -> Result<Items<bool>, AllocError>
+    requires { IsAscending firsts.now }
+    ensures { IfOk result (λ refused. refused ≡ map (spec.is_misfit_here following typed firsts.now) edges.now) }
+{
+    let mut refused = Items::new(alloc);
+    for edge in edges {
+        refused.push(is_misfit(following, typed, firsts, edge))?;
+    }
+    Ok(refused)
+}
+
+fn is_misfit(following: Following, typed: bool, firsts: &[(Url, Entry)], edge: &Dependency) -> bool
+    requires { IsAscending firsts.now }
+    ensures { result ≡ spec.is_misfit_here following typed firsts.now edge.now }
+{
+    following.is_followed(typed, edge) && is_unfit(firsts, edge)
+}
+
+// Whether the edge's attribute doesn't fit the module that the edge leads to.
+fn is_unfit(firsts: &[(Url, Entry)], edge: &Dependency) -> bool
+    requires { IsAscending firsts.now }
+    ensures { result ≡ spec.is_unfit_at firsts.now edge.now.attribute edge.now.resolution }
+{
+    match &edge.resolution {
+        Ok(target) => match module_in(firsts, target) {
+            Some(found) => !fits(&edge.attribute, found),
+            None => false,
+        },
+        Err(_) => false,
+    }
+}
+
+fn fits(attribute: &Attribute, found: &Module) -> bool
+    ensures { result ≡ fits attribute.now found.now }
+{
+    match (attribute, found) {
+        (Attribute::Absent, Module::Json(_)) => false,
+        (Attribute::Absent, _) => true,
+        (Attribute::Named(text), Module::Json(_)) => text.as_str() == "json",
+        (Attribute::Named(_), _) => false,
+        (Attribute::Unknown, _) => true,
+    }
+}
+
+// The entries by their verdicts.
+fn settle_each(
+    alloc: Global,
+    following: Following,
+    firsts: Items<(Url, Entry)>,
+    verdicts: &[Verdict],
+) -> Result<Items<(Url, Entry)>, AllocError>
+    requires { verdicts.now ≡ map (λ e. verdict_of (rules_of following) firsts e.1) firsts }
+    ensures { IfOk result (λ entries. entries ≡ finals_of (rules_of following) firsts) }
+{
+    let _ = following;
+    let mut entries = Items::new(alloc);
+    for (url, first) in firsts.into_vec() {
+        let entry = judged(alloc, &verdicts[entries.len()], first)?;
+        entries.push((url, entry))?;
+    }
+    Ok(entries)
+}
+
+fn judged(alloc: Global, verdict: &Verdict, first: Entry) -> Result<Entry, AllocError>
+    requires { spec.IsVerdictOn verdict.now first }
+    ensures { IfOk result (λ entry. entry ≡ spec.judged verdict.now first) }
+{
+    match (verdict, first) {
+        (Verdict::TooFar, Entry::Redirect(target)) => {
+            Ok(Entry::Error(ModuleError::TooManyRedirects(target)))
+        }
+        (Verdict::Judged(refused), Entry::Module(module)) => {
+            Ok(Entry::Module(judged_module(alloc, refused.as_slice(), module)?))
+        }
+        (_, first) => Ok(first),
+    }
+}
+
+fn judged_module(alloc: Global, refused: &[bool], importer: Module) -> Result<Module, AllocError>
+    requires { length refused.now ≡ length (edges_of importer) }
+    ensures { IfOk result (λ m. m ≡ with_edges importer (spec.judged_edges refused.now (edges_of importer))) }
+{
+    match importer {
+        Module::Js(source) => {
+            let JsModule {
+                media_type,
+                text,
+                dependencies,
+            } = source;
+            Ok(Module::Js(JsModule {
+                media_type,
+                text,
+                dependencies: judged_edges(alloc, refused, dependencies)?,
+            }))
+        }
+        Module::Wasm(binary) => {
+            let WasmModule {
+                bytes,
+                dependencies,
+            } = binary;
+            Ok(Module::Wasm(WasmModule {
+                bytes,
+                dependencies: judged_edges(alloc, refused, dependencies)?,
+            }))
+        }
+        Module::Json(json) => Ok(Module::Json(json)),
+    }
+}
+
+fn judged_edges(
+    alloc: Global,
+    refused: &[bool],
+    edges: Items<Dependency>,
+) -> Result<Items<Dependency>, AllocError>
+    requires { length refused.now ≡ length edges }
+    ensures { IfOk result (λ made. made ≡ spec.judged_edges refused.now edges) }
+{
+    let mut made = Items::new(alloc);
+    for edge in edges.into_vec() {
+        let is_refused = refused[made.len()];
+        made.push(settled_edge(is_refused, edge))?;
+    }
+    Ok(made)
+}
+
+fn settled_edge(is_refused: bool, edge: Dependency) -> Dependency
+    ensures { result ≡ settled_edge is_refused edge }
+{
+    if !is_refused {
+        return edge;
+    }
+    let Dependency {
+        kind,
+        type_only,
+        range,
+        text,
+        attribute,
+        resolution: _,
+    } = edge;
+    Dependency {
+        kind,
+        type_only,
+        range,
+        text,
+        attribute,
+        resolution: Err(ResolutionError::InvalidTypeAssertion),
+    }
+}
