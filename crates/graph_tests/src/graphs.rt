@@ -267,11 +267,17 @@ fn follows_redirects(rt: HostRuntime) -> Result<(), Fail> {
             "1 file:///a.tsTooManyRedirects",
         ),
         (
-            &[("file:///a.ts", "file:///b.ts"), ("file:///b.ts", "file:///a.ts")],
+            &[
+                ("file:///a.ts", "file:///b.ts"),
+                ("file:///b.ts", "file:///a.ts"),
+            ],
             "1 file:///a.tsTooManyRedirects file:///b.tsTooManyRedirects",
         ),
         (
-            &[("file:///a.ts", "file:///v/c.ts"), ("file:///d.ts", "file:///v/c.ts")],
+            &[
+                ("file:///a.ts", "file:///v/c.ts"),
+                ("file:///d.ts", "file:///v/c.ts"),
+            ],
             "1 file:///a.ts redirect file:///d.ts redirect file:///v/c.ts module",
         ),
     ];
@@ -319,10 +325,26 @@ fn compares_attributes_with_modules(rt: HostRuntime) -> Result<(), Fail> {
 fn follows_the_edges_of_a_kind(rt: HostRuntime) -> Result<(), Fail> {
     let alloc = rt.alloc();
     let cases = [
-        (GraphKind::All, "file:///a.js", "1 file:///a.js module file:///b.tsMissing"),
-        (GraphKind::CodeOnly, "file:///a.js", "1 file:///a.js module file:///b.tsMissing"),
-        (GraphKind::TypesOnly, "file:///a.js", "1 file:///a.js module"),
-        (GraphKind::TypesOnly, "file:///a.ts", "1 file:///a.ts module file:///b.tsMissing"),
+        (
+            GraphKind::All,
+            "file:///a.js",
+            "1 file:///a.js module file:///b.tsMissing",
+        ),
+        (
+            GraphKind::CodeOnly,
+            "file:///a.js",
+            "1 file:///a.js module file:///b.tsMissing",
+        ),
+        (
+            GraphKind::TypesOnly,
+            "file:///a.js",
+            "1 file:///a.js module",
+        ),
+        (
+            GraphKind::TypesOnly,
+            "file:///a.ts",
+            "1 file:///a.ts module file:///b.tsMissing",
+        ),
     ];
     for (kind, root, want) in cases {
         let given = options(alloc, kind, 9);
