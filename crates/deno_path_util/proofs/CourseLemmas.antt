@@ -5,7 +5,7 @@ use Rattle.sys_traits.specs.declared.error.SysErrorKind.TheVariants.{NotFound, F
 use Rattle.sys_traits.specs.declared.error.SysError.{SysError}
 use Rattle.sys_traits.specs.Paths.{Path}
 use Rattle.deno_path_util.specs.Atomic.{atomic_path}
-use Rattle.deno_path_util.specs.Course.{Deed, Pass, pass_deeds, pass_refusal, IsPass, Look, look_deed, look_picked, IsLook, Body, Once, Again, NotMade, body_deeds, body_picked, IsBody, Course, NotDrawn, Drawn, course_deeds, IsCourse, picked, Answer, pass_answer, IsFault, UnlessWant, IsAnswer, IsError, naming, folder_of, making, drawing, draws, IsWrite}
+use Rattle.deno_path_util.specs.Course.{Deed, Pass, pass_deeds, pass_refusal, IsPass, FolderLook, look_deed, look_picked, IsFolderLook, Body, Once, Again, NotMade, body_deeds, body_picked, IsBody, Course, NotDrawn, Drawn, course_deeds, IsCourse, picked, Answer, pass_answer, IsFault, UnlessWant, IsAnswer, IsError, naming, folder_of, making, drawing, draws, IsWrite}
 use Rattle.deno_path_util.specs.Course as course
 use Rattle.deno_path_util.specs.Course.{There, Missing, NotSeen, OfFolder, OfPath}
 use Rattle.deno_path_util.specs.Steps.{IsPassed, IsOver, IsOverAfter, IsNamed, HasEnding, IsLooked}
@@ -173,7 +173,7 @@ pub looked_there : (path : Path) (kind : SysErrorKind) (e : SysError) (calls : L
 looked_there path kind e calls is named =
     by_refusal _ _ _ _ (Some e.kind) (λ error. (There, tt, is, (e, refl, error))) (λ _. (There, tt, [], append-nil calls ∙ is)) (named_error (naming path) NotFound e named)
 
-unmade_by : (path : Path) (kind : SysErrorKind) (e : SysError) (calls : List Deed) (look : Look) → IsLook look → look_picked kind look ≡ OfFolder kind
+unmade_by : (path : Path) (kind : SysErrorKind) (e : SysError) (calls : List Deed) (look : FolderLook) → IsFolderLook look → look_picked kind look ≡ OfFolder kind
     → calls ≡ look_deed (folder_of path) look ∷ []
     → UnlessWant (Some e.kind) (IsError kind (naming (folder_of path) ++ codes "\nCheck the permission of the directory.") e) (Unit {0}) → IsLooked path kind e calls
 unmade_by path kind e calls look fine picks is named =

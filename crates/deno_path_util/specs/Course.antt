@@ -99,27 +99,27 @@ IsPass Renamed = Unit {0}
 -- ---- one atomic write
 
 -- the answer of a look for the folder
-pub data Look : Type 0 where
-  There : Look
-  Missing : Look
-  NotSeen : SysErrorKind → Look
+pub data FolderLook : Type 0 where
+  There : FolderLook
+  Missing : FolderLook
+  NotSeen : SysErrorKind → FolderLook
 
-abbrev pub look_deed : Path → Look → Deed
+abbrev pub look_deed : Path → FolderLook → Deed
 look_deed folder There = looking folder 1 None
 look_deed folder Missing = looking folder 0 None
 look_deed folder (NotSeen kind) = looking folder 0 (Some kind)
 
-abbrev pub IsLook : Look → Type 0
-IsLook There = Unit {0}
-IsLook Missing = Unit {0}
-IsLook (NotSeen kind) = IsFault kind
+abbrev pub IsFolderLook : FolderLook → Type 0
+IsFolderLook There = Unit {0}
+IsFolderLook Missing = Unit {0}
+IsFolderLook (NotSeen kind) = IsFault kind
 
 -- How a write over a temporary path goes: one pass does it, or is refused otherwise than by `NotFound`; or it is
 -- `NotFound`, and then the folder is made and a second pass ends it, or the folder isn't made and is looked for.
 pub data Body : Type 0 where
   Once : Pass → Body
   Again : Pass → Pass → Body
-  NotMade : Pass → SysErrorKind → Look → Body
+  NotMade : Pass → SysErrorKind → FolderLook → Body
 
 -- How an atomic write goes: a random byte is refused after some, or the four bytes of the temporary path are drawn.
 pub data Course : Type 0 where
@@ -151,7 +151,7 @@ course_deeds path mode (Drawn bytes body) = draws bytes ++ body_deeds (atomic_pa
 abbrev pub IsBody : Body → Type 0
 IsBody (Once pass) = IsPass pass × (pass_refusal pass ≡ Some NotFound → ⊥)
 IsBody (Again first second) = IsPass first × (pass_refusal first ≡ Some NotFound) × IsPass second
-IsBody (NotMade first kind look) = IsPass first × (pass_refusal first ≡ Some NotFound) × IsFault kind × IsLook look
+IsBody (NotMade first kind look) = IsPass first × (pass_refusal first ≡ Some NotFound) × IsFault kind × IsFolderLook look
 
 -- the rules of an atomic write
 abbrev pub IsCourse : Course → Type 0
@@ -171,7 +171,7 @@ pass_answer None = Done
 pass_answer (Some kind) = OfPath kind
 
 -- which refusal is answered where the folder isn't made: the first one if it is there all the same, else that of its making
-abbrev pub look_picked : SysErrorKind → Look → Answer
+abbrev pub look_picked : SysErrorKind → FolderLook → Answer
 look_picked kind There = OfPath NotFound
 look_picked kind Missing = OfFolder kind
 look_picked kind (NotSeen _) = OfFolder kind

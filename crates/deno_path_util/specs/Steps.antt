@@ -8,7 +8,7 @@ use Rattle.sys_traits.specs.declared.call.SysCall.{SysCall}
 use Rattle.sys_traits.specs.Paths.{Path, spot}
 use Rattle.sys_traits.specs.State.{file_at, Told, refusal_of}
 use Rattle.sys_traits.specs.Calls.{Removed}
-use Rattle.deno_path_util.specs.Course.{Deed, deeds, Pass, pass_deeds, pass_refusal, IsPass, Body, body_deeds, body_picked, IsBody, IsAnswer, IsError, UnlessWant, making, IsFault, draws, drawing, Look, IsLook, look_deed, look_picked, folder_of}
+use Rattle.deno_path_util.specs.Course.{Deed, deeds, Pass, pass_deeds, pass_refusal, IsPass, Body, body_deeds, body_picked, IsBody, IsAnswer, IsError, UnlessWant, making, IsFault, draws, drawing, FolderLook, IsFolderLook, look_deed, look_picked, folder_of}
 use Rattle.deno_path_util.specs.WriteLaw.{temporaries, IsSafe, EachIsSafe, EachKeeps, content_after}
 
 -- A stretch of calls that keeps the write law, and whose deeds are so.
@@ -55,9 +55,9 @@ pub record Quiet (Are : List Deed → Type 0) (old new : Told) : Type 0 where
 -- the look for a folder that wasn't made, and what is answered then
 abbrev pub IsLooked : Path → SysErrorKind → SysError → List Deed → Type 0
 IsLooked path refused answered calls = UnlessWant (Some answered.kind)
-    ((look : Look) × IsLook look × (calls ≡ look_deed (folder_of path) look ∷ [])
+    ((look : FolderLook) × IsFolderLook look × (calls ≡ look_deed (folder_of path) look ∷ [])
     × IsAnswer {A = Unit {0}} path (look_picked refused look) (Err answered))
-    ((look : Look) × IsLook look × (rest : List Deed) × (calls ++ rest ≡ look_deed (folder_of path) look ∷ []))
+    ((look : FolderLook) × IsFolderLook look × (rest : List Deed) × (calls ++ rest ≡ look_deed (folder_of path) look ∷ []))
 
 -- the bytes that were drawn, as the result has them, or a refused byte after some
 abbrev pub IsFour : Result (List ℕ) SysError → List Deed → Type 0

@@ -4,7 +4,7 @@ use Rattle.std.proofs.Common.{◌≡◌, refl}
 use Rattle.es_lexer.specs.declared.token.TokenKind.TheVariants as k
 use Rattle.es_tree.specs.declared.error.Lang.{Lang}
 use Rattle.es_tree.specs.declared.error.Lang.TheVariants as lang
-use Rattle.es_tree.specs.Key.{Look, is, is_end, is_token, has_kind}
+use Rattle.es_tree.specs.Key.{TokenTest, is, is_end, is_token, has_kind}
 use Rattle.es_tree.specs.Checks.{rule_takes, rule_parts_take}
 use Rattle.es_tree.specs.Tells.{Sets, IsTold, none, implies, rule_starts, rule_tells}
 use Rattle.es_tree.proofs.EachKind.{holds_everywhere, holds_of_each}
@@ -24,7 +24,7 @@ use Rattle.es_grammar.specs.Items.{opens_import, opens_default, opens_default_fu
 use Rattle.es_grammar.specs.Table.{rule}
 
 -- a token that can begin a chain, and one that can begin a pattern
-abbrev begins_chain : Look
+abbrev begins_chain : TokenTest
 begins_chain x =
     has_kind is_name x || (has_kind is_numeric x || (is k.Str x || (is k.RegExp x || (is k.TemplateWhole x
     || (is k.TemplateHead x || (is k.OpenParen x || (is k.OpenBracket x || (is k.OpenBrace x
@@ -32,22 +32,22 @@ begins_chain x =
     || (is k.FunctionWord x || (is k.ClassWord x || (is k.SuperWord x || (is k.ImportWord x
     || is k.NewWord x)))))))))))))
 
-abbrev begins_pattern : Look
+abbrev begins_pattern : TokenTest
 begins_pattern x = has_kind is_name x || (is k.OpenBracket x || is k.OpenBrace x)
 
 -- a token that can begin an operand of an operator
-abbrev begins_operand : Look
+abbrev begins_operand : TokenTest
 begins_operand x = begins_chain x || (has_kind is_prefix x || (has_kind is_update x || is k.AwaitWord x))
 
 -- a token that begins a statement of its own
-abbrev begins_keyword : Look
+abbrev begins_keyword : TokenTest
 begins_keyword x =
     has_kind is_variable_word x || (is k.IfWord x || (is k.ForWord x || (is k.WhileWord x || (is k.DoWord x
     || (is k.ContinueWord x || (is k.BreakWord x || (is k.ReturnWord x || (is k.ThrowWord x || (is k.SwitchWord x
     || (is k.TryWord x || (is k.DebuggerWord x || (is k.WithWord x || is k.Semicolon x))))))))))))
 
 -- the tokens that may begin a row
-abbrev pub first : Row → Look
+abbrev pub first : Row → TokenTest
 first (ModuleRow l) x = is_token x
 first (ItemRow l) x = is k.ExportWord x || (begins_expression x || begins_keyword x)
 first (ClauseRow l) x = has_kind is_name x || (is k.Star x || is k.OpenBrace x)
@@ -104,7 +104,7 @@ first (ElementRow c) x = is k.Ellipsis x || begins_expression x
 first (TemplateRow c) x = is k.TemplateWhole x || is k.TemplateHead x
 
 -- the tokens that may follow a row, where a list at its end is told by them; any token may follow the others
-abbrev pub follow : Row → Look
+abbrev pub follow : Row → TokenTest
 follow (ModuleRow l) x = is_end x
 follow ScriptRow x = is_end x
 follow (ParametersRow c) x = is k.CloseParen x

@@ -3,7 +3,7 @@
 use Rattle.std.specs.Prelude.{Bool, true, false, ◌||◌}
 use Rattle.std.proofs.Common.{◌≡◌, refl}
 use Rattle.es_lexer.specs.declared.token.TokenKind.TheVariants as k
-use Rattle.es_tree.specs.Key.{Look, is, has_kind}
+use Rattle.es_tree.specs.Key.{TokenTest, is, has_kind}
 use Rattle.es_tree.specs.Checks.{rule_takes, rule_parts_take}
 use Rattle.es_tree.specs.Tells.{Sets, IsTold, none, implies, rule_starts, rule_tells}
 use Rattle.es_tree.proofs.EachKind.{holds_everywhere, holds_of_each}
@@ -19,11 +19,11 @@ use Rattle.es_grammar.specs.Types.{is_literal_word, begins_type, parenthesized_t
 use Rattle.es_grammar.specs.TypeTable.{type_rule}
 
 -- a token that can begin a parameter or its pattern
-abbrev begins_pattern : Look
+abbrev begins_pattern : TokenTest
 begins_pattern x = has_kind is_name x || (is k.OpenBracket x || is k.OpenBrace x)
 
 -- the tokens that may begin a row
-abbrev pub first : Row → Look
+abbrev pub first : Row → TokenTest
 first (TypeRow c) x = begins_type x
 first IntersectionRow x = begins_type x
 first OperandRow x = begins_type x
@@ -44,7 +44,7 @@ first PatternPropertyRow x = is k.Ellipsis x || (has_kind is_word x || (is k.Str
 first PatternKeyRow x = has_kind is_word x || (is k.Str x || has_kind is_numeric x)
 
 -- the tokens that may follow a row: the tests of the others tell whatever follows
-abbrev pub follow : Row → Look
+abbrev pub follow : Row → TokenTest
 follow ParametersRow x = is k.CloseParen x
 follow _ x = true
 

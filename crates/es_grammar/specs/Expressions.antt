@@ -2,7 +2,7 @@
 use Rattle.std.specs.Prelude.{ℕ, ◌+◌, ◌-◌, Bool, true, false, not, ◌&&◌, ◌||◌, List, Option, Some, None, slice_get}
 use Rattle.es_lexer.specs.declared.token.TokenKind.{TokenKind}
 use Rattle.es_lexer.specs.declared.token.TokenKind.TheVariants as k
-use Rattle.es_tree.specs.Key.{Key, Look, seen, same_kind, has_kind, is, is_end}
+use Rattle.es_tree.specs.Key.{Key, TokenTest, seen, same_kind, has_kind, is, is_end}
 use Rattle.es_tree.specs.Form.{as_str, as_name, as_raw, as_kind, as_there, hint, taken, guarded, Guard, Form, done, tok, punct, row, opt, many, alt, when_, where_, Rule, make, choose, pick, wrap}
 use Rattle.es_grammar.specs.Words.{only, is_between, is_name, is_numeric, is_near, is_other, partner_of, closes_before}
 use Rattle.es_grammar.specs.declared.rows.Context.{Context}
@@ -81,7 +81,7 @@ opens_right_assignment K at =
 
 -- ---- what begins and what ends an expression
 
-unfoldable pub begins_expression : Look
+unfoldable pub begins_expression : TokenTest
 begins_expression x =
     has_kind is_name x || (has_kind is_numeric x || (is k.Str x || (is k.RegExp x || (is k.TemplateWhole x
     || (is k.TemplateHead x || (is k.OpenParen x || (is k.OpenBracket x || (is k.OpenBrace x || (is k.ThisWord x
@@ -90,7 +90,7 @@ begins_expression x =
     || (is k.AwaitWord x || (is k.YieldWord x || is k.PrivateName x)))))))))))))))))))))
 
 -- a token that would go on with the expression before it
-unfoldable pub continues_expression : Look
+unfoldable pub continues_expression : TokenTest
 continues_expression x =
     is k.OpenParen x || (is k.OpenBracket x || (is k.Dot x || (is k.QuestionDot x || (is k.Comma x || (is k.Question x
     || (is k.Arrow x || (is k.TemplateWhole x || (is k.TemplateHead x || (is k.StarStar x || (is k.Greater x
@@ -116,10 +116,10 @@ ends_expression K at =
 
 -- ---- arrows
 
-unfoldable pub is_arrow : Look
+unfoldable pub is_arrow : TokenTest
 is_arrow x = is_near x && is k.Arrow x
 
-unfoldable pub no_arrow : Look
+unfoldable pub no_arrow : TokenTest
 no_arrow x = not (is_arrow x)
 
 -- a name before `=>` on its line, or `(` whose `)` stands there
@@ -282,7 +282,7 @@ is_module c K at = not c.script
 unfoldable pub import_meta : Context → Rule Row Label
 import_meta c = make ImportMeta (where_ (is_module c) (punct k.ImportWord (punct k.Dot (punct k.MetaWord done))))
 
-unfoldable pub follows_super : Look
+unfoldable pub follows_super : TokenTest
 follows_super x = is k.Dot x || (is k.OpenBracket x || is k.OpenParen x)
 
 -- Base: Prim | 'super' | 'import' '(' .. ')' | 'import' '.' 'meta' | 'new' '.' 'target' | 'new' Chain1 Args?
@@ -304,10 +304,10 @@ arguments c =
     (punct k.CloseParen done)))
 
 -- a token that begins a member, and one that begins a further part of a chain
-unfoldable pub begins_member : Look
+unfoldable pub begins_member : TokenTest
 begins_member x = is k.Dot x || (is k.OpenBracket x || (is k.TemplateWhole x || is k.TemplateHead x))
 
-unfoldable pub begins_post : Look
+unfoldable pub begins_post : TokenTest
 begins_post x = begins_member x || (is k.OpenParen x || is k.QuestionDot x)
 
 -- '.' (Name | PrivateName) | '[' Expr ']' | Tpl
@@ -347,10 +347,10 @@ callee c =
 unfoldable pub may_await : Context → Guard
 may_await c K at = not c.script || c.in_async
 
-unfoldable pub is_update_here : Look
+unfoldable pub is_update_here : TokenTest
 is_update_here x = is_near x && has_kind is_update x
 
-unfoldable pub no_update_here : Look
+unfoldable pub no_update_here : TokenTest
 no_update_here x = not (is_update_here x)
 
 -- ('++' | '--') Unary | Chain (~ ('++' | '--'))?
@@ -438,7 +438,7 @@ unfoldable pub and_ : Context → Rule Row Label → Rule Row Label
 and_ c operand = level (only k.AmpersandAmpersand) (BitOrRow c) operand
 
 -- neither '&&' nor '||'
-unfoldable pub no_mix : Look
+unfoldable pub no_mix : TokenTest
 no_mix x = not (is k.AmpersandAmpersand x) && not (is k.BarBar x)
 
 -- '??' mixes with '||' or '&&' only in brackets
@@ -469,7 +469,7 @@ unfoldable pub opens_assignment : Guard
 opens_assignment K at = has_kind is_assignment (seen K at) || opens_right_assignment K at
 
 -- an operand of `yield` stands here
-unfoldable pub is_operand : Look
+unfoldable pub is_operand : TokenTest
 is_operand x = is_near x && (is k.Star x || begins_expression x)
 
 -- 'yield' (~ '*'? Assign)?

@@ -2,7 +2,7 @@
 -- of objects.
 use Rattle.std.specs.Prelude.{ℕ, ◌+◌, Bool, true, false, not, ◌&&◌, ◌||◌, Option, Some, None, slice_get}
 use Rattle.es_lexer.specs.declared.token.TokenKind.TheVariants as k
-use Rattle.es_tree.specs.Key.{Look, seen, has_kind, is}
+use Rattle.es_tree.specs.Key.{TokenTest, seen, has_kind, is}
 use Rattle.es_tree.specs.Form.{as_str, as_name, as_raw, as_kind, hint, taken, Guard, Form, done, tok, punct, row, opt, many, alt, when_, where_, Rule, make, choose, as_, pick, wrap}
 use Rattle.es_grammar.specs.Words.{only, is_name, is_word, is_numeric, is_accessor_word, is_near, is_other, begins_key, partner_of, closes_before}
 use Rattle.es_grammar.specs.declared.rows.Context.{Context}
@@ -34,7 +34,7 @@ object_pattern t c =
     (punct k.CloseBrace done)))
 
 -- a pattern inside a pattern that is assigned to: `[` or `{` whose closer is followed by `=`, `,`, `]` or `}`
-unfoldable pub follows_pattern : Look
+unfoldable pub follows_pattern : TokenTest
 follows_pattern x = is k.Equal x || (is k.Comma x || (is k.CloseBracket x || is k.CloseBrace x))
 
 unfoldable pub opens_inner_pattern : Guard
@@ -72,7 +72,7 @@ behind_key at (Some closer) = closer + 1
 behind_key at None = at + 1
 
 -- the test of the token behind a key
-abbrev pub key_before : Look → Guard
+abbrev pub key_before : TokenTest → Guard
 key_before t K at = t (seen K (behind_key at (partner_of (slice_get K at))))
 
 unfoldable pub opens_value : Guard
@@ -89,7 +89,7 @@ pattern_property t c =
 -- ---- parameters
 
 -- a parameter stands here: neither `)` nor `...`
-unfoldable pub is_parameter : Look
+unfoldable pub is_parameter : TokenTest
 is_parameter x = not (is k.CloseParen x) && not (is k.Ellipsis x)
 
 -- Params: Param% | (Param ',')* '...' Pat
@@ -127,7 +127,7 @@ key true c = choose (is k.PrivateName) (make PrivateKey (tok as_name (only k.Pri
 -- ---- properties of objects
 
 -- a token that can begin a key, in classes (true) a private one too
-abbrev pub starts_key : Bool → Look
+abbrev pub starts_key : Bool → TokenTest
 starts_key true x = is k.PrivateName x || begins_key x
 starts_key false x = begins_key x
 

@@ -2,7 +2,7 @@
 use Rattle.std.specs.Prelude.{ℕ, ◌+◌, Bool, true, not, ◌&&◌, ◌||◌, List, Option, Some, None, slice_get}
 use Rattle.es_lexer.specs.declared.token.TokenKind.{TokenKind}
 use Rattle.es_lexer.specs.declared.token.TokenKind.TheVariants as k
-use Rattle.es_tree.specs.Key.{Key, Look, seen, same_kind, has_kind, is, is_after_line}
+use Rattle.es_tree.specs.Key.{Key, TokenTest, seen, same_kind, has_kind, is, is_after_line}
 use Rattle.es_tree.specs.Form.{as_str, as_name, as_raw, as_kind, as_there, taken, Guard, Form, done, tok, punct, row, opt, alt, when_, where_, Rule, make, choose, pick}
 use Rattle.es_grammar.specs.Words.{only, is_name, is_word, is_numeric, is_accessor_word, is_near, begins_key, partner_of}
 use Rattle.es_grammar.specs.TypeRows.{Row, TypeRow, EntityRow, KeyRow, ResultRow, Label, CallSignature, ConstructSignature, IndexSignature, AccessorSignature, MethodSignature, PropertySignature, ReadonlyProperty, WordKey, StrKey, NumberKey, ComputedKey}
@@ -17,7 +17,7 @@ unfoldable pub is_separator : TokenKind → Bool
 is_separator kind = same_kind kind k.Semicolon || same_kind kind k.Comma
 
 -- before SEP: `;` or `,`, or `}`, or a token on a new line
-unfoldable pub may_separate : Look
+unfoldable pub may_separate : TokenTest
 may_separate x = has_kind is_separator x || (is k.CloseBrace x || is_after_line x)
 
 -- SEP: `;` or `,`, which is taken where it is there
@@ -25,7 +25,7 @@ unfoldable pub separator : Form Row
 separator = when_ may_separate (opt (taken (has_kind is_separator)) (tok as_there is_separator done) done)
 
 -- `(` or `<`
-unfoldable pub opens_parameters : Look
+unfoldable pub opens_parameters : TokenTest
 opens_parameters x = is k.OpenParen x || is k.Less x
 
 -- TParams? '(' Params ')' (':' Ret)? SEP

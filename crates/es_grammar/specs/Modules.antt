@@ -3,7 +3,7 @@ use Rattle.std.specs.Prelude.{ℕ, ◌+◌, Bool, true, false, not, ◌&&◌, �
 use Rattle.es_lexer.specs.declared.token.TokenKind.TheVariants as k
 use Rattle.es_tree.specs.declared.error.Lang.{Lang}
 use Rattle.es_tree.specs.declared.error.Lang.TheVariants as lang
-use Rattle.es_tree.specs.Key.{Look, seen, has_kind, is, is_end, is_after_line}
+use Rattle.es_tree.specs.Key.{TokenTest, seen, has_kind, is, is_end, is_after_line}
 use Rattle.es_tree.specs.Form.{as_str, as_name, as_there, hint, taken, guarded, Guard, Form, done, tok, punct, row, opt, many, alt, when_, where_, Rule, make, choose, pick}
 use Rattle.es_grammar.specs.Words.{only, is_name, is_word, is_name_or_this, is_other}
 use Rattle.es_grammar.specs.declared.rows.Row.{Row}
@@ -17,7 +17,7 @@ is_typescript lang.Es = false
 is_typescript lang.Typescript = true
 
 -- before END: a `;`, or `}`, or the end, or a token on a new line
-unfoldable pub may_end : Look
+unfoldable pub may_end : TokenTest
 may_end x = is k.Semicolon x || (is k.CloseBrace x || (is_end x || is_after_line x))
 
 -- END: a `;`, which is taken where it is there (ECMA-262, "Automatic Semicolon Insertion")

@@ -2,7 +2,7 @@
 use Rattle.std.specs.Prelude.{◌+◌, true, not, ◌&&◌, ◌||◌}
 use Rattle.es_lexer.specs.declared.token.TokenKind.{TokenKind}
 use Rattle.es_lexer.specs.declared.token.TokenKind.TheVariants as k
-use Rattle.es_tree.specs.Key.{Look, seen, has_kind, is}
+use Rattle.es_tree.specs.Key.{TokenTest, seen, has_kind, is}
 use Rattle.es_tree.specs.Form.{as_str, as_name, as_raw, as_there, hint, taken, Guard, Form, done, tok, punct, row, opt, many, alt, when_, Rule, make, choose, pick, wrap}
 use Rattle.es_grammar.specs.Words.{only, is_name, is_word, is_numeric, is_other}
 use Rattle.es_grammar.specs.TypeRows.{Row, TypeRow, TypeParametersRow, ParametersRow, ParameterRow, PatternRow, PatternElementRow, PatternPropertyRow, PatternKeyRow, Label, Parameters, ThisParameter, MarkedParameter, NamePattern, ArrayPattern, ObjectPattern, RestPattern, RestProperty, KeyProperty, NameProperty, WordPatternKey, StrPatternKey, NumberPatternKey}
@@ -27,7 +27,7 @@ list_before closer r f =
     many (hint (is_other closer)) (row r (opt (taken (is_other closer)) (punct k.Comma done) done)) f
 
 -- a parameter stands here: neither `)` nor `...`
-unfoldable pub is_parameter : Look
+unfoldable pub is_parameter : TokenTest
 is_parameter x = not (is k.CloseParen x) && not (is k.Ellipsis x)
 
 -- Params: Param% | (Param ',')* '...' Pat (':' Type)?
@@ -38,10 +38,10 @@ parameters =
     (opt (taken (is k.Ellipsis)) (punct k.Ellipsis (row PatternRow (type_in done))) done))
 
 -- neither `?` nor `:`
-unfoldable pub has_mark : Look
+unfoldable pub has_mark : TokenTest
 has_mark x = is k.Question x || is k.Colon x
 
-unfoldable pub no_mark : Look
+unfoldable pub no_mark : TokenTest
 no_mark x = not (has_mark x)
 
 -- Pat: Name | '[' (PElem? ',')* PElem? ']' | '{' PProp% '}'

@@ -2,7 +2,7 @@
 use Rattle.std.specs.Prelude.{ℕ, zero, suc, ◌+◌, ◌-◌, ltb, Bool, true, false, not, ◌&&◌, ◌||◌, if◌then◌else◌, List, Option, Some, None, slice_get, length}
 use Rattle.es_lexer.specs.declared.token.TokenKind.{TokenKind}
 use Rattle.es_lexer.specs.declared.token.TokenKind.TheVariants as k
-use Rattle.es_tree.specs.Key.{Key, Look, seen, same_kind, has_kind, is}
+use Rattle.es_tree.specs.Key.{Key, TokenTest, seen, same_kind, has_kind, is}
 use Rattle.es_tree.specs.Form.{as_name, as_kind, as_there, hint, taken, Guard, Form, done, tok, punct, row, opt, many, alt, when_, where_, Rule, make, choose, pick, wrap, guarded}
 use Rattle.es_grammar.specs.Words.{only, is_name, is_near, is_other, partner_of, closes_before}
 use Rattle.es_grammar.specs.declared.rows.Context.{Context}
@@ -96,7 +96,7 @@ unfoldable pub opens_for_await : Guard
 opens_for_await K at = is k.AwaitWord (seen K (at + 1))
 
 -- `of` or `in`
-unfoldable pub is_each : Look
+unfoldable pub is_each : TokenTest
 is_each x = is k.OfWord x || is k.InWord x
 
 -- `[` or `{` whose closer is followed by `of` or `in`
@@ -151,14 +151,14 @@ for_await c =
 -- ---- statements
 
 -- a name on the line of the token before it
-unfoldable pub is_label_here : Look
+unfoldable pub is_label_here : TokenTest
 is_label_here x = is_near x && has_kind is_name x
 
 -- (~ Name)? END
 unfoldable pub label_ended : Form Row
 label_ended = opt (taken is_label_here) (when_ is_near (tok as_name is_name done)) ended
 
-unfoldable pub is_value_here : Look
+unfoldable pub is_value_here : TokenTest
 is_value_here x = is_near x && begins_expression x
 
 -- 'return' (~ Expr)? END
@@ -168,10 +168,10 @@ return_ c =
     (ExpressionRow c) expression_ended)) ended done))
 
 -- a clause of `switch` begins here, and its statements end before such a clause or `}`
-unfoldable pub is_case : Look
+unfoldable pub is_case : TokenTest
 is_case x = is k.CaseWord x || is k.DefaultWord x
 
-unfoldable pub is_in_case : Look
+unfoldable pub is_in_case : TokenTest
 is_in_case x = not (is_case x) && is_other k.CloseBrace x
 
 -- ('case' Expr | 'default') ':' Stmt*
@@ -206,7 +206,7 @@ unfoldable pub opens_label : Guard
 opens_label K at = has_kind is_name (seen K at) && is k.Colon (seen K (at + 1))
 
 -- an expression statement begins with neither `{`, `function` nor `class`
-unfoldable pub begins_no_other : Look
+unfoldable pub begins_no_other : TokenTest
 begins_no_other x = not (is k.OpenBrace x || (is k.FunctionWord x || is k.ClassWord x))
 
 -- Expr END

@@ -2,7 +2,7 @@
 use Rattle.std.specs.Prelude.{◌+◌, Bool, true, not, ◌&&◌, ◌||◌}
 use Rattle.es_lexer.specs.declared.token.TokenKind.{TokenKind}
 use Rattle.es_lexer.specs.declared.token.TokenKind.TheVariants as k
-use Rattle.es_tree.specs.Key.{Look, seen, same_kind, has_kind, is}
+use Rattle.es_tree.specs.Key.{TokenTest, seen, same_kind, has_kind, is}
 use Rattle.es_tree.specs.Form.{as_str, as_name, as_kind, hint, taken, guarded, Guard, Form, done, tok, punct, row, opt, many, when_, Rule, make, wrap}
 use Rattle.es_grammar.specs.Words.{only, is_name, is_near, is_other}
 use Rattle.es_grammar.specs.TypeRows.{Row, TypeRow, EntityRow, ArgumentsRow, Label, Entity, Reference, ImportType, TypeArguments, TypeParameters}
@@ -16,10 +16,10 @@ unfoldable pub entity : (TokenKind → Bool) → Rule Row Label
 entity may = make Entity (tok as_name may (further_names done))
 
 -- `<` on the line of the token before it
-unfoldable pub opens_arguments : Look
+unfoldable pub opens_arguments : TokenTest
 opens_arguments x = is_near x && is k.Less x
 
-unfoldable pub no_arguments : Look
+unfoldable pub no_arguments : TokenTest
 no_arguments x = not (opens_arguments x)
 
 -- Ref: Entity (~ TArgs)?

@@ -2,7 +2,7 @@
 use Rattle.std.specs.Prelude.{◌+◌, Bool, true, false, not, ◌&&◌, ◌||◌}
 use Rattle.es_lexer.specs.declared.token.TokenKind.{TokenKind}
 use Rattle.es_lexer.specs.declared.token.TokenKind.TheVariants as k
-use Rattle.es_tree.specs.Key.{Look, seen, same_kind, has_kind, is, is_end, is_after_line}
+use Rattle.es_tree.specs.Key.{TokenTest, seen, same_kind, has_kind, is, is_end, is_after_line}
 use Rattle.es_tree.specs.Form.{as_str, as_name, as_raw, as_kind, as_there, hint, taken, guarded, Guard, Form, done, tok, punct, row, opt, many, alt, when_, Rule, make, choose, pick, wrap}
 use Rattle.es_grammar.specs.Words.{only, is_name, is_name_or_this, is_numeric, is_sign, is_near, is_other, closes_before}
 use Rattle.es_grammar.specs.TypeRows.{Row, TypeRow, IntersectionRow, OperandRow, ReferenceRow, ImportRow, ElementRow, MemberRow, ResultRow, Label, FunctionType, ConstructorType, ConditionalType, UnionType, LeadingUnionType, IntersectionType, LeadingIntersectionType, TypeOperator, InferType, ArrayTypes, KeywordType, ThisType, WordType, StrType, NumberType, TemplateType, TemplateTypes, TypeQuery, ParenthesizedType, MembersType, TupleType, MappedType, RestElement, LabelledElement, OptionalElement, AssertsResult, PredicateResult}
@@ -16,7 +16,7 @@ is_literal_word kind =
     || same_kind kind k.FalseWord))
 
 -- a token that can begin a type
-unfoldable pub begins_type : Look
+unfoldable pub begins_type : TokenTest
 begins_type x =
     has_kind is_name_or_this x
     || (is k.OpenParen x || (is k.OpenBrace x || (is k.OpenBracket x || (is k.Less x || (is k.NewWord x
@@ -53,7 +53,7 @@ unfoldable pub sign_in : Form Row → Form Row
 sign_in f = opt (taken (has_kind is_sign)) (tok as_kind is_sign done) f
 
 -- a sign or this token
-unfoldable pub begins_signed : TokenKind → Look
+unfoldable pub begins_signed : TokenKind → TokenTest
 begins_signed kind x = has_kind is_sign x || is kind x
 
 -- Mapped: '{' (('+' | '-')? 'readonly')? '[' Name 'in' Type ('as' Type)? ']' (('+' | '-')? '?')? (':' Type)? ';'? '}'
@@ -126,7 +126,7 @@ primary_type =
 -- ---- operators
 
 -- `[` on the line of the token before it
-unfoldable pub opens_brackets : Look
+unfoldable pub opens_brackets : TokenTest
 opens_brackets x = is_near x && is k.OpenBracket x
 
 -- ~ '[' Type? ']', and what stands behind it
@@ -175,10 +175,10 @@ union_type =
     (wrap UnionType intersection_type (taken (is k.Bar)) (operands_in k.Bar IntersectionRow))
 
 -- `extends` on the line of the token before it
-unfoldable pub opens_condition : Look
+unfoldable pub opens_condition : TokenTest
 opens_condition x = is_near x && is k.ExtendsWord x
 
-unfoldable pub no_condition : Look
+unfoldable pub no_condition : TokenTest
 no_condition x = not (opens_condition x)
 
 -- Union (~ 'extends' Type '?' Type ':' Type)?, whose `extends` operand holds no conditional type outside deeper
@@ -240,7 +240,7 @@ element =
 -- `is` behind `asserts` is the name that is asserted where a token on a new line, `{`, `is`, or one that can't begin a
 -- type
 -- follows it
-unfoldable pub is_asserted_name : Look
+unfoldable pub is_asserted_name : TokenTest
 is_asserted_name x = is_end x || (is_after_line x || (is k.OpenBrace x || (is k.IsWord x || not (begins_type x))))
 
 unfoldable pub opens_asserts : Guard

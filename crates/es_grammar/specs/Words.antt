@@ -4,7 +4,7 @@ use denote.Enum.Declared.{tag_of}
 use Rattle.es_lexer.specs.declared.token.TokenKind.{TokenKind}
 use Rattle.es_lexer.specs.declared.token.TokenKind.TheVariants as k
 use Rattle.es_lexer.specs.contracts.token.TokenKind.{the_type}
-use Rattle.es_tree.specs.Key.{Key, Look, seen, same_kind, has_kind, is, is_after_line}
+use Rattle.es_tree.specs.Key.{Key, TokenTest, seen, same_kind, has_kind, is, is_after_line}
 use Rattle.es_tree.specs.Form.{Guard}
 
 -- this kind alone
@@ -40,15 +40,15 @@ unfoldable pub is_accessor_word : TokenKind → Bool
 is_accessor_word kind = same_kind kind k.GetWord || same_kind kind k.SetWord
 
 -- ~: on the line of the token before it
-unfoldable pub is_near : Look
+unfoldable pub is_near : TokenTest
 is_near x = not (is_after_line x)
 
 -- another token than this one
-abbrev pub is_other : TokenKind → Look
+abbrev pub is_other : TokenKind → TokenTest
 is_other kind x = not (is kind x)
 
 -- a token that can begin the key of a property
-unfoldable pub begins_key : Look
+unfoldable pub begins_key : TokenTest
 begins_key x = has_kind is_word x || (is k.Str x || (has_kind is_numeric x || is k.OpenBracket x))
 
 -- the number of the bracket that matches one
@@ -57,10 +57,10 @@ partner_of (Some key) = key.partner
 partner_of None = None
 
 -- the test of the token behind a bracket
-abbrev pub is_behind : Look → List Key → Option ℕ → Bool
+abbrev pub is_behind : TokenTest → List Key → Option ℕ → Bool
 is_behind t K (Some closer) = t (seen K (closer + 1))
 is_behind t K None = false
 
 -- the test of the token behind the bracket that matches the one at the place
-abbrev pub closes_before : Look → Guard
+abbrev pub closes_before : TokenTest → Guard
 closes_before t K at = is_behind t K (partner_of (slice_get K at))

@@ -4,7 +4,7 @@ use Rattle.std.proofs.Common.{◌≡◌, ℕ, zero, suc, ◌-◌, ◌≤◌, len
 use Rattle.std.proofs.lemmas.Option.{slice_get_past}
 use Rattle.es_lexer.specs.declared.token.Token.{Token}
 use Rattle.es_lexer.specs.declared.token.TokenKind.{TokenKind}
-use Rattle.es_tree.specs.Key.{Look, Seen, seen, keys_of, keys_after, same_kind}
+use Rattle.es_tree.specs.Key.{TokenTest, Seen, seen, keys_of, keys_after, same_kind}
 use Rattle.es_grammar.specs.Words.{partner_of}
 use Rattle.es_grammar.specs.Expressions.{is_joined, joins}
 
@@ -43,19 +43,19 @@ pub seen_none : (ts : List Token) (at : ℕ) → None ≡ slice_get ts at → No
 seen_none ts at e = ap token_seen e ∙ sym (seen-keys_of ts at)
 
 -- a test of a token that is there
-pub look_some : (t : Look) (ts : List Token) (at : ℕ) (tok : Token) → Some tok ≡ slice_get ts at
+pub look_some : (t : TokenTest) (ts : List Token) (at : ℕ) (tok : Token) → Some tok ≡ slice_get ts at
     → t (Some (record { kind = tok.kind; line_before = tok.line_before })) ≡ t (seen (keys_of ts) at)
 look_some t ts at tok e = ap t (seen_some ts at tok e)
 
 -- a test at the end
-pub look_none : (t : Look) (ts : List Token) (at : ℕ) → None ≡ slice_get ts at → t None ≡ t (seen (keys_of ts) at)
+pub look_none : (t : TokenTest) (ts : List Token) (at : ℕ) → None ≡ slice_get ts at → t None ≡ t (seen (keys_of ts) at)
 look_none t ts at e = ap t (seen_none ts at e)
 
 pub seen_past : (ts : List Token) (at : ℕ) → length ts ≤ at → None ≡ seen (keys_of ts) at
 seen_past ts at past = seen_none ts at (sym (slice_get_past ts at past))
 
 -- a test behind the last
-pub look_past : (t : Look) (ts : List Token) (at : ℕ) → length ts ≤ at → t None ≡ t (seen (keys_of ts) at)
+pub look_past : (t : TokenTest) (ts : List Token) (at : ℕ) → length ts ≤ at → t None ≡ t (seen (keys_of ts) at)
 look_past t ts at past = ap t (seen_past ts at past)
 
 -- ---- partners

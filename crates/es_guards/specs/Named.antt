@@ -1,7 +1,7 @@
 -- The tests and guards of the tables that are named by a value, and what each is.
 use Rattle.std.specs.Prelude.{Bool, true}
 use Rattle.es_lexer.specs.declared.token.TokenKind.{TokenKind}
-use Rattle.es_tree.specs.Key.{Look, has_kind, is, is_token}
+use Rattle.es_tree.specs.Key.{TokenTest, has_kind, is, is_token}
 use Rattle.es_tree.specs.Form.{Guard}
 use Rattle.es_grammar.specs.Words.{only, is_other, is_name, is_word, is_name_or_this, is_numeric, is_accessor_word, is_near}
 use Rattle.es_grammar.specs.Modules.{may_end, opens_type_import, opens_type_name, is_renamed, is_no_type_as_as, has_comma, opens_equals, opens_require, opens_bare, opens_type_export, opens_all, opens_exported_equals, opens_exported_require, opens_namespace}
@@ -37,7 +37,7 @@ kinds_of kinds.LiteralWord = is_literal_word
 kinds_of kinds.VariableWord = is_variable_word
 
 -- the test of the next token that is named
-abbrev pub look_of : Ahead → Look
+abbrev pub look_of : Ahead → TokenTest
 look_of (ahead.Is kind) = is kind
 look_of (ahead.Other kind) = is_other kind
 look_of (ahead.Has named) = has_kind (kinds_of named)

@@ -8,7 +8,7 @@ use Rattle.es_lexer.specs.declared.token.TokenKind.{TokenKind}
 use Rattle.es_tree.specs.declared.error.SyntaxError.{SyntaxError}
 use Rattle.es_tree.specs.declared.error.SyntaxError.TheVariants.{OutOfMemory}
 use Rattle.es_ast.specs.declared.ast.ModuleItem.{ModuleItem}
-use Rattle.es_tree.specs.Key.{Look, seen, keys_of, is}
+use Rattle.es_tree.specs.Key.{TokenTest, seen, keys_of, is}
 use Rattle.es_tree.specs.Form.{as_str}
 use Rattle.es_tree.specs.Reader.{Out, nothing}
 use Rattle.es_parser.specs.Dress.{Value, absent, more, str, leaf_value, end_of, start_of, end_before, span_of, items_in}
@@ -22,15 +22,15 @@ use Rattle.es_parser.proofs.TokenLemmas.{seen_some, seen_none}
 -- ---- tokens
 
 -- a test of a token that is there
-pub look_some : (t : Look) (ts : List Token) (at : ℕ) (tok : Token) → Some tok ≡ slice_get ts at
+pub look_some : (t : TokenTest) (ts : List Token) (at : ℕ) (tok : Token) → Some tok ≡ slice_get ts at
     → t (Some (record { kind = tok.kind; line_before = tok.line_before })) ≡ t (seen (keys_of ts) at)
 look_some t ts at tok e = sym (ap t (seen_some ts at tok (sym e)))
 
 -- a test at the end
-pub look_none : (t : Look) (ts : List Token) (at : ℕ) → None ≡ slice_get ts at → t None ≡ t (seen (keys_of ts) at)
+pub look_none : (t : TokenTest) (ts : List Token) (at : ℕ) → None ≡ slice_get ts at → t None ≡ t (seen (keys_of ts) at)
 look_none t ts at e = sym (ap t (seen_none ts at (sym e)))
 
-pub look_past : (t : Look) (ts : List Token) (at : ℕ) → length ts ≤ at → t None ≡ t (seen (keys_of ts) at)
+pub look_past : (t : TokenTest) (ts : List Token) (at : ℕ) → length ts ≤ at → t None ≡ t (seen (keys_of ts) at)
 look_past t ts at past = look_none t ts at (sym (slice_get_past ts at past))
 
 -- the token at a place has the kind that is seen there

@@ -5,7 +5,7 @@ use Rattle.es_lexer.specs.declared.token.TokenKind.TheVariants as k
 use Rattle.es_tree.specs.declared.error.Lang.{Lang}
 use Rattle.es_tree.specs.declared.error.Mode.{Mode}
 use Rattle.es_tree.specs.declared.error.Mode.TheVariants as mode
-use Rattle.es_tree.specs.Key.{Look, is, is_end, is_token}
+use Rattle.es_tree.specs.Key.{TokenTest, is, is_end, is_token}
 use Rattle.es_tree.specs.Checks.{rule_takes, rule_parts_take, is_flat}
 use Rattle.es_tree.specs.Tells.{Sets, IsTold, none, implies, rule_starts, rule_tells}
 use Rattle.es_tree.proofs.EachKind.{holds_everywhere, holds_of_each}
@@ -15,12 +15,12 @@ use Rattle.es_tree.proofs.Theorems.{IsGrammar}
 use Rattle.es_parser.specs.Rows.{Row, ProgramRow, ItemRow, rule, program, module_program, one_item, item, import_item, empty_item, ended, may_end}
 
 -- the tokens that may begin a row
-abbrev pub first : Row → Look
+abbrev pub first : Row → TokenTest
 first (ProgramRow l m) x = is_token x
 first (ItemRow l m) x = is k.ImportWord x || is k.Semicolon x
 
 -- the tokens that may follow a row
-abbrev pub follow : Row → Look
+abbrev pub follow : Row → TokenTest
 follow (ProgramRow l m) x = is_end x
 follow (ItemRow l m) x = true
 

@@ -5,7 +5,7 @@ use Rattle.es_lexer.specs.declared.token.TokenKind.TheVariants as k
 use Rattle.es_tree.specs.declared.error.Lang.{Lang}
 use Rattle.es_tree.specs.declared.error.Mode.{Mode}
 use Rattle.es_tree.specs.declared.error.Mode.TheVariants as mode
-use Rattle.es_tree.specs.Key.{Look, same_kind, is, is_end, is_token, is_after_line}
+use Rattle.es_tree.specs.Key.{TokenTest, same_kind, is, is_end, is_token, is_after_line}
 use Rattle.es_tree.specs.Form.{as_str, hint, taken, Form, done, tok, punct, row, opt, many, when_, Rule, refuse, make, choose}
 
 -- the rows
@@ -20,7 +20,7 @@ pub data Label : Type 0 where
   EmptyItem : Label
 
 -- before END: a `;`, or the end, or a token on a new line
-unfoldable pub may_end : Look
+unfoldable pub may_end : TokenTest
 may_end x = is k.Semicolon x || (is_end x || is_after_line x)
 
 -- END: a `;`, which is taken where it is there (ECMA-262, "Automatic Semicolon Insertion")

@@ -3,7 +3,7 @@ use Rattle.std.specs.Prelude.{◌≡◌, ◌≢◌, ℕ, List, [], ◌∷◌, Re
 use Rattle.es_lexer.specs.declared.token.Token.{Token}
 use Rattle.es_tree.specs.declared.error.SyntaxError.{SyntaxError}
 use Rattle.es_tree.specs.declared.error.SyntaxError.TheVariants.{OutOfMemory}
-use Rattle.es_tree.specs.Key.{Look, seen, keys_of}
+use Rattle.es_tree.specs.Key.{TokenTest, seen, keys_of}
 use Rattle.es_tree.specs.Form.{Form, Rule}
 use Rattle.es_tree.specs.Reader.{Out, nothing, gives, read_turns, read_form, read_rule, read_row}
 use Rattle.es_parser.specs.Rows.{Row, Label, rule}
@@ -39,7 +39,7 @@ abbrev pub parts : List ℕ → List Token → ℕ → Form Row → ℕ → Out 
 parts x ts room f at = form_at x ts (row_at x ts room) f at
 
 -- the reader of a list, by the form of a turn
-abbrev pub turns_at : List ℕ → List Token → Below → Look → Form Row → ℕ → ℕ → Out Value
+abbrev pub turns_at : List ℕ → List Token → Below → TokenTest → Form Row → ℕ → ℕ → Out Value
 turns_at x ts below t f n at = read_turns (values x ts) (keys_of ts) (λ K here. t (seen K here)) (form_at x ts below f) n at
 
 -- turns of a list before other turns

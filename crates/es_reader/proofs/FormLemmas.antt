@@ -5,7 +5,7 @@ use Rattle.std.proofs.lemmas.List.{append-nil, append_assoc}
 use Rattle.es_lexer.specs.declared.token.TokenKind.{TokenKind}
 use Rattle.es_tree.specs.declared.error.SyntaxError.{SyntaxError}
 use Rattle.es_tree.specs.declared.error.SyntaxError.TheVariants.{OutOfMemory}
-use Rattle.es_tree.specs.Key.{Key, Look, seen, has_kind, is}
+use Rattle.es_tree.specs.Key.{Key, TokenTest, seen, has_kind, is}
 use Rattle.es_tree.specs.Form.{Guard, Sort, Told, test, Form, done, tok, punct, row, opt, many, alt, when_, where_}
 use Rattle.es_tree.specs.Reader.{Out, nothing, gives, and_then, changed, either, only_if, read_turns, read_form}
 use Rattle.es_tree.proofs.OutLemmas.{then_gives, change_gives, only_if_true, either_true, either_false}
@@ -129,7 +129,7 @@ module _ (K : List Key) (below : Below) where
         part_then (read_turns makes K (test c) (form_at K below g) (length K) at) (form_at K below f) old mid new x here r to
         part trees height more
 
-    pub adds_alt : (t : Look) (a b : Form Row) (mid : Parts) (x : Measured) (here : ℕ)
+    pub adds_alt : (t : TokenTest) (a b : Form Row) (mid : Parts) (x : Measured) (here : ℕ)
         → IsPart (either (t (seen K at)) (form_at K below a at) (form_at K below b at)) (Ok x) here
         → mid.trees ≡ old.trees ++ x.tree ∷ [] → mid.height ≡ max old.height x.height
         → Adds (form_at K below f here) mid new r to → Adds (form_at K below (alt t a b f) at) old new r to
@@ -138,7 +138,7 @@ module _ (K : List Key) (below : Below) where
         part_then (either (t (seen K at)) (form_at K below a at) (form_at K below b at)) (form_at K below f) old mid new x here r to
         part trees height more
 
-    pub adds_when : (t : Look) → t (seen K at) ≡ true → Adds (form_at K below f at) old new r to
+    pub adds_when : (t : TokenTest) → t (seen K at) ≡ true → Adds (form_at K below f at) old new r to
         → Adds (form_at K below (when_ t f) at) old new r to
     unfolding form_at
     adds_when t here more = rw here more
@@ -171,12 +171,12 @@ module _ (K : List Key) (below : Below) where
     unfolding form_at
     no_many c g e = nothing_then (read_turns makes K (test c) (form_at K below g) (length K) at) (form_at K below f) e
 
-    pub no_alt : (t : Look) (a b : Form Row) → either (t (seen K at)) (form_at K below a at) (form_at K below b at) ≡ nothing
+    pub no_alt : (t : TokenTest) (a b : Form Row) → either (t (seen K at)) (form_at K below a at) (form_at K below b at) ≡ nothing
         → form_at K below (alt t a b f) at ≡ nothing
     unfolding form_at
     no_alt t a b e = nothing_then (either (t (seen K at)) (form_at K below a at) (form_at K below b at)) (form_at K below f) e
 
-    pub no_when : (t : Look) → t (seen K at) ≡ false → form_at K below (when_ t f) at ≡ nothing
+    pub no_when : (t : TokenTest) → t (seen K at) ≡ false → form_at K below (when_ t f) at ≡ nothing
     unfolding form_at
     no_when t e = rw e refl
 

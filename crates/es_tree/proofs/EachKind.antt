@@ -6,7 +6,7 @@ use denote.Enum.Declared.{tag_of}
 use Rattle.es_lexer.specs.declared.token.TokenKind.{TokenKind}
 use Rattle.es_lexer.specs.declared.token.TokenKind.TheVariants as k
 use Rattle.es_lexer.specs.contracts.token.TokenKind.{the_type}
-use Rattle.es_tree.specs.Key.{Seen, Look}
+use Rattle.es_tree.specs.Key.{Seen, TokenTest}
 use Rattle.es_tree.proofs.Progress.{both_hold}
 
 -- every kind of token
@@ -46,18 +46,18 @@ kind_listed k.Shebang = refl
 kind_listed _ = refl
 
 -- the test holds at tokens of these kinds
-abbrev holds_at : Look → List TokenKind → Bool
+abbrev holds_at : TokenTest → List TokenKind → Bool
 holds_at t [] = true
 holds_at t (kind ∷ rest) =
     t (Some (record { kind = kind; line_before = true }))
     && (t (Some (record { kind = kind; line_before = false })) && holds_at t rest)
 
 -- the test holds at the end and at tokens of each kind
-unfoldable pub holds_everywhere : Look → Bool
+unfoldable pub holds_everywhere : TokenTest → Bool
 unfolding kinds
 holds_everywhere t = t None && holds_at t kinds
 
-holds_listed : (t : Look) (list : List TokenKind) → holds_at t list ≡ true → (n : ℕ) (kind : TokenKind)
+holds_listed : (t : TokenTest) (list : List TokenKind) → holds_at t list ≡ true → (n : ℕ) (kind : TokenKind)
     → kind_at list n ≡ Some kind → (line : Bool) → t (Some (record { kind = kind; line_before = line })) ≡ true
 holds_listed t [] holds n kind at line = absurd (let bad : ⊥ = cc in bad)
 holds_listed t (first ∷ rest) holds zero kind at line =
@@ -79,7 +79,7 @@ holds_listed t (first ∷ rest) holds (suc n) kind at line =
     holds_listed t rest other.1 n kind at line
 
 -- what holds everywhere holds of all that can be seen
-pub holds_of_each : (t : Look) → holds_everywhere t ≡ true → (x : Option Seen) → t x ≡ true
+pub holds_of_each : (t : TokenTest) → holds_everywhere t ≡ true → (x : Option Seen) → t x ≡ true
 unfolding holds_everywhere
 holds_of_each t holds None = (both_hold (t None) (holds_at t kinds) holds).0
 holds_of_each t holds (Some seen) =

@@ -2,7 +2,7 @@
 use Rattle.std.specs.Prelude.{List, Option, not, ◌||◌, ◌&&◌, ◌⊎◌, Bool, true, false}
 use Rattle.std.proofs.Common.{◌≡◌, ℕ, zero, suc, ◌+◌, ◌<◌, ◌≤◌, length, refl, sym, subst, inl, inr, arith}
 use Rattle.std.proofs.Math.Nat.{eq-or-lt_of_le}
-use Rattle.es_tree.specs.Key.{Key, Seen, Look, seen}
+use Rattle.es_tree.specs.Key.{Key, Seen, TokenTest, seen}
 use Rattle.es_tree.specs.Form.{Told, hint, taken, guarded, Form, done, tok, punct, row, opt, many, alt, when_, where_, Rule, refuse, make, choose, as_, pick, wrap}
 use Rattle.es_tree.specs.Plain.{Plain, node, nil, cons, turn}
 use Rattle.es_tree.specs.Fits.{free, chosen, Present, Absent, Turns, Wraps, Fits, IsBy, Under}
@@ -143,13 +143,13 @@ chosen_is_free K rule (suc room) r p from to under =
 -- ---- where a form begins
 
 -- some token is taken, or what stands behind may stand there
-abbrev Begun : List Key → Look → ℕ → ℕ → Type 0
+abbrev Begun : List Key → TokenTest → ℕ → ℕ → Type 0
 Begun K then_ from to = (from < to) ⊎ (then_ (seen K to) ≡ true)
 
-begun_moved : (K : List Key) (then_ : Look) (from mid to : ℕ) → from ≡ mid → Begun K then_ from to → Begun K then_ mid to
+begun_moved : (K : List Key) (then_ : TokenTest) (from mid to : ℕ) → from ≡ mid → Begun K then_ from to → Begun K then_ mid to
 begun_moved K then_ from mid to e b = let P : ℕ → Type 0 = λ n. Begun K then_ n to in subst P e b
 
-seen_moved : (K : List Key) (t : Look) (from mid : ℕ) → from ≡ mid → t (seen K mid) ≡ true → t (seen K from) ≡ true
+seen_moved : (K : List Key) (t : TokenTest) (from mid : ℕ) → from ≡ mid → t (seen K mid) ≡ true → t (seen K from) ≡ true
 seen_moved K t from mid e h = let P : ℕ → Type 0 = λ n. t (seen K n) ≡ true in subst P (sym e) h
 
 lacks : (c : Told) (K : List Key) (at : ℕ) → Absent free c K at → may_lack c (seen K at) ≡ true
@@ -157,7 +157,7 @@ lacks (hint t) K at e = refl
 lacks (taken t) K at e = not_false (t (seen K at)) e
 lacks (guarded g) K at e = refl
 
-row_begins : (K : List Key) (solid first : Bool) (then_ : Look) (from mid : ℕ) → from ≤ mid → (solid ≡ true → from < mid)
+row_begins : (K : List Key) (solid first : Bool) (then_ : TokenTest) (from mid : ℕ) → from ≤ mid → (solid ≡ true → from < mid)
     → (from < mid → first ≡ true) → then_ (seen K mid) ≡ true ⊎ (from < mid)
     → first || (not solid && then_ (seen K from)) ≡ true
 row_begins K solid first then_ from mid le strictly begins rest =
@@ -195,7 +195,7 @@ either_checks solid a b f sound =
     (one.0, two.0, two.1)
 
 -- a level begins with its operand
-wraps_begin : {Label : Type 0} (K : List Key) (l : Label) (c : Told) (A B : Plain Label → ℕ → ℕ → Type 0) (t : Look)
+wraps_begin : {Label : Type 0} (K : List Key) (l : Label) (c : Told) (A B : Plain Label → ℕ → ℕ → Type 0) (t : TokenTest)
     → ((q : Plain Label) (from mid : ℕ) → A q from mid → t (seen K from) ≡ true)
     → (n : ℕ) (p : Plain Label) (from to : ℕ) → Wraps free K l c A B n p from to → t (seen K from) ≡ true
 wraps_begin K l c A B t one zero p from to fit = one p from to fit
@@ -204,7 +204,7 @@ wraps_begin K l c A B t one (suc n) p from to fit = wraps_begin K l c A B t one 
 module _ {Row Label : Type 0} (K : List Key) (s : Sets Row) (Below : Row → Plain Label → ℕ → ℕ → Type 0)
     (below_ahead : (r : Row) (q : Plain Label) (from mid : ℕ) → Below r q from mid → IsAhead (length K) (s.solid r) from mid)
     (below_begins : (r : Row) (q : Plain Label) (from mid : ℕ) → Below r q from mid → from < mid → s.first r (seen K from) ≡ true) where
-  turns_begin : (c : Told) (One : Plain Label → ℕ → ℕ → Type 0) (one rest : Look)
+  turns_begin : (c : Told) (One : Plain Label → ℕ → ℕ → Type 0) (one rest : TokenTest)
       → ((q : Plain Label) (from mid : ℕ) → One q from mid → one (seen K from) ≡ true)
       → (ps : Plain Label) (from to : ℕ) → Turns free K c One ps from to → (from ≡ to → rest (seen K to) ≡ true)
       → one (seen K from) || (may_lack c (seen K from) && rest (seen K from)) ≡ true
@@ -216,7 +216,7 @@ module _ {Row Label : Type 0} (K : List Key) (s : Sets Row) (Below : Row → Pla
       left_holds (one (seen K from)) (may_lack c (seen K from) && rest (seen K from)) (each q from fit.0 fit.2)
   turns_begin c One one rest each _ from to fit stands = absurd fit
 
-  form_begins : (f : Form Row) → parts_take s.solid f ≡ true → (then_ : Look) (p : Plain Label) (from to : ℕ)
+  form_begins : (f : Form Row) → parts_take s.solid f ≡ true → (then_ : TokenTest) (p : Plain Label) (from to : ℕ)
       → Fits free K Below f p from to → Begun K then_ from to → starts s f then_ (seen K from) ≡ true
   form_begins done sound then_ p from to fit begun = elim begun [
     | inl less ↦ absurd (let same = fit.1 in let bad : ⊥ = omega (arith, less, same) in bad)
@@ -275,7 +275,7 @@ module _ {Row Label : Type 0} (K : List Key) (s : Sets Row) (Below : Row → Pla
       hold_both (t (seen K from)) (starts s f then_ (seen K from)) fit.0 (form_begins f sound then_ p from to fit.1 begun)
   form_begins (where_ t f) sound then_ p from to fit begun = form_begins f sound then_ p from to fit.1 begun
 
-  rule_begins : (a : Rule Row Label) → rule_parts_take s.solid a ≡ true → (then_ : Look) (p : Plain Label) (from to : ℕ)
+  rule_begins : (a : Rule Row Label) → rule_parts_take s.solid a ≡ true → (then_ : TokenTest) (p : Plain Label) (from to : ℕ)
       → IsBy free K Below a p from to → Begun K then_ from to → rule_starts s a then_ (seen K from) ≡ true
   rule_begins refuse sound then_ p from to by begun = absurd by
   rule_begins (make l f) sound then_ p from to by begun = form_begins f sound then_ by.0 from to by.2 begun
@@ -330,14 +330,14 @@ lack_told (taken t) K at e a = a
 lack_told (guarded g) K at e a = a
 
 -- behind a turn another may stand, or what stands behind the list
-turns_next : {Label : Type 0} (K : List Key) (c : Told) (One : Plain Label → ℕ → ℕ → Type 0) (next : Look)
+turns_next : {Label : Type 0} (K : List Key) (c : Told) (One : Plain Label → ℕ → ℕ → Type 0) (next : TokenTest)
     → ((q : Plain Label) (from mid : ℕ) → One q from mid → next (seen K from) ≡ true)
     → (ps : Plain Label) (from to : ℕ) → Turns free K c One ps from to → next (seen K to) ≡ true → next (seen K from) ≡ true
 turns_next K c One next each nil from to fit stands = seen_moved K next from to fit.1 stands
 turns_next K c One next each (turn q ps) from to fit stands = each q from fit.0 fit.2
 turns_next K c One next each _ from to fit stands = absurd fit
 
-turns_obey : {Label : Type 0} (K : List Key) (c : Told) (One Two : Plain Label → ℕ → ℕ → Type 0) (next : Look)
+turns_obey : {Label : Type 0} (K : List Key) (c : Told) (One Two : Plain Label → ℕ → ℕ → Type 0) (next : TokenTest)
     → ((q : Plain Label) (from mid : ℕ) → One q from mid → next (seen K from) ≡ true)
     → ((q : Plain Label) (from mid : ℕ) → One q from mid → tells_has c (seen K from) ≡ true)
     → ((q : Plain Label) (from mid : ℕ) → One q from mid → next (seen K mid) ≡ true → Two q from mid)
@@ -354,7 +354,7 @@ turns_obey K c One Two next begins tests each (turn q ps) from to fit stands lac
 turns_obey K c One Two next begins tests each _ from to fit stands lack = absurd fit
 
 -- behind an operand and behind each turn another turn may stand, or what stands behind the level
-wraps_obey : {Label : Type 0} (K : List Key) (l : Label) (c : Told) (A B C D : Plain Label → ℕ → ℕ → Type 0) (next : Look)
+wraps_obey : {Label : Type 0} (K : List Key) (l : Label) (c : Told) (A B C D : Plain Label → ℕ → ℕ → Type 0) (next : TokenTest)
     → ((q : Plain Label) (from mid : ℕ) → B q from mid → next (seen K from) ≡ true)
     → ((q : Plain Label) (from mid : ℕ) → B q from mid → tells_has c (seen K from) ≡ true)
     → ((q : Plain Label) (from mid : ℕ) → A q from mid → next (seen K mid) ≡ true → C q from mid)
@@ -377,7 +377,7 @@ module _ {Row Label : Type 0} (K : List Key) (s : Sets Row) (Free Obeys : Row �
     (below_begins : (r : Row) (q : Plain Label) (from mid : ℕ) → Free r q from mid → from < mid → s.first r (seen K from) ≡ true)
     (below_obeys : (r : Row) (q : Plain Label) (from mid : ℕ) → Free r q from mid → s.follow r (seen K mid) ≡ true → Obeys r q from mid) where
   -- the four tests of a part that may be absent
-  part_told : (c : Told) (g f : Form Row) (inner then_ : Look)
+  part_told : (c : Told) (g f : Form Row) (inner then_ : TokenTest)
       → ((x : Option Seen) → implies (starts s g none x) (tells_has c x) && (implies (starts s f then_ x) (tells_lack c x)
       && (tells s g inner x && tells s f then_ x)) ≡ true)
       → (x : Option Seen) → (implies (starts s g none x) (tells_has c x) ≡ true) × (implies (starts s f then_ x) (tells_lack c x) ≡ true)
@@ -390,7 +390,7 @@ module _ {Row Label : Type 0} (K : List Key) (s : Sets Row) (Free Obeys : Row �
       (a.0, b.0, d.0, d.1)
 
   -- the tests of a part by either of two forms
-  either_told : (t : Look) (a b f : Form Row) (inner then_ : Look)
+  either_told : (t : TokenTest) (a b f : Form Row) (inner then_ : TokenTest)
       → ((x : Option Seen) → implies (starts s a inner x) (t x) && (implies (starts s b inner x) (not (t x))
       && (tells s a inner x && (tells s b inner x && tells s f then_ x))) ≡ true)
       → (x : Option Seen) → (implies (starts s a inner x) (t x) ≡ true) × (implies (starts s b inner x) (not (t x)) ≡ true)
@@ -405,7 +405,7 @@ module _ {Row Label : Type 0} (K : List Key) (s : Sets Row) (Free Obeys : Row �
       (one.0, two.0, three.0, four.0, four.1)
 
   -- the tests of a level
-  level_told : (a : Rule Row Label) (c : Told) (f : Form Row) (next then_ : Look)
+  level_told : (a : Rule Row Label) (c : Told) (f : Form Row) (next then_ : TokenTest)
       → ((x : Option Seen) → implies (starts s f none x) (tells_has c x)
       && (implies (then_ x) (tells_lack c x) && (rule_tells s a next x && tells s f next x)) ≡ true)
       → (x : Option Seen) → (implies (starts s f none x) (tells_has c x) ≡ true) × (implies (then_ x) (tells_lack c x) ≡ true)
@@ -417,7 +417,7 @@ module _ {Row Label : Type 0} (K : List Key) (s : Sets Row) (Free Obeys : Row �
       let three = both_hold (rule_tells s a next x) (tells s f next x) two.1 in
       (one.0, two.0, three.0, three.1)
 
-  form_obeys : (f : Form Row) → parts_take s.solid f ≡ true → (then_ : Look) → ((x : Option Seen) → tells s f then_ x ≡ true)
+  form_obeys : (f : Form Row) → parts_take s.solid f ≡ true → (then_ : TokenTest) → ((x : Option Seen) → tells s f then_ x ≡ true)
       → (p : Plain Label) (from to : ℕ) → Fits free K Free f p from to → then_ (seen K to) ≡ true → Fits chosen K Obeys f p from to
   form_obeys done sound then_ told p from to fit stands = fit
   form_obeys (tok sort may f) sound then_ told p from to fit stands =
@@ -466,7 +466,7 @@ module _ {Row Label : Type 0} (K : List Key) (s : Sets Row) (Free Obeys : Row �
   form_obeys (many c g f) sound then_ told p from to fit stands =
       let checks = both_hold (takes s.solid g) (parts_take s.solid g && parts_take s.solid f) sound in
       let parts = both_hold (parts_take s.solid g) (parts_take s.solid f) checks.1 in
-      let next : Look = (λ y. starts s g none y || starts s f then_ y) in
+      let next : TokenTest = (λ y. starts s g none y || starts s f then_ y) in
       let all = part_told c g f next then_ told in
       let rest = form_begins K s Free below_ahead below_begins f parts.1 then_ fit.1 fit.2 to fit.5 (inr stands) in
       let begins = λ (q : Plain Label) (at mid : ℕ) (one : Fits free K Free g q at mid).
@@ -514,7 +514,7 @@ module _ {Row Label : Type 0} (K : List Key) (s : Sets Row) (Free Obeys : Row �
   form_obeys (when_ t f) sound then_ told p from to fit stands = (fit.0, form_obeys f sound then_ told p from to fit.1 stands)
   form_obeys (where_ t f) sound then_ told p from to fit stands = (fit.0, form_obeys f sound then_ told p from to fit.1 stands)
 
-  rule_obeys : (a : Rule Row Label) → rule_parts_take s.solid a ≡ true → (then_ : Look)
+  rule_obeys : (a : Rule Row Label) → rule_parts_take s.solid a ≡ true → (then_ : TokenTest)
       → ((x : Option Seen) → rule_tells s a then_ x ≡ true)
       → (p : Plain Label) (from to : ℕ) → IsBy free K Free a p from to → then_ (seen K to) ≡ true → IsBy chosen K Obeys a p from to
   rule_obeys refuse sound then_ told p from to by stands = by
@@ -552,7 +552,7 @@ module _ {Row Label : Type 0} (K : List Key) (s : Sets Row) (Free Obeys : Row �
       ]
   rule_obeys (wrap l a c f) sound then_ told p from to by stands =
       let checks = level_checks s.solid a f sound in
-      let next : Look = (λ y. starts s f none y || then_ y) in
+      let next : TokenTest = (λ y. starts s f none y || then_ y) in
       let all = level_told a c f next then_ told in
       let begins = λ (q : Plain Label) (at mid : ℕ) (one : Fits free K Free f q at mid).
       form_begins K s Free below_ahead below_begins f checks.3 none q at mid one

@@ -3,7 +3,7 @@
 -- written, with the written guards. In it no test that only chooses bars anything. `chosen` also obeys those tests, as the
 -- code does. Both have the same trees (`free_is_chosen`, `chosen_is_free` in proofs/FreeLemmas.antt).
 use Rattle.std.specs.Prelude.{◌≡◌, ℕ, zero, suc, ◌+◌, ◌≤◌, Bool, true, false, List, ◌⊎◌, Option, length}
-use Rattle.es_tree.specs.Key.{Key, Seen, Look, seen, has_kind, is}
+use Rattle.es_tree.specs.Key.{Key, Seen, TokenTest, seen, has_kind, is}
 use Rattle.es_tree.specs.Form.{Told, hint, taken, guarded, Form, done, tok, punct, row, opt, many, alt, when_, where_, Rule, refuse, make, choose, as_, pick, wrap}
 use Rattle.es_tree.specs.Plain.{Plain, node, leaf, nil, cons, mark, turn, via, tall}
 
@@ -16,7 +16,7 @@ pub data Reading : Type 0 where
   free chosen : Reading
 
 -- a test that only chooses answers so; freely read it isn't asked
-abbrev pub Asks : Reading → Look → Bool → Option Seen → Type 0
+abbrev pub Asks : Reading → TokenTest → Bool → Option Seen → Type 0
 Asks free t b x = Unit {0}
 Asks chosen t b x = t x ≡ b
 

@@ -2,7 +2,7 @@
 -- A row is a rule, a rule's alternatives are forms. What a form means is told in Fits.antt.
 use Rattle.std.specs.Prelude.{ℕ, Bool, List}
 use Rattle.es_lexer.specs.declared.token.TokenKind.{TokenKind}
-use Rattle.es_tree.specs.Key.{Key, Look, seen}
+use Rattle.es_tree.specs.Key.{Key, TokenTest, seen}
 
 -- what the typed tree keeps of a token
 pub data Sort : Type 0 where
@@ -24,9 +24,9 @@ Guard = List Key → ℕ → Bool
 -- when an optional part, or another turn of a list, is there
 pub data Told : Type 0 where
   -- it may always be there or not: the test tells the code which of the two is read, and bars no reading
-  hint : Look → Told
+  hint : TokenTest → Told
   -- it is there wherever the test holds: a written guard of the grammar
-  taken : Look → Told
+  taken : TokenTest → Told
   -- it is there exactly where the test of the tokens holds: a written guard of the grammar
   guarded : Guard → Told
 
@@ -44,9 +44,9 @@ pub data Form (Row : Type 0) : Type 0 where
   -- a list, by the form of one turn
   many : Told → Form Row → Form Row → Form Row
   -- a part by either of two forms: the test tells the code which of them is read, and bars no reading
-  alt : Look → Form Row → Form Row → Form Row → Form Row
+  alt : TokenTest → Form Row → Form Row → Form Row → Form Row
   -- a written guard on the next token
-  when_ : Look → Form Row → Form Row
+  when_ : TokenTest → Form Row → Form Row
   -- a written guard on any of the tokens
   where_ : Guard → Form Row → Form Row
 
@@ -56,7 +56,7 @@ pub data Rule (Row Label : Type 0) : Type 0 where
   -- a node with these parts
   make : Label → Form Row → Rule Row Label
   -- one of two: the test tells the code which of them is read, and bars no reading
-  choose : Look → Rule Row Label → Rule Row Label → Rule Row Label
+  choose : TokenTest → Rule Row Label → Rule Row Label → Rule Row Label
   -- what another rule makes, in another role, without a node of its own
   as_ : Label → Rule Row Label → Rule Row Label
   -- one of two: a written guard tells which

@@ -42,33 +42,33 @@ abbrev pub seen : List Key → ℕ → Option Seen
 seen K at = seen_of (slice_get K at)
 
 -- a test of the next token, or of the end
-abbrev pub Look : Type 0
-Look = Option Seen → Bool
+abbrev pub TokenTest : Type 0
+TokenTest = Option Seen → Bool
 
 -- two kinds are the same
 abbrev pub same_kind : TokenKind → TokenKind → Bool
 same_kind a b = sameb the_type a b
 
 -- the next token is of such a kind
-abbrev pub has_kind : (TokenKind → Bool) → Look
+abbrev pub has_kind : (TokenKind → Bool) → TokenTest
 has_kind may (Some s) = may s.kind
 has_kind may None = false
 
 -- the next token is of this kind
-abbrev pub is : TokenKind → Look
+abbrev pub is : TokenKind → TokenTest
 is kind x = has_kind (λ k. same_kind k kind) x
 
 -- there is no next token
-abbrev pub is_end : Look
+abbrev pub is_end : TokenTest
 is_end (Some s) = false
 is_end None = true
 
 -- there is a next token
-abbrev pub is_token : Look
+abbrev pub is_token : TokenTest
 is_token (Some s) = true
 is_token None = false
 
 -- a line end stands before the next token
-abbrev pub is_after_line : Look
+abbrev pub is_after_line : TokenTest
 is_after_line (Some s) = s.line_before
 is_after_line None = false

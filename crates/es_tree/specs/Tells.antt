@@ -1,18 +1,18 @@
 -- When the tests of a table bar no reading: at each choice, and at each part that may be absent, the tokens that may begin
 -- the one and those that may begin the other are told apart. A test of the table alone, at each token by itself.
 use Rattle.std.specs.Prelude.{◌≡◌, Bool, true, false, not, ◌&&◌, ◌||◌, Option}
-use Rattle.es_tree.specs.Key.{Look, Seen, has_kind, is}
+use Rattle.es_tree.specs.Key.{TokenTest, Seen, has_kind, is}
 use Rattle.es_tree.specs.Form.{Told, hint, taken, guarded, Form, done, tok, punct, row, opt, many, alt, when_, where_, Rule, refuse, make, choose, as_, pick, wrap}
 use Rattle.es_tree.specs.Checks.{IsSteady}
 
 -- what is claimed of the rows: the tokens that may begin one, those that may follow one, and whether it always takes a token
 pub record Sets (Row : Type 0) : Type 0 where
-  pub first : Row → Look
-  pub follow : Row → Look
+  pub first : Row → TokenTest
+  pub follow : Row → TokenTest
   pub solid : Row → Bool
 
 -- no token, nor the end
-abbrev pub none : Look
+abbrev pub none : TokenTest
 none x = false
 
 -- one test implies another
@@ -20,26 +20,26 @@ abbrev pub implies : Bool → Bool → Bool
 implies a b = not a || b
 
 -- a part may be absent before this token, by the written guards
-abbrev pub may_lack : Told → Look
+abbrev pub may_lack : Told → TokenTest
 may_lack (hint t) x = true
 may_lack (taken t) x = not (t x)
 may_lack (guarded g) x = true
 
 -- where a part is there, its test says so
-abbrev pub tells_has : Told → Look
+abbrev pub tells_has : Told → TokenTest
 tells_has (hint t) x = t x
 tells_has (taken t) x = t x
 tells_has (guarded g) x = true
 
 -- where a part is absent, its test says so
-abbrev pub tells_lack : Told → Look
+abbrev pub tells_lack : Told → TokenTest
 tells_lack (hint t) x = not (t x)
 tells_lack (taken t) x = true
 tells_lack (guarded g) x = true
 
 module _ {Row : Type 0} (s : Sets Row) where
   -- the form may begin before this token, where `then_` tells what may stand behind it
-  abbrev pub starts : Form Row → Look → Look
+  abbrev pub starts : Form Row → TokenTest → TokenTest
   starts done then_ x = then_ x
   starts (tok sort may f) then_ x = has_kind may x
   starts (punct k f) then_ x = is k x
@@ -51,7 +51,7 @@ module _ {Row : Type 0} (s : Sets Row) where
   starts (where_ t f) then_ x = starts f then_ x
 
   -- the rule may begin before this token
-  abbrev pub rule_starts : {Label : Type 0} → Rule Row Label → Look → Look
+  abbrev pub rule_starts : {Label : Type 0} → Rule Row Label → TokenTest → TokenTest
   rule_starts refuse then_ x = false
   rule_starts (make l f) then_ x = starts f then_ x
   rule_starts (choose t a b) then_ x = rule_starts a then_ x || rule_starts b then_ x
@@ -60,7 +60,7 @@ module _ {Row : Type 0} (s : Sets Row) where
   rule_starts (wrap l a c f) then_ x = rule_starts a none x
 
   -- the tests of the form tell at this token, and each row in it is followed by what may follow it
-  abbrev pub tells : Form Row → Look → Look
+  abbrev pub tells : Form Row → TokenTest → TokenTest
   tells done then_ x = true
   tells (tok sort may f) then_ x = tells f then_ x
   tells (punct k f) then_ x = tells f then_ x
@@ -80,7 +80,7 @@ module _ {Row : Type 0} (s : Sets Row) where
   tells (where_ t f) then_ x = tells f then_ x
 
   -- the tests of the rule tell at this token
-  abbrev pub rule_tells : {Label : Type 0} → Rule Row Label → Look → Look
+  abbrev pub rule_tells : {Label : Type 0} → Rule Row Label → TokenTest → TokenTest
   rule_tells refuse then_ x = true
   rule_tells (make l f) then_ x = tells f then_ x
   rule_tells (choose t a b) then_ x =

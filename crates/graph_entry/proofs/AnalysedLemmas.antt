@@ -27,7 +27,7 @@ use Rattle.package_ref.specs.declared.reference.PackageRef.{PackageRef}
 use Rattle.package_ref.specs.Reference.{IsReference}
 use Rattle.package_ref.proofs.Theorems.{one_reference}
 use Rattle.graph_entry.specs.declared.entry.Entry.TheVariants as entry
-use Rattle.graph_entry.specs.Specifier.{begins}
+use Rattle.lexical_path.specs.Specifiers.{begins}
 use Rattle.graph_entry.specs.Headers.{header_value}
 use Rattle.graph_entry.specs.ModuleText.{without_mark}
 use Rattle.graph_entry.specs.Analysed.{Analysed, OfContent, OfData, OfPackage, with_package, no_package, OfUnasked, by_header, OfKind, OfBytes, OfText, OfTokens, with_tree, no_tree, with_tokens, no_tokens, with_text, no_text, module_of, no_module, unsupported, at_place, language_of, media_type_read, not_built}

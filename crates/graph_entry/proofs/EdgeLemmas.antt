@@ -25,7 +25,7 @@ use Rattle.media_type.specs.ContentTypes.{with_content_type}
 use Rattle.data_specifier.specs.declared.data_module.DataModule.{DataModule}
 use Rattle.data_specifier.specs.declared.error.DataError.{DataError}
 use Rattle.data_specifier.specs.Data.{data_of}
-use Rattle.graph_entry.specs.Specifier.{begins}
+use Rattle.lexical_path.specs.Specifiers.{begins}
 use Rattle.graph_entry.specs.Headers.{header_value}
 use Rattle.graph_entry.specs.ModuleText.{without_mark}
 use Rattle.graph_entry.specs.Analysed.{Analysed, OfContent, OfData, OfPackage, with_package, no_package, OfUnasked, by_header, language_of, media_type_read, OfKind, OfBytes, OfText, OfTokens, with_tree, no_tree, with_tokens, no_tokens, with_text, no_text, dependency_of, not_built, unsupported}

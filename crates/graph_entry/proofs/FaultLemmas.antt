@@ -21,7 +21,7 @@ use Rattle.data_specifier.specs.declared.data_module.DataModule.{DataModule}
 use Rattle.data_specifier.specs.declared.error.DataError.{DataError}
 use Rattle.data_specifier.specs.declared.error.DataError.TheVariants as data_url
 use Rattle.data_specifier.specs.Data.{content_of, or_no_base64, body_of, with_mime, data_at, data_of}
-use Rattle.graph_entry.specs.Specifier.{begins}
+use Rattle.lexical_path.specs.Specifiers.{begins}
 use Rattle.graph_entry.specs.Headers.{header_value}
 use Rattle.graph_entry.specs.Entry.{KeepsFault}
 use Rattle.graph_entry.specs.Json.{OfJson, with_json, no_json}

@@ -3,7 +3,7 @@ use Rattle.std.proofs.Common.{◌≡◌, sym, ap, refl, false, List, ℕ, ◌∷
 use Rattle.std.specs.Prelude.{None}
 use Rattle.std.specs.Str.Pattern.{FindsTextPrefix}
 use Rattle.std.proofs.lemmas.Str.Pattern.{starts_text}
-use Rattle.graph_entry.specs.Specifier.{begins}
+use Rattle.lexical_path.specs.Specifiers.{begins}
 use Rattle.graph_entry.specs.ModuleText.{mark, without_mark}
 
 -- a text behind a mark

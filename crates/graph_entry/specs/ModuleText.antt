@@ -1,7 +1,7 @@
 -- The text of a module: its bytes as UTF-8, less one byte order mark at the front (Encoding Standard, "UTF-8 decode";
 -- bytes that are no UTF-8 have no text). All places of a module count from this text.
 use Rattle.std.specs.Prelude.{ℕ, List, [], ◌∷◌, drop, if◌then◌else◌}
-use Rattle.graph_entry.specs.Specifier.{begins}
+use Rattle.lexical_path.specs.Specifiers.{begins}
 
 -- the byte order mark U+FEFF in UTF-8
 abbrev pub mark : List ℕ

@@ -1,15 +1,11 @@
 -- Specifiers. A specifier is its text: that of a URL (URL Standard, "URL serializing").
-use Rattle.std.specs.Prelude.{ℕ, nat_eq, Bool, not, ◌||◌, List, codes}
-use Rattle.std.specs.List.{starts_with}
+use Rattle.std.specs.Prelude.{ℕ, Bool, not, ◌||◌, List, codes}
+use Rattle.lexical_path.specs.Specifiers.{begins}
 use Rattle.url.specs.Parts.{Parts, serialize}
 
 -- the text of a URL
 unfoldable pub text_of : Parts → List ℕ
 text_of url = serialize url
-
--- the text begins with this one
-abbrev pub begins : List ℕ → List ℕ → Bool
-begins text front = starts_with nat_eq text front
 
 -- a loader is asked for it: the scheme is none of `data`, `npm`, `jsr` (this project's profile)
 unfoldable pub loadable : List ℕ → Bool

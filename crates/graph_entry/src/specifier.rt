@@ -1,8 +1,8 @@
 //! Specifiers: which of them a loader is asked for.
 ghost use Rattle.std.specs.Prelude.{◌≡◌};
 ghost use Rattle.graph_entry.specs.Specifier.{text_of, loadable};
-ghost use Rattle.graph_entry.specs.Specifier as spec;
 
+use lexical_path::begins;
 use url::Url;
 
 /// Whether a loader is asked for it: the scheme is none of `data`, `npm` and `jsr`.
@@ -12,11 +12,4 @@ pub fn is_loadable(specifier: &Url) -> bool
 {
     let text = specifier.as_str();
     !(begins(text, "data:") || begins(text, "npm:") || begins(text, "jsr:"))
-}
-
-/// Whether the text begins with this one.
-pub fn begins(text: &str, front: &str) -> bool
-    ensures { result ≡ spec.begins text.now front.now }
-{
-    text.starts_with(front)
 }
