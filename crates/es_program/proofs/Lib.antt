@@ -1,0 +1,3 @@
+pub mod LowLemmas
+pub mod Steady
+pub mod AnswerLemmas

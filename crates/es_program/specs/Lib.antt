@@ -1,0 +1,2 @@
+-- when a tree is read from tokens
+pub mod Derived
