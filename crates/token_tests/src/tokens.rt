@@ -34,7 +34,7 @@ pub(crate) fn described(alloc: Global, text: &str) -> Result<String, AllocError>
 }
 
 #[test]
-fn texts_have_their_tokens(rt: HostRuntime) -> Result<(), Fail> {
+fn words_and_comments_are_read(rt: HostRuntime) -> Result<(), Fail> {
     let rows = [
         ("", ""),
         (
@@ -64,6 +64,17 @@ fn texts_have_their_tokens(rt: HostRuntime) -> Result<(), Fail> {
         ("; 'a\nb'", "UnterminatedString at byte 2"),
         ("'a\\'", "UnterminatedString at byte 0"),
         ("a /* b", "UnterminatedComment at byte 2"),
+    ];
+    for (text, want) in rows {
+        let got = described(rt.alloc(), text)?;
+        assert_eq!(rt; got.as_str(), want, "{text:?}");
+    }
+    Ok(())
+}
+
+#[test]
+fn slashes_follow_their_goal(rt: HostRuntime) -> Result<(), Fail> {
+    let rows = [
         ("/", "UnterminatedRegExp at byte 0"),
         (
             "a/b/c",
@@ -90,6 +101,17 @@ fn texts_have_their_tokens(rt: HostRuntime) -> Result<(), Fail> {
             "=== !== **= <<= >>= ... ??= &&= ||= => ?.a ?:",
             "EqualEqualEqual 0-3, NotEqualEqual 4-7, StarStarEqual 8-11, LessLessEqual 12-15, Greater 16-17, Greater 17-18, Equal 18-19, Ellipsis 20-23, QuestionQuestionEqual 24-27, AmpersandAmpersandEqual 28-31, BarBarEqual 32-35, Arrow 36-38, QuestionDot 39-41, Name 41-42, Question 43-44, Colon 44-45, ",
         ),
+    ];
+    for (text, want) in rows {
+        let got = described(rt.alloc(), text)?;
+        assert_eq!(rt; got.as_str(), want, "{text:?}");
+    }
+    Ok(())
+}
+
+#[test]
+fn templates_and_brackets_nest(rt: HostRuntime) -> Result<(), Fail> {
+    let rows = [
         ("`a`", "TemplateWhole 0-3, "),
         ("`a${b}c`", "TemplateHead 0-4, Name 4-5, TemplateTail 5-8, "),
         (
@@ -116,6 +138,17 @@ fn texts_have_their_tokens(rt: HostRuntime) -> Result<(), Fail> {
         ("{[}", "Unbalanced at byte 2"),
         (")", "Unbalanced at byte 0"),
         ("({}", "Unbalanced at byte 3"),
+    ];
+    for (text, want) in rows {
+        let got = described(rt.alloc(), text)?;
+        assert_eq!(rt; got.as_str(), want, "{text:?}");
+    }
+    Ok(())
+}
+
+#[test]
+fn numbers_have_all_forms(rt: HostRuntime) -> Result<(), Fail> {
+    let rows = [
         ("0 12 1_000", "Number 0-1, Number 2-4, Number 5-10, "),
         (
             "0x1F 0b10 0O17 017 08",
@@ -144,6 +177,17 @@ fn texts_have_their_tokens(rt: HostRuntime) -> Result<(), Fail> {
         ("0_1", "InvalidChar at byte 1"),
         ("0x", "InvalidChar at byte 1"),
         ("1e+", "InvalidChar at byte 1"),
+    ];
+    for (text, want) in rows {
+        let got = described(rt.alloc(), text)?;
+        assert_eq!(rt; got.as_str(), want, "{text:?}");
+    }
+    Ok(())
+}
+
+#[test]
+fn regular_expressions_and_escapes_are_read(rt: HostRuntime) -> Result<(), Fail> {
+    let rows = [
         (
             "x = /[/]/g;",
             "Name 0-1, Equal 2-3, RegExp 4-10, Semicolon 10-11, ",
@@ -168,6 +212,17 @@ fn texts_have_their_tokens(rt: HostRuntime) -> Result<(), Fail> {
         ("#!a //\n#b", "Shebang 0-6, *PrivateName 7-9, "),
         ("#!", "Shebang 0-2, "),
         (" #!a", "InvalidChar at byte 1"),
+    ];
+    for (text, want) in rows {
+        let got = described(rt.alloc(), text)?;
+        assert_eq!(rt; got.as_str(), want, "{text:?}");
+    }
+    Ok(())
+}
+
+#[test]
+fn texts_past_ascii_are_read(rt: HostRuntime) -> Result<(), Fail> {
+    let rows = [
         ("a\u{b}b\u{c}c", "Name 0-1, Name 2-3, Name 4-5, "),
         ("a\u{e9}", "Name 0-3, "),
         ("\u{e9}\u{4e2d}\u{1f600}1 x", "Name 0-10, Name 11-12, "),
