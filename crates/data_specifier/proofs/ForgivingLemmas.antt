@@ -79,7 +79,8 @@ module _ (t : List ℕ) (full : length t ≡ 64) where
       rw (of_r, first, second, third, at_value a p of_p, at_value b q of_q) refl
 
   -- three bytes in front of others are four digits in front of theirs
-  encode-group : (p q r s a b c d : ℕ) (bytes : List ℕ) → HasValue t a p → HasValue t b q → HasValue t c r → HasValue t d s
+  encode-group : (p q r s a b c d : ℕ) (bytes : List ℕ) → HasValue t a p → HasValue t b q → HasValue t c r
+      → HasValue t d s
       → encode_symbols t ((a * 4 + b / 16) ∷ (b % 16 * 16 + c / 4) ∷ (c % 4 * 64 + d) ∷ bytes)
       ≡ p ∷ q ∷ r ∷ s ∷ encode_symbols t bytes
   unfolding encode_symbols
@@ -117,10 +118,12 @@ module _ (t : List ℕ) (full : length t ≡ 64) where
       let on : length (digits_in (v ∷ more)) % 4 ≢ 1 = λ same. rest (omega arith) in
       masked-group x.1 y.1 z.1 w.1 v.1 (digits_in more)
       ∙ ap (λ l. x.1 ∷ y.1 ∷ z.1 ∷ w.1 ∷ l) (masked-encodes (v ∷ more) have.1.1.1.1 on)
-      ∙ sym (encode-group x.1 y.1 z.1 w.1 x.0 y.0 z.0 w.0 (bytes_of (values_in (v ∷ more))) have.0 have.1.0 have.1.1.0 have.1.1.1.0)
+      ∙ sym (encode-group x.1 y.1 z.1 w.1 x.0 y.0 z.0 w.0 (bytes_of (values_in (v ∷ more))) have.0 have.1.0 have.1.1.0
+      have.1.1.1.0)
 
   -- the bytes of values are bytes
-  pub bytes_of-small : (pairs : List Pair) → AreDigits t pairs → AllByRecursion (λ b. b < 256) (bytes_of (values_in pairs))
+  pub bytes_of-small : (pairs : List Pair) → AreDigits t pairs
+      → AllByRecursion (λ b. b < 256) (bytes_of (values_in pairs))
   bytes_of-small [] have = tt
   bytes_of-small (x ∷ []) have = tt
   bytes_of-small (x ∷ y ∷ []) have =

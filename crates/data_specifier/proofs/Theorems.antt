@@ -26,13 +26,17 @@ forgiving_base64_iff text bytes small small_too =
 
 -- a text whose cleaned digits have these values, and are not one more than whole groups, is forgiving base64 of the bytes of
 -- the values (Infra Standard, "forgiving-base64 decode")
-pub forgiving_base64_values : (text : List ℕ) (pairs : List Pair) → without_padding (without_blanks text) ≡ digits_in pairs
-    → AreDigits alphabet pairs → length (digits_in pairs) % 4 ≢ 1 → forgiving_base64 text ≡ Some (bytes_of (values_in pairs))
+pub forgiving_base64_values : (text : List ℕ) (pairs : List Pair)
+    → without_padding (without_blanks text) ≡ digits_in pairs
+    → AreDigits alphabet pairs → length (digits_in pairs) % 4 ≢ 1
+    → forgiving_base64 text ≡ Some (bytes_of (values_in pairs))
 unfolding forgiving_base64 digits_of masked
 forgiving_base64_values text pairs cleaned are rest =
     let bytes : List ℕ = bytes_of (values_in pairs) in
     let consistent : IsConsistent standard_no_pad = refl in
-    let decoded = decode_of-encode_of standard_no_pad bytes consistent (each_below bytes (bytes_of-small alphabet refl pairs are)) in
+    let decoded = decode_of-encode_of standard_no_pad bytes consistent
+    (each_below bytes (bytes_of-small alphabet refl pairs are)) in
     let whole : digits_of text ≡ encode_of standard_no_pad bytes
     = ap (λ ds. masked ds) cleaned ∙ masked-encodes alphabet refl pairs are rest ∙ sym (append-nil _) in
-    ap (λ ds. result_ok (decode_of standard_no_pad ds)) whole ∙ ap (λ (r : Result (List ℕ) DecodeError). result_ok r) decoded
+    ap (λ ds. result_ok (decode_of standard_no_pad ds)) whole
+    ∙ ap (λ (r : Result (List ℕ) DecodeError). result_ok r) decoded

@@ -13,7 +13,8 @@ pub last_of-zero : {A : Type 0} → (xs : List A) → last_of 0 xs ≡ []
 last_of-zero xs = drop_all (length xs - 0) xs (omega arith)
 
 -- those and what came after
-pub last_of-more : {A : Type 0} (n : ℕ) (xs more : List A) → n ≤ length xs → last_of (n + length more) (xs ++ more) ≡ last_of n xs ++ more
+pub last_of-more : {A : Type 0} (n : ℕ) (xs more : List A) → n ≤ length xs
+    → last_of (n + length more) (xs ++ more) ≡ last_of n xs ++ more
 last_of-more n xs more fits =
     ap (λ k. drop k (xs ++ more)) (count (length-append xs more)) ∙ drop-append-le (length xs - n) xs more (omega arith)
   where
@@ -21,7 +22,8 @@ last_of-more n xs more fits =
     count h = omega arith
 
 -- one more
-pub last_of-push : {A : Type 0} (n m : ℕ) (xs : List A) (x : A) → n ≤ length xs → m ≡ n + 1 → last_of m (xs ++ x ∷ []) ≡ last_of n xs ++ x ∷ []
+pub last_of-push : {A : Type 0} (n m : ℕ) (xs : List A) (x : A) → n ≤ length xs → m ≡ n + 1
+    → last_of m (xs ++ x ∷ []) ≡ last_of n xs ++ x ∷ []
 last_of-push n m xs x fits is = ap (λ k. last_of k (xs ++ x ∷ [])) is ∙ last_of-more n xs (x ∷ []) fits
 
 pub length-last_of : {A : Type 0} (n : ℕ) (xs : List A) → n ≤ length xs → length (last_of n xs) ≡ n
@@ -31,19 +33,22 @@ length-last_of n xs fits = length-drop (length xs - n) xs ∙ omega arith
 pub before_last-last : {A : Type 0} (n : ℕ) (xs : List A) → before_last n xs ++ last_of n xs ≡ xs
 before_last-last n xs = take-append-drop (length xs - n) xs
 
-pub before_last-more : {A : Type 0} (n : ℕ) (xs more : List A) → n ≤ length xs → before_last (n + length more) (xs ++ more) ≡ before_last n xs
+pub before_last-more : {A : Type 0} (n : ℕ) (xs more : List A) → n ≤ length xs
+    → before_last (n + length more) (xs ++ more) ≡ before_last n xs
 before_last-more n xs more fits =
     ap (λ k. take k (xs ++ more)) (count (length-append xs more)) ∙ take-append-le (length xs - n) xs more (omega arith)
   where
     count : length (xs ++ more) ≡ length xs + length more → length (xs ++ more) - (n + length more) ≡ length xs - n
     count h = omega arith
 
-pub before_last-push : {A : Type 0} (n m : ℕ) (xs : List A) (x : A) → n ≤ length xs → m ≡ n + 1 → before_last m (xs ++ x ∷ []) ≡ before_last n xs
+pub before_last-push : {A : Type 0} (n m : ℕ) (xs : List A) (x : A) → n ≤ length xs → m ≡ n + 1
+    → before_last m (xs ++ x ∷ []) ≡ before_last n xs
 before_last-push n m xs x fits is = ap (λ k. before_last k (xs ++ x ∷ [])) is ∙ before_last-more n xs (x ∷ []) fits
 
 -- ---- a new builder
 
-pub kept_new : (rules : Rules) (starts : List Specifier) (events : List Event) (told : Answers) → IsKept rules starts events told 0 0
+pub kept_new : (rules : Rules) (starts : List Specifier) (events : List Event) (told : Answers)
+    → IsKept rules starts events told 0 0
 unfolding IsDistinct
 kept_new rules starts events told = record {
   fits = omega arith;
@@ -57,8 +62,10 @@ kept_new rules starts events told = record {
 }
 
 -- what holds of a builder's own events, by its requests and its answers
-pub own_of : (rules : Rules) (starts : List Specifier) (own : List Event) (told : Answers) (asked : List Specifier) (log : Log) (n m : ℕ)
-    → asked_of own ≡ asked → log_of own ≡ log → length asked ≡ n → length log ≡ m → m ≤ n + 1 → IsAsking rules starts asked log → IsToldLog told log
+pub own_of : (rules : Rules) (starts : List Specifier) (own : List Event) (told : Answers) (asked : List Specifier)
+    (log : Log) (n m : ℕ)
+    → asked_of own ≡ asked → log_of own ≡ log → length asked ≡ n → length log ≡ m → m ≤ n + 1
+    → IsAsking rules starts asked log → IsToldLog told log
     → IsOwn rules starts own told n m
 own_of rules starts own told asked log n m asks gave many answers behind asking as_told = record {
   asked_counted = ap length asks ∙ many;

@@ -27,14 +27,17 @@ false_from true h = absurd (h refl)
 false_from false h = refl
 
 -- what is written at a specifier, and elsewhere
-pub written_here : (old new : Slots) (s t : Specifier) (x : Slot) → IsWritten old new s x → bytes_eq t s ≡ true → new t ≡ Some x
+pub written_here : (old new : Slots) (s t : Specifier) (x : Slot) → IsWritten old new s x → bytes_eq t s ≡ true
+    → new t ≡ Some x
 written_here old new s t x w h = w t ∙ rw h refl
 
-pub written_there : (old new : Slots) (s t : Specifier) (x : Slot) → IsWritten old new s x → bytes_eq t s ≡ false → new t ≡ old t
+pub written_there : (old new : Slots) (s t : Specifier) (x : Slot) → IsWritten old new s x → bytes_eq t s ≡ false
+    → new t ≡ old t
 written_there old new s t x w h = w t ∙ rw h refl
 
 -- nothing with a slot loses it
-pub written_some : (old new : Slots) (s t : Specifier) (x : Slot) → IsWritten old new s x → (old t ≡ None → ⊥) → new t ≡ None → ⊥
+pub written_some : (old new : Slots) (s t : Specifier) (x : Slot) → IsWritten old new s x → (old t ≡ None → ⊥)
+    → new t ≡ None → ⊥
 written_some old new s t x w h n = by (bytes_eq t s) refl
   where
     by : (b : Bool) → bytes_eq t s ≡ b → ⊥
@@ -44,14 +47,16 @@ written_some old new s t x w h n = by (bytes_eq t s) refl
 -- ---- a specifier is taken from the worklist
 
 -- what a list without repeats has before its last
-distinct_last : (xs : List Specifier) (y : Specifier) → IsDistinct bytes_eq (xs ++ y ∷ []) → IsDistinct bytes_eq xs × (has xs y ≡ false)
+distinct_last : (xs : List Specifier) (y : Specifier) → IsDistinct bytes_eq (xs ++ y ∷ [])
+    → IsDistinct bytes_eq xs × (has xs y ≡ false)
 unfolding IsDistinct
 distinct_last [] y h = (tt, refl)
 distinct_last (x ∷ xs) y h =
     let rest = distinct_last xs y h.1 in
     ((front xs h.0, rest.0), rw (nat_list_eq_equiv.symm y x ∙ last xs h.0, rest.1) refl)
   where
-    front : (ys : List Specifier) → AllByRecursion (λ z. bytes_eq x z ≡ false) (ys ++ y ∷ []) → AllByRecursion (λ z. bytes_eq x z ≡ false) ys
+    front : (ys : List Specifier) → AllByRecursion (λ z. bytes_eq x z ≡ false) (ys ++ y ∷ [])
+        → AllByRecursion (λ z. bytes_eq x z ≡ false) ys
     front [] h = tt
     front (z ∷ ys) h = (h.0, front ys h.1)
 
@@ -59,8 +64,10 @@ distinct_last (x ∷ xs) y h =
     last [] h = h.0
     last (z ∷ ys) h = last ys h.1
 
-pub building_popped : (rules : Rules) (starts asked : List Specifier) (log : Log) (slots : Slots) (rest : List Specifier) (s : Specifier)
-    → IsBuilding rules starts no_one asked log slots (rest ++ s ∷ []) → IsBuilding rules starts (this_one s) asked log slots rest
+pub building_popped : (rules : Rules) (starts asked : List Specifier) (log : Log) (slots : Slots)
+    (rest : List Specifier) (s : Specifier)
+    → IsBuilding rules starts no_one asked log slots (rest ++ s ∷ [])
+    → IsBuilding rules starts (this_one s) asked log slots rest
 building_popped rules starts asked log slots rest s b = record {
   sound = b.sound;
   done = b.done;
@@ -86,21 +93,25 @@ building_popped rules starts asked log slots rest s b = record {
     holds t e n = let q = (b.listed t (has_right rest (s ∷ []) t (has_one s t ∙ e))).0 in cc
 
 -- what is known of the one that was taken
-pub popped_slot : (rules : Rules) (starts asked : List Specifier) (log : Log) (slots : Slots) (rest : List Specifier) (s : Specifier)
+pub popped_slot : (rules : Rules) (starts asked : List Specifier) (log : Log) (slots : Slots) (rest : List Specifier)
+    (s : Specifier)
     → IsBuilding rules starts no_one asked log slots (rest ++ s ∷ []) → (slots s ≡ Some Queued) × (has asked s ≡ false)
 popped_slot rules starts asked log slots rest s b =
-    let q : slots s ≡ Some Queued = (b.listed s (has_right rest (s ∷ []) s (has_one s s ∙ nat_list_eq_equiv.refl s))).0 in
+    let q : slots s ≡ Some Queued =
+    (b.listed s (has_right rest (s ∷ []) s (has_one s s ∙ nat_list_eq_equiv.refl s))).0 in
     (q, (b.queued s refl q).1)
 
 -- ---- the one in hand is asked for
 
-pub building_asked : (rules : Rules) (starts asked : List Specifier) (log : Log) (slots new : Slots) (todo : List Specifier) (s : Specifier)
+pub building_asked : (rules : Rules) (starts asked : List Specifier) (log : Log) (slots new : Slots)
+    (todo : List Specifier) (s : Specifier)
     → IsBuilding rules starts (this_one s) asked log slots todo → slots s ≡ Some Queued → has asked s ≡ false
     → IsWritten slots new s Asked → IsBuilding rules starts no_one (asked ++ s ∷ []) log new todo
 building_asked rules starts asked log slots new todo s b here fresh w = record {
   sound = λ t x h. sound t x (bytes_eq t s) refl h;
   done = λ t e h. b.done t e (elsewhere t (Done e) (λ q. cc) h);
-  closed = λ t u e h among. written_some slots new s u Asked w (b.closed t u e (elsewhere t (Done e) (λ q. cc) h) among);
+  closed = λ t u e h among. written_some slots new s u Asked w
+      (b.closed t u e (elsewhere t (Done e) (λ q. cc) h) among);
   outstanding = λ t out h. outstanding t (bytes_eq t s) refl h;
   queued = λ t out h. queued t (bytes_eq t s) refl h;
   listed = λ t h. (written_there slots new s t Asked w (b.listed t h).1 ∙ (b.listed t h).0, refl);
@@ -118,7 +129,8 @@ building_asked rules starts asked log slots new todo s b here fresh w = record {
         by true e = absurd (differs (sym h ∙ written_here slots new s t Asked w e))
         by false e = sym (written_there slots new s t Asked w e) ∙ h
 
-    sound : (t : Specifier) (x : Slot) (c : Bool) → bytes_eq t s ≡ c → new t ≡ Some x → IsReached rules starts (answer_to log) t
+    sound : (t : Specifier) (x : Slot) (c : Bool) → bytes_eq t s ≡ c → new t ≡ Some x
+        → IsReached rules starts (answer_to log) t
     sound t x true e h = b.sound t Queued (ap slots (text_same s t e) ∙ here)
     sound t x false e h = b.sound t x (sym (written_there slots new s t Asked w e) ∙ h)
 
@@ -126,16 +138,24 @@ building_asked rules starts asked log slots new todo s b here fresh w = record {
     none_yet None e = e
     none_yet (Some a) e = absurd (let h = b.answered s a e in cc)
 
-    outstanding : (t : Specifier) (c : Bool) → bytes_eq t s ≡ c → new t ≡ Some Asked → IsOutstanding (asked ++ s ∷ []) log t
-    outstanding t true e h = (has_right asked (s ∷ []) t (has_one s t ∙ e), ap (answer_to log) (text_same s t e) ∙ none_yet (answer_to log s) refl)
+    outstanding : (t : Specifier) (c : Bool) → bytes_eq t s ≡ c → new t ≡ Some Asked
+        → IsOutstanding (asked ++ s ∷ []) log t
+    outstanding t true e h = (
+      has_right asked (s ∷ []) t (has_one s t ∙ e),
+      ap (answer_to log) (text_same s t e)
+          ∙ none_yet (answer_to log s) refl,
+    )
     outstanding t false e h =
-        let old = b.outstanding t e (sym (written_there slots new s t Asked w e) ∙ h) in (has_left asked (s ∷ []) t old.0, old.1)
+        let old = b.outstanding t e (sym (written_there slots new s t Asked w e) ∙ h) in
+        (has_left asked (s ∷ []) t old.0, old.1)
 
-    not_asked : (t : Specifier) → bytes_eq t s ≡ false → has asked t ≡ false → (has asked t ≡ true) ⊎ (has (s ∷ []) t ≡ true) → ⊥
+    not_asked : (t : Specifier) → bytes_eq t s ≡ false → has asked t ≡ false
+        → (has asked t ≡ true) ⊎ (has (s ∷ []) t ≡ true) → ⊥
     not_asked t e f (inl h) = cc
     not_asked t e f (inr h) = let g = sym (has_one s t) ∙ h in cc
 
-    queued : (t : Specifier) (c : Bool) → bytes_eq t s ≡ c → new t ≡ Some Queued → (has todo t ≡ true) × (has (asked ++ s ∷ []) t ≡ false)
+    queued : (t : Specifier) (c : Bool) → bytes_eq t s ≡ c → new t ≡ Some Queued
+        → (has todo t ≡ true) × (has (asked ++ s ∷ []) t ≡ false)
     queued t true e h = absurd (let g = written_here slots new s t Asked w e in cc)
     queued t false e h =
         let old = b.queued t e (sym (written_there slots new s t Asked w e) ∙ h) in
@@ -149,22 +169,28 @@ building_asked rules starts asked log slots new todo s b here fresh w = record {
 
 -- one more answer that was awaited
 pub orderly_push : (rules : Rules) (starts : List Specifier) (before log : Log) (s : Specifier) (a : LoadAnswer)
-    → IsOrderlyAfter rules starts before log → IsAwaited rules starts (before ++ log) s → IsOrderlyAfter rules starts before (log ++ (s, a) ∷ [])
+    → IsOrderlyAfter rules starts before log → IsAwaited rules starts (before ++ log) s
+    → IsOrderlyAfter rules starts before (log ++ (s, a) ∷ [])
 orderly_push rules starts before [] s a h w = (rw (sym (append-nil before)) w, tt)
 orderly_push rules starts before (x ∷ log) s a h w =
     (h.0, orderly_push rules starts (before ++ x ∷ []) log s a h.1 (rw append_assoc w))
 
-pub building_answered : (rules : Rules) (starts asked : List Specifier) (log : Log) (slots : Slots) (todo : List Specifier) (s : Specifier) (a : LoadAnswer)
+pub building_answered : (rules : Rules) (starts asked : List Specifier) (log : Log) (slots : Slots)
+    (todo : List Specifier) (s : Specifier) (a : LoadAnswer)
     → IsBuilding rules starts no_one asked log slots todo → slots s ≡ Some Asked → loadable s ≡ true
     → IsBuilding rules starts (this_one s) asked (log ++ (s, a) ∷ []) slots todo
 building_answered rules starts asked log slots todo s a b here loads =
     let within = answer_kept log ((s, a) ∷ []) in record {
-      sound = λ t x h. reached_grows rules starts (answer_to log) (answer_to (log ++ (s, a) ∷ [])) within t (b.sound t x h);
+      sound = λ t x h. reached_grows rules starts (answer_to log) (answer_to (log ++ (s, a) ∷ [])) within t
+          (b.sound t x h);
       done = λ t e h. entry_grows rules (answer_to log) (answer_to (log ++ (s, a) ∷ [])) within t e (b.done t e h);
       closed = b.closed;
       outstanding = λ t out h. let old = b.outstanding t refl h in (old.0, answer_other log s a t out ∙ old.1);
       queued = λ t out h. b.queued t refl h;
-      listed = λ t h. ((b.listed t h).0, false_from (bytes_eq t s) (λ e. let g = ap slots (text_same s t e) ∙ here in let q = (b.listed t h).0 in cc));
+      listed = λ t h. (
+        (b.listed t h).0,
+        false_from (bytes_eq t s) (λ e. let g = ap slots (text_same s t e) ∙ here in let q = (b.listed t h).0 in cc),
+      );
       holds = λ t e n. let g = ap slots (text_same s t e) ∙ here in cc;
       todo_once = b.todo_once;
       asked_slot = b.asked_slot;
@@ -173,20 +199,23 @@ building_answered rules starts asked log slots todo s a b here loads =
           (record { reached = b.sound s Asked here; loads = loads; open_yet = (b.outstanding s refl here).1 });
     }
   where
-    answered : (t : Specifier) (c : LoadAnswer) (d : Bool) → bytes_eq t s ≡ d → answer_to (log ++ (s, a) ∷ []) t ≡ Some c → has asked t ≡ true
+    answered : (t : Specifier) (c : LoadAnswer) (d : Bool) → bytes_eq t s ≡ d
+        → answer_to (log ++ (s, a) ∷ []) t ≡ Some c → has asked t ≡ true
     answered t c true e h = has_same asked s t e ∙ (b.outstanding s refl here).0
     answered t c false e h = b.answered t c (sym (answer_other log s a t e) ∙ h)
 
 -- ---- what came is reached
 
-pub building_grown : (rules : Rules) (starts : List Specifier) (in_hand : Specifier → Bool) (asked : List Specifier) (log : Log) (slots new : Slots) (todo later come : List Specifier)
+pub building_grown : (rules : Rules) (starts : List Specifier) (in_hand : Specifier → Bool) (asked : List Specifier)
+    (log : Log) (slots new : Slots) (todo later come : List Specifier)
     → IsBuilding rules starts in_hand asked log slots todo → HasGrown come slots new todo later
     → ((t : Specifier) → has come t ≡ true → IsReached rules starts (answer_to log) t)
     → IsBuilding rules starts in_hand asked log new later
 building_grown rules starts in_hand asked log slots new todo later come b g reached = record {
   sound = λ t x h. sound t x (g.fresh t x h);
   done = λ t e h. b.done t e (old_one t (Done e) (λ q. cc) (g.fresh t (Done e) h));
-  closed = λ t u e h among n. closed u (slots u) refl (b.closed t u e (old_one t (Done e) (λ q. cc) (g.fresh t (Done e) h)) among) n;
+  closed = λ t u e h among n. closed u (slots u) refl
+      (b.closed t u e (old_one t (Done e) (λ q. cc) (g.fresh t (Done e) h)) among) n;
   outstanding = λ t out h. b.outstanding t out (old_one t Asked (λ q. cc) (g.fresh t Asked h));
   queued = λ t out h. queued t out h (g.fresh t Queued h);
   listed = λ t h. listed t (g.listed t h);
@@ -197,11 +226,13 @@ building_grown rules starts in_hand asked log slots new todo later come b g reac
   orderly = b.orderly;
 }
   where
-    sound : (t : Specifier) (x : Slot) → (slots t ≡ Some x) ⊎ ((slots t ≡ None) × (has come t ≡ true) × (x ≡ Queued)) → IsReached rules starts (answer_to log) t
+    sound : (t : Specifier) (x : Slot) → (slots t ≡ Some x) ⊎ ((slots t ≡ None) × (has come t ≡ true) × (x ≡ Queued))
+        → IsReached rules starts (answer_to log) t
     sound t x (inl h) = b.sound t x h
     sound t x (inr h) = reached t h.1
 
-    old_one : (t : Specifier) (x : Slot) → (x ≡ Queued → ⊥) → (slots t ≡ Some x) ⊎ ((slots t ≡ None) × (has come t ≡ true) × (x ≡ Queued)) → slots t ≡ Some x
+    old_one : (t : Specifier) (x : Slot) → (x ≡ Queued → ⊥)
+        → (slots t ≡ Some x) ⊎ ((slots t ≡ None) × (has come t ≡ true) × (x ≡ Queued)) → slots t ≡ Some x
     old_one t x differs (inl h) = h
     old_one t x differs (inr h) = absurd (differs h.2)
 
@@ -209,19 +240,23 @@ building_grown rules starts in_hand asked log slots new todo later come b g reac
     closed t None e h n = h e
     closed t (Some x) e h n = let k = g.kept t x e in cc
 
-    queued : (t : Specifier) → in_hand t ≡ false → new t ≡ Some Queued → (slots t ≡ Some Queued) ⊎ ((slots t ≡ None) × (has come t ≡ true) × (Queued ≡ Queued))
+    queued : (t : Specifier) → in_hand t ≡ false → new t ≡ Some Queued
+        → (slots t ≡ Some Queued) ⊎ ((slots t ≡ None) × (has come t ≡ true) × (Queued ≡ Queued))
         → (has later t ≡ true) × (has asked t ≡ false)
     queued t out q (inl h) = let old = b.queued t out h in (g.still t old.0, old.1)
     queued t out q (inr h) = (g.joined t h.0 q, false_from (has asked t) (λ f. b.asked_slot t f h.0))
 
-    listed : (t : Specifier) → (has todo t ≡ true) ⊎ ((slots t ≡ None) × (new t ≡ Some Queued)) → (new t ≡ Some Queued) × (in_hand t ≡ false)
+    listed : (t : Specifier) → (has todo t ≡ true) ⊎ ((slots t ≡ None) × (new t ≡ Some Queued))
+        → (new t ≡ Some Queued) × (in_hand t ≡ false)
     listed t (inl h) = (g.kept t Queued (b.listed t h).0, (b.listed t h).1)
     listed t (inr h) = (h.1, false_from (in_hand t) (λ e. b.holds t e h.0))
 
 -- ---- the one in hand has its entry
 
-pub building_filled : (rules : Rules) (starts asked : List Specifier) (log : Log) (slots new : Slots) (todo : List Specifier) (s : Specifier) (e : Entry)
-    → IsBuilding rules starts (this_one s) asked log slots todo → IsReached rules starts (answer_to log) s → IsEntry rules (answer_to log) s e
+pub building_filled : (rules : Rules) (starts asked : List Specifier) (log : Log) (slots new : Slots)
+    (todo : List Specifier) (s : Specifier) (e : Entry)
+    → IsBuilding rules starts (this_one s) asked log slots todo → IsReached rules starts (answer_to log) s
+    → IsEntry rules (answer_to log) s e
     → ((u : Specifier) → has (targets rules e) u ≡ true → slots u ≡ None → ⊥)
     → IsWritten slots new s (Done e) → IsBuilding rules starts no_one asked log new todo
 building_filled rules starts asked log slots new todo s e b reached is_entry closed w = record {
@@ -238,21 +273,24 @@ building_filled rules starts asked log slots new todo s e b reached is_entry clo
   orderly = b.orderly;
 }
   where
-    sound : (t : Specifier) (x : Slot) (c : Bool) → bytes_eq t s ≡ c → new t ≡ Some x → IsReached rules starts (answer_to log) t
+    sound : (t : Specifier) (x : Slot) (c : Bool) → bytes_eq t s ≡ c → new t ≡ Some x
+        → IsReached rules starts (answer_to log) t
     sound t x true d h = subst (IsReached rules starts (answer_to log)) (sym (text_same s t d)) reached
     sound t x false d h = b.sound t x (sym (written_there slots new s t (Done e) w d) ∙ h)
 
     same_entry : (f g : Entry) → Some (Done f) ≡ Some (Done g) → f ≡ g
     same_entry f g h = cc
 
-    done : (t : Specifier) (f : Entry) (c : Bool) → bytes_eq t s ≡ c → new t ≡ Some (Done f) → IsEntry rules (answer_to log) t f
+    done : (t : Specifier) (f : Entry) (c : Bool) → bytes_eq t s ≡ c → new t ≡ Some (Done f)
+        → IsEntry rules (answer_to log) t f
     done t f true d h =
         let same = same_entry e f (sym (written_here slots new s t (Done e) w d) ∙ h) in
         subst (λ (u : Specifier). IsEntry rules (answer_to log) u f) (sym (text_same s t d))
         (subst (λ (g : Entry). IsEntry rules (answer_to log) s g) same is_entry)
     done t f false d h = b.done t f (sym (written_there slots new s t (Done e) w d) ∙ h)
 
-    shut : (t u : Specifier) (f : Entry) (c : Bool) → bytes_eq t s ≡ c → new t ≡ Some (Done f) → has (targets rules f) u ≡ true → slots u ≡ None → ⊥
+    shut : (t u : Specifier) (f : Entry) (c : Bool) → bytes_eq t s ≡ c → new t ≡ Some (Done f)
+        → has (targets rules f) u ≡ true → slots u ≡ None → ⊥
     shut t u f true d h among =
         let same = same_entry e f (sym (written_here slots new s t (Done e) w d) ∙ h) in
         closed u (ap (λ (g : Entry). has (targets rules g) u) same ∙ among)
@@ -262,6 +300,7 @@ building_filled rules starts asked log slots new todo s e b reached is_entry clo
     outstanding t true d h = absurd (let g = written_here slots new s t (Done e) w d in cc)
     outstanding t false d h = b.outstanding t d (sym (written_there slots new s t (Done e) w d) ∙ h)
 
-    queued : (t : Specifier) (c : Bool) → bytes_eq t s ≡ c → new t ≡ Some Queued → (has todo t ≡ true) × (has asked t ≡ false)
+    queued : (t : Specifier) (c : Bool) → bytes_eq t s ≡ c → new t ≡ Some Queued
+        → (has todo t ≡ true) × (has asked t ≡ false)
     queued t true d h = absurd (let g = written_here slots new s t (Done e) w d in cc)
     queued t false d h = b.queued t d (sym (written_there slots new s t (Done e) w d) ∙ h)

@@ -27,7 +27,8 @@ unfolding text_of
 is_eq-url_cmp a b = is_eq-slice_cmp (serialize a) (serialize b)
 
 -- what a map gives at a URL is the value at its text
-pub value_at-get : {V : Type 0} (entries : List (Parts × V)) (url : Parts) → lookup (is_at (url_cmp url)) entries ≡ value_at entries (text_of url)
+pub value_at-get : {V : Type 0} (entries : List (Parts × V)) (url : Parts)
+    → lookup (is_at (url_cmp url)) entries ≡ value_at entries (text_of url)
 value_at-get [] url = refl
 value_at-get (e ∷ es) url = rw (is_eq-url_cmp url e.0, value_at-get es url) refl
 
@@ -44,24 +45,30 @@ cond_again : {A : Type 0} (b : Bool) (x y z : A) → cond b x z ≡ cond b x (co
 cond_again true x y z = refl
 cond_again false x y z = refl
 
-cond_swap : {A : Type 0} (a b : Bool) (x y z : A) → (a ≡ true → b ≡ true → ⊥) → cond a x (cond b y z) ≡ cond b y (cond a x z)
+cond_swap : {A : Type 0} (a b : Bool) (x y z : A) → (a ≡ true → b ≡ true → ⊥)
+    → cond a x (cond b y z) ≡ cond b y (cond a x z)
 cond_swap true true x y z h = absurd (h refl refl)
 cond_swap true false x y z h = refl
 cond_swap false b x y z h = refl
 
 -- a value that is put somewhere
 pub value_at-insert : {V : Type 0} (entries : List (Parts × V)) (url : Parts) (value : V) (t : Specifier)
-    → value_at (insert_entry url_cmp entries url value) t ≡ cond (bytes_eq t (text_of url)) (Some value) (value_at entries t)
+    → value_at (insert_entry url_cmp entries url value) t
+    ≡ cond (bytes_eq t (text_of url)) (Some value) (value_at entries t)
 value_at-insert [] url value t = refl
 value_at-insert (e ∷ es) url value t = placed (url_cmp url e.0) (is_eq-url_cmp url e.0) (value_at-insert es url value t)
   where
     placed : (o : Ordering) → is_eq o ≡ bytes_eq (text_of url) (text_of e.0)
         → value_at (insert_entry url_cmp es url value) t ≡ cond (bytes_eq t (text_of url)) (Some value) (value_at es t)
-        → value_at (match_ordering o ((url, value) ∷ e ∷ es) ((e.0, value) ∷ es) (e ∷ insert_entry url_cmp es url value)) t
+        → value_at (match_ordering o ((url, value) ∷ e ∷ es) ((e.0, value) ∷ es)
+        (e ∷ insert_entry url_cmp es url value)) t
         ≡ cond (bytes_eq t (text_of url)) (Some value) (cond (bytes_eq t (text_of e.0)) (Some e.1) (value_at es t))
     placed Less h rest = refl
-    placed Equal h rest = rw (same_side t (text_of url) (text_of e.0) (sym h)) (cond_again (bytes_eq t (text_of url)) _ _ _)
-    placed Greater h rest = rw rest (cond_swap (bytes_eq t (text_of e.0)) (bytes_eq t (text_of url)) _ _ _ (apart t (text_of url) (text_of e.0) (sym h)))
+    placed Equal h rest =
+        rw (same_side t (text_of url) (text_of e.0) (sym h)) (cond_again (bytes_eq t (text_of url)) _ _ _)
+    placed Greater h rest =
+        rw rest (cond_swap (bytes_eq t (text_of e.0)) (bytes_eq t (text_of url)) _ _ _
+        (apart t (text_of url) (text_of e.0) (sym h)))
 
 -- what is put, by what the map's own clause says of the entries
 pub is_put : {V : Type 0} (old new : List (Parts × V)) (url : Parts) (value : V)
@@ -80,16 +87,19 @@ abbrev pub keys_at : {V : Type 0} → List (Parts × V) → List Specifier
 keys_at entries = map (λ e. text_of e.0) entries
 
 -- a specifier is among them exactly if it has a value
-pub has-keys_at : {V : Type 0} (entries : List (Parts × V)) (t : Specifier) → has (keys_at entries) t ≡ is_some (value_at entries t)
+pub has-keys_at : {V : Type 0} (entries : List (Parts × V)) (t : Specifier)
+    → has (keys_at entries) t ≡ is_some (value_at entries t)
 has-keys_at [] t = refl
 has-keys_at (e ∷ es) t = by (bytes_eq t (text_of e.0)) (has-keys_at es t)
   where
-    by : (b : Bool) → has (keys_at es) t ≡ is_some (value_at es t) → (b || has (keys_at es) t) ≡ is_some (cond b (Some e.1) (value_at es t))
+    by : (b : Bool) → has (keys_at es) t ≡ is_some (value_at es t)
+        → (b || has (keys_at es) t) ≡ is_some (cond b (Some e.1) (value_at es t))
     by true h = refl
     by false h = h
 
 -- what is above the first key of a map is above its text
-less-keys_at : {V : Type 0} (url : Parts) (rest : List (Parts × V)) → AllByRecursion (λ y. url_cmp url y ≡ Less) (keys_of rest)
+less-keys_at : {V : Type 0} (url : Parts) (rest : List (Parts × V))
+    → AllByRecursion (λ y. url_cmp url y ≡ Less) (keys_of rest)
     → AllByRecursion (λ y. slice_cmp nat_cmp (text_of url) y ≡ Less) (keys_at rest)
 unfolding text_of
 less-keys_at url [] h = tt
@@ -103,7 +113,8 @@ sorted-keys_at [] sorted = tt
 sorted-keys_at (e ∷ es) sorted = (less-keys_at e.0 es sorted.0, sorted-keys_at es sorted.1)
 
 -- tests that agree find the same lists without repeats
-apart_by_same : (e f : Specifier → Specifier → Bool) → ((x y : Specifier) → e x y ≡ f x y) → (x : Specifier) (ks : List Specifier)
+apart_by_same : (e f : Specifier → Specifier → Bool) → ((x y : Specifier) → e x y ≡ f x y)
+    → (x : Specifier) (ks : List Specifier)
     → AllByRecursion (λ y. e x y ≡ false) ks → AllByRecursion (λ y. f x y ≡ false) ks
 apart_by_same e f same x [] h = tt
 apart_by_same e f same x (k ∷ ks) h = (sym (same x k) ∙ h.0, apart_by_same e f same x ks h.1)
@@ -117,7 +128,8 @@ distinct_by_same e f same (k ∷ ks) h = (apart_by_same e f same k ks h.0, disti
 -- texts in order have no repeats
 pub distinct_sorted : (ks : List Specifier) → IsStrictlySortedBy (slice_cmp nat_cmp) ks → IsDistinct bytes_eq ks
 distinct_sorted ks sorted =
-    distinct_by_same (eq_by_cmp (slice_cmp nat_cmp)) bytes_eq is_eq-slice_cmp ks (IsDistinct-from_sorted (slice_cmp nat_cmp) ks sorted)
+    distinct_by_same (eq_by_cmp (slice_cmp nat_cmp)) bytes_eq is_eq-slice_cmp ks
+    (IsDistinct-from_sorted (slice_cmp nat_cmp) ks sorted)
 
 -- so many keys as entries
 pub length-keys_at : {V : Type 0} (entries : List (Parts × V)) → length (keys_at entries) ≡ length entries

@@ -38,35 +38,43 @@ pub turned : (x y : Specifier) (o : Ordering) → text_cmp x y ≡ o → text_cm
 turned x y o e = nat_list_cmp_total.antisymm y x ∙ ap ordering_reverse e
 
 -- a specifier that is at no place has no entry
-pub entry_of-None : (es : List (Parts × Entry)) (s : Specifier) → ((k : ℕ) (d : Parts × Entry) → k < length es → bytes_eq s (text_of (get_or es k d).0) ≡ false) → entry_of es s ≡ None
+pub entry_of-None : (es : List (Parts × Entry)) (s : Specifier)
+    → ((k : ℕ) (d : Parts × Entry) → k < length es → bytes_eq s (text_of (get_or es k d).0) ≡ false)
+    → entry_of es s ≡ None
 entry_of-None [] s h = refl
 entry_of-None (e ∷ es) s h =
     rw (h 0 e (omega arith)) (entry_of-None es s (λ k d l. h (suc k) d (omega arith)))
 
 -- the entry at a place of the specifier is its entry
-pub entry_of-Some : (es : List (Parts × Entry)) (s : Specifier) (k : ℕ) (d : Parts × Entry) → IsAscending es → k < length es → text_cmp (text_of (get_or es k d).0) s ≡ Equal → entry_of es s ≡ Some (get_or es k d).1
+pub entry_of-Some : (es : List (Parts × Entry)) (s : Specifier) (k : ℕ) (d : Parts × Entry) → IsAscending es
+    → k < length es → text_cmp (text_of (get_or es k d).0) s ≡ Equal → entry_of es s ≡ Some (get_or es k d).1
 entry_of-Some [] s k d sorted l h = absurd (omega arith)
 entry_of-Some (e ∷ es) s zero d sorted l h = rw (bytes_eq-equal s (text_of e.0) (turned (text_of e.0) s Equal h)) refl
 entry_of-Some (e ∷ es) s (suc k) d sorted l h =
     let within : k < length es = omega arith in
     let later : text_cmp (text_of e.0) (text_of (get_or es k d).0) ≡ Less =
     subst (λ (y : Specifier). text_cmp (text_of e.0) y ≡ Less) (get_or-map (λ (x : Parts × Entry). text_of x.0) es k d)
-    (Less-from_sorted text_cmp (members_of (e ∷ es)) 0 (suc k) (text_of d.0) sorted (omega arith) (rw (ap suc (length-map es (λ (x : Parts × Entry). text_of x.0))) (omega arith))) in
+    (Less-from_sorted text_cmp (members_of (e ∷ es)) 0 (suc k) (text_of d.0) sorted (omega arith)
+    (rw (ap suc (length-map es (λ (x : Parts × Entry). text_of x.0))) (omega arith))) in
     let apart : bytes_eq s (text_of e.0) ≡ false =
     bytes_eq-unequal s (text_of e.0) Greater
-    (sym (nat_list_cmp_total.congr _ _ (text_of e.0) h) ∙ turned (text_of e.0) (text_of (get_or es k d).0) Less later) refl in
+    (sym (nat_list_cmp_total.congr _ _ (text_of e.0) h) ∙ turned (text_of e.0) (text_of (get_or es k d).0) Less later)
+    refl in
     rw apart (entry_of-Some es s k d (sorted_tail text_cmp (text_of e.0) (members_of es) sorted) within h)
 
 -- an earlier entry's specifier is less
-pub less_from_places : (es : List (Parts × Entry)) (i j : ℕ) (d : Parts × Entry) → IsAscending es → i < j → j < length es
+pub less_from_places : (es : List (Parts × Entry)) (i j : ℕ) (d : Parts × Entry) → IsAscending es → i < j
+    → j < length es
     → text_cmp (text_of (get_or es i d).0) (text_of (get_or es j d).0) ≡ Less
 less_from_places es i j d sorted below within =
     let f : Parts × Entry → Specifier = λ x. text_of x.0 in
     let inside : j < length (map f es) = rw (length-map es f) within in
-    rw (← get_or-map f es i d, ← get_or-map f es j d) (Less-from_sorted text_cmp (map f es) i j (f d) sorted below inside)
+    rw (← get_or-map f es i d, ← get_or-map f es j d)
+    (Less-from_sorted text_cmp (map f es) i j (f d) sorted below inside)
 
 -- all entries up to a lesser one are less
-pub less_below : (es : List (Parts × Entry)) (s : Specifier) (m k : ℕ) (d : Parts × Entry) → IsAscending es → m < length es → k ≤ m
+pub less_below : (es : List (Parts × Entry)) (s : Specifier) (m k : ℕ) (d : Parts × Entry) → IsAscending es
+    → m < length es → k ≤ m
     → text_cmp (text_of (get_or es m d).0) s ≡ Less → text_cmp (text_of (get_or es k d).0) s ≡ Less
 less_below es s m k d sorted within le less =
     elim (le_cases k m le) as (λ _. text_cmp (text_of (get_or es k d).0) s ≡ Less) [
@@ -75,11 +83,13 @@ less_below es s m k d sorted within le less =
     ]
 
 -- and from a greater one on, all are greater
-pub greater_from : (es : List (Parts × Entry)) (s : Specifier) (m k : ℕ) (d : Parts × Entry) → IsAscending es → k < length es → m ≤ k
+pub greater_from : (es : List (Parts × Entry)) (s : Specifier) (m k : ℕ) (d : Parts × Entry) → IsAscending es
+    → k < length es → m ≤ k
     → text_cmp (text_of (get_or es m d).0) s ≡ Greater → text_cmp (text_of (get_or es k d).0) s ≡ Greater
 greater_from es s m k d sorted within le greater =
     elim (le_cases m k le) as (λ _. text_cmp (text_of (get_or es k d).0) s ≡ Greater) [
-      | inl below ↦ turned s _ Less (nat_list_cmp_total.trans s _ _ (turned _ s Greater greater) (less_from_places es m k d sorted below within))
+      | inl below ↦ turned s _ Less
+          (nat_list_cmp_total.trans s _ _ (turned _ s Greater greater) (less_from_places es m k d sorted below within))
       | inr same ↦ rw (← same) greater
     ]
 
@@ -87,7 +97,8 @@ greater_from es s m k d sorted within le greater =
 pub record IsNarrowed (es : List (Parts × Entry)) (s : Specifier) (low high : ℕ) : Type 0 where
   pub fits : high ≤ length es
   pub less : (k : ℕ) (d : Parts × Entry) → k < low → text_cmp (text_of (get_or es k d).0) s ≡ Less
-  pub greater : (k : ℕ) (d : Parts × Entry) → high ≤ k → k < length es → text_cmp (text_of (get_or es k d).0) s ≡ Greater
+  pub greater : (k : ℕ) (d : Parts × Entry) → high ≤ k → k < length es
+      → text_cmp (text_of (get_or es k d).0) s ≡ Greater
 
 -- at the start nothing is known
 pub narrowed_all : (es : List (Parts × Entry)) (s : Specifier) → IsNarrowed es s 0 (length es)
@@ -103,15 +114,18 @@ pub at_any : (es : List (Parts × Entry)) (s : Specifier) (m : ℕ) (d e : Parts
 at_any es s m d e within is = rw (get_or_default es m d e within) is
 
 -- a place in the middle narrows from below or from above
-pub narrowed_low : (es : List (Parts × Entry)) (s : Specifier) (low high m : ℕ) (e : Parts × Entry) → IsAscending es → IsNarrowed es s low high → m < high
+pub narrowed_low : (es : List (Parts × Entry)) (s : Specifier) (low high m : ℕ) (e : Parts × Entry) → IsAscending es
+    → IsNarrowed es s low high → m < high
     → text_cmp (text_of (get_or es m e).0) s ≡ Less → IsNarrowed es s (m + 1) high
 narrowed_low es s low high m e sorted n l less = record {
   fits = n.fits;
-  less = λ k d b. less_below es s m k d sorted (omega (arith, n.fits)) (omega arith) (at_any es s m d e (omega (arith, n.fits)) less);
+  less = λ k d b. less_below es s m k d sorted (omega (arith, n.fits)) (omega arith)
+      (at_any es s m d e (omega (arith, n.fits)) less);
   greater = n.greater;
 }
 
-pub narrowed_high : (es : List (Parts × Entry)) (s : Specifier) (low high m : ℕ) (e : Parts × Entry) → IsAscending es → IsNarrowed es s low high → m < high
+pub narrowed_high : (es : List (Parts × Entry)) (s : Specifier) (low high m : ℕ) (e : Parts × Entry) → IsAscending es
+    → IsNarrowed es s low high → m < high
     → text_cmp (text_of (get_or es m e).0) s ≡ Greater → IsNarrowed es s low m
 narrowed_high es s low high m e sorted n l greater = record {
   fits = omega (arith, n.fits);
@@ -120,11 +134,15 @@ narrowed_high es s low high m e sorted n l greater = record {
 }
 
 -- where nothing is left in the middle, the specifier has no entry
-pub entry_of-narrowed : (es : List (Parts × Entry)) (s : Specifier) (low high : ℕ) → IsNarrowed es s low high → high ≤ low → entry_of es s ≡ None
+pub entry_of-narrowed : (es : List (Parts × Entry)) (s : Specifier) (low high : ℕ) → IsNarrowed es s low high
+    → high ≤ low → entry_of es s ≡ None
 entry_of-narrowed es s low high n le = entry_of-None es s (λ k d within. differs k d within (lt_or_le k low))
   where
-    differs : (k : ℕ) (d : Parts × Entry) → k < length es → (k < low) ⊎ (low ≤ k) → bytes_eq s (text_of (get_or es k d).0) ≡ false
+    differs : (k : ℕ) (d : Parts × Entry) → k < length es → (k < low) ⊎ (low ≤ k)
+        → bytes_eq s (text_of (get_or es k d).0) ≡ false
     differs k d within (inl below) =
-        bytes_eq-unequal s (text_of (get_or es k d).0) Greater (turned (text_of (get_or es k d).0) s Less (n.less k d below)) refl
+        bytes_eq-unequal s (text_of (get_or es k d).0) Greater
+        (turned (text_of (get_or es k d).0) s Less (n.less k d below)) refl
     differs k d within (inr above) =
-        bytes_eq-unequal s (text_of (get_or es k d).0) Less (turned (text_of (get_or es k d).0) s Greater (n.greater k d (omega arith) within)) refl
+        bytes_eq-unequal s (text_of (get_or es k d).0) Less
+        (turned (text_of (get_or es k d).0) s Greater (n.greater k d (omega arith) within)) refl

@@ -29,10 +29,12 @@ pub log_of-request : (xs : List Event) (s : Specifier) → log_of (xs ++ Request
 log_of-request xs s = log_of-append xs (Requested s ∷ []) ∙ append-nil (log_of xs)
 
 -- what an answer adds
-pub asked_of-answer : (xs : List Event) (s : Specifier) (a : LoadAnswer) → asked_of (xs ++ Answered s a ∷ []) ≡ asked_of xs
+pub asked_of-answer : (xs : List Event) (s : Specifier) (a : LoadAnswer)
+    → asked_of (xs ++ Answered s a ∷ []) ≡ asked_of xs
 asked_of-answer xs s a = asked_of-append xs (Answered s a ∷ []) ∙ append-nil (asked_of xs)
 
-pub log_of-answer : (xs : List Event) (s : Specifier) (a : LoadAnswer) → log_of (xs ++ Answered s a ∷ []) ≡ log_of xs ++ (s, a) ∷ []
+pub log_of-answer : (xs : List Event) (s : Specifier) (a : LoadAnswer)
+    → log_of (xs ++ Answered s a ∷ []) ≡ log_of xs ++ (s, a) ∷ []
 log_of-answer xs s a = log_of-append xs (Answered s a ∷ [])
 
 -- each event is a request or an answer
@@ -44,7 +46,8 @@ length-events (Answered s a ∷ xs) = let rest = length-events xs in omega (arit
 -- ---- in time
 
 -- first some events, and then more
-pub timely_append : (before xs ys : List Event) → IsTimelyAfter before xs → IsTimelyAfter (before ++ xs) ys → IsTimelyAfter before (xs ++ ys)
+pub timely_append : (before xs ys : List Event) → IsTimelyAfter before xs → IsTimelyAfter (before ++ xs) ys
+    → IsTimelyAfter before (xs ++ ys)
 timely_append before [] ys h k = subst (λ (b : List Event). IsTimelyAfter b ys) (append-nil before) k
 timely_append before (Requested s ∷ xs) ys h k =
     timely_append (before ++ Requested s ∷ []) xs ys h
@@ -65,31 +68,36 @@ pub timely_asked : (xs more : List Event) → IsTimely xs → log_of more ≡ []
 timely_asked xs more h none = timely_append [] xs more h (timely_requests xs more none)
 
 -- an answer for what is outstanding is in time
-pub timely_answer : (xs : List Event) (s : Specifier) (a : LoadAnswer) → IsTimely xs → IsOutstanding (asked_of xs) (log_of xs) s
+pub timely_answer : (xs : List Event) (s : Specifier) (a : LoadAnswer) → IsTimely xs
+    → IsOutstanding (asked_of xs) (log_of xs) s
     → IsTimely (xs ++ Answered s a ∷ [])
 timely_answer xs s a h open_yet = timely_append [] xs (Answered s a ∷ []) h (open_yet, tt)
 
 -- ---- how often
 
-times_step : (s t : Specifier) (n m k : ℕ) (b : Bool) → n ≡ m + k → (if b then 1 else 0) + n ≡ ((if b then 1 else 0) + m) + k
+times_step : (s t : Specifier) (n m k : ℕ) (b : Bool) → n ≡ m + k
+    → (if b then 1 else 0) + n ≡ ((if b then 1 else 0) + m) + k
 times_step s t n m k true h = omega (arith, h)
 times_step s t n m k false h = omega (arith, h)
 
 pub times-append : (s : Specifier) (xs ys : List Specifier) → times s (xs ++ ys) ≡ times s xs + times s ys
 times-append s [] ys = omega arith
-times-append s (t ∷ xs) ys = times_step s t (times s (xs ++ ys)) (times s xs) (times s ys) (bytes_eq s t) (times-append s xs ys)
+times-append s (t ∷ xs) ys =
+    times_step s t (times s (xs ++ ys)) (times s xs) (times s ys) (bytes_eq s t) (times-append s xs ys)
 
 -- not at all
 pub times_none : (s : Specifier) (xs : List Specifier) → has xs s ≡ false → times s xs ≡ 0
 times_none s [] h = refl
 times_none s (t ∷ xs) h = by (bytes_eq s t) h (times_none s xs)
   where
-    by : (b : Bool) → (b || has xs s) ≡ false → (has xs s ≡ false → times s xs ≡ 0) → (if b then 1 else 0) + times s xs ≡ 0
+    by : (b : Bool) → (b || has xs s) ≡ false → (has xs s ≡ false → times s xs ≡ 0)
+        → (if b then 1 else 0) + times s xs ≡ 0
     by true g rest = absurd cc
     by false g rest = let none = rest g in omega (arith, none)
 
 -- what is equal to one that no other is equal to isn't among the others
-pub not_among : (s t : Specifier) (ys : List Specifier) → bytes_eq s t ≡ true → AllByRecursion (λ z. bytes_eq t z ≡ false) ys → has ys s ≡ false
+pub not_among : (s t : Specifier) (ys : List Specifier) → bytes_eq s t ≡ true
+    → AllByRecursion (λ z. bytes_eq t z ≡ false) ys → has ys s ≡ false
 not_among s t [] e h = refl
 not_among s t (y ∷ ys) e h =
     let same : s ≡ t = same_text s t (sym e) in
@@ -110,7 +118,8 @@ times_once s (t ∷ xs) once = by (bytes_eq s t) refl (times_once s xs once.1)
 pub unanswered : (s : Specifier) (log : Log) → times s (keys_of log) ≡ 0 → answer_to log s ≡ None
 unanswered s log none = by (answer_to log s) refl
   where
-    some_time : (b : Bool) (xs : List Specifier) → (has xs s ≡ true → 0 < times s xs) → (b || has xs s) ≡ true → 0 < (if b then 1 else 0) + times s xs
+    some_time : (b : Bool) (xs : List Specifier) → (has xs s ≡ true → 0 < times s xs) → (b || has xs s) ≡ true
+        → 0 < (if b then 1 else 0) + times s xs
     some_time true xs rest h = omega arith
     some_time false xs rest h = let more = rest h in omega (arith, more)
 
@@ -125,7 +134,8 @@ unanswered s log none = by (answer_to log s) refl
         absurd (let more = counted (keys_of log) there in omega (arith, more, none))
 
 -- a specifier that was asked for more often than answered is outstanding, where each is asked for once
-pub is_outstanding : (xs : List Event) (s : Specifier) → IsDistinct bytes_eq (asked_of xs) → answers xs s < requests xs s
+pub is_outstanding : (xs : List Event) (s : Specifier) → IsDistinct bytes_eq (asked_of xs)
+    → answers xs s < requests xs s
     → IsOutstanding (asked_of xs) (log_of xs) s
 is_outstanding xs s once more =
     let most : requests xs s ≤ 1 = times_once s (asked_of xs) once in
@@ -133,4 +143,5 @@ is_outstanding xs s once more =
   where
     asked : (b : Bool) → has (asked_of xs) s ≡ b → b ≡ true
     asked true e = refl
-    asked false e = absurd (let none : times s (asked_of xs) ≡ 0 = times_none s (asked_of xs) e in omega (arith, none, more))
+    asked false e = absurd
+        (let none : times s (asked_of xs) ≡ 0 = times_none s (asked_of xs) e in omega (arith, none, more))

@@ -29,34 +29,42 @@ use Rattle.deno_graph.specs.Memory.{module_answer, waits_for, settled, is_pendin
 -- ---- the map of the modules
 
 -- an empty map is the index of no modules
-pub index_none : (modules : List (Parts × LoadAnswer)) (places : List (Parts × ℕ)) → places ≡ [] → IsIndexFrom (length modules) modules places
+pub index_none : (modules : List (Parts × LoadAnswer)) (places : List (Parts × ℕ)) → places ≡ []
+    → IsIndexFrom (length modules) modules places
 index_none modules places is s = rw (is, drop_all (length modules) modules (omega arith)) refl
 
 -- and one module more
-pub index_more : (modules : List (Parts × LoadAnswer)) (old new : List (Parts × ℕ)) (at : ℕ) (x : Parts × LoadAnswer) → at < length modules → x ≡ get_or modules at x
+pub index_more : (modules : List (Parts × LoadAnswer)) (old new : List (Parts × ℕ)) (at : ℕ) (x : Parts × LoadAnswer)
+    → at < length modules → x ≡ get_or modules at x
     → IsPut old new (text_of x.0) at → IsIndexFrom (at + 1) modules old → IsIndexFrom at modules new
 index_more modules old new at x lt is put rest s =
-    let here : place_from at (drop at modules) s ≡ cond (bytes_eq s (text_of x.0)) (Some at) (place_from (at + 1) (drop (at + 1) modules) s) =
+    let here : place_from at (drop at modules) s
+    ≡ cond (bytes_eq s (text_of x.0)) (Some at) (place_from (at + 1) (drop (at + 1) modules) s) =
     rw (drop_more modules at x lt, ← is) refl in
     put.at s ∙ rw (rest s) (sym here)
 
-place_within : (n : ℕ) (modules : List (Parts × LoadAnswer)) (s : Specifier) (k : ℕ) → place_from n modules s ≡ Some k → (n ≤ k) × (k < n + length modules)
+place_within : (n : ℕ) (modules : List (Parts × LoadAnswer)) (s : Specifier) (k : ℕ) → place_from n modules s ≡ Some k
+    → (n ≤ k) × (k < n + length modules)
 place_within n [] s k h = absurd cc
 place_within n (m ∷ modules) s k h = by (bytes_eq s (text_of m.0)) h (place_within (n + 1) modules s k)
   where
     by : (b : Bool) → cond b (Some n) (place_from (n + 1) modules s) ≡ Some k
-        → (place_from (n + 1) modules s ≡ Some k → (n + 1 ≤ k) × (k < (n + 1) + length modules)) → (n ≤ k) × (k < n + suc (length modules))
+        → (place_from (n + 1) modules s ≡ Some k → (n + 1 ≤ k) × (k < (n + 1) + length modules))
+        → (n ≤ k) × (k < n + suc (length modules))
     by true i rest = let same : n ≡ k = cc in (omega arith, omega arith)
     by false i rest = let r : (n + 1 ≤ k) × (k < (n + 1) + length modules) = rest i in (omega arith, omega arith)
 
-place_answer : (n : ℕ) (modules : List (Parts × LoadAnswer)) (s : Specifier) (k : ℕ) (d : Parts × LoadAnswer) → place_from n modules s ≡ Some k
+place_answer : (n : ℕ) (modules : List (Parts × LoadAnswer)) (s : Specifier) (k : ℕ) (d : Parts × LoadAnswer)
+    → place_from n modules s ≡ Some k
     → lookup (λ url. bytes_eq s (text_of url)) modules ≡ Some (get_or modules (k - n) d).1
 place_answer n [] s k d h = absurd cc
-place_answer n (m ∷ modules) s k d h = by (bytes_eq s (text_of m.0)) h (place_within (n + 1) modules s k) (place_answer (n + 1) modules s k d)
+place_answer n (m ∷ modules) s k d h =
+    by (bytes_eq s (text_of m.0)) h (place_within (n + 1) modules s k) (place_answer (n + 1) modules s k d)
   where
     by : (b : Bool) → cond b (Some n) (place_from (n + 1) modules s) ≡ Some k
         → (place_from (n + 1) modules s ≡ Some k → (n + 1 ≤ k) × (k < (n + 1) + length modules))
-        → (place_from (n + 1) modules s ≡ Some k → lookup (λ url. bytes_eq s (text_of url)) modules ≡ Some (get_or modules (k - (n + 1)) d).1)
+        → (place_from (n + 1) modules s ≡ Some k
+        → lookup (λ url. bytes_eq s (text_of url)) modules ≡ Some (get_or modules (k - (n + 1)) d).1)
         → cond b (Some m.1) (lookup (λ url. bytes_eq s (text_of url)) modules) ≡ Some (get_or (m ∷ modules) (k - n) d).1
     by true i within rest = let same : n ≡ k = cc in let none : k - n ≡ 0 = omega arith in rw none refl
     by false i within rest =
@@ -64,23 +72,28 @@ place_answer n (m ∷ modules) s k d h = by (bytes_eq s (text_of m.0)) h (place_
         let one : k - n ≡ suc (k - (n + 1)) = omega arith in
         rw one (rest i)
 
-place_none : (n : ℕ) (modules : List (Parts × LoadAnswer)) (s : Specifier) → place_from n modules s ≡ None → lookup (λ url. bytes_eq s (text_of url)) modules ≡ None
+place_none : (n : ℕ) (modules : List (Parts × LoadAnswer)) (s : Specifier) → place_from n modules s ≡ None
+    → lookup (λ url. bytes_eq s (text_of url)) modules ≡ None
 place_none n [] s h = refl
 place_none n (m ∷ modules) s h = by (bytes_eq s (text_of m.0)) h (place_none (n + 1) modules s)
   where
     by : (b : Bool) → cond b (Some n) (place_from (n + 1) modules s) ≡ None
-        → (place_from (n + 1) modules s ≡ None → lookup (λ url. bytes_eq s (text_of url)) modules ≡ None) → cond b (Some m.1) (lookup (λ url. bytes_eq s (text_of url)) modules) ≡ None
+        → (place_from (n + 1) modules s ≡ None → lookup (λ url. bytes_eq s (text_of url)) modules ≡ None)
+        → cond b (Some m.1) (lookup (λ url. bytes_eq s (text_of url)) modules) ≡ None
     by true i rest = absurd cc
     by false i rest = rest i
 
 -- a place that the map gives is one of the modules'
-pub placed_below : (modules : List (Parts × LoadAnswer)) (places : List (Parts × ℕ)) (url : Parts) (k : ℕ) → IsIndex modules places
+pub placed_below : (modules : List (Parts × LoadAnswer)) (places : List (Parts × ℕ)) (url : Parts) (k : ℕ)
+    → IsIndex modules places
     → value_at places (text_of url) ≡ Some k → k < length modules
 placed_below modules places url k index is =
-    let w : (0 ≤ k) × (k < 0 + length modules) = place_within 0 modules (text_of url) k (sym (index (text_of url)) ∙ is) in omega arith
+    let w : (0 ≤ k) × (k < 0 + length modules) =
+    place_within 0 modules (text_of url) k (sym (index (text_of url)) ∙ is) in omega arith
 
 -- and that module has the answer
-pub placed_answer : (modules : List (Parts × LoadAnswer)) (places : List (Parts × ℕ)) (url : Parts) (k : ℕ) (d : Parts × LoadAnswer) → IsIndex modules places
+pub placed_answer : (modules : List (Parts × LoadAnswer)) (places : List (Parts × ℕ)) (url : Parts) (k : ℕ)
+    (d : Parts × LoadAnswer) → IsIndex modules places
     → value_at places (text_of url) ≡ Some k → (get_or modules k d).1 ≡ module_answer modules (text_of url)
 placed_answer modules places url k d index is =
     let none : k - 0 ≡ k = omega arith in
@@ -90,10 +103,12 @@ placed_answer modules places url k d index is =
     rw found refl
 
 -- where it gives none, no module has one
-pub unplaced_answer : (modules : List (Parts × LoadAnswer)) (places : List (Parts × ℕ)) (url : Parts) → IsIndex modules places
+pub unplaced_answer : (modules : List (Parts × LoadAnswer)) (places : List (Parts × ℕ)) (url : Parts)
+    → IsIndex modules places
     → value_at places (text_of url) ≡ None → Absent ≡ module_answer modules (text_of url)
 unplaced_answer modules places url index is =
-    let found : lookup (λ u. bytes_eq (text_of url) (text_of u)) modules ≡ None = place_none 0 modules (text_of url) (sym (index (text_of url)) ∙ is) in
+    let found : lookup (λ u. bytes_eq (text_of url) (text_of u)) modules ≡ None =
+    place_none 0 modules (text_of url) (sym (index (text_of url)) ∙ is) in
     rw found refl
 
 -- ---- the arrival list
@@ -106,32 +121,39 @@ true_of : (b : Bool) → not b ≡ false → b ≡ true
 true_of true h = refl
 true_of false h = absurd cc
 
-passed : (waiting : List Parts) (item : Arrival) (rest : List Arrival) → is_dropped waiting item ≡ true → next_answered waiting (item ∷ rest) ≡ next_answered waiting rest
+passed : (waiting : List Parts) (item : Arrival) (rest : List Arrival) → is_dropped waiting item ≡ true
+    → next_answered waiting (item ∷ rest) ≡ next_answered waiting rest
 passed waiting (arrival.Answer url) rest h = rw (untrue (waits_for waiting url) h) refl
 passed waiting arrival.Pending rest h = absurd cc
 passed waiting (arrival.Force url) rest h = absurd cc
 
 -- an item that is dropped makes no difference
-pub next_passed : (waiting : List Parts) (items : List Arrival) (at : ℕ) (item : Arrival) → at < length items → item ≡ get_or items at item → is_dropped waiting item ≡ true
+pub next_passed : (waiting : List Parts) (items : List Arrival) (at : ℕ) (item : Arrival) → at < length items
+    → item ≡ get_or items at item → is_dropped waiting item ≡ true
     → next_answered waiting (drop at items) ≡ next_answered waiting (drop (at + 1) items)
-next_passed waiting items at item lt is h = rw (drop_more items at item lt, ← is) (passed waiting item (drop (at + 1) items) h)
+next_passed waiting items at item lt is h =
+    rw (drop_more items at item lt, ← is) (passed waiting item (drop (at + 1) items) h)
 
 -- the item at a place isn't dropped
-pub taken_at : (waiting : List Parts) (items : List Arrival) (at : ℕ) (item : Arrival) → at < length items → item ≡ get_or items at item → is_dropped waiting item ≡ false
+pub taken_at : (waiting : List Parts) (items : List Arrival) (at : ℕ) (item : Arrival) → at < length items
+    → item ≡ get_or items at item → is_dropped waiting item ≡ false
     → IsTaken waiting (drop at items)
 taken_at waiting items at item lt is h = rw (drop_more items at item lt, ← is) h
 
 -- nor is one at the end
-pub taken_end : (waiting : List Parts) (items : List Arrival) (at : ℕ) → length items ≤ at → IsTaken waiting (drop at items)
+pub taken_end : (waiting : List Parts) (items : List Arrival) (at : ℕ) → length items ≤ at
+    → IsTaken waiting (drop at items)
 taken_end waiting items at le = rw (drop_all at items le) tt
 
-taken : (waiting : List Parts) (item : Arrival) (rest : List Arrival) → is_dropped waiting item ≡ false → next_answered waiting (item ∷ rest) ≡ (named item, rest)
+taken : (waiting : List Parts) (item : Arrival) (rest : List Arrival) → is_dropped waiting item ≡ false
+    → next_answered waiting (item ∷ rest) ≡ (named item, rest)
 taken waiting (arrival.Answer url) rest h = rw (true_of (waits_for waiting url) h) refl
 taken waiting arrival.Pending rest h = refl
 taken waiting (arrival.Force url) rest h = refl
 
 -- the item at a place is the next
-pub next_taken : (waiting : List Parts) (items : List Arrival) (at : ℕ) (item : Arrival) → at < length items → item ≡ get_or items at item → IsTaken waiting (drop at items)
+pub next_taken : (waiting : List Parts) (items : List Arrival) (at : ℕ) (item : Arrival) → at < length items
+    → item ≡ get_or items at item → IsTaken waiting (drop at items)
     → next_answered waiting (drop at items) ≡ (named item, drop (at + 1) items)
 next_taken waiting items at item lt is h =
     let here : drop at items ≡ item ∷ drop (at + 1) items = rw (drop_more items at item lt, ← is) refl in
@@ -145,12 +167,14 @@ pendings (item ∷ items) = cond (is_pending item) (1 + pendings items) (pending
 pendings_count : (items : List Arrival) → pendings items ≡ count_by is_pending items
 pendings_count items = is_count_by pendings is_pending refl (λ item rest. refl) items
 
-falls : (waiting : List Parts) (items : List Arrival) → 0 < length waiting → (next_answered waiting items).0 ≡ None → pendings (next_answered waiting items).1 < pendings items
+falls : (waiting : List Parts) (items : List Arrival) → 0 < length waiting → (next_answered waiting items).0 ≡ None
+    → pendings (next_answered waiting items).1 < pendings items
 falls [] items some h = absurd (omega arith)
 falls (w ∷ waiting) [] some h = absurd cc
 falls (w ∷ waiting) (arrival.Pending ∷ rest) some h = omega arith
 falls (w ∷ waiting) (arrival.Force url ∷ rest) some h = absurd cc
-falls (w ∷ waiting) (arrival.Answer url ∷ rest) some h = by (waits_for (w ∷ waiting) url) h (falls (w ∷ waiting) rest some)
+falls (w ∷ waiting) (arrival.Answer url ∷ rest) some h =
+    by (waits_for (w ∷ waiting) url) h (falls (w ∷ waiting) rest some)
   where
     by : (b : Bool) → (cond b (Some url, rest) (next_answered (w ∷ waiting) rest)).0 ≡ None
         → ((next_answered (w ∷ waiting) rest).0 ≡ None → pendings (next_answered (w ∷ waiting) rest).1 < pendings rest)
@@ -164,12 +188,14 @@ never_more waiting (arrival.Pending ∷ rest) = omega arith
 never_more waiting (arrival.Force url ∷ rest) = omega arith
 never_more waiting (arrival.Answer url ∷ rest) = by (waits_for waiting url) (never_more waiting rest)
   where
-    by : (b : Bool) → pendings (next_answered waiting rest).1 ≤ pendings rest → pendings (cond b (Some url, rest) (next_answered waiting rest)).1 ≤ pendings rest
+    by : (b : Bool) → pendings (next_answered waiting rest).1 ≤ pendings rest
+        → pendings (cond b (Some url, rest) (next_answered waiting rest)).1 ≤ pendings rest
     by true later = omega arith
     by false later = later
 
 -- with a request outstanding, nothing comes only by an item that says so
-pub next_falls : (waiting : List Parts) (items left : List Arrival) → left ≡ (next_answered waiting items).1 → 0 < length waiting → (next_answered waiting items).0 ≡ None
+pub next_falls : (waiting : List Parts) (items left : List Arrival) → left ≡ (next_answered waiting items).1
+    → 0 < length waiting → (next_answered waiting items).0 ≡ None
     → count_by is_pending left < count_by is_pending items
 next_falls waiting items left is some none =
     subst (λ (n : ℕ). n < count_by is_pending items) (pendings_count left)
@@ -177,7 +203,8 @@ next_falls waiting items left is some none =
     (subst (λ (l : List Arrival). pendings l < pendings items) (sym is) (falls waiting items some none)))
 
 -- the items that are left hold no more of those
-pub next_rises : (waiting : List Parts) (items left : List Arrival) → left ≡ (next_answered waiting items).1 → count_by is_pending left ≤ count_by is_pending items
+pub next_rises : (waiting : List Parts) (items left : List Arrival) → left ≡ (next_answered waiting items).1
+    → count_by is_pending left ≤ count_by is_pending items
 next_rises waiting items left is =
     subst (λ (n : ℕ). n ≤ count_by is_pending items) (pendings_count left)
     (subst (λ (n : ℕ). pendings left ≤ n) (pendings_count items)
@@ -190,30 +217,37 @@ pub length-settled : (waiting : List Parts) (url : Parts) → length waiting ≤
 length-settled [] url = omega arith
 length-settled (w ∷ waiting) url = by (bytes_eq (text_of w) (text_of url)) (length-settled waiting url)
   where
-    by : (b : Bool) → length waiting ≤ length (settled waiting url) + 1 → suc (length waiting) ≤ length (cond b waiting (w ∷ settled waiting url)) + 1
+    by : (b : Bool) → length waiting ≤ length (settled waiting url) + 1
+        → suc (length waiting) ≤ length (cond b waiting (w ∷ settled waiting url)) + 1
     by true later = omega arith
     by false later = omega arith
 
 -- a request for another specifier stays
-pub settled_later : (waiting : List Parts) (url : Parts) (at : ℕ) (x : Parts) → at < length waiting → x ≡ get_or waiting at x → bytes_eq (text_of x) (text_of url) ≡ false
-    → settled waiting url ≡ take at waiting ++ settled (drop at waiting) url → settled waiting url ≡ take (at + 1) waiting ++ settled (drop (at + 1) waiting) url
+pub settled_later : (waiting : List Parts) (url : Parts) (at : ℕ) (x : Parts) → at < length waiting
+    → x ≡ get_or waiting at x → bytes_eq (text_of x) (text_of url) ≡ false
+    → settled waiting url ≡ take at waiting ++ settled (drop at waiting) url
+    → settled waiting url ≡ take (at + 1) waiting ++ settled (drop (at + 1) waiting) url
 settled_later waiting url at x lt is other so_far =
-    let here : settled (drop at waiting) url ≡ x ∷ settled (drop (at + 1) waiting) url = rw (drop_more waiting at x lt, ← is, other) refl in
+    let here : settled (drop at waiting) url ≡ x ∷ settled (drop (at + 1) waiting) url =
+    rw (drop_more waiting at x lt, ← is, other) refl in
     let front : take (at + 1) waiting ≡ take at waiting ++ x ∷ [] = rw (take_more waiting at x lt, ← is) refl in
     so_far ∙ rw (here, front, append_assoc) refl
 
 -- the first request for the specifier goes
-pub settled_here : (waiting : List Parts) (url : Parts) (at : ℕ) (x : Parts) → at < length waiting → x ≡ get_or waiting at x → bytes_eq (text_of x) (text_of url) ≡ true
+pub settled_here : (waiting : List Parts) (url : Parts) (at : ℕ) (x : Parts) → at < length waiting
+    → x ≡ get_or waiting at x → bytes_eq (text_of x) (text_of url) ≡ true
     → settled waiting url ≡ take at waiting ++ settled (drop at waiting) url → remove waiting at ≡ settled waiting url
 settled_here waiting url at x lt is same so_far =
-    let here : settled (drop at waiting) url ≡ drop (at + 1) waiting = rw (drop_more waiting at x lt, ← is, same) refl in
+    let here : settled (drop at waiting) url ≡ drop (at + 1) waiting =
+    rw (drop_more waiting at x lt, ← is, same) refl in
     let on : at + 1 ≡ suc at = omega arith in
     sym (so_far ∙ rw (here, on) refl)
 
 -- where there is none, all stay
 pub settled_none : (waiting : List Parts) (url : Parts) (at : ℕ) → length waiting ≤ at
     → settled waiting url ≡ take at waiting ++ settled (drop at waiting) url → settled waiting url ≡ waiting
-settled_none waiting url at le so_far = so_far ∙ rw (take_all at waiting le, drop_all at waiting le) (append-nil waiting)
+settled_none waiting url at le so_far =
+    so_far ∙ rw (take_all at waiting le, drop_all at waiting le) (append-nil waiting)
 
 -- ---- what came first
 
@@ -232,7 +266,8 @@ order_request (false ∷ order) asked (x ∷ log) s h =
     let more = order_request order asked log s h in (more.0, ap (λ (l : List Event). Answered x.0 x.1 ∷ l) more.1)
 
 -- one answer more
-pub order_answer : (order : List Bool) (asked : List Specifier) (log : Log) (y : Specifier × LoadAnswer) → IsOrderOf order asked log
+pub order_answer : (order : List Bool) (asked : List Specifier) (log : Log) (y : Specifier × LoadAnswer)
+    → IsOrderOf order asked log
     → IsOrderOf (order ++ false ∷ []) asked (log ++ y ∷ [])
     × (woven (order ++ false ∷ []) asked (log ++ y ∷ []) ≡ woven order asked log ++ Answered y.0 y.1 ∷ [])
 order_answer [] [] [] y h = (tt, refl)
@@ -252,21 +287,26 @@ woven_parts [] [] [] h = (refl, refl)
 woven_parts [] [] (x ∷ log) h = absurd h
 woven_parts [] (r ∷ asked) log h = absurd h
 woven_parts (true ∷ order) [] log h = absurd h
-woven_parts (true ∷ order) (r ∷ asked) log h = let rest = woven_parts order asked log h in (ap (λ (l : List Specifier). r ∷ l) rest.0, rest.1)
+woven_parts (true ∷ order) (r ∷ asked) log h = let rest = woven_parts order asked log h in
+    (ap (λ (l : List Specifier). r ∷ l) rest.0, rest.1)
 woven_parts (false ∷ order) asked [] h = absurd h
-woven_parts (false ∷ order) asked (x ∷ log) h = let rest = woven_parts order asked log h in (rest.0, ap (λ (l : Log). x ∷ l) rest.1)
+woven_parts (false ∷ order) asked (x ∷ log) h = let rest = woven_parts order asked log h in
+    (rest.0, ap (λ (l : Log). x ∷ l) rest.1)
 
 -- ---- without a forced answer
 
 -- what is left of a list without one has none
-pub unforced_rest : (at : ℕ) (items : List Arrival) → list_any is_forced items ≡ false → list_any is_forced (drop at items) ≡ false
-unforced_rest at items none = right (take at items) (drop at items) (ap (list_any is_forced) (take-append-drop at items) ∙ none)
+pub unforced_rest : (at : ℕ) (items : List Arrival) → list_any is_forced items ≡ false
+    → list_any is_forced (drop at items) ≡ false
+unforced_rest at items none =
+    right (take at items) (drop at items) (ap (list_any is_forced) (take-append-drop at items) ∙ none)
   where
     right : (xs ys : List Arrival) → list_any is_forced (xs ++ ys) ≡ false → list_any is_forced ys ≡ false
     right [] ys h = h
     right (x ∷ xs) ys h = by (is_forced x) h (right xs ys)
       where
-        by : (b : Bool) → (b || list_any is_forced (xs ++ ys)) ≡ false → (list_any is_forced (xs ++ ys) ≡ false → list_any is_forced ys ≡ false)
+        by : (b : Bool) → (b || list_any is_forced (xs ++ ys)) ≡ false
+            → (list_any is_forced (xs ++ ys) ≡ false → list_any is_forced ys ≡ false)
             → list_any is_forced ys ≡ false
         by true g rest = absurd cc
         by false g rest = rest g
@@ -276,12 +316,15 @@ pub next_waits : (waiting : List Parts) (items : List Arrival) (url : Parts) →
     → (next_answered waiting items).0 ≡ Some url → waits_for waiting url ≡ true
 next_waits [] [] url none is = absurd cc
 next_waits (w ∷ waiting) [] url none is =
-    let same : w ≡ url = cc in rw (ap (λ (u : Parts). bytes_eq (text_of u) (text_of url)) same, nat_list_eq_equiv.refl (text_of url)) refl
+    let same : w ≡ url = cc in
+    rw (ap (λ (u : Parts). bytes_eq (text_of u) (text_of url)) same, nat_list_eq_equiv.refl (text_of url)) refl
 next_waits waiting (arrival.Pending ∷ rest) url none is = absurd cc
 next_waits waiting (arrival.Force other ∷ rest) url none is = absurd cc
-next_waits waiting (arrival.Answer other ∷ rest) url none is = by (waits_for waiting other) refl is (next_waits waiting rest url none)
+next_waits waiting (arrival.Answer other ∷ rest) url none is =
+    by (waits_for waiting other) refl is (next_waits waiting rest url none)
   where
-    by : (b : Bool) → waits_for waiting other ≡ b → (cond b (Some other, rest) (next_answered waiting rest)).0 ≡ Some url
+    by : (b : Bool) → waits_for waiting other ≡ b
+        → (cond b (Some other, rest) (next_answered waiting rest)).0 ≡ Some url
         → ((next_answered waiting rest).0 ≡ Some url → waits_for waiting url ≡ true) → waits_for waiting url ≡ true
     by true e h later = let same : other ≡ url = cc in ap (waits_for waiting) (sym same) ∙ e
     by false e h later = later h
@@ -294,21 +337,25 @@ one_for s t = if bytes_eq s t then 1 else 0
 pub times-settled : (s : Specifier) (waiting : List Parts) (url : Parts) → waits_for waiting url ≡ true
     → times s (texts waiting) ≡ times s (texts (settled waiting url)) + (if bytes_eq s (text_of url) then 1 else 0)
 times-settled s [] url there = absurd cc
-times-settled s (w ∷ waiting) url there = by (bytes_eq (text_of w) (text_of url)) refl there (times-settled s waiting url)
+times-settled s (w ∷ waiting) url there =
+    by (bytes_eq (text_of w) (text_of url)) refl there (times-settled s waiting url)
   where
     by : (b : Bool) → bytes_eq (text_of w) (text_of url) ≡ b → (b || waits_for waiting url) ≡ true
-        → (waits_for waiting url ≡ true → times s (texts waiting) ≡ times s (texts (settled waiting url)) + one_for s (text_of url))
+        → (waits_for waiting url ≡ true
+        → times s (texts waiting) ≡ times s (texts (settled waiting url)) + one_for s (text_of url))
         → one_for s (text_of w) + times s (texts waiting)
         ≡ times s (texts (cond b waiting (w ∷ settled waiting url))) + one_for s (text_of url)
     by true e h later =
         let same : text_of w ≡ text_of url = same_text (text_of w) (text_of url) (sym e) in
         let one : one_for s (text_of w) ≡ one_for s (text_of url) = ap (one_for s) same in omega (arith, one)
     by false e h later =
-        let rest : times s (texts waiting) ≡ times s (texts (settled waiting url)) + one_for s (text_of url) = later h in
+        let rest : times s (texts waiting) ≡ times s (texts (settled waiting url)) + one_for s (text_of url) =
+        later h in
         omega (arith, rest)
 
 -- as many are open after an answer
-pub open_settled : (s : Specifier) (asked waiting left : List Parts) (log more : List (Parts × LoadAnswer)) (x : Parts × LoadAnswer) (url : Parts)
+pub open_settled : (s : Specifier) (asked waiting left : List Parts) (log more : List (Parts × LoadAnswer))
+    (x : Parts × LoadAnswer) (url : Parts)
     → more ≡ log ++ x ∷ [] → text_of x.0 ≡ text_of url → left ≡ settled waiting url → waits_for waiting url ≡ true
     → times s (keys_of (text_log log)) + times s (texts waiting) ≡ times s (texts asked)
     → times s (keys_of (text_log more)) + times s (texts left) ≡ times s (texts asked)
@@ -319,9 +366,12 @@ open_settled s asked waiting left log more x url longer same fewer there kept =
     ∙ map-append (λ (e : Specifier × LoadAnswer). e.0) (text_log log) ((text_of x.0, x.1) ∷ []) in
     let given : times s (keys_of (text_log more)) ≡ times s (keys_of (text_log log)) + times s (text_of x.0 ∷ []) =
     ap (times s) keys ∙ times-append s (keys_of (text_log log)) (text_of x.0 ∷ []) in
-    let one : times s (text_of x.0 ∷ []) ≡ one_for s (text_of url) + 0 = ap (λ (t : Specifier). times s (t ∷ [])) same in
-    let less : times s (texts waiting) ≡ times s (texts (settled waiting url)) + one_for s (text_of url) = times-settled s waiting url there in
-    let rest : times s (texts left) ≡ times s (texts (settled waiting url)) = ap (λ (l : List Parts). times s (texts l)) fewer in
+    let one : times s (text_of x.0 ∷ []) ≡ one_for s (text_of url) + 0 =
+    ap (λ (t : Specifier). times s (t ∷ [])) same in
+    let less : times s (texts waiting) ≡ times s (texts (settled waiting url)) + one_for s (text_of url) =
+    times-settled s waiting url there in
+    let rest : times s (texts left) ≡ times s (texts (settled waiting url)) =
+    ap (λ (l : List Parts). times s (texts l)) fewer in
     omega (arith, given, one, less, rest, kept)
 
 -- and after a request
@@ -336,9 +386,11 @@ open_asked s asked waiting log url kept =
     omega (arith, w, a, kept)
 
 -- what waits is counted
-times_waiting : (waiting : List Parts) (url : Parts) → waits_for waiting url ≡ true → 0 < times (text_of url) (texts waiting)
+times_waiting : (waiting : List Parts) (url : Parts) → waits_for waiting url ≡ true
+    → 0 < times (text_of url) (texts waiting)
 times_waiting waiting url there =
-    let less : times (text_of url) (texts waiting) ≡ times (text_of url) (texts (settled waiting url)) + one_for (text_of url) (text_of url) =
+    let less : times (text_of url) (texts waiting)
+    ≡ times (text_of url) (texts (settled waiting url)) + one_for (text_of url) (text_of url) =
     times-settled (text_of url) waiting url there in
     let one : one_for (text_of url) (text_of url) ≡ 1 = rw (nat_list_eq_equiv.refl (text_of url)) refl in
     omega (arith, less, one)
@@ -346,8 +398,10 @@ times_waiting waiting url there =
 -- ---- what a poll leaves
 
 -- a request is answered or outstanding, also after an answer
-pub kept_settled : (asked : List Parts) (log more : List (Parts × LoadAnswer)) (x : Parts × LoadAnswer) (waiting left : List Parts) (url : Parts)
-    → more ≡ log ++ x ∷ [] → left ≡ settled waiting url → length asked ≤ length log + length waiting → length asked ≤ length more + length left
+pub kept_settled : (asked : List Parts) (log more : List (Parts × LoadAnswer)) (x : Parts × LoadAnswer)
+    (waiting left : List Parts) (url : Parts)
+    → more ≡ log ++ x ∷ [] → left ≡ settled waiting url → length asked ≤ length log + length waiting
+    → length asked ≤ length more + length left
 kept_settled asked log more x waiting left url is rest kept =
     let longer : length more ≡ length log + 1 = ap length is ∙ length-append log (x ∷ []) in
     let fewer : length waiting ≤ length (settled waiting url) + 1 = length-settled waiting url in
@@ -357,10 +411,12 @@ kept_settled asked log more x waiting left url is rest kept =
 -- ---- what contracts of any loader see
 
 -- what a request does
-pub started_data : (old new : Memory) (url : Parts) (r : Result (Unit {0}) AllocError) → IsOrderOf old.order (texts old.asked) (text_log old.log)
+pub started_data : (old new : Memory) (url : Parts) (r : Result (Unit {0}) AllocError)
+    → IsOrderOf old.order (texts old.asked) (text_log old.log)
     → IsStarted old url r new → HasStarted (text_of url) (data_of old) (data_of new) r
 started_data old new url (Ok done) ordered is = rw is (record {
-  events = ap (λ (l : List Specifier). woven (old.order ++ true ∷ []) l (text_log old.log)) (map-append text_of old.asked (url ∷ []))
+  events = ap (λ (l : List Specifier). woven (old.order ++ true ∷ []) l (text_log old.log))
+      (map-append text_of old.asked (url ∷ []))
       ∙ (order_request old.order (texts old.asked) (text_log old.log) (text_of url) ordered).1;
   pending = refl;
   standing = refl;
@@ -368,12 +424,21 @@ started_data old new url (Ok done) ordered is = rw is (record {
   told = refl;
   fair = λ h. h;
 })
-started_data old new url (Err e) ordered is = rw is (record { events = refl; pending = refl; standing = refl; patience = omega arith; told = refl; fair = λ h. h })
+started_data old new url (Err e) ordered is =
+    rw is (record {
+      events = refl;
+      pending = refl;
+      standing = refl;
+      patience = omega arith;
+      told = refl;
+      fair = λ h. h;
+    })
 
 module _ (old : Memory) (ordered : IsOrderOf old.order (texts old.asked) (text_log old.log))
     (bounded : old.pending ≤ last_count) (open_requests : length old.asked ≤ length old.log + length old.waiting)
     (unforced : old.forced ≡ false → list_any is_forced old.arrival ≡ false)
-    (each_open : old.forced ≡ false → (s : Specifier) → times s (keys_of (text_log old.log)) + times s (texts old.waiting) ≡ times s (texts old.asked)) where
+    (each_open : old.forced ≡ false → (s : Specifier)
+    → times s (keys_of (text_log old.log)) + times s (texts old.waiting) ≡ times s (texts old.asked)) where
   parts : (asked_of (data_of old).events ≡ texts old.asked) × (log_of (data_of old).events ≡ text_log old.log)
   parts = woven_parts old.order (texts old.asked) (text_log old.log) ordered
 
@@ -387,21 +452,29 @@ module _ (old : Memory) (ordered : IsOrderOf old.order (texts old.asked) (text_l
   of_request : (url : Parts) → (next_answered old.waiting old.arrival).0 ≡ Some url → old.forced ≡ false
       → answers (data_of old).events (text_of url) < requests (data_of old).events (text_of url)
   of_request url next free =
-      let some : 0 < times (text_of url) (texts old.waiting) = times_waiting old.waiting url (next_waits old.waiting old.arrival url (unforced free) next) in
+      let some : 0 < times (text_of url) (texts old.waiting) =
+      times_waiting old.waiting url (next_waits old.waiting old.arrival url (unforced free) next) in
       let kept = each_open free (text_of url) in
-      let a : requests (data_of old).events (text_of url) ≡ times (text_of url) (texts old.asked) = ap (times (text_of url)) parts.0 in
-      let l : answers (data_of old).events (text_of url) ≡ times (text_of url) (keys_of (text_log old.log)) = ap (λ (w : Log). times (text_of url) (keys_of w)) parts.1 in
+      let a : requests (data_of old).events (text_of url) ≡ times (text_of url) (texts old.asked) =
+      ap (times (text_of url)) parts.0 in
+      let l : answers (data_of old).events (text_of url) ≡ times (text_of url) (keys_of (text_log old.log)) =
+      ap (λ (w : Log). times (text_of url) (keys_of w)) parts.1 in
       omega (arith, some, kept, a, l)
 
   -- what a poll does
-  pub polled_data : (new : Memory) (r : Result LoaderPoll AllocError) → IsPolled old r new → HasPolled (data_of old) (data_of new) r
+  pub polled_data : (new : Memory) (r : Result LoaderPoll AllocError) → IsPolled old r new
+      → HasPolled (data_of old) (data_of new) r
   polled_data new (Ok (Answer url answer)) (next, given, is) = rw is (record {
     events = ap (λ (l : Log). woven (old.order ++ false ∷ []) (texts old.asked) l)
         (map-append (λ (e : Parts × LoadAnswer). (text_of e.0, e.1)) old.log ((url, answer) ∷ []))
         ∙ (order_answer old.order (texts old.asked) (text_log old.log) (text_of url, answer) ordered).1;
     pending = refl;
     standing = refl;
-    patience = record { no_more = next_rises old.waiting old.arrival (next_answered old.waiting old.arrival).1 refl; falls = λ h. absurd cc };
+    patience = record {
+      no_more =
+          next_rises old.waiting old.arrival (next_answered old.waiting old.arrival).1 refl;
+      falls = λ h. absurd cc;
+    };
     told = refl;
     as_told = λ b told. let same : module_answer old.modules (text_of url) ≡ b = cc in given ∙ same;
     fair = λ h. (h, of_request url next (untrue old.forced h));
@@ -412,7 +485,8 @@ module _ (old : Memory) (ordered : IsOrderOf old.order (texts old.asked) (text_l
     standing = ap₂ (λ (m n : ℕ). (m, n)) (sym asks) (sym gave);
     patience = record {
       no_more = next_rises old.waiting old.arrival (next_answered old.waiting old.arrival).1 refl;
-      falls = λ h more. next_falls old.waiting old.arrival (next_answered old.waiting old.arrival).1 refl (omega (arith, asks, gave, more, open_requests)) next;
+      falls = λ h more. next_falls old.waiting old.arrival (next_answered old.waiting old.arrival).1 refl
+          (omega (arith, asks, gave, more, open_requests)) next;
     };
     told = refl;
     as_told = tt;
@@ -436,54 +510,66 @@ module _ (old : Memory) (ordered : IsOrderOf old.order (texts old.asked) (text_l
   })
 
 -- an answer is given as said
-pub polled_answer : (old : Memory) (url logged : Parts) (answer kept : LoadAnswer) (items : List Arrival) (order : List Bool) (more : List (Parts × LoadAnswer)) (left : List Parts)
+pub polled_answer : (old : Memory) (url logged : Parts) (answer kept : LoadAnswer) (items : List Arrival)
+    (order : List Bool) (more : List (Parts × LoadAnswer)) (left : List Parts)
     → (next_answered old.waiting old.arrival).0 ≡ Some url → answer ≡ module_answer old.modules (text_of url)
-    → items ≡ (next_answered old.waiting old.arrival).1 → order ≡ old.order ++ false ∷ [] → more ≡ old.log ++ (logged, kept) ∷ [] → logged ≡ url → kept ≡ answer → left ≡ settled old.waiting url
+    → items ≡ (next_answered old.waiting old.arrival).1 → order ≡ old.order ++ false ∷ []
+    → more ≡ old.log ++ (logged, kept) ∷ [] → logged ≡ url → kept ≡ answer → left ≡ settled old.waiting url
     → IsPolled old (Ok (Answer url answer)) (record old { arrival = items; order = order; log = more; waiting = left })
 polled_answer old url logged answer kept items order more left next given rest ordered longer same copied fewer =
     (next, given, rw (rest, ordered, longer, same, copied, fewer) refl)
 
 -- what holds of it at all times, after a request
-pub kept_request : (modules : List (Parts × LoadAnswer)) (places : List (Parts × ℕ)) (items : List Arrival) (order order_now : List Bool)
+pub kept_request : (modules : List (Parts × LoadAnswer)) (places : List (Parts × ℕ)) (items : List Arrival)
+    (order order_now : List Bool)
     (asked asked_now waiting waiting_now : List Parts) (log : List (Parts × LoadAnswer)) (url : Parts)
     → IsKeptMemory modules places items order asked log waiting
     → order_now ≡ order ++ true ∷ [] → asked_now ≡ asked ++ url ∷ [] → waiting_now ≡ waiting ++ url ∷ []
     → IsKeptMemory modules places items order_now asked_now log waiting_now
-kept_request modules places items order order_now asked asked_now waiting waiting_now log url k ordered longer more = record {
-  index = k.index;
-  ordered = subst (λ (o : List Bool). IsOrderOf o (texts asked_now) (text_log log)) (sym ordered)
-      (subst (λ (a : List Specifier). IsOrderOf (order ++ true ∷ []) a (text_log log)) (sym (ap texts longer ∙ map-append text_of asked (url ∷ [])))
-      (order_request order (texts asked) (text_log log) (text_of url) k.ordered).0);
-  open_requests =
-      let a : length asked_now ≡ length asked + 1 = ap length longer ∙ length-append asked (url ∷ []) in
-      let w : length waiting_now ≡ length waiting + 1 = ap length more ∙ length-append waiting (url ∷ []) in
-      omega (arith, a, w, k.open_requests);
-  each_open = λ free s. subst (λ (a : List Parts). times s (keys_of (text_log log)) + times s (texts waiting_now) ≡ times s (texts a)) (sym longer)
-      (subst (λ (w : List Parts). times s (keys_of (text_log log)) + times s (texts w) ≡ times s (texts (asked ++ url ∷ []))) (sym more)
-      (open_asked s asked waiting log url (k.each_open free s)));
-}
+kept_request modules places items order order_now asked asked_now waiting waiting_now log url k ordered longer more =
+    record {
+      index = k.index;
+      ordered = subst (λ (o : List Bool). IsOrderOf o (texts asked_now) (text_log log)) (sym ordered)
+          (subst (λ (a : List Specifier). IsOrderOf (order ++ true ∷ []) a (text_log log))
+          (sym (ap texts longer ∙ map-append text_of asked (url ∷ [])))
+          (order_request order (texts asked) (text_log log) (text_of url) k.ordered).0);
+      open_requests =
+          let a : length asked_now ≡ length asked + 1 = ap length longer ∙ length-append asked (url ∷ []) in
+          let w : length waiting_now ≡ length waiting + 1 = ap length more ∙ length-append waiting (url ∷ []) in
+          omega (arith, a, w, k.open_requests);
+      each_open = λ free s. subst
+          (λ (a : List Parts). times s (keys_of (text_log log)) + times s (texts waiting_now) ≡ times s (texts a))
+          (sym longer)
+          (subst (λ (w : List Parts). times s (keys_of (text_log log)) + times s (texts w)
+          ≡ times s (texts (asked ++ url ∷ []))) (sym more)
+          (open_asked s asked waiting log url (k.each_open free s)));
+    }
 
 -- and after an answer
-pub kept_answer : (modules : List (Parts × LoadAnswer)) (places : List (Parts × ℕ)) (items : List Arrival) (at : ℕ) (order order_now : List Bool)
-    (asked waiting waiting_now : List Parts) (log log_now : List (Parts × LoadAnswer)) (x : Parts × LoadAnswer) (url : Parts)
+pub kept_answer : (modules : List (Parts × LoadAnswer)) (places : List (Parts × ℕ)) (items : List Arrival) (at : ℕ)
+    (order order_now : List Bool)
+    (asked waiting waiting_now : List Parts) (log log_now : List (Parts × LoadAnswer)) (x : Parts × LoadAnswer)
+    (url : Parts)
     → IsKeptMemory modules places items order asked log waiting
     → order_now ≡ order ++ false ∷ [] → log_now ≡ log ++ x ∷ [] → x.0 ≡ url → waiting_now ≡ settled waiting url
     → (next_answered waiting (drop at items)).0 ≡ Some url
     → IsKeptMemory modules places items order_now asked log_now waiting_now
-kept_answer modules places items at order order_now asked waiting waiting_now log log_now x url k ordered longer same fewer next = record {
-  index = k.index;
-  ordered = subst (λ (o : List Bool). IsOrderOf o (texts asked) (text_log log_now)) (sym ordered)
-      (subst (λ (l : Log). IsOrderOf (order ++ false ∷ []) (texts asked) l)
-      (sym (ap text_log longer ∙ map-append (λ (e : Parts × LoadAnswer). (text_of e.0, e.1)) log (x ∷ [])))
-      (order_answer order (texts asked) (text_log log) (text_of x.0, x.1) k.ordered).0);
-  open_requests = kept_settled asked log log_now x waiting waiting_now url longer fewer k.open_requests;
-  each_open = λ free s.
-      open_settled s asked waiting waiting_now log log_now x url longer (ap text_of same) fewer
-      (next_waits waiting (drop at items) url (unforced_rest at items free) next) (k.each_open free s);
-}
+kept_answer modules places items at order order_now asked waiting waiting_now log log_now x url k ordered longer same
+    fewer next = record {
+      index = k.index;
+      ordered = subst (λ (o : List Bool). IsOrderOf o (texts asked) (text_log log_now)) (sym ordered)
+          (subst (λ (l : Log). IsOrderOf (order ++ false ∷ []) (texts asked) l)
+          (sym (ap text_log longer ∙ map-append (λ (e : Parts × LoadAnswer). (text_of e.0, e.1)) log (x ∷ [])))
+          (order_answer order (texts asked) (text_log log) (text_of x.0, x.1) k.ordered).0);
+      open_requests = kept_settled asked log log_now x waiting waiting_now url longer fewer k.open_requests;
+      each_open = λ free s.
+          open_settled s asked waiting waiting_now log log_now x url longer (ap text_of same) fewer
+          (next_waits waiting (drop at items) url (unforced_rest at items free) next) (k.each_open free s);
+    }
 
 -- what contracts of any loader see of a poll, by what holds of the fields
-pub polled_view : (modules : List (Parts × LoadAnswer)) (places : List (Parts × ℕ)) (items : List Arrival) (at : ℕ) (old new : Memory)
+pub polled_view : (modules : List (Parts × LoadAnswer)) (places : List (Parts × ℕ)) (items : List Arrival) (at : ℕ)
+    (old new : Memory)
     (r : Result LoaderPoll AllocError) (bounded : old.pending ≤ last_count)
     → IsKeptMemory modules places items old.order old.asked old.log old.waiting
     → old.arrival ≡ drop at items → old.forced ≡ list_any is_forced items

@@ -20,7 +20,8 @@ reached_start rules starts answers s h = record { way = []; leads_here = h }
 -- and what a step leads to from there
 pub reached_on : (rules : Rules) (starts : List Specifier) (answers : Answers) (r s : Specifier)
     → IsReached rules starts answers r → Leads rules answers r s → IsReached rules starts answers s
-reached_on rules starts answers r s reached leads = record { way = r ∷ reached.way; leads_here = (reached.leads_here, leads) }
+reached_on rules starts answers r s reached leads =
+    record { way = r ∷ reached.way; leads_here = (reached.leads_here, leads) }
 
 -- ---- reach is least
 
@@ -82,7 +83,8 @@ answer_kept (x ∷ log) more s a = kept (bytes_eq s x.0) (answer_kept log more s
     kept false rest h = rest h
 
 -- a specifier that the log doesn't answer has the answer of what comes after
-pub answer_later : (log more : Log) (s : Specifier) → answer_to log s ≡ None → answer_to (log ++ more) s ≡ answer_to more s
+pub answer_later : (log more : Log) (s : Specifier) → answer_to log s ≡ None
+    → answer_to (log ++ more) s ≡ answer_to more s
 answer_later [] more s = λ h. refl
 answer_later (x ∷ log) more s = later (bytes_eq s x.0) (answer_later log more s)
   where
@@ -92,10 +94,12 @@ answer_later (x ∷ log) more s = later (bytes_eq s x.0) (answer_later log more 
     later false rest h = rest h
 
 -- another specifier's answer leaves its own
-pub answer_other : (log : Log) (r : Specifier) (a : LoadAnswer) (s : Specifier) → bytes_eq s r ≡ false → answer_to (log ++ (r, a) ∷ []) s ≡ answer_to log s
+pub answer_other : (log : Log) (r : Specifier) (a : LoadAnswer) (s : Specifier) → bytes_eq s r ≡ false
+    → answer_to (log ++ (r, a) ∷ []) s ≡ answer_to log s
 answer_other [] r a s h = rw h refl
 answer_other (x ∷ log) r a s h = rw (answer_other log r a s h) refl
 
 -- the first answer for a specifier counts
-pub answer_here : (log : Log) (r : Specifier) (a : LoadAnswer) → answer_to log r ≡ None → answer_to (log ++ (r, a) ∷ []) r ≡ Some a
+pub answer_here : (log : Log) (r : Specifier) (a : LoadAnswer) → answer_to log r ≡ None
+    → answer_to (log ++ (r, a) ∷ []) r ≡ Some a
 answer_here log r a h = answer_later log ((r, a) ∷ []) r h ∙ rw (nat_list_eq_equiv.refl r) refl

@@ -27,9 +27,11 @@ pub reached_none : (r : Reaching) → length r.reached.entries ≤ r.limit → H
 reached_none r room = record { grown = grown_none (slots_of r) (texts r.todo); counted = refl; room = room }
 
 -- more came
-pub reached_more : (xs ys : List Specifier) (a b c : Reaching) → HasReached xs a b → HasReached ys b c → HasReached (xs ++ ys) a c
+pub reached_more : (xs ys : List Specifier) (a b c : Reaching) → HasReached xs a b → HasReached ys b c
+    → HasReached (xs ++ ys) a c
 reached_more xs ys a b c g h = record {
-  grown = grown_more xs ys (slots_of a) (slots_of b) (slots_of c) (texts a.todo) (texts b.todo) (texts c.todo) g.grown h.grown;
+  grown = grown_more xs ys (slots_of a) (slots_of b) (slots_of c) (texts a.todo) (texts b.todo) (texts c.todo) g.grown
+      h.grown;
   counted = omega (arith, g.counted, h.counted);
   room = h.room;
 }
@@ -54,16 +56,19 @@ pub grows_err : (xs ys zs : List Specifier) (a b c : Reaching) (e : GrowError) �
     → ((t : Specifier) → has (xs ++ ys) t ≡ true → has zs t ≡ true) → Grows ys b c (Err e) → Grows zs a c (Err e)
 grows_err xs ys zs a b c (TooMany seen) g same wider full =
     overfull_wide (xs ++ ys) zs (slots_of a) a.limit seen wider
-    (overfull_more xs ys (slots_of a) (slots_of b) (texts a.todo) (texts b.todo) a.limit seen g.grown (rw (← same) full))
+    (overfull_more xs ys (slots_of a) (slots_of b) (texts a.todo) (texts b.todo) a.limit seen g.grown
+    (rw (← same) full))
 grows_err xs ys zs a b c OutOfMemory g same wider full = tt
 
 -- what the edges of a source lead to is what those of its module lead to
-pub grows_source : (following : Following) (m : JsModule) (importer : Module) (typed : Bool) (ds : List Dependency) (a b : Reaching) (r : Result (Unit {0}) GrowError)
+pub grows_source : (following : Following) (m : JsModule) (importer : Module) (typed : Bool) (ds : List Dependency)
+    (a b : Reaching) (r : Result (Unit {0}) GrowError)
     → importer ≡ Js m → typed ≡ is_typed m.media_type → ds ≡ m.dependencies
     → Grows (filter_map (led_to (is_followed following typed)) ds) a b r
     → Grows (filter_map (led_to (is_followed following (has_types importer))) (edges_of importer)) a b r
 grows_source following m importer typed ds a b r is types edges g =
-    subst (λ (x : Module). Grows (filter_map (led_to (is_followed following (has_types x))) (edges_of x)) a b r) (sym is)
+    subst (λ (x : Module). Grows (filter_map (led_to (is_followed following (has_types x))) (edges_of x)) a b r)
+    (sym is)
     (subst (λ (t : Bool). Grows (filter_map (led_to (is_followed following t)) m.dependencies) a b r) types
     (subst (λ (es : List Dependency). Grows (filter_map (led_to (is_followed following typed)) es) a b r) edges g))
 
@@ -75,13 +80,15 @@ pub texts_more : (urls : List Parts) (i : ℕ) (url : Parts) → i < length urls
 texts_more urls i url within is = map_more text_of urls i url within ∙ rw (← is) refl
 
 -- what the first have, all have
-pub has_texts_take : (urls : List Parts) (n : ℕ) (t : Specifier) → has (texts (take n urls)) t ≡ true → has (texts urls) t ≡ true
+pub has_texts_take : (urls : List Parts) (n : ℕ) (t : Specifier) → has (texts (take n urls)) t ≡ true
+    → has (texts urls) t ≡ true
 has_texts_take [] zero t h = h
 has_texts_take [] (suc n) t h = h
 has_texts_take (u ∷ urls) zero t h = absurd cc
 has_texts_take (u ∷ urls) (suc n) t h = by (bytes_eq t (text_of u)) (has_texts_take urls n t) h
   where
-    by : (b : Bool) → (has (texts (take n urls)) t ≡ true → has (texts urls) t ≡ true) → (b || has (texts (take n urls)) t) ≡ true → (b || has (texts urls) t) ≡ true
+    by : (b : Bool) → (has (texts (take n urls)) t ≡ true → has (texts urls) t ≡ true)
+        → (b || has (texts (take n urls)) t) ≡ true → (b || has (texts urls) t) ≡ true
     by true rest h = refl
     by false rest h = rest h
 
@@ -107,7 +114,8 @@ module _ {A : Type 0} (f : A → Option Specifier) where
   filter_map_more xs i x within is = rw add-one (filter_map_suc xs i x within ∙ rw (← is) refl)
 
   -- what the first give, all give
-  pub has_filter_map_take : (xs : List A) (n : ℕ) (t : Specifier) → has (filter_map f (take n xs)) t ≡ true → has (filter_map f xs) t ≡ true
+  pub has_filter_map_take : (xs : List A) (n : ℕ) (t : Specifier) → has (filter_map f (take n xs)) t ≡ true
+      → has (filter_map f xs) t ≡ true
   has_filter_map_take [] zero t h = h
   has_filter_map_take [] (suc n) t h = h
   has_filter_map_take (x ∷ xs) zero t h = absurd cc

@@ -40,12 +40,15 @@ module _ (rules : Rules) (once : IsFunctional rules) (x : At) (v : IsLive rules 
   pub reach_now : IsStrictlySortedBy url_cmp (keys_of x.progress.reaching.reached.entries)
       → IsReach rules (starts_at x) (answer_to (own_log x)) (keys_at x.progress.reaching.reached.entries)
   reach_now sorted = record {
-    once = distinct_sorted (keys_at x.progress.reaching.reached.entries) (sorted-keys_at x.progress.reaching.reached.entries sorted);
+    once = distinct_sorted (keys_at x.progress.reaching.reached.entries)
+        (sorted-keys_at x.progress.reaching.reached.entries sorted);
     reached = λ t h. reached t (slots_at x t) refl (sym (has-keys_at x.progress.reaching.reached.entries t) ∙ h);
-    all = λ t r. has-keys_at x.progress.reaching.reached.entries t ∙ some (slots_at x t) (way_in rules once x v begun empty t r);
+    all = λ t r. has-keys_at x.progress.reaching.reached.entries t
+        ∙ some (slots_at x t) (way_in rules once x v begun empty t r);
   }
     where
-      reached : (t : Specifier) (o : Option Slot) → slots_at x t ≡ o → is_some (slots_at x t) ≡ true → IsReached rules (starts_at x) (answer_to (own_log x)) t
+      reached : (t : Specifier) (o : Option Slot) → slots_at x t ≡ o → is_some (slots_at x t) ≡ true
+          → IsReached rules (starts_at x) (answer_to (own_log x)) t
       reached t (Some y) e h = v.building.sound t y e
       reached t None e h = absurd (let n = ap is_some e in cc)
 
@@ -65,20 +68,25 @@ module _ (rules : Rules) (once : IsFunctional rules) (x : At) (v : IsLive rules 
   pub asked_now : IsAskedFor rules (starts_at x) (own_asked x) (own_log x)
   asked_now = record { asking = v.kept.own.asking; all = λ t r loads. by t (slots_at x t) refl r loads }
     where
-      from : (t : Specifier) (e : Entry) → IsEntry rules (answer_to (own_log x)) t e → loadable t ≡ true → has (own_asked x) t ≡ true
+      from : (t : Specifier) (e : Entry) → IsEntry rules (answer_to (own_log x)) t e → loadable t ≡ true
+          → has (own_asked x) t ≡ true
       from t e (inl a) loads = v.building.answered t a.answer a.given
       from t e (inr u) loads = absurd (let g = u.0 in cc)
 
-      by : (t : Specifier) (o : Option Slot) → slots_at x t ≡ o → IsReached rules (starts_at x) (answer_to (own_log x)) t → loadable t ≡ true → has (own_asked x) t ≡ true
+      by : (t : Specifier) (o : Option Slot) → slots_at x t ≡ o
+          → IsReached rules (starts_at x) (answer_to (own_log x)) t → loadable t ≡ true → has (own_asked x) t ≡ true
       by t None d r loads = absurd (way_in rules once x v begun empty t r d)
-      by t (Some Queued) d r loads = absurd (let h = (v.building.queued t refl d).0 in let none = ap (λ (l : List Parts). has (texts l) t) empty in cc)
+      by t (Some Queued) d r loads =
+          absurd (let h = (v.building.queued t refl d).0 in let none =
+          ap (λ (l : List Parts). has (texts l) t) empty in cc)
       by t (Some Asked) d r loads = (v.building.outstanding t refl d).0
       by t (Some (Done e)) d r loads = from t e (v.building.done t e d) loads
 
   -- ---- the graph
 
   -- what the entries of finished slots become
-  pub graph_now : (firsts : List (Parts × Entry)) → IsStrictlySortedBy url_cmp (keys_of x.progress.reaching.reached.entries)
+  pub graph_now : (firsts : List (Parts × Entry))
+      → IsStrictlySortedBy url_cmp (keys_of x.progress.reaching.reached.entries)
       → x.progress.reaching.reached.entries ≡ map (λ e. (e.0, Done e.1)) firsts
       → IsGraph rules (starts_at x) (answer_to (own_log x)) (finals_of rules firsts)
   graph_now firsts sorted is =
@@ -95,9 +103,11 @@ module _ (rules : Rules) (once : IsFunctional rules) (x : At) (v : IsLive rules 
       same = ap keys_at is ∙ marked firsts
 
 -- all that was asked is answered, where as many answers were taken
-pub answered_now : (rules : Rules) (x : At) → IsLive rules x → x.progress.taken ≡ x.progress.asked → EachAnswered (own_asked x) (own_log x)
+pub answered_now : (rules : Rules) (x : At) → IsLive rules x → x.progress.taken ≡ x.progress.asked
+    → EachAnswered (own_asked x) (own_log x)
 answered_now rules x v all =
-    all_answered (own_asked x) (own_log x) (distinct_log rules (starts_at x) (own_log x) v.building.orderly) v.building.answered
+    all_answered (own_asked x) (own_log x) (distinct_log rules (starts_at x) (own_log x) v.building.orderly)
+    v.building.answered
     (omega (arith, v.kept.own.asked_counted, v.kept.own.taken_counted, all))
 
 -- of slots that all have an entry the first has one, and so have the others
@@ -117,8 +127,10 @@ done_first x xs slots is d = by d.entries (sym is ∙ d.is)
         (open_not x.1 e.1 (ap (λ (y : Parts × Slot). y.1) first), record { entries = es; is = rest })
 
 -- one slot more that has its entry
-pub done_push : (yielded : List (Parts × Slot)) (entries new : List (Parts × Entry)) (url : Parts) (slot : Slot) (e : Entry)
-    → yielded ≡ all_done entries → slot ≡ Done e → new ≡ entries ++ (url, e) ∷ [] → yielded ++ (url, slot) ∷ [] ≡ all_done new
+pub done_push : (yielded : List (Parts × Slot)) (entries new : List (Parts × Entry)) (url : Parts) (slot : Slot)
+    (e : Entry)
+    → yielded ≡ all_done entries → slot ≡ Done e → new ≡ entries ++ (url, e) ∷ []
+    → yielded ++ (url, slot) ∷ [] ≡ all_done new
 done_push yielded entries new url slot e so_far is longer =
     ap (λ (l : List (Parts × Slot)). l ++ (url, slot) ∷ []) so_far
     ∙ ap (λ (y : Slot). all_done entries ++ (url, y) ∷ []) is
@@ -140,36 +152,43 @@ done_from (x ∷ xs) once each =
     let d = done_of x.1 (each (text_of x.0) x.1 (rw (nat_list_eq_equiv.refl (text_of x.0)) refl)) in
     let rest = done_from xs once.1 (λ t y h. by t y (bytes_eq t (text_of x.0)) refl h) in record {
       entries = (x.0, d.0) ∷ rest.entries;
-      is = subst (λ (y : Slot). x ∷ xs ≡ (x.0, y) ∷ all_done rest.entries) d.1 (ap (λ (l : List (Parts × Slot)). x ∷ l) rest.is);
+      is = subst (λ (y : Slot). x ∷ xs ≡ (x.0, y) ∷ all_done rest.entries) d.1
+          (ap (λ (l : List (Parts × Slot)). x ∷ l) rest.is);
     }
   where
-    by : (t : Specifier) (y : Slot) (b : Bool) → bytes_eq t (text_of x.0) ≡ b → value_at xs t ≡ Some y → (y ≡ Queued → ⊥) × (y ≡ Asked → ⊥)
+    by : (t : Specifier) (y : Slot) (b : Bool) → bytes_eq t (text_of x.0) ≡ b → value_at xs t ≡ Some y
+        → (y ≡ Queued → ⊥) × (y ≡ Asked → ⊥)
     by t y true e h =
         let out : has (keys_at xs) t ≡ false = not_among t (text_of x.0) (keys_at xs) e once.0 in
         let among : has (keys_at xs) t ≡ true = has-keys_at xs t ∙ ap is_some h in absurd cc
     by t y false e h = each t y (rw e h)
 
 -- so no slot waits for its entry
-pub none_open : {rules : Rules} → (x : At) → IsLive rules x → x.progress.taken ≡ x.progress.asked → x.progress.reaching.todo ≡ []
+pub none_open : {rules : Rules} → (x : At) → IsLive rules x → x.progress.taken ≡ x.progress.asked
+    → x.progress.reaching.todo ≡ []
     → HaveEntries x.progress.reaching.reached.entries
 none_open {rules} x v all empty t y d = (
-  λ q. let h = (v.building.queued t refl (d ∙ ap Some q)).0 in let none = ap (λ (l : List Parts). has (texts l) t) empty in cc,
+  λ q. let h = (v.building.queued t refl (d ∙ ap Some q)).0 in let none =
+      ap (λ (l : List Parts). has (texts l) t) empty in cc,
   λ a. let w = v.building.outstanding t refl (d ∙ ap Some a) in
       let some = answered_now rules x v all t w.0 in let none = ap is_some w.1 in cc,
 )
 
 -- and each has its entry, in a map
-pub done_sorted : (slots : List (Parts × Slot)) → IsStrictlySortedBy url_cmp (keys_of slots) → HaveEntries slots → AreDone slots
+pub done_sorted : (slots : List (Parts × Slot)) → IsStrictlySortedBy url_cmp (keys_of slots) → HaveEntries slots
+    → AreDone slots
 done_sorted slots sorted have = done_from slots (distinct_sorted (keys_at slots) (sorted-keys_at slots sorted)) have
 
 -- so many entries as slots
-pub length_entries : (rules : Rules) (slots : List (Parts × Slot)) (entries : List (Parts × Entry)) → AreSettled rules slots entries → length slots ≡ length entries
+pub length_entries : (rules : Rules) (slots : List (Parts × Slot)) (entries : List (Parts × Entry))
+    → AreSettled rules slots entries → length slots ≡ length entries
 length_entries rules slots entries s =
     ap length s.done ∙ length-map s.firsts (λ e. (e.0, Done e.1))
     ∙ sym (ap length s.is ∙ length-map s.firsts (λ e. (e.0, settled rules s.firsts e.1)))
 
 -- the entries of finished slots are in order
-pub ascending_done : (slots : List (Parts × Slot)) (entries : List (Parts × Entry)) → IsStrictlySortedBy url_cmp (keys_of slots) → slots ≡ all_done entries → IsAscending entries
+pub ascending_done : (slots : List (Parts × Slot)) (entries : List (Parts × Entry))
+    → IsStrictlySortedBy url_cmp (keys_of slots) → slots ≡ all_done entries → IsAscending entries
 ascending_done slots entries sorted is = rw (← (ap keys_at is ∙ marked entries)) (sorted-keys_at slots sorted)
   where
     marked : (es : List (Parts × Entry)) → keys_at (all_done es) ≡ members_of es
@@ -182,38 +201,50 @@ ascending_done slots entries sorted is = rw (← (ap keys_at is ∙ marked entri
 pub length-before_last : {A : Type 0} (n : ℕ) (xs : List A) → length (before_last n xs) ≡ length xs - n
 length-before_last n xs = length-take-le (length xs - n) xs (omega arith)
 
-pub result_graph : {rules : Rules} → IsFunctional rules → (x y : At) (slots : List (Parts × Slot)) (entries : List (Parts × Entry))
-    → IsThrough rules x y → GoesOnAt x y → slots ≡ y.progress.reaching.reached.entries → IsStrictlySortedBy url_cmp (keys_of slots)
+pub result_graph : {rules : Rules} → IsFunctional rules
+    → (x y : At) (slots : List (Parts × Slot)) (entries : List (Parts × Entry))
+    → IsThrough rules x y → GoesOnAt x y → slots ≡ y.progress.reaching.reached.entries
+    → IsStrictlySortedBy url_cmp (keys_of slots)
     → AreSettled rules slots entries → IsGraph rules (starts_at x) (answer_to (own_log y)) entries
 result_graph {rules} once x y slots entries t g is sorted all =
     subst (λ (ss : List Specifier). IsGraph rules ss (answer_to (own_log y)) entries) (ap texts g.roots)
     (subst (IsGraph rules (starts_at y) (answer_to (own_log y))) (sym all.is)
     (graph_now rules once y t.live t.begun t.asked_all all.firsts (rw (← is) sorted) (sym is ∙ all.done)))
 
-pub result_limit : {rules : Rules} → (x y : At) (slots : List (Parts × Slot)) (entries : List (Parts × Entry)) → IsThrough rules x y → GoesOnAt x y
-    → slots ≡ y.progress.reaching.reached.entries → AreSettled rules slots entries → length entries ≤ x.progress.reaching.limit
+pub result_limit : {rules : Rules} → (x y : At) (slots : List (Parts × Slot)) (entries : List (Parts × Entry))
+    → IsThrough rules x y → GoesOnAt x y
+    → slots ≡ y.progress.reaching.reached.entries → AreSettled rules slots entries
+    → length entries ≤ x.progress.reaching.limit
 result_limit {rules} x y slots entries t g is all =
-    let same : length entries ≡ length y.progress.reaching.reached.entries = sym (length_entries rules slots entries all) ∙ ap length is in
+    let same : length entries ≡ length y.progress.reaching.reached.entries =
+    sym (length_entries rules slots entries all) ∙ ap length is in
     omega (arith, same, t.live.room, g.limit)
 
-pub result_asked : {rules : Rules} → IsFunctional rules → (x y : At) → IsThrough rules x y → GoesOnAt x y → IsAskedFor rules (starts_at x) (own_asked y) (own_log y)
+pub result_asked : {rules : Rules} → IsFunctional rules → (x y : At) → IsThrough rules x y → GoesOnAt x y
+    → IsAskedFor rules (starts_at x) (own_asked y) (own_log y)
 result_asked {rules} once x y t g =
     subst (λ (ss : List Specifier). IsAskedFor rules ss (own_asked y) (own_log y)) (ap texts g.roots)
     (asked_now rules once y t.live t.begun t.asked_all)
 
-pub result_not_yet : {rules : Rules} → IsFunctional rules → {L : Type 0} (l m : L) (w : Following) (x y : At) (f g1 : Bool)
-    → IsPaused rules x y → GoesOnAt x y → IsKeptAt rules x → IsStrictlySortedBy url_cmp (keys_of y.progress.reaching.reached.entries)
+pub result_not_yet : {rules : Rules} → IsFunctional rules
+    → {L : Type 0} (l m : L) (w : Following) (x y : At) (f g1 : Bool)
+    → IsPaused rules x y → GoesOnAt x y → IsKeptAt rules x
+    → IsStrictlySortedBy url_cmp (keys_of y.progress.reaching.reached.entries)
     → IsNotYet rules (seen_of l w x f) (seen_of m w y g1)
 result_not_yet {rules} once l m w x y f g1 p g k sorted = record {
   orderly = from (λ ss. IsOrderly rules ss (own_log y)) p.live.building.orderly;
-  asked = from (λ ss. IsAskedFor rules ss (own_asked y) (own_log y)) (asked_now rules once y p.live p.begun p.asked_all);
+  asked = from (λ ss. IsAskedFor rules ss (own_asked y) (own_log y))
+      (asked_now rules once y p.live p.begun p.asked_all);
   within = subst (λ (n : ℕ). ReachesAtMost rules (starts_at x) (answer_to (own_log y)) n) g.limit
-      (from (λ ss. ReachesAtMost rules ss (answer_to (own_log y)) y.progress.reaching.limit) (within_now rules once y p.live p.begun p.asked_all sorted));
+      (from (λ ss. ReachesAtMost rules ss (answer_to (own_log y)) y.progress.reaching.limit)
+      (within_now rules once y p.live p.begun p.asked_all sorted));
   outstanding = open_now;
   counted = p.counted;
   stands = ap (λ (s : ℕ × ℕ). s.1) p.standing ∙ ap length (sym logs) ∙ length-append logs_before (own_log y);
-  stood_open = subst (λ (n : ℕ). SomeOutstanding (take (n - length asks_before) (own_asked y)) (own_log y)) (sym (ap (λ (s : ℕ × ℕ). s.0) p.standing))
-      (subst (λ (l : List Specifier). SomeOutstanding l (own_log y)) (sym (take_all (length (asked_of y.loader.events) - length asks_before) (own_asked y) long)) open_now);
+  stood_open = subst (λ (n : ℕ). SomeOutstanding (take (n - length asks_before) (own_asked y)) (own_log y))
+      (sym (ap (λ (s : ℕ × ℕ). s.0) p.standing))
+      (subst (λ (l : List Specifier). SomeOutstanding l (own_log y))
+      (sym (take_all (length (asked_of y.loader.events) - length asks_before) (own_asked y) long)) open_now);
   patience = λ even. p.patience (behind even);
 }
   where
@@ -227,13 +258,16 @@ result_not_yet {rules} once l m w x y f g1 p g k sorted = record {
     logs_before = log_of (before_last (own_count y) y.loader.events)
 
     asks : asks_before ++ own_asked y ≡ asked_of y.loader.events
-    asks = sym (asked_of-append (before_last (own_count y) y.loader.events) (own_events y)) ∙ ap asked_of (before_last-last (own_count y) y.loader.events)
+    asks = sym (asked_of-append (before_last (own_count y) y.loader.events) (own_events y))
+        ∙ ap asked_of (before_last-last (own_count y) y.loader.events)
 
     logs : logs_before ++ own_log y ≡ log_of y.loader.events
-    logs = sym (log_of-append (before_last (own_count y) y.loader.events) (own_events y)) ∙ ap log_of (before_last-last (own_count y) y.loader.events)
+    logs = sym (log_of-append (before_last (own_count y) y.loader.events) (own_events y))
+        ∙ ap log_of (before_last-last (own_count y) y.loader.events)
 
     open_now : SomeOutstanding (own_asked y) (own_log y)
-    open_now = one_open (own_asked y) (own_log y) p.live.kept.own.asking.once (omega (arith, p.live.kept.own.asked_counted, p.live.kept.own.taken_counted, p.open_yet))
+    open_now = one_open (own_asked y) (own_log y) p.live.kept.own.asking.once
+        (omega (arith, p.live.kept.own.asked_counted, p.live.kept.own.taken_counted, p.open_yet))
 
     long : length (own_asked y) ≤ length (asked_of y.loader.events) - length asks_before
     long = let n = ap length asks in omega (arith, n, length-append asks_before (own_asked y))
@@ -241,11 +275,14 @@ result_not_yet {rules} once l m w x y f g1 p g k sorted = record {
     earlier_same : before_last (own_count y) y.loader.events ≡ before_last (own_count x) x.loader.events
     earlier_same = before_after x y k g
 
-    behind : length (asked_of (before_last (own_count x) x.loader.events)) ≡ length (log_of (before_last (own_count x) x.loader.events))
+    behind : length (asked_of (before_last (own_count x) x.loader.events))
+        ≡ length (log_of (before_last (own_count x) x.loader.events))
         → length (log_of y.loader.events) < length (asked_of y.loader.events)
     behind even =
-        let a : length asks_before ≡ length (asked_of (before_last (own_count x) x.loader.events)) = ap (λ (l : List Event). length (asked_of l)) earlier_same in
-        let b : length logs_before ≡ length (log_of (before_last (own_count x) x.loader.events)) = ap (λ (l : List Event). length (log_of l)) earlier_same in
+        let a : length asks_before ≡ length (asked_of (before_last (own_count x) x.loader.events)) =
+        ap (λ (l : List Event). length (asked_of l)) earlier_same in
+        let b : length logs_before ≡ length (log_of (before_last (own_count x) x.loader.events)) =
+        ap (λ (l : List Event). length (log_of l)) earlier_same in
         let m : length (asks_before ++ own_asked y) ≡ length (asked_of y.loader.events) = ap length asks in
         let n : length (logs_before ++ own_log y) ≡ length (log_of y.loader.events) = ap length logs in
         omega (
@@ -262,7 +299,8 @@ result_not_yet {rules} once l m w x y f g1 p g k sorted = record {
           p.open_yet,
         )
 
-pub result_unasked : {rules : Rules} → IsFunctional rules → {L : Type 0} (l m : L) (w : Following) (x y : At) (f g1 : Bool) (s : Specifier)
+pub result_unasked : {rules : Rules} → IsFunctional rules
+    → {L : Type 0} (l m : L) (w : Following) (x y : At) (f g1 : Bool) (s : Specifier)
     → IsUnasked rules x y s → IsUnawaited rules 1 (seen_of l w x f) (seen_of m w y g1) s
 result_unasked {rules} once l m w x y f g1 s u = record {
   before = log_of u.before;
@@ -276,7 +314,8 @@ result_unasked {rules} once l m w x y f g1 s u = record {
 }
 
 -- of a loader that answers open requests alone no answer is unasked, where none was open before
-pub fairly : {rules : Rules} → (x y : At) (s : Specifier) → IsKeptAt rules x → IsKeptAt rules y → GoesOnAt x y → IsUnasked rules x y s → x.loader.fair ≡ true
+pub fairly : {rules : Rules} → (x y : At) (s : Specifier) → IsKeptAt rules x → IsKeptAt rules y → GoesOnAt x y
+    → IsUnasked rules x y s → x.loader.fair ≡ true
     → IsSettled (before_last (own_count x) x.loader.events) → ⊥
 fairly {rules} x y s kx ky g u fair none_open =
     u.settled (subst (λ (l : List Specifier). IsOutstanding l (log_of u.before) s) (sym asks)
@@ -296,7 +335,8 @@ fairly {rules} x y s kx ky g u fair none_open =
     le = subst (λ (l : List Event). requests l s ≤ answers l s) (sym (before_after x y kx g)) (none_open s)
 
     length_requests : requests (first ++ u.before) s ≡ requests first s + requests u.before s
-    length_requests = ap (times s) (asked_of-append first u.before) ∙ times-append s (asked_of first) (asked_of u.before)
+    length_requests = ap (times s) (asked_of-append first u.before)
+        ∙ times-append s (asked_of first) (asked_of u.before)
 
     length_answers : answers (first ++ u.before) s ≡ answers first s + answers u.before s
     length_answers = ap (λ (l : Log). times s (keys_of l)) (log_of-append first u.before)
@@ -304,7 +344,8 @@ fairly {rules} x y s kx ky g u fair none_open =
         ∙ times-append s (keys_of (log_of first)) (keys_of (log_of u.before))
 
 -- as `poll` says it
-pub result_fair : {rules : Rules} → {L A : Type 0} (l : L) (w : Following) (x y : At) (f : Bool) (url : Parts) → IsKeptAt rules x → IsKeptAt rules y → GoesOnAt x y
+pub result_fair : {rules : Rules} → {L A : Type 0} (l : L) (w : Following) (x y : At) (f : Bool) (url : Parts)
+    → IsKeptAt rules x → IsKeptAt rules y → GoesOnAt x y
     → IsUnasked rules x y (text_of url) → IsFairly {A = A} x.loader (seen_of l w x f) (Err (error.UnaskedAnswer url))
 result_fair {rules} l w x y f url kx ky g u = λ fair none_open s same. fairly x y (text_of url) kx ky g u fair none_open
 
@@ -335,7 +376,8 @@ unawaited_none rules old new s u h = by u.unawaited
 
     by : IsUnawaitedOver rules 1 (starts old) u.before s → ⊥
     by (inl some) = let none = ap is_some awaited.open_yet in cc
-    by (inr never) = never (subst (λ (l : Log). IsReached rules (starts old) (answer_to l) s) (sym whole) awaited.reached) awaited.loads
+    by (inr never) = never
+        (subst (λ (l : Log). IsReached rules (starts old) (answer_to l) s) (sym whole) awaited.reached) awaited.loads
 
 -- a builder that begins has nothing
 pub inside_new : (rules : Rules) (x : At) → x.progress.asked ≡ 0 → x.progress.taken ≡ 0 → x.progress.begun ≡ false
@@ -348,19 +390,20 @@ inside_new rules x a t b r d = record {
     behind = omega arith;
     counted = rw (d, r) (omega arith);
     room = rw r (omega arith);
-    building = subst (λ (l : List Event). IsBuilding rules (starts_at x) no_one (asked_of l) (log_of l) (slots_at x) (todo_at x)) (sym nothing) (record {
-      sound = λ u y h. absurd (let n = none u in cc);
-      done = λ u e h. absurd (let n = none u in cc);
-      closed = λ u w e h. absurd (let n = none u in cc);
-      outstanding = λ u out h. absurd (let n = none u in cc);
-      queued = λ u out h. absurd (let n = none u in cc);
-      listed = λ u h. absurd (let n = ap (λ (l : List Parts). has (texts l) u) d in cc);
-      holds = λ u h. absurd cc;
-      todo_once = rw d tt;
-      asked_slot = λ u h. absurd cc;
-      answered = λ u c h. absurd cc;
-      orderly = tt;
-    });
+    building = subst (λ (l : List Event). IsBuilding rules (starts_at x) no_one (asked_of l) (log_of l) (slots_at x)
+        (todo_at x)) (sym nothing) (record {
+          sound = λ u y h. absurd (let n = none u in cc);
+          done = λ u e h. absurd (let n = none u in cc);
+          closed = λ u w e h. absurd (let n = none u in cc);
+          outstanding = λ u out h. absurd (let n = none u in cc);
+          queued = λ u out h. absurd (let n = none u in cc);
+          listed = λ u h. absurd (let n = ap (λ (l : List Parts). has (texts l) u) d in cc);
+          holds = λ u h. absurd cc;
+          todo_once = rw d tt;
+          asked_slot = λ u h. absurd cc;
+          answered = λ u c h. absurd cc;
+          orderly = tt;
+        });
     timely = subst IsTimely (sym nothing) tt;
     rooted = λ e. absurd cc;
   };
@@ -377,7 +420,8 @@ inside_new rules x a t b r d = record {
 
 -- ---- history
 
-pub result_history : {rules : Rules} → {L : Type 0} (l m : L) (w : Following) (x y : At) (f g1 : Bool) → GoesOnAt x y → IsKeptAt rules x → IsKeptAt rules y
+pub result_history : {rules : Rules} → {L : Type 0} (l m : L) (w : Following) (x y : At) (f g1 : Bool) → GoesOnAt x y
+    → IsKeptAt rules x → IsKeptAt rules y
     → HasHistory (seen_of l w x f) (seen_of m w y g1)
 result_history {rules} l m w x y f g1 g k j = record {
   following = refl;
@@ -395,7 +439,8 @@ result_history {rules} l m w x y f g1 g k j = record {
 }
 
 pub result_too_many : {rules : Rules} → (x : At) (log : Log) (seen : ℕ)
-    → IsTooMany rules (starts_at x) log x.progress.reaching.limit seen → ReachesAtMost rules (starts_at x) (answer_to log) x.progress.reaching.limit → ⊥
+    → IsTooMany rules (starts_at x) log x.progress.reaching.limit seen
+    → ReachesAtMost rules (starts_at x) (answer_to log) x.progress.reaching.limit → ⊥
 result_too_many {rules} x log seen t r = too_many_none rules (starts_at x) log x.progress.reaching.limit seen t r
 
 -- one unasked answer is another only for the same specifier

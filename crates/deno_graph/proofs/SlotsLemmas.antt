@@ -21,7 +21,8 @@ use Rattle.deno_graph.specs.Slots.{Slots, HasGrown, IsOverfull}
 -- ---- lists of specifiers
 
 -- what a longer list has
-pub has_append : (xs ys : List Specifier) (t : Specifier) → has (xs ++ ys) t ≡ true → (has xs t ≡ true) ⊎ (has ys t ≡ true)
+pub has_append : (xs ys : List Specifier) (t : Specifier) → has (xs ++ ys) t ≡ true
+    → (has xs t ≡ true) ⊎ (has ys t ≡ true)
 has_append xs ys t h = either (has xs t) (has ys t) (sym (list_any-append (bytes_eq t) xs ys) ∙ h)
   where
     either : (a b : Bool) → (a || b) ≡ true → (a ≡ true) ⊎ (b ≡ true)
@@ -66,7 +67,8 @@ grown_none slots todo = record {
 }
 
 -- what came had a slot already
-pub grown_already : (s : Specifier) (slots : Slots) (todo : List Specifier) → ((t : Specifier) → bytes_eq t s ≡ true → slots t ≡ None → ⊥)
+pub grown_already : (s : Specifier) (slots : Slots) (todo : List Specifier)
+    → ((t : Specifier) → bytes_eq t s ≡ true → slots t ≡ None → ⊥)
     → HasGrown (s ∷ []) slots slots todo todo
 grown_already s slots todo there = record {
   kept = λ t x h. h;
@@ -105,15 +107,18 @@ grown_put s old new todo open_yet put = record {
     fresh t x true e h = inr (open_yet t e, has_one s t ∙ e, cc)
     fresh t x false e h = inl h
 
-    listed : (t : Specifier) → (has todo t ≡ true) ⊎ (has (s ∷ []) t ≡ true) → (has todo t ≡ true) ⊎ ((old t ≡ None) × (new t ≡ Some Queued))
+    listed : (t : Specifier) → (has todo t ≡ true) ⊎ (has (s ∷ []) t ≡ true)
+        → (has todo t ≡ true) ⊎ ((old t ≡ None) × (new t ≡ Some Queued))
     listed t (inl h) = inl h
     listed t (inr h) = let e : bytes_eq t s ≡ true = sym (has_one s t) ∙ h in inr (open_yet t e, put t ∙ rw e refl)
 
-    joined : (t : Specifier) (b : Bool) → bytes_eq t s ≡ b → cond b (Some Queued) (old t) ≡ Some Queued → old t ≡ None → has (todo ++ s ∷ []) t ≡ true
+    joined : (t : Specifier) (b : Bool) → bytes_eq t s ≡ b → cond b (Some Queued) (old t) ≡ Some Queued → old t ≡ None
+        → has (todo ++ s ∷ []) t ≡ true
     joined t true e h n = has_right todo (s ∷ []) t (has_one s t ∙ e)
     joined t false e h n = absurd cc
 
-    absent : (b : Bool) → has todo s ≡ b → ((t : Specifier) → has todo t ≡ true → old t ≡ None → ⊥) → list_any (bytes_eq s) todo ≡ false
+    absent : (b : Bool) → has todo s ≡ b → ((t : Specifier) → has todo t ≡ true → old t ≡ None → ⊥)
+        → list_any (bytes_eq s) todo ≡ false
     absent true e there = absurd (there s e (open_yet s (nat_list_eq_equiv.refl s)))
     absent false e there = e
 
@@ -152,19 +157,23 @@ grown_more xs ys a b c k l m g h = record {
     fresh t x (inl e) = widened t x (g.fresh t x e)
     fresh t x (inr e) = inr (none_before t (a t) refl e.0, has_right xs ys t e.1, e.2)
 
-    listed_first : (t : Specifier) → (has k t ≡ true) ⊎ ((a t ≡ None) × (b t ≡ Some Queued)) → (has k t ≡ true) ⊎ ((a t ≡ None) × (c t ≡ Some Queued))
+    listed_first : (t : Specifier) → (has k t ≡ true) ⊎ ((a t ≡ None) × (b t ≡ Some Queued))
+        → (has k t ≡ true) ⊎ ((a t ≡ None) × (c t ≡ Some Queued))
     listed_first t (inl e) = inl e
     listed_first t (inr e) = inr (e.0, h.kept t Queued e.1)
 
-    listed : (t : Specifier) → (has l t ≡ true) ⊎ ((b t ≡ None) × (c t ≡ Some Queued)) → (has k t ≡ true) ⊎ ((a t ≡ None) × (c t ≡ Some Queued))
+    listed : (t : Specifier) → (has l t ≡ true) ⊎ ((b t ≡ None) × (c t ≡ Some Queued))
+        → (has k t ≡ true) ⊎ ((a t ≡ None) × (c t ≡ Some Queued))
     listed t (inl e) = listed_first t (g.listed t e)
     listed t (inr e) = inr (none_before t (a t) refl e.0, e.1)
 
-    joined : (t : Specifier) → a t ≡ None → c t ≡ Some Queued → (b t ≡ Some Queued) ⊎ ((b t ≡ None) × (has ys t ≡ true) × (Queued ≡ Queued)) → has m t ≡ true
+    joined : (t : Specifier) → a t ≡ None → c t ≡ Some Queued
+        → (b t ≡ Some Queued) ⊎ ((b t ≡ None) × (has ys t ≡ true) × (Queued ≡ Queued)) → has m t ≡ true
     joined t n q (inl e) = h.still t (g.joined t n e)
     joined t n q (inr e) = h.joined t e.0 q
 
-    open_listed : (t : Specifier) → b t ≡ None → (has k t ≡ true) ⊎ ((a t ≡ None) × (b t ≡ Some Queued)) → ((t : Specifier) → has k t ≡ true → a t ≡ None → ⊥) → ⊥
+    open_listed : (t : Specifier) → b t ≡ None → (has k t ≡ true) ⊎ ((a t ≡ None) × (b t ≡ Some Queued))
+        → ((t : Specifier) → has k t ≡ true → a t ≡ None → ⊥) → ⊥
     open_listed t n (inl e) there = there t e (none_before t (a t) refl n)
     open_listed t n (inr e) there = cc
 
@@ -174,7 +183,8 @@ widen_each : (xs ys : List Specifier) (a b : Slots) (k l : List Specifier) → H
 widen_each xs ys a b k l g t (inr e) = inr (has_right xs ys t e)
 widen_each xs ys a b k l g t (inl some) = by (b t) refl
   where
-    from : (x : Slot) → (a t ≡ Some x) ⊎ ((a t ≡ None) × (has xs t ≡ true) × (x ≡ Queued)) → (a t ≡ None → ⊥) ⊎ (has (xs ++ ys) t ≡ true)
+    from : (x : Slot) → (a t ≡ Some x) ⊎ ((a t ≡ None) × (has xs t ≡ true) × (x ≡ Queued))
+        → (a t ≡ None → ⊥) ⊎ (has (xs ++ ys) t ≡ true)
     from x (inl e) = inl (λ n. cc)
     from x (inr e) = inr (has_left xs ys t e.1)
 
@@ -194,7 +204,8 @@ overfull_more xs ys a b k l limit seen g full = record {
 }
 
 -- a specifier that isn't in a list is apart from each in it
-pub none_equal : (s : Specifier) (xs : List Specifier) → has xs s ≡ false → AllByRecursion (λ y. bytes_eq s y ≡ false) xs
+pub none_equal : (s : Specifier) (xs : List Specifier) → has xs s ≡ false
+    → AllByRecursion (λ y. bytes_eq s y ≡ false) xs
 none_equal s [] h = tt
 none_equal s (x ∷ xs) h = (first (bytes_eq s x) (has xs s) h, none_equal s xs (second (bytes_eq s x) (has xs s) h))
   where
@@ -220,9 +231,12 @@ overfull_here entries s limit sorted none full = record {
   each = λ t h. each t (bytes_eq t s) refl h;
 }
   where
-    each : (t : Specifier) (b : Bool) → bytes_eq t s ≡ b → (b || has (keys_at entries) t) ≡ true → (value_at entries t ≡ None → ⊥) ⊎ (has (s ∷ []) t ≡ true)
+    each : (t : Specifier) (b : Bool) → bytes_eq t s ≡ b → (b || has (keys_at entries) t) ≡ true
+        → (value_at entries t ≡ None → ⊥) ⊎ (has (s ∷ []) t ≡ true)
     each t true e h = inr (has_one s t ∙ e)
-    each t false e h = inl (λ n. let some : is_some (value_at entries t) ≡ true = sym (has-keys_at entries t) ∙ h in let other : is_some (value_at entries t) ≡ false = ap is_some n in cc)
+    each t false e h = inl
+        (λ n. let some : is_some (value_at entries t) ≡ true = sym (has-keys_at entries t) ∙ h in
+        let other : is_some (value_at entries t) ≡ false = ap is_some n in cc)
 
 -- what has a slot, by the test
 pub none_from_test : {A : Type 0} (o : Option A) → is_some o ≡ false → o ≡ None
@@ -233,13 +247,16 @@ pub some_from_test : {A : Type 0} (o : Option A) → is_some o ≡ true → o �
 some_from_test o h n = let other : is_some o ≡ false = ap is_some n in cc
 
 -- an equal specifier has the same slot
-pub value_at_same : {V : Type 0} (entries : List (Parts × V)) (s t : Specifier) → bytes_eq t s ≡ true → value_at entries t ≡ value_at entries s
+pub value_at_same : {V : Type 0} (entries : List (Parts × V)) (s t : Specifier) → bytes_eq t s ≡ true
+    → value_at entries t ≡ value_at entries s
 value_at_same [] s t h = refl
 value_at_same (e ∷ es) s t h = rw (nat_list_eq_equiv.congr t s (text_of e.0) h, value_at_same es s t h) refl
 
 -- a worklist with one more
-pub texts_push : (todo later : List Parts) (u v : Parts) → later ≡ todo ++ u ∷ [] → u ≡ v → texts later ≡ texts todo ++ text_of v ∷ []
-texts_push todo later u v is same = ap texts is ∙ map-append text_of todo (u ∷ []) ∙ ap (λ w. texts todo ++ text_of w ∷ []) same
+pub texts_push : (todo later : List Parts) (u v : Parts) → later ≡ todo ++ u ∷ [] → u ≡ v
+    → texts later ≡ texts todo ++ text_of v ∷ []
+texts_push todo later u v is same =
+    ap texts is ∙ map-append text_of todo (u ∷ []) ∙ ap (λ w. texts todo ++ text_of w ∷ []) same
 
 -- a new specifier is put and listed
 pub grown_listed : (old new : List (Parts × Slot)) (todo later : List Parts) (s u v : Parts)
@@ -252,7 +269,8 @@ grown_listed old new todo later s u v none put same is like =
     (λ t. rw (← same) (put.at t)))
 
 -- so many more
-pub counted_put : (old new : List (Parts × Slot)) (s u : Parts) → value_at old (text_of s) ≡ None → IsPut old new (text_of u) Queued → u ≡ s
+pub counted_put : (old new : List (Parts × Slot)) (s u : Parts) → value_at old (text_of s) ≡ None
+    → IsPut old new (text_of u) Queued → u ≡ s
     → length new ≡ length old + 1
 counted_put old new s u none put same =
     put.counted ∙ ap (λ o. length old + cond (is_some o) 0 1) (ap (λ w. value_at old (text_of w)) same ∙ none)

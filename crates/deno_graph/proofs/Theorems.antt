@@ -23,7 +23,8 @@ pub rules_once : (following : Following) → IsFunctional (rules_of following)
 rules_once following = analysed_once
 
 -- each edge of a graph's module cuts from the module's text the literal whose value is the edge's text
-pub edges_cut : (following : Following) (starts : List Specifier) (answers : Answers) (entries : List (Parts × Entry)) → IsGraph (rules_of following) starts answers entries
+pub edges_cut : (following : Following) (starts : List Specifier) (answers : Answers) (entries : List (Parts × Entry))
+    → IsGraph (rules_of following) starts answers entries
     → EachEdgeCuts entries
 edges_cut following starts answers entries g s e h = by (g.each s e h)
   where
@@ -34,12 +35,15 @@ edges_cut following starts answers entries g s e h = by (g.each s e h)
     by : IsFinal (rules_of following) answers s e → EdgesCut e
     by (redirect target is_entry last leads stays is) = subst EdgesCut (sym is) tt
     by (too_far target is_entry far is) = subst EdgesCut (sym is) tt
-    by (with_module m is_entry edges all is) = subst EdgesCut (sym is) (final_cuts (rules_of following) answers m edges (first (entry.Module m) is_entry) all)
+    by (with_module m is_entry edges all is) =
+        subst EdgesCut (sym is) (final_cuts (rules_of following) answers m edges (first (entry.Module m) is_entry) all)
     by (same f is_entry stays plain is) = subst EdgesCut (sym is) (first f is_entry)
 
 -- the same of a graph that is answered
-pub answered_cut : {Refused : Type 0} (following : Following) (starts : List Specifier) (answers : Answers) (result : Result GraphData Refused)
-    → IfOk result (λ g. IsGraph (rules_of following) starts answers g.entries) → IfOk result (λ g. EachEdgeCuts g.entries)
+pub answered_cut : {Refused : Type 0} (following : Following) (starts : List Specifier) (answers : Answers)
+    (result : Result GraphData Refused)
+    → IfOk result (λ g. IsGraph (rules_of following) starts answers g.entries)
+    → IfOk result (λ g. EachEdgeCuts g.entries)
 answered_cut following starts answers (Ok g) graph = edges_cut following starts answers g.entries graph
 answered_cut following starts answers (Err e) graph = tt
 
@@ -48,10 +52,12 @@ answered_cut following starts answers (Err e) graph = tt
 -- whatever has an entry over the first answers has it over the second
 pub entry_agrees : (rules : Rules) (few many : Answers) (s : Specifier) (e : Entry)
     → ((a : LoadAnswer) → few s ≡ Some a → many s ≡ Some a) → IsEntry rules few s e → IsEntry rules many s e
-entry_agrees rules few many s e alike (inl a) = inl (record { loads = a.loads; answer = a.answer; given = alike a.answer a.given; means = a.means })
+entry_agrees rules few many s e alike (inl a) =
+    inl (record { loads = a.loads; answer = a.answer; given = alike a.answer a.given; means = a.means })
 entry_agrees rules few many s e alike (inr u) = inr u
 
-module _ (rules : Rules) (once : IsFunctional rules) (starts : List Specifier) (log told : Answers) (entries : List (Parts × Entry))
+module _ (rules : Rules) (once : IsFunctional rules) (starts : List Specifier) (log told : Answers)
+    (entries : List (Parts × Entry))
     (g : IsGraph rules starts log entries)
     (alike : (s : Specifier) → IsReached rules starts log s → (a : LoadAnswer) → log s ≡ Some a → told s ≡ Some a) where
   -- what is reached over the log is reached over what was told
@@ -60,11 +66,18 @@ module _ (rules : Rules) (once : IsFunctional rules) (starts : List Specifier) (
       (λ s h. (reached_start rules starts log s h, reached_start rules starts told s h))
       (λ r s p l. (
         reached_on rules starts log r s p.0 l,
-        reached_on rules starts told r s p.1 (record { entry = l.entry; is_entry = entry_agrees rules log told r l.entry (alike r p.0) l.is_entry; among = l.among }),
+        reached_on rules starts told r s p.1
+            (record {
+              entry = l.entry;
+              is_entry =
+                  entry_agrees rules log told r l.entry (alike r p.0) l.is_entry;
+              among = l.among;
+            }),
       ))
 
   -- whatever has an entry over what was told has it over the log, where it's reached
-  own_entry : (s : Specifier) (e : Entry) → IsReached rules starts log s → IsEntry rules told s e → IsEntry rules log s e
+  own_entry : (s : Specifier) (e : Entry) → IsReached rules starts log s → IsEntry rules told s e
+      → IsEntry rules log s e
   own_entry s e p is_entry = by (entry_of entries s) refl
     where
       by : (o : Option Entry) → entry_of entries s ≡ o → IsEntry rules log s e
@@ -79,7 +92,8 @@ module _ (rules : Rules) (once : IsFunctional rules) (starts : List Specifier) (
   -- and back
   back : (s : Specifier) → IsReached rules starts told s → IsReached rules starts log s
   back = reached_least rules starts told (IsReached rules starts log) (reached_start rules starts log)
-      (λ r s p l. reached_on rules starts log r s p (record { entry = l.entry; is_entry = own_entry r l.entry p l.is_entry; among = l.among }))
+      (λ r s p l. reached_on rules starts log r s p
+      (record { entry = l.entry; is_entry = own_entry r l.entry p l.is_entry; among = l.among }))
 
   -- the graph over the log is the graph over what was told, where they agree on all that is reached
   pub graph_agrees : IsGraph rules starts told entries
@@ -90,16 +104,20 @@ module _ (rules : Rules) (once : IsFunctional rules) (starts : List Specifier) (
       reached = λ s h. (there s (g.members.reached s h)).1;
       all = λ s p. g.members.all s (back s p);
     };
-    each = λ s e h. final_agrees rules starts log told (λ r f p. entry_agrees rules log told r f (alike r p)) own_entry s e
+    each = λ s e h. final_agrees rules starts log told (λ r f p. entry_agrees rules log told r f (alike r p)) own_entry
+        s e
         (g.members.reached s (has-keys_at entries s ∙ ap is_some h)) (g.each s e h);
   }
 
 -- the same for a log of answers that were told, where each was
-pub graph_told : (following : Following) (starts : List Specifier) (log : Log) (told : Answers) (entries : List (Parts × Entry)) → IsGraph (rules_of following) starts (answer_to log) entries
+pub graph_told : (following : Following) (starts : List Specifier) (log : Log) (told : Answers)
+    (entries : List (Parts × Entry)) → IsGraph (rules_of following) starts (answer_to log) entries
     → IsToldLog told log → ((s : Specifier) → IsSome (told s)) → IsGraph (rules_of following) starts told entries
 graph_told following starts log told entries g is all =
-    graph_agrees (rules_of following) (rules_once following) starts (answer_to log) told entries g (λ s p a h. by s a h (told s) refl)
+    graph_agrees (rules_of following) (rules_once following) starts (answer_to log) told entries g
+    (λ s p a h. by s a h (told s) refl)
   where
-    by : (s : Specifier) (a : LoadAnswer) → answer_to log s ≡ Some a → (o : Option LoadAnswer) → told s ≡ o → told s ≡ Some a
+    by : (s : Specifier) (a : LoadAnswer) → answer_to log s ≡ Some a → (o : Option LoadAnswer) → told s ≡ o
+        → told s ≡ Some a
     by s a h None d = absurd (let n = all s in let m = ap is_some d in cc)
     by s a h (Some b) d = d ∙ ap Some (sym (is s a b h d))

@@ -63,6 +63,7 @@ impl Progress {
         ensures stays { loader.new ≡ loader.old }
         ensures counts { (self.new.asked ≡ self.old.asked) × (self.new.taken ≡ self.old.taken) }
     {
+        // The contract speaks of them.
         let _ = following;
         let _ = loader;
         if self.begun {
@@ -208,6 +209,7 @@ impl Progress {
         ensures kept { IsKeptAt (rules_of following) (at (L.seen loader.new) self.new) }
         ensures asks { OnlyAsks (at (L.seen loader.old) self.old) (at (L.seen loader.new) self.new) }
     {
+        // The rules that the contract speaks of.
         let _ = following;
         // The proof learns from it that one can be added to the count, which stays below it.
         let _limit = self.reaching.limit;

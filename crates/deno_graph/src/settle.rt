@@ -193,6 +193,7 @@ fn settle_each(
     requires { verdicts.now ≡ map (λ e. verdict_of (rules_of following) firsts e.1) firsts }
     ensures { IfOk result (λ entries. entries ≡ finals_of (rules_of following) firsts) }
 {
+    // The rules that the contract speaks of.
     let _ = following;
     let mut entries = Items::new(alloc);
     for (url, first) in firsts.into_vec() {

@@ -38,7 +38,8 @@ pub held_none : (temporary : Path) (a : Told) → a.log ≡ a.log ++ [] → Held
 held_none temporary a e = record { folder = refl; log = e; alike = λ q n. refl; each = tt }
 
 -- one more call that changes this file at most
-pub held_push : (temporary : Path) (a y z : Told) (calls : List SysCall) (kind : SysCallKind) (path : Path) (to : Option Path) (number : ℕ) (refusal : Option SysErrorKind)
+pub held_push : (temporary : Path) (a y z : Told) (calls : List SysCall) (kind : SysCallKind) (path : Path)
+    (to : Option Path) (number : ℕ) (refusal : Option SysErrorKind)
     → Held temporary a y calls → IsCall kind path to number refusal y z → TouchesFile temporary y z
     → Held temporary a z (calls ++ the_call kind path to number refusal z.files ∷ [])
 held_push temporary a y z calls kind path to number refusal held call touches =
@@ -50,7 +51,8 @@ held_push temporary a y z calls kind path to number refusal held call touches =
       log = call.log ∙ ap (λ l. l ++ the_call kind path to number refusal z.files ∷ []) held.log
           ∙ append_assoc a.log calls (the_call kind path to number refusal z.files ∷ []);
       alike = alike;
-      each = each_push (spot a.folder temporary) a.files calls (the_call kind path to number refusal z.files) held.each alike;
+      each = each_push (spot a.folder temporary) a.files calls (the_call kind path to number refusal z.files) held.each
+          alike;
     }
 
 -- such files keep the write law of another path
@@ -62,7 +64,8 @@ safe_alike place temporary content old new names apart covers alike = record {
   others = λ q _ none. alike q (covers q none);
 }
 
-pub each_safe_alike : (place temporary : Path) (content : List ℕ) (old : Files) (names : List Path) (calls : List SysCall)
+pub each_safe_alike : (place temporary : Path) (content : List ℕ) (old : Files) (names : List Path)
+    (calls : List SysCall)
     → temporary ≢ place → ((q : Path) → IsNone names q → q ≢ temporary) → EachAlike temporary old calls
     → EachIsSafe place content old names calls
 each_safe_alike place temporary content old names [] apart covers each = tt

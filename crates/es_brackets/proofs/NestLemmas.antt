@@ -4,9 +4,9 @@ use Rattle.es_lexer.specs.declared.bracket.BracketKind.{BracketKind}
 use Rattle.es_lexer.specs.declared.bracket.BracketKind.TheVariants.{Template}
 use Rattle.es_lexer.specs.declared.bracket.Role.{Role}
 use Rattle.es_lexer.specs.declared.bracket.Role.TheVariants.{Opens, Closes, Continues, Plain}
-use Rattle.es_lexer.specs.declared.token.Token.{Token}
-use Rattle.es_lexer.specs.declared.token.CommentKind.{CommentKind}
-use Rattle.es_lexer.specs.declared.token.TokenKind.{TokenKind}
+use Rattle.es_token.specs.declared.token.Token.{Token}
+use Rattle.es_token.specs.declared.token.CommentKind.{CommentKind}
+use Rattle.es_token.specs.declared.token.TokenKind.{TokenKind}
 use Rattle.es_lexer.specs.Brackets.{role_of}
 use Rattle.es_lexer.specs.Pieces.{Piece, blank, line_end, comment, token, Open, count_of, open_at, open_behind, number_of, closer_at, closer_by, partner_of}
 use Rattle.es_lexer.specs.Reads.{tokens_of, token_of}
@@ -142,7 +142,8 @@ pub record OpenStill (before ps : List Piece) (j n : ℕ) : Type 0 where
 abbrev pub Origin : List Piece → List Piece → ℕ → ℕ → Type 0
 Origin before ps j n = OpenStill before ps j n ⊎ BegunHere (tokens_of before ps) (count_of before) j n
 
-begun_later : (t : Token) (ts : List Token) (first j n : ℕ) → BegunHere ts (first + 1) j n → BegunHere (t ∷ ts) first j n
+begun_later : (t : Token) (ts : List Token) (first j n : ℕ) → BegunHere ts (first + 1) j n
+    → BegunHere (t ∷ ts) first j n
 begun_later t ts first j n b = record {
   place = suc b.place;
   is = let e : j ≡ first + 1 + b.place = b.is in omega arith;
@@ -222,7 +223,8 @@ token_back k s before ps j n (inr b) =
     inr (begun_later (token_of before k s ps) (tokens_of (token k s ∷ before) ps) (count_of before) j n b)
 
 -- the token itself
-closes_by : (r : Role) (before ps : List Piece) (q : BracketKind) (j : ℕ) → r ≡ Closes q → partner_of r before ps ≡ Some j
+closes_by : (r : Role) (before ps : List Piece) (q : BracketKind) (j : ℕ) → r ≡ Closes q
+    → partner_of r before ps ≡ Some j
     → (o : Open) × (open_at 0 before ≡ Some o) × (count_of o.before ≡ j)
 unfolding partner_of
 closes_by (Opens k) before ps q j e p = cc

@@ -20,7 +20,8 @@ Below before o = (d : ℕ) → open_at d before ≡ Some o → count_of o.before
 below_by : (r : Role) (before : List Piece) (o : Open) (d : ℕ) → Below before o
     → open_behind d r before (λ i. open_at i before) ≡ Some o → count_of o.before < count_of before + 1
 unfolding open_behind
-below_by (Opens k) before o zero h e = let same : count_of before ≡ count_of o.before = opened_is k before o e in omega arith
+below_by (Opens k) before o zero h e = let same : count_of before ≡ count_of o.before = opened_is k before o e in
+    omega arith
 below_by (Opens k) before o (suc d) h e = let l : count_of o.before < count_of before = h d e in omega arith
 below_by (Closes k) before o zero h e = let l : count_of o.before < count_of before = h 1 e in omega arith
 below_by (Closes k) before o (suc d) h e =

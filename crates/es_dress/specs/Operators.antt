@@ -1,8 +1,8 @@
 -- The operators that tokens are.
 use Rattle.std.specs.Prelude.{ℕ, ◌-◌, ◌==◌, Bool, false, Option, Some, None, option_map, if◌then◌else◌, slice_get, List, [], ◌∷◌}
-use Rattle.es_lexer.specs.declared.token.Token.{Token}
-use Rattle.es_lexer.specs.declared.token.TokenKind.{TokenKind}
-use Rattle.es_lexer.specs.declared.token.TokenKind.TheVariants as k
+use Rattle.es_token.specs.declared.token.Token.{Token}
+use Rattle.es_token.specs.declared.token.TokenKind.{TokenKind}
+use Rattle.es_token.specs.declared.token.TokenKind.TheVariants as k
 use Rattle.es_tree.specs.Key.{same_kind}
 use Rattle.es_ast.specs.declared.leaf.UnaryOp.{UnaryOp}
 use Rattle.es_ast.specs.declared.leaf.UnaryOp.TheVariants as unary

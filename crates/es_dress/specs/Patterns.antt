@@ -1,7 +1,7 @@
 -- What patterns become (ECMA-262, "Destructuring Binding Patterns").
 use Rattle.std.specs.Prelude.{ℕ, ◌+◌, false, List, Option, Some, None, option_map}
 use Rattle.base.specs.declared.range.Range.{Range}
-use Rattle.es_lexer.specs.declared.token.Token.{Token}
+use Rattle.es_token.specs.declared.token.Token.{Token}
 use Rattle.es_ast.specs.declared.ast.Expr.{Expr}
 use Rattle.es_ast.specs.declared.ast.Pat.{Pat}
 use Rattle.es_ast.specs.declared.ast.Pat.TheVariants as vPat

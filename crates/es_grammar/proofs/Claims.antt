@@ -1,7 +1,7 @@
 -- The tests of the table of programs bar no reading. What is claimed of the rows is computed at each kind of token.
 use Rattle.std.specs.Prelude.{Bool, true, false, ◌||◌}
 use Rattle.std.proofs.Common.{◌≡◌, refl}
-use Rattle.es_lexer.specs.declared.token.TokenKind.TheVariants as k
+use Rattle.es_token.specs.declared.token.TokenKind.TheVariants as k
 use Rattle.es_tree.specs.declared.error.Lang.{Lang}
 use Rattle.es_tree.specs.declared.error.Lang.TheVariants as lang
 use Rattle.es_tree.specs.Key.{TokenTest, is, is_end, is_token, has_kind}

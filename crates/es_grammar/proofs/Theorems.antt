@@ -4,7 +4,7 @@ use Rattle.std.proofs.Common.{◌≡◌, length, subst}
 use Rattle.es_tree.specs.declared.error.Lang.{Lang}
 use Rattle.es_tree.specs.declared.error.Mode.{Mode}
 use Rattle.es_tree.specs.declared.error.Mode.TheVariants as mode
-use Rattle.es_lexer.specs.declared.token.Token.{Token}
+use Rattle.es_token.specs.declared.token.Token.{Token}
 use Rattle.es_tree.specs.Key.{Key, keys_of}
 use Rattle.es_tree.specs.Plain.{Plain}
 use Rattle.es_tree.specs.Fits.{free, chosen, Shape, most_nodes}

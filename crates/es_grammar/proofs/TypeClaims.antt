@@ -2,7 +2,7 @@
 -- token.
 use Rattle.std.specs.Prelude.{Bool, true, false, ◌||◌}
 use Rattle.std.proofs.Common.{◌≡◌, refl}
-use Rattle.es_lexer.specs.declared.token.TokenKind.TheVariants as k
+use Rattle.es_token.specs.declared.token.TokenKind.TheVariants as k
 use Rattle.es_tree.specs.Key.{TokenTest, is, has_kind}
 use Rattle.es_tree.specs.Checks.{rule_takes, rule_parts_take}
 use Rattle.es_tree.specs.Tells.{Sets, IsTold, none, implies, rule_starts, rule_tells}

@@ -2,7 +2,7 @@
 -- line end is written ⏎.
 use Rattle.std.specs.Prelude.{[], ◌∷◌}
 use Rattle.std.proofs.Common.{◌≡◌, refl}
-use Rattle.es_lexer.specs.declared.token.TokenKind.TheVariants as k
+use Rattle.es_token.specs.declared.token.TokenKind.TheVariants as k
 use Rattle.es_tree.specs.Form.{as_kind, as_name}
 use Rattle.es_tree.specs.Plain.{node, leaf, nil, cons, mark}
 use Rattle.es_tree.specs.Fits.{most_nodes}

@@ -1,7 +1,7 @@
 -- Types and their trees: each is what the table's reader answers, by computing it. A line end is written ⏎.
 use Rattle.std.specs.Prelude.{[], ◌∷◌}
 use Rattle.std.proofs.Common.{◌≡◌, refl}
-use Rattle.es_lexer.specs.declared.token.TokenKind.TheVariants as k
+use Rattle.es_token.specs.declared.token.TokenKind.TheVariants as k
 use Rattle.es_tree.specs.Form.{as_kind, as_name, as_raw, as_str, as_there}
 use Rattle.es_tree.specs.Plain.{node, leaf, nil, cons, mark, turn}
 use Rattle.es_tree.specs.Fits.{most_nodes}

@@ -1,6 +1,6 @@
 -- Members of classes (ECMA-262, "Class Definitions").
 use Rattle.std.specs.Prelude.{◌+◌, true, not, ◌&&◌, ◌||◌}
-use Rattle.es_lexer.specs.declared.token.TokenKind.TheVariants as k
+use Rattle.es_token.specs.declared.token.TokenKind.TheVariants as k
 use Rattle.es_tree.specs.Key.{seen, is}
 use Rattle.es_tree.specs.Form.{as_kind, as_there, guarded, taken, Guard, Form, done, tok, punct, row, opt, where_, Rule, make, choose, pick}
 use Rattle.es_grammar.specs.Words.{only, is_accessor_word, is_near}

@@ -1,7 +1,7 @@
 -- Expressions (ECMA-262, "ECMAScript Language: Expressions"), templates, and what may stand behind them.
 use Rattle.std.specs.Prelude.{ℕ, ◌+◌, ◌-◌, Bool, true, false, not, ◌&&◌, ◌||◌, List, Option, Some, None, slice_get}
-use Rattle.es_lexer.specs.declared.token.TokenKind.{TokenKind}
-use Rattle.es_lexer.specs.declared.token.TokenKind.TheVariants as k
+use Rattle.es_token.specs.declared.token.TokenKind.{TokenKind}
+use Rattle.es_token.specs.declared.token.TokenKind.TheVariants as k
 use Rattle.es_tree.specs.Key.{Key, TokenTest, seen, same_kind, has_kind, is, is_end}
 use Rattle.es_tree.specs.Form.{as_str, as_name, as_raw, as_kind, as_there, hint, taken, guarded, Guard, Form, done, tok, punct, row, opt, many, alt, when_, where_, Rule, make, choose, pick, wrap}
 use Rattle.es_grammar.specs.Words.{only, is_between, is_name, is_numeric, is_near, is_other, partner_of, closes_before}

@@ -1,7 +1,7 @@
 -- Parameters and patterns (ECMA-262, "Function Definitions" and "Destructuring Binding Patterns"), keys, and properties
 -- of objects.
 use Rattle.std.specs.Prelude.{ℕ, ◌+◌, Bool, true, false, not, ◌&&◌, ◌||◌, Option, Some, None, slice_get}
-use Rattle.es_lexer.specs.declared.token.TokenKind.TheVariants as k
+use Rattle.es_token.specs.declared.token.TokenKind.TheVariants as k
 use Rattle.es_tree.specs.Key.{TokenTest, seen, has_kind, is}
 use Rattle.es_tree.specs.Form.{as_str, as_name, as_raw, as_kind, hint, taken, Guard, Form, done, tok, punct, row, opt, many, alt, when_, where_, Rule, make, choose, as_, pick, wrap}
 use Rattle.es_grammar.specs.Words.{only, is_name, is_word, is_numeric, is_accessor_word, is_near, is_other, begins_key, partner_of, closes_before}

@@ -1,6 +1,6 @@
 -- Programs and the items of modules (ECMA-262, "Scripts and Modules").
 use Rattle.std.specs.Prelude.{◌+◌, true, false, not, ◌&&◌, ◌||◌}
-use Rattle.es_lexer.specs.declared.token.TokenKind.TheVariants as k
+use Rattle.es_token.specs.declared.token.TokenKind.TheVariants as k
 use Rattle.es_tree.specs.declared.error.Lang.{Lang}
 use Rattle.es_tree.specs.Key.{seen, has_kind, is, is_token}
 use Rattle.es_tree.specs.Form.{as_raw, hint, taken, Guard, Form, done, tok, punct, row, opt, many, Rule, make, choose, pick}

@@ -1,7 +1,7 @@
 -- Members of types in braces, their keys and results.
 use Rattle.std.specs.Prelude.{ℕ, ◌+◌, Bool, true, not, ◌&&◌, ◌||◌, List, Option, Some, None, slice_get}
-use Rattle.es_lexer.specs.declared.token.TokenKind.{TokenKind}
-use Rattle.es_lexer.specs.declared.token.TokenKind.TheVariants as k
+use Rattle.es_token.specs.declared.token.TokenKind.{TokenKind}
+use Rattle.es_token.specs.declared.token.TokenKind.TheVariants as k
 use Rattle.es_tree.specs.Key.{Key, TokenTest, seen, same_kind, has_kind, is, is_after_line}
 use Rattle.es_tree.specs.Form.{as_str, as_name, as_raw, as_kind, as_there, taken, Guard, Form, done, tok, punct, row, opt, alt, when_, where_, Rule, make, choose, pick}
 use Rattle.es_grammar.specs.Words.{only, is_name, is_word, is_numeric, is_accessor_word, is_near, begins_key, partner_of}

@@ -1,6 +1,6 @@
 -- Imports, and exports of names (ECMA-262, "Imports" and "Exports"; the handbook of TypeScript, "Modules").
 use Rattle.std.specs.Prelude.{ℕ, ◌+◌, Bool, true, false, not, ◌&&◌, ◌||◌}
-use Rattle.es_lexer.specs.declared.token.TokenKind.TheVariants as k
+use Rattle.es_token.specs.declared.token.TokenKind.TheVariants as k
 use Rattle.es_tree.specs.declared.error.Lang.{Lang}
 use Rattle.es_tree.specs.declared.error.Lang.TheVariants as lang
 use Rattle.es_tree.specs.Key.{TokenTest, seen, has_kind, is, is_end, is_after_line}

@@ -1,7 +1,7 @@
 -- Parameters of functions in types, and their patterns, which hold no default and no computed key.
 use Rattle.std.specs.Prelude.{◌+◌, true, not, ◌&&◌, ◌||◌}
-use Rattle.es_lexer.specs.declared.token.TokenKind.{TokenKind}
-use Rattle.es_lexer.specs.declared.token.TokenKind.TheVariants as k
+use Rattle.es_token.specs.declared.token.TokenKind.{TokenKind}
+use Rattle.es_token.specs.declared.token.TokenKind.TheVariants as k
 use Rattle.es_tree.specs.Key.{TokenTest, seen, has_kind, is}
 use Rattle.es_tree.specs.Form.{as_str, as_name, as_raw, as_there, hint, taken, Guard, Form, done, tok, punct, row, opt, many, alt, when_, Rule, make, choose, pick, wrap}
 use Rattle.es_grammar.specs.Words.{only, is_name, is_word, is_numeric, is_other}

@@ -1,7 +1,7 @@
 -- Statements and declarations (ECMA-262, "ECMAScript Language: Statements and Declarations").
 use Rattle.std.specs.Prelude.{ℕ, zero, suc, ◌+◌, ◌-◌, ltb, Bool, true, false, not, ◌&&◌, ◌||◌, if◌then◌else◌, List, Option, Some, None, slice_get, length}
-use Rattle.es_lexer.specs.declared.token.TokenKind.{TokenKind}
-use Rattle.es_lexer.specs.declared.token.TokenKind.TheVariants as k
+use Rattle.es_token.specs.declared.token.TokenKind.{TokenKind}
+use Rattle.es_token.specs.declared.token.TokenKind.TheVariants as k
 use Rattle.es_tree.specs.Key.{Key, TokenTest, seen, same_kind, has_kind, is}
 use Rattle.es_tree.specs.Form.{as_name, as_kind, as_there, hint, taken, Guard, Form, done, tok, punct, row, opt, many, alt, when_, where_, Rule, make, choose, pick, wrap, guarded}
 use Rattle.es_grammar.specs.Words.{only, is_name, is_near, is_other, partner_of, closes_before}

@@ -1,7 +1,7 @@
 -- Names of types: `a.b<c>`, `import("a").b<c>`, and the lists of arguments and parameters between `<` and `>`.
 use Rattle.std.specs.Prelude.{◌+◌, Bool, true, not, ◌&&◌, ◌||◌}
-use Rattle.es_lexer.specs.declared.token.TokenKind.{TokenKind}
-use Rattle.es_lexer.specs.declared.token.TokenKind.TheVariants as k
+use Rattle.es_token.specs.declared.token.TokenKind.{TokenKind}
+use Rattle.es_token.specs.declared.token.TokenKind.TheVariants as k
 use Rattle.es_tree.specs.Key.{TokenTest, seen, same_kind, has_kind, is}
 use Rattle.es_tree.specs.Form.{as_str, as_name, as_kind, hint, taken, guarded, Guard, Form, done, tok, punct, row, opt, many, when_, Rule, make, wrap}
 use Rattle.es_grammar.specs.Words.{only, is_name, is_near, is_other}

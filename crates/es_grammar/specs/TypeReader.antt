@@ -1,6 +1,6 @@
 -- Keys written short, and what the reader of the types' table answers for them: for worked rows.
 use Rattle.std.specs.Prelude.{ℕ, true, false, List, Some, None}
-use Rattle.es_lexer.specs.declared.token.TokenKind.{TokenKind}
+use Rattle.es_token.specs.declared.token.TokenKind.{TokenKind}
 use Rattle.es_tree.specs.Key.{Key}
 use Rattle.es_tree.specs.Plain.{Plain, plain}
 use Rattle.es_tree.specs.Fits.{most_nodes}

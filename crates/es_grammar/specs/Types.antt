@@ -1,7 +1,7 @@
 -- Types, their operators, primary types, tuples and results.
 use Rattle.std.specs.Prelude.{◌+◌, Bool, true, false, not, ◌&&◌, ◌||◌}
-use Rattle.es_lexer.specs.declared.token.TokenKind.{TokenKind}
-use Rattle.es_lexer.specs.declared.token.TokenKind.TheVariants as k
+use Rattle.es_token.specs.declared.token.TokenKind.{TokenKind}
+use Rattle.es_token.specs.declared.token.TokenKind.TheVariants as k
 use Rattle.es_tree.specs.Key.{TokenTest, seen, same_kind, has_kind, is, is_end, is_after_line}
 use Rattle.es_tree.specs.Form.{as_str, as_name, as_raw, as_kind, as_there, hint, taken, guarded, Guard, Form, done, tok, punct, row, opt, many, alt, when_, Rule, make, choose, pick, wrap}
 use Rattle.es_grammar.specs.Words.{only, is_name, is_name_or_this, is_numeric, is_sign, is_near, is_other, closes_before}

@@ -1,9 +1,9 @@
 -- Kinds of tokens by what is written with them, and what the written guards look at.
 use Rattle.std.specs.Prelude.{ℕ, ◌+◌, leb, Bool, false, not, ◌&&◌, ◌||◌, List, Option, Some, None, slice_get}
 use denote.Enum.Declared.{tag_of}
-use Rattle.es_lexer.specs.declared.token.TokenKind.{TokenKind}
-use Rattle.es_lexer.specs.declared.token.TokenKind.TheVariants as k
-use Rattle.es_lexer.specs.contracts.token.TokenKind.{the_type}
+use Rattle.es_token.specs.declared.token.TokenKind.{TokenKind}
+use Rattle.es_token.specs.declared.token.TokenKind.TheVariants as k
+use Rattle.es_token.specs.contracts.token.TokenKind.{the_type}
 use Rattle.es_tree.specs.Key.{Key, TokenTest, seen, same_kind, has_kind, is, is_after_line}
 use Rattle.es_tree.specs.Form.{Guard}
 

@@ -2,9 +2,9 @@
 use Rattle.std.specs.Prelude.{List, Bool, true, false, ◌&&◌, ◌||◌}
 use Rattle.std.proofs.Common.{◌≡◌, ℕ, ◌+◌, ◌≤◌, length, refl, sym, arith}
 use Rattle.std.proofs.lemmas.Option.{slice_get_past}
-use Rattle.es_lexer.specs.declared.token.Token.{Token}
-use Rattle.es_lexer.specs.declared.token.TokenKind.{TokenKind}
-use Rattle.es_lexer.specs.declared.token.TokenKind.TheVariants as k
+use Rattle.es_token.specs.declared.token.Token.{Token}
+use Rattle.es_token.specs.declared.token.TokenKind.{TokenKind}
+use Rattle.es_token.specs.declared.token.TokenKind.TheVariants as k
 use Rattle.es_tree.specs.declared.error.Lang.{Lang}
 use Rattle.es_tree.specs.Key.{keys_of, seen, is, has_kind}
 use Rattle.es_grammar.specs.Expressions.{opens_async_function}

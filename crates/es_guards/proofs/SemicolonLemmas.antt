@@ -2,7 +2,7 @@
 use Rattle.std.specs.Prelude.{List, true, false}
 use Rattle.std.proofs.Common.{◌≡◌, ℕ, zero, suc, ◌≤◌, ◌<◌, refl, slice_get}
 use Rattle.std.proofs.lemmas.Bool.{le-ltb, lt-ltb}
-use Rattle.es_lexer.specs.declared.token.TokenKind.TheVariants as k
+use Rattle.es_token.specs.declared.token.TokenKind.TheVariants as k
 use Rattle.es_tree.specs.Key.{Key, seen, is}
 use Rattle.es_grammar.specs.Words.{partner_of}
 use Rattle.es_grammar.specs.Statements.{step_over, has_semicolon}

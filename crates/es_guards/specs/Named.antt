@@ -1,6 +1,6 @@
 -- The tests and guards of the tables that are named by a value, and what each is.
 use Rattle.std.specs.Prelude.{Bool, true}
-use Rattle.es_lexer.specs.declared.token.TokenKind.{TokenKind}
+use Rattle.es_token.specs.declared.token.TokenKind.{TokenKind}
 use Rattle.es_tree.specs.Key.{TokenTest, has_kind, is, is_token}
 use Rattle.es_tree.specs.Form.{Guard}
 use Rattle.es_grammar.specs.Words.{only, is_other, is_name, is_word, is_name_or_this, is_numeric, is_accessor_word, is_near}

@@ -7,7 +7,7 @@ ghost use Rattle.es_grammar.specs.Classes.{opens_static, opens_field_accessor, b
 
 use crate::looks::{self, is};
 use crate::tokens::Tokens;
-use es_lexer::TokenKind;
+use es_token::TokenKind;
 
 impl Tokens<'_> {
     /// `static` before a key, `*` or `{`; then a token is at this place.

@@ -1,14 +1,14 @@
 //! Guards of expressions.
 
 ghost use Rattle.std.specs.Prelude.{◌≡◌, ◌+◌, ◌^◌, ◌<◌, ◌&&◌, ◌||◌};
-ghost use Rattle.es_lexer.specs.declared.token.TokenKind.TheVariants as k;
+ghost use Rattle.es_token.specs.declared.token.TokenKind.TheVariants as k;
 ghost use Rattle.es_tree.specs.Key.{keys_of, seen};
 ghost use Rattle.es_grammar.specs.Expressions.{joins, opens_greater, opens_right_shift, opens_right_assignment, begins_expression, continues_expression, is_body, follows_arrow_body, ends_expression, is_arrow, no_arrow, opens_plain_arrow, opens_async_arrow, opens_arrow, opens_async_parenthesis, is_no_arrow_head, opens_async_function, opens_property, has_argument, is_module, may_await, may_test, follows_super, begins_member, begins_post, is_update_here, no_update_here, no_mix, is_operand, opens_shift, opens_relation, opens_pattern, opens_assignment};
 
 use crate::looks::{self, is};
 use crate::tokens::{Tokens, before};
 use es_grammar::Context;
-use es_lexer::TokenKind;
+use es_token::TokenKind;
 
 impl Tokens<'_> {
     /// `>` or `>=`

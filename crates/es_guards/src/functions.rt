@@ -6,7 +6,7 @@ ghost use Rattle.es_grammar.specs.Functions.{opens_inner_pattern, is_parameter, 
 
 use crate::looks::{self, is};
 use crate::tokens::Tokens;
-use es_lexer::TokenKind;
+use es_token::TokenKind;
 
 impl Tokens<'_> {
     /// A pattern inside a pattern that is assigned to.

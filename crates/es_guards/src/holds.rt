@@ -7,7 +7,7 @@ ghost use Rattle.es_guards.specs.Named.{kinds_of, look_of, guard_of};
 use crate::kinds;
 use crate::named::{Ahead, Guard, Kinds};
 use crate::tokens::Tokens;
-use es_lexer::TokenKind;
+use es_token::TokenKind;
 
 /// The kind is one of these.
 pub fn is_of(named: Kinds, kind: TokenKind) -> bool

@@ -5,7 +5,7 @@ ghost use Rattle.es_grammar.specs.Words.{is_name, is_word, is_name_or_this, is_n
 ghost use Rattle.es_grammar.specs.Expressions.{is_prefix, is_update, is_product, is_sum, is_equality, is_relation, is_assignment, is_property_name, is_literal_word};
 ghost use Rattle.es_grammar.specs.Statements.{is_variable_word};
 
-use es_lexer::TokenKind;
+use es_token::TokenKind;
 
 /// A name: a plain one, or a contextual word.
 #[tactic(auto, unfolding(es_grammar::specs::Words::is_name))]

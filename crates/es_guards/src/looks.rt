@@ -10,7 +10,7 @@ ghost use Rattle.es_grammar.specs.Statements.{is_variable_word, is_each, is_case
 ghost use Rattle.es_guards.specs.Sight.{sight};
 
 use crate::kinds;
-use es_lexer::TokenKind;
+use es_token::TokenKind;
 
 /// What a test of one token looks at.
 #[derive(Clone, Copy)]

@@ -7,7 +7,7 @@ ghost use Rattle.es_grammar.specs.Items.{opens_import, opens_default, opens_defa
 
 use crate::looks::{self, is};
 use crate::tokens::Tokens;
-use es_lexer::TokenKind;
+use es_token::TokenKind;
 use es_tree::Lang;
 
 /// The language is TypeScript.

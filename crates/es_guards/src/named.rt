@@ -1,7 +1,7 @@
 //! Tests and guards named by a value.
 
 use es_grammar::Context;
-use es_lexer::TokenKind;
+use es_token::TokenKind;
 use es_tree::Lang;
 
 /// Kinds of tokens.

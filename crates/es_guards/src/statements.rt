@@ -1,7 +1,7 @@
 //! Guards of statements and declarations.
 
 ghost use Rattle.std.specs.Prelude.{◌≡◌, ℕ, ◌+◌, ◌<◌, ◌&&◌, length, slice_get};
-ghost use Rattle.es_lexer.specs.declared.token.TokenKind.TheVariants as k;
+ghost use Rattle.es_token.specs.declared.token.TokenKind.TheVariants as k;
 ghost use Rattle.es_tree.specs.Key.{keys_of, seen, has_kind, is};
 ghost use Rattle.es_grammar.specs.Words.{is_name, is_near, is_other, partner_of};
 ghost use Rattle.es_grammar.specs.Statements.{ends_value, opens_using, step_over, has_semicolon, opens_for, opens_for_await, opens_head_pattern, starts_using, starts_expression, is_label_here, is_value_here, is_case, is_in_case, is_script, opens_label, begins_no_other};
@@ -9,7 +9,7 @@ ghost use Rattle.es_grammar.specs.Statements.{ends_value, opens_using, step_over
 use crate::looks::{self, is};
 use crate::tokens::{Tokens, before};
 use es_grammar::Context;
-use es_lexer::TokenKind;
+use es_token::TokenKind;
 
 impl Tokens<'_> {
     /// Behind a value END may stand, or a further declarator.

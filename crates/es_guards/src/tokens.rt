@@ -8,7 +8,7 @@ ghost use Rattle.es_grammar.specs.Functions.{behind_key};
 ghost use Rattle.es_guards.specs.Sight.{sight};
 
 use crate::looks::{Seen, is};
-use es_lexer::{Token, TokenKind};
+use es_token::{Token, TokenKind};
 
 /// The tokens of a text.
 #[derive(Clone, Copy)]

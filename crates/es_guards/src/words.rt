@@ -1,7 +1,7 @@
 //! Tests of the token at a place, and of what stands behind a bracket.
 
 ghost use Rattle.std.specs.Prelude.{◌≡◌};
-ghost use Rattle.es_lexer.specs.declared.token.TokenKind.TheVariants as k;
+ghost use Rattle.es_token.specs.declared.token.TokenKind.TheVariants as k;
 ghost use Rattle.es_tree.specs.Key.{keys_of, seen, has_kind, is, is_end, is_token, is_after_line};
 ghost use Rattle.es_grammar.specs.Words.{is_name, is_accessor_word, is_near, is_other, closes_before};
 ghost use Rattle.es_grammar.specs.Expressions.{is_update, is_relation, is_assignment, is_arrow};
@@ -10,7 +10,7 @@ ghost use Rattle.es_grammar.specs.Statements.{is_variable_word, is_each};
 
 use crate::looks::{self, is};
 use crate::tokens::Tokens;
-use es_lexer::TokenKind;
+use es_token::TokenKind;
 
 impl Tokens<'_> {
     /// Whether a name is at this place.

@@ -1,8 +1,8 @@
 -- What is answered is the one reading or the one fault that there is.
 use Rattle.std.proofs.Common.{◌≡◌, ℕ, List, Result, Ok, Err, IfOk, refl}
-use Rattle.es_lexer.specs.declared.token.Token.{Token}
-use Rattle.es_lexer.specs.declared.token.Comment.{Comment}
-use Rattle.es_lexer.specs.declared.token.Lexed.{Lexed}
+use Rattle.es_token.specs.declared.token.Token.{Token}
+use Rattle.es_token.specs.declared.token.Comment.{Comment}
+use Rattle.es_token.specs.declared.token.Lexed.{Lexed}
 use Rattle.es_lexer.specs.declared.error.LexicalKind.{LexicalKind}
 use Rattle.es_lexer.specs.declared.error.LexicalError.{LexicalError}
 use Rattle.es_lexer.specs.declared.error.LexError.{LexError}

@@ -3,7 +3,7 @@ use Rattle.std.proofs.Common.{◌≡◌, ℕ, ◌+◌, Bool, true, false, not, �
 use Rattle.std.specs.List.{AllByRecursion}
 use Rattle.es_lexer.specs.declared.look.Look.{Look}
 use Rattle.es_lexer.specs.declared.look.Look.TheVariants.{Comment, Fault}
-use Rattle.es_lexer.specs.declared.token.CommentKind.TheVariants.{Block}
+use Rattle.es_token.specs.declared.token.CommentKind.TheVariants.{Block}
 use Rattle.es_lexer.specs.declared.error.LexicalKind.TheVariants.{UnterminatedComment}
 use Rattle.es_lexer.specs.Bytes.{begins_closer, has_closer, has_line_end, is_line_end}
 use Rattle.es_lexer.specs.Readable.{EndsLine}

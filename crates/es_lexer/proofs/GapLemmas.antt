@@ -1,10 +1,10 @@
 -- What stands between tokens: whether a line end does, and that comments stand apart and all else is blanks and line ends.
 use Rattle.std.proofs.Common.{◌≡◌, ℕ, zero, suc, ◌+◌, ◌-◌, ◌≤◌, Bool, true, false, ◌||◌, ◌&&◌, List, [], ◌∷◌, ◌++◌, length, take, drop, Some, slice_get, slice_range, refl, sym, ◌∙◌, ap, subst, arith, length-append, append_assoc, drop_at, take_at, ◌⊎◌, inl, inr}
 use Rattle.es_lexer.specs.declared.bytes.First.TheVariants as first
-use Rattle.es_lexer.specs.declared.token.Token.{Token}
-use Rattle.es_lexer.specs.declared.token.Comment.{Comment}
-use Rattle.es_lexer.specs.declared.token.CommentKind.{CommentKind}
-use Rattle.es_lexer.specs.declared.token.CommentKind.TheVariants.{Line, Block}
+use Rattle.es_token.specs.declared.token.Token.{Token}
+use Rattle.es_token.specs.declared.token.Comment.{Comment}
+use Rattle.es_token.specs.declared.token.CommentKind.{CommentKind}
+use Rattle.es_token.specs.declared.token.CommentKind.TheVariants.{Line, Block}
 use Rattle.es_lexer.specs.Bytes.{is_line_end, has_line_end}
 use Rattle.es_lexer.specs.Pieces.{Piece, blank, line_end, comment, token, comment_spelling, pieces_text, place_of, is_behind, line_since}
 use Rattle.es_lexer.specs.Readable.{IsByte, IsWideBlank, ArePieces}

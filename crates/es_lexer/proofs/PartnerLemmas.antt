@@ -3,8 +3,8 @@ use Rattle.std.proofs.Common.{◌≡◌, ℕ, zero, suc, ◌+◌, List, [], ◌�
 use Rattle.es_lexer.specs.declared.bracket.BracketKind.{BracketKind}
 use Rattle.es_lexer.specs.declared.bracket.Role.{Role}
 use Rattle.es_lexer.specs.declared.bracket.Role.TheVariants.{Opens, Closes, Continues, Plain}
-use Rattle.es_lexer.specs.declared.token.Token.{Token}
-use Rattle.es_lexer.specs.declared.token.TokenKind.{TokenKind}
+use Rattle.es_token.specs.declared.token.Token.{Token}
+use Rattle.es_token.specs.declared.token.TokenKind.{TokenKind}
 use Rattle.es_lexer.specs.Brackets.{role_of}
 use Rattle.es_lexer.specs.Pieces.{Piece, blank, line_end, comment, token, Open, count_of, open_at, open_behind, number_of, closer_at, closer_by, partner_of}
 use Rattle.es_lexer.specs.Reads.{tokens_of, token_of}

@@ -7,9 +7,9 @@ use Rattle.es_lexer.specs.declared.bracket.BracketKind.TheVariants.{Template}
 use Rattle.es_lexer.specs.declared.bracket.OpenBracket.{OpenBracket}
 use Rattle.es_lexer.specs.declared.bracket.Role.{Role}
 use Rattle.es_lexer.specs.declared.bracket.Role.TheVariants.{Opens, Closes, Continues, Plain}
-use Rattle.es_lexer.specs.declared.token.TokenKind.{TokenKind}
-use Rattle.es_lexer.specs.declared.token.TokenKind.TheVariants as kind
-use Rattle.es_lexer.specs.declared.token.Token.{Token}
+use Rattle.es_token.specs.declared.token.TokenKind.{TokenKind}
+use Rattle.es_token.specs.declared.token.TokenKind.TheVariants as kind
+use Rattle.es_token.specs.declared.token.Token.{Token}
 use Rattle.es_lexer.specs.Brackets.{role_of}
 use Rattle.es_lexer.specs.Pieces.{Piece, blank, line_end, comment, token, Open, count_of, open_at, open_behind, number_of, bracket_of, closer_at, closer_by, partner_of, is_behind, line_since}
 use Rattle.es_lexer.specs.Goal.{headed, open_headed, goal_of, goal_in, state_of, token_state, slash_rule, divides, divides_behind, after_for, member, is_front}

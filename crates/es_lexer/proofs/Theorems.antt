@@ -1,7 +1,7 @@
 -- The laws of readings: a text has one reading or one fault, and not both; where its tokens stand, and what they cut.
 use Rattle.std.proofs.Common.{◌≡◌, ℕ, suc, ◌+◌, ◌<◌, ◌≤◌, false, List, [], length, Some, None, slice_get, slice_range, IsUtf8, IsCharBoundary, refl, sym, ◌∙◌, ap, subst, append-nil, add-one, arith, ◌⊎◌, inl, inr}
-use Rattle.es_lexer.specs.declared.token.Token.{Token}
-use Rattle.es_lexer.specs.declared.token.Comment.{Comment}
+use Rattle.es_token.specs.declared.token.Token.{Token}
+use Rattle.es_token.specs.declared.token.Comment.{Comment}
 use Rattle.es_lexer.specs.declared.look.Look.TheVariants as look
 use Rattle.es_lexer.specs.declared.error.LexicalKind.{LexicalKind}
 use Rattle.es_lexer.specs.declared.goal.Goal.{Goal}
@@ -11,7 +11,7 @@ use Rattle.es_lexer.specs.Reads.{Reads, tokens_of, comments_of}
 use Rattle.es_lexer.specs.Stops.{Stops, Stuck}
 use Rattle.es_lexer.specs.Look.{end_look, look_at}
 use Rattle.es_lexer.proofs.LookLemmas.{stuck_reads}
-use Rattle.es_lexer.specs.declared.token.TokenKind.TheVariants.{Str}
+use Rattle.es_token.specs.declared.token.TokenKind.TheVariants.{Str}
 use Rattle.es_literal.specs.Strings.{IsString}
 use Rattle.es_lexer.specs.Spelling.{Spells}
 use Rattle.es_lexer.proofs.PlaceLemmas.{TokenAt, token_at, not_nothing, boundaries, ascends, cuts, literal_of, comment_at, comment_cuts}

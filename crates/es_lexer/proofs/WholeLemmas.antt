@@ -2,8 +2,8 @@
 use Rattle.std.proofs.Common.{◌≡◌, ℕ, zero, suc, ◌+◌, ◌<◌, ◌≤◌, List, [], ◌∷◌, ◌++◌, length, Option, Some, None, refl, sym, ◌∙◌, ap, subst, arith, length-append, append_assoc, inl, inr}
 use Rattle.es_lexer.specs.declared.error.LexicalKind.{LexicalKind}
 use Rattle.es_lexer.specs.declared.goal.Goal.{Goal}
-use Rattle.es_lexer.specs.declared.token.CommentKind.{CommentKind}
-use Rattle.es_lexer.specs.declared.token.CommentKind.TheVariants.{Line, Block}
+use Rattle.es_token.specs.declared.token.CommentKind.{CommentKind}
+use Rattle.es_token.specs.declared.token.CommentKind.TheVariants.{Line, Block}
 use Rattle.es_lexer.specs.Goal.{goal_of}
 use Rattle.es_lexer.specs.Pieces.{Piece, blank, line_end, comment, token, Open, spelling, comment_spelling, pieces_text, behind, open_at, bracket_of}
 use Rattle.es_lexer.specs.Readable.{IsPiece, ArePieces}

@@ -1,8 +1,8 @@
 -- Words are no brackets and no string literals, and may stand anywhere.
 use Rattle.std.proofs.Common.{◌≡◌, ℕ, Bool, true, false, if◌then◌else◌, ◌&&◌, ◌==◌, List, [], ◌∷◌, length, bytes_eq, refl, sym, subst}
 use Rattle.es_lexer.specs.declared.goal.Goal.{Goal}
-use Rattle.es_lexer.specs.declared.token.TokenKind.{TokenKind}
-use Rattle.es_lexer.specs.declared.token.TokenKind.TheVariants as kind
+use Rattle.es_token.specs.declared.token.TokenKind.{TokenKind}
+use Rattle.es_token.specs.declared.token.TokenKind.TheVariants as kind
 use Rattle.es_lexer.specs.Brackets.{role_of, may_close}
 use Rattle.es_lexer.specs.Goal.{allows, may_stand, stands_apart}
 use Rattle.es_lexer.specs.Words.{WordTable, kind_in, word_kind, is_keyword, kind_at, words_of, words_of_two, words_of_three, words_of_four, words_of_five, words_of_six, words_of_seven, words_of_eight, words_of_nine, words_of_ten, words_of_eleven}

@@ -6,8 +6,8 @@ use Rattle.es_lexer.specs.declared.goal.Goal.{Goal}
 use Rattle.es_lexer.specs.declared.goal.State.{State}
 use Rattle.es_lexer.specs.declared.goal.SlashRule.{SlashRule}
 use Rattle.es_lexer.specs.declared.goal.SlashRule.TheVariants.{Divides, ByParenthesis, ByLine, Begins}
-use Rattle.es_lexer.specs.declared.token.TokenKind.{TokenKind}
-use Rattle.es_lexer.specs.declared.token.TokenKind.TheVariants as kind
+use Rattle.es_token.specs.declared.token.TokenKind.{TokenKind}
+use Rattle.es_token.specs.declared.token.TokenKind.TheVariants as kind
 use Rattle.es_lexer.specs.Bytes.{begins_part}
 use Rattle.es_lexer.specs.Brackets.{role_of, may_close}
 use Rattle.es_lexer.specs.Pieces.{Piece, blank, line_end, comment, token, Open, open_at, bracket_of, is_behind, line_since}

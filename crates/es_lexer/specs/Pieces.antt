@@ -5,9 +5,9 @@ use Rattle.es_lexer.specs.declared.bracket.BracketKind.{BracketKind}
 use Rattle.es_lexer.specs.declared.bracket.BracketKind.TheVariants.{Template}
 use Rattle.es_lexer.specs.declared.bracket.Role.{Role}
 use Rattle.es_lexer.specs.declared.bracket.Role.TheVariants.{Opens, Closes, Continues, Plain}
-use Rattle.es_lexer.specs.declared.token.TokenKind.{TokenKind}
-use Rattle.es_lexer.specs.declared.token.CommentKind.{CommentKind}
-use Rattle.es_lexer.specs.declared.token.CommentKind.TheVariants.{Line, Block}
+use Rattle.es_token.specs.declared.token.TokenKind.{TokenKind}
+use Rattle.es_token.specs.declared.token.CommentKind.{CommentKind}
+use Rattle.es_token.specs.declared.token.CommentKind.TheVariants.{Line, Block}
 use Rattle.es_lexer.specs.Bytes.{has_line_end}
 use Rattle.es_lexer.specs.Brackets.{role_of}
 

@@ -5,9 +5,9 @@ use Rattle.es_wide.specs.Wide.{wide_blank}
 use Rattle.es_lexer.specs.declared.bytes.First.{First}
 use Rattle.es_lexer.specs.declared.bytes.First.TheVariants.{Blank, LineEnd}
 use Rattle.es_lexer.specs.declared.goal.Goal.{Goal}
-use Rattle.es_lexer.specs.declared.token.TokenKind.{TokenKind}
-use Rattle.es_lexer.specs.declared.token.CommentKind.{CommentKind}
-use Rattle.es_lexer.specs.declared.token.CommentKind.TheVariants.{Line, Block}
+use Rattle.es_token.specs.declared.token.TokenKind.{TokenKind}
+use Rattle.es_token.specs.declared.token.CommentKind.{CommentKind}
+use Rattle.es_token.specs.declared.token.CommentKind.TheVariants.{Line, Block}
 use Rattle.es_lexer.specs.Bytes.{first_of, is_line_end, begins_comment, has_closer}
 use Rattle.es_lexer.specs.Spelling.{Spells}
 use Rattle.es_lexer.specs.Goal.{goal_of, allows, stands_apart}

@@ -1,10 +1,10 @@
 -- The reading of a text: its tokens and its comments. The definition speaks of the whole text and of whole lists.
 use Rattle.std.specs.Prelude.{◌≡◌, ℕ, ◌+◌, List, [], ◌∷◌, length, None}
 use Rattle.base.specs.declared.range.Range.{Range}
-use Rattle.es_lexer.specs.declared.token.TokenKind.{TokenKind}
-use Rattle.es_lexer.specs.declared.token.Token.{Token}
-use Rattle.es_lexer.specs.declared.token.Comment.{Comment}
-use Rattle.es_lexer.specs.declared.token.CommentKind.{CommentKind}
+use Rattle.es_token.specs.declared.token.TokenKind.{TokenKind}
+use Rattle.es_token.specs.declared.token.Token.{Token}
+use Rattle.es_token.specs.declared.token.Comment.{Comment}
+use Rattle.es_token.specs.declared.token.CommentKind.{CommentKind}
 use Rattle.es_lexer.specs.Brackets.{role_of}
 use Rattle.es_lexer.specs.Pieces.{Piece, blank, line_end, comment, token, comment_spelling, pieces_text, place_of, line_since, open_at, behind, partner_of}
 use Rattle.es_lexer.specs.Readable.{ArePieces}

@@ -1,8 +1,8 @@
 -- The punctuators (ECMA-262, "Punctuators"; `>` is always single, since the grammar joins them).
 use Rattle.std.specs.Prelude.{ℕ, ◌&&◌, ◌==◌, List, [], ◌∷◌, Option, Some, None, codes, bytes_eq, if◌then◌else◌}
 use Rattle.std.specs.Char.{is_ascii_digit}
-use Rattle.es_lexer.specs.declared.token.TokenKind.{TokenKind}
-use Rattle.es_lexer.specs.declared.token.TokenKind.TheVariants as k
+use Rattle.es_token.specs.declared.token.TokenKind.{TokenKind}
+use Rattle.es_token.specs.declared.token.TokenKind.TheVariants as k
 use Rattle.es_lexer.specs.declared.signs.Sign.{Sign}
 use Rattle.es_lexer.specs.Words.{WordTable}
 

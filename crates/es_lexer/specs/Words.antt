@@ -1,8 +1,8 @@
 -- The words with a kind of their own: keywords (ECMA-262, "Keywords and Reserved Words", and the literals of "Primary
 -- Expression") and contextual words, which the grammars of JavaScript and TypeScript name. Every other word is a Name.
 use Rattle.std.specs.Prelude.{ℕ, List, [], ◌∷◌, length, codes, bytes_eq, ◌==◌, ◌&&◌, Bool, true, false, if◌then◌else◌}
-use Rattle.es_lexer.specs.declared.token.TokenKind.{TokenKind}
-use Rattle.es_lexer.specs.declared.token.TokenKind.TheVariants as k
+use Rattle.es_token.specs.declared.token.TokenKind.{TokenKind}
+use Rattle.es_token.specs.declared.token.TokenKind.TheVariants as k
 
 -- words and their kinds
 abbrev pub WordTable : Type 0

@@ -1,7 +1,7 @@
 ghost use Rattle.std.specs.Prelude.{◌≡◌};
 ghost use Rattle.es_lexer.specs.Brackets.{role_of, is_open, may_close};
 
-use crate::token::TokenKind;
+use es_token::TokenKind;
 
 /// The kinds of brackets. A template's `${` opens one too.
 #[derive(Clone, Copy)]

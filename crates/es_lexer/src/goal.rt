@@ -2,7 +2,7 @@ ghost use Rattle.std.specs.Prelude.{◌≡◌};
 ghost use Rattle.es_lexer.specs.Goal.{slash_rule, is_member, is_for, divides_behind, is_headed, token_state, blank_state, line_state, comment_state, goal_in};
 
 use crate::bracket::BracketKind;
-use crate::token::TokenKind;
+use es_token::TokenKind;
 
 /// What may stand at a place, by what stands before it (ECMA-262, "Lexical Grammar", its goal symbols).
 #[derive(Clone, Copy)]

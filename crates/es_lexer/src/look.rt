@@ -10,10 +10,10 @@ use crate::bytes::{First, begins_name, begins_part, first_of, is_line_end, part_
 use crate::error::LexicalKind;
 use crate::goal::Goal;
 use crate::signs::{Sign, sign_at};
-use crate::token::{CommentKind, TokenKind};
 use crate::words::kind_at;
 use es_literal::{StringEnd, string_from};
 use es_spelling::{NumberEnd, TemplateEnd, number_from, regexp_from, template_from};
+use es_token::{CommentKind, TokenKind};
 use es_wide::{wide_blank, wide_size};
 
 /// What stands at a place of a text. An end is the place behind it.

@@ -1,6 +1,6 @@
 ghost use Rattle.std.specs.Prelude.{◌≡◌, ℕ, ◌+◌, List, [], IfOk, slice_range};
-ghost use Rattle.es_lexer.specs.declared.token.Token.{Token};
-ghost use Rattle.es_lexer.specs.declared.token.Comment.{Comment};
+ghost use Rattle.es_token.specs.declared.token.Token.{Token};
+ghost use Rattle.es_token.specs.declared.token.Comment.{Comment};
 ghost use Rattle.es_lexer.specs.declared.error.LexicalKind.{LexicalKind};
 ghost use Rattle.es_lexer.specs.declared.error.LexicalError.{LexicalError};
 ghost use Rattle.es_lexer.specs.Reads.{Reads};
@@ -13,8 +13,8 @@ use crate::error::{LexError, LexicalError};
 use crate::goal::{State, blank_state, comment_state, goal_in, line_state, token_state};
 use crate::look::{Look, look_from};
 use crate::stack::{innermost, push_token};
-use crate::token::{Comment, CommentKind, Lexed};
 use base::{Items, Range, Text};
+use es_token::{Comment, CommentKind, Lexed};
 use std::alloc::{AllocError, Global};
 
 /// The tokens and comments of a text, or its first lexical fault (ECMA-262, "Lexical Grammar").

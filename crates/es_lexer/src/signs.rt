@@ -1,7 +1,7 @@
 ghost use Rattle.std.specs.Prelude.{◌≡◌, [], ◌∷◌};
 ghost use Rattle.es_lexer.specs.Signs.{sign_kind, sized, two_before, sign_at};
 
-use crate::token::TokenKind;
+use es_token::TokenKind;
 
 /// A punctuator at the front of a text.
 #[derive(Clone, Copy)]

@@ -4,8 +4,8 @@ ghost use Rattle.es_lexer.specs.Scan.{innermost, closed_of, left_of, pushed, joi
 
 use crate::bracket::{BracketKind, OpenBracket, Role, role_of};
 use crate::goal::State;
-use crate::token::{Token, TokenKind};
 use base::{Items, Range};
+use es_token::{Token, TokenKind};
 use std::alloc::AllocError;
 
 /// The kind of the innermost open bracket, which comes last.

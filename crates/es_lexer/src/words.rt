@@ -2,7 +2,7 @@ ghost use Rattle.std.specs.Prelude.{◌≡◌, length};
 ghost use Rattle.es_lexer.specs.Words.{kind_in, word_kind, is_keyword, kind_at};
 ghost use Rattle.es_lexer.specs.Words.{words_of_two, words_of_three, words_of_four, words_of_five, words_of_six, words_of_seven, words_of_eight, words_of_nine, words_of_ten, words_of_eleven};
 
-use crate::token::TokenKind;
+use es_token::TokenKind;
 
 /// The kind of a word: its own where it is a keyword or a contextual word, else `Name`.
 #[tactic(auto, unfolding(crate::specs::Words::word_kind, crate::specs::Words::words_of, crate::specs::Words::kind_in))]

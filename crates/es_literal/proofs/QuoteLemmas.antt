@@ -36,7 +36,8 @@ byte_by : (c k : ℕ) (low : Bool) → Free c → k < length (encode_utf8 c) →
     → is_plain 34 (get_or (encode_utf8 c) k 0) ≡ true
 byte_by c k true f l e =
     let same : c ≡ get_or (encode_utf8 c) k 0 =
-    inside_one c [] (encode_utf8 c) k (sym (append-nil (encode_utf8 c))) l (ltb-true (get_or (encode_utf8 c) k 0) 128 e) in
+    inside_one c [] (encode_utf8 c) k (sym (append-nil (encode_utf8 c))) l
+    (ltb-true (get_or (encode_utf8 c) k 0) 128 e) in
     subst (λ b. is_plain 34 b ≡ true) same (free_plain c f)
 byte_by c k false f l e =
     free_plain (get_or (encode_utf8 c) k 0)
@@ -151,7 +152,8 @@ quote_more cs c =
     ∙ ap (λ t. flat_map escaped cs ++ t) (append-nil (escaped c)))
     ∙ encodes-append (34 ∷ flat_map escaped cs) (escaped c)
 
-pub quote_done : (cs : List ℕ) → encode_utf8_all (34 ∷ flat_map escaped cs) ++ encode_utf8 34 ≡ encode_utf8_all (quoted cs)
+pub quote_done : (cs : List ℕ)
+    → encode_utf8_all (34 ∷ flat_map escaped cs) ++ encode_utf8 34 ≡ encode_utf8_all (quoted cs)
 unfolding quoted
 quote_done cs =
     ap (λ t. encode_utf8_all (34 ∷ flat_map escaped cs) ++ t) (sym (append-nil (encode_utf8 34)))
@@ -181,7 +183,8 @@ right_true : (u v : Bool) → (u && v) ≡ true → v ≡ true
 right_true true v e = e
 right_true false v e = cc
 
-body_scalars : (cs rest : List ℕ) → scalars cs ≡ true → scalars rest ≡ true → scalars (flat_map escaped cs ++ rest) ≡ true
+body_scalars : (cs rest : List ℕ) → scalars cs ≡ true → scalars rest ≡ true
+    → scalars (flat_map escaped cs ++ rest) ≡ true
 body_scalars [] rest e h = h
 body_scalars (c ∷ cs) rest e h =
     subst (λ (t : List ℕ). scalars t ≡ true) (sym (append_assoc (escaped c) (flat_map escaped cs) rest))
@@ -281,7 +284,8 @@ none_lone : (cs : List ℕ) → list_any (λ o. not (is_some o)) (map (λ c. Som
 none_lone [] = refl
 none_lone (c ∷ cs) = none_lone cs
 
-quoted_value_units : (cs : List ℕ) → scalars cs ≡ true → value_units (encode_utf8_all (quoted cs)) ≡ flat_map encode_utf16 cs
+quoted_value_units : (cs : List ℕ) → scalars cs ≡ true
+    → value_units (encode_utf8_all (quoted cs)) ≡ flat_map encode_utf16 cs
 unfolding value_units
 quoted_value_units cs e =
     ap (λ t. units_of 0 (inner t)) (quoted_chars cs e) ∙ (ap (units_of 0) (quoted_inner cs) ∙ quoted_units cs)

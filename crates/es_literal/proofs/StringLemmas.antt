@@ -105,7 +105,8 @@ string_closes start q us after k h =
     ∙ ap Closes (let e : start + 1 + length (concat us) + 1 ≡ start + length (q ∷ (concat us ++ q ∷ [])) =
     omega (arith, length-append (concat us) (q ∷ [])) in e)))
 
-pub closes_found : (start : ℕ) (s after : List ℕ) → IsString s → string_end start (s ++ after) ≡ Closes (start + length s)
+pub closes_found : (start : ℕ) (s after : List ℕ) → IsString s
+    → string_end start (s ++ after) ≡ Closes (start + length s)
 closes_found start s after i =
     subst (λ (t : List ℕ). string_end start (t ++ after) ≡ Closes (start + length t)) (sym i.whole)
     (string_closes start i.quote i.units after i.quotes i.each)
@@ -274,11 +275,13 @@ within_by q text (suc n) e =
 unit_within : (q : ℕ) → Within (string_unit q)
 unit_within q text = within_by q text (string_unit q text) refl
 
-pub string_finds : (start : ℕ) (text : List ℕ) → begins_quote text ≡ true → IsStringEnd start text (string_end start text)
+pub string_finds : (start : ℕ) (text : List ℕ) → begins_quote text ≡ true
+    → IsStringEnd start text (string_end start text)
 unfolding begins_quote
 string_finds start [] k = absurd (true≢false (sym k))
 string_finds start (q ∷ text) k = end_by start q text k (units (string_unit q) (unit_within q) (start + 1) text)
 
 -- one end or fault of a text
-pub one_end : (start : ℕ) (text : List ℕ) (c d : StringEnd) → IsStringEnd start text c → IsStringEnd start text d → c ≡ d
+pub one_end : (start : ℕ) (text : List ℕ) (c d : StringEnd) → IsStringEnd start text c → IsStringEnd start text d
+    → c ≡ d
 one_end start text c d i j = end_is start text c i ∙ sym (end_is start text d j)

@@ -81,7 +81,8 @@ unfolding braced_size
 braced_passes d digits after h l =
     rw h.0 (ap (point_size 4 (digit d)) (append_assoc digits (125 ∷ []) after)
     ∙ (point_passes 4 (digit d) digits after h.1 (subst (λ v. v ≤ 0x10FFFF) (worth_first d digits) l)
-    ∙ (let e : 4 + length digits + 1 ≡ length (92 ∷ 117 ∷ 123 ∷ d ∷ (digits ++ 125 ∷ [])) = omega (arith, length-append digits (125 ∷ [])) in e)))
+    ∙ (let e : 4 + length digits + 1 ≡ length (92 ∷ 117 ∷ 123 ∷ d ∷ (digits ++ 125 ∷ [])) =
+    omega (arith, length-append digits (125 ∷ [])) in e)))
 
 return_alone : (after : List ℕ) → begins_feed after ≡ false → return_size after ≡ 2
 unfolding begins_feed return_size
@@ -180,7 +181,8 @@ four_by q c d e f rest true true true true p r s t l = rw (p, r, s, t) (record {
   long = refl;
   is = four c d e f p r s t refl;
 })
-four_by q c d e f rest true true true false p r s t l = no_size (four_size (c ∷ d ∷ e ∷ f ∷ rest)) (rw (p, r, s, t) refl) l
+four_by q c d e f rest true true true false p r s t l =
+    no_size (four_size (c ∷ d ∷ e ∷ f ∷ rest)) (rw (p, r, s, t) refl) l
 four_by q c d e f rest true true false x p r s t l = no_size (four_size (c ∷ d ∷ e ∷ f ∷ rest)) (rw (p, r, s) refl) l
 four_by q c d e f rest true false w x p r s t l = no_size (four_size (c ∷ d ∷ e ∷ f ∷ rest)) (rw (p, r) refl) l
 four_by q c d e f rest false v w x p r s t l = no_size (four_size (c ∷ d ∷ e ∷ f ∷ rest)) (rw p refl) l
@@ -252,7 +254,8 @@ braced_is q d rest h m = record {
   unit = 92 ∷ 117 ∷ 123 ∷ d ∷ (m.digits ++ 125 ∷ []);
   after = m.after;
   whole = ap (λ t. 92 ∷ 117 ∷ 123 ∷ d ∷ t) (m.whole ∙ sym (append_assoc m.digits (125 ∷ []) m.after));
-  long = (let e : length (92 ∷ 117 ∷ 123 ∷ d ∷ (m.digits ++ 125 ∷ [])) ≡ 4 + length m.digits + 1 = omega (arith, length-append m.digits (125 ∷ [])) in e)
+  long = (let e : length (92 ∷ 117 ∷ 123 ∷ d ∷ (m.digits ++ 125 ∷ [])) ≡ 4 + length m.digits + 1 =
+      omega (arith, length-append m.digits (125 ∷ [])) in e)
       ∙ sym m.long;
   is = braced d m.digits (h, m.each) (subst (λ v. v ≤ 0x10FFFF) (sym (worth_first d m.digits)) m.small) refl;
 }

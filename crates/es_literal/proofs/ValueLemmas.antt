@@ -52,4 +52,5 @@ braced_worth size value (d ∷ digits) after h l =
     let more : next ≤ worth next digits = worth_more next digits in
     braced_step size value d (digits ++ 125 ∷ after) h.0 (omega arith)
     ∙ (braced_worth (size + 1) next digits after h.1 l
-    ∙ ap (λ n. (worth next digits, n)) (let e : size + 1 + length digits + 1 ≡ size + length (d ∷ digits) + 1 = omega arith in e))
+    ∙ ap (λ n. (worth next digits, n))
+    (let e : size + 1 + length digits + 1 ≡ size + length (d ∷ digits) + 1 = omega arith in e))

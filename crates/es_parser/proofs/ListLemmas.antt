@@ -1,7 +1,7 @@
 -- A loop over the turns of a list: what was read so far stands before what is left to read.
 use Rattle.std.specs.Prelude.{List, [], ◌∷◌, ◌++◌, Option, Some, None, true, false}
 use Rattle.std.proofs.Common.{◌≡◌, ℕ, zero, suc, ◌+◌, ◌-◌, ◌<◌, ◌≤◌, length, refl, sym, ap, ◌∙◌, arith, length-append}
-use Rattle.es_lexer.specs.declared.token.Token.{Token}
+use Rattle.es_token.specs.declared.token.Token.{Token}
 use Rattle.es_tree.specs.declared.error.Lang.{Lang}
 use Rattle.es_tree.specs.declared.error.Mode.{Mode}
 use Rattle.std.specs.Prelude.{slice_get}
@@ -54,7 +54,8 @@ seen_within K at e = go (slice_get K at) refl e
     go None found e = clash e
 
 -- what is left of a list, behind what was read of it
-pub record IsLeft (x : List ℕ) (ts : List Token) (below : Below) (f : Form Row) (A : Type 0) (value : A → Value) (from : ℕ) (list : List A)
+pub record IsLeft (x : List ℕ) (ts : List Token) (below : Below) (f : Form Row) (A : Type 0) (value : A → Value)
+    (from : ℕ) (list : List A)
     (at : ℕ) : Type 0 where
   pub read : turns_at x ts below is_token f (length (keys_of ts)) from
       ≡ changed (before value list) (turns_at x ts below is_token f (length (keys_of ts) - length list) at)
@@ -71,7 +72,8 @@ module _ (x : List ℕ) (ts : List Token) (below : Below) (f : Form Row) (A : Ty
   }
 
   -- the fuel for one more turn
-  fuel : (from : ℕ) (list : List A) (at : ℕ) → IsLeft x ts below f A value from list at → is_token (seen (keys_of ts) at) ≡ true
+  fuel : (from : ℕ) (list : List A) (at : ℕ) → IsLeft x ts below f A value from list at
+      → is_token (seen (keys_of ts) at) ≡ true
       → length (keys_of ts) - length list ≡ suc (length (keys_of ts) - (length list + 1))
   fuel from list at left here =
       let within = seen_within (keys_of ts) at here in
@@ -92,7 +94,8 @@ module _ (x : List ℕ) (ts : List Token) (below : Below) (f : Form Row) (A : Ty
             ∙ ap (λ n. changed (before value list) (turns_at x ts below is_token f n at)) (fuel from list at left here)
             ∙ (rw (here, one) (changed-before value list a
             (turns_at x ts below is_token f (length (keys_of ts) - (length list + 1)) mid)))
-            ∙ ap (λ n. changed (before value (list ++ a ∷ [])) (turns_at x ts below is_token f (length (keys_of ts) - n) mid)) (sym long);
+            ∙ ap (λ n. changed (before value (list ++ a ∷ []))
+            (turns_at x ts below is_token f (length (keys_of ts) - n) mid)) (sym long);
         ahead = omega (arith, long);
       }
 
@@ -107,7 +110,8 @@ module _ (x : List ℕ) (ts : List Token) (below : Below) (f : Form Row) (A : Ty
       ∙ rw (here, one) refl
 
   -- no more turns
-  last_turn : (n at : ℕ) → is_token (seen (keys_of ts) at) ≡ false → turns_at x ts below is_token f n at ≡ gives absent at
+  last_turn : (n at : ℕ) → is_token (seen (keys_of ts) at) ≡ false
+      → turns_at x ts below is_token f n at ≡ gives absent at
   unfolding read_turns
   last_turn zero at e = rw e refl
   last_turn (suc n) at e = rw e refl

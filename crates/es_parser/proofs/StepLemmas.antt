@@ -3,8 +3,8 @@ use Rattle.std.specs.Prelude.{List, [], ◌∷◌, Some, None, slice_get, slice_
 use Rattle.std.proofs.Common.{◌≡◌, ◌≢◌, ℕ, zero, suc, ◌-◌, ◌≤◌, length, refl, sym, ap, ◌∙◌, subst, arith, eq-eqb}
 use Rattle.std.proofs.lemmas.Option.{slice_get_past}
 use Rattle.std.proofs.lemmas.Bool.{ne_eqb}
-use Rattle.es_lexer.specs.declared.token.Token.{Token}
-use Rattle.es_lexer.specs.declared.token.TokenKind.{TokenKind}
+use Rattle.es_token.specs.declared.token.Token.{Token}
+use Rattle.es_token.specs.declared.token.TokenKind.{TokenKind}
 use Rattle.es_tree.specs.declared.error.SyntaxError.{SyntaxError}
 use Rattle.es_tree.specs.declared.error.SyntaxError.TheVariants.{OutOfMemory}
 use Rattle.es_ast.specs.declared.ast.ModuleItem.{ModuleItem}
@@ -15,7 +15,7 @@ use Rattle.es_parser.specs.Dress.{Value, absent, more, str, leaf_value, end_of, 
 use Rattle.es_parser.specs.Dress.{item as item_value}
 use Rattle.es_parser.specs.Steps.{IsRead, all_of}
 use denote.Enum.Bare.{same_true}
-use Rattle.es_lexer.specs.contracts.token.TokenKind.{the_type}
+use Rattle.es_token.specs.contracts.token.TokenKind.{the_type}
 use Rattle.es_literal.specs.Values.{value_of, is_lone}
 use Rattle.es_parser.proofs.TokenLemmas.{seen_some, seen_none}
 
@@ -39,8 +39,10 @@ pub kind_seen : (ts : List Token) (at : ℕ) (tok : Token) (kind : TokenKind) �
 kind_seen ts at tok kind there e = same_true the_type tt tok.kind kind (look_some (is kind) ts at tok there ∙ e)
 
 -- a string literal that is kept, by its token
-pub literal_leaf : (x : List ℕ) (ts : List Token) (at : ℕ) (tok : Token) (text : List ℕ) (lone : Bool) → slice_get ts at ≡ Some tok
-    → text ≡ value_of (slice_range x tok.range.start tok.range.end) → lone ≡ is_lone (slice_range x tok.range.start tok.range.end)
+pub literal_leaf : (x : List ℕ) (ts : List Token) (at : ℕ) (tok : Token) (text : List ℕ) (lone : Bool)
+    → slice_get ts at ≡ Some tok
+    → text ≡ value_of (slice_range x tok.range.start tok.range.end)
+    → lone ≡ is_lone (slice_range x tok.range.start tok.range.end)
     → leaf_value x ts as_str at ≡ str (record { value = text; lone = lone; span = tok.range })
 literal_leaf x ts at tok text lone there v l = rw (there, v, l) refl
 
@@ -69,7 +71,8 @@ span_tokens ts from to start end other s e = rw (ne_eqb from to other, s, e) ref
 -- ---- answers
 
 -- what an error that is handed on tells
-pub handed_on : {A : Type 0} (value : A → Value) (out : Out Value) (r : Result A SyntaxError) (y e : SyntaxError) (to : ℕ)
+pub handed_on : {A : Type 0} (value : A → Value) (out : Out Value) (r : Result A SyntaxError) (y e : SyntaxError)
+    (to : ℕ)
     → r ≡ Err y → y ≡ e → (e ≢ OutOfMemory → out ≡ nothing) → IsRead value out r to
 handed_on {A = A} value out r y e to is_err same told =
     let P : Result A SyntaxError → Type 0 = λ r. IsRead value out r to in

@@ -1,7 +1,7 @@
 -- The laws of derivations that other crates name.
 use Rattle.std.specs.Prelude.{List}
 use Rattle.std.proofs.Common.{◌≡◌, ℕ, sym, ap, ◌∙◌}
-use Rattle.es_lexer.specs.declared.token.Token.{Token}
+use Rattle.es_token.specs.declared.token.Token.{Token}
 use Rattle.es_tree.specs.declared.error.Lang.{Lang}
 use Rattle.es_tree.specs.declared.error.Mode.{Mode}
 use Rattle.es_ast.specs.declared.ast.Program.{Program}
@@ -16,10 +16,12 @@ use Rattle.es_parser.proofs.AnswerLemmas.{program_same}
 use Rattle.es_parser.proofs.Table.{sets, grammar}
 
 -- tokens have at most one tree
-pub one_tree : (l : Lang) (m : Mode) (x : List ℕ) (ts : List Token) (p q : Program) → Derives l m x ts p → Derives l m x ts q → p ≡ q
+pub one_tree : (l : Lang) (m : Mode) (x : List ℕ) (ts : List Token) (p q : Program) → Derives l m x ts p
+    → Derives l m x ts q → p ≡ q
 one_tree l m x ts p q one other =
     let same : one.shape ≡ other.shape =
-    grammars.one_shape rule sets (ProgramRow l m) (grammar l m) (keys_of ts) one.shape other.shape one.shaped other.shaped in
+    grammars.one_shape rule sets (ProgramRow l m) (grammar l m) (keys_of ts) one.shape other.shape one.shaped
+    other.shaped in
     program_same p q (sym one.dressed ∙ ap (dress x ts) same ∙ other.dressed)
 
 -- keys have at most one plain tree

@@ -1,7 +1,7 @@
 -- What is seen of the keys of tokens is what stands in the tokens.
 use Rattle.std.specs.Prelude.{List, [], ◌∷◌, Option, Some, None, slice_get}
 use Rattle.std.proofs.Common.{◌≡◌, ℕ, zero, suc, length, refl, ap, ◌∙◌}
-use Rattle.es_lexer.specs.declared.token.Token.{Token}
+use Rattle.es_token.specs.declared.token.Token.{Token}
 use Rattle.es_tree.specs.Key.{Seen, seen, keys_of, keys_after}
 
 -- what is seen of a token

@@ -1,6 +1,6 @@
 -- When a tree is derived from the tokens of a text.
 use Rattle.std.specs.Prelude.{◌≡◌, ℕ, List, Result, Ok, Err}
-use Rattle.es_lexer.specs.declared.token.Token.{Token}
+use Rattle.es_token.specs.declared.token.Token.{Token}
 use Rattle.es_tree.specs.declared.error.Lang.{Lang}
 use Rattle.es_tree.specs.declared.error.Mode.{Mode}
 use Rattle.es_tree.specs.declared.error.SyntaxError.{SyntaxError}
@@ -18,7 +18,7 @@ pub record Derives (lang : Lang) (mode : Mode) (text : List ℕ) (tokens : List 
   pub shaped : Shape free rule (ProgramRow lang mode) (keys_of tokens) shape
   pub dressed : dress text tokens shape ≡ program tree
 
--- this tree, or want of memory
+-- this tree, or "out of memory"
 abbrev pub GivesTree : Result Program SyntaxError → Program → Type 0
 GivesTree (Ok answer) tree = answer ≡ tree
 GivesTree (Err (Syntax token)) tree = ⊥

@@ -1,7 +1,7 @@
 -- The typed tree of a plain tree: spans and literal values come from the text and its tokens, and from nowhere else.
 use Rattle.std.specs.Prelude.{ℕ, zero, suc, ◌==◌, false, List, [], ◌∷◌, Option, Some, None, if◌then◌else◌, slice_get, slice_range}
 use Rattle.base.specs.declared.range.Range.{Range}
-use Rattle.es_lexer.specs.declared.token.Token.{Token}
+use Rattle.es_token.specs.declared.token.Token.{Token}
 use Rattle.es_literal.specs.Values.{value_of, is_lone}
 use Rattle.es_ast.specs.declared.ast.Program.{Program}
 use Rattle.es_ast.specs.declared.ast.Program.TheVariants as vProgram

@@ -1,7 +1,7 @@
 -- The grammar: the rows of docs/GRAMMAR.md, one line each (ECMA-262, "Modules").
 -- A row names its language and mode, so that a rule may depend on them.
 use Rattle.std.specs.Prelude.{◌||◌}
-use Rattle.es_lexer.specs.declared.token.TokenKind.TheVariants as k
+use Rattle.es_token.specs.declared.token.TokenKind.TheVariants as k
 use Rattle.es_tree.specs.declared.error.Lang.{Lang}
 use Rattle.es_tree.specs.declared.error.Mode.{Mode}
 use Rattle.es_tree.specs.declared.error.Mode.TheVariants as mode

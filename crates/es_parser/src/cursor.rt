@@ -2,7 +2,7 @@
 
 ghost use Rattle.std.specs.Prelude.{◌≡◌, ◌≢◌, ◌+◌, suc, true, false, slice_get, IfOk, OnOk, OnErr, IfErr};
 ghost use Rattle.es_lexer.specs.Reads.{ReadsTokens};
-ghost use Rattle.es_lexer.specs.declared.token.TokenKind.TheVariants as k;
+ghost use Rattle.es_token.specs.declared.token.TokenKind.TheVariants as k;
 ghost use Rattle.es_tree.specs.declared.error.SyntaxError.TheVariants.{OutOfMemory};
 ghost use Rattle.es_tree.specs.Key.{keys_of, seen, is, is_end, is_token, is_after_line};
 ghost use Rattle.es_tree.specs.Form.{as_str};
@@ -12,8 +12,8 @@ ghost use Rattle.es_parser.specs.Steps.{IsRead, parts};
 
 use base::Range;
 use es_ast::Str;
-use es_lexer::{Token, TokenKind};
 use es_literal::literal_value;
+use es_token::{Token, TokenKind};
 use es_tree::{Lang, Mode, SyntaxError};
 use std::alloc::{AllocError, Global};
 
@@ -214,6 +214,7 @@ fn literal(
     requires str { token.kind ≡ k.Str }
     ensures { IfOk result (λ s. leaf_value text.now tokens.now as_str at ≡ str s) }
 {
+    // Read for the proof alone: the tokens and the place say what the literal cuts.
     let _ = (tokens.len(), at);
     let range = token.range;
     let value = literal_value(alloc, &text[range.start..range.end])?;

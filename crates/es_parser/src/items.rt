@@ -10,7 +10,7 @@ ghost use Rattle.es_parser.specs.Steps.{IsRead, row_at, by, turns_at, all_of};
 use crate::cursor::{Cursor, Parser};
 use base::{Boxed, Items};
 use es_ast::{ImportDecl, ModuleDecl, ModuleItem, Stmt};
-use es_lexer::TokenKind;
+use es_token::TokenKind;
 use es_tree::SyntaxError;
 
 impl Parser<'_> {

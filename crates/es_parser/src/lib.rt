@@ -1,8 +1,8 @@
 //! The grammar of JavaScript and TypeScript programs (ECMA-262, "Scripts and Modules"), and its parser.
 //!
 //! - `parse_tokens(lang, mode, text, tokens)`: the one tree that the grammar derives from the tokens of a text
-//!   (`Derives`, `specs/Derives.antt`), or `Syntax` where it derives none. Both ways: only want of memory may refuse
-//!   besides. The grammar is a table (`specs/Rows.antt`), in the language of `es_tree` (`specs/Form.antt`,
+//!   (`Derives`, `specs/Derives.antt`), or `Syntax` where it derives none. Both ways: besides
+//!   it only "out of memory" may come. The grammar is a table (`specs/Rows.antt`), in the language of `es_tree` (`specs/Form.antt`,
 //!   `specs/Fits.antt` there).
 //!
 //! Tokens have at most one tree (`proofs/Theorems.antt`). `es_sites` says that each site of a tree cuts its literal.

@@ -10,7 +10,7 @@ ghost use Rattle.es_parser.specs.Steps.{IsRead, row_at, by};
 
 use crate::cursor::{Cursor, Parser};
 use es_ast::{Module, Program};
-use es_lexer::Token;
+use es_token::Token;
 use es_tree::{Lang, Mode, SyntaxError};
 use std::alloc::Global;
 

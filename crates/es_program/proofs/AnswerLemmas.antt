@@ -1,7 +1,7 @@
 -- What the reader's answer tells of the plain trees of a program, and the other way round.
 use Rattle.std.specs.Prelude.{List, Result, Ok, Err, Bool, true, false}
 use Rattle.std.proofs.Common.{◌≡◌, ◌≢◌, ℕ, ◌≤◌, length, refl, sym, ap, ◌∙◌, subst, arith, leb-true, le-leb}
-use Rattle.es_lexer.specs.declared.token.Token.{Token}
+use Rattle.es_token.specs.declared.token.Token.{Token}
 use Rattle.es_tree.specs.declared.error.Lang.{Lang}
 use Rattle.es_tree.specs.declared.error.Mode.{Mode}
 use Rattle.es_tree.specs.declared.error.Mode.TheVariants as mode
@@ -46,7 +46,8 @@ low-gives (gives p at) v to e =
 module _ (l : Lang) (m : Mode) (ts : List Token) where
   -- what is read up to the end is shaped
   pub read_shaped : (room : ℕ) (x : Measured) (to : ℕ) → room ≡ most_nodes
-      → row_at (keys_of ts) room (program_row l m) 0 ≡ gives (single x) to → to ≡ length ts → IsShaped l m (keys_of ts) x.tree
+      → row_at (keys_of ts) room (program_row l m) 0 ≡ gives (single x) to → to ≡ length ts
+      → IsShaped l m (keys_of ts) x.tree
   unfolding Shape
   read_shaped room x to most read ends =
       let K : List Key = keys_of ts in
@@ -71,11 +72,13 @@ module _ (l : Lang) (m : Mode) (ts : List Token) where
       let K : List Key = keys_of ts in
       let p = shaped.plain in
       let read : read_row plain K rule most_nodes (program_row l m) 0 ≡ gives p (length K) =
-      row_reads K rule solid steady most_nodes (program_row l m) p 0 (length K) (omega arith) (obeyed l m K p shaped.shaped).0 in
+      row_reads K rule solid steady most_nodes (program_row l m) p 0 (length K) (omega arith)
+      (obeyed l m K p shaped.shaped).0 in
       let small : is_low p ≡ true = le-leb (tall p) most_nodes shaped.shaped.1 in (
         made makes p,
         ap (λ n. row_at K n (program_row l m) 0) most ∙ row_low K most_nodes (program_row l m) 0 ∙ ap low read
-            ∙ ap (λ b. only_if b (gives (made makes p) (length K))) small ∙ ap (gives (made makes p)) (length-keys_of ts),
+            ∙ ap (λ b. only_if b (gives (made makes p) (length K))) small
+            ∙ ap (gives (made makes p)) (length-keys_of ts),
         ap (λ v. tree_in v.value) (made_tallied slim p) ∙ shaped.kept,
       )
 
@@ -88,7 +91,7 @@ module _ (l : Lang) (m : Mode) (ts : List Token) where
       let same = gives_same (single x) other.0 to (length ts) (sym read ∙ other.1) in
       (ap (λ v. tree_in v.value) same.0 ∙ other.2, same.1)
 
-  -- where something is shaped, only want of memory refuses
+  -- where something is shaped, only "out of memory" refuses
   pub refused_only : (room : ℕ) (r : Result Tree SyntaxError) (y e : SyntaxError) (tree : Tree) → room ≡ most_nodes
       → r ≡ Err y → y ≡ e → (e ≢ OutOfMemory → row_at (keys_of ts) room (program_row l m) 0 ≡ nothing)
       → IsShaped l m (keys_of ts) tree → GivesTree r tree
@@ -96,7 +99,8 @@ module _ (l : Lang) (m : Mode) (ts : List Token) where
       let P : Result Tree SyntaxError → Type 0 = λ r. GivesTree r tree in
       subst P (sym (is_err ∙ ap Err same)) (at_error e told)
     where
-      at_error : (e : SyntaxError) → (e ≢ OutOfMemory → row_at (keys_of ts) room (program_row l m) 0 ≡ nothing) → GivesTree (Err e) tree
+      at_error : (e : SyntaxError) → (e ≢ OutOfMemory → row_at (keys_of ts) room (program_row l m) 0 ≡ nothing)
+          → GivesTree (Err e) tree
       at_error OutOfMemory told = tt
       at_error (Syntax token) told =
           let other = shaped_read room tree most shaped in

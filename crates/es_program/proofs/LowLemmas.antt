@@ -73,11 +73,13 @@ module _ (c : Plain Label → Plain Label → Plain Label) (m : Read → Read �
       ap (λ o. and_then o (λ q mid. changed (m q) (f mid))) e ∙ go (is_low q) refl
     where
       go : (x : Bool) → is_low q ≡ x
-          → and_then (only_if (is_low q) (gives (made makes q) mid)) (λ q mid. changed (m q) (f mid)) ≡ low (changed (c q) (g mid))
+          → and_then (only_if (is_low q) (gives (made makes q) mid)) (λ q mid. changed (m q) (f mid))
+          ≡ low (changed (c q) (g mid))
       go true h = rw h (behind_low q h (f mid) (g mid) (rest mid))
       go false h = rw h (behind_tall q h (g mid))
 
-either_low : (t : Bool) (u v : Out Read) (x y : Out (Plain Label)) → u ≡ low x → v ≡ low y → either t u v ≡ low (either t x y)
+either_low : (t : Bool) (u v : Out Read) (x y : Out (Plain Label)) → u ≡ low x → v ≡ low y
+    → either t u v ≡ low (either t x y)
 either_low true u v x y e h = e
 either_low false u v x y e h = h
 
@@ -86,7 +88,8 @@ only_if_low true out o e = e
 only_if_low false out o e = refl
 
 -- what is as tall as what it is made of
-changed_low : (g : Read → Read) (h : Plain Label → Plain Label) → ((p : Plain Label) → made makes (h p) ≡ g (made makes p))
+changed_low : (g : Read → Read) (h : Plain Label → Plain Label)
+    → ((p : Plain Label) → made makes (h p) ≡ g (made makes p))
     → ((p : Plain Label) → tall (h p) ≡ tall p) → (out : Out Read) (o : Out (Plain Label)) → out ≡ low o
     → changed g out ≡ low (changed h o)
 changed_low g h same level out nothing e = rw e refl
@@ -96,7 +99,8 @@ changed_low g h same level out (gives p to) e = ap (changed g) e ∙ go (is_low 
     whole = ap (λ n. leb n most_nodes) (level p)
 
     go : (x : Bool) → is_low p ≡ x
-        → changed g (only_if (is_low p) (gives (made makes p) to)) ≡ only_if (is_low (h p)) (gives (made makes (h p)) to)
+        → changed g (only_if (is_low p) (gives (made makes p) to))
+        ≡ only_if (is_low (h p)) (gives (made makes (h p)) to)
     go true e = let there : is_low (h p) ≡ true = whole ∙ e in rw (e, there) (ap (λ v. gives v to) (sym (same p)))
     go false e = let there : is_low (h p) ≡ false = whole ∙ e in rw (e, there) refl
 
@@ -105,12 +109,15 @@ suc_low : (n m : ℕ) → leb n m ≡ false → leb (suc n) m ≡ false
 suc_low n m e = let p : m < n = leb-false n m e in lt-leb (suc n) m (omega arith)
 
 -- a node
-node_low : (l : Label) (from to : ℕ) (ps : Plain Label) → node_at l from to (made makes ps) ≡ low (gives (node l from to ps) to)
+node_low : (l : Label) (from to : ℕ) (ps : Plain Label)
+    → node_at l from to (made makes ps) ≡ low (gives (node l from to ps) to)
 unfolding node_at made
 node_low l from to ps =
-    ap (λ n. only_if (leb (suc n) most_nodes) (gives (made makes (node l from to ps)) to)) (ap (λ v. v.height) (made_tallied slim ps))
+    ap (λ n. only_if (leb (suc n) most_nodes) (gives (made makes (node l from to ps)) to))
+    (ap (λ v. v.height) (made_tallied slim ps))
 
-node_tall : (l : Label) (from to : ℕ) (ps : Plain Label) → is_low ps ≡ false → nothing ≡ low (gives (node l from to ps) to)
+node_tall : (l : Label) (from to : ℕ) (ps : Plain Label) → is_low ps ≡ false
+    → nothing ≡ low (gives (node l from to ps) to)
 node_tall l from to ps e = rw (suc_low (tall ps) most_nodes e) refl
 
 -- ---- the readers
@@ -137,14 +144,17 @@ module _ (K : List Key) where
   turns_low : (t : Guard) (one : ℕ → Out Read) (each : ℕ → Out (Plain Label)) → ((at : ℕ) → one at ≡ low (each at))
       → (n at : ℕ) → read_turns makes K t one n at ≡ low (read_turns plain K t each n at)
   unfolding read_turns
-  turns_low t one each same zero at = either_low (t K at) nothing (gives makes.of_nil at) nothing (gives nil at) refl (nil_low at)
+  turns_low t one each same zero at =
+      either_low (t K at) nothing (gives makes.of_nil at) nothing (gives nil at) refl (nil_low at)
   turns_low t one each same (suc n) at =
       either_low (t K at) (and_then (one at) (λ q mid. changed (makes.of_turn q) (read_turns makes K t one n mid)))
-      (gives makes.of_nil at) (and_then (each at) (λ q mid. changed (turn q) (read_turns plain K t each n mid))) (gives nil at)
+      (gives makes.of_nil at) (and_then (each at) (λ q mid. changed (turn q) (read_turns plain K t each n mid)))
+      (gives nil at)
       (then_low turn makes.of_turn made_turn grows_turn (read_turns makes K t one n) (read_turns plain K t each n)
       (turns_low t one each same n) (one at) (each at) (same at)) (nil_low at)
 
-module _ (K : List Key) (below : Below) (under : Row → ℕ → Out (Plain Label)) (same : (r : Row) (at : ℕ) → below r at ≡ low (under r at)) where
+module _ (K : List Key) (below : Below) (under : Row → ℕ → Out (Plain Label))
+    (same : (r : Row) (at : ℕ) → below r at ≡ low (under r at)) where
   rest_low : (f : ℕ → Out Read) (g : ℕ → Out (Plain Label)) → ((at : ℕ) → f at ≡ low (g at))
       → (out : Out Read) (o : Out (Plain Label)) → out ≡ low o
       → and_then out (λ q mid. changed (makes.of_cons q) (f mid)) ≡ low (and_then o (λ q mid. changed (cons q) (g mid)))
@@ -158,9 +168,11 @@ module _ (K : List Key) (below : Below) (under : Row → ℕ → Out (Plain Labe
   unfolding made
   forms_low done at = nil_low at
   forms_low (tok s may f) at =
-      only_if_low (has_kind may (seen K at)) (changed (makes.of_cons (makes.of_leaf s at)) (read_form makes K below f (at + 1)))
+      only_if_low (has_kind may (seen K at))
+      (changed (makes.of_cons (makes.of_leaf s at)) (read_form makes K below f (at + 1)))
       (changed (cons (leaf s at)) (read_form plain K under f (at + 1)))
-      (behind_low cons makes.of_cons made_cons grows_cons (leaf s at) (leaf_low at s) (read_form makes K below f (at + 1))
+      (behind_low cons makes.of_cons made_cons grows_cons (leaf s at) (leaf_low at s)
+      (read_form makes K below f (at + 1))
       (read_form plain K under f (at + 1)) (forms_low f (at + 1)))
   forms_low (punct k f) at =
       only_if_low (is k (seen K at)) (changed (makes.of_mark at) (read_form makes K below f (at + 1)))
@@ -168,7 +180,8 @@ module _ (K : List Key) (below : Below) (under : Row → ℕ → Out (Plain Labe
       (changed_low (makes.of_mark at) (mark at) (λ p. refl) (λ p. refl) (read_form makes K below f (at + 1))
       (read_form plain K under f (at + 1)) (forms_low f (at + 1)))
   forms_low (row r f) at =
-      rest_low (read_form makes K below f) (read_form plain K under f) (forms_low f) (below r at) (under r at) (same r at)
+      rest_low (read_form makes K below f) (read_form plain K under f) (forms_low f) (below r at) (under r at)
+      (same r at)
   forms_low (opt c g f) at =
       rest_low (read_form makes K below f) (read_form plain K under f) (forms_low f)
       (either (test c K at) (read_form makes K below g at) (gives makes.of_nil at))
@@ -208,7 +221,8 @@ module _ (K : List Key) (below : Below) (under : Row → ℕ → Out (Plain Labe
       go false h = rw h (node_tall l from to ps h)
 
   -- what a node that is too tall grows to
-  stays_tall : (l : Label) (t : Guard) (each : ℕ → Out (Plain Label)) (from n : ℕ) (q : Plain Label) (at : ℕ) → is_low q ≡ false
+  stays_tall : (l : Label) (t : Guard) (each : ℕ → Out (Plain Label)) (from n : ℕ) (q : Plain Label) (at : ℕ)
+      → is_low q ≡ false
       → nothing ≡ low (read_wraps plain K l t each from n q at)
   unfolding read_wraps
   stays_tall l t each from zero q at high = go (t K at)
@@ -220,14 +234,16 @@ module _ (K : List Key) (below : Below) (under : Row → ℕ → Out (Plain Labe
     where
       go : ((p : Plain Label) (to : ℕ) → is_low p ≡ false → nothing ≡ low (read_wraps plain K l t each from n p to))
           → (x : Bool) (o : Out (Plain Label)) → nothing
-          ≡ low (either x (and_then o (λ ps to. read_wraps plain K l t each from n (node l from to (cons q ps)) to)) (gives q at))
+          ≡ low (either x (and_then o (λ ps to. read_wraps plain K l t each from n (node l from to (cons q ps)) to))
+          (gives q at))
       go again true nothing = refl
       go again true (gives ps to) =
           again (node l from to (cons q ps)) to
           (suc_low (max (tall q) (tall ps)) most_nodes (leb_max (tall q) (tall ps) most_nodes ∙ (rw high refl)))
       go again false o = rw high refl
 
-  wraps_low : (l : Label) (t : Guard) (parts : ℕ → Out Read) (each : ℕ → Out (Plain Label)) → ((at : ℕ) → parts at ≡ low (each at))
+  wraps_low : (l : Label) (t : Guard) (parts : ℕ → Out Read) (each : ℕ → Out (Plain Label))
+      → ((at : ℕ) → parts at ≡ low (each at))
       → (from n : ℕ) (q : Plain Label) (at : ℕ) → is_low q ≡ true
       → wraps_at K l t parts from n (made makes q) at ≡ low (read_wraps plain K l t each from n q at)
   unfolding wraps_at read_wraps
@@ -235,7 +251,8 @@ module _ (K : List Key) (below : Below) (under : Row → ℕ → Out (Plain Labe
       either_low (t K at) nothing (gives (made makes q) at) nothing (gives q at) refl (rw here refl)
   wraps_low l t parts each rest from (suc n) q at here =
       either_low (t K at)
-      (and_then (parts at) (λ ps to. and_then (node_at l from to (makes.of_cons (made makes q) ps)) (wraps_at K l t parts from n)))
+      (and_then (parts at)
+      (λ ps to. and_then (node_at l from to (makes.of_cons (made makes q) ps)) (wraps_at K l t parts from n)))
       (gives (made makes q) at)
       (and_then (each at) (λ ps to. read_wraps plain K l t each from n (node l from to (cons q ps)) to)) (gives q at)
       (go (λ p to. wraps_low l t parts each rest from n p to) (parts at) (each at) (rest at)) (rw here refl)
@@ -266,17 +283,21 @@ module _ (K : List Key) (below : Below) (under : Row → ℕ → Out (Plain Labe
       go : ((p : Plain Label) (to : ℕ) → is_low p ≡ true
           → wraps_at K l t parts from n (made makes p) to ≡ low (read_wraps plain K l t each from n p to))
           → (out : Out Read) (o : Out (Plain Label)) → out ≡ low o
-          → and_then out (λ ps to. and_then (node_at l from to (makes.of_cons (made makes q) ps)) (wraps_at K l t parts from n))
+          → and_then out (λ ps to. and_then (node_at l from to (makes.of_cons (made makes q) ps))
+          (wraps_at K l t parts from n))
           ≡ low (and_then o (λ ps to. read_wraps plain K l t each from n (node l from to (cons q ps)) to))
       go again out nothing e = rw e refl
       go again out (gives ps to) e =
-          ap (λ o. and_then o (λ ps to. and_then (node_at l from to (makes.of_cons (made makes q) ps)) (wraps_at K l t parts from n))) e
+          ap (λ o. and_then o (λ ps to. and_then (node_at l from to (makes.of_cons (made makes q) ps))
+          (wraps_at K l t parts from n))) e
           ∙ one again ps to (is_low ps) refl
 
   -- an operand, and turns behind it
-  operand_low : (l : Label) (t : Guard) (parts : ℕ → Out Read) (each : ℕ → Out (Plain Label)) → ((at : ℕ) → parts at ≡ low (each at))
+  operand_low : (l : Label) (t : Guard) (parts : ℕ → Out Read) (each : ℕ → Out (Plain Label))
+      → ((at : ℕ) → parts at ≡ low (each at))
       → (from n : ℕ) (out : Out Read) (o : Out (Plain Label)) → out ≡ low o
-      → and_then out (λ q mid. wraps_at K l t parts from n q mid) ≡ low (and_then o (λ q mid. read_wraps plain K l t each from n q mid))
+      → and_then out (λ q mid. wraps_at K l t parts from n q mid)
+      ≡ low (and_then o (λ q mid. read_wraps plain K l t each from n q mid))
   operand_low l t parts each rest from n out nothing e = rw e refl
   operand_low l t parts each rest from n out (gives q mid) e =
       ap (λ o. and_then o (λ q mid. wraps_at K l t parts from n q mid)) e ∙ go (is_low q) refl

@@ -2,7 +2,7 @@
 use Rattle.std.specs.Prelude.{List, [], ◌∷◌, ◌++◌, Result, Ok, Err, Bool, true, false, max}
 use Rattle.std.proofs.Common.{◌≡◌, ◌≢◌, ℕ, zero, suc, ◌+◌, ◌-◌, length, refl, sym, ap, ◌∙◌, subst, arith}
 use Rattle.std.proofs.lemmas.List.{append-nil, append_assoc}
-use Rattle.es_lexer.specs.declared.token.TokenKind.{TokenKind}
+use Rattle.es_token.specs.declared.token.TokenKind.{TokenKind}
 use Rattle.es_tree.specs.declared.error.SyntaxError.{SyntaxError}
 use Rattle.es_tree.specs.declared.error.SyntaxError.TheVariants.{OutOfMemory}
 use Rattle.es_tree.specs.Key.{Key, TokenTest, seen, has_kind, is}
@@ -52,7 +52,8 @@ part_then out f old mid new x at (Ok u) to part trees height more =
       max x.height more.1,
       then_gives out (λ q here. changed (makes.of_cons q) (f here)) part.0 at
           (gives (group (x.tree ∷ more.0) (max x.height more.1)) to) part.1
-          (change_gives (makes.of_cons part.0) (f at) (group more.0 more.1) (group (x.tree ∷ more.0) (max x.height more.1)) to
+          (change_gives (makes.of_cons part.0) (f at) (group more.0 more.1)
+          (group (x.tree ∷ more.0) (max x.height more.1)) to
           more.2 (cons_same part.0 x.tree x.height more.0 more.1 part.2 part.3)),
       more.3 ∙ ap (λ l. l ++ more.0) trees ∙ append_assoc old.trees (x.tree ∷ []) more.0,
       more.4 ∙ long,
@@ -83,13 +84,16 @@ module _ (K : List Key) (below : Below) where
         go (Ok u) more = (
           more.0,
           more.1,
-          only_if_true (is k (seen K at)) (changed (makes.of_mark at) (form_at K below f (at + 1))) (gives (group more.0 more.1) to) here
-              (change_gives (makes.of_mark at) (form_at K below f (at + 1)) (group more.0 more.1) (group more.0 more.1) to more.2 refl),
+          only_if_true (is k (seen K at)) (changed (makes.of_mark at) (form_at K below f (at + 1)))
+              (gives (group more.0 more.1) to) here
+              (change_gives (makes.of_mark at) (form_at K below f (at + 1)) (group more.0 more.1) (group more.0 more.1)
+              to more.2 refl),
           more.3,
           more.4,
         )
         go (Err e) more =
-            λ memory. only_if_true (is k (seen K at)) (changed (makes.of_mark at) (form_at K below f (at + 1))) nothing here
+            λ memory. only_if_true (is k (seen K at)) (changed (makes.of_mark at) (form_at K below f (at + 1))) nothing
+            here
             (ap (changed (makes.of_mark at)) (more memory))
 
     pub adds_tok : (s : Sort) (may : TokenKind → Bool) (mid : Parts) → has_kind may (seen K at) ≡ true
@@ -101,7 +105,8 @@ module _ (K : List Key) (below : Below) where
         (record { tree = vTree.Leaf at; height = 0 }) (at + 1) r to
         (makes.of_leaf s at, refl, refl, refl) trees height more in
         let P : Out Read → Type 0 = λ o. Adds o old new r to in
-        subst P (sym (only_if_true (has_kind may (seen K at)) (changed (makes.of_cons (makes.of_leaf s at)) (form_at K below f (at + 1)))
+        subst P (sym (only_if_true (has_kind may (seen K at))
+        (changed (makes.of_cons (makes.of_leaf s at)) (form_at K below f (at + 1)))
         (changed (makes.of_cons (makes.of_leaf s at)) (form_at K below f (at + 1))) here refl)) whole
 
     pub adds_row : (q : Row) (mid : Parts) (x : Measured) (here : ℕ) → IsRead (below q at) (Ok x) here
@@ -109,7 +114,8 @@ module _ (K : List Key) (below : Below) where
         → Adds (form_at K below f here) mid new r to → Adds (form_at K below (row q f) at) old new r to
     unfolding form_at
     adds_row q mid x here read trees height more =
-        part_then (below q at) (form_at K below f) old mid new x here r to (read_part (below q at) x here read) trees height more
+        part_then (below q at) (form_at K below f) old mid new x here r to (read_part (below q at) x here read) trees
+        height more
 
     pub adds_opt : (c : Told) (g : Form Row) (mid : Parts) (x : Measured) (here : ℕ)
         → IsPart (either (test c K at) (form_at K below g at) (gives makes.of_nil at)) (Ok x) here
@@ -117,7 +123,8 @@ module _ (K : List Key) (below : Below) where
         → Adds (form_at K below f here) mid new r to → Adds (form_at K below (opt c g f) at) old new r to
     unfolding form_at
     adds_opt c g mid x here part trees height more =
-        part_then (either (test c K at) (form_at K below g at) (gives makes.of_nil at)) (form_at K below f) old mid new x here r to
+        part_then (either (test c K at) (form_at K below g at) (gives makes.of_nil at)) (form_at K below f) old mid new
+        x here r to
         part trees height more
 
     pub adds_many : (c : Told) (g : Form Row) (mid : Parts) (x : Measured) (here : ℕ)
@@ -126,7 +133,8 @@ module _ (K : List Key) (below : Below) where
         → Adds (form_at K below f here) mid new r to → Adds (form_at K below (many c g f) at) old new r to
     unfolding form_at
     adds_many c g mid x here part trees height more =
-        part_then (read_turns makes K (test c) (form_at K below g) (length K) at) (form_at K below f) old mid new x here r to
+        part_then (read_turns makes K (test c) (form_at K below g) (length K) at) (form_at K below f) old mid new x
+        here r to
         part trees height more
 
     pub adds_alt : (t : TokenTest) (a b : Form Row) (mid : Parts) (x : Measured) (here : ℕ)
@@ -135,7 +143,8 @@ module _ (K : List Key) (below : Below) where
         → Adds (form_at K below f here) mid new r to → Adds (form_at K below (alt t a b f) at) old new r to
     unfolding form_at
     adds_alt t a b mid x here part trees height more =
-        part_then (either (t (seen K at)) (form_at K below a at) (form_at K below b at)) (form_at K below f) old mid new x here r to
+        part_then (either (t (seen K at)) (form_at K below a at) (form_at K below b at)) (form_at K below f) old mid
+        new x here r to
         part trees height more
 
     pub adds_when : (t : TokenTest) → t (seen K at) ≡ true → Adds (form_at K below f at) old new r to
@@ -153,7 +162,8 @@ module _ (K : List Key) (below : Below) where
     unfolding form_at
     no_punct k e = rw e refl
 
-    pub no_tok : (s : Sort) (may : TokenKind → Bool) → has_kind may (seen K at) ≡ false → form_at K below (tok s may f) at ≡ nothing
+    pub no_tok : (s : Sort) (may : TokenKind → Bool) → has_kind may (seen K at) ≡ false
+        → form_at K below (tok s may f) at ≡ nothing
     unfolding form_at
     no_tok s may e = rw e refl
 
@@ -161,20 +171,24 @@ module _ (K : List Key) (below : Below) where
     unfolding form_at
     no_row q e = nothing_then (below q at) (form_at K below f) e
 
-    pub no_opt : (c : Told) (g : Form Row) → either (test c K at) (form_at K below g at) (gives makes.of_nil at) ≡ nothing
+    pub no_opt : (c : Told) (g : Form Row)
+        → either (test c K at) (form_at K below g at) (gives makes.of_nil at) ≡ nothing
         → form_at K below (opt c g f) at ≡ nothing
     unfolding form_at
-    no_opt c g e = nothing_then (either (test c K at) (form_at K below g at) (gives makes.of_nil at)) (form_at K below f) e
+    no_opt c g e = nothing_then (either (test c K at) (form_at K below g at) (gives makes.of_nil at))
+        (form_at K below f) e
 
     pub no_many : (c : Told) (g : Form Row) → read_turns makes K (test c) (form_at K below g) (length K) at ≡ nothing
         → form_at K below (many c g f) at ≡ nothing
     unfolding form_at
     no_many c g e = nothing_then (read_turns makes K (test c) (form_at K below g) (length K) at) (form_at K below f) e
 
-    pub no_alt : (t : TokenTest) (a b : Form Row) → either (t (seen K at)) (form_at K below a at) (form_at K below b at) ≡ nothing
+    pub no_alt : (t : TokenTest) (a b : Form Row)
+        → either (t (seen K at)) (form_at K below a at) (form_at K below b at) ≡ nothing
         → form_at K below (alt t a b f) at ≡ nothing
     unfolding form_at
-    no_alt t a b e = nothing_then (either (t (seen K at)) (form_at K below a at) (form_at K below b at)) (form_at K below f) e
+    no_alt t a b e = nothing_then (either (t (seen K at)) (form_at K below a at) (form_at K below b at))
+        (form_at K below f) e
 
     pub no_when : (t : TokenTest) → t (seen K at) ≡ false → form_at K below (when_ t f) at ≡ nothing
     unfolding form_at
@@ -198,23 +212,27 @@ zero_max h = omega arith
 -- what is left of a list, behind the turns that were read
 pub record IsLeft (whole rest : Out Read) (ts : List Tree) (h : ℕ) : Type 0 where
   pub stuck : rest ≡ nothing → whole ≡ nothing
-  pub ends : (us : List Tree) (g : ℕ) (to : ℕ) → rest ≡ gives (group us g) to → whole ≡ gives (group (ts ++ us) (max h g)) to
+  pub ends : (us : List Tree) (g : ℕ) (to : ℕ) → rest ≡ gives (group us g) to
+      → whole ≡ gives (group (ts ++ us) (max h g)) to
 
 pub left_all : (whole : Out Read) → IsLeft whole whole [] 0
 left_all whole = record { stuck = λ e. e; ends = λ us g to e. e ∙ ap (λ n. gives (group us n) to) (omega arith) }
 
 -- nothing is read yet
-pub left_start : (whole rest : Out Read) (ts : List Tree) (h : ℕ) → rest ≡ whole → ts ≡ [] → h ≡ 0 → IsLeft whole rest ts h
+pub left_start : (whole rest : Out Read) (ts : List Tree) (h : ℕ) → rest ≡ whole → ts ≡ [] → h ≡ 0
+    → IsLeft whole rest ts h
 left_start whole rest ts h same none low = rw (same, none, low) (left_all whole)
 
 module _ (K : List Key) (t : Guard) (each : ℕ → Out Read) (whole : Out Read) where
   -- one more turn
-  push_suc : (n at : ℕ) (ts : List Tree) (h : ℕ) (x : Measured) (mid : ℕ) → IsLeft whole (read_turns makes K t each (suc n) at) ts h
+  push_suc : (n at : ℕ) (ts : List Tree) (h : ℕ) (x : Measured) (mid : ℕ)
+      → IsLeft whole (read_turns makes K t each (suc n) at) ts h
       → t K at ≡ true → IsPart (each at) (Ok x) mid
       → IsLeft whole (read_turns makes K t each n mid) (ts ++ x.tree ∷ []) (max h x.height)
   unfolding read_turns
   push_suc n at ts h x mid left here part =
-      let first : read_turns makes K t each (suc n) at ≡ changed (makes.of_turn part.0) (read_turns makes K t each n mid) =
+      let first : read_turns makes K t each (suc n) at
+      ≡ changed (makes.of_turn part.0) (read_turns makes K t each n mid) =
       either_true (t K at) (and_then (each at) (λ q mid. changed (makes.of_turn q) (read_turns makes K t each n mid)))
       (gives makes.of_nil at) (changed (makes.of_turn part.0) (read_turns makes K t each n mid)) here
       (then_gives (each at) (λ q mid. changed (makes.of_turn q) (read_turns makes K t each n mid)) part.0 mid
@@ -255,7 +273,8 @@ module _ (K : List Key) (t : Guard) (each : ℕ → Out Read) (whole : Out Read)
   last_turn zero at e = rw e refl
   last_turn (suc n) at e = rw e refl
 
-  pub left_none : (n at : ℕ) (ts : List Tree) (h : ℕ) → IsLeft whole (read_turns makes K t each n at) ts h → t K at ≡ false
+  pub left_none : (n at : ℕ) (ts : List Tree) (h : ℕ) → IsLeft whole (read_turns makes K t each n at) ts h
+      → t K at ≡ false
       → IsPart whole (Ok (record { tree = vTree.Parts ts; height = h })) at
   left_none n at ts h left e =
       let ends = left.ends [] 0 at (last_turn n at e) in

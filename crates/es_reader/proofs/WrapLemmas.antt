@@ -35,7 +35,8 @@ module _ (K : List Key) (l : Label) (t : Guard) (parts : ℕ → Out Read) (from
   unfolding wraps_at
   one_turn n q at here =
       either_true (t K at)
-      (and_then (parts at) (λ ps to. and_then (node_at l from to (makes.of_cons q ps)) (wraps_at K l t parts from n))) (gives q at)
+      (and_then (parts at) (λ ps to. and_then (node_at l from to (makes.of_cons q ps)) (wraps_at K l t parts from n)))
+      (gives q at)
       (and_then (turn_at q at) (wraps_at K l t parts from n)) here
       (nested (parts at) (λ ps to. node_at l from to (makes.of_cons q ps)) (wraps_at K l t parts from n))
 
@@ -50,7 +51,8 @@ module _ (K : List Key) (l : Label) (t : Guard) (parts : ℕ → Out Read) (from
       ∙ ap (λ k. wraps_at K l t parts from k (single x) mid) (sym e)
 
   -- a turn that can't be read
-  pub wraps_stuck : (n : ℕ) (q : Read) (at : ℕ) → t K at ≡ true → turn_at q at ≡ nothing → wraps_at K l t parts from n q at ≡ nothing
+  pub wraps_stuck : (n : ℕ) (q : Read) (at : ℕ) → t K at ≡ true → turn_at q at ≡ nothing
+      → wraps_at K l t parts from n q at ≡ nothing
   unfolding wraps_at
   wraps_stuck zero q at here turn = rw here refl
   wraps_stuck (suc n) q at here turn = one_turn n q at here ∙ ap (λ o. and_then o (wraps_at K l t parts from n)) turn

@@ -11,7 +11,7 @@ use crate::tree::Tree;
 use base::Items;
 use es_grammar::{Label, Row};
 use es_guards::{Kinds, Tokens};
-use es_lexer::TokenKind;
+use es_token::TokenKind;
 use es_tree::SyntaxError;
 use std::alloc::{AllocError, Global};
 

@@ -16,7 +16,7 @@ use crate::tree::Tree;
 use base::Items;
 use es_grammar::Row;
 use es_guards::{Ahead, Guard, Kinds};
-use es_lexer::TokenKind;
+use es_token::TokenKind;
 use es_tree::SyntaxError;
 
 /// What reads parts of a node.

@@ -3,12 +3,12 @@
 ghost use Rattle.es_grammar.specs.Expressions.{arrow_in, plain_arrow, async_arrow};
 
 use es_grammar::{Context, Label, Row};
-use es_lexer::TokenKind;
 use es_reader::Ahead::{Is, Other};
 use es_reader::{
     Ahead, Alt, Choose, Cursor, Done, Grammar, Guard, Input, Kinds, Make, Measured, OfRow, Parts,
     Pick, Punct, ReadsForm, ReadsRule, Sort, Tok, When,
 };
+use es_token::TokenKind;
 use es_tree::SyntaxError;
 
 /// ~ '=>' (Block | Assign)

@@ -4,13 +4,13 @@ ghost use Rattle.es_grammar.specs.Expressions.{import_call, import_meta, base, a
 
 use crate::primary::Primary;
 use es_grammar::{Context, Label, Row};
-use es_lexer::TokenKind;
 use es_reader::Ahead::{Is, Other};
 use es_reader::Told::{Guarded, Hint, Taken};
 use es_reader::{
     Ahead, Alt, Choose, Cursor, Done, Grammar, Guard, Input, Kinds, Make, Many, Measured, OfRow,
     Opt, Pick, Punct, ReadsRule, Sort, Tok, When, Where, Wrap,
 };
+use es_token::TokenKind;
 use es_tree::SyntaxError;
 
 /// 'import' '(' Assign (',' Assign)? ','? ')'

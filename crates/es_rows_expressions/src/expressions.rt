@@ -6,13 +6,13 @@ use crate::arrows::{AsyncArrow, PlainArrow};
 use crate::operators::Conditional;
 use crate::primary::Spread;
 use es_grammar::{Context, Label, Row};
-use es_lexer::TokenKind;
 use es_reader::Ahead::Is;
 use es_reader::Told::{Guarded, Taken};
 use es_reader::{
     Ahead, Alt, Choose, Cursor, Done, Grammar, Guard, Input, Kinds, Make, Many, Measured, OfRow,
     Opt, Pick, Punct, ReadsRule, Sort, Tok, When, Wrap,
 };
+use es_token::TokenKind;
 use es_tree::SyntaxError;
 
 /// 'yield' (~ '*'? Assign)?

@@ -3,13 +3,13 @@
 ghost use Rattle.es_grammar.specs.Expressions.{star_in, name_in, function, async_function, any_function, class_};
 
 use es_grammar::{Context, Label, Row};
-use es_lexer::TokenKind;
 use es_reader::Ahead::{Has, Is, Other};
 use es_reader::Told::{Hint, Taken};
 use es_reader::{
     Ahead, Choose, Cursor, Done, Grammar, Input, Kinds, Make, Many, Measured, OfRow, Opt, Parts,
     Punct, ReadsForm, ReadsRule, Sort, Tok, When,
 };
+use es_token::TokenKind;
 use es_tree::SyntaxError;
 
 /// '*'?, and what stands behind it

@@ -5,13 +5,13 @@ ghost use Rattle.es_guards.specs.Named.{kinds_of};
 
 use crate::chains::Chain;
 use es_grammar::{Context, Label, Row};
-use es_lexer::TokenKind;
 use es_reader::Ahead::{Has, Is, Other};
 use es_reader::Told::{Guarded, Taken};
 use es_reader::{
     Ahead, Alt, Choose, Cursor, Done, Grammar, Guard, Input, Kinds, Make, Measured, OfRow, Opt,
     Punct, ReadsRule, Sort, Tok, When, Where, Wrap,
 };
+use es_token::TokenKind;
 use es_tree::SyntaxError;
 
 /// ('++' | '--') Unary | Chain (~ ('++' | '--'))?

@@ -4,13 +4,13 @@ ghost use Rattle.es_grammar.specs.Expressions.{template, spread, array_literal, 
 
 use crate::functions::{AsyncFunction, Class, Function};
 use es_grammar::{Context, Label, Row};
-use es_lexer::TokenKind;
 use es_reader::Ahead::{Has, Is, Other};
 use es_reader::Told::{Hint, Taken};
 use es_reader::{
     Ahead, Alt, Choose, Cursor, Done, Grammar, Guard, Input, Kinds, Make, Many, Measured, OfRow,
     Opt, Pick, Punct, ReadsRule, Sort, Tok, When, Where,
 };
+use es_token::TokenKind;
 use es_tree::SyntaxError;
 
 /// Tpl: whole | head Expr (middle Expr)* tail

@@ -5,7 +5,6 @@ ghost use Rattle.es_grammar.specs.Classes.{static_in, value_in, member};
 use crate::ends::Ended;
 use crate::properties::{AsyncMethodIn, MethodIn};
 use es_grammar::{Context, Label, Row};
-use es_lexer::TokenKind;
 use es_reader::Ahead::Is;
 use es_reader::Told::{Guarded, Taken};
 use es_reader::{
@@ -13,6 +12,7 @@ use es_reader::{
     Punct, ReadsForm, ReadsRule, Sort, Tok, Where,
 };
 use es_rows_expressions::StarIn;
+use es_token::TokenKind;
 use es_tree::SyntaxError;
 
 /// 'static'?, which stands once, and what stands behind it

@@ -4,12 +4,12 @@ ghost use Rattle.es_grammar.specs.Modules.{ended};
 ghost use Rattle.es_grammar.specs.Statements.{expression_ended};
 
 use es_grammar::Row;
-use es_lexer::TokenKind;
 use es_reader::Ahead::Is;
 use es_reader::Told::Taken;
 use es_reader::{
     Ahead, Cursor, Done, Grammar, Guard, Input, Measured, Opt, Parts, Punct, ReadsForm, When, Where,
 };
+use es_token::TokenKind;
 use es_tree::SyntaxError;
 
 /// END: a `;`, which is taken where it is there

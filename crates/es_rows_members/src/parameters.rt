@@ -4,13 +4,13 @@ ghost use Rattle.es_grammar.specs.Functions.{parameters, parameter, signature};
 
 use crate::patterns::Pattern;
 use es_grammar::{Context, Label, Row};
-use es_lexer::TokenKind;
 use es_reader::Ahead::{Is, Other};
 use es_reader::Told::{Hint, Taken};
 use es_reader::{
     Ahead, Cursor, Done, Grammar, Input, Make, Many, Measured, OfRow, Opt, Punct, ReadsRule, When,
     Wrap,
 };
+use es_token::TokenKind;
 use es_tree::SyntaxError;
 
 /// Params: Param% | (Param ',')* '...' Pat

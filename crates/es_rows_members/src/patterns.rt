@@ -3,7 +3,6 @@
 ghost use Rattle.es_grammar.specs.Functions.{default_in, array_pattern, object_pattern, target, bracket_pattern, inner_pattern, pattern, pattern_element, pattern_property};
 
 use es_grammar::{Context, Label, Row};
-use es_lexer::TokenKind;
 use es_reader::Ahead::{Has, Is, Other};
 use es_reader::Told::{Hint, Taken};
 use es_reader::{
@@ -11,6 +10,7 @@ use es_reader::{
     Parts, Pick, Punct, ReadsForm, ReadsRule, Sort, Tok, When, Wrap,
 };
 use es_rows_expressions::Chain;
+use es_token::TokenKind;
 use es_tree::SyntaxError;
 
 /// ('=' Assign)?, and what stands behind it

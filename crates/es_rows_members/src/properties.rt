@@ -3,13 +3,13 @@
 ghost use Rattle.es_grammar.specs.Functions.{plain_key, key, method_in, async_method_in, property};
 
 use es_grammar::{Context, Label, Row};
-use es_lexer::TokenKind;
 use es_reader::Ahead::{Has, Is};
 use es_reader::{
     Choose, Cursor, Done, Grammar, Guard, Input, Kinds, Make, Measured, OfRow, Parts, Pick, Punct,
     ReadsForm, ReadsRule, Sort, Tok, Where,
 };
 use es_rows_expressions::StarIn;
+use es_token::TokenKind;
 use es_tree::SyntaxError;
 
 /// Key: Word | Str | Number | BigInt | '[' Assign ']'

@@ -3,7 +3,6 @@
 ghost use Rattle.es_grammar.specs.Statements.{condition_in, block, declarator, declarators, variables, using_in, using_, declaration};
 
 use es_grammar::{Context, Label, Row};
-use es_lexer::TokenKind;
 use es_reader::Ahead::{Has, Is, Other};
 use es_reader::Told::{Hint, Taken};
 use es_reader::{
@@ -12,6 +11,7 @@ use es_reader::{
 };
 use es_rows_expressions::{AsyncFunction, Class, Function};
 use es_rows_members::{Ended, Pattern};
+use es_token::TokenKind;
 use es_tree::SyntaxError;
 
 /// '(' Expr ')', and what stands behind it

@@ -5,7 +5,6 @@ ghost use Rattle.es_grammar.specs.Items.{export_default, export_item, item, sheb
 use crate::modules::{Export, Import};
 use crate::statements::Statement;
 use es_grammar::{Context, Label, Row};
-use es_lexer::TokenKind;
 use es_reader::Ahead::Is;
 use es_reader::Told::{Hint, Taken};
 use es_reader::{
@@ -13,6 +12,7 @@ use es_reader::{
     Parts, Pick, Punct, ReadsForm, ReadsRule, Sort, Tok,
 };
 use es_rows_members::ExpressionEnded;
+use es_token::TokenKind;
 use es_tree::{Lang, SyntaxError};
 
 /// 'export' 'default' (Fn | Class | Assign END)

@@ -4,7 +4,6 @@ ghost use Rattle.es_grammar.specs.Statements.{head, start_in, for_, for_each, fo
 
 use crate::declarations::UsingIn;
 use es_grammar::{Context, Label, Row};
-use es_lexer::TokenKind;
 use es_reader::Ahead::{Has, Is, Other};
 use es_reader::Told::{Guarded, Taken};
 use es_reader::{
@@ -12,6 +11,7 @@ use es_reader::{
     Pick, Punct, ReadsForm, ReadsRule, Sort, Tok, Where,
 };
 use es_rows_members::{Pattern, Target};
+use es_token::TokenKind;
 use es_tree::SyntaxError;
 
 /// Head: ('var' | 'let' | 'const') Pat | ('await' ~)? 'using' ~ Name | Target

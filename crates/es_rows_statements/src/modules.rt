@@ -4,7 +4,6 @@ ghost use Rattle.es_grammar.specs.Modules.{word_or_str_in, names_in, attributes,
 ghost use Rattle.es_guards.specs.Named.{guard_of};
 
 use es_grammar::{Label, Row};
-use es_lexer::TokenKind;
 use es_reader::Ahead::{Has, Is, Other};
 use es_reader::Told::{Guarded, Hint, Taken};
 use es_reader::{
@@ -12,6 +11,7 @@ use es_reader::{
     Parts, Pick, Punct, ReadsForm, ReadsRule, Sort, Tok, Where,
 };
 use es_rows_members::Ended;
+use es_token::TokenKind;
 use es_tree::{Lang, SyntaxError};
 
 /// A word or a string literal, and what stands behind it.

@@ -5,7 +5,6 @@ ghost use Rattle.es_grammar.specs.Statements.{label_ended, return_, case_in, swi
 use crate::declarations::{Block, ConditionIn, Declaration};
 use crate::loops::{For, ForAwait, ForEach};
 use es_grammar::{Context, Label, Row};
-use es_lexer::TokenKind;
 use es_reader::Ahead::Is;
 use es_reader::Told::{Hint, Taken};
 use es_reader::{
@@ -13,6 +12,7 @@ use es_reader::{
     Opt, Parts, Pick, Punct, ReadsForm, ReadsRule, Sort, Tok, When, Where,
 };
 use es_rows_members::{Ended, ExpressionEnded};
+use es_token::TokenKind;
 use es_tree::SyntaxError;
 
 /// (~ Name)? END

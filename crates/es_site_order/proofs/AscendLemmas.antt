@@ -2,8 +2,8 @@
 use Rattle.std.specs.Prelude.{List, [], ◌∷◌, Some, slice_get}
 use Rattle.std.proofs.Common.{◌≡◌, ℕ, zero, suc, ◌+◌, ◌-◌, ◌<◌, ◌≤◌, refl, sym, ap, ◌∙◌, arith}
 use Rattle.std.proofs.lemmas.Option.{none-some, same_Some}
-use Rattle.es_lexer.specs.declared.token.Token.{Token}
-use Rattle.es_lexer.specs.declared.token.Comment.{Comment}
+use Rattle.es_token.specs.declared.token.Token.{Token}
+use Rattle.es_token.specs.declared.token.Comment.{Comment}
 use Rattle.es_lexer.specs.Reads.{Reads}
 use Rattle.es_lexer.proofs.Theorems.{reads_within, reads_ascend}
 use Rattle.es_walk.specs.declared.site.Site.{Site}
@@ -12,7 +12,8 @@ use Rattle.es_site_order.specs.Order.{Ascend, token_range, site_range, StandOn}
 -- ---- tokens
 
 -- what stands before an element
-earlier : {X : Type 0} (xs : List X) (n : ℕ) (y : X) → slice_get xs (suc n) ≡ Some y → (x : X) × (slice_get xs n ≡ Some x)
+earlier : {X : Type 0} (xs : List X) (n : ℕ) (y : X) → slice_get xs (suc n) ≡ Some y
+    → (x : X) × (slice_get xs n ≡ Some x)
 earlier [] n y e = absurd (none-some y e)
 earlier (x ∷ xs) zero y e = (x, refl)
 earlier (x ∷ xs) (suc n) y e = earlier xs n y e
@@ -77,7 +78,8 @@ sites_apart ts from to (site ∷ sites) zero (suc n) s u ascend stand less f g =
 sites_apart ts from to (site ∷ sites) (suc m) (suc n) s u ascend stand less f g =
     sites_apart ts (stand.0 + 1) to sites m n s u ascend stand.5 (omega arith) f g
 
-pub stand_ascend : (ts : List Token) (from to : ℕ) (sites : List Site) → Ascend token_range ts → StandOn ts from to sites
+pub stand_ascend : (ts : List Token) (from to : ℕ) (sites : List Site) → Ascend token_range ts
+    → StandOn ts from to sites
     → Ascend site_range sites
 stand_ascend ts from to sites ascend stand = record {
   filled = λ n s at.

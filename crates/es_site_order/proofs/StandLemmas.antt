@@ -3,7 +3,7 @@ use Rattle.std.specs.Prelude.{List, [], ◌∷◌, ◌++◌, Option, Some, None,
 use Rattle.std.specs.List.{flat_map}
 use Rattle.std.proofs.Common.{◌≡◌, ℕ, ◌+◌, ◌<◌, ◌≤◌, refl, ◌∙◌, subst, arith}
 use Rattle.base.specs.declared.range.Range.{Range}
-use Rattle.es_lexer.specs.declared.token.Token.{Token}
+use Rattle.es_token.specs.declared.token.Token.{Token}
 use Rattle.es_ast.specs.declared.leaf.ImportDecl.{ImportDecl}
 use Rattle.es_ast.specs.declared.ast.Program.{Program}
 use Rattle.es_ast.specs.declared.ast.ModuleItem.TheVariants as vItem
@@ -23,7 +23,8 @@ use Rattle.es_site_order.specs.Order.{StandOn}
 -- ---- lists of sites
 
 -- sites may stand among more tokens
-widen_sites : (ts : List Token) (a b c d : ℕ) (sites : List Site) → a ≤ b → c ≤ d → StandOn ts b c sites → StandOn ts a d sites
+widen_sites : (ts : List Token) (a b c d : ℕ) (sites : List Site) → a ≤ b → c ≤ d → StandOn ts b c sites
+    → StandOn ts a d sites
 widen_sites ts a b c d [] low high stand = let inner : b ≤ c = stand in omega (arith, inner)
 widen_sites ts a b c d (site ∷ sites) low high stand =
     let first : b ≤ stand.0 = stand.2 in (
@@ -56,7 +57,8 @@ abbrev Stands : List Token → ℕ → ℕ → Value → Type 0
 Stands ts from to absent = from ≤ to
 Stands ts from to (more v vs) = (mid : ℕ) × Stands ts from mid v × Stands ts mid to vs
 Stands ts from to (turns v vs) = (mid : ℕ) × Stands ts from mid v × Stands ts mid to vs
-Stands ts from to (str s) = (n : ℕ) × (t : Token) × (from ≤ n) × (n < to) × (slice_get ts n ≡ Some t) × (s.span ≡ t.range)
+Stands ts from to (str s) =
+    (n : ℕ) × (t : Token) × (from ≤ n) × (n < to) × (slice_get ts n ≡ Some t) × (s.span ≡ t.range)
 Stands ts from to (item_value i) = StandOn ts from to (sites_of_module_item i)
 Stands ts from to (program_value p) = StandOn ts from to (sites_of p)
 
@@ -113,7 +115,8 @@ empty_sites : (r : Range) → sites_of_module_item (vItem.Stmt (vStmt.Empty r)) 
 empty_sites r = module_item_Stmt [] (vStmt.Empty r) ∙ stmt_Empty [] r
 
 -- a node of parts that stand in order
-build_stands : (ts : List Token) (a b : ℕ) (l : Label) (r : Range) (v : Value) → Stands ts a b v → Stands ts a b (build l r v)
+build_stands : (ts : List Token) (a b : ℕ) (l : Label) (r : Range) (v : Value) → Stands ts a b v
+    → Stands ts a b (build l r v)
 build_stands ts a b ImportItem r (more (str s) vs) h =
     let last : h.1.0 < h.0 = h.1.3 in
     let rest : h.0 ≤ b = forward ts h.0 b vs h.2 in
@@ -132,7 +135,8 @@ leaf_stands x ts a b n low high None at = let both : a ≤ b = omega arith in bo
 leaf_stands x ts a b n low high (Some t) at = (n, t, low, high, at, refl)
 
 -- the typed tree of a tree whose parts stand in order
-pub dress_stands : (x : List ℕ) (ts : List Token) (a b : ℕ) (p : Plain Label) → StandsBetween a b p → Stands ts a b (dress x ts p)
+pub dress_stands : (x : List ℕ) (ts : List Token) (a b : ℕ) (p : Plain Label) → StandsBetween a b p
+    → Stands ts a b (dress x ts p)
 unfolding made
 dress_stands x ts a b (node l from to ps) h =
     widen ts a from to b (build l (span_of ts from to) (dress x ts ps)) h.0 h.1

@@ -1,7 +1,7 @@
 -- The laws of the order of the sites of derived trees.
 use Rattle.std.specs.Prelude.{List}
 use Rattle.std.proofs.Common.{ℕ, length, subst}
-use Rattle.es_lexer.specs.declared.token.Token.{Token}
+use Rattle.es_token.specs.declared.token.Token.{Token}
 use Rattle.es_lexer.specs.Reads.{ReadsTokens}
 use Rattle.es_tree.specs.declared.error.Lang.{Lang}
 use Rattle.es_tree.specs.declared.error.Mode.{Mode}
@@ -26,7 +26,8 @@ derives_stand l m x ts p derived =
     subst (λ (n : ℕ). StandOn ts 0 n (sites_of p)) (length-keys_of ts)
     (program_stands ts 0 (length (keys_of ts)) p (dress x ts derived.shape) derived.dressed
     (dress_stands x ts 0 (length (keys_of ts)) derived.shape
-    (row_stands free (keys_of ts) rule most_nodes (ProgramRow l m) derived.shape 0 (length (keys_of ts)) derived.shaped.0)))
+    (row_stands free (keys_of ts) rule most_nodes (ProgramRow l m) derived.shape 0 (length (keys_of ts))
+    derived.shaped.0)))
 
 -- where the tokens ascend, so do the sites
 pub sites_ascend : (l : Lang) (m : Mode) (x : List ℕ) (ts : List Token) (p : Program) → Ascend token_range ts

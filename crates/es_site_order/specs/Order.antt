@@ -1,7 +1,7 @@
 -- When parts of a text stand in order: by their ranges, or on tokens.
 use Rattle.std.specs.Prelude.{◌≡◌, ℕ, ◌+◌, ◌≤◌, ◌<◌, List, [], ◌∷◌, Some, slice_get}
 use Rattle.base.specs.declared.range.Range.{Range}
-use Rattle.es_lexer.specs.declared.token.Token.{Token}
+use Rattle.es_token.specs.declared.token.Token.{Token}
 use Rattle.es_walk.specs.declared.site.Site.{Site}
 
 -- no range is empty, and each ends where any later one starts, or before

@@ -4,8 +4,8 @@ use Rattle.std.specs.List.{flat_map}
 use Rattle.std.proofs.Common.{◌≡◌, ℕ, ◌<◌, refl, sym, ◌∙◌, subst, arith}
 use Rattle.std.proofs.lemmas.List.Elements.{All-append, All-push}
 use Rattle.base.specs.declared.range.Range.{Range}
-use Rattle.es_lexer.specs.declared.token.Token.{Token}
-use Rattle.es_lexer.specs.declared.token.TokenKind.TheVariants as k
+use Rattle.es_token.specs.declared.token.Token.{Token}
+use Rattle.es_token.specs.declared.token.TokenKind.TheVariants as k
 use Rattle.es_lexer.specs.Reads.{ReadsTokens}
 use Rattle.es_lexer.proofs.Theorems.{reads_within, reads_str}
 use Rattle.es_ast.specs.declared.leaf.ImportDecl.{ImportDecl}
@@ -43,7 +43,8 @@ none_cut x k site within = absurd (let bad : ⊥ = omega (arith, within) in bad)
 
 items_cut : (x : List ℕ) (v : Value) → Cuts x v → SitesCut x (flat_map sites_of_module_item (items_in v))
 items_cut x (turns (more (item_value i) v) vs) cuts =
-    All-append (λ site. CutsLiteral x site.range site.value) (sites_of_module_item i) (flat_map sites_of_module_item (items_in vs)) cuts.0.0
+    All-append (λ site. CutsLiteral x site.range site.value) (sites_of_module_item i)
+    (flat_map sites_of_module_item (items_in vs)) cuts.0.0
     (items_cut x vs cuts.1)
 items_cut x _ cuts = none_cut x
 
@@ -74,13 +75,19 @@ leaf_cuts : (x : List ℕ) (ts : List Token) → ReadsTokens x ts → (n : ℕ) 
 leaf_cuts x ts reads n e None there = tt
 leaf_cuts x ts reads n e (Some t) there =
     let within = reads_within x ts reads.0 n t reads.1 there in
-    let less : t.range.start < t.range.end = within.0 in
-    (omega (arith, less), within.1, reads_str x ts reads.0 n t reads.1 there (kind_seen ts n t k.Str (sym there) e), refl)
+    let less : t.range.start < t.range.end = within.0 in (
+      omega (arith, less),
+      within.1,
+      reads_str x ts reads.0 n t reads.1 there (kind_seen ts n t k.Str (sym there) e),
+      refl,
+    )
 
 -- the typed tree of a tree whose kept tokens are Strs
-pub dress_cuts : (x : List ℕ) (ts : List Token) → ReadsTokens x ts → (p : Plain Label) → EachLeaf (IsStrAt ts) p → Cuts x (dress x ts p)
+pub dress_cuts : (x : List ℕ) (ts : List Token) → ReadsTokens x ts → (p : Plain Label) → EachLeaf (IsStrAt ts) p
+    → Cuts x (dress x ts p)
 unfolding made
-dress_cuts x ts reads (node l from to ps) leaves = build_cuts x l (span_of ts from to) (dress x ts ps) (dress_cuts x ts reads ps leaves)
+dress_cuts x ts reads (node l from to ps) leaves =
+    build_cuts x l (span_of ts from to) (dress x ts ps) (dress_cuts x ts reads ps leaves)
 dress_cuts x ts reads (leaf as_str n) leaves = leaf_cuts x ts reads n leaves (slice_get ts n) refl
 dress_cuts x ts reads (leaf _ n) leaves = tt
 dress_cuts x ts reads nil leaves = tt

@@ -1,7 +1,7 @@
 -- The laws of the sites of derived trees that other crates name.
 use Rattle.std.specs.Prelude.{List}
 use Rattle.std.proofs.Common.{All, ℕ, length}
-use Rattle.es_lexer.specs.declared.token.Token.{Token}
+use Rattle.es_token.specs.declared.token.Token.{Token}
 use Rattle.es_lexer.specs.Reads.{ReadsTokens}
 use Rattle.es_tree.specs.declared.error.Lang.{Lang}
 use Rattle.es_tree.specs.declared.error.Mode.{Mode}
@@ -16,11 +16,13 @@ use Rattle.es_parser.specs.Derives.{Derives}
 use Rattle.es_sites.proofs.CutsLemmas.{IsStrAt, dress_cuts, rows_keep, program_cuts}
 
 -- each site of a derived tree cuts its literal from the text
-pub derives_cuts : (l : Lang) (m : Mode) (x : List ℕ) (ts : List Token) (p : Program) → ReadsTokens x ts → Derives l m x ts p
+pub derives_cuts : (l : Lang) (m : Mode) (x : List ℕ) (ts : List Token) (p : Program) → ReadsTokens x ts
+    → Derives l m x ts p
     → All (λ site. CutsLiteral x site.range site.value) (sites_of p)
 unfolding Shape
 derives_cuts l m x ts p reads derived =
     program_cuts x p (dress x ts derived.shape) derived.dressed
     (dress_cuts x ts reads derived.shape
-    (row_leaves free (keys_of ts) (IsStrAt ts) rule (rows_keep ts) most_nodes (ProgramRow l m) derived.shape 0 (length (keys_of ts))
+    (row_leaves free (keys_of ts) (IsStrAt ts) rule (rows_keep ts) most_nodes (ProgramRow l m) derived.shape 0
+    (length (keys_of ts))
     derived.shaped.0))

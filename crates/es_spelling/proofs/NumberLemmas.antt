@@ -132,7 +132,8 @@ digit_found b t p z =
     let i : IsDigits Decimal (b ∷ c.part) =
     record { first = b; more = c.part; digit = p; run = c.is; whole = refl } in
     let f : Found (b ∷ []) (c.part ++ digits_rest Decimal t) (after_whole (digits_rest Decimal t)) =
-    in_front (b ∷ []) c.part (digits_rest Decimal t) _ (whole_found (b ∷ c.part) (digits_rest Decimal t) (inr (i, z))) in
+    in_front (b ∷ []) c.part (digits_rest Decimal t) _
+    (whole_found (b ∷ c.part) (digits_rest Decimal t) (inr (i, z))) in
     subst (λ w. Found (b ∷ []) w (after_whole (digits_rest Decimal t))) (sym c.whole) f
 
 point_found : (d : ℕ) (t : List ℕ) → is_digit Decimal d ≡ true
@@ -256,7 +257,8 @@ decimals_pass [] t h = refl
 decimals_pass (b ∷ s) t h = rw h.0 (decimals_pass s t h.1)
 
 -- the letters that begin other parts
-letter_cases : (x : ℕ) {r : Radix} (a b c d e f : Bool) → (x == 120) ≡ a → (x == 88) ≡ b → (x == 111) ≡ c → (x == 79) ≡ d
+letter_cases : (x : ℕ) {r : Radix} (a b c d e f : Bool) → (x == 120) ≡ a → (x == 88) ≡ b → (x == 111) ≡ c
+    → (x == 79) ≡ d
     → (x == 98) ≡ e → (x == 66) ≡ f → radix_of x ≡ Some r → is_digit Decimal x ≡ false
 unfolding radix_of is_digit
 letter_cases x true b c d e f p q r s t u h = let g : x ≡ 120 = eqb-true x 120 p in rw g refl
@@ -269,7 +271,8 @@ letter_cases x false false false false false false p q r s t u h =
     let g : None ≡ Some _ = rw (p, q, r, s, t, u) at h in cc
 
 letter_is : (x : ℕ) (r : Radix) → radix_of x ≡ Some r → is_digit Decimal x ≡ false
-letter_is x r e = letter_cases x (x == 120) (x == 88) (x == 111) (x == 79) (x == 98) (x == 66) refl refl refl refl refl refl e
+letter_is x r e = letter_cases x (x == 120) (x == 88) (x == 111) (x == 79) (x == 98) (x == 66) refl refl refl refl refl
+    refl e
 
 -- ---- reach
 same_behind : (big : Bool) (t : List ℕ) → Reached big t (big, t)
@@ -438,7 +441,8 @@ big_spelled w t (inr d) s g = record {
       (same_behind true t);
 }
 
-letter_at : (x : ℕ) (r : Radix) (t : List ℕ) → radix_of x ≡ Some r → after_zero (x ∷ t) ≡ after_letter (Some r) (x ∷ t) t
+letter_at : (x : ℕ) (r : Radix) (t : List ℕ) → radix_of x ≡ Some r
+    → after_zero (x ∷ t) ≡ after_letter (Some r) (x ∷ t) t
 unfolding after_zero
 letter_at x r t e = rw (letter_is x r e, e) refl
 
@@ -589,7 +593,8 @@ reach_by at big s after p =
     let long : length s ≡ length (p.first ∷ p.more) = ap length p.whole in
     let end : (number_end at (s ++ after)).end
     ≡ at + (length (p.first ∷ (p.more ++ after)) - length (after_number p.first (p.more ++ after)).1) =
-    ap (λ w. (number_end at (w ++ after)).end) p.whole ∙ ap (λ (n : NumberEnd). n.end) (end_by at p.first (p.more ++ after)) in
+    ap (λ w. (number_end at (w ++ after)).end) p.whole
+    ∙ ap (λ (n : NumberEnd). n.end) (end_by at p.first (p.more ++ after)) in
     omega (arith, length-append p.more after)
 
 -- a number is read at least to its end

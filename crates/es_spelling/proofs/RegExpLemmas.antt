@@ -156,7 +156,8 @@ class_is : (n : ℕ) (text : List ℕ) → class_size text ≡ suc n → Class t
 class_is n text e = class_by n text (units class_unit class_within 1 text) e
 
 -- where the loop over a class ends
-pub class_ends : (at : ℕ) (s text : List ℕ) → class_unit s ≡ 0 → units_end class_unit at 0 s ≡ units_end class_unit 1 0 text
+pub class_ends : (at : ℕ) (s text : List ℕ) → class_unit s ≡ 0
+    → units_end class_unit at 0 s ≡ units_end class_unit 1 0 text
     → units_rest class_unit 0 s ≡ units_rest class_unit 0 text → class_stop at s ≡ class_size text
 unfolding class_size
 class_ends at s text e p q =

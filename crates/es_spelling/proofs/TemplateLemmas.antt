@@ -73,7 +73,8 @@ pub closes_found : (at : ℕ) (s after : List ℕ) → IsTemplateText (96 ∷ []
 unfolding template_stop
 closes_found at s after t =
     let each : AreUnits template_unit t.units (96 ∷ after) = same_units t.units 96 [] after t.each in
-    let size : at + length (concat t.units) + 1 ≡ at + length s = omega (arith, ap length t.whole, length-append (concat t.units) (96 ∷ [])) in
+    let size : at + length (concat t.units) + 1 ≡ at + length s =
+    omega (arith, ap length t.whole, length-append (concat t.units) (96 ∷ [])) in
     ap (λ v. template_end at (v ++ after)) t.whole
     ∙ (ap (template_end at) (append_assoc (concat t.units) (96 ∷ []) after)
     ∙ (end_by at t.units (96 ∷ after) each (tick_stops after) ∙ ap Closes size))
@@ -82,8 +83,10 @@ pub substitutes_found : (at : ℕ) (s after : List ℕ) → IsTemplateText (36 �
     → template_end at (s ++ after) ≡ Substitutes (at + length s)
 unfolding template_stop begins_brace
 substitutes_found at s after t =
-    let each : AreUnits template_unit t.units (36 ∷ 123 ∷ after) = same_units t.units 36 (123 ∷ []) (123 ∷ after) t.each in
-    let size : at + length (concat t.units) + 2 ≡ at + length s = omega (arith, ap length t.whole, length-append (concat t.units) (36 ∷ 123 ∷ [])) in
+    let each : AreUnits template_unit t.units (36 ∷ 123 ∷ after) =
+    same_units t.units 36 (123 ∷ []) (123 ∷ after) t.each in
+    let size : at + length (concat t.units) + 2 ≡ at + length s =
+    omega (arith, ap length t.whole, length-append (concat t.units) (36 ∷ 123 ∷ [])) in
     ap (λ v. template_end at (v ++ after)) t.whole
     ∙ (ap (template_end at) (append_assoc (concat t.units) (36 ∷ 123 ∷ []) after)
     ∙ (end_by at t.units (36 ∷ 123 ∷ after) each (brace_stops after) ∙ ap Substitutes size))
@@ -119,8 +122,10 @@ brace_is : (b : ℕ) (rest : List ℕ) → (b == 36 && begins_brace rest) ≡ tr
     → (b ≡ 36) × ((after : List ℕ) × (rest ≡ 123 ∷ after))
 unfolding begins_brace
 brace_is b [] e = absurd (true≢false (sym e ∙ and_false (b == 36)))
-brace_is b (c ∷ after) e =
-    (eqb-true b 36 (and_left (b == 36) (c == 123) e), (after, ap (λ d. d ∷ after) (eqb-true c 123 (and_right (b == 36) (c == 123) e))))
+brace_is b (c ∷ after) e = (
+  eqb-true b 36 (and_left (b == 36) (c == 123) e),
+  (after, ap (λ d. d ∷ after) (eqb-true c 123 (and_right (b == 36) (c == 123) e))),
+)
 
 substitute_found : (at : ℕ) (us : List (List ℕ)) (b : ℕ) (rest after : List ℕ)
     → AreUnits template_unit us (b ∷ rest) → b ≡ 36 → rest ≡ 123 ∷ after

@@ -42,7 +42,8 @@ passes_units size at (u ∷ us) after h =
     ∙ (passes_unit size at u (concat us ++ after) h.0 h.1
     ∙ (passes_units size (at + length u) us after h.2
     ∙ ap (λ n. units_end size n 0 after)
-    (let e : at + length u + length (concat us) ≡ at + length (u ++ concat us) = omega (arith, length-append u (concat us)) in e)))
+    (let e : at + length u + length (concat us) ≡ at + length (u ++ concat us) =
+    omega (arith, length-append u (concat us)) in e)))
 
 -- and end where none is
 pub stops : (size : List ℕ → ℕ) (at : ℕ) (after : List ℕ) → size after ≡ 0 → units_end size at 0 after ≡ at

@@ -3,9 +3,9 @@
 use Rattle.std.specs.Prelude.{List, [], ◌∷◌, Option, Some, None, Bool, true, false, ◌&&◌}
 use Rattle.std.proofs.Common.{◌≡◌, ℕ, zero, suc, refl}
 use denote.Enum.Declared.{tag_of}
-use Rattle.es_lexer.specs.declared.token.TokenKind.{TokenKind}
-use Rattle.es_lexer.specs.declared.token.TokenKind.TheVariants as k
-use Rattle.es_lexer.specs.contracts.token.TokenKind.{the_type}
+use Rattle.es_token.specs.declared.token.TokenKind.{TokenKind}
+use Rattle.es_token.specs.declared.token.TokenKind.TheVariants as k
+use Rattle.es_token.specs.contracts.token.TokenKind.{the_type}
 use Rattle.es_tree.specs.Key.{Seen, TokenTest}
 use Rattle.es_tree.proofs.Progress.{both_hold}
 

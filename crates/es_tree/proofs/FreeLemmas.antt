@@ -74,7 +74,8 @@ wraps_free K l c A B C D one other (suc n) p from to fit = (
 
 module _ {Row Label : Type 0} (K : List Key) (Obeys Free : Row → Plain Label → ℕ → ℕ → Type 0)
     (below_free : (r : Row) (q : Plain Label) (from mid : ℕ) → Obeys r q from mid → Free r q from mid) where
-  form_free : (f : Form Row) (p : Plain Label) (from to : ℕ) → Fits chosen K Obeys f p from to → Fits free K Free f p from to
+  form_free : (f : Form Row) (p : Plain Label) (from to : ℕ) → Fits chosen K Obeys f p from to
+      → Fits free K Free f p from to
   form_free done p from to fit = fit
   form_free (tok s may f) p from to fit = (fit.0, fit.1, fit.2, form_free f fit.0 (from + 1) to fit.3)
   form_free (punct k f) p from to fit = (fit.0, fit.1, fit.2, form_free f fit.0 (from + 1) to fit.3)
@@ -113,7 +114,8 @@ module _ {Row Label : Type 0} (K : List Key) (Obeys Free : Row → Plain Label �
   form_free (when_ t f) p from to fit = (fit.0, form_free f p from to fit.1)
   form_free (where_ t f) p from to fit = (fit.0, form_free f p from to fit.1)
 
-  rule_free : (a : Rule Row Label) (p : Plain Label) (from to : ℕ) → IsBy chosen K Obeys a p from to → IsBy free K Free a p from to
+  rule_free : (a : Rule Row Label) (p : Plain Label) (from to : ℕ) → IsBy chosen K Obeys a p from to
+      → IsBy free K Free a p from to
   rule_free refuse p from to by = by
   rule_free (make l f) p from to by = (by.0, by.1, form_free f by.0 from to by.2)
   rule_free (choose t a b) p from to by = elim by [
@@ -127,18 +129,21 @@ module _ {Row Label : Type 0} (K : List Key) (Obeys Free : Row → Plain Label �
   ]
   rule_free (wrap l a c f) p from to by = (
     by.0,
-    wraps_free K l c (IsBy chosen K Obeys a) (Fits chosen K Obeys f) (IsBy free K Free a) (Fits free K Free f) (rule_free a)
+    wraps_free K l c (IsBy chosen K Obeys a) (Fits chosen K Obeys f) (IsBy free K Free a) (Fits free K Free f)
+        (rule_free a)
         (form_free f) by.0 p from to by.1,
     absent_free c K to by.2,
   )
 
 -- a tree that obeys the tests is a tree of the grammar
-pub chosen_is_free : {Row Label : Type 0} (K : List Key) (rule : Row → Rule Row Label) (room : ℕ) (r : Row) (p : Plain Label)
+pub chosen_is_free : {Row Label : Type 0} (K : List Key) (rule : Row → Rule Row Label) (room : ℕ) (r : Row)
+    (p : Plain Label)
     (from to : ℕ) → Under chosen K rule room r p from to → Under free K rule room r p from to
 unfolding Under
 chosen_is_free K rule zero r p from to under = under
 chosen_is_free K rule (suc room) r p from to under =
-    rule_free K (Under chosen K rule room) (Under free K rule room) (chosen_is_free K rule room) (rule r) p from to under
+    rule_free K (Under chosen K rule room) (Under free K rule room) (chosen_is_free K rule room) (rule r) p from to
+    under
 
 -- ---- where a form begins
 
@@ -146,7 +151,8 @@ chosen_is_free K rule (suc room) r p from to under =
 abbrev Begun : List Key → TokenTest → ℕ → ℕ → Type 0
 Begun K then_ from to = (from < to) ⊎ (then_ (seen K to) ≡ true)
 
-begun_moved : (K : List Key) (then_ : TokenTest) (from mid to : ℕ) → from ≡ mid → Begun K then_ from to → Begun K then_ mid to
+begun_moved : (K : List Key) (then_ : TokenTest) (from mid to : ℕ) → from ≡ mid → Begun K then_ from to
+    → Begun K then_ mid to
 begun_moved K then_ from mid to e b = let P : ℕ → Type 0 = λ n. Begun K then_ n to in subst P e b
 
 seen_moved : (K : List Key) (t : TokenTest) (from mid : ℕ) → from ≡ mid → t (seen K mid) ≡ true → t (seen K from) ≡ true
@@ -157,7 +163,8 @@ lacks (hint t) K at e = refl
 lacks (taken t) K at e = not_false (t (seen K at)) e
 lacks (guarded g) K at e = refl
 
-row_begins : (K : List Key) (solid first : Bool) (then_ : TokenTest) (from mid : ℕ) → from ≤ mid → (solid ≡ true → from < mid)
+row_begins : (K : List Key) (solid first : Bool) (then_ : TokenTest) (from mid : ℕ) → from ≤ mid
+    → (solid ≡ true → from < mid)
     → (from < mid → first ≡ true) → then_ (seen K mid) ≡ true ⊎ (from < mid)
     → first || (not solid && then_ (seen K from)) ≡ true
 row_begins K solid first then_ from mid le strictly begins rest =
@@ -178,7 +185,8 @@ row_begins K solid first then_ from mid le strictly begins rest =
 -- what is checked of a level
 level_checks : {Row Label : Type 0} (solid : Row → Bool) (a : Rule Row Label) (f : Form Row)
     → rule_takes solid a && (rule_parts_take solid a && (takes solid f && parts_take solid f)) ≡ true
-    → (rule_takes solid a ≡ true) × (rule_parts_take solid a ≡ true) × (takes solid f ≡ true) × (parts_take solid f ≡ true)
+    → (rule_takes solid a ≡ true) × (rule_parts_take solid a ≡ true) × (takes solid f ≡ true)
+    × (parts_take solid f ≡ true)
 level_checks solid a f sound =
     let one = both_hold (rule_takes solid a) (rule_parts_take solid a && (takes solid f && parts_take solid f)) sound in
     let two = both_hold (rule_parts_take solid a) (takes solid f && parts_take solid f) one.1 in
@@ -195,15 +203,18 @@ either_checks solid a b f sound =
     (one.0, two.0, two.1)
 
 -- a level begins with its operand
-wraps_begin : {Label : Type 0} (K : List Key) (l : Label) (c : Told) (A B : Plain Label → ℕ → ℕ → Type 0) (t : TokenTest)
+wraps_begin : {Label : Type 0} (K : List Key) (l : Label) (c : Told) (A B : Plain Label → ℕ → ℕ → Type 0)
+    (t : TokenTest)
     → ((q : Plain Label) (from mid : ℕ) → A q from mid → t (seen K from) ≡ true)
     → (n : ℕ) (p : Plain Label) (from to : ℕ) → Wraps free K l c A B n p from to → t (seen K from) ≡ true
 wraps_begin K l c A B t one zero p from to fit = one p from to fit
 wraps_begin K l c A B t one (suc n) p from to fit = wraps_begin K l c A B t one n fit.0 from fit.2 fit.4
 
 module _ {Row Label : Type 0} (K : List Key) (s : Sets Row) (Below : Row → Plain Label → ℕ → ℕ → Type 0)
-    (below_ahead : (r : Row) (q : Plain Label) (from mid : ℕ) → Below r q from mid → IsAhead (length K) (s.solid r) from mid)
-    (below_begins : (r : Row) (q : Plain Label) (from mid : ℕ) → Below r q from mid → from < mid → s.first r (seen K from) ≡ true) where
+    (below_ahead : (r : Row) (q : Plain Label) (from mid : ℕ) → Below r q from mid
+    → IsAhead (length K) (s.solid r) from mid)
+    (below_begins : (r : Row) (q : Plain Label) (from mid : ℕ) → Below r q from mid → from < mid
+    → s.first r (seen K from) ≡ true) where
   turns_begin : (c : Told) (One : Plain Label → ℕ → ℕ → Type 0) (one rest : TokenTest)
       → ((q : Plain Label) (from mid : ℕ) → One q from mid → one (seen K from) ≡ true)
       → (ps : Plain Label) (from to : ℕ) → Turns free K c One ps from to → (from ≡ to → rest (seen K to) ≡ true)
@@ -259,7 +270,8 @@ module _ {Row Label : Type 0} (K : List Key) (s : Sets Row) (Below : Row → Pla
       let rest : from ≤ fit.2 → Begun K (starts s f then_) from fit.2 =
       λ le. elim (eq-or-lt_of_le le) [
         | inr less ↦ inl less
-        | inl same ↦ inr (form_begins f parts.2 then_ fit.1 fit.2 to fit.5 (begun_moved K then_ from fit.2 to same begun))
+        | inl same ↦ inr (form_begins f parts.2 then_ fit.1 fit.2 to fit.5
+            (begun_moved K then_ from fit.2 to same begun))
       ] in
       elim fit.4 [
         | inl one ↦
@@ -272,10 +284,12 @@ module _ {Row Label : Type 0} (K : List Key) (s : Sets Row) (Below : Row → Pla
             (rest (fits_ahead free K s.solid Below below_ahead b fit.0 from fit.2 other.1).forward))
       ]
   form_begins (when_ t f) sound then_ p from to fit begun =
-      hold_both (t (seen K from)) (starts s f then_ (seen K from)) fit.0 (form_begins f sound then_ p from to fit.1 begun)
+      hold_both (t (seen K from)) (starts s f then_ (seen K from)) fit.0
+      (form_begins f sound then_ p from to fit.1 begun)
   form_begins (where_ t f) sound then_ p from to fit begun = form_begins f sound then_ p from to fit.1 begun
 
-  rule_begins : (a : Rule Row Label) → rule_parts_take s.solid a ≡ true → (then_ : TokenTest) (p : Plain Label) (from to : ℕ)
+  rule_begins : (a : Rule Row Label) → rule_parts_take s.solid a ≡ true
+      → (then_ : TokenTest) (p : Plain Label) (from to : ℕ)
       → IsBy free K Below a p from to → Begun K then_ from to → rule_starts s a then_ (seen K from) ≡ true
   rule_begins refuse sound then_ p from to by begun = absurd by
   rule_begins (make l f) sound then_ p from to by begun = form_begins f sound then_ by.0 from to by.2 begun
@@ -319,12 +333,14 @@ row_starts K rule s told (suc room) r p from to under less =
 
 -- ---- a free reading obeys the tests
 
-has_told : (c : Told) (K : List Key) (at : ℕ) → tells_has c (seen K at) ≡ true → Present free c K at → Present chosen c K at
+has_told : (c : Told) (K : List Key) (at : ℕ) → tells_has c (seen K at) ≡ true → Present free c K at
+    → Present chosen c K at
 has_told (hint t) K at e a = e
 has_told (taken t) K at e a = e
 has_told (guarded g) K at e a = a
 
-lack_told : (c : Told) (K : List Key) (at : ℕ) → tells_lack c (seen K at) ≡ true → Absent free c K at → Absent chosen c K at
+lack_told : (c : Told) (K : List Key) (at : ℕ) → tells_lack c (seen K at) ≡ true → Absent free c K at
+    → Absent chosen c K at
 lack_told (hint t) K at e a = not_true (t (seen K at)) e
 lack_told (taken t) K at e a = a
 lack_told (guarded g) K at e a = a
@@ -332,7 +348,8 @@ lack_told (guarded g) K at e a = a
 -- behind a turn another may stand, or what stands behind the list
 turns_next : {Label : Type 0} (K : List Key) (c : Told) (One : Plain Label → ℕ → ℕ → Type 0) (next : TokenTest)
     → ((q : Plain Label) (from mid : ℕ) → One q from mid → next (seen K from) ≡ true)
-    → (ps : Plain Label) (from to : ℕ) → Turns free K c One ps from to → next (seen K to) ≡ true → next (seen K from) ≡ true
+    → (ps : Plain Label) (from to : ℕ) → Turns free K c One ps from to → next (seen K to) ≡ true
+    → next (seen K from) ≡ true
 turns_next K c One next each nil from to fit stands = seen_moved K next from to fit.1 stands
 turns_next K c One next each (turn q ps) from to fit stands = each q from fit.0 fit.2
 turns_next K c One next each _ from to fit stands = absurd fit
@@ -354,7 +371,8 @@ turns_obey K c One Two next begins tests each (turn q ps) from to fit stands lac
 turns_obey K c One Two next begins tests each _ from to fit stands lack = absurd fit
 
 -- behind an operand and behind each turn another turn may stand, or what stands behind the level
-wraps_obey : {Label : Type 0} (K : List Key) (l : Label) (c : Told) (A B C D : Plain Label → ℕ → ℕ → Type 0) (next : TokenTest)
+wraps_obey : {Label : Type 0} (K : List Key) (l : Label) (c : Told) (A B C D : Plain Label → ℕ → ℕ → Type 0)
+    (next : TokenTest)
     → ((q : Plain Label) (from mid : ℕ) → B q from mid → next (seen K from) ≡ true)
     → ((q : Plain Label) (from mid : ℕ) → B q from mid → tells_has c (seen K from) ≡ true)
     → ((q : Plain Label) (from mid : ℕ) → A q from mid → next (seen K mid) ≡ true → C q from mid)
@@ -373,14 +391,19 @@ wraps_obey K l c A B C D next begins tests one other (suc n) p from to fit stand
 )
 
 module _ {Row Label : Type 0} (K : List Key) (s : Sets Row) (Free Obeys : Row → Plain Label → ℕ → ℕ → Type 0)
-    (below_ahead : (r : Row) (q : Plain Label) (from mid : ℕ) → Free r q from mid → IsAhead (length K) (s.solid r) from mid)
-    (below_begins : (r : Row) (q : Plain Label) (from mid : ℕ) → Free r q from mid → from < mid → s.first r (seen K from) ≡ true)
-    (below_obeys : (r : Row) (q : Plain Label) (from mid : ℕ) → Free r q from mid → s.follow r (seen K mid) ≡ true → Obeys r q from mid) where
+    (below_ahead : (r : Row) (q : Plain Label) (from mid : ℕ) → Free r q from mid
+    → IsAhead (length K) (s.solid r) from mid)
+    (below_begins : (r : Row) (q : Plain Label) (from mid : ℕ) → Free r q from mid → from < mid
+    → s.first r (seen K from) ≡ true)
+    (below_obeys : (r : Row) (q : Plain Label) (from mid : ℕ) → Free r q from mid → s.follow r (seen K mid) ≡ true
+    → Obeys r q from mid) where
   -- the four tests of a part that may be absent
   part_told : (c : Told) (g f : Form Row) (inner then_ : TokenTest)
-      → ((x : Option Seen) → implies (starts s g none x) (tells_has c x) && (implies (starts s f then_ x) (tells_lack c x)
+      → ((x : Option Seen)
+      → implies (starts s g none x) (tells_has c x) && (implies (starts s f then_ x) (tells_lack c x)
       && (tells s g inner x && tells s f then_ x)) ≡ true)
-      → (x : Option Seen) → (implies (starts s g none x) (tells_has c x) ≡ true) × (implies (starts s f then_ x) (tells_lack c x) ≡ true)
+      → (x : Option Seen) → (implies (starts s g none x) (tells_has c x) ≡ true)
+      × (implies (starts s f then_ x) (tells_lack c x) ≡ true)
       × (tells s g inner x ≡ true) × (tells s f then_ x ≡ true)
   part_told c g f inner then_ told x =
       let a = both_hold (implies (starts s g none x) (tells_has c x)) (implies (starts s f then_ x) (tells_lack c x)
@@ -393,7 +416,8 @@ module _ {Row Label : Type 0} (K : List Key) (s : Sets Row) (Free Obeys : Row �
   either_told : (t : TokenTest) (a b f : Form Row) (inner then_ : TokenTest)
       → ((x : Option Seen) → implies (starts s a inner x) (t x) && (implies (starts s b inner x) (not (t x))
       && (tells s a inner x && (tells s b inner x && tells s f then_ x))) ≡ true)
-      → (x : Option Seen) → (implies (starts s a inner x) (t x) ≡ true) × (implies (starts s b inner x) (not (t x)) ≡ true)
+      → (x : Option Seen) → (implies (starts s a inner x) (t x) ≡ true)
+      × (implies (starts s b inner x) (not (t x)) ≡ true)
       × (tells s a inner x ≡ true) × (tells s b inner x ≡ true) × (tells s f then_ x ≡ true)
   either_told t a b f inner then_ told x =
       let one = both_hold (implies (starts s a inner x) (t x)) (implies (starts s b inner x) (not (t x))
@@ -408,7 +432,8 @@ module _ {Row Label : Type 0} (K : List Key) (s : Sets Row) (Free Obeys : Row �
   level_told : (a : Rule Row Label) (c : Told) (f : Form Row) (next then_ : TokenTest)
       → ((x : Option Seen) → implies (starts s f none x) (tells_has c x)
       && (implies (then_ x) (tells_lack c x) && (rule_tells s a next x && tells s f next x)) ≡ true)
-      → (x : Option Seen) → (implies (starts s f none x) (tells_has c x) ≡ true) × (implies (then_ x) (tells_lack c x) ≡ true)
+      → (x : Option Seen) → (implies (starts s f none x) (tells_has c x) ≡ true)
+      × (implies (then_ x) (tells_lack c x) ≡ true)
       × (rule_tells s a next x ≡ true) × (tells s f next x ≡ true)
   level_told a c f next then_ told x =
       let one = both_hold (implies (starts s f none x) (tells_has c x)) (implies (then_ x) (tells_lack c x)
@@ -417,15 +442,18 @@ module _ {Row Label : Type 0} (K : List Key) (s : Sets Row) (Free Obeys : Row �
       let three = both_hold (rule_tells s a next x) (tells s f next x) two.1 in
       (one.0, two.0, three.0, three.1)
 
-  form_obeys : (f : Form Row) → parts_take s.solid f ≡ true → (then_ : TokenTest) → ((x : Option Seen) → tells s f then_ x ≡ true)
-      → (p : Plain Label) (from to : ℕ) → Fits free K Free f p from to → then_ (seen K to) ≡ true → Fits chosen K Obeys f p from to
+  form_obeys : (f : Form Row) → parts_take s.solid f ≡ true → (then_ : TokenTest)
+      → ((x : Option Seen) → tells s f then_ x ≡ true)
+      → (p : Plain Label) (from to : ℕ) → Fits free K Free f p from to → then_ (seen K to) ≡ true
+      → Fits chosen K Obeys f p from to
   form_obeys done sound then_ told p from to fit stands = fit
   form_obeys (tok sort may f) sound then_ told p from to fit stands =
       (fit.0, fit.1, fit.2, form_obeys f sound then_ told fit.0 (from + 1) to fit.3 stands)
   form_obeys (punct k f) sound then_ told p from to fit stands =
       (fit.0, fit.1, fit.2, form_obeys f sound then_ told fit.0 (from + 1) to fit.3 stands)
   form_obeys (row r f) sound then_ told p from to fit stands =
-      let both = λ (x : Option Seen). both_hold (implies (starts s f then_ x) (s.follow r x)) (tells s f then_ x) (told x) in
+      let both = λ (x : Option Seen). both_hold (implies (starts s f then_ x) (s.follow r x)) (tells s f then_ x)
+      (told x) in
       let rest = form_begins K s Free below_ahead below_begins f sound then_ fit.1 fit.2 to fit.5 (inr stands) in (
         fit.0,
         fit.1,
@@ -447,9 +475,11 @@ module _ {Row Label : Type 0} (K : List Key) (s : Sets Row) (Free Obeys : Row �
         elim fit.4 [
           | inl there ↦
               inl (
-                has_told c K from (holds_then (starts s g none (seen K from)) (tells_has c (seen K from)) (all (seen K from)).0
+                has_told c K from (holds_then (starts s g none (seen K from)) (tells_has c (seen K from))
+                    (all (seen K from)).0
                     (form_begins K s Free below_ahead below_begins g parts.0 none fit.0 from fit.2 there.1
-                    (inl ((fits_ahead free K s.solid Free below_ahead g fit.0 from fit.2 there.1).strictly checks.0)))) there.0,
+                    (inl ((fits_ahead free K s.solid Free below_ahead g fit.0 from fit.2 there.1).strictly checks.0))))
+                    there.0,
                 form_obeys g parts.0 (starts s f then_) (λ x. (all x).2) fit.0 from fit.2 there.1 rest,
               )
           | inr absent ↦
@@ -477,7 +507,8 @@ module _ {Row Label : Type 0} (K : List Key) (s : Sets Row) (Free Obeys : Row �
         fit.2,
         fit.3,
         turns_obey K c (Fits free K Free g) (Fits chosen K Obeys g) next
-            (λ q at mid one. left_holds (starts s g none (seen K at)) (starts s f then_ (seen K at)) (begins q at mid one))
+            (λ q at mid one. left_holds (starts s g none (seen K at)) (starts s f then_ (seen K at))
+            (begins q at mid one))
             (λ q at mid one. holds_then (starts s g none (seen K at)) (tells_has c (seen K at)) (all (seen K at)).0
             (begins q at mid one))
             (λ q at mid one. form_obeys g parts.0 next (λ x. (all x).2) q at mid one)
@@ -498,25 +529,31 @@ module _ {Row Label : Type 0} (K : List Key) (s : Sets Row) (Free Obeys : Row �
           | inl one ↦
               inl (
                 holds_then (starts s a (starts s f then_) (seen K from)) (t (seen K from)) (all (seen K from)).0
-                    (form_begins K s Free below_ahead below_begins a parts.0 (starts s f then_) fit.0 from fit.2 one.1 (inr rest)),
+                    (form_begins K s Free below_ahead below_begins a parts.0 (starts s f then_) fit.0 from fit.2 one.1
+                    (inr rest)),
                 form_obeys a parts.0 (starts s f then_) (λ x. (all x).2) fit.0 from fit.2 one.1 rest,
               )
           | inr other ↦
               inr (
                 not_true (t (seen K from))
-                    (holds_then (starts s b (starts s f then_) (seen K from)) (not (t (seen K from))) (all (seen K from)).1
-                    (form_begins K s Free below_ahead below_begins b parts.1 (starts s f then_) fit.0 from fit.2 other.1 (inr rest))),
+                    (holds_then (starts s b (starts s f then_) (seen K from)) (not (t (seen K from)))
+                    (all (seen K from)).1
+                    (form_begins K s Free below_ahead below_begins b parts.1 (starts s f then_) fit.0 from fit.2
+                    other.1 (inr rest))),
                 form_obeys b parts.1 (starts s f then_) (λ x. (all x).3) fit.0 from fit.2 other.1 rest,
               )
         ],
         form_obeys f parts.2 then_ (λ x. (all x).4) fit.1 fit.2 to fit.5 stands,
       )
-  form_obeys (when_ t f) sound then_ told p from to fit stands = (fit.0, form_obeys f sound then_ told p from to fit.1 stands)
-  form_obeys (where_ t f) sound then_ told p from to fit stands = (fit.0, form_obeys f sound then_ told p from to fit.1 stands)
+  form_obeys (when_ t f) sound then_ told p from to fit stands =
+      (fit.0, form_obeys f sound then_ told p from to fit.1 stands)
+  form_obeys (where_ t f) sound then_ told p from to fit stands =
+      (fit.0, form_obeys f sound then_ told p from to fit.1 stands)
 
   rule_obeys : (a : Rule Row Label) → rule_parts_take s.solid a ≡ true → (then_ : TokenTest)
       → ((x : Option Seen) → rule_tells s a then_ x ≡ true)
-      → (p : Plain Label) (from to : ℕ) → IsBy free K Free a p from to → then_ (seen K to) ≡ true → IsBy chosen K Obeys a p from to
+      → (p : Plain Label) (from to : ℕ) → IsBy free K Free a p from to → then_ (seen K to) ≡ true
+      → IsBy chosen K Obeys a p from to
   rule_obeys refuse sound then_ told p from to by stands = by
   rule_obeys (make l f) sound then_ told p from to by stands =
       (by.0, by.1, form_obeys f sound then_ told by.0 from to by.2 stands)
@@ -537,7 +574,8 @@ module _ {Row Label : Type 0} (K : List Key) (s : Sets Row) (Free Obeys : Row �
         | inr second ↦
             inr (
               not_true (t (seen K from)) (holds_then (rule_starts s b then_ (seen K from)) (not (t (seen K from)))
-                  (other (seen K from)).0 (rule_begins K s Free below_ahead below_begins b parts.1 then_ p from to second.1 (inr stands))),
+                  (other (seen K from)).0
+                  (rule_begins K s Free below_ahead below_begins b parts.1 then_ p from to second.1 (inr stands))),
               rule_obeys b parts.1 then_ (λ x. (each x).1) p from to second.1 stands,
             )
       ]
@@ -575,6 +613,8 @@ pub free_is_chosen : {Row Label : Type 0} (K : List Key) (rule : Row → Rule Ro
 unfolding Under
 free_is_chosen K rule s told zero r p from to under stands = under
 free_is_chosen K rule s told (suc room) r p from to under stands =
-    rule_obeys K s (Under free K rule room) (Under chosen K rule room) (under_ahead free K rule s.solid told.steady room)
-    (row_starts K rule s told room) (free_is_chosen K rule s told room) (rule r) (told.steady.parts r) (s.follow r) (told.choices r)
+    rule_obeys K s (Under free K rule room) (Under chosen K rule room)
+    (under_ahead free K rule s.solid told.steady room)
+    (row_starts K rule s told room) (free_is_chosen K rule s told room) (rule r) (told.steady.parts r) (s.follow r)
+    (told.choices r)
     p from to under stands

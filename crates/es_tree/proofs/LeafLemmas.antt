@@ -57,12 +57,15 @@ wraps_leaves h K P l c A B one other (suc n) p from to fit =
     leaves_moved P p (node l from to (cons fit.0 fit.1)) fit.3
     (wraps_leaves h K P l c A B one other n fit.0 from fit.2 fit.4, other fit.1 fit.2 to fit.6)
 
-module _ {Row Label : Type 0} (h : Reading) (K : List Key) (P : Sort → ℕ → Type 0) (Below : Row → Plain Label → ℕ → ℕ → Type 0)
+module _ {Row Label : Type 0} (h : Reading) (K : List Key) (P : Sort → ℕ → Type 0)
+    (Below : Row → Plain Label → ℕ → ℕ → Type 0)
     (below_leaves : (r : Row) (q : Plain Label) (from mid : ℕ) → Below r q from mid → EachLeaf P q) where
-  form_leaves : (f : Form Row) → Keeps K P f → (p : Plain Label) (from to : ℕ) → Fits h K Below f p from to → EachLeaf P p
+  form_leaves : (f : Form Row) → Keeps K P f → (p : Plain Label) (from to : ℕ) → Fits h K Below f p from to
+      → EachLeaf P p
   form_leaves done keeps p from to fit = leaves_moved P p nil fit.0 tt
   form_leaves (tok s may f) keeps p from to fit =
-      leaves_moved P p (cons (leaf s from) fit.0) fit.1 (keeps.0 from fit.2, form_leaves f keeps.1 fit.0 (from + 1) to fit.3)
+      leaves_moved P p (cons (leaf s from) fit.0) fit.1
+      (keeps.0 from fit.2, form_leaves f keeps.1 fit.0 (from + 1) to fit.3)
   form_leaves (punct k f) keeps p from to fit =
       leaves_moved P p (mark from fit.0) fit.1 (form_leaves f keeps fit.0 (from + 1) to fit.3)
   form_leaves (row r f) keeps p from to fit =
@@ -92,7 +95,8 @@ module _ {Row Label : Type 0} (h : Reading) (K : List Key) (P : Sort → ℕ →
   form_leaves (when_ t f) keeps p from to fit = form_leaves f keeps p from to fit.1
   form_leaves (where_ t f) keeps p from to fit = form_leaves f keeps p from to fit.1
 
-  rule_leaves : (a : Rule Row Label) → RuleKeeps K P a → (p : Plain Label) (from to : ℕ) → IsBy h K Below a p from to → EachLeaf P p
+  rule_leaves : (a : Rule Row Label) → RuleKeeps K P a → (p : Plain Label) (from to : ℕ) → IsBy h K Below a p from to
+      → EachLeaf P p
   rule_leaves refuse keeps p from to by = absurd by
   rule_leaves (make l f) keeps p from to by =
       leaves_moved P p (node l from to by.0) by.1 (form_leaves f keeps by.0 from to by.2)
@@ -106,7 +110,8 @@ module _ {Row Label : Type 0} (h : Reading) (K : List Key) (P : Sort → ℕ →
     | inr other ↦ rule_leaves b keeps.1 p from to other.1
   ]
   rule_leaves (wrap l a c f) keeps p from to by =
-      wraps_leaves h K P l c (IsBy h K Below a) (Fits h K Below f) (rule_leaves a keeps.0) (form_leaves f keeps.1) by.0 p from to by.1
+      wraps_leaves h K P l c (IsBy h K Below a) (Fits h K Below f) (rule_leaves a keeps.0) (form_leaves f keeps.1) by.0
+      p from to by.1
 
 -- the leaves of a tree of a row
 pub row_leaves : {Row Label : Type 0} (h : Reading) (K : List Key) (P : Sort → ℕ → Type 0) (rule : Row → Rule Row Label)

@@ -16,7 +16,8 @@ module _ {A B : Type 0} (f : A → B) where
   either-changed true u v x y e h = e
   either-changed false u v x y e h = h
 
-  changed-changed : (g : B → B) (h : A → A) → ((a : A) → g (f a) ≡ f (h a)) → (out : Out B) (o : Out A) → out ≡ changed f o
+  changed-changed : (g : B → B) (h : A → A) → ((a : A) → g (f a) ≡ f (h a)) → (out : Out B) (o : Out A)
+      → out ≡ changed f o
       → changed g out ≡ changed f (changed h o)
   changed-changed g h same out nothing e = rw e refl
   changed-changed g h same out (gives a to) e = rw e (ap (λ x. gives x to) (same a))
@@ -27,14 +28,16 @@ module _ {A B : Type 0} (f : A → B) where
   and_then-changed g h same out (gives a to) e = rw e (same a to)
 
 module _ {Label Made : Type 0} (m : Makes Label Made) (K : List Key) where
-  turns_made : (t : Guard) (one : ℕ → Out Made) (each : ℕ → Out (Plain Label)) → ((at : ℕ) → one at ≡ changed (made m) (each at))
+  turns_made : (t : Guard) (one : ℕ → Out Made) (each : ℕ → Out (Plain Label))
+      → ((at : ℕ) → one at ≡ changed (made m) (each at))
       → (n at : ℕ) → read_turns m K t one n at ≡ changed (made m) (read_turns plain K t each n at)
   unfolding read_turns made
   turns_made t one each same zero at =
       either-changed (made m) (t K at) nothing (gives m.of_nil at) nothing (gives nil at) refl refl
   turns_made t one each same (suc n) at =
       either-changed (made m) (t K at) (and_then (one at) (λ q mid. changed (m.of_turn q) (read_turns m K t one n mid)))
-      (gives m.of_nil at) (and_then (each at) (λ q mid. changed (turn q) (read_turns plain K t each n mid))) (gives nil at)
+      (gives m.of_nil at) (and_then (each at) (λ q mid. changed (turn q) (read_turns plain K t each n mid)))
+      (gives nil at)
       (and_then-changed (made m) (λ q mid. changed (m.of_turn q) (read_turns m K t one n mid))
       (λ q mid. changed (turn q) (read_turns plain K t each n mid))
       (λ q mid. changed-changed (made m) (m.of_turn (made m q)) (turn q) (λ p. refl) (read_turns m K t one n mid)
@@ -49,10 +52,12 @@ module _ {Label Made : Type 0} (m : Makes Label Made) (K : List Key) where
       either-changed (made m) (t K at) nothing (gives (made m q) at) nothing (gives q at) refl refl
   wraps_made l t parts each same from (suc n) q at =
       either-changed (made m) (t K at)
-      (and_then (parts at) (λ ps to. read_wraps m K l t parts from n (m.of_node l from to (m.of_cons (made m q) ps)) to))
+      (and_then (parts at)
+      (λ ps to. read_wraps m K l t parts from n (m.of_node l from to (m.of_cons (made m q) ps)) to))
       (gives (made m q) at)
       (and_then (each at) (λ ps to. read_wraps plain K l t each from n (node l from to (cons q ps)) to)) (gives q at)
-      (and_then-changed (made m) (λ ps to. read_wraps m K l t parts from n (m.of_node l from to (m.of_cons (made m q) ps)) to)
+      (and_then-changed (made m)
+      (λ ps to. read_wraps m K l t parts from n (m.of_node l from to (m.of_cons (made m q) ps)) to)
       (λ ps to. read_wraps plain K l t each from n (node l from to (cons q ps)) to)
       (λ ps to. wraps_made l t parts each same from n (node l from to (cons q ps)) to)
       (parts at) (each at) (same at)) refl
@@ -62,7 +67,8 @@ module _ {Row Label Made : Type 0} (m : Makes Label Made) (K : List Key) (below 
   -- one part, and those after it
   rest_made : (f : ℕ → Out Made) (g : ℕ → Out (Plain Label)) → ((at : ℕ) → f at ≡ changed (made m) (g at))
       → (out : Out Made) (o : Out (Plain Label)) → out ≡ changed (made m) o
-      → and_then out (λ q mid. changed (m.of_cons q) (f mid)) ≡ changed (made m) (and_then o (λ q mid. changed (cons q) (g mid)))
+      → and_then out (λ q mid. changed (m.of_cons q) (f mid))
+      ≡ changed (made m) (and_then o (λ q mid. changed (cons q) (g mid)))
   unfolding made
   rest_made f g rest out o e =
       and_then-changed (made m) (λ q mid. changed (m.of_cons q) (f mid)) (λ q mid. changed (cons q) (g mid))
@@ -72,9 +78,11 @@ module _ {Row Label Made : Type 0} (m : Makes Label Made) (K : List Key) (below 
   unfolding made
   form_made done at = refl
   form_made (tok s may f) at =
-      only_if-changed (made m) (has_kind may (seen K at)) (changed (m.of_cons (m.of_leaf s at)) (read_form m K below f (at + 1)))
+      only_if-changed (made m) (has_kind may (seen K at))
+      (changed (m.of_cons (m.of_leaf s at)) (read_form m K below f (at + 1)))
       (changed (cons (leaf s at)) (read_form plain K under f (at + 1)))
-      (changed-changed (made m) (m.of_cons (m.of_leaf s at)) (cons (leaf s at)) (λ p. refl) (read_form m K below f (at + 1))
+      (changed-changed (made m) (m.of_cons (m.of_leaf s at)) (cons (leaf s at)) (λ p. refl)
+      (read_form m K below f (at + 1))
       (read_form plain K under f (at + 1)) (form_made f (at + 1)))
   form_made (punct k f) at =
       only_if-changed (made m) (is k (seen K at)) (changed (m.of_mark at) (read_form m K below f (at + 1)))
@@ -101,7 +109,8 @@ module _ {Row Label Made : Type 0} (m : Makes Label Made) (K : List Key) (below 
       (either-changed (made m) (t (seen K at)) (read_form m K below a at) (read_form m K below b at)
       (read_form plain K under a at) (read_form plain K under b at) (form_made a at) (form_made b at))
   form_made (when_ t f) at =
-      only_if-changed (made m) (t (seen K at)) (read_form m K below f at) (read_form plain K under f at) (form_made f at)
+      only_if-changed (made m) (t (seen K at)) (read_form m K below f at) (read_form plain K under f at)
+      (form_made f at)
   form_made (where_ t f) at =
       only_if-changed (made m) (t K at) (read_form m K below f at) (read_form plain K under f at) (form_made f at)
 
@@ -115,7 +124,8 @@ module _ {Row Label Made : Type 0} (m : Makes Label Made) (K : List Key) (below 
       either-changed (made m) (t (seen K at)) (read_rule m K below a at) (read_rule m K below b at)
       (read_rule plain K under a at) (read_rule plain K under b at) (rule_made a at) (rule_made b at)
   rule_made (as_ w a) at =
-      changed-changed (made m) (m.of_via w) (via w) (λ p. refl) (read_rule m K below a at) (read_rule plain K under a at)
+      changed-changed (made m) (m.of_via w) (via w) (λ p. refl) (read_rule m K below a at)
+      (read_rule plain K under a at)
       (rule_made a at)
   rule_made (pick g a b) at =
       either-changed (made m) (g K at) (read_rule m K below a at) (read_rule m K below b at)
@@ -127,7 +137,8 @@ module _ {Row Label Made : Type 0} (m : Makes Label Made) (K : List Key) (below 
       (read_rule m K below a at) (read_rule plain K under a at) (rule_made a at)
 
 -- a row
-pub row_made : {Row Label Made : Type 0} (m : Makes Label Made) (K : List Key) (rule : Row → Rule Row Label) (room : ℕ) (r : Row) (at : ℕ)
+pub row_made : {Row Label Made : Type 0} (m : Makes Label Made) (K : List Key) (rule : Row → Rule Row Label) (room : ℕ)
+    (r : Row) (at : ℕ)
     → read_row m K rule room r at ≡ changed (made m) (read_row plain K rule room r at)
 unfolding read_row
 row_made m K rule zero r at = refl

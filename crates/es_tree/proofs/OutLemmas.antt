@@ -29,7 +29,8 @@ module _ {A B : Type 0} where
       → o ≡ gives a mid → f a mid ≡ out → and_then o f ≡ out
   then_gives o f a mid out e s = rw e s
 
-  pub change_gives : (f : A → B) (o : Out A) (a : A) (b : B) (to : ℕ) → o ≡ gives a to → f a ≡ b → changed f o ≡ gives b to
+  pub change_gives : (f : A → B) (o : Out A) (a : A) (b : B) (to : ℕ) → o ≡ gives a to → f a ≡ b
+      → changed f o ≡ gives b to
   change_gives f o a b to e s = rw e (ap (λ x. gives x to) s)
 
 module _ {A : Type 0} where

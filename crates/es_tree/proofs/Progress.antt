@@ -21,7 +21,8 @@ both_hold true b e = (refl, e)
 both_hold false b e = clash e
 
 -- a token of a kind stands before the end
-pub within_kind : (K : List Key) (at : ℕ) (may : _) (x : Option Key) → slice_get K at ≡ x → has_kind may (seen_of x) ≡ true → at < length K
+pub within_kind : (K : List Key) (at : ℕ) (may : _) (x : Option Key) → slice_get K at ≡ x
+    → has_kind may (seen_of x) ≡ true → at < length K
 within_kind K at may (Some key) e h = slice_get_within K at key e
 within_kind K at may None e h = clash h
 
@@ -57,7 +58,8 @@ join n false b from mid to x y = record {
 }
 
 -- the turns of a list
-pub turns_ahead : {Label : Type 0} (h : Reading) (K : List Key) (c : Told) (One : Plain Label → ℕ → ℕ → Type 0) (b : Bool) (n : ℕ)
+pub turns_ahead : {Label : Type 0} (h : Reading) (K : List Key) (c : Told) (One : Plain Label → ℕ → ℕ → Type 0)
+    (b : Bool) (n : ℕ)
     → ((q : Plain Label) (from mid : ℕ) → One q from mid → IsAhead n b from mid)
     → (ps : Plain Label) (from to : ℕ) → Turns h K c One ps from to → IsAhead n false from to
 turns_ahead h K c One b n one nil from to fit = stay n from to fit.1
@@ -70,7 +72,8 @@ turns_ahead h K c One b n one _ from to fit = absurd fit
 or_true : (b : Bool) → b ≡ true → b || false ≡ true
 or_true b e = rw e refl
 
-pub wraps_ahead : {Label : Type 0} (h : Reading) (K : List Key) (l : Label) (c : Told) (Operand Parts : Plain Label → ℕ → ℕ → Type 0)
+pub wraps_ahead : {Label : Type 0} (h : Reading) (K : List Key) (l : Label) (c : Told)
+    (Operand Parts : Plain Label → ℕ → ℕ → Type 0)
     (b : Bool) (n : ℕ)
     → ((q : Plain Label) (from mid : ℕ) → Operand q from mid → IsAhead n b from mid)
     → ((q : Plain Label) (from mid : ℕ) → Parts q from mid → IsAhead n false from mid)
@@ -78,11 +81,13 @@ pub wraps_ahead : {Label : Type 0} (h : Reading) (K : List Key) (l : Label) (c :
 wraps_ahead h K l c Operand Parts b n one other zero p from to fit = one p from to fit
 wraps_ahead h K l c Operand Parts b n one other (suc k) p from to fit =
     sharpen n b (b || false) from to (or_true b)
-    (join n b false from fit.2 to (wraps_ahead h K l c Operand Parts b n one other k fit.0 from fit.2 fit.4) (other fit.1 fit.2 to fit.6))
+    (join n b false from fit.2 to (wraps_ahead h K l c Operand Parts b n one other k fit.0 from fit.2 fit.4)
+    (other fit.1 fit.2 to fit.6))
 
 module _ {Row Label : Type 0} (h : Reading) (K : List Key) (solid : Row → Bool)
     (Below : Row → Plain Label → ℕ → ℕ → Type 0)
-    (below_ahead : (r : Row) (q : Plain Label) (from mid : ℕ) → Below r q from mid → IsAhead (length K) (solid r) from mid) where
+    (below_ahead : (r : Row) (q : Plain Label) (from mid : ℕ) → Below r q from mid
+    → IsAhead (length K) (solid r) from mid) where
   -- the parts of a node
   pub fits_ahead : (f : Form Row) (p : Plain Label) (from to : ℕ)
       → Fits h K Below f p from to → IsAhead (length K) (takes solid f) from to
@@ -120,7 +125,8 @@ module _ {Row Label : Type 0} (h : Reading) (K : List Key) (solid : Row → Bool
   fits_ahead (where_ t f) p from to fit = fits_ahead f p from to fit.1
 
   -- a rule
-  pub by_ahead : (b : Bool) (a : Rule Row Label) → (b ≡ true → rule_takes solid a ≡ true) → (p : Plain Label) (from to : ℕ)
+  pub by_ahead : (b : Bool) (a : Rule Row Label) → (b ≡ true → rule_takes solid a ≡ true)
+      → (p : Plain Label) (from to : ℕ)
       → IsBy h K Below a p from to → IsAhead (length K) b from to
   by_ahead b refuse e p from to by = absurd by
   by_ahead b (make l f) e p from to by = sharpen (length K) b (takes solid f) from to e (fits_ahead f by.0 from to by.2)
@@ -144,4 +150,5 @@ pub under_ahead : {Row Label : Type 0} (h : Reading) (K : List Key) (rule : Row 
 unfolding Under
 under_ahead h K rule solid steady zero r p from to under = absurd under
 under_ahead h K rule solid steady (suc room) r p from to under =
-    by_ahead h K solid (Under h K rule room) (under_ahead h K rule solid steady room) (solid r) (rule r) (steady.rows r) p from to under
+    by_ahead h K solid (Under h K rule room) (under_ahead h K rule solid steady room) (solid r) (rule r)
+    (steady.rows r) p from to under

@@ -34,9 +34,11 @@ test_present (guarded g) K at e = e
 
 -- ---- what is read fits
 
-turns_fit : {Label : Type 0} (K : List Key) (c : Told) (one : ℕ → Out (Plain Label)) (One : Plain Label → ℕ → ℕ → Type 0)
+turns_fit : {Label : Type 0} (K : List Key) (c : Told) (one : ℕ → Out (Plain Label))
+    (One : Plain Label → ℕ → ℕ → Type 0)
     → ((at : ℕ) (q : Plain Label) (mid : ℕ) → one at ≡ gives q mid → One q at mid)
-    → (n at : ℕ) (p : Plain Label) (to : ℕ) → read_turns plain K (test c) one n at ≡ gives p to → Turns chosen K c One p at to
+    → (n at : ℕ) (p : Plain Label) (to : ℕ) → read_turns plain K (test c) one n at ≡ gives p to
+    → Turns chosen K c One p at to
 unfolding read_turns
 turns_fit K c one One fit zero at p to e =
     elim (either-gives (test c K at) nothing (gives nil at) p to e) [
@@ -49,16 +51,23 @@ turns_fit K c one One fit (suc n) at p to e =
     elim (either-gives (test c K at)
     (and_then (one at) (λ q mid. changed (turn q) (read_turns plain K (test c) one n mid))) (gives nil at) p to e) [
       | inl more ↦
-          let first = and_then-gives (one at) (λ q mid. changed (turn q) (read_turns plain K (test c) one n mid)) p to more.1 in
+          let first = and_then-gives (one at) (λ q mid. changed (turn q) (read_turns plain K (test c) one n mid)) p to
+          more.1 in
           let rest = changed-gives (turn first.0) (read_turns plain K (test c) one n first.1) p to first.3 in
-          rw (← rest.2) (first.1, test_present c K at more.0, fit at first.0 first.1 first.2, turns_fit K c one One fit n first.1 rest.0 to rest.1)
+          rw (← rest.2) (
+            first.1,
+            test_present c K at more.0,
+            fit at first.0 first.1 first.2,
+            turns_fit K c one One fit n first.1 rest.0 to rest.1,
+          )
       | inr last ↦
           let same = gives_same nil p at to last.1 in
           rw (← same.0) (test_absent c K at last.0, same.1)
     ]
 
 -- what is read behind an operand wraps it
-wraps_fit : {Label : Type 0} (K : List Key) (l : Label) (c : Told) (parts : ℕ → Out (Plain Label)) (A B : Plain Label → ℕ → ℕ → Type 0)
+wraps_fit : {Label : Type 0} (K : List Key) (l : Label) (c : Told) (parts : ℕ → Out (Plain Label))
+    (A B : Plain Label → ℕ → ℕ → Type 0)
     (from : ℕ) → ((at : ℕ) (ps : Plain Label) (to : ℕ) → parts at ≡ gives ps to → B ps at to)
     → (n k : ℕ) (q : Plain Label) (at : ℕ) (p : Plain Label) (to : ℕ) → Wraps chosen K l c A B k q from at
     → read_wraps plain K l (test c) parts from n q at ≡ gives p to
@@ -73,7 +82,8 @@ wraps_fit K l c parts A B from fit zero k q at p to so_far e =
     ]
 wraps_fit K l c parts A B from fit (suc n) k q at p to so_far e =
     elim (either-gives (test c K at)
-    (and_then (parts at) (λ ps to. read_wraps plain K l (test c) parts from n (node l from to (cons q ps)) to)) (gives q at) p to e) [
+    (and_then (parts at) (λ ps to. read_wraps plain K l (test c) parts from n (node l from to (cons q ps)) to))
+    (gives q at) p to e) [
       | inl more ↦
           let first = and_then-gives (parts at)
           (λ ps to. read_wraps plain K l (test c) parts from n (node l from to (cons q ps)) to) p to more.1 in
@@ -101,8 +111,14 @@ module _ {Row Label : Type 0} (K : List Key) (below : Row → ℕ → Out (Plain
       (rest.0, sym rest.2, here.0, form_fits f (at + 1) rest.0 to rest.1)
   form_fits (row r f) at p to e =
       let first = and_then-gives (below r at) (λ q mid. changed (cons q) (read_form plain K below f mid)) p to e in
-      let rest = changed-gives (cons first.0) (read_form plain K below f first.1) p to first.3 in
-      (first.0, rest.0, first.1, sym rest.2, below_fits r at first.0 first.1 first.2, form_fits f first.1 rest.0 to rest.1)
+      let rest = changed-gives (cons first.0) (read_form plain K below f first.1) p to first.3 in (
+        first.0,
+        rest.0,
+        first.1,
+        sym rest.2,
+        below_fits r at first.0 first.1 first.2,
+        form_fits f first.1 rest.0 to rest.1,
+      )
   form_fits (opt c g f) at p to e =
       let part = either (test c K at) (read_form plain K below g at) (gives nil at) in
       let first = and_then-gives part (λ q mid. changed (cons q) (read_form plain K below f mid)) p to e in
@@ -127,7 +143,8 @@ module _ {Row Label : Type 0} (K : List Key) (below : Row → ℕ → Out (Plain
         rest.0,
         first.1,
         sym rest.2,
-        turns_fit K c (read_form plain K below g) (Fits chosen K Below g) (form_fits g) (length K) at first.0 first.1 first.2,
+        turns_fit K c (read_form plain K below g) (Fits chosen K Below g) (form_fits g) (length K) at first.0 first.1
+            first.2,
         form_fits f first.1 rest.0 to rest.1,
       )
   form_fits (alt t a b f) at p to e =
@@ -138,10 +155,11 @@ module _ {Row Label : Type 0} (K : List Key) (below : Row → ℕ → Out (Plain
         rest.0,
         first.1,
         sym rest.2,
-        elim (either-gives (t (seen K at)) (read_form plain K below a at) (read_form plain K below b at) first.0 first.1 first.2) [
-          | inl one ↦ inl (one.0, form_fits a at first.0 first.1 one.1)
-          | inr other ↦ inr (other.0, form_fits b at first.0 first.1 other.1)
-        ],
+        elim (either-gives (t (seen K at)) (read_form plain K below a at) (read_form plain K below b at) first.0
+            first.1 first.2) [
+              | inl one ↦ inl (one.0, form_fits a at first.0 first.1 one.1)
+              | inr other ↦ inr (other.0, form_fits b at first.0 first.1 other.1)
+            ],
         form_fits f first.1 rest.0 to rest.1,
       )
   form_fits (when_ t f) at p to e =
@@ -177,11 +195,13 @@ module _ {Row Label : Type 0} (K : List Key) (below : Row → ℕ → Out (Plain
   rule_fits (wrap l a c f) at p to e =
       let first = and_then-gives (read_rule plain K below a at)
       (λ q mid. read_wraps plain K l (test c) (read_form plain K below f) at (length K) q mid) p to e in
-      wraps_fit K l c (read_form plain K below f) (IsBy chosen K Below a) (Fits chosen K Below f) at (form_fits f) (length K) 0
+      wraps_fit K l c (read_form plain K below f) (IsBy chosen K Below a) (Fits chosen K Below f) at (form_fits f)
+      (length K) 0
       first.0 first.1 p to (rule_fits a at first.0 first.1 first.2) first.3
 
 -- what the reader of a row answers is a tree of it
-pub row_fits : {Row Label : Type 0} (K : List Key) (rule : Row → Rule Row Label) (room : ℕ) (r : Row) (at : ℕ) (p : Plain Label) (to : ℕ)
+pub row_fits : {Row Label : Type 0} (K : List Key) (rule : Row → Rule Row Label) (room : ℕ) (r : Row) (at : ℕ)
+    (p : Plain Label) (to : ℕ)
     → read_row plain K rule room r at ≡ gives p to → Under chosen K rule room r p at to
 unfolding Under read_row
 row_fits K rule zero r at p to e = nothing_gives p to e
@@ -190,7 +210,8 @@ row_fits K rule (suc room) r at p to e =
 
 -- ---- what fits is read
 
-turns_read : {Label : Type 0} (K : List Key) (c : Told) (one : ℕ → Out (Plain Label)) (One : Plain Label → ℕ → ℕ → Type 0)
+turns_read : {Label : Type 0} (K : List Key) (c : Told) (one : ℕ → Out (Plain Label))
+    (One : Plain Label → ℕ → ℕ → Type 0)
     → ((q : Plain Label) (at mid : ℕ) → at ≤ length K → One q at mid → one at ≡ gives q mid)
     → ((q : Plain Label) (at mid : ℕ) → One q at mid → IsAhead (length K) true at mid)
     → (n : ℕ) (p : Plain Label) (at to : ℕ) → at ≤ length K → to ≤ at + n
@@ -211,23 +232,27 @@ turns_read K c one One reads ahead (suc n) (turn q ps) at to start enough fit =
     let less : at < fit.0 = first.strictly refl in
     either_true (test c K at) (and_then (one at) (λ q mid. changed (turn q) (read_turns plain K (test c) one n mid)))
     (gives nil at) (gives (turn q ps) to) (present_test c K at fit.1)
-    (then_gives (one at) (λ q mid. changed (turn q) (read_turns plain K (test c) one n mid)) q fit.0 (gives (turn q ps) to)
+    (then_gives (one at) (λ q mid. changed (turn q) (read_turns plain K (test c) one n mid)) q fit.0
+    (gives (turn q ps) to)
     (reads q at fit.0 start fit.2)
     (change_gives (turn q) (read_turns plain K (test c) one n fit.0) ps (turn q ps) to
     (turns_read K c one One reads ahead n ps fit.0 to (first.within start) (omega arith) fit.3) refl))
 turns_read K c one One reads ahead n _ at to start enough fit = absurd fit
 
 -- no more turns behind an operand
-wraps_end : {Label : Type 0} (K : List Key) (l : Label) (t : Guard) (parts : ℕ → Out (Plain Label)) (from n : ℕ) (p : Plain Label) (to : ℕ)
+wraps_end : {Label : Type 0} (K : List Key) (l : Label) (t : Guard) (parts : ℕ → Out (Plain Label)) (from n : ℕ)
+    (p : Plain Label) (to : ℕ)
     → t K to ≡ false → read_wraps plain K l t parts from n p to ≡ gives p to
 unfolding read_wraps
 wraps_end K l t parts from zero p to e = rw e refl
 wraps_end K l t parts from (suc n) p to e = rw e refl
 
 -- one more turn behind it
-wraps_go : {Label : Type 0} (K : List Key) (l : Label) (t : Guard) (parts : ℕ → Out (Plain Label)) (from n : ℕ) (q : Plain Label) (mid : ℕ)
+wraps_go : {Label : Type 0} (K : List Key) (l : Label) (t : Guard) (parts : ℕ → Out (Plain Label)) (from n : ℕ)
+    (q : Plain Label) (mid : ℕ)
     (ps : Plain Label) (to : ℕ) → t K mid ≡ true → parts mid ≡ gives ps to
-    → read_wraps plain K l t parts from (suc n) q mid ≡ read_wraps plain K l t parts from n (node l from to (cons q ps)) to
+    → read_wraps plain K l t parts from (suc n) q mid
+    ≡ read_wraps plain K l t parts from n (node l from to (cons q ps)) to
 unfolding read_wraps
 wraps_go K l t parts from n q mid ps to e h = rw (e, h) refl
 
@@ -243,7 +268,8 @@ wraps_count K l c A B one other (suc n) p from to fit =
     omega arith
 
 -- what wraps an operand is reached from it
-wraps_reach : {Label : Type 0} (K : List Key) (l : Label) (c : Told) (operand : Out (Plain Label)) (parts : ℕ → Out (Plain Label))
+wraps_reach : {Label : Type 0} (K : List Key) (l : Label) (c : Told) (operand : Out (Plain Label))
+    (parts : ℕ → Out (Plain Label))
     (A B : Plain Label → ℕ → ℕ → Type 0) (from most : ℕ)
     → ((q : Plain Label) (mid : ℕ) → A q from mid → operand ≡ gives q mid)
     → ((q : Plain Label) (mid : ℕ) → A q from mid → mid ≤ length K)
@@ -272,13 +298,15 @@ wraps_reach K l c operand parts A B from most reads within turn_reads turn_withi
 module _ {Row Label : Type 0} (K : List Key) (solid : Row → Bool) (below : Row → ℕ → Out (Plain Label))
     (Below : Row → Plain Label → ℕ → ℕ → Type 0)
     (below_ahead : (r : Row) (q : Plain Label) (at mid : ℕ) → Below r q at mid → IsAhead (length K) (solid r) at mid)
-    (below_reads : (r : Row) (q : Plain Label) (at mid : ℕ) → at ≤ length K → Below r q at mid → below r at ≡ gives q mid) where
+    (below_reads : (r : Row) (q : Plain Label) (at mid : ℕ) → at ≤ length K → Below r q at mid
+    → below r at ≡ gives q mid) where
   form_reads : (f : Form Row) → parts_take solid f ≡ true → (p : Plain Label) (at to : ℕ) → at ≤ length K
       → Fits chosen K Below f p at to → read_form plain K below f at ≡ gives p to
   form_reads done sound p at to start fit = let tree = fit.0 in let ends = fit.1 in cc
   form_reads (tok s may f) sound p at to start fit =
       let here : at < length K = within_kind K at may (slice_get K at) refl fit.2 in
-      only_if_true (has_kind may (seen K at)) (changed (cons (leaf s at)) (read_form plain K below f (at + 1))) (gives p to) fit.2
+      only_if_true (has_kind may (seen K at)) (changed (cons (leaf s at)) (read_form plain K below f (at + 1)))
+      (gives p to) fit.2
       (change_gives (cons (leaf s at)) (read_form plain K below f (at + 1)) fit.0 p to
       (form_reads f sound fit.0 (at + 1) to (omega arith) fit.3) (sym fit.1))
   form_reads (punct k f) sound p at to start fit =
@@ -302,7 +330,8 @@ module _ {Row Label : Type 0} (K : List Key) (solid : Row → Bool) (below : Row
       (λ q mid. changed (cons q) (read_form plain K below f mid)) fit.0 fit.2 (gives p to)
       (elim fit.4 [
         | inl there ↦
-            either_true (test c K at) (read_form plain K below g at) (gives nil at) (gives fit.0 fit.2) (present_test c K at there.0)
+            either_true (test c K at) (read_form plain K below g at) (gives nil at) (gives fit.0 fit.2)
+            (present_test c K at there.0)
             (form_reads g parts.0 fit.0 at fit.2 start there.1)
         | inr absent ↦
             either_false (test c K at) (read_form plain K below g at) (gives nil at) (gives fit.0 fit.2)
@@ -313,7 +342,8 @@ module _ {Row Label : Type 0} (K : List Key) (solid : Row → Bool) (below : Row
   form_reads (many c g f) sound p at to start fit =
       let checks = both_hold (takes solid g) (parts_take solid g && parts_take solid f) sound in
       let parts = both_hold (parts_take solid g) (parts_take solid f) checks.1 in
-      let turn_ahead : (q : Plain Label) (at mid : ℕ) → Fits chosen K Below g q at mid → IsAhead (length K) true at mid =
+      let turn_ahead : (q : Plain Label) (at mid : ℕ) → Fits chosen K Below g q at mid
+      → IsAhead (length K) true at mid =
       λ q at mid one. (let x = fits_ahead chosen K solid Below below_ahead g q at mid one in rw checks.0 at x) in
       let list = turns_ahead chosen K c (Fits chosen K Below g) true (length K) turn_ahead fit.0 at fit.2 fit.4 in
       let mid_within : fit.2 ≤ length K = list.within start in
@@ -334,16 +364,19 @@ module _ {Row Label : Type 0} (K : List Key) (solid : Row → Bool) (below : Row
       (λ q mid. changed (cons q) (read_form plain K below f mid)) fit.0 fit.2 (gives p to)
       (elim fit.4 [
         | inl one ↦
-            either_true (t (seen K at)) (read_form plain K below a at) (read_form plain K below b at) (gives fit.0 fit.2) one.0
+            either_true (t (seen K at)) (read_form plain K below a at) (read_form plain K below b at)
+            (gives fit.0 fit.2) one.0
             (form_reads a one_.0 fit.0 at fit.2 start one.1)
         | inr other ↦
-            either_false (t (seen K at)) (read_form plain K below a at) (read_form plain K below b at) (gives fit.0 fit.2) other.0
+            either_false (t (seen K at)) (read_form plain K below a at) (read_form plain K below b at)
+            (gives fit.0 fit.2) other.0
             (form_reads b two_.0 fit.0 at fit.2 start other.1)
       ])
       (change_gives (cons fit.0) (read_form plain K below f fit.2) fit.1 p to
       (form_reads f two_.1 fit.1 fit.2 to mid_within fit.5) (sym fit.3))
   form_reads (when_ t f) sound p at to start fit =
-      only_if_true (t (seen K at)) (read_form plain K below f at) (gives p to) fit.0 (form_reads f sound p at to start fit.1)
+      only_if_true (t (seen K at)) (read_form plain K below f at) (gives p to) fit.0
+      (form_reads f sound p at to start fit.1)
   form_reads (where_ t f) sound p at to start fit =
       only_if_true (t K at) (read_form plain K below f at) (gives p to) fit.0 (form_reads f sound p at to start fit.1)
 
@@ -360,11 +393,13 @@ module _ {Row Label : Type 0} (K : List Key) (solid : Row → Bool) (below : Row
             either_true (t (seen K at)) (read_rule plain K below a at) (read_rule plain K below b at) (gives p to) one.0
             (rule_reads a parts.0 p at to start one.1)
         | inr other ↦
-            either_false (t (seen K at)) (read_rule plain K below a at) (read_rule plain K below b at) (gives p to) other.0
+            either_false (t (seen K at)) (read_rule plain K below a at) (read_rule plain K below b at) (gives p to)
+            other.0
             (rule_reads b parts.1 p at to start other.1)
       ]
   rule_reads (as_ w a) sound p at to start by =
-      change_gives (via w) (read_rule plain K below a at) by.0 p to (rule_reads a sound by.0 at to start by.2) (sym by.1)
+      change_gives (via w) (read_rule plain K below a at) by.0 p to (rule_reads a sound by.0 at to start by.2)
+      (sym by.1)
   rule_reads (pick g a b) sound p at to start by =
       let parts = both_hold (rule_parts_take solid a) (rule_parts_take solid b) sound in
       elim by [
@@ -376,32 +411,39 @@ module _ {Row Label : Type 0} (K : List Key) (solid : Row → Bool) (below : Row
             (rule_reads b parts.1 p at to start other.1)
       ]
   rule_reads (wrap l a c f) sound p at to start by =
-      let one = both_hold (rule_takes solid a) (rule_parts_take solid a && (takes solid f && parts_take solid f)) sound in
+      let one = both_hold (rule_takes solid a) (rule_parts_take solid a && (takes solid f && parts_take solid f))
+      sound in
       let two = both_hold (rule_parts_take solid a) (takes solid f && parts_take solid f) one.1 in
       let three = both_hold (takes solid f) (parts_take solid f) two.1 in
       let operand_ahead = by_ahead chosen K solid Below below_ahead true a (λ _. one.0) in
       let turn_ahead = fits_ahead chosen K solid Below below_ahead f in
       let count : at + by.0 ≤ to = wraps_count K l c (IsBy chosen K Below a) (Fits chosen K Below f)
-      (λ q from mid o. (operand_ahead q from mid o).forward) (λ q from mid o. (turn_ahead q from mid o).strictly three.0)
+      (λ q from mid o. (operand_ahead q from mid o).forward)
+      (λ q from mid o. (turn_ahead q from mid o).strictly three.0)
       by.0 p at to by.1 in
       let reached = λ (n : ℕ) (sum : by.0 + n ≡ length K).
-      wraps_reach K l c (read_rule plain K below a at) (read_form plain K below f) (IsBy chosen K Below a) (Fits chosen K Below f)
-      at (length K) (λ q mid o. rule_reads a two.0 q at mid start o) (λ q mid o. (operand_ahead q at mid o).within start)
+      wraps_reach K l c (read_rule plain K below a at) (read_form plain K below f) (IsBy chosen K Below a)
+      (Fits chosen K Below f)
+      at (length K) (λ q mid o. rule_reads a two.0 q at mid start o)
+      (λ q mid o. (operand_ahead q at mid o).within start)
       (λ ps mid to within o. form_reads f three.1 ps mid to within o)
       (λ ps mid to within o. (turn_ahead ps mid to o).within within) by.0 n p to sum by.1 in
       let within : to ≤ length K =
       (wraps_ahead chosen K l c (IsBy chosen K Below a) (Fits chosen K Below f) true (length K) operand_ahead
-      (λ q from mid o. weaken (length K) (takes solid f) from mid (turn_ahead q from mid o)) by.0 p at to by.1).within start in
+      (λ q from mid o. weaken (length K) (takes solid f) from mid (turn_ahead q from mid o)) by.0 p at to by.1).within
+      start in
       let enough : by.0 + (length K - by.0) ≡ length K = omega arith in
       (reached (length K - by.0) enough).0
       ∙ wraps_end K l (test c) (read_form plain K below f) at (length K - by.0) p to (absent_test c K to by.2)
 
 -- a tree of a row is what its reader answers
-pub row_reads : {Row Label : Type 0} (K : List Key) (rule : Row → Rule Row Label) (solid : Row → Bool) → IsSteady rule solid
+pub row_reads : {Row Label : Type 0} (K : List Key) (rule : Row → Rule Row Label) (solid : Row → Bool)
+    → IsSteady rule solid
     → (room : ℕ) (r : Row) (p : Plain Label) (at to : ℕ) → at ≤ length K → Under chosen K rule room r p at to
     → read_row plain K rule room r at ≡ gives p to
 unfolding Under read_row
 row_reads K rule solid steady zero r p at to start under = absurd under
 row_reads K rule solid steady (suc room) r p at to start under =
-    rule_reads K solid (read_row plain K rule room) (Under chosen K rule room) (under_ahead chosen K rule solid steady room)
+    rule_reads K solid (read_row plain K rule room) (Under chosen K rule room)
+    (under_ahead chosen K rule solid steady room)
     (row_reads K rule solid steady room) (rule r) (steady.parts r) p at to start under

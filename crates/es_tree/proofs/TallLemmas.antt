@@ -29,7 +29,8 @@ module _ {Row Label : Type 0} (h : Reading) (K : List Key) (Below : Row → Plai
   form_tall : (f : Form Row) (p : Plain Label) (from to : ℕ) → Fits h K Below f p from to → tall p ≤ n
   form_tall done p from to fit = tall_moved n p nil fit.0 (omega arith)
   form_tall (tok s may f) p from to fit =
-      tall_moved n p (cons (leaf s from) fit.0) fit.1 (max_le 0 (tall fit.0) n (omega arith) (form_tall f fit.0 (from + 1) to fit.3))
+      tall_moved n p (cons (leaf s from) fit.0) fit.1
+      (max_le 0 (tall fit.0) n (omega arith) (form_tall f fit.0 (from + 1) to fit.3))
   form_tall (punct k f) p from to fit = tall_moved n p (mark from fit.0) fit.1 (form_tall f fit.0 (from + 1) to fit.3)
   form_tall (row r f) p from to fit =
       tall_moved n p (cons fit.0 fit.1) fit.3
@@ -53,7 +54,8 @@ module _ {Row Label : Type 0} (h : Reading) (K : List Key) (Below : Row → Plai
   form_tall (when_ t f) p from to fit = form_tall f p from to fit.1
   form_tall (where_ t f) p from to fit = form_tall f p from to fit.1
 
-  rule_tall : (a : Rule Row Label) → is_flat a ≡ true → (p : Plain Label) (from to : ℕ) → IsBy h K Below a p from to → tall p ≤ suc n
+  rule_tall : (a : Rule Row Label) → is_flat a ≡ true → (p : Plain Label) (from to : ℕ) → IsBy h K Below a p from to
+      → tall p ≤ suc n
   rule_tall refuse flat p from to by = absurd by
   rule_tall (make l f) flat p from to by =
       tall_moved (suc n) p (node l from to by.0) by.1

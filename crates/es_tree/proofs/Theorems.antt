@@ -24,7 +24,8 @@ pub record IsGrammar {Row Label : Type 0} (rule : Row → Rule Row Label) (s : S
 pub seen-length : (K : List Key) → seen K (length K) ≡ None
 seen-length K = ap seen_of (slice_get_past K (length K) (omega arith))
 
-module _ {Row Label : Type 0} (rule : Row → Rule Row Label) (s : Sets Row) (start : Row) (grammar : IsGrammar rule s start) where
+module _ {Row Label : Type 0} (rule : Row → Rule Row Label) (s : Sets Row) (start : Row)
+    (grammar : IsGrammar rule s start) where
   -- no test bars a reading: what the grammar derives obeys them
   pub free_is_chosen : (K : List Key) (p : Plain Label) → Shape free rule start K p → Shape chosen rule start K p
   unfolding Shape
@@ -53,7 +54,8 @@ module _ {Row Label : Type 0} (rule : Row → Rule Row Label) (s : Sets Row) (st
       )
 
   -- where no rule has turns behind an operand, it is made of a tree of the grammar
-  pub read_is_derived : ((r : Row) → is_flat (rule r) ≡ true) → {Made : Type 0} (m : Makes Label Made) (K : List Key) (v : Made)
+  pub read_is_derived : ((r : Row) → is_flat (rule r) ≡ true)
+      → {Made : Type 0} (m : Makes Label Made) (K : List Key) (v : Made)
       → read_row m K rule most_nodes start 0 ≡ gives v (length K)
       → (p : Plain Label) × Shape free rule start K p × (made m p ≡ v)
   unfolding Shape
@@ -78,11 +80,13 @@ module _ {Row Label : Type 0} (rule : Row → Rule Row Label) (s : Sets Row) (st
   unfolding Shape
   derived_is_read m K p shaped =
       row_made m K rule most_nodes start 0
-      ∙ ap (changed (made m)) (row_reads K rule s.solid grammar.told.steady most_nodes start p 0 (length K) (omega arith)
+      ∙ ap (changed (made m))
+      (row_reads K rule s.solid grammar.told.steady most_nodes start p 0 (length K) (omega arith)
       (free_is_chosen K p shaped).0)
 
   -- with its height
-  pub derived_is_tallied : {Made : Type 0} (m : Makes Label Made) (K : List Key) (p : Plain Label) → Shape free rule start K p
+  pub derived_is_tallied : {Made : Type 0} (m : Makes Label Made) (K : List Key) (p : Plain Label)
+      → Shape free rule start K p
       → read_row (tallied m) K rule most_nodes start 0 ≡ gives (record { value = made m p; height = tall p }) (length K)
   derived_is_tallied m K p shaped =
       derived_is_read (tallied m) K p shaped ∙ ap (λ v. gives v (length K)) (made_tallied m p)

@@ -1,7 +1,7 @@
 -- The language in which the rows of a grammar are written: `Row` names the rows, `Label` the alternatives that make a node.
 -- A row is a rule, a rule's alternatives are forms. What a form means is told in Fits.antt.
 use Rattle.std.specs.Prelude.{ℕ, Bool, List}
-use Rattle.es_lexer.specs.declared.token.TokenKind.{TokenKind}
+use Rattle.es_token.specs.declared.token.TokenKind.{TokenKind}
 use Rattle.es_tree.specs.Key.{Key, TokenTest, seen}
 
 -- what the typed tree keeps of a token

@@ -1,9 +1,9 @@
 -- What the grammar looks at of a token: a key. No row and no guard looks at a text.
 use Rattle.std.specs.Prelude.{ℕ, Bool, true, false, List, [], ◌∷◌, Option, Some, None, slice_get, ◌==◌}
 use denote.Enum.Bare.{sameb}
-use Rattle.es_lexer.specs.declared.token.Token.{Token}
-use Rattle.es_lexer.specs.declared.token.TokenKind.{TokenKind}
-use Rattle.es_lexer.specs.contracts.token.TokenKind.{the_type}
+use Rattle.es_token.specs.declared.token.Token.{Token}
+use Rattle.es_token.specs.declared.token.TokenKind.{TokenKind}
+use Rattle.es_token.specs.contracts.token.TokenKind.{the_type}
 
 -- a token's kind, whether a line end stands before it, the number of its matching bracket, and whether it starts where the
 -- token before it ends

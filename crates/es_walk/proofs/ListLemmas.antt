@@ -15,7 +15,8 @@ pub firsts_of : {X : Type 0} (sites : X → Found) (xs : List X) → firsts (map
 firsts_of sites [] = refl
 firsts_of sites (x ∷ xs) = ap (λ rest. x ∷ rest) (firsts_of sites xs)
 
-pub if_there_of : {X : Type 0} (sites : X → Found) (x : Option X) → if_there (option_map (λ y. (y, sites y)) x) ≡ if_some sites x
+pub if_there_of : {X : Type 0} (sites : X → Found) (x : Option X)
+    → if_there (option_map (λ y. (y, sites y)) x) ≡ if_some sites x
 if_there_of sites None = refl
 if_there_of sites (Some x) = refl
 
@@ -32,6 +33,7 @@ adds_two found a b e = ap (λ x. found ++ x) e ∙ sym (append_assoc found a b)
 pub adds_three : (found : Found) {s : Found} (a b c : Found) → s ≡ a ++ b ++ c → found ++ s ≡ found ++ a ++ b ++ c
 adds_three found a b c e = adds_two found (a ++ b) c e ∙ ap (λ x. x ++ c) (sym (append_assoc found a b))
 
-pub adds_four : (found : Found) {s : Found} (a b c d : Found) → s ≡ a ++ b ++ c ++ d → found ++ s ≡ found ++ a ++ b ++ c ++ d
+pub adds_four : (found : Found) {s : Found} (a b c d : Found) → s ≡ a ++ b ++ c ++ d
+    → found ++ s ≡ found ++ a ++ b ++ c ++ d
 adds_four found a b c d e =
     adds_two found (a ++ b ++ c) d e ∙ ap (λ x. x ++ d) (adds_three found a b c refl)

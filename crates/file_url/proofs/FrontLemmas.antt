@@ -14,8 +14,10 @@ pub after_text : (text front : List ℕ) (r : Option (Bor (List ℕ)))
 after_text text front None lacks = sym (starts_text false front text lacks)
 after_text text front (Some rest) strips =
     let found = strips.1 in
-    let boundary = subst (IsCharBoundary text) (sym found.0) found.2 in
-    (sym (starts_text true front text (strips.0, found, boundary)), subst (λ n. rest.now ≡ drop n text) found.0 strips.2)
+    let boundary = subst (IsCharBoundary text) (sym found.0) found.2 in (
+      sym (starts_text true front text (strips.0, found, boundary)),
+      subst (λ n. rest.now ≡ drop n text) found.0 strips.2,
+    )
 
 -- what follows a slash
 pub after_slash : (path rest : List ℕ) → path ≡ 47 ∷ rest → rest ≡ drop 1 path

@@ -29,5 +29,6 @@ import_read-Err _ referrer text other = refl
 pub import_refused : (read : Parsed Parts) (e : ParseError) (referrer : Parsed Parts) (text : List ℕ)
     → (read ≡ Err e) ⊎ IsOutOfRoom e → e ≢ RelativeUrlWithoutBase
     → (import_read read referrer text ≡ Err (refusal e)) ⊎ (refusal e ≡ OutOfMemory)
-import_refused read e referrer text (inl same) other = inl (ap (λ r. import_read r referrer text) same ∙ import_read-Err e referrer text other)
+import_refused read e referrer text (inl same) other =
+    inl (ap (λ r. import_read r referrer text) same ∙ import_read-Err e referrer text other)
 import_refused read e referrer text (inr room) other = inr (refusal_of_room e room)

@@ -41,14 +41,17 @@ unfolding trim_c0_control_and_space
 untrimmed xs plain =
     let start = none_at_front xs (λ inside. (plain 0 0 inside).visible) in
     let len = length-reverse xs in
-    let end = none_at_front (reverse xs) (λ inside. rw (get_or-reverse xs 0 0 (omega arith), sub-zero) ((plain (length xs - 1) 0 (omega arith)).visible)) in
+    let end = none_at_front (reverse xs)
+    (λ inside. rw (get_or-reverse xs 0 0 (omega arith), sub-zero)
+    ((plain (length xs - 1) 0 (omega arith)).visible)) in
     rw (start, end) (take_all _ xs (omega arith))
 
 -- nothing is taken out
 unstripped : (xs : List ℕ) → All IsPlainByte xs → strip_tabs_and_new_lines xs ≡ xs
 unfolding strip_tabs_and_new_lines
 unstripped xs plain =
-    filter_all _ xs (All-weaker IsPlainByte (Passes (λ b. not (is_tab_or_new_line b))) (λ b is. let above = is.visible in grind (arith, nat_tests)) xs plain)
+    filter_all _ xs (All-weaker IsPlainByte (Passes (λ b. not (is_tab_or_new_line b)))
+    (λ b is. let above = is.visible in grind (arith, nat_tests)) xs plain)
 
 file_scheme : IsScheme (codes "file")
 unfolding scheme_len
@@ -66,7 +69,8 @@ plain_from_test b passes = record {
 }
 
 pub plain_from_tests : (xs : List ℕ) → list_all is_plain_byte xs ≡ true → All IsPlainByte xs
-plain_from_tests xs all = All-weaker (Passes is_plain_byte) IsPlainByte plain_from_test xs (All_from_list_all is_plain_byte xs all)
+plain_from_tests xs all =
+    All-weaker (Passes is_plain_byte) IsPlainByte plain_from_test xs (All_from_list_all is_plain_byte xs all)
 
 -- the bytes `file://`
 plain_front : All IsPlainByte (codes "file://")
@@ -84,8 +88,10 @@ parse_file_text after plain =
     let text : List ℕ = codes "file://" ++ after in
     let all = All-append IsPlainByte (codes "file://") after plain_front plain in
     let clean = ap strip_tabs_and_new_lines (untrimmed text all) ∙ unstripped text all in
-    let hash = ap (split_once 35) clean ∙ split_once_none 35 text (All-weaker IsPlainByte (IsNot 35) (λ b is. is.no_hash) text all) in
-    let question = ap (λ r. split_once 63 r.0) hash ∙ split_once_none 63 text (All-weaker IsPlainByte (IsNot 63) (λ b is. is.no_question) text all) in
+    let hash = ap (split_once 35) clean
+    ∙ split_once_none 35 text (All-weaker IsPlainByte (IsNot 35) (λ b is. is.no_hash) text all) in
+    let question = ap (λ r. split_once 63 r.0) hash
+    ∙ split_once_none 63 text (All-weaker IsPlainByte (IsNot 63) (λ b is. is.no_question) text all) in
     let scheme = ap (λ r. split_scheme r.0) question ∙ split_own_scheme (codes "file") (47 ∷ 47 ∷ after) file_scheme in
     (λ i. parse_by_scheme (scheme i) None (question i).0 (question i).1 (hash i).1)
 
@@ -102,8 +108,10 @@ after_host host path no_slash no_drive =
     let after = host ++ 47 ∷ path in
     let passes = All-weaker (λ b. is_slash File b ≡ false) (Passes test) (λ b e. rw e) host no_slash in
     let len : segment_len File after ≡ length host = prefix_len_at test host (47 ∷ path) passes refl in
-    let front : take (segment_len File after) after ≡ host = ap (λ n. take n after) len ∙ take_at host (47 ∷ path) _ refl in
-    let back : drop (segment_len File after) after ≡ 47 ∷ path = ap (λ n. drop n after) len ∙ drop_at host (47 ∷ path) _ refl in
+    let front : take (segment_len File after) after ≡ host =
+    ap (λ n. take n after) len ∙ take_at host (47 ∷ path) _ refl in
+    let back : drop (segment_len File after) after ≡ 47 ∷ path =
+    ap (λ n. drop n after) len ∙ drop_at host (47 ∷ path) _ refl in
     cond-false _ _ _ (ap is_windows_drive_letter front ∙ no_drive)
     ∙ (λ i. and_then (parse_file_host (front i)) (with_host_and_path (back i)))
 
@@ -112,12 +120,14 @@ abbrev from_host : Parsed (Host (List ℕ)) → List ℕ → Parsed Parts
 from_host read path = and_then (and_then read (with_host_and_path path)) whole
 
 -- whether they are refused is the host's matter alone
-same_refusal : (read : Parsed (Host (List ℕ))) (path other : List ℕ) → IsOk (from_host read path) → IsOk (from_host read other)
+same_refusal : (read : Parsed (Host (List ℕ))) (path other : List ℕ) → IsOk (from_host read path)
+    → IsOk (from_host read other)
 same_refusal (Ok host) path other ok = refl
 same_refusal (Err e) path other ok = absurd (cc ok)
 
 read_from_host : (host path : List ℕ) → All IsPlainByte (host ++ 47 ∷ path) → All (λ b. is_slash File b ≡ false) host
-    → is_windows_drive_letter host ≡ false → parse_url None (codes "file://" ++ (host ++ 47 ∷ path)) ≡ from_host (parse_file_host host) (47 ∷ path)
+    → is_windows_drive_letter host ≡ false
+    → parse_url None (codes "file://" ++ (host ++ 47 ∷ path)) ≡ from_host (parse_file_host host) (47 ∷ path)
 read_from_host host path plain no_slash no_drive =
     parse_file_text (host ++ 47 ∷ path) plain ∙ ap (λ r. and_then r whole) (after_host host path no_slash no_drive)
 
@@ -127,21 +137,24 @@ plain_escaped : (name : List ℕ) → All IsPlainByte (escaped name)
 plain_escaped name =
     All-cons IsPlainByte 47 (flat_map escaped_byte name) (plain_from_test 47 refl)
     (subst (All IsPlainByte) (name_is_escaped name)
-    (All-percent_encode IsPlainByte NAME name (λ b kept. plain_from_test b (passes_from_kept NAME is_plain_byte refl b kept))
+    (All-percent_encode IsPlainByte NAME name
+    (λ b kept. plain_from_test b (passes_from_kept NAME is_plain_byte refl b kept))
     (λ b escape. plain_from_test b (grind (arith, nat_tests)))))
 
 pub plain_escaped_path : (folder : Bool) (names : List (List ℕ)) → All IsPlainByte (escaped_path folder names)
 unfolding escaped_path
 plain_escaped_path folder names =
     All-append IsPlainByte (flat_map escaped names) _ (each names)
-    (cond_both (length names == 0 || folder) (codes "/") [] (All IsPlainByte) (λ _. plain_from_tests (codes "/") refl) (λ _. All-nil IsPlainByte))
+    (cond_both (length names == 0 || folder) (codes "/") [] (All IsPlainByte) (λ _. plain_from_tests (codes "/") refl)
+    (λ _. All-nil IsPlainByte))
   where
     each : (list : List (List ℕ)) → All IsPlainByte (flat_map escaped list)
     each [] = All-nil IsPlainByte
     each (name ∷ list) = All-append IsPlainByte (escaped name) (flat_map escaped list) (plain_escaped name) (each list)
 
 -- they begin with a slash
-pub escaped_path_first : (folder : Bool) (names : List (List ℕ)) → (rest : List ℕ) × (escaped_path folder names ≡ 47 ∷ rest)
+pub escaped_path_first : (folder : Bool) (names : List (List ℕ))
+    → (rest : List ℕ) × (escaped_path folder names ≡ 47 ∷ rest)
 unfolding escaped_path
 escaped_path_first folder [] = ([], refl)
 escaped_path_first folder (name ∷ names) = (_, refl)
@@ -161,25 +174,31 @@ unfolding is_windows_drive_letter
 host_no_drive [] all = refl
 host_no_drive (first ∷ []) all = and_right (length (first ∷ []) == 2 && is_ascii_alphabetic first) _ refl
 host_no_drive (first ∷ second ∷ host) all =
-    and_right (length (first ∷ second ∷ host) == 2 && is_ascii_alphabetic first) _ (no_mark second (All-head (Passes is_host_byte) second host (All-tail (Passes is_host_byte) first (second ∷ host) all)))
+    and_right (length (first ∷ second ∷ host) == 2 && is_ascii_alphabetic first) _
+    (no_mark second (All-head (Passes is_host_byte) second host
+    (All-tail (Passes is_host_byte) first (second ∷ host) all)))
   where
     no_mark : (b : ℕ) → Passes is_host_byte b → (b == 58 || b == 124) ≡ false
     no_mark b passes = grind (arith, nat_tests)
 
 -- what is read of a host and one path is read of it and another
-read_of_host : (host path other : List ℕ) → All (Passes is_host_byte) host → All IsPlainByte (47 ∷ path) → All IsPlainByte (47 ∷ other)
-    → IsOk (parse_url None (codes "file://" ++ (host ++ 47 ∷ path))) → IsOk (parse_url None (codes "file://" ++ (host ++ 47 ∷ other)))
+read_of_host : (host path other : List ℕ) → All (Passes is_host_byte) host → All IsPlainByte (47 ∷ path)
+    → All IsPlainByte (47 ∷ other)
+    → IsOk (parse_url None (codes "file://" ++ (host ++ 47 ∷ path)))
+    → IsOk (parse_url None (codes "file://" ++ (host ++ 47 ∷ other)))
 read_of_host host path other all plain plain_other ok =
     let no_slash = All-weaker (Passes is_host_byte) (λ b. is_slash File b ≡ false) host_no_slash host all in
     let no_drive = host_no_drive host all in
     let bytes = All-weaker (Passes is_host_byte) IsPlainByte host_plain host all in
     let here = read_from_host host path (All-append IsPlainByte host (47 ∷ path) bytes plain) no_slash no_drive in
-    let there = read_from_host host other (All-append IsPlainByte host (47 ∷ other) bytes plain_other) no_slash no_drive in
+    let there = read_from_host host other (All-append IsPlainByte host (47 ∷ other) bytes plain_other) no_slash
+    no_drive in
     subst IsOk (sym there) (same_refusal (parse_file_host host) (47 ∷ path) (47 ∷ other) (subst IsOk here ok))
 
 -- the text of a file URL on a host is read, where that of its root is
 pub file_text_at_host : (host : List ℕ) (folder : Bool) (names : List (List ℕ)) → All (Passes is_host_byte) host
-    → IsOk (parse_url None (codes "file://" ++ (host ++ codes "/"))) → IsOk (parse_url None (file_text host folder names))
+    → IsOk (parse_url None (codes "file://" ++ (host ++ codes "/")))
+    → IsOk (parse_url None (file_text host folder names))
 file_text_at_host host folder names all ok =
     let first = escaped_path_first folder names in
     let plain = subst (All IsPlainByte) first.1 (plain_escaped_path folder names) in
@@ -189,4 +208,5 @@ file_text_at_host host folder names all ok =
 -- `file:///` is read
 pub root_is_read : IsOk (parse_url None (codes "file:///"))
 unfolding parse_file_host
-root_is_read = subst IsOk (sym (read_from_host [] [] (plain_from_tests (codes "/") refl) (All-nil _) (host_no_drive [] (All-nil _)))) refl
+root_is_read = subst IsOk
+    (sym (read_from_host [] [] (plain_from_tests (codes "/") refl) (All-nil _) (host_no_drive [] (All-nil _)))) refl

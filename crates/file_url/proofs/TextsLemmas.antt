@@ -17,9 +17,11 @@ prefix_len-texts test [] = refl
 prefix_len-texts test (text ∷ list) = ap (λ n. if test text.now then 1 + n else 0) (prefix_len-texts test list)
 
 -- one more text comes after a slash, unless it is the first
-pub path_of_mapped : (f : List ℕ → List ℕ) (absolute : Bool) (list : List (Bor (List ℕ))) (i : ℕ) (d : Bor (List ℕ)) → i < length list
+pub path_of_mapped : (f : List ℕ → List ℕ) (absolute : Bool) (list : List (Bor (List ℕ))) (i : ℕ) (d : Bor (List ℕ))
+    → i < length list
     → path_of absolute (map f (texts (take (i + 1) list)))
-    ≡ (path_of absolute (map f (texts (take i list))) ++ (if nat_eq i 0 then [] else codes "/")) ++ f (get_or list i d).now
+    ≡ (path_of absolute (map f (texts (take i list))) ++ (if nat_eq i 0 then [] else codes "/"))
+    ++ f (get_or list i d).now
 path_of_mapped f absolute list i d inside =
     let front = texts (take i list) in
     let last = (get_or list i d).now in

@@ -32,7 +32,8 @@ read_ok (Ok url) ok = refl
 read_ok (Err e) ok = absurd (cc ok)
 
 -- an absolute path has a URL
-pub absolute_path_has_a_url : (folder : Bool) (path : List ℕ) → is_absolute (normal_path path) ≡ true → IsOk (url_of_path folder path)
+pub absolute_path_has_a_url : (folder : Bool) (path : List ℕ) → is_absolute (normal_path path) ≡ true
+    → IsOk (url_of_path folder path)
 absolute_path_has_a_url folder path absolute =
     subst IsOk (sym (cond-true _ _ _ absolute)) (read_ok _ (file_text_is_read folder (plain_parts (normal_path path))))
 
@@ -61,18 +62,22 @@ first_step_host path =
     let share = host_before (drop 2 path) path in
     let last : List ℕ × List ℕ = if begins path (codes "\\\\") then share else ([], path) in
     let long : List ℕ × List ℕ = if begins path (codes "\\\\?\\") then ([], drop 4 path) else last in
-    cond_both (begins path (codes "\\\\?\\UNC\\")) (host_before (drop 8 path) path) long MayBeFirst (λ _. host_before_host (drop 8 path) path)
+    cond_both (begins path (codes "\\\\?\\UNC\\")) (host_before (drop 8 path) path) long MayBeFirst
+    (λ _. host_before_host (drop 8 path) path)
     (λ _. cond_both (begins path (codes "\\\\?\\")) ([], drop 4 path) last MayBeFirst (λ _. inl refl)
-    (λ _. cond_both (begins path (codes "\\\\")) share ([], path) MayBeFirst (λ _. host_before_host (drop 2 path) path) (λ _. inl refl)))
+    (λ _. cond_both (begins path (codes "\\\\")) share ([], path) MayBeFirst (λ _. host_before_host (drop 2 path) path)
+    (λ _. inl refl)))
 
 -- a path with backslashes has a URL
-pub wasm_path_has_a_url : (folder : Bool) (path : List ℕ) → list_any is_backslash path ≡ true → IsOk (wasm_url_of_path folder path)
+pub wasm_path_has_a_url : (folder : Bool) (path : List ℕ) → list_any is_backslash path ≡ true
+    → IsOk (wasm_url_of_path folder path)
 unfolding wasm_url_of_path
 wasm_path_has_a_url folder path backslash =
     subst IsOk (sym (cond-true _ _ _ backslash))
     (host_url (first_step path).0 folder (backslash_parts (first_step path).1) (first_step_host path))
 
 -- and one without has a URL where no component is `.` or `..`
-pub slash_path_has_a_url : (folder : Bool) (path : List ℕ) → has_dot_component path ≡ false → IsOk (slash_url folder path)
+pub slash_path_has_a_url : (folder : Bool) (path : List ℕ) → has_dot_component path ≡ false
+    → IsOk (slash_url folder path)
 slash_path_has_a_url folder path none =
     subst IsOk (sym (cond-false _ _ _ none)) (read_ok _ (file_text_is_read folder (plain_parts path)))

@@ -47,7 +47,8 @@ length_more found i site n new bytes inside here count text grown =
     ∙ length-append (values_of (take i found)) site.value in
     omega (arith, whole, grown, count, ap length text)
 
-pub records_more : (found : List Site) (i : ℕ) (site : Site) (sites new : List SourceSite) (made : SourceSite) (start end : ℕ)
+pub records_more : (found : List Site) (i : ℕ) (site : Site) (sites new : List SourceSite) (made : SourceSite)
+    (start end : ℕ)
     → i < length found → site ≡ get_or found i site → sites ≡ records_from 0 (take i found)
     → start ≡ length (values_of (take i found)) → end ≡ start + length site.value
     → made ≡ record_of site start end → new ≡ sites ++ made ∷ [] → new ≡ records_from 0 (take (i + 1) found)
@@ -60,11 +61,13 @@ records_more found i site sites new made start end inside here are starts ends i
 -- ---- what is told
 
 -- the room behind a call that put the items, or that didn't
-pub put_after : {A : Type 0} (fit : Bool) (items room new : List A) → fit ≡ true → new ≡ items ++ drop (length items) room
+pub put_after : {A : Type 0} (fit : Bool) (items room new : List A) → fit ≡ true
+    → new ≡ items ++ drop (length items) room
     → new ≡ after fit items room
 put_after fit items room new fits_in is = rw fits_in is
 
-pub kept_after : {A : Type 0} (fit : Bool) (items room new : List A) → fit ≡ false → new ≡ room → new ≡ after fit items room
+pub kept_after : {A : Type 0} (fit : Bool) (items room new : List A) → fit ≡ false → new ≡ room
+    → new ≡ after fit items room
 kept_after fit items room new fails is = rw fails is
 
 -- from what was laid out

@@ -1,7 +1,7 @@
 -- One answer makes one entry of a specifier, given the laws of readings and of trees.
 use Rattle.std.proofs.Common.{◌≡◌, ◌∙◌, sym, ap, subst, List, ℕ}
 use Rattle.std.specs.Prelude.{Bool, true, false, codes, Option, Some, None, MatchOption, Result, Ok, Err}
-use Rattle.es_lexer.specs.declared.token.Token.{Token}
+use Rattle.es_token.specs.declared.token.Token.{Token}
 use Rattle.es_lexer.specs.declared.error.LexicalKind.{LexicalKind}
 use Rattle.es_lexer.specs.Reads.{ReadsTokens}
 use Rattle.es_lexer.specs.Stops.{Stops}
@@ -89,13 +89,16 @@ by_language-once s media bytes (Some l) made other laws makes makes_too =
 
 -- content, by how it is read
 by_kind-once : (s : List ℕ) (media : MediaType) (bytes : List ℕ) (read : Option ModuleKind) (made other : Entry)
-    → HasOneReading (without_mark bytes) → MatchOption read (made ≡ unsupported media) (λ k. OfKind s media k bytes made)
+    → HasOneReading (without_mark bytes)
+    → MatchOption read (made ≡ unsupported media) (λ k. OfKind s media k bytes made)
     → MatchOption read (other ≡ unsupported media) (λ k. OfKind s media k bytes other) → made ≡ other
 by_kind-once s media bytes None made other laws is so = is ∙ sym so
 by_kind-once s media bytes (Some module_kind.Source) made other laws makes makes_too =
     by_language-once s media bytes (language_of media) made other laws makes makes_too
-by_kind-once s media bytes (Some module_kind.Json) made other laws makes makes_too = OfJson-once bytes made other makes makes_too
-by_kind-once s media bytes (Some module_kind.Wasm) made other laws makes makes_too = OfWasm-once s bytes made other makes makes_too
+by_kind-once s media bytes (Some module_kind.Json) made other laws makes makes_too =
+    OfJson-once bytes made other makes makes_too
+by_kind-once s media bytes (Some module_kind.Wasm) made other laws makes makes_too =
+    OfWasm-once s bytes made other makes makes_too
 
 -- content of a media type
 OfContent-once : (s : List ℕ) (media : MediaType) (bytes : List ℕ) (made other : Entry)
@@ -105,10 +108,12 @@ OfContent-once s media bytes made other laws makes makes_too =
 
 -- ---- where no loader is asked
 
-OfData-once : ((text : List ℕ) → HasOneReading text) → (s : List ℕ) (held : Result DataModule DataError) (made other : Entry)
+OfData-once : ((text : List ℕ) → HasOneReading text)
+    → (s : List ℕ) (held : Result DataModule DataError) (made other : Entry)
     → OfData s held made → OfData s held other → made ≡ other
 OfData-once laws s (Ok held) made other makes makes_too =
-    OfContent-once s (with_content_type Unknown held.mime) held.body made other (laws (without_mark held.body)) makes makes_too
+    OfContent-once s (with_content_type Unknown held.mime) held.body made other (laws (without_mark held.body)) makes
+    makes_too
 OfData-once laws s (Err e) made other is so = is ∙ sym so
 
 OfPackage-once : (s : List ℕ) (made other : Entry) → OfPackage s made → OfPackage s other → made ≡ other
@@ -130,7 +135,8 @@ pub Analysed-once : ((text : List ℕ) → HasOneReading text) → (s : List ℕ
     → Analysed s a made → Analysed s a other → made ≡ other
 unfolding Analysed
 Analysed-once laws s (Some (answer.Content headers bytes)) made other is so =
-    OfContent-once s (by_header (media_type_read (parse_url None s)) (header_value (codes "content-type") headers)) bytes made other
+    OfContent-once s (by_header (media_type_read (parse_url None s)) (header_value (codes "content-type") headers))
+    bytes made other
     (laws (without_mark bytes)) is so
 Analysed-once laws s (Some (answer.Redirect target)) made other is so = is ∙ sym so
 Analysed-once laws s (Some answer.External) made other is so = is ∙ sym so

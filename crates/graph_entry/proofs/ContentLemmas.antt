@@ -36,7 +36,8 @@ outcome_entry s bytes (Err e) = entry.Error (WasmParse e)
 pub OfWasm-once : (s bytes : List ℕ) (made other : Entry) → OfWasm s bytes made → OfWasm s bytes other → made ≡ other
 OfWasm-once s bytes made other makes also = one makes also
   where
-    same : (a b : Result Deps ParseError) → ReadsModule true bytes a → ReadsModule true bytes b → outcome_entry s bytes a ≡ outcome_entry s bytes b
+    same : (a b : Result Deps ParseError) → ReadsModule true bytes a → ReadsModule true bytes b
+        → outcome_entry s bytes a ≡ outcome_entry s bytes b
     same a b h k = ap (outcome_entry s bytes) (one_outcome true bytes a b h k)
 
     one : OfWasm s bytes made → OfWasm s bytes other → made ≡ other
@@ -67,10 +68,12 @@ module _ (P Q : List ℕ → Dependency → Type 0) where
 pub imports-CutsName : (s bytes : List ℕ) → HoldsOfImports CutsName s bytes
 imports-CutsName s bytes deps reads = along deps.imports (cuts_names true bytes deps reads)
   where
-    along : (is : List Imported) → AllByRecursion (wasm.CutsName bytes) is → All (λ i. CutsName bytes (wasm_dependency s i)) is
+    along : (is : List Imported) → AllByRecursion (wasm.CutsName bytes) is
+        → All (λ i. CutsName bytes (wasm_dependency s i)) is
     along [] cuts = All-nil (λ i. CutsName bytes (wasm_dependency s i))
     along (i ∷ is) cuts =
-        All-cons (λ i. CutsName bytes (wasm_dependency s i)) i is (i.module_range, refl, cuts.0.0, cuts.0.1, cuts.0.2) (along is cuts.1)
+        All-cons (λ i. CutsName bytes (wasm_dependency s i)) i is (i.module_range, refl, cuts.0.0, cuts.0.1, cuts.0.2)
+        (along is cuts.1)
 
 -- the edge of an import never keeps that room ran out
 pub imports-KeepsReasonOf : (s bytes : List ℕ) → HoldsOfImports KeepsReasonOf s bytes
@@ -82,5 +85,6 @@ pub wasm_given : (s bytes : List ℕ) (edges : List Dependency) → GivesEdges s
     → OfWasm s bytes (entry.Module (Wasm (record { bytes = bytes; dependencies = edges })))
 wasm_given s bytes edges gives = with_imports gives.0 gives.1 (rw gives.2 refl)
 
-pub wasm_refused : (s bytes : List ℕ) (e : ParseError) → GivesEdges s bytes (Err e) → OfWasm s bytes (entry.Error (WasmParse e))
+pub wasm_refused : (s bytes : List ℕ) (e : ParseError) → GivesEdges s bytes (Err e)
+    → OfWasm s bytes (entry.Error (WasmParse e))
 wasm_refused s bytes e gives = faulty e gives.0 gives.1 refl

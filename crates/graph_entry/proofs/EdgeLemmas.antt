@@ -2,7 +2,7 @@
 use Rattle.std.proofs.Common.{◌≡◌, sym, subst, refl, List, ℕ}
 use Rattle.std.specs.Prelude.{Bool, true, false, codes, All, Option, Some, None, MatchOption, Result, Ok, Err, slice_index_or}
 use Rattle.std.proofs.lemmas.List.Elements.{All-map}
-use Rattle.es_lexer.specs.declared.token.Token.{Token}
+use Rattle.es_token.specs.declared.token.Token.{Token}
 use Rattle.es_lexer.specs.Reads.{ReadsTokens}
 use Rattle.es_tree.specs.declared.error.Lang.{Lang}
 use Rattle.es_tree.specs.declared.error.Mode.TheVariants as mode
@@ -40,14 +40,16 @@ HoldsOfSites P s text = (lang : Lang) (tokens : List Token) (tree : Program) →
 -- ---- level by level
 
 module _ (P Q : List ℕ → Dependency → Type 0) (s : List ℕ) (media : MediaType) (lang : Lang) where
-  OfTokens-edges : (text : List ℕ) (tokens : List Token) (made : Entry) → HoldsOfSites P s text → ReadsTokens text tokens
+  OfTokens-edges : (text : List ℕ) (tokens : List Token) (made : Entry) → HoldsOfSites P s text
+      → ReadsTokens text tokens
       → OfTokens s media lang text tokens made → EachEdge P Q made
   OfTokens-edges text tokens made holds reads (with_tree tree derived is) =
       subst (EachEdge P Q) (sym is)
       (All-map (P text) (dependency_of s) (sites_of tree) (holds lang tokens tree reads derived))
   OfTokens-edges text tokens made holds reads (no_tree nothing is) = subst (EachEdge P Q) (sym is) tt
 
-  OfText-edges : (text : List ℕ) (made : Entry) → HoldsOfSites P s text → OfText s media lang text made → EachEdge P Q made
+  OfText-edges : (text : List ℕ) (made : Entry) → HoldsOfSites P s text → OfText s media lang text made
+      → EachEdge P Q made
   OfText-edges text made holds (with_tokens tokens reads makes) = OfTokens-edges text tokens made holds reads makes
   OfText-edges text made holds (no_tokens kind place stops is) = subst (EachEdge P Q) (sym is) tt
 
@@ -71,11 +73,13 @@ by_kind-edges P Q s media bytes None made sites imports is = subst (EachEdge P Q
 by_kind-edges P Q s media bytes (Some module_kind.Source) made sites imports makes =
     by_language-edges P Q s media bytes (language_of media) made sites makes
 by_kind-edges P Q s media bytes (Some module_kind.Json) made sites imports makes = OfJson-edges P Q bytes made makes
-by_kind-edges P Q s media bytes (Some module_kind.Wasm) made sites imports makes = OfWasm-edges P Q s bytes made imports makes
+by_kind-edges P Q s media bytes (Some module_kind.Wasm) made sites imports makes =
+    OfWasm-edges P Q s bytes made imports makes
 
 -- content of a media type
 OfContent-edges : (P Q : List ℕ → Dependency → Type 0) (s : List ℕ) (media : MediaType) (bytes : List ℕ) (made : Entry)
-    → HoldsOfSites P s (without_mark bytes) → HoldsOfImports Q s bytes → OfContent s media bytes made → EachEdge P Q made
+    → HoldsOfSites P s (without_mark bytes) → HoldsOfImports Q s bytes → OfContent s media bytes made
+    → EachEdge P Q made
 OfContent-edges P Q s media bytes made sites imports makes =
     by_kind-edges P Q s media bytes (kind_of media) made sites imports makes
 
@@ -85,15 +89,18 @@ OfData-edges : (P Q : List ℕ → Dependency → Type 0) (s : List ℕ) → ((t
     → ((bytes : List ℕ) → HoldsOfImports Q s bytes) → (held : Result DataModule DataError) (made : Entry)
     → OfData s held made → EachEdge P Q made
 OfData-edges P Q s sites imports (Ok held) made makes =
-    OfContent-edges P Q s (with_content_type Unknown held.mime) held.body made (sites (without_mark held.body)) (imports held.body) makes
+    OfContent-edges P Q s (with_content_type Unknown held.mime) held.body made (sites (without_mark held.body))
+    (imports held.body) makes
 OfData-edges P Q s sites imports (Err e) made is = subst (EachEdge P Q) (sym is) tt
 
-OfPackage-edges : (P Q : List ℕ → Dependency → Type 0) (s : List ℕ) (made : Entry) → OfPackage s made → EachEdge P Q made
+OfPackage-edges : (P Q : List ℕ → Dependency → Type 0) (s : List ℕ) (made : Entry) → OfPackage s made
+    → EachEdge P Q made
 OfPackage-edges P Q s made (with_package p names is) = subst (EachEdge P Q) (sym is) tt
 OfPackage-edges P Q s made (no_package none is) = subst (EachEdge P Q) (sym is) tt
 
 OfUnasked-edges : (P Q : List ℕ → Dependency → Type 0) (s : List ℕ) → ((text : List ℕ) → HoldsOfSites P s text)
-    → ((bytes : List ℕ) → HoldsOfImports Q s bytes) → (is_data : Bool) (made : Entry) → OfUnasked is_data s made → EachEdge P Q made
+    → ((bytes : List ℕ) → HoldsOfImports Q s bytes) → (is_data : Bool) (made : Entry) → OfUnasked is_data s made
+    → EachEdge P Q made
 OfUnasked-edges P Q s sites imports true made makes = OfData-edges P Q s sites imports (data_of s) made makes
 OfUnasked-edges P Q s sites imports false made makes = OfPackage-edges P Q s made makes
 
@@ -101,10 +108,12 @@ OfUnasked-edges P Q s sites imports false made makes = OfPackage-edges P Q s mad
 
 -- the edges of what an answer makes
 pub Analysed-edges : (P Q : List ℕ → Dependency → Type 0) (s : List ℕ) → ((text : List ℕ) → HoldsOfSites P s text)
-    → ((bytes : List ℕ) → HoldsOfImports Q s bytes) → (a : Option LoadAnswer) (made : Entry) → Analysed s a made → EachEdge P Q made
+    → ((bytes : List ℕ) → HoldsOfImports Q s bytes) → (a : Option LoadAnswer) (made : Entry) → Analysed s a made
+    → EachEdge P Q made
 unfolding Analysed
 Analysed-edges P Q s sites imports (Some (answer.Content headers bytes)) made is =
-    OfContent-edges P Q s (by_header (media_type_read (parse_url None s)) (header_value (codes "content-type") headers)) bytes made
+    OfContent-edges P Q s
+    (by_header (media_type_read (parse_url None s)) (header_value (codes "content-type") headers)) bytes made
     (sites (without_mark bytes)) (imports bytes) is
 Analysed-edges P Q s sites imports (Some (answer.Redirect target)) made is = subst (EachEdge P Q) (sym is) tt
 Analysed-edges P Q s sites imports (Some answer.External) made is = subst (EachEdge P Q) (sym is) tt
@@ -120,5 +129,6 @@ pub All-CutsFrom : (s text : List ℕ) (sites : List Site) → All (λ site. Cut
 All-CutsFrom s text sites cuts k site within = ((slice_index_or sites k site).range, refl, cuts k site within)
 
 -- the edge of a site never keeps that room ran out
-pub All-KeepsReasonOf : (s text : List ℕ) (sites : List Site) → All (λ site. KeepsReasonOf text (dependency_of s site)) sites
+pub All-KeepsReasonOf : (s text : List ℕ) (sites : List Site)
+    → All (λ site. KeepsReasonOf text (dependency_of s site)) sites
 All-KeepsReasonOf s text sites k site within = resolve-kept s (slice_index_or sites k site).value

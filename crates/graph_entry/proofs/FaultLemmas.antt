@@ -1,7 +1,7 @@
 -- No entry's fault is that memory ran out.
 use Rattle.std.proofs.Common.{◌≡◌, ◌≢◌, sym, subst, refl, List, ℕ}
 use Rattle.std.specs.Prelude.{Bool, true, false, ◌==◌, codes, take, position, Option, Some, None, MatchOption, Result, Ok, Err}
-use Rattle.es_lexer.specs.declared.token.Token.{Token}
+use Rattle.es_token.specs.declared.token.Token.{Token}
 use Rattle.es_tree.specs.declared.error.Lang.{Lang}
 use Rattle.url.specs.Parser.{parse_url}
 use Rattle.wasm_dep_analyzer.specs.declared.error.ParseError.{ParseError}
@@ -29,7 +29,8 @@ use Rattle.graph_entry.specs.Wasm.{OfWasm, with_imports, faulty}
 use Rattle.graph_entry.specs.Analysed.{Analysed, OfContent, OfData, OfPackage, with_package, no_package, OfUnasked, by_header, OfKind, OfBytes, OfText, OfTokens, with_tree, no_tree, with_tokens, no_tokens, with_text, no_text, language_of, media_type_read, not_built, unsupported}
 
 module _ (s : List ℕ) (media : MediaType) (lang : Lang) where
-  OfTokens-fault : (text : List ℕ) (tokens : List Token) (made : Entry) → OfTokens s media lang text tokens made → KeepsFault made
+  OfTokens-fault : (text : List ℕ) (tokens : List Token) (made : Entry) → OfTokens s media lang text tokens made
+      → KeepsFault made
   OfTokens-fault text tokens made (with_tree tree derived is) = subst KeepsFault (sym is) tt
   OfTokens-fault text tokens made (no_tree nothing is) = subst KeepsFault (sym is) tt
 
@@ -61,7 +62,8 @@ OfWasm-fault s bytes made (faulty e room reads is) = subst KeepsFault (sym is) (
 by_kind-fault : (s : List ℕ) (media : MediaType) (bytes : List ℕ) (read : Option ModuleKind) (made : Entry)
     → MatchOption read (made ≡ unsupported media) (λ k. OfKind s media k bytes made) → KeepsFault made
 by_kind-fault s media bytes None made is = subst KeepsFault (sym is) tt
-by_kind-fault s media bytes (Some module_kind.Source) made makes = by_language-fault s media bytes (language_of media) made makes
+by_kind-fault s media bytes (Some module_kind.Source) made makes =
+    by_language-fault s media bytes (language_of media) made makes
 by_kind-fault s media bytes (Some module_kind.Json) made makes = OfJson-fault bytes made makes
 by_kind-fault s media bytes (Some module_kind.Wasm) made makes = OfWasm-fault s bytes made makes
 
@@ -92,7 +94,8 @@ kept_data : (e : DataError) → e ≢ data_url.OutOfMemory → KeepsFault (entry
 kept_data data_url.OutOfMemory room = absurd (room refl)
 kept_data _ room = tt
 
-OfData-fault : (s : List ℕ) (held : Result DataModule DataError) (made : Entry) → told held → OfData s held made → KeepsFault made
+OfData-fault : (s : List ℕ) (held : Result DataModule DataError) (made : Entry) → told held → OfData s held made
+    → KeepsFault made
 OfData-fault s (Ok held) made t makes =
     let media = with_content_type Unknown held.mime in
     by_kind-fault s media held.body (kind_of media) made makes

@@ -37,7 +37,8 @@ told_ok x = record { told = tt }
 told_err : {T : Type 0} (e : ParseError) → IsReason e → IsTold {T = T} (Err e)
 told_err e reason = record { told = reason }
 
-told_then : {T U : Type 0} (x : Parsed T) (f : T → Parsed U) → IsTold x → ((t : T) → IsTold (f t)) → IsTold (and_then x f)
+told_then : {T U : Type 0} (x : Parsed T) (f : T → Parsed U) → IsTold x → ((t : T) → IsTold (f t))
+    → IsTold (and_then x f)
 told_then (Ok x) f one two = two x
 told_then (Err e) f one two = told_err e one.told
 
@@ -157,15 +158,18 @@ resolved_as-kept : (read : Parsed Parts) → IsTold read → KeepsReason (kept_o
 resolved_as-kept (Ok url) told = tt
 resolved_as-kept (Err e) told = kept_refusal e told.told
 
-kept_if : (b : Bool) (x y : imports.Resolved) → KeepsReason (kept_of x) → KeepsReason (kept_of y) → KeepsReason (kept_of (if b then x else y))
+kept_if : (b : Bool) (x y : imports.Resolved) → KeepsReason (kept_of x) → KeepsReason (kept_of y)
+    → KeepsReason (kept_of (if b then x else y))
 kept_if true x y one two = one
 kept_if false x y one two = two
 
-relative-kept : (referrer : Parsed Parts) (text : List ℕ) → IsTold referrer → KeepsReason (kept_of (relative_import referrer text))
+relative-kept : (referrer : Parsed Parts) (text : List ℕ) → IsTold referrer
+    → KeepsReason (kept_of (relative_import referrer text))
 relative-kept referrer text told =
     let joined = and_then referrer (λ base. parse_url (Some base) text) in
     kept_if _ (resolved_as joined) (Err (specifier.ImportPrefixMissing text))
-    (resolved_as-kept joined (told_then referrer (λ base. parse_url (Some base) text) told (λ base. parse_url-told (Some base) text))) tt
+    (resolved_as-kept joined
+    (told_then referrer (λ base. parse_url (Some base) text) told (λ base. parse_url-told (Some base) text))) tt
 
 read-kept : (read referrer : Parsed Parts) (text : List ℕ) → IsTold read → IsTold referrer
     → KeepsReason (kept_of (import_read read referrer text))
@@ -177,7 +181,8 @@ read-kept (Err InvalidPort) referrer text told also = kept_refusal InvalidPort t
 read-kept (Err InvalidIpv4Address) referrer text told also = kept_refusal InvalidIpv4Address told.told
 read-kept (Err InvalidIpv6Address) referrer text told also = kept_refusal InvalidIpv6Address told.told
 read-kept (Err InvalidDomainCharacter) referrer text told also = kept_refusal InvalidDomainCharacter told.told
-read-kept (Err RelativeUrlWithCannotBeABaseBase) referrer text told also = kept_refusal RelativeUrlWithCannotBeABaseBase told.told
+read-kept (Err RelativeUrlWithCannotBeABaseBase) referrer text told also =
+    kept_refusal RelativeUrlWithCannotBeABaseBase told.told
 read-kept (Err SetHostOnCannotBeABaseUrl) referrer text told also = kept_refusal SetHostOnCannotBeABaseUrl told.told
 read-kept (Err CannotSet) referrer text told also = kept_refusal CannotSet told.told
 read-kept (Err OutOfMemory) referrer text told also = kept_refusal OutOfMemory told.told
@@ -187,7 +192,8 @@ read-kept (Err Overflow) referrer text told also = kept_refusal Overflow told.to
 allowed-kept : (referrer target : Parts) → KeepsReason (allowed referrer target)
 allowed-kept referrer target = by (is_downgrade referrer target) (is_local_import referrer target)
   where
-    by : (b c : Bool) → KeepsReason (if b then Err InvalidDowngrade else if c then Err InvalidLocalImport else Ok target)
+    by : (b c : Bool) → KeepsReason
+        (if b then Err InvalidDowngrade else if c then Err InvalidLocalImport else Ok target)
     by true c = tt
     by false true = tt
     by false false = tt

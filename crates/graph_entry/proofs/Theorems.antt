@@ -38,9 +38,11 @@ analysed_cuts s =
     (imports-CutsName s)
 
 -- an edge without target never keeps as its reason that room ran out
-pub analysed_reasons : (s : List ℕ) (a : Option LoadAnswer) (made : Entry) → Analysed s a made → EachEdge KeepsReasonOf KeepsReasonOf made
+pub analysed_reasons : (s : List ℕ) (a : Option LoadAnswer) (made : Entry) → Analysed s a made
+    → EachEdge KeepsReasonOf KeepsReasonOf made
 analysed_reasons s =
-    Analysed-edges KeepsReasonOf KeepsReasonOf s (λ text lang tokens tree reads derived. All-KeepsReasonOf s text (sites_of tree))
+    Analysed-edges KeepsReasonOf KeepsReasonOf s
+    (λ text lang tokens tree reads derived. All-KeepsReasonOf s text (sites_of tree))
     (imports-KeepsReasonOf s)
 
 -- an entry's fault is never that memory ran out

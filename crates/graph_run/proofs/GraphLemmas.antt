@@ -23,41 +23,54 @@ within_told : (log : Log) (modules : List (Parts × LoadAnswer)) → IsToldLog (
 within_told log modules as_told s a given = ap Some (sym (as_told s a (module_answer modules s) given refl))
 
 -- a graph that the builder gave is that of its roots and its loader's modules
-pub built_graph : (following : Following) (r : Result GraphData BuildError) (from starts : List Specifier) (log : Log) (now modules : List (Parts × LoadAnswer))
-    → from ≡ starts → tells now ≡ tells modules → IsToldLog (tells now) log → IfOk r (λ g. IsGraph (rules_of following) from (answer_to log) g.entries)
+pub built_graph : (following : Following) (r : Result GraphData BuildError) (from starts : List Specifier) (log : Log)
+    (now modules : List (Parts × LoadAnswer))
+    → from ≡ starts → tells now ≡ tells modules → IsToldLog (tells now) log
+    → IfOk r (λ g. IsGraph (rules_of following) from (answer_to log) g.entries)
     → IfOk r (λ g. IsGraph (rules_of following) starts (tells modules) g.entries)
 built_graph following (Ok g) from starts log now modules same_starts same_told as_told graph =
-    let over_told : IsGraph (rules_of following) from (tells now) g.entries = graph_told following from log (tells now) g.entries graph as_told (λ s. refl) in
+    let over_told : IsGraph (rules_of following) from (tells now) g.entries =
+    graph_told following from log (tells now) g.entries graph as_told (λ s. refl) in
     subst (λ (ss : List Specifier). IsGraph (rules_of following) ss (tells modules) g.entries) same_starts
     (subst (λ (told : Answers). IsGraph (rules_of following) from told g.entries) same_told over_told)
 built_graph following (Err e) from starts log now modules same_starts same_told as_told graph = tt
 
 -- an error that it ends with is that more is reached over its loader's modules, or that memory ran out
-pub refused_large : (following : Following) (r : Result GraphData BuildError) (from starts : List Specifier) (log : Log) (now modules : List (Parts × LoadAnswer)) (limit bound : ℕ)
+pub refused_large : (following : Following) (r : Result GraphData BuildError) (from starts : List Specifier)
+    (log : Log) (now modules : List (Parts × LoadAnswer)) (limit bound : ℕ)
     → from ≡ starts → limit ≡ bound → tells now ≡ tells modules → IsToldLog (tells now) log
     → ((seen : ℕ) → r ≡ Err (TooManyModules seen) → IsTooMany (rules_of following) from log limit seen)
     → (r ≡ Err NotYet → ⊥) → ((s : Parts) → r ≡ Err (UnaskedAnswer s) → ⊥) → (r ≡ Err Finished → ⊥)
     → IfErr r (SaysLarge (rules_of following) starts (tells modules) bound)
-refused_large following (Ok g) from starts log now modules limit bound same_starts same_limit same_told as_told large no_wait no_unasked no_end = tt
-refused_large following (Err NotYet) from starts log now modules limit bound same_starts same_limit same_told as_told large no_wait no_unasked no_end = no_wait refl
-refused_large following (Err (TooManyModules seen)) from starts log now modules limit bound same_starts same_limit same_told as_told large no_wait no_unasked no_end =
+refused_large following (Ok g) from starts log now modules limit bound same_starts same_limit same_told as_told large
+    no_wait no_unasked no_end = tt
+refused_large following (Err NotYet) from starts log now modules limit bound same_starts same_limit same_told as_told
+    large no_wait no_unasked no_end = no_wait refl
+refused_large following (Err (TooManyModules seen)) from starts log now modules limit bound same_starts same_limit
+    same_told as_told large no_wait no_unasked no_end =
     let many = large seen refl in
     let over_told : SaysLarge (rules_of following) from (tells now) limit (TooManyModules seen) = (
       record {
         members = many.members;
         counted = many.counted ∙ many.above;
         once = many.once;
-        reached = λ s among. reached_grows (rules_of following) from (answer_to log) (tells now) (within_told log now as_told) s (many.reached s among);
+        reached = λ s among. reached_grows (rules_of following) from (answer_to log) (tells now)
+            (within_told log now as_told) s (many.reached s among);
       },
       many.above,
     ) in
-    subst (λ (ss : List Specifier). SaysLarge (rules_of following) ss (tells modules) bound (TooManyModules seen)) same_starts
+    subst (λ (ss : List Specifier). SaysLarge (rules_of following) ss (tells modules) bound (TooManyModules seen))
+    same_starts
     (subst (λ (n : ℕ). SaysLarge (rules_of following) from (tells modules) n (TooManyModules seen)) same_limit
-    (subst (λ (told : Answers). SaysLarge (rules_of following) from told limit (TooManyModules seen)) same_told over_told))
-refused_large following (Err (UnaskedAnswer url)) from starts log now modules limit bound same_starts same_limit same_told as_told large no_wait no_unasked no_end =
+    (subst (λ (told : Answers). SaysLarge (rules_of following) from told limit (TooManyModules seen)) same_told
+    over_told))
+refused_large following (Err (UnaskedAnswer url)) from starts log now modules limit bound same_starts same_limit
+    same_told as_told large no_wait no_unasked no_end =
     no_unasked url refl
-refused_large following (Err Finished) from starts log now modules limit bound same_starts same_limit same_told as_told large no_wait no_unasked no_end = no_end refl
-refused_large following (Err OutOfMemory) from starts log now modules limit bound same_starts same_limit same_told as_told large no_wait no_unasked no_end = tt
+refused_large following (Err Finished) from starts log now modules limit bound same_starts same_limit same_told as_told
+    large no_wait no_unasked no_end = no_end refl
+refused_large following (Err OutOfMemory) from starts log now modules limit bound same_starts same_limit same_told
+    as_told large no_wait no_unasked no_end = tt
 
 -- where nothing happened to a loader, no request of it is open
 pub settled_none : (events : List Event) → events ≡ [] → IsSettled events

@@ -23,14 +23,16 @@ use Rattle.graph_run.specs.Steps.{IsWritten}
 pub too_large_none : (b : Bundle) (g : GraphData) → IsTooLarge b → IsGraphOf b g → ⊥
 too_large_none b g t of =
     let bound : length t.members ≤ length (members_of g.entries) =
-    length-le_from_is_member nat_list_eq_equiv t.members (members_of g.entries) t.once (λ s h. of.entries.members.all s (t.reached s h)) in
+    length-le_from_is_member nat_list_eq_equiv t.members (members_of g.entries) t.once
+    (λ s h. of.entries.members.all s (t.reached s h)) in
     let same : length (members_of g.entries) ≡ length g.entries = length-map g.entries (λ e. text_of e.0) in
     omega (arith, bound, same, of.within, t.counted)
 
 -- it isn't both
 pub not_both : (b : Bundle) → IsTooLarge b → IsWithinLimit b → ⊥
 not_both b t w =
-    let bound : length t.members ≤ length w.0 = length-le_from_is_member nat_list_eq_equiv t.members w.0 t.once (λ s h. w.1.all s (t.reached s h)) in
+    let bound : length t.members ≤ length w.0 =
+    length-le_from_is_member nat_list_eq_equiv t.members w.0 t.once (λ s h. w.1.all s (t.reached s h)) in
     omega (arith, bound, w.2, t.counted)
 
 -- ---- what is due for an input
@@ -46,23 +48,27 @@ one_bundle input b c h k =
     let both : Some b ≡ Some c = sym h.says ∙ ap bundle_of same ∙ k.says in cc
 
 -- for an input that is a bundle what is due is that of the bundle
-due_of : (input : List ℕ) (status : Status) (text : List ℕ) (b : Bundle) → IsInput input b → IsDue input status text → OfBundle b status text
+due_of : (input : List ℕ) (status : Status) (text : List ℕ) (b : Bundle) → IsInput input b → IsDue input status text
+    → OfBundle b status text
 due_of input status text b says (long lt _ _) = absurd (omega (arith, lt, says.within))
 due_of input status text b says (no_json _ never _ _) = absurd (never says.value says.json)
 due_of input status text b says (no_bundle _ value json none _ _) =
     let same : says.value ≡ value = one_value input says.value value says.json json in
     let both : Some b ≡ None = sym says.says ∙ ap bundle_of same ∙ none in absurd cc
-due_of input status text b says (bundle c also of) = subst (λ (d : Bundle). OfBundle d status text) (one_bundle input c b also says) of
+due_of input status text b says (bundle c also of) =
+    subst (λ (d : Bundle). OfBundle d status text) (one_bundle input c b also says) of
 
 -- the line of a bad input, for a refused one
-refused_due : (input : List ℕ) (status : Status) (text : List ℕ) → IsRefused input → IsDue input status text → status ≡ BadInput
+refused_due : (input : List ℕ) (status : Status) (text : List ℕ) → IsRefused input → IsDue input status text
+    → status ≡ BadInput
 refused_due input status text refused (long _ is _) = is
 refused_due input status text refused (no_json _ _ is _) = is
 refused_due input status text refused (no_bundle _ _ _ _ is _) = is
 refused_due input status text refused (bundle b has _) = absurd (refused b has)
 
 -- the refusal, where it is too large
-large_due : (input : List ℕ) (status : Status) (text : List ℕ) → IsLargeInput input → IsDue input status text → status ≡ BuildRefused
+large_due : (input : List ℕ) (status : Status) (text : List ℕ) → IsLargeInput input → IsDue input status text
+    → status ≡ BuildRefused
 large_due input status text l due = by (due_of input status text l.bundle l.says due)
   where
     by : OfBundle l.bundle status text → status ≡ BuildRefused
@@ -70,7 +76,8 @@ large_due input status text l due = by (due_of input status text l.bundle l.says
     by (large _ is _) = is
 
 -- and else the report
-small_due : (input : List ℕ) (status : Status) (text : List ℕ) → IsSmallInput input → IsDue input status text → status ≡ Done
+small_due : (input : List ℕ) (status : Status) (text : List ℕ) → IsSmallInput input → IsDue input status text
+    → status ≡ Done
 small_due input status text s due = by (due_of input status text s.bundle s.says due)
   where
     by : OfBundle s.bundle status text → status ≡ Done
@@ -80,7 +87,8 @@ small_due input status text s due = by (due_of input status text s.bundle s.says
 -- ---- what is answered
 
 -- what is due is answered, unless a write failed
-as_due : (fact : List ℕ → Type 0) (due_status : Status) (input : Option (List ℕ)) (old new : Option (List ℕ)) (status : Status) (text written : List ℕ)
+as_due : (fact : List ℕ → Type 0) (due_status : Status) (input : Option (List ℕ)) (old new : Option (List ℕ))
+    (status : Status) (text written : List ℕ)
     (failed fails : ℕ) (result : Status)
     → ((bytes : List ℕ) → fact bytes → IsDue bytes status text → status ≡ due_status)
     → IfSome input (λ bytes. IsDue bytes status text) → IsWritten status written old new failed fails result
@@ -92,23 +100,29 @@ as_due fact due_status (Some bytes) old new status text written failed fails res
 as_due fact due_status (Some bytes) old new status text written failed fails result says due (inr w) form reads read =
     λ _ _ _ same. absurd (omega (arith, w.2, same))
 
-pub refused_written : (input : Option (List ℕ)) (old new : Option (List ℕ)) (status : Status) (text written : List ℕ) (failed fails : ℕ) (result : Status)
+pub refused_written : (input : Option (List ℕ)) (old new : Option (List ℕ)) (status : Status) (text written : List ℕ)
+    (failed fails : ℕ) (result : Status)
     → IfSome input (λ bytes. IsDue bytes status text) → IsWritten status written old new failed fails result
     → (form : Bool) (reads read : ℕ)
     → IfSome input (λ bytes. IsRefused bytes → Always form reads read failed fails result BadInput)
 refused_written input old new status text written failed fails result =
-    as_due IsRefused BadInput input old new status text written failed fails result (λ bytes. refused_due bytes status text)
+    as_due IsRefused BadInput input old new status text written failed fails result
+    (λ bytes. refused_due bytes status text)
 
-pub large_written : (input : Option (List ℕ)) (old new : Option (List ℕ)) (status : Status) (text written : List ℕ) (failed fails : ℕ) (result : Status)
+pub large_written : (input : Option (List ℕ)) (old new : Option (List ℕ)) (status : Status) (text written : List ℕ)
+    (failed fails : ℕ) (result : Status)
     → IfSome input (λ bytes. IsDue bytes status text) → IsWritten status written old new failed fails result
     → (form : Bool) (reads read : ℕ)
     → IfSome input (λ bytes. IsLargeInput bytes → Always form reads read failed fails result BuildRefused)
 large_written input old new status text written failed fails result =
-    as_due IsLargeInput BuildRefused input old new status text written failed fails result (λ bytes. large_due bytes status text)
+    as_due IsLargeInput BuildRefused input old new status text written failed fails result
+    (λ bytes. large_due bytes status text)
 
-pub small_written : (input : Option (List ℕ)) (old new : Option (List ℕ)) (status : Status) (text written : List ℕ) (failed fails : ℕ) (result : Status)
+pub small_written : (input : Option (List ℕ)) (old new : Option (List ℕ)) (status : Status) (text written : List ℕ)
+    (failed fails : ℕ) (result : Status)
     → IfSome input (λ bytes. IsDue bytes status text) → IsWritten status written old new failed fails result
     → (form : Bool) (reads read : ℕ)
     → IfSome input (λ bytes. IsSmallInput bytes → Always form reads read failed fails result Done)
 small_written input old new status text written failed fails result =
-    as_due IsSmallInput Done input old new status text written failed fails result (λ bytes. small_due bytes status text)
+    as_due IsSmallInput Done input old new status text written failed fails result
+    (λ bytes. small_due bytes status text)

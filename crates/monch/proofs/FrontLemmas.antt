@@ -12,7 +12,8 @@ use Rattle.std.proofs.lemmas.Iterator.Search.{true_from_Any}
 use Rattle.monch.specs.Leaves.{PassesOnlyAscii, EachPasses, IsPassingFront, StopsAtChar, IsPassingBytes, StopsAtByte}
 
 -- where the first character stops it, the front is empty
-pub IsPassingFront-none : (test : ℕ → Bool → Type 0) (text : List ℕ) → StopsAtChar test text → IsPassingFront test text [] text
+pub IsPassingFront-none : (test : ℕ → Bool → Type 0) (text : List ℕ) → StopsAtChar test text
+    → IsPassingFront test text [] text
 IsPassingFront-none test text stops = record { characters = []; spelled = refl; pass = tt; split = refl; stops = stops }
 
 -- a character that passes goes before the front
@@ -35,12 +36,14 @@ behind_is_shorter text behind c cut =
     grind (arith, common_steps)
 
 -- what passes one test passes another that says the same
-pub EachPasses-map : (test other : ℕ → Bool → Type 0) (cs : List ℕ) → ((c : ℕ) (answer : Bool) → test c answer → other c answer)
+pub EachPasses-map : (test other : ℕ → Bool → Type 0) (cs : List ℕ)
+    → ((c : ℕ) (answer : Bool) → test c answer → other c answer)
     → EachPasses test cs → EachPasses other cs
 EachPasses-map test other [] same each = tt
 EachPasses-map test other (c ∷ cs) same each = (same c true each.0, EachPasses-map test other cs same each.1)
 
-pub StopsAtChar-map : (test other : ℕ → Bool → Type 0) (text : List ℕ) → ((c : ℕ) (answer : Bool) → test c answer → other c answer)
+pub StopsAtChar-map : (test other : ℕ → Bool → Type 0) (text : List ℕ)
+    → ((c : ℕ) (answer : Bool) → test c answer → other c answer)
     → StopsAtChar test text → StopsAtChar other text
 StopsAtChar-map test other text same (inl ended) = inl ended
 StopsAtChar-map test other text same (inr (c, rest, cut, stopped)) = inr (c, rest, cut, same c false stopped)
@@ -59,17 +62,20 @@ IsPassingFront-map test other text front rest same passing = record {
 -- ---- bytes
 
 -- where the first byte stops it, the front is empty
-pub IsPassingBytes-none : (test : ℕ → Bool → Type 0) (text : List ℕ) → StopsAtByte test text → IsPassingBytes test text [] text
+pub IsPassingBytes-none : (test : ℕ → Bool → Type 0) (text : List ℕ) → StopsAtByte test text
+    → IsPassingBytes test text [] text
 IsPassingBytes-none test text stops = record { pass = tt; split = refl; stops = stops }
 
 -- a byte that passes goes before the front
 pub IsPassingBytes-more : (test : ℕ → Bool → Type 0) (text behind front rest : List ℕ) (b : ℕ)
-    → text ≡ b ∷ behind → test b true → IsPassingBytes test behind front rest → IsPassingBytes test text (b ∷ front) rest
+    → text ≡ b ∷ behind → test b true → IsPassingBytes test behind front rest
+    → IsPassingBytes test text (b ∷ front) rest
 IsPassingBytes-more test text behind front rest b cut passes more =
     record { pass = (passes, more.pass); split = cut ∙ ap (λ x. b ∷ x) more.split; stops = more.stops }
 
 -- the byte at a place is the first of what follows from there, in a copy of the text too
-pub drop_at : (bytes text : List ℕ) (i : ℕ) → bytes ≡ text → i < length text → drop i text ≡ get_or bytes i 0 ∷ drop (i + 1) text
+pub drop_at : (bytes text : List ℕ) (i : ℕ) → bytes ≡ text → i < length text
+    → drop i text ≡ get_or bytes i 0 ∷ drop (i + 1) text
 drop_at bytes text i same inside = let more = drop_more text i 0 inside in cc
 
 -- a byte that passes is ASCII
@@ -83,7 +89,8 @@ same_front text front other rest cut otherwise = append_cancel_right front other
 -- the rest may be named otherwise
 pub IsPassingBytes-rest : (test : ℕ → Bool → Type 0) (text front rest other : List ℕ) → other ≡ rest
     → IsPassingBytes test text front rest → IsPassingBytes test text front other
-IsPassingBytes-rest test text front rest other same passing = subst (λ x. IsPassingBytes test text front x) (sym same) passing
+IsPassingBytes-rest test text front rest other same passing =
+    subst (λ x. IsPassingBytes test text front x) (sym same) passing
 
 -- what stands before the rest is the front
 pub IsPassingBytes-front : (test : ℕ → Bool → Type 0) (text front other rest : List ℕ) → text ≡ other ++ rest
@@ -98,14 +105,16 @@ pub contains_from_any : (r : Bool) (xs : List ℕ) (c : ℕ)
     → MatchBool r ((k : ℕ) × (k < length xs) × HoldsAt (λ y. y ≡ c) xs k) (AllWithin (λ y. y ≢ c) xs 0 (length xs))
     → IsTrue r ↔ Contains xs c
 contains_from_any r xs c found = (
-  elim r as (λ r. MatchBool r ((k : ℕ) × (k < length xs) × HoldsAt (λ y. y ≡ c) xs k) (AllWithin (λ y. y ≢ c) xs 0 (length xs))
+  elim r as (λ r. MatchBool r ((k : ℕ) × (k < length xs) × HoldsAt (λ y. y ≡ c) xs k)
+      (AllWithin (λ y. y ≢ c) xs 0 (length xs))
       → IsTrue r → Contains xs c)
       [ true ↦ λ at said. Contains-from_at xs c at | false ↦ λ none said. absurd (search rules) ] found,
   λ has. search (rules, true_from_Any (λ y. y ≡ c) (λ y. y ≢ c) r xs (λ y same other. other same) found c has refl),
 )
 
 -- a text begins with one character alone
-pub first_char_is_one : (text rest behind : List ℕ) (c d : ℕ) → IsUtf8 text → text ≡ encode_utf8 c ++ rest → text ≡ encode_utf8 d ++ behind → c ≡ d
+pub first_char_is_one : (text rest behind : List ℕ) (c d : ℕ) → IsUtf8 text → text ≡ encode_utf8 c ++ rest
+    → text ≡ encode_utf8 d ++ behind → c ≡ d
 first_char_is_one text rest behind c d utf8 cut other =
     let at_c = chars_past_char text rest c utf8 cut in
     let at_d = chars_past_char text behind d utf8 other in

@@ -32,8 +32,10 @@ GivesFirst-answers (part ∷ parts) text outcome (inl given) = first [] part par
 GivesFirst-answers (part ∷ parts) text outcome (inr given) =
     answers_behind part parts text outcome given.0 (GivesFirst-answers parts text outcome given.1)
 
-gives_at : {A : Type 0} (before : List (Meaning A)) (part : Meaning A) (after : List (Meaning A)) (text : List ℕ) (outcome : Outcome A)
-    → EachBacktracks before text → part text outcome → IsSettled outcome → GivesFirst (before ++ part ∷ after) text outcome
+gives_at : {A : Type 0} (before : List (Meaning A)) (part : Meaning A) (after : List (Meaning A)) (text : List ℕ)
+    (outcome : Outcome A)
+    → EachBacktracks before text → part text outcome → IsSettled outcome
+    → GivesFirst (before ++ part ∷ after) text outcome
 gives_at [] part after text outcome others given settled = inl (given, settled)
 gives_at (other ∷ before) part after text outcome others given settled =
     inr (others.0, gives_at before part after text outcome others.1 given settled)
@@ -96,7 +98,8 @@ EachTakesNoMemory [] = ⊤
 EachTakesNoMemory (part ∷ parts) = TakesNoMemory part × EachTakesNoMemory parts
 
 -- for `or` and its longer forms
-pub GivesFirst-in_room : {A : Type 0} (parts : List (Meaning A)) → EachTakesNoMemory parts → TakesNoMemory (GivesFirst parts)
+pub GivesFirst-in_room : {A : Type 0} (parts : List (Meaning A)) → EachTakesNoMemory parts
+    → TakesNoMemory (GivesFirst parts)
 GivesFirst-in_room [] rooms text given = cc
 GivesFirst-in_room (part ∷ parts) rooms text (inl given) = rooms.0 text given.0
 GivesFirst-in_room (part ∷ parts) rooms text (inr given) = GivesFirst-in_room parts rooms.1 text given.1
@@ -105,7 +108,8 @@ GivesFirst-in_room (part ∷ parts) rooms text (inr given) = GivesFirst-in_room 
 
 -- what a result of the part leaves is a suffix, as a function is to say of itself for `from_fn`
 pub suffix_of_result : {O : Type 0} (part : Meaning O) → LeavesSuffix part
-    → (text : List ℕ) (r : Result (Bor (List ℕ) × O) ParseError) → part text (seen r) → IfOk r (λ p. IsSuffix p.0.now text)
+    → (text : List ℕ) (r : Result (Bor (List ℕ) × O) ParseError) → part text (seen r)
+    → IfOk r (λ p. IsSuffix p.0.now text)
 suffix_of_result part leaves text (Ok p) given = leaves text p.0.now p.1 given
 suffix_of_result part leaves text (Err e) given = tt
 
@@ -128,7 +132,8 @@ pub tag_advances : (tag : List ℕ) → tag ≢ [] → Advances (GivesTag tag)
 tag_advances tag some text rest value given = shorter_behind tag rest text some given.1
 
 -- a function that says so of itself
-pub call_advances : {F O : Type 0} (calls : Shared F (Bor (List ℕ) × Unit {0}) (Result (Bor (List ℕ) × O) ParseError)) (f : F)
+pub call_advances : {F O : Type 0} (calls : Shared F (Bor (List ℕ) × Unit {0}) (Result (Bor (List ℕ) × O) ParseError))
+    (f : F)
     → AnswersShorter calls f → Advances (GivesCall calls f)
 call_advances calls f shorter text rest value (Ok p, called, is) =
     subst (λ x. length x < length text) (ap (rest_of text) is) (shorter text (Ok p) called)
@@ -136,7 +141,8 @@ call_advances calls f shorter text rest value (Err e, called, is) = elim (succes
 
 -- what a result of the part leaves is shorter, as a function is to say of itself
 pub shorter_of_result : {O : Type 0} (part : Meaning O) → Advances part
-    → (text : List ℕ) (r : Result (Bor (List ℕ) × O) ParseError) → part text (seen r) → IfOk r (λ p. length p.0.now < length text)
+    → (text : List ℕ) (r : Result (Bor (List ℕ) × O) ParseError) → part text (seen r)
+    → IfOk r (λ p. length p.0.now < length text)
 shorter_of_result part advances text (Ok p) given = advances text p.0.now p.1 given
 shorter_of_result part advances text (Err e) given = tt
 
@@ -182,21 +188,27 @@ module _ {A B : Type 0} (one : Meaning A) (other : Meaning B) where
 
 -- three parts, of which the first, the second or the third advances
 module _ {A B C : Type 0} (one : Meaning A) (two : Meaning B) (three : Meaning C) where
-  pub delimited_advances : Advances one → LeavesSuffix two → LeavesSuffix three → Advances (GivesDelimited one two three)
+  pub delimited_advances : Advances one → LeavesSuffix two → LeavesSuffix three
+      → Advances (GivesDelimited one two three)
   delimited_advances advances leaves last =
       preceded_advances one (GivesTerminated two three) advances (GivesTerminated-suffix two three leaves last)
 
-  pub delimited_advances_between : LeavesSuffix one → Advances two → LeavesSuffix three → Advances (GivesDelimited one two three)
+  pub delimited_advances_between : LeavesSuffix one → Advances two → LeavesSuffix three
+      → Advances (GivesDelimited one two three)
   delimited_advances_between leaves advances last =
       preceded_advances_behind one (GivesTerminated two three) leaves (terminated_advances two three advances last)
 
-  pub delimited_advances_behind : LeavesSuffix one → LeavesSuffix two → Advances three → Advances (GivesDelimited one two three)
+  pub delimited_advances_behind : LeavesSuffix one → LeavesSuffix two → Advances three
+      → Advances (GivesDelimited one two three)
   delimited_advances_behind leaves between advances =
-      preceded_advances_behind one (GivesTerminated two three) leaves (terminated_advances_behind two three between advances)
+      preceded_advances_behind one (GivesTerminated two three) leaves
+      (terminated_advances_behind two three between advances)
 
 -- a function of the value, and a condition on it, change nothing of that
-pub map_advances : {A B : Type 0} (part : Meaning A) (calls : A → B → Type 0) → Advances part → Advances (GivesMapped part calls)
+pub map_advances : {A B : Type 0} (part : Meaning A) (calls : A → B → Type 0) → Advances part
+    → Advances (GivesMapped part calls)
 map_advances part calls advances text rest value given = advances text rest given.0 given.1
 
-pub if_advances : {A : Type 0} (part : Meaning A) (test : A → Bool → Type 0) → Advances part → Advances (GivesIf part test)
+pub if_advances : {A : Type 0} (part : Meaning A) (test : A → Bool → Type 0) → Advances part
+    → Advances (GivesIf part test)
 if_advances part test advances text rest value given = advances text rest value given.0

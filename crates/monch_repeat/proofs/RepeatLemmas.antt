@@ -12,7 +12,8 @@ with_front values (success rest more) = success rest (values ++ more)
 with_front values (refused why) = refused why
 
 -- a refusal of the list is one of the vector
-GivesVec-refused : {O : Type 0} (list : Meaning (List O)) (text : List ℕ) (why : Refusal) → list text (refused why) → GivesVec list text (refused why)
+GivesVec-refused : {O : Type 0} (list : Meaning (List O)) (text : List ℕ) (why : Refusal) → list text (refused why)
+    → GivesVec list text (refused why)
 GivesVec-refused list text backtrack given = given
 GivesVec-refused list text (failure input message) given = given
 GivesVec-refused list text no_memory given = tt
@@ -20,7 +21,8 @@ GivesVec-refused list text no_memory given = tt
 module _ {O : Type 0} (Round : List ℕ → O → List ℕ → Type 0) (End : Meaning (List O)) where
   -- rounds have read these values from the start up to here
   pub record SoFar (start : List ℕ) (values : List O) (here : List ℕ) : Type 0 where
-    pub goes_on : (outcome : Outcome (List O)) → Repeats Round End here outcome → Repeats Round End start (with_front values outcome)
+    pub goes_on : (outcome : Outcome (List O)) → Repeats Round End here outcome
+        → Repeats Round End start (with_front values outcome)
 
   pub SoFar-start : (text : List ℕ) → SoFar text [] text
   SoFar-start text = record { goes_on = elim [ success rest more ↦ λ given. given | refused why ↦ λ given. given ] }
@@ -33,16 +35,19 @@ module _ {O : Type 0} (Round : List ℕ → O → List ℕ → Type 0) (End : Me
   pub SoFar-round : (start : List ℕ) (values : List O) (here : List ℕ) (value : O) (next : List ℕ)
       → SoFar start values here → Round here value next → SoFar start (values ++ value ∷ []) next
   SoFar-round start values here value next far read = record {
-    goes_on = λ outcome then. subst (Repeats Round End start) (one_more values value outcome) (far.goes_on (with_first value outcome) (round read then));
+    goes_on = λ outcome then. subst (Repeats Round End start) (one_more values value outcome)
+        (far.goes_on (with_first value outcome) (round read then));
   }
 
   pub SoFar-ends : (start : List ℕ) (values : List O) (here : List ℕ)
       → SoFar start values here → End here (success here []) → Repeats Round End start (success here values)
   SoFar-ends start values here far ended =
-      subst (λ all. Repeats Round End start (success here all)) (append-nil values) (far.goes_on (success here []) (ends ended))
+      subst (λ all. Repeats Round End start (success here all)) (append-nil values)
+      (far.goes_on (success here []) (ends ended))
 
   pub SoFar-last : (start : List ℕ) (values : List O) (here : List ℕ) (value : O) (rest : List ℕ)
-      → SoFar start values here → End here (success rest (value ∷ [])) → Repeats Round End start (success rest (values ++ value ∷ []))
+      → SoFar start values here → End here (success rest (value ∷ []))
+      → Repeats Round End start (success rest (values ++ value ∷ []))
   SoFar-last start values here value rest far ended = far.goes_on (success rest (value ∷ [])) (ends ended)
 
   pub SoFar-refused : (start : List ℕ) (values : List O) (here : List ℕ) (why : Refusal)
@@ -65,7 +70,8 @@ module _ {O : Type 0} (Round : List ℕ → O → List ℕ → Type 0) (End : Me
   CountsSoFar-start text = record { values = []; far = SoFar-start text; count_is = refl; within = omega arith }
 
   pub CountsSoFar-round : (start : List ℕ) (count : ℕ) (here : List ℕ) (value : O) (next : List ℕ)
-      → CountsSoFar start count here → Round here value next → length next < length here → CountsSoFar start (count + 1) next
+      → CountsSoFar start count here → Round here value next → length next < length here
+      → CountsSoFar start (count + 1) next
   CountsSoFar-round start count here value next so_far read shorter = record {
     values = so_far.values ++ value ∷ [];
     far = SoFar-round start so_far.values here value next so_far.far read;
@@ -74,11 +80,14 @@ module _ {O : Type 0} (Round : List ℕ → O → List ℕ → Type 0) (End : Me
   }
 
   pub CountsSoFar-ends : (start : List ℕ) (count : ℕ) (here : List ℕ)
-      → CountsSoFar start count here → End here (success here []) → GivesCount (Repeats Round End) start (success here count)
-  CountsSoFar-ends start count here so_far ended = (so_far.values, SoFar-ends start so_far.values here so_far.far ended, so_far.count_is)
+      → CountsSoFar start count here → End here (success here [])
+      → GivesCount (Repeats Round End) start (success here count)
+  CountsSoFar-ends start count here so_far ended =
+      (so_far.values, SoFar-ends start so_far.values here so_far.far ended, so_far.count_is)
 
   pub CountsSoFar-last : (start : List ℕ) (count : ℕ) (here : List ℕ) (value : O) (rest : List ℕ)
-      → CountsSoFar start count here → End here (success rest (value ∷ [])) → GivesCount (Repeats Round End) start (success rest (count + 1))
+      → CountsSoFar start count here → End here (success rest (value ∷ []))
+      → GivesCount (Repeats Round End) start (success rest (count + 1))
   CountsSoFar-last start count here value rest so_far ended = (
     so_far.values ++ value ∷ [],
     SoFar-last start so_far.values here value rest so_far.far ended,
@@ -108,8 +117,10 @@ module _ {O : Type 0} (Round : List ℕ → O → List ℕ → Type 0) (End : Me
     }
 
     pub FoldsSoFar-ends : (start : List ℕ) (state : S) (here : List ℕ)
-        → FoldsSoFar start state here → End here (success here []) → GivesFold (Repeats Round End) Step init start (success here state)
-    FoldsSoFar-ends start state here so_far ended = (so_far.values, SoFar-ends start so_far.values here so_far.far ended, so_far.folds)
+        → FoldsSoFar start state here → End here (success here [])
+        → GivesFold (Repeats Round End) Step init start (success here state)
+    FoldsSoFar-ends start state here so_far ended =
+        (so_far.values, SoFar-ends start so_far.values here so_far.far ended, so_far.folds)
 
     pub FoldsSoFar-last : (start : List ℕ) (state : S) (here : List ℕ) (value : O) (rest : List ℕ) (then : S)
         → FoldsSoFar start state here → End here (success rest (value ∷ [])) → Step state value then
@@ -121,5 +132,6 @@ module _ {O : Type 0} (Round : List ℕ → O → List ℕ → Type 0) (End : Me
     )
 
     pub FoldsSoFar-refused : (start : List ℕ) (state : S) (here : List ℕ) (why : Refusal)
-        → FoldsSoFar start state here → End here (refused why) → GivesFold (Repeats Round End) Step init start (refused why)
+        → FoldsSoFar start state here → End here (refused why)
+        → GivesFold (Repeats Round End) Step init start (refused why)
     FoldsSoFar-refused start state here why so_far ended = SoFar-refused start so_far.values here why so_far.far ended

@@ -28,24 +28,33 @@ module _ {O P : Type 0} (part : Meaning O) (room : TakesNoMemory part) where
       let none : why ≡ no_memory = cc in
       room text (subst (λ w. part text (refused w)) none handed.refuses)
 
-module _ {O P : Type 0} (item : Meaning O) (until : Meaning P) (item_room : TakesNoMemory item) (until_room : TakesNoMemory until) where
-  items_end_in_room : (text : List ℕ) (outcome : Outcome (List O)) → EndsItems item until text outcome → IsInRoom outcome
+module _ {O P : Type 0} (item : Meaning O) (until : Meaning P) (item_room : TakesNoMemory item)
+    (until_room : TakesNoMemory until) where
+  items_end_in_room : (text : List ℕ) (outcome : Outcome (List O)) → EndsItems item until text outcome
+      → IsInRoom outcome
   items_end_in_room _ _ nothing_left is = cc
   items_end_in_room _ _ (end_read _ _) is = cc
   items_end_in_room _ _ (items.no_item _ _ _) is = cc
-  items_end_in_room _ _ (end_refused {text = text} {why = why} _ handed) is = handed_in_room {P = O} until until_room text why handed is
-  items_end_in_room _ _ (items.item_refused {text = text} {why = why} _ _ handed) is = handed_in_room {P = O} item item_room text why handed is
+  items_end_in_room _ _ (end_refused {text = text} {why = why} _ handed) is =
+      handed_in_room {P = O} until until_room text why handed is
+  items_end_in_room _ _ (items.item_refused {text = text} {why = why} _ _ handed) is =
+      handed_in_room {P = O} item item_room text why handed is
 
   pub GivesItems-in_room : TakesNoMemory (GivesItems item until)
-  GivesItems-in_room text given = Repeats-in_room (IsItem item until) (EndsItems item until) items_end_in_room given refl
+  GivesItems-in_room text given =
+      Repeats-in_room (IsItem item until) (EndsItems item until) items_end_in_room given refl
 
-module _ {O P : Type 0} (item : Meaning O) (separator : Meaning P) (item_room : TakesNoMemory item) (separator_room : TakesNoMemory separator) where
-  separated_end_in_room : (text : List ℕ) (outcome : Outcome (List O)) → EndsSeparated item separator text outcome → IsInRoom outcome
+module _ {O P : Type 0} (item : Meaning O) (separator : Meaning P) (item_room : TakesNoMemory item)
+    (separator_room : TakesNoMemory separator) where
+  separated_end_in_room : (text : List ℕ) (outcome : Outcome (List O)) → EndsSeparated item separator text outcome
+      → IsInRoom outcome
   separated_end_in_room _ _ separated.nothing_left is = cc
   separated_end_in_room _ _ (separated.no_item _ _) is = cc
   separated_end_in_room _ _ (no_separator _ _ _) is = cc
-  separated_end_in_room _ _ (separated.item_refused {text = text} {why = why} _ handed) is = handed_in_room {P = O} item item_room text why handed is
-  separated_end_in_room _ _ (separator_refused {rest = rest} {why = why} _ _ handed) is = handed_in_room {P = O} separator separator_room rest why handed is
+  separated_end_in_room _ _ (separated.item_refused {text = text} {why = why} _ handed) is =
+      handed_in_room {P = O} item item_room text why handed is
+  separated_end_in_room _ _ (separator_refused {rest = rest} {why = why} _ _ handed) is =
+      handed_in_room {P = O} separator separator_room rest why handed is
 
   pub GivesSeparated-in_room : TakesNoMemory (GivesSeparated item separator)
   GivesSeparated-in_room text given =

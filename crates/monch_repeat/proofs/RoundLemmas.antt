@@ -24,20 +24,23 @@ module _ {O P : Type 0} (item : Meaning O) (until : Meaning P) where
   ends_at_nothing (x ∷ xs) e = absurd (cc)
 
   -- what an attempt at the end has read ends the items
-  pub end_from_until : (text : List ℕ) → text ≢ [] → (read : Option (Bor (List ℕ) × P)) {pair : Bor (List ℕ) × P} → read ≡ Some pair
+  pub end_from_until : (text : List ℕ) → text ≢ [] → (read : Option (Bor (List ℕ) × P)) {pair : Bor (List ℕ) × P}
+      → read ≡ Some pair
       → MatchOption read (until text (refused backtrack)) (λ pair. until text (success pair.0.now pair.1))
       → EndsItems item until text (success text [])
   end_from_until text left None is none = absurd (cc)
   end_from_until text left (Some pair) is ended = end_read left ended
 
-  pub end_from_refusal : {text : List ℕ} {why : Refusal} → text ≢ [] → IsHandedOn until text why → EndsItems item until text (refused why)
+  pub end_from_refusal : {text : List ℕ} {why : Refusal} → text ≢ [] → IsHandedOn until text why
+      → EndsItems item until text (refused why)
   end_from_refusal left handed = end_refused left handed
 
   -- what an attempt at the item reads, where the end has backtracked
   pub round_from_item : (text : List ℕ) → text ≢ [] → until text (refused backtrack)
       → (read : Result (Option (Bor (List ℕ) × O)) ParseError)
       → IfOk read (λ r. MatchOption r (item text (refused backtrack)) (λ pair. item text (success pair.0.now pair.1)))
-      → IfOk read (λ r. MatchOption r (EndsItems item until text (success text [])) (λ pair. IsItem item until text pair.1 pair.0.now))
+      → IfOk read (λ r. MatchOption r (EndsItems item until text (success text []))
+      (λ pair. IsItem item until text pair.1 pair.0.now))
   round_from_item text left goes_on (Ok None) none = no_item left goes_on none
   round_from_item text left goes_on (Ok (Some pair)) some = record { left = left; goes_on = goes_on; reads = some }
   round_from_item text left goes_on (Err e) none = tt
@@ -55,9 +58,11 @@ module _ {O P : Type 0} (item : Meaning O) (separator : Meaning P) where
   separated_at_nothing [] e = separated.nothing_left
   separated_at_nothing (x ∷ xs) e = absurd (cc)
 
-  pub separated_item_refused : {text : List ℕ} {why : Refusal} → text ≢ [] → IsHandedOn item text why → EndsSeparated item separator text (refused why)
+  pub separated_item_refused : {text : List ℕ} {why : Refusal} → text ≢ [] → IsHandedOn item text why
+      → EndsSeparated item separator text (refused why)
   separated_item_refused left handed = separated.item_refused left handed
 
   pub separated_refused : {text rest : List ℕ} {value : O} {why : Refusal}
-      → text ≢ [] → item text (success rest value) → IsHandedOn separator rest why → EndsSeparated item separator text (refused why)
+      → text ≢ [] → item text (success rest value) → IsHandedOn separator rest why
+      → EndsSeparated item separator text (refused why)
   separated_refused left read handed = separator_refused left read handed

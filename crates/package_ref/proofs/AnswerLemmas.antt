@@ -6,7 +6,7 @@ use Rattle.std.specs.Borrow.{Bor}
 use Rattle.std.specs.List.{before_first, prefix_len, position_or_len}
 use Rattle.std.proofs.lemmas.Bool.{cases_Bool, eqb-true}
 use Rattle.std.proofs.lemmas.Option.{same_Some}
-use Rattle.monch.specs.Outcome.{success, refused}
+use Rattle.monch_core.specs.Outcome.{success, refused}
 use Rattle.monch.specs.Seen.{refusal_of}
 use Rattle.monch_core.specs.declared.error.ParseError.{ParseError}
 use Rattle.monch_core.specs.declared.error.ParseError.TheVariants as parse
@@ -61,7 +61,8 @@ read_body_from kind text one two three four slash name requirement sub_path a b 
     ap (λ t. behind_name kind (read_name kind t)) (maybe_rest _ one slash a)
     ∙ ap (λ (r : Read (List ℕ)). behind_name kind r) b
     ∙ ap (λ (p : Option (List ℕ) × List ℕ). behind_requirement kind name.now p) (maybe_is _ three requirement c)
-    ∙ ap (λ (p : Option (List ℕ) × List ℕ). whole_package kind name.now (option_copied requirement) p) (maybe_is _ four sub_path d)
+    ∙ ap (λ (p : Option (List ℕ) × List ℕ). whole_package kind name.now (option_copied requirement) p)
+    (maybe_is _ four sub_path d)
 
 -- something is left
 pub whole_package-more : (kind : PackageKind) (name rest : List ℕ) (o s : Option (List ℕ)) → (length rest == 0) ≡ false
@@ -71,13 +72,16 @@ whole_package-more kind name (b ∷ rest) o s more = refl
 
 -- nothing is left
 pub whole_package-done : (kind : PackageKind) (name rest : List ℕ) (o s : Option (List ℕ)) → (length rest == 0) ≡ true
-    → whole_package kind name o (s, rest) ≡ Some (record { kind = kind; name = name; requirement = o; sub_path = unless_empty s })
+    → whole_package kind name o (s, rest)
+    ≡ Some (record { kind = kind; name = name; requirement = o; sub_path = unless_empty s })
 whole_package-done kind name [] o s done = refl
-whole_package-done kind name (b ∷ rest) o s done = let none : length (b ∷ rest) ≡ 0 = eqb-true _ 0 done in absurd (omega arith)
+whole_package-done kind name (b ∷ rest) o s done = let none : length (b ∷ rest) ≡ 0 = eqb-true _ 0 done in
+    absurd (omega arith)
 
 -- ---- the body of a text
 
-before_first-cons : (p : ℕ → Bool) (b : ℕ) (text : List ℕ) → p b ≡ false → before_first p (b ∷ text) ≡ b ∷ before_first p text
+before_first-cons : (p : ℕ → Bool) (b : ℕ) (text : List ℕ) → p b ≡ false
+    → before_first p (b ∷ text) ≡ b ∷ before_first p text
 before_first-cons p b text passes =
     let more : 1 + position_or_len p text ≡ suc (position_or_len p text) = omega arith in rw (passes, more) refl
 
@@ -85,7 +89,8 @@ before_first-stop : (p : ℕ → Bool) (b : ℕ) (text : List ℕ) → p b ≡ t
 before_first-stop p b text stops = rw stops refl
 
 -- before the query of what stands before the fragment
-pub before_both : (text : List ℕ) → before_first (λ b. b == 63) (before_first (λ b. b == 35) text) ≡ before_first ends_body text
+pub before_both : (text : List ℕ)
+    → before_first (λ b. b == 63) (before_first (λ b. b == 35) text) ≡ before_first ends_body text
 before_both [] = refl
 before_both (b ∷ text) = elim (cases_Bool (b == 35)) [
   | inl fragment ↦
@@ -94,7 +99,11 @@ before_both (b ∷ text) = elim (cases_Bool (b == 35)) [
   | inr passes ↦ elim (cases_Bool (b == 63)) [
     | inl query ↦
         let ends : ends_body b ≡ true = or_left (b == 63) (b == 35) query in
-        rw (before_first-cons (λ c. c == 35) b text passes, before_first-stop (λ c. c == 63) b _ query, before_first-stop ends_body b text ends) refl
+        rw (
+          before_first-cons (λ c. c == 35) b text passes,
+          before_first-stop (λ c. c == 63) b _ query,
+          before_first-stop ends_body b text ends,
+        ) refl
     | inr also ↦
         let on : ends_body b ≡ false = or_none (b == 63) (b == 35) also passes in
         rw (
@@ -109,7 +118,8 @@ before_both (b ∷ text) = elim (cases_Bool (b == 35)) [
 -- ---- the whole
 
 -- the body of a reference that begins so is what was read
-same_body : (text rest : List ℕ) (kind : PackageKind) (r : PackageRef) → text ≡ scheme_of kind ++ rest → IsReference text r
+same_body : (text rest : List ℕ) (kind : PackageKind) (r : PackageRef) → text ≡ scheme_of kind ++ rest
+    → IsReference text r
     → read_body kind (before_first ends_body rest) ≡ Some r
 same_body text rest kind r whole of_r =
     let cut = one_scheme r.kind kind of_r.rest rest (sym of_r.whole ∙ whole) in
@@ -124,7 +134,8 @@ reference_of text rest kind r whole read =
     let is = read_body_is kind (before_first ends_body rest) r read in
     record { rest = rest; whole = whole ∙ sym (ap (λ k. scheme_of k ++ rest) is.0); body = is.1 }
 
-pub answers_read : (text rest : List ℕ) (kind : PackageKind) (result : Result PackageRef PackageError) → text ≡ scheme_of kind ++ rest
+pub answers_read : (text rest : List ℕ) (kind : PackageKind) (result : Result PackageRef PackageError)
+    → text ≡ scheme_of kind ++ rest
     → IsAnswer (read_body kind (before_first ends_body rest)) result → AnswersReference text result
 answers_read text rest kind (Ok r) whole read = record {
   read = reference_of text rest kind r whole read;
@@ -155,7 +166,8 @@ pub refused_name : (kind : PackageKind) (text one : List ℕ) (slash : Option �
     → Tells bytes_of (read_name kind one) (refused (refusal_of e)) → IsAnswer (read_body kind text) (Err (fault_of e))
 unfolding read_body
 refused_name kind text one slash parse.Backtrace a b =
-    ap (λ t. behind_name kind (read_name kind t)) (maybe_rest _ one slash a) ∙ ap (λ (r : Read (List ℕ)). behind_name kind r) b
+    ap (λ t. behind_name kind (read_name kind t)) (maybe_rest _ one slash a)
+    ∙ ap (λ (r : Read (List ℕ)). behind_name kind r) b
 refused_name kind text one slash (parse.Failure f) a b = absurd b
 refused_name kind text one slash parse.OutOfMemory a b = absurd b
 

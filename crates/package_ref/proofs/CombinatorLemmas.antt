@@ -9,7 +9,7 @@ use Rattle.std.proofs.lemmas.List.Sums.{AllPass-from_list_all}
 use Rattle.std.proofs.lemmas.Bool.{cases_Bool, cases_lt, ltb-true, ltb-false, lt-ltb, le-ltb, eqb-true, ne_eqb}
 use Rattle.std.proofs.lemmas.Str.{encode_ascii}
 use lib.Utf8.{encode}
-use Rattle.monch.specs.Outcome.{Refusal, Outcome, Meaning, success, refused, backtrack, failure, no_memory}
+use Rattle.monch_core.specs.Outcome.{Refusal, Outcome, Meaning, success, refused, backtrack, failure, no_memory}
 use Rattle.monch.specs.Leaves.{GivesChar, BeginsWith, EachPasses, StopsAtChar, IsPassingFront, GivesTakeWhile}
 use Rattle.monch.specs.Parts.{GivesPair, GivesPreceded, GivesFirst, GivesMaybe, GivesSubstring, GivesIf, IsSettled}
 use Rattle.package_ref.specs.declared.reference.PackageKind.TheVariants.{Npm}
@@ -20,7 +20,8 @@ use Rattle.package_ref.proofs.StepsLemmas.{read_char-there, read_run-run, read_r
 
 -- a meaning tells a reading on each text
 abbrev pub TellsAll : {A B : Type 0} → (A → B) → (List ℕ → Read B) → Meaning A → Type 0
-TellsAll {A} view read meaning = (text : List ℕ) (outcome : Outcome A) → meaning text outcome → Tells view (read text) outcome
+TellsAll {A} view read meaning = (text : List ℕ) (outcome : Outcome A) → meaning text outcome
+    → Tells view (read text) outcome
 
 -- a backtrack tells that nothing is read
 refused_tells : {A B : Type 0} (view : A → B) (read : Read B) (why : Refusal) → why ≡ backtrack → read ≡ None
@@ -49,7 +50,8 @@ char_tells c small text (refused why) given =
 abbrev pub PassesHigh : (ℕ → Bool) → Type 0
 PassesHigh p = (b : ℕ) → 128 ≤ b → p b ≡ true
 
-list_all-append : (p : ℕ → Bool) (xs ys : List ℕ) → list_all p xs ≡ true → list_all p ys ≡ true → list_all p (xs ++ ys) ≡ true
+list_all-append : (p : ℕ → Bool) (xs ys : List ℕ) → list_all p xs ≡ true → list_all p ys ≡ true
+    → list_all p (xs ++ ys) ≡ true
 list_all-append p [] ys of_x of_y = of_y
 list_all-append p (x ∷ xs) ys of_x of_y =
     rw (both_left (p x) _ of_x, list_all-append p xs ys (both_right (p x) _ of_x) of_y) refl
@@ -124,7 +126,8 @@ read_run-none p (b ∷ text) stops = rw stops refl
 some_front : (p : ℕ → Bool) (text front rest : List ℕ) → IsFront p text front rest → nat_eq (length front) 0 ≡ false
     → read_run p text ≡ Some (front, rest)
 some_front p text front rest given some =
-    let run : IsRun p front = record { some = nonzero (length front) some; all = AllPass-from_list_all p front given.all } in
+    let run : IsRun p front =
+    record { some = nonzero (length front) some; all = AllPass-from_list_all p front given.all } in
     rw given.whole (read_run-run p front rest run given.stops)
 
 positive : (n : ℕ) → nat_eq (suc n) 0 ≡ true → ⊥
@@ -138,7 +141,8 @@ no_front p text (b ∷ front) rest given none = absurd (positive (length front) 
 
 -- the longest front of characters that pass, if it isn't empty
 pub run_tells : (p : ℕ → Bool) (test : ℕ → Bool → Type 0) → PassesHigh p → ((c : ℕ) (b : Bool) → test c b → b ≡ p c)
-    → TellsAll bytes_of (read_run p) (GivesIf (GivesTakeWhile test) (λ (value : Bor (List ℕ)) some. nat_eq (length value.now) 0 ≡ not some))
+    → TellsAll bytes_of (read_run p)
+    (GivesIf (GivesTakeWhile test) (λ (value : Bor (List ℕ)) some. nat_eq (length value.now) 0 ≡ not some))
 run_tells p test high says text (success rest value) given =
     some_front p text value.now rest (front_is p test high says text value.now rest given.0) given.1
 run_tells p test high says text (refused why) (inl given) = absurd given
@@ -149,7 +153,8 @@ run_tells p test high says text (refused why) (inr given) =
 -- ---- two combinators
 
 -- a refusal that tells a reading tells it of what follows
-pub refused_then : {A B C D : Type 0} (view : A → B) (other : C → D) (read : Read B) (next : B → List ℕ → Read D) (why : Refusal)
+pub refused_then : {A B C D : Type 0} (view : A → B) (other : C → D) (read : Read B) (next : B → List ℕ → Read D)
+    (why : Refusal)
     → Tells view read (refused why) → Tells other (read >>= next) (refused why)
 refused_then view other read next backtrack tells = rw tells refl
 refused_then view other read next (failure input message) tells = absurd tells
@@ -161,8 +166,10 @@ pub tells_same : {A B : Type 0} (view : A → B) (read other : Read B) → read 
 tells_same {A} {B} view read other e outcome tells =
     let P : Read B → Type 0 = λ r. Tells view r outcome in subst P (sym e) tells
 
-pub behind_tells : {A B C D : Type 0} (view : A → B) (other : C → D) (first : List ℕ → Read B) (second : List ℕ → Read D)
-    (P : Meaning A) (Q : Meaning C) → TellsAll view first P → TellsAll other second Q → TellsAll other (behind first second) (GivesPreceded P Q)
+pub behind_tells : {A B C D : Type 0} (view : A → B) (other : C → D) (first : List ℕ → Read B)
+    (second : List ℕ → Read D)
+    (P : Meaning A) (Q : Meaning C) → TellsAll view first P → TellsAll other second Q
+    → TellsAll other (behind first second) (GivesPreceded P Q)
 behind_tells {A} {B} {C} {D} view other first second P Q of_first of_second text (success rest value) given =
     let one : first text ≡ Some (view given.1, given.0) = of_first text (success given.0 given.1) given.2 in
     rw one (of_second given.0 (success rest value) given.3)
@@ -170,7 +177,8 @@ behind_tells {A} {B} {C} {D} view other first second P Q of_first of_second text
     refused_then view other (first text) (λ x rest. second rest) why (of_first text (refused why) given)
 behind_tells {A} {B} {C} {D} view other first second P Q of_first of_second text (refused why) (inr given) =
     let one : first text ≡ Some (view given.1, given.0) = of_first text (success given.0 given.1) given.2 in
-    tells_same other (behind first second text) (second given.0) (ap (λ (r : Read B). r >>= (λ x rest. second rest)) one) (refused why)
+    tells_same other (behind first second text) (second given.0)
+    (ap (λ (r : Read B). r >>= (λ x rest. second rest)) one) (refused why)
     (of_second given.0 (refused why) given.3)
 
 pub both_tells : {A B C D : Type 0} (view : A → B) (other : C → D) (first : List ℕ → Read B) (second : List ℕ → Read D)
@@ -181,14 +189,16 @@ both_tells {A} {B} {C} {D} view other first second P Q of_first of_second text (
     let two : second given.0 ≡ Some (other value.1, rest) = of_second given.0 (success rest value.1) given.2 in
     rw (one, two) refl
 both_tells {A} {B} {C} {D} view other first second P Q of_first of_second text (refused why) (inl given) =
-    refused_then view (λ (v : A × C). (view v.0, other v.1)) (first text) (λ x rest. second rest >>= λ y rest. Some ((x, y), rest)) why
+    refused_then view (λ (v : A × C). (view v.0, other v.1)) (first text)
+    (λ x rest. second rest >>= λ y rest. Some ((x, y), rest)) why
     (of_first text (refused why) given)
 both_tells {A} {B} {C} {D} view other first second P Q of_first of_second text (refused why) (inr given) =
     let one : first text ≡ Some (view given.1, given.0) = of_first text (success given.0 given.1) given.2 in
     let pairs : A × C → B × D = λ (v : A × C). (view v.0, other v.1) in
     tells_same pairs (both first second text) (second given.0 >>= λ y rest. Some ((view given.1, y), rest))
     (ap (λ (r : Read B). r >>= (λ x rest. second rest >>= λ y rest. Some ((x, y), rest))) one) (refused why)
-    (refused_then other pairs (second given.0) (λ y rest. Some ((view given.1, y), rest)) why (of_second given.0 (refused why) given.3))
+    (refused_then other pairs (second given.0) (λ y rest. Some ((view given.1, y), rest)) why
+    (of_second given.0 (refused why) given.3))
 
 -- ---- choices
 
@@ -204,7 +214,8 @@ or_tells view first second P Q of_first of_second text (refused no_memory) (inl 
     absurd (of_first text (refused no_memory) given.0)
 or_tells {A} {B} view first second P Q of_first of_second text outcome (inr (none, inl given)) =
     let one : first text ≡ None = of_first text (refused backtrack) none in
-    tells_same view (or_else (first text) (second text)) (second text) (ap (λ (r : Read B). or_else r (second text)) one) outcome
+    tells_same view (or_else (first text) (second text)) (second text)
+    (ap (λ (r : Read B). or_else r (second text)) one) outcome
     (of_second text outcome given.0)
 or_tells {A} {B} view first second P Q of_first of_second text outcome (inr (none, inr (other, is))) =
     let one : first text ≡ None = of_first text (refused backtrack) none in
@@ -214,7 +225,8 @@ or_tells {A} {B} view first second P Q of_first of_second text outcome (inr (non
     subst P (sym is) both_none
 
 pub maybe_tells : {A B : Type 0} (view : A → B) (first : List ℕ → Read B) (P : Meaning A) → TellsAll view first P
-    → (text : List ℕ) (outcome : Outcome (Option A)) → GivesMaybe P text outcome → TellsMaybe view (maybe (first text) text) outcome
+    → (text : List ℕ) (outcome : Outcome (Option A)) → GivesMaybe P text outcome
+    → TellsMaybe view (maybe (first text) text) outcome
 maybe_tells view first P of_first text (success rest (Some value)) given =
     let one : first text ≡ Some (view value, rest) = of_first text (success rest value) given in rw one refl
 maybe_tells view first P of_first text (success rest None) given =
@@ -268,7 +280,8 @@ no_slash_passes_high b high = high_differs b 47 (omega arith) high
 
 -- the character that a combinator holds
 pub char_at : (c d : ℕ) → d ≡ c → c < 128 → TellsAll (λ (x : ℕ). x) (read_char c) (GivesChar d)
-char_at c d is small = let P : ℕ → Type 0 = λ x. TellsAll (λ (y : ℕ). y) (read_char c) (GivesChar x) in subst P (sym is) (char_tells c small)
+char_at c d is small = let P : ℕ → Type 0 = λ x. TellsAll (λ (y : ℕ). y) (read_char c) (GivesChar x) in
+    subst P (sym is) (char_tells c small)
 
 -- a front of characters that pass the test, if it isn't empty
 abbrev pub GivesRun : (ℕ → Bool → Type 0) → Meaning (Bor (List ℕ))
@@ -280,9 +293,11 @@ abbrev pub TestsPart : (ℕ → Bool → Type 0) → Type 0
 TestsPart test = (c : ℕ) (b : Bool) → test c b → b ≡ is_of_part c
 
 -- the combinator of a scoped name, from the characters that it holds and its tests
-pub scoped_name_tells : (at slash : ℕ) (test other : ℕ → Bool → Type 0) → at ≡ 64 → slash ≡ 47 → TestsPart test → TestsPart other
+pub scoped_name_tells : (at slash : ℕ) (test other : ℕ → Bool → Type 0) → at ≡ 64 → slash ≡ 47 → TestsPart test
+    → TestsPart other
     → TellsAll bytes_of read_scoped
-    (GivesSubstring (GivesPair (GivesPreceded (GivesChar at) (GivesRun test)) (GivesPreceded (GivesChar slash) (GivesRun other))))
+    (GivesSubstring (GivesPair (GivesPreceded (GivesChar at) (GivesRun test))
+    (GivesPreceded (GivesChar slash) (GivesRun other))))
 scoped_name_tells at slash test other is also says says_too =
     scoped_tells (λ (v : Bor (List ℕ) × Bor (List ℕ)). (v.0.now, v.1.now)) _
     (both_tells bytes_of bytes_of (behind (read_char 64) read_part) (behind (read_char 47) read_part) _ _

@@ -54,7 +54,8 @@ one_run p (x ∷ xs) [] a [] all_x all_y stop_a stop_b e = cc
 one_run p (x ∷ xs) [] a (c ∷ b) all_x all_y stop_a stop_b e =
     absurd (no_both p x c (both_left (p x) _ all_x) stop_b (heads _ _ _ _ e))
 one_run p (x ∷ xs) (y ∷ ys) a b all_x all_y stop_a stop_b e =
-    let rest = one_run p xs ys a b (both_right (p x) _ all_x) (both_right (p y) _ all_y) stop_a stop_b (tails _ _ _ _ e) in
+    let rest = one_run p xs ys a b (both_right (p x) _ all_x) (both_right (p y) _ all_y) stop_a stop_b
+    (tails _ _ _ _ e) in
     (joined x y xs ys (heads _ _ _ _ e) rest.0, rest.1)
 
 -- the test of each character, and that there is one
@@ -124,14 +125,17 @@ one_behind : (a b x y : List ℕ) (o q u v : Option (List ℕ)) → IsRequiremen
 one_behind a b x y None None u v is_a is_b is_x is_y e =
     (refl, one_sub_path x y u v is_x is_y (cc (is_a, is_b)))
 one_behind a b x y None (Some r) u v is_a is_b is_x is_y e =
-    absurd (begins_otherwise x y r (IsSubPath-begins x u is_x) (sym (ap (λ t. t ++ x) is_a) ∙ e ∙ ap (λ t. t ++ y) is_b.0))
+    absurd (begins_otherwise x y r (IsSubPath-begins x u is_x)
+    (sym (ap (λ t. t ++ x) is_a) ∙ e ∙ ap (λ t. t ++ y) is_b.0))
 one_behind a b x y (Some r) None u v is_a is_b is_x is_y e =
-    absurd (begins_otherwise y x r (IsSubPath-begins y v is_y) (sym (ap (λ t. t ++ y) is_b) ∙ sym e ∙ ap (λ t. t ++ x) is_a.0))
+    absurd (begins_otherwise y x r (IsSubPath-begins y v is_y)
+    (sym (ap (λ t. t ++ y) is_b) ∙ sym e ∙ ap (λ t. t ++ x) is_a.0))
 one_behind a b x y (Some r) (Some s) u v is_a is_b is_x is_y e =
     let behind : r ++ x ≡ s ++ y
     = tails 64 64 (r ++ x) (s ++ y) (sym (ap (λ t. t ++ x) is_a.0) ∙ e ∙ ap (λ t. t ++ y) is_b.0) in
     let cut = one_run is_no_slash r s x y (IsRun-all is_no_slash r is_a.1) (IsRun-all is_no_slash s is_b.1)
-    (OrBegins-stops is_no_slash 47 x refl (IsSubPath-begins x u is_x)) (OrBegins-stops is_no_slash 47 y refl (IsSubPath-begins y v is_y)) behind in
+    (OrBegins-stops is_no_slash 47 x refl (IsSubPath-begins x u is_x))
+    (OrBegins-stops is_no_slash 47 y refl (IsSubPath-begins y v is_y)) behind in
     (ap (λ (t : List ℕ). Some t) cut.0, one_sub_path x y u v is_x is_y cut.1)
 
 -- ---- names
@@ -144,7 +148,8 @@ part_begins : (name : List ℕ) → Begins is_of_part name → NameBegins name
 part_begins name b = (b.first, b.others, (λ e. no_both is_of_part b.first 47 b.passes refl e), b.is)
 
 pub IsName-begins : (kind : PackageKind) (name : List ℕ) → IsName kind name → NameBegins name
-IsName-begins kind name (plain npm run) = part_begins name (begins is_of_part name (IsRun-all is_of_part name run) run.some)
+IsName-begins kind name (plain npm run) =
+    part_begins name (begins is_of_part name (IsRun-all is_of_part name run) run.some)
 IsName-begins kind name (scoped scope part a b is) = (64, scope ++ 47 ∷ part, (λ e. omega arith), is)
 
 -- a name that begins with `@` is no part
@@ -155,7 +160,8 @@ at_is_no_part name rest a b run e =
     (heads first.first 64 (first.others ++ a) b (sym (ap (λ t. t ++ a) first.is) ∙ e))
 
 -- a name is cut off in one way
-one_name : (kind : PackageKind) (m n a b : List ℕ) → IsName kind m → IsName kind n → Stops is_of_part a → Stops is_of_part b
+one_name : (kind : PackageKind) (m n a b : List ℕ) → IsName kind m → IsName kind n → Stops is_of_part a
+    → Stops is_of_part b
     → m ++ a ≡ n ++ b → (m ≡ n) × (a ≡ b)
 one_name kind m n a b (plain npm run) (plain npm' run') stop_a stop_b e =
     one_run is_of_part m n a b (IsRun-all is_of_part m run) (IsRun-all is_of_part n run') stop_a stop_b e
@@ -169,7 +175,8 @@ one_name kind m n a b (scoped scope part s p is) (scoped scope' part' s' p' is')
     ∙ append_assoc scope' (47 ∷ part') b in
     let first = one_run is_of_part scope scope' (47 ∷ (part ++ a)) (47 ∷ (part' ++ b)) (IsRun-all is_of_part scope s)
     (IsRun-all is_of_part scope' s') refl refl whole in
-    let second = one_run is_of_part part part' a b (IsRun-all is_of_part part p) (IsRun-all is_of_part part' p') stop_a stop_b
+    let second = one_run is_of_part part part' a b (IsRun-all is_of_part part p) (IsRun-all is_of_part part' p') stop_a
+    stop_b
     (tails 47 47 _ _ first.1) in
     (is ∙ ap (λ t. 64 ∷ (t ++ (47 ∷ part))) first.0 ∙ ap (λ t. 64 ∷ (scope' ++ (47 ∷ t))) second.0 ∙ sym is', second.1)
 
@@ -189,13 +196,15 @@ pub begins_on : (m a : List ℕ) → NameBegins m → NameBegins (m ++ a)
 begins_on m a of_m = (of_m.0, of_m.1 ++ a, of_m.2, ap (λ t. t ++ a) of_m.3)
 
 -- the same package, part by part
-one_package : (r s : PackageRef) → r.kind ≡ s.kind → r.name ≡ s.name → r.requirement ≡ s.requirement → r.sub_path ≡ s.sub_path
+one_package : (r s : PackageRef) → r.kind ≡ s.kind → r.name ≡ s.name → r.requirement ≡ s.requirement
+    → r.sub_path ≡ s.sub_path
     → r ≡ s
 one_package r s kind name requirement sub_path =
     λ i. record { kind = kind i; name = name i; requirement = requirement i; sub_path = sub_path i }
 
 -- a body is read in one way
-pub one_body : (text other : List ℕ) (r s : PackageRef) → r.kind ≡ s.kind → text ≡ other → IsBody text r → IsBody other s → r ≡ s
+pub one_body : (text other : List ℕ) (r s : PackageRef) → r.kind ≡ s.kind → text ≡ other → IsBody text r
+    → IsBody other s → r ≡ s
 one_body text other r s kind e of_r of_s =
     let name : IsName r.kind s.name = subst (λ k. IsName k s.name) (sym kind) of_s.name_is in
     let behind_r : List ℕ = of_r.requirement ++ of_r.sub_path in

@@ -63,7 +63,8 @@ pub record IsReadRun (p : ℕ → Bool) (text value rest : List ℕ) : Type 0 wh
   pub whole : text ≡ value ++ rest
   pub stops : Stops p rest
 
-pub read_run_is : (p : ℕ → Bool) (text value rest : List ℕ) → read_run p text ≡ Some (value, rest) → IsReadRun p text value rest
+pub read_run_is : (p : ℕ → Bool) (text value rest : List ℕ) → read_run p text ≡ Some (value, rest)
+    → IsReadRun p text value rest
 unfolding read_run
 read_run_is p text value rest e = elim (cases_Bool (nat_lt 0 (prefix_len p text))) [
   | inl some ↦
@@ -74,7 +75,8 @@ read_run_is p text value rest e = elim (cases_Bool (nat_lt 0 (prefix_len p text)
       let len : length (take n text) ≡ n = length-take-le n text (prefix_len-le-length p text) in
       let long : 0 < n = ltb-true 0 n some in
       record {
-        run = subst (IsRun p) value_is (record { some = omega (arith, len, long); all = AllPass-from_list_all p _ (prefix_all p text) });
+        run = subst (IsRun p) value_is
+            (record { some = omega (arith, len, long); all = AllPass-from_list_all p _ (prefix_all p text) });
         whole = sym (take-append-drop n text) ∙ ap (λ t. t ++ drop n text) value_is ∙ ap (λ t. value ++ t) rest_is;
         stops = subst (Stops p) rest_is (prefix_stops p text);
       }
@@ -141,7 +143,8 @@ read_scoped-part name a run =
 -- a name is read whole, if something stops it
 read_name-whole : (kind : PackageKind) (name a : List ℕ) → IsName kind name → Stops is_of_part a
     → read_name kind (name ++ a) ≡ Some (name, a)
-read_name-whole Npm name a (plain npm run) stop = rw (read_scoped-part name a run, read_run-run is_of_part name a run stop) refl
+read_name-whole Npm name a (plain npm run) stop =
+    rw (read_scoped-part name a run, read_run-run is_of_part name a run stop) refl
 read_name-whole Jsr name a (plain npm run) stop = cc npm
 read_name-whole Npm name a (scoped scope part s p is) stop = rw (is, read_scoped-whole scope part a s p stop) refl
 read_name-whole Jsr name a (scoped scope part s p is) stop = rw (is, read_scoped-whole scope part a s p stop) refl
@@ -151,7 +154,8 @@ pub record IsReadName (kind : PackageKind) (text name rest : List ℕ) : Type 0 
   pub name_is : IsName kind name
   pub whole : text ≡ name ++ rest
 
-pub read_scoped_is : (kind : PackageKind) (text name rest : List ℕ) → read_scoped text ≡ Some (name, rest) → IsReadName kind text name rest
+pub read_scoped_is : (kind : PackageKind) (text name rest : List ℕ) → read_scoped text ≡ Some (name, rest)
+    → IsReadName kind text name rest
 unfolding read_scoped
 read_scoped_is kind text name rest e =
     let all = then_is _ _ name rest e in
@@ -182,7 +186,8 @@ read_npm_name_is text name rest None is e =
     let part = read_run_is is_of_part text name rest e in
     record { name_is = plain refl part.run; whole = part.whole }
 
-read_name_is : (kind : PackageKind) (text name rest : List ℕ) → read_name kind text ≡ Some (name, rest) → IsReadName kind text name rest
+read_name_is : (kind : PackageKind) (text name rest : List ℕ) → read_name kind text ≡ Some (name, rest)
+    → IsReadName kind text name rest
 read_name_is Npm text name rest e = read_npm_name_is text name rest (read_scoped text) refl e
 read_name_is Jsr text name rest e = read_scoped_is Jsr text name rest e
 
@@ -208,7 +213,8 @@ less_slash_is text None e = record { slash = []; slash_is = inl refl; whole = re
 -- ---- what stands behind a name
 
 -- the same as a pair
-paired : {A : Type 0} (read : Option A × List ℕ) (a : Option A) (rest : List ℕ) → read.0 ≡ a → read.1 ≡ rest → read ≡ (a, rest)
+paired : {A : Type 0} (read : Option A × List ℕ) (a : Option A) (rest : List ℕ) → read.0 ≡ a → read.1 ≡ rest
+    → read ≡ (a, rest)
 paired read a rest e d = λ i. (e i, d i)
 
 -- a text that begins with `/` or is empty has no `@`
@@ -230,7 +236,8 @@ record IsReadRequirement (text : List ℕ) (read : Option (List ℕ) × List ℕ
   pub front_is : IsRequirement front read.0
   pub whole : text ≡ front ++ read.1
 
-read_requirement_is : (text : List ℕ) (read : Read (List ℕ)) → read_requirement text ≡ read → IsReadRequirement text (maybe read text)
+read_requirement_is : (text : List ℕ) (read : Read (List ℕ)) → read_requirement text ≡ read
+    → IsReadRequirement text (maybe read text)
 read_requirement_is text (Some read) e =
     let a = then_is _ _ read.0 read.1 e in
     let at = read_char_is 64 a.passed text a.middle a.first_is in
@@ -252,10 +259,11 @@ read_sub_path-whole kind name text o (Some []) (e, some) = absurd (omega arith)
 read_sub_path-whole kind name text o (Some (b ∷ s)) (e, some) = rw e refl
 
 -- what a package of a sub path that was read says
-record IsOfSubPath (kind : PackageKind) (name text : List ℕ) (requirement : Option (List ℕ)) (r : PackageRef) : Type 0 where
-  pub sub_path : Option (List ℕ)
-  pub sub_path_is : IsSubPath text sub_path
-  pub package_is : package_of kind name requirement sub_path ≡ r
+record IsOfSubPath (kind : PackageKind) (name text : List ℕ) (requirement : Option (List ℕ)) (r : PackageRef) : Type 0
+  where
+    pub sub_path : Option (List ℕ)
+    pub sub_path_is : IsSubPath text sub_path
+    pub package_is : package_of kind name requirement sub_path ≡ r
 
 -- the same of a sub path behind its `/`
 behind_slash_is : (kind : PackageKind) (name text : List ℕ) (o : Option (List ℕ)) (r : PackageRef) (s : List ℕ)
@@ -272,7 +280,8 @@ no_slash_is kind name [] o r e = record { sub_path = None; sub_path_is = inl ref
 no_slash_is kind name (b ∷ text) o r e = cc e
 
 -- the same of a reading
-read_sub_path_is : (kind : PackageKind) (name text : List ℕ) (o : Option (List ℕ)) (r : PackageRef) (read : Read (List ℕ))
+read_sub_path_is : (kind : PackageKind) (name text : List ℕ) (o : Option (List ℕ)) (r : PackageRef)
+    (read : Read (List ℕ))
     → read_sub_path text ≡ read → whole_package kind name o (maybe read text) ≡ Some r → IsOfSubPath kind name text o r
 read_sub_path_is kind name text o r None is e = no_slash_is kind name text o r e
 read_sub_path_is kind name text o r (Some read) is e =
@@ -281,7 +290,8 @@ read_sub_path_is kind name text o r (Some read) is e =
     let value = value_same _ _ _ _ a.second_is in
     let left = rest_same _ _ _ _ a.second_is in
     let whole = paired (Some a.middle, []) (Some read.0) read.1 (ap (λ (t : List ℕ). Some t) value) left in
-    behind_slash_is kind name text o r a.middle slash (ap (λ (p : Option (List ℕ) × List ℕ). whole_package kind name o p) whole ∙ e)
+    behind_slash_is kind name text o r a.middle slash
+    (ap (λ (p : Option (List ℕ) × List ℕ). whole_package kind name o p) whole ∙ e)
 
 -- ---- a body
 
@@ -291,10 +301,12 @@ unfolding read_body
 read_body-whole text r b =
     let behind : List ℕ = b.requirement ++ b.sub_path in
     let of_sub = IsSubPath-begins b.sub_path r.sub_path b.sub_path_is in
-    let stop = behind_stops b.requirement b.sub_path (IsRequirement-begins b.requirement r.requirement b.requirement_is) of_sub in
+    let stop = behind_stops b.requirement b.sub_path
+    (IsRequirement-begins b.requirement r.requirement b.requirement_is) of_sub in
     let start : (maybe (read_char 47 text) text).1 ≡ r.name ++ behind
     = ap (λ t. (maybe (read_char 47 t) t).1) b.whole
-    ∙ less_slash b.slash (r.name ++ behind) b.slash_is (begins_on r.name behind (IsName-begins r.kind r.name b.name_is)) in
+    ∙ less_slash b.slash (r.name ++ behind) b.slash_is
+    (begins_on r.name behind (IsName-begins r.kind r.name b.name_is)) in
     ap (λ t. behind_name r.kind (read_name r.kind t)) start
     ∙ ap (λ (x : Read (List ℕ)). behind_name r.kind x) (read_name-whole r.kind r.name behind b.name_is stop)
     ∙ ap (λ (p : Option (List ℕ) × List ℕ). behind_requirement r.kind r.name p)
@@ -306,7 +318,8 @@ record IsReadBody (kind : PackageKind) (text : List ℕ) (r : PackageRef) : Type
   pub kind_is : r.kind ≡ kind
   pub body : IsBody text r
 
-behind_name_is : (kind : PackageKind) (text : List ℕ) (r : PackageRef) (slash : IsLessSlash text (maybe (read_char 47 text) text).1)
+behind_name_is : (kind : PackageKind) (text : List ℕ) (r : PackageRef)
+    (slash : IsLessSlash text (maybe (read_char 47 text) text).1)
     (read : Read (List ℕ)) → read_name kind (maybe (read_char 47 text) text).1 ≡ read → behind_name kind read ≡ Some r
     → IsReadBody kind text r
 behind_name_is kind text r slash None is e = cc e
@@ -330,7 +343,8 @@ behind_name_is kind text r slash (Some read) is e =
       };
     })
 
-pub read_body_is : (kind : PackageKind) (text : List ℕ) (r : PackageRef) → read_body kind text ≡ Some r → (r.kind ≡ kind) × IsBody text r
+pub read_body_is : (kind : PackageKind) (text : List ℕ) (r : PackageRef) → read_body kind text ≡ Some r
+    → (r.kind ≡ kind) × IsBody text r
 unfolding read_body
 read_body_is kind text r e =
     let read = behind_name_is kind text r (less_slash_is text (read_char 47 text) refl) _ refl e in

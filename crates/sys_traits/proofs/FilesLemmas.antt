@@ -42,14 +42,16 @@ pub file_at-lookup : {A : Type 0} (path : Path) (es : List (String A × List ℕ
     → lookup (is_at (λ k. slice_cmp nat_cmp path (string_bytes k))) es ≡ file_at (files_of es) path
 file_at-lookup path [] = refl
 file_at-lookup path (e ∷ es) =
-    ap (λ (rest : Option (List ℕ)). cond (is_eq (slice_cmp nat_cmp path (string_bytes e.0))) (Some e.1) rest) (file_at-lookup path es)
+    ap (λ (rest : Option (List ℕ)). cond (is_eq (slice_cmp nat_cmp path (string_bytes e.0))) (Some e.1) rest)
+    (file_at-lookup path es)
 
 -- an entry that is inserted is a file put in its place
 pub files_of-insert : (es : List (String Global × List ℕ)) (path : String Global) (bytes : List ℕ)
     → files_of (insert_entry string_cmp es path bytes) ≡ with_file (files_of es) (string_bytes path) bytes
 files_of-insert [] path bytes = refl
 files_of-insert (e ∷ es) path bytes =
-    elim (slice_cmp nat_cmp (string_bytes path) (string_bytes e.0)) as (λ o. slice_cmp nat_cmp (string_bytes path) (string_bytes e.0) ≡ o
+    elim (slice_cmp nat_cmp (string_bytes path) (string_bytes e.0)) as
+    (λ o. slice_cmp nat_cmp (string_bytes path) (string_bytes e.0) ≡ o
     → files_of (insert_entry string_cmp (e ∷ es) path bytes) ≡ with_file (files_of (e ∷ es)) (string_bytes path) bytes) [
       | Less ↦ λ is. rw is refl
       | Equal ↦ λ is. rw is refl
@@ -70,7 +72,8 @@ apart p q untied =
 
 -- all paths behind one are others
 all_others : {A : Type 0} (path : Path) (es : List (String A × List ℕ))
-    → AllByRecursion (λ k. slice_cmp nat_cmp path (string_bytes k) ≡ Less) (keys_of es) → without_file (files_of es) path ≡ files_of es
+    → AllByRecursion (λ k. slice_cmp nat_cmp path (string_bytes k) ≡ Less) (keys_of es)
+    → without_file (files_of es) path ≡ files_of es
 all_others path [] above = refl
 all_others path (e ∷ es) above =
     let other : bytes_eq (string_bytes e.0) path ≡ false = apart path (string_bytes e.0) (ap is_eq above.0) in
@@ -78,19 +81,24 @@ all_others path (e ∷ es) above =
 
 -- an entry that is removed from a map is a file taken away
 pub files_of-remove : (path : Path) (es : List (String Global × List ℕ)) → IsStrictlySortedBy string_cmp (keys_of es)
-    → files_of (remove_entry (is_at (λ k. slice_cmp nat_cmp path (string_bytes k))) es) ≡ without_file (files_of es) path
+    → files_of (remove_entry (is_at (λ k. slice_cmp nat_cmp path (string_bytes k))) es)
+    ≡ without_file (files_of es) path
 unfolding IsStrictlySortedBy
 files_of-remove path [] sorted = refl
 files_of-remove path (e ∷ es) sorted =
     elim (slice_cmp nat_cmp path (string_bytes e.0)) as (λ o. slice_cmp nat_cmp path (string_bytes e.0) ≡ o
-    → files_of (cond (is_eq o) es (e ∷ remove_entry (is_at (λ k. slice_cmp nat_cmp path (string_bytes k))) es)) ≡ without_file (files_of (e ∷ es)) path) [
+    → files_of (cond (is_eq o) es (e ∷ remove_entry (is_at (λ k. slice_cmp nat_cmp path (string_bytes k))) es))
+    ≡ without_file (files_of (e ∷ es)) path) [
       | Less ↦ λ is.
           let other : bytes_eq (string_bytes e.0) path ≡ false = apart path (string_bytes e.0) (ap is_eq is) in
           rw other (ap (λ (fs : Files). (string_bytes e.0, e.1) ∷ fs) (files_of-remove path es sorted.1))
       | Equal ↦ λ is.
-          let same : path ≡ string_bytes e.0 = slice_cmp-IsAntisymmetric nat_cmp-IsAntisymmetric path (string_bytes e.0) is in
+          let same : path ≡ string_bytes e.0 =
+          slice_cmp-IsAntisymmetric nat_cmp-IsAntisymmetric path (string_bytes e.0) is in
           let here : bytes_eq (string_bytes e.0) path ≡ true = (bytes_decides (string_bytes e.0) path).1 (sym same) in
-          let rest : without_file (files_of es) path ≡ files_of es = subst (λ (p : Path). without_file (files_of es) p ≡ files_of es) (sym same) (all_others (string_bytes e.0) es sorted.0) in
+          let rest : without_file (files_of es) path ≡ files_of es =
+          subst (λ (p : Path). without_file (files_of es) p ≡ files_of es) (sym same)
+          (all_others (string_bytes e.0) es sorted.0) in
           rw here (sym rest)
       | Greater ↦ λ is.
           let other : bytes_eq (string_bytes e.0) path ≡ false = apart path (string_bytes e.0) (ap is_eq is) in
@@ -113,7 +121,8 @@ abbrev pub IsClearAt : Files → Path → ℕ → Type 0
 IsClearAt files path k = slice_index path k ≡ 47 → is_some (file_at files (take k path)) ≡ false
 
 -- a file that is read behind the first one is not that of its path
-behind_first : (file : File) (files : Files) (path front : Path) → is_below file.0 path ≡ false → is_below front path ≡ true
+behind_first : (file : File) (files : Files) (path front : Path) → is_below file.0 path ≡ false
+    → is_below front path ≡ true
     → is_some (file_at (file ∷ files) front) ≡ true → is_some (file_at files front) ≡ true
 behind_first file files path front off below there =
     elim (is_eq (slice_cmp nat_cmp front file.0)) as (λ t. is_eq (slice_cmp nat_cmp front file.0) ≡ t
@@ -126,7 +135,8 @@ behind_first file files path front off below there =
     ] refl there
 
 -- a file below which the path stands blocks it
-blocked_by : (files : Files) (path front : Path) → is_below front path ≡ true → is_some (file_at files front) ≡ true → is_blocked files path ≡ true
+blocked_by : (files : Files) (path front : Path) → is_below front path ≡ true → is_some (file_at files front) ≡ true
+    → is_blocked files path ≡ true
 blocked_by [] path front below there = absurd cc
 blocked_by (file ∷ files) path front below there =
     elim (is_below file.0 path) as (λ b. is_below file.0 path ≡ b → (b || is_blocked files path) ≡ true) [
@@ -160,19 +170,24 @@ below_is_front path front below =
     let inside : length front < length path = inside_at path (length front) 47 slash (omega arith) in
     ((bytes_decides front (take (length front) path)).0 parts.0, slash, inside)
 
-pub blocked_at : (files : Files) (path : Path) (k : ℕ) → k < length path → slice_index path k ≡ 47 → is_some (file_at files (take k path)) ≡ true
+pub blocked_at : (files : Files) (path : Path) (k : ℕ) → k < length path → slice_index path k ≡ 47
+    → is_some (file_at files (take k path)) ≡ true
     → is_blocked files path ≡ true
 blocked_at files path k inside slash there = blocked_by files path (take k path) (below_at path k inside slash) there
 
 first_there : (file : File) (files : Files) → is_some (file_at (file ∷ files) file.0) ≡ true
 first_there file files =
-    ap (λ b. is_some (cond b (Some file.1) (file_at files file.0))) (sym (texts_ties file.0 file.0) ∙ (bytes_decides file.0 file.0).1 refl)
+    ap (λ b. is_some (cond b (Some file.1) (file_at files file.0)))
+    (sym (texts_ties file.0 file.0) ∙ (bytes_decides file.0 file.0).1 refl)
 
-later_there : (file : File) (files : Files) (q : Path) → is_some (file_at files q) ≡ true → is_some (file_at (file ∷ files) q) ≡ true
+later_there : (file : File) (files : Files) (q : Path) → is_some (file_at files q) ≡ true
+    → is_some (file_at (file ∷ files) q) ≡ true
 later_there file files q there =
-    elim (is_eq (slice_cmp nat_cmp q file.0)) as (λ t. is_some (cond t (Some file.1) (file_at files q)) ≡ true) [ true ↦ refl | false ↦ there ]
+    elim (is_eq (slice_cmp nat_cmp q file.0)) as
+    (λ t. is_some (cond t (Some file.1) (file_at files q)) ≡ true) [ true ↦ refl | false ↦ there ]
 
-clear_of : (path : Path) (files all : Files) → ((q : Path) → is_some (file_at files q) ≡ true → is_some (file_at all q) ≡ true)
+clear_of : (path : Path) (files all : Files)
+    → ((q : Path) → is_some (file_at files q) ≡ true → is_some (file_at all q) ≡ true)
     → ((q : Path) → is_below q path ≡ true → is_some (file_at all q) ≡ false) → is_blocked files path ≡ false
 clear_of path [] all within clear = refl
 clear_of path (file ∷ files) all within clear =
@@ -184,7 +199,8 @@ clear_of path (file ∷ files) all within clear =
     rw here (clear_of path files all (λ q there. within q (later_there file files q there)) clear)
 
 -- a path whose fronts are clear is not blocked
-pub not_blocked : (files : Files) (path : Path) → ((k : ℕ) → k < length path → IsClearAt files path k) → is_blocked files path ≡ false
+pub not_blocked : (files : Files) (path : Path) → ((k : ℕ) → k < length path → IsClearAt files path k)
+    → is_blocked files path ≡ false
 not_blocked files path clear =
     clear_of path files files (λ q there. there) (λ q below.
     let front = below_is_front path q below in

@@ -27,7 +27,8 @@ abbrev Compared : ℕ → List Section → List ℕ → List Section → List �
 Compared total ss rest tt-ss tt-rest =
     ((ss ≡ tt-ss) × (rest ≡ tt-rest)) ⊎ (GoesOn total ss rest tt-ss ⊎ GoesOn total tt-ss tt-rest ss)
 
-goes_behind : (total : ℕ) (s t : Section) (ss : List Section) (rest : List ℕ) (other : List Section) → s ≡ t → GoesOn total ss rest other → GoesOn total (s ∷ ss) rest (t ∷ other)
+goes_behind : (total : ℕ) (s t : Section) (ss : List Section) (rest : List ℕ) (other : List Section) → s ≡ t
+    → GoesOn total ss rest other → GoesOn total (s ∷ ss) rest (t ∷ other)
 goes_behind total s t ss rest other same g = record {
   next = g.next;
   after = g.after;
@@ -36,7 +37,8 @@ goes_behind total s t ss rest other same g = record {
   is = ap (λ (x : Section). x ∷ other) (sym same) ∙ ap (λ (x : List Section). s ∷ x) g.is;
 }
 
-behind : (total : ℕ) (s t : Section) (ss : List Section) (rest : List ℕ) (other : List Section) (other_rest : List ℕ) → s ≡ t
+behind : (total : ℕ) (s t : Section) (ss : List Section) (rest : List ℕ) (other : List Section) (other_rest : List ℕ)
+    → s ≡ t
     → Compared total ss rest other other_rest → Compared total (s ∷ ss) rest (t ∷ other) other_rest
 behind total s t ss rest other other_rest same c =
     elim c [
@@ -47,7 +49,8 @@ behind total s t ss rest other other_rest same c =
       ]
     ]
 
-compare : (total : ℕ) (ss other : List Section) (bytes rest other_rest : List ℕ) → StandIn total ss bytes rest → StandIn total other bytes other_rest → Compared total ss rest other other_rest
+compare : (total : ℕ) (ss other : List Section) (bytes rest other_rest : List ℕ) → StandIn total ss bytes rest
+    → StandIn total other bytes other_rest → Compared total ss rest other other_rest
 compare total [] [] bytes rest other_rest h k = inl (refl, sym h ∙ k)
 compare total [] (t ∷ other) bytes rest other_rest h k =
     inr (inl (record { next = t; after = k.0; tail = other; step = ap (section_at total) (sym h) ∙ k.1; is = refl }))
@@ -56,25 +59,32 @@ compare total (s ∷ ss) [] bytes rest other_rest h k =
 compare total (s ∷ ss) (t ∷ other) bytes rest other_rest h k =
     let pair = given_once {A = Section × List ℕ} (s, h.0) (t, k.0) (sym h.1 ∙ k.1) in
     let same : s ≡ t = ap (λ (p : Section × List ℕ). p.0) pair in
-    let go_on : StandIn total other h.0 other_rest = subst (λ (x : List ℕ). StandIn total other x other_rest) (sym (ap (λ (p : Section × List ℕ). p.1) pair)) k.2 in
+    let go_on : StandIn total other h.0 other_rest =
+    subst (λ (x : List ℕ). StandIn total other x other_rest) (sym (ap (λ (p : Section × List ℕ). p.1) pair)) k.2 in
     behind total s t ss rest other other_rest same (compare total ss other h.0 rest other_rest h.2 go_on)
 
 -- ---- what goes on is neither at its end nor faulty
 
-no_section : (total : ℕ) (rest : List ℕ) (s : Section) (after : List ℕ) → rest ≡ [] → section_at total rest ≡ Ok (s, after) → ⊥
+no_section : (total : ℕ) (rest : List ℕ) (s : Section) (after : List ℕ) → rest ≡ []
+    → section_at total rest ≡ Ok (s, after) → ⊥
 unfolding section_at
-no_section total rest s after e h = let bad : section_at total [] ≡ Ok (s, after) = ap (section_at total) (sym e) ∙ h in cc
+no_section total rest s after e h = let bad : section_at total [] ≡ Ok (s, after) =
+    ap (section_at total) (sym e) ∙ h in cc
 
-front_is : (ss tail : List Section) (next : Section) (other : List Section) → other ≡ (ss ++ next ∷ []) ++ tail → (length ss < length other) × (take (length ss) other ≡ ss)
+front_is : (ss tail : List Section) (next : Section) (other : List Section) → other ≡ (ss ++ next ∷ []) ++ tail
+    → (length ss < length other) × (take (length ss) other ≡ ss)
 front_is ss tail next other is =
     let regrouped : other ≡ ss ++ ((next ∷ []) ++ tail) = is ∙ append_assoc ss (next ∷ []) tail in (
       omega (arith, ap length regrouped, length-append ss ((next ∷ []) ++ tail)),
-      ap (take (length ss)) regrouped ∙ take-append-le (length ss) ss ((next ∷ []) ++ tail) (omega arith) ∙ take-length ss,
+      ap (take (length ss)) regrouped ∙ take-append-le (length ss) ss ((next ∷ []) ++ tail) (omega arith)
+          ∙ take-length ss,
     )
 
 -- sections that end the looking have none behind them that is looked at
-ends_there : (skip_types : Bool) (total : ℕ) (ss : List Section) (rest : List ℕ) (other : List Section) → GoesOn total ss rest other
-    → ((have_all skip_types ss ≡ true) ⊎ (rest ≡ [])) → ((n : ℕ) → n < length other → have_all skip_types (take n other) ≡ false) → ⊥
+ends_there : (skip_types : Bool) (total : ℕ) (ss : List Section) (rest : List ℕ) (other : List Section)
+    → GoesOn total ss rest other
+    → ((have_all skip_types ss ≡ true) ⊎ (rest ≡ []))
+    → ((n : ℕ) → n < length other → have_all skip_types (take n other) ≡ false) → ⊥
 ends_there skip_types total ss rest other g done shortest =
     elim done [
       | inl all ↦
@@ -95,26 +105,33 @@ fault_once r d e h k = let same = sym h ∙ k in cc
 not_sound : {A : Type 0} (r : Result A ParseError) (e : ParseError) → r ≡ Err e → IsOk r → ⊥
 not_sound r e h sound = false≢true (ap is_ok (sym h) ∙ sound)
 
-faulty_is_there : {A : Type 0} (items : Section → Result (List A) ParseError) (o : Option Section) (e : ParseError) → held items o ≡ Err e → is_some o ≡ true
+faulty_is_there : {A : Type 0} (items : Section → Result (List A) ParseError) (o : Option Section) (e : ParseError)
+    → held items o ≡ Err e → is_some o ≡ true
 faulty_is_there items None e h = absurd cc
 faulty_is_there items (Some s) e h = refl
 
 -- a fault stays, whatever follows
-fault_stays : {A : Type 0} (items : Section → Result (List A) ParseError) (kind : ℕ) (ss more : List Section) (e : ParseError) → held items (first kind ss) ≡ Err e → held items (first kind (ss ++ more)) ≡ Err e
-fault_stays items kind ss more e h = ap (held items) (first_stays kind ss more (faulty_is_there items (first kind ss) e h)) ∙ h
+fault_stays : {A : Type 0} (items : Section → Result (List A) ParseError) (kind : ℕ) (ss more : List Section)
+    (e : ParseError) → held items (first kind ss) ≡ Err e → held items (first kind (ss ++ more)) ≡ Err e
+fault_stays items kind ss more e h =
+    ap (held items) (first_stays kind ss more (faulty_is_there items (first kind ss) e h)) ∙ h
 
 -- a fault behind sound sections is of a section of the kind
-fault_kind : {A : Type 0} (items : Section → Result (List A) ParseError) (kind : ℕ) (ss : List Section) (s : Section) (e : ParseError) → IsOk (held items (first kind ss)) → held items (first kind (ss ++ s ∷ [])) ≡ Err e → s.kind ≡ kind
+fault_kind : {A : Type 0} (items : Section → Result (List A) ParseError) (kind : ℕ) (ss : List Section) (s : Section)
+    (e : ParseError) → IsOk (held items (first kind ss)) → held items (first kind (ss ++ s ∷ [])) ≡ Err e
+    → s.kind ≡ kind
 fault_kind items kind ss s e sound fault = decide (eqb s.kind kind) refl
   where
     decide : (b : Bool) → eqb s.kind kind ≡ b → s.kind ≡ kind
     decide true h = eqb-true s.kind kind h
     decide false h =
         absurd (not_sound (held items (first kind ss)) e
-        (ap (held items) (sym (first_other kind ss s (λ same. false≢true (sym h ∙ eq-eqb s.kind kind same)))) ∙ fault) sound)
+        (ap (held items) (sym (first_other kind ss s (λ same. false≢true (sym h ∙ eq-eqb s.kind kind same)))) ∙ fault)
+        sound)
 
 -- sections that are followed by a fault have none behind them that is sound
-faulty_there : (total : ℕ) (ss : List Section) (rest : List ℕ) (other : List Section) (e : ParseError) → GoesOn total ss rest other
+faulty_there : (total : ℕ) (ss : List Section) (rest : List ℕ) (other : List Section) (e : ParseError)
+    → GoesOn total ss rest other
     → IsNextFault total ss rest e → AreSound other → ⊥
 faulty_there total ss rest other e g fault sound =
     elim fault [
@@ -122,10 +139,13 @@ faulty_there total ss rest other e g fault sound =
       | inr s ↦
           let pair = given_once {A = Section × List ℕ} (s.0, s.1) (g.next, g.after) (sym s.2 ∙ g.step) in
           let same : s.0 ≡ g.next = ap (λ (p : Section × List ℕ). p.0) pair in
-          let is : (ss ++ s.0 ∷ []) ++ g.tail ≡ other = ap (λ (x : Section). (ss ++ x ∷ []) ++ g.tail) same ∙ sym g.is in
+          let is : (ss ++ s.0 ∷ []) ++ g.tail ≡ other =
+          ap (λ (x : Section). (ss ++ x ∷ []) ++ g.tail) same ∙ sym g.is in
           elim s.3 [
-            | inl imports ↦ not_sound (imports_in other) e (ap imports_in (sym is) ∙ fault_stays imports_of 2 (ss ++ s.0 ∷ []) g.tail e imports) sound.0
-            | inr exports ↦ not_sound (exports_in other) e (ap exports_in (sym is) ∙ fault_stays exports_of 7 (ss ++ s.0 ∷ []) g.tail e exports) sound.1
+            | inl imports ↦ not_sound (imports_in other) e
+                (ap imports_in (sym is) ∙ fault_stays imports_of 2 (ss ++ s.0 ∷ []) g.tail e imports) sound.0
+            | inr exports ↦ not_sound (exports_in other) e
+                (ap exports_in (sym is) ∙ fault_stays exports_of 7 (ss ++ s.0 ∷ []) g.tail e exports) sound.1
           ]
     ]
 
@@ -153,7 +173,8 @@ section_fault_once ss s d e sound h k =
       ]
     ]
 
-next_fault_once : (total : ℕ) (ss : List Section) (rest : List ℕ) (d e : ParseError) → AreSound ss → IsNextFault total ss rest d → IsNextFault total ss rest e → d ≡ e
+next_fault_once : (total : ℕ) (ss : List Section) (rest : List ℕ) (d e : ParseError) → AreSound ss
+    → IsNextFault total ss rest d → IsNextFault total ss rest e → d ≡ e
 next_fault_once total ss rest d e sound h k =
     elim h [
       | inl a ↦ elim k [
@@ -166,14 +187,17 @@ next_fault_once total ss rest d e sound h k =
             let pair = given_once {A = Section × List ℕ} (s.0, s.1) (t.0, t.1) (sym s.2 ∙ t.2) in
             let same : t.0 ≡ s.0 = sym (ap (λ (p : Section × List ℕ). p.0) pair) in
             section_fault_once ss s.0 d e sound s.3
-            (subst (λ (x : Section). (imports_in (ss ++ x ∷ []) ≡ Err e) ⊎ (exports_in (ss ++ x ∷ []) ≡ Err e)) same t.3)
+            (subst (λ (x : Section). (imports_in (ss ++ x ∷ []) ≡ Err e) ⊎ (exports_in (ss ++ x ∷ []) ≡ Err e)) same
+            t.3)
       ]
     ]
 
 -- ---- two outcomes of one body
 
-two_values : (skip_types : Bool) (total : ℕ) (body : List ℕ) (ss : List Section) (rest : List ℕ) (other : List Section) (other_rest : List ℕ) (x y : Deps)
-    → ReadsBody skip_types total body ss rest → deps_of skip_types ss ≡ Ok x → ReadsBody skip_types total body other other_rest → deps_of skip_types other ≡ Ok y → x ≡ y
+two_values : (skip_types : Bool) (total : ℕ) (body : List ℕ) (ss : List Section) (rest : List ℕ) (other : List Section)
+    (other_rest : List ℕ) (x y : Deps)
+    → ReadsBody skip_types total body ss rest → deps_of skip_types ss ≡ Ok x
+    → ReadsBody skip_types total body other other_rest → deps_of skip_types other ≡ Ok y → x ≡ y
 two_values skip_types total body ss rest other other_rest x y h x-is k y-is =
     elim (compare total ss other body rest other_rest h.0.stand k.0.stand) [
       | inl e ↦ given_once x y (sym x-is ∙ ap (deps_of skip_types) e.0 ∙ y-is)
@@ -183,7 +207,8 @@ two_values skip_types total body ss rest other other_rest x y h x-is k y-is =
       ]
     ]
 
-value_and_fault : (skip_types : Bool) (total : ℕ) (body : List ℕ) (ss : List Section) (rest : List ℕ) (other : List Section) (other_rest : List ℕ) (e : ParseError)
+value_and_fault : (skip_types : Bool) (total : ℕ) (body : List ℕ) (ss : List Section) (rest : List ℕ)
+    (other : List Section) (other_rest : List ℕ) (e : ParseError)
     → ReadsBody skip_types total body ss rest → IsBodyFault skip_types total body other other_rest e → ⊥
 value_and_fault skip_types total body ss rest other other_rest e h k =
     elim (compare total ss other body rest other_rest h.0.stand k.looked.stand) [
@@ -197,13 +222,16 @@ value_and_fault skip_types total body ss rest other other_rest e h k =
       ]
     ]
 
-two_faults : (skip_types : Bool) (total : ℕ) (body : List ℕ) (ss : List Section) (rest : List ℕ) (other : List Section) (other_rest : List ℕ) (d e : ParseError)
+two_faults : (skip_types : Bool) (total : ℕ) (body : List ℕ) (ss : List Section) (rest : List ℕ) (other : List Section)
+    (other_rest : List ℕ) (d e : ParseError)
     → IsBodyFault skip_types total body ss rest d → IsBodyFault skip_types total body other other_rest e → d ≡ e
 two_faults skip_types total body ss rest other other_rest d e h k =
     elim (compare total ss other body rest other_rest h.looked.stand k.looked.stand) [
       | inl same ↦
-          let there : IsNextFault total ss other_rest e = subst (λ (x : List Section). IsNextFault total x other_rest e) (sym same.0) k.fault in
-          let here : IsNextFault total ss rest e = subst (λ (x : List ℕ). IsNextFault total ss x e) (sym same.1) there in
+          let there : IsNextFault total ss other_rest e =
+          subst (λ (x : List Section). IsNextFault total x other_rest e) (sym same.0) k.fault in
+          let here : IsNextFault total ss rest e =
+          subst (λ (x : List ℕ). IsNextFault total ss x e) (sym same.1) there in
           next_fault_once total ss rest d e h.sound h.fault here
       | inr g ↦ elim g [
         | inl on ↦ absurd (faulty_there total ss rest other d on h.fault k.sound)
@@ -215,10 +243,12 @@ abbrev refusal : ParseError → Result Deps ParseError
 refusal e = Err e
 
 -- a module has at most one outcome
-pub one_outcome : (skip_types : Bool) (input : List ℕ) (a b : Result Deps ParseError) → ReadsModule skip_types input a → ReadsModule skip_types input b → a ≡ b
+pub one_outcome : (skip_types : Bool) (input : List ℕ) (a b : Result Deps ParseError) → ReadsModule skip_types input a
+    → ReadsModule skip_types input b → a ≡ b
 one_outcome skip_types input (Ok x) (Ok y) h k =
     let body : k.0 ≡ h.0 = given_once k.0 h.0 (sym k.1 ∙ h.1) in
-    let there : ReadsBody skip_types (length input) h.0 k.2 k.3 = subst (λ (z : List ℕ). ReadsBody skip_types (length input) z k.2 k.3) body k.4 in
+    let there : ReadsBody skip_types (length input) h.0 k.2 k.3 =
+    subst (λ (z : List ℕ). ReadsBody skip_types (length input) z k.2 k.3) body k.4 in
     ap (λ (z : Deps). given z) (two_values skip_types (length input) h.0 h.2 h.3 k.2 k.3 x y h.4 h.5 there k.5)
   where
     given : Deps → Result Deps ParseError
@@ -228,7 +258,8 @@ one_outcome skip_types input (Ok x) (Err e) h k =
       | inl header ↦ absurd (value_or_fault (header_at input) h.0 e h.1 header)
       | inr f ↦
           let body : f.0 ≡ h.0 = given_once f.0 h.0 (sym f.1 ∙ h.1) in
-          let there : IsBodyFault skip_types (length input) h.0 f.2 f.3 e = subst (λ (z : List ℕ). IsBodyFault skip_types (length input) z f.2 f.3 e) body f.4 in
+          let there : IsBodyFault skip_types (length input) h.0 f.2 f.3 e =
+          subst (λ (z : List ℕ). IsBodyFault skip_types (length input) z f.2 f.3 e) body f.4 in
           absurd (value_and_fault skip_types (length input) h.0 h.2 h.3 f.2 f.3 e h.4 there)
     ]
 one_outcome skip_types input (Err d) (Ok y) h k =
@@ -236,7 +267,8 @@ one_outcome skip_types input (Err d) (Ok y) h k =
       | inl header ↦ absurd (value_or_fault (header_at input) k.0 d k.1 header)
       | inr f ↦
           let body : f.0 ≡ k.0 = given_once f.0 k.0 (sym f.1 ∙ k.1) in
-          let there : IsBodyFault skip_types (length input) k.0 f.2 f.3 d = subst (λ (z : List ℕ). IsBodyFault skip_types (length input) z f.2 f.3 d) body f.4 in
+          let there : IsBodyFault skip_types (length input) k.0 f.2 f.3 d =
+          subst (λ (z : List ℕ). IsBodyFault skip_types (length input) z f.2 f.3 d) body f.4 in
           absurd (value_and_fault skip_types (length input) k.0 k.2 k.3 f.2 f.3 d k.4 there)
     ]
 one_outcome skip_types input (Err d) (Err e) h k =
@@ -249,13 +281,15 @@ one_outcome skip_types input (Err d) (Err e) h k =
         | inl b ↦ absurd (value_or_fault (header_at input) f.0 e f.1 b)
         | inr g ↦
             let body : g.0 ≡ f.0 = given_once g.0 f.0 (sym g.1 ∙ f.1) in
-            let there : IsBodyFault skip_types (length input) f.0 g.2 g.3 e = subst (λ (z : List ℕ). IsBodyFault skip_types (length input) z g.2 g.3 e) body g.4 in
+            let there : IsBodyFault skip_types (length input) f.0 g.2 g.3 e =
+            subst (λ (z : List ℕ). IsBodyFault skip_types (length input) z g.2 g.3 e) body g.4 in
             ap refusal (two_faults skip_types (length input) f.0 f.2 f.3 g.2 g.3 d e f.4 there)
       ]
     ]
 
 -- the outcome that there is is the one that was answered, unless memory ran out
-pub outcome_is : (skip_types : Bool) (input : List ℕ) (result : Result WasmDeps ParseError) (outcome : Result Deps ParseError)
+pub outcome_is : (skip_types : Bool) (input : List ℕ) (result : Result WasmDeps ParseError)
+    (outcome : Result Deps ParseError)
     → IsOutcome skip_types input result → ReadsModule skip_types input outcome → GivesInRoom seen result outcome
 outcome_is skip_types input (Ok deps) outcome h k = one_outcome skip_types input outcome (Ok (seen deps)) k h
 outcome_is skip_types input (Err OutOfMemory) outcome h k = tt

@@ -4,7 +4,8 @@ use Rattle.deno_graph.specs.Rules.{rules_of}
 use Rattle.deno_graph.proofs.finish.finish.Goals as goal
 
 pub entries_of-requires : goal.entries_of-requires
-entries_of-requires c = rw c.replace-taken.ensures.value (done_sorted c.args.reached.now.entries c.len-count.ensures.ordered c.requires)
+entries_of-requires c =
+    rw c.replace-taken.ensures.value (done_sorted c.args.reached.now.entries c.len-count.ensures.ordered c.requires)
 
 pub settle-requires : goal.settle-requires
 settle-requires c =
@@ -14,5 +15,6 @@ settle-requires c =
 pub new-requires-2 : goal.new-requires-2
 new-requires-2 c =
     rw c.in_ok-entries.ensures
-    (ascending_finals (rules_of c.args.following) c.in_ok-firsts.firsts (ascending_done c.args.reached.now.entries c.in_ok-firsts.firsts c.len-count.ensures.ordered
+    (ascending_finals (rules_of c.args.following) c.in_ok-firsts.firsts
+    (ascending_done c.args.reached.now.entries c.in_ok-firsts.firsts c.len-count.ensures.ordered
     (rw (← c.replace-taken.ensures.value) c.in_ok-firsts.ensures)))

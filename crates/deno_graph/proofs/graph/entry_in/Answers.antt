@@ -6,9 +6,11 @@ use Rattle.deno_graph.proofs.graph.entry_in.Goals as goal
 pub returns-in-Equal : goal.returns-in-Equal
 returns-in-Equal c =
     let at = c.loop-low.low + (c.loop-low.high - c.loop-low.low) / 2 in
-    sym (entry_of-Some c.args.entries.now (text_of c.args.specifier.now) at c.index-entries-middle-in-Equal.result c.requires
+    sym (entry_of-Some c.args.entries.now (text_of c.args.specifier.now) at c.index-entries-middle-in-Equal.result
+    c.requires
     (omega (arith, c.loop-low.invariant.fits))
-    (at_any c.args.entries.now (text_of c.args.specifier.now) at c.index-entries-middle-in-Equal.result c.index-entries-middle.result
+    (at_any c.args.entries.now (text_of c.args.specifier.now) at c.index-entries-middle-in-Equal.result
+    c.index-entries-middle.result
     (omega (arith, c.loop-low.invariant.fits))
     (sym c.in-Equal.ensures)))
 
@@ -23,4 +25,5 @@ loop-low-preserved c =
     (sym c.in-Greater.ensures)
 
 pub returns : goal.returns
-returns c = sym (entry_of-narrowed c.args.entries.now (text_of c.args.specifier.now) _ _ c.loop-low.invariant c.loop-low-test.false)
+returns c = sym (entry_of-narrowed c.args.entries.now (text_of c.args.specifier.now) _ _ c.loop-low.invariant
+    c.loop-low-test.false)

@@ -7,7 +7,8 @@ use Rattle.deno_graph.proofs.graph.resolve_in.Goals as goal
 
 pub loop-preserved : goal.loop-preserved
 loop-preserved c =
-    resolved_on c.args.entries.now 10 c.loop.counter (text_of c.loop.at.now) (text_of c.in-Some.next.now) _ c.loop-test.true
+    resolved_on c.args.entries.now 10 c.loop.counter (text_of c.loop.at.now) (text_of c.in-Some.next.now) _
+    c.loop-test.true
     (sym c.redirect_in.ensures ∙ ap (λ r. option_map text_of (option_copied r)) c.in-Some.is) c.loop.invariant
 
 pub returns-in-None : goal.returns-in-None
@@ -16,4 +17,5 @@ returns-in-None c =
     (sym c.redirect_in.ensures ∙ ap (λ r. option_map text_of (option_copied r)) c.in-None.is) c.loop.invariant
 
 pub returns : goal.returns
-returns c = resolved_whole c.args.entries.now 10 c.loop.counter (text_of c.loop.at.now) _ c.loop-test.false c.loop.invariant
+returns c = resolved_whole c.args.entries.now 10 c.loop.counter (text_of c.loop.at.now) _ c.loop-test.false
+    c.loop.invariant

@@ -20,8 +20,10 @@ bounds-modules-at c =
 pub returns-in-Some : goal.returns-in-Some
 returns-in-Some c =
     let is : value_at c.args.places.now.entries (text_of c.args.url.now) ≡ Some c.in-Some.at = cc in
-    let here : (get_or c.args.modules.now c.in-Some.at c.index-modules-at.result).1 ≡ module_answer c.args.modules.now (text_of c.args.url.now) =
-    placed_answer c.args.modules.now c.args.places.now.entries c.args.url.now c.in-Some.at c.index-modules-at.result c.requires is in
+    let here : (get_or c.args.modules.now c.in-Some.at c.index-modules-at.result).1
+    ≡ module_answer c.args.modules.now (text_of c.args.url.now) =
+    placed_answer c.args.modules.now c.args.places.now.entries c.args.url.now c.in-Some.at c.index-modules-at.result
+    c.requires is in
     subst (λ (y : LoadAnswer). IfOk c.copy.result (λ answer. answer ≡ y)) here c.copy.ensures
 
 pub returns-in-None : goal.returns-in-None

@@ -12,8 +12,10 @@ bounds-refused-len c =
 pub loop-edge-preserved : goal.loop-edge-preserved
 loop-edge-preserved c =
     let whole = c.loop-edge.invariant.whole ∙ ap (λ l. c.loop-edge.yielded ++ l) c.in-Some.ensures.steps.0 in
-    let more = edges_push c.args.refused.now c.args.edges c.loop-edge.yielded _ c.loop-edge.made c.push.new.self c.in-Some.edge c.settled_edge.result _ _
-    c.len.result c.loop-edge.invariant.made c.loop-edge.invariant.counted whole c.requires c.len.ensures refl c.settled_edge.ensures c.in_ok-push.ensures.ok in record {
+    let more = edges_push c.args.refused.now c.args.edges c.loop-edge.yielded _ c.loop-edge.made c.push.new.self
+    c.in-Some.edge c.settled_edge.result _ _
+    c.len.result c.loop-edge.invariant.made c.loop-edge.invariant.counted whole c.requires c.len.ensures refl
+    c.settled_edge.ensures c.in_ok-push.ensures.ok in record {
       made = more.0;
       counted = more.1;
       whole = whole ∙ sym (append_assoc c.loop-edge.yielded (c.in-Some.edge ∷ []) _);

@@ -6,4 +6,5 @@ use Rattle.deno_graph.proofs.settle.leads_on.Given as goal
 
 -- the steps that are left lead from here to where all lead from the specifier
 abbrev pub invariant-loop : goal.invariant-loop
-invariant-loop l = led (redirected l.firsts) (10 - l.counter) (text_of l.at) ≡ led (redirected l.firsts) 10 (text_of l.specifier)
+invariant-loop l = led (redirected l.firsts) (10 - l.counter) (text_of l.at)
+    ≡ led (redirected l.firsts) 10 (text_of l.specifier)

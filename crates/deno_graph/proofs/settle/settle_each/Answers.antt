@@ -19,7 +19,9 @@ bounds-verdicts-len c =
 pub judged-requires : goal.judged-requires
 judged-requires c =
     subst (λ (v : Verdict). IsVerdictOn v c.in-Some.first)
-    (sym (c.index-verdicts-len.is ∙ value_now (λ (e : Parts × Entry). verdict_of (rules_of c.args.following) c.args.firsts e.1) c.args.firsts c.loop-url.yielded _
+    (sym (c.index-verdicts-len.is
+    ∙ value_now (λ (e : Parts × Entry). verdict_of (rules_of c.args.following) c.args.firsts e.1) c.args.firsts
+    c.loop-url.yielded _
     (c.in-Some.url, c.in-Some.first) c.args.verdicts.now c.len.result c.index-verdicts-len.result c.requires
     (c.loop-url.invariant.whole ∙ ap (λ l. c.loop-url.yielded ++ l) c.in-Some.ensures.steps.0)
     (c.len.ensures ∙ ap length c.loop-url.invariant.made ∙ length-map c.loop-url.yielded _)))
@@ -28,9 +30,12 @@ judged-requires c =
 pub loop-url-preserved : goal.loop-url-preserved
 loop-url-preserved c =
     let whole = c.loop-url.invariant.whole ∙ ap (λ l. c.loop-url.yielded ++ l) c.in-Some.ensures.steps.0 in record {
-      made = settled_push (rules_of c.args.following) c.args.firsts c.loop-url.yielded c.loop-url.entries c.push.new.self c.in-Some.url c.in-Some.first
+      made = settled_push (rules_of c.args.following) c.args.firsts c.loop-url.yielded c.loop-url.entries
+          c.push.new.self c.in-Some.url c.in-Some.first
           c.in_ok-entry.entry c.index-verdicts-len.result c.loop-url.invariant.made
-          (c.index-verdicts-len.is ∙ value_now (λ (e : Parts × Entry). verdict_of (rules_of c.args.following) c.args.firsts e.1) c.args.firsts c.loop-url.yielded _
+          (c.index-verdicts-len.is
+          ∙ value_now (λ (e : Parts × Entry). verdict_of (rules_of c.args.following) c.args.firsts e.1)
+          c.args.firsts c.loop-url.yielded _
           (c.in-Some.url, c.in-Some.first) c.args.verdicts.now c.len.result c.index-verdicts-len.result c.requires whole
           (c.len.ensures ∙ ap length c.loop-url.invariant.made ∙ length-map c.loop-url.yielded _))
           c.in_ok-entry.ensures c.in_ok-push.ensures.ok;

@@ -5,4 +5,5 @@ use Rattle.deno_graph.proofs.settle.verdicts_of.Given as goal
 
 -- a verdict on each first entry so far
 abbrev pub invariant-loop-first : goal.invariant-loop-first
-invariant-loop-first l = l.verdicts ≡ map (λ e. verdict_of (rules_of l.following) l.firsts e.1) (take l.first-index l.firsts)
+invariant-loop-first l =
+    l.verdicts ≡ map (λ e. verdict_of (rules_of l.following) l.firsts e.1) (take l.first-index l.firsts)

@@ -13,12 +13,14 @@ returns-in-Ok-clause-tells g c =
 pub returns-then-eq-clause-tells : goal.returns-then-eq-clause-tells
 returns-then-eq-clause-tells g c =
     let missing : c.in-Err.first.kind ≡ NotFound = search rules in
-    told_over_again c.args.temporary.now c.args.path.now c.args.bytes.now c.args.mode c.in-Err.first c.write_again.result missing
+    told_over_again c.args.temporary.now c.args.path.now c.args.bytes.now c.args.mode c.in-Err.first
+    c.write_again.result missing
     _ (g.S.SysState.told c.pass.new.sys) _ c.in-Err.ensures.tells c.write_again.ensures.tells
 
 pub returns-else-eq-clause-tells : goal.returns-else-eq-clause-tells
 returns-else-eq-clause-tells g c =
     told_over_refused c.args.temporary.now c.args.path.now c.args.bytes.now c.args.mode c.in-Err.first c.named.result
     (let h = c.if-eq.false in search rules)
-    (subst (λ ending. HasEnding ending c.in-Err.first.kind c.named.result.kind c.named.result.message) (append-nil (naming c.args.path.now)) (has_ending _ _ c.in-Err.first.message _ _ c.named.ensures))
+    (subst (λ ending. HasEnding ending c.in-Err.first.kind c.named.result.kind c.named.result.message)
+    (append-nil (naming c.args.path.now)) (has_ending _ _ c.in-Err.first.message _ _ c.named.ensures))
     _ _ c.in-Err.ensures.tells

@@ -11,7 +11,8 @@ use Rattle.deno_path_util.proofs.canonical.climb.Given as goal
 abbrev pub invariant-missing : goal.invariant-missing
 invariant-missing g l =
     shadow (Utf8 l.here)
-    × WhereTold (Quiet (Leads l.path l.here (texts l.names.items))) (g.S.SysState.told l.fn.sys) (g.S.SysState.told l.sys)
+    × WhereTold (Quiet (Leads l.path l.here (texts l.names.items))) (g.S.SysState.told l.fn.sys)
+    (g.S.SysState.told l.sys)
     × (g.S.SysState.faults l.fn.sys ≤ g.S.SysState.faults l.sys)
 
 abbrev pub decreases-missing : goal.decreases-missing

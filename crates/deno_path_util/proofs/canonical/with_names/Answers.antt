@@ -10,5 +10,6 @@ pub names-preserved : goal.names-preserved
 names-preserved c =
     let popped : texts c.names.names.items ≡ texts c.pop.new.self.items ++ c.in-Some.name.now ∷ [] =
     rw c.in-Some.ensures.items (map_push _ c.pop.new.self.items c.in-Some.name) in
-    sym (joined_popped (texts c.pop.new.self.items) c.in-Some.name.now (string_bytes c.names.joined) (string_bytes c.in_ok-joined.joined) c.in_ok-joined.ensures)
+    sym (joined_popped (texts c.pop.new.self.items) c.in-Some.name.now (string_bytes c.names.joined)
+    (string_bytes c.in_ok-joined.joined) c.in_ok-joined.ensures)
     ∙ sym (ap (λ (ns : List (List ℕ)). joined_names ns (string_bytes c.names.joined)) popped) ∙ c.names.invariant

@@ -6,7 +6,8 @@ use Rattle.deno_path_util.proofs.canonical.with_names.Given as goal
 
 abbrev pub invariant-names : goal.invariant-names
 invariant-names l =
-    joined_names (texts l.names.items) (string_bytes l.joined) ≡ joined_names (texts l.fn.names.items) (string_bytes l.fn.path)
+    joined_names (texts l.names.items) (string_bytes l.joined)
+    ≡ joined_names (texts l.fn.names.items) (string_bytes l.fn.path)
 
 abbrev pub decreases-names : goal.decreases-names
 decreases-names l = length l.names.items

@@ -6,6 +6,7 @@ use Rattle.deno_path_util.proofs.retries.tried.Given as goal
 abbrev pub invariant-loop-number : goal.invariant-loop-number
 invariant-loop-number g l = record {
   begun : 1 ≤ l.number;
-  tells : WhereTold (Before l.path l.bytes l.mode (6 - l.number)) (g.S.SysState.told l.fn.sys) (g.S.SysState.told l.sys);
+  tells : WhereTold (Before l.path l.bytes l.mode (6 - l.number)) (g.S.SysState.told l.fn.sys)
+      (g.S.SysState.told l.sys);
   counts : (g.S.SysState.faults l.fn.sys + l.number) ≤ (g.S.SysState.faults l.sys + 1);
 }

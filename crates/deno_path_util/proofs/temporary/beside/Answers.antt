@@ -6,7 +6,8 @@ use Rattle.deno_path_util.proofs.temporary.beside.Goals as goal
 
 pub set_extension-requires : goal.set_extension-requires
 set_extension-requires c =
-    subst HasNoSlash (sym (c.as_str.ensures.value ∙ c.in_ok-end.ensures)) (no_slash_fact (temporary_end c.args.bytes.now) (end_no_slash c.args.bytes.now))
+    subst HasNoSlash (sym (c.as_str.ensures.value ∙ c.in_ok-end.ensures))
+    (no_slash_fact (temporary_end c.args.bytes.now) (end_no_slash c.args.bytes.now))
 
 pub returns : goal.returns
 unfolding atomic_path

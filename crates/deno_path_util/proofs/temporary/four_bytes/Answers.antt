@@ -12,7 +12,8 @@ pub returns-in_err-second-clause-tells : goal.returns-in_err-second-clause-tells
 returns-in_err-second-clause-tells g c =
     let p = err_from_is_err_and c.from_residual-in_err-second.result c.from_residual-in_err-second.ensures.1 in
     let one = c.in_ok-first.first in
-    rw (p.1, p.2) (told_refused_after (one ∷ []) c.in_err-second.field-0.0 (omega arith) _ (g.S.SysState.told c.sys_random_u8.new.self) _
+    rw (p.1, p.2) (told_refused_after (one ∷ []) c.in_err-second.field-0.0 (omega arith) _
+    (g.S.SysState.told c.sys_random_u8.new.self) _
     (told_drawn one _ _ c.in_ok-first.ensures.tells) c.in_err-second.ensures.tells)
 
 pub returns-in_err-third-clause-tells : goal.returns-in_err-third-clause-tells
@@ -20,8 +21,10 @@ returns-in_err-third-clause-tells g c =
     let p = err_from_is_err_and c.from_residual-in_err-third.result c.from_residual-in_err-third.ensures.1 in
     let one = c.in_ok-first.first in
     let two = c.in_ok-second.second in
-    rw (p.1, p.2) (told_refused_after (one ∷ two ∷ []) c.in_err-third.field-0.0 (omega arith) _ (g.S.SysState.told c.sys_random_u8-2.new.self) _
-    (told_drawn_more (one ∷ []) two _ (g.S.SysState.told c.sys_random_u8.new.self) _ (told_drawn one _ _ c.in_ok-first.ensures.tells) c.in_ok-second.ensures.tells)
+    rw (p.1, p.2) (told_refused_after (one ∷ two ∷ []) c.in_err-third.field-0.0 (omega arith) _
+    (g.S.SysState.told c.sys_random_u8-2.new.self) _
+    (told_drawn_more (one ∷ []) two _ (g.S.SysState.told c.sys_random_u8.new.self) _
+    (told_drawn one _ _ c.in_ok-first.ensures.tells) c.in_ok-second.ensures.tells)
     c.in_err-third.ensures.tells)
 
 pub returns-in_err-fourth-clause-tells : goal.returns-in_err-fourth-clause-tells
@@ -30,8 +33,10 @@ returns-in_err-fourth-clause-tells g c =
     let one = c.in_ok-first.first in
     let two = c.in_ok-second.second in
     let three = c.in_ok-third.third in
-    rw (p.1, p.2) (told_refused_after (one ∷ two ∷ three ∷ []) c.in_err-fourth.field-0.0 (omega arith) _ (g.S.SysState.told c.sys_random_u8-3.new.self) _
+    rw (p.1, p.2) (told_refused_after (one ∷ two ∷ three ∷ []) c.in_err-fourth.field-0.0 (omega arith) _
+    (g.S.SysState.told c.sys_random_u8-3.new.self) _
     (told_drawn_more (one ∷ two ∷ []) three _ (g.S.SysState.told c.sys_random_u8-2.new.self) _
-    (told_drawn_more (one ∷ []) two _ (g.S.SysState.told c.sys_random_u8.new.self) _ (told_drawn one _ _ c.in_ok-first.ensures.tells) c.in_ok-second.ensures.tells)
+    (told_drawn_more (one ∷ []) two _ (g.S.SysState.told c.sys_random_u8.new.self) _
+    (told_drawn one _ _ c.in_ok-first.ensures.tells) c.in_ok-second.ensures.tells)
     c.in_ok-third.ensures.tells)
     c.in_err-fourth.ensures.tells)

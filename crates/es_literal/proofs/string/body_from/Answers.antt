@@ -8,15 +8,18 @@ use Rattle.es_literal.proofs.string.body_from.Goals as goal
 
 pub loop-size-preserved : goal.loop-size-preserved
 loop-size-preserved c =
-    let t : Turn (string_unit c.args.quote) c.loop-size.at c.args.first c.string_unit-size.result c.loop-size.rest.now _ c.args.text.now =
-    turn (string_unit c.args.quote) c.loop-size.at c.args.first c.string_unit-size.result c.loop-size.rest.now _ c.args.text.now
+    let t : Turn (string_unit c.args.quote) c.loop-size.at c.args.first c.string_unit-size.result c.loop-size.rest.now
+    _ c.args.text.now =
+    turn (string_unit c.args.quote) c.loop-size.at c.args.first c.string_unit-size.result c.loop-size.rest.now _
+    c.args.text.now
     c.string_unit-size.ensures.value (omega arith) c.string_unit-size.ensures.within
     (take_rest c.loop-size.rest.now c.string_unit-size.result) c.loop-size.invariant.end c.loop-size.invariant.rest in
     record {
       end = t.end;
       rest = t.rest;
       fits = turn_fits c.loop-size.at c.string_unit-size.result c.loop-size.rest.now _
-          (take_rest c.loop-size.rest.now c.string_unit-size.result) c.string_unit-size.ensures.within c.loop-size.invariant.fits;
+          (take_rest c.loop-size.rest.now c.string_unit-size.result) c.string_unit-size.ensures.within
+          c.loop-size.invariant.fits;
     }
 
 pub returns : goal.returns

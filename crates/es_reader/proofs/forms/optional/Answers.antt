@@ -9,5 +9,8 @@ use Rattle.es_reader.proofs.forms.optional.Goals as goal
 -- the part is absent
 pub returns : goal.returns
 returns g c =
-    rw c.new.ensures (absent_part (test (told_of c.args.told) (keys_of c.args.grammar.now.input.tokens.tokens.now) c.args.cursor.now.at)
-    (form_at (keys_of c.args.grammar.now.input.tokens.tokens.now) (row_at (keys_of c.args.grammar.now.input.tokens.tokens.now) c.args.grammar.now.room) (g.P.ReadsForm.form c.args.part.now) c.args.cursor.now.at) c.args.cursor.now.at (sym c.if-is_there.ensures))
+    rw c.new.ensures (absent_part
+    (test (told_of c.args.told) (keys_of c.args.grammar.now.input.tokens.tokens.now) c.args.cursor.now.at)
+    (form_at (keys_of c.args.grammar.now.input.tokens.tokens.now)
+    (row_at (keys_of c.args.grammar.now.input.tokens.tokens.now) c.args.grammar.now.room)
+    (g.P.ReadsForm.form c.args.part.now) c.args.cursor.now.at) c.args.cursor.now.at (sym c.if-is_there.ensures))

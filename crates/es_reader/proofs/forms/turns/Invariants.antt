@@ -12,10 +12,12 @@ abbrev pub invariant-turns : goal.invariant-turns
 invariant-turns g l =
     IsLeft
     (read_turns makes (keys_of l.grammar.input.tokens.tokens.now) (test (told_of l.told))
-    (form_at (keys_of l.grammar.input.tokens.tokens.now) (row_at (keys_of l.grammar.input.tokens.tokens.now) l.grammar.room)
+    (form_at (keys_of l.grammar.input.tokens.tokens.now)
+    (row_at (keys_of l.grammar.input.tokens.tokens.now) l.grammar.room)
     (g.P.ReadsForm.form l.turn)) (length (keys_of l.grammar.input.tokens.tokens.now)) l.fn.cursor.at)
     (read_turns makes (keys_of l.grammar.input.tokens.tokens.now) (test (told_of l.told))
-    (form_at (keys_of l.grammar.input.tokens.tokens.now) (row_at (keys_of l.grammar.input.tokens.tokens.now) l.grammar.room)
+    (form_at (keys_of l.grammar.input.tokens.tokens.now)
+    (row_at (keys_of l.grammar.input.tokens.tokens.now) l.grammar.room)
     (g.P.ReadsForm.form l.turn)) l.left l.cursor.at) l.list.trees l.list.height
 
 abbrev pub decreases-turns : goal.decreases-turns

@@ -10,10 +10,13 @@ use Rattle.es_reader.proofs.rules.wraps.Given as goal
 abbrev pub invariant-turns : goal.invariant-turns
 invariant-turns g l =
     wraps_at (keys_of l.grammar.input.tokens.tokens.now) l.label (test (told_of l.told))
-    (form_at (keys_of l.grammar.input.tokens.tokens.now) (row_at (keys_of l.grammar.input.tokens.tokens.now) l.grammar.room)
-    (g.P.ReadsForm.form l.turn)) l.from (length (keys_of l.grammar.input.tokens.tokens.now)) (single l.fn.first) l.fn.cursor.at
+    (form_at (keys_of l.grammar.input.tokens.tokens.now)
+    (row_at (keys_of l.grammar.input.tokens.tokens.now) l.grammar.room)
+    (g.P.ReadsForm.form l.turn)) l.from (length (keys_of l.grammar.input.tokens.tokens.now)) (single l.fn.first)
+    l.fn.cursor.at
     ≡ wraps_at (keys_of l.grammar.input.tokens.tokens.now) l.label (test (told_of l.told))
-    (form_at (keys_of l.grammar.input.tokens.tokens.now) (row_at (keys_of l.grammar.input.tokens.tokens.now) l.grammar.room)
+    (form_at (keys_of l.grammar.input.tokens.tokens.now)
+    (row_at (keys_of l.grammar.input.tokens.tokens.now) l.grammar.room)
     (g.P.ReadsForm.form l.turn)) l.from l.left (single l.whole) l.cursor.at
 
 abbrev pub decreases-turns : goal.decreases-turns

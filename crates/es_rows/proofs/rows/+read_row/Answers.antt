@@ -10,7 +10,8 @@ use Rattle.es_reader.specs.Steps.{IsRead}
 use Rattle.es_rows.proofs.rows.+read_row.Goals as goal
 
 -- a row is read by its rule, with room for one row less below it
-row_below : (K : List Key) (room : ℕ) (r : Row) (at : ℕ) (answer : Result Measured SyntaxError) (to : ℕ) → (room ≡ 0 → ⊥)
+row_below : (K : List Key) (room : ℕ) (r : Row) (at : ℕ) (answer : Result Measured SyntaxError) (to : ℕ)
+    → (room ≡ 0 → ⊥)
     → IsRead (rule_at K (row_at K (room - 1)) (rule r) at) answer to → IsRead (row_at K room r at) answer to
 unfolding row_at
 row_below K zero r at answer to ne read = absurd (ne refl)

@@ -16,7 +16,8 @@ loop-size-preserved c =
       end = t.end;
       rest = t.rest;
       place = turn_place c.loop-size.at c.class_unit-size.result c.loop-size.rest.now _
-          (take_rest c.loop-size.rest.now c.class_unit-size.result) c.class_unit-size.ensures.within ∙ c.loop-size.invariant.place;
+          (take_rest c.loop-size.rest.now c.class_unit-size.result) c.class_unit-size.ensures.within
+          ∙ c.loop-size.invariant.place;
     }
 
 pub returns-clause-value : goal.returns-clause-value

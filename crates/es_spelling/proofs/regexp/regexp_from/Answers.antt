@@ -17,7 +17,8 @@ loop-size-preserved c =
       rest = t.rest;
       forward = omega (arith, c.loop-size.invariant.forward);
       place = turn_place c.loop-size.at c.body_unit-size.result c.loop-size.rest.now _
-          (take_rest c.loop-size.rest.now c.body_unit-size.result) c.body_unit-size.ensures.within ∙ c.loop-size.invariant.place;
+          (take_rest c.loop-size.rest.now c.body_unit-size.result) c.body_unit-size.ensures.within
+          ∙ c.loop-size.invariant.place;
     }
 
 pub returns-clause-value : goal.returns-clause-value

@@ -8,7 +8,8 @@ use Rattle.es_spelling.proofs.template.template_from.Goals as goal
 
 pub loop-size-preserved : goal.loop-size-preserved
 loop-size-preserved c =
-    let t : Turn template_unit c.loop-size.at c.args.first c.template_unit-size.result c.loop-size.rest.now _ c.args.bytes.now =
+    let t : Turn template_unit c.loop-size.at c.args.first c.template_unit-size.result c.loop-size.rest.now _
+    c.args.bytes.now =
     turn template_unit c.loop-size.at c.args.first c.template_unit-size.result c.loop-size.rest.now _ c.args.bytes.now
     c.template_unit-size.ensures.value (omega arith) c.template_unit-size.ensures.within
     (take_rest c.loop-size.rest.now c.template_unit-size.result) c.loop-size.invariant.end c.loop-size.invariant.rest in
@@ -16,7 +17,8 @@ loop-size-preserved c =
       end = t.end;
       rest = t.rest;
       fits = turn_fits c.loop-size.at c.template_unit-size.result c.loop-size.rest.now _
-          (take_rest c.loop-size.rest.now c.template_unit-size.result) c.template_unit-size.ensures.within c.loop-size.invariant.fits;
+          (take_rest c.loop-size.rest.now c.template_unit-size.result) c.template_unit-size.ensures.within
+          c.loop-size.invariant.fits;
     }
 
 pub returns : goal.returns

@@ -12,7 +12,8 @@ walk_stmt-returns-in_ok-walk_stmt_if-in-If t c =
 
 pub walk_stmt-returns-in_ok-walk_stmt_if-in-Try-2 : goal.walk_stmt-returns-in_ok-walk_stmt_if-in-Try-2
 walk_stmt-returns-in_ok-walk_stmt_if-in-Try-2 t c =
-    let sites = stmt_Try c.args.found.now c.in-Try.block c.in-Try.param c.in-Try.handler c.in-Try.finalizer c.in-Try.span in
+    let sites = stmt_Try c.args.found.now c.in-Try.block c.in-Try.param c.in-Try.handler c.in-Try.finalizer
+    c.in-Try.span in
     let is = c.in-Try.is in
     let first = c.in_ok-walk_stmt-in-Try.ensures in
     let second = c.in_ok-walk_pat_if-in-Try.ensures in

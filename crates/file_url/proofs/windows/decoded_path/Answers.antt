@@ -11,5 +11,6 @@ loop-i-preserved c =
     let i = c.loop-i.i in
     let d : Bor (List ℕ) = record { ref_ptr = (0, 0); now = [] } in
     c.in_ok-push_segment.ensures
-    ∙ ap (λ front. (front ++ (if nat_eq i 0 then [] else codes "/")) ++ decoded (get_or segments i d).now) c.loop-i.invariant
+    ∙ ap (λ front. (front ++ (if nat_eq i 0 then [] else codes "/")) ++ decoded (get_or segments i d).now)
+    c.loop-i.invariant
     ∙ sym (path_of_mapped decoded c.args.absolute segments i d (omega arith))

@@ -7,5 +7,6 @@ use Rattle.file_url.proofs.windows.has_parent_dir.Goals as goal
 pub returns : goal.returns
 returns c =
     any_from_yields_List is_parent_dir _ _ _ c.any.ensures.ran
-    (YieldsList-from_str_split 47 c.args.path.now (lit< tt) c.split.ensures.text c.split.ensures.has_more c.split.ensures.pattern)
+    (YieldsList-from_str_split 47 c.args.path.now (lit< tt) c.split.ensures.text c.split.ensures.has_more
+    c.split.ensures.pattern)
     (λ x b q k. search (rules, tests))

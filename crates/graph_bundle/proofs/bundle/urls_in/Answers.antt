@@ -11,6 +11,9 @@ use Rattle.graph_bundle.proofs.bundle.urls_in.Goals as goal
 pub returns-in-Some : goal.returns-in-Some
 returns-in-Some c =
     let slice = c.as_slice.result.now in
-    let items : Some (items_view c.in-Some.values.now.items) ≡ as_array (view c.args.value.now) = rw c.in-Some.is at c.as_array.ensures in
-    let given : Some (items_view slice) ≡ as_array (view c.args.value.now) = ap (λ (vs : List Value). Some (items_view vs)) c.as_slice.ensures.value ∙ items in
-    IfOk-map c.each_url.result _ _ (λ found is. is ∙ each_array url_of (view c.args.value.now) slice given) c.each_url.ensures
+    let items : Some (items_view c.in-Some.values.now.items) ≡ as_array (view c.args.value.now) =
+    rw c.in-Some.is at c.as_array.ensures in
+    let given : Some (items_view slice) ≡ as_array (view c.args.value.now) =
+    ap (λ (vs : List Value). Some (items_view vs)) c.as_slice.ensures.value ∙ items in
+    IfOk-map c.each_url.result _ _ (λ found is. is ∙ each_array url_of (view c.args.value.now) slice given)
+    c.each_url.ensures

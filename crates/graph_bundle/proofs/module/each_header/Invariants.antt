@@ -5,4 +5,5 @@ use Rattle.graph_bundle.proofs.module.each_header.Given as goal
 
 -- the headers so far, with those of the members that are left, are those of all members
 abbrev pub invariant-loop-name : goal.invariant-loop-name
-invariant-loop-name l = headers_onto [] (members_view l.members.entries) ≡ headers_onto l.headers (members_view l.name-iterator)
+invariant-loop-name l =
+    headers_onto [] (members_view l.members.entries) ≡ headers_onto l.headers (members_view l.name-iterator)

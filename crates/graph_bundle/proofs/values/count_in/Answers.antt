@@ -6,4 +6,5 @@ use Rattle.graph_bundle.proofs.values.count_in.Goals as goal
 
 pub returns : goal.returns
 returns c =
-    ap Some (c.len.ensures.len ∙ sym (count_entries c.in_ok-members.members.now.entries)) ∙ ap (option_map count_members) c.in_ok-members.ensures
+    ap Some (c.len.ensures.len ∙ sym (count_entries c.in_ok-members.members.now.entries))
+    ∙ ap (option_map count_members) c.in_ok-members.ensures

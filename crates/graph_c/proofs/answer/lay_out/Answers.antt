@@ -14,11 +14,13 @@ loop-site-preserved c =
     let end : c.len.result ≡ c.len-start.result + length site.value
     = omega (arith, c.len.ensures, c.in_ok-extend_from_slice.ensures.len, c.len-start.ensures, ap length text) in
     record {
-      sites = records_more found i site c.loop-site.sites.items c.push.new.self.items c.record_of.result c.len-start.result
+      sites = records_more found i site c.loop-site.sites.items c.push.new.self.items c.record_of.result
+          c.len-start.result
           c.len.result c.loop-site-test.true c.site-item.is c.loop-site.invariant.sites start end c.record_of.ensures
           c.in_ok-push.ensures.items;
       values = values_more found i site c.loop-site.values.items c.extend_from_slice.new.self.items bytes
-          c.loop-site-test.true c.site-item.is c.loop-site.invariant.values text c.in_ok-extend_from_slice.ensures.items;
+          c.loop-site-test.true c.site-item.is c.loop-site.invariant.values text
+          c.in_ok-extend_from_slice.ensures.items;
       counted = omega (arith, c.in_ok-push.ensures.len, c.loop-site.invariant.counted);
       filled = length_more found i site (vec_len c.loop-site.values) (vec_len c.extend_from_slice.new.self) bytes
           c.loop-site-test.true c.site-item.is c.loop-site.invariant.filled text c.in_ok-extend_from_slice.ensures.len;

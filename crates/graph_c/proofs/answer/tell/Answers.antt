@@ -25,5 +25,6 @@ returns-clause-told c =
     tells_laid c.args.finding.now c.found_in.result.now laid.sites.items sites c.if-fit.sites laid.values.items values
     c.if-fit.values c.len-needed_sites.result c.len-needed_values.result c.fault_of.result c.place_of.result
     c.status_of.result fit c.found_in.ensures c.in_ok-laid.ensures.sites c.in_ok-laid.ensures.values
-    (c.len-needed_sites.ensures ∙ c.in_ok-laid.ensures.counted) (c.len-needed_values.ensures ∙ c.in_ok-laid.ensures.filled)
+    (c.len-needed_sites.ensures ∙ c.in_ok-laid.ensures.counted)
+    (c.len-needed_values.ensures ∙ c.in_ok-laid.ensures.filled)
     c.are_within-fit.ensures c.fault_of.ensures c.place_of.ensures c.status_of.ensures sites_are values_are

@@ -1,6 +1,6 @@
 use Rattle.std.proofs.Common.{refl, subst, List, ap, Err}
 use Rattle.std.proofs.lemmas.Result.{IfOk-weaker}
-use Rattle.es_lexer.specs.declared.token.Token.{Token}
+use Rattle.es_token.specs.declared.token.Token.{Token}
 use Rattle.graph_c.specs.Finding.{OfTokens, with_tokens, no_tokens}
 use Rattle.graph_c.proofs.finding.of_text.Goals as goal
 

@@ -16,5 +16,6 @@ returns-in_ok-sites-in-Ok c =
 pub returns-in-Err-Syntax : goal.returns-in-Err-Syntax
 returns-in-Err-Syntax c =
     let nothing = λ (tree : Program) (derived : Derives c.args.lang mode.Module c.args.text.now c.args.tokens.now tree).
-    subst (λ (e : SyntaxError). GivesTree (Err e) tree) c.in-Err-Syntax.field-0-is (c.in-Err-Syntax.ensures.only tree derived) in
+    subst (λ (e : SyntaxError). GivesTree (Err e) tree) c.in-Err-Syntax.field-0-is
+    (c.in-Err-Syntax.ensures.only tree derived) in
     no_tree nothing c.start_of.result refl

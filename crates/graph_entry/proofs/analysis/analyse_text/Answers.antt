@@ -1,6 +1,6 @@
 use Rattle.std.proofs.Common.{subst, List, ap, Err}
 use Rattle.std.proofs.lemmas.Result.{IfOk-weaker}
-use Rattle.es_lexer.specs.declared.token.Token.{Token}
+use Rattle.es_token.specs.declared.token.Token.{Token}
 use Rattle.graph_entry.specs.Specifier.{text_of}
 use Rattle.graph_entry.specs.Analysed.{OfTokens, with_tokens, no_tokens}
 use Rattle.graph_entry.proofs.analysis.analyse_text.Goals as goal

@@ -16,6 +16,8 @@ returns-in-Ok c =
 -- a refusal says that nothing is derived
 pub returns-in-Err-Syntax : goal.returns-in-Err-Syntax
 returns-in-Err-Syntax c =
-    let nothing = λ (tree : Program) (derived : Derives c.args.source.lang mode.Module c.args.text.now c.args.tokens.now tree).
-    subst (λ (e : SyntaxError). GivesTree (Err e) tree) c.in-Err-Syntax.field-0-is (c.in-Err-Syntax.ensures.only tree derived) in
+    let nothing = λ (tree : Program)
+    (derived : Derives c.args.source.lang mode.Module c.args.text.now c.args.tokens.now tree).
+    subst (λ (e : SyntaxError). GivesTree (Err e) tree) c.in-Err-Syntax.field-0-is
+    (c.in-Err-Syntax.ensures.only tree derived) in
     IfOk-weaker c.no_module.result _ _ (λ made is. no_tree nothing is) c.no_module.ensures

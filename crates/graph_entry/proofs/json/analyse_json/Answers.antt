@@ -10,4 +10,5 @@ returns-in-Ok c =
     let read = c.in-Ok.ensures.cases in
     let same : c.without_mark.result.now ≡ without_mark c.args.bytes.now
     = c.without_mark.ensures ∙ ap without_mark read.0 in
-    IfOk-weaker c.module_of_json.result _ _ (λ made is. with_json read.1 (is ∙ ap json_module same)) c.module_of_json.ensures
+    IfOk-weaker c.module_of_json.result _ _ (λ made is. with_json read.1 (is ∙ ap json_module same))
+    c.module_of_json.ensures

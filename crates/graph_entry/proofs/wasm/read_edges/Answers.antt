@@ -12,5 +12,6 @@ returns-in_ok-edges_of-in-Ok c = (
   seen c.in-Ok.deps,
   c.in-Ok.ensures.read,
   c.in_ok-edges_of-in-Ok.ensures
-      ∙ ap (λ (is : List Import). map (wasm_dependency (text_of c.args.specifier.now)) (map imported is)) c.deref.ensures.value,
+      ∙ ap (λ (is : List Import). map (wasm_dependency (text_of c.args.specifier.now)) (map imported is))
+      c.deref.ensures.value,
 )

@@ -19,7 +19,16 @@ returns-then-n-eq0-clause-value g c = Consumes-grown _ _ _ _ _ c.parts.invariant
 
 pub parts-preserved : goal.parts-preserved
 parts-preserved g c = let h1 = c.in_ok-n.ensures.bound in let h2 = c.take_part.auto in record {
-  within = omega (arith, c.in_ok-n.ensures.len, c.in_ok-n.ensures.bound, c.min-want.ensures, c.len.ensures, c.len-in-parts.ensures, c.parts-test.true, length-take c.min-want.result c.deref_mut.result.now);
+  within = omega (
+    arith,
+    c.in_ok-n.ensures.len,
+    c.in_ok-n.ensures.bound,
+    c.min-want.ensures,
+    c.len.ensures,
+    c.len-in-parts.ensures,
+    c.parts-test.true,
+    length-take c.min-want.result c.deref_mut.result.now,
+  );
   chunk = c.parts.invariant.chunk;
   given = Consumes-grown _ _ _ _ _ c.parts.invariant.given c.in_ok-n.ensures.given;
   count = c.in_ok-n.ensures.count ∙ c.parts.invariant.count;
@@ -33,12 +42,26 @@ returns-clause-stops g c = (c.parts.bytes.items, omega (arith, c.parts.invariant
 pub returns-then-n-eq0-clause-stops : goal.returns-then-n-eq0-clause-stops
 returns-then-n-eq0-clause-stops g c =
     ReadAtMost-more _ _ _ _ _ (input_limit + 1) c.parts.invariant.given c.take_part.ensures.stops
-    (omega (arith, c.min-want.ensures, c.len.ensures, c.len-in-parts.ensures, c.parts-test.true, length-take c.min-want.result c.deref_mut.result.now))
+    (omega (
+      arith,
+      c.min-want.ensures,
+      c.len.ensures,
+      c.len-in-parts.ensures,
+      c.parts-test.true,
+      length-take c.min-want.result c.deref_mut.result.now,
+    ))
 
 pub returns-in_err-n-clause-stops : goal.returns-in_err-n-clause-stops
 returns-in_err-n-clause-stops g c =
     ReadAtMost-more _ _ _ _ _ (input_limit + 1) c.parts.invariant.given c.take_part.ensures.stops
-    (omega (arith, c.min-want.ensures, c.len.ensures, c.len-in-parts.ensures, c.parts-test.true, length-take c.min-want.result c.deref_mut.result.now))
+    (omega (
+      arith,
+      c.min-want.ensures,
+      c.len.ensures,
+      c.len-in-parts.ensures,
+      c.parts-test.true,
+      length-take c.min-want.result c.deref_mut.result.now,
+    ))
 
 pub returns-in_err-chunk-clause-stops : goal.returns-in_err-chunk-clause-stops
 returns-in_err-chunk-clause-stops g c = ReadAtMost-none _ _ _ (Keeps-refl (g.S.Source.left c.args.source.now))

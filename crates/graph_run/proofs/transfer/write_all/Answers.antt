@@ -16,6 +16,7 @@ rest-preserved g c =
     let left : n ≤ length (drop c.rest.at c.args.bytes.now) = simp take_rest at c.in_ok-n.ensures.bound.1 in
     record {
       within = omega (arith, left, length-drop c.rest.at c.args.bytes.now, c.rest.invariant.within);
-      taken = Appends-more _ _ _ c.args.bytes.now c.rest.at n c.rest.invariant.taken (simp take_rest at c.in_ok-n.ensures.bytes);
+      taken = Appends-more _ _ _ c.args.bytes.now c.rest.at n c.rest.invariant.taken
+          (simp take_rest at c.in_ok-n.ensures.bytes);
       count = c.in_ok-n.ensures.count ∙ c.rest.invariant.count;
     }

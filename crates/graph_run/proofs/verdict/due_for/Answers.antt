@@ -6,15 +6,21 @@ use Rattle.graph_bundle.proofs.BundleLemmas.{IfOk-map}
 use Rattle.graph_run.proofs.verdict.due_for.Goals as goal
 
 pub due_for_bundle-requires : goal.due_for_bundle-requires
-due_for_bundle-requires c = record { plain = bundle_plain _ _ c.in-Ok.ensures.bundle.2; unforced = bundle_unforced _ _ c.in-Ok.ensures.bundle.2 }
+due_for_bundle-requires c =
+    record {
+      plain = bundle_plain _ _ c.in-Ok.ensures.bundle.2;
+      unforced = bundle_unforced _ _ c.in-Ok.ensures.bundle.2;
+    }
 
 pub returns-in-Ok : goal.returns-in-Ok
 returns-in-Ok c =
     let (value, json, says) = c.in-Ok.ensures.bundle in
     IfOk-map c.due_for_bundle.result _ _
-    (λ due of. bundle c.in-Ok.bundle (record { within = c.requires; value = value; json = json; says = says }) of) c.due_for_bundle.ensures
+    (λ due of. bundle c.in-Ok.bundle (record { within = c.requires; value = value; json = json; says = says }) of)
+    c.due_for_bundle.ensures
 
 pub returns-in-Err-NotBundle : goal.returns-in-Err-NotBundle
 returns-in-Err-NotBundle c =
     let (value, json, none) = c.in-Err-NotBundle.ensures.not_bundle (ap Err c.in-Err-NotBundle.field-0-is) in
-    IfOk-map c.refusal-in-Err-NotBundle.result _ _ (λ due d. no_bundle c.requires value json none d.0 d.1) c.refusal-in-Err-NotBundle.ensures
+    IfOk-map c.refusal-in-Err-NotBundle.result _ _ (λ due d. no_bundle c.requires value json none d.0 d.1)
+    c.refusal-in-Err-NotBundle.ensures

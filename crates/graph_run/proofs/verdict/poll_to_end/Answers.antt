@@ -13,9 +13,12 @@ pub returns-then-not-is_not_yet-clause-graph : goal.returns-then-not-is_not_yet-
 returns-then-not-is_not_yet-clause-graph c =
     let polled = c.poll-answer in
     let new = c.poll-answer.new.self.inner in
-    subst (λ (w : Following). IfOk polled.result (λ g. IsGraph (rules_of w) (texts c.args.build.now.inner.roots) (tells c.args.build.now.inner.loader.modules) g.entries))
+    subst (λ (w : Following). IfOk polled.result
+    (λ g. IsGraph (rules_of w) (texts c.args.build.now.inner.roots) (tells c.args.build.now.inner.loader.modules)
+    g.entries))
     c.polls.invariant.following
-    (built_graph c.polls.build.inner.following polled.result (texts c.polls.build.inner.roots) (texts c.args.build.now.inner.roots) new.log
+    (built_graph c.polls.build.inner.following polled.result (texts c.polls.build.inner.roots)
+    (texts c.args.build.now.inner.roots) new.log
     new.loader.modules c.args.build.now.inner.loader.modules (ap texts c.polls.invariant.roots)
     (polled.ensures.telling ∙ c.polls.invariant.told) polled.ensures.told polled.ensures.graph)
 
@@ -24,11 +27,15 @@ returns-then-not-is_not_yet-clause-large c =
     let polled = c.poll-answer in
     let new = c.poll-answer.new.self.inner in
     let old = c.polls.invariant.new in
-    subst (λ (w : Following). IfErr polled.result (SaysLarge (rules_of w) (texts c.args.build.now.inner.roots) (tells c.args.build.now.inner.loader.modules) c.args.build.now.inner.limit))
+    subst (λ (w : Following). IfErr polled.result
+    (SaysLarge (rules_of w) (texts c.args.build.now.inner.roots) (tells c.args.build.now.inner.loader.modules)
+    c.args.build.now.inner.limit))
     c.polls.invariant.following
-    (refused_large c.polls.build.inner.following polled.result (texts c.polls.build.inner.roots) (texts c.args.build.now.inner.roots) new.log
+    (refused_large c.polls.build.inner.following polled.result (texts c.polls.build.inner.roots)
+    (texts c.args.build.now.inner.roots) new.log
     new.loader.modules c.args.build.now.inner.loader.modules c.polls.build.inner.limit c.args.build.now.inner.limit
-    (ap texts c.polls.invariant.roots) c.polls.invariant.limit (polled.ensures.telling ∙ c.polls.invariant.told) polled.ensures.told
+    (ap texts c.polls.invariant.roots) c.polls.invariant.limit (polled.ensures.telling ∙ c.polls.invariant.told)
+    polled.ensures.told
     polled.ensures.too_many
     (λ is. let yes = c.is_not_yet.ensures.1 is in search rules)
     (polled.ensures.fair old.fair (settled_none c.polls.build.inner.events_before old.events))

@@ -9,4 +9,5 @@ pub returns : goal.returns
 returns c =
     contains_from_any c.any.result (chars c.args.text.now) c.args.character
     (cases_from_any _ _ _ (λ x. x ≡ c.args.character) (λ x. x ≢ c.args.character) c.any.ensures.ran
-    (YieldsList-from_chars c.args.text.now (search rules) cc) (λ x q k. search (rules, tests)) (λ x q k. search (rules, tests)))
+    (YieldsList-from_chars c.args.text.now (search rules) cc) (λ x q k. search (rules, tests))
+    (λ x q k. search (rules, tests)))

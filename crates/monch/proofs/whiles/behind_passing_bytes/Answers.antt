@@ -19,7 +19,8 @@ loop-end-preserved g c =
     let inside : c.loop-end.end < length c.args.text.now = omega arith in
     let ascii : get_or c.args.text.now c.loop-end.end 0 < 128 =
     subst (λ x. get_or x c.loop-end.end 0 < 128) same
-    (passing_is_ascii (λ b answer. g.F.Fn.post c.args.passes.now (b, tt) answer) _ c.requires.ascii (search rules) c.if-not-passes.ensures) in (
+    (passing_is_ascii (λ b answer. g.F.Fn.post c.args.passes.now (b, tt) answer) _ c.requires.ascii (search rules)
+    c.if-not-passes.ensures) in (
       omega arith,
       IsCharBoundary-after_ascii c.args.text.now c.loop-end.end c.utf8.text inside ascii,
       λ front rest more. c.loop-end.invariant.2 _ rest

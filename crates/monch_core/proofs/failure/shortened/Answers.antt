@@ -4,4 +4,5 @@ use Rattle.monch_core.proofs.failure.shortened.Goals as goal
 
 -- the characters of the text, of which 60 are taken, are collected
 pub returns : goal.returns
-returns c = text_from_collect _ c.collect.ensures.ran (YieldsList-from_take _ (YieldsList-from_chars c.args.text.now (search rules) cc) c.take.ensures.count)
+returns c = text_from_collect _ c.collect.ensures.ran
+    (YieldsList-from_take _ (YieldsList-from_chars c.args.text.now (search rules) cc) c.take.ensures.count)

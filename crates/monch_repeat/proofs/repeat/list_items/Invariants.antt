@@ -8,7 +8,8 @@ use Rattle.monch_repeat.proofs.repeat.list_items.Given as goal
 abbrev pub invariant-loop-values : goal.invariant-loop-values
 invariant-loop-values g l =
     shadow (Utf8 l.left)
-    × SoFar (IsItem (g.A.Combinator.gives l.item) (g.B.Combinator.gives l.until)) (EndsItems (g.A.Combinator.gives l.item) (g.B.Combinator.gives l.until)) l.fn.input l.values.items l.left
+    × SoFar (IsItem (g.A.Combinator.gives l.item) (g.B.Combinator.gives l.until))
+    (EndsItems (g.A.Combinator.gives l.item) (g.B.Combinator.gives l.until)) l.fn.input l.values.items l.left
 
 abbrev pub decreases-loop-values : goal.decreases-loop-values
 decreases-loop-values g l = length l.left

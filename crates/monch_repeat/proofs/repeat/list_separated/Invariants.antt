@@ -8,7 +8,9 @@ use Rattle.monch_repeat.proofs.repeat.list_separated.Given as goal
 abbrev pub invariant-rounds : goal.invariant-rounds
 invariant-rounds g l =
     shadow (Utf8 l.left)
-    × SoFar (IsSeparated (g.A.Combinator.gives l.item) (g.B.Combinator.gives l.separator)) (EndsSeparated (g.A.Combinator.gives l.item) (g.B.Combinator.gives l.separator)) l.fn.input l.values.items l.left
+    × SoFar (IsSeparated (g.A.Combinator.gives l.item) (g.B.Combinator.gives l.separator))
+    (EndsSeparated (g.A.Combinator.gives l.item) (g.B.Combinator.gives l.separator)) l.fn.input l.values.items
+    l.left
 
 abbrev pub decreases-rounds : goal.decreases-rounds
 decreases-rounds g l = length l.left

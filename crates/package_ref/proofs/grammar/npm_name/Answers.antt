@@ -12,7 +12,8 @@ returns c =
     ∙ ap (λ p. p.first.first.character) parts ∙ ap (λ m. m.character) (c.preceded-scope.ensures.first ∙ c.ch.ensures) in
     let slash : c.or.result.first.part.second.first.character ≡ 47
     = ap (λ o. o.first.part.second.first.character) c.or.ensures
-    ∙ ap (λ p. p.second.first.character) parts ∙ ap (λ m. m.character) (c.preceded-part.ensures.first ∙ c.ch-2.ensures) in
+    ∙ ap (λ p. p.second.first.character) parts
+    ∙ ap (λ m. m.character) (c.preceded-part.ensures.first ∙ c.ch-2.ensures) in
     or_tells bytes_of read_scoped read_part _ _
     (scoped_name_tells _ _ _ _ at slash (λ d b said. search rules) (λ d b said. search rules))
     (run_tells is_of_part _ part_passes_high (λ d b said. search rules)) _ _ c.parse.ensures

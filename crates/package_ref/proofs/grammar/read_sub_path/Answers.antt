@@ -8,7 +8,8 @@ use Rattle.package_ref.proofs.grammar.read_sub_path.Goals as goal
 pub returns : goal.returns
 returns c =
     let is : c.maybe.result.part.first.character ≡ 47
-    = ap (λ m. m.part.first.character) c.maybe.ensures ∙ ap (λ m. m.character) (c.preceded.ensures.first ∙ c.ch.ensures) in
+    = ap (λ m. m.part.first.character) c.maybe.ensures
+    ∙ ap (λ m. m.character) (c.preceded.ensures.first ∙ c.ch.ensures) in
     let rest : List ℕ → Read (List ℕ) = λ t. Some (t, []) in
     maybe_tells bytes_of steps.read_sub_path _
     (behind_tells (λ (x : ℕ). x) bytes_of (steps.read_char 47) rest _ _ (char_at 47 _ is (omega arith))

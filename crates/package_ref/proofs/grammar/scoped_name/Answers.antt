@@ -8,5 +8,6 @@ returns c =
     let at : c.substring.result.part.first.first.character ≡ 64
     = ap (λ p. p.first.first.character) parts ∙ ap (λ m. m.character) (c.preceded-scope.ensures.first ∙ c.ch.ensures) in
     let slash : c.substring.result.part.second.first.character ≡ 47
-    = ap (λ p. p.second.first.character) parts ∙ ap (λ m. m.character) (c.preceded-behind.ensures.first ∙ c.ch-2.ensures) in
+    = ap (λ p. p.second.first.character) parts
+    ∙ ap (λ m. m.character) (c.preceded-behind.ensures.first ∙ c.ch-2.ensures) in
     scoped_name_tells _ _ _ _ at slash (λ d b said. search rules) (λ d b said. search rules) _ _ c.parse.ensures

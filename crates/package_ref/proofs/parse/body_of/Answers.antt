@@ -5,4 +5,5 @@ use Rattle.package_ref.proofs.parse.body_of.Goals as goal
 
 pub returns : goal.returns
 returns c =
-    c.before_query.ensures ∙ ap (λ t. before_first (λ b. b == 63) t) c.before_fragment.ensures ∙ before_both c.args.rest.now
+    c.before_query.ensures ∙ ap (λ t. before_first (λ b. b == 63) t) c.before_fragment.ensures
+    ∙ before_both c.args.rest.now

@@ -4,7 +4,8 @@ use Rattle.package_ref.proofs.parse.read_body.Goals as goal
 
 pub returns-then-not-is_empty : goal.returns-then-not-is_empty
 returns-then-not-is_empty c =
-    read_body_from _ _ _ _ _ _ _ c.in_ok-rest-2.name _ _ c.in_ok-rest.ensures c.in_ok-rest-2.ensures c.in_ok-rest-3.ensures
+    read_body_from _ _ _ _ _ _ _ c.in_ok-rest-2.name _ _ c.in_ok-rest.ensures c.in_ok-rest-2.ensures
+    c.in_ok-rest-3.ensures
     c.in_ok-rest-4.ensures
     ∙ whole_package-more _ _ _ _ _ (sym c.is_empty.ensures ∙ c.if-not-is_empty.true)
 

@@ -9,6 +9,7 @@ use Rattle.wasm_dep_analyzer.proofs.exports.has_function.Goals as goal
 
 pub returns : goal.returns
 returns c =
-    any_from_yields_List (λ (y : ExportItem). is_function (listed y)) _ _ _ c.any.ensures.ran (YieldsList-from_slice c.args.exports.now (cc))
+    any_from_yields_List (λ (y : ExportItem). is_function (listed y)) _ _ _ c.any.ensures.ran
+    (YieldsList-from_slice c.args.exports.now (cc))
     (λ x b q k. search (rules, tests))
     ∙ sym (any_listed listed is_function c.args.exports.now)

@@ -9,6 +9,7 @@ use Rattle.wasm_dep_analyzer.proofs.exports.has_global.Goals as goal
 
 pub returns : goal.returns
 returns c =
-    any_from_yields_List (λ (y : ExportItem). is_global (listed y)) _ _ _ c.any.ensures.ran (YieldsList-from_slice c.args.exports.now (cc))
+    any_from_yields_List (λ (y : ExportItem). is_global (listed y)) _ _ _ c.any.ensures.ran
+    (YieldsList-from_slice c.args.exports.now (cc))
     (λ x b q k. search (rules, tests))
     ∙ sym (any_listed listed is_global c.args.exports.now)

@@ -11,6 +11,7 @@ pub returns : goal.returns
 returns c = λ ss h.
     deps_are c.args.skip_types ss (found_imports c.args.found.imports) (found_exports c.args.found.exports)
     (option_copied c.args.found.types) (option_copied c.args.found.functions) (option_copied c.args.found.globals)
-    (map imported c.imports_or_none-imports.result.items) (shown_tables c.in_ok-tables.tables) (map exported c.in_ok-exports.exports.items)
+    (map imported c.imports_or_none-imports.result.items) (shown_tables c.in_ok-tables.tables)
+    (map exported c.in_ok-exports.exports.items)
     h.imports h.exports h.types h.functions h.globals
     c.imports_or_none-imports.ensures (rw (← c.deref.ensures.value) c.in_ok-tables.ensures) c.in_ok-exports.ensures

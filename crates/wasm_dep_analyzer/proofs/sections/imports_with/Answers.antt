@@ -8,7 +8,8 @@ use Rattle.wasm_dep_analyzer.proofs.sections.imports_with.Goals as goal
 
 pub returns-then-is_some : goal.returns-then-is_some
 returns-then-is_some c = λ ss h.
-    held_stays imports_of 2 ss _ (found_imports c.args.imports) (is_some_map _ c.args.imports ∙ sym c.is_some.ensures ∙ c.if-is_some.true) h
+    held_stays imports_of 2 ss _ (found_imports c.args.imports)
+    (is_some_map _ c.args.imports ∙ sym c.is_some.ensures ∙ c.if-is_some.true) h
 
 pub returns-then-piece-ne-IMPORTS : goal.returns-then-piece-ne-IMPORTS
 returns-then-piece-ne-IMPORTS c = λ ss h.
@@ -17,10 +18,13 @@ returns-then-piece-ne-IMPORTS c = λ ss h.
 pub returns-in_err-found : goal.returns-in_err-found
 returns-in_err-found c =
     let p = err_from_is_err_and c.from_residual.result c.from_residual.ensures.1 in
-    rw (p.1, p.2) (λ ss h. held_fault imports_of 2 ss (section c.args.piece.now) (found_imports c.args.imports) c.in_err-found.field-0.0
-    (is_some_map _ c.args.imports ∙ sym c.is_some.ensures ∙ c.if-is_some.false) c.if-piece-ne-IMPORTS.false h c.in_err-found.ensures)
+    rw (p.1, p.2) (λ ss h. held_fault imports_of 2 ss (section c.args.piece.now) (found_imports c.args.imports)
+    c.in_err-found.field-0.0
+    (is_some_map _ c.args.imports ∙ sym c.is_some.ensures ∙ c.if-is_some.false) c.if-piece-ne-IMPORTS.false h
+    c.in_err-found.ensures)
 
 pub returns : goal.returns
 returns c = λ ss h.
     held_new imports_of 2 ss (section c.args.piece.now) (found_imports c.args.imports)
-    (is_some_map _ c.args.imports ∙ sym c.is_some.ensures ∙ c.if-is_some.false) c.if-piece-ne-IMPORTS.false h ∙ rw c.in_ok-found.ensures refl
+    (is_some_map _ c.args.imports ∙ sym c.is_some.ensures ∙ c.if-is_some.false) c.if-piece-ne-IMPORTS.false h
+    ∙ rw c.in_ok-found.ensures refl

@@ -6,4 +6,5 @@ use Rattle.wasm_dep_analyzer.specs.Steps.{shown_tables}
 use Rattle.wasm_dep_analyzer.proofs.tables.typed_exports.Given as goal
 
 abbrev pub invariant-loop-item : goal.invariant-loop-item
-invariant-loop-item l = map exported l.exports.items ≡ map (typed (shown_tables l.tables)) (map listed (take l.item-index l.items))
+invariant-loop-item l =
+    map exported l.exports.items ≡ map (typed (shown_tables l.tables)) (map listed (take l.item-index l.items))

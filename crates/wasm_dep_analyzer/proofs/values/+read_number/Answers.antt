@@ -6,20 +6,25 @@ use Rattle.wasm_dep_analyzer.proofs.values.+read_number.Goals as goal
 
 pub returns-then-byte-lt16-clause-value : goal.returns-then-byte-lt16-clause-value
 returns-then-byte-lt16-clause-value t c =
-    rw c.from.ensures (number_at-last c.args.more c.args.input.now c.in_ok-byte.byte c.in_ok-byte.rest.now c.if-more-eq0.true c.if-byte-lt16.true c.in_ok-byte.ensures.value)
+    rw c.from.ensures (number_at-last c.args.more c.args.input.now c.in_ok-byte.byte c.in_ok-byte.rest.now
+    c.if-more-eq0.true c.if-byte-lt16.true c.in_ok-byte.ensures.value)
 
 pub returns-else-byte-lt16-clause-value : goal.returns-else-byte-lt16-clause-value
 returns-else-byte-lt16-clause-value t c =
-    number_at-overflow c.args.more c.args.input.now c.in_ok-byte.byte c.in_ok-byte.rest.now c.if-more-eq0.true c.if-byte-lt16.false c.in_ok-byte.ensures.value
+    number_at-overflow c.args.more c.args.input.now c.in_ok-byte.byte c.in_ok-byte.rest.now c.if-more-eq0.true
+    c.if-byte-lt16.false c.in_ok-byte.ensures.value
 
 pub returns-then-byte-lt128-clause-value : goal.returns-then-byte-lt128-clause-value
 returns-then-byte-lt128-clause-value t c =
-    rw c.from-then-byte-lt128.ensures (number_at-ends c.args.more c.args.input.now c.in_ok-byte.byte c.in_ok-byte.rest.now c.if-byte-lt128.true c.in_ok-byte.ensures.value (omega arith))
+    rw c.from-then-byte-lt128.ensures
+    (number_at-ends c.args.more c.args.input.now c.in_ok-byte.byte c.in_ok-byte.rest.now c.if-byte-lt128.true
+    c.in_ok-byte.ensures.value (omega arith))
 
 pub returns-in_err-high-clause-value : goal.returns-in_err-high-clause-value
 returns-in_err-high-clause-value t c =
     let p = err_from_is_err_and c.from_residual-in_err-high.result c.from_residual-in_err-high.ensures.1 in
-    let e = number_at-high (c.args.more - 1) c.args.more c.args.input.now c.in_ok-byte.byte c.in_ok-byte.rest.now (omega arith) c.if-byte-lt128.false c.in_ok-byte.ensures.value in
+    let e = number_at-high (c.args.more - 1) c.args.more c.args.input.now c.in_ok-byte.byte c.in_ok-byte.rest.now
+    (omega arith) c.if-byte-lt128.false c.in_ok-byte.ensures.value in
     rw (p.1, p.2, e, c.in_err-high.ensures.value) refl
 
 pub overflow_mul-result : goal.overflow_mul-result
@@ -28,11 +33,19 @@ overflow_mul-result t c =
 
 pub overflow_add-result : goal.overflow_add-result
 overflow_add-result t c =
-    omega (arith, power_more c.args.more (omega arith), power_within c.args.more c.requires, c.in_ok-high.ensures.fits, c.in_ok-byte.ensures.fits, c.from-2.ensures)
+    omega (
+      arith,
+      power_more c.args.more (omega arith),
+      power_within c.args.more c.requires,
+      c.in_ok-high.ensures.fits,
+      c.in_ok-byte.ensures.fits,
+      c.from-2.ensures,
+    )
 
 pub returns-clause-value : goal.returns-clause-value
 returns-clause-value t c =
-    let e = number_at-high (c.args.more - 1) c.args.more c.args.input.now c.in_ok-byte.byte c.in_ok-byte.rest.now (omega arith) c.if-byte-lt128.false c.in_ok-byte.ensures.value in
+    let e = number_at-high (c.args.more - 1) c.args.more c.args.input.now c.in_ok-byte.byte c.in_ok-byte.rest.now
+    (omega arith) c.if-byte-lt128.false c.in_ok-byte.ensures.value in
     rw (c.from-2.ensures, e, c.in_ok-high.ensures.value) refl
 
 pub returns-in_err-byte-clause-value : goal.returns-in_err-byte-clause-value
@@ -42,8 +55,19 @@ returns-in_err-byte-clause-value t c =
 
 pub returns-then-byte-lt128-clause-fits : goal.returns-then-byte-lt128-clause-fits
 returns-then-byte-lt128-clause-fits t c =
-    omega (arith, power_more c.args.more (omega arith), power_positive (c.args.more - 1), c.from-then-byte-lt128.ensures)
+    omega (
+      arith,
+      power_more c.args.more (omega arith),
+      power_positive (c.args.more - 1),
+      c.from-then-byte-lt128.ensures,
+    )
 
 pub returns-clause-fits : goal.returns-clause-fits
 returns-clause-fits t c =
-    omega (arith, power_more c.args.more (omega arith), c.in_ok-high.ensures.fits, c.in_ok-byte.ensures.fits, c.from-2.ensures)
+    omega (
+      arith,
+      power_more c.args.more (omega arith),
+      c.in_ok-high.ensures.fits,
+      c.in_ok-byte.ensures.fits,
+      c.from-2.ensures,
+    )

@@ -6,5 +6,6 @@ use Rattle.wasm_dep_analyzer.proofs.values.read_items.Given as goal
 
 abbrev pub invariant-loop : goal.invariant-loop
 invariant-loop g l =
-    with_front (g.R.ReadItem.show_all l.items.items) (items_at (g.R.ReadItem.item l.reader) (l.count - l.counter) l.rest)
+    with_front (g.R.ReadItem.show_all l.items.items)
+    (items_at (g.R.ReadItem.item l.reader) (l.count - l.counter) l.rest)
     ≡ items_at (g.R.ReadItem.item l.reader) l.count l.input

@@ -8,4 +8,5 @@ returns-in-Ok c = utf8_text-text c.args.bytes.now c.in-Ok.text.now c.in-Ok.ensur
 
 pub returns-in-Err : goal.returns-in-Err
 returns-in-Err c =
-    utf8_text-fault c.args.bytes.now c.valid_up_to.result (c.valid_up_to.ensures ∙ c.in-Err.ensures.valid_len) c.in-Err.ensures.cases.0 (rw (c.valid_up_to.ensures) c.in-Err.ensures.cases.1.front)
+    utf8_text-fault c.args.bytes.now c.valid_up_to.result (c.valid_up_to.ensures ∙ c.in-Err.ensures.valid_len)
+    c.in-Err.ensures.cases.0 (rw (c.valid_up_to.ensures) c.in-Err.ensures.cases.1.front)

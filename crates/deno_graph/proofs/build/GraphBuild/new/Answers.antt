@@ -6,4 +6,5 @@ use Rattle.deno_graph.proofs.build.GraphBuild.new.Goals as goal
 
 -- nothing is reached yet
 pub invariant_of-result : goal.invariant_of-result
-invariant_of-result g c = inside_new (rules_of (following_of c.args.options)) _ refl refl refl c.new.ensures.reached c.new.ensures.todo
+invariant_of-result g c =
+    inside_new (rules_of (following_of c.args.options)) _ refl refl refl c.new.ensures.reached c.new.ensures.todo

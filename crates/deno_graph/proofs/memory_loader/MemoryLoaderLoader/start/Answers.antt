@@ -9,7 +9,8 @@ pub invariant_of-self-2 : goal.invariant_of-self-2
 invariant_of-self-2 c =
     let order : c.push-2.new.self.items ≡ c.self.inside.order.items ++ true ∷ [] = search rules in
     let asked : c.push.new.self ≡ c.self.inside.asked ++ c.args.specifier.now ∷ [] = search rules in
-    let waiting : c.push_back.new.self.items ≡ c.self.inside.waiting.items ++ c.args.specifier.now ∷ [] = search rules in
+    let waiting : c.push_back.new.self.items ≡ c.self.inside.waiting.items ++ c.args.specifier.now ∷ [] =
+    search rules in
     kept_request _ _ _ _ _ _ _ _ _ _ c.args.specifier.now c.self.invariant order asked waiting
 
 pub returns-clause-started : goal.returns-clause-started

@@ -6,14 +6,16 @@ use Rattle.deno_graph.proofs.progress.Progress.ask.Goals as goal
 
 pub returns-in-Ok-mark_asked-clause-deals : goal.returns-in-Ok-mark_asked-clause-deals
 returns-in-Ok-mark_asked-clause-deals g c = (
-  live_asked (rules_of c.args.following) (at (g.L.Loader.seen c.args.loader.now) c.args.self.now) _ (g.L.Loader.seen c.start.new.self) c.mark_asked.new.self c.requires.in_hand
+  live_asked (rules_of c.args.following) (at (g.L.Loader.seen c.args.loader.now) c.args.self.now) _
+      (g.L.Loader.seen c.start.new.self) c.mark_asked.new.self c.requires.in_hand
       c.requires.loads c.in-Ok.ensures.started c.in-Ok-mark_asked.ensures.ok c.in-Ok-mark_asked.ensures.limit,
   rw (c.in-Ok-mark_asked.ensures.ok.counted, c.in-Ok-mark_asked.ensures.ok.todo) refl,
 )
 
 pub returns-in-Ok-mark_asked-clause-kept : goal.returns-in-Ok-mark_asked-clause-kept
 returns-in-Ok-mark_asked-clause-kept g c =
-    kept_started (at (g.L.Loader.seen c.args.loader.now) c.args.self.now) (at (g.L.Loader.seen c.start.new.self) (record {
+    kept_started (at (g.L.Loader.seen c.args.loader.now) c.args.self.now)
+    (at (g.L.Loader.seen c.start.new.self) (record {
       roots = c.args.self.now.roots;
       reaching = c.mark_asked.new.self;
       asked = c.args.self.now.asked + 1;
@@ -23,12 +25,14 @@ returns-in-Ok-mark_asked-clause-kept g c =
 
 pub returns-in-Ok-mark_asked-clause-asks : goal.returns-in-Ok-mark_asked-clause-asks
 returns-in-Ok-mark_asked-clause-asks g c =
-    asks_one (at (g.L.Loader.seen c.args.loader.now) c.args.self.now) _ (g.L.Loader.seen c.start.new.self) _ c.in-Ok.ensures.started refl
+    asks_one (at (g.L.Loader.seen c.args.loader.now) c.args.self.now) _ (g.L.Loader.seen c.start.new.self) _
+    c.in-Ok.ensures.started refl
     c.in-Ok-mark_asked.ensures.limit refl refl refl
 
 pub returns-in-Err-mark_asked-clause-kept : goal.returns-in-Err-mark_asked-clause-kept
 returns-in-Err-mark_asked-clause-kept g c =
-    kept_started (at (g.L.Loader.seen c.args.loader.now) c.args.self.now) (at (g.L.Loader.seen c.start.new.self) (record {
+    kept_started (at (g.L.Loader.seen c.args.loader.now) c.args.self.now)
+    (at (g.L.Loader.seen c.start.new.self) (record {
       roots = c.args.self.now.roots;
       reaching = c.mark_asked.new.self;
       asked = c.args.self.now.asked + 1;
@@ -38,9 +42,11 @@ returns-in-Err-mark_asked-clause-kept g c =
 
 pub returns-in-Err-mark_asked-clause-asks : goal.returns-in-Err-mark_asked-clause-asks
 returns-in-Err-mark_asked-clause-asks g c =
-    asks_one (at (g.L.Loader.seen c.args.loader.now) c.args.self.now) _ (g.L.Loader.seen c.start.new.self) _ c.in-Ok.ensures.started refl
+    asks_one (at (g.L.Loader.seen c.args.loader.now) c.args.self.now) _ (g.L.Loader.seen c.start.new.self) _
+    c.in-Ok.ensures.started refl
     c.in-Err-mark_asked.ensures.limit refl refl refl
 
 pub returns-in-Err-clause-asks : goal.returns-in-Err-clause-asks
 returns-in-Err-clause-asks g c =
-    asks_none (at (g.L.Loader.seen c.args.loader.now) c.args.self.now) _ (g.L.Loader.seen c.start.new.self) _ c.in-Err.ensures.started
+    asks_none (at (g.L.Loader.seen c.args.loader.now) c.args.self.now) _ (g.L.Loader.seen c.start.new.self) _
+    c.in-Err.ensures.started

@@ -3,7 +3,8 @@ use Rattle.deno_graph.proofs.ProgressLemmas.{only_asks_same, only_asks_more, ask
 use Rattle.deno_graph.proofs.progress.Progress.ask_all.Goals as goal
 
 pub asking-init : goal.asking-init
-asking-init g c = record { live = c.requires.live; asks = only_asks_same (at (g.L.Loader.seen c.args.loader.now) c.args.self.now) }
+asking-init g c = record
+    { live = c.requires.live; asks = only_asks_same (at (g.L.Loader.seen c.args.loader.now) c.args.self.now) }
 
 pub asking-preserved : goal.asking-preserved
 asking-preserved g c =
@@ -20,5 +21,7 @@ returns-in-Err-clause-asks g c = only_asks_more _ _ _ c.asking.invariant.asks c.
 
 pub returns-in-Err-clause-all : goal.returns-in-Err-clause-all
 returns-in-Err-clause-all g c =
-    asks_all_err (at (g.L.Loader.seen c.args.loader.now) c.args.self.now) (at (g.L.Loader.seen c.asking.loader) c.asking.self)
-    (at (g.L.Loader.seen c.ask_next.new.loader) c.ask_next.new.self) c.in-Err.error c.requires.live.kept c.asking.invariant.asks c.in-Err.ensures.next
+    asks_all_err (at (g.L.Loader.seen c.args.loader.now) c.args.self.now)
+    (at (g.L.Loader.seen c.asking.loader) c.asking.self)
+    (at (g.L.Loader.seen c.ask_next.new.loader) c.ask_next.new.self) c.in-Err.error c.requires.live.kept
+    c.asking.invariant.asks c.in-Err.ensures.next

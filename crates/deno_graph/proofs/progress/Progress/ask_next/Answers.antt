@@ -5,14 +5,22 @@ use Rattle.deno_graph.proofs.ProgressLemmas.{live_popped, asks_still, only_asks_
 use Rattle.deno_graph.proofs.progress.Progress.ask_next.Goals as goal
 
 pub deal-requires : goal.deal-requires
-deal-requires g c = record { in_hand = live_popped (rules_of c.args.following) _ c.pop.new.self c.in-Some.url c.requires.live c.in-Some.ensures }
+deal-requires g c = record {
+  in_hand = live_popped (rules_of c.args.following) _ c.pop.new.self c.in-Some.url c.requires.live
+      c.in-Some.ensures;
+}
 
 -- taking a specifier from the worklist asks nothing
 pub returns-in_default-clause-asks : goal.returns-in_default-clause-asks
 returns-in_default-clause-asks g c =
     asks_still (at (g.L.Loader.seen c.args.loader.now) c.args.self.now) (record {
       roots = c.args.self.now.roots;
-      reaching = record { reached = c.args.self.now.reaching.reached; todo = c.pop.new.self; limit = c.args.self.now.reaching.limit };
+      reaching = record {
+        reached = c.args.self.now.reaching.reached;
+        todo = c.pop.new.self;
+        limit =
+            c.args.self.now.reaching.limit;
+      };
       asked = c.args.self.now.asked;
       taken = c.args.self.now.taken;
       begun = c.args.self.now.begun;
@@ -23,7 +31,12 @@ returns-in-Ok-clause-asks g c =
     only_asks_more _ _ _
     (asks_still (at (g.L.Loader.seen c.args.loader.now) c.args.self.now) (record {
       roots = c.args.self.now.roots;
-      reaching = record { reached = c.args.self.now.reaching.reached; todo = c.pop.new.self; limit = c.args.self.now.reaching.limit };
+      reaching = record {
+        reached = c.args.self.now.reaching.reached;
+        todo = c.pop.new.self;
+        limit =
+            c.args.self.now.reaching.limit;
+      };
       asked = c.args.self.now.asked;
       taken = c.args.self.now.taken;
       begun = c.args.self.now.begun;
@@ -35,7 +48,12 @@ returns-in-Err-clause-asks g c =
     only_asks_more _ _ _
     (asks_still (at (g.L.Loader.seen c.args.loader.now) c.args.self.now) (record {
       roots = c.args.self.now.roots;
-      reaching = record { reached = c.args.self.now.reaching.reached; todo = c.pop.new.self; limit = c.args.self.now.reaching.limit };
+      reaching = record {
+        reached = c.args.self.now.reaching.reached;
+        todo = c.pop.new.self;
+        limit =
+            c.args.self.now.reaching.limit;
+      };
       asked = c.args.self.now.asked;
       taken = c.args.self.now.taken;
       begun = c.args.self.now.begun;

@@ -34,5 +34,6 @@ returns-in-Err-clause-runs g c =
 pub returns-in-Err-clause-in_time : goal.returns-in-Err-clause-in_time
 returns-in-Err-clause-in_time g c =
     in_time_err (rules_of c.args.following) Bool (Unit {0}) _ _ c.in-Err.error
-    (in_time_after {A = Bool} (rules_of c.args.following) (at (g.L.Loader.seen c.args.loader.now) c.args.self.now) (at (g.L.Loader.seen c.turns.loader) c.turns.self) (Err c.in-Err.error) _
+    (in_time_after {A = Bool} (rules_of c.args.following) (at (g.L.Loader.seen c.args.loader.now) c.args.self.now)
+    (at (g.L.Loader.seen c.turns.loader) c.turns.self) (Err c.in-Err.error) _
     c.turns.invariant.goes c.in-Err.ensures.in_time)

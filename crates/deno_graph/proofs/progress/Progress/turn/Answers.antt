@@ -13,7 +13,8 @@ returns-clause-turns g c =
 
 pub returns-clause-in_time : goal.returns-clause-in_time
 returns-clause-in_time g c =
-    in_time_after (rules_of c.args.following) (at (g.L.Loader.seen c.args.loader.now) c.args.self.now) (at (g.L.Loader.seen c.ask_all.new.loader) c.ask_all.new.self)
+    in_time_after (rules_of c.args.following) (at (g.L.Loader.seen c.args.loader.now) c.args.self.now)
+    (at (g.L.Loader.seen c.ask_all.new.loader) c.ask_all.new.self)
     c.poll.result _ c.ask_all.ensures.asks.goes c.poll.ensures.in_time
 
 pub returns-clause-goes : goal.returns-clause-goes
@@ -22,11 +23,17 @@ returns-clause-goes g c = goes_more _ _ _ c.ask_all.ensures.asks.goes c.poll.ens
 pub returns-in-Err-TooMany-clause-turns : goal.returns-in-Err-TooMany-clause-turns
 returns-in-Err-TooMany-clause-turns g c =
     rw c.in-Err-TooMany.field-0-is
-    (too_many_later (at (g.L.Loader.seen c.args.loader.now) c.args.self.now) (at (g.L.Loader.seen c.ask_all.new.loader) c.ask_all.new.self) c.args.self.now.reaching.limit
-    c.in-Err-TooMany.seen c.requires.live.kept c.ask_all.ensures.asks (rw c.in-Err-TooMany.field-0-is at c.in-Err-TooMany.ensures.all))
+    (too_many_later (at (g.L.Loader.seen c.args.loader.now) c.args.self.now)
+    (at (g.L.Loader.seen c.ask_all.new.loader) c.ask_all.new.self) c.args.self.now.reaching.limit
+    c.in-Err-TooMany.seen c.requires.live.kept c.ask_all.ensures.asks
+    (rw c.in-Err-TooMany.field-0-is at c.in-Err-TooMany.ensures.all))
 
 pub returns-in-Err-TooMany-clause-in_time : goal.returns-in-Err-TooMany-clause-in_time
-returns-in-Err-TooMany-clause-in_time g c = asked_in_time (at (g.L.Loader.seen c.args.loader.now) c.args.self.now) (at (g.L.Loader.seen c.ask_all.new.loader) c.ask_all.new.self) c.requires.live c.ask_all.ensures.asks
+returns-in-Err-TooMany-clause-in_time g c =
+    asked_in_time (at (g.L.Loader.seen c.args.loader.now) c.args.self.now)
+    (at (g.L.Loader.seen c.ask_all.new.loader) c.ask_all.new.self) c.requires.live c.ask_all.ensures.asks
 
 pub returns-in-Err-OutOfMemory-clause-in_time : goal.returns-in-Err-OutOfMemory-clause-in_time
-returns-in-Err-OutOfMemory-clause-in_time g c = asked_in_time (at (g.L.Loader.seen c.args.loader.now) c.args.self.now) (at (g.L.Loader.seen c.ask_all.new.loader) c.ask_all.new.self) c.requires.live c.ask_all.ensures.asks
+returns-in-Err-OutOfMemory-clause-in_time g c =
+    asked_in_time (at (g.L.Loader.seen c.args.loader.now) c.args.self.now)
+    (at (g.L.Loader.seen c.ask_all.new.loader) c.ask_all.new.self) c.requires.live c.ask_all.ensures.asks

@@ -9,9 +9,12 @@ use Rattle.deno_graph.proofs.reaching.Reaching.reach_all.Goals as goal
 pub returns-in-Err-clause-grows : goal.returns-in-Err-clause-grows
 returns-in-Err-clause-grows c =
     let more = texts_more c.args.urls.now c.loop-url.url-index c.url-item.result c.loop-url-test.true c.url-item.is in
-    grows_err (texts (take c.loop-url.url-index c.args.urls.now)) (text_of c.url-item.result ∷ []) (texts c.args.urls.now)
-    c.args.self.now c.loop-url.self c.reach.new.self c.in-Err.error c.loop-url.invariant.reached c.loop-url.invariant.limit
-    (λ t h. has_texts_take c.args.urls.now (c.loop-url.url-index + 1) t (ap (λ (xs : List Specifier). has xs t) more ∙ h))
+    grows_err (texts (take c.loop-url.url-index c.args.urls.now)) (text_of c.url-item.result ∷ [])
+    (texts c.args.urls.now)
+    c.args.self.now c.loop-url.self c.reach.new.self c.in-Err.error c.loop-url.invariant.reached
+    c.loop-url.invariant.limit
+    (λ t h. has_texts_take c.args.urls.now (c.loop-url.url-index + 1) t
+    (ap (λ (xs : List Specifier). has xs t) more ∙ h))
     c.in-Err.ensures.grows
 
 pub loop-url-preserved : goal.loop-url-preserved

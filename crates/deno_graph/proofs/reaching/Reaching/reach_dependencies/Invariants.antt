@@ -7,6 +7,7 @@ use Rattle.deno_graph.proofs.reaching.Reaching.reach_dependencies.Given as goal
 -- the targets so far are reached
 abbrev pub invariant-loop-dependency : goal.invariant-loop-dependency
 invariant-loop-dependency l = record {
-  reached : HasReached (filter_map (led_to (is_followed l.following l.typed)) (take l.dependency-index l.dependencies)) l.fn.self l.self;
+  reached : HasReached (filter_map (led_to (is_followed l.following l.typed)) (take l.dependency-index l.dependencies))
+      l.fn.self l.self;
   limit : l.self.limit ≡ l.fn.self.limit;
 }

@@ -11,7 +11,8 @@ use Rattle.es_parser.proofs.cursor.Parser.items.Given as goal
 -- the items read so far stand before what is left to read
 abbrev pub invariant-items : goal.invariant-items
 invariant-items l =
-    IsLeft l.self.text.now l.self.tokens.now (row_at l.self.text.now l.self.tokens.now l.room) (one_item l.self.lang l.self.mode)
+    IsLeft l.self.text.now l.self.tokens.now (row_at l.self.text.now l.self.tokens.now l.room)
+    (one_item l.self.lang l.self.mode)
     ModuleItem (λ i. more (item_value i) absent) l.fn.cursor.at l.items l.cursor.at
 
 abbrev pub decreases-items : goal.decreases-items

@@ -3,7 +3,8 @@ use Rattle.es_parser.proofs.cursor.Parser.span.Goals as goal
 
 pub returns-then-from-to : goal.returns-then-from-to
 returns-then-from-to c =
-    span_empty c.args.self.now.tokens.now c.args.from c.args.to c.end_before-end.result c.if-from-to.true c.end_before-end.ensures
+    span_empty c.args.self.now.tokens.now c.args.from c.args.to c.end_before-end.result c.if-from-to.true
+    c.end_before-end.ensures
 
 pub returns : goal.returns
 returns c =

@@ -1,5 +1,5 @@
 use Rattle.std.proofs.Common.{sym}
-use Rattle.es_lexer.specs.declared.token.TokenKind.TheVariants as k
+use Rattle.es_token.specs.declared.token.TokenKind.TheVariants as k
 use Rattle.es_tree.specs.Key.{is}
 use Rattle.es_parser.proofs.StepLemmas.{look_none, kind_seen}
 use Rattle.es_parser.proofs.cursor.Parser.str.Goals as goal
@@ -11,4 +11,5 @@ returns-in-None-clause-other c = λ memory.
 
 pub literal-requires-clause-str : goal.literal-requires-clause-str
 literal-requires-clause-str c =
-    kind_seen c.args.self.now.tokens.now c.args.cursor.now.at c.in-Some.token k.Str c.in-Some.ensures c.in_ok-expect.ensures.seen
+    kind_seen c.args.self.now.tokens.now c.args.cursor.now.at c.in-Some.token k.Str c.in-Some.ensures
+    c.in_ok-expect.ensures.seen

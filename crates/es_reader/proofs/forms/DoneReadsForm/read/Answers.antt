@@ -6,4 +6,5 @@ use Rattle.es_reader.proofs.forms.DoneReadsForm.read.Goals as goal
 pub returns : goal.returns
 returns g c =
     adds_done (keys_of c.args._grammar.now.input.tokens.tokens.now)
-    (row_at (keys_of c.args._grammar.now.input.tokens.tokens.now) c.args._grammar.now.room) c.args._cursor.now.at c.args._parts.now
+    (row_at (keys_of c.args._grammar.now.input.tokens.tokens.now) c.args._grammar.now.room) c.args._cursor.now.at
+    c.args._parts.now

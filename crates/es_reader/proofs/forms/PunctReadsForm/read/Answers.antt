@@ -11,11 +11,18 @@ use Rattle.es_reader.proofs.forms.PunctReadsForm.read.Goals as goal
 pub returns-in_err-expect : goal.returns-in_err-expect
 returns-in_err-expect g c =
     let p = err_from_is_err_and c.from_residual.result c.from_residual.ensures.1 in
-    refused (form_at (keys_of c.args.grammar.now.input.tokens.tokens.now) (row_at (keys_of c.args.grammar.now.input.tokens.tokens.now) c.args.grammar.now.room) (punct c.args.self.now.0 (g.N.ReadsForm.form c.args.self.now.1)) c.args.cursor.now.at) c.args.parts.now c.args.parts.now c.from_residual.result p.0 c.in_err-expect.field-0.0 c.expect.new.cursor.at p.1 p.2
-    (λ memory. no_punct (keys_of c.args.grammar.now.input.tokens.tokens.now) (row_at (keys_of c.args.grammar.now.input.tokens.tokens.now) c.args.grammar.now.room) (g.N.ReadsForm.form c.args.self.now.1) c.args.cursor.now.at c.args.self.now.0 c.in_err-expect.ensures.other)
+    refused (form_at (keys_of c.args.grammar.now.input.tokens.tokens.now)
+    (row_at (keys_of c.args.grammar.now.input.tokens.tokens.now) c.args.grammar.now.room)
+    (punct c.args.self.now.0 (g.N.ReadsForm.form c.args.self.now.1)) c.args.cursor.now.at) c.args.parts.now
+    c.args.parts.now c.from_residual.result p.0 c.in_err-expect.field-0.0 c.expect.new.cursor.at p.1 p.2
+    (λ memory. no_punct (keys_of c.args.grammar.now.input.tokens.tokens.now)
+    (row_at (keys_of c.args.grammar.now.input.tokens.tokens.now) c.args.grammar.now.room)
+    (g.N.ReadsForm.form c.args.self.now.1) c.args.cursor.now.at c.args.self.now.0 c.in_err-expect.ensures.other)
 
 pub returns : goal.returns
 returns g c =
-    adds_punct (keys_of c.args.grammar.now.input.tokens.tokens.now) (row_at (keys_of c.args.grammar.now.input.tokens.tokens.now) c.args.grammar.now.room) (g.N.ReadsForm.form c.args.self.now.1)
+    adds_punct (keys_of c.args.grammar.now.input.tokens.tokens.now)
+    (row_at (keys_of c.args.grammar.now.input.tokens.tokens.now) c.args.grammar.now.room)
+    (g.N.ReadsForm.form c.args.self.now.1)
     c.args.cursor.now.at c.args.parts.now c.read.new.parts c.read.result c.read.new.cursor.at c.args.self.now.0
     c.in_ok-expect.ensures.seen (rw (← c.in_ok-expect.ensures.taken) c.read.ensures)

@@ -9,6 +9,8 @@ use Rattle.graph_entry.proofs.headers.Headers.insert.Goals as goal
 -- the name in lower case has its place among the names
 pub returns : goal.returns
 returns c =
-    ap headers_of c.in_ok-insert.ensures.entries ∙ headers_of-insert c.self.inside.entries.entries c.in_ok-name.name c.args.value
-    ∙ ap (λ (n : List ℕ). insert_entry (slice_cmp nat_cmp) (headers_of c.self.inside.entries.entries) n (string_bytes c.args.value)) c.in_ok-name.ensures.ok
+    ap headers_of c.in_ok-insert.ensures.entries
+    ∙ headers_of-insert c.self.inside.entries.entries c.in_ok-name.name c.args.value
+    ∙ ap (λ (n : List ℕ). insert_entry (slice_cmp nat_cmp) (headers_of c.self.inside.entries.entries) n
+    (string_bytes c.args.value)) c.in_ok-name.ensures.ok
     ∙ ap (λ (h : HeaderList). with_header h c.args.name.now (string_bytes c.args.value)) c.self.view_is

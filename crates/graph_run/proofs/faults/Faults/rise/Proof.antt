@@ -33,19 +33,24 @@ rise_spec 𝓤 𝓛 𝓜 𝓡 wired =
     let runs = WpFn 𝓤 𝓛.H T.C T.Λ code.function in
     entered 𝓤 𝓛.H (triple_of 𝓛 f.signature (f.spec 𝓛 𝓜.mem 𝓡.returns)) T.C T.Λ f.Key.name code.function
     (code.unfolded 𝓤 𝓛.H 𝓜 𝓡 wired)
-    (walk_Meets 𝓛 f.ended stayed (Goes-ref 𝓛 1 0 tt (plain (λ _. the_row)), tt) c runs (WpFn-mono 𝓤 𝓛.H 𝓛.laws T code.function)
-    (walked 𝓛 f.ended stayed c runs (λ κs. (mut_vals, tt)) (λ κs. (mut_Tells (named 0) κs.0 the_row, tt)) (λ κs qs bounds a g are.
+    (walk_Meets 𝓛 f.ended stayed (Goes-ref 𝓛 1 0 tt (plain (λ _. the_row)), tt) c runs
+    (WpFn-mono 𝓤 𝓛.H 𝓛.laws T code.function)
+    (walked 𝓛 f.ended stayed c runs (λ κs. (mut_vals, tt)) (λ κs. (mut_Tells (named 0) κs.0 the_row, tt))
+    (λ κs qs bounds a g are.
     via 𝓤 _ (fst∗ 𝓤 _ (emp 𝓤)) (
-    let b = a.0.ref_ptr.0 in let o = a.0.ref_ptr.1 in let old = a.0.now in let new = record old { count = old.count + 1 } in
+    let b = a.0.ref_ptr.0 in let o = a.0.ref_ptr.1 in let old = a.0.now in let new =
+    record old { count = old.count + 1 } in
     let vs : List Val = vptr b o ∷ [] in
     qed 𝓛 ((‵ (flft κs.0 qs.0) ⊛ ‵ ftrue) ∷ ‵ (owns (MutRef (named 0) κs.0 the_row ∷ []) a (vs, tt)) ∷ []) ∵
     split ! $ move ! (2 ∷ []) $ fsplit ! $ fsplit3 ! $ keep ! (1 ∷ 2 ∷ 4 ∷ []) $
     enter ! T.C T.Λ code.function vs _ $ alloc_all ! (λ l. pass_all ! refl ((tt, tt), tt) $
     opens ! tt the_row {h = old} b o (λ us.
     sets ! (of_opd ! (unit_lit !)) refl (tt, tt) $
-    move ! (1 ∷ []) $ use1 𝓛 (‵ (the_row.own_val new us)) (id⊢ 𝓤 _) $ move ! (1 ∷ 0 ∷ []) $ closes ! tt the_row new us b o $
+    move ! (1 ∷ []) $ use1 𝓛 (‵ (the_row.own_val new us)) (id⊢ 𝓤 _) $ move ! (1 ∷ 0 ∷ []) $ closes ! tt the_row new us
+    b o $
     returns ! (look_at ! 0 refl) $ free_all ! refl $ keep ! (0 ∷ 1 ∷ 2 ∷ []) $
-    suffices ! _ (ends_at 𝓛 f.ended stayed c ((κs, qs, bounds, a, (vs, tt)), g) vunit tt (new, tt) (tt, tt)) $ says ! refl $
+    suffices ! _ (ends_at 𝓛 f.ended stayed c ((κs, qs, bounds, a, (vs, tt)), g) vunit tt (new, tt) (tt, tt)) $ says !
+    refl $
     move ! (2 ∷ []) $ nothing ! $ move ! (1 ∷ 0 ∷ []) $ join ! $ frame ! $
     feq_i ! (List Val) vs vs refl $ fjoin3 ! $ nothing ! $ move ! (1 ∷ 0 ∷ []) $ fjoin ! $
     feq_i ! (List Val) (vunit ∷ []) (vunit ∷ []) refl $ move ! (1 ∷ 0 ∷ []) $ done !))))))

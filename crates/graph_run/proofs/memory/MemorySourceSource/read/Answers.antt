@@ -10,10 +10,13 @@ returns-clause-bytes c =
     let bytes = c.self.inside.bytes.items in
     let at = c.self.inside.at in
     let n = c.min-n.result in
-    let is : part ≡ take n (drop at bytes) = grind (arith, common_steps, c.copy_from_slice.ensures.after, c.deref.ensures.value) in
+    let is : part ≡ take n (drop at bytes) =
+    grind (arith, common_steps, c.copy_from_slice.ensures.after, c.deref.ensures.value) in
     let fits : n ≤ length bytes - at = grind (arith, common_steps, c.min-n.ensures, c.len.ensures) in
     let left : c.args.self.now.left ≡ drop at bytes = search rules in
-    let is_n : n ≡ min c.min.result (length bytes - at) = grind (arith, common_steps, c.min-n.ensures, c.len.ensures) in (
+    let is_n : n ≡ min c.min.result (length bytes - at) =
+    grind (arith, common_steps, c.min-n.ensures, c.len.ensures) in (
       left ∙ given_piece bytes part (drop n c.args.buffer.now) at n is fits,
-      λ zero _. none_left bytes c.args.buffer.now at c.self.inside.piece n c.min.result c.self.invariant.1 is_n c.min.ensures zero c.requires,
+      λ zero _. none_left bytes c.args.buffer.now at c.self.inside.piece n c.min.result c.self.invariant.1 is_n
+          c.min.ensures zero c.requires,
     )

@@ -8,5 +8,6 @@ pub returns : goal.returns
 unfolding media_type_of
 returns c =
     let lowered : c.as_str.result.now ≡ str_to_ascii_lowercase c.args.path.now
-    = c.as_str.ensures.value ∙ c.make_ascii_lowercase.ensures.bytes ∙ ap str_to_ascii_lowercase c.in_ok-lowered.ensures.ok in
+    = c.as_str.ensures.value ∙ c.make_ascii_lowercase.ensures.bytes
+    ∙ ap str_to_ascii_lowercase c.in_ok-lowered.ensures.ok in
     c.first_ending.ensures ∙ ap (first_ending endings) lowered

@@ -14,4 +14,7 @@ returns-then-not-condition g c =
 
 -- the closure said yes of it
 pub returns : goal.returns
-returns g c = (c.in_ok-rest.ensures, record { shown = _; shows = refl; says = record { met = c.if-not-condition.ensures } })
+returns g c = (
+  c.in_ok-rest.ensures,
+  record { shown = _; shows = refl; says = record { met = c.if-not-condition.ensures } },
+)

@@ -11,12 +11,16 @@ returns-in_default c =
       | in_default-via-in-Some+else-has_character w ↦ (
         refl,
         λ character one begins.
-            let same = first_char_is_one c.args.input.now _ _ w.in-Some.first character c.utf8.input w.in-Some.ensures begins.1 in
+            let same = first_char_is_one c.args.input.now _ _ w.in-Some.first character c.utf8.input w.in-Some.ensures
+            begins.1 in
             let has : Contains (chars c.args.self.now.characters.now) w.in-Some.first =
             subst (λ x. Contains (chars c.args.self.now.characters.now) x) (sym same) one in
             let said : false ≡ true = w.if-has_character.ensures.1 has in
             cc,
       )
-      | in_default-via-in_default w ↦
-          (refl, λ character one begins. nothing_begins_empty c.args.input.now _ character w.in_default.ensures begins.1)
+      | in_default-via-in_default w ↦ (
+        refl,
+        λ character one begins. nothing_begins_empty c.args.input.now _ character w.in_default.ensures
+            begins.1,
+      )
     ]

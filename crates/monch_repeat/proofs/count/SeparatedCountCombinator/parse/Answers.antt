@@ -9,8 +9,11 @@ rounds-init g c = (c.utf8.input, CountsSoFar-start _ _ c.args.input.now)
 pub rounds-preserved-in-Next : goal.rounds-preserved-in-Next
 rounds-preserved-in-Next g c =
     let round = rw c.in-Next.is at c.in_ok-rest.ensures.round in
-    let text = rw c.in-Next.is at c.in_ok-rest.ensures.text in
-    (text, CountsSoFar-round _ _ _ _ _ _ _ c.rounds.invariant.1 round (c.requires.2 _ _ _ _ _ round.reads round.separates))
+    let text = rw c.in-Next.is at c.in_ok-rest.ensures.text in (
+      text,
+      CountsSoFar-round _ _ _ _ _ _ _ c.rounds.invariant.1 round
+          (c.requires.2 _ _ _ _ _ round.reads round.separates),
+    )
 
 pub returns-in_err-rest : goal.returns-in_err-rest
 returns-in_err-rest g c =

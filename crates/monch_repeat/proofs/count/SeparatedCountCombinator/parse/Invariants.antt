@@ -8,7 +8,9 @@ use Rattle.monch_repeat.proofs.count.SeparatedCountCombinator.parse.Given as goa
 abbrev pub invariant-rounds : goal.invariant-rounds
 invariant-rounds g l =
     shadow (Utf8 l.left)
-    × CountsSoFar (IsSeparated (g.A.Combinator.gives l.self.item) (g.B.Combinator.gives l.self.separator)) (EndsSeparated (g.A.Combinator.gives l.self.item) (g.B.Combinator.gives l.self.separator)) l.fn.input l.count l.left
+    × CountsSoFar (IsSeparated (g.A.Combinator.gives l.self.item) (g.B.Combinator.gives l.self.separator))
+    (EndsSeparated (g.A.Combinator.gives l.self.item) (g.B.Combinator.gives l.self.separator)) l.fn.input l.count
+    l.left
 
 abbrev pub decreases-rounds : goal.decreases-rounds
 decreases-rounds g l = length l.left

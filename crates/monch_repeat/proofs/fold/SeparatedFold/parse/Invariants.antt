@@ -8,7 +8,8 @@ use Rattle.monch_repeat.proofs.fold.SeparatedFold.parse.Given as goal
 abbrev pub invariant-rounds : goal.invariant-rounds
 invariant-rounds g l =
     shadow (Utf8 l.left)
-    × FoldsSoFar (IsSeparated (g.A.Combinator.gives l.fn.self.item) (g.B.Combinator.gives l.fn.self.separator)) (EndsSeparated (g.A.Combinator.gives l.fn.self.item) (g.B.Combinator.gives l.fn.self.separator))
+    × FoldsSoFar (IsSeparated (g.A.Combinator.gives l.fn.self.item) (g.B.Combinator.gives l.fn.self.separator))
+    (EndsSeparated (g.A.Combinator.gives l.fn.self.item) (g.B.Combinator.gives l.fn.self.separator))
     (goal.F-post g l.fn.self.fold) l.fn.self.init l.fn.input l.state l.left
 
 abbrev pub decreases-rounds : goal.decreases-rounds

@@ -4,7 +4,10 @@ use Rattle.wasm_dep_analyzer.proofs.CutLemmas.{cuts_answered}
 use Rattle.wasm_dep_analyzer.proofs.deps.WasmDeps.parse.Goals as goal
 
 pub returns-clause-only : goal.returns-clause-only
-returns-clause-only c = λ outcome reads. outcome_is c.args.options.skip_types c.args.input.now c.read_module.result outcome c.read_module.ensures reads
+returns-clause-only c =
+    λ outcome reads. outcome_is c.args.options.skip_types c.args.input.now c.read_module.result outcome
+    c.read_module.ensures reads
 
 pub returns-clause-cuts : goal.returns-clause-cuts
-returns-clause-cuts c = cuts_answered c.args.options.skip_types c.args.input.now c.read_module.result c.read_module.ensures
+returns-clause-cuts c =
+    cuts_answered c.args.options.skip_types c.args.input.now c.read_module.result c.read_module.ensures

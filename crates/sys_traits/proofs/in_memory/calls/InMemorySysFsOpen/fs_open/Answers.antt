@@ -5,4 +5,5 @@ use Rattle.sys_traits.proofs.in_memory.calls.InMemorySysFsOpen.fs_open.Goals as 
 pub returns-clause-tells : goal.returns-clause-tells
 returns-clause-tells c =
     opened c.args.self.now c.run.new.self c.args.path.now c.args.mode (refusal_of c.run.result)
-    (answered c.opening-drafted.result _ _ c.run.result c.args.self.now c.run.new.self c.opening-drafted.ensures c.run.ensures.ran)
+    (answered c.opening-drafted.result _ _ c.run.result c.args.self.now c.run.new.self c.opening-drafted.ensures
+    c.run.ensures.ran)

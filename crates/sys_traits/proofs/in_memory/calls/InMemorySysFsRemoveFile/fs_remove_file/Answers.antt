@@ -5,4 +5,5 @@ use Rattle.sys_traits.proofs.in_memory.calls.InMemorySysFsRemoveFile.fs_remove_f
 pub returns-clause-tells : goal.returns-clause-tells
 returns-clause-tells c =
     removed c.args.self.now c.run.new.self c.args.path.now (refusal_of c.run.result)
-    (answered c.removing-drafted.result _ _ c.run.result c.args.self.now c.run.new.self c.removing-drafted.ensures c.run.ensures.ran)
+    (answered c.removing-drafted.result _ _ c.run.result c.args.self.now c.run.new.self c.removing-drafted.ensures
+    c.run.ensures.ran)

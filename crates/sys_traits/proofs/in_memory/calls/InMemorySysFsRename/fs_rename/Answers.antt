@@ -5,4 +5,5 @@ use Rattle.sys_traits.proofs.in_memory.calls.InMemorySysFsRename.fs_rename.Goals
 pub returns-clause-tells : goal.returns-clause-tells
 returns-clause-tells c =
     renamed c.args.self.now c.run.new.self c.args.from.now c.args.to.now (refusal_of c.run.result)
-    (answered c.renaming-drafted.result _ _ c.run.result c.args.self.now c.run.new.self c.renaming-drafted.ensures c.run.ensures.ran)
+    (answered c.renaming-drafted.result _ _ c.run.result c.args.self.now c.run.new.self c.renaming-drafted.ensures
+    c.run.ensures.ran)
