@@ -1,25 +1,25 @@
 -- What stands between tokens: whether a line end does, and that comments stand apart and all else is blanks and line ends.
-use Rattle.std.proofs.Common.{◌≡◌, ℕ, zero, suc, ◌+◌, ◌-◌, ◌≤◌, Bool, true, false, ◌||◌, ◌&&◌, List, [], ◌∷◌, ◌++◌, length, take, drop, Some, slice_get, slice_range, refl, sym, ◌∙◌, ap, subst, arith, length-append, append_assoc, drop_at, take_at, ◌⊎◌, inl, inr}
+use Rattle.std.proofs.Common.{◌≡◌, ℕ, zero, suc, ◌+◌, ◌-◌, ◌<◌, ◌≤◌, Bool, true, false, ◌==◌, ◌||◌, ◌&&◌, List, [], ◌∷◌, ◌++◌, length, take, drop, Some, slice_get, slice_range, refl, sym, ◌∙◌, ap, subst, arith, length-append, append_assoc, drop_at, take_at, ◌⊎◌, inl, inr}
 use Rattle.es_lexer.specs.declared.bytes.First.TheVariants as first
 use Rattle.es_token.specs.declared.token.Token.{Token}
 use Rattle.es_token.specs.declared.token.Comment.{Comment}
 use Rattle.es_token.specs.declared.token.CommentKind.{CommentKind}
 use Rattle.es_token.specs.declared.token.CommentKind.TheVariants.{Line, Block}
-use Rattle.es_lexer.specs.Bytes.{is_line_end, has_line_end}
+use Rattle.es_spelling.specs.Lines.{begins_separator, begins_line_end}
+use Rattle.es_lexer.specs.Bytes.{is_blank, is_line_end, has_line_end}
+use Rattle.es_lexer.specs.Goal.{goal_of}
 use Rattle.es_lexer.specs.Pieces.{Piece, blank, line_end, comment, token, comment_spelling, pieces_text, place_of, is_behind, line_since}
-use Rattle.es_lexer.specs.Readable.{IsByte, IsWideBlank, ArePieces}
+use Rattle.es_lexer.specs.Readable.{IsByte, IsWideBlank, IsWideLine, ArePieces}
 use Rattle.es_lexer.specs.Reads.{tokens_of, comments_of, token_of, comment_of}
 use Rattle.std.specs.List.{AllByRecursion}
 use Rattle.std.proofs.lemmas.Bool.Decides.{nat_tests}
-use Rattle.es_wide.proofs.WideLemmas.{blank_high}
+use Rattle.es_wide.specs.Wide.{is_separator, blank_of_three, wide_blank, wide_line}
+use Rattle.es_wide.proofs.WideLemmas.{blank_high, blank_three_is, Line as WideLine, line_separator, paragraph_separator, line_is, line_no_blank}
 use Rattle.es_lexer.proofs.ByteLemmas as byte
-use Rattle.es_lexer.proofs.PlaceLemmas.{shift, moved}
+use Rattle.es_lexer.proofs.LineLemmas.{and_none, ascii_starts, lines-append}
+use Rattle.es_lexer.proofs.PlaceLemmas.{shift, moved, spelling_starts}
 
--- ---- line ends in a row
-or_assoc : (u v w : Bool) → ((u || v) || w) ≡ (u || (v || w))
-or_assoc true v w = refl
-or_assoc false v w = refl
-
+-- ---- tests in a row
 or_false : (u : Bool) → (u || false) ≡ u
 or_false true = refl
 or_false false = refl
@@ -28,34 +28,87 @@ or_true : (u : Bool) → (u || true) ≡ true
 or_true true = refl
 or_true false = refl
 
-pub lines-append : (s t : List ℕ) → has_line_end (s ++ t) ≡ (has_line_end s || has_line_end t)
-unfolding has_line_end
-lines-append [] t = refl
-lines-append (b ∷ s) t = ap (λ v. is_line_end b || v) (lines-append s t)
-    ∙ sym (or_assoc (is_line_end b) (has_line_end s) (has_line_end t))
-
 -- ---- the text behind the latest token
-high_no_line : (b : ℕ) → 128 ≤ b → is_line_end b ≡ false
-high_no_line b l = grind (arith, nat_tests)
+high_by : (b : ℕ) → 128 ≤ b → ((b == 10) ≡ false) × ((b == 13) ≡ false)
+high_by b l = (grind (arith, nat_tests), grind (arith, nat_tests))
 
-high_lines : (s : List ℕ) → AllByRecursion (λ b. 128 ≤ b) s → has_line_end s ≡ false
+-- a blank past ASCII holds no line end
+one_high : (b : ℕ) → 128 ≤ b → begins_line_end (b ∷ []) ≡ false
+unfolding begins_line_end begins_separator
+one_high b l = rw ((high_by b l).0, (high_by b l).1) (and_none (b == 226))
+
+two_high : (b c : ℕ) → 128 ≤ b → begins_line_end (b ∷ c ∷ []) ≡ false
+unfolding begins_line_end begins_separator
+two_high b c l = rw ((high_by b l).0, (high_by b l).1) (and_none (b == 226))
+
+three_high : (a b c : ℕ) → 128 ≤ a → is_separator a b c ≡ false → begins_line_end (a ∷ b ∷ c ∷ []) ≡ false
+unfolding begins_line_end begins_separator is_separator
+three_high a b c l e = rw ((high_by a l).0, (high_by a l).1) e
+
+no_separator : (a b c : ℕ) (v : Bool) → is_separator a b c ≡ v → wide_blank (a ∷ b ∷ c ∷ []) ≡ 3 → v ≡ false
+unfolding wide_line
+no_separator a b c true p e =
+    let none : wide_blank (a ∷ b ∷ c ∷ []) ≡ 0 = line_no_blank (a ∷ b ∷ c ∷ []) 2 (rw p refl) in absurd (omega arith)
+no_separator a b c false p e = refl
+
+three_lines : (a b c : ℕ) → AllByRecursion (λ n. 128 ≤ n) (a ∷ b ∷ c ∷ []) → is_separator a b c ≡ false
+    → has_line_end (a ∷ b ∷ c ∷ []) ≡ false
 unfolding has_line_end
-high_lines [] h = refl
-high_lines (b ∷ s) h = rw (high_no_line b h.0) (high_lines s h.1)
+three_lines a b c h e = rw (three_high a b c h.0 e, two_high b c h.1.0, one_high c h.1.1.0) refl
+
+two_lines : (a b : ℕ) → AllByRecursion (λ n. 128 ≤ n) (a ∷ b ∷ []) → has_line_end (a ∷ b ∷ []) ≡ false
+unfolding has_line_end
+two_lines a b h = rw (two_high a b h.0, one_high b h.1.0) refl
+
+wide_lines : (s : List ℕ) → 0 < length s → wide_blank s ≡ length s → has_line_end s ≡ false
+unfolding wide_blank
+wide_lines [] l e = absurd (omega arith)
+wide_lines (a ∷ []) l e = absurd (omega arith)
+wide_lines (a ∷ b ∷ []) l e = two_lines a b (blank_high (a ∷ b ∷ []) l e)
+wide_lines (a ∷ b ∷ c ∷ []) l e =
+    three_lines a b c (blank_high (a ∷ b ∷ c ∷ []) l e) (no_separator a b c (is_separator a b c) refl e)
+wide_lines (a ∷ b ∷ c ∷ d ∷ s) l e =
+    absurd (let m : blank_of_three a b c ≤ 3 = blank_three_is a b c in omega arith)
+
+-- nor does one of one byte
+byte_lines : (b : ℕ) → is_blank b ≡ true → has_line_end (b ∷ []) ≡ false
+unfolding has_line_end begins_line_end begins_separator
+byte_lines b e =
+    let n : ((b == 10) ≡ false) × (((b == 13) ≡ false) × ((b == 226) ≡ false)) =
+    (grind (arith, nat_tests), (grind (arith, nat_tests), grind (arith, nat_tests))) in
+    rw (n.0, n.1.0, n.1.1) refl
 
 blank_lines : (s : List ℕ) → IsByte first.Blank s ⊎ IsWideBlank s → has_line_end s ≡ false
-unfolding has_line_end
-blank_lines s (inl b) = ap has_line_end b.whole ∙ rw (byte.blank_no_line b.byte b.is) refl
-blank_lines s (inr b) = high_lines s (blank_high s b.0 b.1)
+blank_lines s (inl b) = ap has_line_end b.whole ∙ byte_lines b.byte (byte.blank_is b.byte b.is)
+blank_lines s (inr b) = wide_lines s b.0 b.1
 
-line_lines : (s : List ℕ) → IsByte first.LineEnd s → has_line_end s ≡ true
-unfolding has_line_end
-line_lines s b = ap has_line_end b.whole ∙ rw (byte.line_end_is b.byte b.is) refl
+line_byte : (b : ℕ) (u v w : Bool) → (u || v) ≡ true → ((u || (v || w)) || false) ≡ true
+line_byte b true v w e = refl
+line_byte b false true w e = refl
+line_byte b false false w e = cc
+
+one_line : (b : ℕ) → is_line_end b ≡ true → has_line_end (b ∷ []) ≡ true
+unfolding has_line_end begins_line_end
+one_line b e = line_byte b (b == 10) (b == 13) (b == 226 && begins_separator []) e
+
+line_is_one : (s : List ℕ) (n : ℕ) → WideLine s n → has_line_end s ≡ true
+unfolding has_line_end begins_line_end begins_separator
+line_is_one s n (line_separator after w e) = rw w refl
+line_is_one s n (paragraph_separator after w e) = rw w refl
+
+far_line : (s : List ℕ) (n : ℕ) → length s ≡ n → 0 < n → wide_line s ≡ n → has_line_end s ≡ true
+far_line s zero p l e = absurd (omega arith)
+far_line s (suc n) p l e = line_is_one s (suc n) (line_is s n e)
+
+line_lines : (s : List ℕ) → IsByte first.LineEnd s ⊎ IsWideLine s → has_line_end s ≡ true
+line_lines s (inl b) = ap has_line_end b.whole ∙ one_line b.byte (byte.line_end_is b.byte b.is)
+line_lines s (inr b) = far_line s (length s) refl b.0 b.1
 
 comment_lines : (kind : CommentKind) (text : List ℕ) → has_line_end (comment_spelling kind text) ≡ has_line_end text
-unfolding comment_spelling has_line_end
+unfolding comment_spelling has_line_end begins_line_end begins_separator
 comment_lines Line text = refl
-comment_lines Block text = lines-append text (42 ∷ 47 ∷ []) ∙ or_false (has_line_end text)
+comment_lines Block text =
+    lines-append text (42 ∷ 47 ∷ []) (ascii_starts 42 (47 ∷ []) (omega arith)) ∙ or_false (has_line_end text)
 
 -- whether a line end stands between the latest token and this place, which the text from `front` on shows
 pub record Between (x front gap : List ℕ) (before : List Piece) : Type 0 where
@@ -102,7 +155,8 @@ line_of_first (blank s ∷ ps) before x front gap after u w b h g =
     (w ∙ ap (λ t. front ++ (gap ++ t)) (append_assoc s (pieces_text ps) after)))
     (record {
       behind = b.behind;
-      line = b.line ∙ sym (lines-append gap s ∙ (ap (λ v. has_line_end gap || v) (blank_lines s h.0)
+      line = b.line ∙ sym (lines-append gap s (spelling_starts (goal_of before) (blank s) (pieces_text ps ++ after) h.0)
+          ∙ (ap (λ v. has_line_end gap || v) (blank_lines s h.0)
           ∙ or_false (has_line_end gap)));
       place = gap_place before front gap s b.place;
     }) h.1 g
@@ -112,7 +166,9 @@ line_of_first (line_end s ∷ ps) before x front gap after u w b h g =
     (w ∙ ap (λ t. front ++ (gap ++ t)) (append_assoc s (pieces_text ps) after)))
     (record {
       behind = b.behind;
-      line = b.behind ∙ sym (lines-append gap s ∙ (ap (λ v. has_line_end gap || v) (line_lines s h.0)
+      line = b.behind ∙ sym
+          (lines-append gap s (spelling_starts (goal_of before) (line_end s) (pieces_text ps ++ after) h.0)
+          ∙ (ap (λ v. has_line_end gap || v) (line_lines s h.0)
           ∙ or_true (has_line_end gap)));
       place = gap_place before front gap s b.place;
     }) h.1 g
@@ -124,6 +180,7 @@ line_of_first (comment kind t ∷ ps) before x front gap after u w b h g =
       behind = b.behind;
       line = with_comment (line_since before) (is_behind before) (has_line_end t) (has_line_end gap) b.line b.behind
           ∙ sym (lines-append gap (comment_spelling kind t)
+          (spelling_starts (goal_of before) (comment kind t) (pieces_text ps ++ after) h.0)
           ∙ ap (λ v. has_line_end gap || v) (comment_lines kind t));
       place = gap_place before front gap (comment_spelling kind t) b.place;
     }) h.1 g

@@ -16,7 +16,7 @@ use Rattle.es_token.specs.declared.token.CommentKind.{CommentKind}
 use Rattle.es_token.specs.declared.token.CommentKind.TheVariants.{Line, Block}
 use Rattle.es_lexer.specs.declared.error.LexicalKind.{LexicalKind}
 use Rattle.es_lexer.specs.declared.error.LexicalKind.TheVariants.{UnterminatedString, UnterminatedComment, UnterminatedTemplate, UnterminatedRegExp, InvalidEscape, InvalidChar, Unbalanced}
-use Rattle.es_lexer.specs.Bytes.{begins_part, begins_name, begins_mark, first_of, is_line_end, is_start, begins_comment, has_closer, has_line_end}
+use Rattle.es_lexer.specs.Bytes.{begins_part, begins_name, begins_mark, first_of, is_start, begins_comment, has_closer, has_line_end, ends_line}
 use Rattle.es_lexer.specs.declared.bracket.BracketKind.TheVariants.{Round, Square, Curly, Template}
 use Rattle.es_lexer.specs.Brackets.{role_of, is_open, may_close}
 use Rattle.es_lexer.specs.Signs.{sign_kind, sign_at, sized}
@@ -32,7 +32,6 @@ use Rattle.es_spelling.specs.declared.template.TemplateEnd.{TemplateEnd}
 use Rattle.es_spelling.specs.declared.template.TemplateEnd.TheVariants.{Closes}
 use Rattle.es_spelling.specs.Templates.{template_end, IsTemplateText, IsUnclosed}
 use Rattle.std.specs.Char.{is_ascii_digit}
-use Rattle.std.specs.List.{AllByRecursion}
 use Rattle.es_spelling.specs.declared.number.NumberEnd.{NumberEnd}
 use Rattle.es_spelling.specs.Numbers.{IsNumber, number_end, begins_number, is_digit}
 use Rattle.es_spelling.specs.Numbers as numeral
@@ -42,11 +41,11 @@ use Rattle.es_lexer.specs.Goal.{allows, may_stand, stands_apart, begins_digit}
 use Rattle.es_lexer.specs.Pieces.{Piece, blank, line_end, comment, token, spelling, comment_spelling}
 use Rattle.es_lexer.specs.Readable.{IsLongest, IsToken, IsComment, IsByte, IsPiece}
 use Rattle.es_lexer.specs.Stops.{Stuck, open_string, bad_escape, open_comment, no_token, no_character, open_regexp, wrong_closer, lone_hash, open_template, joined, IsLongestNumber, open_bracket, BeginsNoBody, BeginsSign}
-use Rattle.es_lexer.specs.Look.{run_end, is_in_line, word_end, word_look, string_look, sign_look, regexp_look, divide_look, slash_look, template_look, number_stop, number_look, dot_look, brace_look, name_look, wide_look, hash_look, class_look, end_look, look_at}
+use Rattle.es_lexer.specs.Look.{line_stop, word_end, word_look, string_look, sign_look, regexp_look, divide_look, slash_look, template_look, number_stop, number_look, dot_look, brace_look, name_look, wide_look, hash_look, class_look, end_look, look_at}
 use Rattle.es_lexer.proofs.ByteLemmas.{start_is, wide_class, no_mark_by, quote_class, quote_is, slash_is, slash_class, backtick_is, backtick_class, brace_is, brace_class, hash_is, hash_class, digit_is, digit_class, dot_is, dot_class, no_comment_at}
-use Rattle.es_lexer.proofs.RunLemmas.{Run, run, run_end-append, run_end-stop}
+use Rattle.es_lexer.proofs.LineLemmas.{or_left, or_right, Run, run, in_line_back, line_passed}
 use Rattle.es_lexer.proofs.PartLemmas.{not_zero, Parts, parts, parts_pass, name_class, name_more, name_front, name_no_comment}
-use Rattle.es_wide.specs.Wide.{wide_size, wide_blank}
+use Rattle.es_wide.specs.Wide.{wide_size, wide_blank, wide_line, is_separator}
 use Rattle.es_wide.proofs.WideLemmas as wide
 use Rattle.es_lexer.proofs.CommentLemmas as remark
 use Rattle.es_lexer.proofs.SignLemmas as mark
@@ -162,7 +161,7 @@ no_comment_divides : (goal : Goal) (at : ℕ) (rest : List ℕ) → begins_comme
 unfolding slash_look begins_comment
 no_comment_divides goal at [] n = refl
 no_comment_divides goal at (c ∷ rest) n =
-    rw (remark.or_left (c == 47) (c == 42) n, remark.or_right (c == 47) (c == 42) n) refl
+    rw (or_left (c == 47) (c == 42) n, or_right (c == 47) (c == 42) n) refl
 
 divides_is : (goal : Goal) (at : ℕ) (rest : List ℕ) → goal.regexp ≡ false
     → divide_look goal at rest ≡ sign_look goal.bracket at (sign_at (47 ∷ rest))
@@ -402,24 +401,30 @@ hash_ends front at (b ∷ rest) e =
 
 -- a shebang
 hash_marks : (front : Bool) (at : ℕ) (rest : List ℕ) → front ≡ true
-    → hash_look front at (33 ∷ rest) ≡ look.Token kind.Shebang (run_end is_in_line (at + 2) rest)
+    → hash_look front at (33 ∷ rest) ≡ look.Token kind.Shebang (line_stop (at + 2) rest)
 unfolding hash_look
 hash_marks front at rest f = rw f refl
 
 shebang_looks : (goal : Goal) (at : ℕ) (rest : List ℕ) → goal.front ≡ true
-    → look_at goal at (35 ∷ 33 ∷ rest) ≡ look.Token kind.Shebang (run_end is_in_line (at + 2) rest)
+    → look_at goal at (35 ∷ 33 ∷ rest) ≡ look.Token kind.Shebang (line_stop (at + 2) rest)
 shebang_looks goal at rest f = hash_looks goal at 35 (33 ∷ rest) hash_class ∙ hash_marks goal.front at rest f
 
-shebang_reaches : (goal : Goal) (at : ℕ) (k : TokenKind) (s after text : List ℕ)
-    → AllByRecursion (λ b. is_line_end b ≡ false) text → goal.front ≡ true → s ≡ 35 ∷ 33 ∷ text → k ≡ kind.Shebang
-    → Run is_in_line (at + 2 + length text) after → Reached k (at + length s) (look_at goal at (s ++ after))
-shebang_reaches goal at k s after text h f q e r =
+shebang_may : (goal : Goal) (k : TokenKind) (after : List ℕ) → k ≡ kind.Shebang → allows goal k after ≡ true
+    → ends_line after ≡ true
+unfolding allows may_stand
+shebang_may goal k after e a =
+    both_right (may_close goal.bracket (role_of kind.Shebang)) (ends_line after)
+    (subst (λ (j : TokenKind). (may_close goal.bracket (role_of j) && may_stand goal.regexp j after) ≡ true) e a)
+
+shebang_reaches : (goal : Goal) (at : ℕ) (k : TokenKind) (s after text : List ℕ) → has_line_end text ≡ false
+    → goal.front ≡ true → s ≡ 35 ∷ 33 ∷ text → k ≡ kind.Shebang → allows goal k after ≡ true
+    → Reached k (at + length s) (look_at goal at (s ++ after))
+shebang_reaches goal at k s after text h f q e a =
     let size : length s ≡ length (35 ∷ 33 ∷ text) = ap length q in
-    reached kind.Shebang (at + 2 + length text + length r.front)
+    reached kind.Shebang (at + 2 + length text)
     (ap (λ v. look_at goal at (v ++ after)) q
     ∙ (shebang_looks goal at (text ++ after) f
-    ∙ ap (λ n. look.Token kind.Shebang n)
-    (run_end-append is_in_line (at + 2) text after (remark.in_line text h) ∙ r.end)))
+    ∙ ap (λ n. look.Token kind.Shebang n) (line_passed (at + 2) text after h (shebang_may goal k after e a))))
     (omega arith) (λ p. e)
 
 private_reaches : (goal : Goal) (at : ℕ) (k : TokenKind) (s after name : List ℕ) → (w : IsWord name) → s ≡ 35 ∷ name
@@ -566,7 +571,7 @@ reaches goal at k s after (expression i e) a n =
     by_reach (regexp_reaches goal at k s after i e a n
     (parts (at + 1 + length i.body + length i.flags) after))
 reaches goal at k s after (shebang text h f q e) a n =
-    by_reach (shebang_reaches goal at k s after text h f q e (run is_in_line (at + 2 + length text) after))
+    by_reach (shebang_reaches goal at k s after text h f q e a)
 reaches goal at k s after (number big i e) a n = by_number big i e
 
 -- ---- so what is found is the longest
@@ -593,10 +598,9 @@ comment_reads : (goal : Goal) (at : ℕ) (kind : CommentKind) (text after : List
     → look_at goal at (comment_spelling kind text ++ after) ≡ reading_of at (comment kind text)
 unfolding look_at class_look slash_look comment_spelling
 comment_reads goal at Line text after h =
-    let end : run_end is_in_line (at + 2) (text ++ after) ≡ at + length (47 ∷ 47 ∷ text) =
-    run_end-append is_in_line (at + 2) text after (remark.in_line text h.0)
-    ∙ (run_end-stop is_in_line (at + 2 + length text) after (remark.line_stops after h.1) ∙ omega arith) in
-    rw (slash_class, end, remark.no_line_end text h.0) refl
+    let end : line_stop (at + 2) (text ++ after) ≡ at + length (47 ∷ 47 ∷ text) =
+    line_passed (at + 2) text after h.0 h.1 ∙ omega arith in
+    rw (slash_class, end, h.0) refl
 comment_reads goal at Block text after h =
     let joined : (text ++ 42 ∷ 47 ∷ []) ++ after ≡ text ++ 42 ∷ 47 ∷ after = append_assoc text (42 ∷ 47 ∷ []) after in
     let size : at + 2 + length text + 2 ≡ at + length (47 ∷ 42 ∷ (text ++ 42 ∷ 47 ∷ [])) =
@@ -665,11 +669,11 @@ unfolding hash_look begins_mark
 hash_stuck front at [] h n = refl
 hash_stuck front at (b ∷ rest) h n = rw n (name_stuck at (b ∷ rest) h)
 
--- what is no character of a word and no blank
-char_stuck : (goal : Goal) (at : ℕ) (text : List ℕ) → wide_size text ≡ 0 → wide_blank text ≡ 0
+-- what is no character
+char_stuck : (goal : Goal) (at : ℕ) (text : List ℕ) → wide_size text ≡ 0 → wide_blank text ≡ 0 → wide_line text ≡ 0
     → wide_look goal at text ≡ look.Fault InvalidChar at
 unfolding wide_look
-char_stuck goal at text e f = rw (e, f) refl
+char_stuck goal at text e f g = rw (e, f, g) refl
 
 template_opens : (goal : Goal) (at : ℕ) (opens : Bool) (rest : List ℕ)
     → (opens ≡ false → is_open goal.bracket Template ≡ true)
@@ -731,8 +735,9 @@ stuck_reads goal rest at kind place (no_token b after w f n e p) =
     rw w (rw f (nothing_stuck goal.bracket at b after n ∙ (cc)))
 stuck_reads goal rest at kind place (open_regexp text w n r h e p) =
     rw w (regexp_stuck goal at text (rw w at n) r h ∙ (cc))
-stuck_reads goal rest at kind place (no_character b after w f m n e p) =
-    rw w (wide_looks goal at b after f ∙ (char_stuck goal at (b ∷ after) (rw w at m) (rw w at n) ∙ (cc)))
+stuck_reads goal rest at kind place (no_character b after w f m n l e p) =
+    rw w (wide_looks goal at b after f
+    ∙ (char_stuck goal at (b ∷ after) (rw w at m) (rw w at n) (rw w at l) ∙ (cc)))
 stuck_reads goal rest at kind place (wrong_closer b after k w f s c e p) =
     rw w (sign_looks goal at b after f ∙ (closer_stuck goal.bracket at b after k s c ∙ (cc)))
 stuck_reads goal rest at kind place (lone_hash after w h n e p) =
@@ -837,13 +842,30 @@ blank_met goal at b rest n f e r =
     (wide_looks goal at b rest f ∙ (blank_looks goal at (b ∷ rest) n e
     ∙ ap (λ m. look.Blank (at + m)) (sym long)))
 
-wide_found : (goal : Goal) (at b : ℕ) (rest : List ℕ) (m n : ℕ) → first_of b ≡ first.Wide → wide_size (b ∷ rest) ≡ m
-    → wide_blank (b ∷ rest) ≡ n → Found goal at (b ∷ rest) (look_at goal at (b ∷ rest))
-wide_found goal at b rest (suc m) n f e w = word_met goal at (b ∷ rest) (char_name b rest m e) (parts at (b ∷ rest))
-wide_found goal at b rest zero (suc n) f e w = blank_met goal at b rest n f w (wide.blank_front (b ∷ rest) n w)
-wide_found goal at b rest zero zero f e w =
-    fault InvalidChar at (no_character b rest refl f e w refl refl)
-    (wide_looks goal at b rest f ∙ char_stuck goal at (b ∷ rest) e w)
+line_looks : (goal : Goal) (at : ℕ) (text : List ℕ) (n : ℕ) → wide_line text ≡ suc n
+    → wide_look goal at text ≡ look.LineEnd (at + suc n)
+unfolding wide_look
+line_looks goal at text n e =
+    rw (wide.line_no_char text n e, wide.line_no_blank text n e, e, not_zero (suc n) (omega arith)) refl
+
+line_met : (goal : Goal) (at b : ℕ) (rest : List ℕ) (n : ℕ) → first_of b ≡ first.Wide → wide_line (b ∷ rest) ≡ suc n
+    → wide.Line (b ∷ rest) (suc n) → Found goal at (b ∷ rest) (look_at goal at (b ∷ rest))
+unfolding wide_line is_separator
+line_met goal at b rest n f e (wide.line_separator after w s) =
+    piece (line_end (226 ∷ 128 ∷ 168 ∷ [])) after w (inr (omega arith, refl))
+    (wide_looks goal at b rest f ∙ (line_looks goal at (b ∷ rest) n e ∙ ap (λ m. look.LineEnd (at + m)) s))
+line_met goal at b rest n f e (wide.paragraph_separator after w s) =
+    piece (line_end (226 ∷ 128 ∷ 169 ∷ [])) after w (inr (omega arith, refl))
+    (wide_looks goal at b rest f ∙ (line_looks goal at (b ∷ rest) n e ∙ ap (λ m. look.LineEnd (at + m)) s))
+
+wide_found : (goal : Goal) (at b : ℕ) (rest : List ℕ) (l m n : ℕ) → first_of b ≡ first.Wide → wide_size (b ∷ rest) ≡ l
+    → wide_blank (b ∷ rest) ≡ m → wide_line (b ∷ rest) ≡ n → Found goal at (b ∷ rest) (look_at goal at (b ∷ rest))
+wide_found goal at b rest (suc l) m n f e w v = word_met goal at (b ∷ rest) (char_name b rest l e) (parts at (b ∷ rest))
+wide_found goal at b rest zero (suc m) n f e w v = blank_met goal at b rest m f w (wide.blank_front (b ∷ rest) m w)
+wide_found goal at b rest zero zero (suc n) f e w v = line_met goal at b rest n f v (wide.line_is (b ∷ rest) n v)
+wide_found goal at b rest zero zero zero f e w v =
+    fault InvalidChar at (no_character b rest refl f e w v refl refl)
+    (wide_looks goal at b rest f ∙ char_stuck goal at (b ∷ rest) e w v)
 
 string_found : (goal : Goal) (at q : ℕ) (rest : List ℕ) (end : StringEnd) → first_of q ≡ first.Quote
     → string_end at (q ∷ rest) ≡ end → IsStringEnd at (q ∷ rest) end
@@ -984,14 +1006,13 @@ sign_found goal at b rest found (dot f d) n l (mark.none a after w sk e) =
     let same : 46 ≡ a = let q : b ≡ 46 = dot_is b f in cc in
     absurd (dot_is_sign a same sk)
 
-line_found : (goal : Goal) (at : ℕ) (rest : List ℕ) → Run is_in_line (at + 2) rest
-    → Found goal at (47 ∷ 47 ∷ rest) (look.Comment Line (run_end is_in_line (at + 2) rest) false)
+line_found : (goal : Goal) (at : ℕ) (rest : List ℕ) → Run (at + 2) rest
+    → Found goal at (47 ∷ 47 ∷ rest) (look.Comment Line (line_stop (at + 2) rest) false)
 unfolding comment_spelling
 line_found goal at rest r =
-    let h : IsComment Line r.front r.back =
-    (remark.in_line_back r.front r.passes, remark.line_stops_back r.back r.ends) in
+    let h : IsComment Line r.front r.back = (in_line_back r.front r.back r.passes, r.ends) in
     piece (comment Line r.front) r.back (ap (λ t. 47 ∷ 47 ∷ t) r.whole) h
-    (rw (r.end, remark.no_line_end r.front h.0)
+    (rw (r.end, h.0)
     (ap (λ n. look.Comment Line n false)
     (let e : at + 2 + length r.front ≡ at + length (47 ∷ 47 ∷ r.front) = omega arith in e)))
 
@@ -1067,7 +1088,7 @@ slash_found_by : (goal : Goal) (at c : ℕ) (rest : List ℕ) (u v : Bool) → (
     → Found goal at (47 ∷ c ∷ rest) (slash_look goal at (c ∷ rest))
 unfolding slash_look begins_comment
 slash_found_by goal at c rest true v p q l =
-    rw (eqb-true c 47 p) (line_found goal at rest (run is_in_line (at + 2) rest))
+    rw (eqb-true c 47 p) (line_found goal at rest (run (at + 2) rest))
 slash_found_by goal at c rest false true p q l =
     rw (eqb-true c 42 q) (block_found goal at rest _ (remark.block_finds at false (at + 2) rest))
 slash_found_by goal at c rest false false p q l =
@@ -1201,15 +1222,15 @@ shebang_apart : (after : List ℕ) → stands_apart kind.Shebang after ≡ true
 unfolding stands_apart
 shebang_apart after = refl
 
-shebang_allows : (goal : Goal) (after : List ℕ) → allows goal kind.Shebang after ≡ true
+shebang_allows : (goal : Goal) (after : List ℕ) → ends_line after ≡ true → allows goal kind.Shebang after ≡ true
 unfolding allows may_close role_of may_stand
-shebang_allows goal after = refl
+shebang_allows goal after e = e
 
-shebang_found : (goal : Goal) (at : ℕ) (rest : List ℕ) → goal.front ≡ true → Run is_in_line (at + 2) rest
+shebang_found : (goal : Goal) (at : ℕ) (rest : List ℕ) → goal.front ≡ true → Run (at + 2) rest
     → Found goal at (35 ∷ 33 ∷ rest) (look_at goal at (35 ∷ 33 ∷ rest))
 shebang_found goal at rest f r =
     met goal at kind.Shebang (35 ∷ 33 ∷ r.front) r.back (35 ∷ 33 ∷ rest) _ (ap (λ t. 35 ∷ 33 ∷ t) r.whole)
-    (shebang r.front (remark.in_line_back r.front r.passes) f refl refl) (shebang_allows goal r.back)
+    (shebang r.front (in_line_back r.front r.back r.passes) f refl refl) (shebang_allows goal r.back r.ends)
     (no_comment_at 35 (33 ∷ (r.front ++ r.back)) first.Hash hash_class (λ e. cc)) (shebang_apart r.back) refl
     (shebang_looks goal at rest f
     ∙ ap (λ n. look.Token kind.Shebang n)
@@ -1230,7 +1251,7 @@ hash_by : (goal : Goal) (at b : ℕ) (rest : List ℕ) (v : Bool) → (goal.fron
 hash_by goal at b rest true e =
     subst (λ (c : ℕ). Found goal at (35 ∷ c ∷ rest) (look_at goal at (35 ∷ c ∷ rest)))
     (sym (eqb-true b 33 (both_right goal.front (b == 33) e)))
-    (shebang_found goal at rest (both_left goal.front (b == 33) e) (run is_in_line (at + 2) rest))
+    (shebang_found goal at rest (both_left goal.front (b == 33) e) (run (at + 2) rest))
 hash_by goal at b rest false e = hash_byte goal at b rest (begins_name (b ∷ rest)) refl e
 
 nothing_marked : (front : Bool) → (front && begins_mark []) ≡ false
@@ -1304,11 +1325,11 @@ unfolding look_at class_look
 class_found goal at b rest first.Blank f =
     rw f (piece (blank (b ∷ [])) rest refl (inl (record { byte = b; whole = refl; is = f })) refl)
 class_found goal at b rest first.LineEnd f =
-    rw f (piece (line_end (b ∷ [])) rest refl (record { byte = b; whole = refl; is = f }) refl)
+    rw f (piece (line_end (b ∷ [])) rest refl (inl (record { byte = b; whole = refl; is = f })) refl)
 class_found goal at b rest first.Start f =
     word_met goal at (b ∷ rest) (start_name b rest (start_is b f)) (parts at (b ∷ rest))
 class_found goal at b rest first.Wide f =
-    wide_found goal at b rest (wide_size (b ∷ rest)) (wide_blank (b ∷ rest)) f refl refl
+    wide_found goal at b rest (wide_size (b ∷ rest)) (wide_blank (b ∷ rest)) (wide_line (b ∷ rest)) f refl refl refl
 class_found goal at b rest first.Quote f =
     string_class goal at b rest f
 class_found goal at b rest first.Slash f =
@@ -1414,13 +1435,26 @@ blank_reads goal at [] after l e = absurd (omega arith)
 blank_reads goal at (b ∷ s) after l e =
     long_reads goal at b (s ++ after) (length s) (wide.blank_local (b ∷ s) after l e)
 
+far_reads : (goal : Goal) (at b : ℕ) (rest : List ℕ) (n : ℕ) → wide_line (b ∷ rest) ≡ suc n
+    → look_at goal at (b ∷ rest) ≡ look.LineEnd (at + suc n)
+far_reads goal at b rest n e =
+    wide_looks goal at b rest (wide_class b (let l : 192 ≤ b = wide.line_begins b rest n e in omega arith))
+    ∙ line_looks goal at (b ∷ rest) n e
+
+line_reads : (goal : Goal) (at : ℕ) (s after : List ℕ) → 0 < length s → wide_line s ≡ length s
+    → look_at goal at (s ++ after) ≡ look.LineEnd (at + length s)
+line_reads goal at [] after l e = absurd (omega arith)
+line_reads goal at (b ∷ s) after l e =
+    far_reads goal at b (s ++ after) (length s) (wide.line_local (b ∷ s) after l e)
+
 pub piece_reads : (goal : Goal) (at : ℕ) (piece : Piece) (after : List ℕ) → IsPiece goal piece after
     → look_at goal at (spelling piece ++ after) ≡ reading_of at piece
 unfolding class_look
 piece_reads goal at (blank s) after (inl h) =
     byte_reads goal at s after first.Blank h ∙ ap (λ t. look.Blank (at + length t)) (sym h.whole)
 piece_reads goal at (blank s) after (inr h) = blank_reads goal at s after h.0 h.1
-piece_reads goal at (line_end s) after h =
+piece_reads goal at (line_end s) after (inl h) =
     byte_reads goal at s after first.LineEnd h ∙ ap (λ t. look.LineEnd (at + length t)) (sym h.whole)
+piece_reads goal at (line_end s) after (inr h) = line_reads goal at s after h.0 h.1
 piece_reads goal at (comment kind text) after h = comment_reads goal at kind text after h
 piece_reads goal at (token k s) after h = token_reads goal at k s after h

@@ -1,5 +1,5 @@
 -- Where the tokens of a reading stand in the text, and what they cut from it.
-use Rattle.std.proofs.Common.{◌≡◌, ℕ, zero, suc, ◌+◌, ◌-◌, ◌<◌, ◌≤◌, Bool, true, false, not, ◌&&◌, List, [], ◌∷◌, ◌++◌, length, take, drop, get_or, Some, slice_get, slice_range, IsCharBoundary, refl, sym, ◌∙◌, ap, subst, arith, length-append, append_assoc, drop_at, take_at, inl, inr}
+use Rattle.std.proofs.Common.{◌≡◌, ℕ, zero, suc, ◌+◌, ◌-◌, ◌<◌, ◌≤◌, Bool, true, false, not, ◌&&◌, List, [], ◌∷◌, ◌++◌, length, take, drop, get_or, Some, slice_get, slice_range, IsCharBoundary, refl, sym, ◌∙◌, ap, subst, arith, length-append, append_assoc, append-nil, drop_at, take_at, inl, inr}
 use Rattle.std.proofs.lemmas.List.{get_or_at}
 use Rattle.std.proofs.Math.Dec.{ltb}
 use Rattle.std.proofs.lemmas.Bool.Decides.{nat_tests}
@@ -22,8 +22,9 @@ use Rattle.es_lexer.specs.Spelling.{Spells, word, str, sign, private_name, templ
 use Rattle.es_lexer.specs.Pieces.{Piece, blank, line_end, comment, token, spelling, comment_spelling, pieces_text, place_of}
 use Rattle.es_lexer.specs.Readable.{IsByte, IsPiece, ArePieces}
 use Rattle.es_lexer.specs.Reads.{tokens_of, comments_of, token_of, comment_of}
-use Rattle.es_wide.specs.Wide.{wide_blank}
-use Rattle.es_wide.proofs.WideLemmas.{blank_begins}
+use Rattle.es_wide.specs.Wide.{wide_blank, wide_line}
+use Rattle.es_wide.proofs.WideLemmas.{blank_begins, line_begins}
+use Rattle.es_lexer.proofs.LineLemmas.{StartsChar, ascii_starts}
 use Rattle.es_lexer.proofs.PartLemmas.{name_class, name_high}
 use Rattle.es_lexer.proofs.ByteLemmas as byte
 use Rattle.es_lexer.proofs.SpellingLemmas.{not_empty}
@@ -236,14 +237,6 @@ cuts x low t a =
     ∙ take_at a.text a.after (t.range.end - t.range.start) (omega arith))
 
 -- ---- tokens split no character
--- the text is empty, or its first byte begins a character
-abbrev pub StartsChar : List ℕ → Type 0
-StartsChar [] = Unit {0}
-StartsChar (b ∷ rest) = 128 ≤ b → 192 ≤ b
-
-ascii_starts : (b : ℕ) (rest : List ℕ) → b < 128 → StartsChar (b ∷ rest)
-ascii_starts b rest l = λ h. absurd (omega arith)
-
 byte_starts : (s rest : List ℕ) (c : First) → (i : IsByte c s) → i.byte < 128 → StartsChar (s ++ rest)
 byte_starts s rest c i l = subst (λ (t : List ℕ). StartsChar (t ++ rest)) (sym i.whole) (ascii_starts i.byte rest l)
 
@@ -260,12 +253,20 @@ blank_starts : (s rest : List ℕ) → 0 < length s → wide_blank s ≡ length 
 blank_starts [] rest l e = absurd (omega arith)
 blank_starts (b ∷ s) rest l e = λ h. blank_begins b s (length s) e
 
+wide_line_starts : (s rest : List ℕ) → 0 < length s → wide_line s ≡ length s → StartsChar (s ++ rest)
+wide_line_starts [] rest l e = absurd (omega arith)
+wide_line_starts (b ∷ s) rest l e = λ h. line_begins b s (length s) e
+
 piece_starts : (goal : Goal) (p : Piece) (after rest : List ℕ) → IsPiece goal p after → StartsChar (spelling p ++ rest)
 piece_starts goal (blank s) after rest (inl h) = byte_starts s rest first.Blank h (blank_ascii h.byte h.is)
 piece_starts goal (blank s) after rest (inr h) = blank_starts s rest h.0 h.1
-piece_starts goal (line_end s) after rest h = byte_starts s rest first.LineEnd h (line_ascii h.byte h.is)
+piece_starts goal (line_end s) after rest (inl h) = byte_starts s rest first.LineEnd h (line_ascii h.byte h.is)
+piece_starts goal (line_end s) after rest (inr h) = wide_line_starts s rest h.0 h.1
 piece_starts goal (comment kind text) after rest h = comment_starts kind text rest
 piece_starts goal (token k s) after rest h = token_starts goal k s rest h.spells
+
+pub spelling_starts : (goal : Goal) (p : Piece) (after : List ℕ) → IsPiece goal p after → StartsChar (spelling p)
+spelling_starts goal p after h = subst StartsChar (append-nil (spelling p)) (piece_starts goal p after [] h)
 
 pieces_start : (ps before : List Piece) (after : List ℕ) → ArePieces before ps after → StartsChar after
     → StartsChar (pieces_text ps ++ after)

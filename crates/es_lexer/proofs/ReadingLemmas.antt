@@ -13,8 +13,19 @@ use Rattle.es_lexer.specs.Pieces.{Piece, blank, line_end, comment, token, spelli
 use Rattle.es_lexer.specs.Readable.{IsPiece, ArePieces}
 use Rattle.es_lexer.specs.Stops.{Stuck}
 use Rattle.es_lexer.specs.Look.{end_look, look_at}
-use Rattle.es_lexer.proofs.RunLemmas.{same_cut}
 use Rattle.es_lexer.proofs.LookLemmas.{reading_of, piece_reads, stuck_reads}
+
+-- two cuts of one text behind the same number of bytes are one
+same_cut : (s t a b : List ℕ) → s ++ a ≡ t ++ b → length s ≡ length t → (s ≡ t) × (a ≡ b)
+same_cut [] [] a b e l = (refl, e)
+same_cut [] (y ∷ t) a b e l = absurd (omega arith)
+same_cut (x ∷ s) [] a b e l = absurd (omega arith)
+same_cut (x ∷ s) (y ∷ t) a b e l =
+    let heads : x ≡ y = cc in
+    let tails : s ++ a ≡ t ++ b = cc in
+    let both : (s ≡ t) × (a ≡ b) = same_cut s t a b tails (omega arith) in
+    let fronts : s ≡ t = both.0 in
+    (cc, both.1)
 
 -- ---- one piece at one place
 -- a comment's spelling tells its text

@@ -5,7 +5,7 @@ use Rattle.std.proofs.lemmas.List.{get_or_at, take_rest}
 use Rattle.std.proofs.lemmas.Str.{IsCharBoundary-before_ascii, IsCharBoundary-after_ascii, IsCharBoundary-end}
 use Rattle.es_lexer.specs.declared.bracket.BracketKind.{BracketKind}
 use Rattle.es_lexer.specs.declared.bracket.OpenBracket.{OpenBracket}
-use Rattle.es_lexer.specs.declared.bytes.First.TheVariants.{Blank}
+use Rattle.es_lexer.specs.declared.bytes.First.TheVariants.{Blank, LineEnd}
 use Rattle.es_lexer.specs.declared.goal.Goal.{Goal}
 use Rattle.es_lexer.specs.declared.goal.State.{State}
 use Rattle.es_lexer.specs.declared.look.Look.{Look}
@@ -20,17 +20,18 @@ use Rattle.es_lexer.specs.declared.error.LexicalKind.{LexicalKind}
 use Rattle.es_lexer.specs.declared.error.LexicalError.{LexicalError}
 use Rattle.es_lexer.specs.declared.error.LexError.{LexError}
 use Rattle.es_lexer.specs.declared.error.LexError.TheVariants.{Lexical}
-use Rattle.es_lexer.specs.Bytes.{has_line_end, is_line_end}
+use Rattle.es_lexer.specs.Bytes.{has_line_end, ends_line}
 use Rattle.es_lexer.specs.Brackets.{role_of}
 use Rattle.es_lexer.specs.Goal.{goal_of, goal_in, state_of, is_front, token_state, blank_state, line_state, comment_state, after_for, headed, divides, member}
 use Rattle.es_lexer.specs.Pieces.{Piece, blank, line_end, comment, token, Open, spelling, pieces_text, comment_spelling, place_of, count_of, behind, is_behind, line_since, open_at, bracket_of, closer_at, closer_by}
-use Rattle.es_lexer.specs.Readable.{IsByte, IsWideBlank, IsPiece, ArePieces, EndsLine}
+use Rattle.es_lexer.specs.Readable.{IsByte, IsWideBlank, IsWideLine, IsPiece, ArePieces}
 use Rattle.es_lexer.specs.Reads.{Reads, tokens_of, comments_of, range_at}
 use Rattle.es_lexer.specs.Stops.{Stops, Stuck}
 use Rattle.es_lexer.specs.Look.{look_at}
 use Rattle.es_lexer.specs.Scan as scan
 use Rattle.es_lexer.specs.Scan.{HasCommentText, comment_at}
 use Rattle.es_lexer.proofs.SpellingLemmas.{not_empty}
+use Rattle.es_lexer.proofs.LineLemmas.{StartsChar, line_starts}
 use Rattle.es_lexer.proofs.LookLemmas.{reading_of, Found, ended, piece, fault, look_finds}
 use Rattle.es_lexer.proofs.StackLemmas as stack
 
@@ -392,25 +393,19 @@ part_is x s t after at m n w p q =
     let from : drop m x ≡ t ++ after = ap (λ i. drop i x) p ∙ rest_is x s (t ++ after) at w in
     ap (take (n - m)) from ∙ take_at t after (n - m) (omega arith)
 
--- a line end is ASCII
-ascii_by : (b : ℕ) (u v : Bool) → (b == 10) ≡ u → (b == 13) ≡ v → (u || v) ≡ true → b < 128
-ascii_by b true v p q e = let n : b ≡ 10 = eqb-true b 10 p in omega arith
-ascii_by b false true p q e = let n : b ≡ 13 = eqb-true b 13 q in omega arith
-ascii_by b false false p q e = cc
-
-line_end_ascii : (b : ℕ) → is_line_end b ≡ true → b < 128
-line_end_ascii b e = ascii_by b (b == 10) (b == 13) refl refl e
-
-line_stop : (x s after : List ℕ) (at : ℕ) → at ≤ length x → drop at x ≡ s ++ after → EndsLine after
+-- a line ends where a character does
+line_boundary : (x s after : List ℕ) (at : ℕ) → at ≤ length x → drop at x ≡ s ++ after → StartsChar after
     → IsCharBoundary x (at + length s)
-line_stop x s [] at h w l =
+line_boundary x s [] at h w l =
     let e : length (drop at x) ≡ length (s ++ []) = ap length w in
     let here : at + length s ≡ length x = omega (arith, length-drop at x, length-append s []) in
     subst (IsCharBoundary x) (sym here) (IsCharBoundary-end x)
-line_stop x s (b ∷ after) at h w l =
-    let ascii : get_or x (at + length s) 0 < 128 =
-    subst (λ (c : ℕ). c < 128) (sym (byte_behind x s after at b w)) (line_end_ascii b l) in
-    IsCharBoundary-before_ascii x (at + length s) (behind_within x s after at b h w) ascii
+line_boundary x s (b ∷ after) at h w l =
+    let byte : get_or x (at + length s) 0 ≡ b = byte_behind x s after at b w in
+    let inside : at + length s < length x = behind_within x s after at b h w in (
+      omega arith,
+      λ m a. subst (λ (c : ℕ). 192 ≤ c) (sym byte) (l (subst (λ (c : ℕ). 128 ≤ c) byte a)),
+    )
 
 -- behind the two bytes that brackets a comment
 opened : (x after : List ℕ) (at a b : ℕ) → IsUtf8 x → at ≤ length x → drop at x ≡ a ∷ b ∷ after → b < 128
@@ -447,7 +442,7 @@ comment_after x at state brackets ts cs Line text u s n =
       has_text = record {
         room = omega arith;
         starts = opened x (text ++ n.after) at 47 47 u s.within cut (omega arith);
-        stops = line_stop x (47 ∷ 47 ∷ text) n.after at s.within cut n.fits.1;
+        stops = line_boundary x (47 ∷ 47 ∷ text) n.after at s.within cut (line_starts n.after n.fits.1);
       };
       goes = comment_as x at _ brackets ts cs Line text _ _ (sym is)
           (comment_goes x at state brackets ts cs Line text s n);
@@ -484,13 +479,17 @@ blank_size : (b : List ℕ) → IsByte Blank b ⊎ IsWideBlank b → 0 < length 
 blank_size b (inl h) = let e : length b ≡ 1 = ap length h.whole in omega arith
 blank_size b (inr h) = h.0
 
+line_size : (b : List ℕ) → IsByte LineEnd b ⊎ IsWideLine b → 0 < length b
+line_size b (inl h) = let e : length b ≡ 1 = ap length h.whole in omega arith
+line_size b (inr h) = h.0
+
 piece_after : (x : List ℕ) (at : ℕ) (state : State) (brackets : List OpenBracket) (ts : List Token) (cs : List Comment)
     (p : Piece) → IsUtf8 x
     → (s : SoFar x at state brackets ts cs) → Next x s.before at p → After x at state brackets ts cs (reading_of at p)
 piece_after x at state brackets ts cs (blank b) u s n =
     let size : 0 < length b = blank_size b n.fits in (omega arith, blank_goes x at state brackets ts cs b s n)
 piece_after x at state brackets ts cs (line_end b) u s n =
-    let size : length b ≡ 1 = ap length n.fits.whole in (omega arith, line_goes x at state brackets ts cs b s n)
+    let size : 0 < length b = line_size b n.fits in (omega arith, line_goes x at state brackets ts cs b s n)
 piece_after x at state brackets ts cs (comment kind text) u s n =
     comment_after x at state brackets ts cs kind text u s n
 piece_after x at state brackets ts cs (token k t) u s n =

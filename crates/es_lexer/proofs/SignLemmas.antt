@@ -89,22 +89,24 @@ is_slash kind.Slash = true
 is_slash kind.SlashEqual = true
 is_slash k = false
 
-abbrev is_regexp : TokenKind → Bool
-is_regexp kind.RegExp = true
-is_regexp k = false
+-- what no punctuator is, and may stand at some places only
+abbrev is_other : TokenKind → Bool
+is_other kind.RegExp = true
+is_other kind.Shebang = true
+is_other k = false
 
 -- a punctuator is a slash's exactly where it begins with one
 abbrev slash_right : List ℕ → TokenKind → Bool
 slash_right [] k = false
-slash_right (b ∷ s) k = (if b == 47 then is_slash k else not (is_slash k)) && not (is_regexp k)
+slash_right (b ∷ s) k = (if b == 47 then is_slash k else not (is_slash k)) && not (is_other k)
 
 slash_fits : (s : List ℕ) (k : TokenKind) → sign_kind s ≡ Some k → slash_right s k ≡ true
 unfolding signs_of_one signs_of_two signs_of_three
 slash_fits s k w = sign_passes slash_right s k refl refl refl w
 
 slash_from : (b : ℕ) (k : TokenKind) (v : Bool) → (b == 47) ≡ v → v ≡ true
-    → ((if v then is_slash k else not (is_slash k)) && not (is_regexp k)) ≡ true → is_slash k ≡ true
-slash_from b k true e t h = both_left (is_slash k) (not (is_regexp k)) h
+    → ((if v then is_slash k else not (is_slash k)) && not (is_other k)) ≡ true → is_slash k ≡ true
+slash_from b k true e t h = both_left (is_slash k) (not (is_other k)) h
 slash_from b k false e t h = cc
 
 pub slash_is_slash : (b : ℕ) (s : List ℕ) (k : TokenKind) → sign_kind (b ∷ s) ≡ Some k → b ≡ 47 → is_slash k ≡ true
@@ -406,13 +408,15 @@ sign_alone b (c ∷ d ∷ after) h =
     (λ f. refl))
 
 -- ---- a punctuator may stand
--- by its kind: a slash where `/` divides, `?.` before no digit, and no regular expression
+-- by its kind: a slash where `/` divides, `?.` before no digit, and neither a regular expression nor a shebang
 may_by : (k : TokenKind) (regexp : Bool) (after : List ℕ) (v : Bool) → ChainFits k after → (v ≡ true → regexp ≡ false)
     → (is_dot k ≡ true → begins_digit after ≡ false)
-    → ((if v then is_slash k else not (is_slash k)) && not (is_regexp k)) ≡ true → may_stand regexp k after ≡ true
+    → ((if v then is_slash k else not (is_slash k)) && not (is_other k)) ≡ true → may_stand regexp k after ≡ true
 unfolding may_stand
 may_by kind.RegExp regexp after true h r d e = cc
 may_by kind.RegExp regexp after false h r d e = cc
+may_by kind.Shebang regexp after true h r d e = cc
+may_by kind.Shebang regexp after false h r d e = cc
 may_by kind.Slash regexp after true h r d e = ap not (r refl)
 may_by kind.Slash regexp after false h r d e = cc
 may_by kind.SlashEqual regexp after true h r d e = ap not (r refl)

@@ -29,7 +29,8 @@ comment_bytes Block text = omega arith
 some_bytes : (goal : Goal) (p : Piece) (after : List ℕ) → IsPiece goal p after → 0 < length (spelling p)
 some_bytes goal (blank s) after (inl h) = let e : length s ≡ 1 = ap length h.whole in omega arith
 some_bytes goal (blank s) after (inr h) = h.0
-some_bytes goal (line_end s) after h = let e : length s ≡ 1 = ap length h.whole in omega arith
+some_bytes goal (line_end s) after (inl h) = let e : length s ≡ 1 = ap length h.whole in omega arith
+some_bytes goal (line_end s) after (inr h) = h.0
 some_bytes goal (comment kind text) after h = comment_bytes kind text
 some_bytes goal (token k []) after h = absurd (not_empty goal k h.spells)
 some_bytes goal (token k (b ∷ s)) after h = omega arith

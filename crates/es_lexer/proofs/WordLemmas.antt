@@ -22,6 +22,7 @@ is_free kind.QuestionDot = false
 is_free kind.Dot = false
 is_free kind.Number = false
 is_free kind.BigInt = false
+is_free kind.Shebang = false
 is_free k = true
 
 pub free_allows : (goal : Goal) (k : TokenKind) (after : List ℕ) → is_free k ≡ true → allows goal k after ≡ true
@@ -39,6 +40,7 @@ free_allows goal kind.QuestionDot after e = cc
 free_allows goal kind.Dot after e = cc
 free_allows goal kind.Number after e = cc
 free_allows goal kind.BigInt after e = cc
+free_allows goal kind.Shebang after e = cc
 free_allows goal k after e = refl
 
 abbrev all_free : WordTable → Bool

@@ -1,7 +1,8 @@
 -- Classes of bytes (ECMA-262, "White Space", "Line Terminators", "Names and Keywords").
 -- A character past ASCII is told by all its bytes.
-use Rattle.std.specs.Prelude.{ℕ, Bool, false, not, nat_le, ◌&&◌, ◌||◌, ◌==◌, List, [], ◌∷◌, if◌then◌else◌}
+use Rattle.std.specs.Prelude.{ℕ, Bool, true, false, not, nat_le, ◌&&◌, ◌||◌, ◌==◌, List, [], ◌∷◌, if◌then◌else◌}
 use Rattle.std.specs.Char.{is_ascii_alphabetic, is_ascii_digit}
+use Rattle.es_spelling.specs.Lines.{begins_line_end}
 use Rattle.es_wide.specs.Wide.{wide_size}
 use Rattle.es_lexer.specs.declared.bytes.First.{First}
 use Rattle.es_lexer.specs.declared.bytes.First.TheVariants.{Blank, LineEnd, Start, Quote, Slash, Backtick, Brace, Hash, Digit, Dot, Wide, Other}
@@ -10,7 +11,7 @@ use Rattle.es_lexer.specs.declared.bytes.First.TheVariants.{Blank, LineEnd, Star
 abbrev pub is_blank : ℕ → Bool
 is_blank b = b == 9 || b == 11 || b == 12 || b == 32
 
--- U+000A and U+000D
+-- U+000A and U+000D; the other line ends are U+2028 and U+2029, past ASCII
 abbrev pub is_line_end : ℕ → Bool
 is_line_end b = b == 10 || b == 13
 
@@ -62,7 +63,12 @@ has_closer (a ∷ rest) = begins_closer (a ∷ rest) || has_closer rest
 -- a line end stands somewhere in the text
 unfoldable pub has_line_end : List ℕ → Bool
 has_line_end [] = false
-has_line_end (b ∷ rest) = is_line_end b || has_line_end rest
+has_line_end (b ∷ rest) = begins_line_end (b ∷ rest) || has_line_end rest
+
+-- the text ends here, or a line end stands here
+unfoldable pub ends_line : List ℕ → Bool
+ends_line [] = true
+ends_line (b ∷ rest) = begins_line_end (b ∷ rest)
 
 -- `!` stands here
 unfoldable pub begins_mark : List ℕ → Bool

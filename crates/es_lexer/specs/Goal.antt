@@ -8,7 +8,7 @@ use Rattle.es_lexer.specs.declared.goal.SlashRule.{SlashRule}
 use Rattle.es_lexer.specs.declared.goal.SlashRule.TheVariants.{Divides, ByParenthesis, ByLine, Begins}
 use Rattle.es_token.specs.declared.token.TokenKind.{TokenKind}
 use Rattle.es_token.specs.declared.token.TokenKind.TheVariants as kind
-use Rattle.es_lexer.specs.Bytes.{begins_part}
+use Rattle.es_lexer.specs.Bytes.{begins_part, ends_line}
 use Rattle.es_lexer.specs.Brackets.{role_of, may_close}
 use Rattle.es_lexer.specs.Pieces.{Piece, blank, line_end, comment, token, Open, open_at, bracket_of, is_behind, line_since}
 
@@ -171,6 +171,7 @@ may_stand regexp kind.Slash after = not regexp
 may_stand regexp kind.SlashEqual after = not regexp
 may_stand regexp kind.QuestionDot after = not (begins_digit after)
 may_stand regexp kind.Dot after = not (begins_digit after)
+may_stand regexp kind.Shebang after = ends_line after
 may_stand regexp k after = true
 
 -- whether a token of this kind may stand there, before this text

@@ -11,14 +11,15 @@ use Rattle.es_lexer.specs.declared.look.Look.TheVariants as look
 use Rattle.es_token.specs.declared.token.CommentKind.TheVariants.{Line, Block}
 use Rattle.es_token.specs.declared.token.TokenKind.TheVariants as kind
 use Rattle.es_lexer.specs.declared.error.LexicalKind.TheVariants.{UnterminatedString, UnterminatedComment, UnterminatedTemplate, UnterminatedRegExp, InvalidEscape, InvalidChar, Unbalanced}
-use Rattle.es_lexer.specs.Bytes.{begins_part, begins_name, first_of, part_unit, is_line_end, begins_closer}
+use Rattle.es_lexer.specs.Bytes.{begins_part, begins_name, first_of, part_unit, begins_closer}
 use Rattle.es_lexer.specs.Words.{kind_at}
 use Rattle.es_lexer.specs.declared.bracket.BracketKind.TheVariants.{Template}
 use Rattle.es_spelling.specs.declared.template.TemplateEnd.{TemplateEnd}
 use Rattle.es_spelling.specs.declared.template.TemplateEnd.TheVariants.{Closes, Substitutes, Unclosed}
 use Rattle.es_spelling.specs.Templates.{template_end}
+use Rattle.es_spelling.specs.Lines.{begins_line_end}
 use Rattle.es_spelling.specs.Units.{units_end}
-use Rattle.es_wide.specs.Wide.{wide_size, wide_blank}
+use Rattle.es_wide.specs.Wide.{wide_size, wide_blank, wide_line}
 use Rattle.es_spelling.specs.RegExps.{body_end}
 use Rattle.es_spelling.specs.declared.number.NumberEnd.{NumberEnd}
 use Rattle.es_spelling.specs.Numbers.{number_end}
@@ -30,14 +31,10 @@ use Rattle.es_lexer.specs.Spelling.{template_kind, number_kind}
 use Rattle.es_lexer.specs.Brackets.{role_of, is_open, may_close}
 use Rattle.es_lexer.specs.Signs.{sign_at}
 
--- where the bytes that pass end
-unfoldable pub run_end : (ℕ → Bool) → ℕ → List ℕ → ℕ
-run_end p at [] = at
-run_end p at (b ∷ rest) = if p b then run_end p (at + 1) rest else at
-
--- what goes on along a line
-abbrev pub is_in_line : ℕ → Bool
-is_in_line b = not (is_line_end b)
+-- where the line ends
+unfoldable pub line_stop : ℕ → List ℕ → ℕ
+line_stop at [] = at
+line_stop at (b ∷ rest) = if begins_line_end (b ∷ rest) then at else line_stop (at + 1) rest
 
 -- where the parts of a name end
 unfoldable pub word_end : ℕ → List ℕ → ℕ
@@ -59,7 +56,7 @@ unfoldable pub block_look : ℕ → Bool → ℕ → List ℕ → Look
 block_look start line at [] = look.Fault UnterminatedComment start
 block_look start line at (b ∷ rest) =
     if begins_closer (b ∷ rest) then look.Comment Block (at + 2) line
-    else block_look start (line || is_line_end b) (at + 1) rest
+    else block_look start (line || begins_line_end (b ∷ rest)) (at + 1) rest
 
 -- a punctuator at `at`, where this is the innermost open bracket
 unfoldable pub sign_look : Option BracketKind → ℕ → Option Sign → Look
@@ -81,7 +78,7 @@ divide_look goal at rest =
 unfoldable pub slash_look : Goal → ℕ → List ℕ → Look
 slash_look goal at [] = divide_look goal at []
 slash_look goal at (b ∷ rest) =
-    if b == 47 then look.Comment Line (run_end is_in_line (at + 2) rest) false
+    if b == 47 then look.Comment Line (line_stop (at + 2) rest) false
     else (if b == 42 then block_look at false (at + 2) rest
     else divide_look goal at (b ∷ rest))
 
@@ -106,7 +103,7 @@ name_look at text =
 unfoldable pub hash_look : Bool → ℕ → List ℕ → Look
 hash_look front at [] = look.Fault InvalidChar at
 hash_look front at (b ∷ rest) =
-    if front && b == 33 then look.Token kind.Shebang (run_end is_in_line (at + 2) rest) else name_look at (b ∷ rest)
+    if front && b == 33 then look.Token kind.Shebang (line_stop (at + 2) rest) else name_look at (b ∷ rest)
 
 -- a number, before this text
 unfoldable pub number_stop : NumberEnd → List ℕ → Look
@@ -128,7 +125,8 @@ unfoldable pub wide_look : Goal → ℕ → List ℕ → Look
 wide_look goal at text =
     if not (wide_size text == 0) then word_look goal.member at text
     else (if not (wide_blank text == 0) then look.Blank (at + wide_blank text)
-    else look.Fault InvalidChar at)
+    else (if not (wide_line text == 0) then look.LineEnd (at + wide_line text)
+    else look.Fault InvalidChar at))
 
 -- what begins with a byte of this class at `at`, before `rest`
 unfoldable pub class_look : First → Goal → ℕ → ℕ → List ℕ → Look

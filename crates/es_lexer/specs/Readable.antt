@@ -1,14 +1,13 @@
 -- Which pieces may stand at a place (ECMA-262, "Lexical Grammar").
 use Rattle.std.specs.Prelude.{◌≡◌, ℕ, ◌<◌, true, false, List, [], ◌∷◌, ◌++◌, length, ◌⊎◌}
-use Rattle.std.specs.List.{AllByRecursion}
-use Rattle.es_wide.specs.Wide.{wide_blank}
+use Rattle.es_wide.specs.Wide.{wide_blank, wide_line}
 use Rattle.es_lexer.specs.declared.bytes.First.{First}
 use Rattle.es_lexer.specs.declared.bytes.First.TheVariants.{Blank, LineEnd}
 use Rattle.es_lexer.specs.declared.goal.Goal.{Goal}
 use Rattle.es_token.specs.declared.token.TokenKind.{TokenKind}
 use Rattle.es_token.specs.declared.token.CommentKind.{CommentKind}
 use Rattle.es_token.specs.declared.token.CommentKind.TheVariants.{Line, Block}
-use Rattle.es_lexer.specs.Bytes.{first_of, is_line_end, begins_comment, has_closer}
+use Rattle.es_lexer.specs.Bytes.{first_of, begins_comment, has_closer, has_line_end, ends_line}
 use Rattle.es_lexer.specs.Spelling.{Spells}
 use Rattle.es_lexer.specs.Goal.{goal_of, allows, stands_apart}
 use Rattle.es_lexer.specs.Pieces.{Piece, blank, line_end, comment, token, pieces_text}
@@ -26,14 +25,9 @@ pub record IsToken (goal : Goal) (k : TokenKind) (s after : List ℕ) : Type 0 w
   pub no_comment : begins_comment (s ++ after) ≡ false
   pub apart : stands_apart k after ≡ true
 
--- the text ends here, or a line end stands here
-abbrev pub EndsLine : List ℕ → Type 0
-EndsLine [] = Unit {0}
-EndsLine (b ∷ rest) = is_line_end b ≡ true
-
 -- a comment: up to the line's end, or through the first closer ("Comments")
 abbrev pub IsComment : CommentKind → List ℕ → List ℕ → Type 0
-IsComment Line text after = AllByRecursion (λ b. is_line_end b ≡ false) text × EndsLine after
+IsComment Line text after = (has_line_end text ≡ false) × (ends_line after ≡ true)
 IsComment Block text after = has_closer (text ++ 42 ∷ []) ≡ false
 
 -- one byte of this class
@@ -46,10 +40,14 @@ pub record IsByte (class : First) (s : List ℕ) : Type 0 where
 abbrev pub IsWideBlank : List ℕ → Type 0
 IsWideBlank s = (0 < length s) × (wide_blank s ≡ length s)
 
+-- a line end past ASCII
+abbrev pub IsWideLine : List ℕ → Type 0
+IsWideLine s = (0 < length s) × (wide_line s ≡ length s)
+
 -- the piece may stand before this text
 abbrev pub IsPiece : Goal → Piece → List ℕ → Type 0
 IsPiece goal (blank s) after = IsByte Blank s ⊎ IsWideBlank s
-IsPiece goal (line_end s) after = IsByte LineEnd s
+IsPiece goal (line_end s) after = IsByte LineEnd s ⊎ IsWideLine s
 IsPiece goal (comment kind text) after = IsComment kind text after
 IsPiece goal (token k s) after = IsToken goal k s after
 

@@ -1,10 +1,9 @@
 -- Which texts spell a token, by its kind (ECMA-262, "Tokens").
 use Rattle.std.specs.Prelude.{◌≡◌, ℕ, Bool, true, false, List, [], ◌∷◌, ◌++◌, Some}
-use Rattle.std.specs.List.{AllByRecursion}
 use Rattle.es_lexer.specs.declared.goal.Goal.{Goal}
 use Rattle.es_token.specs.declared.token.TokenKind.{TokenKind}
 use Rattle.es_token.specs.declared.token.TokenKind.TheVariants.{Shebang, Str, RegExp, Number, BigInt, PrivateName, TemplateWhole, TemplateHead, TemplateMiddle, TemplateTail}
-use Rattle.es_lexer.specs.Bytes.{is_line_end, part_unit, begins_comment, begins_name}
+use Rattle.es_lexer.specs.Bytes.{has_line_end, part_unit, begins_comment, begins_name}
 use Rattle.es_lexer.specs.Words.{kind_at}
 use Rattle.es_lexer.specs.Signs.{sign_kind}
 use Rattle.es_spelling.specs.Units.{concat, AreUnits}
@@ -66,5 +65,5 @@ pub data Spells (goal : Goal) (k : TokenKind) (s : List ℕ) : Type 0 where
   number : (big : Bool) → IsNumber big s → k ≡ number_kind big → Spells goal k s
   regexp : IsRegExp s → k ≡ RegExp → Spells goal k s
   -- up to the line's end ("Hashbang Comments")
-  shebang : (text : List ℕ) → AllByRecursion (λ b. is_line_end b ≡ false) text → goal.front ≡ true → s ≡ 35 ∷ 33 ∷ text
-      → k ≡ Shebang → Spells goal k s
+  shebang : (text : List ℕ) → has_line_end text ≡ false → goal.front ≡ true → s ≡ 35 ∷ 33 ∷ text → k ≡ Shebang
+      → Spells goal k s

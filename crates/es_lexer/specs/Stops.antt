@@ -12,7 +12,7 @@ use Rattle.es_lexer.specs.Brackets.{role_of, is_open, may_close}
 use Rattle.es_lexer.specs.Signs.{sign_kind}
 use Rattle.es_lexer.specs.Spelling.{template_start}
 use Rattle.es_spelling.specs.Units.{concat}
-use Rattle.es_wide.specs.Wide.{wide_size, wide_blank}
+use Rattle.es_wide.specs.Wide.{wide_size, wide_blank, wide_line}
 use Rattle.es_spelling.specs.RegExps.{IsBody}
 use Rattle.es_spelling.specs.Templates.{IsUnclosed}
 use Rattle.es_literal.specs.Strings.{Begins, IsBad, IsCut}
@@ -48,9 +48,9 @@ pub data Stuck (goal : Goal) (rest : List ℕ) (at : ℕ) (kind : LexicalKind) (
   -- a character that begins nothing
   no_token : (b : ℕ) (after : List ℕ) → rest ≡ b ∷ after → first_of b ≡ Other → sign_kind (b ∷ []) ≡ None
       → kind ≡ InvalidChar → place ≡ at → Stuck goal rest at kind place
-  -- a character past ASCII that is no blank and stands in no word, or bytes that are none
+  -- bytes past ASCII that are no character
   no_character : (b : ℕ) (after : List ℕ) → rest ≡ b ∷ after → first_of b ≡ Wide → wide_size rest ≡ 0
-      → wide_blank rest ≡ 0 → kind ≡ InvalidChar → place ≡ at → Stuck goal rest at kind place
+      → wide_blank rest ≡ 0 → wide_line rest ≡ 0 → kind ≡ InvalidChar → place ≡ at → Stuck goal rest at kind place
   -- a regular expression without its end
   open_regexp : (text : List ℕ) → rest ≡ 47 ∷ text → begins_comment rest ≡ false → goal.regexp ≡ true → BeginsNoBody text
       → kind ≡ UnterminatedRegExp → place ≡ at → Stuck goal rest at kind place

@@ -1,5 +1,5 @@
 ghost use Rattle.std.specs.Prelude.{◌≡◌, ◌≤◌, length};
-ghost use Rattle.es_lexer.specs.Bytes.{begins_name, begins_part, first_of, is_line_end, is_part, is_start, part_unit};
+ghost use Rattle.es_lexer.specs.Bytes.{begins_name, begins_part, first_of, is_part, is_start, part_unit};
 
 use es_wide::wide_size;
 
@@ -54,12 +54,6 @@ fn is_part(b: u8) -> bool
     ensures { result ≡ is_part b }
 {
     matches!(b, b'a'..=b'z' | b'A'..=b'Z' | b'0'..=b'9' | b'$' | b'_')
-}
-
-pub fn is_line_end(b: u8) -> bool
-    ensures { result ≡ is_line_end b }
-{
-    b == b'\n' || b == b'\r'
 }
 
 /// The size of the part of a name that stands here, 0 where none does.

@@ -3,18 +3,20 @@ ghost use Rattle.std.specs.Bool.{OnTrue};
 ghost use Rattle.es_lexer.specs.Bytes.{begins_closer};
 ghost use Rattle.es_lexer.specs.Signs.{sign_at};
 ghost use Rattle.es_lexer.specs.Spelling.{number_kind};
-ghost use Rattle.es_lexer.specs.Look.{run_end, is_in_line, word_end, word_look, string_look, block_look, sign_look, template_look, number_stop, number_look, dot_look, brace_look, name_look, wide_look, hash_look, regexp_look, divide_look, slash_look, end_look, look_at};
+ghost use Rattle.es_lexer.specs.Look.{line_stop, word_end, word_look, string_look, block_look, sign_look, template_look, number_stop, number_look, dot_look, brace_look, name_look, wide_look, hash_look, regexp_look, divide_look, slash_look, end_look, look_at};
 
 use crate::bracket::{BracketKind, is_open, may_close, role_of};
-use crate::bytes::{First, begins_name, begins_part, first_of, is_line_end, part_unit};
+use crate::bytes::{First, begins_name, begins_part, first_of, part_unit};
 use crate::error::LexicalKind;
 use crate::goal::Goal;
 use crate::signs::{Sign, sign_at};
 use crate::words::kind_at;
 use es_literal::{StringEnd, string_from};
-use es_spelling::{NumberEnd, TemplateEnd, number_from, regexp_from, template_from};
+use es_spelling::{
+    NumberEnd, TemplateEnd, begins_line_end, number_from, regexp_from, template_from,
+};
 use es_token::{CommentKind, TokenKind};
-use es_wide::{wide_blank, wide_size};
+use es_wide::{wide_blank, wide_line, wide_size};
 
 /// What stands at a place of a text. An end is the place behind it.
 #[derive(Clone, Copy)]
@@ -211,7 +213,7 @@ fn name_from(at: usize, text: &[u8]) -> Look
     }
 }
 
-/// What begins with a character past ASCII: a word, or a blank.
+/// What begins with a character past ASCII: a word, a blank, or a line end.
 #[tactic(auto, unfolding(crate::specs::Look::wide_look))]
 fn wide_from(goal: Goal, at: usize, text: &[u8]) -> Look
     requires { at + length text.now < 2 ^ 64 }
@@ -220,9 +222,13 @@ fn wide_from(goal: Goal, at: usize, text: &[u8]) -> Look
     if wide_size(text) != 0 {
         return word_from(goal.member, at, text);
     }
-    let size = wide_blank(text);
-    if size != 0 {
-        Look::Blank { end: at + size }
+    let blank = wide_blank(text);
+    if blank != 0 {
+        return Look::Blank { end: at + blank };
+    }
+    let line = wide_line(text);
+    if line != 0 {
+        Look::LineEnd { end: at + line }
     } else {
         Look::Fault {
             kind: LexicalKind::InvalidChar,
@@ -358,7 +364,7 @@ fn block_from(start: usize, first: usize, bytes: &[u8]) -> Look
                 line_end: line,
             };
         }
-        line = line || is_line_end(*b);
+        line = line || begins_line_end(rest);
         rest = after;
         at += 1;
     }
@@ -413,15 +419,16 @@ fn word_end_from(first: usize, text: &[u8]) -> usize
     at
 }
 
-#[tactic(auto, unfolding(crate::specs::Look::run_end))]
+/// Where the line ends.
+#[tactic(auto, unfolding(crate::specs::Look::line_stop))]
 fn line_end_from(first: usize, bytes: &[u8]) -> usize
     requires { first + length bytes.now < 2 ^ 64 }
-    ensures { result ≡ run_end is_in_line first bytes.now }
+    ensures { result ≡ line_stop first bytes.now }
 {
     let mut at = first;
     let mut rest = bytes;
-    while let [b, after @ ..] = rest {
-        if is_line_end(*b) {
+    while let [_, after @ ..] = rest {
+        if begins_line_end(rest) {
             break;
         }
         rest = after;

@@ -2,7 +2,7 @@
 use Rattle.std.proofs.Common.{◌≡◌, ℕ, zero, suc, ◌≤◌, ◌<◌, Bool, true, false, not, ◌&&◌, ◌||◌, ◌==◌, eqb-true, nat_le, List, [], ◌∷◌, ◌++◌, length, if◌then◌else◌, refl, sym, ◌∙◌, ap, subst, arith, ◌⊎◌, inl, inr}
 use Rattle.std.specs.List.{AllByRecursion}
 use Rattle.std.proofs.lemmas.Bool.Decides.{nat_tests}
-use Rattle.es_wide.specs.Wide.{is_blank_of_two, is_space, is_blank_of_three, is_separator, blank_of_two, blank_of_three, wide_blank, is_tail, tail_of, two_size, three_size, four_size, wide_by, wide_size}
+use Rattle.es_wide.specs.Wide.{is_blank_of_two, is_space, is_blank_of_three, is_separator, blank_of_two, blank_of_three, wide_blank, wide_line, is_tail, tail_of, two_size, three_size, four_size, wide_by, wide_size}
 
 -- ---- sizes
 pick : (v : Bool) (n m : ℕ) → (if v then n else m) ≡ n ⊎ (if v then n else m) ≡ m
@@ -156,7 +156,7 @@ three_at_most true w = omega arith
 three_at_most false true = omega arith
 three_at_most false false = omega arith
 
-blank_three_is : (a b c : ℕ) → blank_of_three a b c ≤ 3
+pub blank_three_is : (a b c : ℕ) → blank_of_three a b c ≤ 3
 unfolding blank_of_three
 blank_three_is a b c = three_at_most (is_blank_of_two a b) (is_blank_of_three a b c)
 
@@ -368,3 +368,80 @@ blank_begins a (b ∷ c ∷ s) n e =
       | inl p ↦ (two_high a b p).0
       | inr p ↦ (three_high a b c p).0
     ]
+
+-- ---- line ends
+-- what stands at the front of a text of which a line end's size is found
+pub data Line (text : List ℕ) (size : ℕ) : Type 0 where
+  line_separator : (after : List ℕ) → text ≡ 226 ∷ 128 ∷ 168 ∷ after → size ≡ 3 → Line text size
+  paragraph_separator : (after : List ℕ) → text ≡ 226 ∷ 128 ∷ 169 ∷ after → size ≡ 3 → Line text size
+
+line_by : (a b c : ℕ) (rest : List ℕ) (t u v w : Bool) → (a == 226) ≡ t → (b == 128) ≡ u → (c == 168) ≡ v
+    → (c == 169) ≡ w → (t && (u && (v || w))) ≡ true → Line (a ∷ b ∷ c ∷ rest) 3
+line_by a b c rest true true true w p q r s e =
+    let x : a ≡ 226 = eqb-true a 226 p in
+    let y : b ≡ 128 = eqb-true b 128 q in
+    let z : c ≡ 168 = eqb-true c 168 r in
+    let w : a ∷ b ∷ c ∷ rest ≡ 226 ∷ 128 ∷ 168 ∷ rest = cc in line_separator rest w refl
+line_by a b c rest true true false true p q r s e =
+    let x : a ≡ 226 = eqb-true a 226 p in
+    let y : b ≡ 128 = eqb-true b 128 q in
+    let z : c ≡ 169 = eqb-true c 169 s in
+    let w : a ∷ b ∷ c ∷ rest ≡ 226 ∷ 128 ∷ 169 ∷ rest = cc in paragraph_separator rest w refl
+line_by a b c rest true true false false p q r s e = cc
+line_by a b c rest true false v w p q r s e = cc
+line_by a b c rest false u v w p q r s e = cc
+
+separator_line : (a b c : ℕ) (rest : List ℕ) → is_separator a b c ≡ true → Line (a ∷ b ∷ c ∷ rest) 3
+unfolding is_separator
+separator_line a b c rest e =
+    line_by a b c rest (a == 226) (b == 128) (c == 168) (c == 169) refl refl refl refl e
+
+line_of : (a b c n : ℕ) (rest : List ℕ) (v : Bool) → is_separator a b c ≡ v → (if v then 3 else 0) ≡ suc n
+    → Line (a ∷ b ∷ c ∷ rest) (suc n)
+line_of a b c n rest true p e = subst (Line (a ∷ b ∷ c ∷ rest)) e (separator_line a b c rest p)
+line_of a b c n rest false p e = absurd (omega arith)
+
+pub line_is : (text : List ℕ) (n : ℕ) → wide_line text ≡ suc n → Line text (suc n)
+unfolding wide_line
+line_is [] n e = absurd (omega arith)
+line_is (a ∷ []) n e = absurd (omega arith)
+line_is (a ∷ b ∷ []) n e = absurd (omega arith)
+line_is (a ∷ b ∷ c ∷ rest) n e = line_of a b c n rest (is_separator a b c) refl e
+
+-- it stands in no word and is no blank
+no_char : (text : List ℕ) (n : ℕ) → Line text n → wide_size text ≡ 0
+unfolding wide_size wide_by tail_of three_size is_tail is_separator is_blank_of_three is_space
+no_char text n (line_separator after w e) = rw w refl
+no_char text n (paragraph_separator after w e) = rw w refl
+
+pub line_no_char : (text : List ℕ) (n : ℕ) → wide_line text ≡ suc n → wide_size text ≡ 0
+line_no_char text n e = no_char text (suc n) (line_is text n e)
+
+no_blank : (text : List ℕ) (n : ℕ) → Line text n → wide_blank text ≡ 0
+unfolding wide_blank blank_of_three is_blank_of_two is_blank_of_three is_space
+no_blank text n (line_separator after w e) = rw w refl
+no_blank text n (paragraph_separator after w e) = rw w refl
+
+pub line_no_blank : (text : List ℕ) (n : ℕ) → wide_line text ≡ suc n → wide_blank text ≡ 0
+line_no_blank text n e = no_blank text (suc n) (line_is text n e)
+
+-- it is one before any text
+line_at_most : (v : Bool) → (if v then 3 else 0) ≤ 3
+line_at_most true = omega arith
+line_at_most false = omega arith
+
+pub line_local : (s after : List ℕ) → 0 < length s → wide_line s ≡ length s → wide_line (s ++ after) ≡ length s
+unfolding wide_line
+line_local [] after l e = absurd (omega arith)
+line_local (a ∷ []) after l e = absurd (omega arith)
+line_local (a ∷ b ∷ []) after l e = absurd (omega arith)
+line_local (a ∷ b ∷ c ∷ []) after l e = e
+line_local (a ∷ b ∷ c ∷ d ∷ s) after l e =
+    absurd (let m : (if is_separator a b c then 3 else 0) ≤ 3 = line_at_most (is_separator a b c) in omega arith)
+
+begins_by : (a : ℕ) (s : List ℕ) (n : ℕ) → Line (a ∷ s) n → 192 ≤ a
+begins_by a s n (line_separator after w e) = let same : a ≡ 226 = cc in omega arith
+begins_by a s n (paragraph_separator after w e) = let same : a ≡ 226 = cc in omega arith
+
+pub line_begins : (a : ℕ) (s : List ℕ) (n : ℕ) → wide_line (a ∷ s) ≡ suc n → 192 ≤ a
+line_begins a s n e = begins_by a s (suc n) (line_is (a ∷ s) n e)

@@ -1,5 +1,5 @@
--- Characters past ASCII by their bytes: blanks (ECMA-262, "White Space"), and those that stand in words ("Names and
--- Keywords"), which are all others but the line ends.
+-- Characters past ASCII by their bytes: blanks (ECMA-262, "White Space"), line ends ("Line Terminators"), and those that
+-- stand in words ("Names and Keywords"), which are all others.
 use Rattle.std.specs.Prelude.{ℕ, zero, suc, Bool, not, ◌&&◌, ◌||◌, ◌==◌, nat_le, List, [], ◌∷◌, if◌then◌else◌}
 
 -- U+00A0
@@ -32,6 +32,13 @@ wide_blank [] = 0
 wide_blank (a ∷ []) = 0
 wide_blank (a ∷ b ∷ []) = blank_of_two a b
 wide_blank (a ∷ b ∷ c ∷ rest) = blank_of_three a b c
+
+-- the size of the line end past ASCII that stands here, U+2028 or U+2029, or 0
+unfoldable pub wide_line : List ℕ → ℕ
+wide_line [] = 0
+wide_line (a ∷ []) = 0
+wide_line (a ∷ b ∷ []) = 0
+wide_line (a ∷ b ∷ c ∷ rest) = if is_separator a b c then 3 else 0
 
 -- ---- characters of words
 -- a further byte of a character

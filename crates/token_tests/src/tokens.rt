@@ -231,7 +231,15 @@ fn texts_past_ascii_are_read(rt: HostRuntime) -> Result<(), Fail> {
             "\u{feff}a\u{a0}b\u{2003}c\u{202f}\u{3000}",
             "Name 3-4, Name 6-7, Name 10-11, ",
         ),
-        ("a\u{2028}b", "InvalidChar at byte 1"),
+        (
+            "a\u{2028}b;\u{2029}\u{2028}/c/",
+            "Name 0-1, *Name 4-5, Semicolon 5-6, *RegExp 12-15, ",
+        ),
+        (
+            "a//b\u{2028}c/*\u{2029}*/d",
+            "Name 0-1, *Name 7-8, *Name 15-16, line 1-4 [b], block 8-15 [\u{2029}], ",
+        ),
+        ("#!a\u{2029}b", "Shebang 0-3, *Name 6-7, "),
         ("1\u{e9}", "InvalidChar at byte 1"),
         ("/a/\u{e9}g", "RegExp 0-6, "),
         ("'\u{e9}' // \u{20ac}", "Str 0-4, line 5-11 [ \u{20ac}], "),
