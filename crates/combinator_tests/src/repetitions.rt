@@ -2,9 +2,9 @@ ghost use Rattle.std.specs.Prelude.{◌<◌, length, IfOk};
 ghost use Rattle.monch_core.specs.Outcome.{IsSuffix};
 
 use monch::{
-    Combinator, ParseError, ParseResult, ch, from_fn, many_till, many_till_fold, many0,
-    many0_count, many1, next_char, one_of, separated_count, separated_fold, separated_list, tag,
-    whitespace,
+    Combinator, ParseError, ParseResult, ch, delimited, from_fn, many_till, many_till_fold, many0,
+    many0_count, many1, maybe, next_char, one_of, preceded, separated_count, separated_fold,
+    separated_list, tag, whitespace,
 };
 
 /// What a list leaves, and how many values it has.
@@ -60,7 +60,6 @@ fn lists_any_number(rt: HostRuntime) {
 }
 
 #[test]
-#[tactic(auto, using(monch::proofs::Theorems::char_advances))]
 fn lists_characters_of_several_bytes(rt: HostRuntime) {
     let list = many0(rt.alloc(), ch('€'));
     assert_eq!(rt; listed(&list, "€€ß"), Some(("ß", 2)));
@@ -110,7 +109,6 @@ fn hex_digit<'a>(input: &'a str) -> ParseResult<'a, char>
 }
 
 #[test]
-#[tactic(auto, using(monch::proofs::Theorems::call_advances))]
 fn lists_what_a_function_reads(rt: HostRuntime) {
     let list = many1(rt.alloc(), from_fn(hex_digit));
     for (text, expected) in [("0aFg", Some(("g", 3))), ("g", None)] {
@@ -118,6 +116,22 @@ fn lists_what_a_function_reads(rt: HostRuntime) {
     }
     let list = many0(rt.alloc(), from_fn(|input| whitespace(input)));
     assert_eq!(rt; listed(&list, " \ta"), Some(("a", 1)));
+}
+
+#[test]
+fn lists_what_parts_read_in_turn(rt: HostRuntime) {
+    let digits = many1(rt.alloc(), one_of("0123456789"));
+    let list = many0(rt.alloc(), preceded(ch('-'), digits));
+    for (text, expected) in [("-1-23-", Some(("-", 2))), ("1", Some(("1", 0)))] {
+        assert_eq!(rt; listed(&list, text), expected);
+    }
+    let list = many1(
+        rt.alloc(),
+        delimited(maybe(ch(' ')), from_fn(hex_digit), maybe(ch(','))),
+    );
+    for (text, expected) in [("1, 2,g", Some(("g", 2))), (",1", None)] {
+        assert_eq!(rt; listed(&list, text), expected);
+    }
 }
 
 #[test]

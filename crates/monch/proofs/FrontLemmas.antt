@@ -1,14 +1,15 @@
 -- Longest fronts, character by character.
 use Rattle.std.proofs.Common.{subst, ◌≡◌, ◌≢◌, ◌↔◌, IsTrue, Contains, inl, inr, rules, ◌<◌, ◌≤◌, ◌+◌, get_or, drop, length, arith, ℕ, Bool, true, List, [], ◌∷◌, ◌++◌, refl, ap, sym, ◌∙◌, false}
-use Rattle.std.specs.Char.{encode_utf8, len_utf8}
-use Rattle.std.proofs.lemmas.Grind.{common_steps}
+use Rattle.std.specs.Char.{encode_utf8}
 use Rattle.std.specs.Str.{IsUtf8}
-use Rattle.std.proofs.lemmas.Str.{length-encode, chars_past_char}
+use Rattle.std.proofs.lemmas.Str.{chars_past_char}
 use Rattle.std.specs.Bool.{MatchBool}
 use Rattle.std.specs.List.{HoldsAt, AllWithin}
 use Rattle.std.proofs.lemmas.List.{append_assoc, append_cancel_right, drop_more}
 use Rattle.std.proofs.lemmas.List.Elements.{Contains-from_at}
 use Rattle.std.proofs.lemmas.Iterator.Search.{true_from_Any}
+pub use Rattle.monch_repeat.specs.Advance.{shorter_behind}
+pub use Rattle.monch.specs.Advance.{behind_is_shorter}
 use Rattle.monch.specs.Leaves.{PassesOnlyAscii, EachPasses, IsPassingFront, StopsAtChar, IsPassingBytes, StopsAtByte}
 
 -- where the first character stops it, the front is empty
@@ -27,13 +28,6 @@ IsPassingFront-more test text behind front rest c cut passes more = record {
   split = cut ∙ ap (λ x. encode_utf8 c ++ x) more.split ∙ sym (append_assoc (encode_utf8 c) front rest);
   stops = more.stops;
 }
-
--- behind its first character a text is shorter
-pub behind_is_shorter : (text behind : List ℕ) (c : ℕ) → text ≡ encode_utf8 c ++ behind → length behind < length text
-behind_is_shorter text behind c cut =
-    let width = length-encode c in
-    let some : 0 < len_utf8 c = grind arith in
-    grind (arith, common_steps)
 
 -- what passes one test passes another that says the same
 pub EachPasses-map : (test other : ℕ → Bool → Type 0) (cs : List ℕ)

@@ -1,20 +1,15 @@
 -- The laws that other crates and the README name.
-use Rattle.std.proofs.Common.{◌≡◌, ◌≢◌, ◌<◌, ◌≤◌, Result, Ok, Err, IfOk, ℕ, Bool, List, [], ◌∷◌, ◌++◌, length, refl, ap, subst, sym, inl, inr, arith}
-use Rattle.std.specs.Fn.{Shared}
+use Rattle.std.proofs.Common.{◌≡◌, ◌<◌, Result, Ok, Err, IfOk, ℕ, Bool, List, [], ◌∷◌, ◌++◌, length, refl, ap, subst, sym, inl, inr}
 use Rattle.std.specs.Prelude.{⊤}
-use Rattle.monch_core.specs.Outcome.{backtrack, no_memory, Outcome, success, refused, Meaning, IsSuffix, LeavesSuffix}
-use Rattle.monch_core.specs.Suffix.{success_is_not_refused}
+use Rattle.monch_core.specs.Outcome.{backtrack, Outcome, refused, Meaning, IsSuffix, LeavesSuffix, Advances}
 use Rattle.std.specs.Borrow.{Bor}
 use Rattle.monch_core.specs.declared.error.ParseError.{ParseError}
 use Rattle.monch_core.specs.Seen.{seen}
-use Rattle.monch.proofs.FrontLemmas.{behind_is_shorter}
-use Rattle.monch_repeat.proofs.AdvanceLemmas.{shorter_behind, IsSuffix-length}
-use Rattle.monch_repeat.specs.Repeat.{Advances, TakesNoMemory}
+use Rattle.monch_repeat.specs.Repeat.{TakesNoMemory}
 use Rattle.monch.specs.First.{AnswersAsFirst, EachBacktracks, first, none}
 use Rattle.monch.specs.Leaves.{GivesChar, GivesOneOf, GivesTag, GivesNextChar, GivesSkipWhile, GivesTakeWhile, GivesSkipBytes, GivesTakeBytes, GivesWhitespace}
-use Rattle.monch.specs.Parts.{GivesFirst, GivesMaybe, GivesPair, GivesPreceded, GivesTerminated, GivesDelimited, GivesMapped, GivesIf, GivesSubstring, IsSettled}
-use Rattle.monch.specs.Calls.{GivesCall, AnswersShorter}
-use Rattle.monch.specs.Suffix.{rest_of, GivesTerminated-suffix}
+use Rattle.monch.specs.Parts.{GivesFirst, GivesMaybe, GivesPair, GivesSubstring, IsSettled}
+pub use Rattle.monch.specs.Advance.{char_advances, one_of_advances, next_char_advances, tag_advances, call_advances, pair_advances, pair_advances_behind, preceded_advances, preceded_advances_behind, terminated_advances, terminated_advances_behind, delimited_advances, delimited_advances_between, delimited_advances_behind, map_advances, if_advances, first_advances}
 
 -- ---- the first alternative that does not backtrack
 
@@ -113,102 +108,9 @@ pub suffix_of_result : {O : Type 0} (part : Meaning O) → LeavesSuffix part
 suffix_of_result part leaves text (Ok p) given = leaves text p.0.now p.1 given
 suffix_of_result part leaves text (Err e) given = tt
 
--- ---- items of a repetition: what each success leaves is shorter than the text
-
--- a character
-pub char_advances : (c : ℕ) → Advances (GivesChar c)
-char_advances c text rest value given = behind_is_shorter text rest c given.1
-
--- one of several characters
-pub one_of_advances : (characters : List ℕ) → Advances (GivesOneOf characters)
-one_of_advances characters text rest value given = behind_is_shorter text rest value given.1
-
--- any character
-pub next_char_advances : Advances GivesNextChar
-next_char_advances text rest value given = behind_is_shorter text rest value given
-
--- a tag that isn't empty
-pub tag_advances : (tag : List ℕ) → tag ≢ [] → Advances (GivesTag tag)
-tag_advances tag some text rest value given = shorter_behind tag rest text some given.1
-
--- a function that says so of itself
-pub call_advances : {F O : Type 0} (calls : Shared F (Bor (List ℕ) × Unit {0}) (Result (Bor (List ℕ) × O) ParseError))
-    (f : F)
-    → AnswersShorter calls f → Advances (GivesCall calls f)
-call_advances calls f shorter text rest value (Ok p, called, is) =
-    subst (λ x. length x < length text) (ap (rest_of text) is) (shorter text (Ok p) called)
-call_advances calls f shorter text rest value (Err e, called, is) = elim (success_is_not_refused (sym is)) [ ]
-
 -- what a result of the part leaves is shorter, as a function is to say of itself
 pub shorter_of_result : {O : Type 0} (part : Meaning O) → Advances part
     → (text : List ℕ) (r : Result (Bor (List ℕ) × O) ParseError) → part text (seen r)
     → IfOk r (λ p. length p.0.now < length text)
 shorter_of_result part advances text (Ok p) given = advances text p.0.now p.1 given
 shorter_of_result part advances text (Err e) given = tt
-
--- two parts, one behind the other, of which the first or the second advances
-module _ {A B : Type 0} (one : Meaning A) (other : Meaning B) where
-  first_shorter : Advances one → LeavesSuffix other → (text mid rest : List ℕ) (v : A) (w : B)
-      → one text (success mid v) → other mid (success rest w) → length rest < length text
-  first_shorter advances leaves text mid rest v w a b =
-      let shorter = advances text mid v a in
-      let not_longer = IsSuffix-length rest mid (leaves mid rest w b) in
-      omega arith
-
-  second_shorter : LeavesSuffix one → Advances other → (text mid rest : List ℕ) (v : A) (w : B)
-      → one text (success mid v) → other mid (success rest w) → length rest < length text
-  second_shorter leaves advances text mid rest v w a b =
-      let shorter = advances mid rest w b in
-      let not_longer = IsSuffix-length mid text (leaves text mid v a) in
-      omega arith
-
-  pub pair_advances : Advances one → LeavesSuffix other → Advances (GivesPair one other)
-  pair_advances advances leaves text rest value given =
-      first_shorter advances leaves text given.0 rest value.0 value.1 given.1 given.2
-
-  pub pair_advances_behind : LeavesSuffix one → Advances other → Advances (GivesPair one other)
-  pair_advances_behind leaves advances text rest value given =
-      second_shorter leaves advances text given.0 rest value.0 value.1 given.1 given.2
-
-  pub preceded_advances : Advances one → LeavesSuffix other → Advances (GivesPreceded one other)
-  preceded_advances advances leaves text rest value given =
-      first_shorter advances leaves text given.0 rest given.1 value given.2 given.3
-
-  pub preceded_advances_behind : LeavesSuffix one → Advances other → Advances (GivesPreceded one other)
-  preceded_advances_behind leaves advances text rest value given =
-      second_shorter leaves advances text given.0 rest given.1 value given.2 given.3
-
-  pub terminated_advances : Advances one → LeavesSuffix other → Advances (GivesTerminated one other)
-  terminated_advances advances leaves text rest value given =
-      first_shorter advances leaves text given.0 rest value given.1 given.2 given.3
-
-  pub terminated_advances_behind : LeavesSuffix one → Advances other → Advances (GivesTerminated one other)
-  terminated_advances_behind leaves advances text rest value given =
-      second_shorter leaves advances text given.0 rest value given.1 given.2 given.3
-
--- three parts, of which the first, the second or the third advances
-module _ {A B C : Type 0} (one : Meaning A) (two : Meaning B) (three : Meaning C) where
-  pub delimited_advances : Advances one → LeavesSuffix two → LeavesSuffix three
-      → Advances (GivesDelimited one two three)
-  delimited_advances advances leaves last =
-      preceded_advances one (GivesTerminated two three) advances (GivesTerminated-suffix two three leaves last)
-
-  pub delimited_advances_between : LeavesSuffix one → Advances two → LeavesSuffix three
-      → Advances (GivesDelimited one two three)
-  delimited_advances_between leaves advances last =
-      preceded_advances_behind one (GivesTerminated two three) leaves (terminated_advances two three advances last)
-
-  pub delimited_advances_behind : LeavesSuffix one → LeavesSuffix two → Advances three
-      → Advances (GivesDelimited one two three)
-  delimited_advances_behind leaves between advances =
-      preceded_advances_behind one (GivesTerminated two three) leaves
-      (terminated_advances_behind two three between advances)
-
--- a function of the value, and a condition on it, change nothing of that
-pub map_advances : {A B : Type 0} (part : Meaning A) (calls : A → B → Type 0) → Advances part
-    → Advances (GivesMapped part calls)
-map_advances part calls advances text rest value given = advances text rest given.0 given.1
-
-pub if_advances : {A : Type 0} (part : Meaning A) (test : A → Bool → Type 0) → Advances part
-    → Advances (GivesIf part test)
-if_advances part test advances text rest value given = advances text rest value given.0

@@ -11,3 +11,4 @@ pub mod Calls
 pub mod Handled
 pub mod First
 pub mod Suffix
+pub mod Advance

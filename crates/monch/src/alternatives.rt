@@ -1,6 +1,7 @@
 ghost use Rattle.std.specs.Prelude.{[], ◌∷◌};
 ghost use Rattle.monch.specs.Parts.{GivesFirst};
 ghost use Rattle.monch.specs.Suffix.{GivesFirst-suffix};
+ghost use Rattle.monch.specs.Advance.{first_advances};
 
 use crate::choices::Or;
 use monch_core::{Combinator, ParseError, ParseResult};
@@ -24,6 +25,8 @@ impl<
 
     ghost gives = { λ s text outcome. GivesFirst (A.gives s.first ∷ B.gives s.rest.first ∷ C.gives s.rest.second ∷ []) text outcome };
 
+    ghost advances = { λ s. A.advances s.first × B.advances s.rest.first × C.advances s.rest.second };
+
     fn parse(&self, input: &'a str) -> ParseResult<'a, A::Output> {
         match self.first.parse(input) {
             Err(ParseError::Backtrace) => self.rest.parse(input),
@@ -32,6 +35,8 @@ impl<
     }
 
     ghost leaves_suffix = { λ s can. GivesFirst-suffix (A.gives s.first ∷ B.gives s.rest.first ∷ C.gives s.rest.second ∷ []) (A.leaves_suffix s.first can.0, (B.leaves_suffix s.rest.first can.1, (C.leaves_suffix s.rest.second can.2, tt))) };
+
+    ghost leaves_less = { λ s can told. first_advances (A.gives s.first ∷ B.gives s.rest.first ∷ C.gives s.rest.second ∷ []) (A.leaves_less s.first can.0 told.0, (B.leaves_less s.rest.first can.1 told.1, (C.leaves_less s.rest.second can.2 told.2, tt))) };
 }
 
 /// What `or4` answers: the first of four alternatives that does not backtrack.
@@ -54,6 +59,8 @@ impl<
 
     ghost gives = { λ s text outcome. GivesFirst (A.gives s.first ∷ B.gives s.rest.first ∷ C.gives s.rest.rest.first ∷ D.gives s.rest.rest.second ∷ []) text outcome };
 
+    ghost advances = { λ s. A.advances s.first × B.advances s.rest.first × C.advances s.rest.rest.first × D.advances s.rest.rest.second };
+
     fn parse(&self, input: &'a str) -> ParseResult<'a, A::Output> {
         match self.first.parse(input) {
             Err(ParseError::Backtrace) => self.rest.parse(input),
@@ -62,6 +69,8 @@ impl<
     }
 
     ghost leaves_suffix = { λ s can. GivesFirst-suffix (A.gives s.first ∷ B.gives s.rest.first ∷ C.gives s.rest.rest.first ∷ D.gives s.rest.rest.second ∷ []) (A.leaves_suffix s.first can.0, (B.leaves_suffix s.rest.first can.1, (C.leaves_suffix s.rest.rest.first can.2, (D.leaves_suffix s.rest.rest.second can.3, tt)))) };
+
+    ghost leaves_less = { λ s can told. first_advances (A.gives s.first ∷ B.gives s.rest.first ∷ C.gives s.rest.rest.first ∷ D.gives s.rest.rest.second ∷ []) (A.leaves_less s.first can.0 told.0, (B.leaves_less s.rest.first can.1 told.1, (C.leaves_less s.rest.rest.first can.2 told.2, (D.leaves_less s.rest.rest.second can.3 told.3, tt)))) };
 }
 
 /// What `or5` answers: the first of five alternatives that does not backtrack.
@@ -85,6 +94,8 @@ impl<
 
     ghost gives = { λ s text outcome. GivesFirst (A.gives s.first ∷ B.gives s.rest.first ∷ C.gives s.rest.rest.first ∷ D.gives s.rest.rest.rest.first ∷ E.gives s.rest.rest.rest.second ∷ []) text outcome };
 
+    ghost advances = { λ s. A.advances s.first × B.advances s.rest.first × C.advances s.rest.rest.first × D.advances s.rest.rest.rest.first × E.advances s.rest.rest.rest.second };
+
     fn parse(&self, input: &'a str) -> ParseResult<'a, A::Output> {
         match self.first.parse(input) {
             Err(ParseError::Backtrace) => self.rest.parse(input),
@@ -93,6 +104,8 @@ impl<
     }
 
     ghost leaves_suffix = { λ s can. GivesFirst-suffix (A.gives s.first ∷ B.gives s.rest.first ∷ C.gives s.rest.rest.first ∷ D.gives s.rest.rest.rest.first ∷ E.gives s.rest.rest.rest.second ∷ []) (A.leaves_suffix s.first can.0, (B.leaves_suffix s.rest.first can.1, (C.leaves_suffix s.rest.rest.first can.2, (D.leaves_suffix s.rest.rest.rest.first can.3, (E.leaves_suffix s.rest.rest.rest.second can.4, tt))))) };
+
+    ghost leaves_less = { λ s can told. first_advances (A.gives s.first ∷ B.gives s.rest.first ∷ C.gives s.rest.rest.first ∷ D.gives s.rest.rest.rest.first ∷ E.gives s.rest.rest.rest.second ∷ []) (A.leaves_less s.first can.0 told.0, (B.leaves_less s.rest.first can.1 told.1, (C.leaves_less s.rest.rest.first can.2 told.2, (D.leaves_less s.rest.rest.rest.first can.3 told.3, (E.leaves_less s.rest.rest.rest.second can.4 told.4, tt))))) };
 }
 
 /// What `or6` answers: the first of six alternatives that does not backtrack.
@@ -117,6 +130,8 @@ impl<
 
     ghost gives = { λ s text outcome. GivesFirst (A.gives s.first ∷ B.gives s.rest.first ∷ C.gives s.rest.rest.first ∷ D.gives s.rest.rest.rest.first ∷ E.gives s.rest.rest.rest.rest.first ∷ F.gives s.rest.rest.rest.rest.second ∷ []) text outcome };
 
+    ghost advances = { λ s. A.advances s.first × B.advances s.rest.first × C.advances s.rest.rest.first × D.advances s.rest.rest.rest.first × E.advances s.rest.rest.rest.rest.first × F.advances s.rest.rest.rest.rest.second };
+
     fn parse(&self, input: &'a str) -> ParseResult<'a, A::Output> {
         match self.first.parse(input) {
             Err(ParseError::Backtrace) => self.rest.parse(input),
@@ -125,6 +140,8 @@ impl<
     }
 
     ghost leaves_suffix = { λ s can. GivesFirst-suffix (A.gives s.first ∷ B.gives s.rest.first ∷ C.gives s.rest.rest.first ∷ D.gives s.rest.rest.rest.first ∷ E.gives s.rest.rest.rest.rest.first ∷ F.gives s.rest.rest.rest.rest.second ∷ []) (A.leaves_suffix s.first can.0, (B.leaves_suffix s.rest.first can.1, (C.leaves_suffix s.rest.rest.first can.2, (D.leaves_suffix s.rest.rest.rest.first can.3, (E.leaves_suffix s.rest.rest.rest.rest.first can.4, (F.leaves_suffix s.rest.rest.rest.rest.second can.5, tt)))))) };
+
+    ghost leaves_less = { λ s can told. first_advances (A.gives s.first ∷ B.gives s.rest.first ∷ C.gives s.rest.rest.first ∷ D.gives s.rest.rest.rest.first ∷ E.gives s.rest.rest.rest.rest.first ∷ F.gives s.rest.rest.rest.rest.second ∷ []) (A.leaves_less s.first can.0 told.0, (B.leaves_less s.rest.first can.1 told.1, (C.leaves_less s.rest.rest.first can.2 told.2, (D.leaves_less s.rest.rest.rest.first can.3 told.3, (E.leaves_less s.rest.rest.rest.rest.first can.4 told.4, (F.leaves_less s.rest.rest.rest.rest.second can.5 told.5, tt)))))) };
 }
 
 /// What `or7` answers: the first of seven alternatives that does not backtrack.
@@ -150,6 +167,8 @@ impl<
 
     ghost gives = { λ s text outcome. GivesFirst (A.gives s.first ∷ B.gives s.rest.first ∷ C.gives s.rest.rest.first ∷ D.gives s.rest.rest.rest.first ∷ E.gives s.rest.rest.rest.rest.first ∷ F.gives s.rest.rest.rest.rest.rest.first ∷ G.gives s.rest.rest.rest.rest.rest.second ∷ []) text outcome };
 
+    ghost advances = { λ s. A.advances s.first × B.advances s.rest.first × C.advances s.rest.rest.first × D.advances s.rest.rest.rest.first × E.advances s.rest.rest.rest.rest.first × F.advances s.rest.rest.rest.rest.rest.first × G.advances s.rest.rest.rest.rest.rest.second };
+
     fn parse(&self, input: &'a str) -> ParseResult<'a, A::Output> {
         match self.first.parse(input) {
             Err(ParseError::Backtrace) => self.rest.parse(input),
@@ -158,4 +177,6 @@ impl<
     }
 
     ghost leaves_suffix = { λ s can. GivesFirst-suffix (A.gives s.first ∷ B.gives s.rest.first ∷ C.gives s.rest.rest.first ∷ D.gives s.rest.rest.rest.first ∷ E.gives s.rest.rest.rest.rest.first ∷ F.gives s.rest.rest.rest.rest.rest.first ∷ G.gives s.rest.rest.rest.rest.rest.second ∷ []) (A.leaves_suffix s.first can.0, (B.leaves_suffix s.rest.first can.1, (C.leaves_suffix s.rest.rest.first can.2, (D.leaves_suffix s.rest.rest.rest.first can.3, (E.leaves_suffix s.rest.rest.rest.rest.first can.4, (F.leaves_suffix s.rest.rest.rest.rest.rest.first can.5, (G.leaves_suffix s.rest.rest.rest.rest.rest.second can.6, tt))))))) };
+
+    ghost leaves_less = { λ s can told. first_advances (A.gives s.first ∷ B.gives s.rest.first ∷ C.gives s.rest.rest.first ∷ D.gives s.rest.rest.rest.first ∷ E.gives s.rest.rest.rest.rest.first ∷ F.gives s.rest.rest.rest.rest.rest.first ∷ G.gives s.rest.rest.rest.rest.rest.second ∷ []) (A.leaves_less s.first can.0 told.0, (B.leaves_less s.rest.first can.1 told.1, (C.leaves_less s.rest.rest.first can.2 told.2, (D.leaves_less s.rest.rest.rest.first can.3 told.3, (E.leaves_less s.rest.rest.rest.rest.first can.4 told.4, (F.leaves_less s.rest.rest.rest.rest.rest.first can.5 told.5, (G.leaves_less s.rest.rest.rest.rest.rest.second can.6 told.6, tt))))))) };
 }

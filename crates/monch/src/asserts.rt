@@ -44,6 +44,8 @@ impl<
 
     ghost gives = { λ s text outcome. GivesAssert (A.gives s.part) (AnswersOn F.Fn s.condition) s.message.now text outcome };
 
+    ghost advances = { λ s. A.advances s.part };
+
     fn parse(&self, input: &'a str) -> ParseResult<'a, O> {
         let outcome = self.part.parse(input);
         if let Err(ParseError::OutOfMemory) = outcome {
@@ -56,6 +58,8 @@ impl<
     }
 
     ghost leaves_suffix = { λ s can text rest value given. A.leaves_suffix s.part can.0 _ _ _ given.0 };
+
+    ghost leaves_less = { λ s can told text rest value given. A.leaves_less s.part can.0 told text rest value given.0 };
 }
 
 /// What `assert_exists` answers: the part where it succeeds, else a failure.
@@ -73,6 +77,8 @@ impl<'a, O: Drop, A: Combinator<'a, Output = O>> Combinator<'a> for AssertExists
 
     ghost gives = { λ s text outcome. GivesAssert (A.gives s.part) (λ of answer. answer ≡ is_success of) s.message.now text outcome };
 
+    ghost advances = { λ s. A.advances s.part };
+
     fn parse(&self, input: &'a str) -> ParseResult<'a, O> {
         match self.part.parse(input) {
             Err(ParseError::Failure(failure)) => Err(told_above(self.alloc, self.message, failure)),
@@ -84,4 +90,6 @@ impl<'a, O: Drop, A: Combinator<'a, Output = O>> Combinator<'a> for AssertExists
     }
 
     ghost leaves_suffix = { λ s can text rest value given. A.leaves_suffix s.part can _ _ _ given.0 };
+
+    ghost leaves_less = { λ s can told text rest value given. A.leaves_less s.part can told text rest value given.0 };
 }

@@ -23,7 +23,7 @@ pub fn skip_whitespace<'a>(input: &'a str) -> ParseResult<'a, ()>
 }
 
 /// The longest front of white space, as Unicode has it. Where there is none it backtracks.
-#[tactic(auto, using(monch_repeat::proofs::AdvanceLemmas::shorter_behind))]
+#[tactic(auto, using(crate::proofs::FrontLemmas::shorter_behind))]
 pub fn whitespace<'a>(input: &'a str) -> ParseResult<'a, &'a str>
     ensures value { GivesWhitespace input.now (seen result) }
     ensures suffix { IfOk result (λ p. IsSuffix p.0.now input.now) }

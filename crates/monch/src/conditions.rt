@@ -52,6 +52,8 @@ impl<'a, O: IsEmptyable + Drop, A: Combinator<'a, Output = O>> Combinator<'a> fo
 
     ghost gives = { λ s text outcome. GivesIf (A.gives s.part) (λ value answer. O.holds_nothing value ≡ not answer) text outcome };
 
+    ghost advances = { λ s. A.advances s.part };
+
     fn parse(&self, input: &'a str) -> ParseResult<'a, O> {
         let (rest, value) = self.part.parse(input)?;
         if value.is_empty() {
@@ -61,6 +63,8 @@ impl<'a, O: IsEmptyable + Drop, A: Combinator<'a, Output = O>> Combinator<'a> fo
     }
 
     ghost leaves_suffix = { λ s can text rest value given. A.leaves_suffix s.part can _ _ _ given.0 };
+
+    ghost leaves_less = { λ s can told text rest value given. A.leaves_less s.part can told text rest value given.0 };
 }
 
 /// What `if_true` answers: the part's value where a condition holds of it, else a backtrack.
@@ -78,6 +82,8 @@ impl<'a, O: Drop, A: Combinator<'a, Output = O>, F: Fn(&O) -> bool> Combinator<'
 
     ghost gives = { λ s text outcome. GivesIf (A.gives s.part) (FnReturnsAt F.Fn s.condition) text outcome };
 
+    ghost advances = { λ s. A.advances s.part };
+
     fn parse(&self, input: &'a str) -> ParseResult<'a, O> {
         let (rest, value) = self.part.parse(input)?;
         if !(self.condition)(&value) {
@@ -87,6 +93,8 @@ impl<'a, O: Drop, A: Combinator<'a, Output = O>, F: Fn(&O) -> bool> Combinator<'
     }
 
     ghost leaves_suffix = { λ s can text rest value given. A.leaves_suffix s.part can.0 _ _ _ given.0 };
+
+    ghost leaves_less = { λ s can told text rest value given. A.leaves_less s.part can.0 told text rest value given.0 };
 }
 
 /// What `check_not` answers: nothing where the part backtracks or fails, a backtrack where it succeeds.
@@ -103,6 +111,8 @@ impl<'a, O: Drop, A: Combinator<'a, Output = O>> Combinator<'a> for CheckNot<'a,
 
     ghost gives = { λ s text outcome. GivesNot (A.gives s.part) text outcome };
 
+    ghost advances = { λ s. ⊥ };
+
     fn parse(&self, input: &'a str) -> ParseResult<'a, ()> {
         match self.part.parse(input) {
             Ok(_) => Err(ParseError::Backtrace),
@@ -112,4 +122,6 @@ impl<'a, O: Drop, A: Combinator<'a, Output = O>> Combinator<'a> for CheckNot<'a,
     }
 
     ghost leaves_suffix = { λ s can text rest value given. ([], sym given.0) };
+
+    ghost leaves_less = { λ s can none. Prim.absurd none };
 }

@@ -49,6 +49,8 @@ impl<'a, A: Combinator<'a>> Combinator<'a> for WithFailureInput<'a, A> {
 
     ghost gives = { λ s text outcome. GivesWithInput s.input.now (A.gives s.part) text outcome };
 
+    ghost advances = { λ s. A.advances s.part };
+
     fn parse(&self, input: &'a str) -> ParseResult<'a, A::Output> {
         match self.part.parse(input) {
             Err(ParseError::Failure(mut failure)) => {
@@ -60,6 +62,8 @@ impl<'a, A: Combinator<'a>> Combinator<'a> for WithFailureInput<'a, A> {
     }
 
     ghost leaves_suffix = { λ s can text rest value given. A.leaves_suffix s.part can _ _ _ given };
+
+    ghost leaves_less = { λ s can told text rest value given. A.leaves_less s.part can told text rest value given };
 }
 
 /// What `with_error_context` answers: the part, with a message above that of its failure.
@@ -77,6 +81,8 @@ impl<'a, A: Combinator<'a>> Combinator<'a> for WithErrorContext<'a, A> {
 
     ghost gives = { λ s text outcome. GivesWithContext s.message.now (A.gives s.part) text outcome };
 
+    ghost advances = { λ s. A.advances s.part };
+
     fn parse(&self, input: &'a str) -> ParseResult<'a, A::Output> {
         match self.part.parse(input) {
             Err(ParseError::Failure(failure)) => Err(told_above(self.alloc, self.message, failure)),
@@ -85,4 +91,6 @@ impl<'a, A: Combinator<'a>> Combinator<'a> for WithErrorContext<'a, A> {
     }
 
     ghost leaves_suffix = { λ s can text rest value given. A.leaves_suffix s.part can _ _ _ given };
+
+    ghost leaves_less = { λ s can told text rest value given. A.leaves_less s.part can told text rest value given };
 }

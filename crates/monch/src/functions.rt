@@ -1,6 +1,7 @@
 ghost use Rattle.std.specs.Prelude.{⊤};
-ghost use Rattle.monch.specs.Calls.{GivesCall, AnswersSuffix};
+ghost use Rattle.monch.specs.Calls.{GivesCall, AnswersSuffix, AnswersShorter};
 ghost use Rattle.monch.specs.Suffix.{GivesCall-suffix};
+ghost use Rattle.monch.specs.Advance.{call_advances};
 
 use monch_core::{Combinator, ParseResult};
 
@@ -17,9 +18,13 @@ impl<'a, O, F: Fn(&'a str) -> ParseResult<'a, O>> Combinator<'a> for FnCombinato
 
     ghost gives = { λ s text outcome. GivesCall F.Fn s.function text outcome };
 
+    ghost advances = { λ s. AnswersShorter F.Fn s.function };
+
     fn parse(&self, input: &'a str) -> ParseResult<'a, O> {
         (self.function)(input)
     }
 
     ghost leaves_suffix = { λ s can. GivesCall-suffix F.Fn s.function can.1 };
+
+    ghost leaves_less = { λ s can shorter. call_advances F.Fn s.function shorter };
 }

@@ -2,6 +2,7 @@ ghost use Rattle.std.specs.Prelude.{⊤, ◌↔◌, IsTrue, Contains};
 ghost use Rattle.std.proofs.Common.{rules};
 ghost use Rattle.std.specs.Str.{chars};
 ghost use Rattle.monch.specs.Leaves.{GivesChar, GivesOneOf};
+ghost use Rattle.monch.specs.Advance.{char_advances, one_of_advances};
 
 use crate::text::split_first_char;
 use monch_core::{Combinator, ParseError, ParseResult};
@@ -19,6 +20,8 @@ impl<'a> Combinator<'a> for Ch {
 
     ghost gives = { λ s text outcome. GivesChar s.character text outcome };
 
+    ghost advances = { λ s. ⊤ };
+
     fn parse(&self, input: &'a str) -> ParseResult<'a, char> {
         match input.strip_prefix(self.character) {
             Some(rest) => Ok((rest, self.character)),
@@ -27,6 +30,8 @@ impl<'a> Combinator<'a> for Ch {
     }
 
     ghost leaves_suffix = { λ s can text rest value given. (_, given.1) };
+
+    ghost leaves_less = { λ s can advances. char_advances s.character };
 }
 
 /// What `one_of` answers: one of several characters.
@@ -49,6 +54,8 @@ impl<'a, 'm> Combinator<'a> for OneOf<'m> {
 
     ghost gives = { λ s text outcome. GivesOneOf (chars s.characters.now) text outcome };
 
+    ghost advances = { λ s. ⊤ };
+
     fn parse(&self, input: &'a str) -> ParseResult<'a, char> {
         match split_first_char(input) {
             Some((first, rest)) if has_character(self.characters, first) => Ok((rest, first)),
@@ -57,4 +64,6 @@ impl<'a, 'm> Combinator<'a> for OneOf<'m> {
     }
 
     ghost leaves_suffix = { λ s can text rest value given. (_, given.1) };
+
+    ghost leaves_less = { λ s can advances. one_of_advances (chars s.characters.now) };
 }

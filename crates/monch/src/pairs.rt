@@ -1,5 +1,7 @@
+ghost use Rattle.std.specs.Prelude.{◌⊎◌};
 ghost use Rattle.monch.specs.Parts.{GivesPair, GivesPreceded, GivesTerminated, GivesDelimited};
 ghost use Rattle.monch.specs.Suffix.{GivesPair-suffix, GivesPreceded-suffix, GivesTerminated-suffix};
+ghost use Rattle.monch.specs.Advance.{pair_advances_by, preceded_advances_by, terminated_advances_by, delimited_advances_by};
 
 use monch_core::{Combinator, ParseResult};
 use std::marker::PhantomData;
@@ -22,6 +24,8 @@ where
 
     ghost gives = { λ s text outcome. GivesPair (A.gives s.first) (B.gives s.second) text outcome };
 
+    ghost advances = { λ s. A.advances s.first ⊎ B.advances s.second };
+
     fn parse(&self, input: &'a str) -> ParseResult<'a, (A::Output, B::Output)> {
         let (rest, first) = self.first.parse(input)?;
         let (rest, second) = self.second.parse(rest)?;
@@ -29,6 +33,8 @@ where
     }
 
     ghost leaves_suffix = { λ s can. GivesPair-suffix (A.gives s.first) (B.gives s.second) (A.leaves_suffix s.first can.0) (B.leaves_suffix s.second can.1) };
+
+    ghost leaves_less = { λ s can told. pair_advances_by (A.gives s.first) (B.gives s.second) (A.leaves_suffix s.first can.0) (B.leaves_suffix s.second can.1) (A.leaves_less s.first can.0) (B.leaves_less s.second can.1) told };
 }
 
 /// What `preceded` answers: two parts, one behind the other, and the value of the second.
@@ -47,12 +53,16 @@ impl<'a, O: Drop, A: Combinator<'a, Output = O>, B: Combinator<'a>> Combinator<'
 
     ghost gives = { λ s text outcome. GivesPreceded (A.gives s.first) (B.gives s.second) text outcome };
 
+    ghost advances = { λ s. A.advances s.first ⊎ B.advances s.second };
+
     fn parse(&self, input: &'a str) -> ParseResult<'a, B::Output> {
         let (rest, _) = self.first.parse(input)?;
         self.second.parse(rest)
     }
 
     ghost leaves_suffix = { λ s can. GivesPreceded-suffix (A.gives s.first) (B.gives s.second) (A.leaves_suffix s.first can.0) (B.leaves_suffix s.second can.1) };
+
+    ghost leaves_less = { λ s can told. preceded_advances_by (A.gives s.first) (B.gives s.second) (A.leaves_suffix s.first can.0) (B.leaves_suffix s.second can.1) (A.leaves_less s.first can.0) (B.leaves_less s.second can.1) told };
 }
 
 /// What `terminated` answers: two parts, one behind the other, and the value of the first.
@@ -74,6 +84,8 @@ where
 
     ghost gives = { λ s text outcome. GivesTerminated (A.gives s.first) (B.gives s.second) text outcome };
 
+    ghost advances = { λ s. A.advances s.first ⊎ B.advances s.second };
+
     fn parse(&self, input: &'a str) -> ParseResult<'a, A::Output> {
         let (rest, value) = self.first.parse(input)?;
         let (rest, _) = self.second.parse(rest)?;
@@ -81,6 +93,8 @@ where
     }
 
     ghost leaves_suffix = { λ s can. GivesTerminated-suffix (A.gives s.first) (B.gives s.second) (A.leaves_suffix s.first can.0) (B.leaves_suffix s.second can.1) };
+
+    ghost leaves_less = { λ s can told. terminated_advances_by (A.gives s.first) (B.gives s.second) (A.leaves_suffix s.first can.0) (B.leaves_suffix s.second can.1) (A.leaves_less s.first can.0) (B.leaves_less s.second can.1) told };
 }
 
 /// What `delimited` answers: three parts, one behind the other, and the value of the second.
@@ -109,6 +123,8 @@ where
 
     ghost gives = { λ s text outcome. GivesDelimited (A.gives s.first) (B.gives s.second) (C.gives s.third) text outcome };
 
+    ghost advances = { λ s. A.advances s.first ⊎ B.advances s.second ⊎ C.advances s.third };
+
     fn parse(&self, input: &'a str) -> ParseResult<'a, B::Output> {
         let (rest, _) = self.first.parse(input)?;
         let (rest, value) = self.second.parse(rest)?;
@@ -117,4 +133,6 @@ where
     }
 
     ghost leaves_suffix = { λ s can. GivesPreceded-suffix (A.gives s.first) (GivesTerminated (B.gives s.second) (C.gives s.third)) (A.leaves_suffix s.first can.0) (GivesTerminated-suffix (B.gives s.second) (C.gives s.third) (B.leaves_suffix s.second can.1) (C.leaves_suffix s.third can.2)) };
+
+    ghost leaves_less = { λ s can told. delimited_advances_by (A.gives s.first) (B.gives s.second) (C.gives s.third) (A.leaves_suffix s.first can.0) (B.leaves_suffix s.second can.1) (C.leaves_suffix s.third can.2) (A.leaves_less s.first can.0) (B.leaves_less s.second can.1) (C.leaves_less s.third can.2) told };
 }

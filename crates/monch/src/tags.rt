@@ -1,5 +1,6 @@
-ghost use Rattle.std.specs.Prelude.{⊤, string_bytes};
+ghost use Rattle.std.specs.Prelude.{◌≢◌, [], ⊤, string_bytes};
 ghost use Rattle.monch.specs.Leaves.{GivesTag};
+ghost use Rattle.monch.specs.Advance.{tag_advances};
 
 use crate::text::taken;
 use monch_core::{Combinator, ParseError, ParseResult};
@@ -17,6 +18,8 @@ impl<'a, 'm> Combinator<'a> for Tag<'m> {
 
     ghost gives = { λ s text outcome. GivesTag s.value.now text outcome };
 
+    ghost advances = { λ s. s.value.now ≢ [] };
+
     fn parse(&self, input: &'a str) -> ParseResult<'a, &'a str> {
         match input.strip_prefix(self.value) {
             Some(rest) => Ok((rest, taken(input, rest))),
@@ -25,6 +28,8 @@ impl<'a, 'm> Combinator<'a> for Tag<'m> {
     }
 
     ghost leaves_suffix = { λ s can text rest value given. (_, given.1) };
+
+    ghost leaves_less = { λ s can some. tag_advances s.value.now some };
 }
 
 /// What `tag_owned` answers: a text that is owned.
@@ -40,6 +45,8 @@ impl<'a> Combinator<'a> for TagOwned {
 
     ghost gives = { λ s text outcome. GivesTag (string_bytes s.value) text outcome };
 
+    ghost advances = { λ s. string_bytes s.value ≢ [] };
+
     fn parse(&self, input: &'a str) -> ParseResult<'a, &'a str> {
         match input.strip_prefix(self.value.as_str()) {
             Some(rest) => Ok((rest, taken(input, rest))),
@@ -48,4 +55,6 @@ impl<'a> Combinator<'a> for TagOwned {
     }
 
     ghost leaves_suffix = { λ s can text rest value given. (_, given.1) };
+
+    ghost leaves_less = { λ s can some. tag_advances (string_bytes s.value) some };
 }

@@ -22,12 +22,16 @@ where
 
     ghost gives = { λ s text outcome. GivesSubstring (A.gives s.part) text outcome };
 
+    ghost advances = { λ s. A.advances s.part };
+
     fn parse(&self, input: &'a str) -> ParseResult<'a, &'a str> {
         let (rest, _) = self.part.parse(input)?;
         Ok((rest, taken(input, rest)))
     }
 
     ghost leaves_suffix = { λ s can text rest value given. (_, given.2) };
+
+    ghost leaves_less = { λ s can told text rest value given. A.leaves_less s.part can told text rest given.0 given.1 };
 }
 
 /// What `map` answers: what a function makes of the part's value.
@@ -45,10 +49,14 @@ impl<'a, O, A: Combinator<'a, Output = O>, R, F: Fn(O) -> R> Combinator<'a> for 
 
     ghost gives = { λ s text outcome. GivesMapped (A.gives s.part) (F.post s.function) text outcome };
 
+    ghost advances = { λ s. A.advances s.part };
+
     fn parse(&self, input: &'a str) -> ParseResult<'a, R> {
         let (rest, value) = self.part.parse(input)?;
         Ok((rest, (self.function)(value)))
     }
 
     ghost leaves_suffix = { λ s can text rest value given. A.leaves_suffix s.part can.0 _ _ _ given.1 };
+
+    ghost leaves_less = { λ s can told text rest value given. A.leaves_less s.part can.0 told text rest given.0 given.1 };
 }

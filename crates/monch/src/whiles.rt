@@ -32,11 +32,15 @@ impl<'a, F: Fn(char) -> bool> Combinator<'a> for SkipWhile<F> {
 
     ghost gives = { λ s text outcome. GivesSkipWhile (F.post s.condition) text outcome };
 
+    ghost advances = { λ s. ⊥ };
+
     fn parse(&self, input: &'a str) -> ParseResult<'a, ()> {
         Ok((behind_passing(input, &self.condition), ()))
     }
 
     ghost leaves_suffix = { λ s can text rest value given. (given.0, given.1.split) };
+
+    ghost leaves_less = { λ s can none. Prim.absurd none };
 }
 
 /// What `take_while` answers: the longest front of characters on which a condition holds, as a slice.
@@ -52,12 +56,16 @@ impl<'a, F: Fn(char) -> bool> Combinator<'a> for TakeWhile<F> {
 
     ghost gives = { λ s text outcome. GivesTakeWhile (F.post s.condition) text outcome };
 
+    ghost advances = { λ s. ⊥ };
+
     fn parse(&self, input: &'a str) -> ParseResult<'a, &'a str> {
         let rest = behind_passing(input, &self.condition);
         Ok((rest, taken(input, rest)))
     }
 
     ghost leaves_suffix = { λ s can text rest value given. (_, given.split) };
+
+    ghost leaves_less = { λ s can none. Prim.absurd none };
 }
 
 // What is left behind the longest front of bytes that pass.
@@ -90,11 +98,15 @@ impl<'a, F: Fn(u8) -> bool> Combinator<'a> for SkipWhileByte<F> {
 
     ghost gives = { λ s text outcome. GivesSkipBytes (F.post s.condition) text outcome };
 
+    ghost advances = { λ s. ⊥ };
+
     fn parse(&self, input: &'a str) -> ParseResult<'a, ()> {
         Ok((behind_passing_bytes(input, &self.condition), ()))
     }
 
     ghost leaves_suffix = { λ s can text rest value given. (given.0, given.1.split) };
+
+    ghost leaves_less = { λ s can none. Prim.absurd none };
 }
 
 /// What `take_while_byte` answers: the longest front of bytes on which a condition holds, as a slice.
@@ -110,10 +122,14 @@ impl<'a, F: Fn(u8) -> bool> Combinator<'a> for TakeWhileByte<F> {
 
     ghost gives = { λ s text outcome. GivesTakeBytes (F.post s.condition) text outcome };
 
+    ghost advances = { λ s. ⊥ };
+
     fn parse(&self, input: &'a str) -> ParseResult<'a, &'a str> {
         let rest = behind_passing_bytes(input, &self.condition);
         Ok((rest, taken(input, rest)))
     }
 
     ghost leaves_suffix = { λ s can text rest value given. (_, given.split) };
+
+    ghost leaves_less = { λ s can none. Prim.absurd none };
 }

@@ -1,5 +1,5 @@
 -- What a combinator may answer on a text. Texts are lists of bytes.
-use Rattle.std.specs.Prelude.{◌≡◌, ℕ, List, ◌++◌}
+use Rattle.std.specs.Prelude.{◌≡◌, ◌<◌, ℕ, List, ◌++◌, length}
 
 -- why there is no value: another alternative may be tried, or reading fails at a text with a message, or memory ran out
 pub data Refusal : Type 0 where
@@ -23,3 +23,7 @@ IsSuffix rest text = (front : List ℕ) × (text ≡ front ++ rest)
 -- the rest of each success is a suffix of the text
 abbrev pub LeavesSuffix : {O : Type 0} → Meaning O → Type 0
 LeavesSuffix {O} meaning = (text rest : List ℕ) (value : O) → meaning text (success rest value) → IsSuffix rest text
+
+-- each success leaves a strictly shorter rest
+abbrev pub Advances : {O : Type 0} → Meaning O → Type 0
+Advances {O} meaning = (text rest : List ℕ) (value : O) → meaning text (success rest value) → length rest < length text

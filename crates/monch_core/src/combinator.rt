@@ -1,5 +1,5 @@
 ghost use Rattle.std.specs.Prelude.{ℕ, List, ◌≡◌};
-ghost use Rattle.monch_core.specs.Outcome.{Outcome, LeavesSuffix};
+ghost use Rattle.monch_core.specs.Outcome.{Advances, Outcome, LeavesSuffix};
 ghost use Rattle.monch_core.specs.Seen.{seen};
 
 use crate::error::ParseError;
@@ -17,11 +17,18 @@ pub trait Combinator<'a> {
     // Which outcomes there may be on a text.
     ghost gives: { Self → List ℕ → Outcome Self.Output → Type 0 };
 
+    // Where each success is known to take something, as a repetition asks of its items.
+    ghost advances: { Self → Type 0 };
+
+    // The rest of a success is a suffix of the text. This law and the next stand above `parse`, so that they are data, which
+    // generic code can name.
+    ghost leaves_suffix: { (s : Self) → can_parse s → LeavesSuffix (gives s) };
+
+    // The rest of a success is shorter than the text.
+    ghost leaves_less: { (s : Self) → can_parse s → advances s → Advances (gives s) };
+
     /// Reads a value from the front of the text.
     fn parse(&self, input: &'a str) -> ParseResult<'a, Self::Output>
         requires { can_parse self.now }
         ensures { gives self.now input.now (seen result) };
-
-    // The rest of a success is a suffix of the text.
-    ghost leaves_suffix: { (s : Self) → can_parse s → LeavesSuffix (gives s) };
 }

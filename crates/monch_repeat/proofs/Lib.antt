@@ -2,5 +2,4 @@ pub mod RoundLemmas
 pub mod RepeatLemmas
 pub mod AgreeLemmas
 pub mod RoomLemmas
-pub mod AdvanceLemmas
 pub mod Theorems

@@ -4,3 +4,4 @@ pub mod Separated
 pub mod Agree
 pub mod RepeatSuffix
 pub mod Steps
+pub mod Advance

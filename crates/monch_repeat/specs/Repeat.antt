@@ -1,8 +1,8 @@
 -- Repetitions: rounds that read one value each, and then an end.
-use Rattle.std.specs.Prelude.{◌≡◌, ◌≢◌, ◌⊎◌, ◌<◌, ℕ, List, [], ◌∷◌, length, ⊤}
+use Rattle.std.specs.Prelude.{◌≡◌, ◌≢◌, ◌⊎◌, ℕ, List, [], ◌∷◌, length, ⊤}
 use Rattle.std.specs.List.{FoldsTo}
 use Rattle.std.specs.Global.{Vec}
-use Rattle.monch_core.specs.Outcome.{Refusal, backtrack, failure, no_memory, Outcome, success, refused, Meaning}
+use Rattle.monch_core.specs.Outcome.{Refusal, backtrack, failure, no_memory, Outcome, success, refused, Meaning, Advances}
 
 -- an outcome with one more value in front of its list
 abbrev pub with_first : {O : Type 0} → O → Outcome (List O) → Outcome (List O)
@@ -20,9 +20,9 @@ pub record IsHandedOn {O : Type 0} (part : Meaning O) (text : List ℕ) (why : R
   pub refuses : part text (refused why)
   pub settled : why ≢ backtrack
 
--- each success leaves a strictly shorter rest
-abbrev pub Advances : {O : Type 0} → Meaning O → Type 0
-Advances {O} item = (text rest : List ℕ) (value : O) → item text (success rest value) → length rest < length text
+-- an item that tells that it advances, or is known to
+abbrev pub MayRepeat : {O : Type 0} → Type 0 → Meaning O → Type 0
+MayRepeat told item = told ⊎ Advances item
 
 -- it always backtracks
 abbrev pub Backtracks : Meaning (Unit {0})

@@ -34,8 +34,12 @@ module _ {O P : Type 0} (item : Meaning O) (until : Meaning P) where
   items_end _ _ (end_refused left handed) = tt
   items_end _ _ (items.item_refused left goes_on handed) = tt
 
+  pub items-suffix : LeavesSuffix item → {text : List ℕ} {outcome : Outcome (List O)} → GivesItems item until text outcome
+      → IsSuffixLeft text outcome
+  items-suffix by_item = Repeats-suffix (IsItem item until) (EndsItems item until) (λ text rest value read. by_item _ _ _ read.reads) items_end
+
   pub GivesItems-suffix : LeavesSuffix item → {text rest : List ℕ} {values : List O} → GivesItems item until text (success rest values) → IsSuffix rest text
-  GivesItems-suffix by_item = Repeats-suffix (IsItem item until) (EndsItems item until) (λ text rest value read. by_item _ _ _ read.reads) items_end
+  GivesItems-suffix by_item = items-suffix by_item
 
 module _ {O P : Type 0} (item : Meaning O) (separator : Meaning P) where
   separated_end : LeavesSuffix item → (text : List ℕ) (outcome : Outcome (List O)) → EndsSeparated item separator text outcome → IsSuffixLeft text outcome

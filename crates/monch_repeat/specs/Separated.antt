@@ -1,5 +1,5 @@
 -- Items with a separator behind each, as `separated_list` reads them.
-use Rattle.std.specs.Prelude.{◌≢◌, ◌<◌, ℕ, List, [], ◌∷◌, length}
+use Rattle.std.specs.Prelude.{◌≢◌, ◌⊎◌, ◌<◌, ℕ, List, [], ◌∷◌, length}
 use Rattle.monch_core.specs.Outcome.{Refusal, backtrack, Outcome, success, refused, Meaning}
 use Rattle.monch_repeat.specs.Repeat.{IsHandedOn, Repeats}
 
@@ -30,3 +30,7 @@ module _ {O P : Type 0} (item : Meaning O) (separator : Meaning P) where
   abbrev pub AdvancesTogether : Type 0
   AdvancesTogether = (text mid rest : List ℕ) (value : O) (passed : P)
       → item text (success mid value) → separator mid (success rest passed) → length rest < length text
+
+  -- one of the two tells that it advances, or they are known to together
+  abbrev pub MayAlternate : Type 0 → Type 0 → Type 0
+  MayAlternate item_told separator_told = item_told ⊎ separator_told ⊎ AdvancesTogether

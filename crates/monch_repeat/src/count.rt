@@ -2,9 +2,9 @@
 
 ghost use Rattle.std.specs.Prelude.{◌≡◌, ℕ};
 ghost use Rattle.monch_core.specs.Seen.{seen};
-ghost use Rattle.monch_repeat.specs.Repeat.{Advances, Backtracks, GivesCount};
+ghost use Rattle.monch_repeat.specs.Repeat.{MayRepeat, Backtracks, GivesCount};
 ghost use Rattle.monch_repeat.specs.Items.{GivesItems};
-ghost use Rattle.monch_repeat.specs.Separated.{AdvancesTogether, GivesSeparated};
+ghost use Rattle.monch_repeat.specs.Separated.{MayAlternate, GivesSeparated};
 ghost use Rattle.monch_repeat.specs.RepeatSuffix.{GivesItems-suffix, GivesSeparated-suffix};
 
 use crate::rounds::{Backtracking, Round, next_item, next_separated};
@@ -24,9 +24,11 @@ where
 {
     type Output = usize;
 
-    ghost can_parse = { λ s. A.can_parse s.item × Advances (A.gives s.item) };
+    ghost can_parse = { λ s. A.can_parse s.item × MayRepeat (A.advances s.item) (A.gives s.item) };
 
     ghost gives = { λ s text outcome. GivesCount (GivesItems (A.gives s.item) Backtracks) text outcome };
+
+    ghost advances = { λ s. ⊥ };
 
     fn parse(&self, input: &'a str) -> ParseResult<'a, usize> {
         let mut count = 0;
@@ -39,6 +41,8 @@ where
     }
 
     ghost leaves_suffix = { λ s can text rest value given. GivesItems-suffix (A.gives s.item) Backtracks (A.leaves_suffix s.item can.0) given.1 };
+
+    ghost leaves_less = { λ s can none. Prim.absurd none };
 }
 
 /// How many items there are, with a separator behind each.
@@ -56,9 +60,11 @@ where
 {
     type Output = usize;
 
-    ghost can_parse = { λ s. A.can_parse s.item × B.can_parse s.separator × AdvancesTogether (A.gives s.item) (B.gives s.separator) };
+    ghost can_parse = { λ s. A.can_parse s.item × B.can_parse s.separator × MayAlternate (A.gives s.item) (B.gives s.separator) (A.advances s.item) (B.advances s.separator) };
 
     ghost gives = { λ s text outcome. GivesCount (GivesSeparated (A.gives s.item) (B.gives s.separator)) text outcome };
+
+    ghost advances = { λ s. ⊥ };
 
     fn parse(&self, input: &'a str) -> ParseResult<'a, usize> {
         let mut count = 0;
@@ -76,4 +82,6 @@ where
     }
 
     ghost leaves_suffix = { λ s can text rest value given. GivesSeparated-suffix (A.gives s.item) (B.gives s.separator) (A.leaves_suffix s.item can.0) (B.leaves_suffix s.separator can.1) given.1 };
+
+    ghost leaves_less = { λ s can none. Prim.absurd none };
 }

@@ -2,9 +2,9 @@
 
 ghost use Rattle.std.specs.Prelude.{◌≡◌};
 ghost use Rattle.monch_core.specs.Seen.{seen};
-ghost use Rattle.monch_repeat.specs.Repeat.{Advances, GivesFold};
+ghost use Rattle.monch_repeat.specs.Repeat.{MayRepeat, GivesFold};
 ghost use Rattle.monch_repeat.specs.Items.{GivesItems};
-ghost use Rattle.monch_repeat.specs.Separated.{AdvancesTogether, GivesSeparated};
+ghost use Rattle.monch_repeat.specs.Separated.{MayAlternate, GivesSeparated};
 
 use crate::rounds::{Round, next_item, next_separated};
 use monch_core::{Combinator, ParseResult};
@@ -29,7 +29,7 @@ impl<A: Drop, B: Drop, S: Drop, F: Drop> ManyTillFold<A, B, S, F> {
         F: Fn(S, A::Output) -> S,
         requires item { A.can_parse self.item }
         requires until { B.can_parse self.until }
-        requires advances { Advances (A.gives self.item) }
+        requires advances { MayRepeat (A.advances self.item) (A.gives self.item) }
         requires fold { F.IsAlwaysCallable self.fold }
         ensures { GivesFold (GivesItems (A.gives self.item) (B.gives self.until)) (F.post self.fold) self.init input.now (seen result) }
     {
@@ -63,7 +63,7 @@ impl<A: Drop, B: Drop, S: Drop, F: Drop> SeparatedFold<A, B, S, F> {
         F: Fn(S, A::Output) -> S,
         requires item { A.can_parse self.item }
         requires separator { B.can_parse self.separator }
-        requires advances { AdvancesTogether (A.gives self.item) (B.gives self.separator) }
+        requires advances { MayAlternate (A.gives self.item) (B.gives self.separator) (A.advances self.item) (B.advances self.separator) }
         requires fold { F.IsAlwaysCallable self.fold }
         ensures { GivesFold (GivesSeparated (A.gives self.item) (B.gives self.separator)) (F.post self.fold) self.init input.now (seen result) }
     {

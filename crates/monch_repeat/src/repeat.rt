@@ -1,11 +1,12 @@
 //! Repetitions that give their values as a list.
 
-ghost use Rattle.std.specs.Prelude.{◌≡◌};
+ghost use Rattle.std.specs.Prelude.{◌≡◌, ⊤};
 ghost use Rattle.monch_core.specs.Seen.{seen};
-ghost use Rattle.monch_repeat.specs.Repeat.{Advances, Backtracks, GivesVec, GivesSome};
+ghost use Rattle.monch_repeat.specs.Repeat.{MayRepeat, Backtracks, GivesVec, GivesSome};
 ghost use Rattle.monch_repeat.specs.Items.{GivesItems};
-ghost use Rattle.monch_repeat.specs.Separated.{AdvancesTogether, GivesSeparated};
+ghost use Rattle.monch_repeat.specs.Separated.{MayAlternate, GivesSeparated};
 ghost use Rattle.monch_repeat.specs.RepeatSuffix.{GivesItems-suffix, GivesSeparated-suffix};
+ghost use Rattle.monch_repeat.specs.Advance.{advancing, items_advance};
 
 use crate::rounds::{Backtracking, Round, next_item, next_separated};
 use monch_core::{Combinator, ParseError, ParseResult};
@@ -28,15 +29,19 @@ where
 {
     type Output = Vec<A::Output>;
 
-    ghost can_parse = { λ s. A.can_parse s.item × B.can_parse s.until × Advances (A.gives s.item) };
+    ghost can_parse = { λ s. A.can_parse s.item × B.can_parse s.until × MayRepeat (A.advances s.item) (A.gives s.item) };
 
     ghost gives = { λ s text outcome. GivesVec (GivesItems (A.gives s.item) (B.gives s.until)) text outcome };
+
+    ghost advances = { λ s. ⊥ };
 
     fn parse(&self, input: &'a str) -> ParseResult<'a, Vec<A::Output>> {
         list_items(self.alloc, &self.item, &self.until, input)
     }
 
     ghost leaves_suffix = { λ s can text rest value given. GivesItems-suffix (A.gives s.item) (B.gives s.until) (A.leaves_suffix s.item can.0) given };
+
+    ghost leaves_less = { λ s can none. Prim.absurd none };
 }
 
 /// The values of items, until no item stands there.
@@ -53,15 +58,19 @@ where
 {
     type Output = Vec<A::Output>;
 
-    ghost can_parse = { λ s. A.can_parse s.item × Advances (A.gives s.item) };
+    ghost can_parse = { λ s. A.can_parse s.item × MayRepeat (A.advances s.item) (A.gives s.item) };
 
     ghost gives = { λ s text outcome. GivesVec (GivesItems (A.gives s.item) Backtracks) text outcome };
+
+    ghost advances = { λ s. ⊥ };
 
     fn parse(&self, input: &'a str) -> ParseResult<'a, Vec<A::Output>> {
         list_items(self.alloc, &self.item, &Backtracking, input)
     }
 
     ghost leaves_suffix = { λ s can text rest value given. GivesItems-suffix (A.gives s.item) Backtracks (A.leaves_suffix s.item can.0) given };
+
+    ghost leaves_less = { λ s can none. Prim.absurd none };
 }
 
 /// The values of items, until no item stands there, and a backtrack where there is none.
@@ -78,9 +87,11 @@ where
 {
     type Output = Vec<A::Output>;
 
-    ghost can_parse = { λ s. A.can_parse s.item × Advances (A.gives s.item) };
+    ghost can_parse = { λ s. A.can_parse s.item × MayRepeat (A.advances s.item) (A.gives s.item) };
 
     ghost gives = { λ s text outcome. GivesVec (GivesSome (GivesItems (A.gives s.item) Backtracks)) text outcome };
+
+    ghost advances = { λ s. ⊤ };
 
     fn parse(&self, input: &'a str) -> ParseResult<'a, Vec<A::Output>> {
         let (rest, values) = list_items(self.alloc, &self.item, &Backtracking, input)?;
@@ -91,6 +102,8 @@ where
     }
 
     ghost leaves_suffix = { λ s can text rest value given. GivesItems-suffix (A.gives s.item) Backtracks (A.leaves_suffix s.item can.0) given.1 };
+
+    ghost leaves_less = { λ s can _ text rest value given. items_advance (A.gives s.item) Backtracks (advancing (A.gives s.item) (A.leaves_less s.item can.0) can.1) (A.leaves_suffix s.item can.0) given.1 given.0 };
 }
 
 /// The values of items with a separator behind each. A separator that is read stays read, also with no item behind it.
@@ -109,15 +122,19 @@ where
 {
     type Output = Vec<A::Output>;
 
-    ghost can_parse = { λ s. A.can_parse s.item × B.can_parse s.separator × AdvancesTogether (A.gives s.item) (B.gives s.separator) };
+    ghost can_parse = { λ s. A.can_parse s.item × B.can_parse s.separator × MayAlternate (A.gives s.item) (B.gives s.separator) (A.advances s.item) (B.advances s.separator) };
 
     ghost gives = { λ s text outcome. GivesVec (GivesSeparated (A.gives s.item) (B.gives s.separator)) text outcome };
+
+    ghost advances = { λ s. ⊥ };
 
     fn parse(&self, input: &'a str) -> ParseResult<'a, Vec<A::Output>> {
         list_separated(self.alloc, &self.item, &self.separator, input)
     }
 
     ghost leaves_suffix = { λ s can text rest value given. GivesSeparated-suffix (A.gives s.item) (B.gives s.separator) (A.leaves_suffix s.item can.0) (B.leaves_suffix s.separator can.1) given };
+
+    ghost leaves_less = { λ s can none. Prim.absurd none };
 }
 
 /// The values of the items, as a vector.
@@ -132,7 +149,7 @@ where
     B::Output: Drop,
     requires item { A.can_parse item.now }
     requires until { B.can_parse until.now }
-    requires advances { Advances (A.gives item.now) }
+    requires advances { MayRepeat (A.advances item.now) (A.gives item.now) }
     ensures { GivesVec (GivesItems (A.gives item.now) (B.gives until.now)) input.now (seen result) }
 {
     let mut values = Vec::new(alloc);
@@ -156,7 +173,7 @@ where
     B::Output: Drop,
     requires item { A.can_parse item.now }
     requires separator { B.can_parse separator.now }
-    requires advances { AdvancesTogether (A.gives item.now) (B.gives separator.now) }
+    requires advances { MayAlternate (A.gives item.now) (B.gives separator.now) (A.advances item.now) (B.advances separator.now) }
     ensures { GivesVec (GivesSeparated (A.gives item.now) (B.gives separator.now)) input.now (seen result) }
 {
     let mut values = Vec::new(alloc);

@@ -21,11 +21,15 @@ impl<'a> Combinator<'a> for Backtracking {
 
     ghost gives = { λ s text outcome. Backtracks text outcome };
 
+    ghost advances = { λ s. ⊥ };
+
     fn parse(&self, _input: &'a str) -> ParseResult<'a, ()> {
         Err(ParseError::Backtrace)
     }
 
     ghost leaves_suffix = { λ s can text rest value given. Prim.absurd (success_is_not_refused given) };
+
+    ghost leaves_less = { λ s can none. Prim.absurd none };
 }
 
 /// What a round of a separated list finds.

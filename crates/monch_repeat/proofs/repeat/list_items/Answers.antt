@@ -1,5 +1,7 @@
 -- The values so far are what the rounds so far have read.
 use Rattle.std.proofs.Common.{rules}
+use Rattle.monch_core.specs.Outcome.{Advances}
+use Rattle.monch_repeat.specs.Advance.{advancing}
 use Rattle.monch_repeat.proofs.RepeatLemmas.{SoFar-start, SoFar-round, SoFar-ends, SoFar-vec_refused}
 use Rattle.monch_repeat.proofs.repeat.list_items.Goals as goal
 
@@ -9,7 +11,10 @@ loop-values-init g c = (c.utf8.input, rw c.new-values.ensures.items (SoFar-start
 pub loop-values-smaller : goal.loop-values-smaller
 loop-values-smaller g c =
     let item = rw c.in-Some.is at c.in_ok-rest.ensures.round in
-    c.requires.advances _ _ _ item.reads
+    let shorter : Advances (g.A.Combinator.gives c.args.item.now) =
+    advancing (g.A.Combinator.gives c.args.item.now) (g.A.Combinator.leaves_less c.args.item.now c.requires.item)
+    c.requires.advances in
+    shorter _ _ _ item.reads
 
 pub loop-values-preserved : goal.loop-values-preserved
 loop-values-preserved g c =

@@ -1,5 +1,7 @@
 -- So many rounds have been read.
 use Rattle.std.proofs.Common.{rules}
+use Rattle.monch_core.specs.Outcome.{Advances}
+use Rattle.monch_repeat.specs.Advance.{advancing}
 use Rattle.monch_repeat.proofs.RepeatLemmas.{CountsSoFar-round, CountsSoFar-ends, CountsSoFar-refused}
 use Rattle.monch_repeat.proofs.count.Many0CountCombinator.parse.Goals as goal
 
@@ -7,7 +9,10 @@ pub loop-rest-preserved-in-Some : goal.loop-rest-preserved-in-Some
 loop-rest-preserved-in-Some g c =
     let item = rw c.in-Some.is at c.in_ok-rest.ensures.round in
     let text = rw c.in-Some.is at c.in_ok-rest.ensures.text in
-    (text, CountsSoFar-round _ _ _ _ _ _ _ c.loop-rest.invariant.1 item (c.requires.1 _ _ _ item.reads))
+    let shorter : Advances (g.A.Combinator.gives c.args.self.now.item) =
+    advancing (g.A.Combinator.gives c.args.self.now.item) (g.A.Combinator.leaves_less c.args.self.now.item c.requires.0)
+    c.requires.1 in
+    (text, CountsSoFar-round _ _ _ _ _ _ _ c.loop-rest.invariant.1 item (shorter _ _ _ item.reads))
 
 pub returns-in_err-rest : goal.returns-in_err-rest
 returns-in_err-rest g c =

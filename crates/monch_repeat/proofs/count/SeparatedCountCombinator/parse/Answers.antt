@@ -1,5 +1,7 @@
 -- So many rounds have been read.
 use Rattle.std.proofs.Common.{rules}
+use Rattle.monch_repeat.specs.Separated.{AdvancesTogether}
+use Rattle.monch_repeat.specs.Advance.{alternating}
 use Rattle.monch_repeat.proofs.RepeatLemmas.{CountsSoFar-start, CountsSoFar-round, CountsSoFar-ends, CountsSoFar-last, CountsSoFar-refused}
 use Rattle.monch_repeat.proofs.count.SeparatedCountCombinator.parse.Goals as goal
 
@@ -9,10 +11,15 @@ rounds-init g c = (c.utf8.input, CountsSoFar-start _ _ c.args.input.now)
 pub rounds-preserved-in-Next : goal.rounds-preserved-in-Next
 rounds-preserved-in-Next g c =
     let round = rw c.in-Next.is at c.in_ok-rest.ensures.round in
+    let shorter : AdvancesTogether (g.A.Combinator.gives c.args.self.now.item) (g.B.Combinator.gives c.args.self.now.separator) =
+    alternating (g.A.Combinator.gives c.args.self.now.item) (g.B.Combinator.gives c.args.self.now.separator)
+    (g.A.Combinator.leaves_suffix c.args.self.now.item c.requires.0) (g.B.Combinator.leaves_suffix c.args.self.now.separator c.requires.1)
+    (g.A.Combinator.leaves_less c.args.self.now.item c.requires.0) (g.B.Combinator.leaves_less c.args.self.now.separator c.requires.1)
+    c.requires.2 in
     let text = rw c.in-Next.is at c.in_ok-rest.ensures.text in (
       text,
       CountsSoFar-round _ _ _ _ _ _ _ c.rounds.invariant.1 round
-          (c.requires.2 _ _ _ _ _ round.reads round.separates),
+          (shorter _ _ _ _ _ round.reads round.separates),
     )
 
 pub returns-in_err-rest : goal.returns-in_err-rest

@@ -1,10 +1,22 @@
 -- The state is what the calls have made of the values so far.
 use Rattle.std.proofs.Common.{rules}
+use Rattle.monch_repeat.specs.Separated.{AdvancesTogether}
+use Rattle.monch_repeat.specs.Advance.{alternating}
 use Rattle.monch_repeat.proofs.RepeatLemmas.{FoldsSoFar-start, FoldsSoFar-round, FoldsSoFar-ends, FoldsSoFar-last, FoldsSoFar-refused}
 use Rattle.monch_repeat.proofs.fold.SeparatedFold.parse.Goals as goal
 
 pub rounds-init : goal.rounds-init
 rounds-init g c = (c.utf8.input, FoldsSoFar-start _ _ _ _ c.args.input.now)
+
+pub rounds-smaller : goal.rounds-smaller
+rounds-smaller g c =
+    let round = rw c.in-Next.is at c.in_ok-rest.ensures.round in
+    let shorter : AdvancesTogether (g.A.Combinator.gives c.args.self.item) (g.B.Combinator.gives c.args.self.separator) =
+    alternating (g.A.Combinator.gives c.args.self.item) (g.B.Combinator.gives c.args.self.separator)
+    (g.A.Combinator.leaves_suffix c.args.self.item c.requires.item) (g.B.Combinator.leaves_suffix c.args.self.separator c.requires.separator)
+    (g.A.Combinator.leaves_less c.args.self.item c.requires.item) (g.B.Combinator.leaves_less c.args.self.separator c.requires.separator)
+    c.requires.advances in
+    shorter _ _ _ _ _ round.reads round.separates
 
 pub rounds-preserved : goal.rounds-preserved
 rounds-preserved g c =
