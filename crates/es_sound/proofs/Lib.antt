@@ -1,0 +1,3 @@
+mod Equations
+mod ListLemmas
+pub mod Theorems

@@ -1,0 +1,4 @@
+-- whether a kept tree is sound
+pub mod Sound
+-- when a tree is kept of a plain tree of a program
+pub mod Program
