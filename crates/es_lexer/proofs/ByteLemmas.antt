@@ -4,7 +4,7 @@ use Rattle.std.specs.Char.{is_ascii_digit}
 use Rattle.std.proofs.lemmas.Bool.Decides.{nat_tests}
 use Rattle.std.proofs.lemmas.List.{take_rest}
 use Rattle.es_lexer.specs.declared.bytes.First.{First}
-use Rattle.es_lexer.specs.declared.bytes.First.TheVariants.{Blank, LineEnd, Start, Quote, Slash, Backtick, Brace, Hash, Digit, Dot, Wide, Other}
+use Rattle.es_lexer.specs.declared.bytes.First.TheVariants.{Blank, LineEnd, Start, Quote, Slash, Backtick, Brace, Hash, Digit, Dot, Backslash, Wide, Other}
 use Rattle.es_literal.specs.Strings.{is_quote as is_string_quote}
 use Rattle.es_lexer.specs.Bytes.{is_blank, is_line_end, is_start, is_quote, first_of, begins_comment}
 
@@ -20,6 +20,7 @@ pub data Classed (b : ℕ) (c : First) : Type 0 where
   hash : b ≡ 35 → c ≡ Hash → Classed b c
   digit : is_ascii_digit b ≡ true → c ≡ Digit → Classed b c
   dot : b ≡ 46 → c ≡ Dot → Classed b c
+  backslash : b ≡ 92 → c ≡ Backslash → Classed b c
   wide : 128 ≤ b → c ≡ Wide → Classed b c
   other : c ≡ Other → Classed b c
 
@@ -30,22 +31,26 @@ rest_of b =
     else (if b == 35 then Hash
     else (if is_ascii_digit b then Digit
     else (if b == 46 then Dot
+    else (if b == 92 then Backslash
     else (if nat_le 128 b then Wide
-    else Other)))))
+    else Other))))))
 
 high_of : (b : ℕ) → nat_le 128 b ≡ true → 128 ≤ b
 high_of b e = grind (arith, nat_tests)
 
-rest_classed : (b : ℕ) (u v w x y z : Bool) → (b == 96) ≡ u → (b == 125) ≡ v → (b == 35) ≡ w → is_ascii_digit b ≡ x
-    → (b == 46) ≡ y → nat_le 128 b ≡ z → Classed b (rest_of b)
+rest_classed : (b : ℕ) (u v w x y z h : Bool) → (b == 96) ≡ u → (b == 125) ≡ v → (b == 35) ≡ w → is_ascii_digit b ≡ x
+    → (b == 46) ≡ y → (b == 92) ≡ z → nat_le 128 b ≡ h → Classed b (rest_of b)
 unfolding rest_of
-rest_classed b true v w x y z p q r s o h = backtick (eqb-true _ _ p) (rw p refl)
-rest_classed b false true w x y z p q r s o h = brace (eqb-true _ _ q) (rw (p, q) refl)
-rest_classed b false false true x y z p q r s o h = hash (eqb-true _ _ r) (rw (p, q, r) refl)
-rest_classed b false false false true y z p q r s o h = digit s (rw (p, q, r, s) refl)
-rest_classed b false false false false true z p q r s o h = dot (eqb-true _ _ o) (rw (p, q, r, s, o) refl)
-rest_classed b false false false false false true p q r s o h = wide (high_of b h) (rw (p, q, r, s, o, h) refl)
-rest_classed b false false false false false false p q r s o h = other (rw (p, q, r, s, o, h) refl)
+rest_classed b true v w x y z h p q r s o m n = backtick (eqb-true _ _ p) (rw p refl)
+rest_classed b false true w x y z h p q r s o m n = brace (eqb-true _ _ q) (rw (p, q) refl)
+rest_classed b false false true x y z h p q r s o m n = hash (eqb-true _ _ r) (rw (p, q, r) refl)
+rest_classed b false false false true y z h p q r s o m n = digit s (rw (p, q, r, s) refl)
+rest_classed b false false false false true z h p q r s o m n = dot (eqb-true _ _ o) (rw (p, q, r, s, o) refl)
+rest_classed b false false false false false true h p q r s o m n =
+    backslash (eqb-true _ _ m) (rw (p, q, r, s, o, m) refl)
+rest_classed b false false false false false false true p q r s o m n =
+    wide (high_of b n) (rw (p, q, r, s, o, m, n) refl)
+rest_classed b false false false false false false false p q r s o m n = other (rw (p, q, r, s, o, m, n) refl)
 
 classed_by : (b : ℕ) (u v w x z : Bool) → is_blank b ≡ u → is_line_end b ≡ v → is_start b ≡ w → is_quote b ≡ x
     → (b == 47) ≡ z → Classed b (rest_of b) → Classed b (first_of b)
@@ -60,8 +65,8 @@ classed_by b false false false false false p q r s o c = rw (p, q, r, s, o) c
 pub classed : (b : ℕ) → Classed b (first_of b)
 classed b = classed_by b (is_blank b) (is_line_end b) (is_start b) (is_quote b)
     (b == 47) refl refl refl refl refl
-    (rest_classed b (b == 96) (b == 125) (b == 35) (is_ascii_digit b) (b == 46) (nat_le 128 b) refl refl refl refl refl
-    refl)
+    (rest_classed b (b == 96) (b == 125) (b == 35) (is_ascii_digit b) (b == 46) (b == 92) (nat_le 128 b) refl refl refl
+    refl refl refl refl)
 
 pub start_is : (b : ℕ) → first_of b ≡ Start → is_start b ≡ true
 start_is b h = elim (classed b) [
@@ -75,6 +80,7 @@ start_is b h = elim (classed b) [
   | hash s e ↦ cc
   | digit s e ↦ cc
   | dot s e ↦ cc
+  | backslash s e ↦ cc
   | wide l e ↦ cc
   | other e ↦ cc
 ]
@@ -91,6 +97,7 @@ slash_is b h = elim (classed b) [
   | hash s e ↦ cc
   | digit s e ↦ cc
   | dot s e ↦ cc
+  | backslash s e ↦ cc
   | wide l e ↦ cc
   | other e ↦ cc
 ]
@@ -108,6 +115,7 @@ quote_is b h = elim (classed b) [
   | hash s e ↦ cc
   | digit s e ↦ cc
   | dot s e ↦ cc
+  | backslash s e ↦ cc
   | wide l e ↦ cc
   | other e ↦ cc
 ]
@@ -177,6 +185,7 @@ blank_no_line b h = elim (classed b) [
   | hash s e ↦ cc
   | digit s e ↦ cc
   | dot s e ↦ cc
+  | backslash s e ↦ cc
   | wide l e ↦ cc
   | other e ↦ cc
 ]
@@ -193,6 +202,7 @@ blank_is b h = elim (classed b) [
   | hash s e ↦ cc
   | digit s e ↦ cc
   | dot s e ↦ cc
+  | backslash s e ↦ cc
   | wide l e ↦ cc
   | other e ↦ cc
 ]
@@ -209,6 +219,7 @@ line_end_is b h = elim (classed b) [
   | hash s e ↦ cc
   | digit s e ↦ cc
   | dot s e ↦ cc
+  | backslash s e ↦ cc
   | wide l e ↦ cc
   | other e ↦ cc
 ]
@@ -225,6 +236,7 @@ backtick_is b h = elim (classed b) [
   | hash s e ↦ cc
   | digit s e ↦ cc
   | dot s e ↦ cc
+  | backslash s e ↦ cc
   | wide l e ↦ cc
   | other e ↦ cc
 ]
@@ -245,6 +257,7 @@ brace_is b h = elim (classed b) [
   | hash s e ↦ cc
   | digit s e ↦ cc
   | dot s e ↦ cc
+  | backslash s e ↦ cc
   | wide l e ↦ cc
   | other e ↦ cc
 ]
@@ -265,6 +278,7 @@ hash_is b h = elim (classed b) [
   | hash s e ↦ s
   | digit s e ↦ cc
   | dot s e ↦ cc
+  | backslash s e ↦ cc
   | wide l e ↦ cc
   | other e ↦ cc
 ]
@@ -272,6 +286,27 @@ hash_is b h = elim (classed b) [
 pub hash_class : first_of 35 ≡ Hash
 unfolding first_of
 hash_class = refl
+
+pub backslash_is : (b : ℕ) → first_of b ≡ Backslash → b ≡ 92
+backslash_is b h = elim (classed b) [
+  | blank p e ↦ cc
+  | line_end p e ↦ cc
+  | start s e ↦ cc
+  | quote n q e ↦ cc
+  | slash s e ↦ cc
+  | backtick s e ↦ cc
+  | brace s e ↦ cc
+  | hash s e ↦ cc
+  | digit s e ↦ cc
+  | dot s e ↦ cc
+  | backslash s e ↦ s
+  | wide l e ↦ cc
+  | other e ↦ cc
+]
+
+pub backslash_class : first_of 92 ≡ Backslash
+unfolding first_of
+backslash_class = refl
 
 mark_class : first_of 33 ≡ Other
 unfolding first_of
@@ -303,6 +338,7 @@ dot_is b h = elim (classed b) [
   | hash s e ↦ cc
   | digit s e ↦ cc
   | dot s e ↦ s
+  | backslash s e ↦ cc
   | wide l e ↦ cc
   | other e ↦ cc
 ]
@@ -319,6 +355,7 @@ digit_is b h = elim (classed b) [
   | hash s e ↦ cc
   | digit s e ↦ s
   | dot s e ↦ cc
+  | backslash s e ↦ cc
   | wide l e ↦ cc
   | other e ↦ cc
 ]
@@ -383,8 +420,10 @@ wide_no_sign : (b : ℕ) → 128 ≤ b
 wide_no_sign b l =
     ((grind (arith, nat_tests), grind (arith, nat_tests)), (grind (arith, nat_tests), grind (arith, nat_tests)))
 
-wide_no_number : (b : ℕ) → 128 ≤ b → ((is_ascii_digit b ≡ false) × ((b == 46) ≡ false)) × (nat_le 128 b ≡ true)
-wide_no_number b l = ((grind (arith, nat_tests), grind (arith, nat_tests)), grind (arith, nat_tests))
+wide_no_number : (b : ℕ) → 128 ≤ b
+    → ((is_ascii_digit b ≡ false) × ((b == 46) ≡ false)) × (((b == 92) ≡ false) × (nat_le 128 b ≡ true))
+wide_no_number b l =
+    ((grind (arith, nat_tests), grind (arith, nat_tests)), (grind (arith, nat_tests), grind (arith, nat_tests)))
 
 pub wide_class : (b : ℕ) → 128 ≤ b → first_of b ≡ Wide
 unfolding first_of
@@ -392,4 +431,4 @@ wide_class b l =
     let m = wide_no b l in
     let n = wide_no_sign b l in
     let o = wide_no_number b l in
-    rw (m.0.0, m.0.1, m.1.0, m.1.1, n.0.0, n.0.1, n.1.0, n.1.1, o.0.0, o.0.1, o.1) refl
+    rw (m.0.0, m.0.1, m.1.0, m.1.1, n.0.0, n.0.1, n.1.0, n.1.1, o.0.0, o.0.1, o.1.0, o.1.1) refl

@@ -1,5 +1,5 @@
 -- What stands between tokens: whether a line end does, and that comments stand apart and all else is blanks and line ends.
-use Rattle.std.proofs.Common.{◌≡◌, ℕ, zero, suc, ◌+◌, ◌-◌, ◌<◌, ◌≤◌, Bool, true, false, ◌==◌, ◌||◌, ◌&&◌, List, [], ◌∷◌, ◌++◌, length, take, drop, Some, slice_get, slice_range, refl, sym, ◌∙◌, ap, subst, arith, length-append, append_assoc, drop_at, take_at, ◌⊎◌, inl, inr}
+use Rattle.std.proofs.Common.{◌≡◌, ℕ, zero, suc, ◌+◌, ◌-◌, ◌<◌, ◌≤◌, nat_le, Bool, true, false, ◌==◌, ◌||◌, ◌&&◌, List, [], ◌∷◌, ◌++◌, length, take, drop, Some, slice_get, slice_range, refl, sym, ◌∙◌, ap, subst, arith, length-append, append_assoc, drop_at, take_at, ◌⊎◌, inl, inr}
 use Rattle.es_lexer.specs.declared.bytes.First.TheVariants as first
 use Rattle.es_token.specs.declared.token.Token.{Token}
 use Rattle.es_token.specs.declared.token.Comment.{Comment}
@@ -11,6 +11,7 @@ use Rattle.es_lexer.specs.Goal.{goal_of}
 use Rattle.es_lexer.specs.Pieces.{Piece, blank, line_end, comment, token, comment_spelling, pieces_text, place_of, is_behind, line_since}
 use Rattle.es_lexer.specs.Readable.{IsByte, IsWideBlank, IsWideLine, ArePieces}
 use Rattle.es_lexer.specs.Reads.{tokens_of, comments_of, token_of, comment_of}
+use Rattle.es_lexer.specs.Gaps.{IsGap, GapAt, IsOutside}
 use Rattle.std.specs.List.{AllByRecursion}
 use Rattle.std.proofs.lemmas.Bool.Decides.{nat_tests}
 use Rattle.es_wide.specs.Wide.{is_separator, blank_of_three, wide_blank, wide_line}
@@ -166,8 +167,7 @@ line_of_first (line_end s ∷ ps) before x front gap after u w b h g =
     (w ∙ ap (λ t. front ++ (gap ++ t)) (append_assoc s (pieces_text ps) after)))
     (record {
       behind = b.behind;
-      line = b.behind ∙ sym
-          (lines-append gap s (spelling_starts (goal_of before) (line_end s) (pieces_text ps ++ after) h.0)
+      line = b.behind ∙ sym (lines-append gap s (spelling_starts (goal_of before) (line_end s) (pieces_text ps ++ after) h.0)
           ∙ (ap (λ v. has_line_end gap || v) (line_lines s h.0)
           ∙ or_true (has_line_end gap)));
       place = gap_place before front gap s b.place;
@@ -179,8 +179,7 @@ line_of_first (comment kind t ∷ ps) before x front gap after u w b h g =
     (record {
       behind = b.behind;
       line = with_comment (line_since before) (is_behind before) (has_line_end t) (has_line_end gap) b.line b.behind
-          ∙ sym (lines-append gap (comment_spelling kind t)
-          (spelling_starts (goal_of before) (comment kind t) (pieces_text ps ++ after) h.0)
+          ∙ sym (lines-append gap (comment_spelling kind t) (spelling_starts (goal_of before) (comment kind t) (pieces_text ps ++ after) h.0)
           ∙ ap (λ v. has_line_end gap || v) (comment_lines kind t));
       place = gap_place before front gap (comment_spelling kind t) b.place;
     }) h.1 g
@@ -302,3 +301,83 @@ stand_apart (comment kind s ∷ ps) before m zero t c f g =
     subst (λ (v : Comment). (t.range.end ≤ v.range.start) ⊎ (v.range.end ≤ t.range.start)) same
     (inr (token_above ps (comment kind s ∷ before) m t f))
 stand_apart (comment kind s ∷ ps) before m (suc n) t c f g = stand_apart ps (comment kind s ∷ before) m n t c f g
+
+-- ---- what is left
+-- no token among these pieces, and no comment, covers the place
+abbrev NoToken : List Piece → List Piece → ℕ → Type 0
+NoToken before ps place = (n : ℕ) (t : Token) → slice_get (tokens_of before ps) n ≡ Some t → IsOutside place t.range
+
+abbrev NoComment : List Piece → List Piece → ℕ → Type 0
+NoComment before ps place =
+    (n : ℕ) (c : Comment) → slice_get (comments_of before ps) n ≡ Some c → IsOutside place c.range
+
+-- the first piece, if it is a gap that reaches past the place, and else what stands behind it
+gap_here : (x front s rest : List ℕ) (place : ℕ) → x ≡ front ++ (s ++ rest) → IsGap s → length front ≤ place
+    → place < length front + length s → GapAt x place
+gap_here x front s rest place w g l m =
+    let cut : slice_range x (length front) (length front + length s) ≡ s =
+    cut_gap x front s rest (length front + length s) w refl in
+    record {
+      start = length front;
+      end = length front + length s;
+      from = l;
+      to = m;
+      is = subst IsGap (sym cut) g;
+    }
+
+gap_or : (x front s rest : List ℕ) (place : ℕ)
+    → (place < length front + length s) ⊎ (length front + length s ≤ place) → x ≡ front ++ (s ++ rest) → IsGap s → length front ≤ place
+    → (length (front ++ s) ≤ place → GapAt x place) → GapAt x place
+gap_or x front s rest place (inl m) w g l more = gap_here x front s rest place w g l m
+gap_or x front s rest place (inr m) w g l more = more (omega (arith, length-append front s))
+
+less_by : (m n : ℕ) (v : Bool) → nat_le n m ≡ v → (m < n) ⊎ (n ≤ m)
+less_by m n true e = inr (grind (arith, nat_tests))
+less_by m n false e = inl (grind (arith, nat_tests))
+
+less_or : (m n : ℕ) → (m < n) ⊎ (n ≤ m)
+less_or m n = less_by m n (nat_le n m) refl
+
+-- past a piece that covers no such place
+past : (at size place : ℕ) → at ≤ place → IsOutside place (record { start = at; end = at + size }) → at + size ≤ place
+past at size place l (inl m) = absurd (omega arith)
+past at size place l (inr m) = m
+
+pub left_over : (ps before : List Piece) (x front after : List ℕ) (place : ℕ)
+    → x ≡ front ++ (pieces_text ps ++ after) → place_of before ≡ length front → ArePieces before ps after
+    → NoToken before ps place → NoComment before ps place → length front ≤ place
+    → place < length front + length (pieces_text ps) → GapAt x place
+unfolding tokens_of comments_of
+left_over [] before x front after place w p h t c l m = absurd (omega arith)
+left_over (blank s ∷ ps) before x front after place w p h t c l m =
+    gap_or x front s (pieces_text ps ++ after) place (less_or place (length front + length s))
+    (w ∙ ap (λ v. front ++ v) (append_assoc s (pieces_text ps) after)) (inl h.0) l
+    (λ n. left_over ps (blank s ∷ before) x (front ++ s) after place (shift x front s (pieces_text ps) after w)
+    (moved (place_of before) front s p) h.1 t c n
+    (omega (arith, length-append front s, length-append s (pieces_text ps))))
+left_over (line_end s ∷ ps) before x front after place w p h t c l m =
+    gap_or x front s (pieces_text ps ++ after) place (less_or place (length front + length s))
+    (w ∙ ap (λ v. front ++ v) (append_assoc s (pieces_text ps) after)) (inr h.0) l
+    (λ n. left_over ps (line_end s ∷ before) x (front ++ s) after place (shift x front s (pieces_text ps) after w)
+    (moved (place_of before) front s p) h.1 t c n
+    (omega (arith, length-append front s, length-append s (pieces_text ps))))
+left_over (comment kind s ∷ ps) before x front after place w p h t c l m =
+    let own : IsOutside place (comment_of before kind s).range = c 0 (comment_of before kind s) refl in
+    let far : place_of before + length (comment_spelling kind s) ≤ place =
+    past (place_of before) (length (comment_spelling kind s)) place (omega arith) own in
+    left_over ps (comment kind s ∷ before) x (front ++ comment_spelling kind s) after place
+    (shift x front (comment_spelling kind s) (pieces_text ps) after w)
+    (moved (place_of before) front (comment_spelling kind s) p) h.1 t (λ n d e. c (suc n) d e)
+    (omega (arith, length-append front (comment_spelling kind s)))
+    (omega (
+      arith,
+      length-append front (comment_spelling kind s),
+      length-append (comment_spelling kind s) (pieces_text ps),
+    ))
+left_over (token k s ∷ ps) before x front after place w p h t c l m =
+    let own : IsOutside place (token_of before k s ps).range = t 0 (token_of before k s ps) refl in
+    let far : place_of before + length s ≤ place = past (place_of before) (length s) place (omega arith) own in
+    left_over ps (token k s ∷ before) x (front ++ s) after place (shift x front s (pieces_text ps) after w)
+    (moved (place_of before) front s p) h.1 (λ n u e. t (suc n) u e) c
+    (omega (arith, length-append front s))
+    (omega (arith, length-append front s, length-append s (pieces_text ps)))

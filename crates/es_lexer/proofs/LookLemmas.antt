@@ -1,5 +1,5 @@
 -- A look finds a piece or a fault, and each piece and each fault is what a look at it finds.
-use Rattle.std.proofs.Common.{◌≡◌, ℕ, zero, suc, ◌+◌, ◌-◌, ◌<◌, ◌≤◌, Bool, true, false, not, ◌==◌, ◌||◌, ◌&&◌, List, [], ◌∷◌, ◌++◌, length, take, drop, drop_at, Option, Some, None, refl, sym, ◌∙◌, ap, subst, arith, take_at, length-append, append_assoc, eqb-true, true≢false, if◌then◌else◌, inl, inr}
+use Rattle.std.proofs.Common.{◌≡◌, ℕ, zero, suc, ◌+◌, ◌-◌, ◌<◌, ◌≤◌, Bool, true, false, not, ◌==◌, ◌||◌, ◌&&◌, List, [], ◌∷◌, ◌++◌, length, take, drop, drop_at, Option, Some, None, refl, sym, ◌∙◌, ap, subst, arith, take_at, length-append, append_assoc, eqb-true, eq-eqb, true≢false, if◌then◌else◌, inl, inr}
 use Rattle.std.proofs.lemmas.List.{nil_from_length}
 use Rattle.es_lexer.specs.declared.bracket.BracketKind.{BracketKind}
 use Rattle.es_lexer.specs.declared.bracket.Role.{Role}
@@ -16,7 +16,7 @@ use Rattle.es_token.specs.declared.token.CommentKind.{CommentKind}
 use Rattle.es_token.specs.declared.token.CommentKind.TheVariants.{Line, Block}
 use Rattle.es_lexer.specs.declared.error.LexicalKind.{LexicalKind}
 use Rattle.es_lexer.specs.declared.error.LexicalKind.TheVariants.{UnterminatedString, UnterminatedComment, UnterminatedTemplate, UnterminatedRegExp, InvalidEscape, InvalidChar, Unbalanced}
-use Rattle.es_lexer.specs.Bytes.{begins_part, begins_name, begins_mark, first_of, is_start, begins_comment, has_closer, has_line_end, ends_line}
+use Rattle.es_lexer.specs.Bytes.{joins, part_unit, word_unit, begins_name, begins_mark, begins_backslash, first_of, is_start, begins_comment, has_closer, has_line_end, ends_line}
 use Rattle.es_lexer.specs.declared.bracket.BracketKind.TheVariants.{Round, Square, Curly, Template}
 use Rattle.es_lexer.specs.Brackets.{role_of, is_open, may_close}
 use Rattle.es_lexer.specs.Signs.{sign_kind, sign_at, sized}
@@ -40,11 +40,11 @@ use Rattle.es_spelling.proofs.TemplateLemmas as text
 use Rattle.es_lexer.specs.Goal.{allows, may_stand, stands_apart, begins_digit}
 use Rattle.es_lexer.specs.Pieces.{Piece, blank, line_end, comment, token, spelling, comment_spelling}
 use Rattle.es_lexer.specs.Readable.{IsLongest, IsToken, IsComment, IsByte, IsPiece}
-use Rattle.es_lexer.specs.Stops.{Stuck, open_string, bad_escape, open_comment, no_token, no_character, open_regexp, wrong_closer, lone_hash, open_template, joined, IsLongestNumber, open_bracket, BeginsNoBody, BeginsSign}
-use Rattle.es_lexer.specs.Look.{line_stop, word_end, word_look, string_look, sign_look, regexp_look, divide_look, slash_look, template_look, number_stop, number_look, dot_look, brace_look, name_look, wide_look, hash_look, class_look, end_look, look_at}
-use Rattle.es_lexer.proofs.ByteLemmas.{start_is, wide_class, no_mark_by, quote_class, quote_is, slash_is, slash_class, backtick_is, backtick_class, brace_is, brace_class, hash_is, hash_class, digit_is, digit_class, dot_is, dot_class, no_comment_at}
+use Rattle.es_lexer.specs.Stops.{Stuck, open_string, bad_escape, open_comment, no_token, no_character, open_regexp, wrong_closer, lone_hash, open_template, joined, IsLongestNumber, open_bracket, bad_name, bad_private, backslash_fault, BeginsNoBody, BeginsSign}
+use Rattle.es_lexer.specs.Look.{line_stop, word_end, flags_end, word_look, string_look, sign_look, regexp_look, divide_look, slash_look, template_look, number_stop, number_look, dot_look, brace_look, name_look, wide_look, backslash_look, hash_look, class_look, end_look, look_at}
+use Rattle.es_lexer.proofs.ByteLemmas.{start_is, wide_class, no_mark_by, quote_class, quote_is, slash_is, slash_class, backtick_is, backtick_class, brace_is, brace_class, hash_is, hash_class, backslash_is, backslash_class, digit_is, digit_class, dot_is, dot_class, no_comment_at}
 use Rattle.es_lexer.proofs.LineLemmas.{or_left, or_right, Run, run, in_line_back, line_passed}
-use Rattle.es_lexer.proofs.PartLemmas.{not_zero, Parts, parts, parts_pass, name_class, name_more, name_front, name_no_comment}
+use Rattle.es_lexer.proofs.PartLemmas.{not_zero, Parts, word_parts, flag_parts, word_pass, flags_pass, word_ends, flags_ends, letter, character, escaped, name_class, name_more, name_front, name_no_comment}
 use Rattle.es_wide.specs.Wide.{wide_size, wide_blank, wide_line, is_separator}
 use Rattle.es_wide.proofs.WideLemmas as wide
 use Rattle.es_lexer.proofs.CommentLemmas as remark
@@ -92,13 +92,24 @@ unfolding wide_look
 char_looks goal at text zero e l = absurd (omega arith)
 char_looks goal at text (suc n) e l = rw (e, not_zero (suc n) (omega arith)) refl
 
+name_backslash : (goal : Goal) (at : ℕ) (text : List ℕ) → begins_name text ≡ true
+    → backslash_look goal at text ≡ word_look goal.member at text
+unfolding backslash_look
+name_backslash goal at text e = rw e refl
+
+backslash_looks : (goal : Goal) (at b : ℕ) (rest : List ℕ) → first_of b ≡ first.Backslash
+    → look_at goal at (b ∷ rest) ≡ backslash_look goal at (b ∷ rest)
+unfolding look_at class_look
+backslash_looks goal at b rest f = rw f refl
+
 name_looks : (goal : Goal) (at : ℕ) (text : List ℕ) → begins_name text ≡ true
     → look_at goal at text ≡ word_look goal.member at text
 unfolding begins_name
 name_looks goal at [] e = cc
 name_looks goal at (b ∷ rest) e = elim (name_class b rest e) [
-  | inl f ↦ start_looks goal at b rest f
-  | inr p ↦ wide_looks goal at b rest p.0 ∙ char_looks goal at (b ∷ rest) (wide_size (b ∷ rest)) refl p.1
+  | letter f ↦ start_looks goal at b rest f
+  | character f l ↦ wide_looks goal at b rest f ∙ char_looks goal at (b ∷ rest) (wide_size (b ∷ rest)) refl l
+  | escaped f n s ↦ backslash_looks goal at b rest f ∙ name_backslash goal at (b ∷ rest) e
 ]
 
 -- a string literal's look
@@ -308,13 +319,15 @@ sign_reaches_class goal at b rest after k first.Hash f i w a n = cc
 sign_reaches_class goal at b rest after k first.Blank f i w a n = cc
 sign_reaches_class goal at b rest after k first.LineEnd f i w a n = cc
 sign_reaches_class goal at b rest after k first.Start f i w a n = cc
+sign_reaches_class goal at b rest after k first.Backslash f i w a n = cc
 sign_reaches_class goal at b rest after k first.Wide f i w a n = cc
 sign_reaches_class goal at b rest after k first.Quote f i w a n = cc
 
 word_reaches : (goal : Goal) (at : ℕ) (k : TokenKind) (s after : List ℕ) → IsWord s → k ≡ kind_at goal.member s
-    → Parts (at + length s) after → Reached k (at + length s) (look_at goal at (s ++ after))
+    → Parts word_unit (at + length s) after → Reached k (at + length s) (look_at goal at (s ++ after))
 word_reaches goal at k s after w e r =
-    let end : word_end at (s ++ after) ≡ at + length s + length r.front = parts_pass at s after w.goes_on ∙ r.end in
+    let end : word_end at (s ++ after) ≡ at + length s + length r.front =
+    word_pass at s after w.goes_on ∙ word_ends (at + length s) after r in
     reached (kind_at goal.member (take (at + length s + length r.front - at) (s ++ after)))
     (at + length s + length r.front)
     (name_looks goal at (s ++ after) (name_more s after w.starts)
@@ -388,8 +401,9 @@ name_starts at text e = rw e refl
 
 name_no_mark : (front : Bool) (b : ℕ) (rest : List ℕ) → begins_name (b ∷ rest) ≡ true → (front && b == 33) ≡ false
 name_no_mark front b rest e = elim (name_class b rest e) [
-  | inl f ↦ no_mark_by front b first.Start f (λ g. cc)
-  | inr p ↦ no_mark_by front b first.Wide p.0 (λ g. cc)
+  | letter f ↦ no_mark_by front b first.Start f (λ g. cc)
+  | character f l ↦ no_mark_by front b first.Wide f (λ g. cc)
+  | escaped f n s ↦ no_mark_by front b first.Backslash f (λ g. cc)
 ]
 
 hash_ends : (front : Bool) (at : ℕ) (text : List ℕ) → begins_name text ≡ true
@@ -428,12 +442,12 @@ shebang_reaches goal at k s after text h f q e a =
     (omega arith) (λ p. e)
 
 private_reaches : (goal : Goal) (at : ℕ) (k : TokenKind) (s after name : List ℕ) → (w : IsWord name) → s ≡ 35 ∷ name
-    → k ≡ kind.PrivateName → Parts (at + 1 + length name) after
+    → k ≡ kind.PrivateName → Parts word_unit (at + 1 + length name) after
     → Reached k (at + length s) (look_at goal at (s ++ after))
 private_reaches goal at k s after name w q e r =
     let size : length s ≡ length (35 ∷ name) = ap length q in
     let end : word_end (at + 1) (name ++ after) ≡ at + 1 + length name + length r.front =
-    parts_pass (at + 1) name after w.goes_on ∙ r.end in
+    word_pass (at + 1) name after w.goes_on ∙ word_ends (at + 1 + length name) after r in
     reached kind.PrivateName (at + 1 + length name + length r.front)
     (ap (λ v. look_at goal at (v ++ after)) q
     ∙ (hash_looks goal at 35 (name ++ after) hash_class
@@ -449,22 +463,23 @@ regexp_looks goal at rest n r =
 
 body_reads : (at : ℕ) (body after : List ℕ) → IsBody body
     → regexp_look at (body_end (at + 1) (body ++ after)) (body ++ after)
-    ≡ look.Token kind.RegExp (word_end (at + 1 + length body) after)
+    ≡ look.Token kind.RegExp (flags_end (at + 1 + length body) after)
 unfolding regexp_look
 body_reads at body after i =
     ap (λ found. regexp_look at found (body ++ after)) (pattern.body_found (at + 1) body after i)
-    ∙ ap (λ t. look.Token kind.RegExp (word_end (at + 1 + length body) t))
+    ∙ ap (λ t. look.Token kind.RegExp (flags_end (at + 1 + length body) t))
     (drop_at body after (at + 1 + length body - (at + 1)) (omega arith))
 
 regexp_reads : (goal : Goal) (at : ℕ) (body flags after : List ℕ) → IsBody body
-    → begins_comment (47 ∷ (body ++ (flags ++ after))) ≡ false → goal.regexp ≡ true → AreParts flags
-    → (r : Parts (at + 1 + length body + length flags) after)
+    → begins_comment (47 ∷ (body ++ (flags ++ after))) ≡ false → goal.regexp ≡ true → AreParts part_unit flags
+    → (r : Parts part_unit (at + 1 + length body + length flags) after)
     → look_at goal at (47 ∷ (body ++ (flags ++ after)))
     ≡ look.Token kind.RegExp (at + 1 + length body + length flags + length r.front)
 regexp_reads goal at body flags after i n g h r =
     regexp_looks goal at (body ++ (flags ++ after)) n g
     ∙ (body_reads at body (flags ++ after) i
-    ∙ ap (λ e. look.Token kind.RegExp e) (parts_pass (at + 1 + length body) flags after h ∙ r.end))
+    ∙ ap (λ e. look.Token kind.RegExp e)
+    (flags_pass (at + 1 + length body) flags after h ∙ flags_ends (at + 1 + length body + length flags) after r))
 
 regexp_may : (goal : Goal) (k : TokenKind) (after : List ℕ) → k ≡ kind.RegExp → allows goal k after ≡ true
     → goal.regexp ≡ true
@@ -475,7 +490,7 @@ regexp_may goal k after e a =
 
 regexp_reaches : (goal : Goal) (at : ℕ) (k : TokenKind) (s after : List ℕ) → (i : IsRegExp s) → k ≡ kind.RegExp
     → allows goal k after ≡ true → begins_comment (s ++ after) ≡ false
-    → Parts (at + 1 + length i.body + length i.flags) after → Reached k (at + length s) (look_at goal at (s ++ after))
+    → Parts part_unit (at + 1 + length i.body + length i.flags) after → Reached k (at + length s) (look_at goal at (s ++ after))
 regexp_reaches goal at k s after i e a n r =
     let cut : s ++ after ≡ 47 ∷ (i.body ++ (i.flags ++ after)) =
     ap (λ t. t ++ after) i.whole ∙ ap (λ t. 47 ∷ t) (append_assoc i.body i.flags after) in
@@ -531,7 +546,7 @@ spelled_looks : (goal : Goal) (at : ℕ) (big : Bool) (s after : List ℕ) → I
 spelled_looks goal at big [] after i = absurd (digits.no_empty big i)
 spelled_looks goal at big (b ∷ s) after i = number_looks goal at b (s ++ after) (digits.begins big (b ∷ s) after i)
 
-number_stops_by : (n : NumberEnd) (after : List ℕ) (v : Bool) (k : TokenKind) (m : ℕ) → begins_part after ≡ v
+number_stops_by : (n : NumberEnd) (after : List ℕ) (v : Bool) (k : TokenKind) (m : ℕ) → joins after ≡ v
     → number_stop n after ≡ look.Token k m → n.end ≡ m
 unfolding number_stop
 number_stops_by n after true k m p e = let f : look.Fault InvalidChar n.end ≡ look.Token k m = rw p at e in cc
@@ -545,7 +560,7 @@ unfolding number_look
 number_limits goal at big s after k m i e =
     let n : (number_end at (s ++ after)).end ≡ m =
     number_stops_by (number_end at (s ++ after))
-    (drop ((number_end at (s ++ after)).end - at) (s ++ after)) (begins_part _) k m refl
+    (drop ((number_end at (s ++ after)).end - at) (s ++ after)) (joins _) k m refl
     (sym (spelled_looks goal at big s after i) ∙ e) in
     let l : at + length s ≤ (number_end at (s ++ after)).end = digits.number_reaches at big s after i in
     omega arith
@@ -558,18 +573,18 @@ pub data Limited (k : TokenKind) (s : List ℕ) (end : ℕ) (found : Look) : Typ
 pub reaches : (goal : Goal) (at : ℕ) (k : TokenKind) (s after : List ℕ) → Spells goal k s → allows goal k after ≡ true
     → begins_comment (s ++ after) ≡ false → Limited k s (at + length s) (look_at goal at (s ++ after))
 unfolding sign_kind
-reaches goal at k s after (word w e) a n = by_reach (word_reaches goal at k s after w e (parts (at + length s) after))
+reaches goal at k s after (word w e) a n = by_reach (word_reaches goal at k s after w e (word_parts (at + length s) after))
 reaches goal at k s after (str l e) a n = by_reach (string_reaches goal at k s after l e)
 reaches goal at k [] after (sign e) a n = cc
 reaches goal at k (b ∷ s) after (sign e) a n =
     by_reach (sign_reaches_class goal at b s after k (first_of b) refl (mark.sign_begins b s k e) e a n)
 reaches goal at k s after (private_name name w q e) a n =
-    by_reach (private_reaches goal at k s after name w q e (parts (at + 1 + length name) after))
+    by_reach (private_reaches goal at k s after name w q e (word_parts (at + 1 + length name) after))
 reaches goal at k s after (template opens sub body t q e) a n =
     by_reach (template_reaches goal at k s after opens sub body t q e a)
 reaches goal at k s after (expression i e) a n =
     by_reach (regexp_reaches goal at k s after i e a n
-    (parts (at + 1 + length i.body + length i.flags) after))
+    (flag_parts (at + 1 + length i.body + length i.flags) after))
 reaches goal at k s after (shebang text h f q e) a n =
     by_reach (shebang_reaches goal at k s after text h f q e a)
 reaches goal at k s after (number big i e) a n = by_number big i e
@@ -659,15 +674,44 @@ unfolding look_at class_look
 sign_looks goal at b rest (inl f) = rw f refl
 sign_looks goal at b rest (inr p) = brace_same goal at b rest p.0 p.1
 
-name_stuck : (at : ℕ) (text : List ℕ) → begins_name text ≡ false → name_look at text ≡ look.Fault InvalidChar at
+name_stuck : (at : ℕ) (text : List ℕ) → begins_backslash text ≡ false → begins_name text ≡ false
+    → name_look at text ≡ look.Fault InvalidChar at
 unfolding name_look
-name_stuck at text e = rw e refl
+name_stuck at text s e = rw (e, s) refl
 
-hash_stuck : (front : Bool) (at : ℕ) (after : List ℕ) → begins_name after ≡ false
+hash_stuck : (front : Bool) (at : ℕ) (after : List ℕ) → begins_backslash after ≡ false → begins_name after ≡ false
     → (front && begins_mark after) ≡ false → hash_look front at after ≡ look.Fault InvalidChar at
 unfolding hash_look begins_mark
-hash_stuck front at [] h n = refl
-hash_stuck front at (b ∷ rest) h n = rw n (name_stuck at (b ∷ rest) h)
+hash_stuck front at [] s h n = refl
+hash_stuck front at (b ∷ rest) s h n = rw n (name_stuck at (b ∷ rest) s h)
+
+-- a `\` that begins no name
+backslash_stuck : (goal : Goal) (at : ℕ) (text : List ℕ) → begins_name text ≡ false
+    → backslash_look goal at text ≡ look.Fault (backslash_fault text) at
+unfolding backslash_look
+backslash_stuck goal at text e = rw e refl
+
+word_stuck : (goal : Goal) (at : ℕ) (text : List ℕ) → begins_backslash text ≡ true → begins_name text ≡ false
+    → look_at goal at text ≡ look.Fault (backslash_fault text) at
+unfolding begins_backslash
+word_stuck goal at [] s e = cc
+word_stuck goal at (b ∷ rest) s e =
+    backslash_looks goal at b rest (ap first_of (eqb-true b 92 s) ∙ backslash_class)
+    ∙ backslash_stuck goal at (b ∷ rest) e
+
+escape_stuck : (at : ℕ) (text : List ℕ) → begins_backslash text ≡ true → begins_name text ≡ false
+    → name_look at text ≡ look.Fault (backslash_fault text) (at + 1)
+unfolding name_look
+escape_stuck at text s e = rw (e, s) refl
+
+private_stuck : (front : Bool) (at : ℕ) (after : List ℕ) → begins_backslash after ≡ true → begins_name after ≡ false
+    → hash_look front at after ≡ look.Fault (backslash_fault after) (at + 1)
+unfolding begins_backslash
+private_stuck front at [] s e = cc
+private_stuck front at (b ∷ rest) s e =
+    hash_names front at b rest
+    (no_mark_by front b first.Backslash (ap first_of (eqb-true b 92 s) ∙ backslash_class) (λ g. cc))
+    ∙ escape_stuck at (b ∷ rest) s e
 
 -- what is no character
 char_stuck : (goal : Goal) (at : ℕ) (text : List ℕ) → wide_size text ≡ 0 → wide_blank text ≡ 0 → wide_line text ≡ 0
@@ -687,12 +731,12 @@ template_stuck : (opens : Bool) (at : ℕ) (body : List ℕ) → IsUnclosed body
 unfolding template_look
 template_stuck opens at body u = ap (template_look opens at) (text.unclosed_found (at + 1) body u)
 
-joined_fault : (n : NumberEnd) (after : List ℕ) → begins_part after ≡ true
+joined_fault : (n : NumberEnd) (after : List ℕ) → joins after ≡ true
     → number_stop n after ≡ look.Fault InvalidChar n.end
 unfolding number_stop
 joined_fault n after e = rw e refl
 
-apart_token : (n : NumberEnd) (after : List ℕ) → begins_part after ≡ false
+apart_token : (n : NumberEnd) (after : List ℕ) → joins after ≡ false
     → number_stop n after ≡ look.Token (number_kind n.big) n.end
 unfolding number_stop
 apart_token n after e = rw e refl
@@ -709,7 +753,7 @@ number_at at big s after i l =
     (drop_at s after (at + length s - at) (omega arith))
 
 number_stuck : (goal : Goal) (at : ℕ) (big : Bool) (s after : List ℕ) → IsNumber big s → IsLongestNumber s after
-    → begins_part after ≡ true → look_at goal at (s ++ after) ≡ look.Fault InvalidChar (at + length s)
+    → joins after ≡ true → look_at goal at (s ++ after) ≡ look.Fault InvalidChar (at + length s)
 number_stuck goal at big s after i l p =
     spelled_looks goal at big s after i ∙ (number_at at big s after i l
     ∙ joined_fault (record { big = big; end = at + length s }) after p)
@@ -740,8 +784,11 @@ stuck_reads goal rest at kind place (no_character b after w f m n l e p) =
     ∙ (char_stuck goal at (b ∷ after) (rw w at m) (rw w at n) (rw w at l) ∙ (cc)))
 stuck_reads goal rest at kind place (wrong_closer b after k w f s c e p) =
     rw w (sign_looks goal at b after f ∙ (closer_stuck goal.bracket at b after k s c ∙ (cc)))
-stuck_reads goal rest at kind place (lone_hash after w h n e p) =
-    rw w (hash_looks goal at 35 after hash_class ∙ (hash_stuck goal.front at after h n ∙ (cc)))
+stuck_reads goal rest at kind place (bad_name s h e p) = word_stuck goal at rest s h ∙ (cc)
+stuck_reads goal rest at kind place (bad_private after w s h e p) =
+    rw w (hash_looks goal at 35 after hash_class ∙ (private_stuck goal.front at after s h ∙ (cc)))
+stuck_reads goal rest at kind place (lone_hash after w s h n e p) =
+    rw w (hash_looks goal at 35 after hash_class ∙ (hash_stuck goal.front at after s h n ∙ (cc)))
 stuck_reads goal rest at kind place (open_template opens body w h u e p) =
     rw w (template_opens goal at opens body h ∙ (template_stuck opens at body u ∙ (cc)))
 stuck_reads goal rest at kind place (joined big s after w i l b e p) =
@@ -801,7 +848,7 @@ dot_no_slash a f e =
     let class : first.Slash ≡ first.Dot = sym slash_class ∙ (ap first_of (sym same) ∙ f) in
     cc
 
-word_met : (goal : Goal) (at : ℕ) (text : List ℕ) → begins_name text ≡ true → Parts at text
+word_met : (goal : Goal) (at : ℕ) (text : List ℕ) → begins_name text ≡ true → Parts word_unit at text
     → Found goal at text (look_at goal at text)
 word_met goal at text h r =
     let w : IsWord r.front =
@@ -811,7 +858,7 @@ word_met goal at text h r =
     (ap begins_comment (sym r.whole) ∙ name_no_comment text h)
     (free_apart (kind_at goal.member r.front) r.back (word_free goal.member r.front)) refl
     (name_looks goal at text h
-    ∙ (word_looks goal.member at text (at + length r.front) r.end
+    ∙ (word_looks goal.member at text (at + length r.front) (word_ends at text r)
     ∙ ap (λ t. look.Token (kind_at goal.member t) (at + length r.front))
     (ap (take (at + length r.front - at)) r.whole
     ∙ take_at r.front r.back (at + length r.front - at) (omega arith))))
@@ -860,7 +907,7 @@ line_met goal at b rest n f e (wide.paragraph_separator after w s) =
 
 wide_found : (goal : Goal) (at b : ℕ) (rest : List ℕ) (l m n : ℕ) → first_of b ≡ first.Wide → wide_size (b ∷ rest) ≡ l
     → wide_blank (b ∷ rest) ≡ m → wide_line (b ∷ rest) ≡ n → Found goal at (b ∷ rest) (look_at goal at (b ∷ rest))
-wide_found goal at b rest (suc l) m n f e w v = word_met goal at (b ∷ rest) (char_name b rest l e) (parts at (b ∷ rest))
+wide_found goal at b rest (suc l) m n f e w v = word_met goal at (b ∷ rest) (char_name b rest l e) (word_parts at (b ∷ rest))
 wide_found goal at b rest zero (suc m) n f e w v = blank_met goal at b rest m f w (wide.blank_front (b ∷ rest) m w)
 wide_found goal at b rest zero zero (suc n) f e w v = line_met goal at b rest n f v (wide.line_is (b ∷ rest) n v)
 wide_found goal at b rest zero zero zero f e w v =
@@ -1044,7 +1091,7 @@ opens_same [] x y i =
 opens_same (b ∷ body) x y i = refl
 
 regexp_met : (goal : Goal) (at : ℕ) (rest body after : List ℕ) → goal.regexp ≡ true → begins_comment (47 ∷ rest) ≡ false
-    → rest ≡ body ++ after → IsBody body → Parts (at + 1 + length body) after
+    → rest ≡ body ++ after → IsBody body → Parts part_unit (at + 1 + length body) after
     → Found goal at (47 ∷ rest) (look_at goal at (47 ∷ rest))
 regexp_met goal at rest body after g n w i r =
     let s : List ℕ = 47 ∷ (body ++ r.front) in
@@ -1060,14 +1107,15 @@ regexp_met goal at rest body after g n w i r =
     (ap begins_comment (sym whole) ∙ n) (regexp_apart r.back) refl
     (regexp_looks goal at rest n g
     ∙ (ap (λ t. regexp_look at (body_end (at + 1) t) t) w
-    ∙ (body_reads at body after i ∙ ap (λ e. look.Token kind.RegExp e) (r.end ∙ size))))
+    ∙ (body_reads at body after i
+    ∙ ap (λ e. look.Token kind.RegExp e) (flags_ends (at + 1 + length body) after r ∙ size))))
 
 regexp_found : (goal : Goal) (at : ℕ) (rest : List ℕ) (found : Option ℕ) → goal.regexp ≡ true
     → begins_comment (47 ∷ rest) ≡ false → body_end (at + 1) rest ≡ found → pattern.BodyFound (at + 1) rest found
     → Found goal at (47 ∷ rest) (look_at goal at (47 ∷ rest))
 unfolding regexp_look
 regexp_found goal at rest found g n l (pattern.closes body after w i e) =
-    regexp_met goal at rest body after g n w i (parts (at + 1 + length body) after)
+    regexp_met goal at rest body after g n w i (flag_parts (at + 1 + length body) after)
 regexp_found goal at rest found g n l (pattern.none h e) =
     fault UnterminatedRegExp at (open_regexp rest refl n g h refl refl)
     (regexp_looks goal at rest n g ∙ ap (λ f. regexp_look at f rest) (l ∙ e))
@@ -1200,7 +1248,7 @@ private_allows : (goal : Goal) (after : List ℕ) → allows goal kind.PrivateNa
 unfolding allows may_close role_of may_stand
 private_allows goal after = refl
 
-private_found : (goal : Goal) (at : ℕ) (text : List ℕ) → begins_name text ≡ true → Parts (at + 1) text
+private_found : (goal : Goal) (at : ℕ) (text : List ℕ) → begins_name text ≡ true → Parts word_unit (at + 1) text
     → Found goal at (35 ∷ text) (look_at goal at (35 ∷ text))
 private_found goal at text h r =
     let w : IsWord r.front =
@@ -1210,13 +1258,21 @@ private_found goal at text h r =
     (no_comment_at 35 (r.front ++ r.back) first.Hash hash_class (λ e. cc)) (private_apart r.back) refl
     (hash_looks goal at 35 text hash_class ∙ (hash_ends goal.front at text h
     ∙ ap (λ n. look.Token kind.PrivateName n)
-    (r.end ∙ (let q : at + 1 + length r.front ≡ at + length (35 ∷ r.front) = omega arith in q))))
+    (word_ends (at + 1) text r
+    ∙ (let q : at + 1 + length r.front ≡ at + length (35 ∷ r.front) = omega arith in q))))
+
+no_name_by : (goal : Goal) (at : ℕ) (rest : List ℕ) (v : Bool) → begins_backslash rest ≡ v → begins_name rest ≡ false
+    → (goal.front && begins_mark rest) ≡ false → Found goal at (35 ∷ rest) (look_at goal at (35 ∷ rest))
+no_name_by goal at rest true s h n =
+    fault (backslash_fault rest) (at + 1) (bad_private rest refl s h refl refl)
+    (hash_looks goal at 35 rest hash_class ∙ private_stuck goal.front at rest s h)
+no_name_by goal at rest false s h n =
+    fault InvalidChar at (lone_hash rest refl s h n refl refl)
+    (hash_looks goal at 35 rest hash_class ∙ hash_stuck goal.front at rest s h n)
 
 no_name : (goal : Goal) (at : ℕ) (rest : List ℕ) → begins_name rest ≡ false → (goal.front && begins_mark rest) ≡ false
     → Found goal at (35 ∷ rest) (look_at goal at (35 ∷ rest))
-no_name goal at rest h n =
-    fault InvalidChar at (lone_hash rest refl h n refl refl)
-    (hash_looks goal at 35 rest hash_class ∙ hash_stuck goal.front at rest h n)
+no_name goal at rest h n = no_name_by goal at rest (begins_backslash rest) refl h n
 
 shebang_apart : (after : List ℕ) → stands_apart kind.Shebang after ≡ true
 unfolding stands_apart
@@ -1243,7 +1299,7 @@ no_mark front b rest n = n
 
 hash_byte : (goal : Goal) (at b : ℕ) (rest : List ℕ) (v : Bool) → begins_name (b ∷ rest) ≡ v
     → (goal.front && b == 33) ≡ false → Found goal at (35 ∷ b ∷ rest) (look_at goal at (35 ∷ b ∷ rest))
-hash_byte goal at b rest true h n = private_found goal at (b ∷ rest) h (parts (at + 1) (b ∷ rest))
+hash_byte goal at b rest true h n = private_found goal at (b ∷ rest) h (word_parts (at + 1) (b ∷ rest))
 hash_byte goal at b rest false h n = no_name goal at (b ∷ rest) h (no_mark goal.front b rest n)
 
 hash_by : (goal : Goal) (at b : ℕ) (rest : List ℕ) (v : Bool) → (goal.front && b == 33) ≡ v
@@ -1272,7 +1328,7 @@ unfolding allows number_kind role_of may_close may_stand
 number_allows goal true after = refl
 number_allows goal false after = refl
 
-number_apart : (big : Bool) (after : List ℕ) → begins_part after ≡ false → stands_apart (number_kind big) after ≡ true
+number_apart : (big : Bool) (after : List ℕ) → joins after ≡ false → stands_apart (number_kind big) after ≡ true
 unfolding stands_apart number_kind
 number_apart true after e = ap not e
 number_apart false after e = ap not e
@@ -1294,7 +1350,7 @@ longest_number at big s after e other more rest w i =
     nil_from_length more (omega (arith, length-append s more))
 
 number_found_by : (goal : Goal) (at : ℕ) (big : Bool) (s after text : List ℕ) (v : Bool) → text ≡ s ++ after
-    → IsNumber big s → IsLongestNumber s after → begins_part after ≡ v → Found goal at text (look_at goal at text)
+    → IsNumber big s → IsLongestNumber s after → joins after ≡ v → Found goal at text (look_at goal at text)
 number_found_by goal at big s after text true w i l p =
     fault InvalidChar (at + length s) (joined big s after w i l p refl refl)
     (ap (look_at goal at) w ∙ number_stuck goal at big s after i l p)
@@ -1308,7 +1364,7 @@ number_class : (goal : Goal) (at b : ℕ) (rest : List ℕ) → begins_number (b
     → Found goal at (b ∷ rest) (look_at goal at (b ∷ rest))
 number_class goal at b rest h =
     let f : digits.NumberFound at (b ∷ rest) (number_end at (b ∷ rest)) = digits.number_finds at b rest h in
-    number_found_by goal at f.big f.part f.after (b ∷ rest) (begins_part f.after) f.whole f.is
+    number_found_by goal at f.big f.part f.after (b ∷ rest) (joins f.after) f.whole f.is
     (longest_number at f.big f.part f.after (ap (number_end at) (sym f.whole) ∙ f.end)) refl
 
 dot_class_by : (goal : Goal) (at b : ℕ) (rest : List ℕ) (v : Bool) → begins_digit rest ≡ v → first_of b ≡ first.Dot
@@ -1319,6 +1375,17 @@ dot_class_by goal at b rest false d f =
     (sign_found goal at b rest (sign_at (b ∷ rest)) (dot f d) (no_comment_at b rest first.Dot f (λ e. cc))
     (dot_same goal at b rest f d) (mark.sign_finds b rest))
 
+is_backslash : (b : ℕ) (rest : List ℕ) → b ≡ 92 → begins_backslash (b ∷ rest) ≡ true
+unfolding begins_backslash
+is_backslash b rest e = eq-eqb b 92 e
+
+backslash_found : (goal : Goal) (at b : ℕ) (rest : List ℕ) (v : Bool) → first_of b ≡ first.Backslash
+    → begins_name (b ∷ rest) ≡ v → Found goal at (b ∷ rest) (look_at goal at (b ∷ rest))
+backslash_found goal at b rest true f e = word_met goal at (b ∷ rest) e (word_parts at (b ∷ rest))
+backslash_found goal at b rest false f e =
+    let s : begins_backslash (b ∷ rest) ≡ true = is_backslash b rest (backslash_is b f) in
+    fault (backslash_fault (b ∷ rest)) at (bad_name s e refl refl) (word_stuck goal at (b ∷ rest) s e)
+
 class_found : (goal : Goal) (at b : ℕ) (rest : List ℕ) (c : First) → first_of b ≡ c
     → Found goal at (b ∷ rest) (look_at goal at (b ∷ rest))
 unfolding look_at class_look
@@ -1327,7 +1394,8 @@ class_found goal at b rest first.Blank f =
 class_found goal at b rest first.LineEnd f =
     rw f (piece (line_end (b ∷ [])) rest refl (inl (record { byte = b; whole = refl; is = f })) refl)
 class_found goal at b rest first.Start f =
-    word_met goal at (b ∷ rest) (start_name b rest (start_is b f)) (parts at (b ∷ rest))
+    word_met goal at (b ∷ rest) (start_name b rest (start_is b f)) (word_parts at (b ∷ rest))
+class_found goal at b rest first.Backslash f = backslash_found goal at b rest (begins_name (b ∷ rest)) f refl
 class_found goal at b rest first.Wide f =
     wide_found goal at b rest (wide_size (b ∷ rest)) (wide_blank (b ∷ rest)) (wide_line (b ∷ rest)) f refl refl refl
 class_found goal at b rest first.Quote f =
@@ -1390,10 +1458,10 @@ token_reads_by goal at k s after found t (reached j m f l g) (piece (token i r) 
     let same : k ≡ j = g end in
     f ∙ cc
 
-apart_back : (big : Bool) (after : List ℕ) → stands_apart (number_kind big) after ≡ true → begins_part after ≡ false
+apart_back : (big : Bool) (after : List ℕ) → stands_apart (number_kind big) after ≡ true → joins after ≡ false
 unfolding stands_apart number_kind
-apart_back true after e = remark.not_true (begins_part after) e
-apart_back false after e = remark.not_true (begins_part after) e
+apart_back true after e = remark.not_true (joins after) e
+apart_back false after e = remark.not_true (joins after) e
 
 number_reads : (goal : Goal) (at : ℕ) (k : TokenKind) (s after : List ℕ) (big : Bool) → IsToken goal k s after
     → IsNumber big s → k ≡ number_kind big → look_at goal at (s ++ after) ≡ look.Token k (at + length s)

@@ -25,7 +25,7 @@ use Rattle.es_lexer.specs.Reads.{tokens_of, comments_of, token_of, comment_of}
 use Rattle.es_wide.specs.Wide.{wide_blank, wide_line}
 use Rattle.es_wide.proofs.WideLemmas.{blank_begins, line_begins}
 use Rattle.es_lexer.proofs.LineLemmas.{StartsChar, ascii_starts}
-use Rattle.es_lexer.proofs.PartLemmas.{name_class, name_high}
+use Rattle.es_lexer.proofs.PartLemmas.{letter, escaped, character, name_class, name_high}
 use Rattle.es_lexer.proofs.ByteLemmas as byte
 use Rattle.es_lexer.proofs.SpellingLemmas.{not_empty}
 use Rattle.es_spelling.proofs.AsciiLemmas.{number_ascii}
@@ -63,6 +63,7 @@ mark_ascii b h = elim (byte.classed b) [
   | byte.hash s e ↦ cc
   | byte.digit s e ↦ cc
   | byte.dot s e ↦ cc
+  | byte.backslash s e ↦ cc
   | byte.wide l e ↦ cc
   | byte.other e ↦ cc
 ]
@@ -98,8 +99,9 @@ ascii_begins b l = λ h. absurd (omega arith)
 
 name_begins : (b : ℕ) (rest : List ℕ) → begins_name (b ∷ rest) ≡ true → Begins b
 name_begins b rest e = elim (name_class b rest e) [
-  | inl f ↦ ascii_begins b (start_ascii b (byte.start_is b f))
-  | inr p ↦ λ h. let l : 194 ≤ b = name_high b rest p.1 in omega arith
+  | letter f ↦ ascii_begins b (start_ascii b (byte.start_is b f))
+  | escaped f n s ↦ let same : b ≡ 92 = byte.backslash_is b f in ascii_begins b (omega arith)
+  | character f l ↦ λ h. let l : 194 ≤ b = name_high b rest l in omega arith
 ]
 
 first_begins : (goal : Goal) (k : TokenKind) (b : ℕ) (rest : List ℕ) → Spells goal k (b ∷ rest) → Begins b
@@ -393,3 +395,23 @@ comment_cuts x c a =
     ∙ (ap (take (c.range.end - c.range.start))
     (drop_at a.front (comment_spelling c.kind c.text ++ a.after) c.range.start (sym starts))
     ∙ take_at (comment_spelling c.kind c.text) a.after (c.range.end - c.range.start) (omega arith))
+
+comment_size : (kind : CommentKind) (text : List ℕ) → 0 < length (comment_spelling kind text)
+unfolding comment_spelling
+comment_size Line text = omega arith
+comment_size Block text = omega arith
+
+pub comment_inside : (x : List ℕ) (c : Comment) → CommentAt x c
+    → (c.range.start < c.range.end) × (c.range.end ≤ length x)
+comment_inside x c a =
+    let size : 0 < length (comment_spelling c.kind c.text) = comment_size c.kind c.text in
+    let starts : c.range.start ≡ length a.front = a.starts in
+    let ends : c.range.end ≡ length a.front + length (comment_spelling c.kind c.text) = a.ends in
+    let whole : length x ≡ length (a.front ++ (comment_spelling c.kind c.text ++ a.after)) = ap length a.whole in (
+      omega arith,
+      omega (
+        arith,
+        length-append a.front (comment_spelling c.kind c.text ++ a.after),
+        length-append (comment_spelling c.kind c.text) a.after,
+      ),
+    )

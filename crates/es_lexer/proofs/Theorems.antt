@@ -14,7 +14,7 @@ use Rattle.es_lexer.proofs.LookLemmas.{stuck_reads}
 use Rattle.es_token.specs.declared.token.TokenKind.TheVariants.{Str}
 use Rattle.es_literal.specs.Strings.{IsString}
 use Rattle.es_lexer.specs.Spelling.{Spells}
-use Rattle.es_lexer.proofs.PlaceLemmas.{TokenAt, token_at, not_nothing, boundaries, ascends, cuts, literal_of, comment_at, comment_cuts}
+use Rattle.es_lexer.proofs.PlaceLemmas.{TokenAt, token_at, not_nothing, boundaries, ascends, cuts, literal_of, comment_at, comment_cuts, comment_inside}
 use Rattle.es_lexer.specs.Bytes.{has_line_end}
 use Rattle.es_lexer.specs.Pieces.{is_behind, line_since}
 use Rattle.es_lexer.specs.declared.bracket.BracketKind.{BracketKind}
@@ -22,7 +22,8 @@ use Rattle.es_lexer.specs.declared.bracket.Role.TheVariants.{Opens}
 use Rattle.es_lexer.specs.Brackets.{role_of}
 use Rattle.es_lexer.specs.Pieces.{count_of}
 use Rattle.es_lexer.proofs.PartnerLemmas.{ClosedBy, opener_back}
-use Rattle.es_lexer.proofs.GapLemmas.{line_of_next, first_line, comments_ascend, stand_apart}
+use Rattle.es_lexer.specs.Gaps.{GapAt, IsOutside}
+use Rattle.es_lexer.proofs.GapLemmas.{line_of_next, first_line, comments_ascend, stand_apart, left_over}
 use Rattle.es_lexer.proofs.WholeLemmas.{Ended, reads, stops, cut_from}
 use Rattle.es_lexer.proofs.ReadingLemmas.{Once, once, halts_at_end, halts_at_fault}
 
@@ -130,7 +131,25 @@ reads_comment x ts cs n c r g =
     comment_cuts x c (comment_at r.pieces [] x [] [] n c (r.whole ∙ sym (append-nil (pieces_text r.pieces))) refl
     (ap (λ ds. slice_get ds n) (sym r.comments_are) ∙ g))
 
+-- it is not empty and ends within the text
+pub reads_comment_within : (x : List ℕ) (ts : List Token) (cs : List Comment) (n : ℕ) (c : Comment) → Reads x ts cs
+    → slice_get cs n ≡ Some c
+    → (c.range.start < c.range.end) × (c.range.end ≤ length x)
+reads_comment_within x ts cs n c r g =
+    comment_inside x c (comment_at r.pieces [] x [] [] n c (r.whole ∙ sym (append-nil (pieces_text r.pieces))) refl
+    (ap (λ ds. slice_get ds n) (sym r.comments_are) ∙ g))
+
 -- ---- what stands between tokens
+-- each byte that no token and no comment has belongs to a blank or to a line end
+pub reads_gaps : (x : List ℕ) (ts : List Token) (cs : List Comment) (place : ℕ) → Reads x ts cs → place < length x
+    → ((n : ℕ) (t : Token) → slice_get ts n ≡ Some t → IsOutside place t.range)
+    → ((n : ℕ) (c : Comment) → slice_get cs n ≡ Some c → IsOutside place c.range) → GapAt x place
+reads_gaps x ts cs place r l t c =
+    let size : length x ≡ length (pieces_text r.pieces) = ap length r.whole in
+    left_over r.pieces [] x [] [] place (r.whole ∙ sym (append-nil (pieces_text r.pieces))) refl r.each
+    (λ n u e. t n u (ap (λ us. slice_get us n) r.tokens_are ∙ e))
+    (λ n d e. c n d (ap (λ ds. slice_get ds n) r.comments_are ∙ e)) (omega arith) (omega arith)
+
 -- a line end stands before a token exactly where one stands between the token before it and its start
 pub reads_line_before : (x : List ℕ) (ts : List Token) (cs : List Comment) (n : ℕ) (t u : Token) → Reads x ts cs
     → slice_get ts n ≡ Some t → slice_get ts (n + 1) ≡ Some u

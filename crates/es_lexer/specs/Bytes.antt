@@ -4,8 +4,9 @@ use Rattle.std.specs.Prelude.{ℕ, Bool, true, false, not, nat_le, ◌&&◌, ◌
 use Rattle.std.specs.Char.{is_ascii_alphabetic, is_ascii_digit}
 use Rattle.es_spelling.specs.Lines.{begins_line_end}
 use Rattle.es_wide.specs.Wide.{wide_size}
+use Rattle.es_wide.specs.Escapes.{escaped_start, escaped_part}
 use Rattle.es_lexer.specs.declared.bytes.First.{First}
-use Rattle.es_lexer.specs.declared.bytes.First.TheVariants.{Blank, LineEnd, Start, Quote, Slash, Backtick, Brace, Hash, Digit, Dot, Wide, Other}
+use Rattle.es_lexer.specs.declared.bytes.First.TheVariants.{Blank, LineEnd, Start, Quote, Slash, Backtick, Brace, Hash, Digit, Dot, Backslash, Wide, Other}
 
 -- U+0009, U+000B, U+000C and U+0020
 abbrev pub is_blank : ℕ → Bool
@@ -40,8 +41,9 @@ first_of b =
     else (if b == 35 then Hash
     else (if is_ascii_digit b then Digit
     else (if b == 46 then Dot
+    else (if b == 92 then Backslash
     else (if nat_le 128 b then Wide
-    else Other))))))))))
+    else Other)))))))))))
 
 -- `//` or `/*` stands here (Comment)
 unfoldable pub begins_comment : List ℕ → Bool
@@ -75,16 +77,33 @@ unfoldable pub begins_mark : List ℕ → Bool
 begins_mark [] = false
 begins_mark (b ∷ rest) = b == 33
 
--- the size of the part of a name that stands here, or 0 (IdentifierPart)
+-- `\` stands here
+unfoldable pub begins_backslash : List ℕ → Bool
+begins_backslash [] = false
+begins_backslash (b ∷ rest) = b == 92
+
+-- `\u` stands here
+unfoldable pub begins_escape : List ℕ → Bool
+begins_escape [] = false
+begins_escape (a ∷ []) = false
+begins_escape (a ∷ b ∷ rest) = a == 92 && b == 117
+
+-- the size of the character of a name that stands here, or 0 (IdentifierPartChar)
 unfoldable pub part_unit : List ℕ → ℕ
 part_unit [] = 0
 part_unit (b ∷ rest) = if is_part b then 1 else wide_size (b ∷ rest)
 
--- a part of a name stands here
-unfoldable pub begins_part : List ℕ → Bool
-begins_part text = not (part_unit text == 0)
+-- the size of the part of a name that stands here, or 0: such a character or an escape of one (IdentifierPart)
+unfoldable pub word_unit : List ℕ → ℕ
+word_unit [] = 0
+word_unit (b ∷ rest) = if b == 92 then escaped_part (b ∷ rest) else part_unit (b ∷ rest)
 
--- the start of a name stands here (IdentifierStart)
+-- what may not stand right behind a number: a character of a name, or a `\`
+unfoldable pub joins : List ℕ → Bool
+joins text = not (part_unit text == 0) || begins_backslash text
+
+-- the start of a name stands here: a character or an escape of one (IdentifierStart)
 unfoldable pub begins_name : List ℕ → Bool
 begins_name [] = false
-begins_name (b ∷ rest) = is_start b || not (wide_size (b ∷ rest) == 0)
+begins_name (b ∷ rest) =
+    is_start b || (not (wide_size (b ∷ rest) == 0) || not (escaped_start (b ∷ rest) == 0))

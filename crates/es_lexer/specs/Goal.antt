@@ -8,7 +8,7 @@ use Rattle.es_lexer.specs.declared.goal.SlashRule.{SlashRule}
 use Rattle.es_lexer.specs.declared.goal.SlashRule.TheVariants.{Divides, ByParenthesis, ByLine, Begins}
 use Rattle.es_token.specs.declared.token.TokenKind.{TokenKind}
 use Rattle.es_token.specs.declared.token.TokenKind.TheVariants as kind
-use Rattle.es_lexer.specs.Bytes.{begins_part, ends_line}
+use Rattle.es_lexer.specs.Bytes.{joins, ends_line}
 use Rattle.es_lexer.specs.Brackets.{role_of, may_close}
 use Rattle.es_lexer.specs.Pieces.{Piece, blank, line_end, comment, token, Open, open_at, bracket_of, is_behind, line_since}
 
@@ -178,10 +178,10 @@ may_stand regexp k after = true
 unfoldable pub allows : Goal → TokenKind → List ℕ → Bool
 allows goal k after = may_close goal.bracket (role_of k) && may_stand goal.regexp k after
 
--- no part of a name stands right behind a number
+-- neither a character of a name nor a `\` stands right behind a number
 unfoldable pub stands_apart : TokenKind → List ℕ → Bool
-stands_apart kind.Number after = not (begins_part after)
-stands_apart kind.BigInt after = not (begins_part after)
+stands_apart kind.Number after = not (joins after)
+stands_apart kind.BigInt after = not (joins after)
 stands_apart k after = true
 
 -- ---- what the code keeps of the pieces

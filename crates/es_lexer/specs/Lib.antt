@@ -7,6 +7,7 @@ pub mod Pieces
 pub mod Goal
 pub mod Spelling
 pub mod Readable
+pub mod Gaps
 pub mod Reads
 pub mod Stops
 pub mod Answers

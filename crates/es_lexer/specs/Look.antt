@@ -11,7 +11,7 @@ use Rattle.es_lexer.specs.declared.look.Look.TheVariants as look
 use Rattle.es_token.specs.declared.token.CommentKind.TheVariants.{Line, Block}
 use Rattle.es_token.specs.declared.token.TokenKind.TheVariants as kind
 use Rattle.es_lexer.specs.declared.error.LexicalKind.TheVariants.{UnterminatedString, UnterminatedComment, UnterminatedTemplate, UnterminatedRegExp, InvalidEscape, InvalidChar, Unbalanced}
-use Rattle.es_lexer.specs.Bytes.{begins_part, begins_name, first_of, part_unit, begins_closer}
+use Rattle.es_lexer.specs.Bytes.{joins, begins_name, begins_backslash, first_of, part_unit, word_unit, begins_closer}
 use Rattle.es_lexer.specs.Words.{kind_at}
 use Rattle.es_lexer.specs.declared.bracket.BracketKind.TheVariants.{Template}
 use Rattle.es_spelling.specs.declared.template.TemplateEnd.{TemplateEnd}
@@ -27,6 +27,7 @@ use Rattle.es_literal.specs.declared.string.StringEnd.{StringEnd}
 use Rattle.es_literal.specs.declared.string.StringEnd.TheVariants as string
 use Rattle.es_literal.specs.Strings.{string_end}
 use Rattle.es_lexer.specs.Goal.{begins_digit}
+use Rattle.es_lexer.specs.Stops.{backslash_fault}
 use Rattle.es_lexer.specs.Spelling.{template_kind, number_kind}
 use Rattle.es_lexer.specs.Brackets.{role_of, is_open, may_close}
 use Rattle.es_lexer.specs.Signs.{sign_at}
@@ -38,7 +39,11 @@ line_stop at (b ∷ rest) = if begins_line_end (b ∷ rest) then at else line_st
 
 -- where the parts of a name end
 unfoldable pub word_end : ℕ → List ℕ → ℕ
-word_end at text = units_end part_unit at 0 text
+word_end at text = units_end word_unit at 0 text
+
+-- where flags end
+unfoldable pub flags_end : ℕ → List ℕ → ℕ
+flags_end at text = units_end part_unit at 0 text
 
 -- the word that stands at `at`, at the front of `text`, right after `.` or not
 unfoldable pub word_look : Bool → ℕ → List ℕ → Look
@@ -67,7 +72,7 @@ sign_look bracket at (Some sign) =
 -- a regular expression at `at`, by the place behind its body, before the text behind its first `/`
 unfoldable pub regexp_look : ℕ → Option ℕ → List ℕ → Look
 regexp_look at None rest = look.Fault UnterminatedRegExp at
-regexp_look at (Some end) rest = look.Token kind.RegExp (word_end end (drop (end - (at + 1)) rest))
+regexp_look at (Some end) rest = look.Token kind.RegExp (flags_end end (drop (end - (at + 1)) rest))
 
 -- a `/` at `at` that begins no comment
 unfoldable pub divide_look : Goal → ℕ → List ℕ → Look
@@ -97,7 +102,9 @@ brace_look goal at rest =
 -- a `#` at `at`, before this text
 unfoldable pub name_look : ℕ → List ℕ → Look
 name_look at text =
-    if begins_name text then look.Token kind.PrivateName (word_end (at + 1) text) else look.Fault InvalidChar at
+    if begins_name text then look.Token kind.PrivateName (word_end (at + 1) text)
+    else (if begins_backslash text then look.Fault (backslash_fault text) (at + 1)
+    else look.Fault InvalidChar at)
 
 -- a `#` at `at`, at the text's front or not, before `rest`
 unfoldable pub hash_look : Bool → ℕ → List ℕ → Look
@@ -108,7 +115,7 @@ hash_look front at (b ∷ rest) =
 -- a number, before this text
 unfoldable pub number_stop : NumberEnd → List ℕ → Look
 number_stop number after =
-    if begins_part after then look.Fault InvalidChar number.end else look.Token (number_kind number.big) number.end
+    if joins after then look.Fault InvalidChar number.end else look.Token (number_kind number.big) number.end
 
 -- a number at `at`, at the front of `text`
 unfoldable pub number_look : ℕ → List ℕ → Look
@@ -128,6 +135,11 @@ wide_look goal at text =
     else (if not (wide_line text == 0) then look.LineEnd (at + wide_line text)
     else look.Fault InvalidChar at))
 
+-- a `\` at `at`, at the front of `text`
+unfoldable pub backslash_look : Goal → ℕ → List ℕ → Look
+backslash_look goal at text =
+    if begins_name text then word_look goal.member at text else look.Fault (backslash_fault text) at
+
 -- what begins with a byte of this class at `at`, before `rest`
 unfoldable pub class_look : First → Goal → ℕ → ℕ → List ℕ → Look
 class_look first.Blank goal at b rest = look.Blank (at + 1)
@@ -140,6 +152,7 @@ class_look first.Brace goal at b rest = brace_look goal at rest
 class_look first.Hash goal at b rest = hash_look goal.front at rest
 class_look first.Digit goal at b rest = number_look at (b ∷ rest)
 class_look first.Dot goal at b rest = dot_look goal at rest
+class_look first.Backslash goal at b rest = backslash_look goal at (b ∷ rest)
 class_look first.Wide goal at b rest = wide_look goal at (b ∷ rest)
 class_look first.Other goal at b rest = sign_look goal.bracket at (sign_at (b ∷ rest))
 

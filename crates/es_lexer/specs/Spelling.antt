@@ -3,7 +3,7 @@ use Rattle.std.specs.Prelude.{◌≡◌, ℕ, Bool, true, false, List, [], ◌�
 use Rattle.es_lexer.specs.declared.goal.Goal.{Goal}
 use Rattle.es_token.specs.declared.token.TokenKind.{TokenKind}
 use Rattle.es_token.specs.declared.token.TokenKind.TheVariants.{Shebang, Str, RegExp, Number, BigInt, PrivateName, TemplateWhole, TemplateHead, TemplateMiddle, TemplateTail}
-use Rattle.es_lexer.specs.Bytes.{has_line_end, part_unit, begins_comment, begins_name}
+use Rattle.es_lexer.specs.Bytes.{has_line_end, part_unit, word_unit, begins_comment, begins_name}
 use Rattle.es_lexer.specs.Words.{kind_at}
 use Rattle.es_lexer.specs.Signs.{sign_kind}
 use Rattle.es_spelling.specs.Units.{concat, AreUnits}
@@ -12,16 +12,16 @@ use Rattle.es_spelling.specs.Numbers.{IsNumber}
 use Rattle.es_spelling.specs.RegExps.{IsBody}
 use Rattle.es_literal.specs.Strings.{IsString}
 
--- parts of a name in a row
-pub record AreParts (s : List ℕ) : Type 0 where
+-- parts in a row, each of the size that is found where it stands
+pub record AreParts (size : List ℕ → ℕ) (s : List ℕ) : Type 0 where
   pub units : List (List ℕ)
-  pub each : AreUnits part_unit units []
+  pub each : AreUnits size units []
   pub whole : s ≡ concat units
 
--- those that begin with a start ("Names and Keywords", IdentifierName)
+-- parts of a name of which the first is a start ("Names and Keywords", IdentifierName)
 pub record IsWord (s : List ℕ) : Type 0 where
   pub starts : begins_name s ≡ true
-  pub goes_on : AreParts s
+  pub goes_on : AreParts word_unit s
 
 -- a template, or what goes on behind a `${` of one, begins with a backtick or with `}`
 unfoldable pub template_start : Bool → ℕ
@@ -45,13 +45,13 @@ unfoldable pub number_kind : Bool → TokenKind
 number_kind true = BigInt
 number_kind false = Number
 
--- a body that begins with neither `/` nor `*`, its `/`, and flags ("Regular Expression Literals")
+-- a body that begins with neither `/` nor `*`, its `/`, and flags, which have no escapes ("Regular Expression Literals")
 pub record IsRegExp (s : List ℕ) : Type 0 where
   pub body : List ℕ
   pub flags : List ℕ
   pub closes : IsBody body
   pub opens : begins_comment s ≡ false
-  pub goes_on : AreParts flags
+  pub goes_on : AreParts part_unit flags
   pub whole : s ≡ 47 ∷ (body ++ flags)
 
 -- the text spells a token of this kind there

@@ -1,12 +1,12 @@
 -- The first lexical fault of a text: pieces cut a front of it, and nothing can be read behind them.
-use Rattle.std.specs.Prelude.{◌≡◌, ℕ, ◌+◌, true, false, List, [], ◌∷◌, ◌++◌, length, Bool, ◌&&◌, Some, None, ◌⊎◌}
+use Rattle.std.specs.Prelude.{◌≡◌, ℕ, ◌+◌, true, false, List, [], ◌∷◌, ◌++◌, length, Bool, ◌&&◌, Some, None, ◌⊎◌, if◌then◌else◌}
 use Rattle.es_lexer.specs.declared.bracket.BracketKind.{BracketKind}
 use Rattle.es_lexer.specs.declared.bytes.First.TheVariants.{Brace, Wide, Other}
 use Rattle.es_lexer.specs.declared.goal.Goal.{Goal}
 use Rattle.es_token.specs.declared.token.TokenKind.{TokenKind}
 use Rattle.es_lexer.specs.declared.error.LexicalKind.{LexicalKind}
 use Rattle.es_lexer.specs.declared.error.LexicalKind.TheVariants.{UnterminatedString, UnterminatedComment, UnterminatedTemplate, UnterminatedRegExp, InvalidEscape, InvalidChar, Unbalanced}
-use Rattle.es_lexer.specs.Bytes.{first_of, begins_comment, begins_mark, has_closer, begins_part, begins_name}
+use Rattle.es_lexer.specs.Bytes.{first_of, begins_comment, begins_mark, begins_backslash, begins_escape, has_closer, joins, begins_name}
 use Rattle.es_lexer.specs.declared.bracket.BracketKind.TheVariants.{Template}
 use Rattle.es_lexer.specs.Brackets.{role_of, is_open, may_close}
 use Rattle.es_lexer.specs.Signs.{sign_kind}
@@ -34,6 +34,10 @@ abbrev pub IsLongestNumber : List ℕ → List ℕ → Type 0
 IsLongestNumber s after = (big : Bool) (more rest : List ℕ) → after ≡ more ++ rest → IsNumber big (s ++ more)
     → more ≡ []
 
+-- the fault of a `\` that begins no name: a bad escape where `u` stands behind it
+unfoldable pub backslash_fault : List ℕ → LexicalKind
+backslash_fault text = if begins_escape text then InvalidEscape else InvalidChar
+
 -- nothing can be read from `rest`, which stands at `at`: the kind of the fault, and its place
 pub data Stuck (goal : Goal) (rest : List ℕ) (at : ℕ) (kind : LexicalKind) (place : ℕ) : Type 0 where
   -- a string literal without its end
@@ -58,12 +62,18 @@ pub data Stuck (goal : Goal) (rest : List ℕ) (at : ℕ) (kind : LexicalKind) (
   wrong_closer : (b : ℕ) (after : List ℕ) (k : TokenKind) → rest ≡ b ∷ after → BeginsSign goal b
       → sign_kind (b ∷ []) ≡ Some k → may_close goal.bracket (role_of k) ≡ false
       → kind ≡ Unbalanced → place ≡ at → Stuck goal rest at kind place
+  -- a `\` that begins no name
+  bad_name : begins_backslash rest ≡ true → begins_name rest ≡ false → kind ≡ backslash_fault rest → place ≡ at
+      → Stuck goal rest at kind place
+  -- one behind a `#`
+  bad_private : (after : List ℕ) → rest ≡ 35 ∷ after → begins_backslash after ≡ true → begins_name after ≡ false
+      → kind ≡ backslash_fault after → place ≡ at + 1 → Stuck goal rest at kind place
   -- a `#` that begins neither a private name nor, at the text's front, a shebang
-  lone_hash : (after : List ℕ) → rest ≡ 35 ∷ after → begins_name after ≡ false → (goal.front && begins_mark after) ≡ false
-      → kind ≡ InvalidChar → place ≡ at → Stuck goal rest at kind place
-  -- a part of a name, or a wrong `_`, right behind a number
+  lone_hash : (after : List ℕ) → rest ≡ 35 ∷ after → begins_backslash after ≡ false → begins_name after ≡ false
+      → (goal.front && begins_mark after) ≡ false → kind ≡ InvalidChar → place ≡ at → Stuck goal rest at kind place
+  -- a character of a name, a `\` or a wrong `_`, right behind a number
   joined : (big : Bool) (s after : List ℕ) → rest ≡ s ++ after → IsNumber big s → IsLongestNumber s after
-      → begins_part after ≡ true → kind ≡ InvalidChar → place ≡ at + length s → Stuck goal rest at kind place
+      → joins after ≡ true → kind ≡ InvalidChar → place ≡ at + length s → Stuck goal rest at kind place
   -- a template without its end, or what goes on in one
   open_template : (opens : Bool) (body : List ℕ) → rest ≡ template_start opens ∷ body
       → (opens ≡ false → is_open goal.bracket Template ≡ true) → IsUnclosed body

@@ -1,7 +1,7 @@
 ghost use Rattle.std.specs.Prelude.{◌≡◌, ◌≤◌, length};
-ghost use Rattle.es_lexer.specs.Bytes.{begins_name, begins_part, first_of, is_part, is_start, part_unit};
+ghost use Rattle.es_lexer.specs.Bytes.{begins_backslash, begins_escape, begins_name, first_of, is_part, is_start, joins, part_unit, word_unit};
 
-use es_wide::wide_size;
+use es_wide::{escaped_part, escaped_start, wide_size};
 
 /// What a byte begins, where a token, a comment or a gap is to be read.
 #[derive(Clone, Copy)]
@@ -24,6 +24,8 @@ pub enum First {
     Digit,
     /// A number, where a digit follows, else a punctuator.
     Dot,
+    /// A word.
+    Backslash,
     /// A character past ASCII.
     Wide,
     /// A punctuator, or nothing.
@@ -45,6 +47,7 @@ pub fn first_of(b: u8) -> First
         b'#' => First::Hash,
         b'0'..=b'9' => First::Digit,
         b'.' => First::Dot,
+        b'\\' => First::Backslash,
         0x80..=0xFF => First::Wide,
         _ => First::Other,
     }
@@ -56,7 +59,7 @@ fn is_part(b: u8) -> bool
     matches!(b, b'a'..=b'z' | b'A'..=b'Z' | b'0'..=b'9' | b'$' | b'_')
 }
 
-/// The size of the part of a name that stands here, 0 where none does.
+/// The size of the character of a name that stands here, 0 where none does.
 #[tactic(auto, unfolding(crate::specs::Bytes::part_unit))]
 pub fn part_unit(text: &[u8]) -> usize
     ensures value { result ≡ part_unit text.now }
@@ -68,12 +71,46 @@ pub fn part_unit(text: &[u8]) -> usize
     }
 }
 
-/// Whether a part of a name stands here.
-#[tactic(auto, unfolding(crate::specs::Bytes::begins_part))]
-pub fn begins_part(text: &[u8]) -> bool
-    ensures { result ≡ begins_part text.now }
+/// The size of the part of a name that stands here, a character or an escape of one, 0 where none does.
+#[tactic(auto, unfolding(crate::specs::Bytes::word_unit))]
+pub fn word_unit(text: &[u8]) -> usize
+    ensures value { result ≡ word_unit text.now }
+    ensures within { result ≤ length text.now }
 {
-    part_unit(text) != 0
+    match text {
+        [] => 0,
+        [b'\\', ..] => escaped_part(text),
+        [_, ..] => part_unit(text),
+    }
+}
+
+/// Whether what stands here may not stand right behind a number.
+#[tactic(auto, unfolding(crate::specs::Bytes::joins))]
+pub fn joins(text: &[u8]) -> bool
+    ensures { result ≡ joins text.now }
+{
+    part_unit(text) != 0 || begins_backslash(text)
+}
+
+#[tactic(auto, unfolding(crate::specs::Bytes::begins_backslash))]
+pub fn begins_backslash(text: &[u8]) -> bool
+    ensures { result ≡ begins_backslash text.now }
+{
+    match text {
+        [b, ..] => *b == b'\\',
+        [] => false,
+    }
+}
+
+/// Whether `\u` stands here.
+#[tactic(auto, unfolding(crate::specs::Bytes::begins_escape))]
+pub fn begins_escape(text: &[u8]) -> bool
+    ensures { result ≡ begins_escape text.now }
+{
+    match text {
+        [a, b, ..] => *a == b'\\' && *b == b'u',
+        _ => false,
+    }
 }
 
 /// Whether the start of a name stands here.
@@ -83,7 +120,7 @@ pub fn begins_name(text: &[u8]) -> bool
 {
     match text {
         [] => false,
-        [b, ..] => is_start(*b) || wide_size(text) != 0,
+        [b, ..] => is_start(*b) || (wide_size(text) != 0 || escaped_start(text) != 0),
     }
 }
 

@@ -3,10 +3,13 @@ ghost use Rattle.std.specs.Bool.{OnTrue};
 ghost use Rattle.es_lexer.specs.Bytes.{begins_closer};
 ghost use Rattle.es_lexer.specs.Signs.{sign_at};
 ghost use Rattle.es_lexer.specs.Spelling.{number_kind};
-ghost use Rattle.es_lexer.specs.Look.{line_stop, word_end, word_look, string_look, block_look, sign_look, template_look, number_stop, number_look, dot_look, brace_look, name_look, wide_look, hash_look, regexp_look, divide_look, slash_look, end_look, look_at};
+ghost use Rattle.es_lexer.specs.Stops.{backslash_fault};
+ghost use Rattle.es_lexer.specs.Look.{line_stop, word_end, flags_end, word_look, string_look, block_look, sign_look, template_look, number_stop, number_look, dot_look, brace_look, name_look, wide_look, backslash_look, hash_look, regexp_look, divide_look, slash_look, end_look, look_at};
 
 use crate::bracket::{BracketKind, is_open, may_close, role_of};
-use crate::bytes::{First, begins_name, begins_part, first_of, part_unit};
+use crate::bytes::{
+    First, begins_backslash, begins_escape, begins_name, first_of, joins, part_unit, word_unit,
+};
 use crate::error::LexicalKind;
 use crate::goal::Goal;
 use crate::signs::{Sign, sign_at};
@@ -63,6 +66,7 @@ pub fn look_from(goal: Goal, at: usize, text: &[u8]) -> Look
             First::Hash => hash_from(goal.front, at, rest),
             First::Digit => number_token(at, text),
             First::Dot => dot_from(goal, at, text, rest),
+            First::Backslash => backslash_from(goal, at, text),
             First::Wide => wide_from(goal, at, text),
             First::Other => sign_from(goal.bracket, at, text),
         },
@@ -84,7 +88,7 @@ fn number_token(at: usize, text: &[u8]) -> Look
 fn number_before(number: NumberEnd, after: &[u8]) -> Look
     ensures { result ≡ number_stop number after.now }
 {
-    if begins_part(after) {
+    if joins(after) {
         Look::Fault {
             kind: LexicalKind::InvalidChar,
             at: number.end,
@@ -205,11 +209,44 @@ fn name_from(at: usize, text: &[u8]) -> Look
             kind: TokenKind::PrivateName,
             end: word_end_from(at + 1, text),
         }
+    } else if begins_backslash(text) {
+        Look::Fault {
+            kind: backslash_fault(text),
+            at: at + 1,
+        }
     } else {
         Look::Fault {
             kind: LexicalKind::InvalidChar,
             at,
         }
+    }
+}
+
+/// What begins with a `\`: a word.
+#[tactic(auto, unfolding(crate::specs::Look::backslash_look))]
+fn backslash_from(goal: Goal, at: usize, text: &[u8]) -> Look
+    requires { at + length text.now < 2 ^ 64 }
+    ensures { result ≡ backslash_look goal at text.now }
+{
+    if begins_name(text) {
+        word_from(goal.member, at, text)
+    } else {
+        Look::Fault {
+            kind: backslash_fault(text),
+            at,
+        }
+    }
+}
+
+/// The fault of a `\` that begins no name.
+#[tactic(auto, unfolding(crate::specs::Stops::backslash_fault))]
+fn backslash_fault(text: &[u8]) -> LexicalKind
+    ensures { result ≡ backslash_fault text.now }
+{
+    if begins_escape(text) {
+        LexicalKind::InvalidEscape
+    } else {
+        LexicalKind::InvalidChar
     }
 }
 
@@ -339,7 +376,7 @@ fn regexp_token(at: usize, body: Option<usize>, text: &[u8]) -> Look
     match body {
         Some(end) => Look::Token {
             kind: TokenKind::RegExp,
-            end: word_end_from(end, &text[end - (at + 1)..]),
+            end: flags_end_from(end, &text[end - (at + 1)..]),
         },
         None => Look::Fault {
             kind: LexicalKind::UnterminatedRegExp,
@@ -405,6 +442,25 @@ fn word_end_from(first: usize, text: &[u8]) -> usize
     ensures value { result ≡ word_end first text.now }
     ensures forward { first ≤ result }
     ensures within { result ≤ first + length text.now }
+{
+    let mut at = first;
+    let mut rest = text;
+    'parts: loop {
+        let size = word_unit(rest);
+        if size == 0 {
+            break;
+        }
+        rest = &rest[size..];
+        at += size;
+    }
+    at
+}
+
+/// The place behind the flags that stand at `first`.
+#[tactic(auto, unfolding(crate::specs::Look::flags_end))]
+fn flags_end_from(first: usize, text: &[u8]) -> usize
+    requires { first + length text.now < 2 ^ 64 }
+    ensures { result ≡ flags_end first text.now }
 {
     let mut at = first;
     let mut rest = text;

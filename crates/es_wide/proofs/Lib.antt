@@ -1,1 +1,2 @@
 pub mod WideLemmas
+pub mod EscapeLemmas

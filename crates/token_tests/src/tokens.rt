@@ -251,6 +251,44 @@ fn texts_past_ascii_are_read(rt: HostRuntime) -> Result<(), Fail> {
     Ok(())
 }
 
+#[test]
+fn words_have_escapes(rt: HostRuntime) -> Result<(), Fail> {
+    let rows = [
+        ("\\u0061b", "Name 0-7, "),
+        (
+            "\\u{62}\\u0061 \\u0069f a\\u200c",
+            "Name 0-12, Name 13-20, Name 21-28, ",
+        ),
+        (
+            "a\\u{1F600}\\u0031 a\\u{000000000061}",
+            "Name 0-16, Name 17-34, ",
+        ),
+        (
+            "#\\u0061.#a\\u{31}",
+            "PrivateName 0-7, Dot 7-8, PrivateName 8-16, ",
+        ),
+        ("/a/\\u0067", "RegExp 0-3, Name 3-9, "),
+        ("\\u0031", "InvalidEscape at byte 0"),
+        ("a\\u0020", "InvalidEscape at byte 1"),
+        ("\\u2028", "InvalidEscape at byte 0"),
+        ("a\\ud800", "InvalidEscape at byte 1"),
+        ("\\u{110000}", "InvalidEscape at byte 0"),
+        ("\\u{}", "InvalidEscape at byte 0"),
+        ("\\u{61", "InvalidEscape at byte 0"),
+        ("#\\u0031", "InvalidEscape at byte 1"),
+        ("#\\x", "InvalidChar at byte 1"),
+        ("a\\x", "InvalidChar at byte 1"),
+        ("\\", "InvalidChar at byte 0"),
+        ("1\\u0061", "InvalidChar at byte 1"),
+        ("1\\u0020", "InvalidChar at byte 1"),
+    ];
+    for (text, want) in rows {
+        let got = described(rt.alloc(), text)?;
+        assert_eq!(rt; got.as_str(), want, "{text:?}");
+    }
+    Ok(())
+}
+
 /// The partner of each token, a dot for none.
 fn partners(alloc: Global, text: &str) -> Result<String, AllocError> {
     let Ok(lexed) = lex_tokens(alloc, text) else {

@@ -1,4 +1,4 @@
-//! Each word with a kind of its own, and literals for texts.
+//! Each word and each punctuator with a kind of its own, and literals for texts.
 
 use super::described;
 use es_lexer::quote;
@@ -125,6 +125,81 @@ fn words_have_kinds_of_their_own(rt: HostRuntime) -> Result<(), Fail> {
             want.push_str(format!(in rt.alloc(); "Name {last}-{last_end}, ")?.as_str())?;
             let got = described(rt.alloc(), text.as_str())?;
             assert_eq!(rt; got.as_str(), want.as_str(), "{word}");
+        }
+    }
+    Ok(())
+}
+
+const ONE_BYTE: [(&str, &str); 18] = [
+    (";", "Semicolon"),
+    (",", "Comma"),
+    (".", "Dot"),
+    ("<", "Less"),
+    (">", "Greater"),
+    ("=", "Equal"),
+    ("+", "Plus"),
+    ("-", "Minus"),
+    ("*", "Star"),
+    ("/", "Slash"),
+    ("%", "Percent"),
+    ("&", "Ampersand"),
+    ("|", "Bar"),
+    ("^", "Caret"),
+    ("!", "Exclamation"),
+    ("~", "Tilde"),
+    ("?", "Question"),
+    (":", "Colon"),
+];
+
+const TWO_BYTES: [(&str, &str); 20] = [
+    ("<=", "LessEqual"),
+    ("==", "EqualEqual"),
+    ("!=", "NotEqual"),
+    ("**", "StarStar"),
+    ("++", "PlusPlus"),
+    ("--", "MinusMinus"),
+    ("<<", "LessLess"),
+    ("&&", "AmpersandAmpersand"),
+    ("||", "BarBar"),
+    ("??", "QuestionQuestion"),
+    ("?.", "QuestionDot"),
+    ("+=", "PlusEqual"),
+    ("-=", "MinusEqual"),
+    ("*=", "StarEqual"),
+    ("/=", "SlashEqual"),
+    ("%=", "PercentEqual"),
+    ("&=", "AmpersandEqual"),
+    ("|=", "BarEqual"),
+    ("^=", "CaretEqual"),
+    ("=>", "Arrow"),
+];
+
+const THREE_BYTES: [(&str, &str); 8] = [
+    ("...", "Ellipsis"),
+    ("===", "EqualEqualEqual"),
+    ("!==", "NotEqualEqual"),
+    ("**=", "StarStarEqual"),
+    ("<<=", "LessLessEqual"),
+    ("&&=", "AmpersandAmpersandEqual"),
+    ("||=", "BarBarEqual"),
+    ("??=", "QuestionQuestionEqual"),
+];
+
+#[test]
+fn punctuators_have_kinds_of_their_own(rt: HostRuntime) -> Result<(), Fail> {
+    for signs in [
+        ONE_BYTE.as_slice(),
+        TWO_BYTES.as_slice(),
+        THREE_BYTES.as_slice(),
+    ] {
+        for (sign, kind) in signs.iter() {
+            let end = sign.len().saturating_add(2);
+            let next = end.saturating_add(1);
+            let last = next.saturating_add(1);
+            let text = format!(in rt.alloc(); "a {sign} b")?;
+            let want = format!(in rt.alloc(); "Name 0-1, {kind} 2-{end}, Name {next}-{last}, ")?;
+            let got = described(rt.alloc(), text.as_str())?;
+            assert_eq!(rt; got.as_str(), want.as_str(), "{sign}");
         }
     }
     Ok(())

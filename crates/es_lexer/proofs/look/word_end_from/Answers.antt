@@ -2,16 +2,17 @@
 use Rattle.std.proofs.Common.{sym, ◌∙◌, arith}
 use Rattle.std.proofs.lemmas.List.{take_rest}
 use Rattle.es_spelling.proofs.UnitLemmas.{turn_place}
+use Rattle.es_lexer.specs.Bytes.{word_unit}
 use Rattle.es_lexer.proofs.PartLemmas.{part_turn, word_stops}
 use Rattle.es_lexer.proofs.look.word_end_from.Goals as goal
 
 pub parts-preserved : goal.parts-preserved
 parts-preserved c = record {
-  end = part_turn c.parts.at c.args.first c.part_unit-size.result c.parts.rest.now _ c.args.text.now
-      c.part_unit-size.ensures.value (omega arith) c.part_unit-size.ensures.within
-      (take_rest c.parts.rest.now c.part_unit-size.result) c.parts.invariant.end;
-  place = turn_place c.parts.at c.part_unit-size.result c.parts.rest.now _
-      (take_rest c.parts.rest.now c.part_unit-size.result) c.part_unit-size.ensures.within
+  end = part_turn word_unit c.parts.at c.args.first c.word_unit-size.result c.parts.rest.now _ c.args.text.now
+      c.word_unit-size.ensures.value (omega arith) c.word_unit-size.ensures.within
+      (take_rest c.parts.rest.now c.word_unit-size.result) c.parts.invariant.end;
+  place = turn_place c.parts.at c.word_unit-size.result c.parts.rest.now _
+      (take_rest c.parts.rest.now c.word_unit-size.result) c.word_unit-size.ensures.within
       ∙ c.parts.invariant.place;
   forward = omega (arith, c.parts.invariant.forward);
 }
@@ -19,4 +20,4 @@ parts-preserved c = record {
 pub returns-clause-value : goal.returns-clause-value
 returns-clause-value c =
     word_stops c.parts.at c.args.first c.parts.rest.now c.args.text.now
-    (sym c.part_unit-size.ensures.value ∙ c.if-size-eq0.true) c.parts.invariant.end
+    (sym c.word_unit-size.ensures.value ∙ c.if-size-eq0.true) c.parts.invariant.end
