@@ -125,4 +125,5 @@ unfolding block_look has_closer
 block_runs_out start line at [] h = refl
 block_runs_out start line at (b ∷ s) h =
     rw (or_left (begins_closer (b ∷ s)) (has_closer s) h)
-    (block_runs_out start (line || begins_line_end (b ∷ s)) (at + 1) s (or_right (begins_closer (b ∷ s)) (has_closer s) h))
+    (block_runs_out start (line || begins_line_end (b ∷ s)) (at + 1) s
+    (or_right (begins_closer (b ∷ s)) (has_closer s) h))

@@ -1,4 +1,5 @@
--- What stands between tokens: whether a line end does, and that comments stand apart and all else is blanks and line ends.
+-- What stands between tokens: whether a line end does, that comments stand apart, and that all else is blanks and line
+-- ends.
 use Rattle.std.proofs.Common.{◌≡◌, ℕ, zero, suc, ◌+◌, ◌-◌, ◌<◌, ◌≤◌, nat_le, Bool, true, false, ◌==◌, ◌||◌, ◌&&◌, List, [], ◌∷◌, ◌++◌, length, take, drop, Some, slice_get, slice_range, refl, sym, ◌∙◌, ap, subst, arith, length-append, append_assoc, drop_at, take_at, ◌⊎◌, inl, inr}
 use Rattle.es_lexer.specs.declared.bytes.First.TheVariants as first
 use Rattle.es_token.specs.declared.token.Token.{Token}
@@ -167,7 +168,8 @@ line_of_first (line_end s ∷ ps) before x front gap after u w b h g =
     (w ∙ ap (λ t. front ++ (gap ++ t)) (append_assoc s (pieces_text ps) after)))
     (record {
       behind = b.behind;
-      line = b.behind ∙ sym (lines-append gap s (spelling_starts (goal_of before) (line_end s) (pieces_text ps ++ after) h.0)
+      line = b.behind
+          ∙ sym (lines-append gap s (spelling_starts (goal_of before) (line_end s) (pieces_text ps ++ after) h.0)
           ∙ (ap (λ v. has_line_end gap || v) (line_lines s h.0)
           ∙ or_true (has_line_end gap)));
       place = gap_place before front gap s b.place;
@@ -179,7 +181,8 @@ line_of_first (comment kind t ∷ ps) before x front gap after u w b h g =
     (record {
       behind = b.behind;
       line = with_comment (line_since before) (is_behind before) (has_line_end t) (has_line_end gap) b.line b.behind
-          ∙ sym (lines-append gap (comment_spelling kind t) (spelling_starts (goal_of before) (comment kind t) (pieces_text ps ++ after) h.0)
+          ∙ sym (lines-append gap (comment_spelling kind t)
+          (spelling_starts (goal_of before) (comment kind t) (pieces_text ps ++ after) h.0)
           ∙ ap (λ v. has_line_end gap || v) (comment_lines kind t));
       place = gap_place before front gap (comment_spelling kind t) b.place;
     }) h.1 g
@@ -326,7 +329,8 @@ gap_here x front s rest place w g l m =
     }
 
 gap_or : (x front s rest : List ℕ) (place : ℕ)
-    → (place < length front + length s) ⊎ (length front + length s ≤ place) → x ≡ front ++ (s ++ rest) → IsGap s → length front ≤ place
+    → (place < length front + length s) ⊎ (length front + length s ≤ place) → x ≡ front ++ (s ++ rest) → IsGap s
+    → length front ≤ place
     → (length (front ++ s) ≤ place → GapAt x place) → GapAt x place
 gap_or x front s rest place (inl m) w g l more = gap_here x front s rest place w g l m
 gap_or x front s rest place (inr m) w g l more = more (omega (arith, length-append front s))

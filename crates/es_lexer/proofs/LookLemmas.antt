@@ -490,7 +490,8 @@ regexp_may goal k after e a =
 
 regexp_reaches : (goal : Goal) (at : ℕ) (k : TokenKind) (s after : List ℕ) → (i : IsRegExp s) → k ≡ kind.RegExp
     → allows goal k after ≡ true → begins_comment (s ++ after) ≡ false
-    → Parts part_unit (at + 1 + length i.body + length i.flags) after → Reached k (at + length s) (look_at goal at (s ++ after))
+    → Parts part_unit (at + 1 + length i.body + length i.flags) after
+    → Reached k (at + length s) (look_at goal at (s ++ after))
 regexp_reaches goal at k s after i e a n r =
     let cut : s ++ after ≡ 47 ∷ (i.body ++ (i.flags ++ after)) =
     ap (λ t. t ++ after) i.whole ∙ ap (λ t. 47 ∷ t) (append_assoc i.body i.flags after) in
@@ -573,7 +574,8 @@ pub data Limited (k : TokenKind) (s : List ℕ) (end : ℕ) (found : Look) : Typ
 pub reaches : (goal : Goal) (at : ℕ) (k : TokenKind) (s after : List ℕ) → Spells goal k s → allows goal k after ≡ true
     → begins_comment (s ++ after) ≡ false → Limited k s (at + length s) (look_at goal at (s ++ after))
 unfolding sign_kind
-reaches goal at k s after (word w e) a n = by_reach (word_reaches goal at k s after w e (word_parts (at + length s) after))
+reaches goal at k s after (word w e) a n =
+    by_reach (word_reaches goal at k s after w e (word_parts (at + length s) after))
 reaches goal at k s after (str l e) a n = by_reach (string_reaches goal at k s after l e)
 reaches goal at k [] after (sign e) a n = cc
 reaches goal at k (b ∷ s) after (sign e) a n =
@@ -907,7 +909,8 @@ line_met goal at b rest n f e (wide.paragraph_separator after w s) =
 
 wide_found : (goal : Goal) (at b : ℕ) (rest : List ℕ) (l m n : ℕ) → first_of b ≡ first.Wide → wide_size (b ∷ rest) ≡ l
     → wide_blank (b ∷ rest) ≡ m → wide_line (b ∷ rest) ≡ n → Found goal at (b ∷ rest) (look_at goal at (b ∷ rest))
-wide_found goal at b rest (suc l) m n f e w v = word_met goal at (b ∷ rest) (char_name b rest l e) (word_parts at (b ∷ rest))
+wide_found goal at b rest (suc l) m n f e w v =
+    word_met goal at (b ∷ rest) (char_name b rest l e) (word_parts at (b ∷ rest))
 wide_found goal at b rest zero (suc m) n f e w v = blank_met goal at b rest m f w (wide.blank_front (b ∷ rest) m w)
 wide_found goal at b rest zero zero (suc n) f e w v = line_met goal at b rest n f v (wide.line_is (b ∷ rest) n v)
 wide_found goal at b rest zero zero zero f e w v =

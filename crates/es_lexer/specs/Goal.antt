@@ -81,8 +81,8 @@ slash_rule kind.CloseParen = ByParenthesis
 slash_rule kind.Exclamation = ByLine
 slash_rule k = Begins
 
--- whether `/` divides behind a token with this rule: whether a line end stands before that token, whether `/` divides before
--- it, and whether the parenthesis that it closes belongs to a statement's head
+-- whether `/` divides behind a token with this rule: whether a line end stands before that token, whether `/` divides
+-- before it, and whether the parenthesis that it closes belongs to a statement's head
 unfoldable pub divides_behind : SlashRule → Bool → Bool → Bool → Bool
 divides_behind Divides line before headed = true
 divides_behind ByParenthesis line before headed = not headed
@@ -217,4 +217,5 @@ abbrev pub comment_state : State → Bool → State
 comment_state state lines = record state { line = state.line || state.any && lines; front = false }
 
 abbrev pub goal_in : State → Option BracketKind → Goal
-goal_in state bracket = record { bracket = bracket; regexp = not state.divides; member = state.member; front = state.front }
+goal_in state bracket =
+    record { bracket = bracket; regexp = not state.divides; member = state.member; front = state.front }

@@ -77,7 +77,8 @@ regexp_look at (Some end) rest = look.Token kind.RegExp (flags_end end (drop (en
 -- a `/` at `at` that begins no comment
 unfoldable pub divide_look : Goal → ℕ → List ℕ → Look
 divide_look goal at rest =
-    if goal.regexp then regexp_look at (body_end (at + 1) rest) rest else sign_look goal.bracket at (sign_at (47 ∷ rest))
+    if goal.regexp then regexp_look at (body_end (at + 1) rest) rest
+    else sign_look goal.bracket at (sign_at (47 ∷ rest))
 
 -- what begins with a `/` at `at`, before `rest`
 unfoldable pub slash_look : Goal → ℕ → List ℕ → Look

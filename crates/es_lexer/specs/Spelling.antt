@@ -45,7 +45,7 @@ unfoldable pub number_kind : Bool → TokenKind
 number_kind true = BigInt
 number_kind false = Number
 
--- a body that begins with neither `/` nor `*`, its `/`, and flags, which have no escapes ("Regular Expression Literals")
+-- a body that begins with neither `/` nor `*`, its `/`, and flags, without escapes ("Regular Expression Literals")
 pub record IsRegExp (s : List ℕ) : Type 0 where
   pub body : List ℕ
   pub flags : List ℕ

@@ -56,8 +56,8 @@ pub data Stuck (goal : Goal) (rest : List ℕ) (at : ℕ) (kind : LexicalKind) (
   no_character : (b : ℕ) (after : List ℕ) → rest ≡ b ∷ after → first_of b ≡ Wide → wide_size rest ≡ 0
       → wide_blank rest ≡ 0 → wide_line rest ≡ 0 → kind ≡ InvalidChar → place ≡ at → Stuck goal rest at kind place
   -- a regular expression without its end
-  open_regexp : (text : List ℕ) → rest ≡ 47 ∷ text → begins_comment rest ≡ false → goal.regexp ≡ true → BeginsNoBody text
-      → kind ≡ UnterminatedRegExp → place ≡ at → Stuck goal rest at kind place
+  open_regexp : (text : List ℕ) → rest ≡ 47 ∷ text → begins_comment rest ≡ false → goal.regexp ≡ true
+      → BeginsNoBody text → kind ≡ UnterminatedRegExp → place ≡ at → Stuck goal rest at kind place
   -- a bracket that doesn't close the innermost open one
   wrong_closer : (b : ℕ) (after : List ℕ) (k : TokenKind) → rest ≡ b ∷ after → BeginsSign goal b
       → sign_kind (b ∷ []) ≡ Some k → may_close goal.bracket (role_of k) ≡ false

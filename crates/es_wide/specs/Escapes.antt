@@ -1,5 +1,5 @@
--- Escapes of characters in words (ECMA-262, "Names and Keywords", UnicodeEscapeSequence), and the characters that may stand
--- in words by their numbers.
+-- Escapes of characters in words (ECMA-262, "Names and Keywords", UnicodeEscapeSequence), and the characters that may
+-- stand in words by their numbers.
 use Rattle.std.specs.Prelude.{ℕ, ◌+◌, ◌*◌, Bool, not, ◌&&◌, ◌||◌, ◌==◌, nat_lt, nat_le, List, [], ◌∷◌, Option, Some, None, if◌then◌else◌}
 use Rattle.std.specs.Char.{digit_value, is_ascii_alphabetic, is_ascii_digit}
 use Rattle.es_wide.specs.declared.escape.Escape.{Escape}
@@ -24,7 +24,8 @@ four_escape (c ∷ []) = None
 four_escape (c ∷ d ∷ []) = None
 four_escape (c ∷ d ∷ e ∷ []) = None
 four_escape (c ∷ d ∷ e ∷ f ∷ rest) =
-    if is_hex c && is_hex d && (is_hex e && is_hex f) then Some (record { code = four_code c d e f; size = 6 }) else None
+    if is_hex c && is_hex d && (is_hex e && is_hex f) then Some (record { code = four_code c d e f; size = 6 })
+    else None
 
 -- `\u{H..}` up to 10FFFF, so much of it before this text and its digits worth so much
 unfoldable pub point_escape : ℕ → ℕ → List ℕ → Option Escape

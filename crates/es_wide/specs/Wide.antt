@@ -1,5 +1,5 @@
--- Characters past ASCII by their bytes: blanks (ECMA-262, "White Space"), line ends ("Line Terminators"), and those that
--- stand in words ("Names and Keywords"), which are all others.
+-- Characters past ASCII by their bytes: blanks (ECMA-262, "White Space"), line ends ("Line Terminators"), and those
+-- that stand in words ("Names and Keywords"), which are all others.
 use Rattle.std.specs.Prelude.{ℕ, zero, suc, Bool, not, ◌&&◌, ◌||◌, ◌==◌, nat_le, List, [], ◌∷◌, if◌then◌else◌}
 
 -- U+00A0
@@ -14,7 +14,8 @@ is_space b c = b == 128 && (nat_le 128 c && nat_le c 138 || c == 175) || b == 12
 unfoldable pub is_blank_of_three : ℕ → ℕ → ℕ → Bool
 is_blank_of_three a b c =
     a == 226 && is_space b c
-    || (a == 225 && (b == 154 && c == 128) || (a == 227 && (b == 128 && c == 128) || a == 239 && (b == 187 && c == 191)))
+    || (a == 225 && (b == 154 && c == 128)
+    || (a == 227 && (b == 128 && c == 128) || a == 239 && (b == 187 && c == 191)))
 
 -- U+2028 and U+2029
 unfoldable pub is_separator : ℕ → ℕ → ℕ → Bool
