@@ -150,7 +150,8 @@ below_at path k inside slash =
     let len : length (take k path) ≡ k = length-take-le k path (omega arith) in
     rw len (both_true ((bytes_decides (take k path) (take k path)).1 refl) (eq-eqb (slice_index path k) 47 slash))
 
-split_and : (a b : Bool) → (a && b) ≡ true → (a ≡ true) × (b ≡ true)
+-- both of two tests pass
+pub split_and : (a b : Bool) → (a && b) ≡ true → (a ≡ true) × (b ≡ true)
 split_and true true both = (refl, refl)
 split_and true false both = absurd cc
 split_and false b both = absurd cc

@@ -1,5 +1,5 @@
 -- A system in memory: what it is, which calls it refuses, and the call that each leaves in its log.
-use Rattle.std.specs.Prelude.{◌≡◌, ℕ, ◌+◌, ◌/◌, nat_lt, Bool, true, false, ◌||◌, ◌==◌, List, [], ◌∷◌, ◌++◌, map, take, length, slice_index, codes, bytes_eq, count_by, Option, Some, None, is_some, if◌then◌else◌}
+use Rattle.std.specs.Prelude.{◌≡◌, ℕ, ◌+◌, ◌/◌, nat_lt, Bool, true, false, ◌||◌, ◌==◌, List, [], ◌∷◌, ◌++◌, map, take, length, slice_index, codes, bytes_eq, count_by, filter, not, Option, Some, None, is_some, if◌then◌else◌}
 use Rattle.std.specs.List.{list_any}
 use Rattle.sys_traits.specs.declared.error.SysErrorKind.{SysErrorKind}
 use Rattle.sys_traits.specs.declared.error.SysErrorKind.TheVariants.{NotFound, Failed, OutOfMemory}
@@ -237,13 +237,14 @@ abbrev pub given_folders : Path → Files → List Path → List Path
 given_folders folder files folders =
     map (λ path. spot folder path) folders ++ map (λ file. parent_of (spot folder file.0)) files
 
--- the files that are given, but those where a folder is; of files with one path the first
+-- the files that are given, at their places; of files with one path the first
+abbrev pub placed_files : Path → Files → Files
+placed_files folder [] = []
+placed_files folder (file ∷ files) = with_file (placed_files folder files) (spot folder file.0) file.1
+
+-- the files that are given, but those where a folder is
 abbrev pub given_files : Path → List Path → Files → Files
-given_files folder made [] = []
-given_files folder made (file ∷ files) =
-    let path = spot folder file.0 in
-    let rest = given_files folder made files in
-    if is_folder made path then rest else with_file rest path file.1
+given_files folder made files = filter (λ file. not (is_folder made file.0)) (placed_files folder files)
 
 abbrev pub new_memory : Files → List Path → Path → List ℕ → List ℕ → Memory
 new_memory files folders current_dir random failing =

@@ -1,10 +1,10 @@
 //! What a new system in memory is given.
-ghost use Rattle.std.specs.Prelude.{◌≡◌, ◌++◌, map, IfOk, OnOk};
-ghost use Rattle.sys_traits.specs.Paths.{spot, parent_of};
+ghost use Rattle.std.specs.Prelude.{◌≡◌, ◌++◌, map, not, filter, IfOk, OnOk};
+ghost use Rattle.sys_traits.specs.Paths.{spot, parent_of, is_at_or_below};
 ghost use Rattle.sys_traits.specs.Memory as spec;
 
 use crate::file_map::{FileBytes, FileMap};
-use crate::place::{is_folder, parent_of, spot_in};
+use crate::place::{parent_of, spot_in};
 use base::{Items, Text};
 use std::alloc::{AllocError, Global};
 
@@ -70,7 +70,7 @@ fn parent_in(alloc: Global, folder: &str, path: &str) -> Result<Text, AllocError
     Text::from_str(alloc, parent_of(spot.as_str()))
 }
 
-// The files that are kept, from the last to the first, so that the first with a path stays.
+// The files that are kept: not those where a folder is.
 pub fn files(
     alloc: Global,
     folder: &str,
@@ -79,14 +79,36 @@ pub fn files(
 ) -> Result<FileMap, AllocError>
     ensures { IfOk result (λ kept. kept ≡ spec.given_files folder.now made.now files.now) }
 {
-    let mut kept = FileMap::new(alloc);
+    let mut kept = placed(alloc, folder, files)?;
+    drop(kept.take("/"));
+    for path in made {
+        take_at_or_above(&mut kept, path.as_str());
+    }
+    Ok(kept)
+}
+
+// The files at their places, from the last to the first, so that the first with a path stays.
+fn placed(alloc: Global, folder: &str, files: &[(Text, Items<u8>)]) -> Result<FileMap, AllocError>
+    ensures { IfOk result (λ placed. placed ≡ spec.placed_files folder.now files.now) }
+{
+    let mut placed = FileMap::new(alloc);
     let mut at = files.len();
     while 0 < at {
         at -= 1;
         let spot = spot_in(alloc, folder, files[at].0.as_str())?;
-        if !is_folder(made, spot.as_str()) {
-            kept.put(spot, FileBytes::new(alloc, files[at].1.as_slice())?)?;
+        placed.put(spot, FileBytes::new(alloc, files[at].1.as_slice())?)?;
+    }
+    Ok(placed)
+}
+
+// Takes the files away that stand at the folder or above it.
+fn take_at_or_above(files: &mut FileMap, folder: &str)
+    ensures { files.new ≡ filter (λ file. not (is_at_or_below file.0 folder.now)) files.old }
+{
+    for (end, byte) in folder.as_bytes().iter().enumerate() {
+        if *byte == b'/' {
+            drop(files.take(&folder[..end]));
         }
     }
-    Ok(kept)
+    drop(files.take(folder));
 }

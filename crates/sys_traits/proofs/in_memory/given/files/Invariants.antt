@@ -1,12 +1,8 @@
-use Rattle.std.proofs.Common.{◌≡◌, ◌≤◌, length, drop}
-use Rattle.sys_traits.specs.Memory.{given_files}
+use Rattle.std.proofs.Common.{◌≡◌}
+use Rattle.sys_traits.specs.Memory.{placed_files}
+use Rattle.sys_traits.proofs.GivenLemmas.{without, is_folder_of}
 use Rattle.sys_traits.proofs.in_memory.given.files.Given as goal
 
-abbrev pub invariant-loop-at : goal.invariant-loop-at
-invariant-loop-at l = record {
-  within : l.at ≤ length l.files;
-  so_far : l.kept ≡ given_files l.folder l.made (drop l.at l.files);
-}
-
-abbrev pub decreases-loop-at : goal.decreases-loop-at
-decreases-loop-at l = l.at
+abbrev pub invariant-loop-path : goal.invariant-loop-path
+invariant-loop-path l =
+    l.kept ≡ without (is_folder_of l.made l.path-index) (placed_files l.folder l.files)
