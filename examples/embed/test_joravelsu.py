@@ -79,7 +79,7 @@ class Graphs(unittest.TestCase):
     def test_refusals(self):
         rows = [
             (b"{", "error NotJson"),
-            (b"{}", "error Bundle"),
+            (b"{}", 'error Bundle "/roots"'),
             (b"\xff", "error NotJson"),
             (b" " * ((1 << 24) + 1), "error InputTooLong"),
         ]

@@ -49,7 +49,7 @@ class CheckBundle(unittest.TestCase):
             ('{"roots":{},"modules":[]}', "roots: an object " + wanted.format("an array")),
             (bundle(roots="[1]"), "roots[0]: a number " + wanted.format("a URL")), (bundle("null"), "modules[0]: null " + wanted.format("an object")),
             (bundle('{"text":""}'), "modules[0]: no key 'specifier'"), (bundle(module(',"text":"","x":1')), "modules[0]: the key 'x' means nothing here"),
-            (bundle(module("")), "modules[0]: no content: one of the keys 'text' and 'base64' is wanted"),
+            (bundle(module("")), "modules[0]: no content: one of the keys 'text', 'base64', 'redirect', 'external' and 'fail' is wanted"),
             (bundle(module(',"text":"","base64":""')), "modules[0]: both 'text' and 'base64'"),
             (bundle(module(',"text":true')), "modules[0].text: a truth value " + wanted.format("a text")),
             (bundle(module(',"base64":"QUI"')), "modules[0].base64: base64 without its padding: the length is 3, and no multiple of four with = at its end"),
@@ -57,9 +57,29 @@ class CheckBundle(unittest.TestCase):
             (bundle(module(r',"base64":"QUI=\n"')), r"modules[0].base64: '\n' at 4 is no digit of base64 (no blanks, no line ends, no - and _)"),
             (bundle(module(',"text":"","headers":[]')), "modules[0].headers: an array " + wanted.format("an object of texts")),
             (bundle(module(',"text":"","headers":{"a":1}')), "modules[0].headers.a: a number " + wanted.format("a text")),
+            (bundle(module(',"fail":true,"external":true')), "modules[0]: both 'external' and 'fail'"),
+            (bundle(module(',"external":1')), "modules[0].external: only true may stand here"),
+            (bundle(module(',"redirect":7')), "modules[0].redirect: a number " + wanted.format("a URL")),
         ]
         for data, line in rows:
             self.assertEqual(told(data), (1, [line]), data)
+
+    def test_options(self):
+        fine = ['"kind":"code"', '"limit":1000000', '"skipDynamicDeps":true', '"arrival":[null,"file:///a.ts"]',
+                '"imports":[{"referrer":"file:///a.ts","imports":["./b.ts"]}]']
+        for key in fine:
+            self.assertEqual(told('{"roots":[],"modules":[],%s}' % key)[0], 0, key)
+        limit = "limit: a whole number from 1 to 1,000,000 is wanted, without point and exponent"
+        rows = [
+            ('"kind":"both"', "kind: one of the texts 'all', 'code', 'types' is wanted"), ('"kind":[]', "kind: one of the texts 'all', 'code', 'types' is wanted"),
+            ('"limit":0', limit), ('"limit":1000001', limit), ('"limit":1.0', limit), ('"limit":1e3', limit), ('"limit":"1"', limit),
+            ('"skipDynamicDeps":0', "skipDynamicDeps: a number where true or false is wanted"),
+            ('"imports":[{"referrer":"file:///a.ts"}]', "imports[0]: no key 'imports'"),
+            ('"imports":[{"referrer":"file:///a.ts","imports":[1]}]', "imports[0].imports[0]: a number where a text is wanted"),
+            ('"arrival":[{"force":"file:///a.ts"}]', "arrival[0]: an object where a URL is wanted"),
+        ]
+        for key, line in rows:
+            self.assertEqual(told('{"roots":[],"modules":[],%s}' % key), (1, [line]), key)
 
     def test_specifiers(self):
         self.assertEqual(told(bundle(A, A)), (1, ["modules[1]: specifier file:///a.ts repeats modules[0]"]))

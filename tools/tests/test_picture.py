@@ -77,7 +77,7 @@ class Picture(unittest.TestCase):
         self.assertEqual(sum(path.get("data-a") is not None for path in picture.iter(SVG + "path")), 1999)
 
     def test_refusals(self):
-        rows = [("error Bundle\n", "picture: the report is 'error Bundle', which has no graph"), ("", "picture: it is empty"),
+        rows = [("error Bundle \"/roots\"\n", "picture: the report is 'error Bundle \"/roots\"', which has no graph"), ("", "picture: it is empty"),
                 ("root file:///a\nhello\n", "picture: line 2 is no line of a report: 'hello'")]
         for report, line in rows:
             self.assertEqual(draw(report=report), (1, "", line + "\n"))

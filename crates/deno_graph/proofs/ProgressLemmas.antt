@@ -124,7 +124,7 @@ kept_answered rules starts events told n m s a k le as_told = record {
 pub live_popped : (rules : Rules) (x : At) (rest : List Parts) (url : Parts) → IsLive rules x
     → x.progress.reaching.todo ≡ rest ++ url ∷ []
     → IsInHand rules (at x.loader (record {
-      roots = x.progress.roots;
+      starts = x.progress.starts;
       reaching = record { reached = x.progress.reaching.reached; todo = rest; limit = x.progress.reaching.limit };
       asked = x.progress.asked;
       taken = x.progress.taken;
@@ -155,7 +155,7 @@ pub live_asked : (rules : Rules) (x : At) (s : Specifier) (now : LoaderData) (ne
     → IsMarked s Asked x.progress.reaching new
     → new.limit ≡ x.progress.reaching.limit
     → IsLive rules (at now (record {
-      roots = x.progress.roots;
+      starts = x.progress.starts;
       reaching = new;
       asked = x.progress.asked + 1;
       taken = x.progress.taken;
@@ -237,7 +237,7 @@ pub live_alone : (rules : Rules) (x : At) (s : Specifier) (e : Entry) (new : Rea
     → loadable s ≡ false
     → rules.means s None e → IsFilled rules s e x.progress.reaching new
     → IsLive rules (at x.loader (record {
-      roots = x.progress.roots;
+      starts = x.progress.starts;
       reaching = new;
       asked = x.progress.asked;
       taken = x.progress.taken;
@@ -268,7 +268,7 @@ pub deals_alone : {rules : Rules} → (x : At) (s : Specifier) (new : Reaching) 
     → IsInHand rules x s → loadable s ≡ false
     → FillsUnasked rules s x.progress.reaching new r → new.limit ≡ x.progress.reaching.limit
     → Deals rules x (at x.loader (record {
-      roots = x.progress.roots;
+      starts = x.progress.starts;
       reaching = new;
       asked = x.progress.asked;
       taken = x.progress.taken;
@@ -320,7 +320,7 @@ falls_after (Some x) (Some y) None g h = absurd h
 
 pub goes_same : (x : At) → GoesOnAt x x
 goes_same x = record {
-  roots = refl;
+  starts = refl;
   limit = refl;
   events = go_on_none x.loader.events x.progress.asked x.progress.taken;
   told = refl;
@@ -331,7 +331,7 @@ goes_same x = record {
 
 pub goes_more : (x y z : At) → GoesOnAt x y → GoesOnAt y z → GoesOnAt x z
 goes_more x y z g h = record {
-  roots = h.roots ∙ g.roots;
+  starts = h.starts ∙ g.starts;
   limit = h.limit ∙ g.limit;
   events = go_on_more x.loader.events y.loader.events z.loader.events x.progress.asked x.progress.taken
       y.progress.asked y.progress.taken
@@ -360,13 +360,13 @@ only_asks_more x y z g h = record {
 }
 
 -- nothing happened to the loader
-pub asks_still : (x : At) (new : Progress) → new.roots ≡ x.progress.roots
+pub asks_still : (x : At) (new : Progress) → new.starts ≡ x.progress.starts
     → new.reaching.limit ≡ x.progress.reaching.limit
     → new.asked ≡ x.progress.asked → new.taken ≡ x.progress.taken → new.begun ≡ x.progress.begun
     → OnlyAsks x (at x.loader new)
-asks_still x new roots limit asked taken begun = record {
+asks_still x new starts limit asked taken begun = record {
   goes = record {
-    roots = roots;
+    starts = starts;
     limit = limit;
     events = record {
       more = [];
@@ -389,12 +389,12 @@ asks_still x new roots limit asked taken begun = record {
 
 -- a request is asked, and nothing else
 pub asks_one : (x : At) (s : Specifier) (now : LoaderData) (new : Progress) → HasStarted s x.loader now (Ok tt)
-    → new.roots ≡ x.progress.roots → new.reaching.limit ≡ x.progress.reaching.limit → new.asked ≡ x.progress.asked + 1
+    → new.starts ≡ x.progress.starts → new.reaching.limit ≡ x.progress.reaching.limit → new.asked ≡ x.progress.asked + 1
     → new.taken ≡ x.progress.taken
     → new.begun ≡ x.progress.begun → OnlyAsks x (at now new)
-asks_one x s now new h roots limit asked taken begun = record {
+asks_one x s now new h starts limit asked taken begun = record {
   goes = record {
-    roots = roots;
+    starts = starts;
     limit = limit;
     events = record {
       more = Requested s ∷ [];
@@ -420,7 +420,7 @@ pub asks_none : (x : At) (s : Specifier) (now : LoaderData) (e : AllocError) →
     → OnlyAsks x (at now x.progress)
 asks_none x s now e h = record {
   goes = record {
-    roots = refl;
+    starts = refl;
     limit = refl;
     events = record {
       more = [];
@@ -470,7 +470,7 @@ pub too_many_asked : {rules : Rules} → (x y : At) (limit seen : ℕ) → IsKep
     → IsTooMany rules (starts_at y) (own_log y) limit seen → IsTooMany rules (starts_at x) (own_log x) limit seen
 too_many_asked {rules} x y limit seen k a h =
     subst (λ (l : Log). IsTooMany rules (starts_at x) l limit seen) (log_after_asks x y k a)
-    (subst (λ (ss : List Specifier). IsTooMany rules ss (own_log y) limit seen) (ap texts a.goes.roots) h)
+    (subst (λ (ss : List Specifier). IsTooMany rules ss (own_log y) limit seen) (ap texts a.goes.starts) h)
 
 pub too_many_later : {rules : Rules} → (x y : At) (limit seen : ℕ) → IsKeptAt rules x → OnlyAsks x y
     → IsTooMany rules (starts_at x) (own_log x) limit seen → IsTooMany rules (starts_at x) (own_log y) limit seen
@@ -505,7 +505,7 @@ pub in_time_after : {A : Type 0} (rules : Rules) (x y : At) (r : Result A BuildE
     → GoesOnAt x y
     → CameInTime rules (starts_at y) events r → CameInTime rules (starts_at x) events r
 in_time_after rules x y r events g h =
-    subst (λ (ss : List Specifier). CameInTime rules ss events r) (ap texts g.roots) h
+    subst (λ (ss : List Specifier). CameInTime rules ss events r) (ap texts g.starts) h
 
 -- an error of one result is that of another
 pub in_time_err : (rules : Rules) (A B : Type 0) (starts : List Specifier) (events : List Event) (e : BuildError)
@@ -525,7 +525,7 @@ pub live_answered : {rules : Rules}
     → slots_at x (text_of url) ≡ Some Asked
     → rules.means (text_of url) (Some a) e → IsFilled rules (text_of url) e x.progress.reaching new
     → IsLive rules (at now (record {
-      roots = x.progress.roots;
+      starts = x.progress.starts;
       reaching = new;
       asked = x.progress.asked;
       taken = x.progress.taken + 1;
@@ -825,31 +825,31 @@ taken_in_time {rules} A x y url a new error.Finished v took polled asked taken =
 -- what holds at all times, after an answer
 pub kept_polled : {rules : Rules} → (x y : At) (url : Parts) (a : LoadAnswer) → IsLive rules x
     → HasPolled x.loader y.loader (Ok (Answer url a))
-    → y.progress.roots ≡ x.progress.roots → y.progress.asked ≡ x.progress.asked
+    → y.progress.starts ≡ x.progress.starts → y.progress.asked ≡ x.progress.asked
     → y.progress.taken ≡ x.progress.taken + 1 → IsKeptAt rules y
-kept_polled {rules} x y url a v polled roots asked taken =
-    rw (roots, asked, taken, polled.events, polled.told)
+kept_polled {rules} x y url a v polled starts asked taken =
+    rw (starts, asked, taken, polled.events, polled.told)
     (kept_answered rules (starts_at x) x.loader.events x.loader.told x.progress.asked x.progress.taken (text_of url) a
     v.kept v.behind polled.as_told)
 
 -- and after a request
 pub kept_started : {rules : Rules} → (x y : At) (s : Specifier) → IsInHand rules x s → loadable s ≡ true
     → HasStarted s x.loader y.loader (Ok tt)
-    → y.progress.roots ≡ x.progress.roots → y.progress.asked ≡ x.progress.asked + 1
+    → y.progress.starts ≡ x.progress.starts → y.progress.asked ≡ x.progress.asked + 1
     → y.progress.taken ≡ x.progress.taken → IsKeptAt rules y
-kept_started {rules} x y s v loads started roots asked taken =
-    rw (roots, asked, taken, started.events, started.told)
+kept_started {rules} x y s v loads started starts asked taken =
+    rw (starts, asked, taken, started.events, started.told)
     (kept_asked rules (starts_at x) x.loader.events x.loader.told x.progress.asked x.progress.taken s v.kept loads
     v.fresh
     (v.building.sound s Queued v.queued))
 
 -- an answer is one event more
 pub goes_polled : (x y : At) (url : Parts) (a : LoadAnswer) → HasPolled x.loader y.loader (Ok (Answer url a))
-    → y.progress.roots ≡ x.progress.roots → y.progress.reaching.limit ≡ x.progress.reaching.limit
+    → y.progress.starts ≡ x.progress.starts → y.progress.reaching.limit ≡ x.progress.reaching.limit
     → y.progress.asked ≡ x.progress.asked
     → y.progress.taken ≡ x.progress.taken + 1 → GoesOnAt x y
-goes_polled x y url a polled roots limit asked taken = record {
-  roots = roots;
+goes_polled x y url a polled starts limit asked taken = record {
+  starts = starts;
   limit = limit;
   events = record {
     more = Answered (text_of url) a ∷ [];
@@ -879,7 +879,7 @@ errs_after {rules} x y z error.NotYet k g same t = record {
   standing = t.standing;
   patience = λ fewer. falls_after x.loader.patience y.loader.patience z.loader.patience g.patience (t.patience fewer);
 }
-errs_after {rules} x y z (error.TooManyModules seen) k g same t = rw (← ap texts g.roots, ← g.limit) t
+errs_after {rules} x y z (error.TooManyModules seen) k g same t = rw (← ap texts g.starts, ← g.limit) t
 errs_after {rules} x y z (error.UnaskedAnswer url) k g same t = record {
   before = t.before;
   answer = t.answer;
@@ -889,10 +889,10 @@ errs_after {rules} x y z (error.UnaskedAnswer url) k g same t = record {
     t.goes_on.1 ∙ ap (λ w. w ++ t.goes_on.0) (own_after x y k g)
         ∙ append_assoc (own_events x) g.events.more t.goes_on.0,
   );
-  orderly = rw (← ap texts g.roots) t.orderly;
+  orderly = rw (← ap texts g.starts) t.orderly;
   outstanding = t.outstanding;
   settled = t.settled;
-  unawaited = λ once. rw (← ap texts g.roots) (t.unawaited once);
+  unawaited = λ once. rw (← ap texts g.starts) (t.unawaited once);
   pending = t.pending ∙ same;
   fair = λ f. t.fair (g.fair f);
 }
@@ -922,12 +922,12 @@ runs_err rules x z (error.UnaskedAnswer url) t = t
 runs_err rules x z error.OutOfMemory t = t
 runs_err rules x z error.Finished t = t
 
--- ---- the roots are reached
+-- ---- the starts are reached
 
 pub live_begun : (rules : Rules) (x : At) (new : Reaching) → IsLive rules x
     → HasReached (starts_at x) x.progress.reaching new
     → IsLive rules (at x.loader (record {
-      roots = x.progress.roots;
+      starts = x.progress.starts;
       reaching = new;
       asked = x.progress.asked;
       taken = x.progress.taken;

@@ -10,6 +10,8 @@ use Rattle.std.proofs.lemmas.Map.Made.{lookup-map_values, length-le_from_is_memb
 use Rattle.url.specs.Parts.{Parts}
 use Rattle.graph_entry.specs.declared.answer.LoadAnswer.{LoadAnswer}
 use Rattle.graph_entry.specs.declared.entry.Entry.{Entry}
+use Rattle.graph_entry.specs.declared.referrer.ReferrerImports.{ReferrerImports}
+use Rattle.graph_entry.specs.Referrer.{starts_of}
 use Rattle.graph_entry.specs.Specifier.{text_of, loadable}
 use Rattle.deno_graph.specs.declared.following.Following.{Following}
 use Rattle.deno_graph.specs.declared.slot.Slot.{Slot}
@@ -207,7 +209,7 @@ pub result_graph : {rules : Rules} → IsFunctional rules
     → IsStrictlySortedBy url_cmp (keys_of slots)
     → AreSettled rules slots entries → IsGraph rules (starts_at x) (answer_to (own_log y)) entries
 result_graph {rules} once x y slots entries t g is sorted all =
-    subst (λ (ss : List Specifier). IsGraph rules ss (answer_to (own_log y)) entries) (ap texts g.roots)
+    subst (λ (ss : List Specifier). IsGraph rules ss (answer_to (own_log y)) entries) (ap texts g.starts)
     (subst (IsGraph rules (starts_at y) (answer_to (own_log y))) (sym all.is)
     (graph_now rules once y t.live t.begun t.asked_all all.firsts (rw (← is) sorted) (sym is ∙ all.done)))
 
@@ -223,15 +225,15 @@ result_limit {rules} x y slots entries t g is all =
 pub result_asked : {rules : Rules} → IsFunctional rules → (x y : At) → IsThrough rules x y → GoesOnAt x y
     → IsAskedFor rules (starts_at x) (own_asked y) (own_log y)
 result_asked {rules} once x y t g =
-    subst (λ (ss : List Specifier). IsAskedFor rules ss (own_asked y) (own_log y)) (ap texts g.roots)
+    subst (λ (ss : List Specifier). IsAskedFor rules ss (own_asked y) (own_log y)) (ap texts g.starts)
     (asked_now rules once y t.live t.begun t.asked_all)
 
 pub result_not_yet : {rules : Rules} → IsFunctional rules
-    → {L : Type 0} (l m : L) (w : Following) (x y : At) (f g1 : Bool)
+    → {L : Type 0} (l m : L) (w : Following) (rs : List Parts) (os : List ReferrerImports) (x y : At) (f g1 : Bool)
     → IsPaused rules x y → GoesOnAt x y → IsKeptAt rules x
     → IsStrictlySortedBy url_cmp (keys_of y.progress.reaching.reached.entries)
-    → IsNotYet rules (seen_of l w x f) (seen_of m w y g1)
-result_not_yet {rules} once l m w x y f g1 p g k sorted = record {
+    → IsNotYet rules (seen_of l w rs os x f) (seen_of m w rs os y g1)
+result_not_yet {rules} once l m w rs os x y f g1 p g k sorted = record {
   orderly = from (λ ss. IsOrderly rules ss (own_log y)) p.live.building.orderly;
   asked = from (λ ss. IsAskedFor rules ss (own_asked y) (own_log y))
       (asked_now rules once y p.live p.begun p.asked_all);
@@ -249,7 +251,7 @@ result_not_yet {rules} once l m w x y f g1 p g k sorted = record {
 }
   where
     from : (P : List Specifier → Type 0) → P (starts_at y) → P (starts_at x)
-    from P h = subst P (ap texts g.roots) h
+    from P h = subst P (ap texts g.starts) h
 
     asks_before : List Specifier
     asks_before = asked_of (before_last (own_count y) y.loader.events)
@@ -300,9 +302,10 @@ result_not_yet {rules} once l m w x y f g1 p g k sorted = record {
         )
 
 pub result_unasked : {rules : Rules} → IsFunctional rules
-    → {L : Type 0} (l m : L) (w : Following) (x y : At) (f g1 : Bool) (s : Specifier)
-    → IsUnasked rules x y s → IsUnawaited rules 1 (seen_of l w x f) (seen_of m w y g1) s
-result_unasked {rules} once l m w x y f g1 s u = record {
+    → {L : Type 0} (l m : L) (w : Following) (rs : List Parts) (os : List ReferrerImports) (x y : At) (f g1 : Bool)
+    (s : Specifier)
+    → IsUnasked rules x y s → IsUnawaited rules 1 (seen_of l w rs os x f) (seen_of m w rs os y g1) s
+result_unasked {rules} once l m w rs os x y f g1 s u = record {
   before = log_of u.before;
   answer = u.answer;
   last = ap log_of u.last ∙ log_of-answer u.before s u.answer;
@@ -344,10 +347,14 @@ fairly {rules} x y s kx ky g u fair none_open =
         ∙ times-append s (keys_of (log_of first)) (keys_of (log_of u.before))
 
 -- as `poll` says it
-pub result_fair : {rules : Rules} → {L A : Type 0} (l : L) (w : Following) (x y : At) (f : Bool) (url : Parts)
+pub result_fair : {rules : Rules}
+    → {L A : Type 0} (l : L) (w : Following) (rs : List Parts) (os : List ReferrerImports) (x y : At) (f : Bool)
+    (url : Parts)
     → IsKeptAt rules x → IsKeptAt rules y → GoesOnAt x y
-    → IsUnasked rules x y (text_of url) → IsFairly {A = A} x.loader (seen_of l w x f) (Err (error.UnaskedAnswer url))
-result_fair {rules} l w x y f url kx ky g u = λ fair none_open s same. fairly x y (text_of url) kx ky g u fair none_open
+    → IsUnasked rules x y (text_of url)
+    → IsFairly {A = A} x.loader (seen_of l w rs os x f) (Err (error.UnaskedAnswer url))
+result_fair {rules} l w rs os x y f url kx ky g u =
+    λ fair none_open s same. fairly x y (text_of url) kx ky g u fair none_open
 
 -- more than are reached aren't reached
 pub too_many_none : (rules : Rules) (starts0 : List Specifier) (log : Log) (limit seen : ℕ)
@@ -380,10 +387,12 @@ unawaited_none rules old new s u h = by u.unawaited
         (subst (λ (l : Log). IsReached rules (starts old) (answer_to l) s) (sym whole) awaited.reached) awaited.loads
 
 -- a builder that begins has nothing
-pub inside_new : (rules : Rules) (x : At) → x.progress.asked ≡ 0 → x.progress.taken ≡ 0 → x.progress.begun ≡ false
-    → x.progress.reaching.reached.entries ≡ [] → x.progress.reaching.todo ≡ [] → IsInside rules x false
+pub inside_new : (rules : Rules) (rs : List Parts) (os : List ReferrerImports) (x : At)
+    → starts_at x ≡ starts_of rs os → x.progress.asked ≡ 0 → x.progress.taken ≡ 0 → x.progress.begun ≡ false
+    → x.progress.reaching.reached.entries ≡ [] → x.progress.reaching.todo ≡ [] → IsInside rules rs os x false
 unfolding IsDistinct
-inside_new rules x a t b r d = record {
+inside_new rules rs os x starting a t b r d = record {
+  starting = starting;
   kept = kept;
   live = λ e. record {
     kept = kept;
@@ -420,12 +429,16 @@ inside_new rules x a t b r d = record {
 
 -- ---- history
 
-pub result_history : {rules : Rules} → {L : Type 0} (l m : L) (w : Following) (x y : At) (f g1 : Bool) → GoesOnAt x y
+pub result_history : {rules : Rules}
+    → {L : Type 0} (l m : L) (w : Following) (rs : List Parts) (os : List ReferrerImports) (x y : At) (f g1 : Bool)
+    → GoesOnAt x y
     → IsKeptAt rules x → IsKeptAt rules y
-    → HasHistory (seen_of l w x f) (seen_of m w y g1)
-result_history {rules} l m w x y f g1 g k j = record {
+    → HasHistory (seen_of l w rs os x f) (seen_of m w rs os y g1)
+result_history {rules} l m w rs os x y f g1 g k j = record {
   following = refl;
-  roots = g.roots;
+  roots = refl;
+  imports = refl;
+  starting = ap texts g.starts;
   limit = g.limit;
   events_before = before_after x y k g;
   events = (g.events.more, own_after x y k g);

@@ -172,7 +172,8 @@ edges_push refused edges yielded rest made new edge settled_one is_refused d n s
     settles longer = (
       longer ∙ ap (λ (ds : List Dependency). ds ++ settled_one ∷ []) so_far
           ∙ ap (λ (x : Dependency). judged_edges (take (length yielded) refused) yielded ++ x ∷ [])
-          (settles ∙ ap (λ (b : Bool). settled_edge b edge) (value ∙ ap (λ (k : ℕ). get_or refused k d) (here ∙ counted)))
+          (settles ∙ ap (λ (b : Bool). settled_edge b edge)
+          (value ∙ ap (λ (k : ℕ). get_or refused k d) (here ∙ counted)))
           ∙ sym (edges_more refused yielded edge d
           (place_now edges yielded rest edge (length yielded) (length refused) whole refl long)),
       ap length longer ∙ length-append made (settled_one ∷ []) ∙ ap (λ (k : ℕ). k + 1) counted

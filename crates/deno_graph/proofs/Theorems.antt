@@ -12,7 +12,10 @@ use Rattle.graph_entry.proofs.Theorems.{analysed_once, analysed_cuts}
 use Rattle.deno_graph.specs.Reach.{Specifier, Answers, Log, Rules, answer_to, has, IsEntry, Leads, IsReached, IsFunctional}
 use Rattle.deno_graph.specs.Final.{IsFinal, redirect, too_far, with_module, same}
 use Rattle.deno_graph.specs.Graph.{entry_of, GraphData, IsGraph, EachEdgeCuts}
-use Rattle.deno_graph.specs.Builder.{IsToldLog}
+use Rattle.deno_graph.specs.Events.{IsSettled}
+use Rattle.deno_graph.specs.Builder.{IsToldLog, before_last}
+use Rattle.deno_graph.specs.Progress.{At, own_count, IsUnasked, GoesOnAt, IsKeptAt}
+use Rattle.deno_graph.proofs.ResultLemmas as endings
 use Rattle.deno_graph.proofs.ReachLemmas.{reached_least, reached_start, reached_on, entry_once}
 use Rattle.deno_graph.proofs.FinalLemmas.{first_of, final_agrees, final_cuts}
 use Rattle.deno_graph.proofs.ByTextLemmas.{has-keys_at}
@@ -121,3 +124,13 @@ graph_told following starts log told entries g is all =
         → told s ≡ Some a
     by s a h None d = absurd (let n = all s in let m = ap is_some d in cc)
     by s a h (Some b) d = d ∙ ap Some (sym (is s a b h d))
+
+-- ---- a loader that answers open requests alone
+
+-- between two states of a builder no answer is unasked, where the loader says that it answers open requests alone, and had
+-- none open when the builder was made
+pub fairly : {rules : Rules} → (x y : At) (s : Specifier) → IsKeptAt rules x → IsKeptAt rules y → GoesOnAt x y
+    → IsUnasked rules x y s → x.loader.fair ≡ true
+    → IsSettled (before_last (own_count x) x.loader.events) → ⊥
+fairly {rules} x y s kept later goes unasked fair none_open =
+    endings.fairly {rules = rules} x y s kept later goes unasked fair none_open

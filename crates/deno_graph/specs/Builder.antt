@@ -3,14 +3,15 @@ use Rattle.std.specs.Prelude.{◌≡◌, ◌⊎◌, ℕ, ◌+◌, ◌-◌, ◌�
 use Rattle.std.specs.List.{IsDistinct}
 use Rattle.url.specs.Parts.{Parts}
 use Rattle.graph_entry.specs.declared.answer.LoadAnswer.{LoadAnswer}
+use Rattle.graph_entry.specs.declared.referrer.ReferrerImports.{ReferrerImports}
 use Rattle.graph_entry.specs.Specifier.{text_of, loadable}
+use Rattle.graph_entry.specs.Referrer.{starts_of}
 use Rattle.deno_graph.specs.declared.options.BuildOptions.{BuildOptions}
 use Rattle.deno_graph.specs.declared.following.Following.{Following}
 use Rattle.deno_graph.specs.declared.error.BuildError.{BuildError}
 use Rattle.deno_graph.specs.declared.error.BuildError.TheVariants.{NotYet, TooManyModules, UnaskedAnswer, Finished, OutOfMemory}
 use Rattle.deno_graph.specs.Rules.{rules_of}
 use Rattle.deno_graph.specs.Reach.{Specifier, Log, Answers, Rules, answer_to, has, IsReached, IsReach}
-use Rattle.deno_graph.specs.Graph.{texts}
 use Rattle.deno_graph.specs.Events.{Event, Answered, asked_of, log_of, IsOutstanding, IsTimely, IsSettled}
 use Rattle.deno_graph.specs.Loader.{LoaderData, HasRisen, NeverRises, Falls}
 
@@ -20,6 +21,10 @@ pub record Building (L : Type 0) : Type 0 where
   pub loader : L
   pub following : Following
   pub roots : List Parts
+  -- what places outside the graph import
+  pub imports : List ReferrerImports
+  -- where reach starts
+  pub starting : List Specifier
   pub limit : ℕ
   pub events : List Event
   pub events_before : List Event
@@ -36,9 +41,9 @@ pub record Building (L : Type 0) : Type 0 where
 abbrev pub graph_rules : {L : Type 0} → Building L → Rules
 graph_rules b = rules_of b.following
 
--- the starts of reach: the roots
+-- the starts of reach: the roots, and where the referrer imports lead (`poll`, the clause `starts`)
 abbrev pub starts : {L : Type 0} → Building L → List Specifier
-starts b = texts b.roots
+starts b = b.starting
 
 -- ---- the list asked and the log
 
@@ -113,10 +118,6 @@ pub record IsKept (rules : Rules) (starts : List Specifier) (events : List Event
   pub fits : own_asked + own_taken ≤ length events
   pub own : IsOwn rules starts (last_of (own_asked + own_taken) events) told own_asked own_taken
 
--- what this crate builds today: nothing outside imports
-abbrev pub OnlyPlain : BuildOptions → Type 0
-OnlyPlain options = options.imports ≡ []
-
 -- which edges the options let a graph follow
 abbrev pub following_of : BuildOptions → Following
 following_of options = record { kind = options.kind; skip_dynamic_deps = options.skip_dynamic_deps }
@@ -127,6 +128,8 @@ new_building given_roots options given seen = record {
   loader = given;
   following = following_of options;
   roots = given_roots;
+  imports = options.imports;
+  starting = starts_of given_roots options.imports;
   limit = options.limit;
   events = [];
   events_before = seen.events;
@@ -148,6 +151,8 @@ GoesOn {A} old new = (more : List A) × (new ≡ old ++ more)
 pub record HasHistory {L : Type 0} (old new : Building L) : Type 0 where
   pub following : new.following ≡ old.following
   pub roots : new.roots ≡ old.roots
+  pub imports : new.imports ≡ old.imports
+  pub starting : new.starting ≡ old.starting
   pub limit : new.limit ≡ old.limit
   pub events_before : new.events_before ≡ old.events_before
   pub events : GoesOn old.events new.events

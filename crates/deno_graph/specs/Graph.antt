@@ -5,6 +5,7 @@ use Rattle.std.specs.List.Sorted.{IsStrictlySortedBy}
 use Rattle.std.specs.Ordering.{nat_cmp}
 use Rattle.std.specs.Cmp.Lexicographic.{slice_cmp}
 use Rattle.url.specs.Parts.{Parts}
+use Rattle.graph_entry.specs.declared.entry.Dependency.{Dependency}
 use Rattle.graph_entry.specs.declared.entry.Module.{Module}
 use Rattle.graph_entry.specs.declared.entry.Entry.{Entry}
 use Rattle.graph_entry.specs.declared.entry.Entry.TheVariants as entry
@@ -13,9 +14,10 @@ use Rattle.graph_entry.specs.Entry.{EdgesCut}
 use Rattle.deno_graph.specs.Reach.{Specifier, Answers, Rules, IsReach}
 use Rattle.deno_graph.specs.Final.{most_redirects, redirect_of, IsFinal}
 
--- what contracts see of a graph: its roots as handed in, and its entries
+-- what contracts see of a graph: its roots as handed in, the referrers outside with their edges, and its entries
 pub record GraphData : Type 0 where
   pub roots : List Parts
+  pub imports : List (Parts × List Dependency)
   pub entries : List (Parts × Entry)
 
 -- the specifiers' texts

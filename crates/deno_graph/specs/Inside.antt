@@ -2,6 +2,8 @@
 use Rattle.std.specs.Prelude.{◌≡◌, Bool, false, List, map, Some}
 use Rattle.url.specs.Parts.{Parts}
 use Rattle.graph_entry.specs.declared.entry.Entry.{Entry}
+use Rattle.graph_entry.specs.declared.referrer.ReferrerImports.{ReferrerImports}
+use Rattle.graph_entry.specs.Referrer.{starts_of}
 use Rattle.deno_graph.specs.declared.following.Following.{Following}
 use Rattle.deno_graph.specs.declared.slot.Slot.{Slot}
 use Rattle.deno_graph.specs.declared.slot.Slot.TheVariants.{Queued, Asked, Done}
@@ -9,14 +11,16 @@ use Rattle.deno_graph.specs.Reach.{Specifier, Rules}
 use Rattle.deno_graph.specs.ByText.{value_at}
 use Rattle.deno_graph.specs.Events.{asked_of, log_of}
 use Rattle.deno_graph.specs.Builder.{Building, before_last}
-use Rattle.deno_graph.specs.Progress.{At, IsKeptAt, IsLive, own_count, own_events}
+use Rattle.deno_graph.specs.Progress.{At, IsKeptAt, IsLive, own_count, own_events, starts_at}
 
 -- what contracts see of a builder
-abbrev pub seen_of : {L : Type 0} → L → Following → At → Bool → Building L
-seen_of given followed x over = record {
+abbrev pub seen_of : {L : Type 0} → L → Following → List Parts → List ReferrerImports → At → Bool → Building L
+seen_of given followed given_roots outside x over = record {
   loader = given;
   following = followed;
-  roots = x.progress.roots;
+  roots = given_roots;
+  imports = outside;
+  starting = starts_at x;
   limit = x.progress.reaching.limit;
   events = own_events x;
   events_before = before_last (own_count x) x.loader.events;
@@ -30,8 +34,9 @@ seen_of given followed x over = record {
   finished = over;
 }
 
--- until it is finished, the builder can go on
-pub record IsInside (rules : Rules) (x : At) (finished : Bool) : Type 0 where
+-- until it is finished, the builder can go on; it starts at its roots and where the referrer imports lead
+pub record IsInside (rules : Rules) (given_roots : List Parts) (outside : List ReferrerImports) (x : At) (finished : Bool) : Type 0 where
+  pub starting : starts_at x ≡ starts_of given_roots outside
   pub kept : IsKeptAt rules x
   pub live : finished ≡ false → IsLive rules x
 

@@ -29,9 +29,9 @@ pub record At : Type 0 where
 abbrev pub at : LoaderData → Progress → At
 at loader0 progress0 = record { loader = loader0; progress = progress0 }
 
--- the roots, and what happened to the loader since this builder was made: what it asked and was answered
+-- the starts, and what happened to the loader since this builder was made: what it asked and was answered
 abbrev pub starts_at : At → List Specifier
-starts_at x = texts x.progress.roots
+starts_at x = texts x.progress.starts
 
 abbrev pub own_count : At → ℕ
 own_count x = x.progress.asked + x.progress.taken
@@ -56,7 +56,7 @@ todo_at x = texts x.progress.reaching.todo
 abbrev pub IsKeptAt : Rules → At → Type 0
 IsKeptAt rules x = IsKept rules (starts_at x) x.loader.events x.loader.told x.progress.asked x.progress.taken
 
--- the roots are reached once the builder has begun
+-- the starts are reached once the builder has begun
 abbrev pub IsRooted : At → Type 0
 IsRooted x = x.progress.begun ≡ true → (t : Specifier) → has (starts_at x) t ≡ true → slots_at x t ≡ None → ⊥
 
@@ -91,7 +91,7 @@ pub record GoOn (old new : List Event) (asked taken asked_now taken_now : ℕ) :
 
 -- what every step keeps
 pub record GoesOnAt (old new : At) : Type 0 where
-  pub roots : new.progress.roots ≡ old.progress.roots
+  pub starts : new.progress.starts ≡ old.progress.starts
   pub limit : new.progress.reaching.limit ≡ old.progress.reaching.limit
   pub events : GoOn old.loader.events new.loader.events old.progress.asked old.progress.taken new.progress.asked new.progress.taken
   pub told : new.loader.told ≡ old.loader.told
@@ -114,7 +114,7 @@ pub record IsOneOn (rules : Rules) (old new : At) : Type 0 where
   pub less : length new.progress.reaching.reached.entries + length old.progress.reaching.todo
       ≡ length old.progress.reaching.reached.entries + length new.progress.reaching.todo + 1
 
--- the roots are reached
+-- the starts are reached
 abbrev pub Begins : Rules → At → At → Result (Unit {0}) GrowError → Type 0
 Begins rules old new (Ok done) = IsLive rules new × (new.progress.begun ≡ true)
 Begins rules old new (Err (grow.TooMany seen)) =

@@ -1,10 +1,11 @@
 //! The builder: asks a loader for all that is reached, and makes the graph of its answers.
-ghost use Rattle.std.specs.Prelude.{◌≡◌, ◌≤◌, ℕ, [], true, false, ◌↔◌, length, IfOk, OnOk, Err};
+ghost use Rattle.std.specs.Prelude.{◌≡◌, ◌≤◌, ℕ, [], true, false, ◌↔◌, length, map, IfOk, OnOk, Err};
 ghost use Rattle.url.specs.Parts.{Parts};
 ghost use Rattle.graph_entry.specs.Specifier.{text_of};
+ghost use Rattle.graph_entry.specs.Referrer.{referred, starts_of};
 ghost use Rattle.deno_graph.specs.Reach.{answer_to};
 ghost use Rattle.deno_graph.specs.Graph.{IsGraph, EachEdgeCuts};
-ghost use Rattle.deno_graph.specs.Builder.{graph_rules, starts, new_building, IsOrderly, IsAsking, IsAskedFor, EachAnswered, IsToldLog, HasHistory, IsNotYet, IsUnawaited, IsTooMany, IsComplete, IsFairly, CameInTime, OnlyPlain};
+ghost use Rattle.deno_graph.specs.Builder.{graph_rules, starts, new_building, IsOrderly, IsAsking, IsAskedFor, EachAnswered, IsToldLog, HasHistory, IsNotYet, IsUnawaited, IsTooMany, IsComplete, IsFairly, CameInTime};
 
 use crate::error::BuildError;
 use crate::finish::finish;
@@ -15,7 +16,7 @@ use crate::options::BuildOptions;
 use crate::progress::Progress;
 use crate::reaching::Reaching;
 use base::Items;
-use graph_entry::GraphKind;
+use graph_entry::{ReferrerImports, starts_of};
 use std::alloc::{AllocError, Global};
 use std::marker::Model;
 use url::Url;
@@ -32,6 +33,8 @@ struct Inner<L: Loader + Drop> {
     alloc: Global,
     loader: L,
     following: Following,
+    roots: Items<Url>,
+    imports: Items<ReferrerImports>,
     progress: Progress,
     finished: bool,
 }
@@ -44,9 +47,9 @@ impl<L: Loader + Drop> Model for Inner<L> {
 
     ghost Value = { Building L };
 
-    ghost view = { λ b. seen_of b.loader b.following (at (L.seen b.loader) b.progress) b.finished };
+    ghost view = { λ b. seen_of b.loader b.following b.roots b.imports (at (L.seen b.loader) b.progress) b.finished };
 
-    ghost invariant = { λ b. IsInside (rules_of b.following) (at (L.seen b.loader) b.progress) b.finished };
+    ghost invariant = { λ b. IsInside (rules_of b.following) b.roots b.imports (at (L.seen b.loader) b.progress) b.finished };
 }
 
 impl<L: Loader + Drop> GraphBuild<L> {
@@ -57,15 +60,15 @@ impl<L: Loader + Drop> GraphBuild<L> {
         options: BuildOptions,
         loader: L,
     ) -> Result<GraphBuild<L>, AllocError>
-        requires { OnlyPlain options }
         ensures { IfOk result (λ b. b.inner ≡ new_building roots options loader (L.seen loader)) }
     {
         let BuildOptions {
             kind,
             limit,
             skip_dynamic_deps,
-            imports: _,
+            imports,
         } = options;
+        let starts = starts_of(alloc, roots.as_slice(), imports.as_slice())?;
         Ok(GraphBuild {
             inner: Inner {
                 alloc,
@@ -74,8 +77,10 @@ impl<L: Loader + Drop> GraphBuild<L> {
                     kind,
                     skip_dynamic_deps,
                 },
+                roots,
+                imports,
                 progress: Progress {
-                    roots,
+                    starts,
                     reaching: Reaching::new(alloc, limit),
                     asked: 0,
                     taken: 0,
@@ -94,6 +99,9 @@ impl<L: Loader + Drop> GraphBuild<L> {
             IsGraph (graph_rules self.old.inner) (starts self.old.inner) (answer_to self.new.inner.log) g.entries) }
         ensures cuts { IfOk result (λ g. EachEdgeCuts g.entries) }
         ensures roots { IfOk result (λ g. g.roots ≡ self.old.inner.roots) }
+        ensures imports { IfOk result (λ g. g.imports ≡ map referred self.old.inner.imports) }
+        // It starts at the roots and where the referrer imports lead.
+        ensures starts { starts self.old.inner ≡ starts_of self.old.inner.roots self.old.inner.imports }
         // Each answer was awaited when it came; what was asked is what the graph needs, and is answered.
         ensures orderly { OnOk result (IsOrderly (graph_rules self.old.inner) (starts self.old.inner) self.new.inner.log) }
         ensures asked { OnOk result
@@ -145,6 +153,8 @@ impl<L: Loader + Drop> GraphBuild<L> {
             alloc: _,
             loader,
             following: _,
+            roots: _,
+            imports: _,
             progress: _,
             finished: _,
         } = inner;
@@ -157,6 +167,8 @@ impl<L: Loader + Drop> Inner<L> {
         ensures graph { IfOk result (λ g.
             IsGraph (graph_rules self.old) (starts self.old) (answer_to self.new.log) g.entries) }
         ensures roots { IfOk result (λ g. g.roots ≡ self.old.roots) }
+        ensures imports { IfOk result (λ g. g.imports ≡ map referred self.old.imports) }
+        ensures starts { starts self.old ≡ starts_of self.old.roots self.old.imports }
         ensures orderly { OnOk result (IsOrderly (graph_rules self.old) (starts self.old) self.new.log) }
         ensures asked { OnOk result
             (IsAskedFor (graph_rules self.old) (starts self.old) self.new.asked self.new.log) }
@@ -195,7 +207,8 @@ impl<L: Loader + Drop> Inner<L> {
                 match finish(
                     self.alloc,
                     self.following,
-                    self.progress.roots.as_slice(),
+                    self.roots.as_slice(),
+                    self.imports.as_slice(),
                     &mut self.progress.reaching.reached,
                 ) {
                     Ok(graph) => return Ok(graph),

@@ -8,16 +8,20 @@ ghost use Rattle.deno_graph.specs.Graph.{entry_of, redirected, resolved, module_
 ghost use Rattle.deno_graph.specs.Entries.{entries_left};
 
 use base::Items;
-use graph_entry::{Entry, Module};
+use graph_entry::{Dependency, Entry, Module};
 use std::alloc::AllocError;
 use std::cmp::Ordering;
 use std::marker::Model;
 use url::Url;
 
+/// So many redirects are followed at most.
+pub const MOST_REDIRECTS: u32 = 10;
+
 /// The graph: an entry for each specifier that is reached.
 #[derive(Drop)]
 pub struct ModuleGraph {
     roots: Items<Url>,
+    imports: Items<(Url, Items<Dependency>)>,
     entries: Items<(Url, Entry)>,
 }
 
@@ -26,19 +30,28 @@ impl Model for ModuleGraph {
 
     ghost Value = { GraphData };
 
-    ghost view = { λ g. record { roots = g.roots; entries = g.entries } };
+    ghost view = { λ g. record { roots = g.roots; imports = g.imports; entries = g.entries } };
 
     ghost invariant = { λ g. IsAscending g.entries };
 }
 
 impl ModuleGraph {
     /// A graph of entries in the order of their specifiers.
-    pub(crate) fn new(roots: Items<Url>, entries: Items<(Url, Entry)>) -> ModuleGraph
+    pub(crate) fn new(
+        roots: Items<Url>,
+        imports: Items<(Url, Items<Dependency>)>,
+        entries: Items<(Url, Entry)>,
+    ) -> ModuleGraph
         requires { IsAscending entries }
         ensures roots { result.roots ≡ roots }
+        ensures imports { result.imports ≡ imports }
         ensures entries { result.entries ≡ entries }
     {
-        ModuleGraph { roots, entries }
+        ModuleGraph {
+            roots,
+            imports,
+            entries,
+        }
     }
 
     /// The roots as they were handed in.
@@ -46,6 +59,13 @@ impl ModuleGraph {
         ensures { result.now ≡ self.now.roots }
     {
         self.roots.as_slice()
+    }
+
+    /// The referrers outside the graph, each with the edges of what it imports.
+    pub fn referrer_imports(&self) -> &[(Url, Items<Dependency>)]
+        ensures { result.now ≡ self.now.imports }
+    {
+        self.imports.as_slice()
     }
 
     /// The entry of a specifier, if it is reached.
@@ -115,7 +135,7 @@ fn resolve_in<'a>(entries: &'a [(Url, Entry)], specifier: &'a Url) -> &'a Url
     ensures { text_of result.now ≡ resolved entries.now (text_of specifier.now) }
 {
     let mut at = specifier;
-    for _ in 0..10_u32 {
+    for _ in 0..MOST_REDIRECTS {
         match redirect_in(entries, at) {
             Some(next) => at = next,
             None => return at,

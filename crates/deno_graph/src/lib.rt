@@ -4,7 +4,7 @@
 //!   (`IsGraph`, `specs/Graph.antt`; reached, `specs/Reach.antt`; the causes, `specs/Builder.antt`).
 //! - `Loader`: what a loader's calls do to its data (`specs/Loader.antt`). `MemoryLoader` is one that has its
 //!   modules in memory (`specs/Memory.antt`).
-//! - `ModuleGraph::{roots, entry, entries}`: look into the graph.
+//! - `ModuleGraph::{roots, referrer_imports, entry, entries}`: look into the graph.
 //!
 //! `OutOfMemory` is the one answer that no clause ties to a cause.
 #![tactic(auto)]
@@ -30,8 +30,8 @@ pub use graph::{Entries, ModuleGraph};
 pub use graph_entry::{
     Attribute, DataError, Dependency, DependencyKind, Entry, GraphKind, Headers, JsModule,
     JsonModule, LoadAnswer, MediaType, Module, ModuleError, ModuleKind, PackageKind, PackageRef,
-    ParseDiagnostic, ResolutionError, SyntaxErrorKind, WasmModule,
+    ParseDiagnostic, ReferrerImports, ResolutionError, SyntaxErrorKind, WasmModule,
 };
 pub use loader::{Loader, LoaderPoll};
 pub use memory_loader::{Arrival, MemoryLoader};
-pub use options::{BuildOptions, ReferrerImports};
+pub use options::BuildOptions;

@@ -1,14 +1,6 @@
 //! What to build.
-use base::{Items, Text};
-use graph_entry::GraphKind;
-use url::Url;
-
-/// Specifiers that a place outside the graph imports, as a configuration file does.
-#[derive(Drop)]
-pub struct ReferrerImports {
-    pub referrer: Url,
-    pub imports: Items<Text>,
-}
+use base::Items;
+use graph_entry::{GraphKind, ReferrerImports};
 
 /// What to build: which edges to follow, and how many modules to allow.
 #[derive(Drop)]
@@ -17,5 +9,6 @@ pub struct BuildOptions {
     /// How many specifiers the graph may have, those with an error counted.
     pub limit: usize,
     pub skip_dynamic_deps: bool,
+    /// What places outside the graph import. The graph has their edges, and starts at their targets too.
     pub imports: Items<ReferrerImports>,
 }

@@ -15,14 +15,14 @@ use graph_entry::is_loadable;
 use std::alloc::Global;
 use url::Url;
 
-/// The roots, what is reached of them, and how often the loader was asked and answered.
+/// Where reach starts, what is reached of them, and how often the loader was asked and answered.
 #[derive(Drop)]
 pub struct Progress {
-    pub roots: Items<Url>,
+    pub starts: Items<Url>,
     pub reaching: Reaching,
     pub asked: usize,
     pub taken: usize,
-    /// The roots are reached.
+    /// The starts are reached.
     pub begun: bool,
 }
 
@@ -36,7 +36,7 @@ impl Progress {
     ) -> Result<(), BuildError>
         requires live { IsLive (rules_of following) (at (L.seen loader.old) self.old) }
         ensures runs { Runs (rules_of following) (at (L.seen loader.old) self.old) (at (L.seen loader.new) self.new) result }
-        ensures in_time { CameInTime (rules_of following) (texts self.old.roots) (own_events (at (L.seen loader.new) self.new)) result }
+        ensures in_time { CameInTime (rules_of following) (texts self.old.starts) (own_events (at (L.seen loader.new) self.new)) result }
         ensures kept { IsKeptAt (rules_of following) (at (L.seen loader.new) self.new) }
         ensures goes { GoesOnAt (at (L.seen loader.old) self.old) (at (L.seen loader.new) self.new) }
     {
@@ -54,7 +54,7 @@ impl Progress {
         }
     }
 
-    // Reaches the roots, the first time. What is followed and the loader are there for the contract.
+    // Reaches the starts, the first time. What is followed and the loader are there for the contract.
     fn begin<L: Loader>(&mut self, following: Following, loader: &mut L) -> Result<(), GrowError>
         requires live { IsLive (rules_of following) (at (L.seen loader.old) self.old) }
         ensures begins { Begins (rules_of following) (at (L.seen loader.old) self.old) (at (L.seen loader.new) self.new) result }
@@ -69,7 +69,7 @@ impl Progress {
         if self.begun {
             return Ok(());
         }
-        match self.reaching.reach_all(self.roots.as_slice()) {
+        match self.reaching.reach_all(self.starts.as_slice()) {
             Ok(()) => {
                 self.begun = true;
                 Ok(())
@@ -88,7 +88,7 @@ impl Progress {
         requires live { IsLive (rules_of following) (at (L.seen loader.old) self.old) }
         requires begun { self.old.begun ≡ true }
         ensures turns { Turns (rules_of following) (at (L.seen loader.old) self.old) (at (L.seen loader.new) self.new) result }
-        ensures in_time { CameInTime (rules_of following) (texts self.old.roots) (own_events (at (L.seen loader.new) self.new)) result }
+        ensures in_time { CameInTime (rules_of following) (texts self.old.starts) (own_events (at (L.seen loader.new) self.new)) result }
         ensures kept { IsKeptAt (rules_of following) (at (L.seen loader.new) self.new) }
         ensures goes { GoesOnAt (at (L.seen loader.old) self.old) (at (L.seen loader.new) self.new) }
     {
@@ -115,7 +115,7 @@ impl Progress {
         requires asked_all { self.old.reaching.todo ≡ [] }
         requires open_yet { self.old.taken < self.old.asked }
         ensures turns { Turns (rules_of following) (at (L.seen loader.old) self.old) (at (L.seen loader.new) self.new) result }
-        ensures in_time { CameInTime (rules_of following) (texts self.old.roots) (own_events (at (L.seen loader.new) self.new)) result }
+        ensures in_time { CameInTime (rules_of following) (texts self.old.starts) (own_events (at (L.seen loader.new) self.new)) result }
         ensures kept { IsKeptAt (rules_of following) (at (L.seen loader.new) self.new) }
         ensures goes { GoesOnAt (at (L.seen loader.old) self.old) (at (L.seen loader.new) self.new) }
     {

@@ -8,7 +8,7 @@ ghost use Rattle.deno_graph.specs.Settling as spec;
 ghost use Rattle.deno_graph.specs.Settling.{finals_of, verdict_of, settled_edge};
 
 use crate::following::Following;
-use crate::graph::{module_in, redirect_in};
+use crate::graph::{MOST_REDIRECTS, module_in, redirect_in};
 use base::Items;
 use graph_entry::{
     Attribute, Dependency, Entry, JsModule, Module, ModuleError, ResolutionError, WasmModule,
@@ -88,7 +88,7 @@ fn leads_on(firsts: &[(Url, Entry)], specifier: &Url) -> bool
     ensures { result ≡ spec.leads_on firsts.now (text_of specifier.now) }
 {
     let mut at = specifier;
-    for _ in 0..10_u32 {
+    for _ in 0..MOST_REDIRECTS {
         match redirect_in(firsts, at) {
             Some(next) => at = next,
             None => return false,

@@ -1,143 +1,236 @@
--- Bundles: what a JSON value says of roots and modules (this project's profile; JSON is that of RFC 8259).
-use Rattle.std.specs.Prelude.{◌≡◌, ℕ, ◌+◌, ◌==◌, ◌&&◌, Bool, true, false, not, List, [], ◌∷◌, map, codes, Option, Some, None, option_map, option_and_then, if◌then◌else◌, IsUtf8}
-use Rattle.std.specs.Result.{result_ok}
-use Rattle.serde_json.specs.Data.{Data, Items, no_items, item, Members, no_members, member}
+-- Bundles: what a JSON value says of roots, options, modules and their arrival, or the first thing for which it says nothing,
+-- in this order (this project's profile; JSON is that of RFC 8259).
+use Rattle.std.specs.Prelude.{◌≡◌, ℕ, ◌+◌, ◌==◌, ◌&&◌, ◌||◌, nat_lt, Bool, true, false, not, List, [], ◌∷◌, ◌++◌, map, codes, decimal, bytes_eq, Option, Some, None, is_some, option_map, option_and_then, Result, Ok, Err, if◌then◌else◌, IsUtf8}
+use Rattle.serde_json.specs.Data.{Data, Items, Members, no_members, member}
 use Rattle.serde_json.specs.Read.{read}
-use Rattle.serde_json.specs.Find.{get, get_member, as_object, as_array, as_str}
+use Rattle.serde_json.specs.Find.{get, as_null, as_number, as_u64, as_array, as_bool}
 use Rattle.base64.specs.GeneralPurpose.{decode_of}
 use Rattle.base64.specs.Engines.{standard}
 use Rattle.url.specs.Parts.{Parts}
-use Rattle.url.specs.Parser.{parse_url}
+use Rattle.graph_bundle.specs.Reading.{Reading, and_then, said, or_here, pointer, escaped, under, url_of, bool_of, object_of, items_list, before, each_of, there, required, or_default, optional, only}
+use Rattle.graph_bundle.specs.Reading as reading
 use Rattle.graph_entry.specs.Specifier.{text_of}
 use Rattle.graph_entry.specs.Headers.{HeaderList, with_header}
-use Rattle.graph_entry.specs.declared.kind.GraphKind.TheVariants.{All}
+use Rattle.graph_entry.specs.declared.kind.GraphKind.{GraphKind}
+use Rattle.graph_entry.specs.declared.kind.GraphKind.TheVariants.{All, CodeOnly, TypesOnly}
+use Rattle.graph_entry.specs.declared.referrer.ReferrerImports.{ReferrerImports}
 use Rattle.graph_entry.specs.declared.answer.LoadAnswer.{LoadAnswer}
-use Rattle.graph_entry.specs.declared.answer.LoadAnswer.TheVariants.{Content}
+use Rattle.graph_entry.specs.declared.answer.LoadAnswer.TheVariants.{Content, Redirect, External, Failed}
+use Rattle.deno_graph.specs.declared.memory_loader.Arrival.{Arrival}
+use Rattle.deno_graph.specs.declared.memory_loader.Arrival.TheVariants.{Answer, Pending}
 use Rattle.deno_graph.specs.declared.options.BuildOptions.{BuildOptions}
-use Rattle.deno_graph.specs.Reach.{has}
+use Rattle.deno_graph.specs.Reach.{Specifier, has}
 use Rattle.graph_bundle.specs.declared.bundle.Bundle.{Bundle}
 
 -- the bytes are a JSON text of this value
 abbrev pub IsJson : List ℕ → Data → Type 0
 IsJson bytes value = IsUtf8 bytes × (read bytes ≡ Some value)
 
--- ---- lists and pairs that are there whole or not at all
+-- ---- options
 
--- all of them, if each is there
-abbrev pub all_some : {A : Type 0} → List (Option A) → Option (List A)
-all_some [] = Some []
-all_some (x ∷ xs) = option_and_then (λ y. option_map (λ ys. y ∷ ys) (all_some xs)) x
+-- the kind of graph that a word names
+abbrev pub kind_named : List ℕ → Option GraphKind
+kind_named word =
+    if bytes_eq word (codes "all") then Some All
+    else (if bytes_eq word (codes "code") then Some CodeOnly
+    else (if bytes_eq word (codes "types") then Some TypesOnly else None))
 
--- both of them, if each is there
-abbrev pub both : {A B : Type 0} → Option A → Option B → Option (A × B)
-both x y = option_and_then (λ a. option_map (λ b. (a, b)) y) x
+abbrev pub kind_of : Data → Reading GraphKind
+kind_of value = and_then (λ word. said (kind_named word)) (reading.text_of value)
 
--- ---- JSON values
+-- how many specifiers the graph may have, if the bundle doesn't say; and the most that it can say
+abbrev pub default_limit : ℕ
+default_limit = 10000
 
--- how many members an object has
-abbrev pub count_members : Members → ℕ
-count_members no_members = 0
-count_members (member key value rest) = 1 + count_members rest
+abbrev pub highest_limit : ℕ
+highest_limit = 1000000
 
--- the values at these two keys of an object that has no others
-abbrev pub pair_of : List ℕ → List ℕ → Data → Option (Data × Data)
-pair_of first second value =
-    option_and_then (λ members. if count_members members == 2 then both (get_member first members) (get_member second members) else None)
-    (as_object value)
+-- a number within the bounds
+abbrev pub within_bounds : ℕ → Option ℕ
+within_bounds n = if nat_lt n 1 || nat_lt highest_limit n then None else Some n
 
--- the items, as a list
-abbrev pub items_list : Items → List Data
-items_list no_items = []
-items_list (item value rest) = value ∷ items_list rest
+-- a whole number, written without point and exponent
+abbrev pub limit_in : Data → Option ℕ
+limit_in value = option_and_then within_bounds (option_and_then as_u64 (as_number value))
 
--- what each item of an array is, if each is something
-abbrev pub each_of : {A : Type 0} → (Data → Option A) → Data → Option (List A)
-each_of read_one value = option_and_then (λ items. all_some (map read_one (items_list items))) (as_array value)
+abbrev pub limit_of : Data → Reading ℕ
+limit_of value = said (limit_in value)
 
--- ---- bundles
+abbrev pub limit_at : Data → Reading ℕ
+limit_at value = optional limit_of default_limit (codes "limit") value
 
--- a URL by its text (URL Standard, "URL parsing", without a base)
-abbrev pub url_of : Data → Option Parts
-url_of value = option_and_then (λ text. result_ok (parse_url None text)) (as_str value)
+-- the keys of a place outside that imports
+abbrev pub knows_place : List ℕ → Bool
+knows_place key = bytes_eq key (codes "referrer") || bytes_eq key (codes "imports")
 
--- the bytes that a text encodes, if it is an encoding (RFC 4648, "Base 64 Encoding", with its padding and no bits left over)
-abbrev pub bytes_of_code : List ℕ → Option (List ℕ)
-bytes_of_code code = result_ok (decode_of standard code)
+-- what an object with these members says that a place outside imports
+abbrev pub place_from : Data → Members → Reading ReferrerImports
+place_from value members =
+    and_then (λ place. and_then (λ texts. and_then (λ done. Ok (record { referrer = place; imports = texts }))
+    (only knows_place members))
+    (required (each_of reading.text_of) (codes "imports") value))
+    (required url_of (codes "referrer") value)
 
--- the content at one of two keys: a text as it is, or the bytes that a text encodes
-abbrev pub content_from : Option Data → Option Data → Option (List ℕ)
-content_from (Some text) None = as_str text
-content_from None (Some code) = option_and_then bytes_of_code (as_str code)
-content_from (Some text) (Some code) = None
-content_from None None = None
+abbrev pub place_of : Data → Reading ReferrerImports
+place_of value = and_then (place_from value) (object_of value)
 
--- a module's content
-abbrev pub content_of : Data → Option (List ℕ)
-content_of value = content_from (get (codes "text") value) (get (codes "base64") value)
+-- what to build: the kind, the limit, whether dynamic imports are skipped, and what places outside import
+abbrev pub options_of : Data → Reading BuildOptions
+options_of value =
+    and_then (λ wanted. and_then (λ most. and_then (λ skips. and_then (λ places.
+    Ok (record { kind = wanted; limit = most; skip_dynamic_deps = skips; imports = places }))
+    (optional (each_of place_of) [] (codes "imports") value))
+    (optional bool_of false (codes "skipDynamicDeps") value))
+    (limit_at value))
+    (optional kind_of All (codes "kind") value)
+
+-- ---- the headers of a module
+
+abbrev pub header_in : List ℕ → Data → Reading (List ℕ)
+header_in name value = under (escaped name) (reading.text_of value)
 
 -- The headers with those of the members behind them, if each is a text. Members stand in the order of their names, so
 -- of two names that become one the greater as written counts.
-abbrev pub headers_onto : HeaderList → Members → Option HeaderList
-headers_onto headers no_members = Some headers
-headers_onto headers (member name value rest) = option_and_then (λ text. headers_onto (with_header headers name text) rest) (as_str value)
+abbrev pub headers_onto : HeaderList → Members → Reading HeaderList
+headers_onto headers no_members = Ok headers
+headers_onto headers (member name value rest) =
+    and_then (λ text. headers_onto (with_header headers name text) rest) (header_in name value)
 
--- a module's headers: none, or those of an object
-abbrev pub headers_from : Option Data → Option HeaderList
-headers_from None = Some []
-headers_from (Some value) = option_and_then (headers_onto []) (as_object value)
+abbrev pub headers_of : Data → Reading HeaderList
+headers_of value = and_then (headers_onto []) (object_of value)
 
--- a module's answer
-abbrev pub answer_with : List ℕ → HeaderList → LoadAnswer
-answer_with bytes headers = Content headers bytes
+-- ---- the answer of a module
 
--- the value is an object of so many members
-abbrev pub is_count : ℕ → Option ℕ → Bool
-is_count n None = false
-is_count n (Some count) = count == n
+-- the content that a text is
+abbrev pub text_answer : HeaderList → Data → Reading LoadAnswer
+text_answer headers value = and_then (λ text. Ok (Content headers text)) (reading.text_of value)
 
-abbrev pub has_members : ℕ → Data → Bool
-has_members n value = is_count n (option_map count_members (as_object value))
+-- the content that a text encodes, if it is an encoding (RFC 4648, "Base 64 Encoding", with its padding and no bits left over)
+abbrev pub decoded : HeaderList → List ℕ → Reading LoadAnswer
+decoded headers code = and_then (λ bytes. Ok (Content headers bytes)) (or_here (decode_of standard code))
 
--- how many members a module has: its specifier, its content, and the headers if it has any
-abbrev pub members_due : Option Data → ℕ
-members_due None = 2
-members_due (Some headers) = 3
+abbrev pub code_answer : HeaderList → Data → Reading LoadAnswer
+code_answer headers value = and_then (decoded headers) (reading.text_of value)
 
--- a module: its specifier, its content and its headers, and nothing else
-abbrev pub module_of : Data → Option (Parts × LoadAnswer)
-module_of value =
-    if has_members (members_due (get (codes "headers") value)) value
-    then both (option_and_then url_of (get (codes "specifier") value))
-    (option_and_then (λ bytes. option_map (answer_with bytes) (headers_from (get (codes "headers") value))) (content_of value))
-    else None
+-- a redirect
+abbrev pub redirect_answer : Data → Reading LoadAnswer
+redirect_answer value = and_then (λ target. Ok (Redirect target)) (url_of value)
 
--- no text stands twice
-abbrev pub is_distinct : List (List ℕ) → Bool
-is_distinct [] = true
-is_distinct (text ∷ texts) = not (has texts text) && is_distinct texts
+-- an answer that `true` stands for
+abbrev pub if_true : LoadAnswer → Option Bool → Reading LoadAnswer
+if_true answer (Some true) = Ok answer
+if_true answer (Some false) = Err []
+if_true answer None = Err []
+
+abbrev pub answer_if : LoadAnswer → Data → Reading LoadAnswer
+answer_if answer value = if_true answer (as_bool value)
+
+-- what stands at a key, or else the other one
+abbrev pub at_or_else : List ℕ → (Data → Reading LoadAnswer) → Option Data → Reading LoadAnswer → Reading LoadAnswer
+at_or_else key says (Some value) other = under key (says value)
+at_or_else key says None other = other
+
+abbrev pub at_or : List ℕ → (Data → Reading LoadAnswer) → Data → Reading LoadAnswer → Reading LoadAnswer
+at_or key says value other = at_or_else key says (get key value) other
+
+abbrev pub external_or_fail : Data → Reading LoadAnswer
+external_or_fail value =
+    at_or (codes "external") (answer_if External) value (required (answer_if Failed) (codes "fail") value)
+
+abbrev pub redirect_or_other : Data → Reading LoadAnswer
+redirect_or_other value = at_or (codes "redirect") redirect_answer value (external_or_fail value)
+
+abbrev pub code_or_other : HeaderList → Data → Reading LoadAnswer
+code_or_other headers value = at_or (codes "base64") (code_answer headers) value (redirect_or_other value)
+
+abbrev pub text_or_other : HeaderList → Data → Reading LoadAnswer
+text_or_other headers value = at_or (codes "text") (text_answer headers) value (code_or_other headers value)
+
+-- how many of the five answers a module has
+abbrev pub count_there : Option Data → ℕ
+count_there (Some value) = 1
+count_there None = 0
+
+abbrev pub count_at : List ℕ → Data → ℕ
+count_at key value = count_there (get key value)
+
+abbrev pub count_answers : Data → ℕ
+count_answers value =
+    count_at (codes "text") value + count_at (codes "base64") value + count_at (codes "redirect") value
+    + count_at (codes "external") value + count_at (codes "fail") value
+
+-- the one answer that a module has; where it has none or several, the module is at fault
+abbrev pub answer_of : HeaderList → Data → Reading LoadAnswer
+answer_of headers value = if count_answers value == 1 then text_or_other headers value else Err []
+
+-- ---- modules
+
+-- the keys of a module
+abbrev pub knows_module : List ℕ → Bool
+knows_module key =
+    bytes_eq key (codes "specifier") || bytes_eq key (codes "headers") || bytes_eq key (codes "text")
+    || bytes_eq key (codes "base64") || bytes_eq key (codes "redirect") || bytes_eq key (codes "external")
+    || bytes_eq key (codes "fail")
+
+-- the specifier of a module, which none of these earlier ones may be
+abbrev pub new_specifier : List Specifier → Data → Reading Parts
+new_specifier earlier value =
+    and_then (λ url. if has earlier (text_of url) then Err (pointer (codes "specifier") []) else Ok url)
+    (required url_of (codes "specifier") value)
+
+-- the module at a specifier, of an object with these members
+abbrev pub module_from : Parts → Data → Members → Reading (Parts × LoadAnswer)
+module_from url value members =
+    and_then (λ headers. and_then (λ answer. and_then (λ done. Ok (url, answer)) (only knows_module members))
+    (answer_of headers value))
+    (optional headers_of [] (codes "headers") value)
+
+-- a module behind others with these specifiers
+abbrev pub module_after : List Specifier → Data → Reading (Parts × LoadAnswer)
+module_after earlier value =
+    and_then (λ members. and_then (λ url. module_from url value members) (new_specifier earlier value)) (object_of value)
+
+-- the modules that the values say, behind others with these specifiers, the first value standing at this place
+abbrev pub modules_from : List Specifier → ℕ → List Data → Reading (List (Parts × LoadAnswer))
+modules_from earlier place [] = Ok []
+modules_from earlier place (value ∷ values) =
+    and_then (λ m. before m (modules_from (earlier ++ text_of m.0 ∷ []) (place + 1) values))
+    (under (decimal place) (module_after earlier value))
+
+abbrev pub modules_of : Data → Reading (List (Parts × LoadAnswer))
+modules_of value = and_then (λ items. modules_from [] 0 (items_list items)) (said (as_array value))
 
 -- the modules' specifiers
-abbrev pub specifiers : List (Parts × LoadAnswer) → List (List ℕ)
+abbrev pub specifiers : List (Parts × LoadAnswer) → List Specifier
 specifiers modules = map (λ m. text_of m.0) modules
 
--- no specifier has two modules
-abbrev pub are_distinct : List (Parts × LoadAnswer) → Bool
-are_distinct modules = is_distinct (specifiers modules)
+-- ---- arrival
 
--- how many modules the graph may have
-abbrev pub module_limit : ℕ
-module_limit = 10000
+-- `null` is that nothing has come, and a URL the answer for it
+abbrev pub arrival_of : Data → Reading Arrival
+arrival_of value = if is_some (as_null value) then Ok Pending else and_then (λ url. Ok (Answer url)) (url_of value)
 
--- what is built of a bundle
-abbrev pub plain_options : BuildOptions
-plain_options = record { kind = All; limit = module_limit; skip_dynamic_deps = false; imports = [] }
+-- ---- bundles
 
--- a bundle of these roots and modules
-abbrev pub plain_bundle : List Parts → List (Parts × LoadAnswer) → Bundle
-plain_bundle given modules = record { roots = given; options = plain_options; modules = modules; arrival = [] }
+-- the keys of a bundle
+abbrev pub knows_bundle : List ℕ → Bool
+knows_bundle key =
+    bytes_eq key (codes "roots") || bytes_eq key (codes "kind") || bytes_eq key (codes "limit")
+    || bytes_eq key (codes "skipDynamicDeps") || bytes_eq key (codes "imports") || bytes_eq key (codes "modules")
+    || bytes_eq key (codes "arrival")
 
--- the bundle that a JSON value says: its roots, and its modules, of which no two have one specifier
-unfoldable pub bundle_of : Data → Option Bundle
-bundle_of value =
-    option_and_then (λ parts. if are_distinct parts.1 then Some (plain_bundle parts.0 parts.1) else None)
-    (option_and_then (λ pair. both (each_of url_of pair.0) (each_of module_of pair.1)) (pair_of (codes "roots") (codes "modules") value))
+-- the bundle that an object with these members says
+abbrev pub bundle_from : Data → Members → Reading Bundle
+bundle_from value members =
+    and_then (λ given. and_then (λ wanted. and_then (λ told. and_then (λ order. and_then (λ done.
+    Ok (record { roots = given; options = wanted; modules = told; arrival = order }))
+    (only knows_bundle members))
+    (optional (each_of arrival_of) [] (codes "arrival") value))
+    (required modules_of (codes "modules") value))
+    (options_of value))
+    (required (each_of url_of) (codes "roots") value)
+
+-- the bundle that a JSON value says: its roots, its options, its modules, of which no two have one specifier, and the order in
+-- which they come
+unfoldable pub bundle_of : Data → Reading Bundle
+bundle_of value = and_then (bundle_from value) (object_of value)

@@ -1,2 +1,3 @@
 -- What the public contracts rest on.
+pub mod Reading
 pub mod Bundle

@@ -1,14 +1,20 @@
-//! Bundles: the roots and modules of which a graph is built, in JSON.
+//! Bundles: the roots, options and modules of which a graph is built, in JSON.
 //!
-//! - `read_bundle`: exactly the bundle that the bytes say (`IsJson`, `bundle_of`, `specs/Bundle.antt`), or why they
-//!   say none.
-//! - `Bundle`: its roots, its modules with their answers, and what is built of them.
+//! - `read_bundle`: exactly the bundle that the bytes say, or the pointer to the first thing for which they say none
+//!   (`IsJson`, `bundle_of`, `specs/Bundle.antt`).
+//! - `Bundle`: its roots, what is built of them, its modules with their answers, and the order in which they come.
 //!
 //! Running out of memory is the one answer without a cause.
 #![tactic(auto)]
 
+mod arrival;
 mod bundle;
+mod escape;
+mod members;
 mod module;
-mod values;
+mod modules;
+mod options;
+mod part;
+mod reading;
 
 pub use bundle::{Bundle, BundleFault, read_bundle};

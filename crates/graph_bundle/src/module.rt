@@ -1,138 +1,293 @@
 //! A module of a bundle: its specifier and its answer.
-ghost use Rattle.std.specs.Prelude.{◌≡◌, [], IfOk, option_and_then, codes};
-ghost use Rattle.serde_json.specs.Find.{get, as_object, as_str};
+ghost use Rattle.std.specs.Prelude.{◌≡◌, ℕ, ◌≤◌, List, [], IfOk, codes};
+ghost use Rattle.std.specs.BTreeSet.{contains_text};
 ghost use Rattle.serde_json.specs.View.{view, members_view};
-ghost use Rattle.graph_bundle.specs.Bundle.{url_of, module_of, answer_with, bytes_of_code, content_of, headers_from, headers_onto, members_due};
+ghost use Rattle.deno_graph.specs.Reach.{Specifier, has};
 ghost use Rattle.graph_bundle.specs.Bundle as spec;
 
-use crate::values::{count_in, url_in};
-use base::SharedBytes;
+use crate::escape::escaped;
+use crate::members::{Keys, only, optional, required};
+use crate::part::Part;
+use crate::reading::{Reading, pointer, under};
+use base::{SharedBytes, Text};
 use base64::DecodeAllocError;
 use base64::engine::general_purpose::STANDARD;
 use deno_graph::{Headers, LoadAnswer};
 use serde_json::{Map, Value};
 use std::alloc::{AllocError, Global};
+use std::collections::BTreeSet;
 use url::Url;
 
-/// The module that a value says.
-pub fn module_in(alloc: Global, value: &Value) -> Result<Option<(Url, LoadAnswer)>, AllocError>
-    ensures { IfOk result (λ m. m ≡ module_of (view value.now)) }
+/// The module that a value says, behind modules with these specifiers.
+pub fn module_in(
+    alloc: Global,
+    seen: &BTreeSet<String>,
+    value: &Value,
+) -> Result<Reading<(Url, LoadAnswer)>, AllocError>
+    ensures { (earlier : List Specifier) → ((q : List ℕ) → contains_text seen.now q ≡ has earlier q) →
+        IfOk result (λ r. r ≡ spec.module_after earlier (view value.now)) }
 {
-    if !has_members(value, due_members(value)) {
-        return Ok(None);
-    }
-    let Some(url) = url_at(alloc, value, "specifier")? else {
-        return Ok(None);
-    };
-    let Some(bytes) = content_in(alloc, value)? else {
-        return Ok(None);
-    };
-    let Some(headers) = headers_in(alloc, value)? else {
-        return Ok(None);
-    };
-    Ok(Some((url, LoadAnswer::Content { headers, bytes })))
-}
-
-/// Whether a value is an object of so many members.
-fn has_members(value: &Value, count: usize) -> bool
-    ensures { result ≡ spec.has_members count (view value.now) }
-{
-    match count_in(value) {
-        Some(members) => members == count,
-        None => false,
+    match value.as_object() {
+        Some(members) => match new_specifier(alloc, seen, value)? {
+            Ok(specifier) => module_with(alloc, specifier, value, members),
+            Err(at) => Ok(Err(at)),
+        },
+        None => Ok(Err(Text::new(alloc))),
     }
 }
 
-/// How many members a module has.
-fn due_members(value: &Value) -> usize
-    ensures { result ≡ members_due (get (codes "headers") (view value.now)) }
+/// The specifier, unless another module has it.
+#[tactic(auto, unfolding(graph_entry::specs::Specifier::text_of))]
+fn new_specifier(
+    alloc: Global,
+    seen: &BTreeSet<String>,
+    value: &Value,
+) -> Result<Reading<Url>, AllocError>
+    ensures { (earlier : List Specifier) → ((q : List ℕ) → contains_text seen.now q ≡ has earlier q) →
+        IfOk result (λ r. r ≡ spec.new_specifier earlier (view value.now)) }
 {
-    match value.get("headers") {
-        Some(_) => 3,
-        None => 2,
+    let specifier: Url = match required(alloc, value, "specifier")? {
+        Ok(specifier) => specifier,
+        Err(at) => return Ok(Err(at)),
+    };
+    if seen.contains(specifier.as_str()) {
+        return Ok(Err(pointer(alloc, "specifier", "")?));
+    }
+    Ok(Ok(specifier))
+}
+
+/// The module at a specifier.
+fn module_with(
+    alloc: Global,
+    specifier: Url,
+    value: &Value,
+    members: &Map<String, Value>,
+) -> Result<Reading<(Url, LoadAnswer)>, AllocError>
+    ensures { IfOk result (λ r. r ≡ spec.module_from specifier (view value.now) (members_view members.now.entries)) }
+{
+    let headers = match optional(alloc, value, "headers", Headers::new(alloc))? {
+        Ok(headers) => headers,
+        Err(at) => return Ok(Err(at)),
+    };
+    let answer = match answer_in(alloc, headers, value)? {
+        Ok(answer) => answer,
+        Err(at) => return Ok(Err(at)),
+    };
+    match only::<ModuleKeys>(alloc, members)? {
+        Ok(()) => Ok(Ok((specifier, answer))),
+        Err(at) => Ok(Err(at)),
     }
 }
 
-/// The URL at this key.
-fn url_at(alloc: Global, value: &Value, key: &str) -> Result<Option<Url>, AllocError>
-    ensures { IfOk result (λ url. url ≡ option_and_then url_of (get key.now (view value.now))) }
+/// The keys of a module.
+struct ModuleKeys;
+
+impl Keys for ModuleKeys {
+    ghost knows = { spec.knows_module };
+
+    fn knows(key: &str) -> bool {
+        key == "specifier"
+            || key == "headers"
+            || key == "text"
+            || key == "base64"
+            || key == "redirect"
+            || key == "external"
+            || key == "fail"
+    }
+}
+
+// ---- the answer
+
+/// The one answer that a module has.
+fn answer_in(
+    alloc: Global,
+    headers: Headers,
+    value: &Value,
+) -> Result<Reading<LoadAnswer>, AllocError>
+    ensures { IfOk result (λ r. r ≡ spec.answer_of headers (view value.now)) }
+{
+    if count_answers(value) != 1 {
+        return Ok(Err(Text::new(alloc)));
+    }
+    text_or_other(alloc, headers, value)
+}
+
+/// How many answers a module has.
+fn count_answers(value: &Value) -> usize
+    ensures { result ≡ spec.count_answers (view value.now) }
+{
+    count_at(value, "text")
+        + count_at(value, "base64")
+        + count_at(value, "redirect")
+        + count_at(value, "external")
+        + count_at(value, "fail")
+}
+
+fn count_at(value: &Value, key: &str) -> usize
+    ensures count { result ≡ spec.count_at key.now (view value.now) }
+    ensures few { result ≤ 1 }
 {
     match value.get(key) {
-        Some(url) => url_in(alloc, url),
-        None => Ok(None),
+        Some(_) => 1,
+        None => 0,
     }
 }
 
-/// The bytes of a module: those of its text, or those that its base64 text stands for.
-fn content_in(alloc: Global, value: &Value) -> Result<Option<SharedBytes>, AllocError>
-    ensures { IfOk result (λ bytes. bytes ≡ content_of (view value.now)) }
+fn text_or_other(
+    alloc: Global,
+    headers: Headers,
+    value: &Value,
+) -> Result<Reading<LoadAnswer>, AllocError>
+    ensures { IfOk result (λ r. r ≡ spec.text_or_other headers (view value.now)) }
 {
-    match (value.get("text"), value.get("base64")) {
-        (Some(text), None) => text_in(alloc, text),
-        (None, Some(code)) => code_in(alloc, code),
-        _ => Ok(None),
+    match value.get("text") {
+        Some(text) => {
+            let reading = text_in(alloc, headers, text)?;
+            under(alloc, "text", reading)
+        }
+        None => code_or_other(alloc, headers, value),
     }
 }
 
-/// The bytes of a text.
-fn text_in(alloc: Global, value: &Value) -> Result<Option<SharedBytes>, AllocError>
-    ensures { IfOk result (λ bytes. bytes ≡ as_str (view value.now)) }
+fn code_or_other(
+    alloc: Global,
+    headers: Headers,
+    value: &Value,
+) -> Result<Reading<LoadAnswer>, AllocError>
+    ensures { IfOk result (λ r. r ≡ spec.code_or_other headers (view value.now)) }
+{
+    match value.get("base64") {
+        Some(code) => {
+            let reading = code_in(alloc, headers, code)?;
+            under(alloc, "base64", reading)
+        }
+        None => redirect_or_other(alloc, value),
+    }
+}
+
+fn redirect_or_other(alloc: Global, value: &Value) -> Result<Reading<LoadAnswer>, AllocError>
+    ensures { IfOk result (λ r. r ≡ spec.redirect_or_other (view value.now)) }
+{
+    match value.get("redirect") {
+        Some(target) => {
+            let reading = redirect_in(alloc, target)?;
+            under(alloc, "redirect", reading)
+        }
+        None => external_or_fail(alloc, value),
+    }
+}
+
+fn external_or_fail(alloc: Global, value: &Value) -> Result<Reading<LoadAnswer>, AllocError>
+    ensures { IfOk result (λ r. r ≡ spec.external_or_fail (view value.now)) }
+{
+    match value.get("external") {
+        Some(yes) => {
+            let reading = answer_if(alloc, LoadAnswer::External, yes);
+            under(alloc, "external", reading)
+        }
+        None => match value.get("fail") {
+            Some(yes) => {
+                let reading = answer_if(alloc, LoadAnswer::Failed, yes);
+                under(alloc, "fail", reading)
+            }
+            None => Ok(Err(pointer(alloc, "fail", "")?)),
+        },
+    }
+}
+
+/// The answer of content that a text is.
+fn text_in(
+    alloc: Global,
+    headers: Headers,
+    value: &Value,
+) -> Result<Reading<LoadAnswer>, AllocError>
+    ensures { IfOk result (λ r. r ≡ spec.text_answer headers (view value.now)) }
 {
     match value.as_str() {
-        Some(text) => Ok(Some(SharedBytes::from_slice(alloc, text.as_bytes())?)),
-        None => Ok(None),
+        Some(text) => Ok(Ok(LoadAnswer::Content {
+            headers,
+            bytes: SharedBytes::from_slice(alloc, text.as_bytes())?,
+        })),
+        None => Ok(Err(Text::new(alloc))),
     }
 }
 
-/// The bytes that a base64 text stands for.
-fn code_in(alloc: Global, value: &Value) -> Result<Option<SharedBytes>, AllocError>
-    ensures { IfOk result (λ bytes. bytes ≡ option_and_then bytes_of_code (as_str (view value.now))) }
+/// The answer of content whose encoding a text is.
+fn code_in(
+    alloc: Global,
+    headers: Headers,
+    value: &Value,
+) -> Result<Reading<LoadAnswer>, AllocError>
+    ensures { IfOk result (λ r. r ≡ spec.code_answer headers (view value.now)) }
 {
     match value.as_str() {
-        Some(code) => decoded(alloc, code),
-        None => Ok(None),
+        Some(code) => decoded(alloc, headers, code),
+        None => Ok(Err(Text::new(alloc))),
     }
 }
 
-fn decoded(alloc: Global, code: &str) -> Result<Option<SharedBytes>, AllocError>
-    ensures { IfOk result (λ bytes. bytes ≡ bytes_of_code code.now) }
+fn decoded(alloc: Global, headers: Headers, code: &str) -> Result<Reading<LoadAnswer>, AllocError>
+    ensures { IfOk result (λ r. r ≡ spec.decoded headers code.now) }
 {
     match STANDARD.decode(alloc, code.as_bytes()) {
-        Ok(bytes) => Ok(Some(SharedBytes::from_vec(bytes)?)),
-        Err(DecodeAllocError::DecodeError(_)) => Ok(None),
+        Ok(bytes) => Ok(Ok(LoadAnswer::Content {
+            headers,
+            bytes: SharedBytes::from_vec(bytes)?,
+        })),
+        Err(DecodeAllocError::DecodeError(_)) => Ok(Err(Text::new(alloc))),
         Err(DecodeAllocError::OutOfMemory) => Err(AllocError),
     }
 }
 
-/// The headers of a module, if each is a text.
-fn headers_in(alloc: Global, value: &Value) -> Result<Option<Headers>, AllocError>
-    ensures { IfOk result (λ headers. headers ≡ headers_from (get (codes "headers") (view value.now))) }
+fn redirect_in(alloc: Global, value: &Value) -> Result<Reading<LoadAnswer>, AllocError>
+    ensures { IfOk result (λ r. r ≡ spec.redirect_answer (view value.now)) }
 {
-    match value.get("headers") {
-        Some(headers) => headers_of(alloc, headers),
-        None => Ok(Some(Headers::new(alloc))),
+    match Url::read(alloc, value)? {
+        Ok(target) => Ok(Ok(LoadAnswer::Redirect(target))),
+        Err(at) => Ok(Err(at)),
     }
 }
 
-fn headers_of(alloc: Global, value: &Value) -> Result<Option<Headers>, AllocError>
-    ensures { IfOk result (λ headers. headers ≡ option_and_then (headers_onto []) (as_object (view value.now))) }
+/// The answer, if the value is `true`.
+fn answer_if(alloc: Global, answer: LoadAnswer, value: &Value) -> Reading<LoadAnswer>
+    ensures { result ≡ spec.answer_if answer (view value.now) }
 {
-    match value.as_object() {
-        Some(members) => each_header(alloc, members),
-        None => Ok(None),
+    match value.as_bool() {
+        Some(true) => Ok(answer),
+        Some(false) | None => Err(Text::new(alloc)),
     }
 }
 
-fn each_header(alloc: Global, members: &Map<String, Value>) -> Result<Option<Headers>, AllocError>
-    ensures { IfOk result (λ headers. headers ≡ headers_onto [] (members_view members.now.entries)) }
+// ---- headers
+
+impl Part for Headers {
+    ghost says = { spec.headers_of };
+
+    fn read(alloc: Global, value: &Value) -> Result<Reading<Headers>, AllocError> {
+        match value.as_object() {
+            Some(members) => each_header(alloc, members),
+            None => Ok(Err(Text::new(alloc))),
+        }
+    }
+}
+
+fn each_header(alloc: Global, members: &Map<String, Value>) -> Result<Reading<Headers>, AllocError>
+    ensures { IfOk result (λ r. r ≡ spec.headers_onto [] (members_view members.now.entries)) }
 {
     let mut headers = Headers::new(alloc);
     for (name, value) in members.iter() {
-        let Some(text) = value.as_str() else {
-            return Ok(None);
-        };
-        let text = String::from_str(alloc, text)?;
-        headers.insert(alloc, name.as_str(), text)?;
+        match header_in(alloc, name.as_str(), value)? {
+            Ok(text) => headers.insert(alloc, name.as_str(), text.into_string())?,
+            Err(at) => return Ok(Err(at)),
+        }
     }
-    Ok(Some(headers))
+    Ok(Ok(headers))
+}
+
+fn header_in(alloc: Global, name: &str, value: &Value) -> Result<Reading<Text>, AllocError>
+    ensures { IfOk result (λ r. r ≡ spec.header_in name.now (view value.now)) }
+{
+    let part = escaped(alloc, name)?;
+    let reading = Text::read(alloc, value)?;
+    under(alloc, part.as_str(), reading)
 }

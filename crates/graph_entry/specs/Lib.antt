@@ -9,6 +9,7 @@ pub mod Resolution
 pub mod Headers
 pub mod Diagnosis
 pub mod Entry
+pub mod Referrer
 pub mod Json
 pub mod Wasm
 pub mod Analysed

@@ -5,6 +5,8 @@
 //! - `analyse_unasked(specifier)`: the same where no loader is asked for the specifier: what a `data:` URL holds, or
 //!   the package of an `npm:` or `jsr:` specifier.
 //! - `resolve(text, referrer)`: what a specifier in a source leads to (`resolve`, `specs/Resolution.antt`).
+//! - `referred(places)`, `starts_of(roots, places)`: the edges of what places outside a graph import, and where reach
+//!   starts by them (`specs/Referrer.antt`).
 //! - `is_loadable(specifier)`: whether a loader is asked for it (`loadable`, `specs/Specifier.antt`).
 //! - `Entry`, `LoadAnswer` and their parts are plain data in contracts.
 //!
@@ -22,6 +24,7 @@ mod headers;
 mod json;
 mod kind;
 mod module_text;
+mod referrer;
 mod resolution;
 mod specifier;
 mod unasked;
@@ -33,6 +36,7 @@ pub use crate::diagnostic::{ParseDiagnostic, SyntaxErrorKind};
 pub use crate::entry::{Dependency, Entry, JsModule, JsonModule, Module, ModuleError, WasmModule};
 pub use crate::headers::Headers;
 pub use crate::kind::GraphKind;
+pub use crate::referrer::{ReferrerImports, referred, starts_of};
 pub use crate::resolution::{ResolutionError, Resolved, resolve};
 pub use crate::specifier::is_loadable;
 pub use crate::unasked::analyse_unasked;

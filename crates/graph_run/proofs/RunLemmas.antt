@@ -1,5 +1,5 @@
 -- What a run answers for an input, by what the input is.
-use Rattle.std.proofs.Common.{◌≡◌, ◌⊎◌, inl, inr, ◌∙◌, sym, ap, subst, ℕ, ◌+◌, ◌≤◌, Bool, true, List, length, Option, Some, None, IfSome, arith}
+use Rattle.std.proofs.Common.{◌≡◌, ◌⊎◌, inl, inr, ◌∙◌, sym, ap, subst, ℕ, ◌+◌, ◌≤◌, Bool, true, List, length, Option, Some, None, Result, Ok, Err, IfSome, arith}
 use Rattle.std.specs.Prelude.{bytes_eq}
 use Rattle.std.specs.Cmp.Lexicographic.{nat_list_eq_equiv}
 use Rattle.std.proofs.lemmas.List.{length-map}
@@ -45,16 +45,17 @@ one_value input v w h k = let both : Some v ≡ Some w = sym h.1 ∙ k.1 in cc
 one_bundle : (input : List ℕ) (b c : Bundle) → IsInput input b → IsInput input c → b ≡ c
 one_bundle input b c h k =
     let same : h.value ≡ k.value = one_value input h.value k.value h.json k.json in
-    let both : Some b ≡ Some c = sym h.says ∙ ap bundle_of same ∙ k.says in cc
+    let both : ◌≡◌ {A = Result Bundle (List ℕ)} (Ok b) (Ok c) = sym h.says ∙ ap bundle_of same ∙ k.says in cc
 
 -- for an input that is a bundle what is due is that of the bundle
 due_of : (input : List ℕ) (status : Status) (text : List ℕ) (b : Bundle) → IsInput input b → IsDue input status text
     → OfBundle b status text
 due_of input status text b says (long lt _ _) = absurd (omega (arith, lt, says.within))
 due_of input status text b says (no_json _ never _ _) = absurd (never says.value says.json)
-due_of input status text b says (no_bundle _ value json none _ _) =
+due_of input status text b says (no_bundle _ value json at none _ _) =
     let same : says.value ≡ value = one_value input says.value value says.json json in
-    let both : Some b ≡ None = sym says.says ∙ ap bundle_of same ∙ none in absurd cc
+    let both : ◌≡◌ {A = Result Bundle (List ℕ)} (Ok b) (Err at) = sym says.says ∙ ap bundle_of same ∙ none in
+    absurd cc
 due_of input status text b says (bundle c also of) =
     subst (λ (d : Bundle). OfBundle d status text) (one_bundle input c b also says) of
 
@@ -63,7 +64,7 @@ refused_due : (input : List ℕ) (status : Status) (text : List ℕ) → IsRefus
     → status ≡ BadInput
 refused_due input status text refused (long _ is _) = is
 refused_due input status text refused (no_json _ _ is _) = is
-refused_due input status text refused (no_bundle _ _ _ _ is _) = is
+refused_due input status text refused (no_bundle _ _ _ _ _ is _) = is
 refused_due input status text refused (bundle b has _) = absurd (refused b has)
 
 -- the refusal, where it is too large

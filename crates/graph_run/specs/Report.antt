@@ -61,11 +61,23 @@ abbrev pub outcome : Result Parts ResolutionError → List ℕ
 outcome (Ok target) = codes "-> " ++ text_of target
 outcome (Err fault) = codes "! " ++ resolution.name_of_error fault
 
--- the line of an edge
+-- an edge
+unfoldable pub edge_words : Dependency → List ℕ
+edge_words d =
+    kind_word d.kind d.type_only ++ blank ++ range_word d.range ++ blank ++ quoted d.text ++ blank
+    ++ attribute_word d.attribute ++ blank ++ outcome d.resolution
+
+-- the line of an edge of an entry
 unfoldable pub edge_line : Dependency → List ℕ
-edge_line d =
-    codes "  " ++ kind_word d.kind d.type_only ++ blank ++ range_word d.range ++ blank ++ quoted d.text ++ blank
-    ++ attribute_word d.attribute ++ blank ++ outcome d.resolution ++ line_end
+edge_line d = codes "  " ++ edge_words d ++ line_end
+
+-- the line of an edge of a referrer outside
+unfoldable pub import_line : Parts → Dependency → List ℕ
+import_line referrer d = codes "import " ++ text_of referrer ++ blank ++ edge_words d ++ line_end
+
+-- the lines of a referrer
+abbrev pub import_lines : Parts × List Dependency → List ℕ
+import_lines r = flat_map (import_line r.0) r.1
 
 -- ---- entries
 
@@ -119,6 +131,7 @@ root_line root = codes "root " ++ text_of root ++ line_end
 unfoldable pub count_line : ℕ → List ℕ
 count_line n = codes "entries " ++ decimal n ++ line_end
 
--- the report: the roots as handed in, the entries in their order, and how many there are
+-- the report: the roots as handed in, what places outside import, the entries in their order, and how many there are
 unfoldable pub report_of : GraphData → List ℕ
-report_of graph = flat_map root_line graph.roots ++ flat_map entry_lines graph.entries ++ count_line (length graph.entries)
+report_of graph =
+    flat_map root_line graph.roots ++ flat_map import_lines graph.imports ++ flat_map entry_lines graph.entries ++ count_line (length graph.entries)

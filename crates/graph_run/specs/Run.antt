@@ -1,11 +1,13 @@
 -- A whole run of the program: what is due for an input, and what was written.
-use Rattle.std.specs.Prelude.{◌≡◌, ℕ, ◌+◌, ◌<◌, ◌≤◌, Bool, true, false, List, [], ◌∷◌, ◌++◌, length, bytes_eq, codes, decimal, Option, Some, None, IfSome, ◌⊎◌}
+use Rattle.std.specs.Prelude.{◌≡◌, ℕ, ◌+◌, ◌<◌, ◌≤◌, Bool, true, false, List, [], ◌∷◌, ◌++◌, length, bytes_eq, codes, decimal, map, Option, Some, None, Ok, Err, IfSome, ◌⊎◌}
 use Rattle.std.specs.List.{IsDistinct}
 use Rattle.std.specs.Io.KnownBytes.{Appends, Keeps}
 use Rattle.serde_json.specs.Data.{Data}
 use Rattle.deno_graph.specs.Rules.{Rules, rules_of}
 use Rattle.deno_graph.specs.Reach.{Specifier, Answers, IsReached, has}
-use Rattle.deno_graph.specs.Graph.{GraphData, IsGraph, texts}
+use Rattle.deno_graph.specs.Graph.{GraphData, IsGraph}
+use Rattle.json.specs.Print.{quoted}
+use Rattle.graph_entry.specs.Referrer.{referred, starts_of}
 use Rattle.deno_graph.specs.Memory.{tells}
 use Rattle.deno_graph.specs.Builder.{ReachesAtMost, following_of}
 use Rattle.graph_bundle.specs.declared.bundle.Bundle.{Bundle}
@@ -32,8 +34,9 @@ too_long_line = codes "error InputTooLong" ++ line_end
 abbrev pub not_json_line : List ℕ
 not_json_line = codes "error NotJson" ++ line_end
 
-abbrev pub not_bundle_line : List ℕ
-not_bundle_line = codes "error Bundle" ++ line_end
+-- the pointer to the first thing at fault, as a JSON string
+abbrev pub no_bundle_line : List ℕ → List ℕ
+no_bundle_line at = codes "error Bundle " ++ quoted at ++ line_end
 
 abbrev pub too_many_line : ℕ → List ℕ
 too_many_line seen = codes "error TooManyModules " ++ decimal seen ++ line_end
@@ -44,10 +47,16 @@ too_many_line seen = codes "error TooManyModules " ++ decimal seen ++ line_end
 abbrev pub bundle_rules : Bundle → Rules
 bundle_rules bundle = rules_of (following_of bundle.options)
 
--- the graph of a bundle: of its roots, over its modules, within its limit; a specifier without module is `Absent`
+-- where its reach starts: at its roots, and where what places outside import leads
+abbrev pub bundle_starts : Bundle → List Specifier
+bundle_starts bundle = starts_of bundle.roots bundle.options.imports
+
+-- the graph of a bundle: of its roots and of what places outside import, over its modules, within its limit; a specifier without
+-- module is `Absent`
 pub record IsGraphOf (bundle : Bundle) (graph : GraphData) : Type 0 where
   pub roots : graph.roots ≡ bundle.roots
-  pub entries : IsGraph (bundle_rules bundle) (texts bundle.roots) (tells bundle.modules) graph.entries
+  pub imports : graph.imports ≡ map referred bundle.options.imports
+  pub entries : IsGraph (bundle_rules bundle) (bundle_starts bundle) (tells bundle.modules) graph.entries
   pub within : length graph.entries ≤ bundle.options.limit
 
 -- one specifier more than the limit is reached
@@ -59,11 +68,11 @@ pub record HasMoreThan (rules : Rules) (starts : List Specifier) (answers : Answ
 
 -- more is reached than the bundle allows
 abbrev pub IsTooLarge : Bundle → Type 0
-IsTooLarge bundle = HasMoreThan (bundle_rules bundle) (texts bundle.roots) (tells bundle.modules) bundle.options.limit
+IsTooLarge bundle = HasMoreThan (bundle_rules bundle) (bundle_starts bundle) (tells bundle.modules) bundle.options.limit
 
 -- no more is reached than the bundle allows
 abbrev pub IsWithinLimit : Bundle → Type 0
-IsWithinLimit bundle = ReachesAtMost (bundle_rules bundle) (texts bundle.roots) (tells bundle.modules) bundle.options.limit
+IsWithinLimit bundle = ReachesAtMost (bundle_rules bundle) (bundle_starts bundle) (tells bundle.modules) bundle.options.limit
 
 -- what is due for a bundle
 pub data OfBundle (bundle : Bundle) (status : Status) (text : List ℕ) : Type 0 where
@@ -77,7 +86,7 @@ pub record IsInput (input : List ℕ) (bundle : Bundle) : Type 0 where
   pub within : length input ≤ input_limit
   pub value : Data
   pub json : IsJson input value
-  pub says : bundle_of value ≡ Some bundle
+  pub says : bundle_of value ≡ Ok bundle
 
 -- what is due for an input
 pub data IsDue (input : List ℕ) (status : Status) (text : List ℕ) : Type 0 where
@@ -86,9 +95,9 @@ pub data IsDue (input : List ℕ) (status : Status) (text : List ℕ) : Type 0 w
   -- else it is no JSON text
   no_json : length input ≤ input_limit → ((value : Data) → ¬ IsJson input value) → status ≡ BadInput → text ≡ not_json_line
       → IsDue input status text
-  -- else its value is no bundle
-  no_bundle : length input ≤ input_limit → (value : Data) → IsJson input value → bundle_of value ≡ None → status ≡ BadInput
-      → text ≡ not_bundle_line → IsDue input status text
+  -- else its value is no bundle: the pointer to the first thing for which it is none
+  no_bundle : length input ≤ input_limit → (value : Data) → IsJson input value → (at : List ℕ) → bundle_of value ≡ Err at
+      → status ≡ BadInput → text ≡ no_bundle_line at → IsDue input status text
   -- what is due for its bundle
   bundle : (bundle : Bundle) → IsInput input bundle → OfBundle bundle status text → IsDue input status text
 

@@ -5,6 +5,9 @@ use Rattle.deno_graph.specs.declared.error.BuildError.TheVariants.{NotYet, TooMa
 use Rattle.deno_graph.specs.Reach.{Specifier, Answers, Rules}
 use Rattle.deno_graph.specs.Loader.{LoaderData}
 use Rattle.deno_graph.specs.Builder.{Building}
+use Rattle.deno_graph.specs.Memory.{is_forced}
+use Rattle.graph_bundle.specs.declared.bundle.Bundle.{Bundle}
+use Rattle.std.specs.List.{list_any}
 use Rattle.std.specs.Io.KnownBytes.{Appends}
 use Rattle.graph_run.specs.declared.status.Status.{Status}
 use Rattle.graph_run.specs.declared.status.Status.TheVariants.{Done, BuildRefused, BadInput, ReadFault, WriteFault, NoMemory, Usage}
@@ -23,6 +26,10 @@ pub record IsNew {L : Type 0} (seen : LoaderData) (b : Building L) : Type 0 wher
   pub patient : IsSome b.patience
   pub fair : seen.fair ≡ true
   pub goes_on : b.finished ≡ false
+
+-- no answer comes in any case
+abbrev pub IsUnforced : Bundle → Type 0
+IsUnforced bundle = list_any is_forced bundle.arrival ≡ false
 
 -- how many waits are left, where that is told
 abbrev pub waits_left : Option ℕ → ℕ

@@ -3,10 +3,10 @@ ghost use Rattle.std.specs.Prelude.{◌≡◌, ◌++◌, codes, OnOk, IfOk, stri
 ghost use Rattle.std.specs.List.{flat_map};
 ghost use Rattle.json.specs.Print.{quoted};
 ghost use Rattle.graph_entry.specs.Specifier.{text_of};
-ghost use Rattle.graph_run.specs.Report.{report_of, root_line, entry_lines, count_line, edge_line, state, package_words, registry_word, part_word, edges_of, kind_word, range_word, attribute_word, outcome, line_end};
+ghost use Rattle.graph_run.specs.Report.{report_of, root_line, entry_lines, count_line, edge_line, edge_words, import_line, import_lines, state, package_words, registry_word, part_word, edges_of, kind_word, range_word, attribute_word, outcome, line_end};
 ghost use Rattle.graph_run.specs.Steps.{Adds};
 
-use base::{Range, Text};
+use base::{Items, Range, Text};
 use deno_graph::{
     Attribute, Dependency, DependencyKind, Entry, JsonModule, Module, ModuleGraph, PackageKind,
     PackageRef, ResolutionError,
@@ -22,6 +22,7 @@ pub fn report(alloc: Global, graph: &ModuleGraph) -> Result<String, AllocError>
 {
     let mut out = String::new(alloc);
     add_roots(&mut out, graph.roots())?;
+    add_imports(alloc, &mut out, graph.referrer_imports())?;
     let count = add_entries(alloc, &mut out, graph)?;
     add_count(alloc, &mut out, count)?;
     Ok(out)
@@ -42,6 +43,49 @@ fn add_root(out: &mut String, root: &Url) -> Result<(), AllocError>
 {
     out.push_str("root ")?;
     out.push_str(root.as_str())?;
+    out.push_str("\n")
+}
+
+fn add_imports(
+    alloc: Global,
+    out: &mut String,
+    places: &[(Url, Items<Dependency>)],
+) -> Result<(), AllocError>
+    ensures { OnOk result (Adds out.old out.new (flat_map import_lines places.now)) }
+{
+    for place in places {
+        add_place(alloc, out, &place.0, place.1.as_slice())?;
+    }
+    Ok(())
+}
+
+fn add_place(
+    alloc: Global,
+    out: &mut String,
+    referrer: &Url,
+    edges: &[Dependency],
+) -> Result<(), AllocError>
+    ensures { OnOk result (Adds out.old out.new (flat_map (import_line referrer.now) edges.now)) }
+{
+    for edge in edges {
+        add_import(alloc, out, referrer, edge)?;
+    }
+    Ok(())
+}
+
+#[tactic(auto, unfolding(crate::specs::Report::import_line, graph_entry::specs::Specifier::text_of))]
+fn add_import(
+    alloc: Global,
+    out: &mut String,
+    referrer: &Url,
+    edge: &Dependency,
+) -> Result<(), AllocError>
+    ensures { OnOk result (Adds out.old out.new (import_line referrer.now edge.now)) }
+{
+    out.push_str("import ")?;
+    out.push_str(referrer.as_str())?;
+    out.push_str(" ")?;
+    add_edge_words(alloc, out, edge)?;
     out.push_str("\n")
 }
 
@@ -170,6 +214,14 @@ fn add_edge(alloc: Global, out: &mut String, edge: &Dependency) -> Result<(), Al
     ensures { OnOk result (Adds out.old out.new (edge_line edge.now)) }
 {
     out.push_str("  ")?;
+    add_edge_words(alloc, out, edge)?;
+    out.push_str("\n")
+}
+
+#[tactic(auto, unfolding(crate::specs::Report::edge_words))]
+fn add_edge_words(alloc: Global, out: &mut String, edge: &Dependency) -> Result<(), AllocError>
+    ensures { OnOk result (Adds out.old out.new (edge_words edge.now)) }
+{
     out.push_str(kind_name(edge.kind, edge.type_only))?;
     out.push_str(" ")?;
     add_range(alloc, out, edge.range)?;
@@ -178,8 +230,7 @@ fn add_edge(alloc: Global, out: &mut String, edge: &Dependency) -> Result<(), Al
     out.push_str(" ")?;
     add_attribute(alloc, out, &edge.attribute)?;
     out.push_str(" ")?;
-    add_outcome(out, &edge.resolution)?;
-    out.push_str("\n")
+    add_outcome(out, &edge.resolution)
 }
 
 fn kind_name(kind: DependencyKind, type_only: bool) -> &'static str
@@ -257,7 +308,7 @@ fn add_number(alloc: Global, out: &mut String, n: usize) -> Result<(), AllocErro
 }
 
 /// Adds the text as a JSON string.
-fn add_quoted(alloc: Global, out: &mut String, text: &str) -> Result<(), AllocError>
+pub fn add_quoted(alloc: Global, out: &mut String, text: &str) -> Result<(), AllocError>
     ensures { OnOk result (Adds out.old out.new (quoted text.now)) }
 {
     let value = Value::String(String::from_str(alloc, text)?);

@@ -1,15 +1,16 @@
 //! What is due for an input: the report of its graph, or the line of a refusal.
-ghost use Rattle.std.specs.Prelude.{◌≡◌, [], ◌≤◌, ◌↔◌, Err, length, IfOk, IfErr, IsTrue, string_bytes};
+ghost use Rattle.std.specs.Prelude.{◌≡◌, ◌≤◌, ◌↔◌, Err, length, map, IfOk, IfErr, IsTrue, string_bytes};
 ghost use Rattle.url.specs.Parts.{Parts};
-ghost use Rattle.deno_graph.specs.Graph.{IsGraph, texts};
+ghost use Rattle.deno_graph.specs.Graph.{IsGraph};
+ghost use Rattle.graph_entry.specs.Referrer.{referred};
 ghost use Rattle.deno_graph.specs.Memory.{tells, data_of};
-ghost use Rattle.deno_graph.specs.Builder.{graph_rules, following_of, OnlyPlain};
+ghost use Rattle.deno_graph.specs.Builder.{graph_rules, following_of, starts};
 ghost use Rattle.graph_run.specs.Transfer.{input_limit};
 ghost use Rattle.graph_run.specs.Report.{report_of};
-ghost use Rattle.graph_run.specs.Run.{IsDue, OfBundle, IsGraphOf, bundle_rules, too_many_line};
-ghost use Rattle.graph_run.specs.Steps.{IsNew, SaysLarge};
+ghost use Rattle.graph_run.specs.Run.{IsDue, OfBundle, IsGraphOf, bundle_rules, bundle_starts, no_bundle_line, too_many_line};
+ghost use Rattle.graph_run.specs.Steps.{IsNew, IsUnforced, SaysLarge};
 
-use crate::reports::report;
+use crate::reports::{add_quoted, report};
 use crate::status::Status;
 use deno_graph::{BuildError, GraphBuild, MemoryLoader, ModuleGraph};
 use graph_bundle::{Bundle, BundleFault, read_bundle};
@@ -30,9 +31,22 @@ pub fn due_for(alloc: Global, bytes: &[u8]) -> Result<Due, AllocError>
     match read_bundle(alloc, bytes) {
         Ok(bundle) => due_for_bundle(alloc, bundle),
         Err(BundleFault::NotJson) => refusal(alloc, "error NotJson\n"),
-        Err(BundleFault::NotBundle) => refusal(alloc, "error Bundle\n"),
+        Err(BundleFault::Pointer(at)) => no_bundle(alloc, at.as_str()),
         Err(BundleFault::OutOfMemory) => Err(AllocError),
     }
+}
+
+/// That the first thing at fault stands at this pointer.
+fn no_bundle(alloc: Global, at: &str) -> Result<Due, AllocError>
+    ensures { IfOk result (λ due. (due.status ≡ Status.BadInput) × (string_bytes due.text ≡ no_bundle_line at.now)) }
+{
+    let mut text = String::from_str(alloc, "error Bundle ")?;
+    add_quoted(alloc, &mut text, at)?;
+    text.push_str("\n")?;
+    Ok(Due {
+        status: Status::BadInput,
+        text,
+    })
 }
 
 /// The line of a refusal of the input.
@@ -47,8 +61,7 @@ pub fn refusal(alloc: Global, line: &str) -> Result<Due, AllocError>
 
 /// What is due for a bundle.
 fn due_for_bundle(alloc: Global, bundle: Bundle) -> Result<Due, AllocError>
-    requires plain { OnlyPlain bundle.options }
-    requires unforced { bundle.arrival ≡ [] }
+    requires { IsUnforced bundle }
     ensures { IfOk result (λ due. OfBundle bundle due.status (string_bytes due.text)) }
 {
     match build(alloc, bundle) {
@@ -82,11 +95,10 @@ fn too_large(alloc: Global, seen: usize) -> Result<Due, AllocError>
 /// The graph of a bundle. A loader in memory without a forced answer answers only what it is asked for, so the
 /// errors left are a bundle that is too large and `OutOfMemory`.
 fn build(alloc: Global, bundle: Bundle) -> Result<ModuleGraph, BuildError>
-    requires plain { OnlyPlain bundle.options }
-    requires unforced { bundle.arrival ≡ [] }
+    requires { IsUnforced bundle }
     ensures graph { IfOk result (IsGraphOf bundle) }
     ensures large { IfErr result
-        (SaysLarge (bundle_rules bundle) (texts bundle.roots) (tells bundle.modules) bundle.options.limit) }
+        (SaysLarge (bundle_rules bundle) (bundle_starts bundle) (tells bundle.modules) bundle.options.limit) }
 {
     let mut build = new_build(alloc, bundle)?;
     poll_to_end(&mut build)
@@ -94,11 +106,12 @@ fn build(alloc: Global, bundle: Bundle) -> Result<ModuleGraph, BuildError>
 
 /// A builder of the graph of a bundle, over a loader in memory that has its modules.
 fn new_build(alloc: Global, bundle: Bundle) -> Result<GraphBuild<MemoryLoader>, BuildError>
-    requires plain { OnlyPlain bundle.options }
-    requires unforced { bundle.arrival ≡ [] }
+    requires { IsUnforced bundle }
     ensures new { IfOk result (λ build. IsNew (data_of build.inner.loader) build.inner) }
     ensures following { IfOk result (λ build. build.inner.following ≡ following_of bundle.options) }
     ensures roots { IfOk result (λ build. build.inner.roots ≡ bundle.roots) }
+    ensures imports { IfOk result (λ build. build.inner.imports ≡ bundle.options.imports) }
+    ensures starts { IfOk result (λ build. starts build.inner ≡ bundle_starts bundle) }
     ensures limit { IfOk result (λ build. build.inner.limit ≡ bundle.options.limit) }
     ensures modules { IfOk result (λ build. build.inner.loader.modules ≡ bundle.modules) }
     ensures refused { IfErr result (λ e. e ≡ BuildError.OutOfMemory) }
@@ -116,11 +129,12 @@ fn new_build(alloc: Global, bundle: Bundle) -> Result<GraphBuild<MemoryLoader>, 
 /// Polls until there is another answer than `NotYet`.
 fn poll_to_end(build: &mut GraphBuild<MemoryLoader>) -> Result<ModuleGraph, BuildError>
     requires { IsNew (data_of build.old.inner.loader) build.old.inner }
-    ensures graph { IfOk result (λ graph. IsGraph (graph_rules build.old.inner) (texts build.old.inner.roots)
+    ensures graph { IfOk result (λ graph. IsGraph (graph_rules build.old.inner) (starts build.old.inner)
         (tells build.old.inner.loader.modules) graph.entries) }
     ensures roots { IfOk result (λ graph. graph.roots ≡ build.old.inner.roots) }
+    ensures imports { IfOk result (λ graph. graph.imports ≡ map referred build.old.inner.imports) }
     ensures within { IfOk result (λ graph. length graph.entries ≤ build.old.inner.limit) }
-    ensures large { IfErr result (SaysLarge (graph_rules build.old.inner) (texts build.old.inner.roots)
+    ensures large { IfErr result (SaysLarge (graph_rules build.old.inner) (starts build.old.inner)
         (tells build.old.inner.loader.modules) build.old.inner.limit) }
 {
     'polls: loop {

@@ -1,16 +1,12 @@
 -- What is due for the bundle, or for a value that says none.
 use Rattle.std.proofs.Common.{ap, Err}
 use Rattle.graph_run.specs.Run.{bundle, no_bundle}
-use Rattle.graph_bundle.proofs.BundleLemmas.{bundle_plain, bundle_unforced}
-use Rattle.graph_bundle.proofs.BundleLemmas.{IfOk-map}
+use Rattle.graph_bundle.proofs.BundleLemmas.{bundle_unforced}
+use Rattle.graph_bundle.proofs.ReadingLemmas.{IfOk-map}
 use Rattle.graph_run.proofs.verdict.due_for.Goals as goal
 
 pub due_for_bundle-requires : goal.due_for_bundle-requires
-due_for_bundle-requires c =
-    record {
-      plain = bundle_plain _ _ c.in-Ok.ensures.bundle.2;
-      unforced = bundle_unforced _ _ c.in-Ok.ensures.bundle.2;
-    }
+due_for_bundle-requires c = bundle_unforced _ _ c.in-Ok.ensures.bundle.2
 
 pub returns-in-Ok : goal.returns-in-Ok
 returns-in-Ok c =
@@ -19,8 +15,9 @@ returns-in-Ok c =
     (λ due of. bundle c.in-Ok.bundle (record { within = c.requires; value = value; json = json; says = says }) of)
     c.due_for_bundle.ensures
 
-pub returns-in-Err-NotBundle : goal.returns-in-Err-NotBundle
-returns-in-Err-NotBundle c =
-    let (value, json, none) = c.in-Err-NotBundle.ensures.not_bundle (ap Err c.in-Err-NotBundle.field-0-is) in
-    IfOk-map c.refusal-in-Err-NotBundle.result _ _ (λ due d. no_bundle c.requires value json none d.0 d.1)
-    c.refusal-in-Err-NotBundle.ensures
+pub returns-in-Err-Pointer : goal.returns-in-Err-Pointer
+returns-in-Err-Pointer c =
+    let at = c.in-Err-Pointer.at in
+    let (value, json, none) = c.in-Err-Pointer.ensures.pointer at (ap Err c.in-Err-Pointer.field-0-is) in
+    IfOk-map c.no_bundle.result _ _ (λ due d. no_bundle c.requires value json at none d.0 (rw c.as_str.ensures at d.1))
+    c.no_bundle.ensures

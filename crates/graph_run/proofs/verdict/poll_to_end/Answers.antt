@@ -3,7 +3,8 @@ use Rattle.std.proofs.Common.{rules, ap, subst, ◌∙◌, sym}
 use Rattle.std.specs.Prelude.{IfOk, IfErr}
 use Rattle.deno_graph.specs.declared.following.Following.{Following}
 use Rattle.deno_graph.specs.Rules.{rules_of}
-use Rattle.deno_graph.specs.Graph.{IsGraph, texts}
+use Rattle.deno_graph.specs.Graph.{IsGraph}
+use Rattle.deno_graph.specs.Builder.{starts}
 use Rattle.deno_graph.specs.Memory.{tells}
 use Rattle.graph_run.specs.Steps.{SaysLarge}
 use Rattle.graph_run.proofs.GraphLemmas.{built_graph, refused_large, settled_none, fewer_waits, stays_told}
@@ -14,12 +15,12 @@ returns-then-not-is_not_yet-clause-graph c =
     let polled = c.poll-answer in
     let new = c.poll-answer.new.self.inner in
     subst (λ (w : Following). IfOk polled.result
-    (λ g. IsGraph (rules_of w) (texts c.args.build.now.inner.roots) (tells c.args.build.now.inner.loader.modules)
+    (λ g. IsGraph (rules_of w) (starts c.args.build.now.inner) (tells c.args.build.now.inner.loader.modules)
     g.entries))
     c.polls.invariant.following
-    (built_graph c.polls.build.inner.following polled.result (texts c.polls.build.inner.roots)
-    (texts c.args.build.now.inner.roots) new.log
-    new.loader.modules c.args.build.now.inner.loader.modules (ap texts c.polls.invariant.roots)
+    (built_graph c.polls.build.inner.following polled.result (starts c.polls.build.inner)
+    (starts c.args.build.now.inner) new.log
+    new.loader.modules c.args.build.now.inner.loader.modules c.polls.invariant.starting
     (polled.ensures.telling ∙ c.polls.invariant.told) polled.ensures.told polled.ensures.graph)
 
 pub returns-then-not-is_not_yet-clause-large : goal.returns-then-not-is_not_yet-clause-large
@@ -28,13 +29,13 @@ returns-then-not-is_not_yet-clause-large c =
     let new = c.poll-answer.new.self.inner in
     let old = c.polls.invariant.new in
     subst (λ (w : Following). IfErr polled.result
-    (SaysLarge (rules_of w) (texts c.args.build.now.inner.roots) (tells c.args.build.now.inner.loader.modules)
+    (SaysLarge (rules_of w) (starts c.args.build.now.inner) (tells c.args.build.now.inner.loader.modules)
     c.args.build.now.inner.limit))
     c.polls.invariant.following
-    (refused_large c.polls.build.inner.following polled.result (texts c.polls.build.inner.roots)
-    (texts c.args.build.now.inner.roots) new.log
+    (refused_large c.polls.build.inner.following polled.result (starts c.polls.build.inner)
+    (starts c.args.build.now.inner) new.log
     new.loader.modules c.args.build.now.inner.loader.modules c.polls.build.inner.limit c.args.build.now.inner.limit
-    (ap texts c.polls.invariant.roots) c.polls.invariant.limit (polled.ensures.telling ∙ c.polls.invariant.told)
+    c.polls.invariant.starting c.polls.invariant.limit (polled.ensures.telling ∙ c.polls.invariant.told)
     polled.ensures.told
     polled.ensures.too_many
     (λ is. let yes = c.is_not_yet.ensures.1 is in search rules)

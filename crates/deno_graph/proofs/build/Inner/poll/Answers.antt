@@ -50,7 +50,8 @@ pub returns-in-Err-NotYet-clause-not_yet : goal.returns-in-Err-NotYet-clause-not
 returns-in-Err-NotYet-clause-not_yet g c = λ same.
     rw (← c.self.view_is)
     (result_not_yet {rules = rules_of c.self.inside.following} (rules_once c.self.inside.following) _ _
-    c.self.inside.following (at (g.L.Loader.seen c.self.inside.loader) c.self.inside.progress)
+    c.self.inside.following c.self.inside.roots c.self.inside.imports
+    (at (g.L.Loader.seen c.self.inside.loader) c.self.inside.progress)
     (at (g.L.Loader.seen c.run.new.loader) c.run.new.self) _ _
     (rw c.in-Err-NotYet.field-0-is at c.in-Err-NotYet.ensures.runs) c.run.ensures.goes c.self.invariant.kept
     c.len-count.ensures.ordered)
@@ -65,20 +66,21 @@ pub returns-in-Err-UnaskedAnswer-clause-unasked : goal.returns-in-Err-UnaskedAns
 returns-in-Err-UnaskedAnswer-clause-unasked g c = λ s same.
     rw (← unasked_same c.in-Err-UnaskedAnswer.specifier s same, ← c.self.view_is)
     (result_unasked {rules = rules_of c.self.inside.following} (rules_once c.self.inside.following) _ c.run.new.loader
-    c.self.inside.following (at (g.L.Loader.seen c.self.inside.loader) c.self.inside.progress)
+    c.self.inside.following c.self.inside.roots c.self.inside.imports
+    (at (g.L.Loader.seen c.self.inside.loader) c.self.inside.progress)
     (at (g.L.Loader.seen c.run.new.loader) c.run.new.self) _ true (text_of c.in-Err-UnaskedAnswer.specifier)
     (rw c.in-Err-UnaskedAnswer.field-0-is at c.in-Err-UnaskedAnswer.ensures.runs))
 
 pub returns-in-Err-UnaskedAnswer-clause-complete : goal.returns-in-Err-UnaskedAnswer-clause-complete
 returns-in-Err-UnaskedAnswer-clause-complete g c = λ live within orderly still.
     absurd (unawaited_none (rules_of c.self.inside.following)
-    (seen_of c.self.inside.loader c.self.inside.following
+    (seen_of c.self.inside.loader c.self.inside.following c.self.inside.roots c.self.inside.imports
     (at (g.L.Loader.seen c.self.inside.loader) c.self.inside.progress) c.self.inside.finished)
-    (seen_of c.run.new.loader c.self.inside.following
+    (seen_of c.run.new.loader c.self.inside.following c.self.inside.roots c.self.inside.imports
     (at (g.L.Loader.seen c.run.new.loader) c.run.new.self) true)
     (text_of c.in-Err-UnaskedAnswer.specifier)
     (result_unasked {rules = rules_of c.self.inside.following} (rules_once c.self.inside.following)
-    c.self.inside.loader c.run.new.loader c.self.inside.following
+    c.self.inside.loader c.run.new.loader c.self.inside.following c.self.inside.roots c.self.inside.imports
     (at (g.L.Loader.seen c.self.inside.loader) c.self.inside.progress)
     (at (g.L.Loader.seen c.run.new.loader) c.run.new.self) c.self.inside.finished true
     (text_of c.in-Err-UnaskedAnswer.specifier)
@@ -88,7 +90,7 @@ returns-in-Err-UnaskedAnswer-clause-complete g c = λ live within orderly still.
 pub returns-in-Err-UnaskedAnswer-clause-fair : goal.returns-in-Err-UnaskedAnswer-clause-fair
 returns-in-Err-UnaskedAnswer-clause-fair g c =
     rw (← c.self.view_is)
-    (result_fair c.self.inside.loader c.self.inside.following
+    (result_fair c.self.inside.loader c.self.inside.following c.self.inside.roots c.self.inside.imports
     (at (g.L.Loader.seen c.self.inside.loader) c.self.inside.progress)
     (at (g.L.Loader.seen c.run.new.loader) c.run.new.self) c.self.inside.finished
     c.in-Err-UnaskedAnswer.specifier c.self.invariant.kept c.run.ensures.kept c.run.ensures.goes
@@ -99,7 +101,8 @@ returns-in-Err-UnaskedAnswer-clause-fair g c =
 pub returns-in-Ok-finish-clause-history : goal.returns-in-Ok-finish-clause-history
 returns-in-Ok-finish-clause-history g c =
     rw (← c.self.view_is)
-    (result_history c.self.inside.loader c.run.new.loader c.self.inside.following
+    (result_history c.self.inside.loader c.run.new.loader c.self.inside.following c.self.inside.roots
+    c.self.inside.imports
     (at (g.L.Loader.seen c.self.inside.loader) c.self.inside.progress)
     (at (g.L.Loader.seen c.run.new.loader) c.run.new.self)
     c.self.inside.finished true c.run.ensures.goes c.self.invariant.kept c.run.ensures.kept)
@@ -107,7 +110,8 @@ returns-in-Ok-finish-clause-history g c =
 pub returns-in-Err-clause-history : goal.returns-in-Err-clause-history
 returns-in-Err-clause-history g c =
     rw (← c.self.view_is)
-    (result_history c.self.inside.loader c.run.new.loader c.self.inside.following
+    (result_history c.self.inside.loader c.run.new.loader c.self.inside.following c.self.inside.roots
+    c.self.inside.imports
     (at (g.L.Loader.seen c.self.inside.loader) c.self.inside.progress)
     (at (g.L.Loader.seen c.run.new.loader) c.run.new.self)
     c.self.inside.finished true c.run.ensures.goes c.self.invariant.kept c.run.ensures.kept)
@@ -115,7 +119,8 @@ returns-in-Err-clause-history g c =
 pub returns-in-Err-NotYet-clause-history : goal.returns-in-Err-NotYet-clause-history
 returns-in-Err-NotYet-clause-history g c =
     rw (← c.self.view_is)
-    (result_history c.self.inside.loader c.run.new.loader c.self.inside.following
+    (result_history c.self.inside.loader c.run.new.loader c.self.inside.following c.self.inside.roots
+    c.self.inside.imports
     (at (g.L.Loader.seen c.self.inside.loader) c.self.inside.progress)
     (at (g.L.Loader.seen c.run.new.loader) c.run.new.self)
     c.self.inside.finished false c.run.ensures.goes c.self.invariant.kept c.run.ensures.kept)
@@ -123,7 +128,8 @@ returns-in-Err-NotYet-clause-history g c =
 pub returns-in-Err-TooManyModules-clause-history : goal.returns-in-Err-TooManyModules-clause-history
 returns-in-Err-TooManyModules-clause-history g c =
     rw (← c.self.view_is)
-    (result_history c.self.inside.loader c.run.new.loader c.self.inside.following
+    (result_history c.self.inside.loader c.run.new.loader c.self.inside.following c.self.inside.roots
+    c.self.inside.imports
     (at (g.L.Loader.seen c.self.inside.loader) c.self.inside.progress)
     (at (g.L.Loader.seen c.run.new.loader) c.run.new.self)
     c.self.inside.finished true c.run.ensures.goes c.self.invariant.kept c.run.ensures.kept)
@@ -131,7 +137,8 @@ returns-in-Err-TooManyModules-clause-history g c =
 pub returns-in-Err-UnaskedAnswer-clause-history : goal.returns-in-Err-UnaskedAnswer-clause-history
 returns-in-Err-UnaskedAnswer-clause-history g c =
     rw (← c.self.view_is)
-    (result_history c.self.inside.loader c.run.new.loader c.self.inside.following
+    (result_history c.self.inside.loader c.run.new.loader c.self.inside.following c.self.inside.roots
+    c.self.inside.imports
     (at (g.L.Loader.seen c.self.inside.loader) c.self.inside.progress)
     (at (g.L.Loader.seen c.run.new.loader) c.run.new.self)
     c.self.inside.finished true c.run.ensures.goes c.self.invariant.kept c.run.ensures.kept)
@@ -139,7 +146,8 @@ returns-in-Err-UnaskedAnswer-clause-history g c =
 pub returns-in-Err-OutOfMemory-clause-history : goal.returns-in-Err-OutOfMemory-clause-history
 returns-in-Err-OutOfMemory-clause-history g c =
     rw (← c.self.view_is)
-    (result_history c.self.inside.loader c.run.new.loader c.self.inside.following
+    (result_history c.self.inside.loader c.run.new.loader c.self.inside.following c.self.inside.roots
+    c.self.inside.imports
     (at (g.L.Loader.seen c.self.inside.loader) c.self.inside.progress)
     (at (g.L.Loader.seen c.run.new.loader) c.run.new.self)
     c.self.inside.finished true c.run.ensures.goes c.self.invariant.kept c.run.ensures.kept)

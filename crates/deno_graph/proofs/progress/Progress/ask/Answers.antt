@@ -16,7 +16,7 @@ pub returns-in-Ok-mark_asked-clause-kept : goal.returns-in-Ok-mark_asked-clause-
 returns-in-Ok-mark_asked-clause-kept g c =
     kept_started (at (g.L.Loader.seen c.args.loader.now) c.args.self.now)
     (at (g.L.Loader.seen c.start.new.self) (record {
-      roots = c.args.self.now.roots;
+      starts = c.args.self.now.starts;
       reaching = c.mark_asked.new.self;
       asked = c.args.self.now.asked + 1;
       taken = c.args.self.now.taken;
@@ -33,7 +33,7 @@ pub returns-in-Err-mark_asked-clause-kept : goal.returns-in-Err-mark_asked-claus
 returns-in-Err-mark_asked-clause-kept g c =
     kept_started (at (g.L.Loader.seen c.args.loader.now) c.args.self.now)
     (at (g.L.Loader.seen c.start.new.self) (record {
-      roots = c.args.self.now.roots;
+      starts = c.args.self.now.starts;
       reaching = c.mark_asked.new.self;
       asked = c.args.self.now.asked + 1;
       taken = c.args.self.now.taken;

@@ -14,7 +14,7 @@ deal-requires g c = record {
 pub returns-in_default-clause-asks : goal.returns-in_default-clause-asks
 returns-in_default-clause-asks g c =
     asks_still (at (g.L.Loader.seen c.args.loader.now) c.args.self.now) (record {
-      roots = c.args.self.now.roots;
+      starts = c.args.self.now.starts;
       reaching = record {
         reached = c.args.self.now.reaching.reached;
         todo = c.pop.new.self;
@@ -30,7 +30,7 @@ pub returns-in-Ok-clause-asks : goal.returns-in-Ok-clause-asks
 returns-in-Ok-clause-asks g c =
     only_asks_more _ _ _
     (asks_still (at (g.L.Loader.seen c.args.loader.now) c.args.self.now) (record {
-      roots = c.args.self.now.roots;
+      starts = c.args.self.now.starts;
       reaching = record {
         reached = c.args.self.now.reaching.reached;
         todo = c.pop.new.self;
@@ -47,7 +47,7 @@ pub returns-in-Err-clause-asks : goal.returns-in-Err-clause-asks
 returns-in-Err-clause-asks g c =
     only_asks_more _ _ _
     (asks_still (at (g.L.Loader.seen c.args.loader.now) c.args.self.now) (record {
-      roots = c.args.self.now.roots;
+      starts = c.args.self.now.starts;
       reaching = record {
         reached = c.args.self.now.reaching.reached;
         todo = c.pop.new.self;

@@ -12,7 +12,7 @@ returns-else-is_loadable-clause-deals g c =
 pub returns-else-is_loadable-clause-asks : goal.returns-else-is_loadable-clause-asks
 returns-else-is_loadable-clause-asks g c =
     asks_still (at (g.L.Loader.seen c.args.loader.now) c.args.self.now) (record {
-      roots = c.args.self.now.roots;
+      starts = c.args.self.now.starts;
       reaching = c.fill_unasked.new.self;
       asked = c.args.self.now.asked;
       taken = c.args.self.now.taken;

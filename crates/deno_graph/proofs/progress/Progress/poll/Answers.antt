@@ -29,7 +29,7 @@ returns-in-Ok-clause-in_time g c =
 pub returns-in-Ok-clause-kept : goal.returns-in-Ok-clause-kept
 returns-in-Ok-clause-kept g c =
     kept_polled (at (g.L.Loader.seen c.args.loader.now) c.args.self.now) (at (g.L.Loader.seen c.poll.new.self) (record {
-      roots = c.args.self.now.roots;
+      starts = c.args.self.now.starts;
       reaching = c.take.new.self;
       asked = c.args.self.now.asked;
       taken = c.args.self.now.taken + 1;
@@ -57,7 +57,7 @@ pub returns-in-Err-take-clause-in_time : goal.returns-in-Err-take-clause-in_time
 returns-in-Err-take-clause-in_time g c =
     taken_in_time Bool (at (g.L.Loader.seen c.args.loader.now) c.args.self.now)
     (at (g.L.Loader.seen c.poll.new.self) (record {
-      roots = c.args.self.now.roots;
+      starts = c.args.self.now.starts;
       reaching = c.take.new.self;
       asked = c.args.self.now.asked;
       taken = c.args.self.now.taken + 1;
@@ -69,7 +69,7 @@ returns-in-Err-take-clause-in_time g c =
 pub returns-in-Err-take-clause-kept : goal.returns-in-Err-take-clause-kept
 returns-in-Err-take-clause-kept g c =
     kept_polled (at (g.L.Loader.seen c.args.loader.now) c.args.self.now) (at (g.L.Loader.seen c.poll.new.self) (record {
-      roots = c.args.self.now.roots;
+      starts = c.args.self.now.starts;
       reaching = c.take.new.self;
       asked = c.args.self.now.asked;
       taken = c.args.self.now.taken + 1;

@@ -1,0 +1,9 @@
+//! Tests of entries and resolution, by their public calls.
+#![tactic(auto)]
+
+#[cfg(test)]
+mod entries;
+#[cfg(test)]
+mod lines;
+#[cfg(test)]
+mod resolution;

@@ -1,0 +1,77 @@
+//! The modules of a bundle, of which no two have one specifier.
+ghost use Rattle.std.specs.Prelude.{◌≡◌, ℕ, List, [], map, decimal, codes, IfOk};
+ghost use Rattle.std.specs.BTreeSet.{contains_text};
+ghost use Rattle.serde_json.specs.View.{view, items_view};
+ghost use Rattle.serde_json.specs.Find.{get};
+ghost use Rattle.graph_bundle.specs.Reading.{under, there};
+ghost use Rattle.deno_graph.specs.Reach.{Specifier, has};
+ghost use Rattle.graph_bundle.specs.Bundle as spec;
+
+use crate::module::module_in;
+use crate::reading::{Reading, pointer, under};
+use base::{Items, Text};
+use deno_graph::LoadAnswer;
+use serde_json::Value;
+use std::alloc::{AllocError, Global};
+use std::collections::BTreeSet;
+use url::Url;
+
+/// The modules, each with its specifier.
+pub fn modules_at(
+    alloc: Global,
+    value: &Value,
+) -> Result<Reading<Items<(Url, LoadAnswer)>>, AllocError>
+    ensures { IfOk result (λ r. r ≡ under (codes "modules") (there spec.modules_of (get (codes "modules") (view value.now)))) }
+{
+    match value.get("modules") {
+        Some(modules) => {
+            let reading = modules_in(alloc, modules)?;
+            under(alloc, "modules", reading)
+        }
+        None => Ok(Err(pointer(alloc, "modules", "")?)),
+    }
+}
+
+fn modules_in(alloc: Global, value: &Value) -> Result<Reading<Items<(Url, LoadAnswer)>>, AllocError>
+    ensures { IfOk result (λ r. r ≡ spec.modules_of (view value.now)) }
+{
+    match value.as_array() {
+        Some(values) => each_module(alloc, values.as_slice()),
+        None => Ok(Err(Text::new(alloc))),
+    }
+}
+
+fn each_module(
+    alloc: Global,
+    values: &[Value],
+) -> Result<Reading<Items<(Url, LoadAnswer)>>, AllocError>
+    ensures { IfOk result (λ r. r ≡ spec.modules_from [] 0 (map view values.now)) }
+{
+    let mut seen = BTreeSet::new(alloc);
+    let mut modules = Items::new(alloc);
+    for value in values {
+        match numbered(alloc, modules.len(), &seen, value)? {
+            Ok(module) => {
+                seen.insert(String::from_str(alloc, module.0.as_str())?)?;
+                modules.push(module)?;
+            }
+            Err(at) => return Ok(Err(at)),
+        }
+    }
+    Ok(Ok(modules))
+}
+
+/// The module at a place of the list, behind modules with these specifiers.
+fn numbered(
+    alloc: Global,
+    place: usize,
+    seen: &BTreeSet<String>,
+    value: &Value,
+) -> Result<Reading<(Url, LoadAnswer)>, AllocError>
+    ensures { (earlier : List Specifier) → ((q : List ℕ) → contains_text seen.now q ≡ has earlier q) →
+        IfOk result (λ r. r ≡ under (decimal place) (spec.module_after earlier (view value.now))) }
+{
+    let number = format!(in alloc; "{place}")?;
+    let reading = module_in(alloc, seen, value)?;
+    under(alloc, number.as_str(), reading)
+}

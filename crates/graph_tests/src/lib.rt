@@ -1,0 +1,9 @@
+//! Tests of graphs and of the program, by their public calls.
+#![tactic(auto)]
+
+#[cfg(test)]
+mod arrivals;
+#[cfg(test)]
+mod graphs;
+#[cfg(test)]
+mod runs;

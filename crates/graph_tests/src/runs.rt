@@ -1,0 +1,165 @@
+//! Runs of the program over sources and sinks in memory.
+
+ghost use Rattle.std.specs.Prelude.{◌<◌};
+
+use graph_run::{MemorySink, MemorySource, run};
+use std::alloc::{AllocError, Global};
+use std::process::Abort;
+
+const ROW: &str =
+    r#"{"roots":["file:///a.ts"],"modules":[{"specifier":"file:///a.ts","text":"import \"./b.ts\";"}]}"#;
+
+const REPORT: &str =
+    "0 root file:///a.ts\nfile:///a.ts module TypeScript 16\n  import 7-15 \"./b.ts\" - -> file:///b.ts\nfile:///b.ts error Missing\nentries 2\n";
+
+const FIVE: &str = r#"{"roots":["file:///1.ts"],"modules":[
+{"specifier":"file:///1.ts","text":"import './2.ts'; import './3.js';"},
+{"specifier":"file:///2.ts","text":"import './4.mts'"},
+{"specifier":"file:///3.js","text":"import '/5.mjs'"},
+{"specifier":"file:///4.mts","text":""},
+{"specifier":"file:///5.mjs","text":"import './1.ts'"}]}"#;
+
+/// An input, and the status with what is written.
+const RUNS: &[(&str, &str)] = &[
+    (ROW, REPORT),
+    (
+        r#"{"roots":["file:///a.ts"],"modules":[{"specifier":"file:///a.ts","base64":"77u/aW1wb3J0ICIuL2IudHMiOw=="}]}"#,
+        REPORT,
+    ),
+    (
+        r#"{"roots":["file:///a"],"modules":[{"specifier":"file:///a","headers":{"Content-Type":"text/javascript"},"text":"import \"foo\";"}]}"#,
+        "0 root file:///a\nfile:///a module JavaScript 13\n  import 7-12 \"foo\" - ! ImportPrefixMissing\nentries 1\n",
+    ),
+    (
+        r#"{"roots":["file:///a.ts"],"modules":[{"specifier":"file:///a.ts","text":"const x = 1;"}]}"#,
+        "0 root file:///a.ts\nfile:///a.ts error Parse\nentries 1\n",
+    ),
+    (
+        r#"{"roots":["file:///m.wasm"],"modules":[{"specifier":"file:///m.wasm","base64":"AGFzbQEAAAACCQEDLi9hAWYAAA=="}]}"#,
+        "0 root file:///m.wasm\nfile:///a error Missing\nfile:///m.wasm module Wasm 19\n  wasm 12-15 \"./a\" - -> file:///a\nentries 2\n",
+    ),
+    (
+        r#"{"roots":["npm:@s/p@1/x"],"modules":[]}"#,
+        "0 root npm:@s/p@1/x\nnpm:@s/p@1/x package npm \"@s/p\" \"1\" \"x\"\nentries 1\n",
+    ),
+    (r#"{"modules":[],"roots":[]}"#, "0 entries 0\n"),
+    ("[", "2 error NotJson\n"),
+    ("[]", "2 error Bundle \"\"\n"),
+    (
+        r#"{"modules":[],"roots":[],"color":1}"#,
+        "2 error Bundle \"/color\"\n",
+    ),
+    (
+        r#"{"modules":[],"roots":["a.ts"]}"#,
+        "2 error Bundle \"/roots/0\"\n",
+    ),
+    (
+        r#"{"modules":[{"specifier":"file:///a","text":""},{"specifier":"file:///b/../a","text":""}],"roots":[]}"#,
+        "2 error Bundle \"/modules/1/specifier\"\n",
+    ),
+];
+
+/// A size of the input, the status with what is written, and how many bytes are left unread.
+const SIZES: &[(usize, &str, usize)] = &[
+    (16_777_216, "0 entries 0\n", 0),
+    (16_777_300, "2 error InputTooLong\n", 83),
+];
+
+/// The status and what was written.
+fn ended(
+    alloc: Global,
+    words: &[&str],
+    source: &mut MemorySource,
+    sink: &mut MemorySink,
+) -> Result<String, AllocError> {
+    let mut given = Vec::new(alloc);
+    for word in words {
+        given.push(String::from_str(alloc, word)?)?;
+    }
+    let status = run(alloc, given.as_slice(), source, sink).code();
+    let text = std::str::from_utf8(sink.taken()).unwrap_or("no text");
+    format!(in alloc; "{status} {text}")
+}
+
+/// The same for `build` over the input, in pieces of this size.
+fn built(rt: &impl Abort, alloc: Global, input: &str, piece: usize) -> String
+    requires { 0 < piece }
+{
+    let bytes = input.as_bytes().to_vec(alloc).expect(rt, "memory");
+    let mut source = MemorySource::new(bytes, piece, Vec::new(alloc));
+    let mut sink = MemorySink::new(alloc, 4096, piece, Vec::new(alloc)).expect(rt, "memory");
+    ended(alloc, &["build"], &mut source, &mut sink).expect(rt, "memory")
+}
+
+/// The same where one read or one write fails.
+fn failing(rt: &impl Abort, alloc: Global, reads: &[u64], writes: &[u64]) -> String {
+    let bytes = FIVE.as_bytes().to_vec(alloc).expect(rt, "memory");
+    let reads = reads.to_vec(alloc).expect(rt, "memory");
+    let writes = writes.to_vec(alloc).expect(rt, "memory");
+    let mut source = MemorySource::new(bytes, 64, reads);
+    let mut sink = MemorySink::new(alloc, 4096, 64, writes).expect(rt, "memory");
+    ended(alloc, &["build"], &mut source, &mut sink).expect(rt, "memory")
+}
+
+#[test]
+fn runs_of_inputs(rt: HostRuntime) {
+    let alloc = rt.alloc();
+    for (input, want) in RUNS {
+        let got = built(&rt, alloc, input, 65_536);
+        assert_eq!(rt; got.as_str(), *want, "{input}");
+    }
+    assert_eq!(rt; built(&rt, alloc, ROW, 1).as_str(), REPORT);
+}
+
+#[test]
+fn runs_with_other_words_or_no_room(rt: HostRuntime) {
+    let alloc = rt.alloc();
+    for (words, room, want, left) in [
+        (
+            ["build", "x"],
+            100,
+            "64 usage: graph_tool build\n",
+            ROW.len(),
+        ),
+        (["run", "x"], 5, "4 usage", ROW.len()),
+    ] {
+        let bytes = ROW.as_bytes().to_vec(alloc).expect(&rt, "memory");
+        let mut source = MemorySource::new(bytes, 9, Vec::new(alloc));
+        let mut sink = MemorySink::new(alloc, room, 9, Vec::new(alloc)).expect(&rt, "memory");
+        let got = ended(alloc, &words, &mut source, &mut sink).expect(&rt, "memory");
+        assert_eq!(rt; got.as_str(), want);
+        assert_eq!(rt; source.left().len(), left, "{want}");
+    }
+}
+
+#[test]
+fn runs_with_each_read_and_each_write_failing(rt: HostRuntime) {
+    let alloc = rt.alloc();
+    let whole = failing(&rt, alloc, &[], &[]);
+    assert!(rt; whole.as_str().ends_with("entries 5\n"));
+    for call in 0..32 {
+        let got = failing(&rt, alloc, &[call], &[]);
+        assert!(rt; got.as_str() == "3 " || got == whole, "read {call}");
+        let got = failing(&rt, alloc, &[], &[call]);
+        let taken = got.as_str().strip_prefix("4 ").unwrap_or("no fault");
+        let due = whole.as_str().strip_prefix("0 ").unwrap_or("no report");
+        assert!(rt; got == whole || due.starts_with(taken), "write {call}");
+    }
+}
+
+#[test]
+fn runs_at_the_limit_of_sizes(rt: HostRuntime) {
+    let alloc = rt.alloc();
+    for (size, want, left) in SIZES {
+        let mut bytes = r#"{"modules":[],"roots":[]}"#
+            .as_bytes()
+            .to_vec(alloc)
+            .expect(&rt, "memory");
+        bytes.resize(*size, b' ').expect(&rt, "memory");
+        let mut source = MemorySource::new(bytes, 1_000_000, Vec::new(alloc));
+        let mut sink = MemorySink::new(alloc, 100, 100, Vec::new(alloc)).expect(&rt, "memory");
+        let got = ended(alloc, &["build"], &mut source, &mut sink).expect(&rt, "memory");
+        assert_eq!(rt; got.as_str(), *want, "{size}");
+        assert_eq!(rt; source.left().len(), *left, "{size}");
+    }
+}
