@@ -111,25 +111,24 @@ fn runs_of_inputs(rt: HostRuntime) {
     assert_eq!(rt; built(&rt, alloc, ROW, 1).as_str(), REPORT);
 }
 
+/// What a run with these words says where this much may be written, and how much of the input is left.
+fn refused(rt: &impl Abort, alloc: Global, words: &[&str], room: usize) -> (String, usize) {
+    let bytes = ROW.as_bytes().to_vec(alloc).expect(rt, "memory");
+    let mut source = MemorySource::new(bytes, 9, Vec::new(alloc));
+    let mut sink = MemorySink::new(alloc, room, 9, Vec::new(alloc)).expect(rt, "memory");
+    let got = ended(alloc, words, &mut source, &mut sink).expect(rt, "memory");
+    (got, source.left().len())
+}
+
 #[test]
 fn runs_with_other_words_or_no_room(rt: HostRuntime) {
     let alloc = rt.alloc();
-    for (words, room, want, left) in [
-        (
-            ["build", "x"],
-            100,
-            "64 usage: graph_tool build\n",
-            ROW.len(),
-        ),
-        (["run", "x"], 5, "4 usage", ROW.len()),
-    ] {
-        let bytes = ROW.as_bytes().to_vec(alloc).expect(&rt, "memory");
-        let mut source = MemorySource::new(bytes, 9, Vec::new(alloc));
-        let mut sink = MemorySink::new(alloc, room, 9, Vec::new(alloc)).expect(&rt, "memory");
-        let got = ended(alloc, &words, &mut source, &mut sink).expect(&rt, "memory");
-        assert_eq!(rt; got.as_str(), want);
-        assert_eq!(rt; source.left().len(), left, "{want}");
-    }
+    let (got, left) = refused(&rt, alloc, &["build", "x"], 100);
+    assert_eq!(rt; got.as_str(), "64 usage: graph_tool build\n");
+    assert_eq!(rt; left, ROW.len());
+    let (got, left) = refused(&rt, alloc, &["run", "x"], 5);
+    assert_eq!(rt; got.as_str(), "4 usage");
+    assert_eq!(rt; left, ROW.len());
 }
 
 #[test]
