@@ -8,6 +8,7 @@ The library is found by the variable JORAVELSU_LIBRARY, the path of libjoravelsu
 from __future__ import annotations
 
 import ctypes
+import json
 import os
 from typing import NamedTuple
 
@@ -115,9 +116,16 @@ def imports_of(text: str | bytes, media_type: int) -> list[Site]:
         sites_room, values_room = answer.sites, answer.value_bytes
 
 
-def graph(bundle: str | bytes) -> str:
-    """The report of a bundle's graph. Raises BundleError where there is none."""
-    source = bundle.encode() if isinstance(bundle, str) else bytes(bundle)
+def graph(bundle: str | bytes | dict) -> str:
+    """The report of a bundle's graph: of its JSON text, or of the object that this is. Raises BundleError where there is none.
+
+    >>> print(graph({"roots": ["file:///a.ts"], "modules": []}), end="")
+    root file:///a.ts
+    file:///a.ts error Missing
+    entries 1
+    """
+    text = json.dumps(bundle) if isinstance(bundle, dict) else bundle
+    source = text.encode() if isinstance(text, str) else bytes(text)
     needed = ctypes.c_size_t()
     room_length = 2 * len(source) + 4096
     while True:

@@ -1,6 +1,7 @@
 """Tests of the module, and of the calls on bad input: python3 test_joravelsu.py. tools/check-library runs them."""
 import concurrent.futures
 import ctypes
+import json
 import os
 import unittest
 
@@ -74,7 +75,9 @@ class Graphs(unittest.TestCase):
             with open(f"{EXAMPLES}/{name}.json", encoding="utf-8") as file:
                 bundle = file.read()
             with open(f"{EXAMPLES}/{name}.report", encoding="utf-8") as file:
-                self.assertEqual(joravelsu.graph(bundle), file.read(), name)
+                report = file.read()
+            self.assertEqual(joravelsu.graph(bundle), report, name)
+            self.assertEqual(joravelsu.graph(json.loads(bundle)), report, name)
 
     def test_refusals(self):
         rows = [
