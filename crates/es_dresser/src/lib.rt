@@ -22,4 +22,4 @@ pub use error::DressError;
 pub use lists::{Turn, single, turns, turns_behind};
 pub use node::Node;
 pub use places::{leaf_in, place_in};
-pub use source::Source;
+pub use source::{Source, shebang};
