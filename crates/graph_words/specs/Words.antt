@@ -1,0 +1,33 @@
+-- The words that the program is started with, and the forms that they have (this project's profile).
+use Rattle.std.specs.Prelude.{◌≡◌, ℕ, ◌≤◌, ◌==◌, ◌||◌, not, Bool, true, List, [], ◌∷◌, codes, decimal}
+use Rattle.graph_words.specs.declared.words.Form.{Form}
+use Rattle.graph_words.specs.declared.words.Form.TheVariants.{Build, Make, Sum}
+
+-- a word is this number in decimal digits, from 1 to 100,000
+abbrev pub IsCount : ℕ → List ℕ → Type 0
+IsCount n word = (word ≡ decimal n) × (1 ≤ n) × (n ≤ 100000)
+
+-- two words are a name and this number
+abbrev pub IsCounted : List ℕ → ℕ → List (List ℕ) → Type 0
+IsCounted name n words = (word : List ℕ) × (words ≡ name ∷ word ∷ []) × IsCount n word
+
+-- the words are this form
+abbrev pub IsForm : Form → List (List ℕ) → Type 0
+IsForm Build words = words ≡ codes "build" ∷ []
+IsForm (Make n) words = IsCounted (codes "make") n words
+IsForm (Sum n) words = IsCounted (codes "sum") n words
+
+-- a form names no more modules than that
+abbrev pub IsWithin : Form → Type 0
+IsWithin Build = Unit {0}
+IsWithin (Make n) = n ≤ 100000
+IsWithin (Sum n) = n ≤ 100000
+
+-- they are none of the forms
+abbrev pub IsNoForm : List (List ℕ) → Type 0
+IsNoForm words = (form : Form) → ¬ IsForm form words
+
+-- a word begins neither with a sign nor with a zero
+abbrev pub is_plain : List ℕ → Bool
+is_plain [] = true
+is_plain (b ∷ word) = not (b == 43 || b == 48)

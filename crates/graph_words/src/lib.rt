@@ -1,0 +1,8 @@
+//! The words that the program is started with.
+//!
+//! - `form_of`: the form of the program that they are (`IsForm`, `specs/Words.antt`).
+#![tactic(auto)]
+
+mod words;
+
+pub use words::{Form, MOST_MODULES, form_of};
