@@ -1,0 +1,2 @@
+-- tests and guards by name
+pub mod Named
