@@ -1,5 +1,5 @@
 -- How far a text is read: what is so far read, and what each look adds.
-use Rattle.std.proofs.Common.{◌≡◌, ℕ, ◌+◌, ◌-◌, ◌<◌, ◌≤◌, Bool, true, false, ◌||◌, ◌==◌, List, [], ◌∷◌, ◌++◌, length, take, drop, get_or, Option, Some, None, Result, Err, slice_range, IsUtf8, IsCharBoundary, refl, sym, ◌∙◌, ap, subst, arith, length-append, length-drop, append_assoc, append-nil, drop-drop, drop_at, take_at, get_or-drop, eqb-true, ◌⊎◌, inl, inr}
+use Rattle.std.proofs.Common.{◌≡◌, ℕ, ◌+◌, ◌-◌, ◌<◌, ◌≤◌, Bool, true, false, ◌||◌, ◌==◌, if◌then◌else◌, List, [], ◌∷◌, ◌++◌, length, take, drop, get_or, Option, Some, None, Result, Err, slice_range, IsUtf8, IsCharBoundary, refl, sym, ◌∙◌, ap, subst, arith, length-append, length-drop, append_assoc, append-nil, drop-drop, drop_at, take_at, get_or-drop, eqb-true, ◌⊎◌, inl, inr}
 use Rattle.std.specs.Prelude.{reverse}
 use Rattle.std.proofs.lemmas.List.{get_or_at, take_rest}
 use Rattle.std.proofs.lemmas.Str.{IsCharBoundary-before_ascii, IsCharBoundary-after_ascii, IsCharBoundary-end}
@@ -20,14 +20,14 @@ use Rattle.es_lexer.specs.declared.error.LexicalKind.{LexicalKind}
 use Rattle.es_lexer.specs.declared.error.LexicalError.{LexicalError}
 use Rattle.es_lexer.specs.declared.error.LexError.{LexError}
 use Rattle.es_lexer.specs.declared.error.LexError.TheVariants.{Lexical}
-use Rattle.es_lexer.specs.Bytes.{has_line_end, ends_line}
+use Rattle.es_lexer.specs.Bytes.{has_line_end, ends_line, is_blank, first_of}
 use Rattle.es_lexer.specs.Brackets.{role_of}
 use Rattle.es_lexer.specs.Goal.{goal_of, goal_in, state_of, is_front, token_state, blank_state, line_state, comment_state, after_for, headed, divides, member}
 use Rattle.es_lexer.specs.Pieces.{Piece, blank, line_end, comment, token, Open, spelling, pieces_text, comment_spelling, place_of, count_of, behind, is_behind, line_since, open_at, bracket_of, closer_at, closer_by}
 use Rattle.es_lexer.specs.Readable.{IsByte, IsWideBlank, IsWideLine, IsPiece, ArePieces}
 use Rattle.es_lexer.specs.Reads.{Reads, tokens_of, comments_of, range_at}
 use Rattle.es_lexer.specs.Stops.{Stops, Stuck}
-use Rattle.es_lexer.specs.Look.{look_at}
+use Rattle.es_lexer.specs.Look.{look_at, class_look, blanks_end}
 use Rattle.es_lexer.specs.Scan as scan
 use Rattle.es_lexer.specs.Scan.{HasCommentText, comment_at}
 use Rattle.es_lexer.proofs.SpellingLemmas.{not_empty}
@@ -531,6 +531,92 @@ pub advance_at : (x y : List ℕ) (at : ℕ) (state : State) (brackets : List Op
 advance_at x y at state brackets ts cs goal bracket l u w s b g e =
     advance x at state brackets ts cs goal l u s (g ∙ ap (goal_in state) b)
     (e ∙ (ap (look_at goal at) (take_rest y at) ∙ ap (λ t. look_at goal at (drop at t)) w))
+
+-- ---- blanks of one byte
+blank_reads : (goal : Goal) (at b : ℕ) (rest : List ℕ) → is_blank b ≡ true
+    → look_at goal at (b ∷ rest) ≡ look.Blank (at + 1)
+unfolding look_at class_look first_of
+blank_reads goal at b rest e = rw e refl
+
+blank_step : (x : List ℕ) (at : ℕ) (state : State) (brackets : List OpenBracket) (ts : List Token) (cs : List Comment)
+    (b : ℕ) (rest : List ℕ) → IsUtf8 x → SoFar x at state brackets ts cs → drop at x ≡ b ∷ rest → is_blank b ≡ true
+    → SoFar x (at + 1) (blank_state state) brackets ts cs
+blank_step x at state brackets ts cs b rest u s w e =
+    let goal : Goal = goal_in state (scan.innermost (reverse brackets)) in
+    (advance x at state brackets ts cs goal (look.Blank (at + 1)) u s refl
+    (sym (ap (look_at goal at) w ∙ blank_reads goal at b rest e))).1
+
+either : (P : ℕ → Type 0) (v : Bool) (m n : ℕ) → (v ≡ true → P m) → P n → P (if v then m else n)
+either P true m n p q = p refl
+either P false m n p q = q
+
+blanks_on : (x : List ℕ) (at : ℕ) (state : State) (brackets : List OpenBracket) (ts : List Token) (cs : List Comment)
+    (rest : List ℕ) → IsUtf8 x → blank_state state ≡ state → SoFar x at state brackets ts cs → drop at x ≡ rest
+    → SoFar x (blanks_end at rest) state brackets ts cs
+unfolding blanks_end
+blanks_on x at state brackets ts cs [] u f s w = s
+blanks_on x at state brackets ts cs (b ∷ rest) u f s w =
+    either (λ place. SoFar x place state brackets ts cs) (is_blank b) (blanks_end (at + 1) rest) at
+    (λ e. blanks_on x (at + 1) state brackets ts cs rest u f
+    (subst (λ (v : State). SoFar x (at + 1) v brackets ts cs) f (blank_step x at state brackets ts cs b rest u s w e))
+    (rest_is x (b ∷ []) rest at w))
+    s
+
+blanks_forward : (at : ℕ) (rest : List ℕ) → at ≤ blanks_end at rest
+unfolding blanks_end
+blanks_forward at [] = omega arith
+blanks_forward at (b ∷ rest) =
+    either (λ place. at ≤ place) (is_blank b) (blanks_end (at + 1) rest) at
+    (λ e. omega (arith, blanks_forward (at + 1) rest)) (omega arith)
+
+-- what is read behind a piece and the blanks that follow it
+pub behind_piece : (x y : List ℕ) (at end place : ℕ) (state : State) (brackets : List OpenBracket) (ts : List Token)
+    (cs : List Comment) → IsUtf8 x → y ≡ x → blank_state state ≡ state → at < end → SoFar x end state brackets ts cs
+    → place ≡ blanks_end end (drop end y) → (at < place) × SoFar x place state brackets ts cs
+behind_piece x y at end place state brackets ts cs u w f l s e =
+    let same : place ≡ blanks_end end (drop end x) = e ∙ ap (λ t. blanks_end end (drop end t)) w in (
+      omega (arith, same, blanks_forward end (drop end x)),
+      subst (λ n. SoFar x n state brackets ts cs) (sym same)
+          (blanks_on x end state brackets ts cs (drop end x) u f s refl),
+    )
+
+-- a blank changes nothing behind another piece
+pub settled_blank : (state : State) → blank_state (blank_state state) ≡ blank_state state
+settled_blank state = refl
+
+pub settled_line : (state : State) → blank_state (line_state state) ≡ line_state state
+settled_line state = refl
+
+pub settled_token : (state : State) (k : TokenKind) (headed : Bool)
+    → blank_state (token_state state k headed) ≡ token_state state k headed
+unfolding token_state
+settled_token state k headed = refl
+
+-- a blank and the blanks that follow it
+pub blank_passed : (x y : List ℕ) (at : ℕ) (state : State) (brackets : List OpenBracket) (ts : List Token)
+    (cs : List Comment) (goal : Goal) (bracket : Option BracketKind) (end place : ℕ) → IsUtf8 x → y ≡ x
+    → SoFar x at state brackets ts cs → bracket ≡ scan.innermost (reverse brackets) → goal ≡ goal_in state bracket
+    → look.Blank end ≡ look_at goal at (take (length y - at) (drop at y)) → place ≡ blanks_end end (drop end y)
+    → (at < place) × SoFar x place (blank_state state) brackets ts cs
+blank_passed x y at state brackets ts cs goal bracket end place u w s b g e p =
+    let after : After x at state brackets ts cs (look.Blank end) =
+    advance_at x y at state brackets ts cs goal bracket (look.Blank end) u w s b g e in
+    behind_piece x y at end place (blank_state state) brackets ts cs u w (settled_blank state) after.0 after.1 p
+
+-- a line end and the blanks that follow it
+pub line_passed : (x y : List ℕ) (at : ℕ) (state : State) (brackets : List OpenBracket) (ts : List Token)
+    (cs : List Comment) (goal : Goal) (bracket : Option BracketKind) (end place : ℕ) → IsUtf8 x → y ≡ x
+    → SoFar x at state brackets ts cs → bracket ≡ scan.innermost (reverse brackets) → goal ≡ goal_in state bracket
+    → look.LineEnd end ≡ look_at goal at (take (length y - at) (drop at y)) → place ≡ blanks_end end (drop end y)
+    → (at < place) × SoFar x place (line_state state) brackets ts cs
+line_passed x y at state brackets ts cs goal bracket end place u w s b g e p =
+    let after : After x at state brackets ts cs (look.LineEnd end) =
+    advance_at x y at state brackets ts cs goal bracket (look.LineEnd end) u w s b g e in
+    behind_piece x y at end place (line_state state) brackets ts cs u w (settled_line state) after.0 after.1 p
+
+-- a place within the text is within its bytes
+pub within_bytes : (x y : List ℕ) (end : ℕ) → y ≡ x → end ≤ length x → end ≤ length y
+within_bytes x y end w l = let e : length y ≡ length x = ap length w in omega arith
 
 -- what is left of a text grows smaller
 pub less_left : (x y : List ℕ) (at end : ℕ) → y ≡ x → at < end → end ≤ length x → length y - end < length y - at

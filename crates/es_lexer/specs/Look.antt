@@ -11,7 +11,7 @@ use Rattle.es_lexer.specs.declared.look.Look.TheVariants as look
 use Rattle.es_token.specs.declared.token.CommentKind.TheVariants.{Line, Block}
 use Rattle.es_token.specs.declared.token.TokenKind.TheVariants as kind
 use Rattle.es_lexer.specs.declared.error.LexicalKind.TheVariants.{UnterminatedString, UnterminatedComment, UnterminatedTemplate, UnterminatedRegExp, InvalidEscape, InvalidChar, Unbalanced}
-use Rattle.es_lexer.specs.Bytes.{joins, begins_name, begins_backslash, first_of, part_unit, word_unit, begins_closer}
+use Rattle.es_lexer.specs.Bytes.{joins, begins_name, begins_backslash, first_of, is_blank, part_unit, word_unit, begins_closer}
 use Rattle.es_lexer.specs.Words.{kind_at}
 use Rattle.es_lexer.specs.declared.bracket.BracketKind.TheVariants.{Template}
 use Rattle.es_spelling.specs.declared.template.TemplateEnd.{TemplateEnd}
@@ -36,6 +36,11 @@ use Rattle.es_lexer.specs.Signs.{sign_at}
 unfoldable pub line_stop : ℕ → List ℕ → ℕ
 line_stop at [] = at
 line_stop at (b ∷ rest) = if begins_line_end (b ∷ rest) then at else line_stop (at + 1) rest
+
+-- where the blanks of one byte end
+unfoldable pub blanks_end : ℕ → List ℕ → ℕ
+blanks_end at [] = at
+blanks_end at (b ∷ rest) = if is_blank b then blanks_end (at + 1) rest else at
 
 -- where the parts of a name end
 unfoldable pub word_end : ℕ → List ℕ → ℕ

@@ -96,9 +96,17 @@ sized size None other = other
 unfoldable pub two_before : ℕ → ℕ → ℕ → Option TokenKind
 two_before a b c = if a == 63 && b == 46 && is_ascii_digit c then None else sign_kind (a ∷ b ∷ [])
 
+-- the longest that begins three bytes
+abbrev pub longest : ℕ → ℕ → ℕ → Option Sign
+longest a b c = sized 3 (sign_kind (a ∷ b ∷ c ∷ [])) (sized 2 (two_before a b c) (sized 1 (sign_kind (a ∷ [])) None))
+
+-- the one of this kind and of one byte
+abbrev pub single : TokenKind → Option Sign
+single kind = Some (record { kind = kind; size = 1 })
+
+-- the longest at the front of a text
 unfoldable pub sign_at : List ℕ → Option Sign
 sign_at [] = None
 sign_at (a ∷ []) = sized 1 (sign_kind (a ∷ [])) None
 sign_at (a ∷ b ∷ []) = sized 2 (sign_kind (a ∷ b ∷ [])) (sized 1 (sign_kind (a ∷ [])) None)
-sign_at (a ∷ b ∷ c ∷ rest) =
-    sized 3 (sign_kind (a ∷ b ∷ c ∷ [])) (sized 2 (two_before a b c) (sized 1 (sign_kind (a ∷ [])) None))
+sign_at (a ∷ b ∷ c ∷ rest) = longest a b c

@@ -1,5 +1,5 @@
 ghost use Rattle.std.specs.Prelude.{◌≡◌, ◌≤◌, length};
-ghost use Rattle.es_lexer.specs.Bytes.{begins_backslash, begins_escape, begins_name, first_of, is_part, is_start, joins, part_unit, word_unit};
+ghost use Rattle.es_lexer.specs.Bytes.{begins_backslash, begins_escape, begins_name, first_of, is_blank, is_part, is_start, joins, part_unit, word_unit};
 
 use es_wide::{escaped_part, escaped_start, wide_size};
 
@@ -53,6 +53,12 @@ pub fn first_of(b: u8) -> First
     }
 }
 
+pub fn is_blank(b: u8) -> bool
+    ensures { result ≡ is_blank b }
+{
+    matches!(b, b'\t' | 0x0B | 0x0C | b' ')
+}
+
 fn is_part(b: u8) -> bool
     ensures { result ≡ is_part b }
 {
@@ -67,7 +73,15 @@ pub fn part_unit(text: &[u8]) -> usize
 {
     match text {
         [] => 0,
-        [b, ..] => { if is_part(*b) { 1 } else { wide_size(text) } }
+        [b, ..] => {
+            if is_part(*b) {
+                1
+            } else if *b < 0x80 {
+                0
+            } else {
+                wide_size(text)
+            }
+        }
     }
 }
 
@@ -79,8 +93,17 @@ pub fn word_unit(text: &[u8]) -> usize
 {
     match text {
         [] => 0,
-        [b'\\', ..] => escaped_part(text),
-        [_, ..] => part_unit(text),
+        [b, ..] => {
+            if is_part(*b) {
+                1
+            } else if *b == b'\\' {
+                escaped_part(text)
+            } else if *b < 0x80 {
+                0
+            } else {
+                wide_size(text)
+            }
+        }
     }
 }
 

@@ -1,14 +1,15 @@
-ghost use Rattle.std.specs.Prelude.{◌≡◌, ◌+◌, ◌<◌, ◌≤◌, ◌^◌, ◌∷◌, false, length, IfSome};
+ghost use Rattle.std.specs.Prelude.{◌≡◌, ◌+◌, ◌<◌, ◌≤◌, ◌^◌, ◌∷◌, false, length, drop, IfSome};
 ghost use Rattle.std.specs.Bool.{OnTrue};
 ghost use Rattle.es_lexer.specs.Bytes.{begins_closer};
 ghost use Rattle.es_lexer.specs.Signs.{sign_at};
 ghost use Rattle.es_lexer.specs.Spelling.{number_kind};
 ghost use Rattle.es_lexer.specs.Stops.{backslash_fault};
-ghost use Rattle.es_lexer.specs.Look.{line_stop, word_end, flags_end, word_look, string_look, block_look, sign_look, template_look, number_stop, number_look, dot_look, brace_look, name_look, wide_look, backslash_look, hash_look, regexp_look, divide_look, slash_look, end_look, look_at};
+ghost use Rattle.es_lexer.specs.Look.{line_stop, blanks_end, word_end, flags_end, word_look, string_look, block_look, sign_look, template_look, number_stop, number_look, dot_look, brace_look, name_look, wide_look, backslash_look, hash_look, regexp_look, divide_look, slash_look, end_look, look_at};
 
 use crate::bracket::{BracketKind, is_open, may_close, role_of};
 use crate::bytes::{
-    First, begins_backslash, begins_escape, begins_name, first_of, joins, part_unit, word_unit,
+    First, begins_backslash, begins_escape, begins_name, first_of, is_blank, joins, part_unit,
+    word_unit,
 };
 use crate::error::LexicalKind;
 use crate::goal::Goal;
@@ -485,6 +486,31 @@ fn line_end_from(first: usize, bytes: &[u8]) -> usize
     let mut rest = bytes;
     while let [_, after @ ..] = rest {
         if begins_line_end(rest) {
+            break;
+        }
+        rest = after;
+        at += 1;
+    }
+    at
+}
+
+/// The place behind the blanks of one byte that stand at `from`.
+pub fn behind_blanks(bytes: &[u8], from: usize) -> usize
+    requires { from ≤ length bytes.now }
+    ensures { result ≡ blanks_end from (drop from bytes.now) }
+{
+    blanks_end_from(from, &bytes[from..])
+}
+
+#[tactic(auto, unfolding(crate::specs::Look::blanks_end))]
+fn blanks_end_from(first: usize, bytes: &[u8]) -> usize
+    requires { first + length bytes.now < 2 ^ 64 }
+    ensures { result ≡ blanks_end first bytes.now }
+{
+    let mut at = first;
+    let mut rest = bytes;
+    while let [b, after @ ..] = rest {
+        if !is_blank(*b) {
             break;
         }
         rest = after;

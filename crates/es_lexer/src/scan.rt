@@ -11,7 +11,7 @@ ghost use Rattle.es_lexer.specs.Scan.{text_end, HasCommentText, comment_at};
 
 use crate::error::{LexError, LexicalError};
 use crate::goal::{State, blank_state, comment_state, goal_in, line_state, token_state};
-use crate::look::{Look, look_from};
+use crate::look::{Look, behind_blanks, look_from};
 use crate::stack::{innermost, push_token};
 use base::{Items, Range, Text};
 use es_token::{Comment, CommentKind, Lexed};
@@ -46,11 +46,11 @@ fn scan(alloc: Global, text: &str) -> Result<Lexed, LexError>
             Look::End => return Ok(Lexed { tokens, comments }),
             Look::Blank { end } => {
                 state = blank_state(state);
-                at = end;
+                at = behind_blanks(bytes, end);
             }
             Look::LineEnd { end } => {
                 state = line_state(state);
-                at = end;
+                at = behind_blanks(bytes, end);
             }
             Look::Comment {
                 kind,
@@ -65,7 +65,7 @@ fn scan(alloc: Global, text: &str) -> Result<Lexed, LexError>
                 let range = Range { start: at, end };
                 let closed = push_token(&mut tokens, &mut brackets, state, kind, range)?;
                 state = token_state(state, kind, closed);
-                at = end;
+                at = behind_blanks(bytes, end);
             }
             Look::Fault { kind, at } => {
                 return Err(LexError::Lexical(LexicalError { kind, at }));

@@ -1,5 +1,5 @@
-ghost use Rattle.std.specs.Prelude.{◌≡◌, [], ◌∷◌};
-ghost use Rattle.es_lexer.specs.Signs.{sign_kind, sized, two_before, sign_at};
+ghost use Rattle.std.specs.Prelude.{◌≡◌, ℕ, [], ◌∷◌, IfSome};
+ghost use Rattle.es_lexer.specs.Signs.{sign_kind, sized, two_before, longest, single, sign_at};
 
 use es_token::TokenKind;
 
@@ -20,10 +20,42 @@ pub fn sign_at(text: &[u8]) -> Option<Sign>
         [] => None,
         [a] => sized(1, one_byte(*a), None),
         [a, b] => sized(2, two_bytes(*a, *b), sized(1, one_byte(*a), None)),
-        [a, b, c, ..] => {
-            let short = sized(2, two_before(*a, *b, *c), sized(1, one_byte(*a), None));
-            sized(3, three_bytes(*a, *b, *c), short)
-        }
+        [a, b, c, ..] => match lone(*a) {
+            Some(kind) => Some(Sign { kind, size: 1 }),
+            None => longest(*a, *b, *c),
+        },
+    }
+}
+
+/// The punctuator of this byte, where no longer one begins with it.
+#[tactic(auto, unfolding(crate::specs::Signs::sign_kind, crate::specs::Signs::sign_in, crate::specs::Signs::signs_of_one, crate::specs::Signs::signs_of_two, crate::specs::Signs::signs_of_three, crate::specs::Signs::two_before, crate::specs::Signs::sized))]
+fn lone(a: u8) -> Option<TokenKind>
+    ensures { IfSome result (λ kind. (b c : ℕ) → longest a b c ≡ single kind) }
+{
+    match a {
+        b'{' => Some(TokenKind::OpenBrace),
+        b'}' => Some(TokenKind::CloseBrace),
+        b'(' => Some(TokenKind::OpenParen),
+        b')' => Some(TokenKind::CloseParen),
+        b'[' => Some(TokenKind::OpenBracket),
+        b']' => Some(TokenKind::CloseBracket),
+        b';' => Some(TokenKind::Semicolon),
+        b',' => Some(TokenKind::Comma),
+        b'>' => Some(TokenKind::Greater),
+        b'~' => Some(TokenKind::Tilde),
+        b':' => Some(TokenKind::Colon),
+        _ => None,
+    }
+}
+
+/// The longest punctuator that begins three bytes.
+#[tactic(auto, unfolding(crate::specs::Signs::sized))]
+fn longest(a: u8, b: u8, c: u8) -> Option<Sign>
+    ensures { result ≡ longest a b c }
+{
+    match three_bytes(a, b, c) {
+        Some(kind) => Some(Sign { kind, size: 3 }),
+        None => sized(2, two_before(a, b, c), sized(1, one_byte(a), None)),
     }
 }
 

@@ -19,6 +19,7 @@ pub fn innermost(brackets: &Items<OpenBracket>) -> Option<BracketKind>
 }
 
 /// Puts a token at the end, joined to the bracket that it closes. Answers whether that one belongs to a statement's head.
+#[tactic(auto, unfolding(crate::specs::Scan::closed_of, crate::specs::Scan::left_of, crate::specs::Scan::joined, crate::specs::Scan::pushed, crate::specs::Scan::numbered, crate::specs::Scan::is_headed))]
 pub fn push_token(
     tokens: &mut Items<Token>,
     brackets: &mut Items<OpenBracket>,
@@ -30,17 +31,53 @@ pub fn push_token(
     ensures tokens { OnOk result (tokens.new ≡ joined (closed_of (role_of kind) (reverse brackets.old)) (length tokens.old) tokens.old ++ token_with kind range state.line (role_of kind) (closed_of (role_of kind) (reverse brackets.old)) ∷ []) }
     ensures brackets { OnOk result (reverse brackets.new ≡ pushed (role_of kind) (length tokens.old) state.headed (left_of (role_of kind) (reverse brackets.old))) }
 {
+    match role_of(kind) {
+        Role::Plain => {
+            tokens.push(Token {
+                kind,
+                range,
+                line_before: state.line,
+                partner: None,
+            })?;
+            Ok(false)
+        }
+        role => push_bracket(
+            tokens,
+            brackets,
+            role,
+            state.headed,
+            kind,
+            range,
+            state.line,
+        ),
+    }
+}
+
+/// The same for a token of this role.
+#[inline(never)]
+fn push_bracket(
+    tokens: &mut Items<Token>,
+    brackets: &mut Items<OpenBracket>,
+    role: Role,
+    headed: bool,
+    kind: TokenKind,
+    range: Range,
+    line: bool,
+) -> Result<bool, AllocError>
+    ensures closed { IfOk result (λ headed. headed ≡ is_headed (closed_of role (reverse brackets.old))) }
+    ensures tokens { OnOk result (tokens.new ≡ joined (closed_of role (reverse brackets.old)) (length tokens.old) tokens.old ++ token_with kind range line role (closed_of role (reverse brackets.old)) ∷ []) }
+    ensures brackets { OnOk result (reverse brackets.new ≡ pushed role (length tokens.old) headed (left_of role (reverse brackets.old))) }
+{
     let number = tokens.len();
-    let role = role_of(kind);
     let closed = take_closed(brackets, role);
     join(tokens, closed, number);
     tokens.push(Token {
         kind,
         range,
-        line_before: state.line,
+        line_before: line,
         partner: numbered(role, closed),
     })?;
-    push_open(brackets, role, number, state.headed)?;
+    push_open(brackets, role, number, headed)?;
     Ok(is_headed(closed))
 }
 

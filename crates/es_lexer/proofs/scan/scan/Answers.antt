@@ -1,7 +1,8 @@
 -- What a look adds to what is read.
-use Rattle.std.proofs.Common.{◌++◌, ◌∷◌, [], refl, ap, ◌∙◌}
+use Rattle.std.proofs.Common.{◌<◌, ◌++◌, ◌∷◌, [], refl, ap, ◌∙◌}
 use Rattle.es_lexer.specs.declared.look.Look.TheVariants as look
-use Rattle.es_lexer.proofs.ScanLemmas.{After, advance_at, so_far_first, less_left, so_far_as, fault_as}
+use Rattle.es_lexer.specs.Goal.{blank_state, line_state, token_state}
+use Rattle.es_lexer.proofs.ScanLemmas.{SoFar, After, TokenAfter, advance_at, so_far_first, less_left, so_far_as, fault_as, blank_passed, line_passed, behind_piece, settled_token, within_bytes}
 use Rattle.es_lexer.proofs.scan.scan.Goals as goal
 
 pub pieces-init : goal.pieces-init
@@ -25,46 +26,70 @@ returns-in-Fault-clause-stopped c e w = fault_as c.args.text.now c.in-Fault.kind
     c.utf8.text c.pieces.invariant.same c.pieces.invariant.so_far c.innermost.ensures c.goal_in.ensures
     c.in-Fault.ensures) e w
 
-pub pieces-smaller-in-Blank : goal.pieces-smaller-in-Blank
-pieces-smaller-in-Blank c =
+pub behind_blanks-at-requires : goal.behind_blanks-at-requires
+behind_blanks-at-requires c =
     let after : After c.args.text.now c.pieces.at c.pieces.state c.pieces.brackets c.pieces.tokens c.pieces.comments
     (look.Blank c.in-Blank.end) =
     advance_at c.args.text.now c.as_bytes-bytes.result.now c.pieces.at c.pieces.state c.pieces.brackets c.pieces.tokens
     c.pieces.comments _ _ _
     c.utf8.text c.pieces.invariant.same c.pieces.invariant.so_far c.innermost.ensures c.goal_in.ensures
     c.in-Blank.ensures in
-    less_left c.args.text.now c.as_bytes-bytes.result.now c.pieces.at c.in-Blank.end c.pieces.invariant.same
-    after.0 after.1.within
+    within_bytes c.args.text.now c.as_bytes-bytes.result.now c.in-Blank.end c.pieces.invariant.same after.1.within
 
-pub pieces-smaller-in-LineEnd : goal.pieces-smaller-in-LineEnd
-pieces-smaller-in-LineEnd c =
+pub pieces-smaller-in-Blank : goal.pieces-smaller-in-Blank
+pieces-smaller-in-Blank c =
+    let on : (c.pieces.at < c.behind_blanks-at.result) × SoFar c.args.text.now c.behind_blanks-at.result
+    (blank_state c.pieces.state) c.pieces.brackets c.pieces.tokens c.pieces.comments =
+    blank_passed c.args.text.now c.as_bytes-bytes.result.now c.pieces.at c.pieces.state
+    c.pieces.brackets c.pieces.tokens c.pieces.comments _ _ c.in-Blank.end c.behind_blanks-at.result c.utf8.text
+    c.pieces.invariant.same c.pieces.invariant.so_far c.innermost.ensures c.goal_in.ensures c.in-Blank.ensures
+    c.behind_blanks-at.ensures in
+    less_left c.args.text.now c.as_bytes-bytes.result.now c.pieces.at c.behind_blanks-at.result
+    c.pieces.invariant.same on.0 on.1.within
+
+pub pieces-preserved-in-Blank : goal.pieces-preserved-in-Blank
+pieces-preserved-in-Blank c = record {
+  same = c.pieces.invariant.same;
+  so_far = so_far_as _ _ _ _ _ _ _ _
+      (blank_passed c.args.text.now c.as_bytes-bytes.result.now c.pieces.at c.pieces.state
+      c.pieces.brackets c.pieces.tokens c.pieces.comments _ _ c.in-Blank.end c.behind_blanks-at.result c.utf8.text
+      c.pieces.invariant.same c.pieces.invariant.so_far c.innermost.ensures c.goal_in.ensures c.in-Blank.ensures
+      c.behind_blanks-at.ensures).1
+      c.blank_state-state.ensures refl;
+}
+
+pub behind_blanks-at-requires-in-LineEnd : goal.behind_blanks-at-requires-in-LineEnd
+behind_blanks-at-requires-in-LineEnd c =
     let after : After c.args.text.now c.pieces.at c.pieces.state c.pieces.brackets c.pieces.tokens c.pieces.comments
     (look.LineEnd c.in-LineEnd.end) =
     advance_at c.args.text.now c.as_bytes-bytes.result.now c.pieces.at c.pieces.state c.pieces.brackets c.pieces.tokens
     c.pieces.comments _ _ _
     c.utf8.text c.pieces.invariant.same c.pieces.invariant.so_far c.innermost.ensures c.goal_in.ensures
     c.in-LineEnd.ensures in
-    less_left c.args.text.now c.as_bytes-bytes.result.now c.pieces.at c.in-LineEnd.end c.pieces.invariant.same
-    after.0 after.1.within
+    within_bytes c.args.text.now c.as_bytes-bytes.result.now c.in-LineEnd.end c.pieces.invariant.same after.1.within
 
-pub pieces-preserved-in-Blank : goal.pieces-preserved-in-Blank
-pieces-preserved-in-Blank c = record {
-  same = c.pieces.invariant.same;
-  so_far = so_far_as _ _ _ _ _ _ _ _
-      (advance_at c.args.text.now c.as_bytes-bytes.result.now c.pieces.at c.pieces.state c.pieces.brackets
-      c.pieces.tokens c.pieces.comments _ _ _
-      c.utf8.text c.pieces.invariant.same c.pieces.invariant.so_far c.innermost.ensures c.goal_in.ensures
-      c.in-Blank.ensures).1 c.blank_state-state.ensures refl;
-}
+pub pieces-smaller-in-LineEnd : goal.pieces-smaller-in-LineEnd
+pieces-smaller-in-LineEnd c =
+    let on : (c.pieces.at < c.behind_blanks-at-in-LineEnd.result)
+    × SoFar c.args.text.now c.behind_blanks-at-in-LineEnd.result
+    (line_state c.pieces.state) c.pieces.brackets c.pieces.tokens c.pieces.comments =
+    line_passed c.args.text.now c.as_bytes-bytes.result.now c.pieces.at c.pieces.state
+    c.pieces.brackets c.pieces.tokens c.pieces.comments _ _ c.in-LineEnd.end c.behind_blanks-at-in-LineEnd.result
+    c.utf8.text
+    c.pieces.invariant.same c.pieces.invariant.so_far c.innermost.ensures c.goal_in.ensures c.in-LineEnd.ensures
+    c.behind_blanks-at-in-LineEnd.ensures in
+    less_left c.args.text.now c.as_bytes-bytes.result.now c.pieces.at c.behind_blanks-at-in-LineEnd.result
+    c.pieces.invariant.same on.0 on.1.within
 
 pub pieces-preserved-in-LineEnd : goal.pieces-preserved-in-LineEnd
 pieces-preserved-in-LineEnd c = record {
   same = c.pieces.invariant.same;
-  so_far = so_far_as _ _ _ _ _ _ _ _
-      (advance_at c.args.text.now c.as_bytes-bytes.result.now c.pieces.at c.pieces.state c.pieces.brackets
-      c.pieces.tokens c.pieces.comments _ _ _
-      c.utf8.text c.pieces.invariant.same c.pieces.invariant.so_far c.innermost.ensures c.goal_in.ensures
-      c.in-LineEnd.ensures).1 c.line_state-state.ensures refl;
+  so_far = so_far_as _ _ _ _ _ _ _ _ (line_passed c.args.text.now c.as_bytes-bytes.result.now c.pieces.at c.pieces.state
+      c.pieces.brackets c.pieces.tokens c.pieces.comments _ _ c.in-LineEnd.end c.behind_blanks-at-in-LineEnd.result
+      c.utf8.text
+      c.pieces.invariant.same c.pieces.invariant.so_far c.innermost.ensures c.goal_in.ensures c.in-LineEnd.ensures
+      c.behind_blanks-at-in-LineEnd.ensures).1
+      c.line_state-state.ensures refl;
 }
 
 -- ---- comments
@@ -100,29 +125,58 @@ pieces-preserved-in-Comment c = record {
 }
 
 -- ---- tokens
-pub pieces-smaller : goal.pieces-smaller
-pieces-smaller c =
-    let after : After c.args.text.now c.pieces.at c.pieces.state c.pieces.brackets c.pieces.tokens c.pieces.comments
-    (look.Token c.in-Token.kind c.in-Token.end) =
+pub behind_blanks-at-requires-in-Token : goal.behind_blanks-at-requires-in-Token
+behind_blanks-at-requires-in-Token c =
+    let after : TokenAfter c.args.text.now c.pieces.at c.pieces.state c.pieces.brackets c.pieces.tokens
+    c.pieces.comments c.in-Token.kind c.in-Token.end =
     advance_at c.args.text.now c.as_bytes-bytes.result.now c.pieces.at c.pieces.state c.pieces.brackets c.pieces.tokens
     c.pieces.comments _ _ _
     c.utf8.text c.pieces.invariant.same c.pieces.invariant.so_far c.innermost.ensures c.goal_in.ensures
     c.in-Token.ensures in
-    less_left c.args.text.now c.as_bytes-bytes.result.now c.pieces.at c.in-Token.end c.pieces.invariant.same
-    after.forward after.within
+    within_bytes c.args.text.now c.as_bytes-bytes.result.now c.in-Token.end c.pieces.invariant.same after.within
+
+pub pieces-smaller : goal.pieces-smaller
+pieces-smaller c =
+    let after : TokenAfter c.args.text.now c.pieces.at c.pieces.state c.pieces.brackets c.pieces.tokens
+    c.pieces.comments c.in-Token.kind c.in-Token.end =
+    advance_at c.args.text.now c.as_bytes-bytes.result.now c.pieces.at c.pieces.state c.pieces.brackets c.pieces.tokens
+    c.pieces.comments _ _ _
+    c.utf8.text c.pieces.invariant.same c.pieces.invariant.so_far c.innermost.ensures c.goal_in.ensures
+    c.in-Token.ensures in
+    let on : (c.pieces.at < c.behind_blanks-at-in-Token.result) × SoFar c.args.text.now
+    c.behind_blanks-at-in-Token.result (token_state c.pieces.state c.in-Token.kind c.in_ok-closed-in-Token.closed)
+    c.push_token.new.brackets c.push_token.new.tokens c.pieces.comments =
+    behind_piece c.args.text.now c.as_bytes-bytes.result.now c.pieces.at c.in-Token.end
+    c.behind_blanks-at-in-Token.result (token_state c.pieces.state c.in-Token.kind c.in_ok-closed-in-Token.closed) _ _
+    c.pieces.comments c.utf8.text c.pieces.invariant.same
+    (settled_token c.pieces.state c.in-Token.kind c.in_ok-closed-in-Token.closed)
+    after.forward
+    (after.goes _ _ _ c.in_ok-closed-in-Token.ensures.closed c.in_ok-closed-in-Token.ensures.tokens
+    c.in_ok-closed-in-Token.ensures.brackets)
+    c.behind_blanks-at-in-Token.ensures in
+    less_left c.args.text.now c.as_bytes-bytes.result.now c.pieces.at c.behind_blanks-at-in-Token.result
+    c.pieces.invariant.same on.0 on.1.within
 
 pub pieces-preserved : goal.pieces-preserved
 pieces-preserved c =
-    let after : After c.args.text.now c.pieces.at c.pieces.state c.pieces.brackets c.pieces.tokens c.pieces.comments
-    (look.Token c.in-Token.kind c.in-Token.end) =
+    let after : TokenAfter c.args.text.now c.pieces.at c.pieces.state c.pieces.brackets c.pieces.tokens
+    c.pieces.comments c.in-Token.kind c.in-Token.end =
     advance_at c.args.text.now c.as_bytes-bytes.result.now c.pieces.at c.pieces.state c.pieces.brackets c.pieces.tokens
     c.pieces.comments _ _ _
     c.utf8.text c.pieces.invariant.same c.pieces.invariant.so_far c.innermost.ensures c.goal_in.ensures
     c.in-Token.ensures in
+    let on : (c.pieces.at < c.behind_blanks-at-in-Token.result) × SoFar c.args.text.now
+    c.behind_blanks-at-in-Token.result (token_state c.pieces.state c.in-Token.kind c.in_ok-closed-in-Token.closed)
+    c.push_token.new.brackets c.push_token.new.tokens c.pieces.comments =
+    behind_piece c.args.text.now c.as_bytes-bytes.result.now c.pieces.at c.in-Token.end
+    c.behind_blanks-at-in-Token.result (token_state c.pieces.state c.in-Token.kind c.in_ok-closed-in-Token.closed) _ _
+    c.pieces.comments c.utf8.text c.pieces.invariant.same
+    (settled_token c.pieces.state c.in-Token.kind c.in_ok-closed-in-Token.closed)
+    after.forward
+    (after.goes _ _ _ c.in_ok-closed-in-Token.ensures.closed c.in_ok-closed-in-Token.ensures.tokens
+    c.in_ok-closed-in-Token.ensures.brackets)
+    c.behind_blanks-at-in-Token.ensures in
     record {
       same = c.pieces.invariant.same;
-      so_far = so_far_as _ _ _ _ _ _ _ _
-          (after.goes _ _ _ c.in_ok-closed-in-Token.ensures.closed c.in_ok-closed-in-Token.ensures.tokens
-          c.in_ok-closed-in-Token.ensures.brackets)
-          c.token_state-state.ensures refl;
+      so_far = so_far_as _ _ _ _ _ _ _ _ on.1 c.token_state-state.ensures refl;
     }
