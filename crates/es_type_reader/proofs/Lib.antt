@@ -1,0 +1,4 @@
+pub mod NameLemmas
+pub mod SlimLemmas
+pub mod FormLemmas
+pub mod WrapLemmas

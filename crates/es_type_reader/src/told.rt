@@ -1,0 +1,33 @@
+//! When a part is there.
+
+ghost use Rattle.std.specs.Prelude.{◌≡◌};
+ghost use Rattle.es_tree.specs.Key.{keys_of};
+ghost use Rattle.es_tree.specs.Form.{test};
+ghost use Rattle.es_type_reader.specs.Told.{told_of};
+
+use es_guards::Tokens;
+use es_type_guards::{Ahead, Guard, holds, sees_ahead};
+
+/// When an optional part, or another turn of a list, is there.
+#[derive(Clone, Copy)]
+pub enum Told {
+    /// It may always be there or not: the test tells which of the two is read, and bars no reading.
+    Hint(Ahead),
+    /// It is there wherever the test holds.
+    Taken(Ahead),
+    /// It is there exactly where the guard holds.
+    Guarded(Guard),
+}
+
+impl Told {
+    /// Whether the part is there.
+    pub fn is_there(self, tokens: &Tokens<'_>, at: usize) -> bool
+        ensures { result ≡ test (told_of self) (keys_of tokens.now.tokens.now) at }
+    {
+        match self {
+            Told::Hint(ahead) => sees_ahead(tokens, ahead, at),
+            Told::Taken(ahead) => sees_ahead(tokens, ahead, at),
+            Told::Guarded(guard) => holds(tokens, guard, at),
+        }
+    }
+}
