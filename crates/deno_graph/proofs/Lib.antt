@@ -9,6 +9,7 @@ pub mod BuildingLemmas
 pub mod ProgressLemmas
 pub mod FinalLemmas
 pub mod SettlingLemmas
+pub mod PlainLemmas
 pub mod ResultLemmas
 pub mod Theorems
 pub mod MemoryLemmas

@@ -1,11 +1,11 @@
 -- A loader in memory: how a module is found, and which request is answered.
 use Rattle.std.proofs.Common.{suc, ◌≡◌, ◌⊎◌, inl, inr, ◌≤◌, ◌<◌, ◌+◌, ◌-◌, ℕ, Bool, true, false, cond, List, [], ◌∷◌, ◌++◌, length, take, drop, get_or, refl, sym, ◌∙◌, ap, subst, arith, Some, None}
 use Rattle.std.specs.Prelude.{bytes_eq, not, count_by, ◌||◌, if◌then◌else◌}
-use Rattle.std.specs.List.{remove, list_any}
+use Rattle.std.specs.List.{list_any}
 use Rattle.std.specs.Map.{lookup, keys_of}
 use Rattle.std.specs.Cmp.Lexicographic.{nat_list_eq_equiv, same_text}
 use Rattle.std.specs.declared.alloc.AllocError.{AllocError}
-use Rattle.std.proofs.lemmas.List.{drop_more, drop_all, take_more, take_all, append_assoc, append-nil, take-append-drop, map-append}
+use Rattle.std.proofs.lemmas.List.{drop_more, drop_all, take-append-drop, map-append}
 use Rattle.std.proofs.lemmas.List.Recursion.{is_count_by}
 use Rattle.std.proofs.Math.Nat.{eq-or-lt_of_le}
 use Rattle.url.specs.Parts.{Parts}
@@ -221,33 +221,6 @@ length-settled (w ∷ waiting) url = by (bytes_eq (text_of w) (text_of url)) (le
         → suc (length waiting) ≤ length (cond b waiting (w ∷ settled waiting url)) + 1
     by true later = omega arith
     by false later = omega arith
-
--- a request for another specifier stays
-pub settled_later : (waiting : List Parts) (url : Parts) (at : ℕ) (x : Parts) → at < length waiting
-    → x ≡ get_or waiting at x → bytes_eq (text_of x) (text_of url) ≡ false
-    → settled waiting url ≡ take at waiting ++ settled (drop at waiting) url
-    → settled waiting url ≡ take (at + 1) waiting ++ settled (drop (at + 1) waiting) url
-settled_later waiting url at x lt is other so_far =
-    let here : settled (drop at waiting) url ≡ x ∷ settled (drop (at + 1) waiting) url =
-    rw (drop_more waiting at x lt, ← is, other) refl in
-    let front : take (at + 1) waiting ≡ take at waiting ++ x ∷ [] = rw (take_more waiting at x lt, ← is) refl in
-    so_far ∙ rw (here, front, append_assoc) refl
-
--- the first request for the specifier goes
-pub settled_here : (waiting : List Parts) (url : Parts) (at : ℕ) (x : Parts) → at < length waiting
-    → x ≡ get_or waiting at x → bytes_eq (text_of x) (text_of url) ≡ true
-    → settled waiting url ≡ take at waiting ++ settled (drop at waiting) url → remove waiting at ≡ settled waiting url
-settled_here waiting url at x lt is same so_far =
-    let here : settled (drop at waiting) url ≡ drop (at + 1) waiting =
-    rw (drop_more waiting at x lt, ← is, same) refl in
-    let on : at + 1 ≡ suc at = omega arith in
-    sym (so_far ∙ rw (here, on) refl)
-
--- where there is none, all stay
-pub settled_none : (waiting : List Parts) (url : Parts) (at : ℕ) → length waiting ≤ at
-    → settled waiting url ≡ take at waiting ++ settled (drop at waiting) url → settled waiting url ≡ waiting
-settled_none waiting url at le so_far =
-    so_far ∙ rw (take_all at waiting le, drop_all at waiting le) (append-nil waiting)
 
 -- ---- what came first
 

@@ -4,6 +4,7 @@ use Rattle.std.specs.List.{list_any}
 use Rattle.std.specs.Map.{lookup, keys_of}
 use Rattle.std.specs.declared.alloc.AllocError.{AllocError}
 use Rattle.url.specs.Parts.{Parts}
+use Rattle.open_requests.specs.Requests as requests
 use Rattle.graph_entry.specs.Specifier.{text_of}
 use Rattle.graph_entry.specs.declared.answer.LoadAnswer.{LoadAnswer}
 use Rattle.graph_entry.specs.declared.answer.LoadAnswer.TheVariants.{Absent}
@@ -90,17 +91,15 @@ data_of m = record {
 
 -- a request for the specifier is outstanding
 abbrev pub waits_for : List Parts → Parts → Bool
-waits_for waiting url = list_any (λ w. bytes_eq (text_of w) (text_of url)) waiting
+waits_for = requests.waits_for text_of
 
 -- without the oldest request for the specifier
 abbrev pub settled : List Parts → Parts → List Parts
-settled [] url = []
-settled (w ∷ waiting) url = if bytes_eq (text_of w) (text_of url) then waiting else w ∷ settled waiting url
+settled = requests.settled text_of
 
 -- the oldest request
 abbrev pub oldest : List Parts → Option Parts
-oldest [] = None
-oldest (w ∷ waiting) = Some w
+oldest = requests.oldest
 
 -- which specifier is answered next, if any, and what is left of the arrival list then
 abbrev pub next_answered : List Parts → List Arrival → Option Parts × List Arrival

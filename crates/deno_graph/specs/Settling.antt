@@ -1,12 +1,14 @@
 -- How the first entries of all that is reached become those of the graph.
 use Rattle.std.specs.Prelude.{◌≡◌, ℕ, length, zero, suc, ◌+◌, Bool, true, false, not, ◌&&◌, List, [], ◌∷◌, map, Option, Some, None, is_some, option_and_then, Ok, Err, if◌then◌else◌}
-use Rattle.std.specs.List.{zip}
+use Rattle.std.specs.List.{zip, list_all}
 use Rattle.url.specs.Parts.{Parts}
 use Rattle.es_walk.specs.declared.site.Attribute.{Attribute}
+use Rattle.es_walk.specs.declared.site.Attribute.TheVariants.{Absent, Named, Unknown}
 use Rattle.graph_entry.specs.Specifier.{text_of}
 use Rattle.graph_entry.specs.Resolution.{Resolved}
 use Rattle.graph_entry.specs.declared.entry.Dependency.{Dependency}
 use Rattle.graph_entry.specs.declared.entry.Module.{Module}
+use Rattle.graph_entry.specs.declared.entry.Module.TheVariants.{Js, Json, Wasm}
 use Rattle.graph_entry.specs.declared.entry.Entry.{Entry}
 use Rattle.graph_entry.specs.declared.entry.Entry.TheVariants as entry
 use Rattle.graph_entry.specs.declared.entry.ModuleError.TheVariants.{TooManyRedirects}
@@ -50,6 +52,32 @@ is_misfit rules firsts m d = rules.follows m d && is_unfit_at firsts d.attribute
 -- the same of an edge of a module with types, or without, by the rules of this crate
 abbrev pub is_misfit_here : Following → Bool → List (Parts × Entry) → Dependency → Bool
 is_misfit_here following typed firsts d = is_followed following typed d && is_unfit_at firsts d.attribute d.resolution
+
+-- ---- entries that nothing is to be judged of
+
+-- an attribute names something
+abbrev pub is_named : Attribute → Bool
+is_named Absent = false
+is_named (Named text) = true
+is_named Unknown = false
+
+-- no attribute of an edge does
+abbrev pub are_unnamed : List Dependency → Bool
+are_unnamed edges = list_all (λ d. not (is_named d.attribute)) edges
+
+-- the entry doesn't redirect and isn't JSON, and no attribute of its edges names something
+abbrev pub is_plain : Entry → Bool
+is_plain (entry.Redirect target) = false
+is_plain (entry.Module (Js m)) = are_unnamed m.dependencies
+is_plain (entry.Module (Json m)) = false
+is_plain (entry.Module (Wasm m)) = are_unnamed m.dependencies
+is_plain (entry.Package held) = true
+is_plain entry.External = true
+is_plain (entry.Error e) = true
+
+-- all entries are so
+abbrev pub are_plain : List (Parts × Entry) → Bool
+are_plain firsts = list_all (λ e. is_plain e.1) firsts
 
 -- ---- what becomes of an entry
 

@@ -1,7 +1,6 @@
 //! A loader in memory.
-ghost use Rattle.std.specs.Prelude.{◌≡◌, ◌≤◌, ◌<◌, ◌+◌, ℕ, IfOk, MatchOption, Some, None, ◌++◌, ◌∷◌, [], map, drop, length, bytes_eq, count_by, is_ok, if◌then◌else◌};
+ghost use Rattle.std.specs.Prelude.{◌≡◌, IfOk, drop, length};
 ghost use Rattle.std.specs.Option.{option_copied};
-ghost use Rattle.std.specs.List.{remove};
 ghost use Rattle.graph_entry.specs.Specifier.{text_of};
 ghost use Rattle.deno_graph.specs.ByText.{value_at};
 ghost use Rattle.deno_graph.specs.Loader.{HasStarted, HasPolled};
@@ -11,8 +10,9 @@ use crate::by_text::{find, put};
 use crate::loader::{Loader, LoaderPoll};
 use base::Items;
 use graph_entry::LoadAnswer;
+use open_requests::Requests;
 use std::alloc::{AllocError, Global};
-use std::collections::{BTreeMap, VecDeque};
+use std::collections::BTreeMap;
 use std::marker::Model;
 use url::Url;
 
@@ -39,9 +39,8 @@ pub struct MemoryLoader {
     next: usize,
     // Which came first: `true` for each request, `false` for each answer.
     order: Vec<bool>,
-    asked: Items<Url>,
+    requests: Requests,
     log: Items<(Url, LoadAnswer)>,
-    waiting: VecDeque<Url>,
     pending: u64,
     standing: (usize, usize),
 }
@@ -57,16 +56,16 @@ impl Model for MemoryLoader {
       modules = m.modules;
       arrival = drop m.next m.arrival;
       order = m.order.items;
-      asked = m.asked;
+      asked = m.requests.all;
       log = m.log;
-      waiting = m.waiting.items;
+      waiting = m.requests.waiting;
       pending = m.pending;
       standing = m.standing;
       forced = list_any is_forced m.arrival;
     } };
 
-    ghost invariant = { λ m. IsKeptMemory m.modules m.places.entries m.arrival m.order.items m.asked m.log
-        m.waiting.items };
+    ghost invariant = { λ m. IsKeptMemory m.modules m.places.entries m.arrival m.order.items m.requests.all m.log
+        m.requests.waiting };
 }
 
 impl MemoryLoader {
@@ -86,9 +85,8 @@ impl MemoryLoader {
             arrival,
             next: 0,
             order: Vec::new(alloc),
-            asked: Items::new(alloc),
+            requests: Requests::new(alloc),
             log: Items::new(alloc),
-            waiting: VecDeque::new(alloc),
             pending: 0,
             standing: (0, 0),
         })
@@ -98,7 +96,7 @@ impl MemoryLoader {
     pub fn asked(&self) -> &[Url]
         ensures { result.now ≡ self.now.asked }
     {
-        self.asked.as_slice()
+        self.requests.all()
     }
 
     /// The answers that it gave.
@@ -116,12 +114,8 @@ impl Loader for MemoryLoader {
         ensures exact { IsStarted self.old specifier.now result self.new }
         ensures started { HasStarted (text_of specifier.now) (data_of self.old) (data_of self.new) result }
     {
-        let request = specifier.clone()?;
-        let waiting = specifier.clone()?;
-        self.waiting.reserve(1)?;
         self.order.reserve(1)?;
-        self.asked.push(request)?;
-        self.waiting.push_back(waiting)?;
+        self.requests.ask(specifier)?;
         self.order.push(true)?;
         Ok(())
     }
@@ -130,11 +124,11 @@ impl Loader for MemoryLoader {
         ensures exact { IsPolled self.old result self.new }
         ensures polled { HasPolled (data_of self.old) (data_of self.new) result }
     {
-        let (answered, after) = turn(self.arrival.as_slice(), self.next, &self.waiting);
+        let (answered, after) = turn(self.arrival.as_slice(), self.next, &self.requests);
         let Some(url) = answered else {
             self.next = after;
             self.pending = self.pending.saturating_add(1);
-            self.standing = (self.asked.len(), self.log.len());
+            self.standing = (number_of(self.requests.all()), self.log.len());
             return Ok(LoaderPoll::Pending);
         };
         let logged = url.clone()?;
@@ -144,10 +138,16 @@ impl Loader for MemoryLoader {
         self.order.reserve(1)?;
         self.log.push((logged, kept))?;
         self.order.push(false)?;
-        settle(&mut self.waiting, &url);
+        settle(&mut self.requests, &url);
         self.next = after;
         Ok(LoaderPoll::Answer(url, answer))
     }
+}
+
+fn number_of(urls: &[Url]) -> usize
+    ensures { result ≡ length urls.now }
+{
+    urls.len()
 }
 
 // From the last module to the first, so that the first with a specifier stays.
@@ -189,30 +189,26 @@ fn place_of(places: &BTreeMap<Url, usize>, url: &Url) -> Option<usize>
 }
 
 // The specifier that is answered next, and how many arrival items are used up then.
-fn turn<'a>(
-    arrival: &'a [Arrival],
-    from: usize,
-    waiting: &'a VecDeque<Url>,
-) -> (Option<&'a Url>, usize)
-    ensures answered { option_copied result.0 ≡ (next_answered waiting.now.items (drop from arrival.now)).0 }
-    ensures rest { drop result.1 arrival.now ≡ (next_answered waiting.now.items (drop from arrival.now)).1 }
+fn turn<'a>(arrival: &'a [Arrival], from: usize, requests: &'a Requests) -> (Option<&'a Url>, usize)
+    ensures answered { option_copied result.0 ≡ (next_answered requests.now.waiting (drop from arrival.now)).0 }
+    ensures rest { drop result.1 arrival.now ≡ (next_answered requests.now.waiting (drop from arrival.now)).1 }
 {
-    let at = undropped(arrival, from, waiting);
+    let at = undropped(arrival, from, requests);
     if at < arrival.len() {
         return (named(&arrival[at]), at + 1);
     }
-    (waiting.front(), at)
+    (requests.oldest(), at)
 }
 
 // The place of the first arrival item from `from` on that isn't dropped, or the list's end.
-fn undropped(arrival: &[Arrival], from: usize, waiting: &VecDeque<Url>) -> usize
-    ensures same { next_answered waiting.now.items (drop from arrival.now)
-        ≡ next_answered waiting.now.items (drop result arrival.now) }
-    ensures takes { IsTaken waiting.now.items (drop result arrival.now) }
+fn undropped(arrival: &[Arrival], from: usize, requests: &Requests) -> usize
+    ensures same { next_answered requests.now.waiting (drop from arrival.now)
+        ≡ next_answered requests.now.waiting (drop result arrival.now) }
+    ensures takes { IsTaken requests.now.waiting (drop result arrival.now) }
 {
     let mut at = from;
     while at < arrival.len() {
-        if !is_dropped(&arrival[at], waiting) {
+        if !is_dropped(&arrival[at], requests) {
             return at;
         }
         at += 1;
@@ -221,11 +217,11 @@ fn undropped(arrival: &[Arrival], from: usize, waiting: &VecDeque<Url>) -> usize
 }
 
 #[tactic(auto, unfolding(graph_entry::specs::Specifier::text_of))]
-fn is_dropped(item: &Arrival, waiting: &VecDeque<Url>) -> bool
-    ensures { result ≡ is_dropped waiting.now.items item.now }
+fn is_dropped(item: &Arrival, requests: &Requests) -> bool
+    ensures { result ≡ is_dropped requests.now.waiting item.now }
 {
     match item {
-        Arrival::Answer(url) => !waiting.contains(url),
+        Arrival::Answer(url) => !requests.waits_for(url),
         Arrival::Pending | Arrival::Force(_) => false,
     }
 }
@@ -240,33 +236,10 @@ fn named(item: &Arrival) -> Option<&Url>
 }
 
 // Takes the oldest request for the specifier away, if there is one.
-fn settle(waiting: &mut VecDeque<Url>, url: &Url)
-    ensures { waiting.new.items ≡ settled waiting.old.items url.now }
-{
-    if let Some(at) = request_of(waiting, url) {
-        let _ = waiting.remove(at);
-    }
-}
-
-// The place of the oldest request for the specifier.
-fn request_of(waiting: &VecDeque<Url>, url: &Url) -> Option<usize>
-    ensures { MatchOption result (settled waiting.now.items url.now ≡ waiting.now.items)
-        (λ at. (at < length waiting.now.items)
-        × (remove waiting.now.items at ≡ settled waiting.now.items url.now)) }
-{
-    let mut at = 0;
-    while at < waiting.len() {
-        if is_same(&waiting[at], url) {
-            return Some(at);
-        }
-        at += 1;
-    }
-    None
-}
-
 #[tactic(auto, unfolding(graph_entry::specs::Specifier::text_of))]
-fn is_same(url: &Url, other: &Url) -> bool
-    ensures { result ≡ bytes_eq (text_of url.now) (text_of other.now) }
+fn settle(requests: &mut Requests, url: &Url)
+    ensures asked { requests.new.all ≡ requests.old.all }
+    ensures waiting { requests.new.waiting ≡ settled requests.old.waiting url.now }
 {
-    url == other
+    requests.settle(url);
 }

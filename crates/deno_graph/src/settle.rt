@@ -1,5 +1,5 @@
 //! What becomes of the first entries of all that is reached: the entries of the graph.
-ghost use Rattle.std.specs.Prelude.{◌≡◌, length, map, IfOk, if◌then◌else◌};
+ghost use Rattle.std.specs.Prelude.{◌≡◌, length, map, not, IfOk, if◌then◌else◌};
 ghost use Rattle.graph_entry.specs.Specifier.{text_of};
 ghost use Rattle.deno_graph.specs.Rules.{edges_of, has_types, rules_of};
 ghost use Rattle.deno_graph.specs.Graph.{IsAscending};
@@ -36,8 +36,44 @@ pub fn settle(
     requires { IsAscending firsts }
     ensures { IfOk result (λ entries. entries ≡ finals_of (rules_of following) firsts) }
 {
+    if are_plain(firsts.as_slice()) {
+        return Ok(firsts);
+    }
     let verdicts = verdicts_of(alloc, following, firsts.as_slice())?;
     settle_each(alloc, following, firsts, verdicts.as_slice())
+}
+
+// Whether all first entries stay as they are: none redirects, none is JSON, and no attribute asks for something.
+fn are_plain(firsts: &[(Url, Entry)]) -> bool
+    ensures { result ≡ spec.are_plain firsts.now }
+{
+    firsts.iter().all(|first| is_plain(&first.1))
+}
+
+fn is_plain(first: &Entry) -> bool
+    ensures { result ≡ spec.is_plain first.now }
+{
+    match first {
+        Entry::Module(Module::Js(source)) => are_unnamed(source.dependencies.as_slice()),
+        Entry::Module(Module::Wasm(binary)) => are_unnamed(binary.dependencies.as_slice()),
+        Entry::Redirect(_) | Entry::Module(Module::Json(_)) => false,
+        Entry::Package(_) | Entry::External | Entry::Error(_) => true,
+    }
+}
+
+fn are_unnamed(edges: &[Dependency]) -> bool
+    ensures { result ≡ spec.are_unnamed edges.now }
+{
+    edges.iter().all(|edge| is_unnamed(&edge.attribute))
+}
+
+fn is_unnamed(attribute: &Attribute) -> bool
+    ensures { result ≡ not (spec.is_named attribute.now) }
+{
+    match attribute {
+        Attribute::Absent | Attribute::Unknown => true,
+        Attribute::Named(_) => false,
+    }
 }
 
 fn verdicts_of(

@@ -13,14 +13,17 @@ own = numerals_by_value (AllDigits 10) tells_digits
 -- a plain word begins neither with a sign nor with a zero
 no_sign : (word : List ℕ) → is_plain word ≡ true → get_or word 0 0 ≡ 43 → ⊥
 no_sign [] h is = cc
-no_sign (b ∷ word) h is = let no : is_plain (43 ∷ word) ≡ true = subst (λ (c : ℕ). is_plain (c ∷ word) ≡ true) is h in cc
+no_sign (b ∷ word) h is = let no : is_plain (43 ∷ word) ≡ true = subst (λ (c : ℕ). is_plain (c ∷ word) ≡ true) is h in
+    cc
 
 no_zero : (word : List ℕ) → is_plain word ≡ true → get_or word 0 0 ≡ 48 → ⊥
 no_zero [] h is = cc
-no_zero (b ∷ word) h is = let no : is_plain (48 ∷ word) ≡ true = subst (λ (c : ℕ). is_plain (c ∷ word) ≡ true) is h in cc
+no_zero (b ∷ word) h is = let no : is_plain (48 ∷ word) ≡ true = subst (λ (c : ℕ). is_plain (c ∷ word) ≡ true) is h in
+    cc
 
 -- what is read of such a word is its number
-pub count_read : {E : Type 0} (word : List ℕ) (r : Result ℕ E) (n : ℕ) → ParsesUnsigned 32 10 word r → is_plain word ≡ true
+pub count_read : {E : Type 0} (word : List ℕ) (r : Result ℕ E) (n : ℕ) → ParsesUnsigned 32 10 word r
+    → is_plain word ≡ true
     → r ≡ Ok n → n ≤ 100000 → IsCount n word
 count_read {E} word r n parsed plain is le =
     let read : ParsesUnsigned {E = E} 32 10 word (Ok n) = subst (ParsesUnsigned {E = E} 32 10 word) is parsed in
@@ -34,13 +37,15 @@ count_read {E} word r n parsed plain is le =
     (written, positive n written, le)
   where
     positive : (m : ℕ) → word ≡ decimal m → 1 ≤ m
-    positive zero w = absurd (no_zero word plain (ap (λ (ds : List ℕ). get_or ds 0 0) (w ∙ decimal_digit 0 (omega arith))))
+    positive zero w = absurd
+        (no_zero word plain (ap (λ (ds : List ℕ). get_or ds 0 0) (w ∙ decimal_digit 0 (omega arith))))
     positive (suc m) w = omega arith
 
 -- a number's word is plain
 pub count_plain : (word : List ℕ) (n : ℕ) → IsCount n word → is_plain word ≡ true
 count_plain word n (written, some, le) =
-    by word (subst (λ (ds : List ℕ). 48 < get_or ds 0 0) (sym written) (first_decimal n (omega (arith, some)) (omega (arith, le))))
+    by word (subst (λ (ds : List ℕ). 48 < get_or ds 0 0) (sym written)
+    (first_decimal n (omega (arith, some)) (omega (arith, le))))
   where
     by : (ds : List ℕ) → 48 < get_or ds 0 0 → is_plain ds ≡ true
     by [] lt = absurd (omega arith)
@@ -52,24 +57,28 @@ count_plain word n (written, some, le) =
         high false false h k = refl
 
 -- and is read
-pub count_written : {E : Type 0} (word : List ℕ) (r : Result ℕ E) (n : ℕ) → ParsesUnsigned 32 10 word r → IsCount n word → r ≡ Ok n
+pub count_written : {E : Type 0} (word : List ℕ) (r : Result ℕ E) (n : ℕ) → ParsesUnsigned 32 10 word r
+    → IsCount n word → r ≡ Ok n
 count_written word r n parsed (written, some, le) =
     parse-decimal 32 n word r (omega (arith, le)) (omega (arith, le)) written parsed
 
 -- ---- what `count_of` answers
 
-pub none_unplain : (word : List ℕ) → is_plain word ≡ false → (n : ℕ) → (◌≡◌ {A = Option ℕ} None (Some n)) ↔ IsCount n word
+pub none_unplain : (word : List ℕ) → is_plain word ≡ false → (n : ℕ)
+    → (◌≡◌ {A = Option ℕ} None (Some n)) ↔ IsCount n word
 none_unplain word unplain n =
     (λ is. absurd cc, λ counted. absurd (let yes : is_plain word ≡ true = count_plain word n counted in cc))
 
-pub some_read : {E : Type 0} (word : List ℕ) (r : Result ℕ E) (m : ℕ) → ParsesUnsigned 32 10 word r → is_plain word ≡ true
+pub some_read : {E : Type 0} (word : List ℕ) (r : Result ℕ E) (m : ℕ) → ParsesUnsigned 32 10 word r
+    → is_plain word ≡ true
     → r ≡ Ok m → m ≤ 100000 → (n : ℕ) → (◌≡◌ {A = Option ℕ} (Some m) (Some n)) ↔ IsCount n word
 some_read {E} word r m parsed plain is le n = (
   λ same. let one : m ≡ n = cc in subst (λ (k : ℕ). IsCount k word) one (count_read word r m parsed plain is le),
   λ counted. let both : ◌≡◌ {A = Result ℕ E} (Ok m) (Ok n) = sym is ∙ count_written word r n parsed counted in cc,
 )
 
-pub none_large : {E : Type 0} (word : List ℕ) (r : Result ℕ E) (m : ℕ) → ParsesUnsigned 32 10 word r → r ≡ Ok m → 100000 < m
+pub none_large : {E : Type 0} (word : List ℕ) (r : Result ℕ E) (m : ℕ) → ParsesUnsigned 32 10 word r → r ≡ Ok m
+    → 100000 < m
     → (n : ℕ) → (◌≡◌ {A = Option ℕ} None (Some n)) ↔ IsCount n word
 none_large {E} word r m parsed is large n = (
   λ same. absurd cc,
@@ -80,5 +89,8 @@ none_large {E} word r m parsed is large n = (
 
 pub none_unread : {E : Type 0} (word : List ℕ) (r : Result ℕ E) (e : E) → ParsesUnsigned 32 10 word r → r ≡ Err e
     → (n : ℕ) → (◌≡◌ {A = Option ℕ} None (Some n)) ↔ IsCount n word
-none_unread {E} word r e parsed is n =
-    (λ same. absurd cc, λ counted. absurd (let both : ◌≡◌ {A = Result ℕ E} (Err e) (Ok n) = sym is ∙ count_written word r n parsed counted in cc))
+none_unread {E} word r e parsed is n = (
+  λ same. absurd cc,
+  λ counted. absurd
+      (let both : ◌≡◌ {A = Result ℕ E} (Err e) (Ok n) = sym is ∙ count_written word r n parsed counted in cc),
+)

@@ -77,7 +77,8 @@ found_within (b ∷ bs) (u ∷ us) q k h = by (b && is_same u q) (found bs us q)
     by false (Some n) below is = let one : suc n ≡ k = cc in let lt : n < length bs = below n refl in omega arith
 
 -- a URL waits exactly if it is found
-pub found_waits : (bs : List Bool) (us : List Parts) (q : Parts) → is_some (found bs us q) ≡ waits_for serialize (marked bs us) q
+pub found_waits : (bs : List Bool) (us : List Parts) (q : Parts)
+    → is_some (found bs us q) ≡ waits_for serialize (marked bs us) q
 found_waits [] us q = refl
 found_waits (b ∷ bs) [] q = refl
 found_waits (false ∷ bs) (u ∷ us) q = some_suc (found bs us q) ∙ found_waits bs us q
@@ -125,7 +126,8 @@ first_within bs us firsts q f index is =
 
 -- a map's own clause on a change, by texts
 pub updated : (old new : List (Parts × First)) (url q : Parts) (w : Option First)
-    → at_url new q ≡ cond (is_at (url_cmp url) q) w (at_url old q) → at_url new q ≡ cond (is_same url q) w (at_url old q)
+    → at_url new q ≡ cond (is_at (url_cmp url) q) w (at_url old q)
+    → at_url new q ≡ cond (is_same url q) w (at_url old q)
 updated old new url q w h = rw (← is_at-url url q) h
 
 -- ---- a mark is taken away
@@ -137,7 +139,8 @@ marked_set [] us q k h = absurd cc
 marked_set (b ∷ bs) [] q k h = absurd cc
 marked_set (false ∷ bs) (u ∷ us) q k h = by (found bs us q) k (λ n is. marked_set bs us q n is) h
   where
-    by : (f : Option ℕ) (k : ℕ) → ((n : ℕ) → f ≡ Some n → marked (set bs n false) us ≡ settled serialize (marked bs us) q)
+    by : (f : Option ℕ) (k : ℕ)
+        → ((n : ℕ) → f ≡ Some n → marked (set bs n false) us ≡ settled serialize (marked bs us) q)
         → option_map suc f ≡ Some k → marked (set (false ∷ bs) k false) (u ∷ us) ≡ settled serialize (marked bs us) q
     by None k later is = absurd cc
     by (Some n) k later is = let one : suc n ≡ k = cc in rw (← one) (later n refl)
@@ -207,12 +210,14 @@ found_set (b ∷ bs) (u ∷ us) p q k h =
 
         there : (s : Bool) → is_same p q ≡ s
             → cond (b && is_same u q) (Some 0) (option_map suc (cond s (found_from (n + 1) bs us q) (found bs us q)))
-            ≡ cond s (found_from (suc n + 1) (b ∷ bs) (u ∷ us) q) (cond (b && is_same u q) (Some 0) (option_map suc (found bs us q)))
+            ≡ cond s (found_from (suc n + 1) (b ∷ bs) (u ∷ us) q)
+            (cond (b && is_same u q) (Some 0) (option_map suc (found bs us q)))
         there true i = rw (← same_both u p q i, h, two) (shift (found (drop (n + 1) bs) (drop (n + 1) us) q))
         there false i = refl
 
 -- where none is found there is none then
-none_set : (bs : List Bool) (us : List Parts) (q : Parts) (k : ℕ) → found bs us q ≡ None → found (set bs k false) us q ≡ None
+none_set : (bs : List Bool) (us : List Parts) (q : Parts) (k : ℕ) → found bs us q ≡ None
+    → found (set bs k false) us q ≡ None
 none_set [] us q k h = refl
 none_set (b ∷ bs) [] q zero h = refl
 none_set (b ∷ bs) [] q (suc k) h = refl
@@ -223,7 +228,8 @@ none_set (b ∷ bs) (u ∷ us) q zero h = by (b && is_same u q) (found bs us q) 
     by false f is = is
 none_set (b ∷ bs) (u ∷ us) q (suc k) h = by (b && is_same u q) (found bs us q) (λ is. none_set bs us q k is) h
   where
-    by : (t : Bool) (f : Option ℕ) → (f ≡ None → found (set bs k false) us q ≡ None) → cond t (Some 0) (option_map suc f) ≡ None
+    by : (t : Bool) (f : Option ℕ) → (f ≡ None → found (set bs k false) us q ≡ None)
+        → cond t (Some 0) (option_map suc f) ≡ None
         → cond t (Some 0) (option_map suc (found (set bs k false) us q)) ≡ None
     by true f later is = absurd cc
     by false None later is = rw (later refl) refl
@@ -244,15 +250,18 @@ none_set_from (suc m) (b ∷ bs) (u ∷ us) q (suc k) h = none_set_from m bs us 
 
 -- ---- the front
 
-passed_suc : (n : ℕ) (bs : List Bool) (d : Bool) → IsPassed n bs → n < length bs → get_or bs n d ≡ false → IsPassed (suc n) bs
+passed_suc : (n : ℕ) (bs : List Bool) (d : Bool) → IsPassed n bs → n < length bs → get_or bs n d ≡ false
+    → IsPassed (suc n) bs
 passed_suc zero [] d p lt is = absurd (omega arith)
 passed_suc zero (b ∷ bs) d p lt is = (is, tt)
 passed_suc (suc n) [] d p lt is = absurd (omega arith)
 passed_suc (suc n) (b ∷ bs) d p lt is = (p.0, passed_suc n bs d p.1 (omega (arith, lt)) is)
 
 -- one more is passed that isn't marked
-pub passed_more : (n : ℕ) (bs : List Bool) (d : Bool) → IsPassed n bs → n < length bs → get_or bs n d ≡ false → IsPassed (n + 1) bs
-passed_more n bs d p lt is = let one : suc n ≡ n + 1 = omega arith in subst (λ (m : ℕ). IsPassed m bs) one (passed_suc n bs d p lt is)
+pub passed_more : (n : ℕ) (bs : List Bool) (d : Bool) → IsPassed n bs → n < length bs → get_or bs n d ≡ false
+    → IsPassed (n + 1) bs
+passed_more n bs d p lt is = let one : suc n ≡ n + 1 = omega arith in
+    subst (λ (m : ℕ). IsPassed m bs) one (passed_suc n bs d p lt is)
 
 pub passed_set : (n : ℕ) (bs : List Bool) (k : ℕ) → IsPassed n bs → IsPassed n (set bs k false)
 passed_set zero bs k p = tt
@@ -266,7 +275,8 @@ passed_end (suc n) [] cs le p = absurd (omega arith)
 passed_end (suc n) (b ∷ bs) cs le p = (p.0, passed_end n bs cs (omega (arith, le)) p.1)
 
 -- what is passed isn't among the marked ones
-marked_passed : (n : ℕ) (bs : List Bool) (us : List Parts) → IsPassed n bs → marked bs us ≡ marked (drop n bs) (drop n us)
+marked_passed : (n : ℕ) (bs : List Bool) (us : List Parts) → IsPassed n bs
+    → marked bs us ≡ marked (drop n bs) (drop n us)
 marked_passed zero bs us p = refl
 marked_passed (suc n) [] us p = refl
 marked_passed (suc n) (b ∷ bs) [] p = empty (drop n bs)
@@ -278,7 +288,8 @@ marked_passed (suc n) (true ∷ bs) (u ∷ us) p = absurd (let no = p.0 in cc)
 marked_passed (suc n) (false ∷ bs) (u ∷ us) p = marked_passed n bs us p.1
 
 -- the oldest marked one is the next
-pub oldest_next : (n : ℕ) (bs : List Bool) (us : List Parts) → length bs ≡ length us → IsPassed n bs → IsNext (drop n bs)
+pub oldest_next : (n : ℕ) (bs : List Bool) (us : List Parts) → length bs ≡ length us → IsPassed n bs
+    → IsNext (drop n bs)
     → slice_get us n ≡ oldest (marked bs us)
 oldest_next n [] [] h p x = refl
 oldest_next n [] (u ∷ us) h p x = absurd (omega (arith, h))
@@ -346,7 +357,8 @@ module _ (us : List Parts) (bs : List Bool) (passed : ℕ) (firsts now : List (P
   first_more : (q : Parts) → option_map (λ f. f.at) (at_url now q) ≡ found (bs ++ true ∷ []) (us ++ u ∷ []) q
   first_more q = rw (put q, found_more bs us u q kept.even) (by (is_same u q) refl)
     where
-      here : (m : Option First) → option_map (λ f. f.at) m ≡ found bs us q → IfSome m (λ f. (first.at ≡ f.at) × (first.more ≡ true))
+      here : (m : Option First) → option_map (λ f. f.at) m ≡ found bs us q
+          → IfSome m (λ f. (first.at ≡ f.at) × (first.more ≡ true))
           → (m ≡ None → (first.at ≡ length us) × (first.more ≡ false))
           → Some first.at ≡ cond (is_some (found bs us q)) (found bs us q) (Some (length bs))
       here (Some f) is old none = rw (← is) (ap Some old.0)
@@ -369,7 +381,8 @@ module _ (us : List Parts) (bs : List Bool) (passed : ℕ) (firsts now : List (P
       here : (m : Option First) → at_url firsts u ≡ m → first ≡ f
           → found (drop (f.at + 1) (bs ++ true ∷ [])) (drop (f.at + 1) (us ++ u ∷ [])) q ≡ None
       here (Some old) same one =
-          let old_more : first.more ≡ true = (subst (λ (o : Option First). IfSome o (λ f. (first.at ≡ f.at) × (first.more ≡ true))) same known).1 in
+          let old_more : first.more ≡ true =
+          (subst (λ (o : Option First). IfSome o (λ f. (first.at ≡ f.at) × (first.more ≡ true))) same known).1 in
           let no : first.more ≡ false = ap (λ (x : First). x.more) one ∙ lone in absurd cc
       here None same one =
           let at : f.at ≡ length us = ap (λ (x : First). x.at) (sym one) ∙ (new same).0 in
@@ -395,7 +408,8 @@ module _ (us : List Parts) (bs : List Bool) (passed : ℕ) (firsts now : List (P
             found_more (drop (f.at + 1) bs) (drop (f.at + 1) us) u q even,
             same,
           )
-          (none_more (found (drop (f.at + 1) bs) (drop (f.at + 1) us) q) (length (drop (f.at + 1) bs)) (kept.index.alone q f there lone))
+          (none_more (found (drop (f.at + 1) bs) (drop (f.at + 1) us) q) (length (drop (f.at + 1) bs))
+          (kept.index.alone q f there lone))
 
   pub kept_more : IsKept (us ++ u ∷ []) (bs ++ true ∷ []) passed now
   kept_more = record {
@@ -407,7 +421,8 @@ module _ (us : List Parts) (bs : List Bool) (passed : ℕ) (firsts now : List (P
   }
 
 -- one is settled
-module _ (us : List Parts) (bs : List Bool) (passed : ℕ) (firsts now : List (Parts × First)) (url : Parts) (first : First)
+module _ (us : List Parts) (bs : List Bool) (passed : ℕ) (firsts now : List (Parts × First)) (url : Parts)
+    (first : First)
     (later : Option ℕ)
     (kept : IsKept us bs passed firsts)
     (is : at_url firsts url ≡ Some first)
@@ -420,7 +435,8 @@ module _ (us : List Parts) (bs : List Bool) (passed : ℕ) (firsts now : List (P
   first_less : (q : Parts) → option_map (λ f. f.at) (at_url now q) ≡ found (set bs first.at false) us q
   first_less q = rw (put q, found_set bs us url q first.at found_first) (by (is_same url q) refl)
     where
-      number : (l : Option ℕ) → option_map (λ (f : First). f.at) (option_map (λ n. record { at = n; more = true }) l) ≡ l
+      number : (l : Option ℕ)
+          → option_map (λ (f : First). f.at) (option_map (λ n. record { at = n; more = true }) l) ≡ l
       number None = refl
       number (Some n) = refl
 
@@ -428,7 +444,8 @@ module _ (us : List Parts) (bs : List Bool) (passed : ℕ) (firsts now : List (P
           → option_map (λ f. f.at) (cond s (option_map (λ n. record { at = n; more = true }) later) (at_url firsts q))
           ≡ cond s (found_from (first.at + 1) bs us q) (found bs us q)
       by true same = number later ∙ behind
-          ∙ ap (option_map (λ k. first.at + 1 + k)) (found_same (drop (first.at + 1) bs) (drop (first.at + 1) us) url q same)
+          ∙ ap (option_map (λ k. first.at + 1 + k))
+          (found_same (drop (first.at + 1) bs) (drop (first.at + 1) us) url q same)
       by false same = kept.index.first q
 
   alone_less : (q : Parts) (f : First) → at_url now q ≡ Some f → f.more ≡ false
@@ -437,7 +454,8 @@ module _ (us : List Parts) (bs : List Bool) (passed : ℕ) (firsts now : List (P
     where
       never : (l : Option ℕ) → option_map (λ n. record { at = n; more = true }) l ≡ Some f → ⊥
       never None h = cc
-      never (Some n) h = let more : true ≡ f.more = ap (λ (x : First). x.more) (let one : record { at = n; more = true } ≡ f = cc in one) in cc
+      never (Some n) h = let more : true ≡ f.more =
+          ap (λ (x : First). x.more) (let one : record { at = n; more = true } ≡ f = cc in one) in cc
 
       by : (s : Bool) → cond s (option_map (λ n. record { at = n; more = true }) later) (at_url firsts q) ≡ Some f
           → found (drop (f.at + 1) (set bs first.at false)) (drop (f.at + 1) us) q ≡ None

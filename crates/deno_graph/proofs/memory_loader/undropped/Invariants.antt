@@ -4,7 +4,7 @@ use Rattle.deno_graph.proofs.memory_loader.undropped.Given as goal
 
 abbrev pub invariant-loop-at : goal.invariant-loop-at
 invariant-loop-at l =
-    next_answered l.waiting.items (drop l.from l.arrival) ≡ next_answered l.waiting.items (drop l.at l.arrival)
+    next_answered l.requests.waiting (drop l.from l.arrival) ≡ next_answered l.requests.waiting (drop l.at l.arrival)
 
 abbrev pub decreases-loop-at : goal.decreases-loop-at
 decreases-loop-at l = length l.arrival - l.at

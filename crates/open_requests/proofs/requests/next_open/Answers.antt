@@ -7,5 +7,6 @@ loop-at-preserved c =
     let off : get_or c.args.marks.now c.loop-at.at false ≡ false = search rules in
     record {
       within = omega (arith, c.loop-at-test.true);
-      passed = passed_more c.loop-at.at c.args.marks.now false c.loop-at.invariant.passed (omega (arith, c.loop-at-test.true)) off;
+      passed = passed_more c.loop-at.at c.args.marks.now false c.loop-at.invariant.passed
+          (omega (arith, c.loop-at-test.true)) off;
     }

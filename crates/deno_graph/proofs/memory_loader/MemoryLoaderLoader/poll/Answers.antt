@@ -20,11 +20,10 @@ returns-in_default-clause-polled c =
       arrival = c.self.inside.arrival;
       next = c.turn-after.result.1;
       order = c.self.inside.order;
-      asked = c.self.inside.asked;
+      requests = c.self.inside.requests;
       log = c.self.inside.log;
-      waiting = c.self.inside.waiting;
       pending = c.saturating_add-self-inside.result;
-      standing = (c.len.result, c.len-in_default.result);
+      standing = (c.number_of.result, c.len.result);
     }) in
     let exact : IsPolled c.args.self.now (Ok Pending) later = search rules in
     rw (← c.self.view_is)
@@ -35,39 +34,40 @@ returns-in_default-clause-polled c =
 pub invariant_of-self-2 : goal.invariant_of-self-2
 invariant_of-self-2 c =
     let answered : option_copied c.turn-after.result.0
-    ≡ (next_answered c.self.inside.waiting.items (drop c.self.inside.next c.self.inside.arrival)).0 =
+    ≡ (next_answered c.self.inside.requests.waiting (drop c.self.inside.next c.self.inside.arrival)).0 =
     subst (λ (a : List Arrival). option_copied c.turn-after.result.0
-    ≡ (next_answered c.self.inside.waiting.items (drop c.self.inside.next a)).0) c.as_slice.ensures
+    ≡ (next_answered c.self.inside.requests.waiting (drop c.self.inside.next a)).0) c.as_slice.ensures
     c.turn-after.ensures.answered in
     let order : c.push-2.new.self.items ≡ c.self.inside.order.items ++ false ∷ [] = search rules in
-    kept_answer _ _ _ c.self.inside.next _ _ _ _ _ _ _ (c.in_ok-logged.logged, c.in_ok-kept.kept) c.in_ok-url.url
+    rw c.settle.ensures.asked
+    (kept_answer _ _ _ c.self.inside.next _ _ _ _ _ _ _ (c.in_ok-logged.logged, c.in_ok-kept.kept) c.in_ok-url.url
     c.self.invariant order c.in_ok-push.ensures.ok
-    (c.in_ok-logged.ensures.cases ∙ sym c.in_ok-url.ensures.cases) c.settle.ensures
-    (sym answered ∙ ap option_copied c.in-Some.is ∙ ap Some (sym c.in_ok-url.ensures.cases))
+    (c.in_ok-logged.ensures.cases ∙ sym c.in_ok-url.ensures.cases) c.settle.ensures.waiting
+    (sym answered ∙ ap option_copied c.in-Some.is ∙ ap Some (sym c.in_ok-url.ensures.cases)))
 
 pub returns-clause-exact : goal.returns-clause-exact
 returns-clause-exact c =
     let rest : drop c.turn-after.result.1 c.self.inside.arrival
-    ≡ (next_answered c.self.inside.waiting.items (drop c.self.inside.next c.self.inside.arrival)).1 =
+    ≡ (next_answered c.self.inside.requests.waiting (drop c.self.inside.next c.self.inside.arrival)).1 =
     subst (λ (a : List Arrival). drop c.turn-after.result.1 a
-    ≡ (next_answered c.self.inside.waiting.items (drop c.self.inside.next a)).1) c.as_slice.ensures
+    ≡ (next_answered c.self.inside.requests.waiting (drop c.self.inside.next a)).1) c.as_slice.ensures
     c.turn-after.ensures.rest in
     let answered : option_copied c.turn-after.result.0
-    ≡ (next_answered c.self.inside.waiting.items (drop c.self.inside.next c.self.inside.arrival)).0 =
+    ≡ (next_answered c.self.inside.requests.waiting (drop c.self.inside.next c.self.inside.arrival)).0 =
     subst (λ (a : List Arrival). option_copied c.turn-after.result.0
-    ≡ (next_answered c.self.inside.waiting.items (drop c.self.inside.next a)).0) c.as_slice.ensures
+    ≡ (next_answered c.self.inside.requests.waiting (drop c.self.inside.next a)).0) c.as_slice.ensures
     c.turn-after.ensures.answered in
     let given : c.in_ok-answer.answer ≡ module_answer c.self.inside.modules (text_of c.in_ok-url.url) =
     subst (λ (ms : List (Parts × LoadAnswer)). c.in_ok-answer.answer ≡ module_answer ms (text_of c.in_ok-url.url))
     c.as_slice-2.ensures c.in_ok-answer.ensures in
     let order : c.push-2.new.self.items ≡ c.self.inside.order.items ++ false ∷ [] = search rules in
-    rw (← c.self.view_is)
+    rw (← c.self.view_is, c.settle.ensures.asked)
     (polled_answer (the_view c.self.inside) c.in_ok-url.url c.in_ok-logged.logged c.in_ok-answer.answer
     c.in_ok-kept.kept (drop c.turn-after.result.1 c.self.inside.arrival)
-    c.push-2.new.self.items c.push.new.self c.settle.new.waiting.items
+    c.push-2.new.self.items c.push.new.self c.settle.new.requests.waiting
     (sym answered ∙ ap option_copied c.in-Some.is ∙ ap Some (sym c.in_ok-url.ensures.cases)) given
     rest order c.in_ok-push.ensures.ok (c.in_ok-logged.ensures.cases ∙ sym c.in_ok-url.ensures.cases)
-    c.in_ok-kept.ensures c.settle.ensures)
+    c.in_ok-kept.ensures c.settle.ensures.waiting)
 
 pub returns-clause-polled : goal.returns-clause-polled
 returns-clause-polled c =
@@ -78,9 +78,8 @@ returns-clause-polled c =
       arrival = c.self.inside.arrival;
       next = c.turn-after.result.1;
       order = c.push-2.new.self;
-      asked = c.self.inside.asked;
+      requests = c.settle.new.requests;
       log = c.push.new.self;
-      waiting = c.settle.new.waiting;
       pending = c.self.inside.pending;
       standing = c.self.inside.standing;
     }) in

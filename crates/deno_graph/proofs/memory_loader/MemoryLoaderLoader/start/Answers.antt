@@ -7,10 +7,9 @@ use Rattle.deno_graph.proofs.memory_loader.MemoryLoaderLoader.start.Goals as goa
 
 pub invariant_of-self-2 : goal.invariant_of-self-2
 invariant_of-self-2 c =
-    let order : c.push-2.new.self.items ≡ c.self.inside.order.items ++ true ∷ [] = search rules in
-    let asked : c.push.new.self ≡ c.self.inside.asked ++ c.args.specifier.now ∷ [] = search rules in
-    let waiting : c.push_back.new.self.items ≡ c.self.inside.waiting.items ++ c.args.specifier.now ∷ [] =
-    search rules in
+    let order : c.push.new.self.items ≡ c.self.inside.order.items ++ true ∷ [] = search rules in
+    let asked : c.ask.new.self.all ≡ c.self.inside.requests.all ++ c.args.specifier.now ∷ [] = search rules in
+    let waiting : c.ask.new.self.waiting ≡ c.self.inside.requests.waiting ++ c.args.specifier.now ∷ [] = search rules in
     kept_request _ _ _ _ _ _ _ _ _ _ c.args.specifier.now c.self.invariant order asked waiting
 
 pub returns-clause-started : goal.returns-clause-started
@@ -20,10 +19,9 @@ returns-clause-started c =
       places = c.self.inside.places;
       arrival = c.self.inside.arrival;
       next = c.self.inside.next;
-      order = c.push-2.new.self;
-      asked = c.push.new.self;
+      order = c.push.new.self;
+      requests = c.ask.new.self;
       log = c.self.inside.log;
-      waiting = c.push_back.new.self;
       pending = c.self.inside.pending;
       standing = c.self.inside.standing;
     }) c.args.specifier.now (Ok tt)

@@ -14,13 +14,15 @@ invariant_of-self-2 c =
     λ q. subst (λ (u : Parts). at_url c.insert.new.self.entries q
     ≡ cond (is_same u q) (Some c.with_one_more-first.result) (at_url c.self.inside.firsts.entries q))
     c.in_ok-key.ensures.cases
-    (updated c.self.inside.firsts.entries c.insert.new.self.entries c.in_ok-key.key q (Some c.with_one_more-first.result)
+    (updated c.self.inside.firsts.entries c.insert.new.self.entries c.in_ok-key.key q
+    (Some c.with_one_more-first.result)
     (c.in_ok-insert.ensures.updates.0 q)) in
     rw (all, marks)
     (kept_more c.self.inside.all.items c.self.inside.marks.items c.self.inside.passed c.self.inside.firsts.entries
     c.insert.new.self.entries c.args.url.now c.with_one_more-first.result c.self.invariant put
     c.with_one_more-first.ensures.known
-    (λ none. let new = c.with_one_more-first.ensures.new none in (new.0 ∙ ap length c.as_slice-number.ensures.value, new.1)))
+    (λ none. let new = c.with_one_more-first.ensures.new none in
+    (new.0 ∙ ap length c.as_slice-number.ensures.value, new.1)))
 
 pub returns-clause-waiting : goal.returns-clause-waiting
 returns-clause-waiting c =

@@ -9,4 +9,5 @@ returns c =
     let held = c.self.invariant in
     rw (← c.self.view_is)
     (c.request_at.ensures ∙ ap (λ (us : List Parts). slice_get us c.self.inside.passed) c.as_slice.ensures.value
-    ∙ oldest_next c.self.inside.passed c.self.inside.marks.items c.self.inside.all.items held.even held.passed held.next)
+    ∙ oldest_next c.self.inside.passed c.self.inside.marks.items c.self.inside.all.items held.even held.passed
+    held.next)

@@ -25,7 +25,8 @@ index_mut-requires c =
     let below : c.in-Some.first.at < length c.self.inside.marks.items =
     first_within c.self.inside.marks.items c.self.inside.all.items c.self.inside.firsts.entries c.args.url.now
     c.in-Some.first c.self.invariant.index is in
-    let same : length c.as_slice-2.result.now ≡ length c.self.inside.marks.items = ap length c.as_slice-2.ensures.value in
+    let same : length c.as_slice-2.result.now ≡ length c.self.inside.marks.items =
+    ap length c.as_slice-2.ensures.value in
     omega (arith, below, same, c.as_slice-2.ensures.len)
 
 pub next_open-self-inside-requires-clause-passed : goal.next_open-self-inside-requires-clause-passed
@@ -37,20 +38,23 @@ pub invariant_of-self : goal.invariant_of-self
 invariant_of-self c =
     let is : at_url c.self.inside.firsts.entries c.args.url.now ≡ Some c.in-Some.first = cc in
     let behind : c.later_one-later.result
-    ≡ found_from (c.in-Some.first.at + 1) c.self.inside.marks.items c.self.inside.all.items c.args.url.now = search rules in
+    ≡ found_from (c.in-Some.first.at + 1) c.self.inside.marks.items c.self.inside.all.items c.args.url.now =
+    search rules in
     let same = c.as_slice-3.ensures.value in
     kept_less c.self.inside.all.items c.self.inside.marks.items c.self.inside.passed c.self.inside.firsts.entries
     c.put_later.new.firsts.entries c.args.url.now c.in-Some.first c.later_one-later.result c.self.invariant is behind
     c.put_later.ensures c.next_open-self-inside.result
     (subst (λ (l : List Bool). c.next_open-self-inside.result ≤ length l) same c.next_open-self-inside.ensures.within)
     (subst (λ (l : List Bool). IsPassed c.next_open-self-inside.result l) same c.next_open-self-inside.ensures.passed)
-    (subst (λ (l : List Bool). IsNext (drop c.next_open-self-inside.result l)) same c.next_open-self-inside.ensures.next)
+    (subst (λ (l : List Bool). IsNext (drop c.next_open-self-inside.result l)) same
+    c.next_open-self-inside.ensures.next)
 
 pub returns-clause-waiting : goal.returns-clause-waiting
 returns-clause-waiting c =
     let is : at_url c.self.inside.firsts.entries c.args.url.now ≡ Some c.in-Some.first = cc in
     let behind : c.later_one-later.result
-    ≡ found_from (c.in-Some.first.at + 1) c.self.inside.marks.items c.self.inside.all.items c.args.url.now = search rules in
+    ≡ found_from (c.in-Some.first.at + 1) c.self.inside.marks.items c.self.inside.all.items c.args.url.now =
+    search rules in
     rw (← c.self.view_is)
     (marked_set c.self.inside.marks.items c.self.inside.all.items c.args.url.now c.in-Some.first.at
     (found_first c.self.inside.all.items c.self.inside.marks.items c.self.inside.passed c.self.inside.firsts.entries
