@@ -1,0 +1,2 @@
+-- chains, as far as they were dressed
+pub mod ChainLemmas
