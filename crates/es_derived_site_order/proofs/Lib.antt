@@ -1,0 +1,13 @@
+mod Given
+mod Sites
+mod Own
+mod Forms
+mod On
+mod Exprs
+mod Patterns
+mod Stmts
+mod Modules
+mod Build
+mod Kept
+mod AscendLemmas
+pub mod Theorems
