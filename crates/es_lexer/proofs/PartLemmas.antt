@@ -1,10 +1,10 @@
 -- Parts of names: where they end, and that they end there alone.
-use Rattle.std.proofs.Common.{◌≡◌, ℕ, zero, suc, ◌+◌, ◌<◌, ◌≤◌, Bool, true, false, not, ◌||◌, ◌==◌, List, [], ◌∷◌, ◌++◌, length, drop, refl, sym, ◌∙◌, ap, subst, arith, eq-eqb}
+use Rattle.std.proofs.Common.{◌≡◌, ℕ, zero, suc, ◌+◌, ◌<◌, ◌≤◌, Bool, true, false, not, ◌||◌, ◌==◌, List, [], ◌∷◌, ◌++◌, length, drop, get_or, refl, sym, ◌∙◌, ap, subst, arith, eq-eqb, eqb-true}
 use Rattle.std.proofs.lemmas.Bool.Decides.{nat_tests}
 use Rattle.es_spelling.specs.Units.{concat, AreUnits, units_end}
 use Rattle.es_wide.specs.Wide.{wide_size}
 use Rattle.es_wide.specs.Escapes.{escaped_start, escaped_part}
-use Rattle.es_spelling.proofs.UnitLemmas.{Within, Units, units, Step, step, passes_units, stops, ap2}
+use Rattle.es_spelling.proofs.UnitLemmas.{Within, Units, units, Step, step, passes_unit, passes_units, stops, ap2}
 use Rattle.es_wide.proofs.WideLemmas.{wide_local, wide_within, wide_more, wide_begins}
 use Rattle.es_wide.proofs.EscapeLemmas as escape
 use Rattle.es_lexer.specs.declared.bytes.First.TheVariants.{Start, Wide, Backslash}
@@ -134,6 +134,31 @@ pub word_stops : (at first : ℕ) (s text : List ℕ) → word_unit s ≡ 0
     → units_end word_unit at 0 s ≡ units_end word_unit first 0 text → at ≡ word_end first text
 unfolding word_end
 word_stops at first s text e p = sym (stops word_unit at s e) ∙ p
+
+-- a letter, a digit, `$` or `_` is passed over
+one_part : (b : ℕ) (after : List ℕ) (v : Bool) → (b == 92) ≡ v → is_part b ≡ true → word_unit (b ∷ after) ≡ 1
+unfolding word_unit part_unit
+one_part b after true p h =
+    let no : is_part 92 ≡ true = subst (λ (c : ℕ). is_part c ≡ true) (eqb-true b 92 p) h in absurd cc
+one_part b after false p h = rw (p, h) refl
+
+part_passed : (at b : ℕ) (after : List ℕ) → is_part b ≡ true → word_end at (b ∷ after) ≡ word_end (at + 1) after
+unfolding word_end
+part_passed at b after h =
+    passes_unit word_unit at (b ∷ []) after (one_part b after (b == 92) refl h) (omega arith)
+
+pub word_turn : (at first : ℕ) (s t text : List ℕ) (v : Bool) → 1 ≤ length s → v ≡ is_part (get_or s 0 0) → v ≡ true
+    → t ≡ drop 1 s → word_end at s ≡ word_end first text → word_end (at + 1) t ≡ word_end first text
+word_turn at first [] t text v l e p d w = absurd (omega arith)
+word_turn at first (b ∷ s) t text v l e p d w =
+    ap (word_end (at + 1)) d ∙ (sym (part_passed at b s (sym e ∙ p)) ∙ w)
+
+-- nothing is left
+pub word_done : (at first : ℕ) (s text : List ℕ) → length s < 1 → word_end at s ≡ word_end first text
+    → at ≡ word_end first text
+unfolding word_end word_unit
+word_done at first [] text l w = sym (stops word_unit at [] refl) ∙ w
+word_done at first (b ∷ s) text l w = absurd (omega arith)
 
 pub flags_stop : (at first : ℕ) (s text : List ℕ) → part_unit s ≡ 0
     → units_end part_unit at 0 s ≡ units_end part_unit first 0 text → at ≡ flags_end first text

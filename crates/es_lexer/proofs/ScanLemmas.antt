@@ -5,6 +5,7 @@ use Rattle.std.proofs.lemmas.List.{get_or_at, take_rest}
 use Rattle.std.proofs.lemmas.Str.{IsCharBoundary-before_ascii, IsCharBoundary-after_ascii, IsCharBoundary-end}
 use Rattle.es_lexer.specs.declared.bracket.BracketKind.{BracketKind}
 use Rattle.es_lexer.specs.declared.bracket.OpenBracket.{OpenBracket}
+use Rattle.es_lexer.specs.declared.bracket.Role.{Role}
 use Rattle.es_lexer.specs.declared.bytes.First.TheVariants.{Blank, LineEnd}
 use Rattle.es_lexer.specs.declared.goal.Goal.{Goal}
 use Rattle.es_lexer.specs.declared.goal.State.{State}
@@ -629,6 +630,55 @@ pub so_far_as : (x : List ℕ) (at : ℕ) (v w : State) (brackets : List OpenBra
 so_far_as x at v w brackets ts cs ds s p q =
     subst (λ (c : List Comment). SoFar x at w brackets ts c) (sym q)
     (subst (λ (m : State). SoFar x at m brackets ts cs) (sym p) s)
+
+-- a token that is told by its first bytes, and the blanks that follow it
+token_on : (x y : List ℕ) (at : ℕ) (state : State) (brackets : List OpenBracket) (ts : List Token)
+    (cs : List Comment) (goal : Goal) (bracket : Option BracketKind) (k : TokenKind) (end place : ℕ)
+    (opens : List OpenBracket) (us : List Token) (next : State) → IsUtf8 x → y ≡ x → SoFar x at state brackets ts cs
+    → bracket ≡ scan.innermost (reverse brackets) → goal ≡ goal_in state bracket
+    → look_at goal at (take (length y - at) (drop at y)) ≡ look.Token k end
+    → next ≡ token_state state k (scan.is_headed (scan.closed_of (role_of k) (reverse brackets)))
+    → us ≡ with_token k at end state.line (reverse brackets) ts
+    → reverse opens ≡ scan.pushed (role_of k) (length ts) state.headed (scan.left_of (role_of k) (reverse brackets))
+    → place ≡ blanks_end end (drop end y) → (at < place) × SoFar x place next opens us cs
+token_on x y at state brackets ts cs goal bracket k end place opens us next u w s b g e n q r p =
+    let after : TokenAfter x at state brackets ts cs k end =
+    advance_at x y at state brackets ts cs goal bracket (look.Token k end) u w s b g (sym e) in
+    let closed : Bool = scan.is_headed (scan.closed_of (role_of k) (reverse brackets)) in
+    let on : (at < place) × SoFar x place (token_state state k closed) opens us cs =
+    behind_piece x y at end place (token_state state k closed) opens us cs u w (settled_token state k closed)
+    after.forward (after.goes opens us closed refl q r) p in
+    (on.0, so_far_as x place (token_state state k closed) next opens us cs cs on.1 n refl)
+
+-- the same for a role that is told
+pub token_passed : (x y : List ℕ) (at : ℕ) (state : State) (brackets : List OpenBracket) (ts : List Token)
+    (cs : List Comment) (goal : Goal) (bracket : Option BracketKind) (k : TokenKind) (role : Role) (end place : ℕ)
+    (opens : List OpenBracket) (us : List Token) (next : State) → IsUtf8 x → y ≡ x → SoFar x at state brackets ts cs
+    → bracket ≡ scan.innermost (reverse brackets) → goal ≡ goal_in state bracket
+    → look_at goal at (take (length y - at) (drop at y)) ≡ look.Token k end → role ≡ role_of k
+    → next ≡ token_state state k (scan.is_headed (scan.closed_of role (reverse brackets)))
+    → us ≡ scan.joined (scan.closed_of role (reverse brackets)) (length ts) ts
+    ++ scan.token_with k (record { start = at; end = end }) state.line role (scan.closed_of role (reverse brackets))
+    ∷ []
+    → reverse opens ≡ scan.pushed role (length ts) state.headed (scan.left_of role (reverse brackets))
+    → place ≡ blanks_end end (drop end y) → (at < place) × SoFar x place next opens us cs
+token_passed x y at state brackets ts cs goal bracket k role end place opens us next u w s b g e h n q r p =
+    token_on x y at state brackets ts cs goal bracket k end place opens us next u w s b g e
+    (n ∙ ap (λ (v : Role). token_state state k (scan.is_headed (scan.closed_of v (reverse brackets)))) h)
+    (q ∙ ap (λ (v : Role). scan.joined (scan.closed_of v (reverse brackets)) (length ts) ts
+    ++ scan.token_with k (record { start = at; end = end }) state.line v (scan.closed_of v (reverse brackets)) ∷ []) h)
+    (r ∙ ap (λ (v : Role). scan.pushed v (length ts) state.headed (scan.left_of v (reverse brackets))) h) p
+
+-- such a token ends within the text
+pub token_within : (x y : List ℕ) (at : ℕ) (state : State) (brackets : List OpenBracket) (ts : List Token)
+    (cs : List Comment) (goal : Goal) (bracket : Option BracketKind) (k : TokenKind) (end : ℕ) → IsUtf8 x → y ≡ x
+    → SoFar x at state brackets ts cs → bracket ≡ scan.innermost (reverse brackets) → goal ≡ goal_in state bracket
+    → look_at goal at (take (length y - at) (drop at y)) ≡ look.Token k end → end ≤ length y
+token_within x y at state brackets ts cs goal bracket k end u w s b g e =
+    let after : TokenAfter x at state brackets ts cs k end =
+    advance_at x y at state brackets ts cs goal bracket (look.Token k end) u w s b g (sym e) in
+    let same : length y ≡ length x = ap length w in
+    omega (arith, after.within)
 
 -- the answer of a fault
 abbrev pub lexical_fault : LexicalKind → ℕ → Result Lexed LexError

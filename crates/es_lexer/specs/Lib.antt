@@ -14,3 +14,4 @@ pub mod Answers
 -- what the functions of the crate promise each other
 pub mod Look
 pub mod Scan
+pub mod Short

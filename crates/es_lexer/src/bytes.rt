@@ -1,4 +1,5 @@
 ghost use Rattle.std.specs.Prelude.{◌≡◌, ◌≤◌, length};
+ghost use Rattle.std.specs.Bool.{OnTrue};
 ghost use Rattle.es_lexer.specs.Bytes.{begins_backslash, begins_escape, begins_name, first_of, is_blank, is_part, is_start, joins, part_unit, word_unit};
 
 use es_wide::{escaped_part, escaped_start, wide_size};
@@ -59,7 +60,7 @@ pub fn is_blank(b: u8) -> bool
     matches!(b, b'\t' | 0x0B | 0x0C | b' ')
 }
 
-fn is_part(b: u8) -> bool
+pub fn is_part(b: u8) -> bool
     ensures { result ≡ is_part b }
 {
     matches!(b, b'a'..=b'z' | b'A'..=b'Z' | b'0'..=b'9' | b'$' | b'_')
@@ -102,6 +103,28 @@ pub fn word_unit(text: &[u8]) -> usize
                 0
             } else {
                 wide_size(text)
+            }
+        }
+    }
+}
+
+/// Whether an ASCII byte stands here that is no part of a name and begins none, or nothing.
+#[inline(always)]
+#[tactic(auto, unfolding(crate::specs::Bytes::word_unit, crate::specs::Bytes::part_unit))]
+pub fn ends_word(text: &[u8]) -> bool
+    ensures { OnTrue result (word_unit text.now ≡ 0) }
+{
+    match text {
+        [] => true,
+        [b, ..] => {
+            if is_part(*b) {
+                false
+            } else if *b == b'\\' {
+                false
+            } else if *b < 0x80 {
+                true
+            } else {
+                false
             }
         }
     }

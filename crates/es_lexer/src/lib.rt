@@ -14,6 +14,7 @@ mod error;
 mod goal;
 mod look;
 mod scan;
+mod short;
 mod signs;
 mod stack;
 mod words;

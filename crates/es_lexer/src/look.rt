@@ -2,14 +2,15 @@ ghost use Rattle.std.specs.Prelude.{◌≡◌, ◌+◌, ◌<◌, ◌≤◌, ◌^
 ghost use Rattle.std.specs.Bool.{OnTrue};
 ghost use Rattle.es_lexer.specs.Bytes.{begins_closer};
 ghost use Rattle.es_lexer.specs.Signs.{sign_at};
+ghost use Rattle.es_lexer.specs.Short.{word_found};
 ghost use Rattle.es_lexer.specs.Spelling.{number_kind};
 ghost use Rattle.es_lexer.specs.Stops.{backslash_fault};
 ghost use Rattle.es_lexer.specs.Look.{line_stop, blanks_end, word_end, flags_end, word_look, string_look, block_look, sign_look, template_look, number_stop, number_look, dot_look, brace_look, name_look, wide_look, backslash_look, hash_look, regexp_look, divide_look, slash_look, end_look, look_at};
 
 use crate::bracket::{BracketKind, is_open, may_close, role_of};
 use crate::bytes::{
-    First, begins_backslash, begins_escape, begins_name, first_of, is_blank, joins, part_unit,
-    word_unit,
+    First, begins_backslash, begins_escape, begins_name, ends_word, first_of, is_blank, is_part,
+    joins, part_unit, word_unit,
 };
 use crate::error::LexicalKind;
 use crate::goal::Goal;
@@ -46,6 +47,13 @@ pub enum Look {
         kind: LexicalKind,
         at: usize,
     },
+}
+
+/// A word, and the place behind it.
+#[derive(Clone, Copy)]
+pub struct Word {
+    pub kind: TokenKind,
+    pub end: usize,
 }
 
 /// What stands at `at`, at the front of `text`.
@@ -424,6 +432,28 @@ fn is_closer(b: u8, after: &[u8]) -> bool
     }
 }
 
+/// The word at `at`, where a letter, `$` or `_` stands at the front of `text`.
+#[inline(always)]
+#[tactic(auto, unfolding(crate::specs::Look::look_at, crate::specs::Look::class_look, crate::specs::Look::word_look))]
+pub fn short_word(goal: Goal, at: usize, text: &[u8]) -> Option<Word>
+    requires { at + length text.now < 2 ^ 64 }
+    ensures { IfSome result (λ word. look_at goal at text.now ≡ word_found word) }
+{
+    match text {
+        [] => None,
+        [b, ..] => match first_of(*b) {
+            First::Start => {
+                let end = word_end_from(at, text);
+                Some(Word {
+                    kind: kind_at(goal.member, &text[..end - at]),
+                    end,
+                })
+            }
+            _ => None,
+        },
+    }
+}
+
 #[tactic(auto, unfolding(crate::specs::Look::word_look))]
 fn word_from(member: bool, at: usize, text: &[u8]) -> Look
     requires { at + length text.now < 2 ^ 64 }
@@ -437,8 +467,43 @@ fn word_from(member: bool, at: usize, text: &[u8]) -> Look
 }
 
 /// The place behind the parts of a name that stand at `first`.
-#[tactic(auto, unfolding(crate::specs::Look::word_end))]
 fn word_end_from(first: usize, text: &[u8]) -> usize
+    requires { first + length text.now < 2 ^ 64 }
+    ensures value { result ≡ word_end first text.now }
+    ensures forward { first ≤ result }
+    ensures within { result ≤ first + length text.now }
+{
+    let mut at = first;
+    let mut rest = text;
+    while let [b, after @ ..] = rest {
+        if !is_part(*b) {
+            return behind_plain(at, rest);
+        }
+        rest = after;
+        at += 1;
+    }
+    at
+}
+
+/// The same, where no letter, digit, `$` or `_` is likely to stand at the front of the text.
+#[inline(always)]
+fn behind_plain(first: usize, text: &[u8]) -> usize
+    requires { first + length text.now < 2 ^ 64 }
+    ensures value { result ≡ word_end first text.now }
+    ensures forward { first ≤ result }
+    ensures within { result ≤ first + length text.now }
+{
+    if ends_word(text) {
+        first
+    } else {
+        parts_end_from(first, text)
+    }
+}
+
+/// The same, in general.
+#[inline(never)]
+#[tactic(auto, unfolding(crate::specs::Look::word_end))]
+fn parts_end_from(first: usize, text: &[u8]) -> usize
     requires { first + length text.now < 2 ^ 64 }
     ensures value { result ≡ word_end first text.now }
     ensures forward { first ≤ result }

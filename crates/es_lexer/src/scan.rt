@@ -11,8 +11,9 @@ ghost use Rattle.es_lexer.specs.Scan.{text_end, HasCommentText, comment_at};
 
 use crate::error::{LexError, LexicalError};
 use crate::goal::{State, blank_state, comment_state, goal_in, line_state, token_state};
-use crate::look::{Look, behind_blanks, look_from};
-use crate::stack::{innermost, push_token};
+use crate::look::{Look, behind_blanks, look_from, short_word};
+use crate::short::short_sign;
+use crate::stack::{innermost, push_short, push_token, push_word};
 use base::{Items, Range, Text};
 use es_token::{Comment, CommentKind, Lexed};
 use std::alloc::{AllocError, Global};
@@ -42,7 +43,27 @@ fn scan(alloc: Global, text: &str) -> Result<Lexed, LexError>
     let mut at = 0;
     let mut state = first_state();
     'pieces: loop {
-        match look_from(goal_in(state, innermost(&brackets)), at, &bytes[at..]) {
+        let goal = goal_in(state, innermost(&brackets));
+        let rest = &bytes[at..];
+        if let Some(word) = short_word(goal, at, rest) {
+            let range = Range {
+                start: at,
+                end: word.end,
+            };
+            state = push_word(&mut tokens, &mut brackets, state, word.kind, range)?;
+            at = behind_blanks(bytes, word.end);
+            continue;
+        }
+        if let Some(short) = short_sign(goal, rest) {
+            let range = Range {
+                start: at,
+                end: at + 1,
+            };
+            state = push_short(&mut tokens, &mut brackets, state, short, range)?;
+            at = behind_blanks(bytes, at + 1);
+            continue;
+        }
+        match look_from(goal, at, rest) {
             Look::End => return Ok(Lexed { tokens, comments }),
             Look::Blank { end } => {
                 state = blank_state(state);
