@@ -1,0 +1,18 @@
+use Rattle.es_dress.specs.Statements.{expression_at}
+use Rattle.es_dresser.specs.Ring.{parts_in}
+use Rattle.es_dresser.proofs.MadeLemmas.{optional_none, optional_made}
+use Rattle.es_dress_statements.proofs.statements.Statements.optional_expression.Goals as goal
+
+pub returns-then-is_absent : goal.returns-then-is_absent
+returns-then-is_absent g c =
+    let source = c.args.self.now.0.now.source in
+    optional_none (expression_at source.tokens.now) (parts_in source c.args.group.now)
+    (c.is_absent.ensures.none c.if-is_absent.true)
+
+pub returns : goal.returns
+returns g c =
+    let source = c.args.self.now.0.now.source in
+    let p = parts_in source c.args.group.now in
+    let one = expression_at source.tokens.now in
+    optional_made one p c.some.result (c.is_absent.ensures.some c.if-is_absent.false)
+    (c.some.ensures (one p 0) (c.boxed.ensures (one p 0) c.expression_at.ensures))

@@ -1,0 +1,5 @@
+use es_dresser::Dresser;
+
+/// What dresses statements and variables.
+#[derive(Clone, Copy)]
+pub struct Statements<'d, 'a, E, P, S>(pub &'d Dresser<'a, E, P, S>);
