@@ -8,7 +8,7 @@ ghost use Rattle.deno_graph.specs.Reach.{Specifier, has};
 ghost use Rattle.graph_bundle.specs.Bundle as spec;
 
 use crate::module::module_in;
-use crate::reading::{Reading, pointer, under};
+use crate::reading::{Reading, pointer, under, under_number};
 use base::{Items, Text};
 use deno_graph::LoadAnswer;
 use serde_json::Value;
@@ -71,7 +71,6 @@ fn numbered(
     ensures { (earlier : List Specifier) → ((q : List ℕ) → contains_text seen.now q ≡ has earlier q) →
         IfOk result (λ r. r ≡ under (decimal place) (spec.module_after earlier (view value.now))) }
 {
-    let number = format!(in alloc; "{place}")?;
     let reading = module_in(alloc, seen, value)?;
-    under(alloc, number.as_str(), reading)
+    under_number(alloc, place, reading)
 }

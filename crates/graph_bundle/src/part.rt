@@ -5,7 +5,7 @@ ghost use Rattle.serde_json.specs.View.{view};
 ghost use Rattle.url.specs.Parser.{parse_url};
 ghost use Rattle.graph_bundle.specs.Reading as spec;
 
-use crate::reading::{Reading, said, under};
+use crate::reading::{Reading, said, under_number};
 use base::{Items, Text};
 use serde_json::Value;
 use std::alloc::{AllocError, Global};
@@ -89,7 +89,6 @@ fn each<P: Part>(alloc: Global, values: &[Value]) -> Result<Reading<Items<P>>, A
 fn item<P: Part>(alloc: Global, place: usize, value: &Value) -> Result<Reading<P>, AllocError>
     ensures { IfOk result (λ r. r ≡ spec.under (decimal place) (P.says (view value.now))) }
 {
-    let number = format!(in alloc; "{place}")?;
     let reading = P::read(alloc, value)?;
-    under(alloc, number.as_str(), reading)
+    under_number(alloc, place, reading)
 }

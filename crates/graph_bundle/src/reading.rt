@@ -1,5 +1,5 @@
 //! Readings: what a value says, or the pointer to what is at fault.
-ghost use Rattle.std.specs.Prelude.{◌≡◌, IfOk};
+ghost use Rattle.std.specs.Prelude.{◌≡◌, IfOk, decimal};
 ghost use Rattle.graph_bundle.specs.Reading as spec;
 
 use base::Text;
@@ -15,6 +15,23 @@ pub fn said<T: Drop>(alloc: Global, there: Option<T>) -> Reading<T>
     match there {
         Some(value) => Ok(value),
         None => Err(Text::new(alloc)),
+    }
+}
+
+/// The reading of the value at a place of a list. Only a fault needs the place's number.
+pub fn under_number<T: Drop>(
+    alloc: Global,
+    place: usize,
+    reading: Reading<T>,
+) -> Result<Reading<T>, AllocError>
+    ensures { IfOk result (λ r. r ≡ spec.under (decimal place) reading) }
+{
+    match reading {
+        Ok(value) => Ok(Ok(value)),
+        Err(rest) => {
+            let number = format!(in alloc; "{place}")?;
+            Ok(Err(pointer(alloc, number.as_str(), rest.as_str())?))
+        }
     }
 }
 

@@ -1,5 +1,5 @@
 -- A graph over a log is the graph over the answers that the loader tells, since the log's answers are those.
-use Rattle.std.proofs.Common.{◌≡◌, refl, sym, ◌∙◌, ap, List, Option, Some, IsSome, None, Result, Ok, Err, IfOk, IfErr, subst, ℕ, ◌<◌, ◌≤◌, [], arith}
+use Rattle.std.proofs.Common.{◌≡◌, refl, sym, ◌∙◌, ap, List, Option, Some, IsSome, None, Result, Ok, Err, IfOk, IfErr, subst, ℕ, ◌<◌, [], arith}
 use Rattle.url.specs.Parts.{Parts}
 use Rattle.graph_entry.specs.declared.answer.LoadAnswer.{LoadAnswer}
 use Rattle.deno_graph.specs.declared.following.Following.{Following}

@@ -1,3 +1,4 @@
+pub mod SummaryLemmas
 pub mod MemoryLemmas
 pub mod TransferLemmas
 pub mod GraphLemmas

@@ -1,21 +1,25 @@
 -- What a run answers for an input, by what the input is.
-use Rattle.std.proofs.Common.{◌≡◌, ◌⊎◌, inl, inr, ◌∙◌, sym, ap, subst, ℕ, ◌+◌, ◌≤◌, Bool, true, List, length, Option, Some, None, Result, Ok, Err, IfSome, arith}
-use Rattle.std.specs.Prelude.{bytes_eq}
+use Rattle.std.proofs.Common.{refl, ◌≡◌, inl, inr, ◌∙◌, sym, ap, subst, ℕ, ◌≤◌, List, length, Option, Some, None, Result, Ok, Err, IfSome, arith}
 use Rattle.std.specs.Cmp.Lexicographic.{nat_list_eq_equiv}
 use Rattle.std.proofs.lemmas.List.{length-map}
 use Rattle.std.proofs.lemmas.Map.Made.{length-le_from_is_member}
 use Rattle.serde_json.specs.Data.{Data}
-use Rattle.url.specs.Parts.{Parts}
-use Rattle.graph_entry.specs.declared.entry.Entry.{Entry}
 use Rattle.graph_entry.specs.Specifier.{text_of}
 use Rattle.deno_graph.specs.Graph.{GraphData, members_of}
 use Rattle.graph_bundle.specs.declared.bundle.Bundle.{Bundle}
 use Rattle.graph_bundle.specs.Bundle.{bundle_of, IsJson}
 use Rattle.graph_run.specs.declared.status.Status.{Status}
-use Rattle.graph_run.specs.declared.status.Status.TheVariants.{Done, BuildRefused, BadInput, NoMemory}
-use Rattle.graph_run.specs.Transfer.{input_limit}
-use Rattle.graph_run.specs.Run.{IsDue, long, no_json, no_bundle, bundle, OfBundle, graph, large, IsInput, IsGraphOf, IsTooLarge, IsWithinLimit, IsRefused, IsLargeInput, IsSmallInput, Always}
-use Rattle.graph_run.specs.Steps.{IsWritten}
+use Rattle.graph_run.specs.declared.status.Status.TheVariants.{Done, BuildRefused, BadInput, ReadFault, WriteFault, NoMemory, Usage}
+use Rattle.graph_run.specs.Report.{report_of}
+use Rattle.graph_run.specs.Run.{IsDueOf, long, no_json, no_bundle, bundle, OfBundle, graph, large, IsInput, IsGraphOf, IsTooLarge, IsWithinLimit, IsRefused, IsLargeInput, IsSmallInput, Always, IsDueFor, IsDueForm, usage, Wrote, usage_line}
+use Rattle.graph_run.specs.Summary.{summary_of}
+use Rattle.graph_words.specs.declared.words.Form.{Form}
+use Rattle.graph_words.specs.declared.words.Form.TheVariants.{Build, Make, Sum}
+use Rattle.graph_words.specs.Words.{IsForm, IsNoForm}
+use Rattle.graph_words.proofs.Theorems.{one_form}
+use Rattle.made_bundle.specs.Made.{made_text}
+use Rattle.graph_run.specs.Steps.{IsWritten, IsVerdict}
+use Rattle.std.specs.Io.KnownBytes.{Appends}
 
 -- ---- a bundle is too large or within its limit
 
@@ -47,83 +51,208 @@ one_bundle input b c h k =
     let same : h.value ≡ k.value = one_value input h.value k.value h.json k.json in
     let both : ◌≡◌ {A = Result Bundle (List ℕ)} (Ok b) (Ok c) = sym h.says ∙ ap bundle_of same ∙ k.says in cc
 
--- for an input that is a bundle what is due is that of the bundle
-due_of : (input : List ℕ) (status : Status) (text : List ℕ) (b : Bundle) → IsInput input b → IsDue input status text
-    → OfBundle b status text
-due_of input status text b says (long lt _ _) = absurd (omega (arith, lt, says.within))
-due_of input status text b says (no_json _ never _ _) = absurd (never says.value says.json)
-due_of input status text b says (no_bundle _ value json at none _ _) =
-    let same : says.value ≡ value = one_value input says.value value says.json json in
-    let both : ◌≡◌ {A = Result Bundle (List ℕ)} (Ok b) (Err at) = sym says.says ∙ ap bundle_of same ∙ none in
-    absurd cc
-due_of input status text b says (bundle c also of) =
-    subst (λ (d : Bundle). OfBundle d status text) (one_bundle input c b also says) of
+module _ (told : GraphData → List ℕ) (input : List ℕ) (status : Status) (text : List ℕ) where
+  -- for an input that is a bundle what is due is that of the bundle
+  due_of : (b : Bundle) → IsInput input b → IsDueOf told input status text → OfBundle told b status text
+  due_of b says (long lt _ _) = absurd (omega (arith, lt, says.within))
+  due_of b says (no_json _ never _ _) = absurd (never says.value says.json)
+  due_of b says (no_bundle _ value json at none _ _) =
+      let same : says.value ≡ value = one_value input says.value value says.json json in
+      let both : ◌≡◌ {A = Result Bundle (List ℕ)} (Ok b) (Err at) = sym says.says ∙ ap bundle_of same ∙ none in
+      absurd cc
+  due_of b says (bundle c also of) =
+      subst (λ (d : Bundle). OfBundle told d status text) (one_bundle input c b also says) of
 
--- the line of a bad input, for a refused one
-refused_due : (input : List ℕ) (status : Status) (text : List ℕ) → IsRefused input → IsDue input status text
-    → status ≡ BadInput
-refused_due input status text refused (long _ is _) = is
-refused_due input status text refused (no_json _ _ is _) = is
-refused_due input status text refused (no_bundle _ _ _ _ _ is _) = is
-refused_due input status text refused (bundle b has _) = absurd (refused b has)
+  -- the line of a bad input, for a refused one
+  refused_due : IsRefused input → IsDueOf told input status text → status ≡ BadInput
+  refused_due refused (long _ is _) = is
+  refused_due refused (no_json _ _ is _) = is
+  refused_due refused (no_bundle _ _ _ _ _ is _) = is
+  refused_due refused (bundle b has _) = absurd (refused b has)
 
--- the refusal, where it is too large
-large_due : (input : List ℕ) (status : Status) (text : List ℕ) → IsLargeInput input → IsDue input status text
-    → status ≡ BuildRefused
-large_due input status text l due = by (due_of input status text l.bundle l.says due)
-  where
-    by : OfBundle l.bundle status text → status ≡ BuildRefused
-    by (graph g of is _) = absurd (too_large_none l.bundle g l.large of)
-    by (large _ is _) = is
+  -- the refusal, where it is too large
+  large_due : IsLargeInput input → IsDueOf told input status text → status ≡ BuildRefused
+  large_due l due = by (due_of l.bundle l.says due)
+    where
+      by : OfBundle told l.bundle status text → status ≡ BuildRefused
+      by (graph g of is _) = absurd (too_large_none l.bundle g l.large of)
+      by (large _ is _) = is
 
--- and else the report
-small_due : (input : List ℕ) (status : Status) (text : List ℕ) → IsSmallInput input → IsDue input status text
-    → status ≡ Done
-small_due input status text s due = by (due_of input status text s.bundle s.says due)
-  where
-    by : OfBundle s.bundle status text → status ≡ Done
-    by (graph g of is _) = is
-    by (large t is _) = absurd (not_both s.bundle t s.small)
+  -- and else what is told of the graph
+  pub small_due : IsSmallInput input → IsDueOf told input status text → status ≡ Done
+  small_due s due = by (due_of s.bundle s.says due)
+    where
+      by : OfBundle told s.bundle status text → status ≡ Done
+      by (graph g of is _) = is
+      by (large t is _) = absurd (not_both s.bundle t s.small)
 
 -- ---- what is answered
 
 -- what is due is answered, unless a write failed
+pub answered : (due : Status) (old new : Option (List ℕ)) (status : Status) (written : List ℕ) (failed fails : ℕ)
+    (result : Status)
+    → status ≡ due → IsWritten status written old new failed fails result
+    → (form_is : Type 0) (reads read : ℕ) → Always form_is reads read failed fails result due
+answered due old new status written failed fails result is (inl w) form_is reads read _ _ _ = inl (w.0 ∙ is)
+answered due old new status written failed fails result is (inr w) form_is reads read _ _ same =
+    absurd (omega (arith, w.2, same))
+
+-- for an input that has a fact
 as_due : (fact : List ℕ → Type 0) (due_status : Status) (input : Option (List ℕ)) (old new : Option (List ℕ))
     (status : Status) (text written : List ℕ)
     (failed fails : ℕ) (result : Status)
-    → ((bytes : List ℕ) → fact bytes → IsDue bytes status text → status ≡ due_status)
-    → IfSome input (λ bytes. IsDue bytes status text) → IsWritten status written old new failed fails result
-    → (form : Bool) (reads read : ℕ)
-    → IfSome input (λ bytes. fact bytes → Always form reads read failed fails result due_status)
-as_due fact due_status None old new status text written failed fails result says due w form reads read = tt
-as_due fact due_status (Some bytes) old new status text written failed fails result says due (inl w) form reads read =
-    λ holds _ _ _. inl (w.0 ∙ says bytes holds due)
-as_due fact due_status (Some bytes) old new status text written failed fails result says due (inr w) form reads read =
-    λ _ _ _ same. absurd (omega (arith, w.2, same))
+    → ((bytes : List ℕ) → fact bytes → IsDueOf report_of bytes status text → status ≡ due_status)
+    → IfSome input (λ bytes. IsDueOf report_of bytes status text) → IsWritten status written old new failed fails result
+    → (form_is : Type 0) (reads read : ℕ)
+    → IfSome input (λ bytes. fact bytes → Always form_is reads read failed fails result due_status)
+as_due fact due_status None old new status text written failed fails result says due w form_is reads read = tt
+as_due fact due_status (Some bytes) old new status text written failed fails result says due w form_is reads read =
+    λ holds. answered due_status old new status written failed fails result (says bytes holds due) w form_is reads read
 
-pub refused_written : (input : Option (List ℕ)) (old new : Option (List ℕ)) (status : Status) (text written : List ℕ)
-    (failed fails : ℕ) (result : Status)
-    → IfSome input (λ bytes. IsDue bytes status text) → IsWritten status written old new failed fails result
-    → (form : Bool) (reads read : ℕ)
-    → IfSome input (λ bytes. IsRefused bytes → Always form reads read failed fails result BadInput)
-refused_written input old new status text written failed fails result =
-    as_due IsRefused BadInput input old new status text written failed fails result
-    (λ bytes. refused_due bytes status text)
+module _ (input : Option (List ℕ)) (old new : Option (List ℕ)) (status : Status) (text written : List ℕ)
+    (failed fails : ℕ) (result : Status) (due : IfSome input (λ bytes. IsDueOf report_of bytes status text))
+    (w : IsWritten status written old new failed fails result) (form_is : Type 0) (reads read : ℕ) where
+  pub refused_written : IfSome input (λ bytes. IsRefused bytes → Always form_is reads read failed fails result BadInput)
+  refused_written =
+      as_due IsRefused BadInput input old new status text written failed fails result
+      (λ bytes. refused_due report_of bytes status text) due w form_is reads read
 
-pub large_written : (input : Option (List ℕ)) (old new : Option (List ℕ)) (status : Status) (text written : List ℕ)
-    (failed fails : ℕ) (result : Status)
-    → IfSome input (λ bytes. IsDue bytes status text) → IsWritten status written old new failed fails result
-    → (form : Bool) (reads read : ℕ)
-    → IfSome input (λ bytes. IsLargeInput bytes → Always form reads read failed fails result BuildRefused)
-large_written input old new status text written failed fails result =
-    as_due IsLargeInput BuildRefused input old new status text written failed fails result
-    (λ bytes. large_due bytes status text)
+  pub large_written : IfSome input
+      (λ bytes. IsLargeInput bytes → Always form_is reads read failed fails result BuildRefused)
+  large_written =
+      as_due IsLargeInput BuildRefused input old new status text written failed fails result
+      (λ bytes. large_due report_of bytes status text) due w form_is reads read
 
-pub small_written : (input : Option (List ℕ)) (old new : Option (List ℕ)) (status : Status) (text written : List ℕ)
-    (failed fails : ℕ) (result : Status)
-    → IfSome input (λ bytes. IsDue bytes status text) → IsWritten status written old new failed fails result
-    → (form : Bool) (reads read : ℕ)
-    → IfSome input (λ bytes. IsSmallInput bytes → Always form reads read failed fails result Done)
-small_written input old new status text written failed fails result =
-    as_due IsSmallInput Done input old new status text written failed fails result
-    (λ bytes. small_due bytes status text)
+  pub small_written : IfSome input (λ bytes. IsSmallInput bytes → Always form_is reads read failed fails result Done)
+  small_written =
+      as_due IsSmallInput Done input old new status text written failed fails result
+      (λ bytes. small_due report_of bytes status text) due w form_is reads read
+
+-- where the words are another form than these ones, nothing is claimed
+never_always : (fact : List ℕ → Type 0) (input : Option (List ℕ)) (form_is : Type 0) (reads read failed fails : ℕ)
+    (result due : Status)
+    → (form_is → ⊥) → IfSome input (λ bytes. fact bytes → Always form_is reads read failed fails result due)
+never_always fact None form_is reads read failed fails result due never = tt
+never_always fact (Some bytes) form_is reads read failed fails result due never = λ _ is. absurd (never is)
+
+-- ---- what was written, by the status
+
+pub wrote_due : (words : List (List ℕ)) (input old new : Option (List ℕ)) (status : Status) (text : List ℕ)
+    (failed fails : ℕ)
+    (result : Status)
+    → IsVerdict status → IsDueFor words input status text → IsWritten status text old new failed fails result
+    → Wrote words input old new result
+wrote_due words input old new status text failed fails result verdict due (inr w) =
+    subst (Wrote words input old new) (sym w.0) (status, text, due, w.1)
+wrote_due words input old new status text failed fails result verdict due (inl w) =
+    subst (Wrote words input old new) (sym w.0) (by status verdict due w.1)
+  where
+    by : (s : Status) → IsVerdict s → IsDueFor words input s text → Appends old new text → Wrote words input old new s
+    by Done v d a = (text, d, a)
+    by BuildRefused v d a = (text, d, a)
+    by BadInput v d a = (text, d, a)
+    by ReadFault v d a = absurd v
+    by WriteFault v d a = absurd v
+    by NoMemory v d a = absurd v
+    by Usage v d a = absurd v
+
+-- of words that are no form, the usage line
+pub wrote_usage : (words : List (List ℕ)) (input old new : Option (List ℕ)) (failed fails : ℕ) (result : Status)
+    → IsNoForm words → IsWritten Usage usage_line old new failed fails result → Wrote words input old new result
+wrote_usage words input old new failed fails result none (inl w) =
+    subst (Wrote words input old new) (sym w.0) (usage_line, usage none refl refl, w.1)
+wrote_usage words input old new failed fails result none (inr w) =
+    subst (Wrote words input old new) (sym w.0) (Usage, usage_line, usage none refl refl, w.1)
+
+-- ---- which status comes, by the form
+
+-- the words are no other form
+other_form : (words : List (List ℕ)) (f g : Form) → IsForm f words → (f ≡ g → ⊥) → IsForm g words → ⊥
+other_form words f g is apart also = apart (one_form f g words is also)
+
+module _ (words : List (List ℕ)) (f : Form) (is : IsForm f words) (input old new : Option (List ℕ)) (status : Status)
+    (text written : List ℕ) (failed fails : ℕ) (result : Status) (due : IsDueForm f input status text)
+    (w : IsWritten status written old new failed fails result) (reads read : ℕ) where
+  pub refused_for : IfSome input
+      (λ bytes. IsRefused bytes → Always (IsForm Build words) reads read failed fails result BadInput)
+  refused_for = by f is due
+    where
+      by : (g : Form) → IsForm g words → IsDueForm g input status text
+          → IfSome input (λ bytes. IsRefused bytes
+          → Always (IsForm Build words) reads read failed fails result BadInput)
+      by Build i d = refused_written input old new status text written failed fails result d w (IsForm Build words)
+          reads read
+      by (Make n) i d =
+          never_always IsRefused input (IsForm Build words) reads read failed fails result BadInput
+          (other_form words (Make n) Build i (λ e. cc))
+      by (Sum n) i d =
+          never_always IsRefused input (IsForm Build words) reads read failed fails result BadInput
+          (other_form words (Sum n) Build i (λ e. cc))
+
+  pub large_for : IfSome input
+      (λ bytes. IsLargeInput bytes → Always (IsForm Build words) reads read failed fails result BuildRefused)
+  large_for = by f is due
+    where
+      by : (g : Form) → IsForm g words → IsDueForm g input status text
+          → IfSome input (λ bytes. IsLargeInput bytes
+          → Always (IsForm Build words) reads read failed fails result BuildRefused)
+      by Build i d = large_written input old new status text written failed fails result d w (IsForm Build words) reads
+          read
+      by (Make n) i d =
+          never_always IsLargeInput input (IsForm Build words) reads read failed fails result BuildRefused
+          (other_form words (Make n) Build i (λ e. cc))
+      by (Sum n) i d =
+          never_always IsLargeInput input (IsForm Build words) reads read failed fails result BuildRefused
+          (other_form words (Sum n) Build i (λ e. cc))
+
+  pub small_for : IfSome input
+      (λ bytes. IsSmallInput bytes → Always (IsForm Build words) reads read failed fails result Done)
+  small_for = by f is due
+    where
+      by : (g : Form) → IsForm g words → IsDueForm g input status text
+          → IfSome input (λ bytes. IsSmallInput bytes → Always (IsForm Build words) reads read failed fails result Done)
+      by Build i d = small_written input old new status text written failed fails result d w (IsForm Build words) reads
+          read
+      by (Make n) i d =
+          never_always IsSmallInput input (IsForm Build words) reads read failed fails result Done
+          (other_form words (Make n) Build i (λ e. cc))
+      by (Sum n) i d =
+          never_always IsSmallInput input (IsForm Build words) reads read failed fails result Done
+          (other_form words (Sum n) Build i (λ e. cc))
+
+  pub made_for : (n : ℕ) → Always (IsForm (Make n) words) reads read failed fails result Done
+  made_for n = by f is due
+    where
+      by : (g : Form) → IsForm g words → IsDueForm g input status text
+          → Always (IsForm (Make n) words) reads read failed fails result Done
+      by Build i d = λ also. absurd (other_form words Build (Make n) i (λ e. cc) also)
+      by (Make m) i d = answered Done old new status written failed fails result d.0 w (IsForm (Make n) words) reads
+          read
+      by (Sum m) i d = λ also. absurd (other_form words (Sum m) (Make n) i (λ e. cc) also)
+
+  pub summed_for : (n : ℕ) → IsSmallInput (made_text n)
+      → Always (IsForm (Sum n) words) reads read failed fails result Done
+  summed_for n small = by f is due
+    where
+      by : (g : Form) → IsForm g words → IsDueForm g input status text
+          → Always (IsForm (Sum n) words) reads read failed fails result Done
+      by Build i d = λ also. absurd (other_form words Build (Sum n) i (λ e. cc) also)
+      by (Make m) i d = λ also. absurd (other_form words (Make m) (Sum n) i (λ e. cc) also)
+      by (Sum m) i d = λ also.
+          let same : Sum n ≡ Sum m = one_form (Sum n) (Sum m) words also i in
+          let one : n ≡ m = cc in
+          answered Done old new status written failed fails result
+          (small_due summary_of (made_text m) status text (subst (λ (k : ℕ). IsSmallInput (made_text k)) one small) d) w
+          (IsForm (Sum n) words) reads read also
+
+-- where words are no form nothing is claimed of one
+pub none_always : (words : List (List ℕ)) (g : Form) (reads read failed fails : ℕ) (result due : Status)
+    → IsNoForm words
+    → Always (IsForm g words) reads read failed fails result due
+none_always words g reads read failed fails result due none is = absurd (none g is)
+
+pub none_always_of : (fact : List ℕ → Type 0) (words : List (List ℕ)) (g : Form) (input : Option (List ℕ))
+    (reads read failed fails : ℕ) (result due : Status) → IsNoForm words
+    → IfSome input (λ bytes. fact bytes → Always (IsForm g words) reads read failed fails result due)
+none_always_of fact words g input reads read failed fails result due none =
+    never_always fact input (IsForm g words) reads read failed fails result due (none g)

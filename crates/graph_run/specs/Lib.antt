@@ -3,6 +3,8 @@ pub mod Transfer
 pub mod Status
 pub mod Memory
 pub mod Report
+pub mod Summary
 pub mod Run
 -- What the crate's functions promise each other.
+pub mod Telling
 pub mod Steps

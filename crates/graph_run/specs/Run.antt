@@ -1,5 +1,5 @@
 -- A whole run of the program: what is due for an input, and what was written.
-use Rattle.std.specs.Prelude.{◌≡◌, ℕ, ◌+◌, ◌<◌, ◌≤◌, Bool, true, false, List, [], ◌∷◌, ◌++◌, length, bytes_eq, codes, decimal, map, Option, Some, None, Ok, Err, IfSome, ◌⊎◌}
+use Rattle.std.specs.Prelude.{◌≡◌, ℕ, ◌+◌, ◌<◌, ◌≤◌, true, List, ◌++◌, length, bytes_eq, codes, decimal, map, Option, Ok, Err, IfSome, ◌⊎◌}
 use Rattle.std.specs.List.{IsDistinct}
 use Rattle.std.specs.Io.KnownBytes.{Appends, Keeps}
 use Rattle.serde_json.specs.Data.{Data}
@@ -16,17 +16,16 @@ use Rattle.graph_run.specs.declared.status.Status.TheVariants.{Done, BuildRefuse
 use Rattle.graph_run.specs.Transfer.{input_limit, TookPart}
 use Rattle.graph_bundle.specs.Bundle.{IsJson, bundle_of}
 use Rattle.graph_run.specs.Report.{report_of, line_end}
-
--- the words are the one form of the program
-abbrev pub is_form : List (List ℕ) → Bool
-is_form [] = false
-is_form (word ∷ []) = bytes_eq word (codes "build")
-is_form (word ∷ second ∷ more) = false
+use Rattle.graph_run.specs.Summary.{summary_of}
+use Rattle.graph_words.specs.Words.{IsForm, IsNoForm}
+use Rattle.graph_words.specs.declared.words.Form.{Form}
+use Rattle.graph_words.specs.declared.words.Form.TheVariants.{Build, Make, Sum}
+use Rattle.made_bundle.specs.Made.{made_text}
 
 -- ---- the lines of the refusals
 
 abbrev pub usage_line : List ℕ
-usage_line = codes "usage: graph_tool build" ++ line_end
+usage_line = codes "usage: graph_tool build | make N | sum N" ++ line_end
 
 abbrev pub too_long_line : List ℕ
 too_long_line = codes "error InputTooLong" ++ line_end
@@ -74,12 +73,12 @@ IsTooLarge bundle = HasMoreThan (bundle_rules bundle) (bundle_starts bundle) (te
 abbrev pub IsWithinLimit : Bundle → Type 0
 IsWithinLimit bundle = ReachesAtMost (bundle_rules bundle) (bundle_starts bundle) (tells bundle.modules) bundle.options.limit
 
--- what is due for a bundle
-pub data OfBundle (bundle : Bundle) (status : Status) (text : List ℕ) : Type 0 where
-  -- the report of its graph
-  graph : (graph : GraphData) → IsGraphOf bundle graph → status ≡ Done → text ≡ report_of graph → OfBundle bundle status text
+-- what is due for a bundle, where `told` is what is told of a graph
+pub data OfBundle (told : GraphData → List ℕ) (bundle : Bundle) (status : Status) (text : List ℕ) : Type 0 where
+  -- that of its graph
+  graph : (graph : GraphData) → IsGraphOf bundle graph → status ≡ Done → text ≡ told graph → OfBundle told bundle status text
   -- it is too large
-  large : IsTooLarge bundle → status ≡ BuildRefused → text ≡ too_many_line (bundle.options.limit + 1) → OfBundle bundle status text
+  large : IsTooLarge bundle → status ≡ BuildRefused → text ≡ too_many_line (bundle.options.limit + 1) → OfBundle told bundle status text
 
 -- the input is a JSON text of this bundle, and not too long
 pub record IsInput (input : List ℕ) (bundle : Bundle) : Type 0 where
@@ -89,39 +88,55 @@ pub record IsInput (input : List ℕ) (bundle : Bundle) : Type 0 where
   pub says : bundle_of value ≡ Ok bundle
 
 -- what is due for an input
-pub data IsDue (input : List ℕ) (status : Status) (text : List ℕ) : Type 0 where
+pub data IsDueOf (told : GraphData → List ℕ) (input : List ℕ) (status : Status) (text : List ℕ) : Type 0 where
   -- it is too long
-  long : input_limit < length input → status ≡ BadInput → text ≡ too_long_line → IsDue input status text
+  long : input_limit < length input → status ≡ BadInput → text ≡ too_long_line → IsDueOf told input status text
   -- else it is no JSON text
   no_json : length input ≤ input_limit → ((value : Data) → ¬ IsJson input value) → status ≡ BadInput → text ≡ not_json_line
-      → IsDue input status text
+      → IsDueOf told input status text
   -- else its value is no bundle: the pointer to the first thing for which it is none
   no_bundle : length input ≤ input_limit → (value : Data) → IsJson input value → (at : List ℕ) → bundle_of value ≡ Err at
-      → status ≡ BadInput → text ≡ no_bundle_line at → IsDue input status text
+      → status ≡ BadInput → text ≡ no_bundle_line at → IsDueOf told input status text
   -- what is due for its bundle
-  bundle : (bundle : Bundle) → IsInput input bundle → OfBundle bundle status text → IsDue input status text
+  bundle : (bundle : Bundle) → IsInput input bundle → OfBundle told bundle status text → IsDueOf told input status text
+
+-- the same where the report of a graph is told
+abbrev pub IsDue : List ℕ → Status → List ℕ → Type 0
+IsDue = IsDueOf report_of
+
+-- what is due for a form and an input: of `build` the report of the input's graph, where the input is told; of `make N` the bundle
+-- of N modules; of `sum N` the counts of that bundle's graph
+abbrev pub IsDueForm : Form → Option (List ℕ) → Status → List ℕ → Type 0
+IsDueForm Build input status text = IfSome input (λ bytes. IsDue bytes status text)
+IsDueForm (Make n) input status text = (status ≡ Done) × (text ≡ made_text n)
+IsDueForm (Sum n) input status text = IsDueOf summary_of (made_text n) status text
+
+-- what is due for words
+pub data IsDueFor (words : List (List ℕ)) (input : Option (List ℕ)) (status : Status) (text : List ℕ) : Type 0 where
+  -- they are no form
+  usage : IsNoForm words → status ≡ Usage → text ≡ usage_line → IsDueFor words input status text
+  -- they are this one
+  form : (form : Form) → IsForm form words → IsDueForm form input status text → IsDueFor words input status text
 
 -- ---- what was written and counted
 
--- the due text was written whole, where the input is told
-abbrev pub WroteDue : Option (List ℕ) → Option (List ℕ) → Option (List ℕ) → Status → Type 0
-WroteDue input old new status = IfSome input (λ bytes. (text : List ℕ) × IsDue bytes status text × Appends old new text)
+-- the due text was written whole
+abbrev pub WroteDue : List (List ℕ) → Option (List ℕ) → Option (List ℕ) → Option (List ℕ) → Status → Type 0
+WroteDue words input old new status = (text : List ℕ) × IsDueFor words input status text × Appends old new text
 
 -- a part from the front of the due text was written
-abbrev pub WrotePart : Bool → Option (List ℕ) → Option (List ℕ) → Option (List ℕ) → Type 0
-WrotePart false input old new = TookPart old new usage_line
-WrotePart true input old new =
-    IfSome input (λ bytes. (status : Status) × (text : List ℕ) × IsDue bytes status text × TookPart old new text)
+abbrev pub WrotePart : List (List ℕ) → Option (List ℕ) → Option (List ℕ) → Option (List ℕ) → Type 0
+WrotePart words input old new = (status : Status) × (text : List ℕ) × IsDueFor words input status text × TookPart old new text
 
--- What was written, by the status: the due text, nothing, or a part of what was due. `form` tells whether the words are the form.
-abbrev pub Wrote : Bool → Option (List ℕ) → Option (List ℕ) → Option (List ℕ) → Status → Type 0
-Wrote form input old new Done = WroteDue input old new Done
-Wrote form input old new BuildRefused = WroteDue input old new BuildRefused
-Wrote form input old new BadInput = WroteDue input old new BadInput
-Wrote form input old new ReadFault = Keeps old new
-Wrote form input old new WriteFault = WrotePart form input old new
-Wrote form input old new NoMemory = Keeps old new
-Wrote form input old new Usage = Appends old new usage_line
+-- what was written, by the status: the due text, nothing, or a part of what was due
+abbrev pub Wrote : List (List ℕ) → Option (List ℕ) → Option (List ℕ) → Option (List ℕ) → Status → Type 0
+Wrote words input old new Done = WroteDue words input old new Done
+Wrote words input old new BuildRefused = WroteDue words input old new BuildRefused
+Wrote words input old new BadInput = WroteDue words input old new BadInput
+Wrote words input old new ReadFault = Keeps old new
+Wrote words input old new WriteFault = WrotePart words input old new
+Wrote words input old new NoMemory = Keeps old new
+Wrote words input old new Usage = WroteDue words input old new Usage
 
 -- the count of failed reads rose exactly at `ReadFault`
 abbrev pub ReadsCounted : ℕ → ℕ → Status → Type 0
@@ -149,7 +164,7 @@ pub record IsSmallInput (input : List ℕ) : Type 0 where
   pub says : IsInput input bundle
   pub small : IsWithinLimit bundle
 
--- With the form as words, where no count of faults rose and memory sufficed, this is the status.
-abbrev pub Always : Bool → ℕ → ℕ → ℕ → ℕ → Status → Status → Type 0
-Always form reads_old reads_new writes_old writes_new result due =
-    form ≡ true → reads_new ≡ reads_old → writes_new ≡ writes_old → (result ≡ due) ⊎ (result ≡ NoMemory)
+-- with this form as words, where no count of faults rose and memory sufficed, this is the status
+abbrev pub Always : Type 0 → ℕ → ℕ → ℕ → ℕ → Status → Status → Type 0
+Always is_form reads_old reads_new writes_old writes_new result due =
+    is_form → reads_new ≡ reads_old → writes_new ≡ writes_old → (result ≡ due) ⊎ (result ≡ NoMemory)

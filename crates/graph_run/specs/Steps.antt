@@ -1,5 +1,5 @@
 -- What the crate's functions promise each other.
-use Rattle.std.specs.Prelude.{◌≡◌, ℕ, ◌+◌, Bool, true, false, List, [], ◌++◌, Option, Some, None, IsSome, ◌⊎◌, ◌<◌, String, string_bytes, ⊤}
+use Rattle.std.specs.Prelude.{◌≡◌, ℕ, ◌+◌, true, false, List, [], ◌∷◌, ◌++◌, Option, Some, None, IsSome, ◌⊎◌, ◌<◌, String, string_bytes, ⊤}
 use Rattle.deno_graph.specs.declared.error.BuildError.{BuildError}
 use Rattle.deno_graph.specs.declared.error.BuildError.TheVariants.{NotYet, TooManyModules, UnaskedAnswer, Finished, OutOfMemory}
 use Rattle.deno_graph.specs.Reach.{Specifier, Answers, Rules}
@@ -17,6 +17,10 @@ use Rattle.graph_run.specs.Run.{HasMoreThan}
 -- a text was put behind a string
 abbrev pub Adds : {A : Type 0} → String A → String A → List ℕ → Type 0
 Adds old new text = string_bytes new ≡ string_bytes old ++ text
+
+-- a text between quotes
+abbrev pub between_quotes : List ℕ → List ℕ
+between_quotes text = 34 ∷ (text ++ 34 ∷ [])
 
 -- nothing happened to the builder's loader yet, which tells how often it will wait and answers open requests alone; and the builder goes on
 pub record IsNew {L : Type 0} (seen : LoaderData) (b : Building L) : Type 0 where

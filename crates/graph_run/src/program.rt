@@ -1,57 +1,121 @@
 //! All that the program does, over a source and a sink.
-ghost use Rattle.std.specs.Prelude.{◌≡◌, ◌+◌, ◌⊎◌, ◌↔◌, true, false, map, IfSome, IfOk, IfErr, string_bytes, MatchResult};
+ghost use Rattle.std.specs.Prelude.{◌≡◌, ◌+◌, ◌≤◌, ◌⊎◌, ◌↔◌, ℕ, map, IfSome, IfOk, IfErr, string_bytes, MatchResult};
 ghost use Rattle.std.specs.Io.KnownBytes.{IsAtEnd};
-ghost use Rattle.graph_run.specs.Run.{is_form, Wrote, ReadsCounted, WritesCounted, IsRefused, IsLargeInput, IsSmallInput, Always, IsDue};
+ghost use Rattle.graph_words.specs.Words.{IsForm, IsNoForm, IsWithin};
+ghost use Rattle.graph_words.specs.declared.words.Form.TheVariants.{Build, Make, Sum};
+ghost use Rattle.made_bundle.specs.Made.{made_text};
+ghost use Rattle.graph_run.specs.Run.{Wrote, ReadsCounted, WritesCounted, IsRefused, IsLargeInput, IsSmallInput, Always, IsDue, IsDueOf, IsDueForm};
+ghost use Rattle.graph_run.specs.Summary.{summary_of};
 ghost use Rattle.graph_run.specs.Transfer.{input_limit, ReadAtMost};
 ghost use Rattle.graph_run.specs.Steps.{IsVerdict, IsStop, IsWritten};
 
 use crate::sink::Sink;
 use crate::source::Source;
 use crate::status::Status;
-use crate::transfer::{ReadError, read_all, write_all};
-use crate::verdict::{Due, due_for, refusal};
-use crate::words::is_build;
+use crate::transfer::{INPUT_LIMIT, ReadError, read_all, write_all};
+use crate::verdict::{Due, Telling, due_for, due_told, refusal};
+use graph_words::{Form, form_of};
+use made_bundle::make_bundle;
 use std::alloc::Global;
 
 /// Runs the program with the words behind its name. With `build` it reads a bundle from the source
-/// and writes the report of its graph, or the line of a refusal; other words get the usage line.
+/// and writes the report of its graph, or the line of a refusal. With `make N` it writes the bundle of N modules, with
+/// `sum N` the counts of its graph. Other words get the usage line.
 pub fn run<S: Source, K: Sink>(
     alloc: Global,
     words: &[String],
     source: &mut S,
     sink: &mut K,
 ) -> Status
-    // What was written; with `Done` it is the report of the bundle's graph, whole and nothing else.
-    ensures written { Wrote (is_form (map string_bytes words.now)) (S.left source.old) (K.taken sink.old)
-        (K.taken sink.new) result }
-    ensures ended { result ≡ Status.Done → IsAtEnd (S.left source.new) }
+    // What was written; with `Done` it is the text that is due for the words and the input, whole and nothing else.
+    ensures written { Wrote (map string_bytes words.now) (S.left source.old) (K.taken sink.old) (K.taken sink.new) result }
+    ensures ended { IsForm Build (map string_bytes words.now) → result ≡ Status.Done → IsAtEnd (S.left source.new) }
     // Why there is no report.
     ensures usage { (result ≡ Status.Usage) ↔
-        ((is_form (map string_bytes words.now) ≡ false) × (K.faults sink.new ≡ K.faults sink.old)) }
-    ensures unread { is_form (map string_bytes words.now) ≡ false → source.new ≡ source.old }
+        (IsNoForm (map string_bytes words.now) × (K.faults sink.new ≡ K.faults sink.old)) }
+    ensures unread { ¬ IsForm Build (map string_bytes words.now) → source.new ≡ source.old }
     ensures reads { ReadsCounted (S.faults source.old) (S.faults source.new) result }
     ensures writes { WritesCounted (K.faults sink.old) (K.faults sink.new) result }
-    ensures refused { IfSome (S.left source.old) (λ input. IsRefused input → Always (is_form (map string_bytes words.now))
+    ensures refused { IfSome (S.left source.old) (λ input. IsRefused input → Always (IsForm Build (map string_bytes words.now))
         (S.faults source.old) (S.faults source.new) (K.faults sink.old) (K.faults sink.new) result Status.BadInput) }
-    ensures large { IfSome (S.left source.old) (λ input. IsLargeInput input → Always (is_form (map string_bytes words.now))
+    ensures large { IfSome (S.left source.old) (λ input. IsLargeInput input → Always (IsForm Build (map string_bytes words.now))
         (S.faults source.old) (S.faults source.new) (K.faults sink.old) (K.faults sink.new) result Status.BuildRefused) }
     // And when there is one.
-    ensures complete { IfSome (S.left source.old) (λ input. IsSmallInput input → Always (is_form (map string_bytes words.now))
+    ensures complete { IfSome (S.left source.old) (λ input. IsSmallInput input → Always (IsForm Build (map string_bytes words.now))
         (S.faults source.old) (S.faults source.new) (K.faults sink.old) (K.faults sink.new) result Status.Done) }
+    ensures made { (n : ℕ) → Always (IsForm (Make n) (map string_bytes words.now))
+        (S.faults source.old) (S.faults source.new) (K.faults sink.old) (K.faults sink.new) result Status.Done }
+    ensures summed { (n : ℕ) → IsSmallInput (made_text n) → Always (IsForm (Sum n) (map string_bytes words.now))
+        (S.faults source.old) (S.faults source.new) (K.faults sink.old) (K.faults sink.new) result Status.Done }
     // Reading stops at the first byte too many.
     ensures stops { ReadAtMost (input_limit + 1) (S.left source.old) (S.left source.new) }
 {
-    if !is_build(words) {
-        return finish(sink, Status::Usage, "usage: graph_tool build\n");
-    }
-    match find_due(alloc, source) {
+    let Some(form) = form_of(words) else {
+        return finish(
+            sink,
+            Status::Usage,
+            "usage: graph_tool build | make N | sum N\n",
+        );
+    };
+    match find_due(alloc, form, source) {
         Ok(due) => finish(sink, due.status, due.text.as_str()),
         Err(status) => status,
     }
 }
 
+/// Finds what is due for a form.
+fn find_due<S: Source>(alloc: Global, form: Form, source: &mut S) -> Result<Due, Status>
+    requires { IsWithin form }
+    ensures due { IfOk result (λ due. IsDueForm form (S.left source.old) due.status (string_bytes due.text)) }
+    ensures verdict { IfOk result (λ due. IsVerdict due.status) }
+    ensures ended { form ≡ Build → IfOk result (λ due. due.status ≡ Status.Done → IsAtEnd (S.left source.new)) }
+    ensures unread { (form ≡ Build → ⊥) → source.new ≡ source.old }
+    ensures stopped { IfErr result IsStop }
+    ensures stops { ReadAtMost (input_limit + 1) (S.left source.old) (S.left source.new) }
+    ensures count { MatchResult result (λ _. S.faults source.new ≡ S.faults source.old)
+        (ReadsCounted (S.faults source.old) (S.faults source.new)) }
+{
+    match form {
+        Form::Build => read_due(alloc, source),
+        Form::Make(count) => made_due(alloc, count),
+        Form::Sum(count) => summed_due(alloc, count),
+    }
+}
+
+/// The bundle of so many modules.
+fn made_due(alloc: Global, count: u32) -> Result<Due, Status>
+    requires { count ≤ 100000 }
+    ensures due { IfOk result (λ due. (due.status ≡ Status.Done) × (string_bytes due.text ≡ made_text count)) }
+    ensures stopped { IfErr result (λ status. status ≡ Status.NoMemory) }
+{
+    match make_bundle(alloc, count) {
+        Ok(text) => Ok(Due {
+            status: Status::Done,
+            text,
+        }),
+        Err(_) => Err(Status::NoMemory),
+    }
+}
+
+/// The counts of that bundle's graph.
+fn summed_due(alloc: Global, count: u32) -> Result<Due, Status>
+    requires { count ≤ 100000 }
+    ensures due { IfOk result (λ due. IsDueOf summary_of (made_text count) due.status (string_bytes due.text)) }
+    ensures verdict { IfOk result (λ due. IsVerdict due.status) }
+    ensures stopped { IfErr result (λ status. status ≡ Status.NoMemory) }
+{
+    let Ok(text) = make_bundle(alloc, count) else {
+        return Err(Status::NoMemory);
+    };
+    let bytes = text.as_bytes();
+    if bytes.len() > INPUT_LIMIT {
+        return refusal(alloc, "error InputTooLong\n").map_err(|_| Status::NoMemory);
+    }
+    due_told(alloc, bytes, Telling::Counts).map_err(|_| Status::NoMemory)
+}
+
 /// Reads the source, and finds what is due for its bytes.
-fn find_due<S: Source>(alloc: Global, source: &mut S) -> Result<Due, Status>
+fn read_due<S: Source>(alloc: Global, source: &mut S) -> Result<Due, Status>
     ensures due { IfOk result (λ due. IfSome (S.left source.old)
         (λ input. IsDue input due.status (string_bytes due.text))) }
     ensures verdict { IfOk result (λ due. IsVerdict due.status) }

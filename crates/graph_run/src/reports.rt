@@ -6,12 +6,13 @@ ghost use Rattle.graph_entry.specs.Specifier.{text_of};
 ghost use Rattle.graph_run.specs.Report.{report_of, root_line, entry_lines, count_line, edge_line, edge_words, import_line, import_lines, state, package_words, registry_word, part_word, edges_of, kind_word, range_word, attribute_word, outcome, line_end};
 ghost use Rattle.graph_run.specs.Steps.{Adds};
 
+use crate::quoted::add_quoted;
 use base::{Items, Range, Text};
 use deno_graph::{
     Attribute, Dependency, DependencyKind, Entry, JsonModule, Module, ModuleGraph, PackageKind,
     PackageRef, ResolutionError,
 };
-use serde_json::Value;
+use itoa::Buffer;
 use std::alloc::{AllocError, Global};
 use url::Url;
 
@@ -24,7 +25,7 @@ pub fn report(alloc: Global, graph: &ModuleGraph) -> Result<String, AllocError>
     add_roots(&mut out, graph.roots())?;
     add_imports(alloc, &mut out, graph.referrer_imports())?;
     let count = add_entries(alloc, &mut out, graph)?;
-    add_count(alloc, &mut out, count)?;
+    add_count(&mut out, count)?;
     Ok(out)
 }
 
@@ -118,7 +119,7 @@ fn add_entry(
 }
 
 /// The edges of an entry, which only a module has.
-fn edges(entry: &Entry) -> &[Dependency]
+pub fn edges(entry: &Entry) -> &[Dependency]
     ensures { result.now ≡ edges_of entry.now }
 {
     match entry {
@@ -145,12 +146,12 @@ fn add_state(alloc: Global, out: &mut String, entry: &Entry) -> Result<(), Alloc
             out.push_str("module ")?;
             out.push_str(module.media_type.name())?;
             out.push_str(" ")?;
-            add_number(alloc, out, module.text.len())
+            add_number(out, module.text.len())
         }
-        Entry::Module(Module::Json(module)) => add_json(alloc, out, module),
+        Entry::Module(Module::Json(module)) => add_json(out, module),
         Entry::Module(Module::Wasm(module)) => {
             out.push_str("module Wasm ")?;
-            add_number(alloc, out, module.bytes.len())
+            add_number(out, module.bytes.len())
         }
         Entry::Package(named) => add_package(alloc, out, named),
         Entry::External => out.push_str("external"),
@@ -193,11 +194,11 @@ fn add_part(alloc: Global, out: &mut String, part: &Option<Text>) -> Result<(), 
     }
 }
 
-fn add_json(alloc: Global, out: &mut String, json: &JsonModule) -> Result<(), AllocError>
+fn add_json(out: &mut String, json: &JsonModule) -> Result<(), AllocError>
     ensures { OnOk result (Adds out.old out.new (codes "module Json " ++ decimal (length json.now.text))) }
 {
     out.push_str("module Json ")?;
-    add_number(alloc, out, json.text.len())
+    add_number(out, json.text.len())
 }
 
 fn add_edges(alloc: Global, out: &mut String, edges: &[Dependency]) -> Result<(), AllocError>
@@ -224,7 +225,7 @@ fn add_edge_words(alloc: Global, out: &mut String, edge: &Dependency) -> Result<
 {
     out.push_str(kind_name(edge.kind, edge.type_only))?;
     out.push_str(" ")?;
-    add_range(alloc, out, edge.range)?;
+    add_range(out, edge.range)?;
     out.push_str(" ")?;
     add_quoted(alloc, out, edge.text.as_str())?;
     out.push_str(" ")?;
@@ -251,15 +252,15 @@ fn kind_name(kind: DependencyKind, type_only: bool) -> &'static str
     }
 }
 
-fn add_range(alloc: Global, out: &mut String, range: Option<Range>) -> Result<(), AllocError>
+fn add_range(out: &mut String, range: Option<Range>) -> Result<(), AllocError>
     ensures { OnOk result (Adds out.old out.new (range_word range)) }
 {
     let Some(range) = range else {
         return out.push_str("-");
     };
-    add_number(alloc, out, range.start)?;
+    add_number(out, range.start)?;
     out.push_str("-")?;
-    add_number(alloc, out, range.end)
+    add_number(out, range.end)
 }
 
 fn add_attribute(alloc: Global, out: &mut String, attribute: &Attribute) -> Result<(), AllocError>
@@ -292,26 +293,17 @@ fn add_outcome(
 }
 
 #[tactic(auto, unfolding(crate::specs::Report::count_line))]
-fn add_count(alloc: Global, out: &mut String, count: usize) -> Result<(), AllocError>
+fn add_count(out: &mut String, count: usize) -> Result<(), AllocError>
     ensures { OnOk result (Adds out.old out.new (count_line count)) }
 {
     out.push_str("entries ")?;
-    add_number(alloc, out, count)?;
+    add_number(out, count)?;
     out.push_str("\n")
 }
 
-fn add_number(alloc: Global, out: &mut String, n: usize) -> Result<(), AllocError>
+pub fn add_number(out: &mut String, n: usize) -> Result<(), AllocError>
     ensures { OnOk result (Adds out.old out.new (decimal n)) }
 {
-    let digits = format!(in alloc; "{n}")?;
-    out.push_str(digits.as_str())
-}
-
-/// Adds the text as a JSON string.
-pub fn add_quoted(alloc: Global, out: &mut String, text: &str) -> Result<(), AllocError>
-    ensures { OnOk result (Adds out.old out.new (quoted text.now)) }
-{
-    let value = Value::String(String::from_str(alloc, text)?);
-    let quoted = value.to_string(alloc)?;
-    out.push_str(quoted.as_str())
+    let mut buffer = Buffer::new();
+    out.push_str(buffer.format(n))
 }

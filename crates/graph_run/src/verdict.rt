@@ -6,12 +6,15 @@ ghost use Rattle.graph_entry.specs.Referrer.{referred};
 ghost use Rattle.deno_graph.specs.Memory.{tells, data_of};
 ghost use Rattle.deno_graph.specs.Builder.{graph_rules, following_of, starts};
 ghost use Rattle.graph_run.specs.Transfer.{input_limit};
-ghost use Rattle.graph_run.specs.Report.{report_of};
-ghost use Rattle.graph_run.specs.Run.{IsDue, OfBundle, IsGraphOf, bundle_rules, bundle_starts, no_bundle_line, too_many_line};
+ghost use Rattle.graph_run.specs.Telling.{told_by};
+ghost use Rattle.graph_run.specs.Run.{IsDue, IsDueOf, OfBundle, IsGraphOf, bundle_rules, bundle_starts, no_bundle_line, too_many_line};
 ghost use Rattle.graph_run.specs.Steps.{IsNew, IsUnforced, SaysLarge};
 
-use crate::reports::{add_quoted, report};
+use crate::counts::summary;
+use crate::quoted::add_quoted;
+use crate::reports::report;
 use crate::status::Status;
+use base::Text;
 use deno_graph::{BuildError, GraphBuild, MemoryLoader, ModuleGraph};
 use graph_bundle::{Bundle, BundleFault, read_bundle};
 use std::alloc::{AllocError, Global};
@@ -23,25 +26,42 @@ pub struct Due {
     pub text: String,
 }
 
-/// What is due for an input that is not too long.
+/// What is told of a graph.
+#[derive(Clone, Copy)]
+pub enum Telling {
+    /// Its report.
+    Report,
+    /// How many entries, edges and faults it has.
+    Counts,
+}
+
+/// What is due for an input that is not too long: the report of its graph.
 pub fn due_for(alloc: Global, bytes: &[u8]) -> Result<Due, AllocError>
     requires { length bytes.now ≤ input_limit }
     ensures { IfOk result (λ due. IsDue bytes.now due.status (string_bytes due.text)) }
 {
+    due_told(alloc, bytes, Telling::Report)
+}
+
+/// The same, where something else may be told of its graph.
+pub fn due_told(alloc: Global, bytes: &[u8], telling: Telling) -> Result<Due, AllocError>
+    requires { length bytes.now ≤ input_limit }
+    ensures { IfOk result (λ due. IsDueOf (told_by telling) bytes.now due.status (string_bytes due.text)) }
+{
     match read_bundle(alloc, bytes) {
-        Ok(bundle) => due_for_bundle(alloc, bundle),
+        Ok(bundle) => due_for_bundle(alloc, bundle, telling),
         Err(BundleFault::NotJson) => refusal(alloc, "error NotJson\n"),
-        Err(BundleFault::Pointer(at)) => no_bundle(alloc, at.as_str()),
+        Err(BundleFault::Pointer(at)) => no_bundle(alloc, at),
         Err(BundleFault::OutOfMemory) => Err(AllocError),
     }
 }
 
 /// That the first thing at fault stands at this pointer.
-fn no_bundle(alloc: Global, at: &str) -> Result<Due, AllocError>
-    ensures { IfOk result (λ due. (due.status ≡ Status.BadInput) × (string_bytes due.text ≡ no_bundle_line at.now)) }
+fn no_bundle(alloc: Global, at: Text) -> Result<Due, AllocError>
+    ensures { IfOk result (λ due. (due.status ≡ Status.BadInput) × (string_bytes due.text ≡ no_bundle_line at)) }
 {
     let mut text = String::from_str(alloc, "error Bundle ")?;
-    add_quoted(alloc, &mut text, at)?;
+    add_quoted(alloc, &mut text, at.as_str())?;
     text.push_str("\n")?;
     Ok(Due {
         status: Status::BadInput,
@@ -60,12 +80,12 @@ pub fn refusal(alloc: Global, line: &str) -> Result<Due, AllocError>
 }
 
 /// What is due for a bundle.
-fn due_for_bundle(alloc: Global, bundle: Bundle) -> Result<Due, AllocError>
+fn due_for_bundle(alloc: Global, bundle: Bundle, telling: Telling) -> Result<Due, AllocError>
     requires { IsUnforced bundle }
-    ensures { IfOk result (λ due. OfBundle bundle due.status (string_bytes due.text)) }
+    ensures { IfOk result (λ due. OfBundle (told_by telling) bundle due.status (string_bytes due.text)) }
 {
     match build(alloc, bundle) {
-        Ok(graph) => done(alloc, &graph),
+        Ok(graph) => done(alloc, &graph, telling),
         Err(BuildError::TooManyModules { seen }) => too_large(alloc, seen),
         Err(BuildError::OutOfMemory) => Err(AllocError),
         Err(BuildError::NotYet) => unreachable!(),
@@ -74,13 +94,22 @@ fn due_for_bundle(alloc: Global, bundle: Bundle) -> Result<Due, AllocError>
     }
 }
 
-fn done(alloc: Global, graph: &ModuleGraph) -> Result<Due, AllocError>
-    ensures { IfOk result (λ due. (due.status ≡ Status.Done) × (string_bytes due.text ≡ report_of graph.now)) }
+fn done(alloc: Global, graph: &ModuleGraph, telling: Telling) -> Result<Due, AllocError>
+    ensures { IfOk result (λ due. (due.status ≡ Status.Done) × (string_bytes due.text ≡ told_by telling graph.now)) }
 {
     Ok(Due {
         status: Status::Done,
-        text: report(alloc, graph)?,
+        text: told_text(alloc, graph, telling)?,
     })
+}
+
+fn told_text(alloc: Global, graph: &ModuleGraph, telling: Telling) -> Result<String, AllocError>
+    ensures { IfOk result (λ text. string_bytes text ≡ told_by telling graph.now) }
+{
+    match telling {
+        Telling::Report => report(alloc, graph),
+        Telling::Counts => summary(alloc, graph),
+    }
 }
 
 fn too_large(alloc: Global, seen: usize) -> Result<Due, AllocError>

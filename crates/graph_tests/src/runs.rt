@@ -59,6 +59,27 @@ const RUNS: &[(&str, &str)] = &[
     ),
 ];
 
+const MADE: &str =
+    r#"0 {"limit":2,"modules":[{"specifier":"file:///m/0.ts","text":"import \"./1.ts\";\nexport const v0 = 0;\n"},{"specifier":"file:///m/1.ts","text":"import(\"./0.ts\");\nexport const v1 = 1;\n"}],"roots":["file:///m/0.ts"]}
+"#;
+
+const USAGE: &str = "64 usage: graph_tool build | make N | sum N\n";
+
+/// A word, the number behind it, and the status with what is written.
+const FORMS: &[(&str, &str, &str)] = &[
+    ("make", "2", MADE),
+    ("make", "0", USAGE),
+    ("make", "02", USAGE),
+    ("make", "+2", USAGE),
+    ("make", "", USAGE),
+    ("make", "2 ", USAGE),
+    ("make", "100001", USAGE),
+    ("sum", "100001", USAGE),
+    ("sum", "99999999999999999999", USAGE),
+    ("build", "2", USAGE),
+    ("Make", "2", USAGE),
+];
+
 /// A size of the input, the status with what is written, and how many bytes are left unread.
 const SIZES: &[(usize, &str, usize)] = &[
     (16_777_216, "0 entries 0\n", 0),
@@ -124,11 +145,24 @@ fn refused(rt: &impl Abort, alloc: Global, words: &[&str], room: usize) -> (Stri
 fn runs_with_other_words_or_no_room(rt: HostRuntime) {
     let alloc = rt.alloc();
     let (got, left) = refused(&rt, alloc, &["build", "x"], 100);
-    assert_eq!(rt; got.as_str(), "64 usage: graph_tool build\n");
+    assert_eq!(rt;
+        got.as_str(),
+        "64 usage: graph_tool build | make N | sum N\n"
+    );
     assert_eq!(rt; left, ROW.len());
     let (got, left) = refused(&rt, alloc, &["run", "x"], 5);
     assert_eq!(rt; got.as_str(), "4 usage");
     assert_eq!(rt; left, ROW.len());
+}
+
+#[test]
+fn runs_of_forms_with_a_number(rt: HostRuntime) {
+    let alloc = rt.alloc();
+    for (word, number, want) in FORMS {
+        let (got, left) = refused(&rt, alloc, &[*word, *number], 1000);
+        assert_eq!(rt; got.as_str(), *want, "{word} {number}");
+        assert_eq!(rt; left, ROW.len(), "{word} {number}");
+    }
 }
 
 #[test]

@@ -1,5 +1,5 @@
 -- Each read gives the next bytes; a read of nothing ends the source.
-use Rattle.std.proofs.Common.{◌≡◌, ◌≤◌, ◌+◌, ℕ, length, vec_len, ◌∙◌, refl, sym, arith}
+use Rattle.std.proofs.Common.{◌+◌, ◌∙◌, refl, arith}
 use Rattle.std.proofs.lemmas.List.{length-take}
 use Rattle.std.proofs.KnownBytes.{Consumes-nil, Keeps-refl}
 use Rattle.graph_run.specs.Transfer.{input_limit}

@@ -1,4 +1,4 @@
-use Rattle.std.proofs.Common.{◌≤◌, length, arith}
+use Rattle.std.proofs.Common.{length, arith}
 use Rattle.graph_run.proofs.TransferLemmas.{ReadAtMost-read}
 use Rattle.graph_run.proofs.transfer.read_part.Goals as goal
 

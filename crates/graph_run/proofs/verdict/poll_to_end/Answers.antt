@@ -1,5 +1,5 @@
 -- The builder's clauses, over what its loader tells.
-use Rattle.std.proofs.Common.{rules, ap, subst, ◌∙◌, sym}
+use Rattle.std.proofs.Common.{rules, subst, ◌∙◌}
 use Rattle.std.specs.Prelude.{IfOk, IfErr}
 use Rattle.deno_graph.specs.declared.following.Following.{Following}
 use Rattle.deno_graph.specs.Rules.{rules_of}
@@ -7,7 +7,7 @@ use Rattle.deno_graph.specs.Graph.{IsGraph}
 use Rattle.deno_graph.specs.Builder.{starts}
 use Rattle.deno_graph.specs.Memory.{tells}
 use Rattle.graph_run.specs.Steps.{SaysLarge}
-use Rattle.graph_run.proofs.GraphLemmas.{built_graph, refused_large, settled_none, fewer_waits, stays_told}
+use Rattle.graph_run.proofs.GraphLemmas.{built_graph, refused_large, settled_none}
 use Rattle.graph_run.proofs.verdict.poll_to_end.Goals as goal
 
 pub returns-then-not-is_not_yet-clause-graph : goal.returns-then-not-is_not_yet-clause-graph

@@ -3,7 +3,7 @@ use Rattle.std.proofs.Common.{ap, Err}
 use Rattle.graph_run.specs.Run.{bundle, no_bundle}
 use Rattle.graph_bundle.proofs.BundleLemmas.{bundle_unforced}
 use Rattle.graph_bundle.proofs.ReadingLemmas.{IfOk-map}
-use Rattle.graph_run.proofs.verdict.due_for.Goals as goal
+use Rattle.graph_run.proofs.verdict.due_told.Goals as goal
 
 pub due_for_bundle-requires : goal.due_for_bundle-requires
 due_for_bundle-requires c = bundle_unforced _ _ c.in-Ok.ensures.bundle.2
@@ -19,5 +19,6 @@ pub returns-in-Err-Pointer : goal.returns-in-Err-Pointer
 returns-in-Err-Pointer c =
     let at = c.in-Err-Pointer.at in
     let (value, json, none) = c.in-Err-Pointer.ensures.pointer at (ap Err c.in-Err-Pointer.field-0-is) in
-    IfOk-map c.no_bundle.result _ _ (λ due d. no_bundle c.requires value json at none d.0 (rw c.as_str.ensures at d.1))
+    IfOk-map c.no_bundle.result _ _
+    (λ due d. no_bundle c.requires value json at none d.0 (rw c.in-Err-Pointer.field-0-is at d.1))
     c.no_bundle.ensures
