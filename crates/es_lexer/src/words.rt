@@ -28,20 +28,40 @@ fn kind_of_word(word: &[u8]) -> TokenKind
 fn two_letters(word: &[u8]) -> TokenKind
     ensures { result ≡ kind_in words_of_two word.now }
 {
-    if word == b"as".as_slice() {
-        TokenKind::AsWord
-    } else if word == b"do".as_slice() {
-        TokenKind::DoWord
-    } else if word == b"if".as_slice() {
-        TokenKind::IfWord
-    } else if word == b"in".as_slice() {
-        TokenKind::InWord
-    } else if word == b"is".as_slice() {
-        TokenKind::IsWord
-    } else if word == b"of".as_slice() {
-        TokenKind::OfWord
-    } else {
-        TokenKind::Name
+    match word {
+        [b'a', ..] => {
+            if word == b"as".as_slice() {
+                TokenKind::AsWord
+            } else {
+                TokenKind::Name
+            }
+        }
+        [b'd', ..] => {
+            if word == b"do".as_slice() {
+                TokenKind::DoWord
+            } else {
+                TokenKind::Name
+            }
+        }
+        [b'i', ..] => {
+            if word == b"if".as_slice() {
+                TokenKind::IfWord
+            } else if word == b"in".as_slice() {
+                TokenKind::InWord
+            } else if word == b"is".as_slice() {
+                TokenKind::IsWord
+            } else {
+                TokenKind::Name
+            }
+        }
+        [b'o', ..] => {
+            if word == b"of".as_slice() {
+                TokenKind::OfWord
+            } else {
+                TokenKind::Name
+            }
+        }
+        _ => TokenKind::Name,
     }
 }
 
@@ -49,26 +69,71 @@ fn two_letters(word: &[u8]) -> TokenKind
 fn three_letters(word: &[u8]) -> TokenKind
     ensures { result ≡ kind_in words_of_three word.now }
 {
-    if word == b"any".as_slice() {
-        TokenKind::AnyWord
-    } else if word == b"for".as_slice() {
-        TokenKind::ForWord
-    } else if word == b"get".as_slice() {
-        TokenKind::GetWord
-    } else if word == b"let".as_slice() {
-        TokenKind::LetWord
-    } else if word == b"new".as_slice() {
-        TokenKind::NewWord
-    } else if word == b"out".as_slice() {
-        TokenKind::OutWord
-    } else if word == b"set".as_slice() {
-        TokenKind::SetWord
-    } else if word == b"try".as_slice() {
-        TokenKind::TryWord
-    } else if word == b"var".as_slice() {
-        TokenKind::VarWord
-    } else {
-        TokenKind::Name
+    match word {
+        [b'a', ..] => {
+            if word == b"any".as_slice() {
+                TokenKind::AnyWord
+            } else {
+                TokenKind::Name
+            }
+        }
+        [b'f', ..] => {
+            if word == b"for".as_slice() {
+                TokenKind::ForWord
+            } else {
+                TokenKind::Name
+            }
+        }
+        [b'g', ..] => {
+            if word == b"get".as_slice() {
+                TokenKind::GetWord
+            } else {
+                TokenKind::Name
+            }
+        }
+        [b'l', ..] => {
+            if word == b"let".as_slice() {
+                TokenKind::LetWord
+            } else {
+                TokenKind::Name
+            }
+        }
+        [b'n', ..] => {
+            if word == b"new".as_slice() {
+                TokenKind::NewWord
+            } else {
+                TokenKind::Name
+            }
+        }
+        [b'o', ..] => {
+            if word == b"out".as_slice() {
+                TokenKind::OutWord
+            } else {
+                TokenKind::Name
+            }
+        }
+        [b's', ..] => {
+            if word == b"set".as_slice() {
+                TokenKind::SetWord
+            } else {
+                TokenKind::Name
+            }
+        }
+        [b't', ..] => {
+            if word == b"try".as_slice() {
+                TokenKind::TryWord
+            } else {
+                TokenKind::Name
+            }
+        }
+        [b'v', ..] => {
+            if word == b"var".as_slice() {
+                TokenKind::VarWord
+            } else {
+                TokenKind::Name
+            }
+        }
+        _ => TokenKind::Name,
     }
 }
 
@@ -76,30 +141,70 @@ fn three_letters(word: &[u8]) -> TokenKind
 fn four_letters(word: &[u8]) -> TokenKind
     ensures { result ≡ kind_in words_of_four word.now }
 {
-    if word == b"case".as_slice() {
-        TokenKind::CaseWord
-    } else if word == b"else".as_slice() {
-        TokenKind::ElseWord
-    } else if word == b"enum".as_slice() {
-        TokenKind::EnumWord
-    } else if word == b"from".as_slice() {
-        TokenKind::FromWord
-    } else if word == b"meta".as_slice() {
-        TokenKind::MetaWord
-    } else if word == b"null".as_slice() {
-        TokenKind::NullWord
-    } else if word == b"this".as_slice() {
-        TokenKind::ThisWord
-    } else if word == b"true".as_slice() {
-        TokenKind::TrueWord
-    } else if word == b"type".as_slice() {
-        TokenKind::TypeWord
-    } else if word == b"void".as_slice() {
-        TokenKind::VoidWord
-    } else if word == b"with".as_slice() {
-        TokenKind::WithWord
-    } else {
-        TokenKind::Name
+    match word {
+        [b'c', ..] => {
+            if word == b"case".as_slice() {
+                TokenKind::CaseWord
+            } else {
+                TokenKind::Name
+            }
+        }
+        [b'e', ..] => {
+            if word == b"else".as_slice() {
+                TokenKind::ElseWord
+            } else if word == b"enum".as_slice() {
+                TokenKind::EnumWord
+            } else {
+                TokenKind::Name
+            }
+        }
+        [b'f', ..] => {
+            if word == b"from".as_slice() {
+                TokenKind::FromWord
+            } else {
+                TokenKind::Name
+            }
+        }
+        [b'm', ..] => {
+            if word == b"meta".as_slice() {
+                TokenKind::MetaWord
+            } else {
+                TokenKind::Name
+            }
+        }
+        [b'n', ..] => {
+            if word == b"null".as_slice() {
+                TokenKind::NullWord
+            } else {
+                TokenKind::Name
+            }
+        }
+        [b't', ..] => {
+            if word == b"this".as_slice() {
+                TokenKind::ThisWord
+            } else if word == b"true".as_slice() {
+                TokenKind::TrueWord
+            } else if word == b"type".as_slice() {
+                TokenKind::TypeWord
+            } else {
+                TokenKind::Name
+            }
+        }
+        [b'v', ..] => {
+            if word == b"void".as_slice() {
+                TokenKind::VoidWord
+            } else {
+                TokenKind::Name
+            }
+        }
+        [b'w', ..] => {
+            if word == b"with".as_slice() {
+                TokenKind::WithWord
+            } else {
+                TokenKind::Name
+            }
+        }
+        _ => TokenKind::Name,
     }
 }
 
@@ -107,40 +212,105 @@ fn four_letters(word: &[u8]) -> TokenKind
 fn five_letters(word: &[u8]) -> TokenKind
     ensures { result ≡ kind_in words_of_five word.now }
 {
-    if word == b"async".as_slice() {
-        TokenKind::AsyncWord
-    } else if word == b"await".as_slice() {
-        TokenKind::AwaitWord
-    } else if word == b"break".as_slice() {
-        TokenKind::BreakWord
-    } else if word == b"catch".as_slice() {
-        TokenKind::CatchWord
-    } else if word == b"class".as_slice() {
-        TokenKind::ClassWord
-    } else if word == b"const".as_slice() {
-        TokenKind::ConstWord
-    } else if word == b"defer".as_slice() {
-        TokenKind::DeferWord
-    } else if word == b"false".as_slice() {
-        TokenKind::FalseWord
-    } else if word == b"infer".as_slice() {
-        TokenKind::InferWord
-    } else if word == b"keyof".as_slice() {
-        TokenKind::KeyofWord
-    } else if word == b"never".as_slice() {
-        TokenKind::NeverWord
-    } else if word == b"super".as_slice() {
-        TokenKind::SuperWord
-    } else if word == b"throw".as_slice() {
-        TokenKind::ThrowWord
-    } else if word == b"using".as_slice() {
-        TokenKind::UsingWord
-    } else if word == b"while".as_slice() {
-        TokenKind::WhileWord
-    } else if word == b"yield".as_slice() {
-        TokenKind::YieldWord
-    } else {
-        TokenKind::Name
+    match word {
+        [b'a', ..] => {
+            if word == b"async".as_slice() {
+                TokenKind::AsyncWord
+            } else if word == b"await".as_slice() {
+                TokenKind::AwaitWord
+            } else {
+                TokenKind::Name
+            }
+        }
+        [b'b', ..] => {
+            if word == b"break".as_slice() {
+                TokenKind::BreakWord
+            } else {
+                TokenKind::Name
+            }
+        }
+        [b'c', ..] => {
+            if word == b"catch".as_slice() {
+                TokenKind::CatchWord
+            } else if word == b"class".as_slice() {
+                TokenKind::ClassWord
+            } else if word == b"const".as_slice() {
+                TokenKind::ConstWord
+            } else {
+                TokenKind::Name
+            }
+        }
+        [b'd', ..] => {
+            if word == b"defer".as_slice() {
+                TokenKind::DeferWord
+            } else {
+                TokenKind::Name
+            }
+        }
+        [b'f', ..] => {
+            if word == b"false".as_slice() {
+                TokenKind::FalseWord
+            } else {
+                TokenKind::Name
+            }
+        }
+        [b'i', ..] => {
+            if word == b"infer".as_slice() {
+                TokenKind::InferWord
+            } else {
+                TokenKind::Name
+            }
+        }
+        [b'k', ..] => {
+            if word == b"keyof".as_slice() {
+                TokenKind::KeyofWord
+            } else {
+                TokenKind::Name
+            }
+        }
+        [b'n', ..] => {
+            if word == b"never".as_slice() {
+                TokenKind::NeverWord
+            } else {
+                TokenKind::Name
+            }
+        }
+        [b's', ..] => {
+            if word == b"super".as_slice() {
+                TokenKind::SuperWord
+            } else {
+                TokenKind::Name
+            }
+        }
+        [b't', ..] => {
+            if word == b"throw".as_slice() {
+                TokenKind::ThrowWord
+            } else {
+                TokenKind::Name
+            }
+        }
+        [b'u', ..] => {
+            if word == b"using".as_slice() {
+                TokenKind::UsingWord
+            } else {
+                TokenKind::Name
+            }
+        }
+        [b'w', ..] => {
+            if word == b"while".as_slice() {
+                TokenKind::WhileWord
+            } else {
+                TokenKind::Name
+            }
+        }
+        [b'y', ..] => {
+            if word == b"yield".as_slice() {
+                TokenKind::YieldWord
+            } else {
+                TokenKind::Name
+            }
+        }
+        _ => TokenKind::Name,
     }
 }
 
@@ -148,44 +318,109 @@ fn five_letters(word: &[u8]) -> TokenKind
 fn six_letters(word: &[u8]) -> TokenKind
     ensures { result ≡ kind_in words_of_six word.now }
 {
-    if word == b"bigint".as_slice() {
-        TokenKind::BigintWord
-    } else if word == b"delete".as_slice() {
-        TokenKind::DeleteWord
-    } else if word == b"export".as_slice() {
-        TokenKind::ExportWord
-    } else if word == b"global".as_slice() {
-        TokenKind::GlobalWord
-    } else if word == b"import".as_slice() {
-        TokenKind::ImportWord
-    } else if word == b"module".as_slice() {
-        TokenKind::ModuleWord
-    } else if word == b"number".as_slice() {
-        TokenKind::NumberWord
-    } else if word == b"object".as_slice() {
-        TokenKind::ObjectWord
-    } else if word == b"public".as_slice() {
-        TokenKind::PublicWord
-    } else if word == b"return".as_slice() {
-        TokenKind::ReturnWord
-    } else if word == b"source".as_slice() {
-        TokenKind::SourceWord
-    } else if word == b"static".as_slice() {
-        TokenKind::StaticWord
-    } else if word == b"string".as_slice() {
-        TokenKind::StringWord
-    } else if word == b"switch".as_slice() {
-        TokenKind::SwitchWord
-    } else if word == b"symbol".as_slice() {
-        TokenKind::SymbolWord
-    } else if word == b"target".as_slice() {
-        TokenKind::TargetWord
-    } else if word == b"typeof".as_slice() {
-        TokenKind::TypeofWord
-    } else if word == b"unique".as_slice() {
-        TokenKind::UniqueWord
-    } else {
-        TokenKind::Name
+    match word {
+        [b'b', ..] => {
+            if word == b"bigint".as_slice() {
+                TokenKind::BigintWord
+            } else {
+                TokenKind::Name
+            }
+        }
+        [b'd', ..] => {
+            if word == b"delete".as_slice() {
+                TokenKind::DeleteWord
+            } else {
+                TokenKind::Name
+            }
+        }
+        [b'e', ..] => {
+            if word == b"export".as_slice() {
+                TokenKind::ExportWord
+            } else {
+                TokenKind::Name
+            }
+        }
+        [b'g', ..] => {
+            if word == b"global".as_slice() {
+                TokenKind::GlobalWord
+            } else {
+                TokenKind::Name
+            }
+        }
+        [b'i', ..] => {
+            if word == b"import".as_slice() {
+                TokenKind::ImportWord
+            } else {
+                TokenKind::Name
+            }
+        }
+        [b'm', ..] => {
+            if word == b"module".as_slice() {
+                TokenKind::ModuleWord
+            } else {
+                TokenKind::Name
+            }
+        }
+        [b'n', ..] => {
+            if word == b"number".as_slice() {
+                TokenKind::NumberWord
+            } else {
+                TokenKind::Name
+            }
+        }
+        [b'o', ..] => {
+            if word == b"object".as_slice() {
+                TokenKind::ObjectWord
+            } else {
+                TokenKind::Name
+            }
+        }
+        [b'p', ..] => {
+            if word == b"public".as_slice() {
+                TokenKind::PublicWord
+            } else {
+                TokenKind::Name
+            }
+        }
+        [b'r', ..] => {
+            if word == b"return".as_slice() {
+                TokenKind::ReturnWord
+            } else {
+                TokenKind::Name
+            }
+        }
+        [b's', ..] => {
+            if word == b"source".as_slice() {
+                TokenKind::SourceWord
+            } else if word == b"static".as_slice() {
+                TokenKind::StaticWord
+            } else if word == b"string".as_slice() {
+                TokenKind::StringWord
+            } else if word == b"switch".as_slice() {
+                TokenKind::SwitchWord
+            } else if word == b"symbol".as_slice() {
+                TokenKind::SymbolWord
+            } else {
+                TokenKind::Name
+            }
+        }
+        [b't', ..] => {
+            if word == b"target".as_slice() {
+                TokenKind::TargetWord
+            } else if word == b"typeof".as_slice() {
+                TokenKind::TypeofWord
+            } else {
+                TokenKind::Name
+            }
+        }
+        [b'u', ..] => {
+            if word == b"unique".as_slice() {
+                TokenKind::UniqueWord
+            } else {
+                TokenKind::Name
+            }
+        }
+        _ => TokenKind::Name,
     }
 }
 
@@ -193,26 +428,66 @@ fn six_letters(word: &[u8]) -> TokenKind
 fn seven_letters(word: &[u8]) -> TokenKind
     ensures { result ≡ kind_in words_of_seven word.now }
 {
-    if word == b"asserts".as_slice() {
-        TokenKind::AssertsWord
-    } else if word == b"boolean".as_slice() {
-        TokenKind::BooleanWord
-    } else if word == b"declare".as_slice() {
-        TokenKind::DeclareWord
-    } else if word == b"default".as_slice() {
-        TokenKind::DefaultWord
-    } else if word == b"extends".as_slice() {
-        TokenKind::ExtendsWord
-    } else if word == b"finally".as_slice() {
-        TokenKind::FinallyWord
-    } else if word == b"private".as_slice() {
-        TokenKind::PrivateWord
-    } else if word == b"require".as_slice() {
-        TokenKind::RequireWord
-    } else if word == b"unknown".as_slice() {
-        TokenKind::UnknownWord
-    } else {
-        TokenKind::Name
+    match word {
+        [b'a', ..] => {
+            if word == b"asserts".as_slice() {
+                TokenKind::AssertsWord
+            } else {
+                TokenKind::Name
+            }
+        }
+        [b'b', ..] => {
+            if word == b"boolean".as_slice() {
+                TokenKind::BooleanWord
+            } else {
+                TokenKind::Name
+            }
+        }
+        [b'd', ..] => {
+            if word == b"declare".as_slice() {
+                TokenKind::DeclareWord
+            } else if word == b"default".as_slice() {
+                TokenKind::DefaultWord
+            } else {
+                TokenKind::Name
+            }
+        }
+        [b'e', ..] => {
+            if word == b"extends".as_slice() {
+                TokenKind::ExtendsWord
+            } else {
+                TokenKind::Name
+            }
+        }
+        [b'f', ..] => {
+            if word == b"finally".as_slice() {
+                TokenKind::FinallyWord
+            } else {
+                TokenKind::Name
+            }
+        }
+        [b'p', ..] => {
+            if word == b"private".as_slice() {
+                TokenKind::PrivateWord
+            } else {
+                TokenKind::Name
+            }
+        }
+        [b'r', ..] => {
+            if word == b"require".as_slice() {
+                TokenKind::RequireWord
+            } else {
+                TokenKind::Name
+            }
+        }
+        [b'u', ..] => {
+            if word == b"unknown".as_slice() {
+                TokenKind::UnknownWord
+            } else {
+                TokenKind::Name
+            }
+        }
+        _ => TokenKind::Name,
     }
 }
 
@@ -220,22 +495,52 @@ fn seven_letters(word: &[u8]) -> TokenKind
 fn eight_letters(word: &[u8]) -> TokenKind
     ensures { result ≡ kind_in words_of_eight word.now }
 {
-    if word == b"abstract".as_slice() {
-        TokenKind::AbstractWord
-    } else if word == b"accessor".as_slice() {
-        TokenKind::AccessorWord
-    } else if word == b"continue".as_slice() {
-        TokenKind::ContinueWord
-    } else if word == b"debugger".as_slice() {
-        TokenKind::DebuggerWord
-    } else if word == b"function".as_slice() {
-        TokenKind::FunctionWord
-    } else if word == b"override".as_slice() {
-        TokenKind::OverrideWord
-    } else if word == b"readonly".as_slice() {
-        TokenKind::ReadonlyWord
-    } else {
-        TokenKind::Name
+    match word {
+        [b'a', ..] => {
+            if word == b"abstract".as_slice() {
+                TokenKind::AbstractWord
+            } else if word == b"accessor".as_slice() {
+                TokenKind::AccessorWord
+            } else {
+                TokenKind::Name
+            }
+        }
+        [b'c', ..] => {
+            if word == b"continue".as_slice() {
+                TokenKind::ContinueWord
+            } else {
+                TokenKind::Name
+            }
+        }
+        [b'd', ..] => {
+            if word == b"debugger".as_slice() {
+                TokenKind::DebuggerWord
+            } else {
+                TokenKind::Name
+            }
+        }
+        [b'f', ..] => {
+            if word == b"function".as_slice() {
+                TokenKind::FunctionWord
+            } else {
+                TokenKind::Name
+            }
+        }
+        [b'o', ..] => {
+            if word == b"override".as_slice() {
+                TokenKind::OverrideWord
+            } else {
+                TokenKind::Name
+            }
+        }
+        [b'r', ..] => {
+            if word == b"readonly".as_slice() {
+                TokenKind::ReadonlyWord
+            } else {
+                TokenKind::Name
+            }
+        }
+        _ => TokenKind::Name,
     }
 }
 
@@ -243,18 +548,43 @@ fn eight_letters(word: &[u8]) -> TokenKind
 fn nine_letters(word: &[u8]) -> TokenKind
     ensures { result ≡ kind_in words_of_nine word.now }
 {
-    if word == b"interface".as_slice() {
-        TokenKind::InterfaceWord
-    } else if word == b"namespace".as_slice() {
-        TokenKind::NamespaceWord
-    } else if word == b"protected".as_slice() {
-        TokenKind::ProtectedWord
-    } else if word == b"satisfies".as_slice() {
-        TokenKind::SatisfiesWord
-    } else if word == b"undefined".as_slice() {
-        TokenKind::UndefinedWord
-    } else {
-        TokenKind::Name
+    match word {
+        [b'i', ..] => {
+            if word == b"interface".as_slice() {
+                TokenKind::InterfaceWord
+            } else {
+                TokenKind::Name
+            }
+        }
+        [b'n', ..] => {
+            if word == b"namespace".as_slice() {
+                TokenKind::NamespaceWord
+            } else {
+                TokenKind::Name
+            }
+        }
+        [b'p', ..] => {
+            if word == b"protected".as_slice() {
+                TokenKind::ProtectedWord
+            } else {
+                TokenKind::Name
+            }
+        }
+        [b's', ..] => {
+            if word == b"satisfies".as_slice() {
+                TokenKind::SatisfiesWord
+            } else {
+                TokenKind::Name
+            }
+        }
+        [b'u', ..] => {
+            if word == b"undefined".as_slice() {
+                TokenKind::UndefinedWord
+            } else {
+                TokenKind::Name
+            }
+        }
+        _ => TokenKind::Name,
     }
 }
 
@@ -262,12 +592,17 @@ fn nine_letters(word: &[u8]) -> TokenKind
 fn ten_letters(word: &[u8]) -> TokenKind
     ensures { result ≡ kind_in words_of_ten word.now }
 {
-    if word == b"implements".as_slice() {
-        TokenKind::ImplementsWord
-    } else if word == b"instanceof".as_slice() {
-        TokenKind::InstanceofWord
-    } else {
-        TokenKind::Name
+    match word {
+        [b'i', ..] => {
+            if word == b"implements".as_slice() {
+                TokenKind::ImplementsWord
+            } else if word == b"instanceof".as_slice() {
+                TokenKind::InstanceofWord
+            } else {
+                TokenKind::Name
+            }
+        }
+        _ => TokenKind::Name,
     }
 }
 
