@@ -1,0 +1,8 @@
+-- elements of arrays
+pub mod ElementLemmas
+-- names, and what is made of two parts
+pub mod NameLemmas
+-- bodies of arrows
+pub mod BodyLemmas
+-- parameters in parentheses
+pub mod FewerLemmas

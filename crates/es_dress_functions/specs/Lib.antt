@@ -1,0 +1,2 @@
+-- commas between the elements of an array
+pub mod Elements

@@ -1,0 +1,5 @@
+use es_dresser::Dresser;
+
+/// What dresses patterns, functions, objects, arrays and classes.
+#[derive(Clone, Copy)]
+pub struct Functions<'d, 'a, E, P, S>(pub &'d Dresser<'a, E, P, S>);
