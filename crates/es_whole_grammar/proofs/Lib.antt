@@ -1,0 +1,11 @@
+pub mod Sets
+mod TypesClaims
+mod EsClaims
+mod TypescriptClaims
+mod Claims
+pub mod MappedLemmas
+pub mod Agreement
+pub mod Theorems
+mod WorkedDeclarations
+mod WorkedExpressions
+mod WorkedRefusals

@@ -1,0 +1,126 @@
+-- Members of classes in both languages (ECMA-262, "Class Definitions"; the handbook of TypeScript, "Classes").
+use Rattle.std.specs.Prelude.{ℕ, zero, suc, ◌+◌, Bool, true, not, ◌&&◌, ◌||◌, if◌then◌else◌, List, length}
+use Rattle.es_token.specs.declared.token.TokenKind.{TokenKind}
+use Rattle.es_token.specs.declared.token.TokenKind.TheVariants as k
+use Rattle.es_tree.specs.declared.error.Lang.{Lang}
+use Rattle.es_tree.specs.declared.error.Lang.TheVariants as lang
+use Rattle.es_tree.specs.Key.{Key, seen, same_kind, has_kind, is}
+use Rattle.es_tree.specs.Form.{as_name, as_kind, as_there, taken, guarded, Guard, Form, done, tok, punct, row, opt, where_, Rule, make, choose, pick}
+use Rattle.es_grammar.specs.declared.rows.Label.TheVariants.{EmptyMember, StaticBlock, AccessorMember, AsyncMember, GeneratorMember, MethodMember, FieldMember, AccessorField}
+use Rattle.es_grammar.specs.Words.{only, is_name, is_accessor_word, is_near}
+use Rattle.es_grammar.specs.Modules.{ended}
+use Rattle.es_grammar.specs.Expressions.{ends_expression}
+use Rattle.es_grammar.specs.Functions.{starts_key, opens_accessor, opens_async, opens_star}
+use Rattle.es_grammar.specs.Classes.{opens_static, opens_field_accessor, behind_static, is_plain_member, opens_static_block}
+use Rattle.es_grammar.specs.Members.{shows_index}
+use Rattle.es_whole_grammar.specs.Rows.{Context, async_in, Row, BlockRow, SignatureRow, KeyRow, AssignmentRow, Label, plain_, IndexMember}
+use Rattle.es_whole_grammar.specs.Embedding.{type_then, annotation_in, plain_form}
+use Rattle.es_whole_grammar.specs.Expressions.{star_in, body_in}
+use Rattle.es_whole_grammar.specs.Functions.{is_typed_modifier, modifiers_in, mark_in, opens_any_method, typed_head_in}
+
+-- in TypeScript a modifier of a member: `static` before a key, `*` or `{`, another before a key or `*` on its line
+unfoldable pub opens_modifier : Guard
+opens_modifier K at =
+    opens_static K at
+    || (has_kind is_typed_modifier (seen K at) && (is_near (seen K (at + 1)) && (starts_key true (seen K (at + 1))
+    || is k.Star (seen K (at + 1)))))
+
+-- the place behind the modifiers
+abbrev pub behind_modifiers : List Key → ℕ → ℕ → ℕ
+behind_modifiers K zero at = at
+behind_modifiers K (suc n) at = if opens_modifier K at then behind_modifiers K n (at + 1) else at
+
+-- the guard behind the modifiers
+unfoldable pub behind_all : Guard → Guard
+behind_all g K at = g K (behind_modifiers K (length K) at)
+
+-- behind the modifiers stands a key that is none
+unfoldable pub is_member_key : Guard
+is_member_key K at =
+    not (opens_modifier K at) && (not (opens_accessor true K at) && (not (opens_async true K at)
+    && not (opens_field_accessor K at)))
+
+-- ---- members of both languages
+
+-- 'static'?, which stands once, and what stands behind it
+unfoldable pub static_in : Form Row → Form Row
+static_in f = opt (guarded opens_static) (tok as_there (only k.StaticWord) done) f
+
+-- '=' Assign before END
+unfoldable pub value_in : Context → Form Row
+value_in c =
+    opt (taken (is k.Equal)) (punct k.Equal (row (AssignmentRow c) (where_ ends_expression done))) (plain_form ended)
+
+-- Mod*, or 'static'?, and what stands behind them
+unfoldable pub head_in : Lang → Form Row → Form Row
+head_in lang.Es f = static_in (where_ is_plain_member f)
+head_in lang.Typescript f = modifiers_in opens_modifier (where_ is_member_key f)
+
+-- Mod*, or 'static'?, and a word or sign before the key
+unfoldable pub marked_in : Lang → (Form Row → Form Row) → Form Row → Form Row
+marked_in lang.Es word_in f = static_in (word_in (where_ is_plain_member f))
+marked_in lang.Typescript word_in f = modifiers_in opens_modifier (word_in (where_ is_member_key f))
+
+abbrev pub accessor_word_in : Form Row → Form Row
+accessor_word_in f = tok as_kind is_accessor_word f
+
+abbrev pub async_word_in : Form Row → Form Row
+async_word_in f = punct k.AsyncWord (star_in f)
+
+abbrev pub star_word_in : Form Row → Form Row
+star_word_in f = punct k.Star f
+
+abbrev pub field_word_in : Form Row → Form Row
+field_word_in f = punct k.AccessorWord f
+
+-- the guard behind the modifiers
+abbrev pub behind : Lang → Guard → Guard
+behind lang.Es g = behind_static g
+behind lang.Typescript g = behind_all g
+
+-- Key (TS '?')? Sig (Block | TS END), the key in one place, signature and body in another
+unfoldable pub class_method_in : Lang → Context → Context → Form Row
+class_method_in lang.Es c d = row (KeyRow true c) (row (SignatureRow d) (body_in lang.Es d))
+class_method_in lang.Typescript c d = typed_head_in true c d mark_in (body_in lang.Typescript d)
+
+-- `?` or `!` behind the key of a field
+unfoldable pub is_field_mark : TokenKind → Bool
+is_field_mark kind = same_kind kind k.Question || same_kind kind k.Exclamation
+
+-- Key (TS '?' | TS '!')? (TS ':' Type)? ('=' Assign)? END
+unfoldable pub field_in : Lang → Context → Form Row
+field_in lang.Es c = row (KeyRow true c) (value_in c)
+field_in lang.Typescript c =
+    row (KeyRow true c) (opt (taken (has_kind is_field_mark)) (tok as_kind is_field_mark done) (annotation_in
+    (value_in c)))
+
+-- Member, with its modifiers: ('get' | 'set' | 'async'? '*'?) Key (TS '?')? Sig (Block | TS END)
+--         | 'accessor'? Key (TS '?' | TS '!')? (TS ':' Type)? ('=' Assign)? END
+unfoldable pub modified_member : Lang → Context → Rule Row Label
+modified_member l c =
+    pick (behind l (opens_accessor true))
+    (make (plain_ AccessorMember) (marked_in l accessor_word_in (class_method_in l c c)))
+    (pick (behind l (opens_async true))
+    (make (plain_ AsyncMember) (marked_in l async_word_in (class_method_in l c (async_in c))))
+    (pick (behind l opens_star) (make (plain_ GeneratorMember) (marked_in l star_word_in (class_method_in l c c)))
+    (pick (behind l opens_field_accessor)
+    (make (plain_ AccessorField) (marked_in l field_word_in (field_in l c)))
+    (pick (behind l (opens_any_method l)) (make (plain_ MethodMember) (head_in l (class_method_in l c c)))
+    (make (plain_ FieldMember) (head_in l (field_in l c)))))))
+
+-- TS Mod* '[' Name ':' Type ']' (':' Type)? END
+unfoldable pub index_member : Rule Row Label
+index_member =
+    make IndexMember (modifiers_in opens_modifier (punct k.OpenBracket (tok as_name is_name (punct k.Colon
+    (type_then (punct k.CloseBracket (annotation_in (plain_form ended))))))))
+
+unfoldable pub any_member : Lang → Context → Rule Row Label
+any_member lang.Es c = modified_member lang.Es c
+any_member lang.Typescript c = pick (behind_all shows_index) index_member (modified_member lang.Typescript c)
+
+-- Member: ';' | 'static' Block | and those with modifiers
+unfoldable pub member : Lang → Context → Rule Row Label
+member l c =
+    choose (is k.Semicolon) (make (plain_ EmptyMember) (punct k.Semicolon done))
+    (pick opens_static_block (make (plain_ StaticBlock) (punct k.StaticWord (row (BlockRow c) done)))
+    (any_member l c))

@@ -1,0 +1,69 @@
+-- What is asked of a tree besides the rows: what is assigned to, or updated, is a simple target (ECMA-262,
+-- "AssignmentTargetType").
+use Rattle.std.specs.Prelude.{Bool, true, false, ◌≡◌, ◌&&◌, List}
+use Rattle.es_tree.specs.declared.error.Lang.{Lang}
+use Rattle.es_tree.specs.declared.error.Mode.{Mode}
+use Rattle.es_tree.specs.declared.error.Mode.TheVariants as mode
+use Rattle.es_tree.specs.Key.{Key}
+use Rattle.es_tree.specs.Plain.{Plain, node, leaf, cons, mark, turn, via}
+use Rattle.es_tree.specs.Fits.{free, Shape}
+use Rattle.es_grammar.specs.declared.rows.Label.TheVariants.{Name, Parenthesized, Chain, Binary, MemberPost, IndexPost, Assignment, UpdatePostfix, UpdatePrefix}
+use Rattle.es_whole_grammar.specs.Rows.{Row, ModuleRow, ScriptRow, Label, plain_, type_, NonNullPost}
+use Rattle.es_whole_grammar.specs.Table.{rule}
+
+-- `.a` or `[a]`
+abbrev pub is_member : Plain Label → Bool
+is_member (node (plain_ MemberPost) from to ps) = true
+is_member (node (plain_ IndexPost) from to ps) = true
+is_member _ = false
+
+-- what a `!` behind a part leaves of the answer: that of the parts before it
+abbrev pub unless_non_null : Plain Label → Bool → Bool
+unless_non_null (node NonNullPost from to ps) before = before
+unless_non_null p before = is_member p
+
+-- the parts of a chain, behind any `!`, end in `.a` or `[a]`; with none but `!`, the answer is that of its base
+abbrev pub ends_in_member : Bool → Plain Label → Plain Label → Bool
+ends_in_member before p (turn (cons q ps) rest) = ends_in_member (unless_non_null p before) q rest
+ends_in_member before p _ = unless_non_null p before
+
+-- the parts of a turn are `as const`, or `as` or `satisfies` with a type
+abbrev pub is_assertion : Plain Label → Bool
+is_assertion (cons operator (cons (cons (node (type_ l) from to ts) ps) rest)) = true
+is_assertion (cons operator (cons (cons (leaf s n) ps) rest)) = true
+is_assertion _ = false
+
+-- a simple target: a name, a chain that ends in a member, or such a one in brackets, or before `!`, `as` or
+-- `satisfies`
+abbrev pub is_simple : Plain Label → Bool
+is_simple (node (plain_ Name) from to ps) = true
+is_simple (node (plain_ Parenthesized) from to (mark n (cons q ps))) = is_simple q
+is_simple (node (plain_ Chain) from to (cons q (cons p (cons more ps)))) = ends_in_member (is_simple q) p more
+is_simple (node (plain_ Binary) from to (cons q (cons assertion ps))) = is_assertion assertion && is_simple q
+is_simple _ = false
+
+-- the parts of a node are those that its alternative may have
+abbrev pub may_hold : Label → Plain Label → Bool
+may_hold (plain_ Assignment) (cons q ps) = is_simple q
+may_hold (plain_ UpdatePostfix) (cons q ps) = is_simple q
+may_hold (plain_ UpdatePrefix) (cons operator (cons q ps)) = is_simple q
+may_hold _ ps = true
+
+-- each node of the tree holds what it may, and each target is simple
+abbrev pub is_sound : Plain Label → Bool
+is_sound (node l from to ps) = may_hold l ps && is_sound ps
+is_sound (via w p) = is_simple p && is_sound p
+is_sound (cons p ps) = is_sound p && is_sound ps
+is_sound (turn p ps) = is_sound p && is_sound ps
+is_sound (mark n ps) = is_sound ps
+is_sound _ = true
+
+-- the row of a program
+abbrev pub program_row : Mode → Row
+program_row mode.Module = ModuleRow
+program_row mode.Script = ScriptRow
+
+-- a plain tree of a program, by its keys
+pub record IsProgram (l : Lang) (m : Mode) (K : List Key) (p : Plain Label) : Type 0 where
+  pub shaped : Shape free (rule l) (program_row m) K p
+  pub sound : is_sound p ≡ true

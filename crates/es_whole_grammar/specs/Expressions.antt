@@ -1,0 +1,530 @@
+-- Expressions in both languages (ECMA-262, "ECMAScript Language: Expressions"; the handbook of TypeScript), templates,
+-- functions and classes.
+use Rattle.std.specs.Prelude.{◌+◌, ◌-◌, Bool, true, false, not, ◌&&◌, ◌||◌}
+use Rattle.es_token.specs.declared.token.TokenKind.{TokenKind}
+use Rattle.es_token.specs.declared.token.TokenKind.TheVariants as k
+use Rattle.es_tree.specs.declared.error.Lang.{Lang}
+use Rattle.es_tree.specs.declared.error.Lang.TheVariants as lang
+use Rattle.es_tree.specs.Key.{TokenTest, seen, same_kind, has_kind, is}
+use Rattle.es_tree.specs.Form.{as_str, as_name, as_raw, as_kind, as_there, hint, taken, guarded, Guard, Form, done, tok, punct, row, opt, many, alt, when_, where_, Rule, make, choose, pick, wrap}
+use Rattle.es_tree.specs.Tells.{none}
+use Rattle.es_grammar.specs.declared.rows.Label.TheVariants.{AsyncFunction, Function, Class, Sequence, Yield, PatternAssignment, Assignment, NameArrow, ParenthesizedArrow, AsyncNameArrow, AsyncParenthesizedArrow, Conditional, Binary, PrivateIn, UnaryExpression, AwaitExpression, UpdatePrefix, UpdatePostfix, Chain, MemberPost, IndexPost, CallPost, TemplatePost, OptionalPost, Super, ImportCall, ImportMeta, NewTarget, New, Arguments, Name, Word, Number, Str, RegExp, Template, TemplateParts, Parenthesized, ArrayLiteral, ObjectLiteral, Spread}
+use Rattle.es_grammar.specs.Words.{only, is_name, is_numeric, is_near, is_other, closes_before}
+use Rattle.es_grammar.specs.TypeRows as types
+use Rattle.es_grammar.specs.Modules.{ended}
+use Rattle.es_grammar.specs.Expressions.{is_prefix, is_update, is_product, is_sum, is_equality, is_relation, is_assignment, is_property_name, joins, opens_greater, begins_expression, is_arrow, no_arrow, opens_plain_arrow, opens_async_arrow, opens_async_parenthesis, is_no_arrow_head, opens_async_function, is_literal_word, opens_property, has_argument, follows_super, begins_member, begins_post, is_update_here, no_update_here, opens_shift, no_mix, opens_pattern, opens_assignment}
+use Rattle.es_whole_grammar.specs.Rows.{Context, outside, async_in, async_here, without_colon, Row, BlockRow, SignatureRow, ParametersRow, PatternRow, PropertyRow, ExpressionRow, AssignmentRow, AndRow, BitOrRow, BitXorRow, BitAndRow, EqualityRow, RelationRow, ShiftRow, SumRow, ProductRow, PowerRow, UnaryRow, ChainRow, CalleeRow, PostRow, MemberPostRow, ArgumentsRow, ElementRow, TemplateRow, MemberRow, TypesRow, Label, plain_, AbstractClass, NonNullPost}
+use Rattle.es_whole_grammar.specs.Embedding.{typed_in, type_then, plain_form, type_parameters_in, type_arguments_in, reads_before, opens_call_arguments, opens_heritage_arguments}
+
+-- in TypeScript an expression may also begin with `<`: an arrow's type parameters
+abbrev pub begins_value : Lang → TokenTest
+begins_value lang.Es x = begins_expression x
+begins_value lang.Typescript x = is k.Less x || begins_expression x
+
+-- ---- arrows
+
+-- in TypeScript `(` opens an arrow also where its `)` is followed by `:`, unless no `:` opens a result here
+abbrev pub follows_parameters : Lang → Context → TokenTest
+follows_parameters lang.Es c x = is_arrow x
+follows_parameters lang.Typescript c x = is_arrow x || (not c.no_colon && is k.Colon x)
+
+unfoldable pub opens_parameters_of_arrow : Lang → Context → Guard
+opens_parameters_of_arrow l c K at = is k.OpenParen (seen K at) && closes_before (follows_parameters l c) K at
+
+-- a name before `=>` on its line, such a `(`; in TypeScript also `<`
+unfoldable pub opens_arrow_here : Lang → Context → Guard
+opens_arrow_here lang.Es c K at = opens_plain_arrow K at
+opens_arrow_here lang.Typescript c K at =
+    (has_kind is_name (seen K at) && is_arrow (seen K (at + 1)))
+    || (opens_parameters_of_arrow lang.Typescript c K at || is k.Less (seen K at))
+
+-- `<` behind `async` on its line opens one exactly where type parameters can be read there and such a `(` follows
+unfoldable pub opens_generic_async : Context → Guard
+opens_generic_async c K at =
+    is k.Less (seen K at) && reads_before types.TypeParametersRow (opens_parameters_of_arrow lang.Typescript c) K at
+
+-- `async` before such a name or `(` on its line
+unfoldable pub opens_async_here : Lang → Context → Guard
+opens_async_here lang.Es c K at = opens_async_arrow K at
+opens_async_here lang.Typescript c K at =
+    is k.AsyncWord (seen K at) && (not (is_arrow (seen K (at + 1))) && (is_near (seen K (at + 1))
+    && ((has_kind is_name (seen K (at + 1)) && is_arrow (seen K (at + 2)))
+    || (opens_parameters_of_arrow lang.Typescript c K (at + 1) || opens_generic_async c K (at + 1)))))
+
+unfoldable pub opens_any_arrow : Lang → Context → Guard
+opens_any_arrow l c K at = opens_arrow_here l c K at || opens_async_here l c K at
+
+-- ~ '=>' (Block | Assign)
+unfoldable pub arrow_in : Context → Context → Form Row
+arrow_in c d =
+    when_ is_near (punct k.Arrow (alt (is k.OpenBrace) (row (BlockRow (outside d)) done)
+    (when_ (is_other k.OpenBrace) (row (AssignmentRow d) done)) done))
+
+-- the `:` of an arrow's result, where one may stand
+unfoldable pub opens_arrow_result : Context → Guard
+opens_arrow_result c K at = not c.no_colon && is k.Colon (seen K at)
+
+-- (TS ':' Ret)? ~ '=>' .., behind the parameters, in the place of the arrow and in that of its body
+unfoldable pub arrow_result_in : Context → Form Row → Form Row
+arrow_result_in c f =
+    opt (guarded (opens_arrow_result c)) (punct k.Colon (row (TypesRow (types.ResultRow true)) done)) f
+
+-- (TS TParams)? '(' Params ')' (TS ':' Ret)? ~ '=>' (Block | Assign), the parameters in a place of their own
+unfoldable pub parameters_arrow_in : Lang → Context → Context → Context → Form Row
+parameters_arrow_in l parameters c d =
+    typed_in l type_parameters_in (punct k.OpenParen (row (ParametersRow parameters) (punct k.CloseParen
+    (typed_in l (arrow_result_in c) (arrow_in c d)))))
+
+-- a token that begins an arrow's parameters in brackets
+abbrev pub begins_parameters : Lang → TokenTest
+begins_parameters lang.Es x = is k.OpenParen x
+begins_parameters lang.Typescript x = is k.OpenParen x || is k.Less x
+
+-- Name ~ '=>' .. | (TS TParams)? '(' Params ')' (TS ':' Ret)? ~ '=>' ..
+unfoldable pub plain_arrow : Lang → Context → Rule Row Label
+plain_arrow l c =
+    choose (begins_parameters l) (make (plain_ ParenthesizedArrow) (parameters_arrow_in l (outside c) c c))
+    (make (plain_ NameArrow) (tok as_name is_name (arrow_in c c)))
+
+unfoldable pub opens_async_list : Lang → Guard
+opens_async_list lang.Es K at = opens_async_parenthesis K at
+opens_async_list lang.Typescript K at = is k.OpenParen (seen K (at + 1)) || is k.Less (seen K (at + 1))
+
+-- 'async' ~ Name ~ '=>' .. | 'async' ~ (TS TParams)? '(' Params ')' (TS ':' Ret)? ~ '=>' ..
+unfoldable pub async_arrow : Lang → Context → Rule Row Label
+async_arrow l c =
+    pick (opens_async_list l)
+    (make (plain_ AsyncParenthesizedArrow) (punct k.AsyncWord (when_ is_near (parameters_arrow_in l (async_in c) c
+    (async_here c)))))
+    (make (plain_ AsyncNameArrow) (punct k.AsyncWord (when_ is_near (tok as_name is_name (arrow_in c (async_here c))))))
+
+-- ---- templates
+
+-- Tpl: whole | head Expr (middle Expr)* tail
+unfoldable pub template : Context → Rule Row Label
+template c =
+    choose (is k.TemplateWhole) (make (plain_ Template) (tok as_raw (only k.TemplateWhole) done))
+    (make (plain_ TemplateParts) (tok as_raw (only k.TemplateHead) (row (ExpressionRow (outside c))
+    (many (taken (is k.TemplateMiddle)) (tok as_raw (only k.TemplateMiddle) (row (ExpressionRow (outside c)) done))
+    (tok as_raw (only k.TemplateTail) done)))))
+
+-- ---- functions and classes
+
+-- '*'?, and what stands behind it
+unfoldable pub star_in : Form Row → Form Row
+star_in f = opt (taken (is k.Star)) (tok as_there (only k.Star) done) f
+
+-- a name, which may lack where it isn't asked for, and what stands behind it
+unfoldable pub name_in : Bool → Form Row → Form Row
+name_in true f = tok as_name is_name f
+name_in false f = opt (taken (has_kind is_name)) (tok as_name is_name done) f
+
+-- Block | TS END: a function's block is taken where its `{` is there
+unfoldable pub body_in : Lang → Context → Form Row
+body_in lang.Es c = row (BlockRow c) done
+body_in lang.Typescript c =
+    alt (is k.OpenBrace) (row (BlockRow c) done) (when_ (is_other k.OpenBrace) (plain_form ended)) done
+
+-- 'function' '*'? Name? Sig (Block | TS END)
+unfoldable pub function : Lang → Bool → Context → Rule Row Label
+function l named c =
+    make (plain_ Function) (punct k.FunctionWord (star_in (name_in named (row (SignatureRow (outside c))
+    (body_in l (outside c))))))
+
+-- 'async' ~ 'function' '*'? Name? Sig (Block | TS END)
+unfoldable pub async_function : Lang → Bool → Context → Rule Row Label
+async_function l named c =
+    make (plain_ AsyncFunction) (punct k.AsyncWord (when_ is_near (punct k.FunctionWord (star_in (name_in named
+    (row (SignatureRow (async_in c)) (body_in l (async_in c))))))))
+
+-- Fn: 'function' .. | 'async' ~ 'function' ..
+unfoldable pub any_function : Lang → Bool → Context → Rule Row Label
+any_function l named c = choose (is k.AsyncWord) (async_function l named c) (function l named c)
+
+-- X (',' X)*, of types, and what stands behind it
+unfoldable pub references_in : Form Row → Form Row
+references_in f =
+    row (TypesRow types.ReferenceRow) (many (taken (is k.Comma)) (punct k.Comma (row
+    (TypesRow types.ReferenceRow) done)) f)
+
+-- (TS TArgs)?, behind the operand of `extends`
+unfoldable pub heritage_in : Form Row → Form Row
+heritage_in f = opt (guarded opens_heritage_arguments) (row (TypesRow types.ArgumentsRow) done) f
+
+-- (TS 'implements' Ref%+)?
+unfoldable pub implements_in : Form Row → Form Row
+implements_in f = opt (taken (is k.ImplementsWord)) (punct k.ImplementsWord (references_in done)) f
+
+-- 'class' Name? (TS TParams)? ('extends' Chain (TS TArgs)?)? (TS 'implements' Ref%+)? '{' Member* '}'
+unfoldable pub class_form : Lang → Bool → Context → Form Row
+class_form l named c =
+    punct k.ClassWord (name_in named (typed_in l type_parameters_in
+    (opt (taken (is k.ExtendsWord)) (punct k.ExtendsWord (row (ChainRow (outside c)) (typed_in l heritage_in done)))
+    (typed_in l implements_in
+    (punct k.OpenBrace (many (hint (is_other k.CloseBrace)) (row (MemberRow (outside c)) done)
+    (punct k.CloseBrace done)))))))
+
+unfoldable pub class_ : Lang → Bool → Context → Rule Row Label
+class_ l named c = make (plain_ Class) (class_form l named c)
+
+-- TS 'abstract' 'class' ..
+unfoldable pub abstract_class : Bool → Context → Rule Row Label
+abstract_class named c = make AbstractClass (punct k.AbstractWord (class_form lang.Typescript named c))
+
+-- `abstract` before `class`, on a new line too
+unfoldable pub opens_abstract_class : Guard
+opens_abstract_class K at = is k.AbstractWord (seen K at) && is k.ClassWord (seen K (at + 1))
+
+-- Class
+unfoldable pub any_class : Lang → Bool → Context → Rule Row Label
+any_class lang.Es named c = class_ lang.Es named c
+any_class lang.Typescript named c = choose (is k.AbstractWord) (abstract_class named c) (class_ lang.Typescript named c)
+
+-- ---- primary expressions
+
+-- AElem: '...'? Assign, without a node of its own where it is an expression alone; the expression is told by its rule
+unfoldable pub spread : Context → Rule Row Label
+spread c = make (plain_ Spread) (punct k.Ellipsis (row (AssignmentRow (outside c)) done))
+
+-- '[' (AElem? ',')* AElem? ']'
+unfoldable pub array_literal : Context → Rule Row Label
+array_literal c =
+    make (plain_ ArrayLiteral) (punct k.OpenBracket (many (hint (is_other k.CloseBracket))
+    (alt (is k.Comma) (punct k.Comma done)
+    (row (ElementRow c) (opt (taken (is_other k.CloseBracket)) (punct k.Comma done) done)) done)
+    (punct k.CloseBracket done)))
+
+-- '{' Prop% '}'
+unfoldable pub object_literal : Context → Rule Row Label
+object_literal c =
+    make (plain_ ObjectLiteral) (punct k.OpenBrace (many (hint (is_other k.CloseBrace))
+    (row (PropertyRow c) (opt (taken (is_other k.CloseBrace)) (punct k.Comma done) done)) (punct k.CloseBrace done)))
+
+-- `(` that opens no arrow
+unfoldable pub opens_no_arrow : Lang → Context → Guard
+opens_no_arrow lang.Es c K at = is_no_arrow_head K at
+opens_no_arrow lang.Typescript c K at = not (closes_before (follows_parameters lang.Typescript c) K at)
+
+-- a name that is no part of an arrow, a function, or in TypeScript an abstract class
+unfoldable pub name_expression : Rule Row Label
+name_expression = make (plain_ Name) (tok as_name is_name (when_ no_arrow done))
+
+unfoldable pub named_primary : Lang → Context → Rule Row Label
+named_primary lang.Es c = pick opens_async_function (async_function lang.Es false c) name_expression
+named_primary lang.Typescript c =
+    pick opens_async_function (async_function lang.Typescript false c)
+    (pick opens_abstract_class (abstract_class false c) name_expression)
+
+-- Prim
+unfoldable pub primary : Lang → Context → Rule Row Label
+primary l c =
+    choose (is k.OpenParen)
+    (make (plain_ Parenthesized) (where_ (opens_no_arrow l c) (punct k.OpenParen (row (ExpressionRow (outside c))
+    (punct k.CloseParen done)))))
+    (choose (is k.OpenBracket) (array_literal (outside c))
+    (choose (is k.OpenBrace) (object_literal (outside c))
+    (choose (is k.FunctionWord) (function l false c)
+    (choose (is k.ClassWord) (class_ l false c)
+    (choose (has_kind is_name) (named_primary l c)
+    (choose (has_kind is_literal_word) (make (plain_ Word) (tok as_kind is_literal_word done))
+    (choose (has_kind is_numeric) (make (plain_ Number) (tok as_raw is_numeric done))
+    (choose (is k.Str) (make (plain_ Str) (tok as_str (only k.Str) done))
+    (choose (is k.RegExp) (make (plain_ RegExp) (tok as_raw (only k.RegExp) done)) (template c))))))))))
+
+-- ---- chains
+
+-- 'import' '(' Assign (',' Assign)? ','? ')'
+unfoldable pub import_call : Context → Rule Row Label
+import_call c =
+    make (plain_ ImportCall) (punct k.ImportWord (punct k.OpenParen (row (AssignmentRow (outside c))
+    (opt (guarded has_argument) (punct k.Comma (row (AssignmentRow (outside c)) done))
+    (opt (taken (is k.Comma)) (punct k.Comma done) (punct k.CloseParen done))))))
+
+unfoldable pub is_module : Context → Guard
+is_module c K at = not c.script
+
+-- 'import' '.' 'meta', in modules
+unfoldable pub import_meta : Context → Rule Row Label
+import_meta c =
+    make (plain_ ImportMeta) (where_ (is_module c) (punct k.ImportWord (punct k.Dot (punct k.MetaWord done))))
+
+-- (TS TArgs)? Args?, behind Chain1
+unfoldable pub call_arguments_in : Form Row → Form Row
+call_arguments_in f = opt (guarded opens_call_arguments) (row (TypesRow types.ArgumentsRow) done) f
+
+-- Base: Prim | 'super' | 'import' '(' .. ')' | 'import' '.' 'meta' | 'new' '.' 'target'
+--       | 'new' Chain1 (TS TArgs)? Args?
+unfoldable pub base : Lang → Context → Rule Row Label
+base l c =
+    choose (is k.SuperWord) (make (plain_ Super) (tok as_there (only k.SuperWord) (when_ follows_super done)))
+    (choose (is k.ImportWord) (pick opens_property (import_meta c) (import_call c))
+    (choose (is k.NewWord)
+    (pick opens_property (make (plain_ NewTarget) (punct k.NewWord (punct k.Dot (punct k.TargetWord done))))
+    (make (plain_ New) (punct k.NewWord (row (CalleeRow c) (typed_in l call_arguments_in
+    (opt (taken (is k.OpenParen)) (row (ArgumentsRow c) done) done))))))
+    (primary l c)))
+
+-- Args: '(' ('...'? Assign)% ')'
+unfoldable pub arguments : Context → Rule Row Label
+arguments c =
+    make (plain_ Arguments) (punct k.OpenParen (many (hint (is_other k.CloseParen))
+    (opt (taken (is k.Ellipsis)) (tok as_there (only k.Ellipsis) done)
+    (row (AssignmentRow (outside c)) (opt (taken (is_other k.CloseParen)) (punct k.Comma done) done)))
+    (punct k.CloseParen done)))
+
+-- `!` on the line of the token before it
+unfoldable pub opens_non_null : TokenTest
+opens_non_null x = is_near x && is k.Exclamation x
+
+-- a token that begins a member, or in TypeScript such a `!`
+abbrev pub begins_callee_post : Lang → TokenTest
+begins_callee_post lang.Es x = begins_member x
+begins_callee_post lang.Typescript x = begins_member x || opens_non_null x
+
+-- a token that begins a further part of a chain, or in TypeScript `<` that opens type arguments
+unfoldable pub opens_post : Guard
+opens_post K at = begins_post (seen K at) || (opens_non_null (seen K at) || opens_call_arguments K at)
+
+-- '.' (Name | PrivateName) | '[' Expr ']' | Tpl
+unfoldable pub plain_member_post : Context → Rule Row Label
+plain_member_post c =
+    choose (is k.Dot) (make (plain_ MemberPost) (punct k.Dot (tok as_name is_property_name done)))
+    (choose (is k.OpenBracket)
+    (make (plain_ IndexPost) (punct k.OpenBracket (row (ExpressionRow (outside c)) (punct k.CloseBracket done))))
+    (make (plain_ TemplatePost) (row (TemplateRow c) done)))
+
+-- TS ~ '!'
+unfoldable pub non_null_post : Rule Row Label
+non_null_post = make NonNullPost (when_ is_near (punct k.Exclamation done))
+
+-- '.' (Name | PrivateName) | '[' Expr ']' | Tpl | TS ~ '!'
+unfoldable pub member_post : Lang → Context → Rule Row Label
+member_post lang.Es c = plain_member_post c
+member_post lang.Typescript c = choose (is k.Exclamation) non_null_post (plain_member_post c)
+
+-- the arguments of a call behind `?.`
+abbrev pub begins_arguments : Lang → TokenTest
+begins_arguments lang.Es x = is k.OpenParen x
+begins_arguments lang.Typescript x = is k.OpenParen x || is k.Less x
+
+-- '?.' (Name | PrivateName | '[' Expr ']' | (TS TArgs)? Args)
+unfoldable pub optional_post : Lang → Context → Rule Row Label
+optional_post l c =
+    make (plain_ OptionalPost) (punct k.QuestionDot
+    (alt (is k.OpenBracket) (punct k.OpenBracket (row (ExpressionRow (outside c)) (punct k.CloseBracket done)))
+    (alt (begins_arguments l) (typed_in l type_arguments_in (row (ArgumentsRow c) done))
+    (tok as_name is_property_name done) done) done))
+
+-- behind the type arguments, or here, stands this token
+unfoldable pub is_at : TokenTest → Guard
+is_at t K at = t (seen K at)
+
+unfoldable pub opens_call : Guard
+opens_call K at =
+    is k.OpenParen (seen K at)
+    || (is k.Less (seen K at) && reads_before types.ArgumentsRow (is_at (is k.OpenParen)) K at)
+
+unfoldable pub opens_typed_template : Guard
+opens_typed_template K at = is k.Less (seen K at)
+
+-- Post: '.' (Name | PrivateName) | '[' Expr ']' | (TS TArgs)? Args | (TS TArgs)? Tpl | '?.' .. | TS ~ '!'
+unfoldable pub post : Lang → Context → Rule Row Label
+post lang.Es c =
+    choose (is k.OpenParen) (make (plain_ CallPost) (row (ArgumentsRow c) done))
+    (choose (is k.QuestionDot) (optional_post lang.Es c) (member_post lang.Es c))
+post lang.Typescript c =
+    pick opens_call (make (plain_ CallPost) (type_arguments_in (row (ArgumentsRow c) done)))
+    (pick opens_typed_template (make (plain_ TemplatePost) (type_arguments_in (row (TemplateRow c) done)))
+    (choose (is k.QuestionDot) (optional_post lang.Typescript c) (member_post lang.Typescript c)))
+
+-- Chain: Base Post*
+unfoldable pub chain : Lang → Context → Rule Row Label
+chain lang.Es c =
+    wrap (plain_ Chain) (base lang.Es c) (taken begins_post)
+    (row (PostRow c) (many (taken begins_post) (row (PostRow c) done) done))
+chain lang.Typescript c =
+    wrap (plain_ Chain) (base lang.Typescript c) (guarded opens_post)
+    (row (PostRow c) (many (guarded opens_post) (row (PostRow c) done) done))
+
+-- Chain1: a Chain with no Args, no `?.` and no TArgs
+unfoldable pub callee : Lang → Context → Rule Row Label
+callee l c =
+    wrap (plain_ Chain) (base l c) (taken (begins_callee_post l))
+    (row (MemberPostRow c) (many (taken (begins_callee_post l)) (row (MemberPostRow c) done) done))
+
+-- ---- operators
+
+unfoldable pub may_await : Context → Guard
+may_await c K at = not c.script || c.in_async
+
+-- ('++' | '--') Unary | Chain (~ ('++' | '--'))?
+unfoldable pub update : Lang → Context → Rule Row Label
+update l c =
+    choose (has_kind is_update) (make (plain_ UpdatePrefix) (tok as_kind is_update (row (UnaryRow c) done)))
+    (wrap (plain_ UpdatePostfix) (chain l c) (taken is_update_here) (when_ is_near (tok as_kind is_update
+    (when_ no_update_here done))))
+
+-- ('delete' | 'void' | 'typeof' | '+' | '-' | '~' | '!') Unary
+unfoldable pub prefix : Context → Rule Row Label
+prefix c = make (plain_ UnaryExpression) (tok as_kind is_prefix (row (UnaryRow c) done))
+
+-- 'await' Unary, in modules and in async functions
+unfoldable pub await_ : Context → Rule Row Label
+await_ c = make (plain_ AwaitExpression) (where_ (may_await c) (punct k.AwaitWord (row (UnaryRow c) done)))
+
+-- Unary
+unfoldable pub unary : Lang → Context → Rule Row Label
+unary l c = choose (has_kind is_prefix) (prefix c) (choose (is k.AwaitWord) (await_ c) (update l c))
+
+-- Unary | (Chain or update) '**' Power
+unfoldable pub power : Lang → Context → Rule Row Label
+power l c =
+    choose (has_kind is_prefix) (prefix c) (choose (is k.AwaitWord) (await_ c)
+    (wrap (plain_ Binary) (update l c) (taken (is k.StarStar))
+    (tok as_kind (only k.StarStar) (row (PowerRow c) (when_ (is_other k.StarStar) done)))))
+
+-- a level of operators of one token, left-associative
+unfoldable pub level : (TokenKind → Bool) → Row → Rule Row Label → Rule Row Label
+level may r operand = wrap (plain_ Binary) operand (taken (has_kind may)) (tok as_kind may (row r done))
+
+unfoldable pub product : Lang → Context → Rule Row Label
+product l c = level is_product (PowerRow c) (power l c)
+
+unfoldable pub sum : Lang → Context → Rule Row Label
+sum l c = level is_sum (ProductRow c) (product l c)
+
+-- '<<' | '>>' | '>>>'
+unfoldable pub shift : Lang → Context → Rule Row Label
+shift l c =
+    wrap (plain_ Binary) (sum l c) (guarded opens_shift)
+    (alt (is k.Greater)
+    (tok as_kind (only k.Greater) (tok as_there (only k.Greater)
+    (opt (guarded (joins k.Greater)) (tok as_there (only k.Greater) done) done)))
+    (tok as_kind (only k.LessLess) done) (row (SumRow c) done))
+
+-- `as` or `satisfies`, on the line of the token before it
+unfoldable pub is_assertion_word : TokenKind → Bool
+is_assertion_word kind = same_kind kind k.AsWord || same_kind kind k.SatisfiesWord
+
+unfoldable pub opens_assertion : TokenTest
+opens_assertion x = is_near x && has_kind is_assertion_word x
+
+-- '<' | '<=' | '>' | '>=' | 'instanceof' | 'in', this one outside the head of a `for`; in TypeScript also such a
+-- word, and `<` only where it opens no type arguments
+unfoldable pub opens_comparison : Lang → Context → Guard
+opens_comparison lang.Es c K at =
+    opens_greater K at || (has_kind is_relation (seen K at) && not (c.no_in && is k.InWord (seen K at)))
+opens_comparison lang.Typescript c K at =
+    opens_greater K at || (opens_assertion (seen K at) || (has_kind is_relation (seen K at)
+    && (not (c.no_in && is k.InWord (seen K at)) && not (opens_call_arguments K at))))
+
+unfoldable pub may_test : Context → Guard
+may_test c K at = not c.no_in
+
+-- PrivateName 'in' Shift
+unfoldable pub private_in : Context → Rule Row Label
+private_in c =
+    make (plain_ PrivateIn) (where_ (may_test c) (tok as_name (only k.PrivateName) (punct k.InWord (row
+    (ShiftRow c) done))))
+
+-- an operator of the level of `<`, and its operand
+unfoldable pub comparison_in : Context → Form Row
+comparison_in c =
+    alt (is k.Greater) (tok as_kind (only k.Greater) (opt (guarded (joins k.Equal)) (tok as_there
+    (only k.Equal) done) done))
+    (tok as_kind is_relation done) (row (ShiftRow c) done)
+
+-- `const` stands behind `as` alone
+unfoldable pub is_behind_as : Guard
+is_behind_as K at = is k.AsWord (seen K (at - 1))
+
+-- ~ 'as' Type | ~ 'as' 'const' | ~ 'satisfies' Type
+unfoldable pub asserted : Form Row
+asserted =
+    when_ is_near (tok as_kind is_assertion_word (alt (is k.ConstWord)
+    (where_ is_behind_as (tok as_there (only k.ConstWord) done)) (type_then done) done))
+
+-- one of these, or another form
+unfoldable pub asserted_or : Form Row → Form Row
+asserted_or other = alt (has_kind is_assertion_word) asserted other done
+
+-- no form
+unfoldable pub no_form : Form Row
+no_form = when_ none (punct k.Semicolon done)
+
+unfoldable pub relation : Lang → Context → Rule Row Label
+relation lang.Es c =
+    wrap (plain_ Binary) (choose (is k.PrivateName) (private_in c) (shift lang.Es c))
+    (guarded (opens_comparison lang.Es c)) (comparison_in c)
+relation lang.Typescript c =
+    wrap (plain_ Binary) (choose (is k.PrivateName) (private_in c) (shift lang.Typescript c))
+    (guarded (opens_comparison lang.Typescript c)) (asserted_or (comparison_in c))
+
+unfoldable pub equality : Lang → Context → Rule Row Label
+equality l c = level is_equality (RelationRow c) (relation l c)
+
+unfoldable pub bit_and : Lang → Context → Rule Row Label
+bit_and l c = level (only k.Ampersand) (EqualityRow c) (equality l c)
+
+unfoldable pub bit_xor : Lang → Context → Rule Row Label
+bit_xor l c = level (only k.Caret) (BitAndRow c) (bit_and l c)
+
+unfoldable pub bit_or : Lang → Context → Rule Row Label
+bit_or l c = level (only k.Bar) (BitXorRow c) (bit_xor l c)
+
+-- '&&' behind an operand
+unfoldable pub and_ : Context → Rule Row Label → Rule Row Label
+and_ c operand = level (only k.AmpersandAmpersand) (BitOrRow c) operand
+
+-- '??' mixes with '||' or '&&' only in brackets
+unfoldable pub coalesce : Lang → Context → Rule Row Label
+coalesce l c =
+    wrap (plain_ Binary) (bit_or l c) (taken (is k.QuestionQuestion))
+    (tok as_kind (only k.QuestionQuestion) (row (BitOrRow c) (when_ no_mix done)))
+
+-- Binary, from its loosest level
+unfoldable pub binary : Lang → Context → Rule Row Label
+binary l c = level (only k.BarBar) (AndRow c) (and_ c (coalesce l c))
+
+-- Cond: Binary ('?' Assign ':' Assign)?
+unfoldable pub conditional : Lang → Context → Rule Row Label
+conditional l c =
+    wrap (plain_ Conditional) (binary l c) (taken (is k.Question))
+    (punct k.Question (row (AssignmentRow (without_colon l c)) (punct k.Colon (row (AssignmentRow c) (when_
+    (is_other k.Question) done)))))
+
+-- ---- assignments
+
+-- an operand of `yield` stands here
+unfoldable pub opens_operand : Lang → TokenTest
+opens_operand l x = is_near x && (is k.Star x || begins_value l x)
+
+-- 'yield' (~ '*'? Assign)?
+unfoldable pub yield_ : Lang → Context → Rule Row Label
+yield_ l c =
+    make (plain_ Yield) (punct k.YieldWord (opt (taken (opens_operand l))
+    (when_ is_near (opt (taken (is k.Star)) (tok as_there (only k.Star) done) (row (AssignmentRow c) done))) done))
+
+-- Assign: Arrow | 'yield' (~ '*'? Assign)? | Target AssignOp Assign | Cond
+unfoldable pub assignment : Lang → Context → Rule Row Label
+assignment l c =
+    pick (opens_any_arrow l c) (pick (opens_async_here l c) (async_arrow l c) (plain_arrow l c))
+    (choose (is k.YieldWord) (yield_ l c)
+    (pick opens_pattern
+    (make (plain_ PatternAssignment) (row (PatternRow true (outside c)) (punct k.Equal (row (AssignmentRow c) done))))
+    (wrap (plain_ Assignment) (conditional l c) (guarded opens_assignment)
+    (alt (is k.Greater)
+    (tok as_kind (only k.Greater) (tok as_there (only k.Greater)
+    (opt (guarded (joins k.Greater)) (tok as_there (only k.Greater) done) (tok as_there (only k.Equal) done))))
+    (tok as_kind is_assignment done) (row (AssignmentRow c) done)))))
+
+-- Expr: Assign (',' Assign)*
+unfoldable pub expression : Lang → Context → Rule Row Label
+expression l c =
+    wrap (plain_ Sequence) (assignment l c) (taken (is k.Comma))
+    (punct k.Comma (row (AssignmentRow c) (many (taken (is k.Comma)) (punct k.Comma (row
+    (AssignmentRow c) done)) done)))
+
+-- AElem
+unfoldable pub element : Lang → Context → Rule Row Label
+element l c = choose (is k.Ellipsis) (spread c) (assignment l (outside c))

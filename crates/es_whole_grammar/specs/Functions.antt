@@ -1,0 +1,213 @@
+-- Parameters and patterns in both languages (ECMA-262, "Function Definitions" and "Destructuring Binding Patterns"; the
+-- handbook of TypeScript, "More on Functions"), keys, and properties of objects.
+use Rattle.std.specs.Prelude.{ℕ, zero, suc, ◌+◌, Bool, true, false, not, ◌&&◌, ◌||◌, List, Option, Some, None, slice_get, length}
+use Rattle.es_token.specs.declared.token.TokenKind.{TokenKind}
+use Rattle.es_token.specs.declared.token.TokenKind.TheVariants as k
+use Rattle.es_tree.specs.declared.error.Lang.{Lang}
+use Rattle.es_tree.specs.declared.error.Lang.TheVariants as lang
+use Rattle.es_tree.specs.Key.{Key, Seen, TokenTest, seen, same_kind, has_kind, is}
+use Rattle.es_tree.specs.Form.{as_str, as_name, as_raw, as_kind, as_there, hint, taken, guarded, Guard, Form, done, tok, punct, row, opt, many, alt, when_, where_, Rule, make, choose, as_, pick, wrap}
+use Rattle.es_grammar.specs.declared.rows.Label.TheVariants.{Binary, Target, Signature, Parameters, DefaultParameter, NamePattern, ArrayPattern, ObjectPattern, RestPattern, DefaultPattern, RestProperty, KeyPattern, NameProperty, WordKey, StrKey, NumberKey, ComputedKey, PrivateKey, SpreadProperty, AccessorProperty, AsyncProperty, GeneratorProperty, MethodProperty, KeyValue, Shorthand}
+use Rattle.es_grammar.specs.Words.{only, is_name, is_word, is_numeric, is_accessor_word, is_other, partner_of}
+use Rattle.es_grammar.specs.Members.{opens_parameters}
+use Rattle.es_grammar.specs.Functions.{opens_inner_pattern, behind_key, key_before, opens_value, is_parameter, opens_accessor, opens_async, is_plain_key, opens_method}
+use Rattle.es_whole_grammar.specs.Rows.{Context, outside, async_in, constructing, Row, BlockRow, SignatureRow, ParametersRow, ParameterRow, PatternRow, InnerPatternRow, PatternElementRow, PatternPropertyRow, KeyRow, AssignmentRow, Label, plain_, ThisParameter, PropertyParameter, MarkedParameter}
+use Rattle.es_whole_grammar.specs.Embedding.{typed_in, annotation_in, result_in, type_parameters_in}
+use Rattle.es_whole_grammar.specs.Expressions.{star_in, chain, opens_assertion, asserted_or, no_form}
+
+-- ---- patterns
+
+-- ('=' Assign)?, and what stands behind it
+unfoldable pub default_in : Context → Form Row → Form Row
+default_in c f = opt (taken (is k.Equal)) (punct k.Equal (row (AssignmentRow (outside c)) done)) f
+
+-- '[' (PElem? ',')* PElem? ']'
+unfoldable pub array_pattern : Bool → Context → Rule Row Label
+array_pattern t c =
+    make (plain_ ArrayPattern) (punct k.OpenBracket (many (hint (is_other k.CloseBracket))
+    (alt (is k.Comma) (punct k.Comma done)
+    (row (PatternElementRow t c) (opt (taken (is_other k.CloseBracket)) (punct k.Comma done) done)) done)
+    (punct k.CloseBracket done)))
+
+-- '{' PProp% '}'
+unfoldable pub object_pattern : Bool → Context → Rule Row Label
+object_pattern t c =
+    make (plain_ ObjectPattern) (punct k.OpenBrace (many (hint (is_other k.CloseBrace))
+    (row (PatternPropertyRow t c) (opt (taken (is_other k.CloseBrace)) (punct k.Comma done) done))
+    (punct k.CloseBrace done)))
+
+-- a simple target: a chain, in TypeScript with `as` and `satisfies` behind it
+unfoldable pub target : Lang → Context → Rule Row Label
+target lang.Es c = as_ (plain_ Target) (chain lang.Es c)
+target lang.Typescript c =
+    as_ (plain_ Target) (wrap (plain_ Binary) (chain lang.Typescript c) (taken opens_assertion) (asserted_or no_form))
+
+unfoldable pub bracket_pattern : Bool → Context → Rule Row Label
+bracket_pattern t c = choose (is k.OpenBracket) (array_pattern t c) (object_pattern t c)
+
+-- Pat: Name | '[' .. ']' | '{' .. '}', and with a simple target in place of the name
+unfoldable pub inner_pattern : Lang → Bool → Context → Rule Row Label
+inner_pattern l false c =
+    choose (has_kind is_name) (make (plain_ NamePattern) (tok as_name is_name done)) (bracket_pattern false c)
+inner_pattern l true c = pick opens_inner_pattern (bracket_pattern true c) (target l c)
+
+-- what stands at the outside of a pattern that is assigned to is told before it is read
+unfoldable pub pattern : Lang → Bool → Context → Rule Row Label
+pattern l false c = inner_pattern l false c
+pattern l true c = bracket_pattern true c
+
+-- PElem: '...' Pat | Pat ('=' Assign)?, without a node of its own where it is a pattern alone
+unfoldable pub pattern_element : Lang → Bool → Context → Rule Row Label
+pattern_element l t c =
+    choose (is k.Ellipsis) (make (plain_ RestPattern) (punct k.Ellipsis (row (InnerPatternRow t c) done)))
+    (wrap (plain_ DefaultPattern) (inner_pattern l t c) (taken (is k.Equal))
+    (punct k.Equal (row (AssignmentRow (outside c)) (when_ (is_other k.Equal) done))))
+
+-- PProp: '...' Pat | Key ':' Pat ('=' Assign)? | Name ('=' Assign)?
+unfoldable pub pattern_property : Bool → Context → Rule Row Label
+pattern_property t c =
+    choose (is k.Ellipsis) (make (plain_ RestProperty) (punct k.Ellipsis (row (InnerPatternRow t c) done)))
+    (pick opens_value
+    (make (plain_ KeyPattern) (row (KeyRow false c) (punct k.Colon (row (InnerPatternRow t c) (default_in c done)))))
+    (make (plain_ NameProperty) (tok as_name is_name (default_in c done))))
+
+-- ---- parameters
+
+-- '...' Pat (TS ':' Type)?
+unfoldable pub rest_in : Lang → Context → Form Row
+rest_in l c = punct k.Ellipsis (row (PatternRow false c) (typed_in l annotation_in done))
+
+-- Params: Param% | (Param ',')* '...' Pat (TS ':' Type)?
+unfoldable pub parameters : Lang → Context → Rule Row Label
+parameters l c =
+    make (plain_ Parameters) (many (hint is_parameter)
+    (row (ParameterRow c) (opt (taken (is_other k.CloseParen)) (punct k.Comma done) done))
+    (opt (taken (is k.Ellipsis)) (rest_in l c) done))
+
+-- a modifier of TypeScript, or `static`
+unfoldable pub is_typed_modifier : TokenKind → Bool
+is_typed_modifier kind =
+    same_kind kind k.PublicWord || (same_kind kind k.PrivateWord || (same_kind kind k.ProtectedWord
+    || (same_kind kind k.ReadonlyWord || (same_kind kind k.AbstractWord || (same_kind kind k.OverrideWord
+    || same_kind kind k.DeclareWord)))))
+
+unfoldable pub is_modifier : TokenKind → Bool
+is_modifier kind = same_kind kind k.StaticWord || is_typed_modifier kind
+
+-- parameters have modifiers only in constructors, before a name, `{` or `[`
+unfoldable pub opens_parameter_modifier : Context → Guard
+opens_parameter_modifier c K at =
+    c.in_constructor && (has_kind is_modifier (seen K at) && (has_kind is_name (seen K (at + 1))
+    || (is k.OpenBrace (seen K (at + 1)) || is k.OpenBracket (seen K (at + 1)))))
+
+-- a modifier of this kind stands in the run of modifiers from here on, where a guard tells them
+abbrev pub stands_again : Guard → List Key → Option Seen → ℕ → ℕ → Bool
+stands_again g K None n at = false
+stands_again g K (Some s) zero at = false
+stands_again g K (Some s) (suc n) at = g K at && (is s.kind (seen K at) || stands_again g K (Some s) n (at + 1))
+
+-- each of them stands at most once
+abbrev pub stand_once : Guard → List Key → ℕ → ℕ → Bool
+stand_once g K zero at = true
+stand_once g K (suc n) at =
+    not (g K at) || (not (stands_again g K (seen K at) n (at + 1)) && stand_once g K n (at + 1))
+
+unfoldable pub each_once : Guard → Guard
+each_once g K at = stand_once g K (length K) at
+
+-- Mod*, each at most once, and what stands behind them
+unfoldable pub modifiers_in : Guard → Form Row → Form Row
+modifiers_in g f = where_ (each_once g) (many (guarded g) (tok as_kind is_modifier done) f)
+
+-- '?'?, and what stands behind it
+unfoldable pub mark_in : Form Row → Form Row
+mark_in f = opt (taken (is k.Question)) (tok as_there (only k.Question) done) f
+
+-- '?'? (':' Type)? ('=' Assign)?
+unfoldable pub parameter_tail : Context → Form Row
+parameter_tail c = mark_in (annotation_in (default_in c done))
+
+-- a pattern before `?`, `:` or `=`
+unfoldable pub is_parameter_mark : TokenTest
+is_parameter_mark x = is k.Question x || (is k.Colon x || is k.Equal x)
+
+unfoldable pub opens_marked : Guard
+opens_marked K at = key_before is_parameter_mark K at
+
+-- Param: (TS Mod*)? (Pat | TS 'this') (TS '?')? (TS ':' Type)? ('=' Assign)?, without a node of its own where it is a
+-- pattern alone
+unfoldable pub parameter : Lang → Context → Rule Row Label
+parameter lang.Es c =
+    wrap (plain_ DefaultParameter) (pattern lang.Es false c) (taken (is k.Equal))
+    (punct k.Equal (row (AssignmentRow (outside c)) (when_ (is_other k.Equal) done)))
+parameter lang.Typescript c =
+    choose (is k.ThisWord) (make ThisParameter (tok as_there (only k.ThisWord) (parameter_tail c)))
+    (pick (opens_parameter_modifier c)
+    (make PropertyParameter (modifiers_in (opens_parameter_modifier c) (row (PatternRow false c) (parameter_tail c))))
+    (pick opens_marked (make MarkedParameter (row (PatternRow false c) (parameter_tail c)))
+    (pattern lang.Typescript false c)))
+
+-- Sig: (TS TParams)? '(' Params ')' (TS ':' Ret)?
+unfoldable pub signature : Lang → Context → Rule Row Label
+signature l c =
+    make (plain_ Signature) (typed_in l type_parameters_in (punct k.OpenParen (row (ParametersRow c)
+    (punct k.CloseParen (typed_in l result_in done)))))
+
+-- ---- keys
+
+-- Key: Word | Str | Number | BigInt | '[' Assign ']'
+unfoldable pub plain_key : Context → Rule Row Label
+plain_key c =
+    choose (has_kind is_word) (make (plain_ WordKey) (tok as_name is_word done))
+    (choose (is k.Str) (make (plain_ StrKey) (tok as_str (only k.Str) done))
+    (choose (has_kind is_numeric) (make (plain_ NumberKey) (tok as_raw is_numeric done))
+    (make (plain_ ComputedKey) (punct k.OpenBracket (row (AssignmentRow (outside c)) (punct k.CloseBracket done))))))
+
+-- and in classes PrivateName
+unfoldable pub key : Bool → Context → Rule Row Label
+key false c = plain_key c
+key true c =
+    choose (is k.PrivateName) (make (plain_ PrivateKey) (tok as_name (only k.PrivateName) done)) (plain_key c)
+
+-- ---- properties of objects
+
+-- a key, in TypeScript with its `?`, before `(`, in TypeScript also before `<`
+abbrev pub begins_method : List Key → ℕ → Bool
+begins_method K at =
+    opens_parameters (seen K at) || (is k.Question (seen K at) && opens_parameters (seen K (at + 1)))
+
+unfoldable pub opens_any_method : Lang → Guard
+opens_any_method lang.Es K at = opens_method K at
+opens_any_method lang.Typescript K at = begins_method K (behind_key at (partner_of (slice_get K at)))
+
+-- a key and its signature; behind the key `constructor` the parameters are those of a constructor
+unfoldable pub typed_head_in : Bool → Context → Context → (Form Row → Form Row) → Form Row → Form Row
+typed_head_in p c d sign_in f =
+    alt (is k.ConstructorWord)
+    (when_ (is k.ConstructorWord) (row (KeyRow p c) (sign_in (row (SignatureRow (constructing d)) done))))
+    (when_ (is_other k.ConstructorWord) (row (KeyRow p c) (sign_in (row (SignatureRow d) done)))) f
+
+abbrev pub unmarked : Form Row → Form Row
+unmarked f = f
+
+-- Key Sig Block of a property, the key in one place, signature and body in another
+unfoldable pub method_in : Lang → Context → Context → Form Row
+method_in lang.Es c d = row (KeyRow false c) (row (SignatureRow d) (row (BlockRow d) done))
+method_in lang.Typescript c d = typed_head_in false c d unmarked (row (BlockRow d) done)
+
+-- Prop: '...' Assign | Name | Key ':' Assign | ('get' | 'set' | 'async'? '*'?) Key Sig Block
+unfoldable pub property : Lang → Context → Rule Row Label
+property l c =
+    choose (is k.Ellipsis) (make (plain_ SpreadProperty) (punct k.Ellipsis (row (AssignmentRow (outside c)) done)))
+    (pick (opens_accessor false)
+    (make (plain_ AccessorProperty) (tok as_kind is_accessor_word (where_ is_plain_key
+    (method_in l (outside c) (outside c)))))
+    (pick (opens_async false)
+    (make (plain_ AsyncProperty) (punct k.AsyncWord (star_in (where_ is_plain_key
+    (method_in l (outside c) (async_in c))))))
+    (choose (is k.Star)
+    (make (plain_ GeneratorProperty) (punct k.Star (where_ is_plain_key (method_in l (outside c) (outside c)))))
+    (pick (opens_any_method l) (make (plain_ MethodProperty) (method_in l (outside c) (outside c)))
+    (pick opens_value (make (plain_ KeyValue) (row (KeyRow false (outside c)) (punct k.Colon (row (AssignmentRow
+    (outside c)) done))))
+    (make (plain_ Shorthand) (tok as_name is_name done)))))))

@@ -1,0 +1,93 @@
+-- Programs and the items of modules in both languages (ECMA-262, "Scripts and Modules"; the handbook of TypeScript,
+-- "Modules").
+use Rattle.std.specs.Prelude.{◌+◌, false, ◌||◌}
+use Rattle.es_token.specs.declared.token.TokenKind.TheVariants as k
+use Rattle.es_tree.specs.declared.error.Lang.{Lang}
+use Rattle.es_tree.specs.declared.error.Lang.TheVariants as lang
+use Rattle.es_tree.specs.Key.{seen, is, is_token}
+use Rattle.es_tree.specs.Form.{as_raw, hint, taken, Guard, Form, done, tok, punct, row, opt, many, Rule, make, choose, pick}
+use Rattle.es_grammar.specs.declared.rows.Label.TheVariants.{ExportDefaultFunction, ExportDefaultClass, ExportDefaultExpression, ExportDeclaration, Module, Script}
+use Rattle.es_grammar.specs.Words.{only}
+use Rattle.es_grammar.specs.Modules as modules
+use Rattle.es_grammar.specs.Items as items
+use Rattle.es_whole_grammar.specs.Rows.{Context, in_module, in_script, Row, ItemRow, StatementRow, DeclarationRow, DeclaredRow, FunctionRow, ClassRow, ExpressionRow, AssignmentRow, Label, plain_, ExportDefaultInterface, ExportAssignment}
+use Rattle.es_whole_grammar.specs.Embedding.{plain_rule}
+use Rattle.es_whole_grammar.specs.Expressions.{opens_abstract_class}
+use Rattle.es_whole_grammar.specs.Statements.{expression_ended}
+use Rattle.es_whole_grammar.specs.Declarations.{opens_interface, opens_alias, opens_enum, opens_namespace, opens_module, opens_global, opens_declare, statement}
+
+-- behind `export default` stands a class, in TypeScript also an abstract one
+unfoldable pub opens_any_default_class : Lang → Guard
+opens_any_default_class lang.Es K at = items.opens_default_class K at
+opens_any_default_class lang.Typescript K at = items.opens_default_class K at || opens_abstract_class K (at + 2)
+
+unfoldable pub opens_default_interface : Guard
+opens_default_interface K at = opens_interface K (at + 2)
+
+-- 'export' 'default' Assign END
+unfoldable pub default_expression : Context → Rule Row Label
+default_expression c =
+    make (plain_ ExportDefaultExpression) (punct k.ExportWord (punct k.DefaultWord (row
+    (AssignmentRow c) expression_ended)))
+
+-- TS 'export' 'default' Interface
+unfoldable pub default_interface : Context → Rule Row Label
+default_interface c = make ExportDefaultInterface (punct k.ExportWord (punct k.DefaultWord (row (DeclaredRow c) done)))
+
+unfoldable pub other_default : Lang → Context → Rule Row Label
+other_default lang.Es c = default_expression c
+other_default lang.Typescript c = pick opens_default_interface (default_interface c) (default_expression c)
+
+-- 'export' 'default' (Fn | Class | TS Interface | Assign END)
+unfoldable pub export_default : Lang → Context → Rule Row Label
+export_default l c =
+    pick items.opens_default_function
+    (make (plain_ ExportDefaultFunction) (punct k.ExportWord (punct k.DefaultWord (row (FunctionRow false c) done))))
+    (pick (opens_any_default_class l)
+    (make (plain_ ExportDefaultClass) (punct k.ExportWord (punct k.DefaultWord (row (ClassRow false c) done))))
+    (other_default l c))
+
+-- behind `export` stands a declaration
+unfoldable pub opens_any_declaration : Lang → Guard
+opens_any_declaration lang.Es K at = items.opens_declaration K at
+opens_any_declaration lang.Typescript K at =
+    items.opens_declaration K at || (opens_enum K (at + 1) || (opens_declare K (at + 1)
+    || (opens_abstract_class K (at + 1) || (opens_interface K (at + 1) || (opens_alias K (at + 1)
+    || (opens_namespace K (at + 1) || (opens_module K (at + 1) || opens_global K (at + 1))))))))
+
+unfoldable pub opens_export_assignment : Guard
+opens_export_assignment K at = is k.Equal (seen K (at + 1))
+
+-- Export of names, with those of Modules.antt; TS 'export' '=' Expr END
+unfoldable pub export_names : Lang → Context → Rule Row Label
+export_names lang.Es c = plain_rule (modules.export_ lang.Es)
+export_names lang.Typescript c =
+    pick opens_export_assignment
+    (make ExportAssignment (punct k.ExportWord (punct k.Equal (row (ExpressionRow c) expression_ended))))
+    (plain_rule (modules.export_ lang.Typescript))
+
+-- Export: 'export' Decl | 'export' 'default' (Fn | Class | TS Interface | Assign END), and of names
+unfoldable pub export_item : Lang → Context → Rule Row Label
+export_item l c =
+    pick items.opens_default (export_default l c)
+    (pick (opens_any_declaration l)
+    (make (plain_ ExportDeclaration) (punct k.ExportWord (row (DeclarationRow c) done)))
+    (export_names l c))
+
+-- Item: Import | Export | Stmt
+unfoldable pub item : Lang → Context → Rule Row Label
+item l c =
+    pick items.opens_import (plain_rule (modules.import_ l))
+    (choose (is k.ExportWord) (export_item l c) (statement l c))
+
+-- Shebang?, and what stands behind it
+unfoldable pub shebang_in : Form Row → Form Row
+shebang_in f = opt (taken (is k.Shebang)) (tok as_raw (only k.Shebang) done) f
+
+-- Module: Shebang? Item*
+unfoldable pub module_ : Rule Row Label
+module_ = make (plain_ Module) (shebang_in (many (hint is_token) (row (ItemRow in_module) done) done))
+
+-- Script: Shebang? Stmt*
+unfoldable pub script : Rule Row Label
+script = make (plain_ Script) (shebang_in (many (hint is_token) (row (StatementRow in_script) done) done))

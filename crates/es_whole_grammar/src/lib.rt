@@ -1,0 +1,10 @@
+//! The grammar of programs in both languages as one table, of which the language is a parameter: definitions and their
+//! laws, and no code. It is written in the language of `es_tree` (`specs/Form.antt` there).
+//!
+//! - `specs/Table.antt`: the rule of each row; its areas stand in `specs/Items.antt`, `Declarations.antt`,
+//!   `Statements.antt`, `Functions.antt`, `Classes.antt` and `Expressions.antt`.
+//! - `specs/Embedding.antt`: the table of types (`es_grammar`) inside this one.
+//! - `proofs/Theorems.antt`: keys of tokens have at most one tree, and no test that only chooses bars a reading.
+//!
+//! `docs/GRAMMAR.md` tells the rows in words.
+#![tactic(auto)]
