@@ -1,0 +1,90 @@
+//! Where type arguments and type parameters can be read.
+
+ghost use Rattle.std.specs.Prelude.{◌≡◌, ◌≤◌, length};
+ghost use Rattle.es_tree.specs.Key.{keys_of, seen, is};
+ghost use Rattle.es_tree.specs.Form.{Guard as Guarding};
+ghost use Rattle.es_token.specs.declared.token.TokenKind.TheVariants as k;
+ghost use Rattle.es_grammar.specs.TypeRows.{ArgumentsRow, TypeParametersRow};
+ghost use Rattle.es_whole_grammar.specs.Embedding.{reads_before, stands_call, stands_heritage, opens_call_arguments, opens_heritage_arguments};
+ghost use Rattle.es_whole_grammar.specs.Expressions.{opens_call, opens_typed_template};
+ghost use Rattle.es_whole_guards.specs.Named.{holds_behind};
+
+use crate::looks::{begins_call, is};
+use es_guards::Tokens;
+use es_token::TokenKind;
+use es_types::{type_arguments_end, type_parameters_end};
+use std::alloc::Global;
+
+/// The number behind the type arguments that can be read here, or none: a guard holds behind them exactly where it does
+/// behind that number.
+#[tactic(auto, using(crate::proofs::EndLemmas::arguments_behind))]
+fn arguments_end(tokens: &Tokens<'_>, alloc: Global, at: usize) -> Option<usize>
+    ensures { (g : Guarding) → reads_before ArgumentsRow g (keys_of tokens.now.tokens.now) at
+        ≡ holds_behind g (keys_of tokens.now.tokens.now) result }
+{
+    if at >= tokens.tokens.len() {
+        return None;
+    }
+    type_arguments_end(alloc, tokens.tokens, at)
+}
+
+/// The number behind the type parameters that can be read here, or none.
+#[tactic(auto, using(crate::proofs::EndLemmas::parameters_behind))]
+pub fn parameters_end(tokens: &Tokens<'_>, alloc: Global, at: usize) -> Option<usize>
+    ensures { (g : Guarding) → reads_before TypeParametersRow g (keys_of tokens.now.tokens.now) at
+        ≡ holds_behind g (keys_of tokens.now.tokens.now) result }
+{
+    if at >= tokens.tokens.len() {
+        return None;
+    }
+    type_parameters_end(alloc, tokens.tokens, at)
+}
+
+/// `<` opens type arguments behind an expression.
+#[tactic(auto, unfolding(es_whole_grammar::specs::Embedding::opens_call_arguments, es_whole_grammar::specs::Embedding::stands_call))]
+pub fn opens_call_arguments(tokens: &Tokens<'_>, alloc: Global, at: usize) -> bool
+    ensures { result ≡ opens_call_arguments (keys_of tokens.now.tokens.now) at }
+{
+    if !tokens.sees(TokenKind::Less, at) {
+        return false;
+    }
+    match arguments_end(tokens, alloc, at) {
+        Some(end) => begins_call(tokens.seen(end)),
+        None => false,
+    }
+}
+
+/// It does behind the operand of `extends`.
+#[tactic(auto, unfolding(es_whole_grammar::specs::Embedding::opens_heritage_arguments, es_whole_grammar::specs::Embedding::stands_heritage))]
+pub fn opens_heritage_arguments(tokens: &Tokens<'_>, alloc: Global, at: usize) -> bool
+    ensures { result ≡ opens_heritage_arguments (keys_of tokens.now.tokens.now) at }
+{
+    if !tokens.sees(TokenKind::Less, at) {
+        return false;
+    }
+    match arguments_end(tokens, alloc, at) {
+        Some(end) => {
+            begins_call(tokens.seen(end))
+                || tokens.sees(TokenKind::OpenBrace, end)
+                || tokens.sees(TokenKind::ImplementsWord, end)
+        }
+        None => false,
+    }
+}
+
+/// `(`, or `(` behind type arguments.
+#[tactic(auto, unfolding(es_whole_grammar::specs::Expressions::opens_call, es_whole_grammar::specs::Expressions::is_at))]
+pub fn opens_call(tokens: &Tokens<'_>, alloc: Global, at: usize) -> bool
+    ensures { result ≡ opens_call (keys_of tokens.now.tokens.now) at }
+{
+    if tokens.sees(TokenKind::OpenParen, at) {
+        return true;
+    }
+    if !tokens.sees(TokenKind::Less, at) {
+        return false;
+    }
+    match arguments_end(tokens, alloc, at) {
+        Some(end) => tokens.sees(TokenKind::OpenParen, end),
+        None => false,
+    }
+}

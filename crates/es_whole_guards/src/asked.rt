@@ -1,0 +1,97 @@
+//! What a test or guard that is named by a value says at a place.
+
+ghost use Rattle.std.specs.Prelude.{◌≡◌};
+ghost use Rattle.es_tree.specs.Key.{keys_of, seen, has_kind};
+ghost use Rattle.es_whole_guards.specs.Named.{kinds_of, look_of, guard_of};
+
+use crate::arguments::{opens_call, opens_call_arguments, opens_heritage_arguments};
+use crate::named::{Ahead, Guard, Kinds};
+use crate::{arrows, classes, declarations, expressions, looks};
+use es_guards::Tokens;
+use es_token::TokenKind;
+use std::alloc::Global;
+
+/// Whether the token at this place is of one of these kinds.
+pub fn is_kind(tokens: &Tokens<'_>, named: Kinds, at: usize) -> bool
+    ensures { result ≡ has_kind (kinds_of named) (seen (keys_of tokens.now.tokens.now) at) }
+{
+    looks::has(named, tokens.seen(at))
+}
+
+/// Whether the test holds at this place.
+pub fn sees_ahead(tokens: &Tokens<'_>, ahead: Ahead, at: usize) -> bool
+    ensures { result ≡ look_of ahead (seen (keys_of tokens.now.tokens.now) at) }
+{
+    match ahead {
+        Ahead::Plain(named) => tokens.sees_ahead(named, at),
+        Ahead::Has(named) => is_kind(tokens, named, at),
+        Ahead::BeginsParameters(lang) => expressions::begins_parameters(tokens, lang, at),
+        Ahead::BeginsArguments(lang) => expressions::begins_arguments(tokens, lang, at),
+        Ahead::BeginsCalleePost(lang) => expressions::begins_callee_post(tokens, lang, at),
+        Ahead::ValueHere(lang) => expressions::begins_value_here(tokens, lang, at),
+        Ahead::Operand(lang) => expressions::opens_operand(tokens, lang, at),
+        Ahead::Assertion => looks::opens_assertion(tokens.seen(at)),
+    }
+}
+
+/// Whether the guard holds at this place.
+pub fn holds(tokens: &Tokens<'_>, alloc: Global, guard: Guard, at: usize) -> bool
+    ensures { result ≡ guard_of guard (keys_of tokens.now.tokens.now) at }
+{
+    match guard {
+        Guard::OpensParameterModifier(context) => classes::opens_parameter_modifier(
+            tokens, context, at,
+        ),
+        Guard::ParameterModifiersOnce(context) => classes::parameters_once(tokens, context, at),
+        Guard::OpensMarked => classes::opens_marked(tokens, at),
+        Guard::OpensAnyMethod(lang) => classes::opens_any_method(tokens, lang, at),
+        Guard::OpensModifier => classes::opens_modifier(tokens, at),
+        Guard::ModifiersOnce => classes::members_once(tokens, at),
+        Guard::IsMemberKey => classes::is_member_key(tokens, at),
+        Guard::BehindAllIndex => classes::behind_all_index(tokens, at),
+        Guard::BehindAllAccessor => classes::behind_all_accessor(tokens, at),
+        Guard::BehindAllAsync => classes::behind_all_async(tokens, at),
+        Guard::BehindAllStar => classes::behind_all_star(tokens, at),
+        Guard::BehindAllFieldAccessor => classes::behind_all_field_accessor(tokens, at),
+        Guard::BehindAllMethod => classes::behind_all_method(tokens, at),
+        Guard::OpensDeclarator => classes::opens_declarator(tokens, at),
+        Guard::OpensInterface => declarations::opens_interface(tokens, at),
+        Guard::OpensAlias => declarations::opens_alias(tokens, at),
+        Guard::OpensEnum => declarations::opens_enum(tokens, at),
+        Guard::OpensNamespace => declarations::opens_namespace(tokens, at),
+        Guard::OpensModule => declarations::opens_module(tokens, at),
+        Guard::OpensGlobal => declarations::opens_global(tokens, at),
+        Guard::OpensDeclare => declarations::opens_declare(tokens, at),
+        Guard::DeclaresVariables => declarations::declares_variables(tokens, at),
+        Guard::OpensAnyDefaultClass(lang) => declarations::opens_any_default_class(
+            tokens, lang, at,
+        ),
+        Guard::OpensDefaultInterface => declarations::opens_default_interface(tokens, at),
+        Guard::OpensAnyDeclaration(lang) => declarations::opens_any_declaration(tokens, lang, at),
+        Guard::OpensExportAssignment => declarations::opens_export_assignment(tokens, at),
+        Guard::Plain(named) => tokens.holds(named, at),
+        Guard::OpensAnyArrow(lang, context) => arrows::opens_any_arrow(
+            tokens, alloc, lang, context, at,
+        ),
+        Guard::OpensAsyncHere(lang, context) => arrows::opens_async_here(
+            tokens, alloc, lang, context, at,
+        ),
+        Guard::OpensAsyncList(lang) => arrows::opens_async_list(tokens, lang, at),
+        Guard::OpensArrowResult(context) => arrows::opens_arrow_result(tokens, context, at),
+        Guard::OpensNoArrow(lang, context) => arrows::opens_no_arrow(tokens, lang, context, at),
+        Guard::OpensCallArguments => opens_call_arguments(tokens, alloc, at),
+        Guard::OpensHeritageArguments => opens_heritage_arguments(tokens, alloc, at),
+        Guard::OpensPost => expressions::opens_post(tokens, alloc, at),
+        Guard::OpensCall => opens_call(tokens, alloc, at),
+        Guard::OpensTypedTemplate => tokens.sees(TokenKind::Less, at),
+        Guard::OpensComparison(lang, context) => expressions::opens_comparison(
+            tokens, alloc, lang, context, at,
+        ),
+        Guard::IsBehindAs => expressions::is_behind_as(tokens, at),
+        Guard::OpensAbstractClass => expressions::opens_abstract_class(tokens, at),
+        Guard::MayAwait(context) => !context.script || context.in_async,
+        Guard::MayTest(context) => !context.no_in,
+        Guard::IsModule(context) => !context.script,
+        Guard::IsScript(context) => context.script,
+    }
+}

@@ -1,0 +1,22 @@
+//! The guards of the grammar of programs in both languages, over the tokens of a text: those that the plain grammar
+//! (`es_guards`) doesn't have.
+//!
+//! - `Context`: where a row stands.
+//! - `Kinds`, `Ahead`, `Guard`: tests and guards named by a value, the plain ones among them; `is_kind`, `sees_ahead`,
+//!   `holds` ask them.
+//!
+//! Each answers what its definition in `es_whole_grammar` says of the keys of the tokens. None asks anything of the place.
+#![tactic(auto)]
+
+mod arguments;
+mod arrows;
+mod asked;
+mod classes;
+mod declarations;
+mod expressions;
+mod kinds;
+mod looks;
+mod named;
+
+pub use asked::{holds, is_kind, sees_ahead};
+pub use named::{Ahead, Context, Guard, Kinds};
