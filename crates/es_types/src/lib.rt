@@ -15,4 +15,6 @@ mod rows;
 mod types;
 
 pub use rows::{RuleOf, read_row};
-pub use types::{TypePart, TypeRead, is_type_arguments, read_type, type_parameters_end};
+pub use types::{
+    TypePart, TypeRead, is_type_arguments, read_type, type_arguments_end, type_parameters_end,
+};

@@ -7,7 +7,7 @@ ghost use Rattle.es_type_reader.specs.declared.tree.Tree.{Tree as Kept};
 ghost use Rattle.es_type_reader.specs.Names.{row_of};
 ghost use Rattle.es_type_reader.specs.Bounded.{row_at};
 ghost use Rattle.es_type_reader.specs.Steps.{IsRead};
-ghost use Rattle.es_types.specs.declared.types.TypePart.TheVariants.{TParams};
+ghost use Rattle.es_types.specs.declared.types.TypePart.TheVariants.{TParams, TArgs};
 ghost use Rattle.es_types.specs.Derived.{part_row, IsKept, Reaches, GivesType, follows_arguments, OpensArguments};
 
 use crate::rows::read_row;
@@ -123,6 +123,15 @@ pub fn type_parameters_end(alloc: Global, tokens: &[Token], at: usize) -> Option
     ensures only { (to : ℕ) → Reaches TParams (keys_of tokens.now) 500 at to → result ≡ Some to }
 {
     reach(alloc, TypePart::TParams, tokens, at)
+}
+
+/// The number behind the last token of the type arguments that can be read at a place, or none where none can.
+pub fn type_arguments_end(alloc: Global, tokens: &[Token], at: usize) -> Option<usize>
+    requires { at ≤ length tokens.now }
+    ensures some { IfSome result (λ to. Reaches TArgs (keys_of tokens.now) 500 at to) }
+    ensures only { (to : ℕ) → Reaches TArgs (keys_of tokens.now) 500 at to → result ≡ Some to }
+{
+    reach(alloc, TypePart::TArgs, tokens, at)
 }
 
 /// What follows type arguments behind an expression.

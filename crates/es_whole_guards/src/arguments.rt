@@ -17,7 +17,7 @@ use std::alloc::Global;
 
 /// The number behind the type arguments that can be read here, or none: a guard holds behind them exactly where it does
 /// behind that number.
-#[tactic(auto, using(crate::proofs::EndLemmas::arguments_behind))]
+#[tactic(auto, using(crate::proofs::EndLemmas::behind))]
 fn arguments_end(tokens: &Tokens<'_>, alloc: Global, at: usize) -> Option<usize>
     ensures { (g : Guarding) → reads_before ArgumentsRow g (keys_of tokens.now.tokens.now) at
         ≡ holds_behind g (keys_of tokens.now.tokens.now) result }
@@ -29,7 +29,7 @@ fn arguments_end(tokens: &Tokens<'_>, alloc: Global, at: usize) -> Option<usize>
 }
 
 /// The number behind the type parameters that can be read here, or none.
-#[tactic(auto, using(crate::proofs::EndLemmas::parameters_behind))]
+#[tactic(auto, using(crate::proofs::EndLemmas::behind))]
 pub fn parameters_end(tokens: &Tokens<'_>, alloc: Global, at: usize) -> Option<usize>
     ensures { (g : Guarding) → reads_before TypeParametersRow g (keys_of tokens.now.tokens.now) at
         ≡ holds_behind g (keys_of tokens.now.tokens.now) result }
