@@ -19,24 +19,20 @@ use std::alloc::Global;
 /// behind that number.
 #[tactic(auto, using(crate::proofs::EndLemmas::behind))]
 fn arguments_end(tokens: &Tokens<'_>, alloc: Global, at: usize) -> Option<usize>
+    requires { at ≤ length tokens.now.tokens.now }
     ensures { (g : Guarding) → reads_before ArgumentsRow g (keys_of tokens.now.tokens.now) at
         ≡ holds_behind g (keys_of tokens.now.tokens.now) result }
 {
-    if at >= tokens.tokens.len() {
-        return None;
-    }
     type_arguments_end(alloc, tokens.tokens, at)
 }
 
 /// The number behind the type parameters that can be read here, or none.
 #[tactic(auto, using(crate::proofs::EndLemmas::behind))]
 pub fn parameters_end(tokens: &Tokens<'_>, alloc: Global, at: usize) -> Option<usize>
+    requires { at ≤ length tokens.now.tokens.now }
     ensures { (g : Guarding) → reads_before TypeParametersRow g (keys_of tokens.now.tokens.now) at
         ≡ holds_behind g (keys_of tokens.now.tokens.now) result }
 {
-    if at >= tokens.tokens.len() {
-        return None;
-    }
     type_parameters_end(alloc, tokens.tokens, at)
 }
 
@@ -45,7 +41,7 @@ pub fn parameters_end(tokens: &Tokens<'_>, alloc: Global, at: usize) -> Option<u
 pub fn opens_call_arguments(tokens: &Tokens<'_>, alloc: Global, at: usize) -> bool
     ensures { result ≡ opens_call_arguments (keys_of tokens.now.tokens.now) at }
 {
-    if !tokens.sees(TokenKind::Less, at) {
+    if !tokens.stands(TokenKind::Less, at) {
         return false;
     }
     match arguments_end(tokens, alloc, at) {
@@ -59,7 +55,7 @@ pub fn opens_call_arguments(tokens: &Tokens<'_>, alloc: Global, at: usize) -> bo
 pub fn opens_heritage_arguments(tokens: &Tokens<'_>, alloc: Global, at: usize) -> bool
     ensures { result ≡ opens_heritage_arguments (keys_of tokens.now.tokens.now) at }
 {
-    if !tokens.sees(TokenKind::Less, at) {
+    if !tokens.stands(TokenKind::Less, at) {
         return false;
     }
     match arguments_end(tokens, alloc, at) {
@@ -80,7 +76,7 @@ pub fn opens_call(tokens: &Tokens<'_>, alloc: Global, at: usize) -> bool
     if tokens.sees(TokenKind::OpenParen, at) {
         return true;
     }
-    if !tokens.sees(TokenKind::Less, at) {
+    if !tokens.stands(TokenKind::Less, at) {
         return false;
     }
     match arguments_end(tokens, alloc, at) {

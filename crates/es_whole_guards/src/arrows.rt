@@ -56,7 +56,7 @@ fn opens_arrow_here(tokens: &Tokens<'_>, lang: Lang, context: Context, at: usize
 fn opens_generic_async(tokens: &Tokens<'_>, alloc: Global, context: Context, at: usize) -> bool
     ensures { result ≡ opens_generic_async (context_of context) (keys_of tokens.now.tokens.now) at }
 {
-    if !tokens.sees(TokenKind::Less, at) {
+    if !tokens.stands(TokenKind::Less, at) {
         return false;
     }
     match parameters_end(tokens, alloc, at) {
