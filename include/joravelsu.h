@@ -28,13 +28,13 @@ enum {
     JORAVELSU_TOO_LONG = 6,        /* sites: the text is over 16 MiB */
     JORAVELSU_NO_UTF8 = 7,         /* sites: the text is no UTF-8 */
     JORAVELSU_NO_MEDIA_TYPE = 8,   /* sites: no media type has this number */
-    JORAVELSU_NOT_READ = 9,        /* sites: sources of this media type aren't read yet */
+    JORAVELSU_NOT_READ = 9,        /* sites: modules of this media type are no sources */
     JORAVELSU_LEXICAL_FAULT = 10,  /* sites: a part of the text is no token; the answer says which fault, and where */
-    JORAVELSU_SYNTAX_FAULT = 11    /* sites: the tokens are no module of the grammar that is read today; the answer says where
-                                      that was noticed (the one place that no proof covers) */
+    JORAVELSU_SYNTAX_FAULT = 11    /* sites: the tokens are no program of the grammar; the answer says where that was
+                                      noticed (the one place that no proof covers) */
 };
 
-/* Media types. Read today: TypeScript, Mts, JavaScript, Mjs. */
+/* Media types. Sources are all but JSON and WebAssembly. */
 enum {
     JORAVELSU_DTS = 0,
     JORAVELSU_DMTS = 1,

@@ -2,7 +2,7 @@
 
 use base::{Range, Text};
 use graph_entry::{
-    Dependency, DependencyKind, Entry, Module, ModuleError, PackageKind, PackageRef,
+    Attribute, Dependency, DependencyKind, Entry, Module, ModuleError, PackageKind, PackageRef,
 };
 use std::alloc::{AllocError, Global};
 
@@ -74,13 +74,30 @@ fn with_edges(
 
 fn push_edge(alloc: Global, line: &mut String, edge: &Dependency) -> Result<(), AllocError> {
     let Range { start, end } = edge.range.unwrap_or(Range { start: 0, end: 0 });
-    let kind = match edge.kind {
-        DependencyKind::Import => "import",
-        _ => "other",
+    let kind = kind_of(edge);
+    let mark = match &edge.attribute {
+        Attribute::Absent => String::new(alloc),
+        Attribute::Named(name) => format!(in alloc; " with {name}")?,
+        Attribute::Unknown => String::from_str(alloc, " with ?")?,
     };
     let part = match &edge.resolution {
-        Ok(target) => format!(in alloc; "; {kind} {start}-{end} {} -> {target}", edge.text)?,
-        Err(error) => format!(in alloc; "; {kind} {start}-{end} {} ! {error}", edge.text)?,
+        Ok(target) => {
+            format!(in alloc; "; {kind} {start}-{end} {}{mark} -> {target}", edge.text)?
+        }
+        Err(error) => { format!(in alloc; "; {kind} {start}-{end} {}{mark} ! {error}", edge.text)? }
     };
     line.push_str(part.as_str())
+}
+
+fn kind_of(edge: &Dependency) -> &'static str {
+    match (edge.kind, edge.type_only) {
+        (DependencyKind::Import, false) => "import",
+        (DependencyKind::Import, true) => "import-type",
+        (DependencyKind::Export, false) => "export",
+        (DependencyKind::Export, true) => "export-type",
+        (DependencyKind::ImportEquals, false) => "import-equals",
+        (DependencyKind::ImportEquals, true) => "import-equals-type",
+        (DependencyKind::Dynamic, _) => "dynamic",
+        _ => "other",
+    }
 }

@@ -1,6 +1,6 @@
 -- Classes of bytes (ECMA-262, "White Space", "Line Terminators", "Names and Keywords").
 -- A character past ASCII is told by all its bytes.
-use Rattle.std.specs.Prelude.{ℕ, Bool, true, false, not, nat_le, ◌&&◌, ◌||◌, ◌==◌, List, [], ◌∷◌, if◌then◌else◌}
+use Rattle.std.specs.Prelude.{ℕ, Bool, true, false, not, nat_le, nat_lt, ◌&&◌, ◌||◌, ◌==◌, List, [], ◌∷◌, if◌then◌else◌}
 use Rattle.std.specs.Char.{is_ascii_alphabetic, is_ascii_digit}
 use Rattle.es_spelling.specs.Lines.{begins_line_end}
 use Rattle.es_wide.specs.Wide.{wide_size}
@@ -44,6 +44,11 @@ first_of b =
     else (if b == 92 then Backslash
     else (if nat_le 128 b then Wide
     else Other)))))))))))
+
+-- a letter, `$` or `_`
+unfoldable pub is_letter : First → Bool
+is_letter Start = true
+is_letter class = false
 
 -- `//` or `/*` stands here (Comment)
 unfoldable pub begins_comment : List ℕ → Bool
@@ -107,3 +112,13 @@ unfoldable pub begins_name : List ℕ → Bool
 begins_name [] = false
 begins_name (b ∷ rest) =
     is_start b || (not (wide_size (b ∷ rest) == 0) || not (escaped_start (b ∷ rest) == 0))
+
+-- a letter, `$` or `_` stands here
+unfoldable pub begins_letter : List ℕ → Bool
+begins_letter [] = false
+begins_letter (b ∷ rest) = is_letter (first_of b)
+
+-- the text ends here, or a byte of ASCII stands here that is no part of a word and begins none
+unfoldable pub ends_plainly : List ℕ → Bool
+ends_plainly [] = true
+ends_plainly (b ∷ rest) = if is_part b then false else (if b == 92 then false else nat_lt b 128)

@@ -1,5 +1,7 @@
 -- What the functions of the crate promise each other: words and punctuators that their first bytes tell.
-use Rattle.std.specs.Prelude.{ℕ, ◌+◌}
+use Rattle.std.specs.Prelude.{ℕ, ◌+◌, ◌||◌, ◌==◌, List, [], ◌∷◌, Option, Some, None, if◌then◌else◌}
+use Rattle.std.specs.Char.{is_ascii_digit}
+use Rattle.es_lexer.specs.Brackets.{is_open}
 use Rattle.es_lexer.specs.declared.bracket.BracketKind.{BracketKind}
 use Rattle.es_lexer.specs.declared.bracket.BracketKind.TheVariants.{Round, Square, Curly, Template}
 use Rattle.es_lexer.specs.declared.bracket.Role.{Role}
@@ -52,3 +54,29 @@ short_role (short.Closes b) = role.Closes b
 -- the token of one byte that it is at `at`
 abbrev pub short_found : ℕ → Short → Look
 short_found at s = look.Token (short_kind s) (at + 1)
+
+-- a bracket that closes, where such a one is the innermost open one
+unfoldable pub closing : Option BracketKind → BracketKind → Option Short
+closing bracket b = if is_open bracket b then Some (short.Closes b) else None
+
+-- the punctuator of this byte, where this is the innermost open bracket, if this next byte tells that it is no longer
+unfoldable pub short_of : Option BracketKind → ℕ → ℕ → Option Short
+short_of bracket b c =
+    if b == 59 then Some (short.Stops stop.Semicolon)
+    else (if b == 44 then Some (short.Stops stop.Comma)
+    else (if b == 58 then Some (short.Stops stop.Colon)
+    else (if b == 46 then (if is_ascii_digit c || c == 46 then None else Some short.Dot)
+    else (if b == 40 then Some (short.Opens Round)
+    else (if b == 91 then Some (short.Opens Square)
+    else (if b == 123 then Some (short.Opens Curly)
+    else (if b == 41 then closing bracket Round
+    else (if b == 93 then closing bracket Square
+    else (if b == 125 then closing bracket Curly
+    else None)))))))))
+
+-- the same at the front of a text; the last two bytes of a text are left to the look at all tokens
+unfoldable pub short_at : Option BracketKind → List ℕ → Option Short
+short_at bracket [] = None
+short_at bracket (b ∷ []) = None
+short_at bracket (b ∷ c ∷ []) = None
+short_at bracket (b ∷ c ∷ d ∷ rest) = short_of bracket b c

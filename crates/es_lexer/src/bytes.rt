@@ -1,6 +1,6 @@
 ghost use Rattle.std.specs.Prelude.{◌≡◌, ◌≤◌, length};
 ghost use Rattle.std.specs.Bool.{OnTrue};
-ghost use Rattle.es_lexer.specs.Bytes.{begins_backslash, begins_escape, begins_name, first_of, is_blank, is_part, is_start, joins, part_unit, word_unit};
+ghost use Rattle.es_lexer.specs.Bytes.{begins_backslash, begins_escape, begins_name, ends_plainly, first_of, is_blank, is_part, is_start, joins, part_unit, word_unit};
 
 use es_wide::{escaped_part, escaped_start, wide_size};
 
@@ -123,9 +123,10 @@ pub fn word_unit(text: &[u8]) -> usize
 
 /// Whether an ASCII byte stands here that is no part of a name and begins none, or nothing.
 #[inline(always)]
-#[tactic(auto, unfolding(crate::specs::Bytes::word_unit, crate::specs::Bytes::part_unit))]
+#[tactic(auto, unfolding(crate::specs::Bytes::word_unit, crate::specs::Bytes::part_unit, crate::specs::Bytes::ends_plainly))]
 pub fn ends_word(text: &[u8]) -> bool
-    ensures { OnTrue result (word_unit text.now ≡ 0) }
+    ensures value { result ≡ ends_plainly text.now }
+    ensures none { OnTrue result (word_unit text.now ≡ 0) }
 {
     match text {
         [] => true,

@@ -1,6 +1,6 @@
-ghost use Rattle.std.specs.Prelude.{◌≡◌, ◌+◌, ◌<◌, ◌≤◌, ◌^◌, ◌∷◌, false, length, drop, IfSome};
+ghost use Rattle.std.specs.Prelude.{◌≡◌, ◌+◌, ◌<◌, ◌≤◌, ◌^◌, ◌∷◌, false, length, drop, IfSome, IfNone};
 ghost use Rattle.std.specs.Bool.{OnTrue};
-ghost use Rattle.es_lexer.specs.Bytes.{begins_closer};
+ghost use Rattle.es_lexer.specs.Bytes.{begins_closer, begins_letter};
 ghost use Rattle.es_lexer.specs.Signs.{sign_at};
 ghost use Rattle.es_lexer.specs.Short.{word_found};
 ghost use Rattle.es_lexer.specs.Spelling.{number_kind};
@@ -434,10 +434,11 @@ fn is_closer(b: u8, after: &[u8]) -> bool
 
 /// The word at `at`, where a letter, `$` or `_` stands at the front of `text`.
 #[inline(always)]
-#[tactic(auto, unfolding(crate::specs::Look::look_at, crate::specs::Look::class_look, crate::specs::Look::word_look))]
+#[tactic(auto, unfolding(crate::specs::Look::look_at, crate::specs::Look::class_look, crate::specs::Look::word_look, crate::specs::Bytes::begins_letter, crate::specs::Bytes::is_letter))]
 pub fn short_word(goal: Goal, at: usize, text: &[u8]) -> Option<Word>
     requires { at + length text.now < 2 ^ 64 }
-    ensures { IfSome result (λ word. look_at goal at text.now ≡ word_found word) }
+    ensures found { IfSome result (λ word. look_at goal at text.now ≡ word_found word) }
+    ensures missed { IfNone result (begins_letter text.now ≡ false) }
 {
     match text {
         [] => None,

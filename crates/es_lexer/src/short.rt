@@ -1,7 +1,7 @@
 ghost use Rattle.std.specs.Prelude.{◌≡◌, ◌∷◌, ◌<◌, ℕ, List, length, IfSome};
 ghost use Rattle.es_lexer.specs.Goal.{token_state};
 ghost use Rattle.es_lexer.specs.Look.{look_at};
-ghost use Rattle.es_lexer.specs.Short.{stop_kind, opener_kind, closer_kind, short_found};
+ghost use Rattle.es_lexer.specs.Short.{stop_kind, opener_kind, closer_kind, short_found, short_of, short_at};
 
 use crate::bracket::BracketKind;
 use crate::goal::{Goal, State, token_state};
@@ -27,6 +27,7 @@ pub enum Short {
 /// The punctuator at the front of `text`, where it is such a one and two more bytes follow.
 #[inline(always)]
 pub fn short_sign(goal: Goal, text: &[u8]) -> Option<Short>
+    ensures value { result ≡ short_at goal.bracket text.now }
     ensures found { IfSome result (λ short. (at : ℕ) → look_at goal at text.now ≡ short_found at short) }
     ensures room { IfSome result (λ short. 0 < length text.now) }
 {
@@ -38,9 +39,10 @@ pub fn short_sign(goal: Goal, text: &[u8]) -> Option<Short>
 
 /// The punctuator of this byte, before this one and a third.
 #[inline(always)]
-#[tactic(auto, unfolding(crate::specs::Short::short_kind, crate::specs::Short::stop_kind, crate::specs::Short::opener_kind, crate::specs::Short::closer_kind, crate::specs::Look::look_at, crate::specs::Look::class_look, crate::specs::Look::sign_look, crate::specs::Look::brace_look, crate::specs::Look::dot_look, crate::specs::Goal::begins_digit, crate::specs::Bytes::first_of, crate::specs::Brackets::is_open, crate::specs::Brackets::may_close, crate::specs::Brackets::role_of, crate::specs::Signs::sign_at, crate::specs::Signs::sign_kind, crate::specs::Signs::sign_in, crate::specs::Signs::signs_of_one, crate::specs::Signs::signs_of_two, crate::specs::Signs::signs_of_three, crate::specs::Signs::two_before, crate::specs::Signs::sized))]
+#[tactic(auto, unfolding(crate::specs::Short::short_of, crate::specs::Short::closing, crate::specs::Short::short_kind, crate::specs::Short::stop_kind, crate::specs::Short::opener_kind, crate::specs::Short::closer_kind, crate::specs::Look::look_at, crate::specs::Look::class_look, crate::specs::Look::sign_look, crate::specs::Look::brace_look, crate::specs::Look::dot_look, crate::specs::Goal::begins_digit, crate::specs::Bytes::first_of, crate::specs::Brackets::is_open, crate::specs::Brackets::may_close, crate::specs::Brackets::role_of, crate::specs::Signs::sign_at, crate::specs::Signs::sign_kind, crate::specs::Signs::sign_in, crate::specs::Signs::signs_of_one, crate::specs::Signs::signs_of_two, crate::specs::Signs::signs_of_three, crate::specs::Signs::two_before, crate::specs::Signs::sized))]
 fn short_before(goal: Goal, b: u8, c: u8) -> Option<Short>
-    ensures { IfSome result (λ short. (at d : ℕ) (rest : List ℕ) → look_at goal at (b ∷ c ∷ d ∷ rest) ≡ short_found at short) }
+    ensures value { result ≡ short_of goal.bracket b c }
+    ensures found { IfSome result (λ short. (at d : ℕ) (rest : List ℕ) → look_at goal at (b ∷ c ∷ d ∷ rest) ≡ short_found at short) }
 {
     match b {
         b';' => Some(Short::Stops(Stop::Semicolon)),

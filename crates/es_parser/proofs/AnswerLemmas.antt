@@ -1,76 +1,66 @@
--- What the answer of the whole parser tells of the trees that are derived, and the other way round.
-use Rattle.std.specs.Prelude.{List, Result, Err}
-use Rattle.std.proofs.Common.{◌≡◌, ◌≢◌, ℕ, length, refl, sym, ap, ◌∙◌, subst}
+-- What the plain tree that is read and the typed tree that is made of it tell of the trees that are derived.
+use Rattle.std.specs.Prelude.{List, Option, Some, None, Result, Err}
+use Rattle.std.proofs.Common.{◌≡◌, ◌≢◌, ℕ, refl, sym, ap, ◌∙◌, subst}
+use Rattle.std.proofs.lemmas.Option.{same_Some}
 use Rattle.es_token.specs.declared.token.Token.{Token}
 use Rattle.es_tree.specs.declared.error.Lang.{Lang}
 use Rattle.es_tree.specs.declared.error.Mode.{Mode}
+use Rattle.es_tree.specs.Key.{keys_of}
 use Rattle.es_tree.specs.declared.error.SyntaxError.{SyntaxError}
 use Rattle.es_tree.specs.declared.error.SyntaxError.TheVariants.{Syntax, OutOfMemory}
 use Rattle.es_ast.specs.declared.ast.Program.{Program}
-use Rattle.es_tree.specs.Key.{keys_of}
-use Rattle.es_tree.specs.Fits.{most_nodes}
-use Rattle.es_tree.specs.Reader.{nothing, gives}
-use Rattle.es_tree.proofs.OutLemmas.{nothing_gives, gives_same}
-use Rattle.es_tree.proofs.Theorems.{read_is_derived, derived_is_read}
-use Rattle.es_parser.specs.Rows.{ProgramRow, rule}
-use Rattle.es_parser.specs.Dress.{values, program}
-use Rattle.es_parser.specs.Derives.{Derives, GivesTree}
-use Rattle.es_parser.specs.Steps.{row_at}
-use Rattle.es_parser.proofs.Table.{sets, grammar, rows_flat}
-use Rattle.es_parser.proofs.TokenLemmas.{length-keys_of}
+use Rattle.es_reader.specs.declared.tree.Tree.{Tree}
+use Rattle.es_reader.specs.Slim.{tree_of}
+use Rattle.es_sound.specs.Program.{IsKept}
+use Rattle.es_program.specs.Derived.{GivesTree as GivesPlain}
+use Rattle.es_dress.specs.Dress.{value_of}
+use Rattle.es_dresser.specs.declared.error.DressError.{DressError}
+use Rattle.es_dresser.specs.declared.error.DressError.TheVariants as dress
+use Rattle.es_derives.specs.Derives.{program_in, Derives}
+use Rattle.es_parser.specs.Answers.{GivesTree}
 
--- two programs that are one value are one
-pub program_same : (a b : Program) → program a ≡ program b → a ≡ b
-program_same a b e = cc
+none_made : (p : Program) (o : Option Program) → o ≡ None → o ≡ Some p → ⊥
+none_made p o none made = cc
 
 module _ (l : Lang) (m : Mode) (x : List ℕ) (ts : List Token) where
-  -- what is read up to the end is derived
-  pub read_derived : (room : ℕ) (tree : Program) (to : ℕ) → room ≡ most_nodes
-      → row_at x ts room (ProgramRow l m) 0 ≡ gives (program tree) to → to ≡ length ts → Derives l m x ts tree
-  unfolding row_at
-  read_derived room tree to most read ends =
-      let found = read_is_derived rule sets (ProgramRow l m) (grammar l m) rows_flat (values x ts) (keys_of ts)
-      (program tree)
-      (ap (λ n. row_at x ts n (ProgramRow l m) 0) (sym most) ∙ read
-      ∙ ap (gives (program tree)) (ends ∙ sym (length-keys_of ts))) in
-      record { shape = found.0; shaped = found.1; dressed = found.2 }
+  -- a derived tree is that of a plain tree which is kept
+  pub kept_of : (p : Program) → (derived : Derives l m x ts p) → IsKept l m (keys_of ts) (tree_of derived.plain)
+  kept_of p derived = record { plain = derived.plain; program = derived.program; kept = refl }
 
-  -- what is derived is read, up to the end
-  pub derived_read : (room : ℕ) (tree : Program) → room ≡ most_nodes → Derives l m x ts tree
-      → row_at x ts room (ProgramRow l m) 0 ≡ gives (program tree) (length ts)
-  unfolding row_at
-  derived_read room tree most derived =
-      ap (λ n. row_at x ts n (ProgramRow l m) 0) most
-      ∙ derived_is_read rule sets (ProgramRow l m) (grammar l m) (values x ts) (keys_of ts) derived.shape derived.shaped
-      ∙ ap (λ v. gives v (length (keys_of ts))) derived.dressed
-      ∙ ap (gives (program tree)) (length-keys_of ts)
+  -- what is made of a tree that is kept is derived
+  pub derived_of : (tree : Tree) (p : Program) → IsKept l m (keys_of ts) tree
+      → program_in (value_of x ts tree) ≡ Some p → Derives l m x ts p
+  derived_of tree p kept made = record {
+    plain = kept.plain;
+    program = kept.program;
+    dressed = ap (λ t. program_in (value_of x ts t)) kept.kept ∙ made;
+  }
 
-  -- an answer is the derived tree
-  pub answer_only : (room : ℕ) (answer tree : Program) (to : ℕ) → room ≡ most_nodes
-      → row_at x ts room (ProgramRow l m) 0 ≡ gives (program answer) to → Derives l m x ts tree
-      → (answer ≡ tree) × (to ≡ length ts)
-  answer_only room answer tree to most read derived =
-      let same = gives_same (program answer) (program tree) to (length ts)
-      (sym read ∙ derived_read room tree most derived) in
-      (program_same answer tree same.0, same.1)
+  -- what is derived is made of the tree that was read
+  made_of : (tree : Tree) (p : Program) → (derived : Derives l m x ts p) → tree ≡ tree_of derived.plain
+      → program_in (value_of x ts tree) ≡ Some p
+  made_of tree p derived same = ap (λ t. program_in (value_of x ts t)) same ∙ derived.dressed
 
-  -- where something is derived, only "out of memory" refuses
-  pub refused_only : (room : ℕ) (r : Result Program SyntaxError) (y e : SyntaxError) (tree : Program)
-      → room ≡ most_nodes
-      → r ≡ Err y → y ≡ e → (e ≢ OutOfMemory → row_at x ts room (ProgramRow l m) 0 ≡ nothing)
-      → Derives l m x ts tree → GivesTree r tree
-  refused_only room r y e tree most is_err same told derived =
-      let P : Result Program SyntaxError → Type 0 = λ r. GivesTree r tree in
-      subst P (sym (is_err ∙ ap Err same)) (at_error e told)
-    where
-      at_error : (e : SyntaxError) → (e ≢ OutOfMemory → row_at x ts room (ProgramRow l m) 0 ≡ nothing)
-          → GivesTree (Err e) tree
-      at_error OutOfMemory told = tt
-      at_error (Syntax token) told =
-          nothing_gives (program tree) (length ts)
-          (sym (told (λ eq. let bad : ⊥ = cc in bad)) ∙ derived_read room tree most derived)
+  pub one_made : (tree : Tree) (q p : Program) → (derived : Derives l m x ts p) → tree ≡ tree_of derived.plain
+      → program_in (value_of x ts tree) ≡ Some q → q ≡ p
+  one_made tree q p derived same made = same_Some q p (sym made ∙ made_of tree p derived same)
 
--- the bound of the code
-pub most : 501 ≡ most_nodes
-unfolding most_nodes
-most = refl
+  -- where nothing is made, nothing is derived
+  pub none_derived : (tree : Tree) (p : Program) → (derived : Derives l m x ts p) → tree ≡ tree_of derived.plain
+      → program_in (value_of x ts tree) ≡ None → ⊥
+  none_derived tree p derived same none =
+      none_made p (program_in (value_of x ts tree)) none (made_of tree p derived same)
+
+-- a refusal of the plain tree is one of the typed tree
+pub refused : (r : Result Program SyntaxError) (y e : SyntaxError) (p : Program) (tree : Tree) → r ≡ Err y → y ≡ e
+    → GivesPlain (Err e) tree → GivesTree r p
+refused r y e p tree is_err same given =
+    let P : Result Program SyntaxError → Type 0 = λ r. GivesTree r p in
+    subst P (sym (is_err ∙ ap Err same)) (at_error e given)
+  where
+    at_error : (e : SyntaxError) → GivesPlain (Err e) tree → GivesTree (Err e) p
+    at_error (Syntax token) given = absurd given
+    at_error OutOfMemory given = tt
+
+pub other_form : (e : DressError) → e ≡ dress.OtherForm → e ≢ dress.OutOfMemory
+other_form e is = λ room. let bad : ⊥ = cc in bad

@@ -6,7 +6,7 @@ use Rattle.es_tree.specs.Tells.{IsTold, none, implies, rule_starts, rule_tells}
 use Rattle.es_tree.proofs.EachKind.{holds_of_each}
 use Rattle.es_tree.proofs.FreeLemmas.{holds_then}
 use Rattle.es_tree.proofs.Theorems.{IsGrammar}
-use Rattle.es_whole_grammar.specs.Rows.{ModuleRow, ScriptRow}
+use Rattle.es_whole_grammar.specs.declared.rows.Row.TheVariants.{ModuleRow, ScriptRow}
 use Rattle.es_whole_grammar.specs.Table.{rule}
 use Rattle.es_whole_grammar.proofs.Sets.{first, follow, sets}
 use Rattle.es_whole_grammar.proofs.EsClaims as es

@@ -7,12 +7,14 @@ use Rattle.es_tree.specs.declared.error.Lang.TheVariants as lang
 use Rattle.es_tree.specs.Key.{TokenTest, is, is_end, is_token, has_kind}
 use Rattle.es_tree.specs.Tells.{Sets}
 use Rattle.es_grammar.specs.Words.{is_name, is_word, is_name_or_this, is_numeric, begins_key}
-use Rattle.es_grammar.specs.TypeRows as types
+use Rattle.es_whole_grammar.specs.declared.rows.TypeRow.{TypeRow}
+use Rattle.es_whole_grammar.specs.declared.rows.TypeRow.TheVariants as types
 use Rattle.es_grammar.specs.Types.{begins_type}
 use Rattle.es_grammar.specs.Members.{opens_parameters}
 use Rattle.es_grammar.specs.Expressions.{is_prefix, is_update, is_literal_word, begins_member, begins_post}
 use Rattle.es_grammar.specs.Statements.{is_variable_word}
-use Rattle.es_whole_grammar.specs.Rows.{Row, ModuleRow, ScriptRow, ItemRow, ClauseRow, NamedRow, ImportSpecifierRow, ExportSpecifierRow, AttributesRow, EntityRow, StatementRow, BlockRow, DeclarationRow, DeclaredRow, VariablesRow, DeclaratorRow, UsingRow, HeadRow, FunctionRow, ClassRow, SignatureRow, ParametersRow, ParameterRow, PatternRow, InnerPatternRow, PatternElementRow, PatternPropertyRow, MemberRow, PropertyRow, KeyRow, ExpressionRow, AssignmentRow, AndRow, BitOrRow, BitXorRow, BitAndRow, EqualityRow, RelationRow, ShiftRow, SumRow, ProductRow, PowerRow, UnaryRow, ChainRow, CalleeRow, PostRow, MemberPostRow, ArgumentsRow, ElementRow, TemplateRow, TypesRow}
+use Rattle.es_whole_grammar.specs.declared.rows.Row.{Row}
+use Rattle.es_whole_grammar.specs.declared.rows.Row.TheVariants.{ModuleRow, ScriptRow, ItemRow, ClauseRow, NamedRow, ImportSpecifierRow, ExportSpecifierRow, AttributesRow, EntityRow, StatementRow, BlockRow, DeclarationRow, DeclaredRow, VariablesRow, DeclaratorRow, UsingRow, HeadRow, FunctionRow, ClassRow, SignatureRow, ParametersRow, ParameterRow, PatternRow, InnerPatternRow, PatternElementRow, PatternPropertyRow, MemberRow, PropertyRow, KeyRow, ExpressionRow, AssignmentRow, AndRow, BitOrRow, BitXorRow, BitAndRow, EqualityRow, RelationRow, ShiftRow, SumRow, ProductRow, PowerRow, UnaryRow, ChainRow, CalleeRow, PostRow, MemberPostRow, ArgumentsRow, ElementRow, TemplateRow, TypesRow}
 use Rattle.es_whole_grammar.specs.Expressions.{begins_value, begins_parameters, opens_non_null}
 
 -- a token that can begin a chain, and one that can begin a pattern
@@ -56,7 +58,7 @@ begins_declaration l x =
     || (is k.AwaitWord x || (is k.AsyncWord x || if_typescript l begins_typed_declaration x)))))
 
 -- the tokens that may begin a row of types
-abbrev first_of_types : types.Row → TokenTest
+abbrev first_of_types : TypeRow → TokenTest
 first_of_types (types.TypeRow c) x = begins_type x
 first_of_types types.IntersectionRow x = begins_type x
 first_of_types types.OperandRow x = begins_type x

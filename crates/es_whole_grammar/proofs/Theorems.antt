@@ -1,6 +1,6 @@
 -- The laws of the grammar of programs, in both languages.
 use Rattle.std.specs.Prelude.{ℕ, List}
-use Rattle.std.proofs.Common.{◌≡◌, refl, length, subst}
+use Rattle.std.proofs.Common.{◌≡◌, refl, ap, length, subst}
 use Rattle.es_token.specs.declared.token.Token.{Token}
 use Rattle.es_tree.specs.declared.error.Lang.{Lang}
 use Rattle.es_tree.specs.declared.error.Mode.{Mode}
@@ -15,7 +15,11 @@ use Rattle.es_grammar.specs.TypeRows as types
 use Rattle.es_grammar.specs.TypeTable.{type_rule}
 use Rattle.es_grammar.specs.Order.{StandsBetween}
 use Rattle.es_grammar.proofs.OrderLemmas.{row_stands}
-use Rattle.es_whole_grammar.specs.Rows.{TypesRow, Label, type_}
+use Rattle.es_whole_grammar.specs.declared.rows.Label.{Label}
+use Rattle.es_whole_grammar.specs.declared.rows.Row.TheVariants.{TypesRow}
+use Rattle.es_whole_grammar.specs.declared.rows.Label.TheVariants.{OfType}
+use Rattle.es_whole_grammar.specs.TypeNames.{row_of_types, row_name, label_name}
+use Rattle.es_whole_grammar.specs.Embedding.{types_rule}
 use Rattle.es_whole_grammar.specs.Table.{rule}
 use Rattle.es_whole_grammar.specs.Conditions.{IsProgram, program_row}
 use Rattle.es_whole_grammar.proofs.Sets.{sets}
@@ -53,8 +57,32 @@ pub program_by_keys : (l : Lang) (m : Mode) (xs ys : List Token) (p : Plain Labe
     → IsProgram l m (keys_of xs) p → IsProgram l m (keys_of ys) p
 program_by_keys l m xs ys p same program = let P : List Key → Type 0 = λ K. IsProgram l m K p in subst P same program
 
+-- a row of types is the one that its name names
+rows_back : (r : types.Row) → row_of_types (row_name r) ≡ r
+rows_back (types.TypeRow c) = refl
+rows_back types.IntersectionRow = refl
+rows_back types.OperandRow = refl
+rows_back types.ReferenceRow = refl
+rows_back types.EntityRow = refl
+rows_back types.ImportRow = refl
+rows_back types.ArgumentsRow = refl
+rows_back types.TypeParametersRow = refl
+rows_back types.ElementRow = refl
+rows_back types.MemberRow = refl
+rows_back types.KeyRow = refl
+rows_back (types.ResultRow c) = refl
+rows_back types.ParametersRow = refl
+rows_back types.ParameterRow = refl
+rows_back types.PatternRow = refl
+rows_back types.PatternElementRow = refl
+rows_back types.PatternPropertyRow = refl
+rows_back types.PatternKeyRow = refl
+
 -- a type in a program is read as in the table of types, whatever is made of it: a reader of types serves both
 pub types_read : {Made : Type 0} (m : Makes Label Made) (l : Lang) (K : List Key) (room : ℕ) (r : types.Row) (at : ℕ)
-    → read_row m K (rule l) room (TypesRow r) at ≡ read_row (renamed TypesRow type_ m K) K type_rule room r at
+    → read_row m K (rule l) room (TypesRow (row_name r)) at
+    ≡ read_row (renamed (λ s. TypesRow (row_name s)) (λ s. OfType (label_name s)) m K) K type_rule room r at
 unfolding rule
-types_read m l K = row_same TypesRow type_ m K (rule l) type_rule (λ r. refl)
+types_read m l K =
+    row_same (λ s. TypesRow (row_name s)) (λ s. OfType (label_name s)) m K (rule l) type_rule
+    (λ r. ap (λ s. types_rule (type_rule s)) (rows_back r))

@@ -13,7 +13,12 @@ use Rattle.es_grammar.specs.Expressions.{ends_expression}
 use Rattle.es_grammar.specs.Functions.{starts_key, opens_accessor, opens_async, opens_star}
 use Rattle.es_grammar.specs.Classes.{opens_static, opens_field_accessor, behind_static, is_plain_member, opens_static_block}
 use Rattle.es_grammar.specs.Members.{shows_index}
-use Rattle.es_whole_grammar.specs.Rows.{Context, async_in, Row, BlockRow, SignatureRow, KeyRow, AssignmentRow, Label, plain_, IndexMember}
+use Rattle.es_whole_grammar.specs.declared.rows.Context.{Context}
+use Rattle.es_whole_grammar.specs.declared.rows.Row.{Row}
+use Rattle.es_whole_grammar.specs.declared.rows.Label.{Label}
+use Rattle.es_whole_grammar.specs.declared.rows.Row.TheVariants.{BlockRow, SignatureRow, KeyRow, AssignmentRow}
+use Rattle.es_whole_grammar.specs.declared.rows.Label.TheVariants.{OfPlain, IndexMember}
+use Rattle.es_whole_grammar.specs.Rows.{async_in}
 use Rattle.es_whole_grammar.specs.Embedding.{type_then, annotation_in, plain_form}
 use Rattle.es_whole_grammar.specs.Expressions.{star_in, body_in}
 use Rattle.es_whole_grammar.specs.Functions.{is_typed_modifier, modifiers_in, mark_in, opens_any_method, typed_head_in}
@@ -99,14 +104,14 @@ field_in lang.Typescript c =
 unfoldable pub modified_member : Lang → Context → Rule Row Label
 modified_member l c =
     pick (behind l (opens_accessor true))
-    (make (plain_ AccessorMember) (marked_in l accessor_word_in (class_method_in l c c)))
+    (make (OfPlain AccessorMember) (marked_in l accessor_word_in (class_method_in l c c)))
     (pick (behind l (opens_async true))
-    (make (plain_ AsyncMember) (marked_in l async_word_in (class_method_in l c (async_in c))))
-    (pick (behind l opens_star) (make (plain_ GeneratorMember) (marked_in l star_word_in (class_method_in l c c)))
+    (make (OfPlain AsyncMember) (marked_in l async_word_in (class_method_in l c (async_in c))))
+    (pick (behind l opens_star) (make (OfPlain GeneratorMember) (marked_in l star_word_in (class_method_in l c c)))
     (pick (behind l opens_field_accessor)
-    (make (plain_ AccessorField) (marked_in l field_word_in (field_in l c)))
-    (pick (behind l (opens_any_method l)) (make (plain_ MethodMember) (head_in l (class_method_in l c c)))
-    (make (plain_ FieldMember) (head_in l (field_in l c)))))))
+    (make (OfPlain AccessorField) (marked_in l field_word_in (field_in l c)))
+    (pick (behind l (opens_any_method l)) (make (OfPlain MethodMember) (head_in l (class_method_in l c c)))
+    (make (OfPlain FieldMember) (head_in l (field_in l c)))))))
 
 -- TS Mod* '[' Name ':' Type ']' (':' Type)? END
 unfoldable pub index_member : Rule Row Label
@@ -121,6 +126,6 @@ any_member lang.Typescript c = pick (behind_all shows_index) index_member (modif
 -- Member: ';' | 'static' Block | and those with modifiers
 unfoldable pub member : Lang → Context → Rule Row Label
 member l c =
-    choose (is k.Semicolon) (make (plain_ EmptyMember) (punct k.Semicolon done))
-    (pick opens_static_block (make (plain_ StaticBlock) (punct k.StaticWord (row (BlockRow c) done)))
+    choose (is k.Semicolon) (make (OfPlain EmptyMember) (punct k.Semicolon done))
+    (pick opens_static_block (make (OfPlain StaticBlock) (punct k.StaticWord (row (BlockRow c) done)))
     (any_member l c))

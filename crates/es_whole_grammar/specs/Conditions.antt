@@ -8,13 +8,16 @@ use Rattle.es_tree.specs.Key.{Key}
 use Rattle.es_tree.specs.Plain.{Plain, node, leaf, cons, mark, turn, via}
 use Rattle.es_tree.specs.Fits.{free, Shape}
 use Rattle.es_grammar.specs.declared.rows.Label.TheVariants.{Name, Parenthesized, Chain, Binary, MemberPost, IndexPost, Assignment, UpdatePostfix, UpdatePrefix}
-use Rattle.es_whole_grammar.specs.Rows.{Row, ModuleRow, ScriptRow, Label, plain_, type_, NonNullPost}
+use Rattle.es_whole_grammar.specs.declared.rows.Row.{Row}
+use Rattle.es_whole_grammar.specs.declared.rows.Label.{Label}
+use Rattle.es_whole_grammar.specs.declared.rows.Row.TheVariants.{ModuleRow, ScriptRow}
+use Rattle.es_whole_grammar.specs.declared.rows.Label.TheVariants.{OfPlain, OfType, NonNullPost}
 use Rattle.es_whole_grammar.specs.Table.{rule}
 
 -- `.a` or `[a]`
 abbrev pub is_member : Plain Label → Bool
-is_member (node (plain_ MemberPost) from to ps) = true
-is_member (node (plain_ IndexPost) from to ps) = true
+is_member (node (OfPlain MemberPost) from to ps) = true
+is_member (node (OfPlain IndexPost) from to ps) = true
 is_member _ = false
 
 -- what a `!` behind a part leaves of the answer: that of the parts before it
@@ -29,24 +32,24 @@ ends_in_member before p _ = unless_non_null p before
 
 -- the parts of a turn are `as const`, or `as` or `satisfies` with a type
 abbrev pub is_assertion : Plain Label → Bool
-is_assertion (cons operator (cons (cons (node (type_ l) from to ts) ps) rest)) = true
+is_assertion (cons operator (cons (cons (node (OfType l) from to ts) ps) rest)) = true
 is_assertion (cons operator (cons (cons (leaf s n) ps) rest)) = true
 is_assertion _ = false
 
 -- a simple target: a name, a chain that ends in a member, or such a one in brackets, or before `!`, `as` or
 -- `satisfies`
 abbrev pub is_simple : Plain Label → Bool
-is_simple (node (plain_ Name) from to ps) = true
-is_simple (node (plain_ Parenthesized) from to (mark n (cons q ps))) = is_simple q
-is_simple (node (plain_ Chain) from to (cons q (cons p (cons more ps)))) = ends_in_member (is_simple q) p more
-is_simple (node (plain_ Binary) from to (cons q (cons assertion ps))) = is_assertion assertion && is_simple q
+is_simple (node (OfPlain Name) from to ps) = true
+is_simple (node (OfPlain Parenthesized) from to (mark n (cons q ps))) = is_simple q
+is_simple (node (OfPlain Chain) from to (cons q (cons p (cons more ps)))) = ends_in_member (is_simple q) p more
+is_simple (node (OfPlain Binary) from to (cons q (cons assertion ps))) = is_assertion assertion && is_simple q
 is_simple _ = false
 
 -- the parts of a node are those that its alternative may have
 abbrev pub may_hold : Label → Plain Label → Bool
-may_hold (plain_ Assignment) (cons q ps) = is_simple q
-may_hold (plain_ UpdatePostfix) (cons q ps) = is_simple q
-may_hold (plain_ UpdatePrefix) (cons operator (cons q ps)) = is_simple q
+may_hold (OfPlain Assignment) (cons q ps) = is_simple q
+may_hold (OfPlain UpdatePostfix) (cons q ps) = is_simple q
+may_hold (OfPlain UpdatePrefix) (cons operator (cons q ps)) = is_simple q
 may_hold _ ps = true
 
 -- each node of the tree holds what it may, and each target is simple

@@ -9,11 +9,16 @@ use Rattle.es_tree.specs.Key.{seen, same_kind, has_kind, is}
 use Rattle.es_tree.specs.Form.{as_str, as_name, as_kind, as_there, hint, taken, Guard, Form, done, tok, punct, row, opt, many, alt, when_, Rule, make, choose, pick}
 use Rattle.es_grammar.specs.declared.rows.Label.TheVariants.{EmptyStatement, VariableDeclaration, UsingDeclaration}
 use Rattle.es_grammar.specs.Words.{only, is_name, is_near, is_other}
-use Rattle.es_grammar.specs.TypeRows as types
+use Rattle.es_whole_grammar.specs.declared.rows.TypeRow.TheVariants as types
 use Rattle.es_grammar.specs.Modules.{ended}
 use Rattle.es_grammar.specs.Expressions.{opens_async_function}
 use Rattle.es_grammar.specs.Statements.{is_variable_word, opens_using}
-use Rattle.es_whole_grammar.specs.Rows.{Context, outside, Row, ItemRow, EntityRow, VariablesRow, UsingRow, DeclaredRow, KeyRow, TypesRow, Label, plain_, DeclaredVariables, Declared, Interface, Alias, Enum, Namespace, ModuleNamespace, GlobalNamespace}
+use Rattle.es_whole_grammar.specs.declared.rows.Context.{Context}
+use Rattle.es_whole_grammar.specs.declared.rows.Row.{Row}
+use Rattle.es_whole_grammar.specs.declared.rows.Label.{Label}
+use Rattle.es_whole_grammar.specs.declared.rows.Row.TheVariants.{ItemRow, EntityRow, VariablesRow, UsingRow, DeclaredRow, KeyRow, TypesRow}
+use Rattle.es_whole_grammar.specs.declared.rows.Label.TheVariants.{OfPlain, DeclaredVariables, Declared, Interface, Alias, Enum, Namespace, ModuleNamespace, GlobalNamespace}
+use Rattle.es_whole_grammar.specs.Rows.{outside}
 use Rattle.es_whole_grammar.specs.Embedding.{type_then, type_parameters_in, plain_form}
 use Rattle.es_whole_grammar.specs.Expressions.{function, async_function, class_, abstract_class, opens_abstract_class, references_in}
 use Rattle.es_whole_grammar.specs.Functions.{default_in}
@@ -145,10 +150,10 @@ declare c =
 -- Var END | Using END | Fn | Class
 unfoldable pub plain_declaration : Lang → Context → Rule Row Label → Rule Row Label
 plain_declaration l c other =
-    choose (has_kind is_variable_word) (make (plain_ VariableDeclaration) (row (VariablesRow c) (plain_form ended)))
+    choose (has_kind is_variable_word) (make (OfPlain VariableDeclaration) (row (VariablesRow c) (plain_form ended)))
     (choose (is k.FunctionWord) (function l true c)
     (choose (is k.ClassWord) (class_ l true c)
-    (pick opens_using (make (plain_ UsingDeclaration) (row (UsingRow c) (plain_form ended)))
+    (pick opens_using (make (OfPlain UsingDeclaration) (row (UsingRow c) (plain_form ended)))
     (pick opens_async_function (async_function l true c) other))))
 
 -- Decl: Var END | Using END | Fn | Class | TS 'declare'? (Interface | Alias | Enum | Space)
@@ -165,5 +170,5 @@ declaration lang.Typescript c other =
 unfoldable pub statement : Lang → Context → Rule Row Label
 statement l c =
     choose (is k.OpenBrace) (block c)
-    (choose (is k.Semicolon) (make (plain_ EmptyStatement) (punct k.Semicolon done))
+    (choose (is k.Semicolon) (make (OfPlain EmptyStatement) (punct k.Semicolon done))
     (keyword_statement l c (declaration l c (other_statement c))))

@@ -12,9 +12,16 @@ use Rattle.es_tree.specs.Reader.{Out, nothing, gives, read_row}
 use Rattle.es_grammar.specs.declared.rows.Row as programs
 use Rattle.es_grammar.specs.declared.rows.Row.TheVariants as rows
 use Rattle.es_grammar.specs.declared.rows.Label as labels
-use Rattle.es_grammar.specs.TypeRows as types
+use Rattle.es_grammar.specs.TypeRows as table
+use Rattle.es_whole_grammar.specs.declared.rows.TypeRow.{TypeRow}
+use Rattle.es_whole_grammar.specs.declared.rows.TypeRow.TheVariants as types
+use Rattle.es_whole_grammar.specs.TypeNames.{row_of_types, row_name, label_name}
 use Rattle.es_grammar.specs.TypeTable.{type_rule}
-use Rattle.es_whole_grammar.specs.Rows.{widened, Row, ModuleRow, ScriptRow, ItemRow, ClauseRow, NamedRow, ImportSpecifierRow, ExportSpecifierRow, AttributesRow, EntityRow, StatementRow, BlockRow, DeclarationRow, VariablesRow, DeclaratorRow, UsingRow, HeadRow, FunctionRow, ClassRow, SignatureRow, ParametersRow, ParameterRow, PatternRow, InnerPatternRow, PatternElementRow, PatternPropertyRow, MemberRow, PropertyRow, KeyRow, ExpressionRow, AssignmentRow, AndRow, BitOrRow, BitXorRow, BitAndRow, EqualityRow, RelationRow, ShiftRow, SumRow, ProductRow, PowerRow, UnaryRow, ChainRow, CalleeRow, PostRow, MemberPostRow, ArgumentsRow, ElementRow, TemplateRow, TypesRow, Label, plain_, type_, in_module}
+use Rattle.es_whole_grammar.specs.declared.rows.Row.{Row}
+use Rattle.es_whole_grammar.specs.declared.rows.Label.{Label}
+use Rattle.es_whole_grammar.specs.declared.rows.Row.TheVariants.{ModuleRow, ScriptRow, ItemRow, ClauseRow, NamedRow, ImportSpecifierRow, ExportSpecifierRow, AttributesRow, EntityRow, StatementRow, BlockRow, DeclarationRow, VariablesRow, DeclaratorRow, UsingRow, HeadRow, FunctionRow, ClassRow, SignatureRow, ParametersRow, ParameterRow, PatternRow, InnerPatternRow, PatternElementRow, PatternPropertyRow, MemberRow, PropertyRow, KeyRow, ExpressionRow, AssignmentRow, AndRow, BitOrRow, BitXorRow, BitAndRow, EqualityRow, RelationRow, ShiftRow, SumRow, ProductRow, PowerRow, UnaryRow, ChainRow, CalleeRow, PostRow, MemberPostRow, ArgumentsRow, ElementRow, TemplateRow, TypesRow}
+use Rattle.es_whole_grammar.specs.declared.rows.Label.TheVariants.{OfPlain, OfType}
+use Rattle.es_whole_grammar.specs.Rows.{widened, in_module}
 
 -- ---- mapped rules
 
@@ -94,14 +101,14 @@ row_of (rows.TemplateRow c) = TemplateRow (widened c)
 
 -- a rule of the plain table, in this one
 abbrev pub plain_rule : Rule programs.Row labels.Label → Rule Row Label
-plain_rule a = mapped_rule row_of plain_ a
+plain_rule a = mapped_rule row_of OfPlain a
 
 abbrev pub plain_form : Form programs.Row → Form Row
 plain_form f = mapped_form row_of f
 
 -- a rule of the table of types, in this one
-abbrev pub types_rule : Rule types.Row types.Label → Rule Row Label
-types_rule a = mapped_rule TypesRow type_ a
+abbrev pub types_rule : Rule table.Row table.Label → Rule Row Label
+types_rule a = mapped_rule (λ r. TypesRow (row_name r)) (λ l. OfType (label_name l)) a
 
 -- ---- parts that hold types
 
@@ -133,13 +140,13 @@ type_arguments_in f = opt (taken (is k.Less)) (row (TypesRow types.ArgumentsRow)
 -- ---- where type arguments and type parameters can be read
 
 -- a tree of at most 500 nodes on a path was read, and the guard holds behind it
-abbrev pub ends_before : Guard → List Key → Out (Plain types.Label) → Bool
+abbrev pub ends_before : Guard → List Key → Out (Plain table.Label) → Bool
 ends_before g K nothing = false
 ends_before g K (gives p to) = leb (tall p) 500 && g K to
 
 -- the row of types can be read here, and the guard holds behind it
-abbrev pub reads_before : types.Row → Guard → Guard
-reads_before r g K at = ends_before g K (read_row plain K type_rule most_nodes r at)
+abbrev pub reads_before : TypeRow → Guard → Guard
+reads_before r g K at = ends_before g K (read_row plain K type_rule most_nodes (row_of_types r) at)
 
 -- `(` or the start of a template
 unfoldable pub begins_call : TokenTest

@@ -1,5 +1,7 @@
--- the rows, the alternatives that make a node, and where a row stands
+-- where a row stands; the rows and the alternatives that make a node are in src/rows.rt
 pub mod Rows
+-- the rows and the alternatives of types, by the code's names
+pub mod TypeNames
 -- a table inside a table: the types, and the names that imports and exports bind
 pub mod Embedding
 -- the areas of the table, the table

@@ -3,7 +3,10 @@ use Rattle.es_tree.specs.declared.error.Lang.{Lang}
 use Rattle.es_tree.specs.Form.{Rule, refuse}
 use Rattle.es_grammar.specs.Modules as modules
 use Rattle.es_grammar.specs.TypeTable.{type_rule}
-use Rattle.es_whole_grammar.specs.Rows.{Row, ModuleRow, ScriptRow, ItemRow, ClauseRow, NamedRow, ImportSpecifierRow, ExportSpecifierRow, AttributesRow, EntityRow, StatementRow, BlockRow, DeclarationRow, DeclaredRow, VariablesRow, DeclaratorRow, UsingRow, HeadRow, FunctionRow, ClassRow, SignatureRow, ParametersRow, ParameterRow, PatternRow, InnerPatternRow, PatternElementRow, PatternPropertyRow, MemberRow, PropertyRow, KeyRow, ExpressionRow, AssignmentRow, AndRow, BitOrRow, BitXorRow, BitAndRow, EqualityRow, RelationRow, ShiftRow, SumRow, ProductRow, PowerRow, UnaryRow, ChainRow, CalleeRow, PostRow, MemberPostRow, ArgumentsRow, ElementRow, TemplateRow, TypesRow, Label}
+use Rattle.es_whole_grammar.specs.declared.rows.Row.{Row}
+use Rattle.es_whole_grammar.specs.declared.rows.Label.{Label}
+use Rattle.es_whole_grammar.specs.declared.rows.Row.TheVariants.{ModuleRow, ScriptRow, ItemRow, ClauseRow, NamedRow, ImportSpecifierRow, ExportSpecifierRow, AttributesRow, EntityRow, StatementRow, BlockRow, DeclarationRow, DeclaredRow, VariablesRow, DeclaratorRow, UsingRow, HeadRow, FunctionRow, ClassRow, SignatureRow, ParametersRow, ParameterRow, PatternRow, InnerPatternRow, PatternElementRow, PatternPropertyRow, MemberRow, PropertyRow, KeyRow, ExpressionRow, AssignmentRow, AndRow, BitOrRow, BitXorRow, BitAndRow, EqualityRow, RelationRow, ShiftRow, SumRow, ProductRow, PowerRow, UnaryRow, ChainRow, CalleeRow, PostRow, MemberPostRow, ArgumentsRow, ElementRow, TemplateRow, TypesRow}
+use Rattle.es_whole_grammar.specs.TypeNames.{row_of_types}
 use Rattle.es_whole_grammar.specs.Embedding.{plain_rule, types_rule}
 use Rattle.es_whole_grammar.specs.Expressions.{any_function, any_class, template, arguments, post, member_post, chain, callee, unary, power, product, sum, shift, relation, equality, bit_and, bit_xor, bit_or, and_, assignment, expression, element}
 use Rattle.es_whole_grammar.specs.Functions.{pattern, inner_pattern, pattern_element, pattern_property, parameters, parameter, signature, key, property}
@@ -62,4 +65,4 @@ rule l (MemberPostRow c) = member_post l c
 rule l (ArgumentsRow c) = arguments c
 rule l (ElementRow c) = element l c
 rule l (TemplateRow c) = template c
-rule l (TypesRow r) = types_rule (type_rule r)
+rule l (TypesRow r) = types_rule (type_rule (row_of_types r))

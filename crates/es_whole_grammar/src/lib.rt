@@ -1,5 +1,5 @@
 //! The grammar of programs in both languages as one table, of which the language is a parameter: definitions and their
-//! laws, and no code. It is written in the language of `es_tree` (`specs/Form.antt` there).
+//! laws. It is written in the language of `es_tree` (`specs/Form.antt` there).
 //!
 //! - `specs/Table.antt`: the rule of each row; its areas stand in `specs/Items.antt`, `Declarations.antt`,
 //!   `Statements.antt`, `Functions.antt`, `Classes.antt` and `Expressions.antt`.
@@ -8,3 +8,7 @@
 //!
 //! `docs/GRAMMAR.md` tells the rows in words.
 #![tactic(auto)]
+
+mod rows;
+
+pub use rows::{Context, Label, Row, TypeLabel, TypeRow};

@@ -2,14 +2,16 @@
 ghost use Rattle.std.specs.Prelude.{◌≡◌, IfOk};
 ghost use Rattle.es_lexer.specs.Reads.{ReadsTokens};
 ghost use Rattle.graph_entry.specs.ModuleText as texts;
-ghost use Rattle.graph_c.specs.Finding.{IsFinding, OfBytes, OfText, OfTokens, text_limit};
+ghost use Rattle.graph_c.specs.Finding.{IsFinding, OfKind, OfBytes, OfText, OfTokens, text_limit};
+ghost use Rattle.media_type.specs.MediaType.{kind_of};
 
-use crate::media_types::{language_of, media_type_at};
+use crate::media_types::media_type_at;
 use base::Items;
 use es_lexer::{LexError, LexicalError, Token, lex_tokens};
-use es_parser::parse_tokens;
-use es_tree::{Lang, Mode, SyntaxError};
+use es_tree::SyntaxError;
 use es_walk::{Site, sites};
+use graph_entry::tree_of;
+use media_type::{MediaType, ModuleKind};
 use std::alloc::{AllocError, Global};
 use std::str;
 
@@ -27,7 +29,7 @@ pub enum Finding {
     Syntax(usize),
     NoUtf8,
     TooLong,
-    /// Sources of its media type aren't read yet.
+    /// Modules of its media type are no sources.
     NotRead,
     NoMediaType,
 }
@@ -39,20 +41,26 @@ pub fn finding_of(alloc: Global, media_type: u32, bytes: &[u8]) -> Result<Findin
     let Some(media_type) = media_type_at(media_type) else {
         return Ok(Finding::NoMediaType);
     };
-    let Some(lang) = language_of(media_type) else {
-        return Ok(Finding::NotRead);
-    };
-    of_bytes(alloc, lang, bytes)
+    of_kind(alloc, media_type, bytes)
 }
 
-fn of_bytes(alloc: Global, lang: Lang, bytes: &[u8]) -> Result<Finding, AllocError>
-    ensures { IfOk result (OfBytes lang bytes.now) }
+fn of_kind(alloc: Global, media_type: MediaType, bytes: &[u8]) -> Result<Finding, AllocError>
+    ensures { IfOk result (OfKind (kind_of media_type) media_type bytes.now) }
+{
+    match media_type.kind() {
+        Some(ModuleKind::Source) => of_bytes(alloc, media_type, bytes),
+        _ => Ok(Finding::NotRead),
+    }
+}
+
+fn of_bytes(alloc: Global, media_type: MediaType, bytes: &[u8]) -> Result<Finding, AllocError>
+    ensures { IfOk result (OfBytes media_type bytes.now) }
 {
     if bytes.len() > TEXT_LIMIT {
         return Ok(Finding::TooLong);
     }
     match str::from_utf8(bytes) {
-        Ok(text) => of_text(alloc, lang, without_mark(text)),
+        Ok(text) => of_text(alloc, media_type, without_mark(text)),
         Err(_) => Ok(Finding::NoUtf8),
     }
 }
@@ -67,11 +75,11 @@ fn without_mark(text: &str) -> &str
     }
 }
 
-fn of_text(alloc: Global, lang: Lang, text: &str) -> Result<Finding, AllocError>
-    ensures { IfOk result (OfText lang text.now) }
+fn of_text(alloc: Global, media_type: MediaType, text: &str) -> Result<Finding, AllocError>
+    ensures { IfOk result (OfText media_type text.now) }
 {
     match lex_tokens(alloc, text) {
-        Ok(lexed) => of_tokens(alloc, lang, text, lexed.tokens.as_slice()),
+        Ok(lexed) => of_tokens(alloc, media_type, text, lexed.tokens.as_slice()),
         Err(error) => {
             let fault = fault_of(error)?;
             Ok(Finding::Lexical(fault))
@@ -89,11 +97,16 @@ fn fault_of(error: LexError) -> Result<LexicalError, AllocError>
     }
 }
 
-fn of_tokens(alloc: Global, lang: Lang, text: &str, tokens: &[Token]) -> Result<Finding, AllocError>
+fn of_tokens(
+    alloc: Global,
+    media_type: MediaType,
+    text: &str,
+    tokens: &[Token],
+) -> Result<Finding, AllocError>
     requires { ReadsTokens text.now tokens.now }
-    ensures { IfOk result (OfTokens lang text.now tokens.now) }
+    ensures { IfOk result (OfTokens media_type text.now tokens.now) }
 {
-    match parse_tokens(alloc, lang, Mode::Module, text, tokens) {
+    match tree_of(alloc, media_type, text, tokens) {
         Ok(program) => Ok(Finding::Found(sites(alloc, &program)?)),
         Err(SyntaxError::Syntax { token }) => Ok(Finding::Syntax(start_of(text, tokens, token))),
         Err(SyntaxError::OutOfMemory) => Err(AllocError),

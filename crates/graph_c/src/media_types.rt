@@ -1,9 +1,7 @@
 //! Media types by their numbers in `include/joravelsu.h`.
 ghost use Rattle.std.specs.Prelude.{◌≡◌};
 ghost use Rattle.graph_c.specs.MediaTypes.{media_type_at};
-ghost use Rattle.graph_entry.specs.Analysed as analysed;
 
-use es_tree::Lang;
 use media_type::MediaType;
 
 /// The media type of this number.
@@ -24,17 +22,6 @@ pub fn media_type_at(number: u32) -> Option<MediaType>
         10 => Some(MediaType::Jsx),
         11 => Some(MediaType::Json),
         12 => Some(MediaType::Wasm),
-        _ => None,
-    }
-}
-
-/// The language that sources of this media type are read in, for those that are read today.
-pub fn language_of(media_type: MediaType) -> Option<Lang>
-    ensures { result ≡ analysed.language_of media_type }
-{
-    match media_type {
-        MediaType::TypeScript | MediaType::Mts => Some(Lang::Typescript),
-        MediaType::JavaScript | MediaType::Mjs => Some(Lang::Es),
         _ => None,
     }
 }

@@ -5,10 +5,8 @@ use Rattle.es_token.specs.declared.token.Token.{Token}
 use Rattle.es_lexer.specs.declared.error.LexicalKind.{LexicalKind}
 use Rattle.es_lexer.specs.Reads.{ReadsTokens}
 use Rattle.es_lexer.specs.Stops.{Stops}
-use Rattle.es_tree.specs.declared.error.Lang.{Lang}
-use Rattle.es_tree.specs.declared.error.Mode.TheVariants as mode
 use Rattle.es_ast.specs.declared.ast.Program.{Program}
-use Rattle.es_parser.specs.Derives.{Derives}
+use Rattle.graph_entry.specs.Tree.{IsTree}
 use Rattle.graph_entry.specs.declared.diagnostic.SyntaxErrorKind.TheVariants.{Lexical}
 use Rattle.url.specs.Parser.{parse_url}
 use Rattle.graph_entry.specs.declared.answer.LoadAnswer.{LoadAnswer}
@@ -30,36 +28,36 @@ use Rattle.graph_entry.specs.declared.entry.Entry.TheVariants as entry
 use Rattle.lexical_path.specs.Specifiers.{begins}
 use Rattle.graph_entry.specs.Headers.{header_value}
 use Rattle.graph_entry.specs.ModuleText.{without_mark}
-use Rattle.graph_entry.specs.Analysed.{Analysed, OfContent, OfData, OfPackage, with_package, no_package, OfUnasked, by_header, OfKind, OfBytes, OfText, OfTokens, with_tree, no_tree, with_tokens, no_tokens, with_text, no_text, module_of, no_module, unsupported, at_place, language_of, media_type_read, not_built}
+use Rattle.graph_entry.specs.Analysed.{Analysed, OfContent, OfData, OfPackage, with_package, no_package, OfUnasked, by_header, OfKind, OfBytes, OfText, OfTokens, with_tree, no_tree, with_tokens, no_tokens, with_text, no_text, module_of, no_module, unsupported, at_place, media_type_read}
 use Rattle.graph_entry.proofs.ContentLemmas.{OfJson-once, OfWasm-once}
 
 -- ---- the laws below, as one record
 
 -- what the crates below say of a text: it has one reading or one first fault, and tokens have one tree
 pub record HasOneReading (text : List ℕ) : Type 0 where
-  pub one_tree : (lang : Lang) (tokens : List Token) (p q : Program) → Derives lang mode.Module text tokens p
-      → Derives lang mode.Module text tokens q → p ≡ q
+  pub one_tree : (media : MediaType) (tokens : List Token) (p q : Program) → IsTree media text tokens p
+      → IsTree media text tokens q → p ≡ q
   pub one_list : (ts us : List Token) → ReadsTokens text ts → ReadsTokens text us → ts ≡ us
   pub one_fault : (k l : LexicalKind) (at by : ℕ) → Stops text k at → Stops text l by → (k ≡ l) × (at ≡ by)
   pub no_both : (ts : List Token) (k : LexicalKind) (at : ℕ) → ReadsTokens text ts → Stops text k at → ⊥
 
 -- ---- one entry, level by level
 
-module _ (s : List ℕ) (media : MediaType) (lang : Lang) where
+module _ (s : List ℕ) (media : MediaType) where
   -- tokens
   pub OfTokens-once : (text : List ℕ) (tokens : List Token) (made other : Entry) → HasOneReading text
-      → OfTokens s media lang text tokens made → OfTokens s media lang text tokens other → made ≡ other
+      → OfTokens s media text tokens made → OfTokens s media text tokens other → made ≡ other
   OfTokens-once text tokens made other laws (with_tree p derived is) (with_tree q also so) =
-      is ∙ ap (module_of s media text) (laws.one_tree lang tokens p q derived also) ∙ sym so
+      is ∙ ap (module_of s media text) (laws.one_tree media tokens p q derived also) ∙ sym so
   OfTokens-once text tokens made other laws (with_tree p derived is) (no_tree nothing so) = absurd (nothing p derived)
   OfTokens-once text tokens made other laws (no_tree nothing is) (with_tree q also so) = absurd (nothing q also)
   OfTokens-once text tokens made other laws (no_tree nothing is) (no_tree also so) = is ∙ sym so
 
   -- a text
   pub OfText-once : (text : List ℕ) (made other : Entry) → HasOneReading text
-      → OfText s media lang text made → OfText s media lang text other → made ≡ other
+      → OfText s media text made → OfText s media text other → made ≡ other
   OfText-once text made other laws (with_tokens ts reads makes) (with_tokens us also makes_too) =
-      let P : List Token → Type 0 = λ xs. OfTokens s media lang text xs other in
+      let P : List Token → Type 0 = λ xs. OfTokens s media text xs other in
       OfTokens-once text ts made other laws makes (subst P (laws.one_list us ts also reads) makes_too)
   OfText-once text made other laws (with_tokens ts reads makes) (no_tokens k at stops so) =
       absurd (laws.no_both ts k at reads stops)
@@ -72,20 +70,12 @@ module _ (s : List ℕ) (media : MediaType) (lang : Lang) where
 
   -- bytes
   pub OfBytes-once : (bytes : List ℕ) (made other : Entry) → HasOneReading (without_mark bytes)
-      → OfBytes s media lang bytes made → OfBytes s media lang bytes other → made ≡ other
+      → OfBytes s media bytes made → OfBytes s media bytes other → made ≡ other
   OfBytes-once bytes made other laws (with_text utf8 makes) (with_text also makes_too) =
       OfText-once (without_mark bytes) made other laws makes makes_too
   OfBytes-once bytes made other laws (with_text utf8 makes) (no_text not so) = absurd (not utf8)
   OfBytes-once bytes made other laws (no_text not is) (with_text utf8 makes) = absurd (not utf8)
   OfBytes-once bytes made other laws (no_text not is) (no_text also so) = is ∙ sym so
-
--- a source, by the language of its media type
-by_language-once : (s : List ℕ) (media : MediaType) (bytes : List ℕ) (lang : Option Lang) (made other : Entry)
-    → HasOneReading (without_mark bytes) → MatchOption lang (made ≡ not_built) (λ l. OfBytes s media l bytes made)
-    → MatchOption lang (other ≡ not_built) (λ l. OfBytes s media l bytes other) → made ≡ other
-by_language-once s media bytes None made other laws is so = is ∙ sym so
-by_language-once s media bytes (Some l) made other laws makes makes_too =
-    OfBytes-once s media l bytes made other laws makes makes_too
 
 -- content, by how it is read
 by_kind-once : (s : List ℕ) (media : MediaType) (bytes : List ℕ) (read : Option ModuleKind) (made other : Entry)
@@ -94,7 +84,7 @@ by_kind-once : (s : List ℕ) (media : MediaType) (bytes : List ℕ) (read : Opt
     → MatchOption read (other ≡ unsupported media) (λ k. OfKind s media k bytes other) → made ≡ other
 by_kind-once s media bytes None made other laws is so = is ∙ sym so
 by_kind-once s media bytes (Some module_kind.Source) made other laws makes makes_too =
-    by_language-once s media bytes (language_of media) made other laws makes makes_too
+    OfBytes-once s media bytes made other laws makes makes_too
 by_kind-once s media bytes (Some module_kind.Json) made other laws makes makes_too =
     OfJson-once bytes made other makes makes_too
 by_kind-once s media bytes (Some module_kind.Wasm) made other laws makes makes_too =

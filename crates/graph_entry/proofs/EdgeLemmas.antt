@@ -4,12 +4,10 @@ use Rattle.std.specs.Prelude.{Bool, true, false, codes, All, Option, Some, None,
 use Rattle.std.proofs.lemmas.List.Elements.{All-map}
 use Rattle.es_token.specs.declared.token.Token.{Token}
 use Rattle.es_lexer.specs.Reads.{ReadsTokens}
-use Rattle.es_tree.specs.declared.error.Lang.{Lang}
-use Rattle.es_tree.specs.declared.error.Mode.TheVariants as mode
 use Rattle.es_ast.specs.declared.ast.Program.{Program}
 use Rattle.es_walk.specs.declared.site.Site.{Site}
 use Rattle.es_walk.specs.Sites.{sites_of, CutsLiteral}
-use Rattle.es_parser.specs.Derives.{Derives}
+use Rattle.graph_entry.specs.Tree.{IsTree}
 use Rattle.url.specs.Parser.{parse_url}
 use Rattle.graph_entry.specs.declared.answer.LoadAnswer.{LoadAnswer}
 use Rattle.graph_entry.specs.declared.answer.LoadAnswer.TheVariants as answer
@@ -28,42 +26,35 @@ use Rattle.data_specifier.specs.Data.{data_of}
 use Rattle.lexical_path.specs.Specifiers.{begins}
 use Rattle.graph_entry.specs.Headers.{header_value}
 use Rattle.graph_entry.specs.ModuleText.{without_mark}
-use Rattle.graph_entry.specs.Analysed.{Analysed, OfContent, OfData, OfPackage, with_package, no_package, OfUnasked, by_header, language_of, media_type_read, OfKind, OfBytes, OfText, OfTokens, with_tree, no_tree, with_tokens, no_tokens, with_text, no_text, dependency_of, not_built, unsupported}
+use Rattle.graph_entry.specs.Analysed.{Analysed, OfContent, OfData, OfPackage, with_package, no_package, OfUnasked, by_header, media_type_read, OfKind, OfBytes, OfText, OfTokens, with_tree, no_tree, with_tokens, no_tokens, with_text, no_text, dependency_of, unsupported}
 use Rattle.graph_entry.proofs.ContentLemmas.{HoldsOfImports, OfJson-edges, OfWasm-edges}
 use Rattle.graph_entry.proofs.RoomLemmas.{resolve-kept}
 
 -- P holds of the edge of each site of each tree of the text, in the module at s
 abbrev pub HoldsOfSites : (List ℕ → Dependency → Type 0) → List ℕ → List ℕ → Type 0
-HoldsOfSites P s text = (lang : Lang) (tokens : List Token) (tree : Program) → ReadsTokens text tokens
-    → Derives lang mode.Module text tokens tree → All (λ site. P text (dependency_of s site)) (sites_of tree)
+HoldsOfSites P s text = (media : MediaType) (tokens : List Token) (tree : Program) → ReadsTokens text tokens
+    → IsTree media text tokens tree → All (λ site. P text (dependency_of s site)) (sites_of tree)
 
 -- ---- level by level
 
-module _ (P Q : List ℕ → Dependency → Type 0) (s : List ℕ) (media : MediaType) (lang : Lang) where
+module _ (P Q : List ℕ → Dependency → Type 0) (s : List ℕ) (media : MediaType) where
   OfTokens-edges : (text : List ℕ) (tokens : List Token) (made : Entry) → HoldsOfSites P s text
       → ReadsTokens text tokens
-      → OfTokens s media lang text tokens made → EachEdge P Q made
+      → OfTokens s media text tokens made → EachEdge P Q made
   OfTokens-edges text tokens made holds reads (with_tree tree derived is) =
       subst (EachEdge P Q) (sym is)
-      (All-map (P text) (dependency_of s) (sites_of tree) (holds lang tokens tree reads derived))
+      (All-map (P text) (dependency_of s) (sites_of tree) (holds media tokens tree reads derived))
   OfTokens-edges text tokens made holds reads (no_tree nothing is) = subst (EachEdge P Q) (sym is) tt
 
-  OfText-edges : (text : List ℕ) (made : Entry) → HoldsOfSites P s text → OfText s media lang text made
+  OfText-edges : (text : List ℕ) (made : Entry) → HoldsOfSites P s text → OfText s media text made
       → EachEdge P Q made
   OfText-edges text made holds (with_tokens tokens reads makes) = OfTokens-edges text tokens made holds reads makes
   OfText-edges text made holds (no_tokens kind place stops is) = subst (EachEdge P Q) (sym is) tt
 
   OfBytes-edges : (bytes : List ℕ) (made : Entry) → HoldsOfSites P s (without_mark bytes)
-      → OfBytes s media lang bytes made → EachEdge P Q made
+      → OfBytes s media bytes made → EachEdge P Q made
   OfBytes-edges bytes made holds (with_text utf8 makes) = OfText-edges (without_mark bytes) made holds makes
   OfBytes-edges bytes made holds (no_text not is) = subst (EachEdge P Q) (sym is) tt
-
--- a source, by the language of its media type
-by_language-edges : (P Q : List ℕ → Dependency → Type 0) (s : List ℕ) (media : MediaType) (bytes : List ℕ)
-    (lang : Option Lang) (made : Entry) → HoldsOfSites P s (without_mark bytes)
-    → MatchOption lang (made ≡ not_built) (λ l. OfBytes s media l bytes made) → EachEdge P Q made
-by_language-edges P Q s media bytes None made holds is = subst (EachEdge P Q) (sym is) tt
-by_language-edges P Q s media bytes (Some l) made holds makes = OfBytes-edges P Q s media l bytes made holds makes
 
 -- content, by how it is read
 by_kind-edges : (P Q : List ℕ → Dependency → Type 0) (s : List ℕ) (media : MediaType) (bytes : List ℕ)
@@ -71,7 +62,7 @@ by_kind-edges : (P Q : List ℕ → Dependency → Type 0) (s : List ℕ) (media
     → MatchOption read (made ≡ unsupported media) (λ k. OfKind s media k bytes made) → EachEdge P Q made
 by_kind-edges P Q s media bytes None made sites imports is = subst (EachEdge P Q) (sym is) tt
 by_kind-edges P Q s media bytes (Some module_kind.Source) made sites imports makes =
-    by_language-edges P Q s media bytes (language_of media) made sites makes
+    OfBytes-edges P Q s media bytes made sites makes
 by_kind-edges P Q s media bytes (Some module_kind.Json) made sites imports makes = OfJson-edges P Q bytes made makes
 by_kind-edges P Q s media bytes (Some module_kind.Wasm) made sites imports makes =
     OfWasm-edges P Q s bytes made imports makes

@@ -2,7 +2,6 @@
 use Rattle.std.proofs.Common.{◌≡◌, ◌≢◌, sym, subst, refl, List, ℕ}
 use Rattle.std.specs.Prelude.{Bool, true, false, ◌==◌, codes, take, position, Option, Some, None, MatchOption, Result, Ok, Err}
 use Rattle.es_token.specs.declared.token.Token.{Token}
-use Rattle.es_tree.specs.declared.error.Lang.{Lang}
 use Rattle.url.specs.Parser.{parse_url}
 use Rattle.wasm_dep_analyzer.specs.declared.error.ParseError.{ParseError}
 use Rattle.wasm_dep_analyzer.specs.declared.error.ParseError.TheVariants as wasm
@@ -26,26 +25,21 @@ use Rattle.graph_entry.specs.Headers.{header_value}
 use Rattle.graph_entry.specs.Entry.{KeepsFault}
 use Rattle.graph_entry.specs.Json.{OfJson, with_json, no_json}
 use Rattle.graph_entry.specs.Wasm.{OfWasm, with_imports, faulty}
-use Rattle.graph_entry.specs.Analysed.{Analysed, OfContent, OfData, OfPackage, with_package, no_package, OfUnasked, by_header, OfKind, OfBytes, OfText, OfTokens, with_tree, no_tree, with_tokens, no_tokens, with_text, no_text, language_of, media_type_read, not_built, unsupported}
+use Rattle.graph_entry.specs.Analysed.{Analysed, OfContent, OfData, OfPackage, with_package, no_package, OfUnasked, by_header, OfKind, OfBytes, OfText, OfTokens, with_tree, no_tree, with_tokens, no_tokens, with_text, no_text, media_type_read, unsupported}
 
-module _ (s : List ℕ) (media : MediaType) (lang : Lang) where
-  OfTokens-fault : (text : List ℕ) (tokens : List Token) (made : Entry) → OfTokens s media lang text tokens made
+module _ (s : List ℕ) (media : MediaType) where
+  OfTokens-fault : (text : List ℕ) (tokens : List Token) (made : Entry) → OfTokens s media text tokens made
       → KeepsFault made
   OfTokens-fault text tokens made (with_tree tree derived is) = subst KeepsFault (sym is) tt
   OfTokens-fault text tokens made (no_tree nothing is) = subst KeepsFault (sym is) tt
 
-  OfText-fault : (text : List ℕ) (made : Entry) → OfText s media lang text made → KeepsFault made
+  OfText-fault : (text : List ℕ) (made : Entry) → OfText s media text made → KeepsFault made
   OfText-fault text made (with_tokens tokens reads makes) = OfTokens-fault text tokens made makes
   OfText-fault text made (no_tokens kind place stops is) = subst KeepsFault (sym is) tt
 
-  OfBytes-fault : (bytes : List ℕ) (made : Entry) → OfBytes s media lang bytes made → KeepsFault made
+  OfBytes-fault : (bytes : List ℕ) (made : Entry) → OfBytes s media bytes made → KeepsFault made
   OfBytes-fault bytes made (with_text utf8 makes) = OfText-fault _ made makes
   OfBytes-fault bytes made (no_text not is) = subst KeepsFault (sym is) tt
-
-by_language-fault : (s : List ℕ) (media : MediaType) (bytes : List ℕ) (lang : Option Lang) (made : Entry)
-    → MatchOption lang (made ≡ not_built) (λ l. OfBytes s media l bytes made) → KeepsFault made
-by_language-fault s media bytes None made is = subst KeepsFault (sym is) tt
-by_language-fault s media bytes (Some l) made makes = OfBytes-fault s media l bytes made makes
 
 OfJson-fault : (bytes : List ℕ) (made : Entry) → OfJson bytes made → KeepsFault made
 OfJson-fault bytes made (with_json utf8 is) = subst KeepsFault (sym is) tt
@@ -63,7 +57,7 @@ by_kind-fault : (s : List ℕ) (media : MediaType) (bytes : List ℕ) (read : Op
     → MatchOption read (made ≡ unsupported media) (λ k. OfKind s media k bytes made) → KeepsFault made
 by_kind-fault s media bytes None made is = subst KeepsFault (sym is) tt
 by_kind-fault s media bytes (Some module_kind.Source) made makes =
-    by_language-fault s media bytes (language_of media) made makes
+    OfBytes-fault s media bytes made makes
 by_kind-fault s media bytes (Some module_kind.Json) made makes = OfJson-fault bytes made makes
 by_kind-fault s media bytes (Some module_kind.Wasm) made makes = OfWasm-fault s bytes made makes
 

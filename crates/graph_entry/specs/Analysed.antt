@@ -7,13 +7,9 @@ use Rattle.es_token.specs.declared.token.Token.{Token}
 use Rattle.es_lexer.specs.declared.error.LexicalKind.{LexicalKind}
 use Rattle.es_lexer.specs.Reads.{ReadsTokens}
 use Rattle.es_lexer.specs.Stops.{Stops}
-use Rattle.es_tree.specs.declared.error.Lang.{Lang}
-use Rattle.es_tree.specs.declared.error.Lang.TheVariants.{Es, Typescript}
-use Rattle.es_tree.specs.declared.error.Mode.TheVariants as mode
 use Rattle.es_ast.specs.declared.ast.Program.{Program}
 use Rattle.es_walk.specs.declared.site.Site.{Site}
 use Rattle.es_walk.specs.Sites.{sites_of}
-use Rattle.es_parser.specs.Derives.{Derives}
 use Rattle.graph_entry.specs.declared.answer.LoadAnswer.{LoadAnswer}
 use Rattle.graph_entry.specs.declared.answer.LoadAnswer.TheVariants as answer
 use Rattle.graph_entry.specs.declared.diagnostic.SyntaxErrorKind.{SyntaxErrorKind}
@@ -22,9 +18,9 @@ use Rattle.graph_entry.specs.declared.entry.Dependency.{Dependency}
 use Rattle.graph_entry.specs.declared.entry.Module.TheVariants.{Js}
 use Rattle.graph_entry.specs.declared.entry.Entry.{Entry}
 use Rattle.graph_entry.specs.declared.entry.Entry.TheVariants as entry
-use Rattle.graph_entry.specs.declared.entry.ModuleError.TheVariants.{Missing, Loading, UnsupportedMediaType, Parse, DataUrl, PackageReference, NotBuilt}
+use Rattle.graph_entry.specs.declared.entry.ModuleError.TheVariants.{Missing, Loading, UnsupportedMediaType, Parse, DataUrl, PackageReference}
 use Rattle.media_type.specs.declared.media_type.MediaType.{MediaType}
-use Rattle.media_type.specs.declared.media_type.MediaType.TheVariants.{TypeScript, Mts, JavaScript, Mjs, Unknown}
+use Rattle.media_type.specs.declared.media_type.MediaType.TheVariants.{Unknown}
 use Rattle.media_type.specs.declared.media_type.ModuleKind.{ModuleKind}
 use Rattle.media_type.specs.declared.media_type.ModuleKind.TheVariants as module_kind
 use Rattle.media_type.specs.Endings.{media_type_of}
@@ -41,23 +37,12 @@ use Rattle.graph_entry.specs.ModuleText.{without_mark}
 use Rattle.graph_entry.specs.Json.{no_utf8, OfJson}
 use Rattle.graph_entry.specs.Wasm.{OfWasm}
 use Rattle.graph_entry.specs.Resolution.{resolve}
+use Rattle.graph_entry.specs.Tree.{IsTree}
 
 -- the media type of a specifier is that of the path of the URL that its text is read as
 abbrev pub media_type_read : Parsed Parts → MediaType
 media_type_read (Ok url) = media_type_of url.path
 media_type_read (Err e) = Unknown
-
--- the language of a source, for the sources that are built
-abbrev pub language_of : MediaType → Option Lang
-language_of TypeScript = Some Typescript
-language_of Mts = Some Typescript
-language_of JavaScript = Some Es
-language_of Mjs = Some Es
-language_of _ = None
-
--- what is not built yet
-abbrev pub not_built : Entry
-not_built = entry.Error NotBuilt
 
 -- content of this media type is no module
 abbrev pub unsupported : MediaType → Entry
@@ -91,39 +76,34 @@ module_of s media_type text program = entry.Module (Js (record {
 }))
 
 -- what the tokens of a source make
-pub data OfTokens (s : List ℕ) (media_type : MediaType) (lang : Lang) (text : List ℕ) (tokens : List Token)
+pub data OfTokens (s : List ℕ) (media_type : MediaType) (text : List ℕ) (tokens : List Token)
     (made : Entry) : Type 0 where
   -- the module of their tree
-  with_tree : (program : Program) → Derives lang mode.Module text tokens program → made ≡ module_of s media_type text program
-      → OfTokens s media_type lang text tokens made
+  with_tree : (program : Program) → IsTree media_type text tokens program → made ≡ module_of s media_type text program
+      → OfTokens s media_type text tokens made
   -- they have no tree
-  no_tree : ((program : Program) → ¬ Derives lang mode.Module text tokens program) → made ≡ no_module s Syntax None
-      → OfTokens s media_type lang text tokens made
+  no_tree : ((program : Program) → ¬ IsTree media_type text tokens program) → made ≡ no_module s Syntax None
+      → OfTokens s media_type text tokens made
 
 -- what the text of a source makes
-pub data OfText (s : List ℕ) (media_type : MediaType) (lang : Lang) (text : List ℕ) (made : Entry) : Type 0 where
+pub data OfText (s : List ℕ) (media_type : MediaType) (text : List ℕ) (made : Entry) : Type 0 where
   -- what its tokens make
-  with_tokens : (tokens : List Token) → ReadsTokens text tokens → OfTokens s media_type lang text tokens made
-      → OfText s media_type lang text made
+  with_tokens : (tokens : List Token) → ReadsTokens text tokens → OfTokens s media_type text tokens made
+      → OfText s media_type text made
   -- no tokens read it: the first fault
   no_tokens : (kind : LexicalKind) (place : ℕ) → Stops text kind place
-      → made ≡ no_module s (Lexical kind) (Some (at_place place)) → OfText s media_type lang text made
+      → made ≡ no_module s (Lexical kind) (Some (at_place place)) → OfText s media_type text made
 
 -- what the bytes of a source make
-pub data OfBytes (s : List ℕ) (media_type : MediaType) (lang : Lang) (bytes : List ℕ) (made : Entry) : Type 0 where
+pub data OfBytes (s : List ℕ) (media_type : MediaType) (bytes : List ℕ) (made : Entry) : Type 0 where
   -- what their text makes
-  with_text : IsUtf8 bytes → OfText s media_type lang (without_mark bytes) made → OfBytes s media_type lang bytes made
+  with_text : IsUtf8 bytes → OfText s media_type (without_mark bytes) made → OfBytes s media_type bytes made
   -- they are no text
-  no_text : ¬ IsUtf8 bytes → made ≡ no_utf8 → OfBytes s media_type lang bytes made
-
--- what content of a source makes: some languages are not built
-abbrev pub OfSource : List ℕ → MediaType → List ℕ → Entry → Type 0
-OfSource s media_type bytes made =
-    MatchOption (language_of media_type) (made ≡ not_built) (λ lang. OfBytes s media_type lang bytes made)
+  no_text : ¬ IsUtf8 bytes → made ≡ no_utf8 → OfBytes s media_type bytes made
 
 -- what content makes, by how a module of its media type is read
 abbrev pub OfKind : List ℕ → MediaType → ModuleKind → List ℕ → Entry → Type 0
-OfKind s media_type module_kind.Source bytes made = OfSource s media_type bytes made
+OfKind s media_type module_kind.Source bytes made = OfBytes s media_type bytes made
 OfKind s media_type module_kind.Json bytes made = OfJson bytes made
 OfKind s media_type module_kind.Wasm bytes made = OfWasm s bytes made
 

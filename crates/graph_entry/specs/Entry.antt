@@ -8,7 +8,7 @@ use Rattle.graph_entry.specs.declared.entry.Module.TheVariants.{Js, Json, Wasm}
 use Rattle.graph_entry.specs.declared.entry.Entry.{Entry}
 use Rattle.graph_entry.specs.declared.entry.Entry.TheVariants as entry
 use Rattle.graph_entry.specs.declared.entry.ModuleError.{ModuleError}
-use Rattle.graph_entry.specs.declared.entry.ModuleError.TheVariants.{Missing, Loading, TooManyRedirects, UnsupportedMediaType, Decode, Parse, WasmParse, DataUrl, PackageReference, NotBuilt, OutOfMemory}
+use Rattle.graph_entry.specs.declared.entry.ModuleError.TheVariants.{Missing, Loading, TooManyRedirects, UnsupportedMediaType, Decode, Parse, WasmParse, DataUrl, PackageReference, OutOfMemory}
 use Rattle.wasm_dep_analyzer.specs.declared.error.ParseError.TheVariants as wasm
 use Rattle.data_specifier.specs.declared.error.DataError.TheVariants as data_url
 use Rattle.graph_entry.specs.Specifier.{text_of}
@@ -64,5 +64,4 @@ name_of_error (Parse d) = codes "Parse"
 name_of_error (WasmParse e) = codes "WasmParse"
 name_of_error (DataUrl e) = codes "DataUrl"
 name_of_error PackageReference = codes "PackageReference"
-name_of_error NotBuilt = codes "NotBuilt"
 name_of_error OutOfMemory = codes "OutOfMemory"

@@ -12,6 +12,7 @@ pub mod Entry
 pub mod Referrer
 pub mod Json
 pub mod Wasm
+pub mod Tree
 pub mod Analysed
 -- ---- what the functions inside the crate promise each other
 pub mod Steps

@@ -1,5 +1,5 @@
 -- What the functions inside the crate promise each other.
-use Rattle.std.specs.Prelude.{◌≡◌, ◌≢◌, ℕ, true, List, map, None, Result, Ok, Err}
+use Rattle.std.specs.Prelude.{◌≡◌, ◌≢◌, ℕ, true, List, [], ◌∷◌, map, None, Result, Ok, Err}
 use Rattle.url.specs.Parser.{parse_url}
 use Rattle.graph_entry.specs.Specifier.{text_of}
 use Rattle.wasm_dep_analyzer.specs.declared.error.ParseError.{ParseError}
@@ -8,6 +8,10 @@ use Rattle.wasm_dep_analyzer.specs.Module.{Deps, ReadsModule}
 use Rattle.graph_entry.specs.declared.entry.Dependency.{Dependency}
 use Rattle.graph_entry.specs.Wasm.{wasm_dependency}
 use Rattle.graph_entry.specs.declared.analysis.Source.{Source}
+use Rattle.es_tree.specs.declared.error.Mode.{Mode}
+use Rattle.es_tree.specs.declared.error.Mode.TheVariants as mode
+use Rattle.graph_entry.specs.declared.tree.Modes.{Modes}
+use Rattle.graph_entry.specs.declared.tree.Modes.TheVariants.{Only, ScriptFirst}
 
 -- the base is what the specifier's text is read as
 abbrev pub IsReadAgain : Source → Type 0
@@ -18,3 +22,8 @@ abbrev pub GivesEdges : List ℕ → List ℕ → Result (List Dependency) Parse
 GivesEdges s bytes (Ok edges) =
     (deps : Deps) × ReadsModule true bytes (Ok deps) × (edges ≡ map (wasm_dependency s) deps.imports)
 GivesEdges s bytes (Err e) = (e ≢ OutOfMemory) × ReadsModule true bytes (Err e)
+
+-- the modes that are allowed, in their order
+abbrev pub modes_in : Modes → List Mode
+modes_in (Only m) = m ∷ []
+modes_in ScriptFirst = mode.Script ∷ mode.Module ∷ []

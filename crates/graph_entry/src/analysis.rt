@@ -8,7 +8,7 @@ ghost use Rattle.graph_entry.specs.Headers.{header_value};
 ghost use Rattle.graph_entry.specs.Diagnosis.{told_range};
 ghost use Rattle.graph_entry.specs.Steps.{IsReadAgain};
 ghost use Rattle.graph_entry.specs.Analysed as spec;
-ghost use Rattle.graph_entry.specs.Analysed.{Analysed, OfContent, OfSource, OfBytes, OfText, OfTokens};
+ghost use Rattle.graph_entry.specs.Analysed.{Analysed, OfContent, OfBytes, OfText, OfTokens};
 
 use crate::answer::LoadAnswer;
 use crate::diagnostic::{ParseDiagnostic, SyntaxErrorKind};
@@ -17,12 +17,12 @@ use crate::headers::Headers;
 use crate::json::{analyse_json, no_text};
 use crate::module_text::without_mark;
 use crate::resolution::{ReadAgain, read_again, resolve_from};
+use crate::tree::tree_of;
 use crate::wasm::analyse_wasm;
 use base::{Items, Range, SharedBytes, SharedText};
 use es_ast::Program;
 use es_lexer::{LexError, LexicalError, Token, lex_tokens};
-use es_parser::parse_tokens;
-use es_tree::{Lang, Mode, SyntaxError};
+use es_tree::SyntaxError;
 use es_walk::{Site, sites};
 use media_type::{MediaType, ModuleKind};
 use std::alloc::{AllocError, Global};
@@ -43,12 +43,6 @@ pub fn analyse(alloc: Global, specifier: &Url, answer: LoadAnswer) -> Result<Ent
         LoadAnswer::Absent => Ok(Entry::Error(ModuleError::Missing)),
         LoadAnswer::Failed => Ok(Entry::Error(ModuleError::Loading)),
     }
-}
-
-fn not_built() -> Entry
-    ensures { result ≡ spec.not_built }
-{
-    Entry::Error(ModuleError::NotBuilt)
 }
 
 fn analyse_content(
@@ -96,7 +90,12 @@ pub fn analyse_as(
     match media_type.kind() {
         None => Ok(unsupported(media_type)),
         Some(ModuleKind::Source) => {
-            analyse_source(alloc, specifier, base, media_type, bytes.as_slice())
+            let source = Source {
+                specifier,
+                base,
+                media_type,
+            };
+            analyse_bytes(alloc, source, bytes.as_slice())
         }
         Some(ModuleKind::Json) => analyse_json(alloc, bytes.as_slice()),
         Some(ModuleKind::Wasm) => analyse_wasm(alloc, specifier, base, bytes),
@@ -109,31 +108,6 @@ fn unsupported(media_type: MediaType) -> Entry
     Entry::Error(ModuleError::UnsupportedMediaType(media_type))
 }
 
-// The base is the specifier, read again.
-fn analyse_source(
-    alloc: Global,
-    specifier: &Url,
-    base: &ReadAgain,
-    media_type: MediaType,
-    bytes: &[u8],
-) -> Result<Entry, AllocError>
-    requires again { base.now ≡ parse_url None (text_of specifier.now) }
-    ensures { IfOk result (OfSource (text_of specifier.now) media_type bytes.now) }
-{
-    match language_of(media_type) {
-        None => Ok(not_built()),
-        Some(lang) => {
-            let source = Source {
-                specifier,
-                base,
-                media_type,
-                lang,
-            };
-            analyse_bytes(alloc, source, bytes)
-        }
-    }
-}
-
 // The media type of a specifier that was read again.
 fn media_type_read(alloc: Global, base: &ReadAgain) -> Result<MediaType, AllocError>
     ensures { IfOk result (λ m. m ≡ spec.media_type_read base.now) }
@@ -144,16 +118,6 @@ fn media_type_read(alloc: Global, base: &ReadAgain) -> Result<MediaType, AllocEr
     }
 }
 
-fn language_of(media_type: MediaType) -> Option<Lang>
-    ensures { result ≡ spec.language_of media_type }
-{
-    match media_type {
-        MediaType::TypeScript | MediaType::Mts => Some(Lang::Typescript),
-        MediaType::JavaScript | MediaType::Mjs => Some(Lang::Es),
-        _ => None,
-    }
-}
-
 // Where a source stands and how it is read.
 #[derive(Clone, Copy)]
 struct Source<'a> {
@@ -161,13 +125,12 @@ struct Source<'a> {
     // The specifier, read again.
     base: &'a ReadAgain,
     media_type: MediaType,
-    lang: Lang,
 }
 
 fn analyse_bytes(alloc: Global, source: Source<'_>, bytes: &[u8]) -> Result<Entry, AllocError>
     requires { IsReadAgain source }
     ensures { IfOk result
-        (OfBytes (text_of source.entry.specifier.now) source.entry.media_type source.entry.lang bytes.now) }
+        (OfBytes (text_of source.entry.specifier.now) source.entry.media_type bytes.now) }
 {
     match str::from_utf8(bytes) {
         Ok(text) => analyse_text(alloc, source, without_mark(text)),
@@ -178,7 +141,7 @@ fn analyse_bytes(alloc: Global, source: Source<'_>, bytes: &[u8]) -> Result<Entr
 fn analyse_text(alloc: Global, source: Source<'_>, text: &str) -> Result<Entry, AllocError>
     requires { IsReadAgain source }
     ensures { IfOk result
-        (OfText (text_of source.entry.specifier.now) source.entry.media_type source.entry.lang text.now) }
+        (OfText (text_of source.entry.specifier.now) source.entry.media_type text.now) }
 {
     match lex_tokens(alloc, text) {
         Ok(lexed) => analyse_tokens(alloc, source, text, lexed.tokens.as_slice()),
@@ -227,9 +190,9 @@ fn analyse_tokens(
     requires again { IsReadAgain source }
     requires tokens { ReadsTokens text.now tokens.now }
     ensures { IfOk result
-        (OfTokens (text_of source.entry.specifier.now) source.entry.media_type source.entry.lang text.now tokens.now) }
+        (OfTokens (text_of source.entry.specifier.now) source.entry.media_type text.now tokens.now) }
 {
-    match parse_tokens(alloc, source.lang, Mode::Module, text, tokens) {
+    match tree_of(alloc, source.media_type, text, tokens) {
         Ok(program) => module_of(alloc, source, text, &program),
         Err(SyntaxError::Syntax { token }) => {
             no_module(

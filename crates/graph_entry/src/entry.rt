@@ -97,8 +97,6 @@ pub enum ModuleError {
     DataUrl(DataError),
     /// The `npm:` or `jsr:` specifier names no package.
     PackageReference,
-    /// This version does not build what would be here.
-    NotBuilt,
     /// Memory ran out. Never the error of an entry.
     OutOfMemory,
 }
@@ -118,7 +116,6 @@ impl ModuleError {
             ModuleError::WasmParse(_) => "WasmParse",
             ModuleError::DataUrl(_) => "DataUrl",
             ModuleError::PackageReference => "PackageReference",
-            ModuleError::NotBuilt => "NotBuilt",
             ModuleError::OutOfMemory => "OutOfMemory",
         }
     }

@@ -31,8 +31,16 @@ const RUNS: &[(&str, &str)] = &[
         "0 root file:///a\nfile:///a module JavaScript 13\n  import 7-12 \"foo\" - ! ImportPrefixMissing\nentries 1\n",
     ),
     (
-        r#"{"roots":["file:///a.ts"],"modules":[{"specifier":"file:///a.ts","text":"const x = 1;"}]}"#,
+        r#"{"roots":["file:///a.ts"],"modules":[{"specifier":"file:///a.ts","text":"const x x;"}]}"#,
         "0 root file:///a.ts\nfile:///a.ts error Parse\nentries 1\n",
+    ),
+    (
+        r#"{"roots":["file:///a.js"],"modules":[{"specifier":"file:///a.js","text":"export const b = () => import('./b.cjs');"},{"specifier":"file:///b.cjs","text":"with (a) b;"}]}"#,
+        "0 root file:///a.js\nfile:///a.js module JavaScript 41\n  dynamic 30-39 \"./b.cjs\" - -> file:///b.cjs\nfile:///b.cjs module Cjs 11\nentries 2\n",
+    ),
+    (
+        r#"{"roots":["file:///a.js"],"modules":[{"specifier":"file:///a.js","text":"import d from './d.json' with {type: 'json'}; export * from './d.json'"},{"specifier":"file:///d.json","text":"{}"}]}"#,
+        "0 root file:///a.js\nfile:///a.js module JavaScript 70\n  import 14-24 \"./d.json\" \"json\" -> file:///d.json\n  export 60-70 \"./d.json\" - ! InvalidTypeAssertion\nfile:///d.json module Json 2\nentries 2\n",
     ),
     (
         r#"{"roots":["file:///m.wasm"],"modules":[{"specifier":"file:///m.wasm","base64":"AGFzbQEAAAACCQEDLi9hAWYAAA=="}]}"#,
@@ -74,6 +82,9 @@ const FORMS: &[(&str, &str, &str)] = &[
     ("make", "", USAGE),
     ("make", "2 ", USAGE),
     ("make", "100001", USAGE),
+    ("sum", "1", "0 entries 1 edges 0 faults 0\n"),
+    ("sum", "2", "0 entries 2 edges 2 faults 0\n"),
+    ("sum", "3", "0 entries 3 edges 4 faults 0\n"),
     ("sum", "100001", USAGE),
     ("sum", "99999999999999999999", USAGE),
     ("build", "2", USAGE),
@@ -163,6 +174,13 @@ fn runs_of_forms_with_a_number(rt: HostRuntime) {
         assert_eq!(rt; got.as_str(), *want, "{word} {number}");
         assert_eq!(rt; left, ROW.len(), "{word} {number}");
     }
+}
+
+#[test]
+fn run_of_many_modules(rt: HostRuntime) {
+    let alloc = rt.alloc();
+    let (got, _) = refused(&rt, alloc, &["sum", "20000"], 1000);
+    assert_eq!(rt; got.as_str(), "0 entries 20000 edges 39998 faults 0\n");
 }
 
 #[test]

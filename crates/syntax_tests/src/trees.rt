@@ -47,10 +47,78 @@ fn texts_have_so_many_items(rt: HostRuntime) -> Result<(), Fail> {
         ("import 'a' import 'b'", None),
         ("import", None),
         ("import;", None),
-        ("'a'", None),
+        ("'a'", Some(1)),
         ("import 'a' x", None),
-        ("import 'a'\nx", None),
+        ("import 'a'\nx", Some(2)),
         ("import x", None),
+    ];
+    for (text, want) in cases {
+        assert_eq!(rt; item_count(rt.alloc(), text)?, want, "{text:?}");
+    }
+    Ok(())
+}
+
+#[test]
+fn statements_by_the_rules(rt: HostRuntime) -> Result<(), Fail> {
+    let cases = [
+        ("a\n++b", Some(2)),
+        ("a ++\nb", Some(2)),
+        ("a b", None),
+        ("-x ** y", None),
+        ("(-x) ** y", Some(1)),
+        ("a ?? b || c", None),
+        ("a ? (b) : c => d", Some(1)),
+        ("[a] = b; [a];", Some(2)),
+        ("({a, b: [c = 1]} = d)", Some(1)),
+        ("f() = 1", None),
+        ("with (a) b;", None),
+        ("if (a) b; else c", Some(1)),
+        ("for (const a of b) c; for (d in e);", Some(2)),
+        ("l: while (a) { break l }", Some(1)),
+        ("do a; while (b) c", Some(2)),
+        ("switch (a) { case 1: default: b }", Some(1)),
+        ("try {} catch {} finally {}; try {}", None),
+        (
+            "class A extends B { #c = 1; static {} get d() {} }",
+            Some(1),
+        ),
+        ("let a = `b${c}d`, {e, ...f} = g?.h[i]?.(...j)", Some(1)),
+        ("async (a) => await b; function* c() { yield* d }", Some(2)),
+    ];
+    for (text, want) in cases {
+        assert_eq!(rt; item_count(rt.alloc(), text)?, want, "{text:?}");
+    }
+    Ok(())
+}
+
+#[test]
+fn imports_and_exports_by_the_rules(rt: HostRuntime) -> Result<(), Fail> {
+    let cases = [
+        (
+            "import a, {b as c, 'd' as e, default as f} from 'g'",
+            Some(1),
+        ),
+        (
+            "import * as a from 'b' with {type: 'json', 'c': 'd'}",
+            Some(1),
+        ),
+        ("import {a as b c} from 'd'", None),
+        ("import {'a'} from 'b'", None),
+        ("import a from 'b' with {c: d}", None),
+        ("export * from 'a'; export * as b from 'c'", Some(2)),
+        ("export {a as 'b', c as default}; let a, c", Some(2)),
+        ("export {a} from 'b' with {}", Some(1)),
+        (
+            "export default class {}\nexport default function () {}",
+            Some(2),
+        ),
+        ("export default a, b", None),
+        ("export const a = 1, b = 2", Some(1)),
+        ("export a", None),
+        ("import('a', b); import.meta.c", Some(2)),
+        ("import(a, b, c)", None),
+        ("{ import 'a' }", None),
+        ("await a; for await (const b of c);", Some(2)),
     ];
     for (text, want) in cases {
         assert_eq!(rt; item_count(rt.alloc(), text)?, want, "{text:?}");
@@ -79,29 +147,52 @@ fn import_holds_its_literal(rt: HostRuntime) -> Result<(), Fail> {
 }
 
 #[test]
-fn scripts_are_refused(rt: HostRuntime) -> Result<(), Fail> {
-    let lexed = lex_tokens(rt.alloc(), "")?;
-    let answer = parse_tokens(
-        rt.alloc(),
-        Lang::Es,
-        Mode::Script,
-        "",
-        lexed.tokens.as_slice(),
-    );
-    assert!(rt; matches!(answer, Err(SyntaxError::Syntax { token: 0 })));
+fn scripts_have_no_imports(rt: HostRuntime) -> Result<(), Fail> {
+    let cases = [
+        ("", true),
+        ("with (a) b;", true),
+        ("async () => await a", true),
+        ("import('a')", true),
+        ("import 'a'", false),
+        ("export {}", false),
+        ("import.meta", false),
+        ("await a", false),
+    ];
+    for (text, want) in cases {
+        let lexed = lex_tokens(rt.alloc(), text)?;
+        let answer = parse_tokens(
+            rt.alloc(),
+            Lang::Es,
+            Mode::Script,
+            text,
+            lexed.tokens.as_slice(),
+        );
+        assert_eq!(rt; matches!(&answer, Ok(Program::Script(_))), want, "{text:?}");
+    }
     Ok(())
 }
 
-/// Whether the tokens are an item, before that token.
+/// Whether END stands before that token, and takes none.
+fn ends(next: Option<Token>) -> bool {
+    match next {
+        Some(token) => token.line_before && token.kind != TokenKind::Semicolon,
+        None => true,
+    }
+}
+
+/// Whether the token is an expression.
+fn is_value(token: Token) -> bool {
+    token.kind == TokenKind::Str || token.kind == TokenKind::Name
+}
+
+/// Whether the tokens are an item, before that token: an empty one, an import, or an expression.
 fn is_item(piece: &[Token], next: Option<Token>) -> bool {
     match piece {
-        [semi] => semi.kind == TokenKind::Semicolon,
-        [word, literal] => {
-            let ends = match next {
-                Some(token) => token.line_before && token.kind != TokenKind::Semicolon,
-                None => true,
-            };
-            word.kind == TokenKind::ImportWord && literal.kind == TokenKind::Str && ends
+        [one] => one.kind == TokenKind::Semicolon || (is_value(*one) && ends(next)),
+        [first, second] => {
+            let is_statement = is_value(*first) && second.kind == TokenKind::Semicolon;
+            let is_import = first.kind == TokenKind::ImportWord && second.kind == TokenKind::Str;
+            is_statement || (is_import && ends(next))
         }
         [word, literal, semi] => {
             word.kind == TokenKind::ImportWord
@@ -141,7 +232,7 @@ const PIECES: [&str; 9] = [
     "", " import", " 'a'", " ;", " x", "\nimport", "\n'a'", "\n;", "\nx",
 ];
 
-/// Whether each text of these two pieces, with each piece behind them up to five in all, agrees.
+/// Whether each text of this piece, with each piece behind it up to four in all, agrees.
 fn each_agrees(alloc: Global, front: &str) -> Result<bool, Fail> {
     for c in PIECES {
         for d in PIECES {
@@ -158,11 +249,8 @@ fn each_agrees(alloc: Global, front: &str) -> Result<bool, Fail> {
 
 #[test]
 fn every_short_list_agrees_with_the_enumeration(rt: HostRuntime) -> Result<(), Fail> {
-    for a in PIECES {
-        for b in PIECES {
-            let front = format!(in rt.alloc(); "{a}{b}")?;
-            assert!(rt; each_agrees(rt.alloc(), front.as_str())?, "{front:?}");
-        }
+    for front in PIECES {
+        assert!(rt; each_agrees(rt.alloc(), front)?, "{front:?}");
     }
     Ok(())
 }

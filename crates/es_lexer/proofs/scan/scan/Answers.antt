@@ -20,7 +20,7 @@ pub behind_blanks-at-requires : goal.behind_blanks-at-requires
 behind_blanks-at-requires c =
     token_within c.args.text.now c.as_bytes-bytes.result.now c.pieces.at c.pieces.state c.pieces.brackets
     c.pieces.tokens c.pieces.comments _ _ c.in-Some.word.kind c.in-Some.word.end c.utf8.text c.pieces.invariant.same
-    c.pieces.invariant.so_far c.innermost.ensures c.goal_in-goal.ensures c.in-Some.ensures
+    c.pieces.invariant.so_far c.innermost.ensures c.goal_in-goal.ensures c.in-Some.ensures.found
 
 pub pieces-smaller-in-Some : goal.pieces-smaller-in-Some
 pieces-smaller-in-Some c =
@@ -30,7 +30,7 @@ pieces-smaller-in-Some c =
     c.pieces.tokens c.pieces.comments _ _ c.in-Some.word.kind (role_of c.in-Some.word.kind) c.in-Some.word.end
     c.behind_blanks-at.result c.push_word.new.brackets c.push_word.new.tokens c.in_ok-state.state c.utf8.text
     c.pieces.invariant.same c.pieces.invariant.so_far c.innermost.ensures c.goal_in-goal.ensures
-    c.in-Some.ensures refl c.in_ok-state.ensures.state c.in_ok-state.ensures.tokens
+    c.in-Some.ensures.found refl c.in_ok-state.ensures.state c.in_ok-state.ensures.tokens
     c.in_ok-state.ensures.brackets c.behind_blanks-at.ensures in
     less_left c.args.text.now c.as_bytes-bytes.result.now c.pieces.at c.behind_blanks-at.result
     c.pieces.invariant.same on.0 on.1.within
@@ -43,7 +43,7 @@ pieces-preserved-in-Some c =
     c.pieces.tokens c.pieces.comments _ _ c.in-Some.word.kind (role_of c.in-Some.word.kind) c.in-Some.word.end
     c.behind_blanks-at.result c.push_word.new.brackets c.push_word.new.tokens c.in_ok-state.state c.utf8.text
     c.pieces.invariant.same c.pieces.invariant.so_far c.innermost.ensures c.goal_in-goal.ensures
-    c.in-Some.ensures refl c.in_ok-state.ensures.state c.in_ok-state.ensures.tokens
+    c.in-Some.ensures.found refl c.in_ok-state.ensures.state c.in_ok-state.ensures.tokens
     c.in_ok-state.ensures.brackets c.behind_blanks-at.ensures in
     record {
       same = c.pieces.invariant.same;

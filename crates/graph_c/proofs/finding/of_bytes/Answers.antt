@@ -12,5 +12,5 @@ returns-in-Ok c =
     = c.without_mark.ensures ∙ ap without_mark read.0 in
     IfOk-weaker c.of_text.result _ _
     (λ finding is. with_text (omega arith) read.1
-    (subst (λ (t : List ℕ). OfText c.args.lang t finding) same is))
+    (subst (λ (t : List ℕ). OfText c.args.media_type t finding) same is))
     c.of_text.ensures

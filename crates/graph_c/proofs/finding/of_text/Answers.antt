@@ -10,7 +10,7 @@ returns-in-Ok c =
     let lexed = c.in-Ok.lexed in
     IfOk-weaker c.of_tokens.result _ _
     (λ finding is. with_tokens lexed.tokens (lexed.comments, c.in-Ok.ensures.read)
-    (subst (λ (ts : List Token). OfTokens c.args.lang c.args.text.now ts finding) c.as_slice.ensures is))
+    (subst (λ (ts : List Token). OfTokens c.args.media_type c.args.text.now ts finding) c.as_slice.ensures is))
     c.of_tokens.ensures
 
 -- the fault that was found

@@ -1,8 +1,8 @@
 use Rattle.std.proofs.Common.{refl, ap, subst, Err}
 use Rattle.es_ast.specs.declared.ast.Program.{Program}
 use Rattle.es_tree.specs.declared.error.SyntaxError.{SyntaxError}
-use Rattle.es_tree.specs.declared.error.Mode.TheVariants as mode
-use Rattle.es_parser.specs.Derives.{Derives, GivesTree}
+use Rattle.es_parser.specs.Answers.{GivesTree}
+use Rattle.graph_entry.specs.Tree.{IsTree}
 use Rattle.graph_c.specs.declared.finding.Finding.TheVariants.{Found}
 use Rattle.graph_c.specs.Finding.{with_tree, no_tree}
 use Rattle.graph_c.proofs.finding.of_tokens.Goals as goal
@@ -10,12 +10,12 @@ use Rattle.graph_c.proofs.finding.of_tokens.Goals as goal
 -- the sites of the tree that was read
 pub returns-in_ok-sites-in-Ok : goal.returns-in_ok-sites-in-Ok
 returns-in_ok-sites-in-Ok c =
-    with_tree c.in-Ok.program c.in-Ok.ensures.derived (ap Found c.in_ok-sites-in-Ok.ensures)
+    with_tree c.in-Ok.program c.in-Ok.ensures.made (ap Found c.in_ok-sites-in-Ok.ensures)
 
--- a refusal says that nothing is derived
+-- a refusal says that there is none
 pub returns-in-Err-Syntax : goal.returns-in-Err-Syntax
 returns-in-Err-Syntax c =
-    let nothing = λ (tree : Program) (derived : Derives c.args.lang mode.Module c.args.text.now c.args.tokens.now tree).
+    let nothing = λ (tree : Program) (is : IsTree c.args.media_type c.args.text.now c.args.tokens.now tree).
     subst (λ (e : SyntaxError). GivesTree (Err e) tree) c.in-Err-Syntax.field-0-is
-    (c.in-Err-Syntax.ensures.only tree derived) in
+    (c.in-Err-Syntax.ensures.only tree is) in
     no_tree nothing c.start_of.result refl

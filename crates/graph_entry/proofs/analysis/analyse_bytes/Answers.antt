@@ -13,6 +13,5 @@ returns-in-Ok c =
     = c.without_mark.ensures ∙ ap without_mark read.0 in
     IfOk-weaker c.analyse_text.result _ _
     (λ made is. with_text read.1
-    (subst (λ (t : List ℕ). OfText (text_of c.args.source.specifier.now) c.args.source.media_type
-    c.args.source.lang t made) same is))
+    (subst (λ (t : List ℕ). OfText (text_of c.args.source.specifier.now) c.args.source.media_type t made) same is))
     c.analyse_text.ensures

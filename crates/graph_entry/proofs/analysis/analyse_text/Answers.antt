@@ -12,7 +12,7 @@ returns-in-Ok c =
     IfOk-weaker c.analyse_tokens.result _ _
     (λ made is. with_tokens lexed.tokens (lexed.comments, c.in-Ok.ensures.read)
     (subst (λ (ts : List Token). OfTokens (text_of c.args.source.specifier.now) c.args.source.media_type
-    c.args.source.lang c.args.text.now ts made) c.as_slice.ensures is))
+    c.args.text.now ts made) c.as_slice.ensures is))
     c.analyse_tokens.ensures
 
 -- the fault that was found

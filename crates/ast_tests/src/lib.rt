@@ -1,0 +1,11 @@
+//! Tests of parsed sources and their parts, by their public calls.
+#![tactic(auto)]
+
+#[cfg(test)]
+mod comments;
+#[cfg(test)]
+mod diagnostics;
+#[cfg(test)]
+mod references;
+#[cfg(test)]
+mod texts;

@@ -1,0 +1,2 @@
+-- labels that differ
+pub mod LabelLemmas

@@ -1,0 +1,6 @@
+//! The typed tree of declarations from their plain trees, and what a node is as a statement.
+#![tactic(auto)]
+
+mod declarations;
+
+pub use declarations::Declarations;

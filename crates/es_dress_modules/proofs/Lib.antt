@@ -1,0 +1,2 @@
+-- items of modules
+pub mod ItemLemmas

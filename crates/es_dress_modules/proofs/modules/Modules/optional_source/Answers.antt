@@ -1,0 +1,13 @@
+use Rattle.es_dress.specs.Modules.{source_with}
+use Rattle.es_dresser.specs.Ring.{parts_in}
+use Rattle.es_dresser.proofs.MadeLemmas.{optional_made}
+use Rattle.es_dress_modules.proofs.modules.Modules.optional_source.Goals as goal
+
+-- it is there
+pub returns : goal.returns
+returns g c =
+    optional_made (source_with c.args.self.now.0.now.source.text.now c.args.self.now.0.now.source.tokens.now)
+    (parts_in c.args.self.now.0.now.source c.args.group.now) c.some.result
+    (c.is_absent.ensures.some c.if-is_absent.false)
+    (c.some.ensures (source_with c.args.self.now.0.now.source.text.now c.args.self.now.0.now.source.tokens.now
+    (parts_in c.args.self.now.0.now.source c.args.group.now) 0) c.source_with.ensures)

@@ -1,3 +1,0 @@
-mod AscendLemmas
-mod StandLemmas
-pub mod Theorems

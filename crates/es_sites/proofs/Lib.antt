@@ -1,2 +1,0 @@
-mod CutsLemmas
-pub mod Theorems

@@ -1,0 +1,159 @@
+//! Diagnostics of a text.
+ghost use Rattle.std.specs.Prelude.{◌≡◌, IfOk};
+ghost use Rattle.std.specs.Str.{IsCharBoundary};
+ghost use Rattle.url.specs.Parts.{serialize};
+ghost use Rattle.source_text.specs.Lines.{IsDisplay};
+ghost use Rattle.parse_diagnostic.specs.Diagnosis.{told_range, diagnosis};
+ghost use Rattle.parse_diagnostic.specs.declared.diagnostic.ParseFault.TheVariants.{OutOfMemory};
+
+use crate::kind::SyntaxErrorKind;
+use base::Range;
+use source_text::{LineAndColumnDisplay, SourceTextInfo};
+use std::alloc::AllocError;
+use std::error::Error;
+use std::fmt;
+use std::marker::Model;
+use url::Url;
+
+/// Why the text at a specifier is no program. Places are bytes of the text, which has no byte order mark.
+/// A lexical fault has the empty range at its place. The range of a `Syntax` fault is where reading came to a stop.
+#[derive(Debug, Drop)]
+pub struct ParseDiagnostic {
+    specifier: Url,
+    range: Range,
+    kind: SyntaxErrorKind,
+    position: LineAndColumnDisplay,
+}
+
+impl Model for ParseDiagnostic {
+    ghost use Rattle.url.specs.Parts.{serialize};
+    ghost use Rattle.parse_diagnostic.specs.Diagnosis.{Diagnosis, diagnosis};
+
+    ghost Value = { Diagnosis };
+
+    ghost view = { λ d. diagnosis (serialize d.specifier) d.kind d.range };
+}
+
+impl ParseDiagnostic {
+    /// A fault of the text that these are the lines of.
+    pub fn new(
+        specifier: Url,
+        range: Range,
+        kind: SyntaxErrorKind,
+        info: &SourceTextInfo,
+    ) -> ParseDiagnostic
+        ensures { result ≡ diagnosis (serialize specifier) kind range }
+    {
+        ParseDiagnostic {
+            specifier,
+            range,
+            kind,
+            position: display_of(info, range.start),
+        }
+    }
+
+    pub fn specifier(&self) -> &Url
+        ensures { serialize result.now ≡ self.now.specifier }
+    {
+        &self.specifier
+    }
+
+    pub fn range(&self) -> Range
+        ensures { told_range self.now.kind result ≡ self.now.range }
+    {
+        self.range
+    }
+
+    pub fn kind(&self) -> &SyntaxErrorKind
+        ensures { result.now ≡ self.now.kind }
+    {
+        &self.kind
+    }
+
+    /// Line and column of the range's start, from 1: columns count characters.
+    pub fn display_position(&self) -> LineAndColumnDisplay {
+        self.position
+    }
+
+    /// The same diagnostic.
+    pub fn copy(&self) -> Result<ParseDiagnostic, AllocError>
+        ensures { IfOk result (λ copy. copy ≡ self.now) }
+    {
+        Ok(ParseDiagnostic {
+            specifier: self.specifier.clone()?,
+            range: self.range,
+            kind: self.kind,
+            position: self.position,
+        })
+    }
+}
+
+// The line and the column of a place. A place inside a character, which no fault has, counts as the text's front.
+fn display_of(info: &SourceTextInfo, place: usize) -> LineAndColumnDisplay
+    ensures { IsCharBoundary info.now place → IsDisplay info.now place result }
+{
+    if info.text_str().is_char_boundary(place) {
+        info.line_and_column_display(place)
+    } else {
+        LineAndColumnDisplay {
+            line_number: 1,
+            column_number: 1,
+        }
+    }
+}
+
+impl fmt::Display for ParseDiagnostic {
+    fn fmt<W: fmt::Write>(&self, f: &mut fmt::Formatter<W>) -> fmt::Result {
+        let specifier = self.specifier.as_str();
+        let kind = self.kind.name();
+        let line = self.position.line_number;
+        let column = self.position.column_number;
+        write!(f, "SyntaxError: {kind}\n    at {specifier}:{line}:{column}")
+    }
+}
+
+impl Error for ParseDiagnostic {}
+
+/// Several diagnostics.
+#[derive(Debug, Drop)]
+pub struct ParseDiagnosticsError(pub Vec<ParseDiagnostic>);
+
+impl fmt::Display for ParseDiagnosticsError {
+    fn fmt<W: fmt::Write>(&self, f: &mut fmt::Formatter<W>) -> fmt::Result {
+        for (number, diagnostic) in self.0.iter().enumerate() {
+            if 0 < number {
+                f.write_str("\n\n")?;
+            }
+            write!(f, "{diagnostic}")?;
+        }
+        Ok(())
+    }
+}
+
+impl Error for ParseDiagnosticsError {}
+
+/// Why a text isn't parsed.
+#[derive(Debug, Drop)]
+pub enum ParseFault {
+    Diagnostic(ParseDiagnostic),
+    OutOfMemory,
+}
+
+impl fmt::Display for ParseFault {
+    fn fmt<W: fmt::Write>(&self, f: &mut fmt::Formatter<W>) -> fmt::Result {
+        match self {
+            ParseFault::Diagnostic(diagnostic) => write!(f, "{diagnostic}"),
+            ParseFault::OutOfMemory => f.write_str("out of memory"),
+        }
+    }
+}
+
+impl Error for ParseFault {}
+
+impl From<AllocError> for ParseFault {
+    ghost from_gives = { λ _ e. e ≡ OutOfMemory };
+
+    fn from(_: AllocError) -> ParseFault {
+        ParseFault::OutOfMemory
+    }
+}

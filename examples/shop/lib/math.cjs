@@ -1,0 +1,5 @@
+with (Math) {
+  exports.round = function (number) {
+    return round(number);
+  };
+}
