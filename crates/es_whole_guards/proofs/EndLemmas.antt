@@ -15,6 +15,7 @@ use Rattle.es_grammar.specs.TypeTable.{type_rule}
 use Rattle.es_types.specs.declared.types.TypePart.{TypePart}
 use Rattle.es_types.specs.declared.types.TypePart.TheVariants as parts
 use Rattle.es_types.specs.Derived.{part_row, Reaches}
+use Rattle.es_whole_grammar.specs.TypeNames.{row_name}
 use Rattle.es_types.proofs.Claims.{sets, follow, solid, table_told}
 use Rattle.es_whole_grammar.specs.Embedding.{ends_before, reads_before}
 use Rattle.es_whole_guards.specs.Named.{holds_behind}
@@ -74,5 +75,5 @@ module _ (which : TypePart) (K : List Key) (at : ℕ) (within : at ≤ length K)
     at_answer (gives p to) e n is_end = at_tree p to e (leb (tall p) 500) refl n is_end
 
     -- a guard holds behind what is read exactly where it does behind the end
-    pub behind : reads_before (part_row which) g K at ≡ holds_behind g K end
+    pub behind : ends_before g K (read_row plain K type_rule most_nodes (part_row which) at) ≡ holds_behind g K end
     behind = at_answer (read_row plain K type_rule most_nodes (part_row which) at) refl end refl

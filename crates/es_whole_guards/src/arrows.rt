@@ -5,19 +5,18 @@ ghost use Rattle.es_tree.specs.Key.{keys_of};
 ghost use Rattle.es_tree.specs.declared.error.Lang.TheVariants as lang;
 ghost use Rattle.es_grammar.specs.Words.{closes_before};
 ghost use Rattle.es_whole_grammar.specs.Expressions.{follows_parameters, opens_parameters_of_arrow, opens_arrow_here, opens_generic_async, opens_async_here, opens_any_arrow, opens_arrow_result, opens_async_list, opens_no_arrow};
-ghost use Rattle.es_whole_guards.specs.Named.{context_of};
 
 use crate::arguments::parameters_end;
 use crate::looks::{has_name, is, is_arrow, is_near};
-use crate::named::Context;
 use es_guards::Tokens;
 use es_token::TokenKind;
 use es_tree::Lang;
+use es_whole_grammar::Context;
 use std::alloc::Global;
 
 /// Whether the bracket that matches the one at this place stands before what follows an arrow's parameters.
 fn closes_parameters(tokens: &Tokens<'_>, context: Context, at: usize) -> bool
-    ensures { result ≡ closes_before (follows_parameters lang.Typescript (context_of context)) (keys_of tokens.now.tokens.now) at }
+    ensures { result ≡ closes_before (follows_parameters lang.Typescript context) (keys_of tokens.now.tokens.now) at }
 {
     match tokens.partner(at) {
         Some(closer) => {
@@ -31,7 +30,7 @@ fn closes_parameters(tokens: &Tokens<'_>, context: Context, at: usize) -> bool
 /// `(` that opens an arrow of TypeScript.
 #[tactic(auto, unfolding(es_whole_grammar::specs::Expressions::opens_parameters_of_arrow))]
 fn opens_parameters_of_arrow(tokens: &Tokens<'_>, context: Context, at: usize) -> bool
-    ensures { result ≡ opens_parameters_of_arrow lang.Typescript (context_of context) (keys_of tokens.now.tokens.now) at }
+    ensures { result ≡ opens_parameters_of_arrow lang.Typescript context (keys_of tokens.now.tokens.now) at }
 {
     tokens.sees(TokenKind::OpenParen, at) && closes_parameters(tokens, context, at)
 }
@@ -39,7 +38,7 @@ fn opens_parameters_of_arrow(tokens: &Tokens<'_>, context: Context, at: usize) -
 /// An arrow of either language begins here, but for `async`.
 #[tactic(auto, unfolding(es_whole_grammar::specs::Expressions::opens_arrow_here))]
 fn opens_arrow_here(tokens: &Tokens<'_>, lang: Lang, context: Context, at: usize) -> bool
-    ensures { result ≡ opens_arrow_here lang (context_of context) (keys_of tokens.now.tokens.now) at }
+    ensures { result ≡ opens_arrow_here lang context (keys_of tokens.now.tokens.now) at }
 {
     match lang {
         Lang::Es => tokens.opens_plain_arrow(at),
@@ -54,7 +53,7 @@ fn opens_arrow_here(tokens: &Tokens<'_>, lang: Lang, context: Context, at: usize
 /// Type parameters before such a `(`.
 #[tactic(auto, unfolding(es_whole_grammar::specs::Expressions::opens_generic_async))]
 fn opens_generic_async(tokens: &Tokens<'_>, alloc: Global, context: Context, at: usize) -> bool
-    ensures { result ≡ opens_generic_async (context_of context) (keys_of tokens.now.tokens.now) at }
+    ensures { result ≡ opens_generic_async context (keys_of tokens.now.tokens.now) at }
 {
     if !tokens.stands(TokenKind::Less, at) {
         return false;
@@ -74,7 +73,7 @@ pub fn opens_async_here(
     context: Context,
     at: usize,
 ) -> bool
-    ensures { result ≡ opens_async_here lang (context_of context) (keys_of tokens.now.tokens.now) at }
+    ensures { result ≡ opens_async_here lang context (keys_of tokens.now.tokens.now) at }
 {
     match lang {
         Lang::Es => tokens.opens_async_arrow(at),
@@ -102,7 +101,7 @@ pub fn opens_any_arrow(
     context: Context,
     at: usize,
 ) -> bool
-    ensures { result ≡ opens_any_arrow lang (context_of context) (keys_of tokens.now.tokens.now) at }
+    ensures { result ≡ opens_any_arrow lang context (keys_of tokens.now.tokens.now) at }
 {
     opens_arrow_here(tokens, lang, context, at)
         || opens_async_here(tokens, alloc, lang, context, at)
@@ -111,7 +110,7 @@ pub fn opens_any_arrow(
 /// The `:` of an arrow's result, where one may stand.
 #[tactic(auto, unfolding(es_whole_grammar::specs::Expressions::opens_arrow_result))]
 pub fn opens_arrow_result(tokens: &Tokens<'_>, context: Context, at: usize) -> bool
-    ensures { result ≡ opens_arrow_result (context_of context) (keys_of tokens.now.tokens.now) at }
+    ensures { result ≡ opens_arrow_result context (keys_of tokens.now.tokens.now) at }
 {
     !context.no_colon && tokens.sees(TokenKind::Colon, at)
 }
@@ -133,7 +132,7 @@ pub fn opens_async_list(tokens: &Tokens<'_>, lang: Lang, at: usize) -> bool
 /// `(` that opens no arrow.
 #[tactic(auto, unfolding(es_whole_grammar::specs::Expressions::opens_no_arrow))]
 pub fn opens_no_arrow(tokens: &Tokens<'_>, lang: Lang, context: Context, at: usize) -> bool
-    ensures { result ≡ opens_no_arrow lang (context_of context) (keys_of tokens.now.tokens.now) at }
+    ensures { result ≡ opens_no_arrow lang context (keys_of tokens.now.tokens.now) at }
 {
     match lang {
         Lang::Es => tokens.is_no_arrow_head(at),

@@ -9,21 +9,21 @@ ghost use Rattle.es_tree.specs.declared.error.Lang.TheVariants as lang;
 ghost use Rattle.es_whole_grammar.specs.Functions.{opens_parameter_modifier, stands_again, each_once, opens_marked, begins_method, opens_any_method};
 ghost use Rattle.es_whole_grammar.specs.Classes.{opens_modifier, behind_modifiers, behind_all, is_member_key};
 ghost use Rattle.es_whole_grammar.specs.Statements.{opens_declarator};
-ghost use Rattle.es_whole_guards.specs.Named.{context_of};
 
 use crate::looks::{
     has, has_name, is, is_declarator_mark, is_near, is_parameter_mark, opens_parameters,
     starts_member_key,
 };
-use crate::named::{Context, Kinds};
+use crate::named::Kinds;
 use es_guards::Tokens;
 use es_token::TokenKind;
 use es_tree::Lang;
+use es_whole_grammar::Context;
 
 /// A modifier of a parameter stands here.
 #[tactic(auto, unfolding(es_whole_grammar::specs::Functions::opens_parameter_modifier))]
 pub fn opens_parameter_modifier(tokens: &Tokens<'_>, context: Context, at: usize) -> bool
-    ensures { result ≡ opens_parameter_modifier (context_of context) (keys_of tokens.now.tokens.now) at }
+    ensures { result ≡ opens_parameter_modifier context (keys_of tokens.now.tokens.now) at }
 {
     if !context.in_constructor || !has(Kinds::Modifier, tokens.seen(at)) {
         return false;
@@ -118,7 +118,7 @@ fn parameters_again(
     turns: usize,
 ) -> bool
     requires { from + turns ≤ length tokens.now.tokens.now }
-    ensures { (s : Seen) → s.kind ≡ kind → result ≡ stands_again (opens_parameter_modifier (context_of context)) (keys_of tokens.now.tokens.now) (Some s) turns from }
+    ensures { (s : Seen) → s.kind ≡ kind → result ≡ stands_again (opens_parameter_modifier context) (keys_of tokens.now.tokens.now) (Some s) turns from }
 {
     let mut at = from;
     for turn in 0..turns {
@@ -137,7 +137,7 @@ fn parameters_again(
 /// Each modifier of a parameter stands at most once, from here on.
 #[tactic(auto, unfolding(es_whole_grammar::specs::Functions::each_once))]
 pub fn parameters_once(tokens: &Tokens<'_>, context: Context, from: usize) -> bool
-    ensures { result ≡ each_once (opens_parameter_modifier (context_of context)) (keys_of tokens.now.tokens.now) from }
+    ensures { result ≡ each_once (opens_parameter_modifier context) (keys_of tokens.now.tokens.now) from }
 {
     let mut at = from;
     let mut left = tokens.tokens.len();

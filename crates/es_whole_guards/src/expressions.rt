@@ -4,14 +4,13 @@ ghost use Rattle.std.specs.Prelude.{◌≡◌};
 ghost use Rattle.es_tree.specs.Key.{keys_of, seen};
 ghost use Rattle.es_whole_grammar.specs.Expressions.{begins_value, begins_parameters, begins_arguments, begins_callee_post, opens_operand, opens_post, opens_comparison, is_behind_as, opens_abstract_class, may_await, may_test, is_module};
 ghost use Rattle.es_whole_grammar.specs.Statements.{begins_value_here, is_script};
-ghost use Rattle.es_whole_guards.specs.Named.{context_of};
 
 use crate::arguments::opens_call_arguments;
 use crate::looks::{is, opens_assertion, opens_non_null};
-use crate::named::Context;
 use es_guards::Tokens;
 use es_token::TokenKind;
 use es_tree::Lang;
+use es_whole_grammar::Context;
 use std::alloc::Global;
 
 /// A token that can begin an expression.
@@ -87,7 +86,7 @@ pub fn opens_comparison(
     context: Context,
     at: usize,
 ) -> bool
-    ensures { result ≡ opens_comparison lang (context_of context) (keys_of tokens.now.tokens.now) at }
+    ensures { result ≡ opens_comparison lang context (keys_of tokens.now.tokens.now) at }
 {
     if tokens.opens_greater(at) {
         return true;

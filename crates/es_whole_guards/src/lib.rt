@@ -1,7 +1,6 @@
 //! The guards of the grammar of programs in both languages, over the tokens of a text: those that the plain grammar
 //! (`es_guards`) doesn't have.
 //!
-//! - `Context`: where a row stands.
 //! - `Kinds`, `Ahead`, `Guard`: tests and guards named by a value, the plain ones among them; `is_kind`, `sees_ahead`,
 //!   `holds` ask them.
 //!
@@ -19,4 +18,4 @@ mod looks;
 mod named;
 
 pub use asked::{holds, is_kind, sees_ahead};
-pub use named::{Ahead, Context, Guard, Kinds};
+pub use named::{Ahead, Guard, Kinds};

@@ -1,23 +1,8 @@
 //! Tests and guards named by a value.
 
 use es_guards as plain;
-use es_token::TokenKind;
 use es_tree::Lang;
-
-/// Where a row stands.
-#[derive(Clone, Copy, Debug, PartialEq, Eq)]
-pub struct Context {
-    /// In a script.
-    pub script: bool,
-    /// In the head of a `for`, where `in` is no operator.
-    pub no_in: bool,
-    /// In an async function.
-    pub in_async: bool,
-    /// In the first branch of a conditional or in a case test of TypeScript, where no `:` opens an arrow's result.
-    pub no_colon: bool,
-    /// In the parameters of a constructor of TypeScript.
-    pub in_constructor: bool,
-}
+use es_whole_grammar::Context;
 
 /// Kinds of tokens.
 #[derive(Clone, Copy)]

@@ -1,0 +1,30 @@
+use Rattle.std.proofs.Common.{sym}
+use Rattle.std.proofs.lemmas.Result.{err_from_is_err_and}
+use Rattle.es_tree.specs.Key.{keys_of}
+use Rattle.es_whole_guards.specs.Named.{kinds_of, look_of, guard_of}
+use Rattle.es_whole_reader.specs.Told.{sort_of, told_of}
+use Rattle.es_whole_reader.specs.Bounded.{row_at, form_at}
+use Rattle.es_tree.specs.Form.{tok, punct, row, opt, many, alt}
+use Rattle.es_whole_reader.proofs.FormLemmas.{refused, adds_row, no_row}
+use Rattle.es_whole_reader.proofs.forms.OfRowReadsForm.read.Goals as goal
+
+pub returns-in_err-part : goal.returns-in_err-part
+returns-in_err-part g c =
+    let p = err_from_is_err_and c.from_residual.result c.from_residual.ensures.1 in
+    refused (form_at (keys_of c.args.grammar.now.input.tokens.tokens.now)
+    (row_at c.args.grammar.now.input.lang (keys_of c.args.grammar.now.input.tokens.tokens.now) c.args.grammar.now.room)
+    (row c.args.self.now.0 (g.N.ReadsForm.form c.args.self.now.1)) c.args.cursor.now.at) c.args.parts.now
+    c.args.parts.now c.from_residual.result p.0 c.in_err-part.field-0.0 c.row.new.cursor.at p.1 p.2
+    (λ memory. no_row (keys_of c.args.grammar.now.input.tokens.tokens.now)
+    (row_at c.args.grammar.now.input.lang (keys_of c.args.grammar.now.input.tokens.tokens.now) c.args.grammar.now.room)
+    (g.N.ReadsForm.form c.args.self.now.1) c.args.cursor.now.at c.args.self.now.0
+    (c.in_err-part.ensures memory))
+
+pub returns : goal.returns
+returns g c =
+    adds_row (keys_of c.args.grammar.now.input.tokens.tokens.now)
+    (row_at c.args.grammar.now.input.lang (keys_of c.args.grammar.now.input.tokens.tokens.now) c.args.grammar.now.room)
+    (g.N.ReadsForm.form c.args.self.now.1)
+    c.args.cursor.now.at c.args.parts.now c.read.new.parts c.read.result c.read.new.cursor.at
+    c.args.self.now.0 c.push.new.self c.in_ok-part.part c.row.new.cursor.at
+    c.in_ok-part.ensures c.in_ok-push.ensures.trees c.in_ok-push.ensures.height c.read.ensures

@@ -1,0 +1,24 @@
+//! The reader of the table of programs (`es_grammar`): from tokens to a tree of nodes.
+//!
+//! - `Tree`: the nodes, and the tokens that are kept, of a plain tree (`slim`, `specs/Slim.antt`).
+//! - `ReadsForm` and `ReadsRule`: what reads a form, and a rule, of the table. A struct stands for each way to write one
+//!   (`Punct`, `Opt`, `Many`, .., `Make`, `Choose`, `Wrap`), so that a row of the table is written in the code as it
+//!   stands there. Each answers what the reader of the table answers (`specs/Bounded.antt`), or that memory ran out.
+//! - `Grammar`: the rows that a rule names, by one function that reads each of them (`IsRing`, `specs/Steps.antt`).
+//!
+//! Not promised: which token `Syntax` names, and when memory runs out.
+#![tactic(auto)]
+
+mod cursor;
+mod forms;
+mod rules;
+mod told;
+mod tree;
+
+pub use cursor::{Cursor, Grammar, Input, Measured, Parts};
+pub use es_guards::Tokens;
+pub use es_whole_guards::{Ahead, Guard, Kinds};
+pub use forms::{Alt, Done, Many, OfRow, Opt, Punct, ReadsForm, Tok, When, Where};
+pub use rules::{As, Choose, Make, Pick, ReadsRule, Refuse, Wrap};
+pub use told::{Sort, Told};
+pub use tree::Tree;
