@@ -15,9 +15,9 @@ use Rattle.es_grammar.specs.TypeRows as types
 use Rattle.es_grammar.specs.TypeTable.{type_rule}
 use Rattle.es_grammar.specs.Order.{StandsBetween}
 use Rattle.es_grammar.proofs.OrderLemmas.{row_stands}
+use Rattle.es_whole_grammar.specs.declared.rows.Label.TheVariants.{OfType}
 use Rattle.es_whole_grammar.specs.declared.rows.Label.{Label}
 use Rattle.es_whole_grammar.specs.declared.rows.Row.TheVariants.{TypesRow}
-use Rattle.es_whole_grammar.specs.declared.rows.Label.TheVariants.{OfType}
 use Rattle.es_whole_grammar.specs.TypeNames.{row_of_types, row_name, label_name}
 use Rattle.es_whole_grammar.specs.Embedding.{types_rule}
 use Rattle.es_whole_grammar.specs.Table.{rule}

@@ -6,18 +6,17 @@ use Rattle.es_tree.specs.declared.error.Lang.{Lang}
 use Rattle.es_tree.specs.declared.error.Lang.TheVariants as lang
 use Rattle.es_tree.specs.Key.{Key, seen, same_kind, has_kind, is}
 use Rattle.es_tree.specs.Form.{as_name, as_kind, as_there, taken, guarded, Guard, Form, done, tok, punct, row, opt, where_, Rule, make, choose, pick}
-use Rattle.es_grammar.specs.declared.rows.Label.TheVariants.{EmptyMember, StaticBlock, AccessorMember, AsyncMember, GeneratorMember, MethodMember, FieldMember, AccessorField}
 use Rattle.es_grammar.specs.Words.{only, is_name, is_accessor_word, is_near}
 use Rattle.es_grammar.specs.Modules.{ended}
 use Rattle.es_grammar.specs.Expressions.{ends_expression}
 use Rattle.es_grammar.specs.Functions.{starts_key, opens_accessor, opens_async, opens_star}
 use Rattle.es_grammar.specs.Classes.{opens_static, opens_field_accessor, behind_static, is_plain_member, opens_static_block}
 use Rattle.es_grammar.specs.Members.{shows_index}
+use Rattle.es_whole_grammar.specs.declared.rows.Label.TheVariants.{AccessorField, AccessorMember, AsyncMember, EmptyMember, FieldMember, GeneratorMember, IndexMember, MethodMember, StaticBlock}
 use Rattle.es_whole_grammar.specs.declared.rows.Context.{Context}
 use Rattle.es_whole_grammar.specs.declared.rows.Row.{Row}
 use Rattle.es_whole_grammar.specs.declared.rows.Label.{Label}
 use Rattle.es_whole_grammar.specs.declared.rows.Row.TheVariants.{BlockRow, SignatureRow, KeyRow, AssignmentRow}
-use Rattle.es_whole_grammar.specs.declared.rows.Label.TheVariants.{OfPlain, IndexMember}
 use Rattle.es_whole_grammar.specs.Rows.{async_in}
 use Rattle.es_whole_grammar.specs.Embedding.{type_then, annotation_in, plain_form}
 use Rattle.es_whole_grammar.specs.Expressions.{star_in, body_in}
@@ -104,14 +103,14 @@ field_in lang.Typescript c =
 unfoldable pub modified_member : Lang → Context → Rule Row Label
 modified_member l c =
     pick (behind l (opens_accessor true))
-    (make (OfPlain AccessorMember) (marked_in l accessor_word_in (class_method_in l c c)))
+    (make AccessorMember (marked_in l accessor_word_in (class_method_in l c c)))
     (pick (behind l (opens_async true))
-    (make (OfPlain AsyncMember) (marked_in l async_word_in (class_method_in l c (async_in c))))
-    (pick (behind l opens_star) (make (OfPlain GeneratorMember) (marked_in l star_word_in (class_method_in l c c)))
+    (make AsyncMember (marked_in l async_word_in (class_method_in l c (async_in c))))
+    (pick (behind l opens_star) (make GeneratorMember (marked_in l star_word_in (class_method_in l c c)))
     (pick (behind l opens_field_accessor)
-    (make (OfPlain AccessorField) (marked_in l field_word_in (field_in l c)))
-    (pick (behind l (opens_any_method l)) (make (OfPlain MethodMember) (head_in l (class_method_in l c c)))
-    (make (OfPlain FieldMember) (head_in l (field_in l c)))))))
+    (make AccessorField (marked_in l field_word_in (field_in l c)))
+    (pick (behind l (opens_any_method l)) (make MethodMember (head_in l (class_method_in l c c)))
+    (make FieldMember (head_in l (field_in l c)))))))
 
 -- TS Mod* '[' Name ':' Type ']' (':' Type)? END
 unfoldable pub index_member : Rule Row Label
@@ -126,6 +125,6 @@ any_member lang.Typescript c = pick (behind_all shows_index) index_member (modif
 -- Member: ';' | 'static' Block | and those with modifiers
 unfoldable pub member : Lang → Context → Rule Row Label
 member l c =
-    choose (is k.Semicolon) (make (OfPlain EmptyMember) (punct k.Semicolon done))
-    (pick opens_static_block (make (OfPlain StaticBlock) (punct k.StaticWord (row (BlockRow c) done)))
+    choose (is k.Semicolon) (make EmptyMember (punct k.Semicolon done))
+    (pick opens_static_block (make StaticBlock (punct k.StaticWord (row (BlockRow c) done)))
     (any_member l c))

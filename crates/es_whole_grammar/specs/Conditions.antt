@@ -7,17 +7,16 @@ use Rattle.es_tree.specs.declared.error.Mode.TheVariants as mode
 use Rattle.es_tree.specs.Key.{Key}
 use Rattle.es_tree.specs.Plain.{Plain, node, leaf, cons, mark, turn, via}
 use Rattle.es_tree.specs.Fits.{free, Shape}
-use Rattle.es_grammar.specs.declared.rows.Label.TheVariants.{Name, Parenthesized, Chain, Binary, MemberPost, IndexPost, Assignment, UpdatePostfix, UpdatePrefix}
+use Rattle.es_whole_grammar.specs.declared.rows.Label.TheVariants.{Assignment, Binary, Chain, IndexPost, MemberPost, Name, NonNullPost, OfType, Parenthesized, UpdatePostfix, UpdatePrefix}
 use Rattle.es_whole_grammar.specs.declared.rows.Row.{Row}
 use Rattle.es_whole_grammar.specs.declared.rows.Label.{Label}
 use Rattle.es_whole_grammar.specs.declared.rows.Row.TheVariants.{ModuleRow, ScriptRow}
-use Rattle.es_whole_grammar.specs.declared.rows.Label.TheVariants.{OfPlain, OfType, NonNullPost}
 use Rattle.es_whole_grammar.specs.Table.{rule}
 
 -- `.a` or `[a]`
 abbrev pub is_member : Plain Label → Bool
-is_member (node (OfPlain MemberPost) from to ps) = true
-is_member (node (OfPlain IndexPost) from to ps) = true
+is_member (node MemberPost from to ps) = true
+is_member (node IndexPost from to ps) = true
 is_member _ = false
 
 -- what a `!` behind a part leaves of the answer: that of the parts before it
@@ -39,17 +38,17 @@ is_assertion _ = false
 -- a simple target: a name, a chain that ends in a member, or such a one in brackets, or before `!`, `as` or
 -- `satisfies`
 abbrev pub is_simple : Plain Label → Bool
-is_simple (node (OfPlain Name) from to ps) = true
-is_simple (node (OfPlain Parenthesized) from to (mark n (cons q ps))) = is_simple q
-is_simple (node (OfPlain Chain) from to (cons q (cons p (cons more ps)))) = ends_in_member (is_simple q) p more
-is_simple (node (OfPlain Binary) from to (cons q (cons assertion ps))) = is_assertion assertion && is_simple q
+is_simple (node Name from to ps) = true
+is_simple (node Parenthesized from to (mark n (cons q ps))) = is_simple q
+is_simple (node Chain from to (cons q (cons p (cons more ps)))) = ends_in_member (is_simple q) p more
+is_simple (node Binary from to (cons q (cons assertion ps))) = is_assertion assertion && is_simple q
 is_simple _ = false
 
 -- the parts of a node are those that its alternative may have
 abbrev pub may_hold : Label → Plain Label → Bool
-may_hold (OfPlain Assignment) (cons q ps) = is_simple q
-may_hold (OfPlain UpdatePostfix) (cons q ps) = is_simple q
-may_hold (OfPlain UpdatePrefix) (cons operator (cons q ps)) = is_simple q
+may_hold Assignment (cons q ps) = is_simple q
+may_hold UpdatePostfix (cons q ps) = is_simple q
+may_hold UpdatePrefix (cons operator (cons q ps)) = is_simple q
 may_hold _ ps = true
 
 -- each node of the tree holds what it may, and each target is simple

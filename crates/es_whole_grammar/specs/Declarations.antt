@@ -7,8 +7,8 @@ use Rattle.es_tree.specs.declared.error.Lang.{Lang}
 use Rattle.es_tree.specs.declared.error.Lang.TheVariants as lang
 use Rattle.es_tree.specs.Key.{seen, same_kind, has_kind, is}
 use Rattle.es_tree.specs.Form.{as_str, as_name, as_kind, as_there, hint, taken, Guard, Form, done, tok, punct, row, opt, many, alt, when_, Rule, make, choose, pick}
-use Rattle.es_grammar.specs.declared.rows.Label.TheVariants.{EmptyStatement, VariableDeclaration, UsingDeclaration}
 use Rattle.es_grammar.specs.Words.{only, is_name, is_near, is_other}
+use Rattle.es_whole_grammar.specs.declared.rows.Label.TheVariants.{AliasDeclaration, Declared, DeclaredVariables, EmptyStatement, EnumDeclaration, GlobalDeclaration, InterfaceDeclaration, ModuleDeclaration, NamespaceDeclaration, UsingDeclaration, VariableDeclaration}
 use Rattle.es_whole_grammar.specs.declared.rows.TypeRow.TheVariants as types
 use Rattle.es_grammar.specs.Modules.{ended}
 use Rattle.es_grammar.specs.Expressions.{opens_async_function}
@@ -17,7 +17,6 @@ use Rattle.es_whole_grammar.specs.declared.rows.Context.{Context}
 use Rattle.es_whole_grammar.specs.declared.rows.Row.{Row}
 use Rattle.es_whole_grammar.specs.declared.rows.Label.{Label}
 use Rattle.es_whole_grammar.specs.declared.rows.Row.TheVariants.{ItemRow, EntityRow, VariablesRow, UsingRow, DeclaredRow, KeyRow, TypesRow}
-use Rattle.es_whole_grammar.specs.declared.rows.Label.TheVariants.{OfPlain, DeclaredVariables, Declared, Interface, Alias, Enum, Namespace, ModuleNamespace, GlobalNamespace}
 use Rattle.es_whole_grammar.specs.Rows.{outside}
 use Rattle.es_whole_grammar.specs.Embedding.{type_then, type_parameters_in, plain_form}
 use Rattle.es_whole_grammar.specs.Expressions.{function, async_function, class_, abstract_class, opens_abstract_class, references_in}
@@ -73,22 +72,22 @@ type_members =
     punct k.OpenBrace (many (hint (is_other k.CloseBrace)) (row (TypesRow types.MemberRow) done)
     (punct k.CloseBrace done))
 
--- Interface: 'interface' Name TParams? ('extends' Ref%+)? '{' TMember* '}'
+-- InterfaceDeclaration: 'interface' Name TParams? ('extends' Ref%+)? '{' TMember* '}'
 unfoldable pub interface : Rule Row Label
 interface =
-    make Interface (punct k.InterfaceWord (tok as_name is_name (type_parameters_in
+    make InterfaceDeclaration (punct k.InterfaceWord (tok as_name is_name (type_parameters_in
     (opt (taken (is k.ExtendsWord)) (punct k.ExtendsWord (references_in done)) type_members))))
 
--- Alias: 'type' Name TParams? '=' Type END
+-- AliasDeclaration: 'type' Name TParams? '=' Type END
 unfoldable pub alias : Rule Row Label
 alias =
-    make Alias (punct k.TypeWord (tok as_name is_name (type_parameters_in (punct k.Equal (type_then
+    make AliasDeclaration (punct k.TypeWord (tok as_name is_name (type_parameters_in (punct k.Equal (type_then
     (plain_form ended))))))
 
--- Enum: 'const'? 'enum' Name '{' (Key ('=' Assign)?)% '}'
+-- EnumDeclaration: 'const'? 'enum' Name '{' (Key ('=' Assign)?)% '}'
 unfoldable pub enum_ : Context → Rule Row Label
 enum_ c =
-    make Enum (opt (taken (is k.ConstWord)) (tok as_there (only k.ConstWord) done)
+    make EnumDeclaration (opt (taken (is k.ConstWord)) (tok as_there (only k.ConstWord) done)
     (punct k.EnumWord (tok as_name is_name (punct k.OpenBrace
     (many (hint (is_other k.CloseBrace))
     (row (KeyRow false (outside c)) (default_in c (opt (taken (is_other k.CloseBrace)) (punct k.Comma done) done)))
@@ -106,21 +105,21 @@ is_namespace_word kind = same_kind kind k.NamespaceWord || same_kind kind k.Modu
 
 -- ('namespace' | 'module') Entity '{' Item* '}'
 unfoldable pub namespace : Context → Rule Row Label
-namespace c = make Namespace (tok as_kind is_namespace_word (row EntityRow (items_in c)))
+namespace c = make NamespaceDeclaration (tok as_kind is_namespace_word (row EntityRow (items_in c)))
 
 -- 'module' Str ('{' Item* '}' | END), where a `{` opens the items on a new line too
 unfoldable pub module_namespace : Context → Rule Row Label
 module_namespace c =
-    make ModuleNamespace (punct k.ModuleWord (tok as_str (only k.Str) (alt (is k.OpenBrace) (items_in c)
+    make ModuleDeclaration (punct k.ModuleWord (tok as_str (only k.Str) (alt (is k.OpenBrace) (items_in c)
     (when_ (is_other k.OpenBrace) (plain_form ended)) done)))
 
 -- 'global' '{' Item* '}'
 unfoldable pub global : Context → Rule Row Label
-global c = make GlobalNamespace (punct k.GlobalWord (items_in c))
+global c = make GlobalDeclaration (punct k.GlobalWord (items_in c))
 
 -- ---- declarations
 
--- Interface | Alias | Enum | Space, and in place of these another rule
+-- InterfaceDeclaration | AliasDeclaration | EnumDeclaration | Space, and in place of these another rule
 unfoldable pub typed_declaration : Context → Rule Row Label → Rule Row Label
 typed_declaration c other =
     pick opens_interface interface
@@ -129,7 +128,7 @@ typed_declaration c other =
     (pick opens_module (module_namespace c)
     (pick opens_global (global c) other))))
 
--- what stands behind `declare` besides variables: Fn | Class | Interface | Alias | Enum | Space
+-- what stands behind `declare` besides variables: Fn | Class | InterfaceDeclaration | AliasDeclaration | EnumDeclaration | Space
 unfoldable pub declared : Context → Rule Row Label
 declared c =
     pick opens_enum (enum_ c)
@@ -141,7 +140,7 @@ declared c =
 unfoldable pub declares_variables : Guard
 declares_variables K at = has_kind is_variable_word (seen K (at + 1)) && not (opens_enum K (at + 1))
 
--- TS 'declare' (Var END | Fn | Class | Interface | Alias | Enum | Space)
+-- TS 'declare' (Var END | Fn | Class | InterfaceDeclaration | AliasDeclaration | EnumDeclaration | Space)
 unfoldable pub declare : Context → Rule Row Label
 declare c =
     pick declares_variables (make DeclaredVariables (punct k.DeclareWord (row (VariablesRow c) (plain_form ended))))
@@ -150,13 +149,13 @@ declare c =
 -- Var END | Using END | Fn | Class
 unfoldable pub plain_declaration : Lang → Context → Rule Row Label → Rule Row Label
 plain_declaration l c other =
-    choose (has_kind is_variable_word) (make (OfPlain VariableDeclaration) (row (VariablesRow c) (plain_form ended)))
+    choose (has_kind is_variable_word) (make VariableDeclaration (row (VariablesRow c) (plain_form ended)))
     (choose (is k.FunctionWord) (function l true c)
     (choose (is k.ClassWord) (class_ l true c)
-    (pick opens_using (make (OfPlain UsingDeclaration) (row (UsingRow c) (plain_form ended)))
+    (pick opens_using (make UsingDeclaration (row (UsingRow c) (plain_form ended)))
     (pick opens_async_function (async_function l true c) other))))
 
--- Decl: Var END | Using END | Fn | Class | TS 'declare'? (Interface | Alias | Enum | Space)
+-- Decl: Var END | Using END | Fn | Class | TS 'declare'? (InterfaceDeclaration | AliasDeclaration | EnumDeclaration | Space)
 --       | TS 'declare' (Var END | Fn | Class)
 unfoldable pub declaration : Lang → Context → Rule Row Label → Rule Row Label
 declaration lang.Es c other = plain_declaration lang.Es c other
@@ -170,5 +169,5 @@ declaration lang.Typescript c other =
 unfoldable pub statement : Lang → Context → Rule Row Label
 statement l c =
     choose (is k.OpenBrace) (block c)
-    (choose (is k.Semicolon) (make (OfPlain EmptyStatement) (punct k.Semicolon done))
+    (choose (is k.Semicolon) (make EmptyStatement (punct k.Semicolon done))
     (keyword_statement l c (declaration l c (other_statement c))))

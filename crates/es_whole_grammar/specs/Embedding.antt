@@ -12,7 +12,10 @@ use Rattle.es_tree.specs.Reader.{Out, nothing, gives, read_row}
 use Rattle.es_grammar.specs.declared.rows.Row as programs
 use Rattle.es_grammar.specs.declared.rows.Row.TheVariants as rows
 use Rattle.es_grammar.specs.declared.rows.Label as labels
+use Rattle.es_grammar.specs.declared.rows.Label.TheVariants as named
+use Rattle.es_whole_grammar.specs.declared.rows.Label.TheVariants as here
 use Rattle.es_grammar.specs.TypeRows as table
+use Rattle.es_whole_grammar.specs.declared.rows.Label.TheVariants.{OfType}
 use Rattle.es_whole_grammar.specs.declared.rows.TypeRow.{TypeRow}
 use Rattle.es_whole_grammar.specs.declared.rows.TypeRow.TheVariants as types
 use Rattle.es_whole_grammar.specs.TypeNames.{row_of_types, row_name, label_name}
@@ -20,7 +23,6 @@ use Rattle.es_grammar.specs.TypeTable.{type_rule}
 use Rattle.es_whole_grammar.specs.declared.rows.Row.{Row}
 use Rattle.es_whole_grammar.specs.declared.rows.Label.{Label}
 use Rattle.es_whole_grammar.specs.declared.rows.Row.TheVariants.{ModuleRow, ScriptRow, ItemRow, ClauseRow, NamedRow, ImportSpecifierRow, ExportSpecifierRow, AttributesRow, EntityRow, StatementRow, BlockRow, DeclarationRow, VariablesRow, DeclaratorRow, UsingRow, HeadRow, FunctionRow, ClassRow, SignatureRow, ParametersRow, ParameterRow, PatternRow, InnerPatternRow, PatternElementRow, PatternPropertyRow, MemberRow, PropertyRow, KeyRow, ExpressionRow, AssignmentRow, AndRow, BitOrRow, BitXorRow, BitAndRow, EqualityRow, RelationRow, ShiftRow, SumRow, ProductRow, PowerRow, UnaryRow, ChainRow, CalleeRow, PostRow, MemberPostRow, ArgumentsRow, ElementRow, TemplateRow, TypesRow}
-use Rattle.es_whole_grammar.specs.declared.rows.Label.TheVariants.{OfPlain, OfType}
 use Rattle.es_whole_grammar.specs.Rows.{widened, in_module}
 
 -- ---- mapped rules
@@ -99,9 +101,134 @@ row_of (rows.ArgumentsRow c) = ArgumentsRow (widened c)
 row_of (rows.ElementRow c) = ElementRow (widened c)
 row_of (rows.TemplateRow c) = TemplateRow (widened c)
 
+-- an alternative of the plain table, in this one
+abbrev pub label_of : labels.Label → Label
+label_of named.BareImport = here.BareImport
+label_of named.FromImport = here.FromImport
+label_of named.RequireImport = here.RequireImport
+label_of named.EntityImport = here.EntityImport
+label_of named.ExportedRequireImport = here.ExportedRequireImport
+label_of named.ExportedEntityImport = here.ExportedEntityImport
+label_of named.DefaultClause = here.DefaultClause
+label_of named.DefaultAndClause = here.DefaultAndClause
+label_of named.Namespace = here.Namespace
+label_of named.NamedImports = here.NamedImports
+label_of named.RenamedImport = here.RenamedImport
+label_of named.ImportedName = here.ImportedName
+label_of named.ExportAll = here.ExportAll
+label_of named.ExportNames = here.ExportNames
+label_of named.ExportNamespace = here.ExportNamespace
+label_of named.ExportedName = here.ExportedName
+label_of named.Attributes = here.Attributes
+label_of named.Entity = here.Entity
+label_of named.ExportDefaultFunction = here.ExportDefaultFunction
+label_of named.ExportDefaultClass = here.ExportDefaultClass
+label_of named.ExportDefaultExpression = here.ExportDefaultExpression
+label_of named.ExportDeclaration = here.ExportDeclaration
+label_of named.Module = here.Module
+label_of named.Script = here.Script
+label_of named.Block = here.Block
+label_of named.EmptyStatement = here.EmptyStatement
+label_of named.ExpressionStatement = here.ExpressionStatement
+label_of named.LabelledStatement = here.LabelledStatement
+label_of named.IfStatement = here.IfStatement
+label_of named.ForStatement = here.ForStatement
+label_of named.ForEachStatement = here.ForEachStatement
+label_of named.ForAwaitStatement = here.ForAwaitStatement
+label_of named.WhileStatement = here.WhileStatement
+label_of named.DoStatement = here.DoStatement
+label_of named.ContinueStatement = here.ContinueStatement
+label_of named.BreakStatement = here.BreakStatement
+label_of named.ReturnStatement = here.ReturnStatement
+label_of named.ThrowStatement = here.ThrowStatement
+label_of named.SwitchStatement = here.SwitchStatement
+label_of named.TryStatement = here.TryStatement
+label_of named.DebuggerStatement = here.DebuggerStatement
+label_of named.WithStatement = here.WithStatement
+label_of named.VariableDeclaration = here.VariableDeclaration
+label_of named.UsingDeclaration = here.UsingDeclaration
+label_of named.Variables = here.Variables
+label_of named.Declarator = here.Declarator
+label_of named.Using = here.Using
+label_of named.VariableHead = here.VariableHead
+label_of named.UsingHead = here.UsingHead
+label_of named.Target = here.Target
+label_of named.AsyncFunction = here.AsyncFunction
+label_of named.Function = here.Function
+label_of named.Signature = here.Signature
+label_of named.Parameters = here.Parameters
+label_of named.DefaultParameter = here.DefaultParameter
+label_of named.NamePattern = here.NamePattern
+label_of named.ArrayPattern = here.ArrayPattern
+label_of named.ObjectPattern = here.ObjectPattern
+label_of named.RestPattern = here.RestPattern
+label_of named.DefaultPattern = here.DefaultPattern
+label_of named.RestProperty = here.RestProperty
+label_of named.KeyPattern = here.KeyPattern
+label_of named.NameProperty = here.NameProperty
+label_of named.Class = here.Class
+label_of named.EmptyMember = here.EmptyMember
+label_of named.StaticBlock = here.StaticBlock
+label_of named.AccessorMember = here.AccessorMember
+label_of named.AsyncMember = here.AsyncMember
+label_of named.GeneratorMember = here.GeneratorMember
+label_of named.MethodMember = here.MethodMember
+label_of named.FieldMember = here.FieldMember
+label_of named.AccessorField = here.AccessorField
+label_of named.WordKey = here.WordKey
+label_of named.StrKey = here.StrKey
+label_of named.NumberKey = here.NumberKey
+label_of named.ComputedKey = here.ComputedKey
+label_of named.PrivateKey = here.PrivateKey
+label_of named.Sequence = here.Sequence
+label_of named.Yield = here.Yield
+label_of named.PatternAssignment = here.PatternAssignment
+label_of named.Assignment = here.Assignment
+label_of named.NameArrow = here.NameArrow
+label_of named.ParenthesizedArrow = here.ParenthesizedArrow
+label_of named.AsyncNameArrow = here.AsyncNameArrow
+label_of named.AsyncParenthesizedArrow = here.AsyncParenthesizedArrow
+label_of named.Conditional = here.Conditional
+label_of named.Binary = here.Binary
+label_of named.PrivateIn = here.PrivateIn
+label_of named.UnaryExpression = here.UnaryExpression
+label_of named.AwaitExpression = here.AwaitExpression
+label_of named.UpdatePrefix = here.UpdatePrefix
+label_of named.UpdatePostfix = here.UpdatePostfix
+label_of named.Chain = here.Chain
+label_of named.MemberPost = here.MemberPost
+label_of named.IndexPost = here.IndexPost
+label_of named.CallPost = here.CallPost
+label_of named.TemplatePost = here.TemplatePost
+label_of named.OptionalPost = here.OptionalPost
+label_of named.Super = here.Super
+label_of named.ImportCall = here.ImportCall
+label_of named.ImportMeta = here.ImportMeta
+label_of named.NewTarget = here.NewTarget
+label_of named.New = here.New
+label_of named.Arguments = here.Arguments
+label_of named.Name = here.Name
+label_of named.Word = here.Word
+label_of named.Number = here.Number
+label_of named.Str = here.Str
+label_of named.RegExp = here.RegExp
+label_of named.Template = here.Template
+label_of named.TemplateParts = here.TemplateParts
+label_of named.Parenthesized = here.Parenthesized
+label_of named.ArrayLiteral = here.ArrayLiteral
+label_of named.ObjectLiteral = here.ObjectLiteral
+label_of named.Spread = here.Spread
+label_of named.SpreadProperty = here.SpreadProperty
+label_of named.AccessorProperty = here.AccessorProperty
+label_of named.AsyncProperty = here.AsyncProperty
+label_of named.GeneratorProperty = here.GeneratorProperty
+label_of named.MethodProperty = here.MethodProperty
+label_of named.KeyValue = here.KeyValue
+label_of named.Shorthand = here.Shorthand
+
 -- a rule of the plain table, in this one
 abbrev pub plain_rule : Rule programs.Row labels.Label → Rule Row Label
-plain_rule a = mapped_rule row_of OfPlain a
+plain_rule a = mapped_rule row_of label_of a
 
 abbrev pub plain_form : Form programs.Row → Form Row
 plain_form f = mapped_form row_of f

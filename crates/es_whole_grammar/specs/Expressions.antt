@@ -8,8 +8,8 @@ use Rattle.es_tree.specs.declared.error.Lang.TheVariants as lang
 use Rattle.es_tree.specs.Key.{TokenTest, seen, same_kind, has_kind, is}
 use Rattle.es_tree.specs.Form.{as_str, as_name, as_raw, as_kind, as_there, hint, taken, guarded, Guard, Form, done, tok, punct, row, opt, many, alt, when_, where_, Rule, make, choose, pick, wrap}
 use Rattle.es_tree.specs.Tells.{none}
-use Rattle.es_grammar.specs.declared.rows.Label.TheVariants.{AsyncFunction, Function, Class, Sequence, Yield, PatternAssignment, Assignment, NameArrow, ParenthesizedArrow, AsyncNameArrow, AsyncParenthesizedArrow, Conditional, Binary, PrivateIn, UnaryExpression, AwaitExpression, UpdatePrefix, UpdatePostfix, Chain, MemberPost, IndexPost, CallPost, TemplatePost, OptionalPost, Super, ImportCall, ImportMeta, NewTarget, New, Arguments, Name, Word, Number, Str, RegExp, Template, TemplateParts, Parenthesized, ArrayLiteral, ObjectLiteral, Spread}
 use Rattle.es_grammar.specs.Words.{only, is_name, is_numeric, is_near, is_other, closes_before}
+use Rattle.es_whole_grammar.specs.declared.rows.Label.TheVariants.{AbstractClass, Arguments, ArrayLiteral, Assignment, AsyncFunction, AsyncNameArrow, AsyncParenthesizedArrow, AwaitExpression, Binary, CallPost, Chain, Class, Conditional, Function, ImportCall, ImportMeta, IndexPost, MemberPost, Name, NameArrow, New, NewTarget, NonNullPost, Number, ObjectLiteral, OptionalPost, Parenthesized, ParenthesizedArrow, PatternAssignment, PrivateIn, RegExp, Sequence, Spread, Str, Super, Template, TemplateParts, TemplatePost, UnaryExpression, UpdatePostfix, UpdatePrefix, Word, Yield}
 use Rattle.es_whole_grammar.specs.declared.rows.TypeRow.TheVariants as types
 use Rattle.es_grammar.specs.Modules.{ended}
 use Rattle.es_grammar.specs.Expressions.{is_prefix, is_update, is_product, is_sum, is_equality, is_relation, is_assignment, is_property_name, joins, opens_greater, begins_expression, is_arrow, no_arrow, opens_plain_arrow, opens_async_arrow, opens_async_parenthesis, is_no_arrow_head, opens_async_function, is_literal_word, opens_property, has_argument, follows_super, begins_member, begins_post, is_update_here, no_update_here, opens_shift, no_mix, opens_pattern, opens_assignment}
@@ -17,7 +17,6 @@ use Rattle.es_whole_grammar.specs.declared.rows.Context.{Context}
 use Rattle.es_whole_grammar.specs.declared.rows.Row.{Row}
 use Rattle.es_whole_grammar.specs.declared.rows.Label.{Label}
 use Rattle.es_whole_grammar.specs.declared.rows.Row.TheVariants.{BlockRow, SignatureRow, ParametersRow, PatternRow, PropertyRow, ExpressionRow, AssignmentRow, AndRow, BitOrRow, BitXorRow, BitAndRow, EqualityRow, RelationRow, ShiftRow, SumRow, ProductRow, PowerRow, UnaryRow, ChainRow, CalleeRow, PostRow, MemberPostRow, ArgumentsRow, ElementRow, TemplateRow, MemberRow, TypesRow}
-use Rattle.es_whole_grammar.specs.declared.rows.Label.TheVariants.{OfPlain, AbstractClass, NonNullPost}
 use Rattle.es_whole_grammar.specs.Rows.{outside, async_in, async_here, without_colon}
 use Rattle.es_whole_grammar.specs.Embedding.{typed_in, type_then, plain_form, type_parameters_in, type_arguments_in, reads_before, opens_call_arguments, opens_heritage_arguments}
 
@@ -88,8 +87,8 @@ begins_parameters lang.Typescript x = is k.OpenParen x || is k.Less x
 -- Name ~ '=>' .. | (TS TParams)? '(' Params ')' (TS ':' Ret)? ~ '=>' ..
 unfoldable pub plain_arrow : Lang → Context → Rule Row Label
 plain_arrow l c =
-    choose (begins_parameters l) (make (OfPlain ParenthesizedArrow) (parameters_arrow_in l (outside c) c c))
-    (make (OfPlain NameArrow) (tok as_name is_name (arrow_in c c)))
+    choose (begins_parameters l) (make ParenthesizedArrow (parameters_arrow_in l (outside c) c c))
+    (make NameArrow (tok as_name is_name (arrow_in c c)))
 
 unfoldable pub opens_async_list : Lang → Guard
 opens_async_list lang.Es K at = opens_async_parenthesis K at
@@ -99,17 +98,17 @@ opens_async_list lang.Typescript K at = is k.OpenParen (seen K (at + 1)) || is k
 unfoldable pub async_arrow : Lang → Context → Rule Row Label
 async_arrow l c =
     pick (opens_async_list l)
-    (make (OfPlain AsyncParenthesizedArrow) (punct k.AsyncWord (when_ is_near (parameters_arrow_in l (async_in c) c
+    (make AsyncParenthesizedArrow (punct k.AsyncWord (when_ is_near (parameters_arrow_in l (async_in c) c
     (async_here c)))))
-    (make (OfPlain AsyncNameArrow) (punct k.AsyncWord (when_ is_near (tok as_name is_name (arrow_in c (async_here c))))))
+    (make AsyncNameArrow (punct k.AsyncWord (when_ is_near (tok as_name is_name (arrow_in c (async_here c))))))
 
 -- ---- templates
 
 -- Tpl: whole | head Expr (middle Expr)* tail
 unfoldable pub template : Context → Rule Row Label
 template c =
-    choose (is k.TemplateWhole) (make (OfPlain Template) (tok as_raw (only k.TemplateWhole) done))
-    (make (OfPlain TemplateParts) (tok as_raw (only k.TemplateHead) (row (ExpressionRow (outside c))
+    choose (is k.TemplateWhole) (make Template (tok as_raw (only k.TemplateWhole) done))
+    (make TemplateParts (tok as_raw (only k.TemplateHead) (row (ExpressionRow (outside c))
     (many (taken (is k.TemplateMiddle)) (tok as_raw (only k.TemplateMiddle) (row (ExpressionRow (outside c)) done))
     (tok as_raw (only k.TemplateTail) done)))))
 
@@ -133,13 +132,13 @@ body_in lang.Typescript c =
 -- 'function' '*'? Name? Sig (Block | TS END)
 unfoldable pub function : Lang → Bool → Context → Rule Row Label
 function l named c =
-    make (OfPlain Function) (punct k.FunctionWord (star_in (name_in named (row (SignatureRow (outside c))
+    make Function (punct k.FunctionWord (star_in (name_in named (row (SignatureRow (outside c))
     (body_in l (outside c))))))
 
 -- 'async' ~ 'function' '*'? Name? Sig (Block | TS END)
 unfoldable pub async_function : Lang → Bool → Context → Rule Row Label
 async_function l named c =
-    make (OfPlain AsyncFunction) (punct k.AsyncWord (when_ is_near (punct k.FunctionWord (star_in (name_in named
+    make AsyncFunction (punct k.AsyncWord (when_ is_near (punct k.FunctionWord (star_in (name_in named
     (row (SignatureRow (async_in c)) (body_in l (async_in c))))))))
 
 -- Fn: 'function' .. | 'async' ~ 'function' ..
@@ -170,7 +169,7 @@ class_form l named c =
     (punct k.CloseBrace done)))))))
 
 unfoldable pub class_ : Lang → Bool → Context → Rule Row Label
-class_ l named c = make (OfPlain Class) (class_form l named c)
+class_ l named c = make Class (class_form l named c)
 
 -- TS 'abstract' 'class' ..
 unfoldable pub abstract_class : Bool → Context → Rule Row Label
@@ -189,12 +188,12 @@ any_class lang.Typescript named c = choose (is k.AbstractWord) (abstract_class n
 
 -- AElem: '...'? Assign, without a node of its own where it is an expression alone; the expression is told by its rule
 unfoldable pub spread : Context → Rule Row Label
-spread c = make (OfPlain Spread) (punct k.Ellipsis (row (AssignmentRow (outside c)) done))
+spread c = make Spread (punct k.Ellipsis (row (AssignmentRow (outside c)) done))
 
 -- '[' (AElem? ',')* AElem? ']'
 unfoldable pub array_literal : Context → Rule Row Label
 array_literal c =
-    make (OfPlain ArrayLiteral) (punct k.OpenBracket (many (hint (is_other k.CloseBracket))
+    make ArrayLiteral (punct k.OpenBracket (many (hint (is_other k.CloseBracket))
     (alt (is k.Comma) (punct k.Comma done)
     (row (ElementRow c) (opt (taken (is_other k.CloseBracket)) (punct k.Comma done) done)) done)
     (punct k.CloseBracket done)))
@@ -202,7 +201,7 @@ array_literal c =
 -- '{' Prop% '}'
 unfoldable pub object_literal : Context → Rule Row Label
 object_literal c =
-    make (OfPlain ObjectLiteral) (punct k.OpenBrace (many (hint (is_other k.CloseBrace))
+    make ObjectLiteral (punct k.OpenBrace (many (hint (is_other k.CloseBrace))
     (row (PropertyRow c) (opt (taken (is_other k.CloseBrace)) (punct k.Comma done) done)) (punct k.CloseBrace done)))
 
 -- `(` that opens no arrow
@@ -212,7 +211,7 @@ opens_no_arrow lang.Typescript c K at = not (closes_before (follows_parameters l
 
 -- a name that is no part of an arrow, a function, or in TypeScript an abstract class
 unfoldable pub name_expression : Rule Row Label
-name_expression = make (OfPlain Name) (tok as_name is_name (when_ no_arrow done))
+name_expression = make Name (tok as_name is_name (when_ no_arrow done))
 
 unfoldable pub named_primary : Lang → Context → Rule Row Label
 named_primary lang.Es c = pick opens_async_function (async_function lang.Es false c) name_expression
@@ -224,24 +223,24 @@ named_primary lang.Typescript c =
 unfoldable pub primary : Lang → Context → Rule Row Label
 primary l c =
     choose (is k.OpenParen)
-    (make (OfPlain Parenthesized) (where_ (opens_no_arrow l c) (punct k.OpenParen (row (ExpressionRow (outside c))
+    (make Parenthesized (where_ (opens_no_arrow l c) (punct k.OpenParen (row (ExpressionRow (outside c))
     (punct k.CloseParen done)))))
     (choose (is k.OpenBracket) (array_literal (outside c))
     (choose (is k.OpenBrace) (object_literal (outside c))
     (choose (is k.FunctionWord) (function l false c)
     (choose (is k.ClassWord) (class_ l false c)
     (choose (has_kind is_name) (named_primary l c)
-    (choose (has_kind is_literal_word) (make (OfPlain Word) (tok as_kind is_literal_word done))
-    (choose (has_kind is_numeric) (make (OfPlain Number) (tok as_raw is_numeric done))
-    (choose (is k.Str) (make (OfPlain Str) (tok as_str (only k.Str) done))
-    (choose (is k.RegExp) (make (OfPlain RegExp) (tok as_raw (only k.RegExp) done)) (template c))))))))))
+    (choose (has_kind is_literal_word) (make Word (tok as_kind is_literal_word done))
+    (choose (has_kind is_numeric) (make Number (tok as_raw is_numeric done))
+    (choose (is k.Str) (make Str (tok as_str (only k.Str) done))
+    (choose (is k.RegExp) (make RegExp (tok as_raw (only k.RegExp) done)) (template c))))))))))
 
 -- ---- chains
 
 -- 'import' '(' Assign (',' Assign)? ','? ')'
 unfoldable pub import_call : Context → Rule Row Label
 import_call c =
-    make (OfPlain ImportCall) (punct k.ImportWord (punct k.OpenParen (row (AssignmentRow (outside c))
+    make ImportCall (punct k.ImportWord (punct k.OpenParen (row (AssignmentRow (outside c))
     (opt (guarded has_argument) (punct k.Comma (row (AssignmentRow (outside c)) done))
     (opt (taken (is k.Comma)) (punct k.Comma done) (punct k.CloseParen done))))))
 
@@ -251,7 +250,7 @@ is_module c K at = not c.script
 -- 'import' '.' 'meta', in modules
 unfoldable pub import_meta : Context → Rule Row Label
 import_meta c =
-    make (OfPlain ImportMeta) (where_ (is_module c) (punct k.ImportWord (punct k.Dot (punct k.MetaWord done))))
+    make ImportMeta (where_ (is_module c) (punct k.ImportWord (punct k.Dot (punct k.MetaWord done))))
 
 -- (TS TArgs)? Args?, behind Chain1
 unfoldable pub call_arguments_in : Form Row → Form Row
@@ -261,18 +260,18 @@ call_arguments_in f = opt (guarded opens_call_arguments) (row (TypesRow types.Ar
 --       | 'new' Chain1 (TS TArgs)? Args?
 unfoldable pub base : Lang → Context → Rule Row Label
 base l c =
-    choose (is k.SuperWord) (make (OfPlain Super) (tok as_there (only k.SuperWord) (when_ follows_super done)))
+    choose (is k.SuperWord) (make Super (tok as_there (only k.SuperWord) (when_ follows_super done)))
     (choose (is k.ImportWord) (pick opens_property (import_meta c) (import_call c))
     (choose (is k.NewWord)
-    (pick opens_property (make (OfPlain NewTarget) (punct k.NewWord (punct k.Dot (punct k.TargetWord done))))
-    (make (OfPlain New) (punct k.NewWord (row (CalleeRow c) (typed_in l call_arguments_in
+    (pick opens_property (make NewTarget (punct k.NewWord (punct k.Dot (punct k.TargetWord done))))
+    (make New (punct k.NewWord (row (CalleeRow c) (typed_in l call_arguments_in
     (opt (taken (is k.OpenParen)) (row (ArgumentsRow c) done) done))))))
     (primary l c)))
 
 -- Args: '(' ('...'? Assign)% ')'
 unfoldable pub arguments : Context → Rule Row Label
 arguments c =
-    make (OfPlain Arguments) (punct k.OpenParen (many (hint (is_other k.CloseParen))
+    make Arguments (punct k.OpenParen (many (hint (is_other k.CloseParen))
     (opt (taken (is k.Ellipsis)) (tok as_there (only k.Ellipsis) done)
     (row (AssignmentRow (outside c)) (opt (taken (is_other k.CloseParen)) (punct k.Comma done) done)))
     (punct k.CloseParen done)))
@@ -293,10 +292,10 @@ opens_post K at = begins_post (seen K at) || (opens_non_null (seen K at) || open
 -- '.' (Name | PrivateName) | '[' Expr ']' | Tpl
 unfoldable pub plain_member_post : Context → Rule Row Label
 plain_member_post c =
-    choose (is k.Dot) (make (OfPlain MemberPost) (punct k.Dot (tok as_name is_property_name done)))
+    choose (is k.Dot) (make MemberPost (punct k.Dot (tok as_name is_property_name done)))
     (choose (is k.OpenBracket)
-    (make (OfPlain IndexPost) (punct k.OpenBracket (row (ExpressionRow (outside c)) (punct k.CloseBracket done))))
-    (make (OfPlain TemplatePost) (row (TemplateRow c) done)))
+    (make IndexPost (punct k.OpenBracket (row (ExpressionRow (outside c)) (punct k.CloseBracket done))))
+    (make TemplatePost (row (TemplateRow c) done)))
 
 -- TS ~ '!'
 unfoldable pub non_null_post : Rule Row Label
@@ -315,7 +314,7 @@ begins_arguments lang.Typescript x = is k.OpenParen x || is k.Less x
 -- '?.' (Name | PrivateName | '[' Expr ']' | (TS TArgs)? Args)
 unfoldable pub optional_post : Lang → Context → Rule Row Label
 optional_post l c =
-    make (OfPlain OptionalPost) (punct k.QuestionDot
+    make OptionalPost (punct k.QuestionDot
     (alt (is k.OpenBracket) (punct k.OpenBracket (row (ExpressionRow (outside c)) (punct k.CloseBracket done)))
     (alt (begins_arguments l) (typed_in l type_arguments_in (row (ArgumentsRow c) done))
     (tok as_name is_property_name done) done) done))
@@ -335,26 +334,26 @@ opens_typed_template K at = is k.Less (seen K at)
 -- Post: '.' (Name | PrivateName) | '[' Expr ']' | (TS TArgs)? Args | (TS TArgs)? Tpl | '?.' .. | TS ~ '!'
 unfoldable pub post : Lang → Context → Rule Row Label
 post lang.Es c =
-    choose (is k.OpenParen) (make (OfPlain CallPost) (row (ArgumentsRow c) done))
+    choose (is k.OpenParen) (make CallPost (row (ArgumentsRow c) done))
     (choose (is k.QuestionDot) (optional_post lang.Es c) (member_post lang.Es c))
 post lang.Typescript c =
-    pick opens_call (make (OfPlain CallPost) (type_arguments_in (row (ArgumentsRow c) done)))
-    (pick opens_typed_template (make (OfPlain TemplatePost) (type_arguments_in (row (TemplateRow c) done)))
+    pick opens_call (make CallPost (type_arguments_in (row (ArgumentsRow c) done)))
+    (pick opens_typed_template (make TemplatePost (type_arguments_in (row (TemplateRow c) done)))
     (choose (is k.QuestionDot) (optional_post lang.Typescript c) (member_post lang.Typescript c)))
 
 -- Chain: Base Post*
 unfoldable pub chain : Lang → Context → Rule Row Label
 chain lang.Es c =
-    wrap (OfPlain Chain) (base lang.Es c) (taken begins_post)
+    wrap Chain (base lang.Es c) (taken begins_post)
     (row (PostRow c) (many (taken begins_post) (row (PostRow c) done) done))
 chain lang.Typescript c =
-    wrap (OfPlain Chain) (base lang.Typescript c) (guarded opens_post)
+    wrap Chain (base lang.Typescript c) (guarded opens_post)
     (row (PostRow c) (many (guarded opens_post) (row (PostRow c) done) done))
 
 -- Chain1: a Chain with no Args, no `?.` and no TArgs
 unfoldable pub callee : Lang → Context → Rule Row Label
 callee l c =
-    wrap (OfPlain Chain) (base l c) (taken (begins_callee_post l))
+    wrap Chain (base l c) (taken (begins_callee_post l))
     (row (MemberPostRow c) (many (taken (begins_callee_post l)) (row (MemberPostRow c) done) done))
 
 -- ---- operators
@@ -365,17 +364,17 @@ may_await c K at = not c.script || c.in_async
 -- ('++' | '--') Unary | Chain (~ ('++' | '--'))?
 unfoldable pub update : Lang → Context → Rule Row Label
 update l c =
-    choose (has_kind is_update) (make (OfPlain UpdatePrefix) (tok as_kind is_update (row (UnaryRow c) done)))
-    (wrap (OfPlain UpdatePostfix) (chain l c) (taken is_update_here) (when_ is_near (tok as_kind is_update
+    choose (has_kind is_update) (make UpdatePrefix (tok as_kind is_update (row (UnaryRow c) done)))
+    (wrap UpdatePostfix (chain l c) (taken is_update_here) (when_ is_near (tok as_kind is_update
     (when_ no_update_here done))))
 
 -- ('delete' | 'void' | 'typeof' | '+' | '-' | '~' | '!') Unary
 unfoldable pub prefix : Context → Rule Row Label
-prefix c = make (OfPlain UnaryExpression) (tok as_kind is_prefix (row (UnaryRow c) done))
+prefix c = make UnaryExpression (tok as_kind is_prefix (row (UnaryRow c) done))
 
 -- 'await' Unary, in modules and in async functions
 unfoldable pub await_ : Context → Rule Row Label
-await_ c = make (OfPlain AwaitExpression) (where_ (may_await c) (punct k.AwaitWord (row (UnaryRow c) done)))
+await_ c = make AwaitExpression (where_ (may_await c) (punct k.AwaitWord (row (UnaryRow c) done)))
 
 -- Unary
 unfoldable pub unary : Lang → Context → Rule Row Label
@@ -385,12 +384,12 @@ unary l c = choose (has_kind is_prefix) (prefix c) (choose (is k.AwaitWord) (awa
 unfoldable pub power : Lang → Context → Rule Row Label
 power l c =
     choose (has_kind is_prefix) (prefix c) (choose (is k.AwaitWord) (await_ c)
-    (wrap (OfPlain Binary) (update l c) (taken (is k.StarStar))
+    (wrap Binary (update l c) (taken (is k.StarStar))
     (tok as_kind (only k.StarStar) (row (PowerRow c) (when_ (is_other k.StarStar) done)))))
 
 -- a level of operators of one token, left-associative
 unfoldable pub level : (TokenKind → Bool) → Row → Rule Row Label → Rule Row Label
-level may r operand = wrap (OfPlain Binary) operand (taken (has_kind may)) (tok as_kind may (row r done))
+level may r operand = wrap Binary operand (taken (has_kind may)) (tok as_kind may (row r done))
 
 unfoldable pub product : Lang → Context → Rule Row Label
 product l c = level is_product (PowerRow c) (power l c)
@@ -401,7 +400,7 @@ sum l c = level is_sum (ProductRow c) (product l c)
 -- '<<' | '>>' | '>>>'
 unfoldable pub shift : Lang → Context → Rule Row Label
 shift l c =
-    wrap (OfPlain Binary) (sum l c) (guarded opens_shift)
+    wrap Binary (sum l c) (guarded opens_shift)
     (alt (is k.Greater)
     (tok as_kind (only k.Greater) (tok as_there (only k.Greater)
     (opt (guarded (joins k.Greater)) (tok as_there (only k.Greater) done) done)))
@@ -429,7 +428,7 @@ may_test c K at = not c.no_in
 -- PrivateName 'in' Shift
 unfoldable pub private_in : Context → Rule Row Label
 private_in c =
-    make (OfPlain PrivateIn) (where_ (may_test c) (tok as_name (only k.PrivateName) (punct k.InWord (row
+    make PrivateIn (where_ (may_test c) (tok as_name (only k.PrivateName) (punct k.InWord (row
     (ShiftRow c) done))))
 
 -- an operator of the level of `<`, and its operand
@@ -459,10 +458,10 @@ no_form = when_ none (punct k.Semicolon done)
 
 unfoldable pub relation : Lang → Context → Rule Row Label
 relation lang.Es c =
-    wrap (OfPlain Binary) (choose (is k.PrivateName) (private_in c) (shift lang.Es c))
+    wrap Binary (choose (is k.PrivateName) (private_in c) (shift lang.Es c))
     (guarded (opens_comparison lang.Es c)) (comparison_in c)
 relation lang.Typescript c =
-    wrap (OfPlain Binary) (choose (is k.PrivateName) (private_in c) (shift lang.Typescript c))
+    wrap Binary (choose (is k.PrivateName) (private_in c) (shift lang.Typescript c))
     (guarded (opens_comparison lang.Typescript c)) (asserted_or (comparison_in c))
 
 unfoldable pub equality : Lang → Context → Rule Row Label
@@ -484,7 +483,7 @@ and_ c operand = level (only k.AmpersandAmpersand) (BitOrRow c) operand
 -- '??' mixes with '||' or '&&' only in brackets
 unfoldable pub coalesce : Lang → Context → Rule Row Label
 coalesce l c =
-    wrap (OfPlain Binary) (bit_or l c) (taken (is k.QuestionQuestion))
+    wrap Binary (bit_or l c) (taken (is k.QuestionQuestion))
     (tok as_kind (only k.QuestionQuestion) (row (BitOrRow c) (when_ no_mix done)))
 
 -- Binary, from its loosest level
@@ -494,7 +493,7 @@ binary l c = level (only k.BarBar) (AndRow c) (and_ c (coalesce l c))
 -- Cond: Binary ('?' Assign ':' Assign)?
 unfoldable pub conditional : Lang → Context → Rule Row Label
 conditional l c =
-    wrap (OfPlain Conditional) (binary l c) (taken (is k.Question))
+    wrap Conditional (binary l c) (taken (is k.Question))
     (punct k.Question (row (AssignmentRow (without_colon l c)) (punct k.Colon (row (AssignmentRow c) (when_
     (is_other k.Question) done)))))
 
@@ -507,7 +506,7 @@ opens_operand l x = is_near x && (is k.Star x || begins_value l x)
 -- 'yield' (~ '*'? Assign)?
 unfoldable pub yield_ : Lang → Context → Rule Row Label
 yield_ l c =
-    make (OfPlain Yield) (punct k.YieldWord (opt (taken (opens_operand l))
+    make Yield (punct k.YieldWord (opt (taken (opens_operand l))
     (when_ is_near (opt (taken (is k.Star)) (tok as_there (only k.Star) done) (row (AssignmentRow c) done))) done))
 
 -- Assign: Arrow | 'yield' (~ '*'? Assign)? | Target AssignOp Assign | Cond
@@ -516,8 +515,8 @@ assignment l c =
     pick (opens_any_arrow l c) (pick (opens_async_here l c) (async_arrow l c) (plain_arrow l c))
     (choose (is k.YieldWord) (yield_ l c)
     (pick opens_pattern
-    (make (OfPlain PatternAssignment) (row (PatternRow true (outside c)) (punct k.Equal (row (AssignmentRow c) done))))
-    (wrap (OfPlain Assignment) (conditional l c) (guarded opens_assignment)
+    (make PatternAssignment (row (PatternRow true (outside c)) (punct k.Equal (row (AssignmentRow c) done))))
+    (wrap Assignment (conditional l c) (guarded opens_assignment)
     (alt (is k.Greater)
     (tok as_kind (only k.Greater) (tok as_there (only k.Greater)
     (opt (guarded (joins k.Greater)) (tok as_there (only k.Greater) done) (tok as_there (only k.Equal) done))))
@@ -526,7 +525,7 @@ assignment l c =
 -- Expr: Assign (',' Assign)*
 unfoldable pub expression : Lang → Context → Rule Row Label
 expression l c =
-    wrap (OfPlain Sequence) (assignment l c) (taken (is k.Comma))
+    wrap Sequence (assignment l c) (taken (is k.Comma))
     (punct k.Comma (row (AssignmentRow c) (many (taken (is k.Comma)) (punct k.Comma (row
     (AssignmentRow c) done)) done)))
 

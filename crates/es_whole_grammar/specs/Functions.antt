@@ -7,15 +7,14 @@ use Rattle.es_tree.specs.declared.error.Lang.{Lang}
 use Rattle.es_tree.specs.declared.error.Lang.TheVariants as lang
 use Rattle.es_tree.specs.Key.{Key, Seen, TokenTest, seen, same_kind, has_kind, is}
 use Rattle.es_tree.specs.Form.{as_str, as_name, as_raw, as_kind, as_there, hint, taken, guarded, Guard, Form, done, tok, punct, row, opt, many, alt, when_, where_, Rule, make, choose, as_, pick, wrap}
-use Rattle.es_grammar.specs.declared.rows.Label.TheVariants.{Binary, Target, Signature, Parameters, DefaultParameter, NamePattern, ArrayPattern, ObjectPattern, RestPattern, DefaultPattern, RestProperty, KeyPattern, NameProperty, WordKey, StrKey, NumberKey, ComputedKey, PrivateKey, SpreadProperty, AccessorProperty, AsyncProperty, GeneratorProperty, MethodProperty, KeyValue, Shorthand}
 use Rattle.es_grammar.specs.Words.{only, is_name, is_word, is_numeric, is_accessor_word, is_other, partner_of}
 use Rattle.es_grammar.specs.Members.{opens_parameters}
 use Rattle.es_grammar.specs.Functions.{opens_inner_pattern, behind_key, key_before, opens_value, is_parameter, opens_accessor, opens_async, is_plain_key, opens_method}
+use Rattle.es_whole_grammar.specs.declared.rows.Label.TheVariants.{AccessorProperty, ArrayPattern, AsyncProperty, Binary, ComputedKey, DefaultParameter, DefaultPattern, GeneratorProperty, KeyPattern, KeyValue, MarkedParameter, MethodProperty, NamePattern, NameProperty, NumberKey, ObjectPattern, Parameters, PrivateKey, PropertyParameter, RestPattern, RestProperty, Shorthand, Signature, SpreadProperty, StrKey, Target, ThisParameter, WordKey}
 use Rattle.es_whole_grammar.specs.declared.rows.Context.{Context}
 use Rattle.es_whole_grammar.specs.declared.rows.Row.{Row}
 use Rattle.es_whole_grammar.specs.declared.rows.Label.{Label}
 use Rattle.es_whole_grammar.specs.declared.rows.Row.TheVariants.{BlockRow, SignatureRow, ParametersRow, ParameterRow, PatternRow, InnerPatternRow, PatternElementRow, PatternPropertyRow, KeyRow, AssignmentRow}
-use Rattle.es_whole_grammar.specs.declared.rows.Label.TheVariants.{OfPlain, ThisParameter, PropertyParameter, MarkedParameter}
 use Rattle.es_whole_grammar.specs.Rows.{outside, async_in, constructing}
 use Rattle.es_whole_grammar.specs.Embedding.{typed_in, annotation_in, result_in, type_parameters_in}
 use Rattle.es_whole_grammar.specs.Expressions.{star_in, chain, opens_assertion, asserted_or, no_form}
@@ -29,7 +28,7 @@ default_in c f = opt (taken (is k.Equal)) (punct k.Equal (row (AssignmentRow (ou
 -- '[' (PElem? ',')* PElem? ']'
 unfoldable pub array_pattern : Bool → Context → Rule Row Label
 array_pattern t c =
-    make (OfPlain ArrayPattern) (punct k.OpenBracket (many (hint (is_other k.CloseBracket))
+    make ArrayPattern (punct k.OpenBracket (many (hint (is_other k.CloseBracket))
     (alt (is k.Comma) (punct k.Comma done)
     (row (PatternElementRow t c) (opt (taken (is_other k.CloseBracket)) (punct k.Comma done) done)) done)
     (punct k.CloseBracket done)))
@@ -37,15 +36,15 @@ array_pattern t c =
 -- '{' PProp% '}'
 unfoldable pub object_pattern : Bool → Context → Rule Row Label
 object_pattern t c =
-    make (OfPlain ObjectPattern) (punct k.OpenBrace (many (hint (is_other k.CloseBrace))
+    make ObjectPattern (punct k.OpenBrace (many (hint (is_other k.CloseBrace))
     (row (PatternPropertyRow t c) (opt (taken (is_other k.CloseBrace)) (punct k.Comma done) done))
     (punct k.CloseBrace done)))
 
 -- a simple target: a chain, in TypeScript with `as` and `satisfies` behind it
 unfoldable pub target : Lang → Context → Rule Row Label
-target lang.Es c = as_ (OfPlain Target) (chain lang.Es c)
+target lang.Es c = as_ Target (chain lang.Es c)
 target lang.Typescript c =
-    as_ (OfPlain Target) (wrap (OfPlain Binary) (chain lang.Typescript c) (taken opens_assertion) (asserted_or no_form))
+    as_ Target (wrap Binary (chain lang.Typescript c) (taken opens_assertion) (asserted_or no_form))
 
 unfoldable pub bracket_pattern : Bool → Context → Rule Row Label
 bracket_pattern t c = choose (is k.OpenBracket) (array_pattern t c) (object_pattern t c)
@@ -53,7 +52,7 @@ bracket_pattern t c = choose (is k.OpenBracket) (array_pattern t c) (object_patt
 -- Pat: Name | '[' .. ']' | '{' .. '}', and with a simple target in place of the name
 unfoldable pub inner_pattern : Lang → Bool → Context → Rule Row Label
 inner_pattern l false c =
-    choose (has_kind is_name) (make (OfPlain NamePattern) (tok as_name is_name done)) (bracket_pattern false c)
+    choose (has_kind is_name) (make NamePattern (tok as_name is_name done)) (bracket_pattern false c)
 inner_pattern l true c = pick opens_inner_pattern (bracket_pattern true c) (target l c)
 
 -- what stands at the outside of a pattern that is assigned to is told before it is read
@@ -64,17 +63,17 @@ pattern l true c = bracket_pattern true c
 -- PElem: '...' Pat | Pat ('=' Assign)?, without a node of its own where it is a pattern alone
 unfoldable pub pattern_element : Lang → Bool → Context → Rule Row Label
 pattern_element l t c =
-    choose (is k.Ellipsis) (make (OfPlain RestPattern) (punct k.Ellipsis (row (InnerPatternRow t c) done)))
-    (wrap (OfPlain DefaultPattern) (inner_pattern l t c) (taken (is k.Equal))
+    choose (is k.Ellipsis) (make RestPattern (punct k.Ellipsis (row (InnerPatternRow t c) done)))
+    (wrap DefaultPattern (inner_pattern l t c) (taken (is k.Equal))
     (punct k.Equal (row (AssignmentRow (outside c)) (when_ (is_other k.Equal) done))))
 
 -- PProp: '...' Pat | Key ':' Pat ('=' Assign)? | Name ('=' Assign)?
 unfoldable pub pattern_property : Bool → Context → Rule Row Label
 pattern_property t c =
-    choose (is k.Ellipsis) (make (OfPlain RestProperty) (punct k.Ellipsis (row (InnerPatternRow t c) done)))
+    choose (is k.Ellipsis) (make RestProperty (punct k.Ellipsis (row (InnerPatternRow t c) done)))
     (pick opens_value
-    (make (OfPlain KeyPattern) (row (KeyRow false c) (punct k.Colon (row (InnerPatternRow t c) (default_in c done)))))
-    (make (OfPlain NameProperty) (tok as_name is_name (default_in c done))))
+    (make KeyPattern (row (KeyRow false c) (punct k.Colon (row (InnerPatternRow t c) (default_in c done)))))
+    (make NameProperty (tok as_name is_name (default_in c done))))
 
 -- ---- parameters
 
@@ -85,7 +84,7 @@ rest_in l c = punct k.Ellipsis (row (PatternRow false c) (typed_in l annotation_
 -- Params: Param% | (Param ',')* '...' Pat (TS ':' Type)?
 unfoldable pub parameters : Lang → Context → Rule Row Label
 parameters l c =
-    make (OfPlain Parameters) (many (hint is_parameter)
+    make Parameters (many (hint is_parameter)
     (row (ParameterRow c) (opt (taken (is_other k.CloseParen)) (punct k.Comma done) done))
     (opt (taken (is k.Ellipsis)) (rest_in l c) done))
 
@@ -143,7 +142,7 @@ opens_marked K at = key_before is_parameter_mark K at
 -- pattern alone
 unfoldable pub parameter : Lang → Context → Rule Row Label
 parameter lang.Es c =
-    wrap (OfPlain DefaultParameter) (pattern lang.Es false c) (taken (is k.Equal))
+    wrap DefaultParameter (pattern lang.Es false c) (taken (is k.Equal))
     (punct k.Equal (row (AssignmentRow (outside c)) (when_ (is_other k.Equal) done)))
 parameter lang.Typescript c =
     choose (is k.ThisWord) (make ThisParameter (tok as_there (only k.ThisWord) (parameter_tail c)))
@@ -155,7 +154,7 @@ parameter lang.Typescript c =
 -- Sig: (TS TParams)? '(' Params ')' (TS ':' Ret)?
 unfoldable pub signature : Lang → Context → Rule Row Label
 signature l c =
-    make (OfPlain Signature) (typed_in l type_parameters_in (punct k.OpenParen (row (ParametersRow c)
+    make Signature (typed_in l type_parameters_in (punct k.OpenParen (row (ParametersRow c)
     (punct k.CloseParen (typed_in l result_in done)))))
 
 -- ---- keys
@@ -163,16 +162,16 @@ signature l c =
 -- Key: Word | Str | Number | BigInt | '[' Assign ']'
 unfoldable pub plain_key : Context → Rule Row Label
 plain_key c =
-    choose (has_kind is_word) (make (OfPlain WordKey) (tok as_name is_word done))
-    (choose (is k.Str) (make (OfPlain StrKey) (tok as_str (only k.Str) done))
-    (choose (has_kind is_numeric) (make (OfPlain NumberKey) (tok as_raw is_numeric done))
-    (make (OfPlain ComputedKey) (punct k.OpenBracket (row (AssignmentRow (outside c)) (punct k.CloseBracket done))))))
+    choose (has_kind is_word) (make WordKey (tok as_name is_word done))
+    (choose (is k.Str) (make StrKey (tok as_str (only k.Str) done))
+    (choose (has_kind is_numeric) (make NumberKey (tok as_raw is_numeric done))
+    (make ComputedKey (punct k.OpenBracket (row (AssignmentRow (outside c)) (punct k.CloseBracket done))))))
 
 -- and in classes PrivateName
 unfoldable pub key : Bool → Context → Rule Row Label
 key false c = plain_key c
 key true c =
-    choose (is k.PrivateName) (make (OfPlain PrivateKey) (tok as_name (only k.PrivateName) done)) (plain_key c)
+    choose (is k.PrivateName) (make PrivateKey (tok as_name (only k.PrivateName) done)) (plain_key c)
 
 -- ---- properties of objects
 
@@ -203,16 +202,16 @@ method_in lang.Typescript c d = typed_head_in false c d unmarked (row (BlockRow 
 -- Prop: '...' Assign | Name | Key ':' Assign | ('get' | 'set' | 'async'? '*'?) Key Sig Block
 unfoldable pub property : Lang → Context → Rule Row Label
 property l c =
-    choose (is k.Ellipsis) (make (OfPlain SpreadProperty) (punct k.Ellipsis (row (AssignmentRow (outside c)) done)))
+    choose (is k.Ellipsis) (make SpreadProperty (punct k.Ellipsis (row (AssignmentRow (outside c)) done)))
     (pick (opens_accessor false)
-    (make (OfPlain AccessorProperty) (tok as_kind is_accessor_word (where_ is_plain_key
+    (make AccessorProperty (tok as_kind is_accessor_word (where_ is_plain_key
     (method_in l (outside c) (outside c)))))
     (pick (opens_async false)
-    (make (OfPlain AsyncProperty) (punct k.AsyncWord (star_in (where_ is_plain_key
+    (make AsyncProperty (punct k.AsyncWord (star_in (where_ is_plain_key
     (method_in l (outside c) (async_in c))))))
     (choose (is k.Star)
-    (make (OfPlain GeneratorProperty) (punct k.Star (where_ is_plain_key (method_in l (outside c) (outside c)))))
-    (pick (opens_any_method l) (make (OfPlain MethodProperty) (method_in l (outside c) (outside c)))
-    (pick opens_value (make (OfPlain KeyValue) (row (KeyRow false (outside c)) (punct k.Colon (row (AssignmentRow
+    (make GeneratorProperty (punct k.Star (where_ is_plain_key (method_in l (outside c) (outside c)))))
+    (pick (opens_any_method l) (make MethodProperty (method_in l (outside c) (outside c)))
+    (pick opens_value (make KeyValue (row (KeyRow false (outside c)) (punct k.Colon (row (AssignmentRow
     (outside c)) done))))
-    (make (OfPlain Shorthand) (tok as_name is_name done)))))))
+    (make Shorthand (tok as_name is_name done)))))))

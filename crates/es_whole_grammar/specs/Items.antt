@@ -6,15 +6,14 @@ use Rattle.es_tree.specs.declared.error.Lang.{Lang}
 use Rattle.es_tree.specs.declared.error.Lang.TheVariants as lang
 use Rattle.es_tree.specs.Key.{seen, is, is_token}
 use Rattle.es_tree.specs.Form.{as_raw, hint, taken, Guard, Form, done, tok, punct, row, opt, many, Rule, make, choose, pick}
-use Rattle.es_grammar.specs.declared.rows.Label.TheVariants.{ExportDefaultFunction, ExportDefaultClass, ExportDefaultExpression, ExportDeclaration, Module, Script}
 use Rattle.es_grammar.specs.Words.{only}
 use Rattle.es_grammar.specs.Modules as modules
 use Rattle.es_grammar.specs.Items as items
+use Rattle.es_whole_grammar.specs.declared.rows.Label.TheVariants.{ExportAssignment, ExportDeclaration, ExportDefaultClass, ExportDefaultExpression, ExportDefaultFunction, ExportDefaultInterface, Module, Script}
 use Rattle.es_whole_grammar.specs.declared.rows.Context.{Context}
 use Rattle.es_whole_grammar.specs.declared.rows.Row.{Row}
 use Rattle.es_whole_grammar.specs.declared.rows.Label.{Label}
 use Rattle.es_whole_grammar.specs.declared.rows.Row.TheVariants.{ItemRow, StatementRow, DeclarationRow, DeclaredRow, FunctionRow, ClassRow, ExpressionRow, AssignmentRow}
-use Rattle.es_whole_grammar.specs.declared.rows.Label.TheVariants.{OfPlain, ExportDefaultInterface, ExportAssignment}
 use Rattle.es_whole_grammar.specs.Rows.{in_module, in_script}
 use Rattle.es_whole_grammar.specs.Embedding.{plain_rule}
 use Rattle.es_whole_grammar.specs.Expressions.{opens_abstract_class}
@@ -32,7 +31,7 @@ opens_default_interface K at = opens_interface K (at + 2)
 -- 'export' 'default' Assign END
 unfoldable pub default_expression : Context → Rule Row Label
 default_expression c =
-    make (OfPlain ExportDefaultExpression) (punct k.ExportWord (punct k.DefaultWord (row
+    make ExportDefaultExpression (punct k.ExportWord (punct k.DefaultWord (row
     (AssignmentRow c) expression_ended)))
 
 -- TS 'export' 'default' Interface
@@ -47,9 +46,9 @@ other_default lang.Typescript c = pick opens_default_interface (default_interfac
 unfoldable pub export_default : Lang → Context → Rule Row Label
 export_default l c =
     pick items.opens_default_function
-    (make (OfPlain ExportDefaultFunction) (punct k.ExportWord (punct k.DefaultWord (row (FunctionRow false c) done))))
+    (make ExportDefaultFunction (punct k.ExportWord (punct k.DefaultWord (row (FunctionRow false c) done))))
     (pick (opens_any_default_class l)
-    (make (OfPlain ExportDefaultClass) (punct k.ExportWord (punct k.DefaultWord (row (ClassRow false c) done))))
+    (make ExportDefaultClass (punct k.ExportWord (punct k.DefaultWord (row (ClassRow false c) done))))
     (other_default l c))
 
 -- behind `export` stands a declaration
@@ -76,7 +75,7 @@ unfoldable pub export_item : Lang → Context → Rule Row Label
 export_item l c =
     pick items.opens_default (export_default l c)
     (pick (opens_any_declaration l)
-    (make (OfPlain ExportDeclaration) (punct k.ExportWord (row (DeclarationRow c) done)))
+    (make ExportDeclaration (punct k.ExportWord (row (DeclarationRow c) done)))
     (export_names l c))
 
 -- Item: Import | Export | Stmt
@@ -91,8 +90,8 @@ shebang_in f = opt (taken (is k.Shebang)) (tok as_raw (only k.Shebang) done) f
 
 -- Module: Shebang? Item*
 unfoldable pub module_ : Rule Row Label
-module_ = make (OfPlain Module) (shebang_in (many (hint is_token) (row (ItemRow in_module) done) done))
+module_ = make Module (shebang_in (many (hint is_token) (row (ItemRow in_module) done) done))
 
 -- Script: Shebang? Stmt*
 unfoldable pub script : Rule Row Label
-script = make (OfPlain Script) (shebang_in (many (hint is_token) (row (StatementRow in_script) done) done))
+script = make Script (shebang_in (many (hint is_token) (row (StatementRow in_script) done) done))

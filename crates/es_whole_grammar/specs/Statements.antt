@@ -5,17 +5,16 @@ use Rattle.es_tree.specs.declared.error.Lang.{Lang}
 use Rattle.es_tree.specs.declared.error.Lang.TheVariants as lang
 use Rattle.es_tree.specs.Key.{TokenTest, has_kind, is}
 use Rattle.es_tree.specs.Form.{as_name, as_kind, as_there, hint, taken, guarded, Guard, Form, done, tok, punct, row, opt, many, alt, when_, where_, Rule, make, choose, pick, wrap}
-use Rattle.es_grammar.specs.declared.rows.Label.TheVariants.{Block, ExpressionStatement, LabelledStatement, IfStatement, ForStatement, ForEachStatement, ForAwaitStatement, WhileStatement, DoStatement, ContinueStatement, BreakStatement, ReturnStatement, ThrowStatement, SwitchStatement, TryStatement, DebuggerStatement, WithStatement, Variables, Declarator, Using, VariableHead, UsingHead}
 use Rattle.es_grammar.specs.Words.{only, is_name, is_near, is_other}
 use Rattle.es_grammar.specs.Modules.{ended}
 use Rattle.es_grammar.specs.Expressions.{ends_expression}
 use Rattle.es_grammar.specs.Functions.{key_before}
 use Rattle.es_grammar.specs.Statements.{is_variable_word, ends_value, opens_using, opens_for, opens_for_await, opens_head_pattern, starts_using, starts_expression, label_ended, is_case, is_in_case, opens_label, begins_no_other}
+use Rattle.es_whole_grammar.specs.declared.rows.Label.TheVariants.{Block, BreakStatement, ContinueStatement, DebuggerStatement, Declarator, DoStatement, ExpressionStatement, ForAwaitStatement, ForEachStatement, ForStatement, IfStatement, LabelledStatement, ReturnStatement, SwitchStatement, ThrowStatement, TryStatement, Using, UsingHead, VariableHead, Variables, WhileStatement, WithStatement}
 use Rattle.es_whole_grammar.specs.declared.rows.Context.{Context}
 use Rattle.es_whole_grammar.specs.declared.rows.Row.{Row}
 use Rattle.es_whole_grammar.specs.declared.rows.Label.{Label}
 use Rattle.es_whole_grammar.specs.declared.rows.Row.TheVariants.{StatementRow, BlockRow, VariablesRow, DeclaratorRow, UsingRow, HeadRow, PatternRow, ExpressionRow, AssignmentRow}
-use Rattle.es_whole_grammar.specs.declared.rows.Label.TheVariants.{OfPlain}
 use Rattle.es_whole_grammar.specs.Rows.{outside, in_head, without_colon}
 use Rattle.es_whole_grammar.specs.Embedding.{typed_in, annotation_in, plain_form}
 use Rattle.es_whole_grammar.specs.Expressions.{begins_value, may_await}
@@ -32,7 +31,7 @@ condition_in c f = punct k.OpenParen (row (ExpressionRow c) (punct k.CloseParen 
 -- Block: '{' Stmt* '}'
 unfoldable pub block : Context → Rule Row Label
 block c =
-    make (OfPlain Block) (punct k.OpenBrace (many (hint (is_other k.CloseBrace)) (row (StatementRow c) done)
+    make Block (punct k.OpenBrace (many (hint (is_other k.CloseBrace)) (row (StatementRow c) done)
     (punct k.CloseBrace done)))
 
 -- ---- variables
@@ -47,11 +46,11 @@ opens_declarator K at = key_before is_declarator_mark K at
 -- Dtor: Pat (TS '!')? (TS ':' Type)? ('=' Assign)?, without a node of its own where it is a pattern alone
 unfoldable pub declarator : Lang → Context → Rule Row Label
 declarator lang.Es c =
-    wrap (OfPlain Declarator) (pattern lang.Es false (outside c)) (taken (is k.Equal))
+    wrap Declarator (pattern lang.Es false (outside c)) (taken (is k.Equal))
     (punct k.Equal (row (AssignmentRow c) (when_ (is_other k.Equal) (where_ ends_value done))))
 declarator lang.Typescript c =
     pick opens_declarator
-    (make (OfPlain Declarator) (row (PatternRow false (outside c))
+    (make Declarator (row (PatternRow false (outside c))
     (opt (taken (is k.Exclamation)) (tok as_there (only k.Exclamation) done)
     (annotation_in (opt (taken (is k.Equal)) (punct k.Equal (row (AssignmentRow c) (where_ ends_value done))) done)))))
     (pattern lang.Typescript false (outside c))
@@ -63,7 +62,7 @@ declarators c =
 
 -- Var: ('var' | 'let' | 'const') Dtor (',' Dtor)*
 unfoldable pub variables : Context → Rule Row Label
-variables c = make (OfPlain Variables) (tok as_kind is_variable_word (declarators c))
+variables c = make Variables (tok as_kind is_variable_word (declarators c))
 
 -- ('await' ~)? 'using' ~, and what stands behind it
 unfoldable pub using_in : Context → Form Row → Form Row
@@ -73,16 +72,16 @@ using_in c f =
 
 -- Using: ('await' ~)? 'using' ~ Dtor (',' Dtor)*
 unfoldable pub using_ : Context → Rule Row Label
-using_ c = make (OfPlain Using) (using_in c (declarators c))
+using_ c = make Using (using_in c (declarators c))
 
 -- ---- loops
 
 -- Head: ('var' | 'let' | 'const') Pat (TS ':' Type)? | ('await' ~)? 'using' ~ Name | Target
 unfoldable pub head : Lang → Context → Rule Row Label
 head l c =
-    choose (has_kind is_variable_word) (make (OfPlain VariableHead) (tok as_kind is_variable_word (row
+    choose (has_kind is_variable_word) (make VariableHead (tok as_kind is_variable_word (row
     (PatternRow false c) (typed_in l annotation_in done))))
-    (pick opens_using (make (OfPlain UsingHead) (using_in c (tok as_name is_name done)))
+    (pick opens_using (make UsingHead (using_in c (tok as_name is_name done)))
     (pick opens_head_pattern (pattern l true c) (target l (in_head c))))
 
 -- (Var | Using | Expr)?, where `in` is no operator, and what stands behind it
@@ -95,7 +94,7 @@ start_in c f =
 -- 'for' '(' (Var | Using | Expr)? ';' Expr? ';' Expr? ')' Stmt
 unfoldable pub for_ : Context → Rule Row Label
 for_ c =
-    make (OfPlain ForStatement) (punct k.ForWord (punct k.OpenParen (start_in c (punct k.Semicolon
+    make ForStatement (punct k.ForWord (punct k.OpenParen (start_in c (punct k.Semicolon
     (opt (taken (is_other k.Semicolon)) (row (ExpressionRow c) done) (punct k.Semicolon
     (opt (taken (is_other k.CloseParen)) (row (ExpressionRow c) done) (punct k.CloseParen (row
     (StatementRow c) done)))))))))
@@ -103,7 +102,7 @@ for_ c =
 -- 'for' '(' Head ('in' Expr | 'of' Assign) ')' Stmt
 unfoldable pub for_each : Context → Rule Row Label
 for_each c =
-    make (OfPlain ForEachStatement) (punct k.ForWord (punct k.OpenParen (row (HeadRow c)
+    make ForEachStatement (punct k.ForWord (punct k.OpenParen (row (HeadRow c)
     (alt (is k.InWord) (tok as_kind (only k.InWord) (row (ExpressionRow c) done))
     (tok as_kind (only k.OfWord) (row (AssignmentRow c) done))
     (punct k.CloseParen (row (StatementRow c) done))))))
@@ -111,7 +110,7 @@ for_each c =
 -- 'for' 'await' '(' Head 'of' Assign ')' Stmt
 unfoldable pub for_await : Context → Rule Row Label
 for_await c =
-    make (OfPlain ForAwaitStatement) (punct k.ForWord (where_ (may_await c) (punct k.AwaitWord (punct k.OpenParen
+    make ForAwaitStatement (punct k.ForWord (where_ (may_await c) (punct k.AwaitWord (punct k.OpenParen
     (row (HeadRow c)
     (punct k.OfWord (row (AssignmentRow c) (punct k.CloseParen (row (StatementRow c) done)))))))))
 
@@ -123,7 +122,7 @@ begins_value_here l x = is_near x && begins_value l x
 -- 'return' (~ Expr)? END
 unfoldable pub return_ : Lang → Context → Rule Row Label
 return_ l c =
-    make (OfPlain ReturnStatement) (punct k.ReturnWord (alt (begins_value_here l) (when_ is_near (row
+    make ReturnStatement (punct k.ReturnWord (alt (begins_value_here l) (when_ is_near (row
     (ExpressionRow c) expression_ended)) (plain_form ended) done))
 
 -- ('case' Expr | 'default') ':' Stmt*
@@ -135,7 +134,7 @@ case_in l c =
 -- 'switch' '(' Expr ')' '{' .. '}'
 unfoldable pub switch_ : Lang → Context → Rule Row Label
 switch_ l c =
-    make (OfPlain SwitchStatement) (punct k.SwitchWord (condition_in c (punct k.OpenBrace
+    make SwitchStatement (punct k.SwitchWord (condition_in c (punct k.OpenBrace
     (many (hint is_case) (case_in l c) (punct k.CloseBrace done)))))
 
 -- 'finally' Block
@@ -145,7 +144,7 @@ finally_in c = punct k.FinallyWord (row (BlockRow c) done)
 -- 'try' Block ('catch' ('(' Pat (TS ':' Type)? ')')? Block)? ('finally' Block)?, with one of the two at least
 unfoldable pub try_ : Lang → Context → Rule Row Label
 try_ l c =
-    make (OfPlain TryStatement) (punct k.TryWord (row (BlockRow c) (alt (is k.CatchWord)
+    make TryStatement (punct k.TryWord (row (BlockRow c) (alt (is k.CatchWord)
     (punct k.CatchWord (opt (taken (is k.OpenParen)) (punct k.OpenParen (row (PatternRow false c)
     (typed_in l annotation_in (punct k.CloseParen done))))
     (row (BlockRow c) (opt (taken (is k.FinallyWord)) (finally_in c) done)))) (finally_in c) done)))
@@ -156,34 +155,34 @@ is_script c K at = c.script
 -- Expr END
 unfoldable pub expression_statement : Context → Rule Row Label
 expression_statement c =
-    make (OfPlain ExpressionStatement) (when_ begins_no_other (row (ExpressionRow c) expression_ended))
+    make ExpressionStatement (when_ begins_no_other (row (ExpressionRow c) expression_ended))
 
 -- the statements that begin with a keyword of their own
 unfoldable pub keyword_statement : Lang → Context → Rule Row Label → Rule Row Label
 keyword_statement l c other =
     choose (is k.IfWord)
-    (make (OfPlain IfStatement) (punct k.IfWord (condition_in c (row (StatementRow c)
+    (make IfStatement (punct k.IfWord (condition_in c (row (StatementRow c)
     (opt (taken (is k.ElseWord)) (punct k.ElseWord (row (StatementRow c) done)) done)))))
     (choose (is k.ForWord) (pick opens_for_await (for_await c) (pick opens_for (for_ c) (for_each c)))
     (choose (is k.WhileWord)
-    (make (OfPlain WhileStatement) (punct k.WhileWord (condition_in c (row (StatementRow c) done))))
+    (make WhileStatement (punct k.WhileWord (condition_in c (row (StatementRow c) done))))
     (choose (is k.DoWord)
-    (make (OfPlain DoStatement) (punct k.DoWord (row (StatementRow c) (punct k.WhileWord (condition_in c
+    (make DoStatement (punct k.DoWord (row (StatementRow c) (punct k.WhileWord (condition_in c
     (opt (taken (is k.Semicolon)) (punct k.Semicolon done) done))))))
-    (choose (is k.ContinueWord) (make (OfPlain ContinueStatement) (punct k.ContinueWord (plain_form label_ended)))
-    (choose (is k.BreakWord) (make (OfPlain BreakStatement) (punct k.BreakWord (plain_form label_ended)))
+    (choose (is k.ContinueWord) (make ContinueStatement (punct k.ContinueWord (plain_form label_ended)))
+    (choose (is k.BreakWord) (make BreakStatement (punct k.BreakWord (plain_form label_ended)))
     (choose (is k.ReturnWord) (return_ l c)
-    (choose (is k.ThrowWord) (make (OfPlain ThrowStatement) (punct k.ThrowWord (when_ is_near (row
+    (choose (is k.ThrowWord) (make ThrowStatement (punct k.ThrowWord (when_ is_near (row
     (ExpressionRow c) expression_ended))))
     (choose (is k.SwitchWord) (switch_ l c)
     (choose (is k.TryWord) (try_ l c)
-    (choose (is k.DebuggerWord) (make (OfPlain DebuggerStatement) (punct k.DebuggerWord (plain_form ended)))
+    (choose (is k.DebuggerWord) (make DebuggerStatement (punct k.DebuggerWord (plain_form ended)))
     (choose (is k.WithWord)
-    (make (OfPlain WithStatement) (punct k.WithWord (where_ (is_script c) (condition_in c (row
+    (make WithStatement (punct k.WithWord (where_ (is_script c) (condition_in c (row
     (StatementRow c) done))))) other)))))))))))
 
 -- what is left of Stmt: Name ':' Stmt | Expr END
 unfoldable pub other_statement : Context → Rule Row Label
 other_statement c =
-    pick opens_label (make (OfPlain LabelledStatement) (tok as_name is_name (punct k.Colon (row (StatementRow c) done))))
+    pick opens_label (make LabelledStatement (tok as_name is_name (punct k.Colon (row (StatementRow c) done))))
     (expression_statement c)
