@@ -8,6 +8,9 @@ use Rattle.es_grammar.specs.Functions.{opens_accessor, opens_async, opens_star}
 use Rattle.es_grammar.specs.Classes.{opens_field_accessor}
 use Rattle.es_grammar.specs.Members.{shows_index}
 use Rattle.es_guards.specs.Named as plain
+use Rattle.es_guards.specs.declared.named.Kinds.TheVariants as plain_kinds
+use Rattle.es_guards.specs.declared.named.Ahead.TheVariants as plain_ahead
+use Rattle.es_guards.specs.declared.named.Guard.TheVariants as plain_guard
 use Rattle.es_whole_grammar.specs.Embedding.{opens_call_arguments, opens_heritage_arguments}
 use Rattle.es_whole_grammar.specs.Expressions.{is_assertion_word, begins_parameters, begins_arguments, begins_callee_post, opens_operand, opens_assertion, opens_any_arrow, opens_async_here, opens_async_list, opens_arrow_result, opens_no_arrow, opens_post, opens_call, opens_typed_template, opens_comparison, is_behind_as, opens_abstract_class, may_await, may_test, is_module}
 use Rattle.es_whole_grammar.specs.Functions.{is_typed_modifier, is_modifier, opens_parameter_modifier, each_once, opens_marked, opens_any_method}
@@ -29,7 +32,22 @@ holds_behind g K None = false
 
 -- the kinds of tokens that are named
 abbrev pub kinds_of : Kinds → TokenKind → Bool
-kinds_of (kinds.Plain named) = plain.kinds_of named
+kinds_of (kinds.Only kind) = plain.kinds_of (plain_kinds.Only kind)
+kinds_of kinds.Name = plain.kinds_of plain_kinds.Name
+kinds_of kinds.Word = plain.kinds_of plain_kinds.Word
+kinds_of kinds.NameOrThis = plain.kinds_of plain_kinds.NameOrThis
+kinds_of kinds.Numeric = plain.kinds_of plain_kinds.Numeric
+kinds_of kinds.AccessorWord = plain.kinds_of plain_kinds.AccessorWord
+kinds_of kinds.Prefix = plain.kinds_of plain_kinds.Prefix
+kinds_of kinds.Update = plain.kinds_of plain_kinds.Update
+kinds_of kinds.Product = plain.kinds_of plain_kinds.Product
+kinds_of kinds.Sum = plain.kinds_of plain_kinds.Sum
+kinds_of kinds.Equality = plain.kinds_of plain_kinds.Equality
+kinds_of kinds.Relation = plain.kinds_of plain_kinds.Relation
+kinds_of kinds.Assignment = plain.kinds_of plain_kinds.Assignment
+kinds_of kinds.PropertyName = plain.kinds_of plain_kinds.PropertyName
+kinds_of kinds.LiteralWord = plain.kinds_of plain_kinds.LiteralWord
+kinds_of kinds.VariableWord = plain.kinds_of plain_kinds.VariableWord
 kinds_of kinds.AssertionWord = is_assertion_word
 kinds_of kinds.TypedModifier = is_typed_modifier
 kinds_of kinds.Modifier = is_modifier
@@ -39,7 +57,23 @@ kinds_of kinds.NamespaceWord = is_namespace_word
 
 -- the test of the next token that is named
 abbrev pub look_of : Ahead → TokenTest
-look_of (ahead.Plain named) = plain.look_of named
+look_of (ahead.Is kind) = plain.look_of (plain_ahead.Is kind)
+look_of (ahead.Other kind) = plain.look_of (plain_ahead.Other kind)
+look_of ahead.Near = plain.look_of plain_ahead.Near
+look_of ahead.Token = plain.look_of plain_ahead.Token
+look_of ahead.MayEnd = plain.look_of plain_ahead.MayEnd
+look_of ahead.NoArrow = plain.look_of plain_ahead.NoArrow
+look_of ahead.FollowsSuper = plain.look_of plain_ahead.FollowsSuper
+look_of ahead.BeginsMember = plain.look_of plain_ahead.BeginsMember
+look_of ahead.BeginsPost = plain.look_of plain_ahead.BeginsPost
+look_of ahead.UpdateHere = plain.look_of plain_ahead.UpdateHere
+look_of ahead.NoUpdateHere = plain.look_of plain_ahead.NoUpdateHere
+look_of ahead.NoMix = plain.look_of plain_ahead.NoMix
+look_of ahead.Parameter = plain.look_of plain_ahead.Parameter
+look_of ahead.LabelHere = plain.look_of plain_ahead.LabelHere
+look_of ahead.Case = plain.look_of plain_ahead.Case
+look_of ahead.InCase = plain.look_of plain_ahead.InCase
+look_of ahead.BeginsNoOther = plain.look_of plain_ahead.BeginsNoOther
 look_of (ahead.Has named) = has_kind (kinds_of named)
 look_of (ahead.BeginsParameters l) = begins_parameters l
 look_of (ahead.BeginsArguments l) = begins_arguments l
@@ -50,7 +84,58 @@ look_of ahead.Assertion = opens_assertion
 
 -- the guard that is named
 abbrev pub guard_of : NamedGuard → Guard
-guard_of (guard.Plain named) = plain.guard_of named
+guard_of (guard.OpensTypeImport l) = plain.guard_of (plain_guard.OpensTypeImport l)
+guard_of (guard.OpensTypeName l) = plain.guard_of (plain_guard.OpensTypeName l)
+guard_of (guard.IsRenamed l) = plain.guard_of (plain_guard.IsRenamed l)
+guard_of guard.IsNoTypeAsAs = plain.guard_of plain_guard.IsNoTypeAsAs
+guard_of guard.HasComma = plain.guard_of plain_guard.HasComma
+guard_of (guard.OpensEquals l) = plain.guard_of (plain_guard.OpensEquals l)
+guard_of (guard.OpensRequire l) = plain.guard_of (plain_guard.OpensRequire l)
+guard_of guard.OpensBare = plain.guard_of plain_guard.OpensBare
+guard_of (guard.OpensTypeExport l) = plain.guard_of (plain_guard.OpensTypeExport l)
+guard_of (guard.OpensAll l) = plain.guard_of (plain_guard.OpensAll l)
+guard_of (guard.OpensExportedEquals l) = plain.guard_of (plain_guard.OpensExportedEquals l)
+guard_of (guard.OpensExportedRequire l) = plain.guard_of (plain_guard.OpensExportedRequire l)
+guard_of (guard.OpensNamespace l) = plain.guard_of (plain_guard.OpensNamespace l)
+guard_of guard.OpensImport = plain.guard_of plain_guard.OpensImport
+guard_of guard.OpensDefault = plain.guard_of plain_guard.OpensDefault
+guard_of guard.OpensDefaultFunction = plain.guard_of plain_guard.OpensDefaultFunction
+guard_of guard.OpensDefaultClass = plain.guard_of plain_guard.OpensDefaultClass
+guard_of guard.OpensDeclaration = plain.guard_of plain_guard.OpensDeclaration
+guard_of guard.EndsValue = plain.guard_of plain_guard.EndsValue
+guard_of guard.OpensUsing = plain.guard_of plain_guard.OpensUsing
+guard_of guard.OpensFor = plain.guard_of plain_guard.OpensFor
+guard_of guard.OpensForAwait = plain.guard_of plain_guard.OpensForAwait
+guard_of guard.OpensHeadPattern = plain.guard_of plain_guard.OpensHeadPattern
+guard_of guard.StartsUsing = plain.guard_of plain_guard.StartsUsing
+guard_of guard.StartsExpression = plain.guard_of plain_guard.StartsExpression
+guard_of guard.OpensLabel = plain.guard_of plain_guard.OpensLabel
+guard_of guard.OpensInnerPattern = plain.guard_of plain_guard.OpensInnerPattern
+guard_of guard.OpensValue = plain.guard_of plain_guard.OpensValue
+guard_of guard.IsPlainKey = plain.guard_of plain_guard.IsPlainKey
+guard_of guard.OpensMethod = plain.guard_of plain_guard.OpensMethod
+guard_of (guard.OpensAccessor p) = plain.guard_of (plain_guard.OpensAccessor p)
+guard_of (guard.OpensAsync p) = plain.guard_of (plain_guard.OpensAsync p)
+guard_of guard.OpensStatic = plain.guard_of plain_guard.OpensStatic
+guard_of guard.IsPlainMember = plain.guard_of plain_guard.IsPlainMember
+guard_of guard.OpensStaticBlock = plain.guard_of plain_guard.OpensStaticBlock
+guard_of guard.BehindStaticAccessor = plain.guard_of plain_guard.BehindStaticAccessor
+guard_of guard.BehindStaticAsync = plain.guard_of plain_guard.BehindStaticAsync
+guard_of guard.BehindStaticStar = plain.guard_of plain_guard.BehindStaticStar
+guard_of guard.BehindStaticFieldAccessor = plain.guard_of plain_guard.BehindStaticFieldAccessor
+guard_of guard.BehindStaticMethod = plain.guard_of plain_guard.BehindStaticMethod
+guard_of guard.EndsExpression = plain.guard_of plain_guard.EndsExpression
+guard_of guard.OpensAsyncParenthesis = plain.guard_of plain_guard.OpensAsyncParenthesis
+guard_of guard.IsNoArrowHead = plain.guard_of plain_guard.IsNoArrowHead
+guard_of guard.OpensAsyncFunction = plain.guard_of plain_guard.OpensAsyncFunction
+guard_of guard.OpensProperty = plain.guard_of plain_guard.OpensProperty
+guard_of guard.HasArgument = plain.guard_of plain_guard.HasArgument
+guard_of guard.OpensShift = plain.guard_of plain_guard.OpensShift
+guard_of guard.OpensArrow = plain.guard_of plain_guard.OpensArrow
+guard_of guard.OpensAsyncArrow = plain.guard_of plain_guard.OpensAsyncArrow
+guard_of guard.OpensPattern = plain.guard_of plain_guard.OpensPattern
+guard_of guard.OpensAssignment = plain.guard_of plain_guard.OpensAssignment
+guard_of (guard.Joins kind) = plain.guard_of (plain_guard.Joins kind)
 guard_of (guard.OpensAnyArrow l c) = opens_any_arrow l c
 guard_of (guard.OpensAsyncHere l c) = opens_async_here l c
 guard_of (guard.OpensAsyncList l) = opens_async_list l
@@ -85,7 +170,7 @@ guard_of guard.OpensDeclarator = opens_declarator
 guard_of guard.OpensInterface = opens_interface
 guard_of guard.OpensAlias = opens_alias
 guard_of guard.OpensEnum = opens_enum
-guard_of guard.OpensNamespace = opens_namespace
+guard_of guard.OpensNamespaceDeclaration = opens_namespace
 guard_of guard.OpensModule = opens_module
 guard_of guard.OpensGlobal = opens_global
 guard_of guard.OpensDeclare = opens_declare

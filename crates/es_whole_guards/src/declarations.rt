@@ -9,7 +9,6 @@ ghost use Rattle.es_whole_grammar.specs.Items.{opens_any_default_class, opens_de
 use crate::expressions::opens_abstract_class;
 use crate::looks::{has, has_name, is, is_near};
 use crate::named::Kinds;
-use es_guards as plain;
 use es_guards::Tokens;
 use es_token::TokenKind;
 use es_tree::Lang;
@@ -114,11 +113,9 @@ fn heads_typed(tokens: &Tokens<'_>, at: usize) -> bool
 pub fn declares_variables(tokens: &Tokens<'_>, at: usize) -> bool
     ensures { result ≡ declares_variables (keys_of tokens.now.tokens.now) at }
 {
-    has(
-        Kinds::Plain(plain::Kinds::VariableWord),
-        tokens.seen_after(at, 1),
-    ) && !(is(TokenKind::ConstWord, tokens.seen_after(at, 1))
-        && is(TokenKind::EnumWord, tokens.seen_after(at, 2)))
+    has(Kinds::VariableWord, tokens.seen_after(at, 1))
+        && !(is(TokenKind::ConstWord, tokens.seen_after(at, 1))
+            && is(TokenKind::EnumWord, tokens.seen_after(at, 2)))
 }
 
 /// Behind `export` stands a declaration.

@@ -80,7 +80,22 @@ pub fn is_of(named: Kinds, kind: TokenKind) -> bool
     ensures { result ≡ kinds_of named kind }
 {
     match named {
-        Kinds::Plain(kinds) => plain::is_of(kinds, kind),
+        Kinds::Only(other) => kind == other,
+        Kinds::Name => plain::is_of(plain::Kinds::Name, kind),
+        Kinds::Word => plain::is_of(plain::Kinds::Word, kind),
+        Kinds::NameOrThis => plain::is_of(plain::Kinds::NameOrThis, kind),
+        Kinds::Numeric => plain::is_of(plain::Kinds::Numeric, kind),
+        Kinds::AccessorWord => plain::is_of(plain::Kinds::AccessorWord, kind),
+        Kinds::Prefix => plain::is_of(plain::Kinds::Prefix, kind),
+        Kinds::Update => plain::is_of(plain::Kinds::Update, kind),
+        Kinds::Product => plain::is_of(plain::Kinds::Product, kind),
+        Kinds::Sum => plain::is_of(plain::Kinds::Sum, kind),
+        Kinds::Equality => plain::is_of(plain::Kinds::Equality, kind),
+        Kinds::Relation => plain::is_of(plain::Kinds::Relation, kind),
+        Kinds::Assignment => plain::is_of(plain::Kinds::Assignment, kind),
+        Kinds::PropertyName => plain::is_of(plain::Kinds::PropertyName, kind),
+        Kinds::LiteralWord => plain::is_of(plain::Kinds::LiteralWord, kind),
+        Kinds::VariableWord => plain::is_of(plain::Kinds::VariableWord, kind),
         Kinds::AssertionWord => is_assertion_word(kind),
         Kinds::TypedModifier => is_typed_modifier(kind),
         Kinds::Modifier => is_modifier(kind),

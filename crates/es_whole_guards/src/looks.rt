@@ -15,7 +15,6 @@ ghost use Rattle.es_whole_guards.specs.Named.{kinds_of};
 
 use crate::kinds::is_of;
 use crate::named::Kinds;
-use es_guards as plain;
 use es_guards::Seen;
 use es_token::TokenKind;
 
@@ -45,7 +44,7 @@ pub fn has(kinds: Kinds, next: Option<Seen>) -> bool
 pub fn has_name(next: Option<Seen>) -> bool
     ensures { result ≡ has_kind is_name (sight next) }
 {
-    has(Kinds::Plain(plain::Kinds::Name), next)
+    has(Kinds::Name, next)
 }
 
 /// A line end stands before the next token.
@@ -72,9 +71,9 @@ pub fn is_near(next: Option<Seen>) -> bool
 fn begins_key(next: Option<Seen>) -> bool
     ensures { result ≡ begins_key (sight next) }
 {
-    has(Kinds::Plain(plain::Kinds::Word), next)
+    has(Kinds::Word, next)
         || is(TokenKind::Str, next)
-        || has(Kinds::Plain(plain::Kinds::Numeric), next)
+        || has(Kinds::Numeric, next)
         || is(TokenKind::OpenBracket, next)
 }
 
