@@ -1,0 +1,176 @@
+//! Assignments and whole expressions.
+
+ghost use Rattle.es_whole_grammar.specs.Expressions.{yield_, assignment, expression, element};
+
+use crate::arrows::{AsyncArrow, PlainArrow};
+use crate::operators::Conditional;
+use crate::primary::Spread;
+use es_token::TokenKind;
+use es_tree::{Lang, SyntaxError};
+use es_whole_grammar::{Context, Label, Row};
+use es_whole_reader::Ahead::Is;
+use es_whole_reader::Told::{Guarded, Taken};
+use es_whole_reader::{
+    Ahead, Alt, Choose, Cursor, Done, Grammar, Guard, Input, Kinds, Make, Many, Measured, OfRow,
+    Opt, Pick, Punct, ReadsRule, Sort, Tok, When, Wrap,
+};
+
+/// 'yield' (~ '*'? Assign)?
+#[derive(Clone, Copy)]
+pub struct Yield(pub Lang, pub Context);
+
+impl ReadsRule for Yield {
+    ghost rule = { λ s. yield_ s.0 s.1 };
+
+    #[tactic(auto, unfolding(es_whole_grammar::specs::Expressions::yield_))]
+    fn read<F: Fn(Input<'_>, usize, Row, &mut Cursor) -> Result<Measured, SyntaxError>>(
+        &self,
+        grammar: &Grammar<'_, F>,
+        cursor: &mut Cursor,
+    ) -> Result<Measured, SyntaxError> {
+        Make(
+            Label::Yield,
+            Punct(
+                TokenKind::YieldWord,
+                Opt(
+                    Taken(Ahead::Operand),
+                    When(
+                        Ahead::Near,
+                        Opt(
+                            Taken(Is(TokenKind::Star)),
+                            Tok(Sort::There, Kinds::Only(TokenKind::Star), Done),
+                            OfRow(Row::AssignmentRow(self.1), Done),
+                        ),
+                    ),
+                    Done,
+                ),
+            ),
+        )
+        .read(grammar, cursor)
+    }
+}
+
+/// Assign: Arrow | 'yield' (~ '*'? Assign)? | Target AssignOp Assign | Cond
+#[derive(Clone, Copy)]
+pub struct Assignment(pub Lang, pub Context);
+
+impl ReadsRule for Assignment {
+    ghost rule = { λ s. assignment s.0 s.1 };
+
+    #[tactic(auto, unfolding(es_whole_grammar::specs::Expressions::assignment))]
+    fn read<F: Fn(Input<'_>, usize, Row, &mut Cursor) -> Result<Measured, SyntaxError>>(
+        &self,
+        grammar: &Grammar<'_, F>,
+        cursor: &mut Cursor,
+    ) -> Result<Measured, SyntaxError> {
+        let outside = Context {
+            no_in: false,
+            ..self.1
+        };
+        Pick(
+            Guard::OpensArrow,
+            Pick(
+                Guard::OpensAsyncArrow,
+                AsyncArrow(self.0, self.1),
+                PlainArrow(self.0, self.1),
+            ),
+            Choose(
+                Is(TokenKind::YieldWord),
+                Yield(self.0, self.1),
+                Pick(
+                    Guard::OpensPattern,
+                    Make(
+                        Label::PatternAssignment,
+                        OfRow(
+                            Row::PatternRow(true, outside),
+                            Punct(TokenKind::Equal, OfRow(Row::AssignmentRow(self.1), Done)),
+                        ),
+                    ),
+                    Wrap(
+                        Label::Assignment,
+                        Conditional(self.0, self.1),
+                        Guarded(Guard::OpensAssignment),
+                        Alt(
+                            Is(TokenKind::Greater),
+                            Tok(
+                                Sort::Kind,
+                                Kinds::Only(TokenKind::Greater),
+                                Tok(
+                                    Sort::There,
+                                    Kinds::Only(TokenKind::Greater),
+                                    Opt(
+                                        Guarded(Guard::Joins(TokenKind::Greater)),
+                                        Tok(Sort::There, Kinds::Only(TokenKind::Greater), Done),
+                                        Tok(Sort::There, Kinds::Only(TokenKind::Equal), Done),
+                                    ),
+                                ),
+                            ),
+                            Tok(Sort::Kind, Kinds::Assignment, Done),
+                            OfRow(Row::AssignmentRow(self.1), Done),
+                        ),
+                    ),
+                ),
+            ),
+        )
+        .read(grammar, cursor)
+    }
+}
+
+/// Expr: Assign (',' Assign)*
+#[derive(Clone, Copy)]
+pub struct Expression(pub Lang, pub Context);
+
+impl ReadsRule for Expression {
+    ghost rule = { λ s. expression s.0 s.1 };
+
+    #[tactic(auto, unfolding(es_whole_grammar::specs::Expressions::expression))]
+    fn read<F: Fn(Input<'_>, usize, Row, &mut Cursor) -> Result<Measured, SyntaxError>>(
+        &self,
+        grammar: &Grammar<'_, F>,
+        cursor: &mut Cursor,
+    ) -> Result<Measured, SyntaxError> {
+        Wrap(
+            Label::Sequence,
+            Assignment(self.0, self.1),
+            Taken(Is(TokenKind::Comma)),
+            Punct(
+                TokenKind::Comma,
+                OfRow(
+                    Row::AssignmentRow(self.1),
+                    Many(
+                        Taken(Is(TokenKind::Comma)),
+                        Punct(TokenKind::Comma, OfRow(Row::AssignmentRow(self.1), Done)),
+                        Done,
+                    ),
+                ),
+            ),
+        )
+        .read(grammar, cursor)
+    }
+}
+
+/// AElem: '...'? Assign
+#[derive(Clone, Copy)]
+pub struct Element(pub Lang, pub Context);
+
+impl ReadsRule for Element {
+    ghost rule = { λ s. element s.0 s.1 };
+
+    #[tactic(auto, unfolding(es_whole_grammar::specs::Expressions::element))]
+    fn read<F: Fn(Input<'_>, usize, Row, &mut Cursor) -> Result<Measured, SyntaxError>>(
+        &self,
+        grammar: &Grammar<'_, F>,
+        cursor: &mut Cursor,
+    ) -> Result<Measured, SyntaxError> {
+        let outside = Context {
+            no_in: false,
+            ..self.1
+        };
+        Choose(
+            Is(TokenKind::Ellipsis),
+            Spread(self.1),
+            Assignment(self.0, outside),
+        )
+        .read(grammar, cursor)
+    }
+}

@@ -1,0 +1,21 @@
+//! Rows of the table of programs (`es_grammar`): expressions, functions and classes.
+#![tactic(auto)]
+
+mod arrows;
+mod chains;
+mod expressions;
+mod functions;
+mod operators;
+mod primary;
+
+pub use arrows::{ArrowIn, AsyncArrow, PlainArrow};
+pub use chains::{
+    Arguments, Base, Callee, Chain, ImportCall, ImportMeta, MemberPost, OptionalPost, Post,
+};
+pub use expressions::{Assignment, Element, Expression, Yield};
+pub use functions::{AnyFunction, AsyncFunction, Class, Function, NameIn, StarIn};
+pub use operators::{
+    And, Await, Binary, BitAnd, BitOr, BitXor, Coalesce, Conditional, Equality, Level, Power,
+    Prefix, PrivateIn, Product, Relation, Shift, Sum, Unary, Update,
+};
+pub use primary::{ArrayLiteral, ObjectLiteral, Primary, Spread, Template};

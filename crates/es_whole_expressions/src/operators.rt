@@ -1,0 +1,525 @@
+//! Operators, from the tightest to the loosest.
+
+ghost use Rattle.es_whole_grammar.specs.Expressions.{update, prefix, await_, unary, power, level, product, sum, shift, private_in, relation, equality, bit_and, bit_xor, bit_or, and_, coalesce, binary, conditional};
+ghost use Rattle.es_whole_guards.specs.Named.{kinds_of};
+
+use crate::chains::Chain;
+use es_token::TokenKind;
+use es_tree::{Lang, SyntaxError};
+use es_whole_grammar::{Context, Label, Row};
+use es_whole_reader::Ahead::{Has, Is, Other};
+use es_whole_reader::Told::{Guarded, Taken};
+use es_whole_reader::{
+    Ahead, Alt, Choose, Cursor, Done, Grammar, Guard, Input, Kinds, Make, Measured, OfRow, Opt,
+    Punct, ReadsRule, Sort, Tok, When, Where, Wrap,
+};
+
+/// ('++' | '--') Unary | Chain (~ ('++' | '--'))?
+#[derive(Clone, Copy)]
+pub struct Update(pub Lang, pub Context);
+
+impl ReadsRule for Update {
+    ghost rule = { λ s. update s.0 s.1 };
+
+    #[tactic(auto, unfolding(es_whole_grammar::specs::Expressions::update))]
+    fn read<F: Fn(Input<'_>, usize, Row, &mut Cursor) -> Result<Measured, SyntaxError>>(
+        &self,
+        grammar: &Grammar<'_, F>,
+        cursor: &mut Cursor,
+    ) -> Result<Measured, SyntaxError> {
+        Choose(
+            Has(Kinds::Update),
+            Make(
+                Label::UpdatePrefix,
+                Tok(
+                    Sort::Kind,
+                    Kinds::Update,
+                    OfRow(Row::UnaryRow(self.1), Done),
+                ),
+            ),
+            Wrap(
+                Label::UpdatePostfix,
+                Chain(self.0, self.1),
+                Taken(Ahead::UpdateHere),
+                When(
+                    Ahead::Near,
+                    Tok(Sort::Kind, Kinds::Update, When(Ahead::NoUpdateHere, Done)),
+                ),
+            ),
+        )
+        .read(grammar, cursor)
+    }
+}
+
+/// ('delete' | 'void' | 'typeof' | '+' | '-' | '~' | '!') Unary
+#[derive(Clone, Copy)]
+pub struct Prefix(pub Context);
+
+impl ReadsRule for Prefix {
+    ghost rule = { λ s. prefix s.0 };
+
+    #[tactic(auto, unfolding(es_whole_grammar::specs::Expressions::prefix))]
+    fn read<F: Fn(Input<'_>, usize, Row, &mut Cursor) -> Result<Measured, SyntaxError>>(
+        &self,
+        grammar: &Grammar<'_, F>,
+        cursor: &mut Cursor,
+    ) -> Result<Measured, SyntaxError> {
+        Make(
+            Label::UnaryExpression,
+            Tok(
+                Sort::Kind,
+                Kinds::Prefix,
+                OfRow(Row::UnaryRow(self.0), Done),
+            ),
+        )
+        .read(grammar, cursor)
+    }
+}
+
+/// 'await' Unary, in modules and in async functions.
+#[derive(Clone, Copy)]
+pub struct Await(pub Context);
+
+impl ReadsRule for Await {
+    ghost rule = { λ s. await_ s.0 };
+
+    #[tactic(auto, unfolding(es_whole_grammar::specs::Expressions::await_))]
+    fn read<F: Fn(Input<'_>, usize, Row, &mut Cursor) -> Result<Measured, SyntaxError>>(
+        &self,
+        grammar: &Grammar<'_, F>,
+        cursor: &mut Cursor,
+    ) -> Result<Measured, SyntaxError> {
+        Make(
+            Label::AwaitExpression,
+            Where(
+                Guard::MayAwait(self.0),
+                Punct(TokenKind::AwaitWord, OfRow(Row::UnaryRow(self.0), Done)),
+            ),
+        )
+        .read(grammar, cursor)
+    }
+}
+
+/// Unary: an operator and its operand, 'await' Unary, or an update.
+#[derive(Clone, Copy)]
+pub struct Unary(pub Lang, pub Context);
+
+impl ReadsRule for Unary {
+    ghost rule = { λ s. unary s.0 s.1 };
+
+    #[tactic(auto, unfolding(es_whole_grammar::specs::Expressions::unary))]
+    fn read<F: Fn(Input<'_>, usize, Row, &mut Cursor) -> Result<Measured, SyntaxError>>(
+        &self,
+        grammar: &Grammar<'_, F>,
+        cursor: &mut Cursor,
+    ) -> Result<Measured, SyntaxError> {
+        Choose(
+            Has(Kinds::Prefix),
+            Prefix(self.1),
+            Choose(
+                Is(TokenKind::AwaitWord),
+                Await(self.1),
+                Update(self.0, self.1),
+            ),
+        )
+        .read(grammar, cursor)
+    }
+}
+
+/// Unary | (Chain or update) '**' Power
+#[derive(Clone, Copy)]
+pub struct Power(pub Lang, pub Context);
+
+impl ReadsRule for Power {
+    ghost rule = { λ s. power s.0 s.1 };
+
+    #[tactic(auto, unfolding(es_whole_grammar::specs::Expressions::power))]
+    fn read<F: Fn(Input<'_>, usize, Row, &mut Cursor) -> Result<Measured, SyntaxError>>(
+        &self,
+        grammar: &Grammar<'_, F>,
+        cursor: &mut Cursor,
+    ) -> Result<Measured, SyntaxError> {
+        Choose(
+            Has(Kinds::Prefix),
+            Prefix(self.1),
+            Choose(
+                Is(TokenKind::AwaitWord),
+                Await(self.1),
+                Wrap(
+                    Label::Binary,
+                    Update(self.0, self.1),
+                    Taken(Is(TokenKind::StarStar)),
+                    Tok(
+                        Sort::Kind,
+                        Kinds::Only(TokenKind::StarStar),
+                        OfRow(
+                            Row::PowerRow(self.1),
+                            When(Other(TokenKind::StarStar), Done),
+                        ),
+                    ),
+                ),
+            ),
+        )
+        .read(grammar, cursor)
+    }
+}
+
+/// A level of operators of one token, left-associative.
+#[derive(Clone, Copy)]
+pub struct Level<A>(pub Kinds, pub Row, pub A);
+
+impl<A: ReadsRule + Copy> ReadsRule for Level<A> {
+    ghost rule = { λ s. level (kinds_of s.0) s.1 (A.rule s.2) };
+
+    #[tactic(auto, unfolding(es_whole_grammar::specs::Expressions::level))]
+    fn read<F: Fn(Input<'_>, usize, Row, &mut Cursor) -> Result<Measured, SyntaxError>>(
+        &self,
+        grammar: &Grammar<'_, F>,
+        cursor: &mut Cursor,
+    ) -> Result<Measured, SyntaxError> {
+        Wrap(
+            Label::Binary,
+            self.2,
+            Taken(Has(self.0)),
+            Tok(Sort::Kind, self.0, OfRow(self.1, Done)),
+        )
+        .read(grammar, cursor)
+    }
+}
+
+/// Product: Power (('*' | '/' | '%') Power)*
+#[derive(Clone, Copy)]
+pub struct Product(pub Lang, pub Context);
+
+impl ReadsRule for Product {
+    ghost rule = { λ s. product s.0 s.1 };
+
+    #[tactic(auto, unfolding(es_whole_grammar::specs::Expressions::product))]
+    fn read<F: Fn(Input<'_>, usize, Row, &mut Cursor) -> Result<Measured, SyntaxError>>(
+        &self,
+        grammar: &Grammar<'_, F>,
+        cursor: &mut Cursor,
+    ) -> Result<Measured, SyntaxError> {
+        Level(Kinds::Product, Row::PowerRow(self.1), Power(self.0, self.1)).read(grammar, cursor)
+    }
+}
+
+/// Sum: Product (('+' | '-') Product)*
+#[derive(Clone, Copy)]
+pub struct Sum(pub Lang, pub Context);
+
+impl ReadsRule for Sum {
+    ghost rule = { λ s. sum s.0 s.1 };
+
+    #[tactic(auto, unfolding(es_whole_grammar::specs::Expressions::sum))]
+    fn read<F: Fn(Input<'_>, usize, Row, &mut Cursor) -> Result<Measured, SyntaxError>>(
+        &self,
+        grammar: &Grammar<'_, F>,
+        cursor: &mut Cursor,
+    ) -> Result<Measured, SyntaxError> {
+        Level(Kinds::Sum, Row::ProductRow(self.1), Product(self.0, self.1)).read(grammar, cursor)
+    }
+}
+
+/// Shift: Sum (('<<' | '>>' | '>>>') Sum)*
+#[derive(Clone, Copy)]
+pub struct Shift(pub Lang, pub Context);
+
+impl ReadsRule for Shift {
+    ghost rule = { λ s. shift s.0 s.1 };
+
+    #[tactic(auto, unfolding(es_whole_grammar::specs::Expressions::shift))]
+    fn read<F: Fn(Input<'_>, usize, Row, &mut Cursor) -> Result<Measured, SyntaxError>>(
+        &self,
+        grammar: &Grammar<'_, F>,
+        cursor: &mut Cursor,
+    ) -> Result<Measured, SyntaxError> {
+        Wrap(
+            Label::Binary,
+            Sum(self.0, self.1),
+            Guarded(Guard::OpensShift),
+            Alt(
+                Is(TokenKind::Greater),
+                Tok(
+                    Sort::Kind,
+                    Kinds::Only(TokenKind::Greater),
+                    Tok(
+                        Sort::There,
+                        Kinds::Only(TokenKind::Greater),
+                        Opt(
+                            Guarded(Guard::Joins(TokenKind::Greater)),
+                            Tok(Sort::There, Kinds::Only(TokenKind::Greater), Done),
+                            Done,
+                        ),
+                    ),
+                ),
+                Tok(Sort::Kind, Kinds::Only(TokenKind::LessLess), Done),
+                OfRow(Row::SumRow(self.1), Done),
+            ),
+        )
+        .read(grammar, cursor)
+    }
+}
+
+/// PrivateName 'in' Shift
+#[derive(Clone, Copy)]
+pub struct PrivateIn(pub Context);
+
+impl ReadsRule for PrivateIn {
+    ghost rule = { λ s. private_in s.0 };
+
+    #[tactic(auto, unfolding(es_whole_grammar::specs::Expressions::private_in))]
+    fn read<F: Fn(Input<'_>, usize, Row, &mut Cursor) -> Result<Measured, SyntaxError>>(
+        &self,
+        grammar: &Grammar<'_, F>,
+        cursor: &mut Cursor,
+    ) -> Result<Measured, SyntaxError> {
+        Make(
+            Label::PrivateIn,
+            Where(
+                Guard::MayTest(self.0),
+                Tok(
+                    Sort::Name,
+                    Kinds::Only(TokenKind::PrivateName),
+                    Punct(TokenKind::InWord, OfRow(Row::ShiftRow(self.0), Done)),
+                ),
+            ),
+        )
+        .read(grammar, cursor)
+    }
+}
+
+/// Relation: (PrivateName 'in' Shift | Shift) (('<' | '<=' | '>' | '>=' | 'instanceof' | 'in') Shift)*
+#[derive(Clone, Copy)]
+pub struct Relation(pub Lang, pub Context);
+
+// TYPESCRIPT: relation
+impl ReadsRule for Relation {
+    ghost rule = { λ s. relation s.0 s.1 };
+
+    #[tactic(auto, unfolding(es_whole_grammar::specs::Expressions::relation))]
+    fn read<F: Fn(Input<'_>, usize, Row, &mut Cursor) -> Result<Measured, SyntaxError>>(
+        &self,
+        grammar: &Grammar<'_, F>,
+        cursor: &mut Cursor,
+    ) -> Result<Measured, SyntaxError> {
+        Wrap(
+            Label::Binary,
+            Choose(
+                Is(TokenKind::PrivateName),
+                PrivateIn(self.1),
+                Shift(self.0, self.1),
+            ),
+            Guarded(Guard::OpensRelation(self.1)),
+            Alt(
+                Is(TokenKind::Greater),
+                Tok(
+                    Sort::Kind,
+                    Kinds::Only(TokenKind::Greater),
+                    Opt(
+                        Guarded(Guard::Joins(TokenKind::Equal)),
+                        Tok(Sort::There, Kinds::Only(TokenKind::Equal), Done),
+                        Done,
+                    ),
+                ),
+                Tok(Sort::Kind, Kinds::Relation, Done),
+                OfRow(Row::ShiftRow(self.1), Done),
+            ),
+        )
+        .read(grammar, cursor)
+    }
+}
+
+/// Equality: Relation (('==' | '!=' | '===' | '!==') Relation)*
+#[derive(Clone, Copy)]
+pub struct Equality(pub Lang, pub Context);
+
+impl ReadsRule for Equality {
+    ghost rule = { λ s. equality s.0 s.1 };
+
+    #[tactic(auto, unfolding(es_whole_grammar::specs::Expressions::equality))]
+    fn read<F: Fn(Input<'_>, usize, Row, &mut Cursor) -> Result<Measured, SyntaxError>>(
+        &self,
+        grammar: &Grammar<'_, F>,
+        cursor: &mut Cursor,
+    ) -> Result<Measured, SyntaxError> {
+        Level(
+            Kinds::Equality,
+            Row::RelationRow(self.1),
+            Relation(self.0, self.1),
+        )
+        .read(grammar, cursor)
+    }
+}
+
+/// BitAnd: Equality ('&' Equality)*
+#[derive(Clone, Copy)]
+pub struct BitAnd(pub Lang, pub Context);
+
+impl ReadsRule for BitAnd {
+    ghost rule = { λ s. bit_and s.0 s.1 };
+
+    #[tactic(auto, unfolding(es_whole_grammar::specs::Expressions::bit_and))]
+    fn read<F: Fn(Input<'_>, usize, Row, &mut Cursor) -> Result<Measured, SyntaxError>>(
+        &self,
+        grammar: &Grammar<'_, F>,
+        cursor: &mut Cursor,
+    ) -> Result<Measured, SyntaxError> {
+        Level(
+            Kinds::Only(TokenKind::Ampersand),
+            Row::EqualityRow(self.1),
+            Equality(self.0, self.1),
+        )
+        .read(grammar, cursor)
+    }
+}
+
+/// BitXor: BitAnd ('^' BitAnd)*
+#[derive(Clone, Copy)]
+pub struct BitXor(pub Lang, pub Context);
+
+impl ReadsRule for BitXor {
+    ghost rule = { λ s. bit_xor s.0 s.1 };
+
+    #[tactic(auto, unfolding(es_whole_grammar::specs::Expressions::bit_xor))]
+    fn read<F: Fn(Input<'_>, usize, Row, &mut Cursor) -> Result<Measured, SyntaxError>>(
+        &self,
+        grammar: &Grammar<'_, F>,
+        cursor: &mut Cursor,
+    ) -> Result<Measured, SyntaxError> {
+        Level(
+            Kinds::Only(TokenKind::Caret),
+            Row::BitAndRow(self.1),
+            BitAnd(self.0, self.1),
+        )
+        .read(grammar, cursor)
+    }
+}
+
+/// BitOr: BitXor ('|' BitXor)*
+#[derive(Clone, Copy)]
+pub struct BitOr(pub Lang, pub Context);
+
+impl ReadsRule for BitOr {
+    ghost rule = { λ s. bit_or s.0 s.1 };
+
+    #[tactic(auto, unfolding(es_whole_grammar::specs::Expressions::bit_or))]
+    fn read<F: Fn(Input<'_>, usize, Row, &mut Cursor) -> Result<Measured, SyntaxError>>(
+        &self,
+        grammar: &Grammar<'_, F>,
+        cursor: &mut Cursor,
+    ) -> Result<Measured, SyntaxError> {
+        Level(
+            Kinds::Only(TokenKind::Bar),
+            Row::BitXorRow(self.1),
+            BitXor(self.0, self.1),
+        )
+        .read(grammar, cursor)
+    }
+}
+
+/// '&&' behind an operand.
+#[derive(Clone, Copy)]
+pub struct And<A>(pub Context, pub A);
+
+impl<A: ReadsRule + Copy> ReadsRule for And<A> {
+    ghost rule = { λ s. and_ s.0 (A.rule s.1) };
+
+    #[tactic(auto, unfolding(es_whole_grammar::specs::Expressions::and_))]
+    fn read<F: Fn(Input<'_>, usize, Row, &mut Cursor) -> Result<Measured, SyntaxError>>(
+        &self,
+        grammar: &Grammar<'_, F>,
+        cursor: &mut Cursor,
+    ) -> Result<Measured, SyntaxError> {
+        Level(
+            Kinds::Only(TokenKind::AmpersandAmpersand),
+            Row::BitOrRow(self.0),
+            self.1,
+        )
+        .read(grammar, cursor)
+    }
+}
+
+/// BitOr ('??' BitOr)*, which mixes with '||' or '&&' only in brackets.
+#[derive(Clone, Copy)]
+pub struct Coalesce(pub Lang, pub Context);
+
+impl ReadsRule for Coalesce {
+    ghost rule = { λ s. coalesce s.0 s.1 };
+
+    #[tactic(auto, unfolding(es_whole_grammar::specs::Expressions::coalesce))]
+    fn read<F: Fn(Input<'_>, usize, Row, &mut Cursor) -> Result<Measured, SyntaxError>>(
+        &self,
+        grammar: &Grammar<'_, F>,
+        cursor: &mut Cursor,
+    ) -> Result<Measured, SyntaxError> {
+        Wrap(
+            Label::Binary,
+            BitOr(self.0, self.1),
+            Taken(Is(TokenKind::QuestionQuestion)),
+            Tok(
+                Sort::Kind,
+                Kinds::Only(TokenKind::QuestionQuestion),
+                OfRow(Row::BitOrRow(self.1), When(Ahead::NoMix, Done)),
+            ),
+        )
+        .read(grammar, cursor)
+    }
+}
+
+/// Binary, from its loosest level.
+#[derive(Clone, Copy)]
+pub struct Binary(pub Lang, pub Context);
+
+impl ReadsRule for Binary {
+    ghost rule = { λ s. binary s.0 s.1 };
+
+    #[tactic(auto, unfolding(es_whole_grammar::specs::Expressions::binary))]
+    fn read<F: Fn(Input<'_>, usize, Row, &mut Cursor) -> Result<Measured, SyntaxError>>(
+        &self,
+        grammar: &Grammar<'_, F>,
+        cursor: &mut Cursor,
+    ) -> Result<Measured, SyntaxError> {
+        Level(
+            Kinds::Only(TokenKind::BarBar),
+            Row::AndRow(self.1),
+            And(self.1, Coalesce(self.0, self.1)),
+        )
+        .read(grammar, cursor)
+    }
+}
+
+/// Cond: Binary ('?' Assign ':' Assign)?
+#[derive(Clone, Copy)]
+pub struct Conditional(pub Lang, pub Context);
+
+impl ReadsRule for Conditional {
+    ghost rule = { λ s. conditional s.0 s.1 };
+
+    #[tactic(auto, unfolding(es_whole_grammar::specs::Expressions::conditional))]
+    fn read<F: Fn(Input<'_>, usize, Row, &mut Cursor) -> Result<Measured, SyntaxError>>(
+        &self,
+        grammar: &Grammar<'_, F>,
+        cursor: &mut Cursor,
+    ) -> Result<Measured, SyntaxError> {
+        Wrap(
+            Label::Conditional,
+            Binary(self.0, self.1),
+            Taken(Is(TokenKind::Question)),
+            Punct(
+                TokenKind::Question,
+                OfRow(
+                    Row::AssignmentRow(self.1),
+                    Punct(
+                        TokenKind::Colon,
+                        OfRow(
+                            Row::AssignmentRow(self.1),
+                            When(Other(TokenKind::Question), Done),
+                        ),
+                    ),
+                ),
+            ),
+        )
+        .read(grammar, cursor)
+    }
+}

@@ -1,0 +1,22 @@
+//! Rows of the table of programs (`es_grammar`): statements, declarations, items of modules.
+#![tactic(auto)]
+
+mod declarations;
+mod items;
+mod loops;
+mod modules;
+mod statements;
+
+pub use declarations::{
+    Block, ConditionIn, Declaration, Declarator, Declarators, Using, UsingIn, Variables,
+};
+pub use items::{ExportDefault, ExportItem, Item, Module, Script, ShebangIn};
+pub use loops::{For, ForAwait, ForEach, Head, StartIn};
+pub use modules::{
+    Attributes, AttributesEnded, Clause, Entity, EqualsIn, Export, ExportSpecifier, FromEnded,
+    Import, ImportSpecifier, Named, NamesIn, Required, TypeWordIn, WordOrStrIn,
+};
+pub use statements::{
+    CaseIn, ExpressionStatement, FinallyIn, KeywordStatement, LabelEnded, Return, Statement,
+    Switch, Try,
+};
