@@ -1,7 +1,8 @@
 //! Arrows.
 
-ghost use Rattle.es_whole_grammar.specs.Expressions.{arrow_in, plain_arrow, async_arrow};
+ghost use Rattle.es_whole_grammar.specs.Expressions.{arrow_in, parameters_arrow_in, plain_arrow, async_arrow};
 
+use crate::typed::{ArrowResultIn, TypeParametersIn};
 use es_token::TokenKind;
 use es_tree::{Lang, SyntaxError};
 use es_whole_grammar::{Context, Label, Row};
@@ -27,6 +28,8 @@ impl ReadsForm for ArrowIn {
     ) -> Result<(), SyntaxError> {
         let outside = Context {
             no_in: false,
+            no_colon: false,
+            in_constructor: false,
             ..self.1
         };
         When(
@@ -48,7 +51,38 @@ impl ReadsForm for ArrowIn {
     }
 }
 
-/// Name ~ '=>' .. | '(' Params ')' ~ '=>' ..
+/// (TS TParams)? '(' Params ')' (TS ':' Ret)? ~ '=>' .., the parameters in a place of their own.
+#[derive(Clone, Copy)]
+pub struct ParametersArrowIn(pub Lang, pub Context, pub Context, pub Context);
+
+impl ReadsForm for ParametersArrowIn {
+    ghost form = { λ s. parameters_arrow_in s.0 s.1 s.2 s.3 };
+
+    #[tactic(auto, unfolding(es_whole_grammar::specs::Expressions::parameters_arrow_in))]
+    fn read<F: Fn(Input<'_>, usize, Row, &mut Cursor) -> Result<Measured, SyntaxError>>(
+        &self,
+        grammar: &Grammar<'_, F>,
+        cursor: &mut Cursor,
+        parts: &mut Parts,
+    ) -> Result<(), SyntaxError> {
+        TypeParametersIn(
+            self.0,
+            Punct(
+                TokenKind::OpenParen,
+                OfRow(
+                    Row::ParametersRow(self.1),
+                    Punct(
+                        TokenKind::CloseParen,
+                        ArrowResultIn(self.0, self.2, ArrowIn(self.2, self.3)),
+                    ),
+                ),
+            ),
+        )
+        .read(grammar, cursor, parts)
+    }
+}
+
+/// Name ~ '=>' .. | (TS TParams)? '(' Params ')' (TS ':' Ret)? ~ '=>' ..
 #[derive(Clone, Copy)]
 pub struct PlainArrow(pub Lang, pub Context);
 
@@ -63,19 +97,15 @@ impl ReadsRule for PlainArrow {
     ) -> Result<Measured, SyntaxError> {
         let outside = Context {
             no_in: false,
+            no_colon: false,
+            in_constructor: false,
             ..self.1
         };
         Choose(
-            Is(TokenKind::OpenParen),
+            Ahead::BeginsParameters(self.0),
             Make(
                 Label::ParenthesizedArrow,
-                Punct(
-                    TokenKind::OpenParen,
-                    OfRow(
-                        Row::ParametersRow(outside),
-                        Punct(TokenKind::CloseParen, ArrowIn(self.1, self.1)),
-                    ),
-                ),
+                ParametersArrowIn(self.0, outside, self.1, self.1),
             ),
             Make(
                 Label::NameArrow,
@@ -101,28 +131,25 @@ impl ReadsRule for AsyncArrow {
     ) -> Result<Measured, SyntaxError> {
         let async_in = Context {
             no_in: false,
+            no_colon: false,
+            in_constructor: false,
             in_async: true,
             ..self.1
         };
         let async_here = Context {
             in_async: true,
+            in_constructor: false,
             ..self.1
         };
         Pick(
-            Guard::OpensAsyncParenthesis,
+            Guard::OpensAsyncList(self.0),
             Make(
                 Label::AsyncParenthesizedArrow,
                 Punct(
                     TokenKind::AsyncWord,
                     When(
                         Ahead::Near,
-                        Punct(
-                            TokenKind::OpenParen,
-                            OfRow(
-                                Row::ParametersRow(async_in),
-                                Punct(TokenKind::CloseParen, ArrowIn(self.1, async_here)),
-                            ),
-                        ),
+                        ParametersArrowIn(self.0, async_in, self.1, async_here),
                     ),
                 ),
             ),

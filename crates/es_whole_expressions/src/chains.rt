@@ -1,8 +1,10 @@
 //! Chains: calls and members.
 
-ghost use Rattle.es_whole_grammar.specs.Expressions.{import_call, import_meta, base, arguments, member_post, optional_post, post, chain, callee};
+ghost use Rattle.es_tree.specs.declared.error.Lang.TheVariants as lang;
+ghost use Rattle.es_whole_grammar.specs.Expressions.{import_call, import_meta, base, arguments, plain_member_post, non_null_post, member_post, optional_post, post, chain, callee};
 
 use crate::primary::Primary;
+use crate::typed::{CallArgumentsIn, TypeArgumentsIn};
 use es_token::TokenKind;
 use es_tree::{Lang, SyntaxError};
 use es_whole_grammar::{Context, Label, Row};
@@ -28,6 +30,8 @@ impl ReadsRule for ImportCall {
     ) -> Result<Measured, SyntaxError> {
         let outside = Context {
             no_in: false,
+            no_colon: false,
+            in_constructor: false,
             ..self.0
         };
         Make(
@@ -125,10 +129,13 @@ impl ReadsRule for Base {
                                 TokenKind::NewWord,
                                 OfRow(
                                     Row::CalleeRow(self.1),
-                                    Opt(
-                                        Taken(Is(TokenKind::OpenParen)),
-                                        OfRow(Row::ArgumentsRow(self.1), Done),
-                                        Done,
+                                    CallArgumentsIn(
+                                        self.0,
+                                        Opt(
+                                            Taken(Is(TokenKind::OpenParen)),
+                                            OfRow(Row::ArgumentsRow(self.1), Done),
+                                            Done,
+                                        ),
                                     ),
                                 ),
                             ),
@@ -157,6 +164,8 @@ impl ReadsRule for Arguments {
     ) -> Result<Measured, SyntaxError> {
         let outside = Context {
             no_in: false,
+            no_colon: false,
+            in_constructor: false,
             ..self.0
         };
         Make(
@@ -185,11 +194,31 @@ impl ReadsRule for Arguments {
     }
 }
 
-/// '.' (Name | PrivateName) | '[' Expr ']' | Tpl
+/// TS ~ '!'
+#[derive(Clone, Copy)]
+pub struct NonNullPost;
+
+impl ReadsRule for NonNullPost {
+    ghost rule = { λ s. non_null_post };
+
+    #[tactic(auto, unfolding(es_whole_grammar::specs::Expressions::non_null_post))]
+    fn read<F: Fn(Input<'_>, usize, Row, &mut Cursor) -> Result<Measured, SyntaxError>>(
+        &self,
+        grammar: &Grammar<'_, F>,
+        cursor: &mut Cursor,
+    ) -> Result<Measured, SyntaxError> {
+        Make(
+            Label::NonNullPost,
+            When(Ahead::Near, Punct(TokenKind::Exclamation, Done)),
+        )
+        .read(grammar, cursor)
+    }
+}
+
+/// '.' (Name | PrivateName) | '[' Expr ']' | Tpl, in TypeScript also ~ '!'
 #[derive(Clone, Copy)]
 pub struct MemberPost(pub Lang, pub Context);
 
-// TYPESCRIPT: member_post
 impl ReadsRule for MemberPost {
     ghost rule = { λ s. member_post s.0 s.1 };
 
@@ -199,9 +228,36 @@ impl ReadsRule for MemberPost {
         grammar: &Grammar<'_, F>,
         cursor: &mut Cursor,
     ) -> Result<Measured, SyntaxError> {
+        match self.0 {
+            Lang::Es => PlainMemberPost(self.1).read(grammar, cursor),
+            Lang::Typescript => Choose(
+                Is(TokenKind::Exclamation),
+                NonNullPost,
+                PlainMemberPost(self.1),
+            )
+            .read(grammar, cursor),
+        }
+    }
+}
+
+/// '.' (Name | PrivateName) | '[' Expr ']' | Tpl
+#[derive(Clone, Copy)]
+pub struct PlainMemberPost(pub Context);
+
+impl ReadsRule for PlainMemberPost {
+    ghost rule = { λ s. plain_member_post s.0 };
+
+    #[tactic(auto, unfolding(es_whole_grammar::specs::Expressions::plain_member_post))]
+    fn read<F: Fn(Input<'_>, usize, Row, &mut Cursor) -> Result<Measured, SyntaxError>>(
+        &self,
+        grammar: &Grammar<'_, F>,
+        cursor: &mut Cursor,
+    ) -> Result<Measured, SyntaxError> {
         let outside = Context {
             no_in: false,
-            ..self.1
+            no_colon: false,
+            in_constructor: false,
+            ..self.0
         };
         Choose(
             Is(TokenKind::Dot),
@@ -221,7 +277,7 @@ impl ReadsRule for MemberPost {
                         ),
                     ),
                 ),
-                Make(Label::TemplatePost, OfRow(Row::TemplateRow(self.1), Done)),
+                Make(Label::TemplatePost, OfRow(Row::TemplateRow(self.0), Done)),
             ),
         )
         .read(grammar, cursor)
@@ -243,6 +299,8 @@ impl ReadsRule for OptionalPost {
     ) -> Result<Measured, SyntaxError> {
         let outside = Context {
             no_in: false,
+            no_colon: false,
+            in_constructor: false,
             ..self.1
         };
         Make(
@@ -259,8 +317,8 @@ impl ReadsRule for OptionalPost {
                         ),
                     ),
                     Alt(
-                        Is(TokenKind::OpenParen),
-                        OfRow(Row::ArgumentsRow(self.1), Done),
+                        Ahead::BeginsArguments(self.0),
+                        TypeArgumentsIn(self.0, OfRow(Row::ArgumentsRow(self.1), Done)),
                         Tok(Sort::Name, Kinds::PropertyName, Done),
                         Done,
                     ),
@@ -276,7 +334,6 @@ impl ReadsRule for OptionalPost {
 #[derive(Clone, Copy)]
 pub struct Post(pub Lang, pub Context);
 
-// TYPESCRIPT: post
 impl ReadsRule for Post {
     ghost rule = { λ s. post s.0 s.1 };
 
@@ -286,13 +343,53 @@ impl ReadsRule for Post {
         grammar: &Grammar<'_, F>,
         cursor: &mut Cursor,
     ) -> Result<Measured, SyntaxError> {
-        Choose(
-            Is(TokenKind::OpenParen),
-            Make(Label::CallPost, OfRow(Row::ArgumentsRow(self.1), Done)),
-            Choose(
-                Is(TokenKind::QuestionDot),
-                OptionalPost(self.0, self.1),
-                MemberPost(self.0, self.1),
+        match self.0 {
+            Lang::Es => Choose(
+                Is(TokenKind::OpenParen),
+                Make(Label::CallPost, OfRow(Row::ArgumentsRow(self.1), Done)),
+                Choose(
+                    Is(TokenKind::QuestionDot),
+                    OptionalPost(Lang::Es, self.1),
+                    MemberPost(Lang::Es, self.1),
+                ),
+            )
+            .read(grammar, cursor),
+            Lang::Typescript => TypedPost(self.1).read(grammar, cursor),
+        }
+    }
+}
+
+/// The same of TypeScript: TArgs? Args | TArgs? Tpl | ..
+#[derive(Clone, Copy)]
+struct TypedPost(Context);
+
+impl ReadsRule for TypedPost {
+    ghost rule = { λ s. post lang.Typescript s.0 };
+
+    #[tactic(auto, unfolding(es_whole_grammar::specs::Expressions::post))]
+    fn read<F: Fn(Input<'_>, usize, Row, &mut Cursor) -> Result<Measured, SyntaxError>>(
+        &self,
+        grammar: &Grammar<'_, F>,
+        cursor: &mut Cursor,
+    ) -> Result<Measured, SyntaxError> {
+        let lang = Lang::Typescript;
+        Pick(
+            Guard::OpensCall,
+            Make(
+                Label::CallPost,
+                TypeArgumentsIn(lang, OfRow(Row::ArgumentsRow(self.0), Done)),
+            ),
+            Pick(
+                Guard::OpensTypedTemplate,
+                Make(
+                    Label::TemplatePost,
+                    TypeArgumentsIn(lang, OfRow(Row::TemplateRow(self.0), Done)),
+                ),
+                Choose(
+                    Is(TokenKind::QuestionDot),
+                    OptionalPost(lang, self.0),
+                    MemberPost(lang, self.0),
+                ),
             ),
         )
         .read(grammar, cursor)
@@ -303,7 +400,6 @@ impl ReadsRule for Post {
 #[derive(Clone, Copy)]
 pub struct Chain(pub Lang, pub Context);
 
-// TYPESCRIPT: chain
 impl ReadsRule for Chain {
     ghost rule = { λ s. chain s.0 s.1 };
 
@@ -313,17 +409,17 @@ impl ReadsRule for Chain {
         grammar: &Grammar<'_, F>,
         cursor: &mut Cursor,
     ) -> Result<Measured, SyntaxError> {
+        let told = match self.0 {
+            Lang::Es => Taken(Ahead::BeginsPost),
+            Lang::Typescript => Guarded(Guard::OpensPost),
+        };
         Wrap(
             Label::Chain,
             Base(self.0, self.1),
-            Taken(Ahead::BeginsPost),
+            told,
             OfRow(
                 Row::PostRow(self.1),
-                Many(
-                    Taken(Ahead::BeginsPost),
-                    OfRow(Row::PostRow(self.1), Done),
-                    Done,
-                ),
+                Many(told, OfRow(Row::PostRow(self.1), Done), Done),
             ),
         )
         .read(grammar, cursor)
@@ -346,11 +442,11 @@ impl ReadsRule for Callee {
         Wrap(
             Label::Chain,
             Base(self.0, self.1),
-            Taken(Ahead::BeginsMember),
+            Taken(Ahead::BeginsCalleePost(self.0)),
             OfRow(
                 Row::MemberPostRow(self.1),
                 Many(
-                    Taken(Ahead::BeginsMember),
+                    Taken(Ahead::BeginsCalleePost(self.0)),
                     OfRow(Row::MemberPostRow(self.1), Done),
                     Done,
                 ),

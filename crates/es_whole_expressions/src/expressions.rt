@@ -33,7 +33,7 @@ impl ReadsRule for Yield {
             Punct(
                 TokenKind::YieldWord,
                 Opt(
-                    Taken(Ahead::Operand),
+                    Taken(Ahead::Operand(self.0)),
                     When(
                         Ahead::Near,
                         Opt(
@@ -65,12 +65,14 @@ impl ReadsRule for Assignment {
     ) -> Result<Measured, SyntaxError> {
         let outside = Context {
             no_in: false,
+            no_colon: false,
+            in_constructor: false,
             ..self.1
         };
         Pick(
-            Guard::OpensArrow,
+            Guard::OpensAnyArrow(self.0, self.1),
             Pick(
-                Guard::OpensAsyncArrow,
+                Guard::OpensAsyncHere(self.0, self.1),
                 AsyncArrow(self.0, self.1),
                 PlainArrow(self.0, self.1),
             ),
@@ -164,6 +166,8 @@ impl ReadsRule for Element {
     ) -> Result<Measured, SyntaxError> {
         let outside = Context {
             no_in: false,
+            no_colon: false,
+            in_constructor: false,
             ..self.1
         };
         Choose(

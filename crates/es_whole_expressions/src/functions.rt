@@ -1,15 +1,18 @@
 //! Functions and classes.
 
-ghost use Rattle.es_whole_grammar.specs.Expressions.{star_in, name_in, function, async_function, any_function, class_};
+ghost use Rattle.es_whole_grammar.specs.Expressions.{star_in, name_in, body_in, function, async_function, any_function, class_form, class_, abstract_class, any_class};
+ghost use Rattle.es_grammar.specs.Modules.{ended};
+ghost use Rattle.es_whole_grammar.specs.Embedding.{plain_form};
 
+use crate::typed::{HeritageIn, ImplementsIn, TypeParametersIn};
 use es_token::TokenKind;
 use es_tree::{Lang, SyntaxError};
 use es_whole_grammar::{Context, Label, Row};
 use es_whole_reader::Ahead::{Has, Is, Other};
 use es_whole_reader::Told::{Hint, Taken};
 use es_whole_reader::{
-    Ahead, Choose, Cursor, Done, Grammar, Input, Kinds, Make, Many, Measured, OfRow, Opt, Parts,
-    Punct, ReadsForm, ReadsRule, Sort, Tok, When,
+    Ahead, Alt, Choose, Cursor, Done, Grammar, Input, Kinds, Make, Many, Measured, OfRow, Opt,
+    Parts, Punct, ReadsForm, ReadsRule, Sort, Tok, When,
 };
 
 /// '*'?, and what stands behind it
@@ -62,7 +65,60 @@ impl<N: ReadsForm + Copy> ReadsForm for NameIn<N> {
     }
 }
 
-/// 'function' '*'? Name? Sig Block
+/// Block | TS END
+#[derive(Clone, Copy)]
+pub struct BodyIn(pub Lang, pub Context);
+
+impl ReadsForm for BodyIn {
+    ghost form = { λ s. body_in s.0 s.1 };
+
+    #[tactic(auto, unfolding(es_whole_grammar::specs::Expressions::body_in))]
+    fn read<F: Fn(Input<'_>, usize, Row, &mut Cursor) -> Result<Measured, SyntaxError>>(
+        &self,
+        grammar: &Grammar<'_, F>,
+        cursor: &mut Cursor,
+        parts: &mut Parts,
+    ) -> Result<(), SyntaxError> {
+        match self.0 {
+            Lang::Es => OfRow(Row::BlockRow(self.1), Done).read(grammar, cursor, parts),
+            Lang::Typescript => Alt(
+                Is(TokenKind::OpenBrace),
+                OfRow(Row::BlockRow(self.1), Done),
+                When(Other(TokenKind::OpenBrace), Ended),
+                Done,
+            )
+            .read(grammar, cursor, parts),
+        }
+    }
+}
+
+/// END: a `;`, which is taken; or before `}` or the end; or before a token on a new line.
+#[derive(Clone, Copy)]
+pub struct Ended;
+
+impl ReadsForm for Ended {
+    ghost form = { λ s. plain_form ended };
+
+    #[tactic(auto, unfolding(es_grammar::specs::Modules::ended))]
+    fn read<F: Fn(Input<'_>, usize, Row, &mut Cursor) -> Result<Measured, SyntaxError>>(
+        &self,
+        grammar: &Grammar<'_, F>,
+        cursor: &mut Cursor,
+        parts: &mut Parts,
+    ) -> Result<(), SyntaxError> {
+        When(
+            Ahead::MayEnd,
+            Opt(
+                Taken(Is(TokenKind::Semicolon)),
+                Punct(TokenKind::Semicolon, Done),
+                Done,
+            ),
+        )
+        .read(grammar, cursor, parts)
+    }
+}
+
+/// 'function' '*'? Name? Sig (Block | TS END)
 #[derive(Clone, Copy)]
 pub struct Function(pub Lang, pub bool, pub Context);
 
@@ -77,6 +133,8 @@ impl ReadsRule for Function {
     ) -> Result<Measured, SyntaxError> {
         let outside = Context {
             no_in: false,
+            no_colon: false,
+            in_constructor: false,
             ..self.2
         };
         Make(
@@ -85,10 +143,7 @@ impl ReadsRule for Function {
                 TokenKind::FunctionWord,
                 StarIn(NameIn(
                     self.1,
-                    OfRow(
-                        Row::SignatureRow(outside),
-                        OfRow(Row::BlockRow(outside), Done),
-                    ),
+                    OfRow(Row::SignatureRow(outside), BodyIn(self.0, outside)),
                 )),
             ),
         )
@@ -111,6 +166,8 @@ impl ReadsRule for AsyncFunction {
     ) -> Result<Measured, SyntaxError> {
         let async_in = Context {
             no_in: false,
+            no_colon: false,
+            in_constructor: false,
             in_async: true,
             ..self.2
         };
@@ -124,10 +181,7 @@ impl ReadsRule for AsyncFunction {
                         TokenKind::FunctionWord,
                         StarIn(NameIn(
                             self.1,
-                            OfRow(
-                                Row::SignatureRow(async_in),
-                                OfRow(Row::BlockRow(async_in), Done),
-                            ),
+                            OfRow(Row::SignatureRow(async_in), BodyIn(self.0, async_in)),
                         )),
                     ),
                 ),
@@ -159,7 +213,54 @@ impl ReadsRule for AnyFunction {
     }
 }
 
-/// 'class' Name? ('extends' Chain)? '{' Member* '}'
+/// 'class' Name? (TS TParams)? ('extends' Chain (TS TArgs)?)? (TS 'implements' Ref%+)? '{' Member* '}'
+#[derive(Clone, Copy)]
+pub struct ClassForm(pub Lang, pub bool, pub Context);
+
+impl ReadsForm for ClassForm {
+    ghost form = { λ s. class_form s.0 s.1 s.2 };
+
+    #[tactic(auto, unfolding(es_whole_grammar::specs::Expressions::class_form))]
+    fn read<F: Fn(Input<'_>, usize, Row, &mut Cursor) -> Result<Measured, SyntaxError>>(
+        &self,
+        grammar: &Grammar<'_, F>,
+        cursor: &mut Cursor,
+        parts: &mut Parts,
+    ) -> Result<(), SyntaxError> {
+        let outside = Context {
+            no_in: false,
+            no_colon: false,
+            in_constructor: false,
+            ..self.2
+        };
+        let body = Punct(
+            TokenKind::OpenBrace,
+            Many(
+                Hint(Other(TokenKind::CloseBrace)),
+                OfRow(Row::MemberRow(outside), Done),
+                Punct(TokenKind::CloseBrace, Done),
+            ),
+        );
+        let superclass = OfRow(Row::ChainRow(outside), HeritageIn(self.0, Done));
+        Punct(
+            TokenKind::ClassWord,
+            NameIn(
+                self.1,
+                TypeParametersIn(
+                    self.0,
+                    Opt(
+                        Taken(Is(TokenKind::ExtendsWord)),
+                        Punct(TokenKind::ExtendsWord, superclass),
+                        ImplementsIn(self.0, body),
+                    ),
+                ),
+            ),
+        )
+        .read(grammar, cursor, parts)
+    }
+}
+
+/// Class, without `abstract`.
 #[derive(Clone, Copy)]
 pub struct Class(pub Lang, pub bool, pub Context);
 
@@ -172,31 +273,55 @@ impl ReadsRule for Class {
         grammar: &Grammar<'_, F>,
         cursor: &mut Cursor,
     ) -> Result<Measured, SyntaxError> {
-        let outside = Context {
-            no_in: false,
-            ..self.2
-        };
+        Make(Label::Class, ClassForm(self.0, self.1, self.2)).read(grammar, cursor)
+    }
+}
+
+/// TS 'abstract' 'class' ..
+#[derive(Clone, Copy)]
+pub struct AbstractClass(pub bool, pub Context);
+
+impl ReadsRule for AbstractClass {
+    ghost rule = { λ s. abstract_class s.0 s.1 };
+
+    #[tactic(auto, unfolding(es_whole_grammar::specs::Expressions::abstract_class))]
+    fn read<F: Fn(Input<'_>, usize, Row, &mut Cursor) -> Result<Measured, SyntaxError>>(
+        &self,
+        grammar: &Grammar<'_, F>,
+        cursor: &mut Cursor,
+    ) -> Result<Measured, SyntaxError> {
         Make(
-            Label::Class,
+            Label::AbstractClass,
             Punct(
-                TokenKind::ClassWord,
-                NameIn(
-                    self.1,
-                    Opt(
-                        Taken(Is(TokenKind::ExtendsWord)),
-                        Punct(TokenKind::ExtendsWord, OfRow(Row::ChainRow(outside), Done)),
-                        Punct(
-                            TokenKind::OpenBrace,
-                            Many(
-                                Hint(Other(TokenKind::CloseBrace)),
-                                OfRow(Row::MemberRow(outside), Done),
-                                Punct(TokenKind::CloseBrace, Done),
-                            ),
-                        ),
-                    ),
-                ),
+                TokenKind::AbstractWord,
+                ClassForm(Lang::Typescript, self.0, self.1),
             ),
         )
         .read(grammar, cursor)
+    }
+}
+
+/// Class
+#[derive(Clone, Copy)]
+pub struct AnyClass(pub Lang, pub bool, pub Context);
+
+impl ReadsRule for AnyClass {
+    ghost rule = { λ s. any_class s.0 s.1 s.2 };
+
+    #[tactic(auto, unfolding(es_whole_grammar::specs::Expressions::any_class))]
+    fn read<F: Fn(Input<'_>, usize, Row, &mut Cursor) -> Result<Measured, SyntaxError>>(
+        &self,
+        grammar: &Grammar<'_, F>,
+        cursor: &mut Cursor,
+    ) -> Result<Measured, SyntaxError> {
+        match self.0 {
+            Lang::Es => Class(Lang::Es, self.1, self.2).read(grammar, cursor),
+            Lang::Typescript => Choose(
+                Is(TokenKind::AbstractWord),
+                AbstractClass(self.1, self.2),
+                Class(Lang::Typescript, self.1, self.2),
+            )
+            .read(grammar, cursor),
+        }
     }
 }

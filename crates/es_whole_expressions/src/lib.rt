@@ -7,15 +7,23 @@ mod expressions;
 mod functions;
 mod operators;
 mod primary;
+mod typed;
 
 pub use arrows::{ArrowIn, AsyncArrow, PlainArrow};
 pub use chains::{
     Arguments, Base, Callee, Chain, ImportCall, ImportMeta, MemberPost, OptionalPost, Post,
 };
 pub use expressions::{Assignment, Element, Expression, Yield};
-pub use functions::{AnyFunction, AsyncFunction, Class, Function, NameIn, StarIn};
+pub use functions::{
+    AbstractClass, AnyClass, AnyFunction, AsyncFunction, BodyIn, Class, ClassForm, Ended, Function,
+    NameIn, StarIn,
+};
 pub use operators::{
     And, Await, Binary, BitAnd, BitOr, BitXor, Coalesce, Conditional, Equality, Level, Power,
     Prefix, PrivateIn, Product, Relation, Shift, Sum, Unary, Update,
 };
 pub use primary::{ArrayLiteral, ObjectLiteral, Primary, Spread, Template};
+pub use typed::{
+    AnnotationIn, ArrowResultIn, Asserted, AssertedOr, CallArgumentsIn, HeritageIn, ImplementsIn,
+    ReferencesIn, ResultIn, TypeArgumentsIn, TypeParametersIn, without_colon,
+};

@@ -1,9 +1,10 @@
 //! Operators, from the tightest to the loosest.
 
-ghost use Rattle.es_whole_grammar.specs.Expressions.{update, prefix, await_, unary, power, level, product, sum, shift, private_in, relation, equality, bit_and, bit_xor, bit_or, and_, coalesce, binary, conditional};
+ghost use Rattle.es_whole_grammar.specs.Expressions.{update, prefix, await_, unary, power, level, product, sum, shift, private_in, comparison_in, relation, equality, bit_and, bit_xor, bit_or, and_, coalesce, binary, conditional};
 ghost use Rattle.es_whole_guards.specs.Named.{kinds_of};
 
 use crate::chains::Chain;
+use crate::typed::{AssertedOr, without_colon};
 use es_token::TokenKind;
 use es_tree::{Lang, SyntaxError};
 use es_whole_grammar::{Context, Label, Row};
@@ -11,7 +12,7 @@ use es_whole_reader::Ahead::{Has, Is, Other};
 use es_whole_reader::Told::{Guarded, Taken};
 use es_whole_reader::{
     Ahead, Alt, Choose, Cursor, Done, Grammar, Guard, Input, Kinds, Make, Measured, OfRow, Opt,
-    Punct, ReadsRule, Sort, Tok, When, Where, Wrap,
+    Parts, Punct, ReadsForm, ReadsRule, Sort, Tok, When, Where, Wrap,
 };
 
 /// ('++' | '--') Unary | Chain (~ ('++' | '--'))?
@@ -293,7 +294,6 @@ impl ReadsRule for PrivateIn {
 #[derive(Clone, Copy)]
 pub struct Relation(pub Lang, pub Context);
 
-// TYPESCRIPT: relation
 impl ReadsRule for Relation {
     ghost rule = { λ s. relation s.0 s.1 };
 
@@ -303,30 +303,56 @@ impl ReadsRule for Relation {
         grammar: &Grammar<'_, F>,
         cursor: &mut Cursor,
     ) -> Result<Measured, SyntaxError> {
-        Wrap(
-            Label::Binary,
-            Choose(
-                Is(TokenKind::PrivateName),
-                PrivateIn(self.1),
-                Shift(self.0, self.1),
-            ),
-            Guarded(Guard::OpensRelation(self.1)),
-            Alt(
-                Is(TokenKind::Greater),
-                Tok(
-                    Sort::Kind,
-                    Kinds::Only(TokenKind::Greater),
-                    Opt(
-                        Guarded(Guard::Joins(TokenKind::Equal)),
-                        Tok(Sort::There, Kinds::Only(TokenKind::Equal), Done),
-                        Done,
-                    ),
+        let operand = Choose(
+            Is(TokenKind::PrivateName),
+            PrivateIn(self.1),
+            Shift(self.0, self.1),
+        );
+        let told = Guarded(Guard::OpensComparison(self.0, self.1));
+        match self.0 {
+            Lang::Es => {
+                Wrap(Label::Binary, operand, told, ComparisonIn(self.1)).read(grammar, cursor)
+            }
+            Lang::Typescript => Wrap(
+                Label::Binary,
+                operand,
+                told,
+                AssertedOr(ComparisonIn(self.1)),
+            )
+            .read(grammar, cursor),
+        }
+    }
+}
+
+/// An operator of the level of `<`, and its operand.
+#[derive(Clone, Copy)]
+pub struct ComparisonIn(pub Context);
+
+impl ReadsForm for ComparisonIn {
+    ghost form = { λ s. comparison_in s.0 };
+
+    #[tactic(auto, unfolding(es_whole_grammar::specs::Expressions::comparison_in))]
+    fn read<F: Fn(Input<'_>, usize, Row, &mut Cursor) -> Result<Measured, SyntaxError>>(
+        &self,
+        grammar: &Grammar<'_, F>,
+        cursor: &mut Cursor,
+        parts: &mut Parts,
+    ) -> Result<(), SyntaxError> {
+        Alt(
+            Is(TokenKind::Greater),
+            Tok(
+                Sort::Kind,
+                Kinds::Only(TokenKind::Greater),
+                Opt(
+                    Guarded(Guard::Joins(TokenKind::Equal)),
+                    Tok(Sort::There, Kinds::Only(TokenKind::Equal), Done),
+                    Done,
                 ),
-                Tok(Sort::Kind, Kinds::Relation, Done),
-                OfRow(Row::ShiftRow(self.1), Done),
             ),
+            Tok(Sort::Kind, Kinds::Relation, Done),
+            OfRow(Row::ShiftRow(self.0), Done),
         )
-        .read(grammar, cursor)
+        .read(grammar, cursor, parts)
     }
 }
 
@@ -502,6 +528,7 @@ impl ReadsRule for Conditional {
         grammar: &Grammar<'_, F>,
         cursor: &mut Cursor,
     ) -> Result<Measured, SyntaxError> {
+        let first = without_colon(self.0, self.1);
         Wrap(
             Label::Conditional,
             Binary(self.0, self.1),
@@ -509,7 +536,7 @@ impl ReadsRule for Conditional {
             Punct(
                 TokenKind::Question,
                 OfRow(
-                    Row::AssignmentRow(self.1),
+                    Row::AssignmentRow(first),
                     Punct(
                         TokenKind::Colon,
                         OfRow(

@@ -1,8 +1,8 @@
 //! Primary expressions and templates.
 
-ghost use Rattle.es_whole_grammar.specs.Expressions.{template, spread, array_literal, object_literal, primary};
+ghost use Rattle.es_whole_grammar.specs.Expressions.{template, spread, array_literal, object_literal, name_expression, named_primary, primary};
 
-use crate::functions::{AsyncFunction, Class, Function};
+use crate::functions::{AbstractClass, AsyncFunction, Class, Function};
 use es_token::TokenKind;
 use es_tree::{Lang, SyntaxError};
 use es_whole_grammar::{Context, Label, Row};
@@ -28,6 +28,8 @@ impl ReadsRule for Template {
     ) -> Result<Measured, SyntaxError> {
         let outside = Context {
             no_in: false,
+            no_colon: false,
+            in_constructor: false,
             ..self.0
         };
         Choose(
@@ -75,6 +77,8 @@ impl ReadsRule for Spread {
     ) -> Result<Measured, SyntaxError> {
         let outside = Context {
             no_in: false,
+            no_colon: false,
+            in_constructor: false,
             ..self.0
         };
         Make(
@@ -163,6 +167,61 @@ impl ReadsRule for ObjectLiteral {
     }
 }
 
+/// A name that is no part of an arrow, a function, or an abstract class.
+#[derive(Clone, Copy)]
+pub struct NameExpression;
+
+impl ReadsRule for NameExpression {
+    ghost rule = { λ s. name_expression };
+
+    #[tactic(auto, unfolding(es_whole_grammar::specs::Expressions::name_expression))]
+    fn read<F: Fn(Input<'_>, usize, Row, &mut Cursor) -> Result<Measured, SyntaxError>>(
+        &self,
+        grammar: &Grammar<'_, F>,
+        cursor: &mut Cursor,
+    ) -> Result<Measured, SyntaxError> {
+        Make(
+            Label::Name,
+            Tok(Sort::Name, Kinds::Name, When(Ahead::NoArrow, Done)),
+        )
+        .read(grammar, cursor)
+    }
+}
+
+/// Prim that begins with a name.
+#[derive(Clone, Copy)]
+pub struct NamedPrimary(pub Lang, pub Context);
+
+impl ReadsRule for NamedPrimary {
+    ghost rule = { λ s. named_primary s.0 s.1 };
+
+    #[tactic(auto, unfolding(es_whole_grammar::specs::Expressions::named_primary))]
+    fn read<F: Fn(Input<'_>, usize, Row, &mut Cursor) -> Result<Measured, SyntaxError>>(
+        &self,
+        grammar: &Grammar<'_, F>,
+        cursor: &mut Cursor,
+    ) -> Result<Measured, SyntaxError> {
+        match self.0 {
+            Lang::Es => Pick(
+                Guard::OpensAsyncFunction,
+                AsyncFunction(Lang::Es, false, self.1),
+                NameExpression,
+            )
+            .read(grammar, cursor),
+            Lang::Typescript => Pick(
+                Guard::OpensAsyncFunction,
+                AsyncFunction(Lang::Typescript, false, self.1),
+                Pick(
+                    Guard::OpensAbstractClass,
+                    AbstractClass(false, self.1),
+                    NameExpression,
+                ),
+            )
+            .read(grammar, cursor),
+        }
+    }
+}
+
 /// Prim: what stands alone as an operand.
 #[derive(Clone, Copy)]
 pub struct Primary(pub Lang, pub Context);
@@ -178,6 +237,8 @@ impl ReadsRule for Primary {
     ) -> Result<Measured, SyntaxError> {
         let outside = Context {
             no_in: false,
+            no_colon: false,
+            in_constructor: false,
             ..self.1
         };
         Choose(
@@ -185,7 +246,7 @@ impl ReadsRule for Primary {
             Make(
                 Label::Parenthesized,
                 Where(
-                    Guard::IsNoArrowHead,
+                    Guard::OpensNoArrow(self.0, self.1),
                     Punct(
                         TokenKind::OpenParen,
                         OfRow(
@@ -209,14 +270,7 @@ impl ReadsRule for Primary {
                             Class(self.0, false, self.1),
                             Choose(
                                 Has(Kinds::Name),
-                                Pick(
-                                    Guard::OpensAsyncFunction,
-                                    AsyncFunction(self.0, false, self.1),
-                                    Make(
-                                        Label::Name,
-                                        Tok(Sort::Name, Kinds::Name, When(Ahead::NoArrow, Done)),
-                                    ),
-                                ),
+                                NamedPrimary(self.0, self.1),
                                 Choose(
                                     Has(Kinds::LiteralWord),
                                     Make(Label::Word, Tok(Sort::Kind, Kinds::LiteralWord, Done)),

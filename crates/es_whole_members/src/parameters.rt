@@ -68,6 +68,8 @@ impl ReadsRule for Parameter {
     ) -> Result<Measured, SyntaxError> {
         let outside = Context {
             no_in: false,
+            no_colon: false,
+            in_constructor: false,
             ..self.1
         };
         Wrap(

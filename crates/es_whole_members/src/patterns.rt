@@ -29,6 +29,8 @@ impl<N: ReadsForm + Copy> ReadsForm for DefaultIn<N> {
     ) -> Result<(), SyntaxError> {
         let outside = Context {
             no_in: false,
+            no_colon: false,
+            in_constructor: false,
             ..self.0
         };
         Opt(
@@ -222,6 +224,8 @@ impl ReadsRule for PatternElement {
     ) -> Result<Measured, SyntaxError> {
         let outside = Context {
             no_in: false,
+            no_colon: false,
+            in_constructor: false,
             ..self.2
         };
         Choose(

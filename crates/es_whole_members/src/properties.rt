@@ -28,6 +28,8 @@ impl ReadsRule for PlainKey {
     ) -> Result<Measured, SyntaxError> {
         let outside = Context {
             no_in: false,
+            no_colon: false,
+            in_constructor: false,
             ..self.0
         };
         Choose(
@@ -130,6 +132,8 @@ impl ReadsForm for AsyncMethodIn {
     ) -> Result<(), SyntaxError> {
         let async_in = Context {
             no_in: false,
+            no_colon: false,
+            in_constructor: false,
             in_async: true,
             ..self.1
         };
@@ -159,6 +163,8 @@ impl ReadsRule for Property {
     ) -> Result<Measured, SyntaxError> {
         let outside = Context {
             no_in: false,
+            no_colon: false,
+            in_constructor: false,
             ..self.1
         };
         Choose(

@@ -84,6 +84,8 @@ impl ReadsRule for Declarator {
     ) -> Result<Measured, SyntaxError> {
         let outside = Context {
             no_in: false,
+            no_colon: false,
+            in_constructor: false,
             ..self.1
         };
         Wrap(

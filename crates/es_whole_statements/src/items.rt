@@ -31,6 +31,8 @@ impl ReadsRule for ExportDefault {
         let in_module = Context {
             script: false,
             no_in: false,
+            no_colon: false,
+            in_constructor: false,
             in_async: false,
         };
         Pick(
@@ -89,6 +91,8 @@ impl ReadsRule for ExportItem {
         let in_module = Context {
             script: false,
             no_in: false,
+            no_colon: false,
+            in_constructor: false,
             in_async: false,
         };
         Pick(
@@ -126,6 +130,8 @@ impl ReadsRule for Item {
         let in_module = Context {
             script: false,
             no_in: false,
+            no_colon: false,
+            in_constructor: false,
             in_async: false,
         };
         Pick(
@@ -201,6 +207,8 @@ impl ReadsRule for Script {
         let in_script = Context {
             script: true,
             no_in: false,
+            no_colon: false,
+            in_constructor: false,
             in_async: false,
         };
         Make(

@@ -29,6 +29,7 @@ impl ReadsRule for Head {
     ) -> Result<Measured, SyntaxError> {
         let in_head = Context {
             no_in: true,
+            in_constructor: false,
             ..self.1
         };
         Choose(
@@ -74,6 +75,7 @@ impl<N: ReadsForm + Copy> ReadsForm for StartIn<N> {
     ) -> Result<(), SyntaxError> {
         let in_head = Context {
             no_in: true,
+            in_constructor: false,
             ..self.0
         };
         Opt(
