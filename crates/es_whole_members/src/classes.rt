@@ -1,18 +1,20 @@
 //! Members of classes.
 
-ghost use Rattle.es_whole_grammar.specs.Classes.{static_in, value_in, member};
+ghost use Rattle.es_whole_grammar.specs.Classes.{static_in, opens_modifier, head_in, marked_in, accessor_word_in, async_word_in, star_word_in, field_word_in, value_in, class_method_in, field_in, index_member, modified_member, any_member, member};
+ghost use Rattle.es_whole_grammar.specs.Functions.{modifiers_in};
+ghost use Rattle.es_whole_members.specs.Behind.{behind_of};
 
 use crate::ends::Ended;
-use crate::properties::{AsyncMethodIn, MethodIn};
+use crate::properties::MarkedHeadIn;
 use es_token::TokenKind;
 use es_tree::{Lang, SyntaxError};
-use es_whole_expressions::StarIn;
-use es_whole_grammar::{Context, Label, Row};
-use es_whole_reader::Ahead::Is;
+use es_whole_expressions::{AnnotationIn, BodyIn, StarIn};
+use es_whole_grammar::{Context, Label, Row, TypeRow};
+use es_whole_reader::Ahead::{Has, Is};
 use es_whole_reader::Told::{Guarded, Taken};
 use es_whole_reader::{
-    Choose, Cursor, Done, Grammar, Guard, Input, Kinds, Make, Measured, OfRow, Opt, Parts, Pick,
-    Punct, ReadsForm, ReadsRule, Sort, Tok, Where,
+    Choose, Cursor, Done, Grammar, Guard, Input, Kinds, Make, Many, Measured, OfRow, Opt, Parts,
+    Pick, Punct, ReadsForm, ReadsRule, Sort, Tok, Where,
 };
 
 /// 'static'?, which stands once, and what stands behind it
@@ -38,12 +40,174 @@ impl<N: ReadsForm + Copy> ReadsForm for StaticIn<N> {
     }
 }
 
-/// '=' Assign before END
+/// Mod*, each at most once, and what stands behind them.
 #[derive(Clone, Copy)]
-pub struct ValueIn<N>(pub Context, pub N);
+pub struct ModifiersIn<N>(pub N);
 
-impl<N: ReadsForm + Copy> ReadsForm for ValueIn<N> {
-    ghost form = { λ s. value_in s.0 (N.form s.1) };
+impl<N: ReadsForm + Copy> ReadsForm for ModifiersIn<N> {
+    ghost form = { λ s. modifiers_in opens_modifier (N.form s.0) };
+
+    #[tactic(auto, unfolding(es_whole_grammar::specs::Functions::modifiers_in))]
+    fn read<F: Fn(Input<'_>, usize, Row, &mut Cursor) -> Result<Measured, SyntaxError>>(
+        &self,
+        grammar: &Grammar<'_, F>,
+        cursor: &mut Cursor,
+        parts: &mut Parts,
+    ) -> Result<(), SyntaxError> {
+        Where(
+            Guard::ModifiersOnce,
+            Many(
+                Guarded(Guard::OpensModifier),
+                Tok(Sort::Kind, Kinds::Modifier, Done),
+                self.0,
+            ),
+        )
+        .read(grammar, cursor, parts)
+    }
+}
+
+/// Mod*, and what stands behind them; in JavaScript the one modifier is `static`.
+#[derive(Clone, Copy)]
+pub struct MemberHead<N>(pub Lang, pub N);
+
+impl<N: ReadsForm + Copy> ReadsForm for MemberHead<N> {
+    ghost form = { λ s. head_in s.0 (N.form s.1) };
+
+    #[tactic(auto, unfolding(es_whole_grammar::specs::Classes::head_in))]
+    fn read<F: Fn(Input<'_>, usize, Row, &mut Cursor) -> Result<Measured, SyntaxError>>(
+        &self,
+        grammar: &Grammar<'_, F>,
+        cursor: &mut Cursor,
+        parts: &mut Parts,
+    ) -> Result<(), SyntaxError> {
+        match self.0 {
+            Lang::Es => StaticIn(Where(Guard::IsPlainMember, self.1)).read(grammar, cursor, parts),
+            Lang::Typescript => {
+                ModifiersIn(Where(Guard::IsMemberKey, self.1)).read(grammar, cursor, parts)
+            }
+        }
+    }
+}
+
+/// Mod* ('get' | 'set'), and what stands behind it; in JavaScript the one modifier is `static`.
+#[derive(Clone, Copy)]
+pub struct AccessorHead<N>(pub Lang, pub N);
+
+impl<N: ReadsForm + Copy> ReadsForm for AccessorHead<N> {
+    ghost form = { λ s. marked_in s.0 accessor_word_in (N.form s.1) };
+
+    #[tactic(auto, unfolding(es_whole_grammar::specs::Classes::marked_in))]
+    fn read<F: Fn(Input<'_>, usize, Row, &mut Cursor) -> Result<Measured, SyntaxError>>(
+        &self,
+        grammar: &Grammar<'_, F>,
+        cursor: &mut Cursor,
+        parts: &mut Parts,
+    ) -> Result<(), SyntaxError> {
+        match self.0 {
+            Lang::Es => StaticIn(Tok(
+                Sort::Kind,
+                Kinds::AccessorWord,
+                Where(Guard::IsPlainMember, self.1),
+            ))
+            .read(grammar, cursor, parts),
+            Lang::Typescript => ModifiersIn(Tok(
+                Sort::Kind,
+                Kinds::AccessorWord,
+                Where(Guard::IsMemberKey, self.1),
+            ))
+            .read(grammar, cursor, parts),
+        }
+    }
+}
+
+/// Mod* 'async' '*'?, and what stands behind it; in JavaScript the one modifier is `static`.
+#[derive(Clone, Copy)]
+pub struct AsyncHead<N>(pub Lang, pub N);
+
+impl<N: ReadsForm + Copy> ReadsForm for AsyncHead<N> {
+    ghost form = { λ s. marked_in s.0 async_word_in (N.form s.1) };
+
+    #[tactic(auto, unfolding(es_whole_grammar::specs::Classes::marked_in))]
+    fn read<F: Fn(Input<'_>, usize, Row, &mut Cursor) -> Result<Measured, SyntaxError>>(
+        &self,
+        grammar: &Grammar<'_, F>,
+        cursor: &mut Cursor,
+        parts: &mut Parts,
+    ) -> Result<(), SyntaxError> {
+        match self.0 {
+            Lang::Es => StaticIn(Punct(
+                TokenKind::AsyncWord,
+                StarIn(Where(Guard::IsPlainMember, self.1)),
+            ))
+            .read(grammar, cursor, parts),
+            Lang::Typescript => ModifiersIn(Punct(
+                TokenKind::AsyncWord,
+                StarIn(Where(Guard::IsMemberKey, self.1)),
+            ))
+            .read(grammar, cursor, parts),
+        }
+    }
+}
+
+/// Mod* '*', and what stands behind it; in JavaScript the one modifier is `static`.
+#[derive(Clone, Copy)]
+pub struct StarHead<N>(pub Lang, pub N);
+
+impl<N: ReadsForm + Copy> ReadsForm for StarHead<N> {
+    ghost form = { λ s. marked_in s.0 star_word_in (N.form s.1) };
+
+    #[tactic(auto, unfolding(es_whole_grammar::specs::Classes::marked_in))]
+    fn read<F: Fn(Input<'_>, usize, Row, &mut Cursor) -> Result<Measured, SyntaxError>>(
+        &self,
+        grammar: &Grammar<'_, F>,
+        cursor: &mut Cursor,
+        parts: &mut Parts,
+    ) -> Result<(), SyntaxError> {
+        match self.0 {
+            Lang::Es => StaticIn(Punct(TokenKind::Star, Where(Guard::IsPlainMember, self.1))).read(
+                grammar, cursor, parts,
+            ),
+            Lang::Typescript => ModifiersIn(Punct(
+                TokenKind::Star,
+                Where(Guard::IsMemberKey, self.1),
+            )).read(grammar, cursor, parts),
+        }
+    }
+}
+
+/// Mod* 'accessor', and what stands behind it; in JavaScript the one modifier is `static`.
+#[derive(Clone, Copy)]
+pub struct FieldHead<N>(pub Lang, pub N);
+
+impl<N: ReadsForm + Copy> ReadsForm for FieldHead<N> {
+    ghost form = { λ s. marked_in s.0 field_word_in (N.form s.1) };
+
+    #[tactic(auto, unfolding(es_whole_grammar::specs::Classes::marked_in))]
+    fn read<F: Fn(Input<'_>, usize, Row, &mut Cursor) -> Result<Measured, SyntaxError>>(
+        &self,
+        grammar: &Grammar<'_, F>,
+        cursor: &mut Cursor,
+        parts: &mut Parts,
+    ) -> Result<(), SyntaxError> {
+        match self.0 {
+            Lang::Es => StaticIn(Punct(
+                TokenKind::AccessorWord,
+                Where(Guard::IsPlainMember, self.1),
+            )).read(grammar, cursor, parts),
+            Lang::Typescript => ModifiersIn(Punct(
+                TokenKind::AccessorWord,
+                Where(Guard::IsMemberKey, self.1),
+            )).read(grammar, cursor, parts),
+        }
+    }
+}
+
+/// ('=' Assign)? END
+#[derive(Clone, Copy)]
+pub struct ValueIn(pub Context);
+
+impl ReadsForm for ValueIn {
+    ghost form = { λ s. value_in s.0 };
 
     #[tactic(auto, unfolding(es_whole_grammar::specs::Classes::value_in))]
     fn read<F: Fn(Input<'_>, usize, Row, &mut Cursor) -> Result<Measured, SyntaxError>>(
@@ -61,9 +225,195 @@ impl<N: ReadsForm + Copy> ReadsForm for ValueIn<N> {
                     Where(Guard::EndsExpression, Done),
                 ),
             ),
-            self.1,
+            Ended,
         )
         .read(grammar, cursor, parts)
+    }
+}
+
+/// Key (TS '?')? Sig (Block | TS END), the key in one place, signature and body in another.
+#[derive(Clone, Copy)]
+pub struct ClassMethodIn(pub Lang, pub Context, pub Context);
+
+impl ReadsForm for ClassMethodIn {
+    ghost form = { λ s. class_method_in s.0 s.1 s.2 };
+
+    #[tactic(auto, unfolding(es_whole_grammar::specs::Classes::class_method_in))]
+    fn read<F: Fn(Input<'_>, usize, Row, &mut Cursor) -> Result<Measured, SyntaxError>>(
+        &self,
+        grammar: &Grammar<'_, F>,
+        cursor: &mut Cursor,
+        parts: &mut Parts,
+    ) -> Result<(), SyntaxError> {
+        let body = BodyIn(self.0, self.2);
+        match self.0 {
+            Lang::Es => OfRow(
+                Row::KeyRow(true, self.1),
+                OfRow(Row::SignatureRow(self.2), body),
+            )
+            .read(grammar, cursor, parts),
+            Lang::Typescript => {
+                MarkedHeadIn(true, self.1, self.2, body).read(grammar, cursor, parts)
+            }
+        }
+    }
+}
+
+/// Key (TS '?' | TS '!')? (TS ':' Type)? ('=' Assign)? END
+#[derive(Clone, Copy)]
+pub struct FieldIn(pub Lang, pub Context);
+
+impl ReadsForm for FieldIn {
+    ghost form = { λ s. field_in s.0 s.1 };
+
+    #[tactic(auto, unfolding(es_whole_grammar::specs::Classes::field_in))]
+    fn read<F: Fn(Input<'_>, usize, Row, &mut Cursor) -> Result<Measured, SyntaxError>>(
+        &self,
+        grammar: &Grammar<'_, F>,
+        cursor: &mut Cursor,
+        parts: &mut Parts,
+    ) -> Result<(), SyntaxError> {
+        match self.0 {
+            Lang::Es => {
+                OfRow(Row::KeyRow(true, self.1), ValueIn(self.1)).read(grammar, cursor, parts)
+            }
+            Lang::Typescript => OfRow(
+                Row::KeyRow(true, self.1),
+                Opt(
+                    Taken(Has(Kinds::FieldMark)),
+                    Tok(Sort::Kind, Kinds::FieldMark, Done),
+                    AnnotationIn(Lang::Typescript, ValueIn(self.1)),
+                ),
+            )
+            .read(grammar, cursor, parts),
+        }
+    }
+}
+
+/// Mod* '[' Name ':' Type ']' (':' Type)? END
+#[derive(Clone, Copy)]
+pub struct IndexMember;
+
+impl ReadsRule for IndexMember {
+    ghost rule = { λ _. index_member };
+
+    #[tactic(auto, unfolding(es_whole_grammar::specs::Classes::index_member))]
+    fn read<F: Fn(Input<'_>, usize, Row, &mut Cursor) -> Result<Measured, SyntaxError>>(
+        &self,
+        grammar: &Grammar<'_, F>,
+        cursor: &mut Cursor,
+    ) -> Result<Measured, SyntaxError> {
+        Make(
+            Label::IndexMember,
+            ModifiersIn(Punct(
+                TokenKind::OpenBracket,
+                Tok(
+                    Sort::Name,
+                    Kinds::Name,
+                    Punct(
+                        TokenKind::Colon,
+                        OfRow(
+                            Row::TypesRow(TypeRow::TypeRow(true)),
+                            Punct(
+                                TokenKind::CloseBracket,
+                                AnnotationIn(Lang::Typescript, Ended),
+                            ),
+                        ),
+                    ),
+                ),
+            )),
+        )
+        .read(grammar, cursor)
+    }
+}
+
+/// The guards behind the modifiers, by the language.
+fn behind(lang: Lang, plain: Guard, typed: Guard) -> Guard
+    ensures { result ≡ behind_of lang plain typed }
+{
+    match lang {
+        Lang::Es => plain,
+        Lang::Typescript => typed,
+    }
+}
+
+/// Member, with its modifiers: a method or a field.
+#[derive(Clone, Copy)]
+pub struct ModifiedMember(pub Lang, pub Context);
+
+impl ReadsRule for ModifiedMember {
+    ghost rule = { λ s. modified_member s.0 s.1 };
+
+    #[tactic(auto, unfolding(es_whole_grammar::specs::Classes::modified_member))]
+    fn read<F: Fn(Input<'_>, usize, Row, &mut Cursor) -> Result<Measured, SyntaxError>>(
+        &self,
+        grammar: &Grammar<'_, F>,
+        cursor: &mut Cursor,
+    ) -> Result<Measured, SyntaxError> {
+        let async_in = Context {
+            no_in: false,
+            no_colon: false,
+            in_constructor: false,
+            in_async: true,
+            ..self.1
+        };
+        let lang = self.0;
+        let method = ClassMethodIn(lang, self.1, self.1);
+        let field = FieldIn(lang, self.1);
+        Pick(
+            behind(lang, Guard::BehindStaticAccessor, Guard::BehindAllAccessor),
+            Make(Label::AccessorMember, AccessorHead(lang, method)),
+            Pick(
+                behind(lang, Guard::BehindStaticAsync, Guard::BehindAllAsync),
+                Make(
+                    Label::AsyncMember,
+                    AsyncHead(lang, ClassMethodIn(lang, self.1, async_in)),
+                ),
+                Pick(
+                    behind(lang, Guard::BehindStaticStar, Guard::BehindAllStar),
+                    Make(Label::GeneratorMember, StarHead(lang, method)),
+                    Pick(
+                        behind(
+                            lang,
+                            Guard::BehindStaticFieldAccessor,
+                            Guard::BehindAllFieldAccessor,
+                        ),
+                        Make(Label::AccessorField, FieldHead(lang, field)),
+                        Pick(
+                            behind(lang, Guard::BehindStaticMethod, Guard::BehindAllMethod),
+                            Make(Label::MethodMember, MemberHead(lang, method)),
+                            Make(Label::FieldMember, MemberHead(lang, field)),
+                        ),
+                    ),
+                ),
+            ),
+        )
+        .read(grammar, cursor)
+    }
+}
+
+/// In TypeScript also an index signature.
+#[derive(Clone, Copy)]
+pub struct AnyMember(pub Lang, pub Context);
+
+impl ReadsRule for AnyMember {
+    ghost rule = { λ s. any_member s.0 s.1 };
+
+    #[tactic(auto, unfolding(es_whole_grammar::specs::Classes::any_member))]
+    fn read<F: Fn(Input<'_>, usize, Row, &mut Cursor) -> Result<Measured, SyntaxError>>(
+        &self,
+        grammar: &Grammar<'_, F>,
+        cursor: &mut Cursor,
+    ) -> Result<Measured, SyntaxError> {
+        match self.0 {
+            Lang::Es => ModifiedMember(Lang::Es, self.1).read(grammar, cursor),
+            Lang::Typescript => Pick(
+                Guard::BehindAllIndex,
+                IndexMember,
+                ModifiedMember(Lang::Typescript, self.1),
+            )
+            .read(grammar, cursor),
+        }
     }
 }
 
@@ -89,73 +439,7 @@ impl ReadsRule for Member {
                     Label::StaticBlock,
                     Punct(TokenKind::StaticWord, OfRow(Row::BlockRow(self.1), Done)),
                 ),
-                Pick(
-                    Guard::BehindStaticAccessor,
-                    Make(
-                        Label::AccessorMember,
-                        StaticIn(Tok(
-                            Sort::Kind,
-                            Kinds::AccessorWord,
-                            Where(Guard::IsPlainMember, MethodIn(self.0, true, self.1)),
-                        )),
-                    ),
-                    Pick(
-                        Guard::BehindStaticAsync,
-                        Make(
-                            Label::AsyncMember,
-                            StaticIn(Punct(
-                                TokenKind::AsyncWord,
-                                StarIn(Where(Guard::IsPlainMember, AsyncMethodIn(true, self.1))),
-                            )),
-                        ),
-                        Pick(
-                            Guard::BehindStaticStar,
-                            Make(
-                                Label::GeneratorMember,
-                                StaticIn(Punct(
-                                    TokenKind::Star,
-                                    Where(Guard::IsPlainMember, MethodIn(self.0, true, self.1)),
-                                )),
-                            ),
-                            Pick(
-                                Guard::BehindStaticFieldAccessor,
-                                Make(
-                                    Label::AccessorField,
-                                    StaticIn(Punct(
-                                        TokenKind::AccessorWord,
-                                        Where(
-                                            Guard::IsPlainMember,
-                                            OfRow(
-                                                Row::KeyRow(true, self.1),
-                                                ValueIn(self.1, Ended),
-                                            ),
-                                        ),
-                                    )),
-                                ),
-                                Pick(
-                                    Guard::BehindStaticMethod,
-                                    Make(
-                                        Label::MethodMember,
-                                        StaticIn(Where(
-                                            Guard::IsPlainMember,
-                                            MethodIn(self.0, true, self.1),
-                                        )),
-                                    ),
-                                    Make(
-                                        Label::FieldMember,
-                                        StaticIn(Where(
-                                            Guard::IsPlainMember,
-                                            OfRow(
-                                                Row::KeyRow(true, self.1),
-                                                ValueIn(self.1, Ended),
-                                            ),
-                                        )),
-                                    ),
-                                ),
-                            ),
-                        ),
-                    ),
-                ),
+                AnyMember(self.0, self.1),
             ),
         )
         .read(grammar, cursor)

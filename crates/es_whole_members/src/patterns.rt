@@ -1,7 +1,11 @@
 //! Patterns.
 
+ghost use Rattle.es_whole_grammar.specs.Expressions.{no_form};
 ghost use Rattle.es_whole_grammar.specs.Functions.{default_in, array_pattern, object_pattern, target, bracket_pattern, inner_pattern, pattern, pattern_element, pattern_property};
 
+use es_token::TokenKind;
+use es_tree::{Lang, SyntaxError};
+use es_whole_expressions::{AssertedOr, Chain};
 use es_whole_grammar::{Context, Label, Row};
 use es_whole_reader::Ahead::{Has, Is, Other};
 use es_whole_reader::Told::{Hint, Taken};
@@ -9,9 +13,6 @@ use es_whole_reader::{
     Alt, As, Choose, Cursor, Done, Grammar, Guard, Input, Kinds, Make, Many, Measured, OfRow, Opt,
     Parts, Pick, Punct, ReadsForm, ReadsRule, Sort, Tok, When, Wrap,
 };
-use es_whole_expressions::Chain;
-use es_token::TokenKind;
-use es_tree::{Lang, SyntaxError};
 
 /// ('=' Assign)?, and what stands behind it
 #[derive(Clone, Copy)]
@@ -117,8 +118,25 @@ impl ReadsRule for ObjectPattern {
     }
 }
 
-/// A s// TYPESCRIPT: target
-imple target.
+/// No form.
+#[derive(Clone, Copy)]
+pub struct NoForm;
+
+impl ReadsForm for NoForm {
+    ghost form = { λ _. no_form };
+
+    #[tactic(auto, unfolding(es_whole_grammar::specs::Expressions::no_form))]
+    fn read<F: Fn(Input<'_>, usize, Row, &mut Cursor) -> Result<Measured, SyntaxError>>(
+        &self,
+        grammar: &Grammar<'_, F>,
+        cursor: &mut Cursor,
+        parts: &mut Parts,
+    ) -> Result<(), SyntaxError> {
+        Err(SyntaxError::Syntax { token: cursor.at })
+    }
+}
+
+/// A simple target: a chain, in TypeScript with `as` and `satisfies` behind it.
 #[derive(Clone, Copy)]
 pub struct Target(pub Lang, pub Context);
 
@@ -131,7 +149,19 @@ impl ReadsRule for Target {
         grammar: &Grammar<'_, F>,
         cursor: &mut Cursor,
     ) -> Result<Measured, SyntaxError> {
-        As(Label::Target, Chain(self.0, self.1)).read(grammar, cursor)
+        match self.0 {
+            Lang::Es => As(Label::Target, Chain(Lang::Es, self.1)).read(grammar, cursor),
+            Lang::Typescript => As(
+                Label::Target,
+                Wrap(
+                    Label::Binary,
+                    Chain(Lang::Typescript, self.1),
+                    Taken(Ahead::Assertion),
+                    AssertedOr(NoForm),
+                ),
+            )
+            .read(grammar, cursor),
+        }
     }
 }
 

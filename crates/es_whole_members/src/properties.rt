@@ -1,6 +1,6 @@
 //! Keys, and properties of objects.
 
-ghost use Rattle.es_whole_grammar.specs.Functions.{plain_key, key, method_in, property};
+ghost use Rattle.es_whole_grammar.specs.Functions.{plain_key, key, typed_head_in, unmarked, mark_in, method_in, property};
 ghost use Rattle.es_grammar.specs.Functions.{async_method_in};
 
 use es_token::TokenKind;
@@ -90,11 +90,94 @@ impl ReadsRule for Key {
     }
 }
 
-/// Key Sig Block, in this place.
+/// A key and its signature; behind the key `constructor` the parameters are those of a constructor.
 #[derive(Clone, Copy)]
-pub struct MethodIn(pub Lang, pub bool, pub Context);
+pub struct HeadIn<N>(pub bool, pub Context, pub Context, pub N);
 
-// TYPESCRIPT: method_in
+impl<N: ReadsForm + Copy> ReadsForm for HeadIn<N> {
+    ghost form = { λ s. typed_head_in s.0 s.1 s.2 unmarked (N.form s.3) };
+
+    #[tactic(auto, unfolding(es_whole_grammar::specs::Functions::typed_head_in))]
+    fn read<F: Fn(Input<'_>, usize, Row, &mut Cursor) -> Result<Measured, SyntaxError>>(
+        &self,
+        grammar: &Grammar<'_, F>,
+        cursor: &mut Cursor,
+        parts: &mut Parts,
+    ) -> Result<(), SyntaxError> {
+        let constructing = Context {
+            no_in: false,
+            no_colon: false,
+            in_constructor: true,
+            ..self.2
+        };
+        Alt(
+            Is(TokenKind::ConstructorWord),
+            When(
+                Is(TokenKind::ConstructorWord),
+                OfRow(
+                    Row::KeyRow(self.0, self.1),
+                    OfRow(Row::SignatureRow(constructing), Done),
+                ),
+            ),
+            When(
+                Other(TokenKind::ConstructorWord),
+                OfRow(
+                    Row::KeyRow(self.0, self.1),
+                    OfRow(Row::SignatureRow(self.2), Done),
+                ),
+            ),
+            self.3,
+        )
+        .read(grammar, cursor, parts)
+    }
+}
+
+/// The same with '?' behind the key.
+#[derive(Clone, Copy)]
+pub struct MarkedHeadIn<N>(pub bool, pub Context, pub Context, pub N);
+
+impl<N: ReadsForm + Copy> ReadsForm for MarkedHeadIn<N> {
+    ghost form = { λ s. typed_head_in s.0 s.1 s.2 mark_in (N.form s.3) };
+
+    #[tactic(auto, unfolding(es_whole_grammar::specs::Functions::typed_head_in))]
+    fn read<F: Fn(Input<'_>, usize, Row, &mut Cursor) -> Result<Measured, SyntaxError>>(
+        &self,
+        grammar: &Grammar<'_, F>,
+        cursor: &mut Cursor,
+        parts: &mut Parts,
+    ) -> Result<(), SyntaxError> {
+        let constructing = Context {
+            no_in: false,
+            no_colon: false,
+            in_constructor: true,
+            ..self.2
+        };
+        Alt(
+            Is(TokenKind::ConstructorWord),
+            When(
+                Is(TokenKind::ConstructorWord),
+                OfRow(
+                    Row::KeyRow(self.0, self.1),
+                    MarkIn(OfRow(Row::SignatureRow(constructing), Done)),
+                ),
+            ),
+            When(
+                Other(TokenKind::ConstructorWord),
+                OfRow(
+                    Row::KeyRow(self.0, self.1),
+                    MarkIn(OfRow(Row::SignatureRow(self.2), Done)),
+                ),
+            ),
+            self.3,
+        )
+        .read(grammar, cursor, parts)
+    }
+}
+
+/// Key Sig Block of a property, the key in one place, signature and body in another.
+#[derive(Clone, Copy)]
+pub struct MethodIn(pub Lang, pub Context, pub Context);
+
 impl ReadsForm for MethodIn {
     ghost form = { λ s. method_in s.0 s.1 s.2 };
 
@@ -105,46 +188,15 @@ impl ReadsForm for MethodIn {
         cursor: &mut Cursor,
         parts: &mut Parts,
     ) -> Result<(), SyntaxError> {
-        OfRow(
-            Row::KeyRow(self.1, self.2),
-            OfRow(
-                Row::SignatureRow(self.2),
-                OfRow(Row::BlockRow(self.2), Done),
-            ),
-        )
-        .read(grammar, cursor, parts)
-    }
-}
-
-/// Key Sig Block of an async function, whose key is read outside of it.
-#[derive(Clone, Copy)]
-pub struct AsyncMethodIn(pub bool, pub Context);
-
-impl ReadsForm for AsyncMethodIn {
-    ghost form = { λ s. async_method_in s.0 s.1 };
-
-    #[tactic(auto, unfolding(es_grammar::specs::Functions::async_method_in))]
-    fn read<F: Fn(Input<'_>, usize, Row, &mut Cursor) -> Result<Measured, SyntaxError>>(
-        &self,
-        grammar: &Grammar<'_, F>,
-        cursor: &mut Cursor,
-        parts: &mut Parts,
-    ) -> Result<(), SyntaxError> {
-        let async_in = Context {
-            no_in: false,
-            no_colon: false,
-            in_constructor: false,
-            in_async: true,
-            ..self.1
-        };
-        OfRow(
-            Row::KeyRow(self.0, self.1),
-            OfRow(
-                Row::SignatureRow(async_in),
-                OfRow(Row::BlockRow(async_in), Done),
-            ),
-        )
-        .read(grammar, cursor, parts)
+        let body = OfRow(Row::BlockRow(self.2), Done);
+        match self.0 {
+            Lang::Es => OfRow(
+                Row::KeyRow(false, self.1),
+                OfRow(Row::SignatureRow(self.2), body),
+            )
+            .read(grammar, cursor, parts),
+            Lang::Typescript => { HeadIn(false, self.1, self.2, body).read(grammar, cursor, parts) }
+        }
     }
 }
 
@@ -167,6 +219,10 @@ impl ReadsRule for Property {
             in_constructor: false,
             ..self.1
         };
+        let async_in = Context {
+            in_async: true,
+            ..outside
+        };
         Choose(
             Is(TokenKind::Ellipsis),
             Make(
@@ -183,7 +239,7 @@ impl ReadsRule for Property {
                     Tok(
                         Sort::Kind,
                         Kinds::AccessorWord,
-                        Where(Guard::IsPlainKey, MethodIn(self.0, false, outside)),
+                        Where(Guard::IsPlainKey, MethodIn(self.0, outside, outside)),
                     ),
                 ),
                 Pick(
@@ -192,7 +248,7 @@ impl ReadsRule for Property {
                         Label::AsyncProperty,
                         Punct(
                             TokenKind::AsyncWord,
-                            StarIn(Where(Guard::IsPlainKey, AsyncMethodIn(false, outside))),
+                            StarIn(Where(Guard::IsPlainKey, MethodIn(self.0, outside, async_in))),
                         ),
                     ),
                     Choose(
@@ -201,12 +257,12 @@ impl ReadsRule for Property {
                             Label::GeneratorProperty,
                             Punct(
                                 TokenKind::Star,
-                                Where(Guard::IsPlainKey, MethodIn(self.0, false, outside)),
+                                Where(Guard::IsPlainKey, MethodIn(self.0, outside, outside)),
                             ),
                         ),
                         Pick(
-                            Guard::OpensMethod,
-                            Make(Label::MethodProperty, MethodIn(self.0, false, outside)),
+                            Guard::OpensAnyMethod(self.0),
+                            Make(Label::MethodProperty, MethodIn(self.0, outside, outside)),
                             Pick(
                                 Guard::OpensValue,
                                 Make(

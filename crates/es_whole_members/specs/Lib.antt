@@ -1,0 +1,2 @@
+-- the guards behind modifiers, by the language
+pub mod Behind
