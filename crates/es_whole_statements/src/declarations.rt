@@ -1,11 +1,13 @@
 //! Blocks and declarations.
 
 ghost use Rattle.es_whole_grammar.specs.Statements.{condition_in, block, declarator, declarators, variables, using_in, using_};
-ghost use Rattle.es_whole_grammar.specs.Declarations.{declaration};
+ghost use Rattle.es_whole_grammar.specs.Declarations.{plain_declaration, declaration};
+ghost use Rattle.es_tree.specs.declared.error.Lang.TheVariants as lang;
 
+use crate::typed::{Declare, Enum, TypedDeclaration};
 use es_token::TokenKind;
 use es_tree::{Lang, SyntaxError};
-use es_whole_expressions::{AsyncFunction, Class, Function};
+use es_whole_expressions::{AbstractClass, AnnotationIn, AsyncFunction, Class, Function};
 use es_whole_grammar::{Context, Label, Row};
 use es_whole_members::{Ended, Pattern};
 use es_whole_reader::Ahead::{Has, Is, Other};
@@ -72,7 +74,6 @@ impl ReadsRule for Block {
 #[derive(Clone, Copy)]
 pub struct Declarator(pub Lang, pub Context);
 
-// TYPESCRIPT: declarator
 impl ReadsRule for Declarator {
     ghost rule = { λ s. declarator s.0 s.1 };
 
@@ -88,17 +89,66 @@ impl ReadsRule for Declarator {
             in_constructor: false,
             ..self.1
         };
-        Wrap(
-            Label::Declarator,
-            Pattern(self.0, false, outside),
+        match self.0 {
+            Lang::Es => Wrap(
+                Label::Declarator,
+                Pattern(Lang::Es, false, outside),
+                Taken(Is(TokenKind::Equal)),
+                Punct(
+                    TokenKind::Equal,
+                    OfRow(
+                        Row::AssignmentRow(self.1),
+                        When(Other(TokenKind::Equal), Where(Guard::EndsValue, Done)),
+                    ),
+                ),
+            )
+            .read(grammar, cursor),
+            Lang::Typescript => TypedDeclarator(self.1).read(grammar, cursor),
+        }
+    }
+}
+
+/// The same of TypeScript: Pat '!'? (':' Type)? ('=' Assign)?
+#[derive(Clone, Copy)]
+struct TypedDeclarator(Context);
+
+impl ReadsRule for TypedDeclarator {
+    ghost rule = { λ s. declarator lang.Typescript s.0 };
+
+    #[tactic(auto, unfolding(es_whole_grammar::specs::Statements::declarator))]
+    fn read<F: Fn(Input<'_>, usize, Row, &mut Cursor) -> Result<Measured, SyntaxError>>(
+        &self,
+        grammar: &Grammar<'_, F>,
+        cursor: &mut Cursor,
+    ) -> Result<Measured, SyntaxError> {
+        let outside = Context {
+            no_in: false,
+            no_colon: false,
+            in_constructor: false,
+            ..self.0
+        };
+        let value = Opt(
             Taken(Is(TokenKind::Equal)),
             Punct(
                 TokenKind::Equal,
+                OfRow(Row::AssignmentRow(self.0), Where(Guard::EndsValue, Done)),
+            ),
+            Done,
+        );
+        Pick(
+            Guard::OpensDeclarator,
+            Make(
+                Label::Declarator,
                 OfRow(
-                    Row::AssignmentRow(self.1),
-                    When(Other(TokenKind::Equal), Where(Guard::EndsValue, Done)),
+                    Row::PatternRow(false, outside),
+                    Opt(
+                        Taken(Is(TokenKind::Exclamation)),
+                        Tok(Sort::There, Kinds::Only(TokenKind::Exclamation), Done),
+                        AnnotationIn(Lang::Typescript, value),
+                    ),
                 ),
             ),
+            Pattern(Lang::Typescript, false, outside),
         )
         .read(grammar, cursor)
     }
@@ -198,15 +248,50 @@ impl ReadsRule for Using {
     }
 }
 
-/// Decl: Var END | Using END | Fn | Class, or another rule.
+/// Decl, or another rule.
 #[derive(Clone, Copy)]
 pub struct Declaration<A>(pub Lang, pub Context, pub A);
 
-// TYPESCRIPT: declaration
 impl<A: ReadsRule + Copy> ReadsRule for Declaration<A> {
     ghost rule = { λ s. declaration s.0 s.1 (A.rule s.2) };
 
     #[tactic(auto, unfolding(es_whole_grammar::specs::Declarations::declaration))]
+    fn read<F: Fn(Input<'_>, usize, Row, &mut Cursor) -> Result<Measured, SyntaxError>>(
+        &self,
+        grammar: &Grammar<'_, F>,
+        cursor: &mut Cursor,
+    ) -> Result<Measured, SyntaxError> {
+        match self.0 {
+            Lang::Es => PlainDeclaration(Lang::Es, self.1, self.2).read(grammar, cursor),
+            Lang::Typescript => Pick(
+                Guard::OpensEnum,
+                Enum(self.1),
+                Pick(
+                    Guard::OpensDeclare,
+                    Declare(self.1),
+                    Pick(
+                        Guard::OpensAbstractClass,
+                        AbstractClass(true, self.1),
+                        TypedDeclaration(
+                            self.1,
+                            PlainDeclaration(Lang::Typescript, self.1, self.2),
+                        ),
+                    ),
+                ),
+            )
+            .read(grammar, cursor),
+        }
+    }
+}
+
+/// Var END | Using END | Fn | Class, or another rule.
+#[derive(Clone, Copy)]
+pub struct PlainDeclaration<A>(pub Lang, pub Context, pub A);
+
+impl<A: ReadsRule + Copy> ReadsRule for PlainDeclaration<A> {
+    ghost rule = { λ s. plain_declaration s.0 s.1 (A.rule s.2) };
+
+    #[tactic(auto, unfolding(es_whole_grammar::specs::Declarations::plain_declaration))]
     fn read<F: Fn(Input<'_>, usize, Row, &mut Cursor) -> Result<Measured, SyntaxError>>(
         &self,
         grammar: &Grammar<'_, F>,

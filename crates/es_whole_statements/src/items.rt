@@ -1,6 +1,6 @@
 //! Programs and the items of modules.
 
-ghost use Rattle.es_whole_grammar.specs.Items.{export_default, export_item, item, shebang_in, module_, script};
+ghost use Rattle.es_whole_grammar.specs.Items.{default_expression, default_interface, other_default, export_names, export_default, export_item, item, shebang_in, module_, script};
 
 use crate::modules::{Export, Import};
 use crate::statements::Statement;
@@ -15,12 +15,91 @@ use es_whole_reader::{
     Parts, Pick, Punct, ReadsForm, ReadsRule, Sort, Tok,
 };
 
-/// 'export' 'default' (Fn | Class | Assign END)
+/// 'export' 'default' Assign END
 #[derive(Clone, Copy)]
-pub struct ExportDefault;
+pub struct DefaultExpression(pub Context);
+
+impl ReadsRule for DefaultExpression {
+    ghost rule = { λ s. default_expression s.0 };
+
+    #[tactic(auto, unfolding(es_whole_grammar::specs::Items::default_expression))]
+    fn read<F: Fn(Input<'_>, usize, Row, &mut Cursor) -> Result<Measured, SyntaxError>>(
+        &self,
+        grammar: &Grammar<'_, F>,
+        cursor: &mut Cursor,
+    ) -> Result<Measured, SyntaxError> {
+        Make(
+            Label::ExportDefaultExpression,
+            Punct(
+                TokenKind::ExportWord,
+                Punct(
+                    TokenKind::DefaultWord,
+                    OfRow(Row::AssignmentRow(self.0), ExpressionEnded),
+                ),
+            ),
+        )
+        .read(grammar, cursor)
+    }
+}
+
+/// 'export' 'default' Interface
+#[derive(Clone, Copy)]
+pub struct DefaultInterface(pub Context);
+
+impl ReadsRule for DefaultInterface {
+    ghost rule = { λ s. default_interface s.0 };
+
+    #[tactic(auto, unfolding(es_whole_grammar::specs::Items::default_interface))]
+    fn read<F: Fn(Input<'_>, usize, Row, &mut Cursor) -> Result<Measured, SyntaxError>>(
+        &self,
+        grammar: &Grammar<'_, F>,
+        cursor: &mut Cursor,
+    ) -> Result<Measured, SyntaxError> {
+        Make(
+            Label::ExportDefaultInterface,
+            Punct(
+                TokenKind::ExportWord,
+                Punct(
+                    TokenKind::DefaultWord,
+                    OfRow(Row::DeclaredRow(self.0), Done),
+                ),
+            ),
+        )
+        .read(grammar, cursor)
+    }
+}
+
+/// What is left of `export default`.
+#[derive(Clone, Copy)]
+pub struct OtherDefault(pub Lang, pub Context);
+
+impl ReadsRule for OtherDefault {
+    ghost rule = { λ s. other_default s.0 s.1 };
+
+    #[tactic(auto, unfolding(es_whole_grammar::specs::Items::other_default))]
+    fn read<F: Fn(Input<'_>, usize, Row, &mut Cursor) -> Result<Measured, SyntaxError>>(
+        &self,
+        grammar: &Grammar<'_, F>,
+        cursor: &mut Cursor,
+    ) -> Result<Measured, SyntaxError> {
+        match self.0 {
+            Lang::Es => DefaultExpression(self.1).read(grammar, cursor),
+            Lang::Typescript => Pick(
+                Guard::OpensDefaultInterface,
+                DefaultInterface(self.1),
+                DefaultExpression(self.1),
+            )
+            .read(grammar, cursor),
+        }
+    }
+}
+
+/// 'export' 'default' (Fn | Class | TS Interface | Assign END)
+#[derive(Clone, Copy)]
+pub struct ExportDefault(pub Lang, pub Context);
 
 impl ReadsRule for ExportDefault {
-    ghost rule = { λ _. export_default };
+    ghost rule = { λ s. export_default s.0 s.1 };
 
     #[tactic(auto, unfolding(es_whole_grammar::specs::Items::export_default))]
     fn read<F: Fn(Input<'_>, usize, Row, &mut Cursor) -> Result<Measured, SyntaxError>>(
@@ -28,13 +107,6 @@ impl ReadsRule for ExportDefault {
         grammar: &Grammar<'_, F>,
         cursor: &mut Cursor,
     ) -> Result<Measured, SyntaxError> {
-        let in_module = Context {
-            script: false,
-            no_in: false,
-            no_colon: false,
-            in_constructor: false,
-            in_async: false,
-        };
         Pick(
             Guard::OpensDefaultFunction,
             Make(
@@ -43,41 +115,66 @@ impl ReadsRule for ExportDefault {
                     TokenKind::ExportWord,
                     Punct(
                         TokenKind::DefaultWord,
-                        OfRow(Row::FunctionRow(false, in_module), Done),
+                        OfRow(Row::FunctionRow(false, self.1), Done),
                     ),
                 ),
             ),
             Pick(
-                Guard::OpensDefaultClass,
+                Guard::OpensAnyDefaultClass(self.0),
                 Make(
                     Label::ExportDefaultClass,
                     Punct(
                         TokenKind::ExportWord,
                         Punct(
                             TokenKind::DefaultWord,
-                            OfRow(Row::ClassRow(false, in_module), Done),
+                            OfRow(Row::ClassRow(false, self.1), Done),
                         ),
                     ),
                 ),
-                Make(
-                    Label::ExportDefaultExpression,
-                    Punct(
-                        TokenKind::ExportWord,
-                        Punct(
-                            TokenKind::DefaultWord,
-                            OfRow(Row::AssignmentRow(in_module), ExpressionEnded),
-                        ),
-                    ),
-                ),
+                OtherDefault(self.0, self.1),
             ),
         )
         .read(grammar, cursor)
     }
 }
 
-/// Export: 'export' Decl | 'export' 'default' (Fn | Class | Assign END) | of names
+/// Export of names; TS 'export' '=' Expr END
 #[derive(Clone, Copy)]
-pub struct ExportItem(pub Lang, pub Lang);
+pub struct ExportNames(pub Lang, pub Context);
+
+impl ReadsRule for ExportNames {
+    ghost rule = { λ s. export_names s.0 s.1 };
+
+    #[tactic(auto, unfolding(es_whole_grammar::specs::Items::export_names))]
+    fn read<F: Fn(Input<'_>, usize, Row, &mut Cursor) -> Result<Measured, SyntaxError>>(
+        &self,
+        grammar: &Grammar<'_, F>,
+        cursor: &mut Cursor,
+    ) -> Result<Measured, SyntaxError> {
+        match self.0 {
+            Lang::Es => Export(Lang::Es).read(grammar, cursor),
+            Lang::Typescript => Pick(
+                Guard::OpensExportAssignment,
+                Make(
+                    Label::ExportAssignment,
+                    Punct(
+                        TokenKind::ExportWord,
+                        Punct(
+                            TokenKind::Equal,
+                            OfRow(Row::ExpressionRow(self.1), ExpressionEnded),
+                        ),
+                    ),
+                ),
+                Export(Lang::Typescript),
+            )
+            .read(grammar, cursor),
+        }
+    }
+}
+
+/// Export: 'export' Decl | 'export' 'default' .. | of names
+#[derive(Clone, Copy)]
+pub struct ExportItem(pub Lang, pub Context);
 
 impl ReadsRule for ExportItem {
     ghost rule = { λ s. export_item s.0 s.1 };
@@ -88,26 +185,19 @@ impl ReadsRule for ExportItem {
         grammar: &Grammar<'_, F>,
         cursor: &mut Cursor,
     ) -> Result<Measured, SyntaxError> {
-        let in_module = Context {
-            script: false,
-            no_in: false,
-            no_colon: false,
-            in_constructor: false,
-            in_async: false,
-        };
         Pick(
             Guard::OpensDefault,
-            ExportDefault,
+            ExportDefault(self.0, self.1),
             Pick(
-                Guard::OpensDeclaration,
+                Guard::OpensAnyDeclaration(self.0),
                 Make(
                     Label::ExportDeclaration,
                     Punct(
                         TokenKind::ExportWord,
-                        OfRow(Row::DeclarationRow(in_module), Done),
+                        OfRow(Row::DeclarationRow(self.1), Done),
                     ),
                 ),
-                Export(self.1),
+                ExportNames(self.0, self.1),
             ),
         )
         .read(grammar, cursor)
@@ -116,7 +206,7 @@ impl ReadsRule for ExportItem {
 
 /// Item: Import | Export | Stmt
 #[derive(Clone, Copy)]
-pub struct Item(pub Lang, pub Lang);
+pub struct Item(pub Lang, pub Context);
 
 impl ReadsRule for Item {
     ghost rule = { λ s. item s.0 s.1 };
@@ -127,20 +217,13 @@ impl ReadsRule for Item {
         grammar: &Grammar<'_, F>,
         cursor: &mut Cursor,
     ) -> Result<Measured, SyntaxError> {
-        let in_module = Context {
-            script: false,
-            no_in: false,
-            no_colon: false,
-            in_constructor: false,
-            in_async: false,
-        };
         Pick(
             Guard::OpensImport,
-            Import(self.1),
+            Import(self.0),
             Choose(
                 Is(TokenKind::ExportWord),
                 ExportItem(self.0, self.1),
-                Statement(self.0, in_module),
+                Statement(self.0, self.1),
             ),
         )
         .read(grammar, cursor)
@@ -172,10 +255,10 @@ impl<N: ReadsForm + Copy> ReadsForm for ShebangIn<N> {
 
 /// Module: Shebang? Item*
 #[derive(Clone, Copy)]
-pub struct Module(pub Lang);
+pub struct Module;
 
 impl ReadsRule for Module {
-    ghost rule = { λ s. module_ s.0 };
+    ghost rule = { λ _. module_ };
 
     #[tactic(auto, unfolding(es_whole_grammar::specs::Items::module_))]
     fn read<F: Fn(Input<'_>, usize, Row, &mut Cursor) -> Result<Measured, SyntaxError>>(
@@ -183,9 +266,20 @@ impl ReadsRule for Module {
         grammar: &Grammar<'_, F>,
         cursor: &mut Cursor,
     ) -> Result<Measured, SyntaxError> {
+        let in_module = Context {
+            script: false,
+            no_in: false,
+            in_async: false,
+            no_colon: false,
+            in_constructor: false,
+        };
         Make(
             Label::Module,
-            ShebangIn(Many(Hint(Ahead::Token), OfRow(Row::ItemRow(self.0), Done), Done)),
+            ShebangIn(Many(
+                Hint(Ahead::Token),
+                OfRow(Row::ItemRow(in_module), Done),
+                Done,
+            )),
         )
         .read(grammar, cursor)
     }

@@ -6,11 +6,16 @@ mod items;
 mod loops;
 mod modules;
 mod statements;
+mod typed;
 
 pub use declarations::{
-    Block, ConditionIn, Declaration, Declarator, Declarators, Using, UsingIn, Variables,
+    Block, ConditionIn, Declaration, Declarator, Declarators, PlainDeclaration, Using, UsingIn,
+    Variables,
 };
-pub use items::{ExportDefault, ExportItem, Item, Module, Script, ShebangIn};
+pub use items::{
+    DefaultExpression, DefaultInterface, ExportDefault, ExportItem, ExportNames, Item, Module,
+    OtherDefault, Script, ShebangIn,
+};
 pub use loops::{For, ForAwait, ForEach, Head, StartIn};
 pub use modules::{
     Attributes, AttributesEnded, Clause, Entity, EqualsIn, Export, ExportSpecifier, FromEnded,
@@ -19,4 +24,8 @@ pub use modules::{
 pub use statements::{
     CaseIn, ExpressionStatement, FinallyIn, KeywordStatement, LabelEnded, Return, Statement,
     Switch, Try,
+};
+pub use typed::{
+    Alias, Declare, Declared, Enum, Global, Interface, ItemsIn, ModuleNamespace, Namespace,
+    TypeMembers, TypedDeclaration,
 };

@@ -5,6 +5,7 @@ ghost use Rattle.es_whole_grammar.specs.Statements.{head, start_in, for_, for_ea
 use crate::declarations::UsingIn;
 use es_token::TokenKind;
 use es_tree::{Lang, SyntaxError};
+use es_whole_expressions::AnnotationIn;
 use es_whole_grammar::{Context, Label, Row};
 use es_whole_members::{Pattern, Target};
 use es_whole_reader::Ahead::{Has, Is, Other};
@@ -39,7 +40,7 @@ impl ReadsRule for Head {
                 Tok(
                     Sort::Kind,
                     Kinds::VariableWord,
-                    OfRow(Row::PatternRow(false, self.1), Done),
+                    OfRow(Row::PatternRow(false, self.1), AnnotationIn(self.0, Done)),
                 ),
             ),
             Pick(

@@ -8,6 +8,7 @@ use crate::declarations::{Block, ConditionIn, Declaration};
 use crate::loops::{For, ForAwait, ForEach};
 use es_token::TokenKind;
 use es_tree::{Lang, SyntaxError};
+use es_whole_expressions::{AnnotationIn, without_colon};
 use es_whole_grammar::{Context, Label, Row};
 use es_whole_members::{Ended, ExpressionEnded};
 use es_whole_reader::Ahead::Is;
@@ -58,7 +59,7 @@ impl ReadsRule for Return {
             Punct(
                 TokenKind::ReturnWord,
                 Alt(
-                    Ahead::ValueHere,
+                    Ahead::ValueHere(self.0),
                     When(
                         Ahead::Near,
                         OfRow(Row::ExpressionRow(self.1), ExpressionEnded),
@@ -88,7 +89,10 @@ impl ReadsForm for CaseIn {
     ) -> Result<(), SyntaxError> {
         Alt(
             Is(TokenKind::CaseWord),
-            Punct(TokenKind::CaseWord, OfRow(Row::ExpressionRow(self.1), Done)),
+            Punct(
+                TokenKind::CaseWord,
+                OfRow(Row::ExpressionRow(without_colon(self.0, self.1)), Done),
+            ),
             Punct(TokenKind::DefaultWord, Done),
             Punct(
                 TokenKind::Colon,
@@ -186,7 +190,7 @@ impl ReadsRule for Try {
                                     TokenKind::OpenParen,
                                     OfRow(
                                         Row::PatternRow(false, self.1),
-                                        Punct(TokenKind::CloseParen, Done),
+                                        AnnotationIn(self.0, Punct(TokenKind::CloseParen, Done)),
                                     ),
                                 ),
                                 OfRow(
