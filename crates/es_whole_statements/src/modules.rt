@@ -241,10 +241,7 @@ impl ReadsRule for Named {
                 Label::NamedImports,
                 Punct(
                     TokenKind::OpenBrace,
-                    NamesIn(
-                        Row::ImportSpecifierRow(self.0),
-                        Punct(TokenKind::CloseBrace, Done),
-                    ),
+                    NamesIn(Row::ImportSpecifierRow, Punct(TokenKind::CloseBrace, Done)),
                 ),
             ),
         )
@@ -274,7 +271,7 @@ impl ReadsRule for Clause {
                     Tok(
                         Sort::Name,
                         Kinds::Name,
-                        Punct(TokenKind::Comma, OfRow(Row::NamedRow(self.0), Done)),
+                        Punct(TokenKind::Comma, OfRow(Row::NamedRow, Done)),
                     ),
                 ),
                 Make(Label::DefaultClause, Tok(Sort::Name, Kinds::Name, Done)),
@@ -406,7 +403,7 @@ impl ReadsRule for Import {
                         TokenKind::ImportWord,
                         TypeWordIn(
                             Guard::OpensTypeImport(self.0),
-                            OfRow(Row::ClauseRow(self.0), FromEnded),
+                            OfRow(Row::ClauseRow, FromEnded),
                         ),
                     ),
                 ),
@@ -519,7 +516,7 @@ impl ReadsRule for Export {
                                 Punct(
                                     TokenKind::OpenBrace,
                                     NamesIn(
-                                        Row::ExportSpecifierRow(self.0),
+                                        Row::ExportSpecifierRow,
                                         Punct(
                                             TokenKind::CloseBrace,
                                             Opt(
