@@ -5,10 +5,12 @@ use Rattle.es_token.specs.declared.token.TokenKind.TheVariants as k
 use Rattle.es_tree.specs.declared.error.Lang.{Lang}
 use Rattle.es_tree.specs.declared.error.Lang.TheVariants as lang
 use Rattle.es_tree.specs.Key.{Key, TokenTest, seen, is}
-use Rattle.es_tree.specs.Form.{taken, Guard, Form, done, tok, punct, row, opt, many, alt, when_, where_, Rule, refuse, make, choose, as_, pick, wrap}
+use Rattle.es_tree.specs.Form.{as_str, as_name, as_there, hint, taken, guarded, Guard, Form, done, tok, punct, row, opt, many, alt, when_, where_, Rule, refuse, make, choose, as_, pick, wrap}
 use Rattle.es_tree.specs.Plain.{Plain, plain, tall}
 use Rattle.es_tree.specs.Fits.{most_nodes}
 use Rattle.es_tree.specs.Reader.{Out, nothing, gives, read_row}
+use Rattle.es_grammar.specs.Words.{only, is_name, is_word, is_other}
+use Rattle.es_grammar.specs.Modules.{opens_type_import}
 use Rattle.es_grammar.specs.declared.rows.Row as programs
 use Rattle.es_grammar.specs.declared.rows.Row.TheVariants as rows
 use Rattle.es_grammar.specs.declared.rows.Label as labels
@@ -232,6 +234,28 @@ plain_rule a = mapped_rule row_of label_of a
 
 abbrev pub plain_form : Form programs.Row → Form Row
 plain_form f = mapped_form row_of f
+
+-- ---- parts of imports and exports, behind which stands more: as in the plain table, with rows of this one
+
+-- a word or a string literal, and what stands behind it
+unfoldable pub word_or_str_in : Form Row → Form Row
+word_or_str_in f = alt (is k.Str) (tok as_str (only k.Str) done) (tok as_name is_word done) f
+
+-- X%: a comma list, possibly empty, with an optional last comma, before `}`
+unfoldable pub names_in : Row → Form Row → Form Row
+names_in r f =
+    many (hint (is_other k.CloseBrace)) (row r (opt (taken (is_other k.CloseBrace)) (punct k.Comma done) done)) f
+
+-- 'type'?, and what stands behind it
+unfoldable pub type_word_in : Guard → Form Row → Form Row
+type_word_in g f = opt (guarded g) (tok as_there (only k.TypeWord) done) f
+
+-- 'import' 'type'? Name '=', and what stands behind it
+unfoldable pub equals_in : Lang → Form Row → Form Row
+equals_in l f =
+    punct k.ImportWord (type_word_in (opens_type_import l) (tok as_name is_name (punct k.Equal f)))
+
+-- ---- rows of the table of types
 
 -- a rule of the table of types, in this one
 abbrev pub types_rule : Rule table.Row table.Label → Rule Row Label

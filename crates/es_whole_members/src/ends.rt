@@ -1,6 +1,7 @@
 //! The end of a statement.
 
 ghost use Rattle.es_grammar.specs.Modules.{ended};
+ghost use Rattle.es_whole_grammar.specs.Embedding.{plain_form};
 ghost use Rattle.es_whole_grammar.specs.Statements.{expression_ended};
 
 use es_token::TokenKind;
@@ -17,7 +18,7 @@ use es_whole_reader::{
 pub struct Ended;
 
 impl ReadsForm for Ended {
-    ghost form = { λ _. ended };
+    ghost form = { λ _. plain_form ended };
 
     #[tactic(auto, unfolding(es_grammar::specs::Modules::ended))]
     fn read<F: Fn(Input<'_>, usize, Row, &mut Cursor) -> Result<Measured, SyntaxError>>(

@@ -1,6 +1,7 @@
 //! Imports, and exports of names.
 
-ghost use Rattle.es_grammar.specs.Modules.{word_or_str_in, names_in, attributes, attributes_ended, from_ended, type_word_in, import_specifier, named, clause, entity, equals_in, required, import_, export_specifier, export_};
+ghost use Rattle.es_grammar.specs.Modules.{attributes, attributes_ended, from_ended, import_specifier, named, clause, entity, required, import_, export_specifier, export_};
+ghost use Rattle.es_whole_grammar.specs.Embedding.{plain_rule, plain_form, word_or_str_in, names_in, type_word_in, equals_in};
 ghost use Rattle.es_whole_guards.specs.Named.{guard_of};
 
 use es_token::TokenKind;
@@ -21,7 +22,7 @@ pub struct WordOrStrIn<N>(pub N);
 impl<N: ReadsForm + Copy> ReadsForm for WordOrStrIn<N> {
     ghost form = { λ s. word_or_str_in (N.form s.0) };
 
-    #[tactic(auto, unfolding(es_grammar::specs::Modules::word_or_str_in))]
+    #[tactic(auto, unfolding(es_whole_grammar::specs::Embedding::word_or_str_in))]
     fn read<F: Fn(Input<'_>, usize, Row, &mut Cursor) -> Result<Measured, SyntaxError>>(
         &self,
         grammar: &Grammar<'_, F>,
@@ -45,7 +46,7 @@ pub struct NamesIn<N>(pub Row, pub N);
 impl<N: ReadsForm + Copy> ReadsForm for NamesIn<N> {
     ghost form = { λ s. names_in s.0 (N.form s.1) };
 
-    #[tactic(auto, unfolding(es_grammar::specs::Modules::names_in))]
+    #[tactic(auto, unfolding(es_whole_grammar::specs::Embedding::names_in))]
     fn read<F: Fn(Input<'_>, usize, Row, &mut Cursor) -> Result<Measured, SyntaxError>>(
         &self,
         grammar: &Grammar<'_, F>,
@@ -73,9 +74,9 @@ impl<N: ReadsForm + Copy> ReadsForm for NamesIn<N> {
 pub struct Attributes;
 
 impl ReadsRule for Attributes {
-    ghost rule = { λ _. attributes };
+    ghost rule = { λ _. plain_rule attributes };
 
-    #[tactic(auto, unfolding(es_grammar::specs::Modules::attributes))]
+    #[tactic(auto, unfolding(es_grammar::specs::Modules::attributes, es_grammar::specs::Modules::word_or_str_in, es_whole_grammar::specs::Embedding::word_or_str_in))]
     fn read<F: Fn(Input<'_>, usize, Row, &mut Cursor) -> Result<Measured, SyntaxError>>(
         &self,
         grammar: &Grammar<'_, F>,
@@ -115,7 +116,7 @@ impl ReadsRule for Attributes {
 pub struct AttributesEnded;
 
 impl ReadsForm for AttributesEnded {
-    ghost form = { λ _. attributes_ended };
+    ghost form = { λ _. plain_form attributes_ended };
 
     #[tactic(auto, unfolding(es_grammar::specs::Modules::attributes_ended))]
     fn read<F: Fn(Input<'_>, usize, Row, &mut Cursor) -> Result<Measured, SyntaxError>>(
@@ -138,7 +139,7 @@ impl ReadsForm for AttributesEnded {
 pub struct FromEnded;
 
 impl ReadsForm for FromEnded {
-    ghost form = { λ _. from_ended };
+    ghost form = { λ _. plain_form from_ended };
 
     #[tactic(auto, unfolding(es_grammar::specs::Modules::from_ended))]
     fn read<F: Fn(Input<'_>, usize, Row, &mut Cursor) -> Result<Measured, SyntaxError>>(
@@ -162,7 +163,7 @@ pub struct TypeWordIn<N>(pub Guard, pub N);
 impl<N: ReadsForm + Copy> ReadsForm for TypeWordIn<N> {
     ghost form = { λ s. type_word_in (guard_of s.0) (N.form s.1) };
 
-    #[tactic(auto, unfolding(es_grammar::specs::Modules::type_word_in))]
+    #[tactic(auto, unfolding(es_whole_grammar::specs::Embedding::type_word_in))]
     fn read<F: Fn(Input<'_>, usize, Row, &mut Cursor) -> Result<Measured, SyntaxError>>(
         &self,
         grammar: &Grammar<'_, F>,
@@ -183,9 +184,9 @@ impl<N: ReadsForm + Copy> ReadsForm for TypeWordIn<N> {
 pub struct ImportSpecifier(pub Lang);
 
 impl ReadsRule for ImportSpecifier {
-    ghost rule = { λ s. import_specifier s.0 };
+    ghost rule = { λ s. plain_rule (import_specifier s.0) };
 
-    #[tactic(auto, unfolding(es_grammar::specs::Modules::import_specifier))]
+    #[tactic(auto, unfolding(es_grammar::specs::Modules::import_specifier, es_grammar::specs::Modules::type_word_in, es_whole_grammar::specs::Embedding::type_word_in, es_grammar::specs::Modules::word_or_str_in, es_whole_grammar::specs::Embedding::word_or_str_in))]
     fn read<F: Fn(Input<'_>, usize, Row, &mut Cursor) -> Result<Measured, SyntaxError>>(
         &self,
         grammar: &Grammar<'_, F>,
@@ -220,9 +221,9 @@ impl ReadsRule for ImportSpecifier {
 pub struct Named(pub Lang);
 
 impl ReadsRule for Named {
-    ghost rule = { λ s. named s.0 };
+    ghost rule = { λ s. plain_rule (named s.0) };
 
-    #[tactic(auto, unfolding(es_grammar::specs::Modules::named))]
+    #[tactic(auto, unfolding(es_grammar::specs::Modules::named, es_grammar::specs::Modules::names_in, es_whole_grammar::specs::Embedding::names_in))]
     fn read<F: Fn(Input<'_>, usize, Row, &mut Cursor) -> Result<Measured, SyntaxError>>(
         &self,
         grammar: &Grammar<'_, F>,
@@ -254,7 +255,7 @@ impl ReadsRule for Named {
 pub struct Clause(pub Lang);
 
 impl ReadsRule for Clause {
-    ghost rule = { λ s. clause s.0 };
+    ghost rule = { λ s. plain_rule (clause s.0) };
 
     #[tactic(auto, unfolding(es_grammar::specs::Modules::clause))]
     fn read<F: Fn(Input<'_>, usize, Row, &mut Cursor) -> Result<Measured, SyntaxError>>(
@@ -287,7 +288,7 @@ impl ReadsRule for Clause {
 pub struct Entity;
 
 impl ReadsRule for Entity {
-    ghost rule = { λ _. entity };
+    ghost rule = { λ _. plain_rule entity };
 
     #[tactic(auto, unfolding(es_grammar::specs::Modules::entity))]
     fn read<F: Fn(Input<'_>, usize, Row, &mut Cursor) -> Result<Measured, SyntaxError>>(
@@ -318,7 +319,7 @@ pub struct EqualsIn<N>(pub Lang, pub N);
 impl<N: ReadsForm + Copy> ReadsForm for EqualsIn<N> {
     ghost form = { λ s. equals_in s.0 (N.form s.1) };
 
-    #[tactic(auto, unfolding(es_grammar::specs::Modules::equals_in))]
+    #[tactic(auto, unfolding(es_whole_grammar::specs::Embedding::equals_in))]
     fn read<F: Fn(Input<'_>, usize, Row, &mut Cursor) -> Result<Measured, SyntaxError>>(
         &self,
         grammar: &Grammar<'_, F>,
@@ -341,7 +342,7 @@ impl<N: ReadsForm + Copy> ReadsForm for EqualsIn<N> {
 pub struct Required;
 
 impl ReadsForm for Required {
-    ghost form = { λ _. required };
+    ghost form = { λ _. plain_form required };
 
     #[tactic(auto, unfolding(es_grammar::specs::Modules::required))]
     fn read<F: Fn(Input<'_>, usize, Row, &mut Cursor) -> Result<Measured, SyntaxError>>(
@@ -370,9 +371,9 @@ impl ReadsForm for Required {
 pub struct Import(pub Lang);
 
 impl ReadsRule for Import {
-    ghost rule = { λ s. import_ s.0 };
+    ghost rule = { λ s. plain_rule (import_ s.0) };
 
-    #[tactic(auto, unfolding(es_grammar::specs::Modules::import_))]
+    #[tactic(auto, unfolding(es_grammar::specs::Modules::import_, es_grammar::specs::Modules::equals_in, es_whole_grammar::specs::Embedding::equals_in, es_grammar::specs::Modules::type_word_in, es_whole_grammar::specs::Embedding::type_word_in))]
     fn read<F: Fn(Input<'_>, usize, Row, &mut Cursor) -> Result<Measured, SyntaxError>>(
         &self,
         grammar: &Grammar<'_, F>,
@@ -418,9 +419,9 @@ impl ReadsRule for Import {
 pub struct ExportSpecifier(pub Lang);
 
 impl ReadsRule for ExportSpecifier {
-    ghost rule = { λ s. export_specifier s.0 };
+    ghost rule = { λ s. plain_rule (export_specifier s.0) };
 
-    #[tactic(auto, unfolding(es_grammar::specs::Modules::export_specifier))]
+    #[tactic(auto, unfolding(es_grammar::specs::Modules::export_specifier, es_grammar::specs::Modules::type_word_in, es_whole_grammar::specs::Embedding::type_word_in, es_grammar::specs::Modules::word_or_str_in, es_whole_grammar::specs::Embedding::word_or_str_in))]
     fn read<F: Fn(Input<'_>, usize, Row, &mut Cursor) -> Result<Measured, SyntaxError>>(
         &self,
         grammar: &Grammar<'_, F>,
@@ -449,9 +450,9 @@ impl ReadsRule for ExportSpecifier {
 pub struct Export(pub Lang);
 
 impl ReadsRule for Export {
-    ghost rule = { λ s. export_ s.0 };
+    ghost rule = { λ s. plain_rule (export_ s.0) };
 
-    #[tactic(auto, unfolding(es_grammar::specs::Modules::export_))]
+    #[tactic(auto, unfolding(es_grammar::specs::Modules::export_, es_grammar::specs::Modules::equals_in, es_whole_grammar::specs::Embedding::equals_in, es_grammar::specs::Modules::type_word_in, es_whole_grammar::specs::Embedding::type_word_in, es_grammar::specs::Modules::word_or_str_in, es_whole_grammar::specs::Embedding::word_or_str_in, es_grammar::specs::Modules::names_in, es_whole_grammar::specs::Embedding::names_in))]
     fn read<F: Fn(Input<'_>, usize, Row, &mut Cursor) -> Result<Measured, SyntaxError>>(
         &self,
         grammar: &Grammar<'_, F>,

@@ -3,6 +3,7 @@
 ghost use Rattle.es_whole_grammar.specs.Statements.{return_, case_in, switch_, finally_in, try_, expression_statement, keyword_statement};
 ghost use Rattle.es_whole_grammar.specs.Declarations.{statement};
 ghost use Rattle.es_grammar.specs.Statements.{label_ended};
+ghost use Rattle.es_whole_grammar.specs.Embedding.{plain_form};
 
 use crate::declarations::{Block, ConditionIn, Declaration};
 use crate::loops::{For, ForAwait, ForEach};
@@ -23,7 +24,7 @@ use es_whole_reader::{
 pub struct LabelEnded;
 
 impl ReadsForm for LabelEnded {
-    ghost form = { λ _. label_ended };
+    ghost form = { λ _. plain_form label_ended };
 
     #[tactic(auto, unfolding(es_grammar::specs::Statements::label_ended))]
     fn read<F: Fn(Input<'_>, usize, Row, &mut Cursor) -> Result<Measured, SyntaxError>>(
