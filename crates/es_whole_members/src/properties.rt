@@ -1,7 +1,6 @@
 //! Keys, and properties of objects.
 
 ghost use Rattle.es_whole_grammar.specs.Functions.{plain_key, key, typed_head_in, unmarked, mark_in, method_in, property};
-ghost use Rattle.es_grammar.specs.Functions.{async_method_in};
 
 use es_token::TokenKind;
 use es_tree::{Lang, SyntaxError};
