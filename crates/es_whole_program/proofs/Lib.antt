@@ -1,0 +1,10 @@
+mod LowLemmas
+pub mod AnswerLemmas
+mod FormedLemmas
+mod Shapes
+mod TypeShapes
+mod RowShapes
+mod Equations
+mod ListLemmas
+pub mod SoundTheorems
+mod KeptLemmas

@@ -1,0 +1,26 @@
+-- When a tree is kept of a plain tree of a whole program.
+use Rattle.std.specs.Prelude.{◌≡◌, List, Result, Ok, Err}
+use Rattle.es_tree.specs.declared.error.Lang.{Lang}
+use Rattle.es_tree.specs.declared.error.Mode.{Mode}
+use Rattle.es_tree.specs.declared.error.SyntaxError.{SyntaxError}
+use Rattle.es_tree.specs.declared.error.SyntaxError.TheVariants.{Syntax, OutOfMemory}
+use Rattle.es_tree.specs.Key.{Key}
+use Rattle.es_tree.specs.Plain.{Plain}
+use Rattle.es_tree.specs.Fits.{free, Shape}
+use Rattle.es_whole_grammar.specs.declared.rows.Label.{Label}
+use Rattle.es_whole_grammar.specs.Table.{rule}
+use Rattle.es_whole_grammar.specs.Conditions.{program_row}
+use Rattle.es_whole_reader.specs.declared.tree.Tree.{Tree}
+use Rattle.es_whole_reader.specs.Slim.{tree_of}
+
+-- the tree is that of a plain tree which has the shape of a program over the keys of all tokens
+pub record IsShaped (l : Lang) (m : Mode) (K : List Key) (tree : Tree) : Type 0 where
+  pub plain : Plain Label
+  pub shaped : Shape free (rule l) (program_row m) K plain
+  pub kept : tree_of plain ≡ tree
+
+-- this tree, or out of memory
+abbrev pub GivesTree : Result Tree SyntaxError → Tree → Type 0
+GivesTree (Ok answer) tree = answer ≡ tree
+GivesTree (Err (Syntax token)) tree = ⊥
+GivesTree (Err OutOfMemory) tree = Unit {0}

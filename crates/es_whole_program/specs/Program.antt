@@ -1,0 +1,16 @@
+-- When a tree is kept of a plain tree of a program.
+use Rattle.std.specs.Prelude.{◌≡◌, List}
+use Rattle.es_tree.specs.declared.error.Lang.{Lang}
+use Rattle.es_tree.specs.declared.error.Mode.{Mode}
+use Rattle.es_tree.specs.Key.{Key}
+use Rattle.es_tree.specs.Plain.{Plain}
+use Rattle.es_whole_grammar.specs.declared.rows.Label.{Label}
+use Rattle.es_whole_grammar.specs.Conditions.{IsProgram}
+use Rattle.es_whole_reader.specs.declared.tree.Tree.{Tree}
+use Rattle.es_whole_reader.specs.Slim.{tree_of}
+
+-- the tree is kept of a plain tree of a program over these keys
+pub record IsKept (l : Lang) (m : Mode) (K : List Key) (tree : Tree) : Type 0 where
+  pub plain : Plain Label
+  pub program : IsProgram l m K plain
+  pub kept : tree_of plain ≡ tree

@@ -1,0 +1,77 @@
+//! Programs.
+
+ghost use Rattle.std.specs.Prelude.{IfOk};
+ghost use Rattle.es_whole_reader.specs.Bounded.{row_at};
+ghost use Rattle.es_whole_reader.specs.Steps.{IsRead};
+ghost use Rattle.es_tree.specs.Key.{keys_of};
+ghost use Rattle.es_whole_reader.specs.declared.tree.Tree.{Tree as Kept};
+ghost use Rattle.es_whole_program.specs.Derived.{IsShaped, GivesTree};
+ghost use Rattle.es_whole_program.specs.Program.{IsKept};
+
+use crate::program::whole;
+use crate::sound::is_sound;
+use es_token::Token;
+use es_tree::{Lang, Mode, SyntaxError};
+use es_whole_grammar::Row;
+use es_whole_reader::{Cursor, Grammar, Input, Measured, Tokens, Tree};
+use es_whole_rows::read_row;
+use std::alloc::Global;
+
+/// The most nodes on a path of a tree: the program's own, and 500 below it.
+const MOST_NODES: usize = 501;
+
+/// A row, where so many rows may stand on a path.
+fn row(
+    input: Input<'_>,
+    room: usize,
+    row: Row,
+    cursor: &mut Cursor,
+) -> Result<Measured, SyntaxError>
+    ensures { IsRead (row_at input.entry.lang (keys_of input.entry.tokens.tokens.now) room row cursor.old.at) result cursor.new.at }
+{
+    read_row(input, room, row, cursor)
+}
+
+/// The tree of a module or a script by the rows alone, where anything may be assigned to.
+#[tactic(auto, using(crate::proofs::AnswerLemmas::most))]
+pub fn read_tree(
+    alloc: Global,
+    lang: Lang,
+    mode: Mode,
+    tokens: &[Token],
+) -> Result<Tree, SyntaxError>
+    // What is answered is kept of a plain tree that has the shape of a program.
+    ensures shaped { IfOk result (IsShaped lang mode (keys_of tokens.now)) }
+    // What is kept of one is answered, unless memory runs out.
+    ensures only { (tree : Kept) → IsShaped lang mode (keys_of tokens.now) tree → GivesTree result tree }
+{
+    let grammar = Grammar {
+        input: Input {
+            alloc,
+            lang,
+            tokens: Tokens { tokens },
+        },
+        room: MOST_NODES,
+        read: row,
+    };
+    whole(&grammar, mode)
+}
+
+/// The tree of a module or a script.
+pub fn read_program(
+    alloc: Global,
+    lang: Lang,
+    mode: Mode,
+    tokens: &[Token],
+) -> Result<Tree, SyntaxError>
+    // What is answered is kept of a plain tree of a program.
+    ensures kept { IfOk result (IsKept lang mode (keys_of tokens.now)) }
+    // What is kept of one is answered, unless memory runs out: so `Syntax` comes only where there is none.
+    ensures only { (tree : Kept) → IsKept lang mode (keys_of tokens.now) tree → GivesTree result tree }
+{
+    let tree = read_tree(alloc, lang, mode, tokens)?;
+    if !is_sound(&tree) {
+        return Err(SyntaxError::Syntax { token: 0 });
+    }
+    Ok(tree)
+}

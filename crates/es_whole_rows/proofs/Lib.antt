@@ -1,0 +1,3 @@
+mod Equations
+mod Roles
+pub mod NamedLemmas
