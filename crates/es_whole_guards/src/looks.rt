@@ -1,6 +1,6 @@
 //! Tests of what is seen of the next token, or of the end.
 
-ghost use Rattle.std.specs.Prelude.{◌≡◌};
+ghost use Rattle.std.specs.Prelude.{◌≡◌, true};
 ghost use Rattle.es_tree.specs.Key.{has_kind, is, is_after_line};
 ghost use Rattle.es_grammar.specs.Words.{is_near, is_name, begins_key};
 ghost use Rattle.es_grammar.specs.Expressions.{is_arrow};

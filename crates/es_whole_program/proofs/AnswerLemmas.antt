@@ -1,6 +1,6 @@
 -- What the reader's answer tells of the plain trees of a program, and the other way round.
-use Rattle.std.specs.Prelude.{List, Result, Ok, Err, Bool, true, false}
-use Rattle.std.proofs.Common.{◌≡◌, ◌≢◌, ℕ, ◌≤◌, length, refl, sym, ap, ◌∙◌, subst, arith, leb-true, le-leb}
+use Rattle.std.specs.Prelude.{List, Result, Err, true}
+use Rattle.std.proofs.Common.{◌≡◌, ◌≢◌, ℕ, length, refl, sym, ap, ◌∙◌, subst, arith, leb-true, le-leb}
 use Rattle.es_token.specs.declared.token.Token.{Token}
 use Rattle.es_tree.specs.declared.error.Lang.{Lang}
 use Rattle.es_tree.specs.declared.error.Mode.{Mode}
@@ -22,7 +22,7 @@ use Rattle.es_whole_grammar.proofs.Sets.{sets}
 use Rattle.es_whole_grammar.proofs.Theorems.{programs, free_is_chosen}
 use Rattle.es_whole_reader.specs.declared.tree.Tree.{Tree}
 use Rattle.es_whole_reader.specs.declared.cursor.Measured.{Measured}
-use Rattle.es_whole_reader.specs.Slim.{Kept, slim, one, tree_in, tree_of}
+use Rattle.es_whole_reader.specs.Slim.{slim, one, tree_in}
 use Rattle.es_whole_reader.specs.Bounded.{Read, makes, row_at}
 use Rattle.es_whole_reader.specs.Steps.{single}
 use Rattle.es_whole_program.specs.Derived.{IsShaped, GivesTree}

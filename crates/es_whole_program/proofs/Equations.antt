@@ -1,5 +1,5 @@
 -- What is said of each form of a tree, from what is said of its parts.
-use Rattle.std.specs.Prelude.{List, [], ◌∷◌, Bool, true, false, ◌&&◌, ◌||◌, map}
+use Rattle.std.specs.Prelude.{List, [], ◌∷◌, Bool, true, false, ◌&&◌, map}
 use Rattle.std.proofs.Common.{◌≡◌, ℕ, refl, sym, ap, ◌∙◌}
 use Rattle.es_whole_grammar.specs.declared.rows.Label.{Label}
 use Rattle.es_whole_reader.specs.declared.tree.Tree.{Tree, out-Tree, roll-Tree, out-roll-Tree, map-Tree}

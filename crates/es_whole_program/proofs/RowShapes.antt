@@ -13,10 +13,9 @@ use Rattle.es_grammar.specs.Functions.{follows_pattern, is_parameter}
 use Rattle.es_grammar.specs.Statements.{is_variable_word, is_each, is_label_here, label_ended, is_case, is_in_case, begins_no_other}
 use Rattle.es_grammar.specs.Members.{opens_parameters}
 use Rattle.es_grammar.specs.Types.{begins_type, is_literal_word as is_literal_type_word}
-use Rattle.es_whole_grammar.specs.declared.rows.Context.{Context}
 use Rattle.es_whole_grammar.specs.declared.rows.Row.{Row}
+use Rattle.es_whole_grammar.specs.declared.rows.Label.{Label}
 use Rattle.es_whole_grammar.specs.declared.rows.Row.TheVariants.{ModuleRow, ScriptRow, ItemRow, ClauseRow, NamedRow, ImportSpecifierRow, ExportSpecifierRow, AttributesRow, EntityRow, StatementRow, BlockRow, DeclarationRow, DeclaredRow, VariablesRow, DeclaratorRow, UsingRow, HeadRow, SignatureRow, ParametersRow, ParameterRow, PatternRow, InnerPatternRow, PatternElementRow, PatternPropertyRow, FunctionRow, ClassRow, MemberRow, PropertyRow, KeyRow, ExpressionRow, AssignmentRow, AndRow, BitOrRow, BitXorRow, BitAndRow, EqualityRow, RelationRow, ShiftRow, SumRow, ProductRow, PowerRow, UnaryRow, ChainRow, CalleeRow, PostRow, MemberPostRow, ArgumentsRow, ElementRow, TemplateRow, TypesRow}
-use Rattle.es_whole_grammar.specs.Rows.{in_module}
 use Rattle.es_whole_grammar.specs.Embedding.{annotation_in, result_in, type_parameters_in, type_arguments_in, begins_call, stands_call, opens_call_arguments, stands_heritage, opens_heritage_arguments}
 use Rattle.es_whole_grammar.specs.Expressions.{opens_parameters_of_arrow, opens_arrow_here, opens_generic_async, opens_async_here, opens_any_arrow, arrow_in, opens_arrow_result, arrow_result_in, parameters_arrow_in, plain_arrow, opens_async_list, async_arrow, template, star_in, name_in, body_in, function, async_function, any_function, references_in, heritage_in, implements_in, class_form, class_, abstract_class, opens_abstract_class, any_class, spread, array_literal, object_literal, opens_no_arrow, name_expression, named_primary, primary, import_call, is_module, import_meta, call_arguments_in, base, arguments, opens_non_null, opens_post, plain_member_post, non_null_post, member_post, optional_post, is_at, opens_call, opens_typed_template, post, chain, callee, may_await, update, prefix, await_, unary, power, level, product, sum, shift, is_assertion_word, opens_assertion, opens_comparison, may_test, private_in, comparison_in, is_behind_as, asserted, asserted_or, no_form, relation, equality, bit_and, bit_xor, bit_or, and_, coalesce, binary, conditional, opens_operand, yield_, assignment, expression, element}
 use Rattle.es_whole_grammar.specs.Functions.{default_in, array_pattern, object_pattern, target, bracket_pattern, inner_pattern, pattern, pattern_element, pattern_property, rest_in, parameters, is_typed_modifier, is_modifier, opens_parameter_modifier, each_once, modifiers_in, mark_in, parameter_tail, is_parameter_mark, opens_marked, parameter, signature, plain_key, key, opens_any_method, typed_head_in, method_in, property}

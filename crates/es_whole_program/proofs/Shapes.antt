@@ -1,7 +1,7 @@
 -- Where the parts stand that may have to be simple targets: no token that is dropped stands before them; and what a turn
 -- behind an operand of an operator is.
-use Rattle.std.specs.Prelude.{List, Bool, true, false, ◌&&◌, ◌||◌}
-use Rattle.std.proofs.Common.{◌≡◌, ℕ, ◌+◌, refl, sym, subst, inl, inr}
+use Rattle.std.specs.Prelude.{List, Bool, true, false, ◌&&◌}
+use Rattle.std.proofs.Common.{◌≡◌, ℕ, ◌+◌, sym, subst, inl, inr}
 use Rattle.es_tree.specs.Key.{Key}
 use Rattle.es_tree.specs.Form.{Told, Form, done, tok, punct, row, opt, many, alt, when_, where_}
 use Rattle.es_tree.specs.Plain.{Plain, node, leaf, nil, cons, mark, turn, via}

@@ -15,12 +15,12 @@ use Rattle.es_whole_reader.specs.declared.tree.Tree.{Tree, out-Tree}
 use Rattle.es_whole_reader.specs.declared.tree.Tree.TheVariants as vTree
 use Rattle.es_whole_reader.specs.Slim.{parts_in, slim, tree_of}
 use Rattle.es_whole_program.proofs.FormedLemmas.{IsList, Formed}
-use Rattle.es_whole_program.proofs.Shapes.{EachBegins, IsPart, HasPart, IsGroup, IsTurn, Stands}
+use Rattle.es_whole_program.proofs.Shapes.{EachBegins, IsPart, IsGroup, Stands}
 use Rattle.es_whole_program.proofs.RowShapes.{formed}
-use Rattle.es_whole_program.specs.Sound.{is_member, is_non_null, behind_part, first_in, behind_turns, turns_of, ends_in_member, is_asserted, group_layer, turn_layer, is_assertion, is_simple, may_hold, is_sound, are_sound}
+use Rattle.es_whole_program.specs.Sound.{is_member, is_non_null, behind_part, first_in, behind_turns, turns_of, ends_in_member, is_asserted, group_layer, is_assertion, is_simple, may_hold, is_sound, are_sound}
 use Rattle.es_whole_grammar.proofs.Theorems.{one_program}
 use Rattle.es_whole_program.specs.Program.{IsKept}
-use Rattle.es_whole_program.proofs.Equations.{out_leaf, out_node, out_role, out_parts, member_leaf, member_node, member_role, member_parts, non_null_leaf, non_null_node, non_null_role, non_null_parts, asserted_leaf, asserted_node, asserted_role, asserted_parts, assertion_leaf, assertion_node, assertion_role, assertion_parts, simple_leaf, simple_node, simple_role, simple_parts, sound_leaf, sound_node, sound_role, sound_parts}
+use Rattle.es_whole_program.proofs.Equations.{out_leaf, out_node, out_role, out_parts, member_leaf, member_node, member_role, member_parts, non_null_leaf, non_null_node, non_null_role, non_null_parts, asserted_leaf, asserted_node, asserted_role, asserted_parts, assertion_parts, simple_leaf, simple_node, simple_role, simple_parts, sound_leaf, sound_node, sound_role, sound_parts}
 
 -- the parts that are kept
 abbrev parts_of : Plain Label → List Tree

@@ -1,6 +1,6 @@
 -- A row of types in the table of programs: the reader of types answers what the reader of programs is to answer, with
 -- the alternatives named as there.
-use Rattle.std.specs.Prelude.{ℕ, zero, suc, ◌+◌, max, leb, Bool, true, false, ◌&&◌, List, ◌∷◌, length, map, Result, Ok, Err}
+use Rattle.std.specs.Prelude.{ℕ, zero, suc, ◌+◌, max, leb, Bool, true, false, List, ◌∷◌, length, map, Ok, Err}
 use Rattle.std.proofs.Common.{◌≡◌, ◌≢◌, refl, sym, ap, ◌∙◌}
 use Rattle.es_tree.specs.declared.error.Lang.{Lang}
 use Rattle.es_tree.specs.declared.error.SyntaxError.{SyntaxError}
@@ -13,7 +13,6 @@ use Rattle.es_tree.proofs.OutLemmas.{clash}
 use Rattle.es_tree.proofs.Progress.{both_hold}
 use Rattle.es_grammar.specs.TypeRows as table
 use Rattle.es_grammar.specs.TypeTable.{type_rule}
-use Rattle.es_type_reader.specs.declared.tree.Tree.{Tree as TypeTree}
 use Rattle.es_type_reader.specs.declared.cursor.Measured.{Measured as TypeMeasured}
 use Rattle.es_type_reader.specs.Names.{label_of, name_of}
 use Rattle.es_type_reader.specs.Slim as slim_types
@@ -24,11 +23,11 @@ use Rattle.es_whole_grammar.specs.declared.rows.Row.TheVariants.{TypesRow}
 use Rattle.es_whole_grammar.specs.declared.rows.Label.TheVariants.{OfType}
 use Rattle.es_whole_grammar.specs.declared.rows.TypeRow.{TypeRow}
 use Rattle.es_whole_grammar.specs.TypeNames.{row_of_types, row_name, label_name}
-use Rattle.es_whole_grammar.specs.Embedding.{mapped_form, mapped_rule, types_rule}
+use Rattle.es_whole_grammar.specs.Embedding.{mapped_form, types_rule}
 use Rattle.es_whole_grammar.specs.Table.{rule}
 use Rattle.es_whole_grammar.proofs.Theorems.{rows_back}
 use Rattle.es_whole_reader.specs.declared.tree.Tree.{Tree}
-use Rattle.es_whole_reader.specs.declared.tree.Tree.TheVariants.{Leaf, Node, Parts}
+use Rattle.es_whole_reader.specs.declared.tree.Tree.TheVariants.{Node}
 use Rattle.es_whole_reader.specs.declared.cursor.Measured.{Measured}
 use Rattle.es_whole_reader.specs.Slim.{Kept, one, several, tree_in, parts_in}
 use Rattle.es_whole_reader.specs.Bounded.{Read, makes, node_at, form_at, wraps_at, rule_at, row_at}
