@@ -8,8 +8,8 @@ use es_tree::{Lang, SyntaxError};
 use es_whole_grammar::{Context, Label, Row};
 use es_whole_reader::Ahead::{Is, Other};
 use es_whole_reader::{
-    Ahead, Alt, Choose, Cursor, Done, Grammar, Guard, Input, Kinds, Make, Measured, OfRow, Parts,
-    Pick, Punct, ReadsForm, ReadsRule, Sort, Tok, When,
+    Ahead, Alt, Choose, Cursor, Done, Grammar, Guard, Input, Kinds, Make, MakeBy, Measured, OfRow,
+    Parts, Pick, Punct, ReadsForm, ReadsRule, Sort, Tok, When,
 };
 
 /// ~ '=>' (Block | Assign)
@@ -103,8 +103,10 @@ impl ReadsRule for PlainArrow {
         };
         Choose(
             Ahead::BeginsParameters(self.0),
-            Make(
+            MakeBy(
+                self.0,
                 Label::ParenthesizedArrow,
+                Label::TypedParenthesizedArrow,
                 ParametersArrowIn(self.0, outside, self.1, self.1),
             ),
             Make(
@@ -143,8 +145,10 @@ impl ReadsRule for AsyncArrow {
         };
         Pick(
             Guard::OpensAsyncList(self.0),
-            Make(
+            MakeBy(
+                self.0,
                 Label::AsyncParenthesizedArrow,
+                Label::TypedAsyncParenthesizedArrow,
                 Punct(
                     TokenKind::AsyncWord,
                     When(

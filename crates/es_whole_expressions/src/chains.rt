@@ -11,8 +11,8 @@ use es_whole_grammar::{Context, Label, Row};
 use es_whole_reader::Ahead::{Is, Other};
 use es_whole_reader::Told::{Guarded, Hint, Taken};
 use es_whole_reader::{
-    Ahead, Alt, Choose, Cursor, Done, Grammar, Guard, Input, Kinds, Make, Many, Measured, OfRow,
-    Opt, Pick, Punct, ReadsRule, Sort, Tok, When, Where, Wrap,
+    Ahead, Alt, Choose, Cursor, Done, Grammar, Guard, Input, Kinds, Make, MakeBy, Many, Measured,
+    OfRow, Opt, Pick, Punct, ReadsRule, Sort, Tok, When, Where, Wrap,
 };
 
 /// 'import' '(' Assign (',' Assign)? ','? ')'
@@ -123,8 +123,10 @@ impl ReadsRule for Base {
                                 Punct(TokenKind::Dot, Punct(TokenKind::TargetWord, Done)),
                             ),
                         ),
-                        Make(
+                        MakeBy(
+                            self.0,
                             Label::New,
+                            Label::TypedNew,
                             Punct(
                                 TokenKind::NewWord,
                                 OfRow(
@@ -303,8 +305,10 @@ impl ReadsRule for OptionalPost {
             in_constructor: false,
             ..self.1
         };
-        Make(
+        MakeBy(
+            self.0,
             Label::OptionalPost,
+            Label::TypedOptionalPost,
             Punct(
                 TokenKind::QuestionDot,
                 Alt(
@@ -376,13 +380,13 @@ impl ReadsRule for TypedPost {
         Pick(
             Guard::OpensCall,
             Make(
-                Label::CallPost,
+                Label::TypedCallPost,
                 TypeArgumentsIn(lang, OfRow(Row::ArgumentsRow(self.0), Done)),
             ),
             Pick(
                 Guard::OpensTypedTemplate,
                 Make(
-                    Label::TemplatePost,
+                    Label::TypedTemplatePost,
                     TypeArgumentsIn(lang, OfRow(Row::TemplateRow(self.0), Done)),
                 ),
                 Choose(

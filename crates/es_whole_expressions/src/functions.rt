@@ -11,8 +11,8 @@ use es_whole_grammar::{Context, Label, Row};
 use es_whole_reader::Ahead::{Has, Is, Other};
 use es_whole_reader::Told::{Hint, Taken};
 use es_whole_reader::{
-    Ahead, Alt, Choose, Cursor, Done, Grammar, Input, Kinds, Make, Many, Measured, OfRow, Opt,
-    Parts, Punct, ReadsForm, ReadsRule, Sort, Tok, When,
+    Ahead, Alt, Choose, Cursor, Done, Grammar, Input, Kinds, Make, MakeBy, Many, Measured, OfRow,
+    Opt, Parts, Punct, ReadsForm, ReadsRule, Sort, Tok, When,
 };
 
 /// '*'?, and what stands behind it
@@ -137,8 +137,10 @@ impl ReadsRule for Function {
             in_constructor: false,
             ..self.2
         };
-        Make(
+        MakeBy(
+            self.0,
             Label::Function,
+            Label::TypedFunction,
             Punct(
                 TokenKind::FunctionWord,
                 StarIn(NameIn(
@@ -171,8 +173,10 @@ impl ReadsRule for AsyncFunction {
             in_async: true,
             ..self.2
         };
-        Make(
+        MakeBy(
+            self.0,
             Label::AsyncFunction,
+            Label::TypedAsyncFunction,
             Punct(
                 TokenKind::AsyncWord,
                 When(
@@ -273,7 +277,13 @@ impl ReadsRule for Class {
         grammar: &Grammar<'_, F>,
         cursor: &mut Cursor,
     ) -> Result<Measured, SyntaxError> {
-        Make(Label::Class, ClassForm(self.0, self.1, self.2)).read(grammar, cursor)
+        MakeBy(
+            self.0,
+            Label::Class,
+            Label::TypedClass,
+            ClassForm(self.0, self.1, self.2),
+        )
+        .read(grammar, cursor)
     }
 }
 

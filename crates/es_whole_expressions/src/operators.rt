@@ -314,7 +314,7 @@ impl ReadsRule for Relation {
                 Wrap(Label::Binary, operand, told, ComparisonIn(self.1)).read(grammar, cursor)
             }
             Lang::Typescript => Wrap(
-                Label::Binary,
+                Label::TypedBinary,
                 operand,
                 told,
                 AssertedOr(ComparisonIn(self.1)),

@@ -15,7 +15,6 @@ use Rattle.es_grammar.specs.TypeRows as types
 use Rattle.es_grammar.specs.TypeTable.{type_rule}
 use Rattle.es_grammar.specs.Order.{StandsBetween}
 use Rattle.es_grammar.proofs.OrderLemmas.{row_stands}
-use Rattle.es_whole_grammar.specs.declared.rows.Label.TheVariants.{OfType}
 use Rattle.es_whole_grammar.specs.declared.rows.Label.{Label}
 use Rattle.es_whole_grammar.specs.declared.rows.Row.TheVariants.{TypesRow}
 use Rattle.es_whole_grammar.specs.TypeNames.{row_of_types, row_name, label_name}
@@ -81,8 +80,8 @@ rows_back types.PatternKeyRow = refl
 -- a type in a program is read as in the table of types, whatever is made of it: a reader of types serves both
 pub types_read : {Made : Type 0} (m : Makes Label Made) (l : Lang) (K : List Key) (room : ℕ) (r : types.Row) (at : ℕ)
     → read_row m K (rule l) room (TypesRow (row_name r)) at
-    ≡ read_row (renamed (λ s. TypesRow (row_name s)) (λ s. OfType (label_name s)) m K) K type_rule room r at
+    ≡ read_row (renamed (λ s. TypesRow (row_name s)) label_name m K) K type_rule room r at
 unfolding rule
 types_read m l K =
-    row_same (λ s. TypesRow (row_name s)) (λ s. OfType (label_name s)) m K (rule l) type_rule
+    row_same (λ s. TypesRow (row_name s)) label_name m K (rule l) type_rule
     (λ r. ap (λ s. types_rule (type_rule s)) (rows_back r))

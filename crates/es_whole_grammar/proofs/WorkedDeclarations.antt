@@ -9,8 +9,7 @@ use Rattle.es_tree.specs.Form.{as_kind, as_name, as_raw, as_str, as_there}
 use Rattle.es_tree.specs.Plain.{node, leaf, nil, cons, mark, turn}
 use Rattle.es_tree.specs.Fits.{most_nodes}
 use Rattle.es_tree.specs.Reader.{gives, read_turns, read_wraps, read_row}
-use Rattle.es_whole_grammar.specs.declared.rows.Label.TheVariants.{AbstractClass, AccessorField, AccessorMember, AliasDeclaration, ArrayPattern, Assignment, AsyncFunction, AsyncMember, Block, Class, Declarator, Declared, DeclaredVariables, Entity, EnumDeclaration, ExportAssignment, ExpressionStatement, FieldMember, ForEachStatement, Function, GlobalDeclaration, IndexMember, InterfaceDeclaration, MarkedParameter, MethodMember, Module, ModuleDeclaration, Name, NamePattern, NamespaceDeclaration, Number, OfType, Parameters, PropertyParameter, Signature, StrKey, ThisParameter, TryStatement, UnaryExpression, VariableDeclaration, VariableHead, Variables, WordKey}
-use Rattle.es_whole_grammar.specs.declared.rows.TypeLabel.TheVariants as types
+use Rattle.es_whole_grammar.specs.declared.rows.Label.TheVariants.{AbstractClass, AliasDeclaration, ArrayPattern, ArrayTypes, AssertsResult, Assignment, Block, CallSignature, Declared, DeclaredVariables, Entity, EntityOfType, EnumDeclaration, ExportAssignment, ExpressionStatement, ForEachStatement, FunctionType, GlobalDeclaration, IndexMember, InterfaceDeclaration, KeywordType, MarkedParameter, Module, ModuleDeclaration, Name, NamePattern, NamePatternOfType, NamespaceDeclaration, Number, ParametersOfType, PredicateResult, PropertyParameter, ReadonlyProperty, Reference, StrKey, ThisParameter, TypeArguments, TypeParameters, TypedAccessorField, TypedAccessorMember, TypedAsyncFunction, TypedAsyncMember, TypedClass, TypedDeclarator, TypedFieldMember, TypedFunction, TypedMethodMember, TypedParameters, TypedSignature, TypedTryStatement, TypedVariableHead, UnaryExpression, VariableDeclaration, Variables, WordKey, WordKeyOfType}
 use Rattle.es_grammar.specs.TypeReader.{joined, line, line_paired, one, paired}
 use Rattle.es_whole_grammar.specs.ProgramReader.{read_program}
 use Rattle.es_grammar.specs.Words.{is_name, is_word, is_name_or_this, is_numeric, is_sign, is_accessor_word, is_near, begins_key}
@@ -39,39 +38,38 @@ variables_read :
     -- let a: b = c
     (read_program lang.Typescript mode.Module (one k.LetWord ∷ one k.Name ∷ one k.Colon ∷ one k.Name ∷ one k.Equal ∷
     one k.Name ∷ []) ≡ gives (node Module 0 6 (cons nil (cons (turn (cons (node VariableDeclaration
-    0 6 (cons (node Variables 0 6 (cons (leaf as_kind 0) (cons (node Declarator 1 6 (cons (node
-    NamePattern 1 2 (cons (leaf as_name 1) nil)) (cons nil (cons (mark 2 (cons (node (OfType types.Entity) 3 4
+    0 6 (cons (node Variables 0 6 (cons (leaf as_kind 0) (cons (node TypedDeclarator 1 6 (cons (node
+    NamePattern 1 2 (cons (leaf as_name 1) nil)) (cons nil (cons (mark 2 (cons (node EntityOfType 3 4
     (cons (leaf as_name 3) (cons nil nil))) nil)) (cons (mark 4 (cons (node Name 5 6 (cons (leaf as_name 5)
     nil)) nil)) nil))))) (cons nil nil)))) (cons nil nil))) nil) nil) nil))) 6)
     -- let a!: b, [c]: d
     × (read_program lang.Typescript mode.Module (one k.LetWord ∷ one k.Name ∷ one k.Exclamation ∷ one k.Colon ∷ one
     k.Name ∷ one k.Comma ∷ paired k.OpenBracket 8 ∷ one k.Name ∷ paired k.CloseBracket 6 ∷ one k.Colon ∷ one k.Name ∷
     []) ≡ gives (node Module 0 11 (cons nil (cons (turn (cons (node VariableDeclaration 0 11 (cons
-    (node Variables 0 11 (cons (leaf as_kind 0) (cons (node Declarator 1 5 (cons (node NamePattern 1 2 (cons (leaf as_name 1) nil)) (cons (cons (leaf as_there 2) nil) (cons (mark 3 (cons (node (OfType
-    types.Entity) 4 5 (cons (leaf as_name 4) (cons nil nil))) nil)) (cons nil nil))))) (cons (turn (mark 5 (cons (node
-    Declarator 6 11 (cons (node ArrayPattern 6 9 (mark 6 (cons (turn (cons (cons (node NamePattern 7 8 (cons (leaf as_name 7) nil)) (cons nil nil)) nil) nil) (mark 8 nil)))) (cons nil (cons (mark 9
-    (cons (node (OfType types.Entity) 10 11 (cons (leaf as_name 10) (cons nil nil))) nil)) (cons nil nil))))) nil))
+    (node Variables 0 11 (cons (leaf as_kind 0) (cons (node TypedDeclarator 1 5 (cons (node NamePattern 1 2 (cons (leaf as_name 1) nil)) (cons (cons (leaf as_there 2) nil) (cons (mark 3 (cons (node EntityOfType 4 5 (cons (leaf as_name 4) (cons nil nil))) nil)) (cons nil nil))))) (cons (turn (mark 5 (cons (node
+    TypedDeclarator 6 11 (cons (node ArrayPattern 6 9 (mark 6 (cons (turn (cons (cons (node NamePattern 7 8 (cons (leaf as_name 7) nil)) (cons nil nil)) nil) nil) (mark 8 nil)))) (cons nil (cons (mark 9
+    (cons (node EntityOfType 10 11 (cons (leaf as_name 10) (cons nil nil))) nil)) (cons nil nil))))) nil))
     nil) nil)))) (cons nil nil))) nil) nil) nil))) 11)
     -- let a: (b) => c = d
     × (read_program lang.Typescript mode.Module (one k.LetWord ∷ one k.Name ∷ one k.Colon ∷ paired k.OpenParen 5 ∷ one
     k.Name ∷ paired k.CloseParen 3 ∷ one k.Arrow ∷ one k.Name ∷ one k.Equal ∷ one k.Name ∷ []) ≡ gives (node Module 0 10 (cons nil (cons (turn (cons (node VariableDeclaration 0 10 (cons (node Variables 0
-    10 (cons (leaf as_kind 0) (cons (node Declarator 1 10 (cons (node NamePattern 1 2 (cons (leaf
-    as_name 1) nil)) (cons nil (cons (mark 2 (cons (node (OfType types.FunctionType) 3 8 (cons nil (mark 3 (cons (node
-    (OfType types.Parameters) 4 5 (cons (turn (cons (node (OfType types.NamePattern) 4 5 (cons (leaf as_name 4) nil))
-    (cons nil nil)) nil) (cons nil nil))) (mark 5 (mark 6 (cons (node (OfType types.Entity) 7 8 (cons (leaf as_name 7)
+    10 (cons (leaf as_kind 0) (cons (node TypedDeclarator 1 10 (cons (node NamePattern 1 2 (cons (leaf
+    as_name 1) nil)) (cons nil (cons (mark 2 (cons (node FunctionType 3 8 (cons nil (mark 3 (cons (node
+    ParametersOfType 4 5 (cons (turn (cons (node NamePatternOfType 4 5 (cons (leaf as_name 4) nil))
+    (cons nil nil)) nil) (cons nil nil))) (mark 5 (mark 6 (cons (node EntityOfType 7 8 (cons (leaf as_name 7)
     (cons nil nil))) nil))))))) nil)) (cons (mark 8 (cons (node Name 9 10 (cons (leaf as_name 9) nil)) nil))
     nil))))) (cons nil nil)))) (cons nil nil))) nil) nil) nil))) 10)
     -- declare let a: b
     × (read_program lang.Typescript mode.Module (one k.DeclareWord ∷ one k.LetWord ∷ one k.Name ∷ one k.Colon ∷ one
     k.Name ∷ []) ≡ gives (node Module 0 5 (cons nil (cons (turn (cons (node DeclaredVariables 0 5 (mark 0
-    (cons (node Variables 1 5 (cons (leaf as_kind 1) (cons (node Declarator 2 5 (cons (node NamePattern 2 3 (cons (leaf as_name 2) nil)) (cons nil (cons (mark 3 (cons (node (OfType types.Entity) 4 5 (cons
+    (cons (node Variables 1 5 (cons (leaf as_kind 1) (cons (node TypedDeclarator 2 5 (cons (node NamePattern 2 3 (cons (leaf as_name 2) nil)) (cons nil (cons (mark 3 (cons (node EntityOfType 4 5 (cons
     (leaf as_name 4) (cons nil nil))) nil)) (cons nil nil))))) (cons nil nil)))) (cons nil nil)))) nil) nil) nil))) 5)
     -- for (let a: b of c) d
     × (read_program lang.Typescript mode.Module (one k.ForWord ∷ paired k.OpenParen 8 ∷ one k.LetWord ∷ one k.Name ∷
     one k.Colon ∷ one k.Name ∷ one k.OfWord ∷ one k.Name ∷ paired k.CloseParen 1 ∷ one k.Name ∷ []) ≡ gives (node
     Module 0 10 (cons nil (cons (turn (cons (node ForEachStatement 0 10 (mark 0 (mark 1 (cons (node
-    VariableHead 2 6 (cons (leaf as_kind 2) (cons (node NamePattern 3 4 (cons (leaf as_name 3) nil))
-    (cons (mark 4 (cons (node (OfType types.Entity) 5 6 (cons (leaf as_name 5) (cons nil nil))) nil)) nil)))) (cons
+    TypedVariableHead 2 6 (cons (leaf as_kind 2) (cons (node NamePattern 3 4 (cons (leaf as_name 3) nil))
+    (cons (mark 4 (cons (node EntityOfType 5 6 (cons (leaf as_name 5) (cons nil nil))) nil)) nil)))) (cons
     (cons (leaf as_kind 6) (cons (node Name 7 8 (cons (leaf as_name 7) nil)) nil)) (mark 8 (cons (node
     ExpressionStatement 9 10 (cons (node Name 9 10 (cons (leaf as_name 9) nil)) (cons nil nil)))
     nil))))))) nil) nil) nil))) 10)
@@ -79,13 +77,12 @@ variables_read :
     × (read_program lang.Typescript mode.Module (one k.TryWord ∷ paired k.OpenBrace 2 ∷ paired k.CloseBrace 1 ∷ one
     k.CatchWord ∷ paired k.OpenParen 8 ∷ one k.Name ∷ one k.Colon ∷ one k.Name ∷ paired k.CloseParen 4 ∷ paired
     k.OpenBrace 10 ∷ paired k.CloseBrace 9 ∷ []) ≡ gives (node Module 0 11 (cons nil (cons (turn (cons (node
-    TryStatement 0 11 (mark 0 (cons (node Block 1 3 (mark 1 (cons nil (mark 2 nil)))) (cons (mark 3
-    (cons (mark 4 (cons (node NamePattern 5 6 (cons (leaf as_name 5) nil)) (cons (mark 6 (cons (node (OfType
-    types.Entity) 7 8 (cons (leaf as_name 7) (cons nil nil))) nil)) (mark 8 nil)))) (cons (node Block 9 11
+    TypedTryStatement 0 11 (mark 0 (cons (node Block 1 3 (mark 1 (cons nil (mark 2 nil)))) (cons (mark 3
+    (cons (mark 4 (cons (node NamePattern 5 6 (cons (leaf as_name 5) nil)) (cons (mark 6 (cons (node EntityOfType 7 8 (cons (leaf as_name 7) (cons nil nil))) nil)) (mark 8 nil)))) (cons (node Block 9 11
     (mark 9 (cons nil (mark 10 nil)))) (cons nil nil)))) nil)))) nil) nil) nil))) 11)
     -- var a = b⏎!c
     × (read_program lang.Typescript mode.Module (one k.VarWord ∷ one k.Name ∷ one k.Equal ∷ one k.Name ∷ line
-    k.Exclamation ∷ one k.Name ∷ []) ≡ gives (node Module 0 6 (cons nil (cons (turn (cons (node VariableDeclaration 0 4 (cons (node Variables 0 4 (cons (leaf as_kind 0) (cons (node Declarator
+    k.Exclamation ∷ one k.Name ∷ []) ≡ gives (node Module 0 6 (cons nil (cons (turn (cons (node VariableDeclaration 0 4 (cons (node Variables 0 4 (cons (leaf as_kind 0) (cons (node TypedDeclarator
     1 4 (cons (node NamePattern 1 2 (cons (leaf as_name 1) nil)) (cons nil (cons nil (cons (mark 2 (cons
     (node Name 3 4 (cons (leaf as_name 3) nil)) nil)) nil))))) (cons nil nil)))) (cons nil nil))) nil) (turn
     (cons (node ExpressionStatement 4 6 (cons (node UnaryExpression 4 6 (cons (leaf as_kind 4) (cons
@@ -152,48 +149,48 @@ functions_read :
     k.Question ∷ one k.Colon ∷ one k.Name ∷ one k.Comma ∷ one k.Ellipsis ∷ one k.Name ∷ one k.Colon ∷ one k.Name ∷
     paired k.OpenBracket 20 ∷ paired k.CloseBracket 19 ∷ paired k.CloseParen 5 ∷ one k.Colon ∷ one k.Name ∷ paired
     k.OpenBrace 25 ∷ paired k.CloseBrace 24 ∷ []) ≡ gives (node Module 0 26 (cons nil (cons (turn (cons (node
-    Function 0 26 (mark 0 (cons nil (cons (leaf as_name 1) (cons (node Signature 2 24 (cons (cons
-    (node (OfType types.TypeParameters) 2 5 (mark 2 (cons nil (cons (leaf as_name 3) (cons nil (cons nil (cons nil
-    (cons nil (mark 4 nil))))))))) nil) (mark 5 (cons (node Parameters 6 21 (cons (turn (cons (node
-    ThisParameter 6 9 (cons (leaf as_there 6) (cons nil (cons (mark 7 (cons (node (OfType types.Entity) 8 9 (cons (leaf
+    TypedFunction 0 26 (mark 0 (cons nil (cons (leaf as_name 1) (cons (node TypedSignature 2 24 (cons (cons
+    (node TypeParameters 2 5 (mark 2 (cons nil (cons (leaf as_name 3) (cons nil (cons nil (cons nil
+    (cons nil (mark 4 nil))))))))) nil) (mark 5 (cons (node TypedParameters 6 21 (cons (turn (cons (node
+    ThisParameter 6 9 (cons (leaf as_there 6) (cons nil (cons (mark 7 (cons (node EntityOfType 8 9 (cons (leaf
     as_name 8) (cons nil nil))) nil)) (cons nil nil))))) (cons (mark 9 nil) nil)) (turn (cons (node MarkedParameter 10
     14 (cons (node NamePattern 10 11 (cons (leaf as_name 10) nil)) (cons (cons (leaf as_there 11) nil) (cons
-    (mark 12 (cons (node (OfType types.Entity) 13 14 (cons (leaf as_name 13) (cons nil nil))) nil)) (cons nil nil)))))
+    (mark 12 (cons (node EntityOfType 13 14 (cons (leaf as_name 13) (cons nil nil))) nil)) (cons nil nil)))))
     (cons (mark 14 nil) nil)) nil)) (cons (mark 15 (cons (node NamePattern 16 17 (cons (leaf as_name 16)
-    nil)) (cons (mark 17 (cons (node (OfType types.ArrayTypes) 18 21 (cons (node (OfType types.Entity) 18 19 (cons (leaf
+    nil)) (cons (mark 17 (cons (node ArrayTypes 18 21 (cons (node EntityOfType 18 19 (cons (leaf
     as_name 18) (cons nil nil))) (mark 19 (cons nil (mark 20 (cons nil nil)))))) nil)) nil))) nil))) (mark 21 (cons
-    (mark 22 (cons (node (OfType types.Entity) 23 24 (cons (leaf as_name 23) (cons nil nil))) nil)) nil)))))) (cons
+    (mark 22 (cons (node EntityOfType 23 24 (cons (leaf as_name 23) (cons nil nil))) nil)) nil)))))) (cons
     (cons (node Block 24 26 (mark 24 (cons nil (mark 25 nil)))) nil) nil)))))) nil) nil) nil))) 26)
     -- function f(a: b = c): asserts a
     × (read_program lang.Typescript mode.Module (one k.FunctionWord ∷ one k.Name ∷ paired k.OpenParen 8 ∷ one k.Name ∷
     one k.Colon ∷ one k.Name ∷ one k.Equal ∷ one k.Name ∷ paired k.CloseParen 2 ∷ one k.Colon ∷ one k.AssertsWord ∷
-    one k.Name ∷ []) ≡ gives (node Module 0 12 (cons nil (cons (turn (cons (node Function 0 12 (mark
-    0 (cons nil (cons (leaf as_name 1) (cons (node Signature 2 12 (cons nil (mark 2 (cons (node Parameters 3 8 (cons (turn (cons (node MarkedParameter 3 8 (cons (node NamePattern 3 4 (cons (leaf
-    as_name 3) nil)) (cons nil (cons (mark 4 (cons (node (OfType types.Entity) 5 6 (cons (leaf as_name 5) (cons nil
+    one k.Name ∷ []) ≡ gives (node Module 0 12 (cons nil (cons (turn (cons (node TypedFunction 0 12 (mark
+    0 (cons nil (cons (leaf as_name 1) (cons (node TypedSignature 2 12 (cons nil (mark 2 (cons (node TypedParameters 3 8 (cons (turn (cons (node MarkedParameter 3 8 (cons (node NamePattern 3 4 (cons (leaf
+    as_name 3) nil)) (cons nil (cons (mark 4 (cons (node EntityOfType 5 6 (cons (leaf as_name 5) (cons nil
     nil))) nil)) (cons (mark 6 (cons (node Name 7 8 (cons (leaf as_name 7) nil)) nil)) nil))))) (cons nil
-    nil)) nil) (cons nil nil))) (mark 8 (cons (mark 9 (cons (node (OfType types.AssertsResult) 10 12 (mark 10 (cons
+    nil)) nil) (cons nil nil))) (mark 8 (cons (mark 9 (cons (node AssertsResult 10 12 (mark 10 (cons
     (leaf as_name 11) (cons nil nil)))) nil)) nil)))))) (cons (cons nil nil) nil)))))) nil) nil) nil))) 12)
     -- declare function f(a): a is b
     × (read_program lang.Typescript mode.Module (one k.DeclareWord ∷ one k.FunctionWord ∷ one k.Name ∷ paired
     k.OpenParen 5 ∷ one k.Name ∷ paired k.CloseParen 3 ∷ one k.Colon ∷ one k.Name ∷ one k.IsWord ∷ one k.Name ∷ []) ≡
-    gives (node Module 0 10 (cons nil (cons (turn (cons (node Declared 0 10 (mark 0 (cons (node Function 1 10 (mark 1 (cons nil (cons (leaf as_name 2) (cons (node Signature 3 10 (cons nil (mark 3
-    (cons (node Parameters 4 5 (cons (turn (cons (node NamePattern 4 5 (cons (leaf as_name 4) nil))
-    (cons nil nil)) nil) (cons nil nil))) (mark 5 (cons (mark 6 (cons (node (OfType types.PredicateResult) 7 10 (cons
-    (leaf as_name 7) (mark 8 (cons (node (OfType types.Entity) 9 10 (cons (leaf as_name 9) (cons nil nil))) nil))))
+    gives (node Module 0 10 (cons nil (cons (turn (cons (node Declared 0 10 (mark 0 (cons (node TypedFunction 1 10 (mark 1 (cons nil (cons (leaf as_name 2) (cons (node TypedSignature 3 10 (cons nil (mark 3
+    (cons (node TypedParameters 4 5 (cons (turn (cons (node NamePattern 4 5 (cons (leaf as_name 4) nil))
+    (cons nil nil)) nil) (cons nil nil))) (mark 5 (cons (mark 6 (cons (node PredicateResult 7 10 (cons
+    (leaf as_name 7) (mark 8 (cons (node EntityOfType 9 10 (cons (leaf as_name 9) (cons nil nil))) nil))))
     nil)) nil)))))) (cons (cons nil nil) nil)))))) nil))) nil) nil) nil))) 10)
     -- x = function f();
     × (read_program lang.Typescript mode.Module (one k.Name ∷ one k.Equal ∷ one k.FunctionWord ∷ one k.Name ∷ paired
     k.OpenParen 5 ∷ paired k.CloseParen 4 ∷ one k.Semicolon ∷ []) ≡ gives (node Module 0 7 (cons nil (cons
     (turn (cons (node ExpressionStatement 0 7 (cons (node Assignment 0 7 (cons (node Name 0
-    1 (cons (leaf as_name 0) nil)) (cons (cons (leaf as_kind 1) nil) (cons (node Function 2 7 (mark 2 (cons
-    nil (cons (cons (leaf as_name 3) nil) (cons (node Signature 4 6 (cons nil (mark 4 (cons (node Parameters 5 5 (cons nil (cons nil nil))) (mark 5 (cons nil nil)))))) (cons (cons (mark 6 nil) nil) nil))))))
+    1 (cons (leaf as_name 0) nil)) (cons (cons (leaf as_kind 1) nil) (cons (node TypedFunction 2 7 (mark 2 (cons
+    nil (cons (cons (leaf as_name 3) nil) (cons (node TypedSignature 4 6 (cons nil (mark 4 (cons (node TypedParameters 5 5 (cons nil (cons nil nil))) (mark 5 (cons nil nil)))))) (cons (cons (mark 6 nil) nil) nil))))))
     nil)))) (cons nil nil))) nil) nil) nil))) 7)
     -- async function f(): a
     × (read_program lang.Typescript mode.Module (one k.AsyncWord ∷ one k.FunctionWord ∷ one k.Name ∷ paired
     k.OpenParen 4 ∷ paired k.CloseParen 3 ∷ one k.Colon ∷ one k.Name ∷ []) ≡ gives (node Module 0 7 (cons nil
-    (cons (turn (cons (node AsyncFunction 0 7 (mark 0 (mark 1 (cons nil (cons (leaf as_name 2) (cons (node
-    Signature 3 7 (cons nil (mark 3 (cons (node Parameters 4 4 (cons nil (cons nil nil))) (mark 4
-    (cons (mark 5 (cons (node (OfType types.Entity) 6 7 (cons (leaf as_name 6) (cons nil nil))) nil)) nil)))))) (cons
+    (cons (turn (cons (node TypedAsyncFunction 0 7 (mark 0 (mark 1 (cons nil (cons (leaf as_name 2) (cons (node
+    TypedSignature 3 7 (cons nil (mark 3 (cons (node TypedParameters 4 4 (cons nil (cons nil nil))) (mark 4
+    (cons (mark 5 (cons (node EntityOfType 6 7 (cons (leaf as_name 6) (cons nil nil))) nil)) nil)))))) (cons
     (cons nil nil) nil))))))) nil) nil) nil))) 7)
 unfolding read_program read_row read_turns read_wraps most_nodes is_name is_word is_name_or_this is_numeric
     is_sign is_accessor_word is_near begins_key may_end ended word_or_str_in names_in attributes attributes_ended
@@ -254,49 +251,49 @@ classes_read :
     -- class A<T> extends B<c> implements D, E { }
     (read_program lang.Typescript mode.Module (one k.ClassWord ∷ one k.Name ∷ one k.Less ∷ one k.Name ∷ joined
     k.Greater ∷ one k.ExtendsWord ∷ one k.Name ∷ one k.Less ∷ one k.Name ∷ joined k.Greater ∷ one k.ImplementsWord ∷
-    one k.Name ∷ one k.Comma ∷ one k.Name ∷ paired k.OpenBrace 15 ∷ paired k.CloseBrace 14 ∷ []) ≡ gives (node Module 0 16 (cons nil (cons (turn (cons (node Class 0 16 (mark 0 (cons (leaf as_name 1) (cons (cons
-    (node (OfType types.TypeParameters) 2 5 (mark 2 (cons nil (cons (leaf as_name 3) (cons nil (cons nil (cons nil
+    one k.Name ∷ one k.Comma ∷ one k.Name ∷ paired k.OpenBrace 15 ∷ paired k.CloseBrace 14 ∷ []) ≡ gives (node Module 0 16 (cons nil (cons (turn (cons (node TypedClass 0 16 (mark 0 (cons (leaf as_name 1) (cons (cons
+    (node TypeParameters 2 5 (mark 2 (cons nil (cons (leaf as_name 3) (cons nil (cons nil (cons nil
     (cons nil (mark 4 nil))))))))) nil) (cons (mark 5 (cons (node Name 6 7 (cons (leaf as_name 6) nil)) (cons
-    (cons (node (OfType types.TypeArguments) 7 10 (mark 7 (cons (node (OfType types.Entity) 8 9 (cons (leaf as_name 8)
-    (cons nil nil))) (cons nil (mark 9 nil))))) nil) nil))) (cons (mark 10 (cons (node (OfType types.Entity) 11 12
-    (cons (leaf as_name 11) (cons nil nil))) (cons (turn (mark 12 (cons (node (OfType types.Entity) 13 14 (cons (leaf
+    (cons (node TypeArguments 7 10 (mark 7 (cons (node EntityOfType 8 9 (cons (leaf as_name 8)
+    (cons nil nil))) (cons nil (mark 9 nil))))) nil) nil))) (cons (mark 10 (cons (node EntityOfType 11 12
+    (cons (leaf as_name 11) (cons nil nil))) (cons (turn (mark 12 (cons (node EntityOfType 13 14 (cons (leaf
     as_name 13) (cons nil nil))) nil)) nil) nil))) (mark 14 (cons nil (mark 15 nil))))))))) nil) nil) nil))) 16)
     -- abstract class A { abstract a: b; abstract b(): c }
     × (read_program lang.Typescript mode.Module (one k.AbstractWord ∷ one k.ClassWord ∷ one k.Name ∷ paired
     k.OpenBrace 15 ∷ one k.AbstractWord ∷ one k.Name ∷ one k.Colon ∷ one k.Name ∷ one k.Semicolon ∷ one k.AbstractWord
     ∷ one k.Name ∷ paired k.OpenParen 12 ∷ paired k.CloseParen 11 ∷ one k.Colon ∷ one k.Name ∷ paired k.CloseBrace 3 ∷
     []) ≡ gives (node Module 0 16 (cons nil (cons (turn (cons (node AbstractClass 0 16 (mark 0 (mark 1 (cons
-    (leaf as_name 2) (cons nil (cons nil (cons nil (mark 3 (cons (turn (cons (node FieldMember 4 9 (cons
+    (leaf as_name 2) (cons nil (cons nil (cons nil (mark 3 (cons (turn (cons (node TypedFieldMember 4 9 (cons
     (turn (cons (leaf as_kind 4) nil) nil) (cons (node WordKey 5 6 (cons (leaf as_name 5) nil)) (cons nil
-    (cons (mark 6 (cons (node (OfType types.Entity) 7 8 (cons (leaf as_name 7) (cons nil nil))) nil)) (cons nil (cons
-    (mark 8 nil) nil))))))) nil) (turn (cons (node MethodMember 9 15 (cons (turn (cons (leaf as_kind 9) nil)
-    nil) (cons (cons (node WordKey 10 11 (cons (leaf as_name 10) nil)) (cons nil (cons (node Signature 11 15 (cons nil (mark 11 (cons (node Parameters 12 12 (cons nil (cons nil nil))) (mark 12
-    (cons (mark 13 (cons (node (OfType types.Entity) 14 15 (cons (leaf as_name 14) (cons nil nil))) nil)) nil))))))
+    (cons (mark 6 (cons (node EntityOfType 7 8 (cons (leaf as_name 7) (cons nil nil))) nil)) (cons nil (cons
+    (mark 8 nil) nil))))))) nil) (turn (cons (node TypedMethodMember 9 15 (cons (turn (cons (leaf as_kind 9) nil)
+    nil) (cons (cons (node WordKey 10 11 (cons (leaf as_name 10) nil)) (cons nil (cons (node TypedSignature 11 15 (cons nil (mark 11 (cons (node TypedParameters 12 12 (cons nil (cons nil nil))) (mark 12
+    (cons (mark 13 (cons (node EntityOfType 14 15 (cons (leaf as_name 14) (cons nil nil))) nil)) nil))))))
     nil))) (cons (cons nil nil) nil)))) nil) nil)) (mark 15 nil)))))))))) nil) nil) nil))) 16)
     -- class A { private readonly a?: b = c; static d!: e }
     × (read_program lang.Typescript mode.Module (one k.ClassWord ∷ one k.Name ∷ paired k.OpenBrace 17 ∷ one
     k.PrivateWord ∷ one k.ReadonlyWord ∷ one k.Name ∷ one k.Question ∷ one k.Colon ∷ one k.Name ∷ one k.Equal ∷ one
     k.Name ∷ one k.Semicolon ∷ one k.StaticWord ∷ one k.Name ∷ one k.Exclamation ∷ one k.Colon ∷ one k.Name ∷ paired
-    k.CloseBrace 2 ∷ []) ≡ gives (node Module 0 18 (cons nil (cons (turn (cons (node Class 0 18
-    (mark 0 (cons (leaf as_name 1) (cons nil (cons nil (cons nil (mark 2 (cons (turn (cons (node FieldMember
+    k.CloseBrace 2 ∷ []) ≡ gives (node Module 0 18 (cons nil (cons (turn (cons (node TypedClass 0 18
+    (mark 0 (cons (leaf as_name 1) (cons nil (cons nil (cons nil (mark 2 (cons (turn (cons (node TypedFieldMember
     3 12 (cons (turn (cons (leaf as_kind 3) nil) (turn (cons (leaf as_kind 4) nil) nil)) (cons (node WordKey
-    5 6 (cons (leaf as_name 5) nil)) (cons (cons (leaf as_kind 6) nil) (cons (mark 7 (cons (node (OfType types.Entity)
+    5 6 (cons (leaf as_name 5) nil)) (cons (cons (leaf as_kind 6) nil) (cons (mark 7 (cons (node EntityOfType
     8 9 (cons (leaf as_name 8) (cons nil nil))) nil)) (cons (mark 9 (cons (node Name 10 11 (cons (leaf
-    as_name 10) nil)) nil)) (cons (mark 11 nil) nil))))))) nil) (turn (cons (node FieldMember 12 17 (cons
+    as_name 10) nil)) nil)) (cons (mark 11 nil) nil))))))) nil) (turn (cons (node TypedFieldMember 12 17 (cons
     (turn (cons (leaf as_kind 12) nil) nil) (cons (node WordKey 13 14 (cons (leaf as_name 13) nil)) (cons
-    (cons (leaf as_kind 14) nil) (cons (mark 15 (cons (node (OfType types.Entity) 16 17 (cons (leaf as_name 16) (cons
+    (cons (leaf as_kind 14) nil) (cons (mark 15 (cons (node EntityOfType 16 17 (cons (leaf as_name 16) (cons
     nil nil))) nil)) (cons nil (cons nil nil))))))) nil) nil)) (mark 17 nil))))))))) nil) nil) nil))) 18)
     -- class A { constructor(public a, readonly b: c) { } }
     × (read_program lang.Typescript mode.Module (one k.ClassWord ∷ one k.Name ∷ paired k.OpenBrace 15 ∷ one
     k.ConstructorWord ∷ paired k.OpenParen 12 ∷ one k.PublicWord ∷ one k.Name ∷ one k.Comma ∷ one k.ReadonlyWord ∷ one
     k.Name ∷ one k.Colon ∷ one k.Name ∷ paired k.CloseParen 4 ∷ paired k.OpenBrace 14 ∷ paired k.CloseBrace 13 ∷
-    paired k.CloseBrace 2 ∷ []) ≡ gives (node Module 0 16 (cons nil (cons (turn (cons (node Class 0
-    16 (mark 0 (cons (leaf as_name 1) (cons nil (cons nil (cons nil (mark 2 (cons (turn (cons (node MethodMember 3 15 (cons nil (cons (cons (node WordKey 3 4 (cons (leaf as_name 3) nil)) (cons nil (cons
-    (node Signature 4 13 (cons nil (mark 4 (cons (node Parameters 5 12 (cons (turn (cons (node
+    paired k.CloseBrace 2 ∷ []) ≡ gives (node Module 0 16 (cons nil (cons (turn (cons (node TypedClass 0
+    16 (mark 0 (cons (leaf as_name 1) (cons nil (cons nil (cons nil (mark 2 (cons (turn (cons (node TypedMethodMember 3 15 (cons nil (cons (cons (node WordKey 3 4 (cons (leaf as_name 3) nil)) (cons nil (cons
+    (node TypedSignature 4 13 (cons nil (mark 4 (cons (node TypedParameters 5 12 (cons (turn (cons (node
     PropertyParameter 5 7 (cons (turn (cons (leaf as_kind 5) nil) nil) (cons (node NamePattern 6 7 (cons
     (leaf as_name 6) nil)) (cons nil (cons nil (cons nil nil)))))) (cons (mark 7 nil) nil)) (turn (cons (node
     PropertyParameter 8 12 (cons (turn (cons (leaf as_kind 8) nil) nil) (cons (node NamePattern 9 10 (cons
-    (leaf as_name 9) nil)) (cons nil (cons (mark 10 (cons (node (OfType types.Entity) 11 12 (cons (leaf as_name 11)
+    (leaf as_name 9) nil)) (cons nil (cons (mark 10 (cons (node EntityOfType 11 12 (cons (leaf as_name 11)
     (cons nil nil))) nil)) (cons nil nil)))))) (cons nil nil)) nil)) (cons nil nil))) (mark 12 (cons nil nil))))))
     nil))) (cons (cons (node Block 13 15 (mark 13 (cons nil (mark 14 nil)))) nil) nil)))) nil) nil) (mark 15
     nil))))))))) nil) nil) nil))) 16)
@@ -306,31 +303,30 @@ classes_read :
     k.CloseBracket 5 ∷ one k.Colon ∷ one k.AnyWord ∷ one k.Semicolon ∷ one k.GetWord ∷ one k.Name ∷ paired k.OpenParen
     16 ∷ paired k.CloseParen 15 ∷ one k.Colon ∷ one k.Name ∷ one k.Semicolon ∷ one k.AccessorWord ∷ one k.Name ∷ one
     k.Colon ∷ one k.Name ∷ one k.Equal ∷ one k.Name ∷ paired k.CloseBrace 2 ∷ []) ≡ gives (node Module 0 27
-    (cons nil (cons (turn (cons (node Class 0 27 (mark 0 (cons (leaf as_name 1) (cons nil (cons nil (cons nil
+    (cons nil (cons (turn (cons (node TypedClass 0 27 (mark 0 (cons (leaf as_name 1) (cons nil (cons nil (cons nil
     (mark 2 (cons (turn (cons (node IndexMember 3 13 (cons (turn (cons (leaf as_kind 3) nil) (turn (cons (leaf as_kind
-    4) nil) nil)) (mark 5 (cons (leaf as_name 6) (mark 7 (cons (node (OfType types.KeywordType) 8 9 (cons (leaf as_kind
-    8) nil)) (mark 9 (cons (mark 10 (cons (node (OfType types.KeywordType) 11 12 (cons (leaf as_kind 11) nil)) nil))
-    (cons (mark 12 nil) nil))))))))) nil) (turn (cons (node AccessorMember 13 20 (cons nil (cons (leaf
-    as_kind 13) (cons (cons (node WordKey 14 15 (cons (leaf as_name 14) nil)) (cons nil (cons (node Signature 15 19 (cons nil (mark 15 (cons (node Parameters 16 16 (cons nil (cons nil nil))) (mark 16
-    (cons (mark 17 (cons (node (OfType types.Entity) 18 19 (cons (leaf as_name 18) (cons nil nil))) nil)) nil))))))
-    nil))) (cons (cons (mark 19 nil) nil) nil))))) nil) (turn (cons (node AccessorField 20 26 (cons nil (mark
-    20 (cons (node WordKey 21 22 (cons (leaf as_name 21) nil)) (cons nil (cons (mark 22 (cons (node (OfType
-    types.Entity) 23 24 (cons (leaf as_name 23) (cons nil nil))) nil)) (cons (mark 24 (cons (node Name 25 26
+    4) nil) nil)) (mark 5 (cons (leaf as_name 6) (mark 7 (cons (node KeywordType 8 9 (cons (leaf as_kind
+    8) nil)) (mark 9 (cons (mark 10 (cons (node KeywordType 11 12 (cons (leaf as_kind 11) nil)) nil))
+    (cons (mark 12 nil) nil))))))))) nil) (turn (cons (node TypedAccessorMember 13 20 (cons nil (cons (leaf
+    as_kind 13) (cons (cons (node WordKey 14 15 (cons (leaf as_name 14) nil)) (cons nil (cons (node TypedSignature 15 19 (cons nil (mark 15 (cons (node TypedParameters 16 16 (cons nil (cons nil nil))) (mark 16
+    (cons (mark 17 (cons (node EntityOfType 18 19 (cons (leaf as_name 18) (cons nil nil))) nil)) nil))))))
+    nil))) (cons (cons (mark 19 nil) nil) nil))))) nil) (turn (cons (node TypedAccessorField 20 26 (cons nil (mark
+    20 (cons (node WordKey 21 22 (cons (leaf as_name 21) nil)) (cons nil (cons (mark 22 (cons (node EntityOfType 23 24 (cons (leaf as_name 23) (cons nil nil))) nil)) (cons (mark 24 (cons (node Name 25 26
     (cons (leaf as_name 25) nil)) nil)) (cons nil nil)))))))) nil) nil))) (mark 26 nil))))))))) nil) nil) nil))) 27)
     -- class A { a?<T>(): b; override async *c() { } }
     × (read_program lang.Typescript mode.Module (one k.ClassWord ∷ one k.Name ∷ paired k.OpenBrace 21 ∷ one k.Name ∷
     one k.Question ∷ one k.Less ∷ one k.Name ∷ joined k.Greater ∷ paired k.OpenParen 9 ∷ paired k.CloseParen 8 ∷ one
     k.Colon ∷ one k.Name ∷ one k.Semicolon ∷ one k.OverrideWord ∷ one k.AsyncWord ∷ one k.Star ∷ one k.Name ∷ paired
     k.OpenParen 18 ∷ paired k.CloseParen 17 ∷ paired k.OpenBrace 20 ∷ paired k.CloseBrace 19 ∷ paired k.CloseBrace 2 ∷
-    []) ≡ gives (node Module 0 22 (cons nil (cons (turn (cons (node Class 0 22 (mark 0 (cons (leaf
-    as_name 1) (cons nil (cons nil (cons nil (mark 2 (cons (turn (cons (node MethodMember 3 13 (cons nil
+    []) ≡ gives (node Module 0 22 (cons nil (cons (turn (cons (node TypedClass 0 22 (mark 0 (cons (leaf
+    as_name 1) (cons nil (cons nil (cons nil (mark 2 (cons (turn (cons (node TypedMethodMember 3 13 (cons nil
     (cons (cons (node WordKey 3 4 (cons (leaf as_name 3) nil)) (cons (cons (leaf as_there 4) nil) (cons (node
-    Signature 5 12 (cons (cons (node (OfType types.TypeParameters) 5 8 (mark 5 (cons nil (cons (leaf as_name
-    6) (cons nil (cons nil (cons nil (cons nil (mark 7 nil))))))))) nil) (mark 8 (cons (node Parameters 9 9
-    (cons nil (cons nil nil))) (mark 9 (cons (mark 10 (cons (node (OfType types.Entity) 11 12 (cons (leaf as_name 11)
-    (cons nil nil))) nil)) nil)))))) nil))) (cons (cons (mark 12 nil) nil) nil)))) nil) (turn (cons (node AsyncMember 13 21 (cons (turn (cons (leaf as_kind 13) nil) nil) (mark 14 (cons (cons (leaf as_there 15) nil)
-    (cons (cons (node WordKey 16 17 (cons (leaf as_name 16) nil)) (cons nil (cons (node Signature 17
-    19 (cons nil (mark 17 (cons (node Parameters 18 18 (cons nil (cons nil nil))) (mark 18 (cons nil
+    TypedSignature 5 12 (cons (cons (node TypeParameters 5 8 (mark 5 (cons nil (cons (leaf as_name
+    6) (cons nil (cons nil (cons nil (cons nil (mark 7 nil))))))))) nil) (mark 8 (cons (node TypedParameters 9 9
+    (cons nil (cons nil nil))) (mark 9 (cons (mark 10 (cons (node EntityOfType 11 12 (cons (leaf as_name 11)
+    (cons nil nil))) nil)) nil)))))) nil))) (cons (cons (mark 12 nil) nil) nil)))) nil) (turn (cons (node TypedAsyncMember 13 21 (cons (turn (cons (leaf as_kind 13) nil) nil) (mark 14 (cons (cons (leaf as_there 15) nil)
+    (cons (cons (node WordKey 16 17 (cons (leaf as_name 16) nil)) (cons nil (cons (node TypedSignature 17
+    19 (cons nil (mark 17 (cons (node TypedParameters 18 18 (cons nil (cons nil nil))) (mark 18 (cons nil
     nil)))))) nil))) (cons (cons (node Block 19 21 (mark 19 (cons nil (mark 20 nil)))) nil) nil)))))) nil)
     nil)) (mark 21 nil))))))))) nil) nil) nil))) 22)
     -- x = abstract⏎class A { }
@@ -345,15 +341,14 @@ classes_read :
     ∷ one k.Less ∷ one k.Name ∷ joined k.Greater ∷ paired k.OpenParen 8 ∷ paired k.CloseParen 7 ∷ paired k.OpenBrace
     10 ∷ paired k.CloseBrace 9 ∷ one k.ReadonlyWord ∷ one k.Colon ∷ one k.Name ∷ one k.Semicolon ∷ one k.AbstractWord
     ∷ line k.Name ∷ paired k.CloseBrace 2 ∷ []) ≡ gives (node Module 0 18 (cons nil (cons (turn (cons (node
-    Class 0 18 (mark 0 (cons (leaf as_name 1) (cons nil (cons nil (cons nil (mark 2 (cons (turn (cons (node
-    MethodMember 3 11 (cons nil (cons (cons (node WordKey 3 4 (cons (leaf as_name 3) nil)) (cons nil
-    (cons (node Signature 4 9 (cons (cons (node (OfType types.TypeParameters) 4 7 (mark 4 (cons nil (cons
-    (leaf as_name 5) (cons nil (cons nil (cons nil (cons nil (mark 6 nil))))))))) nil) (mark 7 (cons (node Parameters 8 8 (cons nil (cons nil nil))) (mark 8 (cons nil nil)))))) nil))) (cons (cons (node Block 9
-    11 (mark 9 (cons nil (mark 10 nil)))) nil) nil)))) nil) (turn (cons (node FieldMember 11 15 (cons nil
-    (cons (node WordKey 11 12 (cons (leaf as_name 11) nil)) (cons nil (cons (mark 12 (cons (node (OfType
-    types.Entity) 13 14 (cons (leaf as_name 13) (cons nil nil))) nil)) (cons nil (cons (mark 14 nil) nil))))))) nil)
-    (turn (cons (node FieldMember 15 16 (cons nil (cons (node WordKey 15 16 (cons (leaf as_name 15)
-    nil)) (cons nil (cons nil (cons nil (cons nil nil))))))) nil) (turn (cons (node FieldMember 16 17 (cons
+    TypedClass 0 18 (mark 0 (cons (leaf as_name 1) (cons nil (cons nil (cons nil (mark 2 (cons (turn (cons (node
+    TypedMethodMember 3 11 (cons nil (cons (cons (node WordKey 3 4 (cons (leaf as_name 3) nil)) (cons nil
+    (cons (node TypedSignature 4 9 (cons (cons (node TypeParameters 4 7 (mark 4 (cons nil (cons
+    (leaf as_name 5) (cons nil (cons nil (cons nil (cons nil (mark 6 nil))))))))) nil) (mark 7 (cons (node TypedParameters 8 8 (cons nil (cons nil nil))) (mark 8 (cons nil nil)))))) nil))) (cons (cons (node Block 9
+    11 (mark 9 (cons nil (mark 10 nil)))) nil) nil)))) nil) (turn (cons (node TypedFieldMember 11 15 (cons nil
+    (cons (node WordKey 11 12 (cons (leaf as_name 11) nil)) (cons nil (cons (mark 12 (cons (node EntityOfType 13 14 (cons (leaf as_name 13) (cons nil nil))) nil)) (cons nil (cons (mark 14 nil) nil))))))) nil)
+    (turn (cons (node TypedFieldMember 15 16 (cons nil (cons (node WordKey 15 16 (cons (leaf as_name 15)
+    nil)) (cons nil (cons nil (cons nil (cons nil nil))))))) nil) (turn (cons (node TypedFieldMember 16 17 (cons
     nil (cons (node WordKey 16 17 (cons (leaf as_name 16) nil)) (cons nil (cons nil (cons nil (cons nil
     nil))))))) nil) nil)))) (mark 17 nil))))))))) nil) nil) nil))) 18)
 unfolding read_program read_row read_turns read_wraps most_nodes is_name is_word is_name_or_this is_numeric
@@ -418,25 +413,23 @@ types_and_spaces_read :
     ∷ paired k.OpenBrace 24 ∷ paired k.OpenParen 15 ∷ one k.Name ∷ paired k.CloseParen 13 ∷ one k.Colon ∷ one k.Name ∷
     one k.Semicolon ∷ one k.ReadonlyWord ∷ one k.Name ∷ one k.Question ∷ one k.Colon ∷ one k.Name ∷ paired
     k.CloseBrace 12 ∷ []) ≡ gives (node Module 0 25 (cons nil (cons (turn (cons (node InterfaceDeclaration 0 25 (mark 0
-    (cons (leaf as_name 1) (cons (cons (node (OfType types.TypeParameters) 2 5 (mark 2 (cons nil (cons (leaf as_name 3)
-    (cons nil (cons nil (cons nil (cons nil (mark 4 nil))))))))) nil) (cons (mark 5 (cons (node (OfType
-    types.Reference) 6 10 (cons (node (OfType types.Entity) 6 7 (cons (leaf as_name 6) (cons nil nil))) (cons (node
-    (OfType types.TypeArguments) 7 10 (mark 7 (cons (node (OfType types.Entity) 8 9 (cons (leaf as_name 8) (cons nil
-    nil))) (cons nil (mark 9 nil))))) nil))) (cons (turn (mark 10 (cons (node (OfType types.Entity) 11 12 (cons (leaf
-    as_name 11) (cons nil nil))) nil)) nil) nil))) (mark 12 (cons (turn (cons (node (OfType types.CallSignature) 13 19
-    (cons nil (mark 13 (cons (node (OfType types.Parameters) 14 15 (cons (turn (cons (node (OfType types.NamePattern) 14
-    15 (cons (leaf as_name 14) nil)) (cons nil nil)) nil) (cons nil nil))) (mark 15 (cons (mark 16 (cons (node (OfType
-    types.Entity) 17 18 (cons (leaf as_name 17) (cons nil nil))) nil)) (cons (cons (leaf as_there 18) nil) nil)))))))
-    nil) (turn (cons (node (OfType types.ReadonlyProperty) 19 24 (mark 19 (cons (node (OfType types.WordKey) 20 21 (cons
-    (leaf as_name 20) nil)) (cons (cons (leaf as_there 21) nil) (cons (mark 22 (cons (node (OfType types.Entity) 23 24
+    (cons (leaf as_name 1) (cons (cons (node TypeParameters 2 5 (mark 2 (cons nil (cons (leaf as_name 3)
+    (cons nil (cons nil (cons nil (cons nil (mark 4 nil))))))))) nil) (cons (mark 5 (cons (node Reference 6 10 (cons (node EntityOfType 6 7 (cons (leaf as_name 6) (cons nil nil))) (cons (node
+    TypeArguments 7 10 (mark 7 (cons (node EntityOfType 8 9 (cons (leaf as_name 8) (cons nil
+    nil))) (cons nil (mark 9 nil))))) nil))) (cons (turn (mark 10 (cons (node EntityOfType 11 12 (cons (leaf
+    as_name 11) (cons nil nil))) nil)) nil) nil))) (mark 12 (cons (turn (cons (node CallSignature 13 19
+    (cons nil (mark 13 (cons (node ParametersOfType 14 15 (cons (turn (cons (node NamePatternOfType 14
+    15 (cons (leaf as_name 14) nil)) (cons nil nil)) nil) (cons nil nil))) (mark 15 (cons (mark 16 (cons (node EntityOfType 17 18 (cons (leaf as_name 17) (cons nil nil))) nil)) (cons (cons (leaf as_there 18) nil) nil)))))))
+    nil) (turn (cons (node ReadonlyProperty 19 24 (mark 19 (cons (node WordKeyOfType 20 21 (cons
+    (leaf as_name 20) nil)) (cons (cons (leaf as_there 21) nil) (cons (mark 22 (cons (node EntityOfType 23 24
     (cons (leaf as_name 23) (cons nil nil))) nil)) (cons nil nil)))))) nil) nil)) (mark 24 nil)))))))) nil) nil)
     nil))) 25)
     -- type A<T> = b
     × (read_program lang.Typescript mode.Module (one k.TypeWord ∷ one k.Name ∷ one k.Less ∷ one k.Name ∷ joined
     k.Greater ∷ one k.Equal ∷ one k.Name ∷ []) ≡ gives (node Module 0 7 (cons nil (cons (turn (cons (node
-    AliasDeclaration 0 7 (mark 0 (cons (leaf as_name 1) (cons (cons (node (OfType types.TypeParameters) 2 5 (mark 2 (cons nil
+    AliasDeclaration 0 7 (mark 0 (cons (leaf as_name 1) (cons (cons (node TypeParameters 2 5 (mark 2 (cons nil
     (cons (leaf as_name 3) (cons nil (cons nil (cons nil (cons nil (mark 4 nil))))))))) nil) (mark 5 (cons (node
-    (OfType types.Entity) 6 7 (cons (leaf as_name 6) (cons nil nil))) (cons nil nil))))))) nil) nil) nil))) 7)
+    EntityOfType 6 7 (cons (leaf as_name 6) (cons nil nil))) (cons nil nil))))))) nil) nil) nil))) 7)
     -- const enum A { b, c = 1, "d" = 2, }
     × (read_program lang.Typescript mode.Module (one k.ConstWord ∷ one k.EnumWord ∷ one k.Name ∷ paired k.OpenBrace 14
     ∷ one k.Name ∷ one k.Comma ∷ one k.Name ∷ one k.Equal ∷ one k.Number ∷ one k.Comma ∷ one k.Str ∷ one k.Equal ∷ one

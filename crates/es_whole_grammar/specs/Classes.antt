@@ -12,13 +12,13 @@ use Rattle.es_grammar.specs.Expressions.{ends_expression}
 use Rattle.es_grammar.specs.Functions.{starts_key, opens_accessor, opens_async, opens_star}
 use Rattle.es_grammar.specs.Classes.{opens_static, opens_field_accessor, behind_static, is_plain_member, opens_static_block}
 use Rattle.es_grammar.specs.Members.{shows_index}
-use Rattle.es_whole_grammar.specs.declared.rows.Label.TheVariants.{AccessorField, AccessorMember, AsyncMember, EmptyMember, FieldMember, GeneratorMember, IndexMember, MethodMember, StaticBlock}
+use Rattle.es_whole_grammar.specs.declared.rows.Label.TheVariants.{AccessorField, AccessorMember, AsyncMember, EmptyMember, FieldMember, GeneratorMember, IndexMember, MethodMember, StaticBlock, TypedAccessorField, TypedAccessorMember, TypedAsyncMember, TypedFieldMember, TypedGeneratorMember, TypedMethodMember}
 use Rattle.es_whole_grammar.specs.declared.rows.Context.{Context}
 use Rattle.es_whole_grammar.specs.declared.rows.Row.{Row}
 use Rattle.es_whole_grammar.specs.declared.rows.Label.{Label}
 use Rattle.es_whole_grammar.specs.declared.rows.Row.TheVariants.{BlockRow, SignatureRow, KeyRow, AssignmentRow}
 use Rattle.es_whole_grammar.specs.Rows.{async_in}
-use Rattle.es_whole_grammar.specs.Embedding.{type_then, annotation_in, plain_form}
+use Rattle.es_whole_grammar.specs.Embedding.{label_by, type_then, annotation_in, plain_form}
 use Rattle.es_whole_grammar.specs.Expressions.{star_in, body_in}
 use Rattle.es_whole_grammar.specs.Functions.{is_typed_modifier, modifiers_in, mark_in, opens_any_method, typed_head_in}
 
@@ -103,14 +103,14 @@ field_in lang.Typescript c =
 unfoldable pub modified_member : Lang → Context → Rule Row Label
 modified_member l c =
     pick (behind l (opens_accessor true))
-    (make AccessorMember (marked_in l accessor_word_in (class_method_in l c c)))
+    (make (label_by l AccessorMember TypedAccessorMember) (marked_in l accessor_word_in (class_method_in l c c)))
     (pick (behind l (opens_async true))
-    (make AsyncMember (marked_in l async_word_in (class_method_in l c (async_in c))))
-    (pick (behind l opens_star) (make GeneratorMember (marked_in l star_word_in (class_method_in l c c)))
+    (make (label_by l AsyncMember TypedAsyncMember) (marked_in l async_word_in (class_method_in l c (async_in c))))
+    (pick (behind l opens_star) (make (label_by l GeneratorMember TypedGeneratorMember) (marked_in l star_word_in (class_method_in l c c)))
     (pick (behind l opens_field_accessor)
-    (make AccessorField (marked_in l field_word_in (field_in l c)))
-    (pick (behind l (opens_any_method l)) (make MethodMember (head_in l (class_method_in l c c)))
-    (make FieldMember (head_in l (field_in l c)))))))
+    (make (label_by l AccessorField TypedAccessorField) (marked_in l field_word_in (field_in l c)))
+    (pick (behind l (opens_any_method l)) (make (label_by l MethodMember TypedMethodMember) (head_in l (class_method_in l c c)))
+    (make (label_by l FieldMember TypedFieldMember) (head_in l (field_in l c)))))))
 
 -- TS Mod* '[' Name ':' Type ']' (':' Type)? END
 unfoldable pub index_member : Rule Row Label

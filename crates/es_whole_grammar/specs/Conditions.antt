@@ -5,9 +5,9 @@ use Rattle.es_tree.specs.declared.error.Lang.{Lang}
 use Rattle.es_tree.specs.declared.error.Mode.{Mode}
 use Rattle.es_tree.specs.declared.error.Mode.TheVariants as mode
 use Rattle.es_tree.specs.Key.{Key}
-use Rattle.es_tree.specs.Plain.{Plain, node, leaf, nil, cons, mark, turn, via}
+use Rattle.es_tree.specs.Plain.{Plain, node, nil, cons, mark, turn, via}
 use Rattle.es_tree.specs.Fits.{free, Shape}
-use Rattle.es_whole_grammar.specs.declared.rows.Label.TheVariants.{Assignment, Binary, Chain, IndexPost, MemberPost, Name, NonNullPost, OfType, Parenthesized, UpdatePostfix, UpdatePrefix}
+use Rattle.es_whole_grammar.specs.declared.rows.Label.TheVariants.{Assignment, Chain, IndexPost, MemberPost, Name, NonNullPost, Parenthesized, TypedBinary, UpdatePostfix, UpdatePrefix}
 use Rattle.es_whole_grammar.specs.declared.rows.Row.{Row}
 use Rattle.es_whole_grammar.specs.declared.rows.Label.{Label}
 use Rattle.es_whole_grammar.specs.declared.rows.Row.TheVariants.{ModuleRow, ScriptRow}
@@ -29,10 +29,10 @@ abbrev pub ends_in_member : Bool → Plain Label → Plain Label → Bool
 ends_in_member before p (turn (cons q ps) rest) = ends_in_member (unless_non_null p before) q rest
 ends_in_member before p _ = unless_non_null p before
 
--- the parts of a turn are `as const`, or `as` or `satisfies` with a type; such a turn is the only part behind its operand
+-- the parts of a turn are `as const`, or `as` or `satisfies` with a type: a group of its own stands behind the word, and
+-- behind any other operator an operand
 abbrev pub is_assertion : Plain Label → Bool
-is_assertion (cons operator (cons (cons (node (OfType l) from to ts) ps) rest)) = true
-is_assertion (cons operator (cons (cons (leaf s n) ps) rest)) = true
+is_assertion (cons operator (cons (cons q ps) rest)) = true
 is_assertion _ = false
 
 -- a simple target: a name, a chain that ends in a member, or such a one in brackets, or before `!`, `as` or
@@ -41,7 +41,7 @@ abbrev pub is_simple : Plain Label → Bool
 is_simple (node Name from to ps) = true
 is_simple (node Parenthesized from to (mark n (cons q ps))) = is_simple q
 is_simple (node Chain from to (cons q (cons p (cons more ps)))) = ends_in_member (is_simple q) p more
-is_simple (node Binary from to (cons q (cons assertion nil))) = is_assertion assertion && is_simple q
+is_simple (node TypedBinary from to (cons q (cons assertion nil))) = is_assertion assertion && is_simple q
 is_simple _ = false
 
 -- the parts of a node are those that its alternative may have

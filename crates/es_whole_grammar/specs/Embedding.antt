@@ -17,7 +17,6 @@ use Rattle.es_grammar.specs.declared.rows.Label as labels
 use Rattle.es_grammar.specs.declared.rows.Label.TheVariants as named
 use Rattle.es_whole_grammar.specs.declared.rows.Label.TheVariants as here
 use Rattle.es_grammar.specs.TypeRows as table
-use Rattle.es_whole_grammar.specs.declared.rows.Label.TheVariants.{OfType}
 use Rattle.es_whole_grammar.specs.declared.rows.TypeRow.{TypeRow}
 use Rattle.es_whole_grammar.specs.declared.rows.TypeRow.TheVariants as types
 use Rattle.es_whole_grammar.specs.TypeNames.{row_of_types, row_name, label_name}
@@ -259,7 +258,12 @@ equals_in l f =
 
 -- a rule of the table of types, in this one
 abbrev pub types_rule : Rule table.Row table.Label → Rule Row Label
-types_rule a = mapped_rule (λ r. TypesRow (row_name r)) (λ l. OfType (label_name l)) a
+types_rule a = mapped_rule (λ r. TypesRow (row_name r)) label_name a
+
+-- the alternative; in TypeScript another one, where its parts differ there
+abbrev pub label_by : Lang → Label → Label → Label
+label_by lang.Es one other = one
+label_by lang.Typescript one other = other
 
 -- ---- parts that hold types
 

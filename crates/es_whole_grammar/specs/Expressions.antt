@@ -9,7 +9,7 @@ use Rattle.es_tree.specs.Key.{TokenTest, seen, same_kind, has_kind, is}
 use Rattle.es_tree.specs.Form.{as_str, as_name, as_raw, as_kind, as_there, hint, taken, guarded, Guard, Form, done, tok, punct, row, opt, many, alt, when_, where_, Rule, make, choose, pick, wrap}
 use Rattle.es_tree.specs.Tells.{none}
 use Rattle.es_grammar.specs.Words.{only, is_name, is_numeric, is_near, is_other, closes_before}
-use Rattle.es_whole_grammar.specs.declared.rows.Label.TheVariants.{AbstractClass, Arguments, ArrayLiteral, Assignment, AsyncFunction, AsyncNameArrow, AsyncParenthesizedArrow, AwaitExpression, Binary, CallPost, Chain, Class, Conditional, Function, ImportCall, ImportMeta, IndexPost, MemberPost, Name, NameArrow, New, NewTarget, NonNullPost, Number, ObjectLiteral, OptionalPost, Parenthesized, ParenthesizedArrow, PatternAssignment, PrivateIn, RegExp, Sequence, Spread, Str, Super, Template, TemplateParts, TemplatePost, UnaryExpression, UpdatePostfix, UpdatePrefix, Word, Yield}
+use Rattle.es_whole_grammar.specs.declared.rows.Label.TheVariants.{AbstractClass, Arguments, ArrayLiteral, Assignment, AsyncFunction, AsyncNameArrow, AsyncParenthesizedArrow, AwaitExpression, Binary, CallPost, Chain, Class, Conditional, Function, ImportCall, ImportMeta, IndexPost, MemberPost, Name, NameArrow, New, NewTarget, NonNullPost, Number, ObjectLiteral, OptionalPost, Parenthesized, ParenthesizedArrow, PatternAssignment, PrivateIn, RegExp, Sequence, Spread, Str, Super, Template, TemplateParts, TemplatePost, TypedAsyncFunction, TypedAsyncParenthesizedArrow, TypedBinary, TypedCallPost, TypedClass, TypedFunction, TypedNew, TypedOptionalPost, TypedParenthesizedArrow, TypedTemplatePost, UnaryExpression, UpdatePostfix, UpdatePrefix, Word, Yield}
 use Rattle.es_whole_grammar.specs.declared.rows.TypeRow.TheVariants as types
 use Rattle.es_grammar.specs.Modules.{ended}
 use Rattle.es_grammar.specs.Expressions.{is_prefix, is_update, is_product, is_sum, is_equality, is_relation, is_assignment, is_property_name, joins, opens_greater, begins_expression, is_arrow, no_arrow, opens_plain_arrow, opens_async_arrow, opens_async_parenthesis, is_no_arrow_head, opens_async_function, is_literal_word, opens_property, has_argument, follows_super, begins_member, begins_post, is_update_here, no_update_here, opens_shift, no_mix, opens_pattern, opens_assignment}
@@ -18,7 +18,7 @@ use Rattle.es_whole_grammar.specs.declared.rows.Row.{Row}
 use Rattle.es_whole_grammar.specs.declared.rows.Label.{Label}
 use Rattle.es_whole_grammar.specs.declared.rows.Row.TheVariants.{BlockRow, SignatureRow, ParametersRow, PatternRow, PropertyRow, ExpressionRow, AssignmentRow, AndRow, BitOrRow, BitXorRow, BitAndRow, EqualityRow, RelationRow, ShiftRow, SumRow, ProductRow, PowerRow, UnaryRow, ChainRow, CalleeRow, PostRow, MemberPostRow, ArgumentsRow, ElementRow, TemplateRow, MemberRow, TypesRow}
 use Rattle.es_whole_grammar.specs.Rows.{outside, async_in, async_here, without_colon}
-use Rattle.es_whole_grammar.specs.Embedding.{typed_in, type_then, plain_form, type_parameters_in, type_arguments_in, reads_before, opens_call_arguments, opens_heritage_arguments}
+use Rattle.es_whole_grammar.specs.Embedding.{label_by, typed_in, type_then, plain_form, type_parameters_in, type_arguments_in, reads_before, opens_call_arguments, opens_heritage_arguments}
 
 -- in TypeScript an expression may also begin with `<`: an arrow's type parameters
 abbrev pub begins_value : Lang → TokenTest
@@ -87,7 +87,7 @@ begins_parameters lang.Typescript x = is k.OpenParen x || is k.Less x
 -- Name ~ '=>' .. | (TS TParams)? '(' Params ')' (TS ':' Ret)? ~ '=>' ..
 unfoldable pub plain_arrow : Lang → Context → Rule Row Label
 plain_arrow l c =
-    choose (begins_parameters l) (make ParenthesizedArrow (parameters_arrow_in l (outside c) c c))
+    choose (begins_parameters l) (make (label_by l ParenthesizedArrow TypedParenthesizedArrow) (parameters_arrow_in l (outside c) c c))
     (make NameArrow (tok as_name is_name (arrow_in c c)))
 
 unfoldable pub opens_async_list : Lang → Guard
@@ -98,7 +98,7 @@ opens_async_list lang.Typescript K at = is k.OpenParen (seen K (at + 1)) || is k
 unfoldable pub async_arrow : Lang → Context → Rule Row Label
 async_arrow l c =
     pick (opens_async_list l)
-    (make AsyncParenthesizedArrow (punct k.AsyncWord (when_ is_near (parameters_arrow_in l (async_in c) c
+    (make (label_by l AsyncParenthesizedArrow TypedAsyncParenthesizedArrow) (punct k.AsyncWord (when_ is_near (parameters_arrow_in l (async_in c) c
     (async_here c)))))
     (make AsyncNameArrow (punct k.AsyncWord (when_ is_near (tok as_name is_name (arrow_in c (async_here c))))))
 
@@ -132,13 +132,13 @@ body_in lang.Typescript c =
 -- 'function' '*'? Name? Sig (Block | TS END)
 unfoldable pub function : Lang → Bool → Context → Rule Row Label
 function l named c =
-    make Function (punct k.FunctionWord (star_in (name_in named (row (SignatureRow (outside c))
+    make (label_by l Function TypedFunction) (punct k.FunctionWord (star_in (name_in named (row (SignatureRow (outside c))
     (body_in l (outside c))))))
 
 -- 'async' ~ 'function' '*'? Name? Sig (Block | TS END)
 unfoldable pub async_function : Lang → Bool → Context → Rule Row Label
 async_function l named c =
-    make AsyncFunction (punct k.AsyncWord (when_ is_near (punct k.FunctionWord (star_in (name_in named
+    make (label_by l AsyncFunction TypedAsyncFunction) (punct k.AsyncWord (when_ is_near (punct k.FunctionWord (star_in (name_in named
     (row (SignatureRow (async_in c)) (body_in l (async_in c))))))))
 
 -- Fn: 'function' .. | 'async' ~ 'function' ..
@@ -169,7 +169,7 @@ class_form l named c =
     (punct k.CloseBrace done)))))))
 
 unfoldable pub class_ : Lang → Bool → Context → Rule Row Label
-class_ l named c = make Class (class_form l named c)
+class_ l named c = make (label_by l Class TypedClass) (class_form l named c)
 
 -- TS 'abstract' 'class' ..
 unfoldable pub abstract_class : Bool → Context → Rule Row Label
@@ -264,7 +264,7 @@ base l c =
     (choose (is k.ImportWord) (pick opens_property (import_meta c) (import_call c))
     (choose (is k.NewWord)
     (pick opens_property (make NewTarget (punct k.NewWord (punct k.Dot (punct k.TargetWord done))))
-    (make New (punct k.NewWord (row (CalleeRow c) (typed_in l call_arguments_in
+    (make (label_by l New TypedNew) (punct k.NewWord (row (CalleeRow c) (typed_in l call_arguments_in
     (opt (taken (is k.OpenParen)) (row (ArgumentsRow c) done) done))))))
     (primary l c)))
 
@@ -314,7 +314,7 @@ begins_arguments lang.Typescript x = is k.OpenParen x || is k.Less x
 -- '?.' (Name | PrivateName | '[' Expr ']' | (TS TArgs)? Args)
 unfoldable pub optional_post : Lang → Context → Rule Row Label
 optional_post l c =
-    make OptionalPost (punct k.QuestionDot
+    make (label_by l OptionalPost TypedOptionalPost) (punct k.QuestionDot
     (alt (is k.OpenBracket) (punct k.OpenBracket (row (ExpressionRow (outside c)) (punct k.CloseBracket done)))
     (alt (begins_arguments l) (typed_in l type_arguments_in (row (ArgumentsRow c) done))
     (tok as_name is_property_name done) done) done))
@@ -337,8 +337,8 @@ post lang.Es c =
     choose (is k.OpenParen) (make CallPost (row (ArgumentsRow c) done))
     (choose (is k.QuestionDot) (optional_post lang.Es c) (member_post lang.Es c))
 post lang.Typescript c =
-    pick opens_call (make CallPost (type_arguments_in (row (ArgumentsRow c) done)))
-    (pick opens_typed_template (make TemplatePost (type_arguments_in (row (TemplateRow c) done)))
+    pick opens_call (make TypedCallPost (type_arguments_in (row (ArgumentsRow c) done)))
+    (pick opens_typed_template (make TypedTemplatePost (type_arguments_in (row (TemplateRow c) done)))
     (choose (is k.QuestionDot) (optional_post lang.Typescript c) (member_post lang.Typescript c)))
 
 -- Chain: Base Post*
@@ -461,7 +461,7 @@ relation lang.Es c =
     wrap Binary (choose (is k.PrivateName) (private_in c) (shift lang.Es c))
     (guarded (opens_comparison lang.Es c)) (comparison_in c)
 relation lang.Typescript c =
-    wrap Binary (choose (is k.PrivateName) (private_in c) (shift lang.Typescript c))
+    wrap TypedBinary (choose (is k.PrivateName) (private_in c) (shift lang.Typescript c))
     (guarded (opens_comparison lang.Typescript c)) (asserted_or (comparison_in c))
 
 unfoldable pub equality : Lang → Context → Rule Row Label

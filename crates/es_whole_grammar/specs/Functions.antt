@@ -10,13 +10,13 @@ use Rattle.es_tree.specs.Form.{as_str, as_name, as_raw, as_kind, as_there, hint,
 use Rattle.es_grammar.specs.Words.{only, is_name, is_word, is_numeric, is_accessor_word, is_other, partner_of}
 use Rattle.es_grammar.specs.Members.{opens_parameters}
 use Rattle.es_grammar.specs.Functions.{opens_inner_pattern, behind_key, key_before, opens_value, is_parameter, opens_accessor, opens_async, is_plain_key, opens_method}
-use Rattle.es_whole_grammar.specs.declared.rows.Label.TheVariants.{AccessorProperty, ArrayPattern, AsyncProperty, Binary, ComputedKey, DefaultParameter, DefaultPattern, GeneratorProperty, KeyPattern, KeyValue, MarkedParameter, MethodProperty, NamePattern, NameProperty, NumberKey, ObjectPattern, Parameters, PrivateKey, PropertyParameter, RestPattern, RestProperty, Shorthand, Signature, SpreadProperty, StrKey, Target, ThisParameter, WordKey}
+use Rattle.es_whole_grammar.specs.declared.rows.Label.TheVariants.{AccessorProperty, ArrayPattern, AsyncProperty, ComputedKey, DefaultParameter, DefaultPattern, GeneratorProperty, KeyPattern, KeyValue, MarkedParameter, MethodProperty, NamePattern, NameProperty, NumberKey, ObjectPattern, Parameters, PrivateKey, PropertyParameter, RestPattern, RestProperty, Shorthand, Signature, SpreadProperty, StrKey, Target, ThisParameter, TypedAccessorProperty, TypedAsyncProperty, TypedBinary, TypedGeneratorProperty, TypedMethodProperty, TypedParameters, TypedSignature, WordKey}
 use Rattle.es_whole_grammar.specs.declared.rows.Context.{Context}
 use Rattle.es_whole_grammar.specs.declared.rows.Row.{Row}
 use Rattle.es_whole_grammar.specs.declared.rows.Label.{Label}
 use Rattle.es_whole_grammar.specs.declared.rows.Row.TheVariants.{BlockRow, SignatureRow, ParametersRow, ParameterRow, PatternRow, InnerPatternRow, PatternElementRow, PatternPropertyRow, KeyRow, AssignmentRow}
 use Rattle.es_whole_grammar.specs.Rows.{outside, async_in, constructing}
-use Rattle.es_whole_grammar.specs.Embedding.{typed_in, annotation_in, result_in, type_parameters_in}
+use Rattle.es_whole_grammar.specs.Embedding.{label_by, typed_in, annotation_in, result_in, type_parameters_in}
 use Rattle.es_whole_grammar.specs.Expressions.{star_in, chain, opens_assertion, asserted_or, no_form}
 
 -- ---- patterns
@@ -44,7 +44,7 @@ object_pattern t c =
 unfoldable pub target : Lang → Context → Rule Row Label
 target lang.Es c = as_ Target (chain lang.Es c)
 target lang.Typescript c =
-    as_ Target (wrap Binary (chain lang.Typescript c) (taken opens_assertion) (asserted_or no_form))
+    as_ Target (wrap TypedBinary (chain lang.Typescript c) (taken opens_assertion) (asserted_or no_form))
 
 unfoldable pub bracket_pattern : Bool → Context → Rule Row Label
 bracket_pattern t c = choose (is k.OpenBracket) (array_pattern t c) (object_pattern t c)
@@ -84,7 +84,7 @@ rest_in l c = punct k.Ellipsis (row (PatternRow false c) (typed_in l annotation_
 -- Params: Param% | (Param ',')* '...' Pat (TS ':' Type)?
 unfoldable pub parameters : Lang → Context → Rule Row Label
 parameters l c =
-    make Parameters (many (hint is_parameter)
+    make (label_by l Parameters TypedParameters) (many (hint is_parameter)
     (row (ParameterRow c) (opt (taken (is_other k.CloseParen)) (punct k.Comma done) done))
     (opt (taken (is k.Ellipsis)) (rest_in l c) done))
 
@@ -154,7 +154,7 @@ parameter lang.Typescript c =
 -- Sig: (TS TParams)? '(' Params ')' (TS ':' Ret)?
 unfoldable pub signature : Lang → Context → Rule Row Label
 signature l c =
-    make Signature (typed_in l type_parameters_in (punct k.OpenParen (row (ParametersRow c)
+    make (label_by l Signature TypedSignature) (typed_in l type_parameters_in (punct k.OpenParen (row (ParametersRow c)
     (punct k.CloseParen (typed_in l result_in done)))))
 
 -- ---- keys
@@ -204,14 +204,14 @@ unfoldable pub property : Lang → Context → Rule Row Label
 property l c =
     choose (is k.Ellipsis) (make SpreadProperty (punct k.Ellipsis (row (AssignmentRow (outside c)) done)))
     (pick (opens_accessor false)
-    (make AccessorProperty (tok as_kind is_accessor_word (where_ is_plain_key
+    (make (label_by l AccessorProperty TypedAccessorProperty) (tok as_kind is_accessor_word (where_ is_plain_key
     (method_in l (outside c) (outside c)))))
     (pick (opens_async false)
-    (make AsyncProperty (punct k.AsyncWord (star_in (where_ is_plain_key
+    (make (label_by l AsyncProperty TypedAsyncProperty) (punct k.AsyncWord (star_in (where_ is_plain_key
     (method_in l (outside c) (async_in c))))))
     (choose (is k.Star)
-    (make GeneratorProperty (punct k.Star (where_ is_plain_key (method_in l (outside c) (outside c)))))
-    (pick (opens_any_method l) (make MethodProperty (method_in l (outside c) (outside c)))
+    (make (label_by l GeneratorProperty TypedGeneratorProperty) (punct k.Star (where_ is_plain_key (method_in l (outside c) (outside c)))))
+    (pick (opens_any_method l) (make (label_by l MethodProperty TypedMethodProperty) (method_in l (outside c) (outside c)))
     (pick opens_value (make KeyValue (row (KeyRow false (outside c)) (punct k.Colon (row (AssignmentRow
     (outside c)) done))))
     (make Shorthand (tok as_name is_name done)))))))

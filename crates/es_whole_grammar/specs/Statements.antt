@@ -10,13 +10,13 @@ use Rattle.es_grammar.specs.Modules.{ended}
 use Rattle.es_grammar.specs.Expressions.{ends_expression}
 use Rattle.es_grammar.specs.Functions.{key_before}
 use Rattle.es_grammar.specs.Statements.{is_variable_word, ends_value, opens_using, opens_for, opens_for_await, opens_head_pattern, starts_using, starts_expression, label_ended, is_case, is_in_case, opens_label, begins_no_other}
-use Rattle.es_whole_grammar.specs.declared.rows.Label.TheVariants.{Block, BreakStatement, ContinueStatement, DebuggerStatement, Declarator, DoStatement, ExpressionStatement, ForAwaitStatement, ForEachStatement, ForStatement, IfStatement, LabelledStatement, ReturnStatement, SwitchStatement, ThrowStatement, TryStatement, Using, UsingHead, VariableHead, Variables, WhileStatement, WithStatement}
+use Rattle.es_whole_grammar.specs.declared.rows.Label.TheVariants.{Block, BreakStatement, ContinueStatement, DebuggerStatement, Declarator, DoStatement, ExpressionStatement, ForAwaitStatement, ForEachStatement, ForStatement, IfStatement, LabelledStatement, ReturnStatement, SwitchStatement, ThrowStatement, TryStatement, TypedDeclarator, TypedTryStatement, TypedVariableHead, Using, UsingHead, VariableHead, Variables, WhileStatement, WithStatement}
 use Rattle.es_whole_grammar.specs.declared.rows.Context.{Context}
 use Rattle.es_whole_grammar.specs.declared.rows.Row.{Row}
 use Rattle.es_whole_grammar.specs.declared.rows.Label.{Label}
 use Rattle.es_whole_grammar.specs.declared.rows.Row.TheVariants.{StatementRow, BlockRow, VariablesRow, DeclaratorRow, UsingRow, HeadRow, PatternRow, ExpressionRow, AssignmentRow}
 use Rattle.es_whole_grammar.specs.Rows.{outside, in_head, without_colon}
-use Rattle.es_whole_grammar.specs.Embedding.{typed_in, annotation_in, plain_form}
+use Rattle.es_whole_grammar.specs.Embedding.{label_by, typed_in, annotation_in, plain_form}
 use Rattle.es_whole_grammar.specs.Expressions.{begins_value, may_await}
 use Rattle.es_whole_grammar.specs.Functions.{target, pattern}
 
@@ -50,7 +50,7 @@ declarator lang.Es c =
     (punct k.Equal (row (AssignmentRow c) (when_ (is_other k.Equal) (where_ ends_value done))))
 declarator lang.Typescript c =
     pick opens_declarator
-    (make Declarator (row (PatternRow false (outside c))
+    (make TypedDeclarator (row (PatternRow false (outside c))
     (opt (taken (is k.Exclamation)) (tok as_there (only k.Exclamation) done)
     (annotation_in (opt (taken (is k.Equal)) (punct k.Equal (row (AssignmentRow c) (where_ ends_value done))) done)))))
     (pattern lang.Typescript false (outside c))
@@ -79,7 +79,7 @@ using_ c = make Using (using_in c (declarators c))
 -- Head: ('var' | 'let' | 'const') Pat (TS ':' Type)? | ('await' ~)? 'using' ~ Name | Target
 unfoldable pub head : Lang → Context → Rule Row Label
 head l c =
-    choose (has_kind is_variable_word) (make VariableHead (tok as_kind is_variable_word (row
+    choose (has_kind is_variable_word) (make (label_by l VariableHead TypedVariableHead) (tok as_kind is_variable_word (row
     (PatternRow false c) (typed_in l annotation_in done))))
     (pick opens_using (make UsingHead (using_in c (tok as_name is_name done)))
     (pick opens_head_pattern (pattern l true c) (target l (in_head c))))
@@ -144,7 +144,7 @@ finally_in c = punct k.FinallyWord (row (BlockRow c) done)
 -- 'try' Block ('catch' ('(' Pat (TS ':' Type)? ')')? Block)? ('finally' Block)?, with one of the two at least
 unfoldable pub try_ : Lang → Context → Rule Row Label
 try_ l c =
-    make TryStatement (punct k.TryWord (row (BlockRow c) (alt (is k.CatchWord)
+    make (label_by l TryStatement TypedTryStatement) (punct k.TryWord (row (BlockRow c) (alt (is k.CatchWord)
     (punct k.CatchWord (opt (taken (is k.OpenParen)) (punct k.OpenParen (row (PatternRow false c)
     (typed_in l annotation_in (punct k.CloseParen done))))
     (row (BlockRow c) (opt (taken (is k.FinallyWord)) (finally_in c) done)))) (finally_in c) done)))

@@ -3,8 +3,8 @@ use Rattle.es_grammar.specs.TypeRows.{Row as TableRow, Label as TableLabel}
 use Rattle.es_grammar.specs.TypeRows as table
 use Rattle.es_whole_grammar.specs.declared.rows.TypeRow.{TypeRow}
 use Rattle.es_whole_grammar.specs.declared.rows.TypeRow.TheVariants as row
-use Rattle.es_whole_grammar.specs.declared.rows.TypeLabel.{TypeLabel}
-use Rattle.es_whole_grammar.specs.declared.rows.TypeLabel.TheVariants as label
+use Rattle.es_whole_grammar.specs.declared.rows.Label.{Label}
+use Rattle.es_whole_grammar.specs.declared.rows.Label.TheVariants as label
 
 -- the row that is named
 abbrev pub row_of_types : TypeRow → TableRow
@@ -49,7 +49,7 @@ row_name table.PatternPropertyRow = row.PatternPropertyRow
 row_name table.PatternKeyRow = row.PatternKeyRow
 
 -- the name of an alternative
-abbrev pub label_name : TableLabel → TypeLabel
+abbrev pub label_name : TableLabel → Label
 label_name table.FunctionType = label.FunctionType
 label_name table.ConstructorType = label.ConstructorType
 label_name table.ConditionalType = label.ConditionalType
@@ -72,7 +72,7 @@ label_name table.ParenthesizedType = label.ParenthesizedType
 label_name table.MembersType = label.MembersType
 label_name table.TupleType = label.TupleType
 label_name table.MappedType = label.MappedType
-label_name table.Entity = label.Entity
+label_name table.Entity = label.EntityOfType
 label_name table.Reference = label.Reference
 label_name table.ImportType = label.ImportType
 label_name table.TypeArguments = label.TypeArguments
@@ -87,22 +87,22 @@ label_name table.AccessorSignature = label.AccessorSignature
 label_name table.MethodSignature = label.MethodSignature
 label_name table.PropertySignature = label.PropertySignature
 label_name table.ReadonlyProperty = label.ReadonlyProperty
-label_name table.WordKey = label.WordKey
-label_name table.StrKey = label.StrKey
-label_name table.NumberKey = label.NumberKey
-label_name table.ComputedKey = label.ComputedKey
+label_name table.WordKey = label.WordKeyOfType
+label_name table.StrKey = label.StrKeyOfType
+label_name table.NumberKey = label.NumberKeyOfType
+label_name table.ComputedKey = label.ComputedKeyOfType
 label_name table.AssertsResult = label.AssertsResult
 label_name table.PredicateResult = label.PredicateResult
-label_name table.Parameters = label.Parameters
-label_name table.ThisParameter = label.ThisParameter
-label_name table.MarkedParameter = label.MarkedParameter
-label_name table.NamePattern = label.NamePattern
-label_name table.ArrayPattern = label.ArrayPattern
-label_name table.ObjectPattern = label.ObjectPattern
-label_name table.RestPattern = label.RestPattern
-label_name table.RestProperty = label.RestProperty
+label_name table.Parameters = label.ParametersOfType
+label_name table.ThisParameter = label.ThisParameterOfType
+label_name table.MarkedParameter = label.MarkedParameterOfType
+label_name table.NamePattern = label.NamePatternOfType
+label_name table.ArrayPattern = label.ArrayPatternOfType
+label_name table.ObjectPattern = label.ObjectPatternOfType
+label_name table.RestPattern = label.RestPatternOfType
+label_name table.RestProperty = label.RestPropertyOfType
 label_name table.KeyProperty = label.KeyProperty
-label_name table.NameProperty = label.NameProperty
+label_name table.NameProperty = label.NamePropertyOfType
 label_name table.WordPatternKey = label.WordPatternKey
 label_name table.StrPatternKey = label.StrPatternKey
 label_name table.NumberPatternKey = label.NumberPatternKey

@@ -11,4 +11,4 @@
 
 mod rows;
 
-pub use rows::{Context, Label, Row, TypeLabel, TypeRow};
+pub use rows::{Context, Label, Row, TypeRow};

@@ -13,8 +13,8 @@ use es_whole_grammar::{Context, Label, Row, TypeRow};
 use es_whole_reader::Ahead::{Has, Is};
 use es_whole_reader::Told::{Guarded, Taken};
 use es_whole_reader::{
-    Choose, Cursor, Done, Grammar, Guard, Input, Kinds, Make, Many, Measured, OfRow, Opt, Parts,
-    Pick, Punct, ReadsForm, ReadsRule, Sort, Tok, Where,
+    Choose, Cursor, Done, Grammar, Guard, Input, Kinds, Make, MakeBy, Many, Measured, OfRow, Opt,
+    Parts, Pick, Punct, ReadsForm, ReadsRule, Sort, Tok, Where,
 };
 
 /// 'static'?, which stands once, and what stands behind it
@@ -362,27 +362,54 @@ impl ReadsRule for ModifiedMember {
         let field = FieldIn(lang, self.1);
         Pick(
             behind(lang, Guard::BehindStaticAccessor, Guard::BehindAllAccessor),
-            Make(Label::AccessorMember, AccessorHead(lang, method)),
+            MakeBy(
+                lang,
+                Label::AccessorMember,
+                Label::TypedAccessorMember,
+                AccessorHead(lang, method),
+            ),
             Pick(
                 behind(lang, Guard::BehindStaticAsync, Guard::BehindAllAsync),
-                Make(
+                MakeBy(
+                    lang,
                     Label::AsyncMember,
+                    Label::TypedAsyncMember,
                     AsyncHead(lang, ClassMethodIn(lang, self.1, async_in)),
                 ),
                 Pick(
                     behind(lang, Guard::BehindStaticStar, Guard::BehindAllStar),
-                    Make(Label::GeneratorMember, StarHead(lang, method)),
+                    MakeBy(
+                        lang,
+                        Label::GeneratorMember,
+                        Label::TypedGeneratorMember,
+                        StarHead(lang, method),
+                    ),
                     Pick(
                         behind(
                             lang,
                             Guard::BehindStaticFieldAccessor,
                             Guard::BehindAllFieldAccessor,
                         ),
-                        Make(Label::AccessorField, FieldHead(lang, field)),
+                        MakeBy(
+                            lang,
+                            Label::AccessorField,
+                            Label::TypedAccessorField,
+                            FieldHead(lang, field),
+                        ),
                         Pick(
                             behind(lang, Guard::BehindStaticMethod, Guard::BehindAllMethod),
-                            Make(Label::MethodMember, MemberHead(lang, method)),
-                            Make(Label::FieldMember, MemberHead(lang, field)),
+                            MakeBy(
+                                lang,
+                                Label::MethodMember,
+                                Label::TypedMethodMember,
+                                MemberHead(lang, method),
+                            ),
+                            MakeBy(
+                                lang,
+                                Label::FieldMember,
+                                Label::TypedFieldMember,
+                                MemberHead(lang, field),
+                            ),
                         ),
                     ),
                 ),

@@ -11,8 +11,8 @@ use es_whole_grammar::{Context, Label, Row};
 use es_whole_reader::Ahead::{Is, Other};
 use es_whole_reader::Told::{Guarded, Hint, Taken};
 use es_whole_reader::{
-    Ahead, Choose, Cursor, Done, Grammar, Guard, Input, Kinds, Make, Many, Measured, OfRow, Opt,
-    Parts, Pick, Punct, ReadsForm, ReadsRule, Sort, Tok, When, Where, Wrap,
+    Ahead, Choose, Cursor, Done, Grammar, Guard, Input, Kinds, Make, MakeBy, Many, Measured, OfRow,
+    Opt, Parts, Pick, Punct, ReadsForm, ReadsRule, Sort, Tok, When, Where, Wrap,
 };
 
 /// Params: Param% | (Param ',')* '...' Pat
@@ -28,8 +28,10 @@ impl ReadsRule for Parameters {
         grammar: &Grammar<'_, F>,
         cursor: &mut Cursor,
     ) -> Result<Measured, SyntaxError> {
-        Make(
+        MakeBy(
+            self.0,
             Label::Parameters,
+            Label::TypedParameters,
             Many(
                 Hint(Ahead::Parameter),
                 OfRow(
@@ -211,8 +213,10 @@ impl ReadsRule for Signature {
         grammar: &Grammar<'_, F>,
         cursor: &mut Cursor,
     ) -> Result<Measured, SyntaxError> {
-        Make(
+        MakeBy(
+            self.0,
             Label::Signature,
+            Label::TypedSignature,
             TypeParametersIn(
                 self.0,
                 Punct(

@@ -154,7 +154,7 @@ impl ReadsRule for Target {
             Lang::Typescript => As(
                 Label::Target,
                 Wrap(
-                    Label::Binary,
+                    Label::TypedBinary,
                     Chain(Lang::Typescript, self.1),
                     Taken(Ahead::Assertion),
                     AssertedOr(NoForm),

@@ -8,8 +8,8 @@ use es_whole_expressions::StarIn;
 use es_whole_grammar::{Context, Label, Row};
 use es_whole_reader::Ahead::{Has, Is};
 use es_whole_reader::{
-    Choose, Cursor, Done, Grammar, Guard, Input, Kinds, Make, Measured, OfRow, Parts, Pick, Punct,
-    ReadsForm, ReadsRule, Sort, Tok, Where,
+    Choose, Cursor, Done, Grammar, Guard, Input, Kinds, Make, MakeBy, Measured, OfRow, Parts, Pick,
+    Punct, ReadsForm, ReadsRule, Sort, Tok, Where,
 };
 
 /// Key: Word | Str | Number | BigInt | '[' Assign ']'
@@ -233,8 +233,10 @@ impl ReadsRule for Property {
             ),
             Pick(
                 Guard::OpensAccessor(false),
-                Make(
+                MakeBy(
+                    self.0,
                     Label::AccessorProperty,
+                    Label::TypedAccessorProperty,
                     Tok(
                         Sort::Kind,
                         Kinds::AccessorWord,
@@ -243,8 +245,10 @@ impl ReadsRule for Property {
                 ),
                 Pick(
                     Guard::OpensAsync(false),
-                    Make(
+                    MakeBy(
+                        self.0,
                         Label::AsyncProperty,
+                        Label::TypedAsyncProperty,
                         Punct(
                             TokenKind::AsyncWord,
                             StarIn(Where(Guard::IsPlainKey, MethodIn(self.0, outside, async_in))),
@@ -252,8 +256,10 @@ impl ReadsRule for Property {
                     ),
                     Choose(
                         Is(TokenKind::Star),
-                        Make(
+                        MakeBy(
+                            self.0,
                             Label::GeneratorProperty,
+                            Label::TypedGeneratorProperty,
                             Punct(
                                 TokenKind::Star,
                                 Where(Guard::IsPlainKey, MethodIn(self.0, outside, outside)),
@@ -261,7 +267,12 @@ impl ReadsRule for Property {
                         ),
                         Pick(
                             Guard::OpensAnyMethod(self.0),
-                            Make(Label::MethodProperty, MethodIn(self.0, outside, outside)),
+                            MakeBy(
+                                self.0,
+                                Label::MethodProperty,
+                                Label::TypedMethodProperty,
+                                MethodIn(self.0, outside, outside),
+                            ),
                             Pick(
                                 Guard::OpensValue,
                                 Make(

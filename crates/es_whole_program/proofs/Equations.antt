@@ -6,7 +6,7 @@ use Rattle.es_whole_reader.specs.declared.tree.Tree.{Tree, out-Tree, roll-Tree, 
 use Rattle.es_whole_reader.specs.declared.tree.Tree.TheVariants as vTree
 use Rattle.es_whole_reader.specs.declared.tree.Tree.TheOpen.{Tree-F}
 use Rattle.es_whole_reader.specs.declared.tree.Tree.TheFolds.{para-roll-Tree}
-use Rattle.es_whole_program.specs.Sound.{names_member, member_layer, is_member, names_non_null, non_null_layer, is_non_null, names_type, asserted_layer, is_asserted, second_asserted, turn_layer, is_assertion, first_is, simple_by, simple_step, is_simple, may_hold, each_holds, sound_step, is_sound, are_sound}
+use Rattle.es_whole_program.specs.Sound.{names_member, member_layer, is_member, names_non_null, non_null_layer, is_non_null, second_asserted, turn_layer, is_assertion, first_is, simple_by, simple_step, is_simple, may_hold, each_holds, sound_step, is_sound, are_sound}
 
 firsts_of : {B : Type 0} (f : Tree → B) (ts : List Tree)
     → map (λ (part : Tree × B). part.0) (map (λ t. (t, f t)) ts) ≡ ts
@@ -73,24 +73,6 @@ non_null_role label tree = ap non_null_layer (out_role label tree)
 pub non_null_parts : (parts : List Tree) → is_non_null (vTree.Parts parts) ≡ false
 unfolding is_non_null
 non_null_parts parts = ap non_null_layer (out_parts parts)
-
--- ---- what stands behind `as` and `satisfies`
-pub asserted_leaf : (at : ℕ) → is_asserted (vTree.Leaf at) ≡ true
-unfolding is_asserted
-asserted_leaf at = ap asserted_layer (out_leaf at)
-
-pub asserted_node : (label : Label) (from to : ℕ) (parts : List Tree)
-    → is_asserted (vTree.Node label from to parts) ≡ names_type label
-unfolding is_asserted
-asserted_node label from to parts = ap asserted_layer (out_node label from to parts)
-
-pub asserted_role : (label : Label) (tree : Tree) → is_asserted (vTree.Role label tree) ≡ false
-unfolding is_asserted
-asserted_role label tree = ap asserted_layer (out_role label tree)
-
-pub asserted_parts : (parts : List Tree) → is_asserted (vTree.Parts parts) ≡ false
-unfolding is_asserted
-asserted_parts parts = ap asserted_layer (out_parts parts)
 
 -- ---- assertions
 pub assertion_leaf : (at : ℕ) → is_assertion (vTree.Leaf at) ≡ false

@@ -10,7 +10,7 @@ use Rattle.es_tree.proofs.OutLemmas.{clash}
 use Rattle.es_tree.proofs.Progress.{both_hold}
 use Rattle.es_whole_grammar.specs.declared.rows.Row.{Row}
 use Rattle.es_whole_grammar.specs.declared.rows.Label.{Label}
-use Rattle.es_whole_grammar.specs.declared.rows.Label.TheVariants.{Parenthesized, Chain, Binary, Assignment, UpdatePostfix, UpdatePrefix}
+use Rattle.es_whole_grammar.specs.declared.rows.Label.TheVariants.{Parenthesized, Chain, TypedBinary, Assignment, UpdatePostfix, UpdatePrefix}
 use Rattle.es_whole_program.proofs.FormedLemmas.{IsOne, One}
 
 -- a part stands first
@@ -107,7 +107,7 @@ stands UpdatePostfix f = begins f
 stands UpdatePrefix f = begins_second f
 stands Parenthesized f = opens f
 stands Chain f = behind_two f
-stands Binary f = behind_operand f
+stands TypedBinary f = behind_operand f
 stands _ f = true
 
 -- a part stands first
@@ -185,7 +185,7 @@ Stands UpdatePostfix ps = HasFirst ps
 Stands UpdatePrefix ps = HasSecond ps
 Stands Parenthesized ps = HasInner ps
 Stands Chain ps = IsChain ps
-Stands Binary ps = IsBinary ps
+Stands TypedBinary ps = IsBinary ps
 Stands _ ps = Unit {0}
 
 moved : (P : Plain Label → Type 0) (p q : Plain Label) → p ≡ q → P q → P p
@@ -351,5 +351,5 @@ module _ (h : Reading) (K : List Key) where
   stands_holds UpdatePrefix f p from to e fit = second_holds f p from to e fit
   stands_holds Parenthesized f p from to e fit = inner_holds f p from to e fit
   stands_holds Chain f p from to e fit = two_holds f p from to e fit
-  stands_holds Binary f p from to e fit = binary_holds f p from to e fit
+  stands_holds TypedBinary f p from to e fit = binary_holds f p from to e fit
   stands_holds _ f p from to e fit = tt

@@ -7,7 +7,7 @@ use Rattle.es_tree.specs.Key.{Key}
 use Rattle.es_tree.specs.Plain.{Plain, node, leaf, nil, cons, mark, turn, via, made}
 use Rattle.es_tree.specs.Fits.{free, Shape, most_nodes}
 use Rattle.es_whole_grammar.specs.declared.rows.Label.{Label}
-use Rattle.es_whole_grammar.specs.declared.rows.Label.TheVariants.{Name, Parenthesized, Chain, Binary, MemberPost, IndexPost, NonNullPost, OfType, Assignment, UpdatePostfix, UpdatePrefix}
+use Rattle.es_whole_grammar.specs.declared.rows.Label.TheVariants.{Name, Parenthesized, Chain, TypedBinary, MemberPost, IndexPost, NonNullPost, Assignment, UpdatePostfix, UpdatePrefix}
 use Rattle.es_whole_grammar.specs.Table.{rule}
 use Rattle.es_whole_grammar.specs.Conditions as plains
 use Rattle.es_whole_grammar.specs.Conditions.{program_row}
@@ -17,10 +17,10 @@ use Rattle.es_whole_reader.specs.Slim.{parts_in, slim, tree_of}
 use Rattle.es_whole_program.proofs.FormedLemmas.{IsList, Formed}
 use Rattle.es_whole_program.proofs.Shapes.{EachBegins, IsPart, IsGroup, Stands}
 use Rattle.es_whole_program.proofs.RowShapes.{formed}
-use Rattle.es_whole_program.specs.Sound.{is_member, is_non_null, behind_part, first_in, behind_turns, turns_of, ends_in_member, is_asserted, group_layer, is_assertion, is_simple, may_hold, is_sound, are_sound}
+use Rattle.es_whole_program.specs.Sound.{is_member, is_non_null, behind_part, first_in, behind_turns, turns_of, ends_in_member, group_layer, is_assertion, is_simple, may_hold, is_sound, are_sound}
 use Rattle.es_whole_grammar.proofs.Theorems.{one_program}
 use Rattle.es_whole_program.specs.Program.{IsKept}
-use Rattle.es_whole_program.proofs.Equations.{out_leaf, out_node, out_role, out_parts, member_leaf, member_node, member_role, member_parts, non_null_leaf, non_null_node, non_null_role, non_null_parts, asserted_leaf, asserted_node, asserted_role, asserted_parts, assertion_parts, simple_leaf, simple_node, simple_role, simple_parts, sound_leaf, sound_node, sound_role, sound_parts}
+use Rattle.es_whole_program.proofs.Equations.{out_leaf, out_node, out_role, out_parts, member_leaf, member_node, member_role, member_parts, non_null_leaf, non_null_node, non_null_role, non_null_parts, assertion_parts, simple_leaf, simple_node, simple_role, simple_parts, sound_leaf, sound_node, sound_role, sound_parts}
 
 -- the parts that are kept
 abbrev parts_of : Plain Label → List Tree
@@ -108,36 +108,17 @@ ends_same before p (turn q rest) fine more begun =
 ends_same before p _ fine more begun = absurd begun
 
 -- ---- assertions
--- `const`, or a type
-abbrev shows_asserted : Plain Label → Bool
-shows_asserted (node (OfType l) from to ps) = true
-shows_asserted (leaf s n) = true
-shows_asserted _ = false
+-- parts that are there
+abbrev shows_parts : Plain Label → Bool
+shows_parts (cons p ps) = true
+shows_parts _ = false
 
-list_asserted : (p : Plain Label) → IsList p → Formed Stands p → is_asserted (tree_of p) ≡ false
-list_asserted p list fine = ap is_asserted (grouped p list fine) ∙ asserted_parts (parts_of p)
-
-asserted_same : (p : Plain Label) → Formed Stands p → is_asserted (tree_of p) ≡ shows_asserted p
-unfolding made
-asserted_same (node l from to ps) fine = asserted_node l from to (parts_of ps)
-asserted_same (leaf s n) fine = asserted_leaf n
-asserted_same nil fine = asserted_parts []
-asserted_same (cons p ps) fine = list_asserted (cons p ps) tt fine
-asserted_same (mark n ps) fine = list_asserted (mark n ps) tt fine
-asserted_same (turn p ps) fine = list_asserted (turn p ps) tt fine
-asserted_same (via w p) fine = asserted_role w (tree_of p)
-
--- a group that begins with one
-abbrev shows_asserted_first : Plain Label → Bool
-shows_asserted_first (cons p ps) = shows_asserted p
-shows_asserted_first _ = false
-
-group_same : (x : Plain Label) → IsPart x → Formed Stands x → group_layer (out-Tree (tree_of x)) ≡ shows_asserted_first x
+group_same : (x : Plain Label) → IsPart x → Formed Stands x → group_layer (out-Tree (tree_of x)) ≡ shows_parts x
 unfolding made
 group_same (node l from to ps) part fine = ap group_layer (out_node l from to (parts_of ps))
 group_same (leaf s n) part fine = ap group_layer (out_leaf n)
 group_same nil part fine = ap group_layer (out_parts [])
-group_same (cons p ps) part fine = ap group_layer (out_parts (tree_of p ∷ parts_of ps)) ∙ asserted_same p fine.0
+group_same (cons p ps) part fine = ap group_layer (out_parts (tree_of p ∷ parts_of ps))
 group_same (mark n ps) part fine = absurd part
 group_same (turn p ps) part fine = absurd part
 group_same (via w p) part fine = ap group_layer (out_role w (tree_of p))
@@ -145,12 +126,8 @@ group_same (via w p) part fine = ap group_layer (out_role w (tree_of p))
 assertion_same : (p : Plain Label) → IsGroup p → Formed Stands p → is_assertion (tree_of p) ≡ plains.is_assertion p
 unfolding made
 assertion_same (cons operator nil) group fine = assertion_parts (tree_of operator ∷ [])
-assertion_same (cons operator (cons (cons (node l from to ts) qs) ps)) group fine =
-    assertion_parts (tree_of operator ∷ tree_of (cons (node l from to ts) qs) ∷ parts_of ps)
-    ∙ group_same (cons (node l from to ts) qs) group fine.2.0
-assertion_same (cons operator (cons (cons (leaf s n) qs) ps)) group fine =
-    assertion_parts (tree_of operator ∷ tree_of (cons (leaf s n) qs) ∷ parts_of ps)
-    ∙ group_same (cons (leaf s n) qs) group fine.2.0
+assertion_same (cons operator (cons (cons q qs) ps)) group fine =
+    assertion_parts (tree_of operator ∷ tree_of (cons q qs) ∷ parts_of ps) ∙ group_same (cons q qs) group fine.2.0
 assertion_same (cons operator (cons x ps)) group fine =
     assertion_parts (tree_of operator ∷ tree_of x ∷ parts_of ps) ∙ group_same x group fine.2.0
 assertion_same (cons operator _) group fine = absurd group
@@ -172,13 +149,13 @@ simple_same (node Chain from to (cons q (cons p (cons more ps)))) fine =
     ∙ ap (λ b. ends_in_member b (tree_of p) (tree_of more)) (simple_same q fine.2.0)
     ∙ ends_same (plains.is_simple q) p more fine.2.2.0 fine.2.2.2.0 fine.1
 simple_same (node Chain from to _) fine = absurd fine.1
-simple_same (node Binary from to (cons q (cons assertion nil))) fine =
-    simple_node Binary from to (tree_of q ∷ tree_of assertion ∷ [])
+simple_same (node TypedBinary from to (cons q (cons assertion nil))) fine =
+    simple_node TypedBinary from to (tree_of q ∷ tree_of assertion ∷ [])
     ∙ ap (λ b. is_assertion (tree_of assertion) && b) (simple_same q fine.2.0)
     ∙ ap (λ b. b && plains.is_simple q) (assertion_same assertion fine.1 fine.2.2.0)
-simple_same (node Binary from to (cons q (cons p (cons more ps)))) fine =
-    simple_node Binary from to (tree_of q ∷ tree_of p ∷ tree_of more ∷ parts_of ps)
-simple_same (node Binary from to _) fine = absurd fine.1
+simple_same (node TypedBinary from to (cons q (cons p (cons more ps)))) fine =
+    simple_node TypedBinary from to (tree_of q ∷ tree_of p ∷ tree_of more ∷ parts_of ps)
+simple_same (node TypedBinary from to _) fine = absurd fine.1
 simple_same (node l from to ps) fine = simple_node l from to (parts_of ps)
 simple_same (leaf s n) fine = simple_leaf n
 simple_same nil fine = simple_parts []

@@ -62,23 +62,9 @@ chain_ends before _ = false
 
 -- ---- assertions
 
--- an alternative of types
-abbrev pub names_type : Label → Bool
-names_type (l.OfType label) = true
-names_type _ = false
-
--- `const`, or a type
-abbrev pub asserted_layer : Tree-F Tree → Bool
-asserted_layer (Tree-F.Leaf at) = true
-asserted_layer (Tree-F.Node label from to parts) = names_type label
-asserted_layer _ = false
-
-unfoldable pub is_asserted : Tree → Bool
-is_asserted t = asserted_layer (out-Tree t)
-
--- a group that begins with one
+-- a group that is there
 abbrev pub group_layer : Tree-F Tree → Bool
-group_layer (Tree-F.Parts (q ∷ parts)) = is_asserted q
+group_layer (Tree-F.Parts (q ∷ parts)) = true
 group_layer _ = false
 
 -- the second of these parts is such a group
@@ -112,7 +98,7 @@ abbrev pub simple_by : Label → List Tree → Bool → Bool
 simple_by l.Name parts inner = true
 simple_by l.Parenthesized parts inner = inner
 simple_by l.Chain parts inner = chain_ends inner parts
-simple_by l.Binary parts inner = asserted_target inner parts
+simple_by l.TypedBinary parts inner = asserted_target inner parts
 simple_by _ parts inner = false
 
 abbrev pub simple_step : Tree-F (Tree × Bool) → Bool

@@ -2,7 +2,7 @@
 
 ghost use Rattle.std.specs.Prelude.{◌≡◌};
 ghost use Rattle.es_whole_reader.specs.declared.tree.Tree.{out-Tree};
-ghost use Rattle.es_whole_program.specs.Sound.{names_member, is_member, names_non_null, is_non_null, behind_part, first_in, behind_turns, ends_in_member, chain_ends, names_type, is_asserted, group_layer, second_asserted, is_assertion, asserted_target, first_is, simple_by, is_simple, first_simple, second_simple, may_hold, is_sound, are_sound};
+ghost use Rattle.es_whole_program.specs.Sound.{names_member, is_member, names_non_null, is_non_null, behind_part, first_in, behind_turns, ends_in_member, chain_ends, group_layer, second_asserted, is_assertion, asserted_target, first_is, simple_by, is_simple, first_simple, second_simple, may_hold, is_sound, are_sound};
 
 use es_whole_grammar::Label;
 use es_whole_reader::Tree;
@@ -120,42 +120,12 @@ fn chain_ends(before: bool, parts: &[Tree]) -> bool
     ends_in_member(before, &parts[1], &parts[2])
 }
 
-/// An alternative of types.
-fn names_type(label: Label) -> bool
-    ensures { result ≡ names_type label }
-{
-    match label {
-        Label::OfType(_) => true,
-        _ => false,
-    }
-}
-
-/// `const`, or a type.
-#[tactic(auto, using(crate::proofs::Equations::asserted_leaf, crate::proofs::Equations::asserted_node, crate::proofs::Equations::asserted_role, crate::proofs::Equations::asserted_parts))]
-fn is_asserted(tree: &Tree) -> bool
-    ensures { result ≡ is_asserted tree.now }
-{
-    match tree {
-        Tree::Leaf { at: _ } => true,
-        Tree::Node {
-            label,
-            from: _,
-            to: _,
-            parts: _,
-        } => names_type(*label),
-        Tree::Role { label: _, tree: _ } => false,
-        Tree::Parts(_) => false,
-    }
-}
-
-/// A group that begins with one.
-fn begins_asserted(group: &Tree) -> bool
+/// A group that is there.
+fn is_group(group: &Tree) -> bool
     ensures { result ≡ group_layer (out-Tree group.now) }
 {
-    if let Tree::Parts(parts) = group
-        && let Some(first) = parts.get(0)
-    {
-        return is_asserted(first);
+    if let Tree::Parts(parts) = group {
+        return !parts.is_empty();
     }
     false
 }
@@ -167,7 +137,7 @@ fn second_asserted(parts: &[Tree]) -> bool
     if parts.len() < 2 {
         return false;
     }
-    begins_asserted(&parts[1])
+    is_group(&parts[1])
 }
 
 /// The parts of a turn are `as const`, or `as` or `satisfies` with a type.
@@ -231,7 +201,7 @@ fn is_simple_node(label: Label, parts: &[Tree]) -> bool
         Label::Name => true,
         Label::Parenthesized => first_is_simple(parts),
         Label::Chain => chain_ends(first_is_simple(parts), parts),
-        Label::Binary => is_asserted_target(first_is_simple(parts), parts),
+        Label::TypedBinary => is_asserted_target(first_is_simple(parts), parts),
         _ => false,
     }
 }

@@ -19,6 +19,6 @@ pub use cursor::{Cursor, Grammar, Input, Measured, Parts};
 pub use es_guards::Tokens;
 pub use es_whole_guards::{Ahead, Guard, Kinds};
 pub use forms::{Alt, Done, Many, OfRow, Opt, Punct, ReadsForm, Tok, When, Where};
-pub use rules::{As, Choose, Make, Pick, ReadsRule, Refuse, Wrap};
+pub use rules::{As, Choose, Make, MakeBy, Pick, ReadsRule, Refuse, Wrap};
 pub use told::{Sort, Told};
 pub use tree::Tree;

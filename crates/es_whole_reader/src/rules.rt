@@ -6,6 +6,7 @@ ghost use Rattle.es_tree.specs.Form.{Rule, refuse, make, choose, as_, pick, wrap
 ghost use Rattle.es_tree.specs.Reader.{and_then};
 ghost use Rattle.es_whole_grammar.specs.declared.rows.Row.{Row};
 ghost use Rattle.es_whole_grammar.specs.declared.rows.Label.{Label};
+ghost use Rattle.es_whole_grammar.specs.Embedding.{label_by};
 ghost use Rattle.es_whole_guards.specs.Named.{look_of, guard_of};
 ghost use Rattle.es_whole_reader.specs.Told.{told_of};
 ghost use Rattle.es_whole_reader.specs.Bounded.{makes, form_at, node_at, rule_at, row_at, wraps_at};
@@ -16,7 +17,7 @@ use crate::forms::ReadsForm;
 use crate::told::Told;
 use crate::tree::Tree;
 use base::Boxed;
-use es_tree::SyntaxError;
+use es_tree::{Lang, SyntaxError};
 use es_whole_grammar::{Label, Row};
 use es_whole_guards::{Ahead, Guard, holds, sees_ahead};
 
@@ -116,6 +117,28 @@ impl<P: ReadsForm> ReadsRule for Make<P> {
         let mut parts = Parts::new(grammar.input.alloc);
         self.1.read(grammar, cursor, &mut parts)?;
         node(self.0, from, parts, cursor)
+    }
+}
+
+/// A node with these parts, whose alternative is another one in TypeScript.
+#[derive(Clone, Copy)]
+pub struct MakeBy<P>(pub Lang, pub Label, pub Label, pub P);
+
+impl<P: ReadsForm> ReadsRule for MakeBy<P> {
+    ghost rule = { λ s. make (label_by s.0 s.1 s.2) (P.form s.3) };
+
+    fn read<F: Fn(Input<'_>, usize, Row, &mut Cursor) -> Result<Measured, SyntaxError>>(
+        &self,
+        grammar: &Grammar<'_, F>,
+        cursor: &mut Cursor,
+    ) -> Result<Measured, SyntaxError> {
+        let from = cursor.at;
+        let mut parts = Parts::new(grammar.input.alloc);
+        self.3.read(grammar, cursor, &mut parts)?;
+        match self.0 {
+            Lang::Es => node(self.1, from, parts, cursor),
+            Lang::Typescript => node(self.2, from, parts, cursor),
+        }
     }
 }
 

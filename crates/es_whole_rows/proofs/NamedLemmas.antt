@@ -20,7 +20,6 @@ use Rattle.es_type_reader.specs.Bounded.{Read as TypeRead, makes as type_makes, 
 use Rattle.es_type_reader.specs.Steps.{IsRead as IsTypeRead}
 use Rattle.es_whole_grammar.specs.declared.rows.Row.{Row}
 use Rattle.es_whole_grammar.specs.declared.rows.Row.TheVariants.{TypesRow}
-use Rattle.es_whole_grammar.specs.declared.rows.Label.TheVariants.{OfType}
 use Rattle.es_whole_grammar.specs.declared.rows.TypeRow.{TypeRow}
 use Rattle.es_whole_grammar.specs.TypeNames.{row_of_types, row_name, label_name}
 use Rattle.es_whole_grammar.specs.Embedding.{mapped_form, types_rule}
@@ -137,11 +136,11 @@ turn_named v vs =
     ∙ ap (λ ts. listed (named (slim_types.tree_in v.value)) ts (max v.height vs.height)) (parts_named vs.value)
 
 of_node_named : (l : table.Label) (from to : ℕ) (v : TypeRead)
-    → makes.of_node (OfType (label_name l)) from to (named_read v)
+    → makes.of_node (label_name l) from to (named_read v)
     ≡ named_read ((type_makes true).of_node l from to v)
 of_node_named l from to v =
-    ap (λ ps. single_read (Node (OfType (label_name l)) from to ps) (suc v.height)) (parts_named v.value)
-    ∙ ap (λ s. single_read (Node (OfType (label_name s)) from to (map named (slim_types.parts_in v.value)))
+    ap (λ ps. single_read (Node (label_name l) from to ps) (suc v.height)) (parts_named v.value)
+    ∙ ap (λ s. single_read (Node (label_name s) from to (map named (slim_types.parts_in v.value)))
     (suc v.height)) (sym (label_back l))
     ∙ ap (λ t. single_read t (suc v.height)) (sym (named_node (name_of l) from to (slim_types.parts_in v.value)))
 
@@ -168,11 +167,11 @@ changed_named f g each w (gives v to) e = ap (changed f) e ∙ ap (λ x. gives x
 
 -- a node
 nodes_named : (l : table.Label) (from to : ℕ) (v : TypeRead)
-    → node_at (OfType (label_name l)) from to (named_read v) ≡ named_out (type_node_at true l from to v)
+    → node_at (label_name l) from to (named_read v) ≡ named_out (type_node_at true l from to v)
 unfolding node_at type_node_at
 nodes_named l from to v =
     only_named (leb (suc v.height) most_nodes)
-    (gives (makes.of_node (OfType (label_name l)) from to (named_read v)) to)
+    (gives (makes.of_node (label_name l) from to (named_read v)) to)
     (gives ((type_makes true).of_node l from to v) to) (ap (λ x. gives x to) (of_node_named l from to v))
 
 -- ---- the readers
@@ -197,7 +196,7 @@ module _ (K : List Key) where
 
   wraps_named : (l : table.Label) (t : Guard) (parts : ℕ → Out Read) (type_parts : ℕ → Out TypeRead)
       → ((at : ℕ) → parts at ≡ named_out (type_parts at)) → (from n : ℕ) (q : TypeRead) (at : ℕ)
-      → wraps_at K (OfType (label_name l)) t parts from n (named_read q) at
+      → wraps_at K (label_name l) t parts from n (named_read q) at
       ≡ named_out (type_wraps_at true K l t type_parts from n q at)
   unfolding wraps_at type_wraps_at
   wraps_named l t parts type_parts same from zero q at =
@@ -205,24 +204,24 @@ module _ (K : List Key) where
   wraps_named l t parts type_parts same from (suc n) q at =
       either_named (t K at)
       (and_then (parts at)
-      (λ ps to. and_then (node_at (OfType (label_name l)) from to (makes.of_cons (named_read q) ps))
-      (wraps_at K (OfType (label_name l)) t parts from n)))
+      (λ ps to. and_then (node_at (label_name l) from to (makes.of_cons (named_read q) ps))
+      (wraps_at K (label_name l) t parts from n)))
       (gives (named_read q) at)
       (and_then (type_parts at)
       (λ ps to. and_then (type_node_at true l from to ((type_makes true).of_cons q ps))
       (type_wraps_at true K l t type_parts from n)))
       (gives q at)
       (then_named
-      (λ ps to. and_then (node_at (OfType (label_name l)) from to (makes.of_cons (named_read q) ps))
-      (wraps_at K (OfType (label_name l)) t parts from n))
+      (λ ps to. and_then (node_at (label_name l) from to (makes.of_cons (named_read q) ps))
+      (wraps_at K (label_name l) t parts from n))
       (λ ps to. and_then (type_node_at true l from to ((type_makes true).of_cons q ps))
       (type_wraps_at true K l t type_parts from n))
-      (λ v to. then_named (wraps_at K (OfType (label_name l)) t parts from n)
+      (λ v to. then_named (wraps_at K (label_name l) t parts from n)
       (type_wraps_at true K l t type_parts from n)
       (λ p end. wraps_named l t parts type_parts same from n p end)
-      (node_at (OfType (label_name l)) from to (makes.of_cons (named_read q) (named_read v)))
+      (node_at (label_name l) from to (makes.of_cons (named_read q) (named_read v)))
       (type_node_at true l from to ((type_makes true).of_cons q v))
-      (ap (node_at (OfType (label_name l)) from to) (cons_named q v)
+      (ap (node_at (label_name l) from to) (cons_named q v)
       ∙ nodes_named l from to ((type_makes true).of_cons q v)))
       (parts at) (type_parts at) (same at)) refl
 
@@ -303,7 +302,7 @@ module _ (K : List Key) (below : Row → ℕ → Out Read) (type_below : table.R
       → rule_at K below (types_rule a) at ≡ named_out (type_rule_at true K type_below a at)
   rule_named refuse h at = refl
   rule_named (make l f) h at =
-      then_named (λ ps to. node_at (OfType (label_name l)) at to ps) (λ ps to. type_node_at true l at to ps)
+      then_named (λ ps to. node_at (label_name l) at to ps) (λ ps to. type_node_at true l at to ps)
       (λ v to. nodes_named l at to v) (form_at K below (outer f) at) (type_form_at true K type_below f at)
       (form_named f at)
   rule_named (choose t a b) h at =
@@ -318,7 +317,7 @@ module _ (K : List Key) (below : Row → ℕ → Out Read) (type_below : table.R
       (type_rule_at true K type_below a at) (type_rule_at true K type_below b at) (rule_named a both.0 at)
       (rule_named b both.1 at)
   rule_named (wrap l a c f) h at =
-      then_named (λ q mid. wraps_at K (OfType (label_name l)) (test c) (form_at K below (outer f)) at (length K) q mid)
+      then_named (λ q mid. wraps_at K (label_name l) (test c) (form_at K below (outer f)) at (length K) q mid)
       (λ q mid. type_wraps_at true K l (test c) (type_form_at true K type_below f) at (length K) q mid)
       (λ v to. wraps_named K l (test c) (form_at K below (outer f)) (type_form_at true K type_below f) (form_named f) at
       (length K) v to)

@@ -7,13 +7,12 @@ use Rattle.es_type_reader.specs.declared.tree.Tree.TheFolds.{para-Tree}
 use Rattle.es_type_reader.specs.Names.{label_of}
 use Rattle.es_whole_grammar.specs.TypeNames.{label_name}
 use Rattle.es_whole_grammar.specs.declared.rows.Label.{Label}
-use Rattle.es_whole_grammar.specs.declared.rows.Label.TheVariants.{OfType}
 use Rattle.es_whole_reader.specs.declared.tree.Tree.{Tree}
 use Rattle.es_whole_reader.specs.declared.tree.Tree.TheVariants as tree
 
 -- the alternative, by the name that the table of programs gives it
 abbrev pub named_label : TypeName → Label
-named_label l = OfType (label_name (label_of l))
+named_label l = label_name (label_of l)
 
 abbrev pub named_step : Tree-F (TypeTree × Tree) → Tree
 named_step (Tree-F.Leaf at) = tree.Leaf at

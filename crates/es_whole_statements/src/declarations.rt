@@ -138,7 +138,7 @@ impl ReadsRule for TypedDeclarator {
         Pick(
             Guard::OpensDeclarator,
             Make(
-                Label::Declarator,
+                Label::TypedDeclarator,
                 OfRow(
                     Row::PatternRow(false, outside),
                     Opt(

@@ -11,8 +11,8 @@ use es_whole_members::{Pattern, Target};
 use es_whole_reader::Ahead::{Has, Is, Other};
 use es_whole_reader::Told::{Guarded, Taken};
 use es_whole_reader::{
-    Alt, Choose, Cursor, Done, Grammar, Guard, Input, Kinds, Make, Measured, OfRow, Opt, Parts,
-    Pick, Punct, ReadsForm, ReadsRule, Sort, Tok, Where,
+    Alt, Choose, Cursor, Done, Grammar, Guard, Input, Kinds, Make, MakeBy, Measured, OfRow, Opt,
+    Parts, Pick, Punct, ReadsForm, ReadsRule, Sort, Tok, Where,
 };
 
 /// Head: ('var' | 'let' | 'const') Pat | ('await' ~)? 'using' ~ Name | Target
@@ -35,8 +35,10 @@ impl ReadsRule for Head {
         };
         Choose(
             Has(Kinds::VariableWord),
-            Make(
+            MakeBy(
+                self.0,
                 Label::VariableHead,
+                Label::TypedVariableHead,
                 Tok(
                     Sort::Kind,
                     Kinds::VariableWord,

@@ -15,8 +15,8 @@ use es_whole_members::{Ended, ExpressionEnded};
 use es_whole_reader::Ahead::Is;
 use es_whole_reader::Told::{Hint, Taken};
 use es_whole_reader::{
-    Ahead, Alt, Choose, Cursor, Done, Grammar, Guard, Input, Kinds, Make, Many, Measured, OfRow,
-    Opt, Parts, Pick, Punct, ReadsForm, ReadsRule, Sort, Tok, When, Where,
+    Ahead, Alt, Choose, Cursor, Done, Grammar, Guard, Input, Kinds, Make, MakeBy, Many, Measured,
+    OfRow, Opt, Parts, Pick, Punct, ReadsForm, ReadsRule, Sort, Tok, When, Where,
 };
 
 /// (~ Name)? END
@@ -175,8 +175,10 @@ impl ReadsRule for Try {
         grammar: &Grammar<'_, F>,
         cursor: &mut Cursor,
     ) -> Result<Measured, SyntaxError> {
-        Make(
+        MakeBy(
+            self.0,
             Label::TryStatement,
+            Label::TypedTryStatement,
             Punct(
                 TokenKind::TryWord,
                 OfRow(
