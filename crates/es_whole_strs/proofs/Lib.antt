@@ -1,0 +1,3 @@
+pub mod Places
+mod TypePlaces
+pub mod Theorems
