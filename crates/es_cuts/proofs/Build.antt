@@ -8,8 +8,8 @@ use Rattle.es_ast.specs.declared.ast.Expr.{Expr}
 use Rattle.es_ast.specs.declared.ast.Expr.TheVariants as vExpr
 use Rattle.es_ast.specs.declared.ast.Pat.TheVariants as vPat
 use Rattle.es_ast.specs.declared.ast.Stmt.TheVariants as vStmt
-use Rattle.es_grammar.specs.declared.rows.Label.{Label}
-use Rattle.es_grammar.specs.declared.rows.Label.TheVariants as l
+use Rattle.es_whole_grammar.specs.declared.rows.Label.{Label}
+use Rattle.es_whole_grammar.specs.declared.rows.Label.TheVariants as l
 use Rattle.es_dress.specs.Value.{Value, absent, nil, more, token, node, group, optional, is_there}
 use Rattle.es_dress.specs.Texts.{str_at}
 use Rattle.es_dress.specs.Functions as functions

@@ -6,14 +6,14 @@ use Rattle.es_token.specs.declared.token.TokenKind.TheVariants as k
 use denote.Enum.Bare.{same_true}
 use Rattle.es_tree.specs.Key.{seen, keys_of, is}
 use Rattle.es_tree.specs.Plain.{Plain, node, leaf, nil, cons, mark, turn, via, made}
-use Rattle.es_grammar.specs.declared.rows.Label.{Label}
-use Rattle.es_grammar.specs.contracts.rows.Label.{the_type}
-use Rattle.es_grammar.specs.declared.rows.Label.TheVariants as l
-use Rattle.es_reader.specs.declared.tree.Tree.{Tree}
-use Rattle.es_reader.specs.declared.tree.Tree.TheVariants as vTree
-use Rattle.es_reader.specs.Slim.{parts_in, slim, tree_of}
+use Rattle.es_whole_grammar.specs.declared.rows.Label.{Label}
+use Rattle.es_whole_grammar.specs.contracts.rows.Label.{the_type}
+use Rattle.es_whole_grammar.specs.declared.rows.Label.TheVariants as l
+use Rattle.es_whole_reader.specs.declared.tree.Tree.{Tree}
+use Rattle.es_whole_reader.specs.declared.tree.Tree.TheVariants as vTree
+use Rattle.es_whole_reader.specs.Slim.{parts_in, slim, tree_of}
 use Rattle.es_shapes.proofs.FormedLemmas.{IsList, Formed}
-use Rattle.es_strs.proofs.Theorems.{StrPart, MayBeStr, StrGroup, Names}
+use Rattle.es_strs.proofs.Places.{StrPart, MayBeStr, StrGroup, Names}
 use Rattle.es_dress.specs.Value.{Value, as_group, group, optional}
 use Rattle.es_dress.specs.Value.{absent as no_part, nil as no_more, more, token, node as made_node}
 use Rattle.es_dress.specs.Texts.{span_of, str_of, token_of, str_at}

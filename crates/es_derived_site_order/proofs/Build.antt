@@ -9,8 +9,8 @@ use Rattle.es_ast.specs.declared.ast.Expr.{Expr}
 use Rattle.es_ast.specs.declared.ast.Expr.TheVariants as vExpr
 use Rattle.es_ast.specs.declared.ast.Pat.TheVariants as vPat
 use Rattle.es_ast.specs.declared.ast.Stmt.TheVariants as vStmt
-use Rattle.es_grammar.specs.declared.rows.Label.{Label}
-use Rattle.es_grammar.specs.declared.rows.Label.TheVariants as l
+use Rattle.es_whole_grammar.specs.declared.rows.Label.{Label}
+use Rattle.es_whole_grammar.specs.declared.rows.Label.TheVariants as l
 use Rattle.es_dress.specs.Functions as functions
 use Rattle.es_dress.specs.Classes as classes
 use Rattle.es_dress.specs.Statements as stmts

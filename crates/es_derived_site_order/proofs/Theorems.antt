@@ -8,11 +8,11 @@ use Rattle.es_tree.specs.declared.error.Mode.{Mode}
 use Rattle.es_ast.specs.declared.ast.Program.{Program}
 use Rattle.es_tree.specs.Key.{keys_of}
 use Rattle.es_tree.specs.Fits.{free, Shape, most_nodes}
-use Rattle.es_grammar.specs.Table.{rule}
-use Rattle.es_grammar.specs.Conditions.{program_row}
+use Rattle.es_whole_grammar.specs.Table.{rule}
+use Rattle.es_whole_grammar.specs.Conditions.{program_row}
 use Rattle.es_grammar.proofs.OrderLemmas.{row_stands}
 use Rattle.es_guards.proofs.TokenLemmas.{length-keys_of}
-use Rattle.es_reader.specs.Slim.{tree_of}
+use Rattle.es_whole_reader.specs.Slim.{tree_of}
 use Rattle.es_strs.proofs.Theorems.{strs}
 use Rattle.es_walk.specs.Sites.{sites_of}
 use Rattle.es_dress.specs.Dress.{value_of}
@@ -33,7 +33,7 @@ derives_stand l m x ts p derived =
     let stand : StandOn ts 0 (length (keys_of ts)) (sites_of p) = subst P derived.dressed
     (read_program ts 0 (length (keys_of ts)) (value_of x ts (tree_of derived.plain))
     (tree_on x ts 0 (length (keys_of ts)) derived.plain (strs l m (keys_of ts) derived.plain derived.program.shaped)
-    (row_stands free (keys_of ts) rule most_nodes (program_row l m) derived.plain 0 (length (keys_of ts))
+    (row_stands free (keys_of ts) (rule l) most_nodes (program_row m) derived.plain 0 (length (keys_of ts))
     derived.program.shaped.0))) in
     subst (λ (n : ℕ). StandOn ts 0 n (sites_of p)) (length-keys_of ts) stand
 

@@ -6,9 +6,9 @@ use Rattle.es_tree.specs.declared.error.Mode.{Mode}
 use Rattle.es_ast.specs.declared.ast.Program.{Program}
 use Rattle.es_tree.specs.Key.{keys_of}
 use Rattle.es_tree.specs.Plain.{Plain}
-use Rattle.es_grammar.specs.declared.rows.Label.{Label}
-use Rattle.es_grammar.specs.Conditions.{IsProgram}
-use Rattle.es_reader.specs.Slim.{tree_of}
+use Rattle.es_whole_grammar.specs.declared.rows.Label.{Label}
+use Rattle.es_whole_grammar.specs.Conditions.{IsProgram}
+use Rattle.es_whole_reader.specs.Slim.{tree_of}
 use Rattle.es_dress.specs.Value.{Value, given, typed}
 use Rattle.es_dress.specs.Dress.{value_of}
 

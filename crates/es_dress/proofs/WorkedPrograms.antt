@@ -41,8 +41,8 @@ use Rattle.es_ast.specs.declared.ast.Class.{Class, roll-Class}
 use Rattle.es_ast.specs.declared.ast.Param.{Param}
 use Rattle.es_ast.specs.declared.ast.VarDeclarator.{VarDeclarator}
 use Rattle.es_ast.specs.declared.ast.SwitchCase.{SwitchCase, roll-SwitchCase}
-use Rattle.es_grammar.specs.declared.rows.Label.{Label}
-use Rattle.es_grammar.specs.declared.rows.Label.TheVariants as l
+use Rattle.es_whole_grammar.specs.declared.rows.Label.{Label}
+use Rattle.es_whole_grammar.specs.declared.rows.Label.TheVariants as l
 use Rattle.es_dress.specs.Value.{Value, token, node, given, typed}
 use Rattle.es_dress.specs.Dress.{packed, as_target}
 use Rattle.es_dress.specs.Texts.{str_by}

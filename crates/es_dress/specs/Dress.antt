@@ -4,7 +4,19 @@ use denote.Enum.Bare.{sameb}
 use Rattle.base.specs.declared.range.Range.{Range}
 use Rattle.es_token.specs.declared.token.Token.{Token}
 use Rattle.ts_ast.specs.declared.leaf.MethodKind.TheVariants as vMethod
+use Rattle.ts_ast.specs.declared.leaf.Ident.{Ident}
 use Rattle.ts_ast.specs.declared.leaf.TsEntityName.{TsEntityName}
+use Rattle.ts_ast.specs.declared.leaf.TsKey.{TsKey}
+use Rattle.ts_ast.specs.declared.ts.Nodes.{Nodes}
+use Rattle.ts_ast.specs.declared.ts.TsType.{TsType}
+use Rattle.ts_ast.specs.declared.ts.TsType.TheVariants as vType
+use Rattle.ts_ast.specs.declared.ts.TsTypeParam.{TsTypeParam}
+use Rattle.ts_ast.specs.declared.ts.TsTypeElement.{TsTypeElement}
+use Rattle.ts_ast.specs.declared.ts.TsTupleElement.{TsTupleElement}
+use Rattle.ts_ast.specs.declared.ts.TsFnParam.{TsFnParam}
+use Rattle.ts_ast.specs.declared.ts.TsParamPat.{TsParamPat}
+use Rattle.ts_ast.specs.declared.ts.TsPatProp.{TsPatProp}
+use Rattle.ts_ast.specs.declared.ts.TsPart.{TsPart}
 use Rattle.es_ast.specs.declared.leaf.ImportNames.{ImportNames}
 use Rattle.es_ast.specs.declared.leaf.ImportClause.{ImportClause}
 use Rattle.es_ast.specs.declared.leaf.ImportClause.TheVariants as vClause
@@ -29,20 +41,29 @@ use Rattle.es_ast.specs.declared.ast.Param.{Param}
 use Rattle.es_ast.specs.declared.ast.VarDeclarator.{VarDeclarator}
 use Rattle.es_ast.specs.declared.ast.ClassMember.{ClassMember}
 use Rattle.es_ast.specs.declared.ast.ClassMember.TheVariants as vMember
-use Rattle.es_grammar.specs.contracts.rows.Label.{the_type}
-use Rattle.es_grammar.specs.declared.rows.Label.{Label}
-use Rattle.es_grammar.specs.declared.rows.Label.TheVariants as l
-use Rattle.es_reader.specs.declared.tree.Tree.{Tree}
-use Rattle.es_reader.specs.declared.tree.Tree.TheOpen.{Tree-F}
-use Rattle.es_reader.specs.declared.tree.Tree.TheFolds.{fold-Tree}
-use Rattle.es_dress.specs.Value.{Typed, Value, absent, nil, more, token, node, group, is_there}
+use Rattle.es_whole_grammar.specs.contracts.rows.Label.{the_type}
+use Rattle.es_whole_grammar.specs.declared.rows.Label.{Label}
+use Rattle.es_whole_grammar.specs.declared.rows.Label.TheVariants as l
+use Rattle.es_whole_reader.specs.declared.tree.Tree.{Tree}
+use Rattle.es_whole_reader.specs.declared.tree.Tree.TheOpen.{Tree-F}
+use Rattle.es_whole_reader.specs.declared.tree.Tree.TheFolds.{fold-Tree}
+use Rattle.es_dress.specs.Value.{Signature, Typed, Value, absent, nil, more, token, node, group, is_there}
 use Rattle.es_dress.specs.Texts.{span_of}
+use Rattle.es_dress.specs.Texts as texts
 use Rattle.es_dress.specs.Expressions as exprs
 use Rattle.es_dress.specs.Patterns as pats
 use Rattle.es_dress.specs.Functions as functions
 use Rattle.es_dress.specs.Classes as classes
 use Rattle.es_dress.specs.Statements as stmts
 use Rattle.es_dress.specs.Modules as modules
+use Rattle.es_dress.specs.TypedParts as parts
+use Rattle.es_dress.specs.TypedFunctions as typed
+use Rattle.es_dress.specs.TypedExpressions as typed_exprs
+use Rattle.es_dress.specs.TypedStatements as typed_stmts
+use Rattle.es_dress.specs.TypeNames as type_names
+use Rattle.es_dress.specs.TypePatterns as type_pats
+use Rattle.es_dress.specs.TypeMembers as type_members
+use Rattle.es_dress.specs.Types as types
 
 -- the same alternative
 abbrev pub same_label : Label → Label → Bool
@@ -92,7 +113,15 @@ module _ (x : List ℕ) (ts : List Token) where
       else (if same_label label l.AsyncNameArrow then functions.name_arrow x ts true r p
       else (if same_label label l.AsyncParenthesizedArrow then functions.parenthesized_arrow ts true r p
       else (if same_label label l.Sequence then exprs.sequence r p
-      else None))))))))))))))))))))))))))))))))))
+      else (if same_label label l.TypedFunction then option_map vExpr.Fn (typed.typed_function x ts false r p)
+      else (if same_label label l.TypedAsyncFunction then option_map vExpr.Fn (typed.typed_function x ts true r p)
+      else (if same_label label l.TypedClass then option_map vExpr.Class (typed.typed_class x ts false r p)
+      else (if same_label label l.AbstractClass then option_map vExpr.Class (typed.typed_class x ts true r p)
+      else (if same_label label l.TypedNew then typed_exprs.typed_new r p
+      else (if same_label label l.TypedBinary then typed_exprs.typed_binary ts r p
+      else (if same_label label l.TypedParenthesizedArrow then typed.typed_arrow ts false r p
+      else (if same_label label l.TypedAsyncParenthesizedArrow then typed.typed_arrow ts true r p
+      else None))))))))))))))))))))))))))))))))))))))))))
 
   -- as a pattern
   unfoldable pub pat_of : Label → ℕ → Range → Value → Option Pat
@@ -104,12 +133,35 @@ module _ (x : List ℕ) (ts : List Token) where
       else (if same_label label l.DefaultPattern then pats.default_pattern r p
       else None))))
 
+  -- the same with `?` or not, and with a type behind it or not
+  unfoldable pub marked_of : Label → ℕ → Value → Option (Bool → Option TsPart → Range → Pat)
+  marked_of label from p =
+      if same_label label l.NamePattern then parts.marked_name x ts p
+      else (if same_label label l.ArrayPattern then parts.marked_array ts from p
+      else (if same_label label l.ObjectPattern then parts.marked_object p
+      else None))
+
   -- as a declaration; variables without a `;` of their own stand in the head of a `for`
   unfoldable pub variables_of : Label → Value → Option stmts.Variables
   variables_of label p =
       if same_label label l.Variables then stmts.variables ts p
       else (if same_label label l.Using then stmts.using_ p
       else None)
+
+  -- behind `declare` or not
+  unfoldable pub declarable_of : Label → Range → Value → Option typed_stmts.Declarable
+  declarable_of label r p =
+      if same_label label l.TypedFunction then option_map (λ function declare span. vDecl.Fn declare function span) (typed.typed_function x ts false r p)
+      else (if same_label label l.TypedAsyncFunction then option_map (λ function declare span. vDecl.Fn declare function span) (typed.typed_function x ts true r p)
+      else (if same_label label l.TypedClass then option_map (λ class declare span. vDecl.Class declare class span) (typed.typed_class x ts false r p)
+      else (if same_label label l.AbstractClass then option_map (λ class declare span. vDecl.Class declare class span) (typed.typed_class x ts true r p)
+      else (if same_label label l.InterfaceDeclaration then typed_stmts.interface x ts p
+      else (if same_label label l.AliasDeclaration then typed_stmts.alias x ts p
+      else (if same_label label l.EnumDeclaration then typed_stmts.enum_ x ts p
+      else (if same_label label l.NamespaceDeclaration then typed_stmts.namespace ts p
+      else (if same_label label l.ModuleDeclaration then typed_stmts.module_namespace x ts p
+      else (if same_label label l.GlobalDeclaration then typed_stmts.global p
+      else None)))))))))
 
   unfoldable pub decl_of : Label → Range → Value → Option Decl
   decl_of label r p =
@@ -120,7 +172,9 @@ module _ (x : List ℕ) (ts : List Token) where
       else (if same_label label l.UsingDeclaration then stmts.variable_declaration r p
       else (if same_label label l.Variables then option_map (stmts.decl_of r) (stmts.variables ts p)
       else (if same_label label l.Using then option_map (stmts.decl_of r) (stmts.using_ p)
-      else None))))))
+      else (if same_label label l.Declared then typed_stmts.declared r p
+      else (if same_label label l.DeclaredVariables then typed_stmts.declared_variables r p
+      else option_map (λ decl. decl false r) (declarable_of label r p)))))))))
 
   unfoldable pub block_of : Label → Value → Option (List Stmt)
   block_of label p =
@@ -148,30 +202,42 @@ module _ (x : List ℕ) (ts : List Token) where
       else (if same_label label l.TryStatement then stmts.try_ r p
       else (if same_label label l.DebuggerStatement then Some (vStmt.Debugger r)
       else (if same_label label l.WithStatement then stmts.with_ r p
-      else option_map vStmt.Decl (decl_of label r p))))))))))))))))))
+      else (if same_label label l.TypedTryStatement then typed_stmts.typed_try ts r p
+      else option_map vStmt.Decl (decl_of label r p)))))))))))))))))))
 
   -- a declarator or a parameter, which may be a pattern alone; a head, which may be a pattern that is assigned to
   unfoldable pub declarator_of : Label → ℕ → Range → Value → Option VarDeclarator
   declarator_of label from r p =
       if same_label label l.Declarator then stmts.declarator r p
-      else option_map (stmts.declarator_of r None) (pat_of label from r p)
+      else (if same_label label l.TypedDeclarator then typed_stmts.typed_declarator ts r p
+      else option_map (stmts.declarator_of r None) (pat_of label from r p))
 
   unfoldable pub param_of : Label → ℕ → Range → Value → Option Param
   param_of label from r p =
       if same_label label l.DefaultParameter then functions.default_parameter r p
-      else option_map (functions.param_of r) (pat_of label from r p)
+      else (if same_label label l.ThisParameter then parts.this_parameter ts r p
+      else (if same_label label l.PropertyParameter then parts.property_parameter ts r p
+      else (if same_label label l.MarkedParameter then parts.marked_parameter ts r p
+      else option_map (functions.param_of r) (pat_of label from r p))))
 
   unfoldable pub head_of : Label → ℕ → Range → Value → Option stmts.Head
   head_of label from r p =
       if same_label label l.VariableHead then stmts.variable_head ts p
       else (if same_label label l.UsingHead then stmts.using_head x ts p
-      else option_map (λ target. (None, target)) (pat_of label from r p))
+      else (if same_label label l.TypedVariableHead then typed_stmts.typed_head ts p
+      else option_map (λ target. (None, target)) (pat_of label from r p)))
 
   unfoldable pub params_of : Label → Value → Option (List Param)
   params_of label p =
       if same_label label l.Parameters then functions.parameters ts p
       else (if same_label label l.Signature then functions.signature p
-      else None)
+      else (if same_label label l.TypedParameters then parts.typed_parameters ts p
+      else None))
+
+  unfoldable pub signature_of : Label → Value → Option Signature
+  signature_of label p =
+      if same_label label l.TypedSignature then parts.typed_signature p
+      else None
 
   unfoldable pub pat_prop_of : Label → Range → Value → Option ObjectPatProp
   pat_prop_of label r p =
@@ -198,7 +264,11 @@ module _ (x : List ℕ) (ts : List Token) where
       else (if same_label label l.MethodProperty then functions.method_property ts vMethod.Method false false r p 0
       else (if same_label label l.KeyValue then functions.key_value r p
       else (if same_label label l.Shorthand then functions.shorthand x ts p
-      else None))))))
+      else (if same_label label l.TypedAccessorProperty then typed.typed_accessor_property ts r p
+      else (if same_label label l.TypedAsyncProperty then typed.typed_method_property ts vMethod.Method true (is_there (group p 0)) r p 1
+      else (if same_label label l.TypedGeneratorProperty then typed.typed_method_property ts vMethod.Method false true r p 0
+      else (if same_label label l.TypedMethodProperty then typed.typed_method_property ts vMethod.Method false false r p 0
+      else None))))))))))
 
   unfoldable pub member_of : Label → Range → Value → Option ClassMember
   member_of label r p =
@@ -210,7 +280,14 @@ module _ (x : List ℕ) (ts : List Token) where
       else (if same_label label l.MethodMember then classes.method_member ts vMethod.Method false false r p 1
       else (if same_label label l.FieldMember then classes.field_member false r p
       else (if same_label label l.AccessorField then classes.field_member true r p
-      else None)))))))
+      else (if same_label label l.TypedAccessorMember then typed.typed_accessor_member ts r p
+      else (if same_label label l.TypedAsyncMember then typed.typed_method_member ts vMethod.Method true (is_there (group p 1)) r p 2
+      else (if same_label label l.TypedGeneratorMember then typed.typed_method_member ts vMethod.Method false true r p 1
+      else (if same_label label l.TypedMethodMember then typed.typed_method_member ts vMethod.Method false false r p 1
+      else (if same_label label l.TypedFieldMember then typed.typed_field ts false r p
+      else (if same_label label l.TypedAccessorField then typed.typed_field ts true r p
+      else (if same_label label l.IndexMember then typed.index_member x ts r p
+      else None))))))))))))))
 
   unfoldable pub post_of : Label → Range → Value → Option exprs.Post
   post_of label r p =
@@ -219,7 +296,11 @@ module _ (x : List ℕ) (ts : List Token) where
       else (if same_label label l.CallPost then exprs.call_post r p
       else (if same_label label l.TemplatePost then exprs.template_post r p
       else (if same_label label l.OptionalPost then exprs.optional_post x ts r p
-      else None))))
+      else (if same_label label l.TypedCallPost then typed_exprs.typed_call_post r p
+      else (if same_label label l.TypedTemplatePost then typed_exprs.typed_template_post r p
+      else (if same_label label l.TypedOptionalPost then typed_exprs.typed_optional_post x ts r p
+      else (if same_label label l.NonNullPost then typed_exprs.non_null_post r
+      else None))))))))
 
   unfoldable pub args_of : Label → Value → Option (List Expr)
   args_of label p =
@@ -258,7 +339,8 @@ module _ (x : List ℕ) (ts : List Token) where
   unfoldable pub entity_of : Label → Range → Value → Option TsEntityName
   entity_of label r p =
       if same_label label l.Entity then modules.entity x ts r p
-      else None
+      else (if same_label label l.EntityOfType then modules.entity x ts r p
+      else None)
 
   unfoldable pub module_decl_of : Label → Range → Value → Option ModuleDecl
   module_decl_of label r p =
@@ -275,7 +357,9 @@ module _ (x : List ℕ) (ts : List Token) where
       else (if same_label label l.ExportDefaultClass then modules.export_default_decl r p
       else (if same_label label l.ExportDefaultExpression then modules.export_default_expression r p
       else (if same_label label l.ExportDeclaration then modules.export_declaration r p
-      else None))))))))))))
+      else (if same_label label l.ExportDefaultInterface then modules.export_default_decl r p
+      else (if same_label label l.ExportAssignment then typed_stmts.export_assignment r p
+      else None))))))))))))))
 
   -- an item that is no import and no export is a statement
   abbrev pub item_by : Option ModuleDecl → Option Stmt → Option ModuleItem
@@ -286,6 +370,119 @@ module _ (x : List ℕ) (ts : List Token) where
   program_of label r p =
       if same_label label l.Module then modules.module_ x ts r p
       else (if same_label label l.Script then modules.script x ts r p
+      else None)
+
+  -- ---- of types
+  -- as a type, which the result of a function is too
+  unfoldable pub type_of : Label → Range → Value → Option TsType
+  type_of label r p =
+      if same_label label l.FunctionType then types.function_type r p
+      else (if same_label label l.ConstructorType then types.constructor_type r p
+      else (if same_label label l.ConditionalType then types.conditional_type r p
+      else (if same_label label l.UnionType then types.union_type r p
+      else (if same_label label l.LeadingUnionType then types.leading_union_type r p
+      else (if same_label label l.IntersectionType then types.intersection_type r p
+      else (if same_label label l.LeadingIntersectionType then types.leading_intersection_type r p
+      else (if same_label label l.TypeOperator then types.type_operator ts r p
+      else (if same_label label l.InferType then types.infer_type x ts r p
+      else (if same_label label l.ArrayTypes then types.array_types ts r p
+      else (if same_label label l.KeywordType then types.keyword_type ts r p
+      else (if same_label label l.ThisType then Some (vType.This r)
+      else (if same_label label l.WordType then types.word_type ts r p
+      else (if same_label label l.StrType then types.str_type x ts p
+      else (if same_label label l.NumberType then types.number_type x ts r p
+      else (if same_label label l.TemplateType then types.template_type x ts r p
+      else (if same_label label l.TemplateTypes then types.template_types x ts r p
+      else (if same_label label l.TypeQuery then types.type_query r p
+      else (if same_label label l.ParenthesizedType then types.parenthesized_type r p
+      else (if same_label label l.MembersType then types.members_type r p
+      else (if same_label label l.TupleType then types.tuple_type r p
+      else (if same_label label l.MappedType then types.mapped_type x ts r p
+      else (if same_label label l.Reference then type_names.reference r p
+      else (if same_label label l.ImportType then type_names.import_type x ts r p
+      else (if same_label label l.AssertsResult then types.asserts_result x ts r p
+      else (if same_label label l.PredicateResult then types.predicate_result x ts r p
+      else (if same_label label l.EntityOfType then option_map (type_names.named r) (type_names.entity x ts r p)
+      else None))))))))))))))))))))))))))
+
+  unfoldable pub arguments_of : Label → Range → Value → Option (Nodes TsType)
+  arguments_of label r p =
+      if same_label label l.TypeArguments then type_names.arguments r p
+      else None
+
+  unfoldable pub type_params_of : Label → Range → Value → Option (Nodes TsTypeParam)
+  type_params_of label r p =
+      if same_label label l.TypeParameters then type_names.type_params x ts r p
+      else None
+
+  -- an element of a tuple, which may be a type alone
+  unfoldable pub element_of : Label → Range → Value → Option TsTupleElement
+  element_of label r p =
+      if same_label label l.RestElement then types.rest_element x ts r p
+      else (if same_label label l.LabelledElement then types.labelled_element x ts r p
+      else (if same_label label l.OptionalElement then types.optional_element r p
+      else option_map (types.element_of r) (type_of label r p)))
+
+  unfoldable pub type_member_of : Label → Range → Value → Option TsTypeElement
+  type_member_of label r p =
+      if same_label label l.CallSignature then type_members.call_signature r p
+      else (if same_label label l.ConstructSignature then type_members.construct_signature r p
+      else (if same_label label l.IndexSignature then type_members.index_signature x ts r p
+      else (if same_label label l.AccessorSignature then type_members.accessor_signature ts r p
+      else (if same_label label l.MethodSignature then type_members.method_by vMethod.Method r p 0
+      else (if same_label label l.PropertySignature then type_members.property_by false r p
+      else (if same_label label l.ReadonlyProperty then type_members.property_by true r p
+      else None))))))
+
+  unfoldable pub type_key_of : Label → Range → Value → Option TsKey
+  type_key_of label r p =
+      if same_label label l.WordKeyOfType then type_pats.word_key x ts p
+      else (if same_label label l.StrKeyOfType then type_pats.str_key x ts p
+      else (if same_label label l.NumberKeyOfType then type_pats.number_key x ts p
+      else (if same_label label l.ComputedKeyOfType then type_members.computed_key x ts r p
+      else (if same_label label l.WordPatternKey then type_pats.word_key x ts p
+      else (if same_label label l.StrPatternKey then type_pats.str_key x ts p
+      else (if same_label label l.NumberPatternKey then type_pats.number_key x ts p
+      else None))))))
+
+  unfoldable pub type_pat_of : Label → ℕ → Range → Value → Option TsParamPat
+  type_pat_of label from r p =
+      if same_label label l.NamePatternOfType then type_pats.name_pattern x ts p
+      else (if same_label label l.ArrayPatternOfType then type_pats.array_pattern ts from r p
+      else (if same_label label l.ObjectPatternOfType then type_pats.object_pattern r p
+      else (if same_label label l.RestPatternOfType then type_pats.rest_pattern r p
+      else None)))
+
+  -- the name of a pattern that is a name alone
+  unfoldable pub type_name_of : Label → Value → Option Ident
+  type_name_of label p =
+      if same_label label l.NamePatternOfType then texts.ident_at x ts p 0
+      else None
+
+  unfoldable pub type_prop_of : Label → Range → Value → Option TsPatProp
+  type_prop_of label r p =
+      if same_label label l.RestPropertyOfType then type_pats.rest_property r p
+      else (if same_label label l.KeyProperty then type_pats.key_property r p
+      else (if same_label label l.NamePropertyOfType then type_pats.name_property x ts p
+      else None))
+
+  -- a parameter, which may be a pattern alone
+  unfoldable pub fn_param_of : Label → ℕ → Range → Value → Option TsFnParam
+  fn_param_of label from r p =
+      if same_label label l.ThisParameterOfType then type_pats.this_parameter ts r p
+      else (if same_label label l.MarkedParameterOfType then type_pats.marked_parameter r p
+      else option_map (type_pats.param_of r) (type_pat_of label from r p))
+
+  unfoldable pub fn_params_of : Label → Value → Option (List TsFnParam)
+  fn_params_of label p =
+      if same_label label l.ParametersOfType then type_pats.parameters ts p
+      else None
+
+  -- a name with arguments, or without
+  unfoldable pub reference_of : Label → Range → Value → Option (TsEntityName × Option (Nodes TsType))
+  reference_of label r p =
+      if same_label label l.Reference then type_names.named_reference p
+      else (if same_label label l.EntityOfType then option_map (λ name. (name, None)) (type_names.entity x ts r p)
       else None)
 
   -- all that a node is, from its alternative, its first token, its span and its parts
@@ -315,6 +512,21 @@ module _ (x : List ℕ) (ts : List Token) where
     export_specifier = export_specifier_of label r p;
     attributes = attributes_of label r p;
     entity = entity_of label r p;
+    marked = marked_of label from p;
+    signature = signature_of label p;
+    declarable = declarable_of label r p;
+    ts_type = type_of label r p;
+    reference = reference_of label r p;
+    arguments = arguments_of label r p;
+    type_params = type_params_of label r p;
+    element = element_of label r p;
+    type_member = type_member_of label r p;
+    type_key = type_key_of label r p;
+    fn_params = fn_params_of label p;
+    fn_param = fn_param_of label from r p;
+    type_pat = type_pat_of label from r p;
+    type_name = type_name_of label p;
+    type_prop = type_prop_of label r p;
   }
 
   -- a simple target of an assignment: an expression as a pattern
@@ -344,6 +556,21 @@ module _ (x : List ℕ) (ts : List Token) where
     export_specifier = None;
     attributes = None;
     entity = None;
+    marked = None;
+    signature = None;
+    declarable = None;
+    ts_type = None;
+    reference = None;
+    arguments = None;
+    type_params = None;
+    element = None;
+    type_member = None;
+    type_key = None;
+    fn_params = None;
+    fn_param = None;
+    type_pat = None;
+    type_name = None;
+    type_prop = None;
   }
 
   abbrev pub as_target : Value → Value

@@ -9,5 +9,16 @@ pub mod Functions
 pub mod Classes
 pub mod Statements
 pub mod Modules
+-- of types
+pub mod TypeTexts
+pub mod TypeNames
+pub mod TypePatterns
+pub mod TypeMembers
+pub mod Types
+-- what TypeScript adds
+pub mod TypedParts
+pub mod TypedFunctions
+pub mod TypedExpressions
+pub mod TypedStatements
 -- the whole
 pub mod Dress

@@ -1,7 +1,18 @@
 -- What the parts of a plain tree are on the way to the typed tree, and how they are read from the parts of a node.
 use Rattle.std.specs.Prelude.{ℕ, zero, suc, ◌+◌, Bool, true, false, List, [], ◌∷◌, Option, Some, None, option_map}
 use Rattle.base.specs.declared.range.Range.{Range}
+use Rattle.ts_ast.specs.declared.leaf.Ident.{Ident}
 use Rattle.ts_ast.specs.declared.leaf.TsEntityName.{TsEntityName}
+use Rattle.ts_ast.specs.declared.leaf.TsKey.{TsKey}
+use Rattle.ts_ast.specs.declared.ts.Nodes.{Nodes}
+use Rattle.ts_ast.specs.declared.ts.TsType.{TsType}
+use Rattle.ts_ast.specs.declared.ts.TsTypeParam.{TsTypeParam}
+use Rattle.ts_ast.specs.declared.ts.TsTypeElement.{TsTypeElement}
+use Rattle.ts_ast.specs.declared.ts.TsTupleElement.{TsTupleElement}
+use Rattle.ts_ast.specs.declared.ts.TsFnParam.{TsFnParam}
+use Rattle.ts_ast.specs.declared.ts.TsParamPat.{TsParamPat}
+use Rattle.ts_ast.specs.declared.ts.TsPatProp.{TsPatProp}
+use Rattle.ts_ast.specs.declared.ts.TsPart.{TsPart}
 use Rattle.es_ast.specs.declared.leaf.ImportNames.{ImportNames}
 use Rattle.es_ast.specs.declared.leaf.ImportClause.{ImportClause}
 use Rattle.es_ast.specs.declared.leaf.ImportSpecifier.{ImportSpecifier}
@@ -19,6 +30,10 @@ use Rattle.es_ast.specs.declared.ast.Prop.{Prop}
 use Rattle.es_ast.specs.declared.ast.Param.{Param}
 use Rattle.es_ast.specs.declared.ast.VarDeclarator.{VarDeclarator}
 use Rattle.es_ast.specs.declared.ast.ClassMember.{ClassMember}
+
+-- what stands between `<` and `>`, the parameters, and the result of a function of TypeScript
+abbrev pub Signature : Type 0
+Signature = Option TsPart × List Param × Option TsPart
 
 -- all that a node may be read as: the place where it stands tells which of them is asked for
 pub record Typed : Type 0 where
@@ -51,6 +66,28 @@ pub record Typed : Type 0 where
   pub export_specifier : Option ExportSpecifier
   pub attributes : Option ImportAttributes
   pub entity : Option TsEntityName
+  -- ---- of TypeScript
+  -- a pattern with `?` or not, with a type behind it or not, over a range
+  pub marked : Option (Bool → Option TsPart → Range → Pat)
+  pub signature : Option Signature
+  -- a declaration, behind `declare` or not, over a range
+  pub declarable : Option (Bool → Range → Decl)
+  -- ---- of types
+  pub ts_type : Option TsType
+  -- a name with arguments or without
+  pub reference : Option (TsEntityName × Option (Nodes TsType))
+  -- arguments and parameters between `<` and `>`
+  pub arguments : Option (Nodes TsType)
+  pub type_params : Option (Nodes TsTypeParam)
+  pub element : Option TsTupleElement
+  pub type_member : Option TsTypeElement
+  pub type_key : Option TsKey
+  pub fn_params : Option (List TsFnParam)
+  pub fn_param : Option TsFnParam
+  pub type_pat : Option TsParamPat
+  -- the name, where it is a pattern that is a name alone
+  pub type_name : Option Ident
+  pub type_prop : Option TsPatProp
 
 pub data Value : Type 0 where
   -- there is no such part
@@ -187,3 +224,50 @@ attributes_at p n = given (typed (part p n)) (λ m. m.attributes)
 
 abbrev pub entity_at : Value → ℕ → Option TsEntityName
 entity_at p n = given (typed (part p n)) (λ m. m.entity)
+
+-- ---- of TypeScript
+abbrev pub marked_at : Value → ℕ → Option (Bool → Option TsPart → Range → Pat)
+marked_at p n = given (typed (part p n)) (λ m. m.marked)
+
+abbrev pub signature_at : Value → ℕ → Option Signature
+signature_at p n = given (typed (part p n)) (λ m. m.signature)
+
+abbrev pub declarable_at : Value → ℕ → Option (Bool → Range → Decl)
+declarable_at p n = given (typed (part p n)) (λ m. m.declarable)
+
+-- ---- of types
+abbrev pub type_at : Value → ℕ → Option TsType
+type_at p n = given (typed (part p n)) (λ m. m.ts_type)
+
+abbrev pub reference_at : Value → ℕ → Option (TsEntityName × Option (Nodes TsType))
+reference_at p n = given (typed (part p n)) (λ m. m.reference)
+
+abbrev pub arguments_at : Value → ℕ → Option (Nodes TsType)
+arguments_at p n = given (typed (part p n)) (λ m. m.arguments)
+
+abbrev pub type_params_at : Value → ℕ → Option (Nodes TsTypeParam)
+type_params_at p n = given (typed (part p n)) (λ m. m.type_params)
+
+abbrev pub element_at : Value → ℕ → Option TsTupleElement
+element_at p n = given (typed (part p n)) (λ m. m.element)
+
+abbrev pub type_member_at : Value → ℕ → Option TsTypeElement
+type_member_at p n = given (typed (part p n)) (λ m. m.type_member)
+
+abbrev pub type_key_at : Value → ℕ → Option TsKey
+type_key_at p n = given (typed (part p n)) (λ m. m.type_key)
+
+abbrev pub fn_params_at : Value → ℕ → Option (List TsFnParam)
+fn_params_at p n = given (typed (part p n)) (λ m. m.fn_params)
+
+abbrev pub fn_param_at : Value → ℕ → Option TsFnParam
+fn_param_at p n = given (typed (part p n)) (λ m. m.fn_param)
+
+abbrev pub type_pat_at : Value → ℕ → Option TsParamPat
+type_pat_at p n = given (typed (part p n)) (λ m. m.type_pat)
+
+abbrev pub type_name_at : Value → ℕ → Option Ident
+type_name_at p n = given (typed (part p n)) (λ m. m.type_name)
+
+abbrev pub type_prop_at : Value → ℕ → Option TsPatProp
+type_prop_at p n = given (typed (part p n)) (λ m. m.type_prop)

@@ -1,2 +1,2 @@
-//! The typed tree of a program from its plain tree.
+//! What the typed tree of a plain tree of programs of both languages is: a definition, and no code (`specs/Dress.antt`).
 #![tactic(auto)]

@@ -2,8 +2,8 @@
 use Rattle.std.specs.Prelude.{Bool, true, false}
 use Rattle.std.proofs.Common.{◌≡◌, refl}
 use denote.Enum.Bare.{sameb, same_true}
-use Rattle.es_grammar.specs.contracts.rows.Label.{the_type}
-use Rattle.es_grammar.specs.declared.rows.Label.{Label}
+use Rattle.es_whole_grammar.specs.contracts.rows.Label.{the_type}
+use Rattle.es_whole_grammar.specs.declared.rows.Label.{Label}
 
 pub other : (a b : Label) → (a ≡ b → ⊥) → sameb the_type a b ≡ false
 other a b ne = go (sameb the_type a b) refl

@@ -15,8 +15,8 @@ use es_ast::{Decl, Expr, Pat, Stmt};
 use es_dress_functions::Functions;
 use es_dress_statements::{Statements, decl_of};
 use es_dresser::{DressError, Dresser, Node, Source};
-use es_grammar::Label;
-use es_reader::Tree;
+use es_whole_grammar::Label;
+use es_whole_reader::Tree;
 
 /// What dresses declarations, and each statement.
 #[derive(Clone, Copy)]

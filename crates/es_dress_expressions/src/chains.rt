@@ -13,8 +13,8 @@ use crate::expressions::Expressions;
 use base::{Boxed, Items, Range};
 use es_ast::{Expr, Ident, Pat, Stmt};
 use es_dresser::{DressError, Dresser, Node, Source, Turn, group_in, turns};
-use es_grammar::Label;
-use es_reader::Tree;
+use es_whole_grammar::Label;
+use es_whole_reader::Tree;
 
 /// From this byte to the end of a range.
 fn from_byte(start: usize, span: Range) -> Range

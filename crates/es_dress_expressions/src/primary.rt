@@ -12,7 +12,7 @@ use crate::expressions::Expressions;
 use base::{Items, Range};
 use es_ast::{Expr, Lit, Pat, Stmt, TplElement};
 use es_dresser::{DressError, Dresser, Source, Turn, single, turns_behind};
-use es_reader::Tree;
+use es_whole_reader::Tree;
 use es_token::TokenKind;
 
 /// `this`, `null`, `true`, `false`.

@@ -7,9 +7,9 @@ use Rattle.es_token.specs.declared.token.Token.{Token}
 use Rattle.es_ast.specs.declared.ast.Expr.{Expr}
 use Rattle.es_ast.specs.declared.ast.Stmt.{Stmt}
 use Rattle.es_ast.specs.declared.ast.Stmt.TheVariants as vStmt
-use Rattle.es_grammar.specs.contracts.rows.Label.{the_type}
-use Rattle.es_grammar.specs.declared.rows.Label.{Label}
-use Rattle.es_grammar.specs.declared.rows.Label.TheVariants as l
+use Rattle.es_whole_grammar.specs.contracts.rows.Label.{the_type}
+use Rattle.es_whole_grammar.specs.declared.rows.Label.{Label}
+use Rattle.es_whole_grammar.specs.declared.rows.Label.TheVariants as l
 use Rattle.es_dress.specs.Value.{Value, absent, nil, more, token, node, given, typed, first_of, behind}
 use Rattle.es_dress.specs.Texts.{span_of}
 use Rattle.es_dress.specs.Functions.{block_or, body_of}

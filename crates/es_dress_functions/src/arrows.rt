@@ -13,8 +13,8 @@ use crate::nodes::Functions;
 use base::{Boxed, Items, Range};
 use es_ast::{Expr, Param, Pat, Stmt};
 use es_dresser::{DressError, Source, single, turns};
-use es_grammar::Label;
-use es_reader::Tree;
+use es_whole_grammar::Label;
+use es_whole_reader::Tree;
 
 impl<
     E: Fn(Source<'_>, &Tree) -> Result<Expr, DressError>,

@@ -13,8 +13,8 @@ use base::{Boxed, Range};
 use es_ast::{Accessibility, Class, ClassMember, Expr, MethodKind, Modifiers, Pat, Stmt};
 use es_dress_keys::Keys;
 use es_dresser::{DressError, Dresser, Node, Source, Turn, turns};
-use es_grammar::Label;
-use es_reader::Tree;
+use es_whole_grammar::Label;
+use es_whole_reader::Tree;
 
 /// `static`, and `accessor` before the key of a field.
 fn modified(is_static: bool, accessor: bool) -> Modifiers

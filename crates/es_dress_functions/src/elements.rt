@@ -18,7 +18,7 @@ use crate::nodes::Functions;
 use base::{Items, Range};
 use es_ast::{Expr, Pat, Stmt};
 use es_dresser::{DressError, Dresser, Source, group_in};
-use es_reader::Tree;
+use es_whole_reader::Tree;
 
 /// What dresses an element of an array, and what stands where there is none.
 trait Element<T> {

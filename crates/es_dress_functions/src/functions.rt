@@ -13,8 +13,8 @@ use crate::nodes::Functions;
 use base::{Boxed, Items, Range};
 use es_ast::{Accessibility, Expr, Function, Ident, Modifiers, Param, Pat, Stmt};
 use es_dresser::{DressError, Dresser, Node, Source, Turn, part, some, turns};
-use es_grammar::Label;
-use es_reader::Tree;
+use es_whole_grammar::Label;
+use es_whole_reader::Tree;
 use std::alloc::AllocError;
 
 /// A parameter: nothing stands before it.

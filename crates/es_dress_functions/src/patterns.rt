@@ -13,8 +13,8 @@ use base::{Boxed, Range};
 use es_ast::{Expr, ObjectPatProp, Pat, Stmt};
 use es_dress_keys::Keys;
 use es_dresser::{DressError, Dresser, Node, Source, Turn, turns};
-use es_grammar::Label;
-use es_reader::Tree;
+use es_whole_grammar::Label;
+use es_whole_reader::Tree;
 use std::alloc::{AllocError, Global};
 
 /// A pattern with a default or without, which spans both.

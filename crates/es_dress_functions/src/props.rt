@@ -14,8 +14,8 @@ use base::{Boxed, Range};
 use es_ast::{Expr, Function, MethodKind, Pat, Prop, Stmt};
 use es_dress_keys::Keys;
 use es_dresser::{DressError, Dresser, Node, Source, Turn, turns};
-use es_grammar::Label;
-use es_reader::Tree;
+use es_whole_grammar::Label;
+use es_whole_reader::Tree;
 
 /// A turn of an object.
 #[derive(Clone, Copy)]

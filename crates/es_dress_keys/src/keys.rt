@@ -10,8 +10,8 @@ ghost use Rattle.es_dress.specs.Dress.{key_of};
 use base::Boxed;
 use es_ast::{Expr, Lit, Pat, Stmt};
 use es_dresser::{DressError, Dresser, Node, Source};
-use es_grammar::Label;
-use es_reader::Tree;
+use es_whole_grammar::Label;
+use es_whole_reader::Tree;
 
 /// What dresses keys.
 #[derive(Clone, Copy)]

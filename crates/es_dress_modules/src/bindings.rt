@@ -16,8 +16,8 @@ use es_ast::{
     ImportSpecifier, ModuleExportName, Pat, Stmt,
 };
 use es_dresser::{DressError, Dresser, Node, Source, Turn, some, turns};
-use es_grammar::Label;
-use es_reader::Tree;
+use es_whole_grammar::Label;
+use es_whole_reader::Tree;
 
 /// A turn of attributes.
 #[derive(Clone, Copy)]

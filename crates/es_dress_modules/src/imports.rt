@@ -16,8 +16,8 @@ use es_ast::{
 };
 use es_dress_statements::{Statements, between, next};
 use es_dresser::{DressError, Dresser, Source, Turn, turns};
-use es_grammar::Label;
-use es_reader::Tree;
+use es_whole_grammar::Label;
+use es_whole_reader::Tree;
 use es_token::TokenKind;
 
 /// `import a =` with what it names.

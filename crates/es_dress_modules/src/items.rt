@@ -16,8 +16,8 @@ use base::{Range, Text};
 use es_ast::{Expr, Module, ModuleDecl, ModuleItem, Pat, Program, Script, Stmt};
 use es_dress_statements::StmtTurn;
 use es_dresser::{DressError, Dresser, Node, Source, Turn, boxed, shebang, some, turns};
-use es_grammar::Label;
-use es_reader::Tree;
+use es_whole_grammar::Label;
+use es_whole_reader::Tree;
 
 /// Whether a node with this label is an import or an export.
 #[tactic(auto, unfolding(es_dress::specs::Dress::module_decl_of, es_dress::specs::Dress::stmt_of, es_dress::specs::Dress::decl_of))]

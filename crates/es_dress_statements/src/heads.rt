@@ -16,8 +16,8 @@ use crate::variables::using_kind;
 use base::Boxed;
 use es_ast::{Expr, Pat, Stmt, VarDeclKind};
 use es_dresser::{DressError, Source, part};
-use es_grammar::Label;
-use es_reader::Tree;
+use es_whole_grammar::Label;
+use es_whole_reader::Tree;
 
 impl<
     E: Fn(Source<'_>, &Tree) -> Result<Expr, DressError>,

@@ -13,7 +13,7 @@ use crate::statements::Statements;
 use base::{Boxed, Range};
 use es_ast::{Expr, Pat, Stmt, VarDeclKind};
 use es_dresser::{DressError, Source, boxed, some};
-use es_reader::Tree;
+use es_whole_reader::Tree;
 use es_token::TokenKind;
 
 /// The first of two, where it is there, else the other.

@@ -10,8 +10,8 @@ use es_ast::{Expr, Pat, Stmt};
 use es_dress_expressions::Expressions;
 use es_dress_functions::Functions;
 use es_dresser::{DressError, Node, Source};
-use es_grammar::Label;
-use es_reader::Tree;
+use es_whole_grammar::Label;
+use es_whole_reader::Tree;
 
 impl<
     E: Fn(Source<'_>, &Tree) -> Result<Expr, DressError>,

@@ -6,7 +6,7 @@ ghost use Rattle.es_dresser.specs.Ring.{IsCut, IsMade, expr_in, pat_in, stmt_in}
 use crate::whole::Whole;
 use es_ast::{Expr, Pat, Stmt};
 use es_dresser::{DressError, Dresser, Source};
-use es_reader::Tree;
+use es_whole_reader::Tree;
 
 /// A tree as an expression.
 #[cycle(ring)]

@@ -8,7 +8,7 @@ use crate::knot::{dress_expr, dress_pat, dress_stmt};
 use crate::whole::Whole;
 use es_ast::Program;
 use es_dresser::{DressError, Dresser, Source};
-use es_reader::Tree;
+use es_whole_reader::Tree;
 use es_token::Token;
 use std::alloc::Global;
 

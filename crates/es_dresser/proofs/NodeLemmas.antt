@@ -2,10 +2,10 @@
 use Rattle.std.specs.Prelude.{List, [], ◌∷◌, map, Option, Some, None}
 use Rattle.std.proofs.Common.{◌≡◌, ℕ, refl, sym, ap, ◌∙◌, subst}
 use Rattle.es_token.specs.declared.token.Token.{Token}
-use Rattle.es_grammar.specs.declared.rows.Label.{Label}
+use Rattle.es_whole_grammar.specs.declared.rows.Label.{Label}
 use Rattle.es_ast.specs.declared.ast.Expr.{Expr}
-use Rattle.es_reader.specs.declared.tree.Tree.{Tree}
-use Rattle.es_reader.specs.declared.tree.Tree.TheVariants as vTree
+use Rattle.es_whole_reader.specs.declared.tree.Tree.{Tree}
+use Rattle.es_whole_reader.specs.declared.tree.Tree.TheVariants as vTree
 use Rattle.es_dress.specs.Value.{Value, Typed, absent, nil, more, token, node, typed}
 use Rattle.es_dress.specs.Texts.{span_of}
 use Rattle.es_dress.specs.Dress.{packed, build, target_of, as_target, value_of}
@@ -37,6 +37,21 @@ none_no_node = record {
   export_specifier = refl;
   attributes = refl;
   entity = refl;
+  signature = refl;
+  declarable = refl;
+  ts_type = refl;
+  reference = refl;
+  arguments = refl;
+  type_params = refl;
+  element = refl;
+  type_member = refl;
+  type_key = refl;
+  fn_params = refl;
+  fn_param = refl;
+  type_pat = refl;
+  type_name = refl;
+  type_prop = refl;
+  marked = refl;
 }
 
 module _ (x : List ℕ) (ts : List Token) where
@@ -64,6 +79,21 @@ module _ (x : List ℕ) (ts : List Token) where
     export_specifier = refl;
     attributes = refl;
     entity = refl;
+    signature = refl;
+    declarable = refl;
+    ts_type = refl;
+    reference = refl;
+    arguments = refl;
+    type_params = refl;
+    element = refl;
+    type_member = refl;
+    type_key = refl;
+    fn_params = refl;
+    fn_param = refl;
+    type_pat = refl;
+    type_name = refl;
+    type_prop = refl;
+    marked = refl;
   }
 
   pub absent_no_node : IsNoNode (typed absent)

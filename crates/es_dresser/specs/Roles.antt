@@ -31,6 +31,21 @@ pub record IsNoNode (m : Option Typed) : Type 0 where
   pub export_specifier : given m (λ m. m.export_specifier) ≡ None
   pub attributes : given m (λ m. m.attributes) ≡ None
   pub entity : given m (λ m. m.entity) ≡ None
+  pub signature : given m (λ m. m.signature) ≡ None
+  pub declarable : given m (λ m. m.declarable) ≡ None
+  pub ts_type : given m (λ m. m.ts_type) ≡ None
+  pub reference : given m (λ m. m.reference) ≡ None
+  pub arguments : given m (λ m. m.arguments) ≡ None
+  pub type_params : given m (λ m. m.type_params) ≡ None
+  pub element : given m (λ m. m.element) ≡ None
+  pub type_member : given m (λ m. m.type_member) ≡ None
+  pub type_key : given m (λ m. m.type_key) ≡ None
+  pub fn_params : given m (λ m. m.fn_params) ≡ None
+  pub fn_param : given m (λ m. m.fn_param) ≡ None
+  pub type_pat : given m (λ m. m.type_pat) ≡ None
+  pub type_name : given m (λ m. m.type_name) ≡ None
+  pub type_prop : given m (λ m. m.type_prop) ≡ None
+  pub marked : given m (λ m. m.marked) ≡ None
 
 -- what a part is, as a node
 abbrev pub built : List ℕ → List Token → Node → Typed

@@ -17,8 +17,8 @@ use es_ast::{
     Expr, Ident, Lit, MethodKind, ModuleExportName, Pat, Regex, Stmt, Str, TplElement, UnaryOp,
     UpdateOp, VarDeclKind,
 };
-use es_reader::Tree;
 use es_token::{Token, TokenKind};
+use es_whole_reader::Tree;
 
 impl Source<'_> {
     /// A tree that is a token.

@@ -12,8 +12,8 @@ use crate::dresser::{Dresser, part};
 use crate::error::DressError;
 use crate::source::Source;
 use base::Range;
-use es_grammar::Label;
-use es_reader::Tree;
+use es_whole_grammar::Label;
+use es_whole_reader::Tree;
 
 /// A node: its alternative, its first token, its span and its parts.
 #[derive(Clone, Copy)]

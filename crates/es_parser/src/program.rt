@@ -8,9 +8,9 @@ ghost use Rattle.es_parser.specs.Answers.{GivesTree};
 
 use es_ast::Program;
 use es_dressed::{DressError, dress_program};
-use es_plain::read_program;
 use es_token::Token;
 use es_tree::{Lang, Mode, SyntaxError};
+use es_whole_program::read_program;
 use std::alloc::Global;
 
 /// The tree of a text whose tokens are these.

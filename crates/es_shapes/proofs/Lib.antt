@@ -1,2 +1,1 @@
 pub mod FormedLemmas
-pub mod Sound

@@ -1,5 +1,5 @@
-//! Where string literals stand in a plain tree of the table of programs (`es_grammar`): laws, and no code.
+//! Where string literals stand in a plain tree of the table of programs (`es_whole_grammar`): laws, and no code.
 //!
-//! - `strs` (`proofs/Theorems.antt`): behind `from`, in `import "a"`, in `require("a")` and where an expression or a key is
-//!   a string literal, the token that is kept is one.
+//! - `strs` (`proofs/Theorems.antt`): behind `from`, in `import "a"`, in `require("a")` and where an expression, a key or a
+//!   type is a string literal, the token that is kept is one.
 #![tactic(auto)]

@@ -1,8 +1,8 @@
 //! What the plain tree of one text is, in a line.
 
 use es_lexer::{LexError, lex_tokens};
-use es_plain::read_program;
-use es_reader::Tree;
+use es_whole_program::read_program;
+use es_whole_reader::Tree;
 use es_token::Token;
 use es_tree::{Lang, Mode, SyntaxError};
 use std::alloc::{AllocError, Global};

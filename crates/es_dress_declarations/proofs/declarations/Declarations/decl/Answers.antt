@@ -1,4 +1,4 @@
-use Rattle.es_grammar.specs.declared.rows.Label.TheVariants as l
+use Rattle.es_whole_grammar.specs.declared.rows.Label.TheVariants as l
 use Rattle.es_dress.specs.Dress.{decl_of}
 use Rattle.es_dress_declarations.proofs.LabelLemmas.{other}
 use Rattle.es_dress_declarations.proofs.declarations.Declarations.decl.Goals as goal

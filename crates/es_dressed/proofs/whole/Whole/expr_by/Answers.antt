@@ -1,4 +1,4 @@
-use Rattle.es_grammar.specs.declared.rows.Label.TheVariants as l
+use Rattle.es_whole_grammar.specs.declared.rows.Label.TheVariants as l
 use Rattle.es_dress.specs.Dress.{expr_of}
 use Rattle.es_dressed.proofs.LabelLemmas.{other}
 use Rattle.es_dressed.proofs.whole.Whole.expr_by.Goals as goal

@@ -1,3 +1,0 @@
-pub mod LowLemmas
-pub mod Steady
-pub mod AnswerLemmas

@@ -1,2 +1,0 @@
--- when a tree is read from tokens
-pub mod Derived

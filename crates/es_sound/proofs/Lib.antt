@@ -1,3 +1,0 @@
-mod Equations
-mod ListLemmas
-pub mod Theorems

@@ -1,6 +1,0 @@
-use Rattle.std.proofs.Common.{◌≡◌, true, take}
-use Rattle.es_sound.specs.Sound.{are_sound}
-use Rattle.es_sound.proofs.sound.+sound.Given as goal
-
-abbrev pub invariant-are_sound-loop-tree : goal.invariant-are_sound-loop-tree
-invariant-are_sound-loop-tree l = are_sound (take l.tree-index l.trees) ≡ true

@@ -1,4 +1,0 @@
--- whether a kept tree is sound
-pub mod Sound
--- when a tree is kept of a plain tree of a program
-pub mod Program
