@@ -21,5 +21,6 @@ pub use dresser::{Dresser, boxed, group_in, part, some};
 pub use error::DressError;
 pub use lists::{Turn, single, turns, turns_behind};
 pub use node::Node;
+pub use operators::listed;
 pub use places::{leaf_in, place_in};
-pub use source::{Source, shebang};
+pub use source::{Source, cut, shebang};

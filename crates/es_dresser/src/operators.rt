@@ -78,7 +78,7 @@ const ACCESSOR_KINDS: [(TokenKind, MethodKind); 2] = [
 ];
 
 /// What the first row of a table says that has this kind.
-fn listed<A: Copy>(rows: &[(TokenKind, A)], kind: TokenKind) -> Option<A>
+pub fn listed<A: Copy>(rows: &[(TokenKind, A)], kind: TokenKind) -> Option<A>
     ensures { result ≡ listed rows.now kind }
 {
     let mut rest = rows;

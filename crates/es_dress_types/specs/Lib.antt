@@ -1,0 +1,4 @@
+-- what the functions of the crate promise each other
+pub mod Ring
+-- commas between the elements of an array
+pub mod Elements

@@ -1,0 +1,21 @@
+//! Types from their plain trees, as `es_dress` defines them: one method of `Types` a definition, given functions that dress
+//! the types and patterns below (`IsTypeRing`), and `dress_type`, which ties them.
+//!
+//! - Each answers what the definition makes of the same parts (`IsMade`), `DressError::OtherForm` where it makes nothing, or
+//!   that memory ran out.
+//!
+//! Not promised: when memory runs out.
+#![tactic(auto)]
+
+mod base;
+mod elements;
+mod knot;
+mod lists;
+mod members;
+mod names;
+mod patterns;
+mod texts;
+mod types;
+
+pub use base::Types;
+pub use knot::{dress_type, dress_type_pat};

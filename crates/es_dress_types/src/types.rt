@@ -1,0 +1,697 @@
+//! Types.
+
+ghost use Rattle.std.specs.Prelude.{◌<◌};
+ghost use Rattle.es_dress.specs.Value.{optional, group, type_at, element_at, type_member_at};
+ghost use Rattle.es_dress.specs.Texts.{piece_there};
+ghost use Rattle.es_dress.specs.TypeTexts.{signed_in};
+ghost use Rattle.es_dress.specs.Types.{keyword_type, word_type, str_type, number_type, template_type, template_types, parenthesized_type, members_type, tuple_type, type_query, mapped_type, type_operator, infer_type, operands, union_type, leading_union_type, intersection_type, leading_intersection_type, conditional_type, function_type, constructor_type, asserts_result, predicate_result, label_at, rest_element, labelled_element};
+ghost use Rattle.es_dress.specs.Dress.{type_of};
+ghost use Rattle.es_dresser.specs.Nodes.{IsWithin};
+ghost use Rattle.es_dresser.specs.Ring.{IsMade, IsRing, parts_in};
+ghost use Rattle.es_dress_types.specs.Ring.{IsTypeRing};
+
+use crate::base::Types;
+use crate::lists::{TypeTurn, turns, turns_behind};
+use crate::names::OneType;
+use crate::texts::{keyword_kind, marked, numeric_lit, operator, sign};
+use base::{Items, Range};
+use es_ast::{Expr, Pat, Stmt};
+use es_dresser::{DressError, Node, Source, single, some};
+use es_token::TokenKind;
+use es_whole_grammar::Label;
+use es_whole_reader::Tree;
+use ts_ast::{
+    Ident, TplElement, TruePlusMinus, TsLit, TsParamPat, TsTupleElement, TsType, TsTypeElement,
+};
+
+/// A piece of a template before a type.
+#[derive(Clone, Copy)]
+pub(crate) struct MiddlePiece;
+
+impl TypeTurn<TplElement> for MiddlePiece {
+    ghost value = { λ x ts turn. piece_there x ts turn 0 };
+
+    fn dress<
+        E: Fn(Source<'_>, &Tree) -> Result<Expr, DressError>,
+        P: Fn(Source<'_>, &Tree) -> Result<Pat, DressError>,
+        S: Fn(Source<'_>, &Tree) -> Result<Stmt, DressError>,
+        T: Fn(Source<'_>, &Tree) -> Result<TsType, DressError>,
+        Q: Fn(Source<'_>, &Tree) -> Result<TsParamPat, DressError>,
+    >(
+        &self,
+        types: &Types<'_, '_, E, P, S, T, Q>,
+        turn: &[Tree],
+    ) -> Result<TplElement, DressError> {
+        types.0.piece_at(turn, 0)
+    }
+}
+
+/// A type behind a piece of a template.
+#[derive(Clone, Copy)]
+pub(crate) struct PieceType;
+
+impl TypeTurn<TsType> for PieceType {
+    ghost value = { λ x ts turn. type_at turn 1 };
+
+    fn dress<
+        E: Fn(Source<'_>, &Tree) -> Result<Expr, DressError>,
+        P: Fn(Source<'_>, &Tree) -> Result<Pat, DressError>,
+        S: Fn(Source<'_>, &Tree) -> Result<Stmt, DressError>,
+        T: Fn(Source<'_>, &Tree) -> Result<TsType, DressError>,
+        Q: Fn(Source<'_>, &Tree) -> Result<TsParamPat, DressError>,
+    >(&self, types: &Types<'_, '_, E, P, S, T, Q>, turn: &[Tree]) -> Result<TsType, DressError> {
+        types.type_at(turn, 1)
+    }
+}
+
+/// A member of a type in braces.
+#[derive(Clone, Copy)]
+pub(crate) struct MemberTurn;
+
+impl TypeTurn<TsTypeElement> for MemberTurn {
+    ghost value = { λ x ts turn. type_member_at turn 0 };
+
+    fn dress<
+        E: Fn(Source<'_>, &Tree) -> Result<Expr, DressError>,
+        P: Fn(Source<'_>, &Tree) -> Result<Pat, DressError>,
+        S: Fn(Source<'_>, &Tree) -> Result<Stmt, DressError>,
+        T: Fn(Source<'_>, &Tree) -> Result<TsType, DressError>,
+        Q: Fn(Source<'_>, &Tree) -> Result<TsParamPat, DressError>,
+    >(
+        &self,
+        types: &Types<'_, '_, E, P, S, T, Q>,
+        turn: &[Tree],
+    ) -> Result<TsTypeElement, DressError> {
+        types.member_at(turn, 0)
+    }
+}
+
+/// An element of a tuple.
+#[derive(Clone, Copy)]
+pub(crate) struct ElementTurn;
+
+impl TypeTurn<TsTupleElement> for ElementTurn {
+    ghost value = { λ x ts turn. element_at turn 0 };
+
+    fn dress<
+        E: Fn(Source<'_>, &Tree) -> Result<Expr, DressError>,
+        P: Fn(Source<'_>, &Tree) -> Result<Pat, DressError>,
+        S: Fn(Source<'_>, &Tree) -> Result<Stmt, DressError>,
+        T: Fn(Source<'_>, &Tree) -> Result<TsType, DressError>,
+        Q: Fn(Source<'_>, &Tree) -> Result<TsParamPat, DressError>,
+    >(
+        &self,
+        types: &Types<'_, '_, E, P, S, T, Q>,
+        turn: &[Tree],
+    ) -> Result<TsTupleElement, DressError> {
+        types.element_at(turn, 0)
+    }
+}
+
+impl<
+    E: Fn(Source<'_>, &Tree) -> Result<Expr, DressError>,
+    P: Fn(Source<'_>, &Tree) -> Result<Pat, DressError>,
+    S: Fn(Source<'_>, &Tree) -> Result<Stmt, DressError>,
+    T: Fn(Source<'_>, &Tree) -> Result<TsType, DressError>,
+    Q: Fn(Source<'_>, &Tree) -> Result<TsParamPat, DressError>,
+> Types<'_, '_, E, P, S, T, Q> {
+    /// `string`
+    #[tactic(auto, unfolding(es_dress::specs::Types::keyword_type))]
+    pub(crate) fn keyword_type(&self, span: Range, parts: &[Tree]) -> Result<TsType, DressError>
+        requires ring { IsRing self.now.0.now.source self.now.0.now.whole.now (E.pre self.now.0.now.expr) (E.post self.now.0.now.expr)
+            (P.pre self.now.0.now.pat) (P.post self.now.0.now.pat) (S.pre self.now.0.now.stmt) (S.post self.now.0.now.stmt) }
+        requires types { IsTypeRing self.now.0.now.source self.now.0.now.whole.now (T.pre self.now.1) (T.post self.now.1) (Q.pre self.now.2) (Q.post self.now.2) }
+        requires within { IsWithin parts.now self.now.0.now.whole.now }
+        ensures { IsMade (keyword_type self.now.0.now.source.tokens.now span (parts_in self.now.0.now.source parts.now)) result }
+    {
+        let kind = self.0.kind_at(parts, 0)?;
+        match keyword_kind(kind) {
+            Some(kind) => Ok(TsType::Keyword { kind, span }),
+            None => Err(DressError::OtherForm),
+        }
+    }
+
+    /// `null`, `void`, `true`, `false`
+    #[tactic(auto, unfolding(es_dress::specs::Types::word_type, es_dress::specs::Types::word_of))]
+    pub(crate) fn word_type(&self, span: Range, parts: &[Tree]) -> Result<TsType, DressError>
+        requires ring { IsRing self.now.0.now.source self.now.0.now.whole.now (E.pre self.now.0.now.expr) (E.post self.now.0.now.expr)
+            (P.pre self.now.0.now.pat) (P.post self.now.0.now.pat) (S.pre self.now.0.now.stmt) (S.post self.now.0.now.stmt) }
+        requires types { IsTypeRing self.now.0.now.source self.now.0.now.whole.now (T.pre self.now.1) (T.post self.now.1) (Q.pre self.now.2) (Q.post self.now.2) }
+        requires within { IsWithin parts.now self.now.0.now.whole.now }
+        ensures { IsMade (word_type self.now.0.now.source.tokens.now span (parts_in self.now.0.now.source parts.now)) result }
+    {
+        let kind = self.0.kind_at(parts, 0)?;
+        if kind == TokenKind::TrueWord {
+            return Ok(TsType::Lit(TsLit::Bool { value: true, span }));
+        }
+        if kind == TokenKind::FalseWord {
+            return Ok(TsType::Lit(TsLit::Bool { value: false, span }));
+        }
+        match keyword_kind(kind) {
+            Some(kind) => Ok(TsType::Keyword { kind, span }),
+            None => Err(DressError::OtherForm),
+        }
+    }
+
+    /// `"a"`
+    #[tactic(auto, unfolding(es_dress::specs::Types::str_type))]
+    pub(crate) fn str_type(&self, parts: &[Tree]) -> Result<TsType, DressError>
+        requires ring { IsRing self.now.0.now.source self.now.0.now.whole.now (E.pre self.now.0.now.expr) (E.post self.now.0.now.expr)
+            (P.pre self.now.0.now.pat) (P.post self.now.0.now.pat) (S.pre self.now.0.now.stmt) (S.post self.now.0.now.stmt) }
+        requires types { IsTypeRing self.now.0.now.source self.now.0.now.whole.now (T.pre self.now.1) (T.post self.now.1) (Q.pre self.now.2) (Q.post self.now.2) }
+        requires within { IsWithin parts.now self.now.0.now.whole.now }
+        ensures { IsMade (str_type self.now.0.now.source.text.now self.now.0.now.source.tokens.now (parts_in self.now.0.now.source parts.now)) result }
+    {
+        let str = self.0.str_at(parts, 0)?;
+        Ok(TsType::Lit(TsLit::Str(str)))
+    }
+
+    /// `-1`
+    #[tactic(auto, unfolding(es_dress::specs::Types::number_type))]
+    pub(crate) fn number_type(&self, span: Range, parts: &[Tree]) -> Result<TsType, DressError>
+        requires ring { IsRing self.now.0.now.source self.now.0.now.whole.now (E.pre self.now.0.now.expr) (E.post self.now.0.now.expr)
+            (P.pre self.now.0.now.pat) (P.post self.now.0.now.pat) (S.pre self.now.0.now.stmt) (S.post self.now.0.now.stmt) }
+        requires types { IsTypeRing self.now.0.now.source self.now.0.now.whole.now (T.pre self.now.1) (T.post self.now.1) (Q.pre self.now.2) (Q.post self.now.2) }
+        requires within { IsWithin parts.now self.now.0.now.whole.now }
+        ensures { IsMade (number_type self.now.0.now.source.text.now self.now.0.now.source.tokens.now span (parts_in self.now.0.now.source parts.now)) result }
+    {
+        let token = self.0.token_at(parts, 1)?;
+        let minus = self.0.is_there(parts, 0);
+        let lit = numeric_lit(self.0.source.alloc, self.0.source.text, minus, span, token)?;
+        Ok(TsType::Lit(lit))
+    }
+
+    /// A template without types.
+    #[tactic(auto, unfolding(es_dress::specs::Types::template_type))]
+    pub(crate) fn template_type(&self, span: Range, parts: &[Tree]) -> Result<TsType, DressError>
+        requires ring { IsRing self.now.0.now.source self.now.0.now.whole.now (E.pre self.now.0.now.expr) (E.post self.now.0.now.expr)
+            (P.pre self.now.0.now.pat) (P.post self.now.0.now.pat) (S.pre self.now.0.now.stmt) (S.post self.now.0.now.stmt) }
+        requires types { IsTypeRing self.now.0.now.source self.now.0.now.whole.now (T.pre self.now.1) (T.post self.now.1) (Q.pre self.now.2) (Q.post self.now.2) }
+        requires within { IsWithin parts.now self.now.0.now.whole.now }
+        ensures { IsMade (template_type self.now.0.now.source.text.now self.now.0.now.source.tokens.now span (parts_in self.now.0.now.source parts.now)) result }
+    {
+        let piece = self.0.piece_at(parts, 0)?;
+        let quasis = single(self.0.source.alloc, piece)?;
+        let types = Items::new(self.0.source.alloc);
+        Ok(TsType::Tpl {
+            quasis,
+            types,
+            span,
+        })
+    }
+
+    /// A template with types.
+    #[tactic(auto, unfolding(es_dress::specs::Types::template_types))]
+    pub(crate) fn template_types(&self, span: Range, parts: &[Tree]) -> Result<TsType, DressError>
+        requires ring { IsRing self.now.0.now.source self.now.0.now.whole.now (E.pre self.now.0.now.expr) (E.post self.now.0.now.expr)
+            (P.pre self.now.0.now.pat) (P.post self.now.0.now.pat) (S.pre self.now.0.now.stmt) (S.post self.now.0.now.stmt) }
+        requires types { IsTypeRing self.now.0.now.source self.now.0.now.whole.now (T.pre self.now.1) (T.post self.now.1) (Q.pre self.now.2) (Q.post self.now.2) }
+        requires within { IsWithin parts.now self.now.0.now.whole.now }
+        ensures { IsMade (template_types self.now.0.now.source.text.now self.now.0.now.source.tokens.now span (parts_in self.now.0.now.source parts.now)) result }
+    {
+        let head = self.0.piece_at(parts, 0)?;
+        let first = self.type_at(parts, 1)?;
+        let list = self.0.group(parts, 2);
+        let head = single(self.0.source.alloc, head)?;
+        let first = single(self.0.source.alloc, first)?;
+        let mut quasis = turns_behind(&MiddlePiece, self, head, list)?;
+        let types = turns_behind(&PieceType, self, first, list)?;
+        let tail = self.0.piece_at(parts, 3)?;
+        quasis.push(tail)?;
+        Ok(TsType::Tpl {
+            quasis,
+            types,
+            span,
+        })
+    }
+
+    /// `(a)`
+    #[tactic(auto, unfolding(es_dress::specs::Types::parenthesized_type))]
+    pub(crate) fn parenthesized_type(
+        &self,
+        span: Range,
+        parts: &[Tree],
+    ) -> Result<TsType, DressError>
+        requires ring { IsRing self.now.0.now.source self.now.0.now.whole.now (E.pre self.now.0.now.expr) (E.post self.now.0.now.expr)
+            (P.pre self.now.0.now.pat) (P.post self.now.0.now.pat) (S.pre self.now.0.now.stmt) (S.post self.now.0.now.stmt) }
+        requires types { IsTypeRing self.now.0.now.source self.now.0.now.whole.now (T.pre self.now.1) (T.post self.now.1) (Q.pre self.now.2) (Q.post self.now.2) }
+        requires within { IsWithin parts.now self.now.0.now.whole.now }
+        ensures { IsMade (parenthesized_type span (parts_in self.now.0.now.source parts.now)) result }
+    {
+        let type_ann = self.boxed_type_at(parts, 0)?;
+        Ok(TsType::Paren { type_ann, span })
+    }
+
+    /// `{ a: b }`
+    #[tactic(auto, unfolding(es_dress::specs::Types::members_type))]
+    pub(crate) fn members_type(&self, span: Range, parts: &[Tree]) -> Result<TsType, DressError>
+        requires ring { IsRing self.now.0.now.source self.now.0.now.whole.now (E.pre self.now.0.now.expr) (E.post self.now.0.now.expr)
+            (P.pre self.now.0.now.pat) (P.post self.now.0.now.pat) (S.pre self.now.0.now.stmt) (S.post self.now.0.now.stmt) }
+        requires types { IsTypeRing self.now.0.now.source self.now.0.now.whole.now (T.pre self.now.1) (T.post self.now.1) (Q.pre self.now.2) (Q.post self.now.2) }
+        requires within { IsWithin parts.now self.now.0.now.whole.now }
+        ensures { IsMade (members_type span (parts_in self.now.0.now.source parts.now)) result }
+    {
+        let members = turns(&MemberTurn, self, self.0.group(parts, 0))?;
+        Ok(TsType::TypeLit { members, span })
+    }
+
+    /// `[a, b]`
+    #[tactic(auto, unfolding(es_dress::specs::Types::tuple_type))]
+    pub(crate) fn tuple_type(&self, span: Range, parts: &[Tree]) -> Result<TsType, DressError>
+        requires ring { IsRing self.now.0.now.source self.now.0.now.whole.now (E.pre self.now.0.now.expr) (E.post self.now.0.now.expr)
+            (P.pre self.now.0.now.pat) (P.post self.now.0.now.pat) (S.pre self.now.0.now.stmt) (S.post self.now.0.now.stmt) }
+        requires types { IsTypeRing self.now.0.now.source self.now.0.now.whole.now (T.pre self.now.1) (T.post self.now.1) (Q.pre self.now.2) (Q.post self.now.2) }
+        requires within { IsWithin parts.now self.now.0.now.whole.now }
+        ensures { IsMade (tuple_type span (parts_in self.now.0.now.source parts.now)) result }
+    {
+        let elems = turns(&ElementTurn, self, self.0.group(parts, 0))?;
+        Ok(TsType::Tuple { elems, span })
+    }
+
+    /// `typeof a`
+    #[tactic(auto, unfolding(es_dress::specs::Types::type_query))]
+    pub(crate) fn type_query(&self, span: Range, parts: &[Tree]) -> Result<TsType, DressError>
+        requires ring { IsRing self.now.0.now.source self.now.0.now.whole.now (E.pre self.now.0.now.expr) (E.post self.now.0.now.expr)
+            (P.pre self.now.0.now.pat) (P.post self.now.0.now.pat) (S.pre self.now.0.now.stmt) (S.post self.now.0.now.stmt) }
+        requires types { IsTypeRing self.now.0.now.source self.now.0.now.whole.now (T.pre self.now.1) (T.post self.now.1) (Q.pre self.now.2) (Q.post self.now.2) }
+        requires within { IsWithin parts.now self.now.0.now.whole.now }
+        ensures { IsMade (type_query span (parts_in self.now.0.now.source parts.now)) result }
+    {
+        let expr_name = self.boxed_type_at(self.0.group(parts, 0), 0)?;
+        Ok(TsType::Query { expr_name, span })
+    }
+
+    /// How `readonly` or `?` stands in a mapped type.
+    pub(crate) fn signed_in(&self, group: &[Tree]) -> Result<TruePlusMinus, DressError>
+        requires ring { IsRing self.now.0.now.source self.now.0.now.whole.now (E.pre self.now.0.now.expr) (E.post self.now.0.now.expr)
+            (P.pre self.now.0.now.pat) (P.post self.now.0.now.pat) (S.pre self.now.0.now.stmt) (S.post self.now.0.now.stmt) }
+        requires types { IsTypeRing self.now.0.now.source self.now.0.now.whole.now (T.pre self.now.1) (T.post self.now.1) (Q.pre self.now.2) (Q.post self.now.2) }
+        requires within { IsWithin group.now self.now.0.now.whole.now }
+        ensures { IsMade (signed_in self.now.0.now.source.tokens.now (parts_in self.now.0.now.source group.now)) result }
+    {
+        if self.0.is_absent(group) {
+            return Ok(TruePlusMinus::Absent);
+        }
+        let sign_in = self.0.group(group, 0);
+        if self.0.is_absent(sign_in) {
+            return Ok(TruePlusMinus::True);
+        }
+        let kind = self.0.kind_at(sign_in, 0)?;
+        match sign(kind) {
+            Some(sign) => Ok(sign),
+            None => Err(DressError::OtherForm),
+        }
+    }
+
+    /// `{ [a in b]: c }`
+    #[tactic(auto, unfolding(es_dress::specs::Types::mapped_type))]
+    pub(crate) fn mapped_type(&self, span: Range, parts: &[Tree]) -> Result<TsType, DressError>
+        requires ring { IsRing self.now.0.now.source self.now.0.now.whole.now (E.pre self.now.0.now.expr) (E.post self.now.0.now.expr)
+            (P.pre self.now.0.now.pat) (P.post self.now.0.now.pat) (S.pre self.now.0.now.stmt) (S.post self.now.0.now.stmt) }
+        requires types { IsTypeRing self.now.0.now.source self.now.0.now.whole.now (T.pre self.now.1) (T.post self.now.1) (Q.pre self.now.2) (Q.post self.now.2) }
+        requires within { IsWithin parts.now self.now.0.now.whole.now }
+        ensures { IsMade (mapped_type self.now.0.now.source.text.now self.now.0.now.source.tokens.now span (parts_in self.now.0.now.source parts.now)) result }
+    {
+        let readonly = self.signed_in(self.0.group(parts, 0))?;
+        let name = self.0.ident_at(parts, 1)?;
+        let constraint = self.boxed_type_at(parts, 2)?;
+        let name_type = self.optional_type(self.0.group(parts, 3))?;
+        let optional = self.signed_in(self.0.group(parts, 4))?;
+        let type_ann = self.optional_type(self.0.group(parts, 5))?;
+        Ok(TsType::Mapped {
+            readonly,
+            name,
+            constraint,
+            name_type,
+            optional,
+            type_ann,
+            span,
+        })
+    }
+
+    /// `keyof a`
+    #[tactic(auto, unfolding(es_dress::specs::Types::type_operator))]
+    pub(crate) fn type_operator(&self, span: Range, parts: &[Tree]) -> Result<TsType, DressError>
+        requires ring { IsRing self.now.0.now.source self.now.0.now.whole.now (E.pre self.now.0.now.expr) (E.post self.now.0.now.expr)
+            (P.pre self.now.0.now.pat) (P.post self.now.0.now.pat) (S.pre self.now.0.now.stmt) (S.post self.now.0.now.stmt) }
+        requires types { IsTypeRing self.now.0.now.source self.now.0.now.whole.now (T.pre self.now.1) (T.post self.now.1) (Q.pre self.now.2) (Q.post self.now.2) }
+        requires within { IsWithin parts.now self.now.0.now.whole.now }
+        ensures { IsMade (type_operator self.now.0.now.source.tokens.now span (parts_in self.now.0.now.source parts.now)) result }
+    {
+        let kind = self.0.kind_at(parts, 0)?;
+        let op = match operator(kind) {
+            Some(op) => op,
+            None => return Err(DressError::OtherForm),
+        };
+        let type_ann = self.boxed_type_at(parts, 1)?;
+        Ok(TsType::Operator { op, type_ann, span })
+    }
+
+    /// `infer a`
+    #[tactic(auto, unfolding(es_dress::specs::Types::infer_type))]
+    pub(crate) fn infer_type(&self, span: Range, parts: &[Tree]) -> Result<TsType, DressError>
+        requires ring { IsRing self.now.0.now.source self.now.0.now.whole.now (E.pre self.now.0.now.expr) (E.post self.now.0.now.expr)
+            (P.pre self.now.0.now.pat) (P.post self.now.0.now.pat) (S.pre self.now.0.now.stmt) (S.post self.now.0.now.stmt) }
+        requires types { IsTypeRing self.now.0.now.source self.now.0.now.whole.now (T.pre self.now.1) (T.post self.now.1) (Q.pre self.now.2) (Q.post self.now.2) }
+        requires within { IsWithin parts.now self.now.0.now.whole.now }
+        ensures { IsMade (infer_type self.now.0.now.source.text.now self.now.0.now.source.tokens.now span (parts_in self.now.0.now.source parts.now)) result }
+    {
+        let name = self.0.ident_at(parts, 0)?;
+        Ok(TsType::Infer { name, span })
+    }
+
+    /// Operands, the first before its operator.
+    pub(crate) fn operands(&self, parts: &[Tree]) -> Result<Items<TsType>, DressError>
+        requires ring { IsRing self.now.0.now.source self.now.0.now.whole.now (E.pre self.now.0.now.expr) (E.post self.now.0.now.expr)
+            (P.pre self.now.0.now.pat) (P.post self.now.0.now.pat) (S.pre self.now.0.now.stmt) (S.post self.now.0.now.stmt) }
+        requires types { IsTypeRing self.now.0.now.source self.now.0.now.whole.now (T.pre self.now.1) (T.post self.now.1) (Q.pre self.now.2) (Q.post self.now.2) }
+        requires within { IsWithin parts.now self.now.0.now.whole.now }
+        ensures { IsMade (operands (parts_in self.now.0.now.source parts.now)) result }
+    {
+        let first = self.type_at(parts, 0)?;
+        let mut items = single(self.0.source.alloc, first)?;
+        let second = self.type_at(parts, 1)?;
+        items.push(second)?;
+        turns_behind(&OneType, self, items, self.0.group(parts, 2))
+    }
+
+    /// `a | b`
+    #[tactic(auto, unfolding(es_dress::specs::Types::union_type))]
+    pub(crate) fn union_type(&self, span: Range, parts: &[Tree]) -> Result<TsType, DressError>
+        requires ring { IsRing self.now.0.now.source self.now.0.now.whole.now (E.pre self.now.0.now.expr) (E.post self.now.0.now.expr)
+            (P.pre self.now.0.now.pat) (P.post self.now.0.now.pat) (S.pre self.now.0.now.stmt) (S.post self.now.0.now.stmt) }
+        requires types { IsTypeRing self.now.0.now.source self.now.0.now.whole.now (T.pre self.now.1) (T.post self.now.1) (Q.pre self.now.2) (Q.post self.now.2) }
+        requires within { IsWithin parts.now self.now.0.now.whole.now }
+        ensures { IsMade (union_type span (parts_in self.now.0.now.source parts.now)) result }
+    {
+        let types = self.operands(parts)?;
+        Ok(TsType::Union { types, span })
+    }
+
+    /// `| a | b`
+    #[tactic(auto, unfolding(es_dress::specs::Types::leading_union_type))]
+    pub(crate) fn leading_union_type(
+        &self,
+        span: Range,
+        parts: &[Tree],
+    ) -> Result<TsType, DressError>
+        requires ring { IsRing self.now.0.now.source self.now.0.now.whole.now (E.pre self.now.0.now.expr) (E.post self.now.0.now.expr)
+            (P.pre self.now.0.now.pat) (P.post self.now.0.now.pat) (S.pre self.now.0.now.stmt) (S.post self.now.0.now.stmt) }
+        requires types { IsTypeRing self.now.0.now.source self.now.0.now.whole.now (T.pre self.now.1) (T.post self.now.1) (Q.pre self.now.2) (Q.post self.now.2) }
+        requires within { IsWithin parts.now self.now.0.now.whole.now }
+        ensures { IsMade (leading_union_type span (parts_in self.now.0.now.source parts.now)) result }
+    {
+        let types = self.types_from(parts, 0)?;
+        Ok(TsType::Union { types, span })
+    }
+
+    /// `a & b`
+    #[tactic(auto, unfolding(es_dress::specs::Types::intersection_type))]
+    pub(crate) fn intersection_type(
+        &self,
+        span: Range,
+        parts: &[Tree],
+    ) -> Result<TsType, DressError>
+        requires ring { IsRing self.now.0.now.source self.now.0.now.whole.now (E.pre self.now.0.now.expr) (E.post self.now.0.now.expr)
+            (P.pre self.now.0.now.pat) (P.post self.now.0.now.pat) (S.pre self.now.0.now.stmt) (S.post self.now.0.now.stmt) }
+        requires types { IsTypeRing self.now.0.now.source self.now.0.now.whole.now (T.pre self.now.1) (T.post self.now.1) (Q.pre self.now.2) (Q.post self.now.2) }
+        requires within { IsWithin parts.now self.now.0.now.whole.now }
+        ensures { IsMade (intersection_type span (parts_in self.now.0.now.source parts.now)) result }
+    {
+        let types = self.operands(parts)?;
+        Ok(TsType::Intersection { types, span })
+    }
+
+    /// `& a & b`
+    #[tactic(auto, unfolding(es_dress::specs::Types::leading_intersection_type))]
+    pub(crate) fn leading_intersection_type(
+        &self,
+        span: Range,
+        parts: &[Tree],
+    ) -> Result<TsType, DressError>
+        requires ring { IsRing self.now.0.now.source self.now.0.now.whole.now (E.pre self.now.0.now.expr) (E.post self.now.0.now.expr)
+            (P.pre self.now.0.now.pat) (P.post self.now.0.now.pat) (S.pre self.now.0.now.stmt) (S.post self.now.0.now.stmt) }
+        requires types { IsTypeRing self.now.0.now.source self.now.0.now.whole.now (T.pre self.now.1) (T.post self.now.1) (Q.pre self.now.2) (Q.post self.now.2) }
+        requires within { IsWithin parts.now self.now.0.now.whole.now }
+        ensures { IsMade (leading_intersection_type span (parts_in self.now.0.now.source parts.now)) result }
+    {
+        let types = self.types_from(parts, 0)?;
+        Ok(TsType::Intersection { types, span })
+    }
+
+    /// `a extends b ? c : d`
+    #[tactic(auto, unfolding(es_dress::specs::Types::conditional_type))]
+    pub(crate) fn conditional_type(&self, span: Range, parts: &[Tree]) -> Result<TsType, DressError>
+        requires ring { IsRing self.now.0.now.source self.now.0.now.whole.now (E.pre self.now.0.now.expr) (E.post self.now.0.now.expr)
+            (P.pre self.now.0.now.pat) (P.post self.now.0.now.pat) (S.pre self.now.0.now.stmt) (S.post self.now.0.now.stmt) }
+        requires types { IsTypeRing self.now.0.now.source self.now.0.now.whole.now (T.pre self.now.1) (T.post self.now.1) (Q.pre self.now.2) (Q.post self.now.2) }
+        requires within { IsWithin parts.now self.now.0.now.whole.now }
+        ensures { IsMade (conditional_type span (parts_in self.now.0.now.source parts.now)) result }
+    {
+        let check = self.boxed_type_at(parts, 0)?;
+        let extends = self.boxed_type_at(parts, 1)?;
+        let yes = self.boxed_type_at(parts, 2)?;
+        let no = self.boxed_type_at(parts, 3)?;
+        Ok(TsType::Conditional {
+            check,
+            extends,
+            yes,
+            no,
+            span,
+        })
+    }
+
+    /// `<a>(b) => c`
+    #[tactic(auto, unfolding(es_dress::specs::Types::function_type))]
+    pub(crate) fn function_type(&self, span: Range, parts: &[Tree]) -> Result<TsType, DressError>
+        requires ring { IsRing self.now.0.now.source self.now.0.now.whole.now (E.pre self.now.0.now.expr) (E.post self.now.0.now.expr)
+            (P.pre self.now.0.now.pat) (P.post self.now.0.now.pat) (S.pre self.now.0.now.stmt) (S.post self.now.0.now.stmt) }
+        requires types { IsTypeRing self.now.0.now.source self.now.0.now.whole.now (T.pre self.now.1) (T.post self.now.1) (Q.pre self.now.2) (Q.post self.now.2) }
+        requires within { IsWithin parts.now self.now.0.now.whole.now }
+        ensures { IsMade (function_type span (parts_in self.now.0.now.source parts.now)) result }
+    {
+        let type_params = self.optional_type_params(self.0.group(parts, 0))?;
+        let params = self.params_at(parts, 1)?;
+        let type_ann = self.boxed_type_at(parts, 2)?;
+        Ok(TsType::Fn {
+            type_params,
+            params,
+            type_ann,
+            span,
+        })
+    }
+
+    /// `abstract new (a) => b`
+    #[tactic(auto, unfolding(es_dress::specs::Types::constructor_type))]
+    pub(crate) fn constructor_type(&self, span: Range, parts: &[Tree]) -> Result<TsType, DressError>
+        requires ring { IsRing self.now.0.now.source self.now.0.now.whole.now (E.pre self.now.0.now.expr) (E.post self.now.0.now.expr)
+            (P.pre self.now.0.now.pat) (P.post self.now.0.now.pat) (S.pre self.now.0.now.stmt) (S.post self.now.0.now.stmt) }
+        requires types { IsTypeRing self.now.0.now.source self.now.0.now.whole.now (T.pre self.now.1) (T.post self.now.1) (Q.pre self.now.2) (Q.post self.now.2) }
+        requires within { IsWithin parts.now self.now.0.now.whole.now }
+        ensures { IsMade (constructor_type span (parts_in self.now.0.now.source parts.now)) result }
+    {
+        let type_params = self.optional_type_params(self.0.group(parts, 1))?;
+        let params = self.params_at(parts, 2)?;
+        let type_ann = self.boxed_type_at(parts, 3)?;
+        let is_abstract = self.0.is_there(parts, 0);
+        Ok(TsType::Constructor {
+            is_abstract,
+            type_params,
+            params,
+            type_ann,
+            span,
+        })
+    }
+
+    /// `asserts a is b`
+    #[tactic(auto, unfolding(es_dress::specs::Types::asserts_result))]
+    pub(crate) fn asserts_result(&self, span: Range, parts: &[Tree]) -> Result<TsType, DressError>
+        requires ring { IsRing self.now.0.now.source self.now.0.now.whole.now (E.pre self.now.0.now.expr) (E.post self.now.0.now.expr)
+            (P.pre self.now.0.now.pat) (P.post self.now.0.now.pat) (S.pre self.now.0.now.stmt) (S.post self.now.0.now.stmt) }
+        requires types { IsTypeRing self.now.0.now.source self.now.0.now.whole.now (T.pre self.now.1) (T.post self.now.1) (Q.pre self.now.2) (Q.post self.now.2) }
+        requires within { IsWithin parts.now self.now.0.now.whole.now }
+        ensures { IsMade (asserts_result self.now.0.now.source.text.now self.now.0.now.source.tokens.now span (parts_in self.now.0.now.source parts.now)) result }
+    {
+        let name = self.this_or_name_at(parts, 0)?;
+        let type_ann = self.optional_type(self.0.group(parts, 1))?;
+        Ok(TsType::Predicate {
+            asserts: true,
+            name,
+            type_ann,
+            span,
+        })
+    }
+
+    /// `a is b`
+    #[tactic(auto, unfolding(es_dress::specs::Types::predicate_result))]
+    pub(crate) fn predicate_result(&self, span: Range, parts: &[Tree]) -> Result<TsType, DressError>
+        requires ring { IsRing self.now.0.now.source self.now.0.now.whole.now (E.pre self.now.0.now.expr) (E.post self.now.0.now.expr)
+            (P.pre self.now.0.now.pat) (P.post self.now.0.now.pat) (S.pre self.now.0.now.stmt) (S.post self.now.0.now.stmt) }
+        requires types { IsTypeRing self.now.0.now.source self.now.0.now.whole.now (T.pre self.now.1) (T.post self.now.1) (Q.pre self.now.2) (Q.post self.now.2) }
+        requires within { IsWithin parts.now self.now.0.now.whole.now }
+        ensures { IsMade (predicate_result self.now.0.now.source.text.now self.now.0.now.source.tokens.now span (parts_in self.now.0.now.source parts.now)) result }
+    {
+        let name = self.this_or_name_at(parts, 0)?;
+        let type_ann = Some(self.boxed_type_at(parts, 1)?);
+        Ok(TsType::Predicate {
+            asserts: false,
+            name,
+            type_ann,
+            span,
+        })
+    }
+
+    /// A label, which says itself whether `?` stands behind it.
+    pub(crate) fn label_at(&self, parts: &[Tree], n: usize) -> Result<Ident, DressError>
+        requires ring { IsRing self.now.0.now.source self.now.0.now.whole.now (E.pre self.now.0.now.expr) (E.post self.now.0.now.expr)
+            (P.pre self.now.0.now.pat) (P.post self.now.0.now.pat) (S.pre self.now.0.now.stmt) (S.post self.now.0.now.stmt) }
+        requires types { IsTypeRing self.now.0.now.source self.now.0.now.whole.now (T.pre self.now.1) (T.post self.now.1) (Q.pre self.now.2) (Q.post self.now.2) }
+        requires within { IsWithin parts.now self.now.0.now.whole.now }
+        requires place { n < 7 }
+        ensures { IsMade (label_at self.now.0.now.source.text.now self.now.0.now.source.tokens.now (parts_in self.now.0.now.source parts.now) n) result }
+    {
+        let name = self.0.ident_at(parts, n)?;
+        if self.0.is_there(parts, n + 1) {
+            return Ok(marked(name));
+        }
+        Ok(name)
+    }
+
+    /// A label that may be absent.
+    pub(crate) fn optional_label(&self, group: &[Tree]) -> Result<Option<Ident>, DressError>
+        requires ring { IsRing self.now.0.now.source self.now.0.now.whole.now (E.pre self.now.0.now.expr) (E.post self.now.0.now.expr)
+            (P.pre self.now.0.now.pat) (P.post self.now.0.now.pat) (S.pre self.now.0.now.stmt) (S.post self.now.0.now.stmt) }
+        requires types { IsTypeRing self.now.0.now.source self.now.0.now.whole.now (T.pre self.now.1) (T.post self.now.1) (Q.pre self.now.2) (Q.post self.now.2) }
+        requires within { IsWithin group.now self.now.0.now.whole.now }
+        ensures { IsMade (optional (label_at self.now.0.now.source.text.now self.now.0.now.source.tokens.now) (parts_in self.now.0.now.source group.now)) result }
+    {
+        if self.0.is_absent(group) {
+            return Ok(None);
+        }
+        some(self.label_at(group, 0))
+    }
+
+    /// `...a: b`
+    #[tactic(auto, unfolding(es_dress::specs::Types::rest_element))]
+    pub(crate) fn rest_element(
+        &self,
+        span: Range,
+        parts: &[Tree],
+    ) -> Result<TsTupleElement, DressError>
+        requires ring { IsRing self.now.0.now.source self.now.0.now.whole.now (E.pre self.now.0.now.expr) (E.post self.now.0.now.expr)
+            (P.pre self.now.0.now.pat) (P.post self.now.0.now.pat) (S.pre self.now.0.now.stmt) (S.post self.now.0.now.stmt) }
+        requires types { IsTypeRing self.now.0.now.source self.now.0.now.whole.now (T.pre self.now.1) (T.post self.now.1) (Q.pre self.now.2) (Q.post self.now.2) }
+        requires within { IsWithin parts.now self.now.0.now.whole.now }
+        ensures { IsMade (rest_element self.now.0.now.source.text.now self.now.0.now.source.tokens.now span (parts_in self.now.0.now.source parts.now)) result }
+    {
+        let label = self.optional_label(self.0.group(parts, 0))?;
+        let ty = self.type_at(parts, 1)?;
+        let optional = self.0.is_there(parts, 2);
+        Ok(TsTupleElement {
+            rest: true,
+            label,
+            ty,
+            optional,
+            span,
+        })
+    }
+
+    /// `a?: b`
+    #[tactic(auto, unfolding(es_dress::specs::Types::labelled_element))]
+    pub(crate) fn labelled_element(
+        &self,
+        span: Range,
+        parts: &[Tree],
+    ) -> Result<TsTupleElement, DressError>
+        requires ring { IsRing self.now.0.now.source self.now.0.now.whole.now (E.pre self.now.0.now.expr) (E.post self.now.0.now.expr)
+            (P.pre self.now.0.now.pat) (P.post self.now.0.now.pat) (S.pre self.now.0.now.stmt) (S.post self.now.0.now.stmt) }
+        requires types { IsTypeRing self.now.0.now.source self.now.0.now.whole.now (T.pre self.now.1) (T.post self.now.1) (Q.pre self.now.2) (Q.post self.now.2) }
+        requires within { IsWithin parts.now self.now.0.now.whole.now }
+        ensures { IsMade (labelled_element self.now.0.now.source.text.now self.now.0.now.source.tokens.now span (parts_in self.now.0.now.source parts.now)) result }
+    {
+        let label = Some(self.label_at(parts, 0)?);
+        let ty = self.type_at(parts, 2)?;
+        let optional = self.0.is_there(parts, 3);
+        Ok(TsTupleElement {
+            rest: false,
+            label,
+            ty,
+            optional,
+            span,
+        })
+    }
+
+    /// A part that is an element of a tuple, which may be a type alone.
+    #[tactic(auto, unfolding(es_dress::specs::Dress::build, es_dress::specs::Dress::element_of, es_dress::specs::Types::optional_element))]
+    pub(crate) fn element_at(&self, parts: &[Tree], n: usize) -> Result<TsTupleElement, DressError>
+        requires ring { IsRing self.now.0.now.source self.now.0.now.whole.now (E.pre self.now.0.now.expr) (E.post self.now.0.now.expr)
+            (P.pre self.now.0.now.pat) (P.post self.now.0.now.pat) (S.pre self.now.0.now.stmt) (S.post self.now.0.now.stmt) }
+        requires types { IsTypeRing self.now.0.now.source self.now.0.now.whole.now (T.pre self.now.1) (T.post self.now.1) (Q.pre self.now.2) (Q.post self.now.2) }
+        requires within { IsWithin parts.now self.now.0.now.whole.now }
+        ensures { IsMade (element_at (parts_in self.now.0.now.source parts.now) n) result }
+    {
+        let node = self.0.node_at(parts, n)?;
+        let span = node.span;
+        if node.label == Label::RestElement {
+            return self.rest_element(span, node.parts);
+        }
+        if node.label == Label::LabelledElement {
+            return self.labelled_element(span, node.parts);
+        }
+        let optional = node.label == Label::OptionalElement;
+        let ty = if optional {
+            self.type_at(node.parts, 0)?
+        } else {
+            self.ty(&node)?
+        };
+        Ok(TsTupleElement {
+            rest: false,
+            label: None,
+            ty,
+            optional,
+            span,
+        })
+    }
+
+    /// A type, which the result of a function is too.
+    #[tactic(auto, unfolding(es_dress::specs::Dress::type_of))]
+    pub(crate) fn ty(&self, node: &Node<'_>) -> Result<TsType, DressError>
+        requires ring { IsRing self.now.0.now.source self.now.0.now.whole.now (E.pre self.now.0.now.expr) (E.post self.now.0.now.expr)
+            (P.pre self.now.0.now.pat) (P.post self.now.0.now.pat) (S.pre self.now.0.now.stmt) (S.post self.now.0.now.stmt) }
+        requires types { IsTypeRing self.now.0.now.source self.now.0.now.whole.now (T.pre self.now.1) (T.post self.now.1) (Q.pre self.now.2) (Q.post self.now.2) }
+        requires within { IsWithin node.now.parts.now self.now.0.now.whole.now }
+        ensures { IsMade (type_of self.now.0.now.source.text.now self.now.0.now.source.tokens.now node.now.label node.now.span (parts_in self.now.0.now.source node.now.parts.now)) result }
+    {
+        let (span, parts) = (node.span, node.parts);
+        match node.label {
+            Label::FunctionType => self.function_type(span, parts),
+            Label::ConstructorType => self.constructor_type(span, parts),
+            Label::ConditionalType => self.conditional_type(span, parts),
+            Label::UnionType => self.union_type(span, parts),
+            Label::LeadingUnionType => self.leading_union_type(span, parts),
+            Label::IntersectionType => self.intersection_type(span, parts),
+            Label::LeadingIntersectionType => self.leading_intersection_type(span, parts),
+            Label::TypeOperator => self.type_operator(span, parts),
+            Label::InferType => self.infer_type(span, parts),
+            Label::ArrayTypes => self.array_types(span, parts),
+            Label::KeywordType => self.keyword_type(span, parts),
+            Label::ThisType => Ok(TsType::This(span)),
+            Label::WordType => self.word_type(span, parts),
+            Label::StrType => self.str_type(parts),
+            Label::NumberType => self.number_type(span, parts),
+            Label::TemplateType => self.template_type(span, parts),
+            Label::TemplateTypes => self.template_types(span, parts),
+            Label::TypeQuery => self.type_query(span, parts),
+            Label::ParenthesizedType => self.parenthesized_type(span, parts),
+            Label::MembersType => self.members_type(span, parts),
+            Label::TupleType => self.tuple_type(span, parts),
+            Label::MappedType => self.mapped_type(span, parts),
+            Label::Reference => self.reference(span, parts),
+            Label::ImportType => self.import_type(span, parts),
+            Label::AssertsResult => self.asserts_result(span, parts),
+            Label::PredicateResult => self.predicate_result(span, parts),
+            Label::EntityOfType => self.named_type(span, parts),
+            _ => Err(DressError::OtherForm),
+        }
+    }
+}
