@@ -13,9 +13,11 @@ mod knot;
 mod lists;
 mod members;
 mod names;
+mod parts;
 mod patterns;
 mod texts;
 mod types;
 
 pub use base::Types;
 pub use knot::{dress_type, dress_type_pat};
+pub use parts::{annotation_at, args_part_at, heritage_in, params_part_at, type_part_at};

@@ -1,7 +1,7 @@
 //! Names of types, arguments and parameters of types.
 
 ghost use Rattle.std.specs.Prelude.{◌≡◌, ◌<◌, option_map};
-ghost use Rattle.es_dress.specs.Value.{optional, part, group, first_of, behind, type_at, arguments_at, type_params_at, entity_at};
+ghost use Rattle.es_dress.specs.Value.{optional, part, group, first_of, behind, type_at, reference_at, arguments_at, type_params_at, entity_at};
 ghost use Rattle.es_dress.specs.Texts.{span_of, ident_at};
 ghost use Rattle.es_dress.specs.Modules.{entity};
 ghost use Rattle.es_dress.specs.TypeNames.{named, reference, import_type, types_from, arguments, holds, first_in, behind_in, type_param, type_params};
@@ -160,6 +160,32 @@ impl<
             type_params: Some(arguments),
             span,
         })
+    }
+
+    /// A part that is a name with arguments or without.
+    #[tactic(auto, unfolding(es_dress::specs::Dress::build, es_dress::specs::Dress::reference_of, es_dress::specs::TypeNames::entity, es_dress::specs::Modules::entity))]
+    pub(crate) fn reference_at(
+        &self,
+        parts: &[Tree],
+        n: usize,
+    ) -> Result<(TsEntityName, Option<Nodes<TsType>>), DressError>
+        requires ring { IsRing self.now.0.now.source self.now.0.now.whole.now (E.pre self.now.0.now.expr) (E.post self.now.0.now.expr)
+            (P.pre self.now.0.now.pat) (P.post self.now.0.now.pat) (S.pre self.now.0.now.stmt) (S.post self.now.0.now.stmt) }
+        requires types { IsTypeRing self.now.0.now.source self.now.0.now.whole.now (T.pre self.now.1) (T.post self.now.1) (Q.pre self.now.2) (Q.post self.now.2) }
+        requires within { IsWithin parts.now self.now.0.now.whole.now }
+        ensures { IsMade (reference_at (parts_in self.now.0.now.source parts.now) n) result }
+    {
+        let node = self.0.node_at(parts, n)?;
+        if node.label == Label::Reference {
+            let name = self.entity_at(node.parts, 0)?;
+            let arguments = self.arguments_at(node.parts, 1)?;
+            return Ok((name, Some(arguments)));
+        }
+        if node.label == Label::EntityOfType {
+            let name = self.entity(node.span, node.parts)?;
+            return Ok((name, None));
+        }
+        Err(DressError::OtherForm)
     }
 
     /// `import("a").b<c>`
