@@ -59,7 +59,7 @@ impl<
     }
 
     /// The body of an arrow: a block, or an expression alone.
-    fn body(&self, parts: &[Tree]) -> Result<Stmt, DressError>
+    pub(crate) fn body(&self, parts: &[Tree]) -> Result<Stmt, DressError>
         requires ring { IsRing self.now.0.now.source self.now.0.now.whole.now (E.pre self.now.0.now.expr) (E.post self.now.0.now.expr)
             (P.pre self.now.0.now.pat) (P.post self.now.0.now.pat) (S.pre self.now.0.now.stmt) (S.post self.now.0.now.stmt) }
         requires within { IsWithin parts.now self.now.0.now.whole.now }

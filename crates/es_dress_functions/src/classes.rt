@@ -203,6 +203,28 @@ impl<
         if node.label == Label::AccessorField {
             return self.field_member(true, span, parts);
         }
+        if node.label == Label::TypedAccessorMember {
+            return self.typed_accessor_member(span, parts);
+        }
+        if node.label == Label::TypedAsyncMember {
+            let is_generator = self.0.is_there(parts, 1);
+            return self.typed_method_member(MethodKind::Method, true, is_generator, span, parts, 2);
+        }
+        if node.label == Label::TypedGeneratorMember {
+            return self.typed_method_member(MethodKind::Method, false, true, span, parts, 1);
+        }
+        if node.label == Label::TypedMethodMember {
+            return self.typed_method_member(MethodKind::Method, false, false, span, parts, 1);
+        }
+        if node.label == Label::TypedFieldMember {
+            return self.typed_field(false, span, parts);
+        }
+        if node.label == Label::TypedAccessorField {
+            return self.typed_field(true, span, parts);
+        }
+        if node.label == Label::IndexMember {
+            return self.index_member(span, parts);
+        }
         Err(DressError::OtherForm)
     }
 

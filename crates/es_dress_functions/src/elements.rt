@@ -21,7 +21,7 @@ use es_dresser::{DressError, Dresser, Source, group_in};
 use es_whole_reader::Tree;
 
 /// What dresses an element of an array, and what stands where there is none.
-trait Element<T> {
+pub(crate) trait Element<T> {
     // What a part at a place is, and what none is.
     ghost value: { Value → ℕ → Option T };
 
@@ -67,7 +67,7 @@ impl Element<Expr> for ExprElement {
 
 /// An element that is a pattern.
 #[derive(Clone, Copy)]
-struct PatElement;
+pub(crate) struct PatElement;
 
 impl Element<Pat> for PatElement {
     ghost value = { pat_at };
@@ -122,7 +122,7 @@ fn comma_behind<
 }
 
 /// The elements of an array: `last` is the token before the first one.
-fn elements<
+pub(crate) fn elements<
     T: Drop,
     D: Element<T>,
     E: Fn(Source<'_>, &Tree) -> Result<Expr, DressError>,

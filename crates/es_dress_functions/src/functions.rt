@@ -37,7 +37,7 @@ pub(crate) fn plain_param(pat: Boxed<Pat>, span: Range) -> Param
 }
 
 /// The place before this one, or 0.
-fn before(at: usize) -> usize
+pub(crate) fn before(at: usize) -> usize
     ensures { result ≡ at - 1 }
 {
     if at == 0 { 0 } else { at - 1 }
@@ -67,7 +67,10 @@ pub(crate) fn plain_function(
 }
 
 /// Parameters, and the last one behind them where it is there.
-fn with_rest(params: Items<Param>, rest: Option<Param>) -> Result<Items<Param>, AllocError>
+pub(crate) fn with_rest(
+    params: Items<Param>,
+    rest: Option<Param>,
+) -> Result<Items<Param>, AllocError>
     ensures { IfOk result (λ all. all ≡ params ++ option_list rest) }
 {
     match rest {
@@ -142,6 +145,15 @@ impl<
         let node = self.0.node_at(parts, n)?;
         if node.label == Label::DefaultParameter {
             return self.default_parameter(node.span, node.parts);
+        }
+        if node.label == Label::ThisParameter {
+            return self.this_parameter(node.span, node.parts);
+        }
+        if node.label == Label::PropertyParameter {
+            return self.property_parameter(node.span, node.parts);
+        }
+        if node.label == Label::MarkedParameter {
+            return self.marked_parameter(node.span, node.parts);
         }
         let pat = self.pat(&node)?;
         let pat = Boxed::new(self.0.source.alloc, pat)?;
@@ -221,6 +233,9 @@ impl<
         if node.label == Label::Signature {
             let inner = self.first_node(node.parts)?;
             return self.params(&inner);
+        }
+        if node.label == Label::TypedParameters {
+            return self.typed_parameters(node.parts);
         }
         Err(DressError::OtherForm)
     }

@@ -11,8 +11,10 @@ mod arrows;
 mod classes;
 mod elements;
 mod functions;
+mod marked;
 mod nodes;
 mod patterns;
 mod props;
+mod typed;
 
 pub use nodes::Functions;

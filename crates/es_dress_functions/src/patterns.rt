@@ -18,7 +18,7 @@ use es_whole_reader::Tree;
 use std::alloc::{AllocError, Global};
 
 /// A pattern with a default or without, which spans both.
-fn with_default(
+pub(crate) fn with_default(
     alloc: Global,
     span: Range,
     pat: Boxed<Pat>,

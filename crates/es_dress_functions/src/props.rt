@@ -185,6 +185,26 @@ impl<
         if node.label == Label::Shorthand {
             return self.shorthand(parts);
         }
+        if node.label == Label::TypedAccessorProperty {
+            return self.typed_accessor_property(span, parts);
+        }
+        if node.label == Label::TypedAsyncProperty {
+            let is_generator = self.0.is_there(parts, 0);
+            return self.typed_method_property(
+                MethodKind::Method,
+                true,
+                is_generator,
+                span,
+                parts,
+                1,
+            );
+        }
+        if node.label == Label::TypedGeneratorProperty {
+            return self.typed_method_property(MethodKind::Method, false, true, span, parts, 0);
+        }
+        if node.label == Label::TypedMethodProperty {
+            return self.typed_method_property(MethodKind::Method, false, false, span, parts, 0);
+        }
         Err(DressError::OtherForm)
     }
 
