@@ -135,6 +135,7 @@ impl<
             Label::ThrowStatement => Statements(self.0).throw_(span, parts),
             Label::SwitchStatement => Statements(self.0).switch_(span, parts),
             Label::TryStatement => Statements(self.0).try_(span, parts),
+            Label::TypedTryStatement => Statements(self.0).typed_try(span, parts),
             Label::DebuggerStatement => Ok(Stmt::Debugger(span)),
             Label::WithStatement => Statements(self.0).with_(span, parts),
             _ => self.decl_statement(node),

@@ -2,5 +2,6 @@
 #![tactic(auto)]
 
 mod declarations;
+mod typed;
 
 pub use declarations::Declarations;

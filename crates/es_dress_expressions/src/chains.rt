@@ -17,7 +17,7 @@ use es_whole_grammar::Label;
 use es_whole_reader::Tree;
 
 /// From this byte to the end of a range.
-fn from_byte(start: usize, span: Range) -> Range
+pub(crate) fn from_byte(start: usize, span: Range) -> Range
     ensures { result ≡ from_byte start span }
 {
     Range {
@@ -93,7 +93,7 @@ impl<
     }
 
     /// `.a` behind an expression
-    fn member_post(
+    pub(crate) fn member_post(
         &self,
         span: Range,
         parts: &[Tree],
@@ -117,7 +117,7 @@ impl<
     }
 
     /// `[a]` behind an expression
-    fn index_post(
+    pub(crate) fn index_post(
         &self,
         span: Range,
         parts: &[Tree],
@@ -212,7 +212,7 @@ impl<
     }
 
     /// What a further part of a chain makes of what stands before it, which begins at this byte.
-    #[tactic(auto, unfolding(es_dress::specs::Dress::post_of, es_dress::specs::Expressions::member_post, es_dress::specs::Expressions::index_post, es_dress::specs::Expressions::call_post))]
+    #[tactic(auto, unfolding(es_dress::specs::Dress::post_of, es_dress::specs::Expressions::member_post, es_dress::specs::Expressions::index_post, es_dress::specs::Expressions::call_post, es_dress::specs::TypedExpressions::typed_call_post, es_dress::specs::TypedExpressions::non_null_post))]
     fn post(&self, node: &Node<'_>, start: usize, obj: Boxed<Expr>) -> Result<Expr, DressError>
         requires ring { IsRing self.now.0.now.source self.now.0.now.whole.now (E.pre self.now.0.now.expr) (E.post self.now.0.now.expr)
             (P.pre self.now.0.now.pat) (P.post self.now.0.now.pat) (S.pre self.now.0.now.stmt) (S.post self.now.0.now.stmt) }
@@ -233,6 +233,21 @@ impl<
         }
         if node.label == Label::OptionalPost {
             return self.optional_post(node.span, node.parts, start, obj);
+        }
+        if node.label == Label::TypedCallPost {
+            return self.typed_call(node.span, node.parts, false, start, obj);
+        }
+        if node.label == Label::TypedTemplatePost {
+            return self.typed_template_post(node.span, node.parts, start, obj);
+        }
+        if node.label == Label::TypedOptionalPost {
+            return self.typed_optional_post(node.span, node.parts, start, obj);
+        }
+        if node.label == Label::NonNullPost {
+            return Ok(Expr::TsNonNull {
+                expr: obj,
+                span: from_byte(start, node.span),
+            });
         }
         Err(DressError::OtherForm)
     }

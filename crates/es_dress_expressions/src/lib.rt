@@ -12,5 +12,6 @@ mod chains;
 mod expressions;
 mod operators;
 mod primary;
+mod typed;
 
 pub use expressions::Expressions;

@@ -12,8 +12,8 @@ use crate::expressions::Expressions;
 use base::{Items, Range};
 use es_ast::{Expr, Lit, Pat, Stmt, TplElement};
 use es_dresser::{DressError, Dresser, Source, Turn, single, turns_behind};
-use es_whole_reader::Tree;
 use es_token::TokenKind;
+use es_whole_reader::Tree;
 
 /// `this`, `null`, `true`, `false`.
 #[tactic(auto, unfolding(es_dress::specs::Expressions::word_of))]

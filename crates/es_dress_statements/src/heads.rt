@@ -89,6 +89,9 @@ impl<
                 if *label == Label::UsingHead {
                     return self.using_head(parts.as_slice());
                 }
+                if *label == Label::TypedVariableHead {
+                    return self.typed_head(parts.as_slice());
+                }
                 self.target(tree)
             }
             Tree::Role { label: _, tree: _ } => self.target(tree),

@@ -8,6 +8,7 @@ mod simple;
 mod statements;
 mod switches;
 mod tries;
+mod typed;
 mod variables;
 
 pub use ends::{between, next};

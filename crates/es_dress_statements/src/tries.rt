@@ -19,7 +19,7 @@ impl<
     S: Fn(Source<'_>, &Tree) -> Result<Stmt, DressError>,
 > Statements<'_, '_, E, P, S> {
     /// `try` with `finally` alone.
-    fn finally_alone(
+    pub(crate) fn finally_alone(
         &self,
         span: Range,
         block: Boxed<Stmt>,

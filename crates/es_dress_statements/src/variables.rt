@@ -97,6 +97,9 @@ impl<
         if node.label == Label::Declarator {
             return self.declarator(node.span, node.parts);
         }
+        if node.label == Label::TypedDeclarator {
+            return self.typed_declarator(node.span, node.parts);
+        }
         let name = self.0.boxed_pat_at(parts, n)?;
         Ok(declarator_of(node.span, None, name))
     }
@@ -143,7 +146,7 @@ impl<
 
     /// A part that is variables, without the `;` behind them.
     #[tactic(auto, unfolding(es_dress::specs::Dress::build, es_dress::specs::Dress::variables_of))]
-    fn variables_at(
+    pub fn variables_at(
         &self,
         parts: &[Tree],
         n: usize,

@@ -20,4 +20,6 @@ mod types;
 
 pub use base::Types;
 pub use knot::{dress_type, dress_type_pat};
-pub use parts::{annotation_at, args_part_at, heritage_in, params_part_at, type_part_at};
+pub use parts::{
+    annotation_at, args_part_at, heritage_in, members_part, params_part_at, type_part_at,
+};

@@ -1,6 +1,6 @@
 //! What the tree of expressions and statements holds of types: parts that may be absent, and lists of names.
 
-ghost use Rattle.es_dress.specs.Value.{type_at};
+ghost use Rattle.es_dress.specs.Value.{turns, type_at, type_member_at};
 ghost use Rattle.es_dress.specs.TypedParts.{annotation_at, params_part_at, args_part_at, heritage_at, heritage_from, heritage_in};
 ghost use Rattle.es_dresser.specs.Nodes.{IsWithin};
 ghost use Rattle.es_dresser.specs.Ring.{IsMade, IsRing, parts_in};
@@ -9,6 +9,8 @@ ghost use Rattle.ts_ast.specs.declared.ts.TsPart.TheVariants as vPart;
 
 use crate::base::Types;
 use crate::knot::{dress_type, dress_type_pat};
+use crate::lists::turns;
+use crate::types::MemberTurn;
 use base::{Boxed, Items};
 use es_ast::{Expr, Pat, Stmt};
 use es_dresser::{DressError, Dresser, Source, Turn, single, turns_behind};
@@ -179,4 +181,20 @@ pub fn heritage_in<
     }
     let all = heritage_from(dresser, group, 0)?;
     Ok(Some(Boxed::new(dresser.source.alloc, TsPart::Heritage(all))?))
+}
+
+/// The members of an interface, from the parts of their group.
+pub fn members_part<
+    E: Fn(Source<'_>, &Tree) -> Result<Expr, DressError>,
+    P: Fn(Source<'_>, &Tree) -> Result<Pat, DressError>,
+    S: Fn(Source<'_>, &Tree) -> Result<Stmt, DressError>,
+>(dresser: &Dresser<'_, E, P, S>, group: &[Tree]) -> Result<Boxed<TsPart>, DressError>
+    requires ring { IsRing dresser.now.source dresser.now.whole.now (E.pre dresser.now.expr) (E.post dresser.now.expr)
+        (P.pre dresser.now.pat) (P.post dresser.now.pat) (S.pre dresser.now.stmt) (S.post dresser.now.stmt) }
+    requires within { IsWithin group.now dresser.now.whole.now }
+    ensures { IsMade (option_map vPart.Members (turns (λ turn. type_member_at turn 0) (parts_in dresser.now.source group.now))) result }
+{
+    let types = Types(dresser, dress_type, dress_type_pat);
+    let members = turns(&MemberTurn, &types, group)?;
+    Ok(Boxed::new(dresser.source.alloc, TsPart::Members(members))?)
 }

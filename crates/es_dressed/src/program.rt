@@ -8,8 +8,8 @@ use crate::knot::{dress_expr, dress_pat, dress_stmt};
 use crate::whole::Whole;
 use es_ast::Program;
 use es_dresser::{DressError, Dresser, Source};
-use es_whole_reader::Tree;
 use es_token::Token;
+use es_whole_reader::Tree;
 use std::alloc::Global;
 
 /// The typed tree of a program: of its text, its tokens and its plain tree.

@@ -214,6 +214,28 @@ impl<E, P, S> Dresser<'_, E, P, S> {
         }
     }
 
+    /// The binary operator between a part and one of other parts.
+    pub fn binary_across(
+        &self,
+        parts: &[Tree],
+        left: usize,
+        others: &[Tree],
+        right: usize,
+    ) -> Result<BinaryOp, DressError>
+        ensures { IsMade (binary_between self.now.source.tokens.now (behind (part (parts_in self.now.source parts.now) left))
+            (first_of (part (parts_in self.now.source others.now) right))) result }
+    {
+        let from = match self.behind_at(parts, left) {
+            Some(from) => from,
+            None => return Err(DressError::OtherForm),
+        };
+        let to = self.first_at(others, right);
+        match binary_op(&self.source, from, to) {
+            Some(op) => Ok(op),
+            None => Err(DressError::OtherForm),
+        }
+    }
+
     /// The operator of an assignment between two parts.
     pub fn assign_between(
         &self,
