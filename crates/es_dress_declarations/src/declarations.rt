@@ -11,7 +11,7 @@ ghost use Rattle.es_dress.specs.Classes.{class_};
 ghost use Rattle.es_dress.specs.Dress.{decl_of, stmt_of};
 
 use base::{Boxed, Range};
-use es_ast::{Decl, Expr, Pat, Stmt};
+use es_ast::{Decl, Expr, ModuleItem, Pat, Stmt};
 use es_dress_functions::Functions;
 use es_dress_statements::{Statements, decl_of};
 use es_dresser::{DressError, Dresser, Node, Source};
@@ -20,13 +20,14 @@ use es_whole_reader::Tree;
 
 /// What dresses declarations, and each statement.
 #[derive(Clone, Copy)]
-pub struct Declarations<'d, 'a, E, P, S>(pub &'d Dresser<'a, E, P, S>);
+pub struct Declarations<'d, 'a, E, P, S, I>(pub &'d Dresser<'a, E, P, S, I>);
 
 impl<
     E: Fn(Source<'_>, &Tree) -> Result<Expr, DressError>,
     P: Fn(Source<'_>, &Tree) -> Result<Pat, DressError>,
     S: Fn(Source<'_>, &Tree) -> Result<Stmt, DressError>,
-> Declarations<'_, '_, E, P, S> {
+    I: Fn(Source<'_>, &Tree) -> Result<ModuleItem, DressError>,
+> Declarations<'_, '_, E, P, S, I> {
     /// A declaration of a function.
     fn function_declaration(
         &self,
@@ -35,7 +36,7 @@ impl<
         parts: &[Tree],
     ) -> Result<Decl, DressError>
         requires ring { IsRing self.now.0.now.source self.now.0.now.whole.now (E.pre self.now.0.now.expr) (E.post self.now.0.now.expr)
-            (P.pre self.now.0.now.pat) (P.post self.now.0.now.pat) (S.pre self.now.0.now.stmt) (S.post self.now.0.now.stmt) }
+            (P.pre self.now.0.now.pat) (P.post self.now.0.now.pat) (S.pre self.now.0.now.stmt) (S.post self.now.0.now.stmt) (I.pre self.now.0.now.item) (I.post self.now.0.now.item) }
         requires within { IsWithin parts.now self.now.0.now.whole.now }
         ensures { IsMade (option_map (λ function. vDecl.Fn false function span) (function self.now.0.now.source.text.now self.now.0.now.source.tokens.now is_async span (parts_in self.now.0.now.source parts.now))) result }
     {
@@ -51,7 +52,7 @@ impl<
     /// A declaration of a class.
     fn class_declaration(&self, span: Range, parts: &[Tree]) -> Result<Decl, DressError>
         requires ring { IsRing self.now.0.now.source self.now.0.now.whole.now (E.pre self.now.0.now.expr) (E.post self.now.0.now.expr)
-            (P.pre self.now.0.now.pat) (P.post self.now.0.now.pat) (S.pre self.now.0.now.stmt) (S.post self.now.0.now.stmt) }
+            (P.pre self.now.0.now.pat) (P.post self.now.0.now.pat) (S.pre self.now.0.now.stmt) (S.post self.now.0.now.stmt) (I.pre self.now.0.now.item) (I.post self.now.0.now.item) }
         requires within { IsWithin parts.now self.now.0.now.whole.now }
         ensures { IsMade (option_map (λ class. vDecl.Class false class span) (class_ self.now.0.now.source.text.now self.now.0.now.source.tokens.now span (parts_in self.now.0.now.source parts.now))) result }
     {
@@ -68,7 +69,7 @@ impl<
     #[tactic(auto, unfolding(es_dress::specs::Dress::decl_of))]
     pub fn decl(&self, node: &Node<'_>) -> Result<Decl, DressError>
         requires ring { IsRing self.now.0.now.source self.now.0.now.whole.now (E.pre self.now.0.now.expr) (E.post self.now.0.now.expr)
-            (P.pre self.now.0.now.pat) (P.post self.now.0.now.pat) (S.pre self.now.0.now.stmt) (S.post self.now.0.now.stmt) }
+            (P.pre self.now.0.now.pat) (P.post self.now.0.now.pat) (S.pre self.now.0.now.stmt) (S.post self.now.0.now.stmt) (I.pre self.now.0.now.item) (I.post self.now.0.now.item) }
         requires within { IsWithin node.now.parts.now self.now.0.now.whole.now }
         ensures { IsMade (decl_of self.now.0.now.source.text.now self.now.0.now.source.tokens.now node.now.label node.now.span (parts_in self.now.0.now.source node.now.parts.now)) result }
     {
@@ -81,7 +82,9 @@ impl<
             Label::UsingDeclaration => Statements(self.0).variable_declaration(span, parts),
             Label::Variables => Ok(decl_of(span, Statements(self.0).variables(parts)?)),
             Label::Using => Ok(decl_of(span, Statements(self.0).using_(parts)?)),
-            _ => Err(DressError::OtherForm),
+            Label::Declared => self.declared(span, parts),
+            Label::DeclaredVariables => self.declared_variables(span, parts),
+            _ => self.declarable(false, span, node),
         }
     }
 
@@ -89,7 +92,7 @@ impl<
     #[tactic(auto, unfolding(es_dress::specs::Dress::build))]
     pub fn decl_at(&self, parts: &[Tree], n: usize) -> Result<Boxed<Decl>, DressError>
         requires ring { IsRing self.now.0.now.source self.now.0.now.whole.now (E.pre self.now.0.now.expr) (E.post self.now.0.now.expr)
-            (P.pre self.now.0.now.pat) (P.post self.now.0.now.pat) (S.pre self.now.0.now.stmt) (S.post self.now.0.now.stmt) }
+            (P.pre self.now.0.now.pat) (P.post self.now.0.now.pat) (S.pre self.now.0.now.stmt) (S.post self.now.0.now.stmt) (I.pre self.now.0.now.item) (I.post self.now.0.now.item) }
         requires within { IsWithin parts.now self.now.0.now.whole.now }
         ensures { IsMade (decl_at (parts_in self.now.0.now.source parts.now) n) result }
     {
@@ -101,7 +104,7 @@ impl<
     /// A declaration as a statement.
     fn decl_statement(&self, node: &Node<'_>) -> Result<Stmt, DressError>
         requires ring { IsRing self.now.0.now.source self.now.0.now.whole.now (E.pre self.now.0.now.expr) (E.post self.now.0.now.expr)
-            (P.pre self.now.0.now.pat) (P.post self.now.0.now.pat) (S.pre self.now.0.now.stmt) (S.post self.now.0.now.stmt) }
+            (P.pre self.now.0.now.pat) (P.post self.now.0.now.pat) (S.pre self.now.0.now.stmt) (S.post self.now.0.now.stmt) (I.pre self.now.0.now.item) (I.post self.now.0.now.item) }
         requires within { IsWithin node.now.parts.now self.now.0.now.whole.now }
         ensures { IsMade (option_map vStmt.Decl (decl_of self.now.0.now.source.text.now self.now.0.now.source.tokens.now node.now.label node.now.span (parts_in self.now.0.now.source node.now.parts.now))) result }
     {
@@ -113,7 +116,7 @@ impl<
     #[tactic(auto, unfolding(es_dress::specs::Dress::stmt_of))]
     pub fn stmt(&self, node: &Node<'_>) -> Result<Stmt, DressError>
         requires ring { IsRing self.now.0.now.source self.now.0.now.whole.now (E.pre self.now.0.now.expr) (E.post self.now.0.now.expr)
-            (P.pre self.now.0.now.pat) (P.post self.now.0.now.pat) (S.pre self.now.0.now.stmt) (S.post self.now.0.now.stmt) }
+            (P.pre self.now.0.now.pat) (P.post self.now.0.now.pat) (S.pre self.now.0.now.stmt) (S.post self.now.0.now.stmt) (I.pre self.now.0.now.item) (I.post self.now.0.now.item) }
         requires within { IsWithin node.now.parts.now self.now.0.now.whole.now }
         ensures { IsMade (stmt_of self.now.0.now.source.text.now self.now.0.now.source.tokens.now node.now.label node.now.span (parts_in self.now.0.now.source node.now.parts.now)) result }
     {

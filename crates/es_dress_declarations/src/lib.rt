@@ -2,6 +2,8 @@
 #![tactic(auto)]
 
 mod declarations;
+mod namespaces;
 mod typed;
 
 pub use declarations::Declarations;
+pub use namespaces::ItemTurn;

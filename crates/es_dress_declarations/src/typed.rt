@@ -9,7 +9,7 @@ ghost use Rattle.es_dresser.specs.Ring.{IsMade, IsRing, parts_in};
 
 use crate::declarations::Declarations;
 use base::Range;
-use es_ast::{Decl, Expr, Pat, Stmt, TsEnumMember};
+use es_ast::{Decl, Expr, ModuleItem, Pat, Stmt, TsEnumMember};
 use es_dress_functions::Functions;
 use es_dress_keys::Keys;
 use es_dress_statements::Statements;
@@ -28,7 +28,8 @@ impl Turn<TsEnumMember> for EnumTurn {
         E: Fn(Source<'_>, &Tree) -> Result<Expr, DressError>,
         P: Fn(Source<'_>, &Tree) -> Result<Pat, DressError>,
         S: Fn(Source<'_>, &Tree) -> Result<Stmt, DressError>,
-    >(&self, dresser: &Dresser<'_, E, P, S>, turn: &[Tree]) -> Result<TsEnumMember, DressError> {
+        I: Fn(Source<'_>, &Tree) -> Result<ModuleItem, DressError>,
+    >(&self, dresser: &Dresser<'_, E, P, S, I>, turn: &[Tree]) -> Result<TsEnumMember, DressError> {
         Declarations(dresser).enum_member(turn)
     }
 }
@@ -37,21 +38,23 @@ impl<
     E: Fn(Source<'_>, &Tree) -> Result<Expr, DressError>,
     P: Fn(Source<'_>, &Tree) -> Result<Pat, DressError>,
     S: Fn(Source<'_>, &Tree) -> Result<Stmt, DressError>,
-> Declarations<'_, '_, E, P, S> {
+    I: Fn(Source<'_>, &Tree) -> Result<ModuleItem, DressError>,
+> Declarations<'_, '_, E, P, S, I> {
     /// A declaration of a function.
     pub(crate) fn typed_function_declaration(
         &self,
         declare: bool,
         is_async: bool,
+        over: Range,
         span: Range,
         parts: &[Tree],
     ) -> Result<Decl, DressError>
         requires ring { IsRing self.now.0.now.source self.now.0.now.whole.now (E.pre self.now.0.now.expr) (E.post self.now.0.now.expr)
-            (P.pre self.now.0.now.pat) (P.post self.now.0.now.pat) (S.pre self.now.0.now.stmt) (S.post self.now.0.now.stmt) }
+            (P.pre self.now.0.now.pat) (P.post self.now.0.now.pat) (S.pre self.now.0.now.stmt) (S.post self.now.0.now.stmt) (I.pre self.now.0.now.item) (I.post self.now.0.now.item) }
         requires within { IsWithin parts.now self.now.0.now.whole.now }
-        ensures { IsMade (option_map (λ function. vDecl.Fn declare function span) (typed_function self.now.0.now.source.text.now self.now.0.now.source.tokens.now is_async span (parts_in self.now.0.now.source parts.now))) result }
+        ensures { IsMade (option_map (λ function. vDecl.Fn declare function span) (typed_function self.now.0.now.source.text.now self.now.0.now.source.tokens.now is_async over (parts_in self.now.0.now.source parts.now))) result }
     {
-        let function = Functions(self.0).typed_function(is_async, span, parts)?;
+        let function = Functions(self.0).typed_function(is_async, over, parts)?;
         Ok(Decl::Fn {
             declare,
             function,
@@ -64,15 +67,16 @@ impl<
         &self,
         declare: bool,
         is_abstract: bool,
+        over: Range,
         span: Range,
         parts: &[Tree],
     ) -> Result<Decl, DressError>
         requires ring { IsRing self.now.0.now.source self.now.0.now.whole.now (E.pre self.now.0.now.expr) (E.post self.now.0.now.expr)
-            (P.pre self.now.0.now.pat) (P.post self.now.0.now.pat) (S.pre self.now.0.now.stmt) (S.post self.now.0.now.stmt) }
+            (P.pre self.now.0.now.pat) (P.post self.now.0.now.pat) (S.pre self.now.0.now.stmt) (S.post self.now.0.now.stmt) (I.pre self.now.0.now.item) (I.post self.now.0.now.item) }
         requires within { IsWithin parts.now self.now.0.now.whole.now }
-        ensures { IsMade (option_map (λ class. vDecl.Class declare class span) (typed_class self.now.0.now.source.text.now self.now.0.now.source.tokens.now is_abstract span (parts_in self.now.0.now.source parts.now))) result }
+        ensures { IsMade (option_map (λ class. vDecl.Class declare class span) (typed_class self.now.0.now.source.text.now self.now.0.now.source.tokens.now is_abstract over (parts_in self.now.0.now.source parts.now))) result }
     {
-        let class = Functions(self.0).typed_class(is_abstract, span, parts)?;
+        let class = Functions(self.0).typed_class(is_abstract, over, parts)?;
         Ok(Decl::Class {
             declare,
             class,
@@ -89,7 +93,7 @@ impl<
         parts: &[Tree],
     ) -> Result<Decl, DressError>
         requires ring { IsRing self.now.0.now.source self.now.0.now.whole.now (E.pre self.now.0.now.expr) (E.post self.now.0.now.expr)
-            (P.pre self.now.0.now.pat) (P.post self.now.0.now.pat) (S.pre self.now.0.now.stmt) (S.post self.now.0.now.stmt) }
+            (P.pre self.now.0.now.pat) (P.post self.now.0.now.pat) (S.pre self.now.0.now.stmt) (S.post self.now.0.now.stmt) (I.pre self.now.0.now.item) (I.post self.now.0.now.item) }
         requires within { IsWithin parts.now self.now.0.now.whole.now }
         ensures { IsMade (option_map (λ decl. decl declare span) (interface self.now.0.now.source.text.now self.now.0.now.source.tokens.now (parts_in self.now.0.now.source parts.now))) result }
     {
@@ -116,7 +120,7 @@ impl<
         parts: &[Tree],
     ) -> Result<Decl, DressError>
         requires ring { IsRing self.now.0.now.source self.now.0.now.whole.now (E.pre self.now.0.now.expr) (E.post self.now.0.now.expr)
-            (P.pre self.now.0.now.pat) (P.post self.now.0.now.pat) (S.pre self.now.0.now.stmt) (S.post self.now.0.now.stmt) }
+            (P.pre self.now.0.now.pat) (P.post self.now.0.now.pat) (S.pre self.now.0.now.stmt) (S.post self.now.0.now.stmt) (I.pre self.now.0.now.item) (I.post self.now.0.now.item) }
         requires within { IsWithin parts.now self.now.0.now.whole.now }
         ensures { IsMade (option_map (λ decl. decl declare span) (alias self.now.0.now.source.text.now self.now.0.now.source.tokens.now (parts_in self.now.0.now.source parts.now))) result }
     {
@@ -135,7 +139,7 @@ impl<
     /// A member of an enum.
     fn enum_member(&self, parts: &[Tree]) -> Result<TsEnumMember, DressError>
         requires ring { IsRing self.now.0.now.source self.now.0.now.whole.now (E.pre self.now.0.now.expr) (E.post self.now.0.now.expr)
-            (P.pre self.now.0.now.pat) (P.post self.now.0.now.pat) (S.pre self.now.0.now.stmt) (S.post self.now.0.now.stmt) }
+            (P.pre self.now.0.now.pat) (P.post self.now.0.now.pat) (S.pre self.now.0.now.stmt) (S.post self.now.0.now.stmt) (I.pre self.now.0.now.item) (I.post self.now.0.now.item) }
         requires within { IsWithin parts.now self.now.0.now.whole.now }
         ensures { IsMade (enum_member self.now.0.now.source.tokens.now (parts_in self.now.0.now.source parts.now)) result }
     {
@@ -165,7 +169,7 @@ impl<
         parts: &[Tree],
     ) -> Result<Decl, DressError>
         requires ring { IsRing self.now.0.now.source self.now.0.now.whole.now (E.pre self.now.0.now.expr) (E.post self.now.0.now.expr)
-            (P.pre self.now.0.now.pat) (P.post self.now.0.now.pat) (S.pre self.now.0.now.stmt) (S.post self.now.0.now.stmt) }
+            (P.pre self.now.0.now.pat) (P.post self.now.0.now.pat) (S.pre self.now.0.now.stmt) (S.post self.now.0.now.stmt) (I.pre self.now.0.now.item) (I.post self.now.0.now.item) }
         requires within { IsWithin parts.now self.now.0.now.whole.now }
         ensures { IsMade (option_map (λ decl. decl declare span) (enum_ self.now.0.now.source.text.now self.now.0.now.source.tokens.now (parts_in self.now.0.now.source parts.now))) result }
     {
@@ -184,7 +188,7 @@ impl<
     #[tactic(auto, unfolding(es_dress::specs::TypedStatements::declared_variables))]
     pub(crate) fn declared_variables(&self, span: Range, parts: &[Tree]) -> Result<Decl, DressError>
         requires ring { IsRing self.now.0.now.source self.now.0.now.whole.now (E.pre self.now.0.now.expr) (E.post self.now.0.now.expr)
-            (P.pre self.now.0.now.pat) (P.post self.now.0.now.pat) (S.pre self.now.0.now.stmt) (S.post self.now.0.now.stmt) }
+            (P.pre self.now.0.now.pat) (P.post self.now.0.now.pat) (S.pre self.now.0.now.stmt) (S.post self.now.0.now.stmt) (I.pre self.now.0.now.item) (I.post self.now.0.now.item) }
         requires within { IsWithin parts.now self.now.0.now.whole.now }
         ensures { IsMade (declared_variables span (parts_in self.now.0.now.source parts.now)) result }
     {

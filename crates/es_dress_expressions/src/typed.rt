@@ -9,7 +9,7 @@ ghost use Rattle.es_dresser.specs.Ring.{IsMade, IsRing, parts_in};
 use crate::chains::from_byte;
 use crate::expressions::Expressions;
 use base::{Boxed, Items, Range};
-use es_ast::{Expr, Pat, Stmt};
+use es_ast::{Expr, ModuleItem, Pat, Stmt};
 use es_dress_types::{args_part_at, type_part_at};
 use es_dresser::{DressError, Source};
 use es_token::TokenKind;
@@ -19,7 +19,8 @@ impl<
     E: Fn(Source<'_>, &Tree) -> Result<Expr, DressError>,
     P: Fn(Source<'_>, &Tree) -> Result<Pat, DressError>,
     S: Fn(Source<'_>, &Tree) -> Result<Stmt, DressError>,
-> Expressions<'_, '_, E, P, S> {
+    I: Fn(Source<'_>, &Tree) -> Result<ModuleItem, DressError>,
+> Expressions<'_, '_, E, P, S, I> {
     /// `<a>(b)` behind an expression
     pub(crate) fn typed_call(
         &self,
@@ -30,7 +31,7 @@ impl<
         obj: Boxed<Expr>,
     ) -> Result<Expr, DressError>
         requires ring { IsRing self.now.0.now.source self.now.0.now.whole.now (E.pre self.now.0.now.expr) (E.post self.now.0.now.expr)
-            (P.pre self.now.0.now.pat) (P.post self.now.0.now.pat) (S.pre self.now.0.now.stmt) (S.post self.now.0.now.stmt) }
+            (P.pre self.now.0.now.pat) (P.post self.now.0.now.pat) (S.pre self.now.0.now.stmt) (S.post self.now.0.now.stmt) (I.pre self.now.0.now.item) (I.post self.now.0.now.item) }
         requires within { IsWithin parts.now self.now.0.now.whole.now }
         ensures { IsMade (option_map (λ post. post start obj) (typed_call optional span (parts_in self.now.0.now.source parts.now))) result }
     {
@@ -55,7 +56,7 @@ impl<
         obj: Boxed<Expr>,
     ) -> Result<Expr, DressError>
         requires ring { IsRing self.now.0.now.source self.now.0.now.whole.now (E.pre self.now.0.now.expr) (E.post self.now.0.now.expr)
-            (P.pre self.now.0.now.pat) (P.post self.now.0.now.pat) (S.pre self.now.0.now.stmt) (S.post self.now.0.now.stmt) }
+            (P.pre self.now.0.now.pat) (P.post self.now.0.now.pat) (S.pre self.now.0.now.stmt) (S.post self.now.0.now.stmt) (I.pre self.now.0.now.item) (I.post self.now.0.now.item) }
         requires within { IsWithin parts.now self.now.0.now.whole.now }
         ensures { IsMade (option_map (λ post. post start obj) (typed_template_post span (parts_in self.now.0.now.source parts.now))) result }
     {
@@ -79,7 +80,7 @@ impl<
         obj: Boxed<Expr>,
     ) -> Result<Expr, DressError>
         requires ring { IsRing self.now.0.now.source self.now.0.now.whole.now (E.pre self.now.0.now.expr) (E.post self.now.0.now.expr)
-            (P.pre self.now.0.now.pat) (P.post self.now.0.now.pat) (S.pre self.now.0.now.stmt) (S.post self.now.0.now.stmt) }
+            (P.pre self.now.0.now.pat) (P.post self.now.0.now.pat) (S.pre self.now.0.now.stmt) (S.post self.now.0.now.stmt) (I.pre self.now.0.now.item) (I.post self.now.0.now.item) }
         requires within { IsWithin parts.now self.now.0.now.whole.now }
         ensures { IsMade (option_map (λ post. post start obj) (typed_optional_post self.now.0.now.source.text.now self.now.0.now.source.tokens.now span (parts_in self.now.0.now.source parts.now))) result }
     {
@@ -98,7 +99,7 @@ impl<
     #[tactic(auto, unfolding(es_dress::specs::TypedExpressions::typed_new))]
     pub fn typed_new(&self, span: Range, parts: &[Tree]) -> Result<Expr, DressError>
         requires ring { IsRing self.now.0.now.source self.now.0.now.whole.now (E.pre self.now.0.now.expr) (E.post self.now.0.now.expr)
-            (P.pre self.now.0.now.pat) (P.post self.now.0.now.pat) (S.pre self.now.0.now.stmt) (S.post self.now.0.now.stmt) }
+            (P.pre self.now.0.now.pat) (P.post self.now.0.now.pat) (S.pre self.now.0.now.stmt) (S.post self.now.0.now.stmt) (I.pre self.now.0.now.item) (I.post self.now.0.now.item) }
         requires within { IsWithin parts.now self.now.0.now.whole.now }
         ensures { IsMade (typed_new span (parts_in self.now.0.now.source parts.now)) result }
     {
@@ -133,7 +134,7 @@ impl<
         group: &[Tree],
     ) -> Result<Expr, DressError>
         requires ring { IsRing self.now.0.now.source self.now.0.now.whole.now (E.pre self.now.0.now.expr) (E.post self.now.0.now.expr)
-            (P.pre self.now.0.now.pat) (P.post self.now.0.now.pat) (S.pre self.now.0.now.stmt) (S.post self.now.0.now.stmt) }
+            (P.pre self.now.0.now.pat) (P.post self.now.0.now.pat) (S.pre self.now.0.now.stmt) (S.post self.now.0.now.stmt) (I.pre self.now.0.now.item) (I.post self.now.0.now.item) }
         requires within { IsWithin group.now self.now.0.now.whole.now }
         ensures { IsMade (asserted_by span expr kind (part (parts_in self.now.0.now.source group.now) 0)) result }
     {
@@ -164,7 +165,7 @@ impl<
         turn: &[Tree],
     ) -> Result<Expr, DressError>
         requires ring { IsRing self.now.0.now.source self.now.0.now.whole.now (E.pre self.now.0.now.expr) (E.post self.now.0.now.expr)
-            (P.pre self.now.0.now.pat) (P.post self.now.0.now.pat) (S.pre self.now.0.now.stmt) (S.post self.now.0.now.stmt) }
+            (P.pre self.now.0.now.pat) (P.post self.now.0.now.pat) (S.pre self.now.0.now.stmt) (S.post self.now.0.now.stmt) (I.pre self.now.0.now.item) (I.post self.now.0.now.item) }
         requires within { IsWithin parts.now self.now.0.now.whole.now }
         requires turn { IsWithin turn.now self.now.0.now.whole.now }
         ensures { IsMade (turned_by self.now.0.now.source.tokens.now span left (behind (part (parts_in self.now.0.now.source parts.now) 0)) (parts_in self.now.0.now.source turn.now) (part (parts_in self.now.0.now.source turn.now) 1)) result }
@@ -188,7 +189,7 @@ impl<
     #[tactic(auto, unfolding(es_dress::specs::TypedExpressions::typed_binary))]
     pub fn typed_binary(&self, span: Range, parts: &[Tree]) -> Result<Expr, DressError>
         requires ring { IsRing self.now.0.now.source self.now.0.now.whole.now (E.pre self.now.0.now.expr) (E.post self.now.0.now.expr)
-            (P.pre self.now.0.now.pat) (P.post self.now.0.now.pat) (S.pre self.now.0.now.stmt) (S.post self.now.0.now.stmt) }
+            (P.pre self.now.0.now.pat) (P.post self.now.0.now.pat) (S.pre self.now.0.now.stmt) (S.post self.now.0.now.stmt) (I.pre self.now.0.now.item) (I.post self.now.0.now.item) }
         requires within { IsWithin parts.now self.now.0.now.whole.now }
         ensures { IsMade (typed_binary self.now.0.now.source.tokens.now span (parts_in self.now.0.now.source parts.now)) result }
     {

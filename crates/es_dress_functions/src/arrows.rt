@@ -11,7 +11,7 @@ ghost use Rattle.es_dresser.specs.Ring.{IsMade, IsRing, parts_in};
 use crate::functions::{StmtTurn, plain_function, plain_param};
 use crate::nodes::Functions;
 use base::{Boxed, Items, Range};
-use es_ast::{Expr, Param, Pat, Stmt};
+use es_ast::{Expr, ModuleItem, Param, Pat, Stmt};
 use es_dresser::{DressError, Source, single, turns};
 use es_whole_grammar::Label;
 use es_whole_reader::Tree;
@@ -20,12 +20,13 @@ impl<
     E: Fn(Source<'_>, &Tree) -> Result<Expr, DressError>,
     P: Fn(Source<'_>, &Tree) -> Result<Pat, DressError>,
     S: Fn(Source<'_>, &Tree) -> Result<Stmt, DressError>,
-> Functions<'_, '_, E, P, S> {
+    I: Fn(Source<'_>, &Tree) -> Result<ModuleItem, DressError>,
+> Functions<'_, '_, E, P, S, I> {
     /// A part that is a block: its statements.
     #[tactic(auto, unfolding(es_dress::specs::Dress::build, es_dress::specs::Dress::block_of, es_dress::specs::Statements::block))]
     pub fn block_at(&self, parts: &[Tree], n: usize) -> Result<Items<Stmt>, DressError>
         requires ring { IsRing self.now.0.now.source self.now.0.now.whole.now (E.pre self.now.0.now.expr) (E.post self.now.0.now.expr)
-            (P.pre self.now.0.now.pat) (P.post self.now.0.now.pat) (S.pre self.now.0.now.stmt) (S.post self.now.0.now.stmt) }
+            (P.pre self.now.0.now.pat) (P.post self.now.0.now.pat) (S.pre self.now.0.now.stmt) (S.post self.now.0.now.stmt) (I.pre self.now.0.now.item) (I.post self.now.0.now.item) }
         requires within { IsWithin parts.now self.now.0.now.whole.now }
         ensures { IsMade (block_at (parts_in self.now.0.now.source parts.now) n) result }
     {
@@ -39,7 +40,7 @@ impl<
     /// A block as the body of an arrow.
     fn block_body(&self, span: Range, parts: &[Tree]) -> Result<Stmt, DressError>
         requires ring { IsRing self.now.0.now.source self.now.0.now.whole.now (E.pre self.now.0.now.expr) (E.post self.now.0.now.expr)
-            (P.pre self.now.0.now.pat) (P.post self.now.0.now.pat) (S.pre self.now.0.now.stmt) (S.post self.now.0.now.stmt) }
+            (P.pre self.now.0.now.pat) (P.post self.now.0.now.pat) (S.pre self.now.0.now.stmt) (S.post self.now.0.now.stmt) (I.pre self.now.0.now.item) (I.post self.now.0.now.item) }
         requires within { IsWithin parts.now self.now.0.now.whole.now }
         ensures { IsMade (option_map (λ stmts. vStmt.Block stmts span) (block_at (parts_in self.now.0.now.source parts.now) 0)) result }
     {
@@ -50,7 +51,7 @@ impl<
     /// An expression alone as the body of an arrow.
     fn expr_body(&self, span: Range, parts: &[Tree]) -> Result<Stmt, DressError>
         requires ring { IsRing self.now.0.now.source self.now.0.now.whole.now (E.pre self.now.0.now.expr) (E.post self.now.0.now.expr)
-            (P.pre self.now.0.now.pat) (P.post self.now.0.now.pat) (S.pre self.now.0.now.stmt) (S.post self.now.0.now.stmt) }
+            (P.pre self.now.0.now.pat) (P.post self.now.0.now.pat) (S.pre self.now.0.now.stmt) (S.post self.now.0.now.stmt) (I.pre self.now.0.now.item) (I.post self.now.0.now.item) }
         requires within { IsWithin parts.now self.now.0.now.whole.now }
         ensures { IsMade (option_map (λ e. vStmt.Expr e span) (expr_at (parts_in self.now.0.now.source parts.now) 0)) result }
     {
@@ -61,7 +62,7 @@ impl<
     /// The body of an arrow: a block, or an expression alone.
     pub(crate) fn body(&self, parts: &[Tree]) -> Result<Stmt, DressError>
         requires ring { IsRing self.now.0.now.source self.now.0.now.whole.now (E.pre self.now.0.now.expr) (E.post self.now.0.now.expr)
-            (P.pre self.now.0.now.pat) (P.post self.now.0.now.pat) (S.pre self.now.0.now.stmt) (S.post self.now.0.now.stmt) }
+            (P.pre self.now.0.now.pat) (P.post self.now.0.now.pat) (S.pre self.now.0.now.stmt) (S.post self.now.0.now.stmt) (I.pre self.now.0.now.item) (I.post self.now.0.now.item) }
         requires within { IsWithin parts.now self.now.0.now.whole.now }
         ensures { IsMade (body_of self.now.0.now.source.tokens.now (part (parts_in self.now.0.now.source parts.now) 0)) result }
     {
@@ -82,7 +83,7 @@ impl<
         parts: &[Tree],
     ) -> Result<Expr, DressError>
         requires ring { IsRing self.now.0.now.source self.now.0.now.whole.now (E.pre self.now.0.now.expr) (E.post self.now.0.now.expr)
-            (P.pre self.now.0.now.pat) (P.post self.now.0.now.pat) (S.pre self.now.0.now.stmt) (S.post self.now.0.now.stmt) }
+            (P.pre self.now.0.now.pat) (P.post self.now.0.now.pat) (S.pre self.now.0.now.stmt) (S.post self.now.0.now.stmt) (I.pre self.now.0.now.item) (I.post self.now.0.now.item) }
         requires within { IsWithin parts.now self.now.0.now.whole.now }
         ensures { IsMade (option_map (arrow_of is_async span params)
             (body_of self.now.0.now.source.tokens.now (part (group (parts_in self.now.0.now.source parts.now) 1) 0))) result }
@@ -96,7 +97,7 @@ impl<
     /// A name as the only parameter.
     fn name_params(&self, parts: &[Tree]) -> Result<Items<Param>, DressError>
         requires ring { IsRing self.now.0.now.source self.now.0.now.whole.now (E.pre self.now.0.now.expr) (E.post self.now.0.now.expr)
-            (P.pre self.now.0.now.pat) (P.post self.now.0.now.pat) (S.pre self.now.0.now.stmt) (S.post self.now.0.now.stmt) }
+            (P.pre self.now.0.now.pat) (P.post self.now.0.now.pat) (S.pre self.now.0.now.stmt) (S.post self.now.0.now.stmt) (I.pre self.now.0.now.item) (I.post self.now.0.now.item) }
         requires within { IsWithin parts.now self.now.0.now.whole.now }
         ensures { IsMade (option_map (λ t. name_param self.now.0.now.source.text.now t ∷ [])
             (token_at self.now.0.now.source.tokens.now (parts_in self.now.0.now.source parts.now) 0)) result }
@@ -122,7 +123,7 @@ impl<
         parts: &[Tree],
     ) -> Result<Expr, DressError>
         requires ring { IsRing self.now.0.now.source self.now.0.now.whole.now (E.pre self.now.0.now.expr) (E.post self.now.0.now.expr)
-            (P.pre self.now.0.now.pat) (P.post self.now.0.now.pat) (S.pre self.now.0.now.stmt) (S.post self.now.0.now.stmt) }
+            (P.pre self.now.0.now.pat) (P.post self.now.0.now.pat) (S.pre self.now.0.now.stmt) (S.post self.now.0.now.stmt) (I.pre self.now.0.now.item) (I.post self.now.0.now.item) }
         requires within { IsWithin parts.now self.now.0.now.whole.now }
         ensures { IsMade (name_arrow self.now.0.now.source.text.now self.now.0.now.source.tokens.now is_async span (parts_in self.now.0.now.source parts.now)) result }
     {
@@ -139,7 +140,7 @@ impl<
         parts: &[Tree],
     ) -> Result<Expr, DressError>
         requires ring { IsRing self.now.0.now.source self.now.0.now.whole.now (E.pre self.now.0.now.expr) (E.post self.now.0.now.expr)
-            (P.pre self.now.0.now.pat) (P.post self.now.0.now.pat) (S.pre self.now.0.now.stmt) (S.post self.now.0.now.stmt) }
+            (P.pre self.now.0.now.pat) (P.post self.now.0.now.pat) (S.pre self.now.0.now.stmt) (S.post self.now.0.now.stmt) (I.pre self.now.0.now.item) (I.post self.now.0.now.item) }
         requires within { IsWithin parts.now self.now.0.now.whole.now }
         ensures { IsMade (parenthesized_arrow self.now.0.now.source.tokens.now is_async span (parts_in self.now.0.now.source parts.now)) result }
     {

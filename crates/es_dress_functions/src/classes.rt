@@ -10,7 +10,9 @@ ghost use Rattle.es_dress.specs.Dress.{member_of};
 
 use crate::nodes::Functions;
 use base::{Boxed, Range};
-use es_ast::{Accessibility, Class, ClassMember, Expr, MethodKind, Modifiers, Pat, Stmt};
+use es_ast::{
+    Accessibility, Class, ClassMember, Expr, MethodKind, Modifiers, ModuleItem, Pat, Stmt,
+};
 use es_dress_keys::Keys;
 use es_dresser::{DressError, Dresser, Node, Source, Turn, turns};
 use es_whole_grammar::Label;
@@ -42,7 +44,8 @@ impl Turn<ClassMember> for MemberTurn {
         E: Fn(Source<'_>, &Tree) -> Result<Expr, DressError>,
         P: Fn(Source<'_>, &Tree) -> Result<Pat, DressError>,
         S: Fn(Source<'_>, &Tree) -> Result<Stmt, DressError>,
-    >(&self, dresser: &Dresser<'_, E, P, S>, turn: &[Tree]) -> Result<ClassMember, DressError> {
+        I: Fn(Source<'_>, &Tree) -> Result<ModuleItem, DressError>,
+    >(&self, dresser: &Dresser<'_, E, P, S, I>, turn: &[Tree]) -> Result<ClassMember, DressError> {
         Functions(dresser).member_at(turn, 0)
     }
 }
@@ -51,12 +54,13 @@ impl<
     E: Fn(Source<'_>, &Tree) -> Result<Expr, DressError>,
     P: Fn(Source<'_>, &Tree) -> Result<Pat, DressError>,
     S: Fn(Source<'_>, &Tree) -> Result<Stmt, DressError>,
-> Functions<'_, '_, E, P, S> {
+    I: Fn(Source<'_>, &Tree) -> Result<ModuleItem, DressError>,
+> Functions<'_, '_, E, P, S, I> {
     /// A class.
     #[tactic(auto, unfolding(es_dress::specs::Classes::class_))]
     pub fn class_(&self, span: Range, parts: &[Tree]) -> Result<Class, DressError>
         requires ring { IsRing self.now.0.now.source self.now.0.now.whole.now (E.pre self.now.0.now.expr) (E.post self.now.0.now.expr)
-            (P.pre self.now.0.now.pat) (P.post self.now.0.now.pat) (S.pre self.now.0.now.stmt) (S.post self.now.0.now.stmt) }
+            (P.pre self.now.0.now.pat) (P.post self.now.0.now.pat) (S.pre self.now.0.now.stmt) (S.post self.now.0.now.stmt) (I.pre self.now.0.now.item) (I.post self.now.0.now.item) }
         requires within { IsWithin parts.now self.now.0.now.whole.now }
         ensures { IsMade (class_ self.now.0.now.source.text.now self.now.0.now.source.tokens.now span (parts_in self.now.0.now.source parts.now)) result }
     {
@@ -78,7 +82,7 @@ impl<
     /// A class as an expression.
     pub fn class_expr(&self, span: Range, parts: &[Tree]) -> Result<Expr, DressError>
         requires ring { IsRing self.now.0.now.source self.now.0.now.whole.now (E.pre self.now.0.now.expr) (E.post self.now.0.now.expr)
-            (P.pre self.now.0.now.pat) (P.post self.now.0.now.pat) (S.pre self.now.0.now.stmt) (S.post self.now.0.now.stmt) }
+            (P.pre self.now.0.now.pat) (P.post self.now.0.now.pat) (S.pre self.now.0.now.stmt) (S.post self.now.0.now.stmt) (I.pre self.now.0.now.item) (I.post self.now.0.now.item) }
         requires within { IsWithin parts.now self.now.0.now.whole.now }
         ensures { IsMade (option_map vExpr.Class (class_ self.now.0.now.source.text.now self.now.0.now.source.tokens.now span (parts_in self.now.0.now.source parts.now))) result }
     {
@@ -90,7 +94,7 @@ impl<
     #[tactic(auto, unfolding(es_dress::specs::Classes::static_block))]
     fn static_block(&self, span: Range, parts: &[Tree]) -> Result<ClassMember, DressError>
         requires ring { IsRing self.now.0.now.source self.now.0.now.whole.now (E.pre self.now.0.now.expr) (E.post self.now.0.now.expr)
-            (P.pre self.now.0.now.pat) (P.post self.now.0.now.pat) (S.pre self.now.0.now.stmt) (S.post self.now.0.now.stmt) }
+            (P.pre self.now.0.now.pat) (P.post self.now.0.now.pat) (S.pre self.now.0.now.stmt) (S.post self.now.0.now.stmt) (I.pre self.now.0.now.item) (I.post self.now.0.now.item) }
         requires within { IsWithin parts.now self.now.0.now.whole.now }
         ensures { IsMade (static_block span (parts_in self.now.0.now.source parts.now)) result }
     {
@@ -110,7 +114,7 @@ impl<
         n: usize,
     ) -> Result<ClassMember, DressError>
         requires ring { IsRing self.now.0.now.source self.now.0.now.whole.now (E.pre self.now.0.now.expr) (E.post self.now.0.now.expr)
-            (P.pre self.now.0.now.pat) (P.post self.now.0.now.pat) (S.pre self.now.0.now.stmt) (S.post self.now.0.now.stmt) }
+            (P.pre self.now.0.now.pat) (P.post self.now.0.now.pat) (S.pre self.now.0.now.stmt) (S.post self.now.0.now.stmt) (I.pre self.now.0.now.item) (I.post self.now.0.now.item) }
         requires within { IsWithin parts.now self.now.0.now.whole.now }
         requires place { n < 7 }
         ensures { IsMade (method_member self.now.0.now.source.tokens.now kind is_async is_generator span (parts_in self.now.0.now.source parts.now) n) result }
@@ -133,7 +137,7 @@ impl<
     #[tactic(auto, unfolding(es_dress::specs::Classes::accessor_member))]
     fn accessor_member(&self, span: Range, parts: &[Tree]) -> Result<ClassMember, DressError>
         requires ring { IsRing self.now.0.now.source self.now.0.now.whole.now (E.pre self.now.0.now.expr) (E.post self.now.0.now.expr)
-            (P.pre self.now.0.now.pat) (P.post self.now.0.now.pat) (S.pre self.now.0.now.stmt) (S.post self.now.0.now.stmt) }
+            (P.pre self.now.0.now.pat) (P.post self.now.0.now.pat) (S.pre self.now.0.now.stmt) (S.post self.now.0.now.stmt) (I.pre self.now.0.now.item) (I.post self.now.0.now.item) }
         requires within { IsWithin parts.now self.now.0.now.whole.now }
         ensures { IsMade (accessor_member self.now.0.now.source.tokens.now span (parts_in self.now.0.now.source parts.now)) result }
     {
@@ -150,7 +154,7 @@ impl<
         parts: &[Tree],
     ) -> Result<ClassMember, DressError>
         requires ring { IsRing self.now.0.now.source self.now.0.now.whole.now (E.pre self.now.0.now.expr) (E.post self.now.0.now.expr)
-            (P.pre self.now.0.now.pat) (P.post self.now.0.now.pat) (S.pre self.now.0.now.stmt) (S.post self.now.0.now.stmt) }
+            (P.pre self.now.0.now.pat) (P.post self.now.0.now.pat) (S.pre self.now.0.now.stmt) (S.post self.now.0.now.stmt) (I.pre self.now.0.now.item) (I.post self.now.0.now.item) }
         requires within { IsWithin parts.now self.now.0.now.whole.now }
         ensures { IsMade (field_member accessor span (parts_in self.now.0.now.source parts.now)) result }
     {
@@ -173,7 +177,7 @@ impl<
     #[tactic(auto, unfolding(es_dress::specs::Dress::member_of))]
     fn member(&self, node: &Node<'_>) -> Result<ClassMember, DressError>
         requires ring { IsRing self.now.0.now.source self.now.0.now.whole.now (E.pre self.now.0.now.expr) (E.post self.now.0.now.expr)
-            (P.pre self.now.0.now.pat) (P.post self.now.0.now.pat) (S.pre self.now.0.now.stmt) (S.post self.now.0.now.stmt) }
+            (P.pre self.now.0.now.pat) (P.post self.now.0.now.pat) (S.pre self.now.0.now.stmt) (S.post self.now.0.now.stmt) (I.pre self.now.0.now.item) (I.post self.now.0.now.item) }
         requires within { IsWithin node.now.parts.now self.now.0.now.whole.now }
         ensures { IsMade (member_of self.now.0.now.source.text.now self.now.0.now.source.tokens.now node.now.label node.now.span (parts_in self.now.0.now.source node.now.parts.now)) result }
     {
@@ -232,7 +236,7 @@ impl<
     #[tactic(auto, unfolding(es_dress::specs::Dress::build))]
     pub(crate) fn member_at(&self, parts: &[Tree], n: usize) -> Result<ClassMember, DressError>
         requires ring { IsRing self.now.0.now.source self.now.0.now.whole.now (E.pre self.now.0.now.expr) (E.post self.now.0.now.expr)
-            (P.pre self.now.0.now.pat) (P.post self.now.0.now.pat) (S.pre self.now.0.now.stmt) (S.post self.now.0.now.stmt) }
+            (P.pre self.now.0.now.pat) (P.post self.now.0.now.pat) (S.pre self.now.0.now.stmt) (S.post self.now.0.now.stmt) (I.pre self.now.0.now.item) (I.post self.now.0.now.item) }
         requires within { IsWithin parts.now self.now.0.now.whole.now }
         ensures { IsMade (member_at (parts_in self.now.0.now.source parts.now) n) result }
     {

@@ -16,7 +16,7 @@ ghost use Rattle.es_dress_functions.specs.Elements.{comma_behind};
 
 use crate::nodes::Functions;
 use base::{Items, Range};
-use es_ast::{Expr, Pat, Stmt};
+use es_ast::{Expr, ModuleItem, Pat, Stmt};
 use es_dresser::{DressError, Dresser, Source, group_in};
 use es_whole_reader::Tree;
 
@@ -32,9 +32,10 @@ pub(crate) trait Element<T> {
         E: Fn(Source<'_>, &Tree) -> Result<Expr, DressError>,
         P: Fn(Source<'_>, &Tree) -> Result<Pat, DressError>,
         S: Fn(Source<'_>, &Tree) -> Result<Stmt, DressError>,
-    >(&self, dresser: &Dresser<'_, E, P, S>, parts: &[Tree], n: usize) -> Result<T, DressError>
+        I: Fn(Source<'_>, &Tree) -> Result<ModuleItem, DressError>,
+    >(&self, dresser: &Dresser<'_, E, P, S, I>, parts: &[Tree], n: usize) -> Result<T, DressError>
         requires ring { IsRing dresser.now.source dresser.now.whole.now (E.pre dresser.now.expr) (E.post dresser.now.expr)
-            (P.pre dresser.now.pat) (P.post dresser.now.pat) (S.pre dresser.now.stmt) (S.post dresser.now.stmt) }
+            (P.pre dresser.now.pat) (P.post dresser.now.pat) (S.pre dresser.now.stmt) (S.post dresser.now.stmt) (I.pre dresser.now.item) (I.post dresser.now.item) }
         requires within { IsWithin parts.now dresser.now.whole.now }
         ensures { IsMade (value (parts_in dresser.now.source parts.now) n) result };
 
@@ -56,7 +57,13 @@ impl Element<Expr> for ExprElement {
         E: Fn(Source<'_>, &Tree) -> Result<Expr, DressError>,
         P: Fn(Source<'_>, &Tree) -> Result<Pat, DressError>,
         S: Fn(Source<'_>, &Tree) -> Result<Stmt, DressError>,
-    >(&self, dresser: &Dresser<'_, E, P, S>, parts: &[Tree], n: usize) -> Result<Expr, DressError> {
+        I: Fn(Source<'_>, &Tree) -> Result<ModuleItem, DressError>,
+    >(
+        &self,
+        dresser: &Dresser<'_, E, P, S, I>,
+        parts: &[Tree],
+        n: usize,
+    ) -> Result<Expr, DressError> {
         dresser.expr_at(parts, n)
     }
 
@@ -78,7 +85,13 @@ impl Element<Pat> for PatElement {
         E: Fn(Source<'_>, &Tree) -> Result<Expr, DressError>,
         P: Fn(Source<'_>, &Tree) -> Result<Pat, DressError>,
         S: Fn(Source<'_>, &Tree) -> Result<Stmt, DressError>,
-    >(&self, dresser: &Dresser<'_, E, P, S>, parts: &[Tree], n: usize) -> Result<Pat, DressError> {
+        I: Fn(Source<'_>, &Tree) -> Result<ModuleItem, DressError>,
+    >(
+        &self,
+        dresser: &Dresser<'_, E, P, S, I>,
+        parts: &[Tree],
+        n: usize,
+    ) -> Result<Pat, DressError> {
         dresser.pat_at(parts, n)
     }
 
@@ -94,9 +107,15 @@ fn next_element<
     E: Fn(Source<'_>, &Tree) -> Result<Expr, DressError>,
     P: Fn(Source<'_>, &Tree) -> Result<Pat, DressError>,
     S: Fn(Source<'_>, &Tree) -> Result<Stmt, DressError>,
->(one: &D, dresser: &Dresser<'_, E, P, S>, last: usize, element: &[Tree]) -> Result<T, DressError>
+    I: Fn(Source<'_>, &Tree) -> Result<ModuleItem, DressError>,
+>(
+    one: &D,
+    dresser: &Dresser<'_, E, P, S, I>,
+    last: usize,
+    element: &[Tree],
+) -> Result<T, DressError>
     requires ring { IsRing dresser.now.source dresser.now.whole.now (E.pre dresser.now.expr) (E.post dresser.now.expr)
-        (P.pre dresser.now.pat) (P.post dresser.now.pat) (S.pre dresser.now.stmt) (S.post dresser.now.stmt) }
+        (P.pre dresser.now.pat) (P.post dresser.now.pat) (S.pre dresser.now.stmt) (S.post dresser.now.stmt) (I.pre dresser.now.item) (I.post dresser.now.item) }
     requires within { IsWithin element.now dresser.now.whole.now }
     ensures { IsMade (element_of D.hole D.value dresser.now.source.tokens.now (last + 1)
         (parts_in dresser.now.source element.now)) result }
@@ -112,7 +131,8 @@ fn comma_behind<
     E: Fn(Source<'_>, &Tree) -> Result<Expr, DressError>,
     P: Fn(Source<'_>, &Tree) -> Result<Pat, DressError>,
     S: Fn(Source<'_>, &Tree) -> Result<Stmt, DressError>,
->(dresser: &Dresser<'_, E, P, S>, last: usize, element: &[Tree]) -> usize
+    I: Fn(Source<'_>, &Tree) -> Result<ModuleItem, DressError>,
+>(dresser: &Dresser<'_, E, P, S, I>, last: usize, element: &[Tree]) -> usize
     ensures { IsSamePlace dresser.now.source.tokens.now result (comma_behind last (parts_in dresser.now.source element.now)) }
 {
     if dresser.is_absent(element) {
@@ -128,14 +148,15 @@ pub(crate) fn elements<
     E: Fn(Source<'_>, &Tree) -> Result<Expr, DressError>,
     P: Fn(Source<'_>, &Tree) -> Result<Pat, DressError>,
     S: Fn(Source<'_>, &Tree) -> Result<Stmt, DressError>,
+    I: Fn(Source<'_>, &Tree) -> Result<ModuleItem, DressError>,
 >(
     one: &D,
-    dresser: &Dresser<'_, E, P, S>,
+    dresser: &Dresser<'_, E, P, S, I>,
     from: usize,
     list: &[Tree],
 ) -> Result<Items<T>, DressError>
     requires ring { IsRing dresser.now.source dresser.now.whole.now (E.pre dresser.now.expr) (E.post dresser.now.expr)
-        (P.pre dresser.now.pat) (P.post dresser.now.pat) (S.pre dresser.now.stmt) (S.post dresser.now.stmt) }
+        (P.pre dresser.now.pat) (P.post dresser.now.pat) (S.pre dresser.now.stmt) (S.post dresser.now.stmt) (I.pre dresser.now.item) (I.post dresser.now.item) }
     requires within { IsWithin list.now dresser.now.whole.now }
     ensures { IsMade (elements D.hole D.value dresser.now.source.tokens.now (from + 1) (parts_in dresser.now.source list.now)) result }
 {
@@ -156,7 +177,8 @@ impl<
     E: Fn(Source<'_>, &Tree) -> Result<Expr, DressError>,
     P: Fn(Source<'_>, &Tree) -> Result<Pat, DressError>,
     S: Fn(Source<'_>, &Tree) -> Result<Stmt, DressError>,
-> Functions<'_, '_, E, P, S> {
+    I: Fn(Source<'_>, &Tree) -> Result<ModuleItem, DressError>,
+> Functions<'_, '_, E, P, S, I> {
     /// `[a]`
     #[tactic(auto, unfolding(es_dress::specs::Expressions::array_literal))]
     pub fn array_literal(
@@ -166,7 +188,7 @@ impl<
         parts: &[Tree],
     ) -> Result<Expr, DressError>
         requires ring { IsRing self.now.0.now.source self.now.0.now.whole.now (E.pre self.now.0.now.expr) (E.post self.now.0.now.expr)
-            (P.pre self.now.0.now.pat) (P.post self.now.0.now.pat) (S.pre self.now.0.now.stmt) (S.post self.now.0.now.stmt) }
+            (P.pre self.now.0.now.pat) (P.post self.now.0.now.pat) (S.pre self.now.0.now.stmt) (S.post self.now.0.now.stmt) (I.pre self.now.0.now.item) (I.post self.now.0.now.item) }
         requires within { IsWithin parts.now self.now.0.now.whole.now }
         ensures { IsMade (array_literal self.now.0.now.source.tokens.now from span (parts_in self.now.0.now.source parts.now)) result }
     {
@@ -183,7 +205,7 @@ impl<
         parts: &[Tree],
     ) -> Result<Pat, DressError>
         requires ring { IsRing self.now.0.now.source self.now.0.now.whole.now (E.pre self.now.0.now.expr) (E.post self.now.0.now.expr)
-            (P.pre self.now.0.now.pat) (P.post self.now.0.now.pat) (S.pre self.now.0.now.stmt) (S.post self.now.0.now.stmt) }
+            (P.pre self.now.0.now.pat) (P.post self.now.0.now.pat) (S.pre self.now.0.now.stmt) (S.post self.now.0.now.stmt) (I.pre self.now.0.now.item) (I.post self.now.0.now.item) }
         requires within { IsWithin parts.now self.now.0.now.whole.now }
         ensures { IsMade (array_pattern self.now.0.now.source.tokens.now from span (parts_in self.now.0.now.source parts.now)) result }
     {

@@ -15,7 +15,7 @@ use crate::functions::{ParamTurn, before, plain_param, with_rest};
 use crate::nodes::Functions;
 use crate::patterns::{PatPropTurn, with_default};
 use base::{Boxed, Items, Range};
-use es_ast::{Accessibility, Expr, Ident, Modifiers, Param, Pat, Stmt, TsPart};
+use es_ast::{Accessibility, Expr, Ident, Modifiers, ModuleItem, Param, Pat, Stmt, TsPart};
 use es_dress_types::{annotation_at, params_part_at};
 use es_dresser::{DressError, Source, group_in, turns};
 use es_token::TokenKind;
@@ -74,7 +74,8 @@ impl<
     E: Fn(Source<'_>, &Tree) -> Result<Expr, DressError>,
     P: Fn(Source<'_>, &Tree) -> Result<Pat, DressError>,
     S: Fn(Source<'_>, &Tree) -> Result<Stmt, DressError>,
-> Functions<'_, '_, E, P, S> {
+    I: Fn(Source<'_>, &Tree) -> Result<ModuleItem, DressError>,
+> Functions<'_, '_, E, P, S, I> {
     /// The span from a token to the end of what may be absent, or of the part before it.
     pub(crate) fn span_over(&self, from: usize, parts: &[Tree], n: usize, group: &[Tree]) -> Range
         ensures { result ≡ span_of self.now.0.now.source.tokens.now from (behind_in (parts_in self.now.0.now.source group.now) (behind (part (parts_in self.now.0.now.source parts.now) n))) }
@@ -112,7 +113,7 @@ impl<
         parts: &[Tree],
     ) -> Result<Pat, DressError>
         requires ring { IsRing self.now.0.now.source self.now.0.now.whole.now (E.pre self.now.0.now.expr) (E.post self.now.0.now.expr)
-            (P.pre self.now.0.now.pat) (P.post self.now.0.now.pat) (S.pre self.now.0.now.stmt) (S.post self.now.0.now.stmt) }
+            (P.pre self.now.0.now.pat) (P.post self.now.0.now.pat) (S.pre self.now.0.now.stmt) (S.post self.now.0.now.stmt) (I.pre self.now.0.now.item) (I.post self.now.0.now.item) }
         requires within { IsWithin parts.now self.now.0.now.whole.now }
         ensures { IsMade (option_map (λ pat. pat mark ty span) (marked_name self.now.0.now.source.text.now self.now.0.now.source.tokens.now (parts_in self.now.0.now.source parts.now))) result }
     {
@@ -141,7 +142,7 @@ impl<
         parts: &[Tree],
     ) -> Result<Pat, DressError>
         requires ring { IsRing self.now.0.now.source self.now.0.now.whole.now (E.pre self.now.0.now.expr) (E.post self.now.0.now.expr)
-            (P.pre self.now.0.now.pat) (P.post self.now.0.now.pat) (S.pre self.now.0.now.stmt) (S.post self.now.0.now.stmt) }
+            (P.pre self.now.0.now.pat) (P.post self.now.0.now.pat) (S.pre self.now.0.now.stmt) (S.post self.now.0.now.stmt) (I.pre self.now.0.now.item) (I.post self.now.0.now.item) }
         requires within { IsWithin parts.now self.now.0.now.whole.now }
         ensures { IsMade (option_map (λ pat. pat mark ty span) (marked_array self.now.0.now.source.tokens.now from (parts_in self.now.0.now.source parts.now))) result }
     {
@@ -164,7 +165,7 @@ impl<
         parts: &[Tree],
     ) -> Result<Pat, DressError>
         requires ring { IsRing self.now.0.now.source self.now.0.now.whole.now (E.pre self.now.0.now.expr) (E.post self.now.0.now.expr)
-            (P.pre self.now.0.now.pat) (P.post self.now.0.now.pat) (S.pre self.now.0.now.stmt) (S.post self.now.0.now.stmt) }
+            (P.pre self.now.0.now.pat) (P.post self.now.0.now.pat) (S.pre self.now.0.now.stmt) (S.post self.now.0.now.stmt) (I.pre self.now.0.now.item) (I.post self.now.0.now.item) }
         requires within { IsWithin parts.now self.now.0.now.whole.now }
         ensures { IsMade (option_map (λ pat. pat mark ty span) (marked_object (parts_in self.now.0.now.source parts.now))) result }
     {
@@ -188,7 +189,7 @@ impl<
         n: usize,
     ) -> Result<Pat, DressError>
         requires ring { IsRing self.now.0.now.source self.now.0.now.whole.now (E.pre self.now.0.now.expr) (E.post self.now.0.now.expr)
-            (P.pre self.now.0.now.pat) (P.post self.now.0.now.pat) (S.pre self.now.0.now.stmt) (S.post self.now.0.now.stmt) }
+            (P.pre self.now.0.now.pat) (P.post self.now.0.now.pat) (S.pre self.now.0.now.stmt) (S.post self.now.0.now.stmt) (I.pre self.now.0.now.item) (I.post self.now.0.now.item) }
         requires within { IsWithin parts.now self.now.0.now.whole.now }
         ensures { IsMade (option_map (λ pat. pat mark ty span) (marked_at (parts_in self.now.0.now.source parts.now) n)) result }
     {
@@ -208,7 +209,7 @@ impl<
     /// The pattern at this part, with the type that stands at another one.
     pub fn annotated_at(&self, parts: &[Tree], n: usize, at: usize) -> Result<Pat, DressError>
         requires ring { IsRing self.now.0.now.source self.now.0.now.whole.now (E.pre self.now.0.now.expr) (E.post self.now.0.now.expr)
-            (P.pre self.now.0.now.pat) (P.post self.now.0.now.pat) (S.pre self.now.0.now.stmt) (S.post self.now.0.now.stmt) }
+            (P.pre self.now.0.now.pat) (P.post self.now.0.now.pat) (S.pre self.now.0.now.stmt) (S.post self.now.0.now.stmt) (I.pre self.now.0.now.item) (I.post self.now.0.now.item) }
         requires within { IsWithin parts.now self.now.0.now.whole.now }
         ensures { IsMade (annotated_at self.now.0.now.source.tokens.now (parts_in self.now.0.now.source parts.now) n at) result }
     {
@@ -220,7 +221,7 @@ impl<
     /// Modifiers, from the parts of their group.
     pub(crate) fn modifiers_in(&self, group: &[Tree]) -> Result<Modifiers, DressError>
         requires ring { IsRing self.now.0.now.source self.now.0.now.whole.now (E.pre self.now.0.now.expr) (E.post self.now.0.now.expr)
-            (P.pre self.now.0.now.pat) (P.post self.now.0.now.pat) (S.pre self.now.0.now.stmt) (S.post self.now.0.now.stmt) }
+            (P.pre self.now.0.now.pat) (P.post self.now.0.now.pat) (S.pre self.now.0.now.stmt) (S.post self.now.0.now.stmt) (I.pre self.now.0.now.item) (I.post self.now.0.now.item) }
         requires within { IsWithin group.now self.now.0.now.whole.now }
         ensures { IsMade (modifiers_in self.now.0.now.source.tokens.now plain (parts_in self.now.0.now.source group.now)) result }
     {
@@ -250,7 +251,7 @@ impl<
     /// A pattern at this part, with its mark, its type and its default behind it.
     fn tailed_at(&self, parts: &[Tree], n: usize) -> Result<Boxed<Pat>, DressError>
         requires ring { IsRing self.now.0.now.source self.now.0.now.whole.now (E.pre self.now.0.now.expr) (E.post self.now.0.now.expr)
-            (P.pre self.now.0.now.pat) (P.post self.now.0.now.pat) (S.pre self.now.0.now.stmt) (S.post self.now.0.now.stmt) }
+            (P.pre self.now.0.now.pat) (P.post self.now.0.now.pat) (S.pre self.now.0.now.stmt) (S.post self.now.0.now.stmt) (I.pre self.now.0.now.item) (I.post self.now.0.now.item) }
         requires within { IsWithin parts.now self.now.0.now.whole.now }
         requires place { n < 5 }
         ensures { IsMade (tailed_at self.now.0.now.source.tokens.now (parts_in self.now.0.now.source parts.now) n) result }
@@ -270,7 +271,7 @@ impl<
     #[tactic(auto, unfolding(es_dress::specs::TypedParts::marked_parameter))]
     fn marked_parameter(&self, span: Range, parts: &[Tree]) -> Result<Param, DressError>
         requires ring { IsRing self.now.0.now.source self.now.0.now.whole.now (E.pre self.now.0.now.expr) (E.post self.now.0.now.expr)
-            (P.pre self.now.0.now.pat) (P.post self.now.0.now.pat) (S.pre self.now.0.now.stmt) (S.post self.now.0.now.stmt) }
+            (P.pre self.now.0.now.pat) (P.post self.now.0.now.pat) (S.pre self.now.0.now.stmt) (S.post self.now.0.now.stmt) (I.pre self.now.0.now.item) (I.post self.now.0.now.item) }
         requires within { IsWithin parts.now self.now.0.now.whole.now }
         ensures { IsMade (marked_parameter self.now.0.now.source.tokens.now span (parts_in self.now.0.now.source parts.now)) result }
     {
@@ -282,7 +283,7 @@ impl<
     #[tactic(auto, unfolding(es_dress::specs::TypedParts::property_parameter))]
     fn property_parameter(&self, span: Range, parts: &[Tree]) -> Result<Param, DressError>
         requires ring { IsRing self.now.0.now.source self.now.0.now.whole.now (E.pre self.now.0.now.expr) (E.post self.now.0.now.expr)
-            (P.pre self.now.0.now.pat) (P.post self.now.0.now.pat) (S.pre self.now.0.now.stmt) (S.post self.now.0.now.stmt) }
+            (P.pre self.now.0.now.pat) (P.post self.now.0.now.pat) (S.pre self.now.0.now.stmt) (S.post self.now.0.now.stmt) (I.pre self.now.0.now.item) (I.post self.now.0.now.item) }
         requires within { IsWithin parts.now self.now.0.now.whole.now }
         ensures { IsMade (property_parameter self.now.0.now.source.tokens.now span (parts_in self.now.0.now.source parts.now)) result }
     {
@@ -299,7 +300,7 @@ impl<
     #[tactic(auto, unfolding(es_dress::specs::TypedParts::this_parameter))]
     fn this_parameter(&self, span: Range, parts: &[Tree]) -> Result<Param, DressError>
         requires ring { IsRing self.now.0.now.source self.now.0.now.whole.now (E.pre self.now.0.now.expr) (E.post self.now.0.now.expr)
-            (P.pre self.now.0.now.pat) (P.post self.now.0.now.pat) (S.pre self.now.0.now.stmt) (S.post self.now.0.now.stmt) }
+            (P.pre self.now.0.now.pat) (P.post self.now.0.now.pat) (S.pre self.now.0.now.stmt) (S.post self.now.0.now.stmt) (I.pre self.now.0.now.item) (I.post self.now.0.now.item) }
         requires within { IsWithin parts.now self.now.0.now.whole.now }
         ensures { IsMade (this_parameter self.now.0.now.source.tokens.now span (parts_in self.now.0.now.source parts.now)) result }
     {
@@ -319,7 +320,7 @@ impl<
     /// The last parameter, from the parts of its group.
     fn typed_rest(&self, group: &[Tree]) -> Result<Option<Param>, DressError>
         requires ring { IsRing self.now.0.now.source self.now.0.now.whole.now (E.pre self.now.0.now.expr) (E.post self.now.0.now.expr)
-            (P.pre self.now.0.now.pat) (P.post self.now.0.now.pat) (S.pre self.now.0.now.stmt) (S.post self.now.0.now.stmt) }
+            (P.pre self.now.0.now.pat) (P.post self.now.0.now.pat) (S.pre self.now.0.now.stmt) (S.post self.now.0.now.stmt) (I.pre self.now.0.now.item) (I.post self.now.0.now.item) }
         requires within { IsWithin group.now self.now.0.now.whole.now }
         ensures { IsMade (typed_rest self.now.0.now.source.tokens.now (parts_in self.now.0.now.source group.now)) result }
     {
@@ -342,7 +343,7 @@ impl<
     /// Parameters.
     pub(crate) fn typed_parameters(&self, parts: &[Tree]) -> Result<Items<Param>, DressError>
         requires ring { IsRing self.now.0.now.source self.now.0.now.whole.now (E.pre self.now.0.now.expr) (E.post self.now.0.now.expr)
-            (P.pre self.now.0.now.pat) (P.post self.now.0.now.pat) (S.pre self.now.0.now.stmt) (S.post self.now.0.now.stmt) }
+            (P.pre self.now.0.now.pat) (P.post self.now.0.now.pat) (S.pre self.now.0.now.stmt) (S.post self.now.0.now.stmt) (I.pre self.now.0.now.item) (I.post self.now.0.now.item) }
         requires within { IsWithin parts.now self.now.0.now.whole.now }
         ensures { IsMade (typed_parameters self.now.0.now.source.tokens.now (parts_in self.now.0.now.source parts.now)) result }
     {
@@ -358,7 +359,7 @@ impl<
         parts: &[Tree],
     ) -> Result<(Option<Boxed<TsPart>>, Items<Param>, Option<Boxed<TsPart>>), DressError>
         requires ring { IsRing self.now.0.now.source self.now.0.now.whole.now (E.pre self.now.0.now.expr) (E.post self.now.0.now.expr)
-            (P.pre self.now.0.now.pat) (P.post self.now.0.now.pat) (S.pre self.now.0.now.stmt) (S.post self.now.0.now.stmt) }
+            (P.pre self.now.0.now.pat) (P.post self.now.0.now.pat) (S.pre self.now.0.now.stmt) (S.post self.now.0.now.stmt) (I.pre self.now.0.now.item) (I.post self.now.0.now.item) }
         requires within { IsWithin parts.now self.now.0.now.whole.now }
         ensures { IsMade (typed_signature (parts_in self.now.0.now.source parts.now)) result }
     {
@@ -376,7 +377,7 @@ impl<
         n: usize,
     ) -> Result<(Option<Boxed<TsPart>>, Items<Param>, Option<Boxed<TsPart>>), DressError>
         requires ring { IsRing self.now.0.now.source self.now.0.now.whole.now (E.pre self.now.0.now.expr) (E.post self.now.0.now.expr)
-            (P.pre self.now.0.now.pat) (P.post self.now.0.now.pat) (S.pre self.now.0.now.stmt) (S.post self.now.0.now.stmt) }
+            (P.pre self.now.0.now.pat) (P.post self.now.0.now.pat) (S.pre self.now.0.now.stmt) (S.post self.now.0.now.stmt) (I.pre self.now.0.now.item) (I.post self.now.0.now.item) }
         requires within { IsWithin parts.now self.now.0.now.whole.now }
         ensures { IsMade (signature_at (parts_in self.now.0.now.source parts.now) n) result }
     {

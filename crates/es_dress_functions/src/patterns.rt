@@ -10,7 +10,7 @@ ghost use Rattle.es_dress.specs.Dress.{pat_of, pat_prop_of};
 
 use crate::nodes::Functions;
 use base::{Boxed, Range};
-use es_ast::{Expr, ObjectPatProp, Pat, Stmt};
+use es_ast::{Expr, ModuleItem, ObjectPatProp, Pat, Stmt};
 use es_dress_keys::Keys;
 use es_dresser::{DressError, Dresser, Node, Source, Turn, turns};
 use es_whole_grammar::Label;
@@ -50,7 +50,12 @@ impl Turn<ObjectPatProp> for PatPropTurn {
         E: Fn(Source<'_>, &Tree) -> Result<Expr, DressError>,
         P: Fn(Source<'_>, &Tree) -> Result<Pat, DressError>,
         S: Fn(Source<'_>, &Tree) -> Result<Stmt, DressError>,
-    >(&self, dresser: &Dresser<'_, E, P, S>, turn: &[Tree]) -> Result<ObjectPatProp, DressError> {
+        I: Fn(Source<'_>, &Tree) -> Result<ModuleItem, DressError>,
+    >(
+        &self,
+        dresser: &Dresser<'_, E, P, S, I>,
+        turn: &[Tree],
+    ) -> Result<ObjectPatProp, DressError> {
         Functions(dresser).pat_prop_at(turn, 0)
     }
 }
@@ -59,12 +64,13 @@ impl<
     E: Fn(Source<'_>, &Tree) -> Result<Expr, DressError>,
     P: Fn(Source<'_>, &Tree) -> Result<Pat, DressError>,
     S: Fn(Source<'_>, &Tree) -> Result<Stmt, DressError>,
-> Functions<'_, '_, E, P, S> {
+    I: Fn(Source<'_>, &Tree) -> Result<ModuleItem, DressError>,
+> Functions<'_, '_, E, P, S, I> {
     /// `a`
     #[tactic(auto, unfolding(es_dress::specs::Patterns::name_pattern))]
     fn name_pattern(&self, parts: &[Tree]) -> Result<Pat, DressError>
         requires ring { IsRing self.now.0.now.source self.now.0.now.whole.now (E.pre self.now.0.now.expr) (E.post self.now.0.now.expr)
-            (P.pre self.now.0.now.pat) (P.post self.now.0.now.pat) (S.pre self.now.0.now.stmt) (S.post self.now.0.now.stmt) }
+            (P.pre self.now.0.now.pat) (P.post self.now.0.now.pat) (S.pre self.now.0.now.stmt) (S.post self.now.0.now.stmt) (I.pre self.now.0.now.item) (I.post self.now.0.now.item) }
         requires within { IsWithin parts.now self.now.0.now.whole.now }
         ensures { IsMade (name_pattern self.now.0.now.source.text.now self.now.0.now.source.tokens.now (parts_in self.now.0.now.source parts.now)) result }
     {
@@ -81,7 +87,7 @@ impl<
     #[tactic(auto, unfolding(es_dress::specs::Patterns::object_pattern))]
     fn object_pattern(&self, span: Range, parts: &[Tree]) -> Result<Pat, DressError>
         requires ring { IsRing self.now.0.now.source self.now.0.now.whole.now (E.pre self.now.0.now.expr) (E.post self.now.0.now.expr)
-            (P.pre self.now.0.now.pat) (P.post self.now.0.now.pat) (S.pre self.now.0.now.stmt) (S.post self.now.0.now.stmt) }
+            (P.pre self.now.0.now.pat) (P.post self.now.0.now.pat) (S.pre self.now.0.now.stmt) (S.post self.now.0.now.stmt) (I.pre self.now.0.now.item) (I.post self.now.0.now.item) }
         requires within { IsWithin parts.now self.now.0.now.whole.now }
         ensures { IsMade (object_pattern span (parts_in self.now.0.now.source parts.now)) result }
     {
@@ -98,7 +104,7 @@ impl<
     #[tactic(auto, unfolding(es_dress::specs::Patterns::rest_pattern))]
     fn rest_pattern(&self, span: Range, parts: &[Tree]) -> Result<Pat, DressError>
         requires ring { IsRing self.now.0.now.source self.now.0.now.whole.now (E.pre self.now.0.now.expr) (E.post self.now.0.now.expr)
-            (P.pre self.now.0.now.pat) (P.post self.now.0.now.pat) (S.pre self.now.0.now.stmt) (S.post self.now.0.now.stmt) }
+            (P.pre self.now.0.now.pat) (P.post self.now.0.now.pat) (S.pre self.now.0.now.stmt) (S.post self.now.0.now.stmt) (I.pre self.now.0.now.item) (I.post self.now.0.now.item) }
         requires within { IsWithin parts.now self.now.0.now.whole.now }
         ensures { IsMade (rest_pattern span (parts_in self.now.0.now.source parts.now)) result }
     {
@@ -114,7 +120,7 @@ impl<
     #[tactic(auto, unfolding(es_dress::specs::Patterns::default_pattern))]
     fn default_pattern(&self, span: Range, parts: &[Tree]) -> Result<Pat, DressError>
         requires ring { IsRing self.now.0.now.source self.now.0.now.whole.now (E.pre self.now.0.now.expr) (E.post self.now.0.now.expr)
-            (P.pre self.now.0.now.pat) (P.post self.now.0.now.pat) (S.pre self.now.0.now.stmt) (S.post self.now.0.now.stmt) }
+            (P.pre self.now.0.now.pat) (P.post self.now.0.now.pat) (S.pre self.now.0.now.stmt) (S.post self.now.0.now.stmt) (I.pre self.now.0.now.item) (I.post self.now.0.now.item) }
         requires within { IsWithin parts.now self.now.0.now.whole.now }
         ensures { IsMade (default_pattern span (parts_in self.now.0.now.source parts.now)) result }
     {
@@ -127,7 +133,7 @@ impl<
     #[tactic(auto, unfolding(es_dress::specs::Dress::pat_of))]
     pub fn pat(&self, node: &Node<'_>) -> Result<Pat, DressError>
         requires ring { IsRing self.now.0.now.source self.now.0.now.whole.now (E.pre self.now.0.now.expr) (E.post self.now.0.now.expr)
-            (P.pre self.now.0.now.pat) (P.post self.now.0.now.pat) (S.pre self.now.0.now.stmt) (S.post self.now.0.now.stmt) }
+            (P.pre self.now.0.now.pat) (P.post self.now.0.now.pat) (S.pre self.now.0.now.stmt) (S.post self.now.0.now.stmt) (I.pre self.now.0.now.item) (I.post self.now.0.now.item) }
         requires within { IsWithin node.now.parts.now self.now.0.now.whole.now }
         ensures { IsMade (pat_of self.now.0.now.source.text.now self.now.0.now.source.tokens.now node.now.label node.now.from node.now.span (parts_in self.now.0.now.source node.now.parts.now)) result }
     {
@@ -153,7 +159,7 @@ impl<
     #[tactic(auto, unfolding(es_dress::specs::Patterns::rest_property))]
     fn rest_property(&self, span: Range, parts: &[Tree]) -> Result<ObjectPatProp, DressError>
         requires ring { IsRing self.now.0.now.source self.now.0.now.whole.now (E.pre self.now.0.now.expr) (E.post self.now.0.now.expr)
-            (P.pre self.now.0.now.pat) (P.post self.now.0.now.pat) (S.pre self.now.0.now.stmt) (S.post self.now.0.now.stmt) }
+            (P.pre self.now.0.now.pat) (P.post self.now.0.now.pat) (S.pre self.now.0.now.stmt) (S.post self.now.0.now.stmt) (I.pre self.now.0.now.item) (I.post self.now.0.now.item) }
         requires within { IsWithin parts.now self.now.0.now.whole.now }
         ensures { IsMade (rest_property span (parts_in self.now.0.now.source parts.now)) result }
     {
@@ -165,7 +171,7 @@ impl<
     #[tactic(auto, unfolding(es_dress::specs::Patterns::key_pattern))]
     fn key_pattern(&self, span: Range, parts: &[Tree]) -> Result<ObjectPatProp, DressError>
         requires ring { IsRing self.now.0.now.source self.now.0.now.whole.now (E.pre self.now.0.now.expr) (E.post self.now.0.now.expr)
-            (P.pre self.now.0.now.pat) (P.post self.now.0.now.pat) (S.pre self.now.0.now.stmt) (S.post self.now.0.now.stmt) }
+            (P.pre self.now.0.now.pat) (P.post self.now.0.now.pat) (S.pre self.now.0.now.stmt) (S.post self.now.0.now.stmt) (I.pre self.now.0.now.item) (I.post self.now.0.now.item) }
         requires within { IsWithin parts.now self.now.0.now.whole.now }
         ensures { IsMade (key_pattern self.now.0.now.source.tokens.now span (parts_in self.now.0.now.source parts.now)) result }
     {
@@ -187,7 +193,7 @@ impl<
     #[tactic(auto, unfolding(es_dress::specs::Patterns::name_property))]
     fn name_property(&self, span: Range, parts: &[Tree]) -> Result<ObjectPatProp, DressError>
         requires ring { IsRing self.now.0.now.source self.now.0.now.whole.now (E.pre self.now.0.now.expr) (E.post self.now.0.now.expr)
-            (P.pre self.now.0.now.pat) (P.post self.now.0.now.pat) (S.pre self.now.0.now.stmt) (S.post self.now.0.now.stmt) }
+            (P.pre self.now.0.now.pat) (P.post self.now.0.now.pat) (S.pre self.now.0.now.stmt) (S.post self.now.0.now.stmt) (I.pre self.now.0.now.item) (I.post self.now.0.now.item) }
         requires within { IsWithin parts.now self.now.0.now.whole.now }
         ensures { IsMade (name_property self.now.0.now.source.text.now self.now.0.now.source.tokens.now span (parts_in self.now.0.now.source parts.now)) result }
     {
@@ -200,7 +206,7 @@ impl<
     #[tactic(auto, unfolding(es_dress::specs::Dress::pat_prop_of))]
     fn pat_prop(&self, node: &Node<'_>) -> Result<ObjectPatProp, DressError>
         requires ring { IsRing self.now.0.now.source self.now.0.now.whole.now (E.pre self.now.0.now.expr) (E.post self.now.0.now.expr)
-            (P.pre self.now.0.now.pat) (P.post self.now.0.now.pat) (S.pre self.now.0.now.stmt) (S.post self.now.0.now.stmt) }
+            (P.pre self.now.0.now.pat) (P.post self.now.0.now.pat) (S.pre self.now.0.now.stmt) (S.post self.now.0.now.stmt) (I.pre self.now.0.now.item) (I.post self.now.0.now.item) }
         requires within { IsWithin node.now.parts.now self.now.0.now.whole.now }
         ensures { IsMade (pat_prop_of self.now.0.now.source.text.now self.now.0.now.source.tokens.now node.now.label node.now.span (parts_in self.now.0.now.source node.now.parts.now)) result }
     {
@@ -220,7 +226,7 @@ impl<
     #[tactic(auto, unfolding(es_dress::specs::Dress::build))]
     pub(crate) fn pat_prop_at(&self, parts: &[Tree], n: usize) -> Result<ObjectPatProp, DressError>
         requires ring { IsRing self.now.0.now.source self.now.0.now.whole.now (E.pre self.now.0.now.expr) (E.post self.now.0.now.expr)
-            (P.pre self.now.0.now.pat) (P.post self.now.0.now.pat) (S.pre self.now.0.now.stmt) (S.post self.now.0.now.stmt) }
+            (P.pre self.now.0.now.pat) (P.post self.now.0.now.pat) (S.pre self.now.0.now.stmt) (S.post self.now.0.now.stmt) (I.pre self.now.0.now.item) (I.post self.now.0.now.item) }
         requires within { IsWithin parts.now self.now.0.now.whole.now }
         ensures { IsMade (pat_prop_at (parts_in self.now.0.now.source parts.now) n) result }
     {

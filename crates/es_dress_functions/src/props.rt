@@ -11,7 +11,7 @@ ghost use Rattle.es_dress.specs.Dress.{prop_of};
 use crate::functions::plain_function;
 use crate::nodes::Functions;
 use base::{Boxed, Range};
-use es_ast::{Expr, Function, MethodKind, Pat, Prop, Stmt};
+use es_ast::{Expr, Function, MethodKind, ModuleItem, Pat, Prop, Stmt};
 use es_dress_keys::Keys;
 use es_dresser::{DressError, Dresser, Node, Source, Turn, turns};
 use es_whole_grammar::Label;
@@ -28,7 +28,8 @@ impl Turn<Prop> for PropTurn {
         E: Fn(Source<'_>, &Tree) -> Result<Expr, DressError>,
         P: Fn(Source<'_>, &Tree) -> Result<Pat, DressError>,
         S: Fn(Source<'_>, &Tree) -> Result<Stmt, DressError>,
-    >(&self, dresser: &Dresser<'_, E, P, S>, turn: &[Tree]) -> Result<Prop, DressError> {
+        I: Fn(Source<'_>, &Tree) -> Result<ModuleItem, DressError>,
+    >(&self, dresser: &Dresser<'_, E, P, S, I>, turn: &[Tree]) -> Result<Prop, DressError> {
         Functions(dresser).prop_at(turn, 0)
     }
 }
@@ -37,7 +38,8 @@ impl<
     E: Fn(Source<'_>, &Tree) -> Result<Expr, DressError>,
     P: Fn(Source<'_>, &Tree) -> Result<Pat, DressError>,
     S: Fn(Source<'_>, &Tree) -> Result<Stmt, DressError>,
-> Functions<'_, '_, E, P, S> {
+    I: Fn(Source<'_>, &Tree) -> Result<ModuleItem, DressError>,
+> Functions<'_, '_, E, P, S, I> {
     /// What follows a key: parameters and a body, which stand from this part on.
     #[tactic(auto, unfolding(es_dress::specs::Functions::method_at))]
     pub fn method_at(
@@ -48,7 +50,7 @@ impl<
         n: usize,
     ) -> Result<Boxed<Function>, DressError>
         requires ring { IsRing self.now.0.now.source self.now.0.now.whole.now (E.pre self.now.0.now.expr) (E.post self.now.0.now.expr)
-            (P.pre self.now.0.now.pat) (P.post self.now.0.now.pat) (S.pre self.now.0.now.stmt) (S.post self.now.0.now.stmt) }
+            (P.pre self.now.0.now.pat) (P.post self.now.0.now.pat) (S.pre self.now.0.now.stmt) (S.post self.now.0.now.stmt) (I.pre self.now.0.now.item) (I.post self.now.0.now.item) }
         requires within { IsWithin parts.now self.now.0.now.whole.now }
         requires place { n < 8 }
         ensures { IsMade (method_at self.now.0.now.source.tokens.now is_async is_generator (parts_in self.now.0.now.source parts.now) n) result }
@@ -64,7 +66,7 @@ impl<
     #[tactic(auto, unfolding(es_dress::specs::Expressions::object_literal))]
     pub fn object_literal(&self, span: Range, parts: &[Tree]) -> Result<Expr, DressError>
         requires ring { IsRing self.now.0.now.source self.now.0.now.whole.now (E.pre self.now.0.now.expr) (E.post self.now.0.now.expr)
-            (P.pre self.now.0.now.pat) (P.post self.now.0.now.pat) (S.pre self.now.0.now.stmt) (S.post self.now.0.now.stmt) }
+            (P.pre self.now.0.now.pat) (P.post self.now.0.now.pat) (S.pre self.now.0.now.stmt) (S.post self.now.0.now.stmt) (I.pre self.now.0.now.item) (I.post self.now.0.now.item) }
         requires within { IsWithin parts.now self.now.0.now.whole.now }
         ensures { IsMade (object_literal span (parts_in self.now.0.now.source parts.now)) result }
     {
@@ -76,7 +78,7 @@ impl<
     #[tactic(auto, unfolding(es_dress::specs::Functions::spread_property))]
     fn spread_property(&self, span: Range, parts: &[Tree]) -> Result<Prop, DressError>
         requires ring { IsRing self.now.0.now.source self.now.0.now.whole.now (E.pre self.now.0.now.expr) (E.post self.now.0.now.expr)
-            (P.pre self.now.0.now.pat) (P.post self.now.0.now.pat) (S.pre self.now.0.now.stmt) (S.post self.now.0.now.stmt) }
+            (P.pre self.now.0.now.pat) (P.post self.now.0.now.pat) (S.pre self.now.0.now.stmt) (S.post self.now.0.now.stmt) (I.pre self.now.0.now.item) (I.post self.now.0.now.item) }
         requires within { IsWithin parts.now self.now.0.now.whole.now }
         ensures { IsMade (spread_property span (parts_in self.now.0.now.source parts.now)) result }
     {
@@ -88,7 +90,7 @@ impl<
     #[tactic(auto, unfolding(es_dress::specs::Functions::shorthand))]
     fn shorthand(&self, parts: &[Tree]) -> Result<Prop, DressError>
         requires ring { IsRing self.now.0.now.source self.now.0.now.whole.now (E.pre self.now.0.now.expr) (E.post self.now.0.now.expr)
-            (P.pre self.now.0.now.pat) (P.post self.now.0.now.pat) (S.pre self.now.0.now.stmt) (S.post self.now.0.now.stmt) }
+            (P.pre self.now.0.now.pat) (P.post self.now.0.now.pat) (S.pre self.now.0.now.stmt) (S.post self.now.0.now.stmt) (I.pre self.now.0.now.item) (I.post self.now.0.now.item) }
         requires within { IsWithin parts.now self.now.0.now.whole.now }
         ensures { IsMade (shorthand self.now.0.now.source.text.now self.now.0.now.source.tokens.now (parts_in self.now.0.now.source parts.now)) result }
     {
@@ -100,7 +102,7 @@ impl<
     #[tactic(auto, unfolding(es_dress::specs::Functions::key_value))]
     fn key_value(&self, span: Range, parts: &[Tree]) -> Result<Prop, DressError>
         requires ring { IsRing self.now.0.now.source self.now.0.now.whole.now (E.pre self.now.0.now.expr) (E.post self.now.0.now.expr)
-            (P.pre self.now.0.now.pat) (P.post self.now.0.now.pat) (S.pre self.now.0.now.stmt) (S.post self.now.0.now.stmt) }
+            (P.pre self.now.0.now.pat) (P.post self.now.0.now.pat) (S.pre self.now.0.now.stmt) (S.post self.now.0.now.stmt) (I.pre self.now.0.now.item) (I.post self.now.0.now.item) }
         requires within { IsWithin parts.now self.now.0.now.whole.now }
         ensures { IsMade (key_value span (parts_in self.now.0.now.source parts.now)) result }
     {
@@ -126,7 +128,7 @@ impl<
         n: usize,
     ) -> Result<Prop, DressError>
         requires ring { IsRing self.now.0.now.source self.now.0.now.whole.now (E.pre self.now.0.now.expr) (E.post self.now.0.now.expr)
-            (P.pre self.now.0.now.pat) (P.post self.now.0.now.pat) (S.pre self.now.0.now.stmt) (S.post self.now.0.now.stmt) }
+            (P.pre self.now.0.now.pat) (P.post self.now.0.now.pat) (S.pre self.now.0.now.stmt) (S.post self.now.0.now.stmt) (I.pre self.now.0.now.item) (I.post self.now.0.now.item) }
         requires within { IsWithin parts.now self.now.0.now.whole.now }
         requires place { n < 7 }
         ensures { IsMade (method_property self.now.0.now.source.tokens.now kind is_async is_generator span (parts_in self.now.0.now.source parts.now) n) result }
@@ -146,7 +148,7 @@ impl<
     #[tactic(auto, unfolding(es_dress::specs::Functions::accessor_property))]
     fn accessor_property(&self, span: Range, parts: &[Tree]) -> Result<Prop, DressError>
         requires ring { IsRing self.now.0.now.source self.now.0.now.whole.now (E.pre self.now.0.now.expr) (E.post self.now.0.now.expr)
-            (P.pre self.now.0.now.pat) (P.post self.now.0.now.pat) (S.pre self.now.0.now.stmt) (S.post self.now.0.now.stmt) }
+            (P.pre self.now.0.now.pat) (P.post self.now.0.now.pat) (S.pre self.now.0.now.stmt) (S.post self.now.0.now.stmt) (I.pre self.now.0.now.item) (I.post self.now.0.now.item) }
         requires within { IsWithin parts.now self.now.0.now.whole.now }
         ensures { IsMade (accessor_property self.now.0.now.source.tokens.now span (parts_in self.now.0.now.source parts.now)) result }
     {
@@ -158,7 +160,7 @@ impl<
     #[tactic(auto, unfolding(es_dress::specs::Dress::prop_of))]
     fn prop(&self, node: &Node<'_>) -> Result<Prop, DressError>
         requires ring { IsRing self.now.0.now.source self.now.0.now.whole.now (E.pre self.now.0.now.expr) (E.post self.now.0.now.expr)
-            (P.pre self.now.0.now.pat) (P.post self.now.0.now.pat) (S.pre self.now.0.now.stmt) (S.post self.now.0.now.stmt) }
+            (P.pre self.now.0.now.pat) (P.post self.now.0.now.pat) (S.pre self.now.0.now.stmt) (S.post self.now.0.now.stmt) (I.pre self.now.0.now.item) (I.post self.now.0.now.item) }
         requires within { IsWithin node.now.parts.now self.now.0.now.whole.now }
         ensures { IsMade (prop_of self.now.0.now.source.text.now self.now.0.now.source.tokens.now node.now.label node.now.span (parts_in self.now.0.now.source node.now.parts.now)) result }
     {
@@ -212,7 +214,7 @@ impl<
     #[tactic(auto, unfolding(es_dress::specs::Dress::build))]
     pub(crate) fn prop_at(&self, parts: &[Tree], n: usize) -> Result<Prop, DressError>
         requires ring { IsRing self.now.0.now.source self.now.0.now.whole.now (E.pre self.now.0.now.expr) (E.post self.now.0.now.expr)
-            (P.pre self.now.0.now.pat) (P.post self.now.0.now.pat) (S.pre self.now.0.now.stmt) (S.post self.now.0.now.stmt) }
+            (P.pre self.now.0.now.pat) (P.post self.now.0.now.pat) (S.pre self.now.0.now.stmt) (S.post self.now.0.now.stmt) (I.pre self.now.0.now.item) (I.post self.now.0.now.item) }
         requires within { IsWithin parts.now self.now.0.now.whole.now }
         ensures { IsMade (prop_at (parts_in self.now.0.now.source parts.now) n) result }
     {

@@ -8,25 +8,26 @@ ghost use Rattle.es_dress.specs.Functions.{word_key, str_key, number_key, comput
 ghost use Rattle.es_dress.specs.Dress.{key_of};
 
 use base::Boxed;
-use es_ast::{Expr, Lit, Pat, Stmt};
+use es_ast::{Expr, Lit, ModuleItem, Pat, Stmt};
 use es_dresser::{DressError, Dresser, Node, Source};
 use es_whole_grammar::Label;
 use es_whole_reader::Tree;
 
 /// What dresses keys.
 #[derive(Clone, Copy)]
-pub struct Keys<'d, 'a, E, P, S>(pub &'d Dresser<'a, E, P, S>);
+pub struct Keys<'d, 'a, E, P, S, I>(pub &'d Dresser<'a, E, P, S, I>);
 
 impl<
     E: Fn(Source<'_>, &Tree) -> Result<Expr, DressError>,
     P: Fn(Source<'_>, &Tree) -> Result<Pat, DressError>,
     S: Fn(Source<'_>, &Tree) -> Result<Stmt, DressError>,
-> Keys<'_, '_, E, P, S> {
+    I: Fn(Source<'_>, &Tree) -> Result<ModuleItem, DressError>,
+> Keys<'_, '_, E, P, S, I> {
     /// `a`
     #[tactic(auto, unfolding(es_dress::specs::Functions::word_key))]
     fn word_key(&self, parts: &[Tree]) -> Result<(bool, Boxed<Expr>), DressError>
         requires ring { IsRing self.now.0.now.source self.now.0.now.whole.now (E.pre self.now.0.now.expr) (E.post self.now.0.now.expr)
-            (P.pre self.now.0.now.pat) (P.post self.now.0.now.pat) (S.pre self.now.0.now.stmt) (S.post self.now.0.now.stmt) }
+            (P.pre self.now.0.now.pat) (P.post self.now.0.now.pat) (S.pre self.now.0.now.stmt) (S.post self.now.0.now.stmt) (I.pre self.now.0.now.item) (I.post self.now.0.now.item) }
         requires within { IsWithin parts.now self.now.0.now.whole.now }
         ensures { IsMade (word_key self.now.0.now.source.text.now self.now.0.now.source.tokens.now (parts_in self.now.0.now.source parts.now)) result }
     {
@@ -38,7 +39,7 @@ impl<
     #[tactic(auto, unfolding(es_dress::specs::Functions::str_key))]
     fn str_key(&self, parts: &[Tree]) -> Result<(bool, Boxed<Expr>), DressError>
         requires ring { IsRing self.now.0.now.source self.now.0.now.whole.now (E.pre self.now.0.now.expr) (E.post self.now.0.now.expr)
-            (P.pre self.now.0.now.pat) (P.post self.now.0.now.pat) (S.pre self.now.0.now.stmt) (S.post self.now.0.now.stmt) }
+            (P.pre self.now.0.now.pat) (P.post self.now.0.now.pat) (S.pre self.now.0.now.stmt) (S.post self.now.0.now.stmt) (I.pre self.now.0.now.item) (I.post self.now.0.now.item) }
         requires within { IsWithin parts.now self.now.0.now.whole.now }
         ensures { IsMade (str_key self.now.0.now.source.text.now self.now.0.now.source.tokens.now (parts_in self.now.0.now.source parts.now)) result }
     {
@@ -51,7 +52,7 @@ impl<
     #[tactic(auto, unfolding(es_dress::specs::Functions::number_key))]
     fn number_key(&self, parts: &[Tree]) -> Result<(bool, Boxed<Expr>), DressError>
         requires ring { IsRing self.now.0.now.source self.now.0.now.whole.now (E.pre self.now.0.now.expr) (E.post self.now.0.now.expr)
-            (P.pre self.now.0.now.pat) (P.post self.now.0.now.pat) (S.pre self.now.0.now.stmt) (S.post self.now.0.now.stmt) }
+            (P.pre self.now.0.now.pat) (P.post self.now.0.now.pat) (S.pre self.now.0.now.stmt) (S.post self.now.0.now.stmt) (I.pre self.now.0.now.item) (I.post self.now.0.now.item) }
         requires within { IsWithin parts.now self.now.0.now.whole.now }
         ensures { IsMade (number_key self.now.0.now.source.text.now self.now.0.now.source.tokens.now (parts_in self.now.0.now.source parts.now)) result }
     {
@@ -63,7 +64,7 @@ impl<
     #[tactic(auto, unfolding(es_dress::specs::Functions::computed_key))]
     fn computed_key(&self, parts: &[Tree]) -> Result<(bool, Boxed<Expr>), DressError>
         requires ring { IsRing self.now.0.now.source self.now.0.now.whole.now (E.pre self.now.0.now.expr) (E.post self.now.0.now.expr)
-            (P.pre self.now.0.now.pat) (P.post self.now.0.now.pat) (S.pre self.now.0.now.stmt) (S.post self.now.0.now.stmt) }
+            (P.pre self.now.0.now.pat) (P.post self.now.0.now.pat) (S.pre self.now.0.now.stmt) (S.post self.now.0.now.stmt) (I.pre self.now.0.now.item) (I.post self.now.0.now.item) }
         requires within { IsWithin parts.now self.now.0.now.whole.now }
         ensures { IsMade (computed_key (parts_in self.now.0.now.source parts.now)) result }
     {
@@ -75,7 +76,7 @@ impl<
     #[tactic(auto, unfolding(es_dress::specs::Functions::private_key))]
     fn private_key(&self, parts: &[Tree]) -> Result<(bool, Boxed<Expr>), DressError>
         requires ring { IsRing self.now.0.now.source self.now.0.now.whole.now (E.pre self.now.0.now.expr) (E.post self.now.0.now.expr)
-            (P.pre self.now.0.now.pat) (P.post self.now.0.now.pat) (S.pre self.now.0.now.stmt) (S.post self.now.0.now.stmt) }
+            (P.pre self.now.0.now.pat) (P.post self.now.0.now.pat) (S.pre self.now.0.now.stmt) (S.post self.now.0.now.stmt) (I.pre self.now.0.now.item) (I.post self.now.0.now.item) }
         requires within { IsWithin parts.now self.now.0.now.whole.now }
         ensures { IsMade (private_key self.now.0.now.source.text.now self.now.0.now.source.tokens.now (parts_in self.now.0.now.source parts.now)) result }
     {
@@ -88,7 +89,7 @@ impl<
     #[tactic(auto, unfolding(es_dress::specs::Dress::key_of))]
     fn key(&self, node: &Node<'_>) -> Result<(bool, Boxed<Expr>), DressError>
         requires ring { IsRing self.now.0.now.source self.now.0.now.whole.now (E.pre self.now.0.now.expr) (E.post self.now.0.now.expr)
-            (P.pre self.now.0.now.pat) (P.post self.now.0.now.pat) (S.pre self.now.0.now.stmt) (S.post self.now.0.now.stmt) }
+            (P.pre self.now.0.now.pat) (P.post self.now.0.now.pat) (S.pre self.now.0.now.stmt) (S.post self.now.0.now.stmt) (I.pre self.now.0.now.item) (I.post self.now.0.now.item) }
         requires within { IsWithin node.now.parts.now self.now.0.now.whole.now }
         ensures { IsMade (key_of self.now.0.now.source.text.now self.now.0.now.source.tokens.now node.now.label (parts_in self.now.0.now.source node.now.parts.now)) result }
     {
@@ -114,7 +115,7 @@ impl<
     #[tactic(auto, unfolding(es_dress::specs::Dress::build))]
     pub fn key_at(&self, parts: &[Tree], n: usize) -> Result<(bool, Boxed<Expr>), DressError>
         requires ring { IsRing self.now.0.now.source self.now.0.now.whole.now (E.pre self.now.0.now.expr) (E.post self.now.0.now.expr)
-            (P.pre self.now.0.now.pat) (P.post self.now.0.now.pat) (S.pre self.now.0.now.stmt) (S.post self.now.0.now.stmt) }
+            (P.pre self.now.0.now.pat) (P.post self.now.0.now.pat) (S.pre self.now.0.now.stmt) (S.post self.now.0.now.stmt) (I.pre self.now.0.now.item) (I.post self.now.0.now.item) }
         requires within { IsWithin parts.now self.now.0.now.whole.now }
         ensures { IsMade (key_at (parts_in self.now.0.now.source parts.now) n) result }
     {

@@ -13,7 +13,7 @@ use crate::modules::Modules;
 use base::Range;
 use es_ast::{
     ExportSpecifier, Expr, ImportAttribute, ImportAttributes, ImportClause, ImportNames,
-    ImportSpecifier, ModuleExportName, Pat, Stmt,
+    ImportSpecifier, ModuleExportName, ModuleItem, Pat, Stmt,
 };
 use es_dresser::{DressError, Dresser, Node, Source, Turn, some, turns};
 use es_whole_grammar::Label;
@@ -30,7 +30,12 @@ impl Turn<ImportAttribute> for AttributeTurn {
         E: Fn(Source<'_>, &Tree) -> Result<Expr, DressError>,
         P: Fn(Source<'_>, &Tree) -> Result<Pat, DressError>,
         S: Fn(Source<'_>, &Tree) -> Result<Stmt, DressError>,
-    >(&self, dresser: &Dresser<'_, E, P, S>, turn: &[Tree]) -> Result<ImportAttribute, DressError> {
+        I: Fn(Source<'_>, &Tree) -> Result<ModuleItem, DressError>,
+    >(
+        &self,
+        dresser: &Dresser<'_, E, P, S, I>,
+        turn: &[Tree],
+    ) -> Result<ImportAttribute, DressError> {
         Modules(dresser).attribute(turn)
     }
 }
@@ -46,7 +51,12 @@ impl Turn<ImportSpecifier> for ImportSpecifierTurn {
         E: Fn(Source<'_>, &Tree) -> Result<Expr, DressError>,
         P: Fn(Source<'_>, &Tree) -> Result<Pat, DressError>,
         S: Fn(Source<'_>, &Tree) -> Result<Stmt, DressError>,
-    >(&self, dresser: &Dresser<'_, E, P, S>, turn: &[Tree]) -> Result<ImportSpecifier, DressError> {
+        I: Fn(Source<'_>, &Tree) -> Result<ModuleItem, DressError>,
+    >(
+        &self,
+        dresser: &Dresser<'_, E, P, S, I>,
+        turn: &[Tree],
+    ) -> Result<ImportSpecifier, DressError> {
         Modules(dresser).import_specifier_at(turn, 0)
     }
 }
@@ -62,7 +72,12 @@ impl Turn<ExportSpecifier> for ExportSpecifierTurn {
         E: Fn(Source<'_>, &Tree) -> Result<Expr, DressError>,
         P: Fn(Source<'_>, &Tree) -> Result<Pat, DressError>,
         S: Fn(Source<'_>, &Tree) -> Result<Stmt, DressError>,
-    >(&self, dresser: &Dresser<'_, E, P, S>, turn: &[Tree]) -> Result<ExportSpecifier, DressError> {
+        I: Fn(Source<'_>, &Tree) -> Result<ModuleItem, DressError>,
+    >(
+        &self,
+        dresser: &Dresser<'_, E, P, S, I>,
+        turn: &[Tree],
+    ) -> Result<ExportSpecifier, DressError> {
         Modules(dresser).export_specifier_at(turn, 0)
     }
 }
@@ -71,11 +86,12 @@ impl<
     E: Fn(Source<'_>, &Tree) -> Result<Expr, DressError>,
     P: Fn(Source<'_>, &Tree) -> Result<Pat, DressError>,
     S: Fn(Source<'_>, &Tree) -> Result<Stmt, DressError>,
-> Modules<'_, '_, E, P, S> {
+    I: Fn(Source<'_>, &Tree) -> Result<ModuleItem, DressError>,
+> Modules<'_, '_, E, P, S, I> {
     /// `a: "b"`
     fn attribute(&self, parts: &[Tree]) -> Result<ImportAttribute, DressError>
         requires ring { IsRing self.now.0.now.source self.now.0.now.whole.now (E.pre self.now.0.now.expr) (E.post self.now.0.now.expr)
-            (P.pre self.now.0.now.pat) (P.post self.now.0.now.pat) (S.pre self.now.0.now.stmt) (S.post self.now.0.now.stmt) }
+            (P.pre self.now.0.now.pat) (P.post self.now.0.now.pat) (S.pre self.now.0.now.stmt) (S.post self.now.0.now.stmt) (I.pre self.now.0.now.item) (I.post self.now.0.now.item) }
         requires within { IsWithin parts.now self.now.0.now.whole.now }
         ensures { IsMade (attribute self.now.0.now.source.text.now self.now.0.now.source.tokens.now (parts_in self.now.0.now.source parts.now)) result }
     {
@@ -90,7 +106,7 @@ impl<
     #[tactic(auto, unfolding(es_dress::specs::Modules::attributes))]
     fn attributes(&self, span: Range, parts: &[Tree]) -> Result<ImportAttributes, DressError>
         requires ring { IsRing self.now.0.now.source self.now.0.now.whole.now (E.pre self.now.0.now.expr) (E.post self.now.0.now.expr)
-            (P.pre self.now.0.now.pat) (P.post self.now.0.now.pat) (S.pre self.now.0.now.stmt) (S.post self.now.0.now.stmt) }
+            (P.pre self.now.0.now.pat) (P.post self.now.0.now.pat) (S.pre self.now.0.now.stmt) (S.post self.now.0.now.stmt) (I.pre self.now.0.now.item) (I.post self.now.0.now.item) }
         requires within { IsWithin parts.now self.now.0.now.whole.now }
         ensures { IsMade (attributes self.now.0.now.source.text.now self.now.0.now.source.tokens.now span (parts_in self.now.0.now.source parts.now)) result }
     {
@@ -102,7 +118,7 @@ impl<
     #[tactic(auto, unfolding(es_dress::specs::Dress::build, es_dress::specs::Dress::attributes_of))]
     fn attributes_at(&self, parts: &[Tree], n: usize) -> Result<ImportAttributes, DressError>
         requires ring { IsRing self.now.0.now.source self.now.0.now.whole.now (E.pre self.now.0.now.expr) (E.post self.now.0.now.expr)
-            (P.pre self.now.0.now.pat) (P.post self.now.0.now.pat) (S.pre self.now.0.now.stmt) (S.post self.now.0.now.stmt) }
+            (P.pre self.now.0.now.pat) (P.post self.now.0.now.pat) (S.pre self.now.0.now.stmt) (S.post self.now.0.now.stmt) (I.pre self.now.0.now.item) (I.post self.now.0.now.item) }
         requires within { IsWithin parts.now self.now.0.now.whole.now }
         ensures { IsMade (attributes_at (parts_in self.now.0.now.source parts.now) n) result }
     {
@@ -119,7 +135,7 @@ impl<
         group: &[Tree],
     ) -> Result<Option<ImportAttributes>, DressError>
         requires ring { IsRing self.now.0.now.source self.now.0.now.whole.now (E.pre self.now.0.now.expr) (E.post self.now.0.now.expr)
-            (P.pre self.now.0.now.pat) (P.post self.now.0.now.pat) (S.pre self.now.0.now.stmt) (S.post self.now.0.now.stmt) }
+            (P.pre self.now.0.now.pat) (P.post self.now.0.now.pat) (S.pre self.now.0.now.stmt) (S.post self.now.0.now.stmt) (I.pre self.now.0.now.item) (I.post self.now.0.now.item) }
         requires within { IsWithin group.now self.now.0.now.whole.now }
         ensures { IsMade (optional attributes_at (parts_in self.now.0.now.source group.now)) result }
     {
@@ -135,7 +151,7 @@ impl<
         parts: &[Tree],
     ) -> Result<Option<ModuleExportName>, DressError>
         requires ring { IsRing self.now.0.now.source self.now.0.now.whole.now (E.pre self.now.0.now.expr) (E.post self.now.0.now.expr)
-            (P.pre self.now.0.now.pat) (P.post self.now.0.now.pat) (S.pre self.now.0.now.stmt) (S.post self.now.0.now.stmt) }
+            (P.pre self.now.0.now.pat) (P.post self.now.0.now.pat) (S.pre self.now.0.now.stmt) (S.post self.now.0.now.stmt) (I.pre self.now.0.now.item) (I.post self.now.0.now.item) }
         requires within { IsWithin parts.now self.now.0.now.whole.now }
         ensures { IsMade (optional (λ g n. name_at self.now.0.now.source.text.now self.now.0.now.source.tokens.now (group g n) 0) (parts_in self.now.0.now.source parts.now)) result }
     {
@@ -149,7 +165,7 @@ impl<
     #[tactic(auto, unfolding(es_dress::specs::Modules::namespace))]
     fn namespace(&self, span: Range, parts: &[Tree]) -> Result<ImportNames, DressError>
         requires ring { IsRing self.now.0.now.source self.now.0.now.whole.now (E.pre self.now.0.now.expr) (E.post self.now.0.now.expr)
-            (P.pre self.now.0.now.pat) (P.post self.now.0.now.pat) (S.pre self.now.0.now.stmt) (S.post self.now.0.now.stmt) }
+            (P.pre self.now.0.now.pat) (P.post self.now.0.now.pat) (S.pre self.now.0.now.stmt) (S.post self.now.0.now.stmt) (I.pre self.now.0.now.item) (I.post self.now.0.now.item) }
         requires within { IsWithin parts.now self.now.0.now.whole.now }
         ensures { IsMade (namespace self.now.0.now.source.text.now self.now.0.now.source.tokens.now span (parts_in self.now.0.now.source parts.now)) result }
     {
@@ -161,7 +177,7 @@ impl<
     #[tactic(auto, unfolding(es_dress::specs::Modules::named_imports))]
     fn named_imports(&self, span: Range, parts: &[Tree]) -> Result<ImportNames, DressError>
         requires ring { IsRing self.now.0.now.source self.now.0.now.whole.now (E.pre self.now.0.now.expr) (E.post self.now.0.now.expr)
-            (P.pre self.now.0.now.pat) (P.post self.now.0.now.pat) (S.pre self.now.0.now.stmt) (S.post self.now.0.now.stmt) }
+            (P.pre self.now.0.now.pat) (P.post self.now.0.now.pat) (S.pre self.now.0.now.stmt) (S.post self.now.0.now.stmt) (I.pre self.now.0.now.item) (I.post self.now.0.now.item) }
         requires within { IsWithin parts.now self.now.0.now.whole.now }
         ensures { IsMade (named_imports span (parts_in self.now.0.now.source parts.now)) result }
     {
@@ -173,7 +189,7 @@ impl<
     #[tactic(auto, unfolding(es_dress::specs::Dress::names_of))]
     fn names(&self, node: &Node<'_>) -> Result<ImportNames, DressError>
         requires ring { IsRing self.now.0.now.source self.now.0.now.whole.now (E.pre self.now.0.now.expr) (E.post self.now.0.now.expr)
-            (P.pre self.now.0.now.pat) (P.post self.now.0.now.pat) (S.pre self.now.0.now.stmt) (S.post self.now.0.now.stmt) }
+            (P.pre self.now.0.now.pat) (P.post self.now.0.now.pat) (S.pre self.now.0.now.stmt) (S.post self.now.0.now.stmt) (I.pre self.now.0.now.item) (I.post self.now.0.now.item) }
         requires within { IsWithin node.now.parts.now self.now.0.now.whole.now }
         ensures { IsMade (names_of self.now.0.now.source.text.now self.now.0.now.source.tokens.now node.now.label node.now.span (parts_in self.now.0.now.source node.now.parts.now)) result }
     {
@@ -188,7 +204,7 @@ impl<
     #[tactic(auto, unfolding(es_dress::specs::Dress::build))]
     fn names_at(&self, parts: &[Tree], n: usize) -> Result<ImportNames, DressError>
         requires ring { IsRing self.now.0.now.source self.now.0.now.whole.now (E.pre self.now.0.now.expr) (E.post self.now.0.now.expr)
-            (P.pre self.now.0.now.pat) (P.post self.now.0.now.pat) (S.pre self.now.0.now.stmt) (S.post self.now.0.now.stmt) }
+            (P.pre self.now.0.now.pat) (P.post self.now.0.now.pat) (S.pre self.now.0.now.stmt) (S.post self.now.0.now.stmt) (I.pre self.now.0.now.item) (I.post self.now.0.now.item) }
         requires within { IsWithin parts.now self.now.0.now.whole.now }
         ensures { IsMade (names_at (parts_in self.now.0.now.source parts.now) n) result }
     {
@@ -200,7 +216,7 @@ impl<
     #[tactic(auto, unfolding(es_dress::specs::Modules::default_clause))]
     fn default_clause(&self, parts: &[Tree]) -> Result<ImportClause, DressError>
         requires ring { IsRing self.now.0.now.source self.now.0.now.whole.now (E.pre self.now.0.now.expr) (E.post self.now.0.now.expr)
-            (P.pre self.now.0.now.pat) (P.post self.now.0.now.pat) (S.pre self.now.0.now.stmt) (S.post self.now.0.now.stmt) }
+            (P.pre self.now.0.now.pat) (P.post self.now.0.now.pat) (S.pre self.now.0.now.stmt) (S.post self.now.0.now.stmt) (I.pre self.now.0.now.item) (I.post self.now.0.now.item) }
         requires within { IsWithin parts.now self.now.0.now.whole.now }
         ensures { IsMade (default_clause self.now.0.now.source.text.now self.now.0.now.source.tokens.now (parts_in self.now.0.now.source parts.now)) result }
     {
@@ -212,7 +228,7 @@ impl<
     #[tactic(auto, unfolding(es_dress::specs::Modules::default_and_clause))]
     fn default_and_clause(&self, span: Range, parts: &[Tree]) -> Result<ImportClause, DressError>
         requires ring { IsRing self.now.0.now.source self.now.0.now.whole.now (E.pre self.now.0.now.expr) (E.post self.now.0.now.expr)
-            (P.pre self.now.0.now.pat) (P.post self.now.0.now.pat) (S.pre self.now.0.now.stmt) (S.post self.now.0.now.stmt) }
+            (P.pre self.now.0.now.pat) (P.post self.now.0.now.pat) (S.pre self.now.0.now.stmt) (S.post self.now.0.now.stmt) (I.pre self.now.0.now.item) (I.post self.now.0.now.item) }
         requires within { IsWithin parts.now self.now.0.now.whole.now }
         ensures { IsMade (default_and_clause self.now.0.now.source.text.now self.now.0.now.source.tokens.now span (parts_in self.now.0.now.source parts.now)) result }
     {
@@ -229,7 +245,7 @@ impl<
     #[tactic(auto, unfolding(es_dress::specs::Dress::clause_of))]
     fn clause_by(&self, node: &Node<'_>) -> Result<ImportClause, DressError>
         requires ring { IsRing self.now.0.now.source self.now.0.now.whole.now (E.pre self.now.0.now.expr) (E.post self.now.0.now.expr)
-            (P.pre self.now.0.now.pat) (P.post self.now.0.now.pat) (S.pre self.now.0.now.stmt) (S.post self.now.0.now.stmt) }
+            (P.pre self.now.0.now.pat) (P.post self.now.0.now.pat) (S.pre self.now.0.now.stmt) (S.post self.now.0.now.stmt) (I.pre self.now.0.now.item) (I.post self.now.0.now.item) }
         requires within { IsWithin node.now.parts.now self.now.0.now.whole.now }
         ensures { IsMade (clause_of self.now.0.now.source.text.now self.now.0.now.source.tokens.now node.now.label node.now.span (parts_in self.now.0.now.source node.now.parts.now)) result }
     {
@@ -244,7 +260,7 @@ impl<
     #[tactic(auto, unfolding(es_dress::specs::Dress::build))]
     pub(crate) fn clause_at(&self, parts: &[Tree], n: usize) -> Result<ImportClause, DressError>
         requires ring { IsRing self.now.0.now.source self.now.0.now.whole.now (E.pre self.now.0.now.expr) (E.post self.now.0.now.expr)
-            (P.pre self.now.0.now.pat) (P.post self.now.0.now.pat) (S.pre self.now.0.now.stmt) (S.post self.now.0.now.stmt) }
+            (P.pre self.now.0.now.pat) (P.post self.now.0.now.pat) (S.pre self.now.0.now.stmt) (S.post self.now.0.now.stmt) (I.pre self.now.0.now.item) (I.post self.now.0.now.item) }
         requires within { IsWithin parts.now self.now.0.now.whole.now }
         ensures { IsMade (clause_at (parts_in self.now.0.now.source parts.now) n) result }
     {
@@ -256,7 +272,7 @@ impl<
     #[tactic(auto, unfolding(es_dress::specs::Modules::renamed_import))]
     fn renamed_import(&self, span: Range, parts: &[Tree]) -> Result<ImportSpecifier, DressError>
         requires ring { IsRing self.now.0.now.source self.now.0.now.whole.now (E.pre self.now.0.now.expr) (E.post self.now.0.now.expr)
-            (P.pre self.now.0.now.pat) (P.post self.now.0.now.pat) (S.pre self.now.0.now.stmt) (S.post self.now.0.now.stmt) }
+            (P.pre self.now.0.now.pat) (P.post self.now.0.now.pat) (S.pre self.now.0.now.stmt) (S.post self.now.0.now.stmt) (I.pre self.now.0.now.item) (I.post self.now.0.now.item) }
         requires within { IsWithin parts.now self.now.0.now.whole.now }
         ensures { IsMade (renamed_import self.now.0.now.source.text.now self.now.0.now.source.tokens.now span (parts_in self.now.0.now.source parts.now)) result }
     {
@@ -274,7 +290,7 @@ impl<
     #[tactic(auto, unfolding(es_dress::specs::Modules::imported_name))]
     fn imported_name(&self, span: Range, parts: &[Tree]) -> Result<ImportSpecifier, DressError>
         requires ring { IsRing self.now.0.now.source self.now.0.now.whole.now (E.pre self.now.0.now.expr) (E.post self.now.0.now.expr)
-            (P.pre self.now.0.now.pat) (P.post self.now.0.now.pat) (S.pre self.now.0.now.stmt) (S.post self.now.0.now.stmt) }
+            (P.pre self.now.0.now.pat) (P.post self.now.0.now.pat) (S.pre self.now.0.now.stmt) (S.post self.now.0.now.stmt) (I.pre self.now.0.now.item) (I.post self.now.0.now.item) }
         requires within { IsWithin parts.now self.now.0.now.whole.now }
         ensures { IsMade (imported_name self.now.0.now.source.text.now self.now.0.now.source.tokens.now span (parts_in self.now.0.now.source parts.now)) result }
     {
@@ -291,7 +307,7 @@ impl<
     #[tactic(auto, unfolding(es_dress::specs::Dress::build, es_dress::specs::Dress::import_specifier_of))]
     fn import_specifier_at(&self, parts: &[Tree], n: usize) -> Result<ImportSpecifier, DressError>
         requires ring { IsRing self.now.0.now.source self.now.0.now.whole.now (E.pre self.now.0.now.expr) (E.post self.now.0.now.expr)
-            (P.pre self.now.0.now.pat) (P.post self.now.0.now.pat) (S.pre self.now.0.now.stmt) (S.post self.now.0.now.stmt) }
+            (P.pre self.now.0.now.pat) (P.post self.now.0.now.pat) (S.pre self.now.0.now.stmt) (S.post self.now.0.now.stmt) (I.pre self.now.0.now.item) (I.post self.now.0.now.item) }
         requires within { IsWithin parts.now self.now.0.now.whole.now }
         ensures { IsMade (import_specifier_at (parts_in self.now.0.now.source parts.now) n) result }
     {
@@ -309,7 +325,7 @@ impl<
     #[tactic(auto, unfolding(es_dress::specs::Modules::exported_name))]
     fn exported_name(&self, span: Range, parts: &[Tree]) -> Result<ExportSpecifier, DressError>
         requires ring { IsRing self.now.0.now.source self.now.0.now.whole.now (E.pre self.now.0.now.expr) (E.post self.now.0.now.expr)
-            (P.pre self.now.0.now.pat) (P.post self.now.0.now.pat) (S.pre self.now.0.now.stmt) (S.post self.now.0.now.stmt) }
+            (P.pre self.now.0.now.pat) (P.post self.now.0.now.pat) (S.pre self.now.0.now.stmt) (S.post self.now.0.now.stmt) (I.pre self.now.0.now.item) (I.post self.now.0.now.item) }
         requires within { IsWithin parts.now self.now.0.now.whole.now }
         ensures { IsMade (exported_name self.now.0.now.source.text.now self.now.0.now.source.tokens.now span (parts_in self.now.0.now.source parts.now)) result }
     {
@@ -327,7 +343,7 @@ impl<
     #[tactic(auto, unfolding(es_dress::specs::Dress::build, es_dress::specs::Dress::export_specifier_of))]
     fn export_specifier_at(&self, parts: &[Tree], n: usize) -> Result<ExportSpecifier, DressError>
         requires ring { IsRing self.now.0.now.source self.now.0.now.whole.now (E.pre self.now.0.now.expr) (E.post self.now.0.now.expr)
-            (P.pre self.now.0.now.pat) (P.post self.now.0.now.pat) (S.pre self.now.0.now.stmt) (S.post self.now.0.now.stmt) }
+            (P.pre self.now.0.now.pat) (P.post self.now.0.now.pat) (S.pre self.now.0.now.stmt) (S.post self.now.0.now.stmt) (I.pre self.now.0.now.item) (I.post self.now.0.now.item) }
         requires within { IsWithin parts.now self.now.0.now.whole.now }
         ensures { IsMade (export_specifier_at (parts_in self.now.0.now.source parts.now) n) result }
     {

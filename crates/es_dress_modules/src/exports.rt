@@ -6,12 +6,13 @@ ghost use Rattle.es_dresser.specs.Ring.{IsMade, IsRing, parts_in};
 ghost use Rattle.es_dress.specs.Value.{optional, is_there, group};
 ghost use Rattle.es_dress.specs.Texts.{name_at};
 ghost use Rattle.es_dress.specs.Modules.{export_all, source_with, with_of, export_names, export_namespace, export_default_decl, export_default_expression, export_declaration};
+ghost use Rattle.es_dress.specs.TypedStatements.{export_assignment};
 
 use crate::bindings::ExportSpecifierTurn;
 use crate::modules::Modules;
 use base::Range;
 use es_ast::{
-    ExportAll, Expr, ImportAttributes, ModuleDecl, NamedExport, Pat, Stmt, Str,
+    ExportAll, Expr, ImportAttributes, ModuleDecl, ModuleItem, NamedExport, Pat, Stmt, Str,
     TsNamespaceExportDecl,
 };
 use es_dress_declarations::Declarations;
@@ -35,12 +36,13 @@ impl<
     E: Fn(Source<'_>, &Tree) -> Result<Expr, DressError>,
     P: Fn(Source<'_>, &Tree) -> Result<Pat, DressError>,
     S: Fn(Source<'_>, &Tree) -> Result<Stmt, DressError>,
-> Modules<'_, '_, E, P, S> {
+    I: Fn(Source<'_>, &Tree) -> Result<ModuleItem, DressError>,
+> Modules<'_, '_, E, P, S, I> {
     /// `export * as a from "b"`
     #[tactic(auto, unfolding(es_dress::specs::Modules::export_all))]
     pub(crate) fn export_all(&self, span: Range, parts: &[Tree]) -> Result<ModuleDecl, DressError>
         requires ring { IsRing self.now.0.now.source self.now.0.now.whole.now (E.pre self.now.0.now.expr) (E.post self.now.0.now.expr)
-            (P.pre self.now.0.now.pat) (P.post self.now.0.now.pat) (S.pre self.now.0.now.stmt) (S.post self.now.0.now.stmt) }
+            (P.pre self.now.0.now.pat) (P.post self.now.0.now.pat) (S.pre self.now.0.now.stmt) (S.post self.now.0.now.stmt) (I.pre self.now.0.now.item) (I.post self.now.0.now.item) }
         requires within { IsWithin parts.now self.now.0.now.whole.now }
         ensures { IsMade (export_all self.now.0.now.source.text.now self.now.0.now.source.tokens.now span (parts_in self.now.0.now.source parts.now)) result }
     {
@@ -59,7 +61,7 @@ impl<
     /// What stands behind `from`.
     fn source_with(&self, group: &[Tree]) -> Result<(Str, Option<ImportAttributes>), DressError>
         requires ring { IsRing self.now.0.now.source self.now.0.now.whole.now (E.pre self.now.0.now.expr) (E.post self.now.0.now.expr)
-            (P.pre self.now.0.now.pat) (P.post self.now.0.now.pat) (S.pre self.now.0.now.stmt) (S.post self.now.0.now.stmt) }
+            (P.pre self.now.0.now.pat) (P.post self.now.0.now.pat) (S.pre self.now.0.now.stmt) (S.post self.now.0.now.stmt) (I.pre self.now.0.now.item) (I.post self.now.0.now.item) }
         requires within { IsWithin group.now self.now.0.now.whole.now }
         ensures { IsMade (source_with self.now.0.now.source.text.now self.now.0.now.source.tokens.now (parts_in self.now.0.now.source group.now) 0) result }
     {
@@ -74,7 +76,7 @@ impl<
         group: &[Tree],
     ) -> Result<Option<(Str, Option<ImportAttributes>)>, DressError>
         requires ring { IsRing self.now.0.now.source self.now.0.now.whole.now (E.pre self.now.0.now.expr) (E.post self.now.0.now.expr)
-            (P.pre self.now.0.now.pat) (P.post self.now.0.now.pat) (S.pre self.now.0.now.stmt) (S.post self.now.0.now.stmt) }
+            (P.pre self.now.0.now.pat) (P.post self.now.0.now.pat) (S.pre self.now.0.now.stmt) (S.post self.now.0.now.stmt) (I.pre self.now.0.now.item) (I.post self.now.0.now.item) }
         requires within { IsWithin group.now self.now.0.now.whole.now }
         ensures { IsMade (optional (source_with self.now.0.now.source.text.now self.now.0.now.source.tokens.now) (parts_in self.now.0.now.source group.now)) result }
     {
@@ -88,7 +90,7 @@ impl<
     #[tactic(auto, unfolding(es_dress::specs::Modules::export_names))]
     pub(crate) fn export_names(&self, span: Range, parts: &[Tree]) -> Result<ModuleDecl, DressError>
         requires ring { IsRing self.now.0.now.source self.now.0.now.whole.now (E.pre self.now.0.now.expr) (E.post self.now.0.now.expr)
-            (P.pre self.now.0.now.pat) (P.post self.now.0.now.pat) (S.pre self.now.0.now.stmt) (S.post self.now.0.now.stmt) }
+            (P.pre self.now.0.now.pat) (P.post self.now.0.now.pat) (S.pre self.now.0.now.stmt) (S.post self.now.0.now.stmt) (I.pre self.now.0.now.item) (I.post self.now.0.now.item) }
         requires within { IsWithin parts.now self.now.0.now.whole.now }
         ensures { IsMade (export_names self.now.0.now.source.text.now self.now.0.now.source.tokens.now span (parts_in self.now.0.now.source parts.now)) result }
     {
@@ -111,7 +113,7 @@ impl<
         parts: &[Tree],
     ) -> Result<ModuleDecl, DressError>
         requires ring { IsRing self.now.0.now.source self.now.0.now.whole.now (E.pre self.now.0.now.expr) (E.post self.now.0.now.expr)
-            (P.pre self.now.0.now.pat) (P.post self.now.0.now.pat) (S.pre self.now.0.now.stmt) (S.post self.now.0.now.stmt) }
+            (P.pre self.now.0.now.pat) (P.post self.now.0.now.pat) (S.pre self.now.0.now.stmt) (S.post self.now.0.now.stmt) (I.pre self.now.0.now.item) (I.post self.now.0.now.item) }
         requires within { IsWithin parts.now self.now.0.now.whole.now }
         ensures { IsMade (export_namespace self.now.0.now.source.text.now self.now.0.now.source.tokens.now span (parts_in self.now.0.now.source parts.now)) result }
     {
@@ -127,7 +129,7 @@ impl<
         parts: &[Tree],
     ) -> Result<ModuleDecl, DressError>
         requires ring { IsRing self.now.0.now.source self.now.0.now.whole.now (E.pre self.now.0.now.expr) (E.post self.now.0.now.expr)
-            (P.pre self.now.0.now.pat) (P.post self.now.0.now.pat) (S.pre self.now.0.now.stmt) (S.post self.now.0.now.stmt) }
+            (P.pre self.now.0.now.pat) (P.post self.now.0.now.pat) (S.pre self.now.0.now.stmt) (S.post self.now.0.now.stmt) (I.pre self.now.0.now.item) (I.post self.now.0.now.item) }
         requires within { IsWithin parts.now self.now.0.now.whole.now }
         ensures { IsMade (export_default_decl span (parts_in self.now.0.now.source parts.now)) result }
     {
@@ -143,12 +145,28 @@ impl<
         parts: &[Tree],
     ) -> Result<ModuleDecl, DressError>
         requires ring { IsRing self.now.0.now.source self.now.0.now.whole.now (E.pre self.now.0.now.expr) (E.post self.now.0.now.expr)
-            (P.pre self.now.0.now.pat) (P.post self.now.0.now.pat) (S.pre self.now.0.now.stmt) (S.post self.now.0.now.stmt) }
+            (P.pre self.now.0.now.pat) (P.post self.now.0.now.pat) (S.pre self.now.0.now.stmt) (S.post self.now.0.now.stmt) (I.pre self.now.0.now.item) (I.post self.now.0.now.item) }
         requires within { IsWithin parts.now self.now.0.now.whole.now }
         ensures { IsMade (export_default_expression span (parts_in self.now.0.now.source parts.now)) result }
     {
         let expr = self.0.boxed_expr_at(parts, 0)?;
         Ok(ModuleDecl::ExportDefaultExpr { expr, span })
+    }
+
+    /// `export = a;`
+    #[tactic(auto, unfolding(es_dress::specs::TypedStatements::export_assignment))]
+    pub(crate) fn export_assignment(
+        &self,
+        span: Range,
+        parts: &[Tree],
+    ) -> Result<ModuleDecl, DressError>
+        requires ring { IsRing self.now.0.now.source self.now.0.now.whole.now (E.pre self.now.0.now.expr) (E.post self.now.0.now.expr)
+            (P.pre self.now.0.now.pat) (P.post self.now.0.now.pat) (S.pre self.now.0.now.stmt) (S.post self.now.0.now.stmt) (I.pre self.now.0.now.item) (I.post self.now.0.now.item) }
+        requires within { IsWithin parts.now self.now.0.now.whole.now }
+        ensures { IsMade (export_assignment span (parts_in self.now.0.now.source parts.now)) result }
+    {
+        let expr = self.0.boxed_expr_at(parts, 0)?;
+        Ok(ModuleDecl::TsExportAssignment { expr, span })
     }
 
     /// `export const a = 1`
@@ -159,7 +177,7 @@ impl<
         parts: &[Tree],
     ) -> Result<ModuleDecl, DressError>
         requires ring { IsRing self.now.0.now.source self.now.0.now.whole.now (E.pre self.now.0.now.expr) (E.post self.now.0.now.expr)
-            (P.pre self.now.0.now.pat) (P.post self.now.0.now.pat) (S.pre self.now.0.now.stmt) (S.post self.now.0.now.stmt) }
+            (P.pre self.now.0.now.pat) (P.post self.now.0.now.pat) (S.pre self.now.0.now.stmt) (S.post self.now.0.now.stmt) (I.pre self.now.0.now.item) (I.post self.now.0.now.item) }
         requires within { IsWithin parts.now self.now.0.now.whole.now }
         ensures { IsMade (export_declaration span (parts_in self.now.0.now.source parts.now)) result }
     {

@@ -11,14 +11,14 @@ ghost use Rattle.es_dress.specs.Dress.{entity_of};
 use crate::modules::Modules;
 use base::Range;
 use es_ast::{
-    Expr, Ident, ImportDecl, ModuleDecl, Pat, Stmt, TsEntityName, TsImportEqualsDecl, TsModuleRef,
-    TsThisTypeOrIdent,
+    Expr, Ident, ImportDecl, ModuleDecl, ModuleItem, Pat, Stmt, TsEntityName, TsImportEqualsDecl,
+    TsModuleRef, TsThisTypeOrIdent,
 };
 use es_dress_statements::{Statements, between, next};
 use es_dresser::{DressError, Dresser, Source, Turn, turns};
+use es_token::TokenKind;
 use es_whole_grammar::Label;
 use es_whole_reader::Tree;
-use es_token::TokenKind;
 
 /// `import a =` with what it names.
 fn equals_of(
@@ -57,7 +57,8 @@ impl Turn<Ident> for NameTurn {
         E: Fn(Source<'_>, &Tree) -> Result<Expr, DressError>,
         P: Fn(Source<'_>, &Tree) -> Result<Pat, DressError>,
         S: Fn(Source<'_>, &Tree) -> Result<Stmt, DressError>,
-    >(&self, dresser: &Dresser<'_, E, P, S>, turn: &[Tree]) -> Result<Ident, DressError> {
+        I: Fn(Source<'_>, &Tree) -> Result<ModuleItem, DressError>,
+    >(&self, dresser: &Dresser<'_, E, P, S, I>, turn: &[Tree]) -> Result<Ident, DressError> {
         dresser.ident_at(turn, 0)
     }
 }
@@ -66,12 +67,13 @@ impl<
     E: Fn(Source<'_>, &Tree) -> Result<Expr, DressError>,
     P: Fn(Source<'_>, &Tree) -> Result<Pat, DressError>,
     S: Fn(Source<'_>, &Tree) -> Result<Stmt, DressError>,
-> Modules<'_, '_, E, P, S> {
+    I: Fn(Source<'_>, &Tree) -> Result<ModuleItem, DressError>,
+> Modules<'_, '_, E, P, S, I> {
     /// `import "a"`
     #[tactic(auto, unfolding(es_dress::specs::Modules::bare_import))]
     pub(crate) fn bare_import(&self, span: Range, parts: &[Tree]) -> Result<ModuleDecl, DressError>
         requires ring { IsRing self.now.0.now.source self.now.0.now.whole.now (E.pre self.now.0.now.expr) (E.post self.now.0.now.expr)
-            (P.pre self.now.0.now.pat) (P.post self.now.0.now.pat) (S.pre self.now.0.now.stmt) (S.post self.now.0.now.stmt) }
+            (P.pre self.now.0.now.pat) (P.post self.now.0.now.pat) (S.pre self.now.0.now.stmt) (S.post self.now.0.now.stmt) (I.pre self.now.0.now.item) (I.post self.now.0.now.item) }
         requires within { IsWithin parts.now self.now.0.now.whole.now }
         ensures { IsMade (bare_import self.now.0.now.source.text.now self.now.0.now.source.tokens.now span (parts_in self.now.0.now.source parts.now)) result }
     {
@@ -90,7 +92,7 @@ impl<
     #[tactic(auto, unfolding(es_dress::specs::Modules::from_import))]
     pub(crate) fn from_import(&self, span: Range, parts: &[Tree]) -> Result<ModuleDecl, DressError>
         requires ring { IsRing self.now.0.now.source self.now.0.now.whole.now (E.pre self.now.0.now.expr) (E.post self.now.0.now.expr)
-            (P.pre self.now.0.now.pat) (P.post self.now.0.now.pat) (S.pre self.now.0.now.stmt) (S.post self.now.0.now.stmt) }
+            (P.pre self.now.0.now.pat) (P.post self.now.0.now.pat) (S.pre self.now.0.now.stmt) (S.post self.now.0.now.stmt) (I.pre self.now.0.now.item) (I.post self.now.0.now.item) }
         requires within { IsWithin parts.now self.now.0.now.whole.now }
         ensures { IsMade (from_import self.now.0.now.source.text.now self.now.0.now.source.tokens.now span (parts_in self.now.0.now.source parts.now)) result }
     {
@@ -115,7 +117,7 @@ impl<
         parts: &[Tree],
     ) -> Result<ModuleDecl, DressError>
         requires ring { IsRing self.now.0.now.source self.now.0.now.whole.now (E.pre self.now.0.now.expr) (E.post self.now.0.now.expr)
-            (P.pre self.now.0.now.pat) (P.post self.now.0.now.pat) (S.pre self.now.0.now.stmt) (S.post self.now.0.now.stmt) }
+            (P.pre self.now.0.now.pat) (P.post self.now.0.now.pat) (S.pre self.now.0.now.stmt) (S.post self.now.0.now.stmt) (I.pre self.now.0.now.item) (I.post self.now.0.now.item) }
         requires within { IsWithin parts.now self.now.0.now.whole.now }
         ensures { IsMade (require_import self.now.0.now.source.text.now self.now.0.now.source.tokens.now is_export span (parts_in self.now.0.now.source parts.now)) result }
     {
@@ -141,7 +143,7 @@ impl<
         parts: &[Tree],
     ) -> Result<ModuleDecl, DressError>
         requires ring { IsRing self.now.0.now.source self.now.0.now.whole.now (E.pre self.now.0.now.expr) (E.post self.now.0.now.expr)
-            (P.pre self.now.0.now.pat) (P.post self.now.0.now.pat) (S.pre self.now.0.now.stmt) (S.post self.now.0.now.stmt) }
+            (P.pre self.now.0.now.pat) (P.post self.now.0.now.pat) (S.pre self.now.0.now.stmt) (S.post self.now.0.now.stmt) (I.pre self.now.0.now.item) (I.post self.now.0.now.item) }
         requires within { IsWithin parts.now self.now.0.now.whole.now }
         ensures { IsMade (entity_import self.now.0.now.source.text.now self.now.0.now.source.tokens.now is_export span (parts_in self.now.0.now.source parts.now)) result }
     {
@@ -161,7 +163,7 @@ impl<
     #[tactic(auto, unfolding(es_dress::specs::Texts::this_or_name_of))]
     fn this_or_name_at(&self, parts: &[Tree], n: usize) -> Result<TsThisTypeOrIdent, DressError>
         requires ring { IsRing self.now.0.now.source self.now.0.now.whole.now (E.pre self.now.0.now.expr) (E.post self.now.0.now.expr)
-            (P.pre self.now.0.now.pat) (P.post self.now.0.now.pat) (S.pre self.now.0.now.stmt) (S.post self.now.0.now.stmt) }
+            (P.pre self.now.0.now.pat) (P.post self.now.0.now.pat) (S.pre self.now.0.now.stmt) (S.post self.now.0.now.stmt) (I.pre self.now.0.now.item) (I.post self.now.0.now.item) }
         requires within { IsWithin parts.now self.now.0.now.whole.now }
         ensures { IsMade (this_or_name_at self.now.0.now.source.text.now self.now.0.now.source.tokens.now (parts_in self.now.0.now.source parts.now) n) result }
     {
@@ -177,7 +179,7 @@ impl<
     #[tactic(auto, unfolding(es_dress::specs::Modules::entity))]
     fn entity(&self, span: Range, parts: &[Tree]) -> Result<TsEntityName, DressError>
         requires ring { IsRing self.now.0.now.source self.now.0.now.whole.now (E.pre self.now.0.now.expr) (E.post self.now.0.now.expr)
-            (P.pre self.now.0.now.pat) (P.post self.now.0.now.pat) (S.pre self.now.0.now.stmt) (S.post self.now.0.now.stmt) }
+            (P.pre self.now.0.now.pat) (P.post self.now.0.now.pat) (S.pre self.now.0.now.stmt) (S.post self.now.0.now.stmt) (I.pre self.now.0.now.item) (I.post self.now.0.now.item) }
         requires within { IsWithin parts.now self.now.0.now.whole.now }
         ensures { IsMade (entity self.now.0.now.source.text.now self.now.0.now.source.tokens.now span (parts_in self.now.0.now.source parts.now)) result }
     {
@@ -190,12 +192,15 @@ impl<
     #[tactic(auto, unfolding(es_dress::specs::Dress::build, es_dress::specs::Dress::entity_of))]
     fn entity_at(&self, parts: &[Tree], n: usize) -> Result<TsEntityName, DressError>
         requires ring { IsRing self.now.0.now.source self.now.0.now.whole.now (E.pre self.now.0.now.expr) (E.post self.now.0.now.expr)
-            (P.pre self.now.0.now.pat) (P.post self.now.0.now.pat) (S.pre self.now.0.now.stmt) (S.post self.now.0.now.stmt) }
+            (P.pre self.now.0.now.pat) (P.post self.now.0.now.pat) (S.pre self.now.0.now.stmt) (S.post self.now.0.now.stmt) (I.pre self.now.0.now.item) (I.post self.now.0.now.item) }
         requires within { IsWithin parts.now self.now.0.now.whole.now }
         ensures { IsMade (entity_at (parts_in self.now.0.now.source parts.now) n) result }
     {
         let node = self.0.node_at(parts, n)?;
         if node.label == Label::Entity {
+            return self.entity(node.span, node.parts);
+        }
+        if node.label == Label::EntityOfType {
             return self.entity(node.span, node.parts);
         }
         Err(DressError::OtherForm)

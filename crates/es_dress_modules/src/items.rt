@@ -14,13 +14,14 @@ ghost use Rattle.es_dress.specs.Dress.{module_decl_of, item_by, stmt_of, program
 use crate::modules::Modules;
 use base::{Range, Text};
 use es_ast::{Expr, Module, ModuleDecl, ModuleItem, Pat, Program, Script, Stmt};
+use es_dress_declarations::{Declarations, ItemTurn};
 use es_dress_statements::StmtTurn;
-use es_dresser::{DressError, Dresser, Node, Source, Turn, boxed, shebang, some, turns};
+use es_dresser::{DressError, Node, Source, boxed, shebang, some, turns};
 use es_whole_grammar::Label;
 use es_whole_reader::Tree;
 
 /// Whether a node with this label is an import or an export.
-#[tactic(auto, unfolding(es_dress::specs::Dress::module_decl_of, es_dress::specs::Dress::stmt_of, es_dress::specs::Dress::decl_of))]
+#[tactic(auto, unfolding(es_dress::specs::Dress::module_decl_of, es_dress::specs::Dress::stmt_of, es_dress::specs::Dress::decl_of, es_dress::specs::Dress::declarable_of))]
 fn is_module_decl(label: Label) -> bool
     ensures no_decl { (x : List ℕ) (ts : List Tok) (r : Span) (p : Value) → result ≡ false → module_decl_of x ts label r p ≡ None }
     ensures no_stmt { (x : List ℕ) (ts : List Tok) (r : Span) (p : Value) → result ≡ true → stmt_of x ts label r p ≡ None }
@@ -39,23 +40,9 @@ fn is_module_decl(label: Label) -> bool
         Label::ExportDefaultClass => true,
         Label::ExportDefaultExpression => true,
         Label::ExportDeclaration => true,
+        Label::ExportDefaultInterface => true,
+        Label::ExportAssignment => true,
         _ => false,
-    }
-}
-
-/// A turn of items.
-#[derive(Clone, Copy)]
-pub struct ItemTurn;
-
-impl Turn<ModuleItem> for ItemTurn {
-    ghost value = { λ x ts turn. item_at turn 0 };
-
-    fn dress<
-        E: Fn(Source<'_>, &Tree) -> Result<Expr, DressError>,
-        P: Fn(Source<'_>, &Tree) -> Result<Pat, DressError>,
-        S: Fn(Source<'_>, &Tree) -> Result<Stmt, DressError>,
-    >(&self, dresser: &Dresser<'_, E, P, S>, turn: &[Tree]) -> Result<ModuleItem, DressError> {
-        Modules(dresser).item_at(turn, 0)
     }
 }
 
@@ -63,12 +50,13 @@ impl<
     E: Fn(Source<'_>, &Tree) -> Result<Expr, DressError>,
     P: Fn(Source<'_>, &Tree) -> Result<Pat, DressError>,
     S: Fn(Source<'_>, &Tree) -> Result<Stmt, DressError>,
-> Modules<'_, '_, E, P, S> {
+    I: Fn(Source<'_>, &Tree) -> Result<ModuleItem, DressError>,
+> Modules<'_, '_, E, P, S, I> {
     /// A node as an import or an export.
     #[tactic(auto, unfolding(es_dress::specs::Dress::module_decl_of))]
     pub fn module_decl(&self, node: &Node<'_>) -> Result<ModuleDecl, DressError>
         requires ring { IsRing self.now.0.now.source self.now.0.now.whole.now (E.pre self.now.0.now.expr) (E.post self.now.0.now.expr)
-            (P.pre self.now.0.now.pat) (P.post self.now.0.now.pat) (S.pre self.now.0.now.stmt) (S.post self.now.0.now.stmt) }
+            (P.pre self.now.0.now.pat) (P.post self.now.0.now.pat) (S.pre self.now.0.now.stmt) (S.post self.now.0.now.stmt) (I.pre self.now.0.now.item) (I.post self.now.0.now.item) }
         requires within { IsWithin node.now.parts.now self.now.0.now.whole.now }
         ensures { IsMade (module_decl_of self.now.0.now.source.text.now self.now.0.now.source.tokens.now node.now.label node.now.span (parts_in self.now.0.now.source node.now.parts.now)) result }
     {
@@ -87,31 +75,32 @@ impl<
             Label::ExportDefaultClass => self.export_default_decl(span, parts),
             Label::ExportDefaultExpression => self.export_default_expression(span, parts),
             Label::ExportDeclaration => self.export_declaration(span, parts),
+            Label::ExportDefaultInterface => self.export_default_decl(span, parts),
+            Label::ExportAssignment => self.export_assignment(span, parts),
             _ => Err(DressError::OtherForm),
         }
     }
 
-    /// A part that is an item of a module.
-    #[tactic(auto, unfolding(es_dress::specs::Dress::build))]
-    fn item_at(&self, parts: &[Tree], n: usize) -> Result<ModuleItem, DressError>
+    /// A node as an item: an import, an export or a statement.
+    pub fn item(&self, node: &Node<'_>) -> Result<ModuleItem, DressError>
         requires ring { IsRing self.now.0.now.source self.now.0.now.whole.now (E.pre self.now.0.now.expr) (E.post self.now.0.now.expr)
-            (P.pre self.now.0.now.pat) (P.post self.now.0.now.pat) (S.pre self.now.0.now.stmt) (S.post self.now.0.now.stmt) }
-        requires within { IsWithin parts.now self.now.0.now.whole.now }
-        ensures { IsMade (item_at (parts_in self.now.0.now.source parts.now) n) result }
+            (P.pre self.now.0.now.pat) (P.post self.now.0.now.pat) (S.pre self.now.0.now.stmt) (S.post self.now.0.now.stmt) (I.pre self.now.0.now.item) (I.post self.now.0.now.item) }
+        requires within { IsWithin node.now.parts.now self.now.0.now.whole.now }
+        ensures { IsMade (item_by (module_decl_of self.now.0.now.source.text.now self.now.0.now.source.tokens.now node.now.label node.now.span (parts_in self.now.0.now.source node.now.parts.now))
+            (stmt_of self.now.0.now.source.text.now self.now.0.now.source.tokens.now node.now.label node.now.span (parts_in self.now.0.now.source node.now.parts.now))) result }
     {
-        let node = self.0.node_at(parts, n)?;
         if is_module_decl(node.label) {
-            let decl = boxed(self.0.source.alloc, self.module_decl(&node))?;
+            let decl = boxed(self.0.source.alloc, self.module_decl(node))?;
             return Ok(ModuleItem::ModuleDecl(decl));
         }
-        let stmt = self.0.boxed_stmt_at(parts, n)?;
+        let stmt = boxed(self.0.source.alloc, Declarations(self.0).stmt(node))?;
         Ok(ModuleItem::Stmt(stmt))
     }
 
     /// The line behind `#!`.
     fn shebang_at(&self, parts: &[Tree], n: usize) -> Result<Text, DressError>
         requires ring { IsRing self.now.0.now.source self.now.0.now.whole.now (E.pre self.now.0.now.expr) (E.post self.now.0.now.expr)
-            (P.pre self.now.0.now.pat) (P.post self.now.0.now.pat) (S.pre self.now.0.now.stmt) (S.post self.now.0.now.stmt) }
+            (P.pre self.now.0.now.pat) (P.post self.now.0.now.pat) (S.pre self.now.0.now.stmt) (S.post self.now.0.now.stmt) (I.pre self.now.0.now.item) (I.post self.now.0.now.item) }
         requires within { IsWithin parts.now self.now.0.now.whole.now }
         ensures { IsMade (shebang_at self.now.0.now.source.text.now self.now.0.now.source.tokens.now (parts_in self.now.0.now.source parts.now) n) result }
     {
@@ -123,7 +112,7 @@ impl<
     /// The same, which may be absent, from the parts of its group.
     fn optional_shebang(&self, group: &[Tree]) -> Result<Option<Text>, DressError>
         requires ring { IsRing self.now.0.now.source self.now.0.now.whole.now (E.pre self.now.0.now.expr) (E.post self.now.0.now.expr)
-            (P.pre self.now.0.now.pat) (P.post self.now.0.now.pat) (S.pre self.now.0.now.stmt) (S.post self.now.0.now.stmt) }
+            (P.pre self.now.0.now.pat) (P.post self.now.0.now.pat) (S.pre self.now.0.now.stmt) (S.post self.now.0.now.stmt) (I.pre self.now.0.now.item) (I.post self.now.0.now.item) }
         requires within { IsWithin group.now self.now.0.now.whole.now }
         ensures { IsMade (optional (shebang_at self.now.0.now.source.text.now self.now.0.now.source.tokens.now) (parts_in self.now.0.now.source group.now)) result }
     {
@@ -137,7 +126,7 @@ impl<
     #[tactic(auto, unfolding(es_dress::specs::Modules::module_))]
     fn module_(&self, span: Range, parts: &[Tree]) -> Result<Program, DressError>
         requires ring { IsRing self.now.0.now.source self.now.0.now.whole.now (E.pre self.now.0.now.expr) (E.post self.now.0.now.expr)
-            (P.pre self.now.0.now.pat) (P.post self.now.0.now.pat) (S.pre self.now.0.now.stmt) (S.post self.now.0.now.stmt) }
+            (P.pre self.now.0.now.pat) (P.post self.now.0.now.pat) (S.pre self.now.0.now.stmt) (S.post self.now.0.now.stmt) (I.pre self.now.0.now.item) (I.post self.now.0.now.item) }
         requires within { IsWithin parts.now self.now.0.now.whole.now }
         ensures { IsMade (module_ self.now.0.now.source.text.now self.now.0.now.source.tokens.now span (parts_in self.now.0.now.source parts.now)) result }
     {
@@ -154,7 +143,7 @@ impl<
     #[tactic(auto, unfolding(es_dress::specs::Modules::script))]
     fn script(&self, span: Range, parts: &[Tree]) -> Result<Program, DressError>
         requires ring { IsRing self.now.0.now.source self.now.0.now.whole.now (E.pre self.now.0.now.expr) (E.post self.now.0.now.expr)
-            (P.pre self.now.0.now.pat) (P.post self.now.0.now.pat) (S.pre self.now.0.now.stmt) (S.post self.now.0.now.stmt) }
+            (P.pre self.now.0.now.pat) (P.post self.now.0.now.pat) (S.pre self.now.0.now.stmt) (S.post self.now.0.now.stmt) (I.pre self.now.0.now.item) (I.post self.now.0.now.item) }
         requires within { IsWithin parts.now self.now.0.now.whole.now }
         ensures { IsMade (script self.now.0.now.source.text.now self.now.0.now.source.tokens.now span (parts_in self.now.0.now.source parts.now)) result }
     {
@@ -171,7 +160,7 @@ impl<
     #[tactic(auto, unfolding(es_dress::specs::Dress::program_of))]
     pub fn program(&self, node: &Node<'_>) -> Result<Program, DressError>
         requires ring { IsRing self.now.0.now.source self.now.0.now.whole.now (E.pre self.now.0.now.expr) (E.post self.now.0.now.expr)
-            (P.pre self.now.0.now.pat) (P.post self.now.0.now.pat) (S.pre self.now.0.now.stmt) (S.post self.now.0.now.stmt) }
+            (P.pre self.now.0.now.pat) (P.post self.now.0.now.pat) (S.pre self.now.0.now.stmt) (S.post self.now.0.now.stmt) (I.pre self.now.0.now.item) (I.post self.now.0.now.item) }
         requires within { IsWithin node.now.parts.now self.now.0.now.whole.now }
         ensures { IsMade (program_of self.now.0.now.source.text.now self.now.0.now.source.tokens.now node.now.label node.now.span (parts_in self.now.0.now.source node.now.parts.now)) result }
     {

@@ -70,7 +70,7 @@ fn behind(source: &Source<'_>, tree: &Tree) -> Option<usize>
     }
 }
 
-impl<E, P, S> Statements<'_, '_, E, P, S> {
+impl<E, P, S, I> Statements<'_, '_, E, P, S, I> {
     /// The place behind a part.
     pub fn behind_at(&self, parts: &[Tree], n: usize) -> Option<usize>
         ensures { IsPlace self.now.0.now.source.tokens.now result (behind (part (parts_in self.now.0.now.source parts.now) n)) }

@@ -14,7 +14,7 @@ ghost use Rattle.es_dress_statements.specs.Heads.{head_in, target_in};
 use crate::statements::Statements;
 use crate::variables::using_kind;
 use base::Boxed;
-use es_ast::{Expr, Pat, Stmt, VarDeclKind};
+use es_ast::{Expr, ModuleItem, Pat, Stmt, VarDeclKind};
 use es_dresser::{DressError, Source, part};
 use es_whole_grammar::Label;
 use es_whole_reader::Tree;
@@ -23,12 +23,13 @@ impl<
     E: Fn(Source<'_>, &Tree) -> Result<Expr, DressError>,
     P: Fn(Source<'_>, &Tree) -> Result<Pat, DressError>,
     S: Fn(Source<'_>, &Tree) -> Result<Stmt, DressError>,
-> Statements<'_, '_, E, P, S> {
+    I: Fn(Source<'_>, &Tree) -> Result<ModuleItem, DressError>,
+> Statements<'_, '_, E, P, S, I> {
     /// `const a`
     #[tactic(auto, unfolding(es_dress::specs::Statements::variable_head))]
     fn variable_head(&self, parts: &[Tree]) -> Result<(Option<VarDeclKind>, Boxed<Pat>), DressError>
         requires ring { IsRing self.now.0.now.source self.now.0.now.whole.now (E.pre self.now.0.now.expr) (E.post self.now.0.now.expr)
-            (P.pre self.now.0.now.pat) (P.post self.now.0.now.pat) (S.pre self.now.0.now.stmt) (S.post self.now.0.now.stmt) }
+            (P.pre self.now.0.now.pat) (P.post self.now.0.now.pat) (S.pre self.now.0.now.stmt) (S.post self.now.0.now.stmt) (I.pre self.now.0.now.item) (I.post self.now.0.now.item) }
         requires within { IsWithin parts.now self.now.0.now.whole.now }
         ensures { IsMade (variable_head self.now.0.now.source.tokens.now (parts_in self.now.0.now.source parts.now)) result }
     {
@@ -41,7 +42,7 @@ impl<
     #[tactic(auto, unfolding(es_dress::specs::Statements::using_head, es_dress::specs::Texts::ident_of))]
     fn using_head(&self, parts: &[Tree]) -> Result<(Option<VarDeclKind>, Boxed<Pat>), DressError>
         requires ring { IsRing self.now.0.now.source self.now.0.now.whole.now (E.pre self.now.0.now.expr) (E.post self.now.0.now.expr)
-            (P.pre self.now.0.now.pat) (P.post self.now.0.now.pat) (S.pre self.now.0.now.stmt) (S.post self.now.0.now.stmt) }
+            (P.pre self.now.0.now.pat) (P.post self.now.0.now.pat) (S.pre self.now.0.now.stmt) (S.post self.now.0.now.stmt) (I.pre self.now.0.now.item) (I.post self.now.0.now.item) }
         requires within { IsWithin parts.now self.now.0.now.whole.now }
         ensures { IsMade (using_head self.now.0.now.source.text.now self.now.0.now.source.tokens.now (parts_in self.now.0.now.source parts.now)) result }
     {
@@ -59,7 +60,7 @@ impl<
     /// A pattern that is assigned to.
     fn target(&self, tree: &Tree) -> Result<(Option<VarDeclKind>, Boxed<Pat>), DressError>
         requires ring { IsRing self.now.0.now.source self.now.0.now.whole.now (E.pre self.now.0.now.expr) (E.post self.now.0.now.expr)
-            (P.pre self.now.0.now.pat) (P.post self.now.0.now.pat) (S.pre self.now.0.now.stmt) (S.post self.now.0.now.stmt) }
+            (P.pre self.now.0.now.pat) (P.post self.now.0.now.pat) (S.pre self.now.0.now.stmt) (S.post self.now.0.now.stmt) (I.pre self.now.0.now.item) (I.post self.now.0.now.item) }
         requires below { nodes tree.now < nodes self.now.0.now.whole.now }
         ensures { IsMade (target_in (value_of self.now.0.now.source.text.now self.now.0.now.source.tokens.now tree.now)) result }
     {
@@ -71,7 +72,7 @@ impl<
     #[tactic(auto, using(crate::proofs::HeadLemmas::head_leaf, crate::proofs::HeadLemmas::head_node, crate::proofs::HeadLemmas::pat_node, crate::proofs::HeadLemmas::head_role, crate::proofs::HeadLemmas::head_parts, es_dresser::proofs::PartLemmas::nodes_node), unfolding(es_dress::specs::Dress::head_of))]
     fn head(&self, tree: &Tree) -> Result<(Option<VarDeclKind>, Boxed<Pat>), DressError>
         requires ring { IsRing self.now.0.now.source self.now.0.now.whole.now (E.pre self.now.0.now.expr) (E.post self.now.0.now.expr)
-            (P.pre self.now.0.now.pat) (P.post self.now.0.now.pat) (S.pre self.now.0.now.stmt) (S.post self.now.0.now.stmt) }
+            (P.pre self.now.0.now.pat) (P.post self.now.0.now.pat) (S.pre self.now.0.now.stmt) (S.post self.now.0.now.stmt) (I.pre self.now.0.now.item) (I.post self.now.0.now.item) }
         requires below { nodes tree.now < nodes self.now.0.now.whole.now }
         ensures { IsMade (head_in (value_of self.now.0.now.source.text.now self.now.0.now.source.tokens.now tree.now)) result }
     {
@@ -106,7 +107,7 @@ impl<
         n: usize,
     ) -> Result<(Option<VarDeclKind>, Boxed<Pat>), DressError>
         requires ring { IsRing self.now.0.now.source self.now.0.now.whole.now (E.pre self.now.0.now.expr) (E.post self.now.0.now.expr)
-            (P.pre self.now.0.now.pat) (P.post self.now.0.now.pat) (S.pre self.now.0.now.stmt) (S.post self.now.0.now.stmt) }
+            (P.pre self.now.0.now.pat) (P.post self.now.0.now.pat) (S.pre self.now.0.now.stmt) (S.post self.now.0.now.stmt) (I.pre self.now.0.now.item) (I.post self.now.0.now.item) }
         requires within { IsWithin parts.now self.now.0.now.whole.now }
         ensures { IsMade (head_at (parts_in self.now.0.now.source parts.now) n) result }
     {

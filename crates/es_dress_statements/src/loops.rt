@@ -11,7 +11,7 @@ ghost use Rattle.es_dress.specs.Statements.{expression_at, start_of_for, for_, e
 
 use crate::statements::Statements;
 use base::{Boxed, Range};
-use es_ast::{Expr, Pat, Stmt, VarDeclKind};
+use es_ast::{Expr, ModuleItem, Pat, Stmt, VarDeclKind};
 use es_dresser::{DressError, Source, boxed, some};
 use es_token::TokenKind;
 use es_whole_reader::Tree;
@@ -60,11 +60,12 @@ impl<
     E: Fn(Source<'_>, &Tree) -> Result<Expr, DressError>,
     P: Fn(Source<'_>, &Tree) -> Result<Pat, DressError>,
     S: Fn(Source<'_>, &Tree) -> Result<Stmt, DressError>,
-> Statements<'_, '_, E, P, S> {
+    I: Fn(Source<'_>, &Tree) -> Result<ModuleItem, DressError>,
+> Statements<'_, '_, E, P, S, I> {
     /// An expression as a statement, with its own span.
     fn expression_at(&self, parts: &[Tree], n: usize) -> Result<Stmt, DressError>
         requires ring { IsRing self.now.0.now.source self.now.0.now.whole.now (E.pre self.now.0.now.expr) (E.post self.now.0.now.expr)
-            (P.pre self.now.0.now.pat) (P.post self.now.0.now.pat) (S.pre self.now.0.now.stmt) (S.post self.now.0.now.stmt) }
+            (P.pre self.now.0.now.pat) (P.post self.now.0.now.pat) (S.pre self.now.0.now.stmt) (S.post self.now.0.now.stmt) (I.pre self.now.0.now.item) (I.post self.now.0.now.item) }
         requires within { IsWithin parts.now self.now.0.now.whole.now }
         ensures { IsMade (expression_at self.now.0.now.source.tokens.now (parts_in self.now.0.now.source parts.now) n) result }
     {
@@ -76,7 +77,7 @@ impl<
     /// The same that may be absent, from the parts of its group.
     fn optional_expression(&self, group: &[Tree]) -> Result<Option<Boxed<Stmt>>, DressError>
         requires ring { IsRing self.now.0.now.source self.now.0.now.whole.now (E.pre self.now.0.now.expr) (E.post self.now.0.now.expr)
-            (P.pre self.now.0.now.pat) (P.post self.now.0.now.pat) (S.pre self.now.0.now.stmt) (S.post self.now.0.now.stmt) }
+            (P.pre self.now.0.now.pat) (P.post self.now.0.now.pat) (S.pre self.now.0.now.stmt) (S.post self.now.0.now.stmt) (I.pre self.now.0.now.item) (I.post self.now.0.now.item) }
         requires within { IsWithin group.now self.now.0.now.whole.now }
         ensures { IsMade (optional (expression_at self.now.0.now.source.tokens.now) (parts_in self.now.0.now.source group.now)) result }
     {
@@ -89,7 +90,7 @@ impl<
     /// The first part of a `for`: variables, `using`, or an expression.
     fn start_of_for(&self, parts: &[Tree]) -> Result<Option<Boxed<Stmt>>, DressError>
         requires ring { IsRing self.now.0.now.source self.now.0.now.whole.now (E.pre self.now.0.now.expr) (E.post self.now.0.now.expr)
-            (P.pre self.now.0.now.pat) (P.post self.now.0.now.pat) (S.pre self.now.0.now.stmt) (S.post self.now.0.now.stmt) }
+            (P.pre self.now.0.now.pat) (P.post self.now.0.now.pat) (S.pre self.now.0.now.stmt) (S.post self.now.0.now.stmt) (I.pre self.now.0.now.item) (I.post self.now.0.now.item) }
         requires within { IsWithin parts.now self.now.0.now.whole.now }
         ensures { IsMade (start_of_for self.now.0.now.source.tokens.now (parts_in self.now.0.now.source parts.now)) result }
     {
@@ -103,7 +104,7 @@ impl<
     #[tactic(auto, unfolding(es_dress::specs::Statements::for_))]
     pub fn for_(&self, span: Range, parts: &[Tree]) -> Result<Stmt, DressError>
         requires ring { IsRing self.now.0.now.source self.now.0.now.whole.now (E.pre self.now.0.now.expr) (E.post self.now.0.now.expr)
-            (P.pre self.now.0.now.pat) (P.post self.now.0.now.pat) (S.pre self.now.0.now.stmt) (S.post self.now.0.now.stmt) }
+            (P.pre self.now.0.now.pat) (P.post self.now.0.now.pat) (S.pre self.now.0.now.stmt) (S.post self.now.0.now.stmt) (I.pre self.now.0.now.item) (I.post self.now.0.now.item) }
         requires within { IsWithin parts.now self.now.0.now.whole.now }
         ensures { IsMade (for_ self.now.0.now.source.tokens.now span (parts_in self.now.0.now.source parts.now)) result }
     {
@@ -124,7 +125,7 @@ impl<
     #[tactic(auto, unfolding(es_dress::specs::Statements::for_each))]
     pub fn for_each(&self, span: Range, parts: &[Tree]) -> Result<Stmt, DressError>
         requires ring { IsRing self.now.0.now.source self.now.0.now.whole.now (E.pre self.now.0.now.expr) (E.post self.now.0.now.expr)
-            (P.pre self.now.0.now.pat) (P.post self.now.0.now.pat) (S.pre self.now.0.now.stmt) (S.post self.now.0.now.stmt) }
+            (P.pre self.now.0.now.pat) (P.post self.now.0.now.pat) (S.pre self.now.0.now.stmt) (S.post self.now.0.now.stmt) (I.pre self.now.0.now.item) (I.post self.now.0.now.item) }
         requires within { IsWithin parts.now self.now.0.now.whole.now }
         ensures { IsMade (for_each self.now.0.now.source.tokens.now span (parts_in self.now.0.now.source parts.now)) result }
     {
@@ -140,7 +141,7 @@ impl<
     #[tactic(auto, unfolding(es_dress::specs::Statements::for_await))]
     pub fn for_await(&self, span: Range, parts: &[Tree]) -> Result<Stmt, DressError>
         requires ring { IsRing self.now.0.now.source self.now.0.now.whole.now (E.pre self.now.0.now.expr) (E.post self.now.0.now.expr)
-            (P.pre self.now.0.now.pat) (P.post self.now.0.now.pat) (S.pre self.now.0.now.stmt) (S.post self.now.0.now.stmt) }
+            (P.pre self.now.0.now.pat) (P.post self.now.0.now.pat) (S.pre self.now.0.now.stmt) (S.post self.now.0.now.stmt) (I.pre self.now.0.now.item) (I.post self.now.0.now.item) }
         requires within { IsWithin parts.now self.now.0.now.whole.now }
         ensures { IsMade (for_await span (parts_in self.now.0.now.source parts.now)) result }
     {
@@ -161,7 +162,7 @@ impl<
     #[tactic(auto, unfolding(es_dress::specs::Statements::while_))]
     pub fn while_(&self, span: Range, parts: &[Tree]) -> Result<Stmt, DressError>
         requires ring { IsRing self.now.0.now.source self.now.0.now.whole.now (E.pre self.now.0.now.expr) (E.post self.now.0.now.expr)
-            (P.pre self.now.0.now.pat) (P.post self.now.0.now.pat) (S.pre self.now.0.now.stmt) (S.post self.now.0.now.stmt) }
+            (P.pre self.now.0.now.pat) (P.post self.now.0.now.pat) (S.pre self.now.0.now.stmt) (S.post self.now.0.now.stmt) (I.pre self.now.0.now.item) (I.post self.now.0.now.item) }
         requires within { IsWithin parts.now self.now.0.now.whole.now }
         ensures { IsMade (while_ span (parts_in self.now.0.now.source parts.now)) result }
     {
@@ -174,7 +175,7 @@ impl<
     #[tactic(auto, unfolding(es_dress::specs::Statements::do_))]
     pub fn do_(&self, span: Range, parts: &[Tree]) -> Result<Stmt, DressError>
         requires ring { IsRing self.now.0.now.source self.now.0.now.whole.now (E.pre self.now.0.now.expr) (E.post self.now.0.now.expr)
-            (P.pre self.now.0.now.pat) (P.post self.now.0.now.pat) (S.pre self.now.0.now.stmt) (S.post self.now.0.now.stmt) }
+            (P.pre self.now.0.now.pat) (P.post self.now.0.now.pat) (S.pre self.now.0.now.stmt) (S.post self.now.0.now.stmt) (I.pre self.now.0.now.item) (I.post self.now.0.now.item) }
         requires within { IsWithin parts.now self.now.0.now.whole.now }
         ensures { IsMade (do_ span (parts_in self.now.0.now.source parts.now)) result }
     {

@@ -9,7 +9,7 @@ ghost use Rattle.es_dress.specs.Statements.{block, expression_statement, labelle
 
 use crate::statements::Statements;
 use base::{Boxed, Items, Range};
-use es_ast::{Expr, Pat, Stmt};
+use es_ast::{Expr, ModuleItem, Pat, Stmt};
 use es_dresser::{DressError, Dresser, Source, Turn, some, turns};
 use es_whole_reader::Tree;
 
@@ -24,7 +24,8 @@ impl Turn<Stmt> for StmtTurn {
         E: Fn(Source<'_>, &Tree) -> Result<Expr, DressError>,
         P: Fn(Source<'_>, &Tree) -> Result<Pat, DressError>,
         S: Fn(Source<'_>, &Tree) -> Result<Stmt, DressError>,
-    >(&self, dresser: &Dresser<'_, E, P, S>, turn: &[Tree]) -> Result<Stmt, DressError> {
+        I: Fn(Source<'_>, &Tree) -> Result<ModuleItem, DressError>,
+    >(&self, dresser: &Dresser<'_, E, P, S, I>, turn: &[Tree]) -> Result<Stmt, DressError> {
         dresser.stmt_at(turn, 0)
     }
 }
@@ -33,12 +34,13 @@ impl<
     E: Fn(Source<'_>, &Tree) -> Result<Expr, DressError>,
     P: Fn(Source<'_>, &Tree) -> Result<Pat, DressError>,
     S: Fn(Source<'_>, &Tree) -> Result<Stmt, DressError>,
-> Statements<'_, '_, E, P, S> {
+    I: Fn(Source<'_>, &Tree) -> Result<ModuleItem, DressError>,
+> Statements<'_, '_, E, P, S, I> {
     /// The statements of a block.
     #[tactic(auto, unfolding(es_dress::specs::Statements::block))]
     pub fn block(&self, parts: &[Tree]) -> Result<Items<Stmt>, DressError>
         requires ring { IsRing self.now.0.now.source self.now.0.now.whole.now (E.pre self.now.0.now.expr) (E.post self.now.0.now.expr)
-            (P.pre self.now.0.now.pat) (P.post self.now.0.now.pat) (S.pre self.now.0.now.stmt) (S.post self.now.0.now.stmt) }
+            (P.pre self.now.0.now.pat) (P.post self.now.0.now.pat) (S.pre self.now.0.now.stmt) (S.post self.now.0.now.stmt) (I.pre self.now.0.now.item) (I.post self.now.0.now.item) }
         requires within { IsWithin parts.now self.now.0.now.whole.now }
         ensures { IsMade (block (parts_in self.now.0.now.source parts.now)) result }
     {
@@ -48,7 +50,7 @@ impl<
     /// `{ a; }`
     pub fn block_statement(&self, span: Range, parts: &[Tree]) -> Result<Stmt, DressError>
         requires ring { IsRing self.now.0.now.source self.now.0.now.whole.now (E.pre self.now.0.now.expr) (E.post self.now.0.now.expr)
-            (P.pre self.now.0.now.pat) (P.post self.now.0.now.pat) (S.pre self.now.0.now.stmt) (S.post self.now.0.now.stmt) }
+            (P.pre self.now.0.now.pat) (P.post self.now.0.now.pat) (S.pre self.now.0.now.stmt) (S.post self.now.0.now.stmt) (I.pre self.now.0.now.item) (I.post self.now.0.now.item) }
         requires within { IsWithin parts.now self.now.0.now.whole.now }
         ensures { IsMade (option_map (λ stmts. vStmt.Block stmts span) (block (parts_in self.now.0.now.source parts.now))) result }
     {
@@ -60,7 +62,7 @@ impl<
     #[tactic(auto, unfolding(es_dress::specs::Statements::expression_statement))]
     pub fn expression_statement(&self, span: Range, parts: &[Tree]) -> Result<Stmt, DressError>
         requires ring { IsRing self.now.0.now.source self.now.0.now.whole.now (E.pre self.now.0.now.expr) (E.post self.now.0.now.expr)
-            (P.pre self.now.0.now.pat) (P.post self.now.0.now.pat) (S.pre self.now.0.now.stmt) (S.post self.now.0.now.stmt) }
+            (P.pre self.now.0.now.pat) (P.post self.now.0.now.pat) (S.pre self.now.0.now.stmt) (S.post self.now.0.now.stmt) (I.pre self.now.0.now.item) (I.post self.now.0.now.item) }
         requires within { IsWithin parts.now self.now.0.now.whole.now }
         ensures { IsMade (expression_statement span (parts_in self.now.0.now.source parts.now)) result }
     {
@@ -72,7 +74,7 @@ impl<
     #[tactic(auto, unfolding(es_dress::specs::Statements::labelled))]
     pub fn labelled(&self, span: Range, parts: &[Tree]) -> Result<Stmt, DressError>
         requires ring { IsRing self.now.0.now.source self.now.0.now.whole.now (E.pre self.now.0.now.expr) (E.post self.now.0.now.expr)
-            (P.pre self.now.0.now.pat) (P.post self.now.0.now.pat) (S.pre self.now.0.now.stmt) (S.post self.now.0.now.stmt) }
+            (P.pre self.now.0.now.pat) (P.post self.now.0.now.pat) (S.pre self.now.0.now.stmt) (S.post self.now.0.now.stmt) (I.pre self.now.0.now.item) (I.post self.now.0.now.item) }
         requires within { IsWithin parts.now self.now.0.now.whole.now }
         ensures { IsMade (labelled self.now.0.now.source.text.now self.now.0.now.source.tokens.now span (parts_in self.now.0.now.source parts.now)) result }
     {
@@ -85,7 +87,7 @@ impl<
     #[tactic(auto, unfolding(es_dress::specs::Statements::if_))]
     pub fn if_(&self, span: Range, parts: &[Tree]) -> Result<Stmt, DressError>
         requires ring { IsRing self.now.0.now.source self.now.0.now.whole.now (E.pre self.now.0.now.expr) (E.post self.now.0.now.expr)
-            (P.pre self.now.0.now.pat) (P.post self.now.0.now.pat) (S.pre self.now.0.now.stmt) (S.post self.now.0.now.stmt) }
+            (P.pre self.now.0.now.pat) (P.post self.now.0.now.pat) (S.pre self.now.0.now.stmt) (S.post self.now.0.now.stmt) (I.pre self.now.0.now.item) (I.post self.now.0.now.item) }
         requires within { IsWithin parts.now self.now.0.now.whole.now }
         ensures { IsMade (if_ span (parts_in self.now.0.now.source parts.now)) result }
     {
@@ -104,7 +106,7 @@ impl<
     #[tactic(auto, unfolding(es_dress::specs::Statements::continue_))]
     pub fn continue_(&self, span: Range, parts: &[Tree]) -> Result<Stmt, DressError>
         requires ring { IsRing self.now.0.now.source self.now.0.now.whole.now (E.pre self.now.0.now.expr) (E.post self.now.0.now.expr)
-            (P.pre self.now.0.now.pat) (P.post self.now.0.now.pat) (S.pre self.now.0.now.stmt) (S.post self.now.0.now.stmt) }
+            (P.pre self.now.0.now.pat) (P.post self.now.0.now.pat) (S.pre self.now.0.now.stmt) (S.post self.now.0.now.stmt) (I.pre self.now.0.now.item) (I.post self.now.0.now.item) }
         requires within { IsWithin parts.now self.now.0.now.whole.now }
         ensures { IsMade (continue_ self.now.0.now.source.text.now self.now.0.now.source.tokens.now span (parts_in self.now.0.now.source parts.now)) result }
     {
@@ -116,7 +118,7 @@ impl<
     #[tactic(auto, unfolding(es_dress::specs::Statements::break_))]
     pub fn break_(&self, span: Range, parts: &[Tree]) -> Result<Stmt, DressError>
         requires ring { IsRing self.now.0.now.source self.now.0.now.whole.now (E.pre self.now.0.now.expr) (E.post self.now.0.now.expr)
-            (P.pre self.now.0.now.pat) (P.post self.now.0.now.pat) (S.pre self.now.0.now.stmt) (S.post self.now.0.now.stmt) }
+            (P.pre self.now.0.now.pat) (P.post self.now.0.now.pat) (S.pre self.now.0.now.stmt) (S.post self.now.0.now.stmt) (I.pre self.now.0.now.item) (I.post self.now.0.now.item) }
         requires within { IsWithin parts.now self.now.0.now.whole.now }
         ensures { IsMade (break_ self.now.0.now.source.text.now self.now.0.now.source.tokens.now span (parts_in self.now.0.now.source parts.now)) result }
     {
@@ -127,7 +129,7 @@ impl<
     /// What `return` gives, from the parts of its group: an expression and its end, or its end alone.
     fn returned(&self, group: &[Tree]) -> Result<Option<Boxed<Expr>>, DressError>
         requires ring { IsRing self.now.0.now.source self.now.0.now.whole.now (E.pre self.now.0.now.expr) (E.post self.now.0.now.expr)
-            (P.pre self.now.0.now.pat) (P.post self.now.0.now.pat) (S.pre self.now.0.now.stmt) (S.post self.now.0.now.stmt) }
+            (P.pre self.now.0.now.pat) (P.post self.now.0.now.pat) (S.pre self.now.0.now.stmt) (S.post self.now.0.now.stmt) (I.pre self.now.0.now.item) (I.post self.now.0.now.item) }
         requires within { IsWithin group.now self.now.0.now.whole.now }
         ensures { IsMade (returned (parts_in self.now.0.now.source group.now)) result }
     {
@@ -142,7 +144,7 @@ impl<
     #[tactic(auto, unfolding(es_dress::specs::Statements::return_))]
     pub fn return_(&self, span: Range, parts: &[Tree]) -> Result<Stmt, DressError>
         requires ring { IsRing self.now.0.now.source self.now.0.now.whole.now (E.pre self.now.0.now.expr) (E.post self.now.0.now.expr)
-            (P.pre self.now.0.now.pat) (P.post self.now.0.now.pat) (S.pre self.now.0.now.stmt) (S.post self.now.0.now.stmt) }
+            (P.pre self.now.0.now.pat) (P.post self.now.0.now.pat) (S.pre self.now.0.now.stmt) (S.post self.now.0.now.stmt) (I.pre self.now.0.now.item) (I.post self.now.0.now.item) }
         requires within { IsWithin parts.now self.now.0.now.whole.now }
         ensures { IsMade (return_ span (parts_in self.now.0.now.source parts.now)) result }
     {
@@ -154,7 +156,7 @@ impl<
     #[tactic(auto, unfolding(es_dress::specs::Statements::throw_))]
     pub fn throw_(&self, span: Range, parts: &[Tree]) -> Result<Stmt, DressError>
         requires ring { IsRing self.now.0.now.source self.now.0.now.whole.now (E.pre self.now.0.now.expr) (E.post self.now.0.now.expr)
-            (P.pre self.now.0.now.pat) (P.post self.now.0.now.pat) (S.pre self.now.0.now.stmt) (S.post self.now.0.now.stmt) }
+            (P.pre self.now.0.now.pat) (P.post self.now.0.now.pat) (S.pre self.now.0.now.stmt) (S.post self.now.0.now.stmt) (I.pre self.now.0.now.item) (I.post self.now.0.now.item) }
         requires within { IsWithin parts.now self.now.0.now.whole.now }
         ensures { IsMade (throw_ span (parts_in self.now.0.now.source parts.now)) result }
     {
@@ -166,7 +168,7 @@ impl<
     #[tactic(auto, unfolding(es_dress::specs::Statements::with_))]
     pub fn with_(&self, span: Range, parts: &[Tree]) -> Result<Stmt, DressError>
         requires ring { IsRing self.now.0.now.source self.now.0.now.whole.now (E.pre self.now.0.now.expr) (E.post self.now.0.now.expr)
-            (P.pre self.now.0.now.pat) (P.post self.now.0.now.pat) (S.pre self.now.0.now.stmt) (S.post self.now.0.now.stmt) }
+            (P.pre self.now.0.now.pat) (P.post self.now.0.now.pat) (S.pre self.now.0.now.stmt) (S.post self.now.0.now.stmt) (I.pre self.now.0.now.item) (I.post self.now.0.now.item) }
         requires within { IsWithin parts.now self.now.0.now.whole.now }
         ensures { IsMade (with_ span (parts_in self.now.0.now.source parts.now)) result }
     {

@@ -13,7 +13,7 @@ use crate::ends::{between, next};
 use crate::simple::StmtTurn;
 use crate::statements::Statements;
 use base::{Items, Range};
-use es_ast::{Expr, Pat, Stmt, SwitchCase};
+use es_ast::{Expr, ModuleItem, Pat, Stmt, SwitchCase};
 use es_dresser::{DressError, Source, group_in, turns};
 use es_whole_reader::Tree;
 
@@ -21,7 +21,8 @@ impl<
     E: Fn(Source<'_>, &Tree) -> Result<Expr, DressError>,
     P: Fn(Source<'_>, &Tree) -> Result<Pat, DressError>,
     S: Fn(Source<'_>, &Tree) -> Result<Stmt, DressError>,
-> Statements<'_, '_, E, P, S> {
+    I: Fn(Source<'_>, &Tree) -> Result<ModuleItem, DressError>,
+> Statements<'_, '_, E, P, S, I> {
     /// Where the statements of a clause begin: behind `case`, its test and `:`, or behind `default` and `:`.
     fn behind_colon(&self, at: Option<usize>, test: &[Tree]) -> Option<usize>
         ensures { (place : ℕ) → IsPlace self.now.0.now.source.tokens.now at place → IsPlace self.now.0.now.source.tokens.now result (behind_colon place (parts_in self.now.0.now.source test.now)) }
@@ -68,7 +69,7 @@ impl<
     /// A clause that begins here.
     fn clause(&self, at: Option<usize>, turn: &[Tree]) -> Result<SwitchCase, DressError>
         requires ring { IsRing self.now.0.now.source self.now.0.now.whole.now (E.pre self.now.0.now.expr) (E.post self.now.0.now.expr)
-            (P.pre self.now.0.now.pat) (P.post self.now.0.now.pat) (S.pre self.now.0.now.stmt) (S.post self.now.0.now.stmt) }
+            (P.pre self.now.0.now.pat) (P.post self.now.0.now.pat) (S.pre self.now.0.now.stmt) (S.post self.now.0.now.stmt) (I.pre self.now.0.now.item) (I.post self.now.0.now.item) }
         requires within { IsWithin turn.now self.now.0.now.whole.now }
         ensures { (place : ℕ) → IsPlace self.now.0.now.source.tokens.now at place → IsMade (clause_of self.now.0.now.source.tokens.now place (parts_in self.now.0.now.source turn.now)) result }
     {
@@ -81,7 +82,7 @@ impl<
     /// The clauses of a `switch`: behind its expression stand `)` and `{`.
     fn clauses(&self, parts: &[Tree]) -> Result<Items<SwitchCase>, DressError>
         requires ring { IsRing self.now.0.now.source self.now.0.now.whole.now (E.pre self.now.0.now.expr) (E.post self.now.0.now.expr)
-            (P.pre self.now.0.now.pat) (P.post self.now.0.now.pat) (S.pre self.now.0.now.stmt) (S.post self.now.0.now.stmt) }
+            (P.pre self.now.0.now.pat) (P.post self.now.0.now.pat) (S.pre self.now.0.now.stmt) (S.post self.now.0.now.stmt) (I.pre self.now.0.now.item) (I.post self.now.0.now.item) }
         requires within { IsWithin parts.now self.now.0.now.whole.now }
         ensures { IsMade (clauses self.now.0.now.source.tokens.now (behind (part (parts_in self.now.0.now.source parts.now) 0) + 2) (group (parts_in self.now.0.now.source parts.now) 1)) result }
     {
@@ -103,7 +104,7 @@ impl<
     #[tactic(auto, unfolding(es_dress::specs::Statements::switch_))]
     pub fn switch_(&self, span: Range, parts: &[Tree]) -> Result<Stmt, DressError>
         requires ring { IsRing self.now.0.now.source self.now.0.now.whole.now (E.pre self.now.0.now.expr) (E.post self.now.0.now.expr)
-            (P.pre self.now.0.now.pat) (P.post self.now.0.now.pat) (S.pre self.now.0.now.stmt) (S.post self.now.0.now.stmt) }
+            (P.pre self.now.0.now.pat) (P.post self.now.0.now.pat) (S.pre self.now.0.now.stmt) (S.post self.now.0.now.stmt) (I.pre self.now.0.now.item) (I.post self.now.0.now.item) }
         requires within { IsWithin parts.now self.now.0.now.whole.now }
         ensures { IsMade (switch_ self.now.0.now.source.tokens.now span (parts_in self.now.0.now.source parts.now)) result }
     {

@@ -9,7 +9,7 @@ ghost use Rattle.es_dress.specs.Statements.{handled, try_};
 
 use crate::statements::Statements;
 use base::{Boxed, Range};
-use es_ast::{Expr, Pat, Stmt};
+use es_ast::{Expr, ModuleItem, Pat, Stmt};
 use es_dresser::{DressError, Source};
 use es_whole_reader::Tree;
 
@@ -17,7 +17,8 @@ impl<
     E: Fn(Source<'_>, &Tree) -> Result<Expr, DressError>,
     P: Fn(Source<'_>, &Tree) -> Result<Pat, DressError>,
     S: Fn(Source<'_>, &Tree) -> Result<Stmt, DressError>,
-> Statements<'_, '_, E, P, S> {
+    I: Fn(Source<'_>, &Tree) -> Result<ModuleItem, DressError>,
+> Statements<'_, '_, E, P, S, I> {
     /// `try` with `finally` alone.
     pub(crate) fn finally_alone(
         &self,
@@ -26,7 +27,7 @@ impl<
         list: &[Tree],
     ) -> Result<Stmt, DressError>
         requires ring { IsRing self.now.0.now.source self.now.0.now.whole.now (E.pre self.now.0.now.expr) (E.post self.now.0.now.expr)
-            (P.pre self.now.0.now.pat) (P.post self.now.0.now.pat) (S.pre self.now.0.now.stmt) (S.post self.now.0.now.stmt) }
+            (P.pre self.now.0.now.pat) (P.post self.now.0.now.pat) (S.pre self.now.0.now.stmt) (S.post self.now.0.now.stmt) (I.pre self.now.0.now.item) (I.post self.now.0.now.item) }
         requires within { IsWithin list.now self.now.0.now.whole.now }
         ensures { IsMade (option_map (λ finalizer. vStmt.Try block None None (Some finalizer) span) (stmt_at (parts_in self.now.0.now.source list.now) 0)) result }
     {
@@ -43,7 +44,7 @@ impl<
     /// `try` with `catch` and perhaps `finally`.
     fn caught(&self, span: Range, block: Boxed<Stmt>, list: &[Tree]) -> Result<Stmt, DressError>
         requires ring { IsRing self.now.0.now.source self.now.0.now.whole.now (E.pre self.now.0.now.expr) (E.post self.now.0.now.expr)
-            (P.pre self.now.0.now.pat) (P.post self.now.0.now.pat) (S.pre self.now.0.now.stmt) (S.post self.now.0.now.stmt) }
+            (P.pre self.now.0.now.pat) (P.post self.now.0.now.pat) (S.pre self.now.0.now.stmt) (S.post self.now.0.now.stmt) (I.pre self.now.0.now.item) (I.post self.now.0.now.item) }
         requires within { IsWithin list.now self.now.0.now.whole.now }
         ensures { IsMade (given (optional pat_at (group (parts_in self.now.0.now.source list.now) 0)) (λ param. given (stmt_at (parts_in self.now.0.now.source list.now) 1) (λ handler.
             given (optional stmt_at (group (parts_in self.now.0.now.source list.now) 2)) (λ finalizer. Some (vStmt.Try block param (Some handler) finalizer span))))) result }
@@ -63,7 +64,7 @@ impl<
     /// `try` with what stands behind its block: `finally` alone, or `catch` and perhaps `finally`.
     fn handled(&self, span: Range, block: Boxed<Stmt>, list: &[Tree]) -> Result<Stmt, DressError>
         requires ring { IsRing self.now.0.now.source self.now.0.now.whole.now (E.pre self.now.0.now.expr) (E.post self.now.0.now.expr)
-            (P.pre self.now.0.now.pat) (P.post self.now.0.now.pat) (S.pre self.now.0.now.stmt) (S.post self.now.0.now.stmt) }
+            (P.pre self.now.0.now.pat) (P.post self.now.0.now.pat) (S.pre self.now.0.now.stmt) (S.post self.now.0.now.stmt) (I.pre self.now.0.now.item) (I.post self.now.0.now.item) }
         requires within { IsWithin list.now self.now.0.now.whole.now }
         ensures { IsMade (handled span block (parts_in self.now.0.now.source list.now)) result }
     {
@@ -78,7 +79,7 @@ impl<
     #[tactic(auto, unfolding(es_dress::specs::Statements::try_))]
     pub fn try_(&self, span: Range, parts: &[Tree]) -> Result<Stmt, DressError>
         requires ring { IsRing self.now.0.now.source self.now.0.now.whole.now (E.pre self.now.0.now.expr) (E.post self.now.0.now.expr)
-            (P.pre self.now.0.now.pat) (P.post self.now.0.now.pat) (S.pre self.now.0.now.stmt) (S.post self.now.0.now.stmt) }
+            (P.pre self.now.0.now.pat) (P.post self.now.0.now.pat) (S.pre self.now.0.now.stmt) (S.post self.now.0.now.stmt) (I.pre self.now.0.now.item) (I.post self.now.0.now.item) }
         requires within { IsWithin parts.now self.now.0.now.whole.now }
         ensures { IsMade (try_ span (parts_in self.now.0.now.source parts.now)) result }
     {

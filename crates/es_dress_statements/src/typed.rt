@@ -9,7 +9,7 @@ ghost use Rattle.es_dresser.specs.Ring.{IsMade, IsRing, parts_in};
 
 use crate::statements::Statements;
 use base::{Boxed, Range};
-use es_ast::{Expr, Pat, Stmt, VarDeclKind, VarDeclarator};
+use es_ast::{Expr, ModuleItem, Pat, Stmt, VarDeclKind, VarDeclarator};
 use es_dress_functions::Functions;
 use es_dresser::{DressError, Source};
 use es_whole_reader::Tree;
@@ -18,7 +18,8 @@ impl<
     E: Fn(Source<'_>, &Tree) -> Result<Expr, DressError>,
     P: Fn(Source<'_>, &Tree) -> Result<Pat, DressError>,
     S: Fn(Source<'_>, &Tree) -> Result<Stmt, DressError>,
-> Statements<'_, '_, E, P, S> {
+    I: Fn(Source<'_>, &Tree) -> Result<ModuleItem, DressError>,
+> Statements<'_, '_, E, P, S, I> {
     /// `a: b = c`
     #[tactic(auto, unfolding(es_dress::specs::TypedStatements::typed_declarator))]
     pub(crate) fn typed_declarator(
@@ -27,7 +28,7 @@ impl<
         parts: &[Tree],
     ) -> Result<VarDeclarator, DressError>
         requires ring { IsRing self.now.0.now.source self.now.0.now.whole.now (E.pre self.now.0.now.expr) (E.post self.now.0.now.expr)
-            (P.pre self.now.0.now.pat) (P.post self.now.0.now.pat) (S.pre self.now.0.now.stmt) (S.post self.now.0.now.stmt) }
+            (P.pre self.now.0.now.pat) (P.post self.now.0.now.pat) (S.pre self.now.0.now.stmt) (S.post self.now.0.now.stmt) (I.pre self.now.0.now.item) (I.post self.now.0.now.item) }
         requires within { IsWithin parts.now self.now.0.now.whole.now }
         ensures { IsMade (typed_declarator self.now.0.now.source.tokens.now span (parts_in self.now.0.now.source parts.now)) result }
     {
@@ -49,7 +50,7 @@ impl<
         parts: &[Tree],
     ) -> Result<(Option<VarDeclKind>, Boxed<Pat>), DressError>
         requires ring { IsRing self.now.0.now.source self.now.0.now.whole.now (E.pre self.now.0.now.expr) (E.post self.now.0.now.expr)
-            (P.pre self.now.0.now.pat) (P.post self.now.0.now.pat) (S.pre self.now.0.now.stmt) (S.post self.now.0.now.stmt) }
+            (P.pre self.now.0.now.pat) (P.post self.now.0.now.pat) (S.pre self.now.0.now.stmt) (S.post self.now.0.now.stmt) (I.pre self.now.0.now.item) (I.post self.now.0.now.item) }
         requires within { IsWithin parts.now self.now.0.now.whole.now }
         ensures { IsMade (typed_head self.now.0.now.source.tokens.now (parts_in self.now.0.now.source parts.now)) result }
     {
@@ -61,7 +62,7 @@ impl<
     /// The parameter of `catch`, which may be absent.
     fn caught_in(&self, group: &[Tree]) -> Result<Option<Boxed<Pat>>, DressError>
         requires ring { IsRing self.now.0.now.source self.now.0.now.whole.now (E.pre self.now.0.now.expr) (E.post self.now.0.now.expr)
-            (P.pre self.now.0.now.pat) (P.post self.now.0.now.pat) (S.pre self.now.0.now.stmt) (S.post self.now.0.now.stmt) }
+            (P.pre self.now.0.now.pat) (P.post self.now.0.now.pat) (S.pre self.now.0.now.stmt) (S.post self.now.0.now.stmt) (I.pre self.now.0.now.item) (I.post self.now.0.now.item) }
         requires within { IsWithin group.now self.now.0.now.whole.now }
         ensures { IsMade (caught_in self.now.0.now.source.tokens.now (parts_in self.now.0.now.source group.now)) result }
     {
@@ -80,7 +81,7 @@ impl<
         list: &[Tree],
     ) -> Result<Stmt, DressError>
         requires ring { IsRing self.now.0.now.source self.now.0.now.whole.now (E.pre self.now.0.now.expr) (E.post self.now.0.now.expr)
-            (P.pre self.now.0.now.pat) (P.post self.now.0.now.pat) (S.pre self.now.0.now.stmt) (S.post self.now.0.now.stmt) }
+            (P.pre self.now.0.now.pat) (P.post self.now.0.now.pat) (S.pre self.now.0.now.stmt) (S.post self.now.0.now.stmt) (I.pre self.now.0.now.item) (I.post self.now.0.now.item) }
         requires within { IsWithin list.now self.now.0.now.whole.now }
         ensures { IsMade (given (caught_in self.now.0.now.source.tokens.now (group (parts_in self.now.0.now.source list.now) 0)) (λ param. given (stmt_at (parts_in self.now.0.now.source list.now) 1) (λ handler. given (optional stmt_at (group (parts_in self.now.0.now.source list.now) 2)) (λ finalizer. Some (vStmt.Try block param (Some handler) finalizer span))))) result }
     {
@@ -104,7 +105,7 @@ impl<
         list: &[Tree],
     ) -> Result<Stmt, DressError>
         requires ring { IsRing self.now.0.now.source self.now.0.now.whole.now (E.pre self.now.0.now.expr) (E.post self.now.0.now.expr)
-            (P.pre self.now.0.now.pat) (P.post self.now.0.now.pat) (S.pre self.now.0.now.stmt) (S.post self.now.0.now.stmt) }
+            (P.pre self.now.0.now.pat) (P.post self.now.0.now.pat) (S.pre self.now.0.now.stmt) (S.post self.now.0.now.stmt) (I.pre self.now.0.now.item) (I.post self.now.0.now.item) }
         requires within { IsWithin list.now self.now.0.now.whole.now }
         ensures { IsMade (typed_handled self.now.0.now.source.tokens.now span block (parts_in self.now.0.now.source list.now)) result }
     {
@@ -119,7 +120,7 @@ impl<
     #[tactic(auto, unfolding(es_dress::specs::TypedStatements::typed_try))]
     pub fn typed_try(&self, span: Range, parts: &[Tree]) -> Result<Stmt, DressError>
         requires ring { IsRing self.now.0.now.source self.now.0.now.whole.now (E.pre self.now.0.now.expr) (E.post self.now.0.now.expr)
-            (P.pre self.now.0.now.pat) (P.post self.now.0.now.pat) (S.pre self.now.0.now.stmt) (S.post self.now.0.now.stmt) }
+            (P.pre self.now.0.now.pat) (P.post self.now.0.now.pat) (S.pre self.now.0.now.stmt) (S.post self.now.0.now.stmt) (I.pre self.now.0.now.item) (I.post self.now.0.now.item) }
         requires within { IsWithin parts.now self.now.0.now.whole.now }
         ensures { IsMade (typed_try self.now.0.now.source.tokens.now span (parts_in self.now.0.now.source parts.now)) result }
     {

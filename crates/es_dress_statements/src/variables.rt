@@ -10,7 +10,7 @@ ghost use Rattle.es_dress.specs.Dress.{variables_of, declarator_of};
 
 use crate::statements::Statements;
 use base::{Boxed, Items, Range};
-use es_ast::{Decl, Expr, Pat, Stmt, VarDeclKind, VarDeclarator};
+use es_ast::{Decl, Expr, ModuleItem, Pat, Stmt, VarDeclKind, VarDeclarator};
 use es_dresser::{DressError, Dresser, Source, Turn, single, turns_behind};
 use es_whole_grammar::Label;
 use es_whole_reader::Tree;
@@ -62,7 +62,12 @@ impl Turn<VarDeclarator> for DeclaratorTurn {
         E: Fn(Source<'_>, &Tree) -> Result<Expr, DressError>,
         P: Fn(Source<'_>, &Tree) -> Result<Pat, DressError>,
         S: Fn(Source<'_>, &Tree) -> Result<Stmt, DressError>,
-    >(&self, dresser: &Dresser<'_, E, P, S>, turn: &[Tree]) -> Result<VarDeclarator, DressError> {
+        I: Fn(Source<'_>, &Tree) -> Result<ModuleItem, DressError>,
+    >(
+        &self,
+        dresser: &Dresser<'_, E, P, S, I>,
+        turn: &[Tree],
+    ) -> Result<VarDeclarator, DressError> {
         Statements(dresser).declarator_at(turn, 0)
     }
 }
@@ -71,12 +76,13 @@ impl<
     E: Fn(Source<'_>, &Tree) -> Result<Expr, DressError>,
     P: Fn(Source<'_>, &Tree) -> Result<Pat, DressError>,
     S: Fn(Source<'_>, &Tree) -> Result<Stmt, DressError>,
-> Statements<'_, '_, E, P, S> {
+    I: Fn(Source<'_>, &Tree) -> Result<ModuleItem, DressError>,
+> Statements<'_, '_, E, P, S, I> {
     /// `a = b`
     #[tactic(auto, unfolding(es_dress::specs::Statements::declarator))]
     fn declarator(&self, span: Range, parts: &[Tree]) -> Result<VarDeclarator, DressError>
         requires ring { IsRing self.now.0.now.source self.now.0.now.whole.now (E.pre self.now.0.now.expr) (E.post self.now.0.now.expr)
-            (P.pre self.now.0.now.pat) (P.post self.now.0.now.pat) (S.pre self.now.0.now.stmt) (S.post self.now.0.now.stmt) }
+            (P.pre self.now.0.now.pat) (P.post self.now.0.now.pat) (S.pre self.now.0.now.stmt) (S.post self.now.0.now.stmt) (I.pre self.now.0.now.item) (I.post self.now.0.now.item) }
         requires within { IsWithin parts.now self.now.0.now.whole.now }
         ensures { IsMade (declarator span (parts_in self.now.0.now.source parts.now)) result }
     {
@@ -89,7 +95,7 @@ impl<
     #[tactic(auto, unfolding(es_dress::specs::Dress::build, es_dress::specs::Dress::declarator_of))]
     pub fn declarator_at(&self, parts: &[Tree], n: usize) -> Result<VarDeclarator, DressError>
         requires ring { IsRing self.now.0.now.source self.now.0.now.whole.now (E.pre self.now.0.now.expr) (E.post self.now.0.now.expr)
-            (P.pre self.now.0.now.pat) (P.post self.now.0.now.pat) (S.pre self.now.0.now.stmt) (S.post self.now.0.now.stmt) }
+            (P.pre self.now.0.now.pat) (P.post self.now.0.now.pat) (S.pre self.now.0.now.stmt) (S.post self.now.0.now.stmt) (I.pre self.now.0.now.item) (I.post self.now.0.now.item) }
         requires within { IsWithin parts.now self.now.0.now.whole.now }
         ensures { IsMade (declarator_at (parts_in self.now.0.now.source parts.now) n) result }
     {
@@ -107,7 +113,7 @@ impl<
     /// The declarators behind the word that declares: the first, and the turns of the others.
     fn declarators(&self, parts: &[Tree]) -> Result<Items<VarDeclarator>, DressError>
         requires ring { IsRing self.now.0.now.source self.now.0.now.whole.now (E.pre self.now.0.now.expr) (E.post self.now.0.now.expr)
-            (P.pre self.now.0.now.pat) (P.post self.now.0.now.pat) (S.pre self.now.0.now.stmt) (S.post self.now.0.now.stmt) }
+            (P.pre self.now.0.now.pat) (P.post self.now.0.now.pat) (S.pre self.now.0.now.stmt) (S.post self.now.0.now.stmt) (I.pre self.now.0.now.item) (I.post self.now.0.now.item) }
         requires within { IsWithin parts.now self.now.0.now.whole.now }
         ensures { IsMade (declarators_at (parts_in self.now.0.now.source parts.now) 1) result }
     {
@@ -123,7 +129,7 @@ impl<
         parts: &[Tree],
     ) -> Result<(VarDeclKind, Items<VarDeclarator>), DressError>
         requires ring { IsRing self.now.0.now.source self.now.0.now.whole.now (E.pre self.now.0.now.expr) (E.post self.now.0.now.expr)
-            (P.pre self.now.0.now.pat) (P.post self.now.0.now.pat) (S.pre self.now.0.now.stmt) (S.post self.now.0.now.stmt) }
+            (P.pre self.now.0.now.pat) (P.post self.now.0.now.pat) (S.pre self.now.0.now.stmt) (S.post self.now.0.now.stmt) (I.pre self.now.0.now.item) (I.post self.now.0.now.item) }
         requires within { IsWithin parts.now self.now.0.now.whole.now }
         ensures { IsMade (variables self.now.0.now.source.tokens.now (parts_in self.now.0.now.source parts.now)) result }
     {
@@ -136,7 +142,7 @@ impl<
     #[tactic(auto, unfolding(es_dress::specs::Statements::using_))]
     pub fn using_(&self, parts: &[Tree]) -> Result<(VarDeclKind, Items<VarDeclarator>), DressError>
         requires ring { IsRing self.now.0.now.source self.now.0.now.whole.now (E.pre self.now.0.now.expr) (E.post self.now.0.now.expr)
-            (P.pre self.now.0.now.pat) (P.post self.now.0.now.pat) (S.pre self.now.0.now.stmt) (S.post self.now.0.now.stmt) }
+            (P.pre self.now.0.now.pat) (P.post self.now.0.now.pat) (S.pre self.now.0.now.stmt) (S.post self.now.0.now.stmt) (I.pre self.now.0.now.item) (I.post self.now.0.now.item) }
         requires within { IsWithin parts.now self.now.0.now.whole.now }
         ensures { IsMade (using_ (parts_in self.now.0.now.source parts.now)) result }
     {
@@ -152,7 +158,7 @@ impl<
         n: usize,
     ) -> Result<(VarDeclKind, Items<VarDeclarator>), DressError>
         requires ring { IsRing self.now.0.now.source self.now.0.now.whole.now (E.pre self.now.0.now.expr) (E.post self.now.0.now.expr)
-            (P.pre self.now.0.now.pat) (P.post self.now.0.now.pat) (S.pre self.now.0.now.stmt) (S.post self.now.0.now.stmt) }
+            (P.pre self.now.0.now.pat) (P.post self.now.0.now.pat) (S.pre self.now.0.now.stmt) (S.post self.now.0.now.stmt) (I.pre self.now.0.now.item) (I.post self.now.0.now.item) }
         requires within { IsWithin parts.now self.now.0.now.whole.now }
         ensures { IsMade (variables_at (parts_in self.now.0.now.source parts.now) n) result }
     {
@@ -170,7 +176,7 @@ impl<
     #[tactic(auto, unfolding(es_dress::specs::Statements::variable_declaration))]
     pub fn variable_declaration(&self, span: Range, parts: &[Tree]) -> Result<Decl, DressError>
         requires ring { IsRing self.now.0.now.source self.now.0.now.whole.now (E.pre self.now.0.now.expr) (E.post self.now.0.now.expr)
-            (P.pre self.now.0.now.pat) (P.post self.now.0.now.pat) (S.pre self.now.0.now.stmt) (S.post self.now.0.now.stmt) }
+            (P.pre self.now.0.now.pat) (P.post self.now.0.now.pat) (S.pre self.now.0.now.stmt) (S.post self.now.0.now.stmt) (I.pre self.now.0.now.item) (I.post self.now.0.now.item) }
         requires within { IsWithin parts.now self.now.0.now.whole.now }
         ensures { IsMade (variable_declaration span (parts_in self.now.0.now.source parts.now)) result }
     {

@@ -9,7 +9,7 @@ ghost use Rattle.es_dress_types.specs.Ring.{IsTypeRing};
 
 use crate::texts::number;
 use base::Boxed;
-use es_ast::{Expr, Pat, Stmt};
+use es_ast::{Expr, ModuleItem, Pat, Stmt};
 use es_dresser::{DressError, Dresser, Source, boxed, part, some};
 use es_token::TokenKind;
 use es_whole_reader::Tree;
@@ -17,19 +17,20 @@ use ts_ast::{Ident, Number, TsParamPat, TsThisTypeOrIdent, TsType};
 
 /// What dresses types: a dresser of what stands about them, and functions that dress the types and the patterns below.
 #[derive(Clone, Copy)]
-pub struct Types<'d, 'a, E, P, S, T, Q>(pub &'d Dresser<'a, E, P, S>, pub T, pub Q);
+pub struct Types<'d, 'a, E, P, S, I, T, Q>(pub &'d Dresser<'a, E, P, S, I>, pub T, pub Q);
 
 impl<
     E: Fn(Source<'_>, &Tree) -> Result<Expr, DressError>,
     P: Fn(Source<'_>, &Tree) -> Result<Pat, DressError>,
     S: Fn(Source<'_>, &Tree) -> Result<Stmt, DressError>,
+    I: Fn(Source<'_>, &Tree) -> Result<ModuleItem, DressError>,
     T: Fn(Source<'_>, &Tree) -> Result<TsType, DressError>,
     Q: Fn(Source<'_>, &Tree) -> Result<TsParamPat, DressError>,
-> Types<'_, '_, E, P, S, T, Q> {
+> Types<'_, '_, E, P, S, I, T, Q> {
     /// A part that is a type.
     pub fn type_at(&self, parts: &[Tree], n: usize) -> Result<TsType, DressError>
         requires ring { IsRing self.now.0.now.source self.now.0.now.whole.now (E.pre self.now.0.now.expr) (E.post self.now.0.now.expr)
-            (P.pre self.now.0.now.pat) (P.post self.now.0.now.pat) (S.pre self.now.0.now.stmt) (S.post self.now.0.now.stmt) }
+            (P.pre self.now.0.now.pat) (P.post self.now.0.now.pat) (S.pre self.now.0.now.stmt) (S.post self.now.0.now.stmt) (I.pre self.now.0.now.item) (I.post self.now.0.now.item) }
         requires types { IsTypeRing self.now.0.now.source self.now.0.now.whole.now (T.pre self.now.1) (T.post self.now.1) (Q.pre self.now.2) (Q.post self.now.2) }
         requires within { IsWithin parts.now self.now.0.now.whole.now }
         ensures { IsMade (type_at (parts_in self.now.0.now.source parts.now) n) result }
@@ -43,7 +44,7 @@ impl<
     /// The same in a box.
     pub fn boxed_type_at(&self, parts: &[Tree], n: usize) -> Result<Boxed<TsType>, DressError>
         requires ring { IsRing self.now.0.now.source self.now.0.now.whole.now (E.pre self.now.0.now.expr) (E.post self.now.0.now.expr)
-            (P.pre self.now.0.now.pat) (P.post self.now.0.now.pat) (S.pre self.now.0.now.stmt) (S.post self.now.0.now.stmt) }
+            (P.pre self.now.0.now.pat) (P.post self.now.0.now.pat) (S.pre self.now.0.now.stmt) (S.post self.now.0.now.stmt) (I.pre self.now.0.now.item) (I.post self.now.0.now.item) }
         requires types { IsTypeRing self.now.0.now.source self.now.0.now.whole.now (T.pre self.now.1) (T.post self.now.1) (Q.pre self.now.2) (Q.post self.now.2) }
         requires within { IsWithin parts.now self.now.0.now.whole.now }
         ensures { IsMade (type_at (parts_in self.now.0.now.source parts.now) n) result }
@@ -54,7 +55,7 @@ impl<
     /// A type that may be absent, from the parts of its group.
     pub fn optional_type(&self, group: &[Tree]) -> Result<Option<Boxed<TsType>>, DressError>
         requires ring { IsRing self.now.0.now.source self.now.0.now.whole.now (E.pre self.now.0.now.expr) (E.post self.now.0.now.expr)
-            (P.pre self.now.0.now.pat) (P.post self.now.0.now.pat) (S.pre self.now.0.now.stmt) (S.post self.now.0.now.stmt) }
+            (P.pre self.now.0.now.pat) (P.post self.now.0.now.pat) (S.pre self.now.0.now.stmt) (S.post self.now.0.now.stmt) (I.pre self.now.0.now.item) (I.post self.now.0.now.item) }
         requires types { IsTypeRing self.now.0.now.source self.now.0.now.whole.now (T.pre self.now.1) (T.post self.now.1) (Q.pre self.now.2) (Q.post self.now.2) }
         requires within { IsWithin group.now self.now.0.now.whole.now }
         ensures { IsMade (optional type_at (parts_in self.now.0.now.source group.now)) result }
@@ -68,7 +69,7 @@ impl<
     /// A part that is a pattern.
     pub(crate) fn pat_at(&self, parts: &[Tree], n: usize) -> Result<TsParamPat, DressError>
         requires ring { IsRing self.now.0.now.source self.now.0.now.whole.now (E.pre self.now.0.now.expr) (E.post self.now.0.now.expr)
-            (P.pre self.now.0.now.pat) (P.post self.now.0.now.pat) (S.pre self.now.0.now.stmt) (S.post self.now.0.now.stmt) }
+            (P.pre self.now.0.now.pat) (P.post self.now.0.now.pat) (S.pre self.now.0.now.stmt) (S.post self.now.0.now.stmt) (I.pre self.now.0.now.item) (I.post self.now.0.now.item) }
         requires types { IsTypeRing self.now.0.now.source self.now.0.now.whole.now (T.pre self.now.1) (T.post self.now.1) (Q.pre self.now.2) (Q.post self.now.2) }
         requires within { IsWithin parts.now self.now.0.now.whole.now }
         ensures { IsMade (type_pat_at (parts_in self.now.0.now.source parts.now) n) result }
@@ -86,7 +87,7 @@ impl<
         n: usize,
     ) -> Result<Boxed<TsParamPat>, DressError>
         requires ring { IsRing self.now.0.now.source self.now.0.now.whole.now (E.pre self.now.0.now.expr) (E.post self.now.0.now.expr)
-            (P.pre self.now.0.now.pat) (P.post self.now.0.now.pat) (S.pre self.now.0.now.stmt) (S.post self.now.0.now.stmt) }
+            (P.pre self.now.0.now.pat) (P.post self.now.0.now.pat) (S.pre self.now.0.now.stmt) (S.post self.now.0.now.stmt) (I.pre self.now.0.now.item) (I.post self.now.0.now.item) }
         requires types { IsTypeRing self.now.0.now.source self.now.0.now.whole.now (T.pre self.now.1) (T.post self.now.1) (Q.pre self.now.2) (Q.post self.now.2) }
         requires within { IsWithin parts.now self.now.0.now.whole.now }
         ensures { IsMade (type_pat_at (parts_in self.now.0.now.source parts.now) n) result }
@@ -97,7 +98,7 @@ impl<
     /// A number as it is spelled.
     pub(crate) fn number_at(&self, parts: &[Tree], n: usize) -> Result<Number, DressError>
         requires ring { IsRing self.now.0.now.source self.now.0.now.whole.now (E.pre self.now.0.now.expr) (E.post self.now.0.now.expr)
-            (P.pre self.now.0.now.pat) (P.post self.now.0.now.pat) (S.pre self.now.0.now.stmt) (S.post self.now.0.now.stmt) }
+            (P.pre self.now.0.now.pat) (P.post self.now.0.now.pat) (S.pre self.now.0.now.stmt) (S.post self.now.0.now.stmt) (I.pre self.now.0.now.item) (I.post self.now.0.now.item) }
         requires types { IsTypeRing self.now.0.now.source self.now.0.now.whole.now (T.pre self.now.1) (T.post self.now.1) (Q.pre self.now.2) (Q.post self.now.2) }
         requires within { IsWithin parts.now self.now.0.now.whole.now }
         ensures { IsMade (number_at self.now.0.now.source.text.now self.now.0.now.source.tokens.now (parts_in self.now.0.now.source parts.now) n) result }
@@ -114,7 +115,7 @@ impl<
         n: usize,
     ) -> Result<TsThisTypeOrIdent, DressError>
         requires ring { IsRing self.now.0.now.source self.now.0.now.whole.now (E.pre self.now.0.now.expr) (E.post self.now.0.now.expr)
-            (P.pre self.now.0.now.pat) (P.post self.now.0.now.pat) (S.pre self.now.0.now.stmt) (S.post self.now.0.now.stmt) }
+            (P.pre self.now.0.now.pat) (P.post self.now.0.now.pat) (S.pre self.now.0.now.stmt) (S.post self.now.0.now.stmt) (I.pre self.now.0.now.item) (I.post self.now.0.now.item) }
         requires types { IsTypeRing self.now.0.now.source self.now.0.now.whole.now (T.pre self.now.1) (T.post self.now.1) (Q.pre self.now.2) (Q.post self.now.2) }
         requires within { IsWithin parts.now self.now.0.now.whole.now }
         ensures { IsMade (this_or_name_at self.now.0.now.source.text.now self.now.0.now.source.tokens.now (parts_in self.now.0.now.source parts.now) n) result }

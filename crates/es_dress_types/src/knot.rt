@@ -3,6 +3,7 @@
 
 ghost use Rattle.std.specs.Prelude.{Option};
 ghost use Rattle.es_ast.specs.declared.ast.Expr.{Expr as AnyExpr};
+ghost use Rattle.es_ast.specs.declared.ast.ModuleItem.{ModuleItem as AnyItem};
 ghost use Rattle.es_ast.specs.declared.ast.Pat.{Pat as AnyPat};
 ghost use Rattle.es_ast.specs.declared.ast.Stmt.{Stmt as AnyStmt};
 ghost use Rattle.es_dress.specs.Dress.{value_of};
@@ -10,7 +11,7 @@ ghost use Rattle.es_dresser.specs.Ring.{IsCut, IsMade};
 ghost use Rattle.es_dress_types.specs.Ring.{type_in, type_pat_in};
 
 use crate::base::Types;
-use es_ast::{Expr, Pat, Stmt};
+use es_ast::{Expr, ModuleItem, Pat, Stmt};
 use es_dresser::{DressError, Dresser, Source};
 use es_whole_reader::Tree;
 use ts_ast::{TsParamPat, TsType};
@@ -33,6 +34,12 @@ fn no_stmt(_source: Source<'_>, _tree: &Tree) -> Result<Stmt, DressError>
     Err(DressError::OutOfMemory)
 }
 
+fn no_item(_source: Source<'_>, _tree: &Tree) -> Result<ModuleItem, DressError>
+    ensures { (out : Option AnyItem) → IsMade out result }
+{
+    Err(DressError::OutOfMemory)
+}
+
 /// A tree as a type.
 #[tactic(auto, unfolding(es_dress::specs::Dress::build))]
 #[cycle(ring)]
@@ -47,6 +54,7 @@ pub fn dress_type(source: Source<'_>, tree: &Tree) -> Result<TsType, DressError>
         expr: no_expr,
         pat: no_pat,
         stmt: no_stmt,
+        item: no_item,
     };
     Types(&dresser, dress_type, dress_type_pat).ty(&node)
 }
@@ -65,6 +73,7 @@ pub fn dress_type_pat(source: Source<'_>, tree: &Tree) -> Result<TsParamPat, Dre
         expr: no_expr,
         pat: no_pat,
         stmt: no_stmt,
+        item: no_item,
     };
     Types(&dresser, dress_type, dress_type_pat).pat(&node)
 }

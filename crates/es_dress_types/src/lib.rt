@@ -21,5 +21,5 @@ mod types;
 pub use base::Types;
 pub use knot::{dress_type, dress_type_pat};
 pub use parts::{
-    annotation_at, args_part_at, heritage_in, members_part, params_part_at, type_part_at,
+    annotation_at, args_part_at, entity_at, heritage_in, members_part, params_part_at, type_part_at,
 };

@@ -9,7 +9,7 @@ ghost use Rattle.es_dress_types.specs.Ring.{IsTypeRing};
 
 use crate::base::Types;
 use base::Items;
-use es_ast::{Expr, Pat, Stmt};
+use es_ast::{Expr, ModuleItem, Pat, Stmt};
 use es_dresser::{DressError, Source, group_in};
 use es_whole_reader::Tree;
 use ts_ast::{TsParamPat, TsType};
@@ -24,11 +24,12 @@ pub(crate) trait TypeTurn<A> {
         E: Fn(Source<'_>, &Tree) -> Result<Expr, DressError>,
         P: Fn(Source<'_>, &Tree) -> Result<Pat, DressError>,
         S: Fn(Source<'_>, &Tree) -> Result<Stmt, DressError>,
+        I: Fn(Source<'_>, &Tree) -> Result<ModuleItem, DressError>,
         T: Fn(Source<'_>, &Tree) -> Result<TsType, DressError>,
         Q: Fn(Source<'_>, &Tree) -> Result<TsParamPat, DressError>,
-    >(&self, types: &Types<'_, '_, E, P, S, T, Q>, turn: &[Tree]) -> Result<A, DressError>
+    >(&self, types: &Types<'_, '_, E, P, S, I, T, Q>, turn: &[Tree]) -> Result<A, DressError>
         requires ring { IsRing types.now.0.now.source types.now.0.now.whole.now (E.pre types.now.0.now.expr) (E.post types.now.0.now.expr)
-            (P.pre types.now.0.now.pat) (P.post types.now.0.now.pat) (S.pre types.now.0.now.stmt) (S.post types.now.0.now.stmt) }
+            (P.pre types.now.0.now.pat) (P.post types.now.0.now.pat) (S.pre types.now.0.now.stmt) (S.post types.now.0.now.stmt) (I.pre types.now.0.now.item) (I.post types.now.0.now.item) }
         requires types { IsTypeRing types.now.0.now.source types.now.0.now.whole.now (T.pre types.now.1) (T.post types.now.1) (Q.pre types.now.2) (Q.post types.now.2) }
         requires within { IsWithin turn.now types.now.0.now.whole.now }
         ensures { IsMade (value types.now.0.now.source.text.now types.now.0.now.source.tokens.now
@@ -42,16 +43,17 @@ pub(crate) fn turns_behind<
     E: Fn(Source<'_>, &Tree) -> Result<Expr, DressError>,
     P: Fn(Source<'_>, &Tree) -> Result<Pat, DressError>,
     S: Fn(Source<'_>, &Tree) -> Result<Stmt, DressError>,
+    I: Fn(Source<'_>, &Tree) -> Result<ModuleItem, DressError>,
     T: Fn(Source<'_>, &Tree) -> Result<TsType, DressError>,
     Q: Fn(Source<'_>, &Tree) -> Result<TsParamPat, DressError>,
 >(
     one: &D,
-    types: &Types<'_, '_, E, P, S, T, Q>,
+    types: &Types<'_, '_, E, P, S, I, T, Q>,
     before: Items<A>,
     list: &[Tree],
 ) -> Result<Items<A>, DressError>
     requires ring { IsRing types.now.0.now.source types.now.0.now.whole.now (E.pre types.now.0.now.expr) (E.post types.now.0.now.expr)
-        (P.pre types.now.0.now.pat) (P.post types.now.0.now.pat) (S.pre types.now.0.now.stmt) (S.post types.now.0.now.stmt) }
+        (P.pre types.now.0.now.pat) (P.post types.now.0.now.pat) (S.pre types.now.0.now.stmt) (S.post types.now.0.now.stmt) (I.pre types.now.0.now.item) (I.post types.now.0.now.item) }
     requires types { IsTypeRing types.now.0.now.source types.now.0.now.whole.now (T.pre types.now.1) (T.post types.now.1) (Q.pre types.now.2) (Q.post types.now.2) }
     requires within { IsWithin list.now types.now.0.now.whole.now }
     ensures { IsMade (option_map (λ others. before ++ others)
@@ -74,11 +76,12 @@ pub(crate) fn turns<
     E: Fn(Source<'_>, &Tree) -> Result<Expr, DressError>,
     P: Fn(Source<'_>, &Tree) -> Result<Pat, DressError>,
     S: Fn(Source<'_>, &Tree) -> Result<Stmt, DressError>,
+    I: Fn(Source<'_>, &Tree) -> Result<ModuleItem, DressError>,
     T: Fn(Source<'_>, &Tree) -> Result<TsType, DressError>,
     Q: Fn(Source<'_>, &Tree) -> Result<TsParamPat, DressError>,
->(one: &D, types: &Types<'_, '_, E, P, S, T, Q>, list: &[Tree]) -> Result<Items<A>, DressError>
+>(one: &D, types: &Types<'_, '_, E, P, S, I, T, Q>, list: &[Tree]) -> Result<Items<A>, DressError>
     requires ring { IsRing types.now.0.now.source types.now.0.now.whole.now (E.pre types.now.0.now.expr) (E.post types.now.0.now.expr)
-        (P.pre types.now.0.now.pat) (P.post types.now.0.now.pat) (S.pre types.now.0.now.stmt) (S.post types.now.0.now.stmt) }
+        (P.pre types.now.0.now.pat) (P.post types.now.0.now.pat) (S.pre types.now.0.now.stmt) (S.post types.now.0.now.stmt) (I.pre types.now.0.now.item) (I.post types.now.0.now.item) }
     requires types { IsTypeRing types.now.0.now.source types.now.0.now.whole.now (T.pre types.now.1) (T.post types.now.1) (Q.pre types.now.2) (Q.post types.now.2) }
     requires within { IsWithin list.now types.now.0.now.whole.now }
     ensures { IsMade (turns (D.value types.now.0.now.source.text.now types.now.0.now.source.tokens.now)

@@ -11,7 +11,7 @@ ghost use Rattle.es_dress_types.specs.Ring.{IsTypeRing};
 use crate::base::Types;
 use crate::texts::computed_numeric;
 use base::Range;
-use es_ast::{Expr, Pat, Stmt};
+use es_ast::{Expr, ModuleItem, Pat, Stmt};
 use es_dresser::{DressError, Node, Source};
 use es_whole_grammar::Label;
 use es_whole_reader::Tree;
@@ -21,9 +21,10 @@ impl<
     E: Fn(Source<'_>, &Tree) -> Result<Expr, DressError>,
     P: Fn(Source<'_>, &Tree) -> Result<Pat, DressError>,
     S: Fn(Source<'_>, &Tree) -> Result<Stmt, DressError>,
+    I: Fn(Source<'_>, &Tree) -> Result<ModuleItem, DressError>,
     T: Fn(Source<'_>, &Tree) -> Result<TsType, DressError>,
     Q: Fn(Source<'_>, &Tree) -> Result<TsParamPat, DressError>,
-> Types<'_, '_, E, P, S, T, Q> {
+> Types<'_, '_, E, P, S, I, T, Q> {
     /// `<a>(b): c`
     #[tactic(auto, unfolding(es_dress::specs::TypeMembers::call_signature))]
     pub(crate) fn call_signature(
@@ -32,7 +33,7 @@ impl<
         parts: &[Tree],
     ) -> Result<TsTypeElement, DressError>
         requires ring { IsRing self.now.0.now.source self.now.0.now.whole.now (E.pre self.now.0.now.expr) (E.post self.now.0.now.expr)
-            (P.pre self.now.0.now.pat) (P.post self.now.0.now.pat) (S.pre self.now.0.now.stmt) (S.post self.now.0.now.stmt) }
+            (P.pre self.now.0.now.pat) (P.post self.now.0.now.pat) (S.pre self.now.0.now.stmt) (S.post self.now.0.now.stmt) (I.pre self.now.0.now.item) (I.post self.now.0.now.item) }
         requires types { IsTypeRing self.now.0.now.source self.now.0.now.whole.now (T.pre self.now.1) (T.post self.now.1) (Q.pre self.now.2) (Q.post self.now.2) }
         requires within { IsWithin parts.now self.now.0.now.whole.now }
         ensures { IsMade (call_signature span (parts_in self.now.0.now.source parts.now)) result }
@@ -56,7 +57,7 @@ impl<
         parts: &[Tree],
     ) -> Result<TsTypeElement, DressError>
         requires ring { IsRing self.now.0.now.source self.now.0.now.whole.now (E.pre self.now.0.now.expr) (E.post self.now.0.now.expr)
-            (P.pre self.now.0.now.pat) (P.post self.now.0.now.pat) (S.pre self.now.0.now.stmt) (S.post self.now.0.now.stmt) }
+            (P.pre self.now.0.now.pat) (P.post self.now.0.now.pat) (S.pre self.now.0.now.stmt) (S.post self.now.0.now.stmt) (I.pre self.now.0.now.item) (I.post self.now.0.now.item) }
         requires types { IsTypeRing self.now.0.now.source self.now.0.now.whole.now (T.pre self.now.1) (T.post self.now.1) (Q.pre self.now.2) (Q.post self.now.2) }
         requires within { IsWithin parts.now self.now.0.now.whole.now }
         ensures { IsMade (construct_signature span (parts_in self.now.0.now.source parts.now)) result }
@@ -80,7 +81,7 @@ impl<
         parts: &[Tree],
     ) -> Result<TsTypeElement, DressError>
         requires ring { IsRing self.now.0.now.source self.now.0.now.whole.now (E.pre self.now.0.now.expr) (E.post self.now.0.now.expr)
-            (P.pre self.now.0.now.pat) (P.post self.now.0.now.pat) (S.pre self.now.0.now.stmt) (S.post self.now.0.now.stmt) }
+            (P.pre self.now.0.now.pat) (P.post self.now.0.now.pat) (S.pre self.now.0.now.stmt) (S.post self.now.0.now.stmt) (I.pre self.now.0.now.item) (I.post self.now.0.now.item) }
         requires types { IsTypeRing self.now.0.now.source self.now.0.now.whole.now (T.pre self.now.1) (T.post self.now.1) (Q.pre self.now.2) (Q.post self.now.2) }
         requires within { IsWithin parts.now self.now.0.now.whole.now }
         ensures { IsMade (index_signature self.now.0.now.source.text.now self.now.0.now.source.tokens.now span (parts_in self.now.0.now.source parts.now)) result }
@@ -108,7 +109,7 @@ impl<
         n: usize,
     ) -> Result<TsTypeElement, DressError>
         requires ring { IsRing self.now.0.now.source self.now.0.now.whole.now (E.pre self.now.0.now.expr) (E.post self.now.0.now.expr)
-            (P.pre self.now.0.now.pat) (P.post self.now.0.now.pat) (S.pre self.now.0.now.stmt) (S.post self.now.0.now.stmt) }
+            (P.pre self.now.0.now.pat) (P.post self.now.0.now.pat) (S.pre self.now.0.now.stmt) (S.post self.now.0.now.stmt) (I.pre self.now.0.now.item) (I.post self.now.0.now.item) }
         requires types { IsTypeRing self.now.0.now.source self.now.0.now.whole.now (T.pre self.now.1) (T.post self.now.1) (Q.pre self.now.2) (Q.post self.now.2) }
         requires within { IsWithin parts.now self.now.0.now.whole.now }
         requires place { n < 7 }
@@ -138,7 +139,7 @@ impl<
         parts: &[Tree],
     ) -> Result<TsTypeElement, DressError>
         requires ring { IsRing self.now.0.now.source self.now.0.now.whole.now (E.pre self.now.0.now.expr) (E.post self.now.0.now.expr)
-            (P.pre self.now.0.now.pat) (P.post self.now.0.now.pat) (S.pre self.now.0.now.stmt) (S.post self.now.0.now.stmt) }
+            (P.pre self.now.0.now.pat) (P.post self.now.0.now.pat) (S.pre self.now.0.now.stmt) (S.post self.now.0.now.stmt) (I.pre self.now.0.now.item) (I.post self.now.0.now.item) }
         requires types { IsTypeRing self.now.0.now.source self.now.0.now.whole.now (T.pre self.now.1) (T.post self.now.1) (Q.pre self.now.2) (Q.post self.now.2) }
         requires within { IsWithin parts.now self.now.0.now.whole.now }
         ensures { IsMade (accessor_signature self.now.0.now.source.tokens.now span (parts_in self.now.0.now.source parts.now)) result }
@@ -156,7 +157,7 @@ impl<
         parts: &[Tree],
     ) -> Result<TsTypeElement, DressError>
         requires ring { IsRing self.now.0.now.source self.now.0.now.whole.now (E.pre self.now.0.now.expr) (E.post self.now.0.now.expr)
-            (P.pre self.now.0.now.pat) (P.post self.now.0.now.pat) (S.pre self.now.0.now.stmt) (S.post self.now.0.now.stmt) }
+            (P.pre self.now.0.now.pat) (P.post self.now.0.now.pat) (S.pre self.now.0.now.stmt) (S.post self.now.0.now.stmt) (I.pre self.now.0.now.item) (I.post self.now.0.now.item) }
         requires types { IsTypeRing self.now.0.now.source self.now.0.now.whole.now (T.pre self.now.1) (T.post self.now.1) (Q.pre self.now.2) (Q.post self.now.2) }
         requires within { IsWithin parts.now self.now.0.now.whole.now }
         ensures { IsMade (property_by readonly span (parts_in self.now.0.now.source parts.now)) result }
@@ -177,7 +178,7 @@ impl<
     #[tactic(auto, unfolding(es_dress::specs::Dress::type_member_of))]
     pub(crate) fn member(&self, node: &Node<'_>) -> Result<TsTypeElement, DressError>
         requires ring { IsRing self.now.0.now.source self.now.0.now.whole.now (E.pre self.now.0.now.expr) (E.post self.now.0.now.expr)
-            (P.pre self.now.0.now.pat) (P.post self.now.0.now.pat) (S.pre self.now.0.now.stmt) (S.post self.now.0.now.stmt) }
+            (P.pre self.now.0.now.pat) (P.post self.now.0.now.pat) (S.pre self.now.0.now.stmt) (S.post self.now.0.now.stmt) (I.pre self.now.0.now.item) (I.post self.now.0.now.item) }
         requires types { IsTypeRing self.now.0.now.source self.now.0.now.whole.now (T.pre self.now.1) (T.post self.now.1) (Q.pre self.now.2) (Q.post self.now.2) }
         requires within { IsWithin node.now.parts.now self.now.0.now.whole.now }
         ensures { IsMade (type_member_of self.now.0.now.source.text.now self.now.0.now.source.tokens.now node.now.label node.now.span (parts_in self.now.0.now.source node.now.parts.now)) result }
@@ -199,7 +200,7 @@ impl<
     #[tactic(auto, unfolding(es_dress::specs::Dress::build))]
     pub fn member_at(&self, parts: &[Tree], n: usize) -> Result<TsTypeElement, DressError>
         requires ring { IsRing self.now.0.now.source self.now.0.now.whole.now (E.pre self.now.0.now.expr) (E.post self.now.0.now.expr)
-            (P.pre self.now.0.now.pat) (P.post self.now.0.now.pat) (S.pre self.now.0.now.stmt) (S.post self.now.0.now.stmt) }
+            (P.pre self.now.0.now.pat) (P.post self.now.0.now.pat) (S.pre self.now.0.now.stmt) (S.post self.now.0.now.stmt) (I.pre self.now.0.now.item) (I.post self.now.0.now.item) }
         requires types { IsTypeRing self.now.0.now.source self.now.0.now.whole.now (T.pre self.now.1) (T.post self.now.1) (Q.pre self.now.2) (Q.post self.now.2) }
         requires within { IsWithin parts.now self.now.0.now.whole.now }
         ensures { IsMade (type_member_at (parts_in self.now.0.now.source parts.now) n) result }
@@ -211,7 +212,7 @@ impl<
     /// A name, a number or a BigInt in the brackets of a key.
     pub(crate) fn inner_key(&self, span: Range, group: &[Tree]) -> Result<TsKey, DressError>
         requires ring { IsRing self.now.0.now.source self.now.0.now.whole.now (E.pre self.now.0.now.expr) (E.post self.now.0.now.expr)
-            (P.pre self.now.0.now.pat) (P.post self.now.0.now.pat) (S.pre self.now.0.now.stmt) (S.post self.now.0.now.stmt) }
+            (P.pre self.now.0.now.pat) (P.post self.now.0.now.pat) (S.pre self.now.0.now.stmt) (S.post self.now.0.now.stmt) (I.pre self.now.0.now.item) (I.post self.now.0.now.item) }
         requires types { IsTypeRing self.now.0.now.source self.now.0.now.whole.now (T.pre self.now.1) (T.post self.now.1) (Q.pre self.now.2) (Q.post self.now.2) }
         requires within { IsWithin group.now self.now.0.now.whole.now }
         ensures { IsMade (inner_key self.now.0.now.source.text.now self.now.0.now.source.tokens.now span (parts_in self.now.0.now.source group.now)) result }
@@ -227,7 +228,7 @@ impl<
     /// A string literal there, or one of these.
     pub(crate) fn bracket_key(&self, span: Range, group: &[Tree]) -> Result<TsKey, DressError>
         requires ring { IsRing self.now.0.now.source self.now.0.now.whole.now (E.pre self.now.0.now.expr) (E.post self.now.0.now.expr)
-            (P.pre self.now.0.now.pat) (P.post self.now.0.now.pat) (S.pre self.now.0.now.stmt) (S.post self.now.0.now.stmt) }
+            (P.pre self.now.0.now.pat) (P.post self.now.0.now.pat) (S.pre self.now.0.now.stmt) (S.post self.now.0.now.stmt) (I.pre self.now.0.now.item) (I.post self.now.0.now.item) }
         requires types { IsTypeRing self.now.0.now.source self.now.0.now.whole.now (T.pre self.now.1) (T.post self.now.1) (Q.pre self.now.2) (Q.post self.now.2) }
         requires within { IsWithin group.now self.now.0.now.whole.now }
         ensures { IsMade (bracket_key self.now.0.now.source.text.now self.now.0.now.source.tokens.now span (parts_in self.now.0.now.source group.now)) result }
@@ -243,7 +244,7 @@ impl<
     #[tactic(auto, unfolding(es_dress::specs::TypeMembers::computed_key))]
     pub(crate) fn computed_key(&self, span: Range, parts: &[Tree]) -> Result<TsKey, DressError>
         requires ring { IsRing self.now.0.now.source self.now.0.now.whole.now (E.pre self.now.0.now.expr) (E.post self.now.0.now.expr)
-            (P.pre self.now.0.now.pat) (P.post self.now.0.now.pat) (S.pre self.now.0.now.stmt) (S.post self.now.0.now.stmt) }
+            (P.pre self.now.0.now.pat) (P.post self.now.0.now.pat) (S.pre self.now.0.now.stmt) (S.post self.now.0.now.stmt) (I.pre self.now.0.now.item) (I.post self.now.0.now.item) }
         requires types { IsTypeRing self.now.0.now.source self.now.0.now.whole.now (T.pre self.now.1) (T.post self.now.1) (Q.pre self.now.2) (Q.post self.now.2) }
         requires within { IsWithin parts.now self.now.0.now.whole.now }
         ensures { IsMade (computed_key self.now.0.now.source.text.now self.now.0.now.source.tokens.now span (parts_in self.now.0.now.source parts.now)) result }
@@ -255,7 +256,7 @@ impl<
     #[tactic(auto, unfolding(es_dress::specs::Dress::type_key_of, es_dress::specs::TypePatterns::word_key, es_dress::specs::TypePatterns::str_key, es_dress::specs::TypePatterns::number_key))]
     pub(crate) fn key(&self, node: &Node<'_>) -> Result<TsKey, DressError>
         requires ring { IsRing self.now.0.now.source self.now.0.now.whole.now (E.pre self.now.0.now.expr) (E.post self.now.0.now.expr)
-            (P.pre self.now.0.now.pat) (P.post self.now.0.now.pat) (S.pre self.now.0.now.stmt) (S.post self.now.0.now.stmt) }
+            (P.pre self.now.0.now.pat) (P.post self.now.0.now.pat) (S.pre self.now.0.now.stmt) (S.post self.now.0.now.stmt) (I.pre self.now.0.now.item) (I.post self.now.0.now.item) }
         requires types { IsTypeRing self.now.0.now.source self.now.0.now.whole.now (T.pre self.now.1) (T.post self.now.1) (Q.pre self.now.2) (Q.post self.now.2) }
         requires within { IsWithin node.now.parts.now self.now.0.now.whole.now }
         ensures { IsMade (type_key_of self.now.0.now.source.text.now self.now.0.now.source.tokens.now node.now.label node.now.span (parts_in self.now.0.now.source node.now.parts.now)) result }
@@ -277,7 +278,7 @@ impl<
     #[tactic(auto, unfolding(es_dress::specs::Dress::build))]
     pub(crate) fn key_at(&self, parts: &[Tree], n: usize) -> Result<TsKey, DressError>
         requires ring { IsRing self.now.0.now.source self.now.0.now.whole.now (E.pre self.now.0.now.expr) (E.post self.now.0.now.expr)
-            (P.pre self.now.0.now.pat) (P.post self.now.0.now.pat) (S.pre self.now.0.now.stmt) (S.post self.now.0.now.stmt) }
+            (P.pre self.now.0.now.pat) (P.post self.now.0.now.pat) (S.pre self.now.0.now.stmt) (S.post self.now.0.now.stmt) (I.pre self.now.0.now.item) (I.post self.now.0.now.item) }
         requires types { IsTypeRing self.now.0.now.source self.now.0.now.whole.now (T.pre self.now.1) (T.post self.now.1) (Q.pre self.now.2) (Q.post self.now.2) }
         requires within { IsWithin parts.now self.now.0.now.whole.now }
         ensures { IsMade (type_key_at (parts_in self.now.0.now.source parts.now) n) result }

@@ -12,7 +12,7 @@ ghost use Rattle.es_dress_types.specs.Ring.{IsTypeRing};
 use crate::base::Types;
 use crate::lists::{TypeTurn, turns, turns_behind};
 use base::{Items, Range};
-use es_ast::{Expr, Pat, Stmt};
+use es_ast::{Expr, ModuleItem, Pat, Stmt};
 use es_dresser::{DressError, Source, group_in, single, some};
 use es_token::TokenKind;
 use es_whole_grammar::Label;
@@ -30,9 +30,10 @@ impl TypeTurn<Ident> for NameTurn {
         E: Fn(Source<'_>, &Tree) -> Result<Expr, DressError>,
         P: Fn(Source<'_>, &Tree) -> Result<Pat, DressError>,
         S: Fn(Source<'_>, &Tree) -> Result<Stmt, DressError>,
+        I: Fn(Source<'_>, &Tree) -> Result<ModuleItem, DressError>,
         T: Fn(Source<'_>, &Tree) -> Result<TsType, DressError>,
         Q: Fn(Source<'_>, &Tree) -> Result<TsParamPat, DressError>,
-    >(&self, types: &Types<'_, '_, E, P, S, T, Q>, turn: &[Tree]) -> Result<Ident, DressError> {
+    >(&self, types: &Types<'_, '_, E, P, S, I, T, Q>, turn: &[Tree]) -> Result<Ident, DressError> {
         types.0.ident_at(turn, 0)
     }
 }
@@ -48,9 +49,10 @@ impl TypeTurn<TsType> for OneType {
         E: Fn(Source<'_>, &Tree) -> Result<Expr, DressError>,
         P: Fn(Source<'_>, &Tree) -> Result<Pat, DressError>,
         S: Fn(Source<'_>, &Tree) -> Result<Stmt, DressError>,
+        I: Fn(Source<'_>, &Tree) -> Result<ModuleItem, DressError>,
         T: Fn(Source<'_>, &Tree) -> Result<TsType, DressError>,
         Q: Fn(Source<'_>, &Tree) -> Result<TsParamPat, DressError>,
-    >(&self, types: &Types<'_, '_, E, P, S, T, Q>, turn: &[Tree]) -> Result<TsType, DressError> {
+    >(&self, types: &Types<'_, '_, E, P, S, I, T, Q>, turn: &[Tree]) -> Result<TsType, DressError> {
         types.type_at(turn, 0)
     }
 }
@@ -66,11 +68,12 @@ impl TypeTurn<TsTypeParam> for ParamOfTypes {
         E: Fn(Source<'_>, &Tree) -> Result<Expr, DressError>,
         P: Fn(Source<'_>, &Tree) -> Result<Pat, DressError>,
         S: Fn(Source<'_>, &Tree) -> Result<Stmt, DressError>,
+        I: Fn(Source<'_>, &Tree) -> Result<ModuleItem, DressError>,
         T: Fn(Source<'_>, &Tree) -> Result<TsType, DressError>,
         Q: Fn(Source<'_>, &Tree) -> Result<TsParamPat, DressError>,
     >(
         &self,
-        types: &Types<'_, '_, E, P, S, T, Q>,
+        types: &Types<'_, '_, E, P, S, I, T, Q>,
         turn: &[Tree],
     ) -> Result<TsTypeParam, DressError> {
         types.type_param(turn)
@@ -81,14 +84,15 @@ impl<
     E: Fn(Source<'_>, &Tree) -> Result<Expr, DressError>,
     P: Fn(Source<'_>, &Tree) -> Result<Pat, DressError>,
     S: Fn(Source<'_>, &Tree) -> Result<Stmt, DressError>,
+    I: Fn(Source<'_>, &Tree) -> Result<ModuleItem, DressError>,
     T: Fn(Source<'_>, &Tree) -> Result<TsType, DressError>,
     Q: Fn(Source<'_>, &Tree) -> Result<TsParamPat, DressError>,
-> Types<'_, '_, E, P, S, T, Q> {
+> Types<'_, '_, E, P, S, I, T, Q> {
     /// (Name | 'this') ('.' Name)*
     #[tactic(auto, unfolding(es_dress::specs::Modules::entity))]
     pub(crate) fn entity(&self, span: Range, parts: &[Tree]) -> Result<TsEntityName, DressError>
         requires ring { IsRing self.now.0.now.source self.now.0.now.whole.now (E.pre self.now.0.now.expr) (E.post self.now.0.now.expr)
-            (P.pre self.now.0.now.pat) (P.post self.now.0.now.pat) (S.pre self.now.0.now.stmt) (S.post self.now.0.now.stmt) }
+            (P.pre self.now.0.now.pat) (P.post self.now.0.now.pat) (S.pre self.now.0.now.stmt) (S.post self.now.0.now.stmt) (I.pre self.now.0.now.item) (I.post self.now.0.now.item) }
         requires types { IsTypeRing self.now.0.now.source self.now.0.now.whole.now (T.pre self.now.1) (T.post self.now.1) (Q.pre self.now.2) (Q.post self.now.2) }
         requires within { IsWithin parts.now self.now.0.now.whole.now }
         ensures { IsMade (entity self.now.0.now.source.text.now self.now.0.now.source.tokens.now span (parts_in self.now.0.now.source parts.now)) result }
@@ -102,7 +106,7 @@ impl<
     #[tactic(auto, unfolding(es_dress::specs::Dress::build, es_dress::specs::Dress::entity_of))]
     pub fn entity_at(&self, parts: &[Tree], n: usize) -> Result<TsEntityName, DressError>
         requires ring { IsRing self.now.0.now.source self.now.0.now.whole.now (E.pre self.now.0.now.expr) (E.post self.now.0.now.expr)
-            (P.pre self.now.0.now.pat) (P.post self.now.0.now.pat) (S.pre self.now.0.now.stmt) (S.post self.now.0.now.stmt) }
+            (P.pre self.now.0.now.pat) (P.post self.now.0.now.pat) (S.pre self.now.0.now.stmt) (S.post self.now.0.now.stmt) (I.pre self.now.0.now.item) (I.post self.now.0.now.item) }
         requires types { IsTypeRing self.now.0.now.source self.now.0.now.whole.now (T.pre self.now.1) (T.post self.now.1) (Q.pre self.now.2) (Q.post self.now.2) }
         requires within { IsWithin parts.now self.now.0.now.whole.now }
         ensures { IsMade (entity_at (parts_in self.now.0.now.source parts.now) n) result }
@@ -117,7 +121,7 @@ impl<
     /// A name that may be absent.
     pub(crate) fn optional_entity(&self, group: &[Tree]) -> Result<Option<TsEntityName>, DressError>
         requires ring { IsRing self.now.0.now.source self.now.0.now.whole.now (E.pre self.now.0.now.expr) (E.post self.now.0.now.expr)
-            (P.pre self.now.0.now.pat) (P.post self.now.0.now.pat) (S.pre self.now.0.now.stmt) (S.post self.now.0.now.stmt) }
+            (P.pre self.now.0.now.pat) (P.post self.now.0.now.pat) (S.pre self.now.0.now.stmt) (S.post self.now.0.now.stmt) (I.pre self.now.0.now.item) (I.post self.now.0.now.item) }
         requires types { IsTypeRing self.now.0.now.source self.now.0.now.whole.now (T.pre self.now.1) (T.post self.now.1) (Q.pre self.now.2) (Q.post self.now.2) }
         requires within { IsWithin group.now self.now.0.now.whole.now }
         ensures { IsMade (optional entity_at (parts_in self.now.0.now.source group.now)) result }
@@ -131,7 +135,7 @@ impl<
     /// A name alone as a type.
     pub(crate) fn named_type(&self, span: Range, parts: &[Tree]) -> Result<TsType, DressError>
         requires ring { IsRing self.now.0.now.source self.now.0.now.whole.now (E.pre self.now.0.now.expr) (E.post self.now.0.now.expr)
-            (P.pre self.now.0.now.pat) (P.post self.now.0.now.pat) (S.pre self.now.0.now.stmt) (S.post self.now.0.now.stmt) }
+            (P.pre self.now.0.now.pat) (P.post self.now.0.now.pat) (S.pre self.now.0.now.stmt) (S.post self.now.0.now.stmt) (I.pre self.now.0.now.item) (I.post self.now.0.now.item) }
         requires types { IsTypeRing self.now.0.now.source self.now.0.now.whole.now (T.pre self.now.1) (T.post self.now.1) (Q.pre self.now.2) (Q.post self.now.2) }
         requires within { IsWithin parts.now self.now.0.now.whole.now }
         ensures { IsMade (option_map (named span) (entity self.now.0.now.source.text.now self.now.0.now.source.tokens.now span (parts_in self.now.0.now.source parts.now))) result }
@@ -148,7 +152,7 @@ impl<
     #[tactic(auto, unfolding(es_dress::specs::TypeNames::reference))]
     pub(crate) fn reference(&self, span: Range, parts: &[Tree]) -> Result<TsType, DressError>
         requires ring { IsRing self.now.0.now.source self.now.0.now.whole.now (E.pre self.now.0.now.expr) (E.post self.now.0.now.expr)
-            (P.pre self.now.0.now.pat) (P.post self.now.0.now.pat) (S.pre self.now.0.now.stmt) (S.post self.now.0.now.stmt) }
+            (P.pre self.now.0.now.pat) (P.post self.now.0.now.pat) (S.pre self.now.0.now.stmt) (S.post self.now.0.now.stmt) (I.pre self.now.0.now.item) (I.post self.now.0.now.item) }
         requires types { IsTypeRing self.now.0.now.source self.now.0.now.whole.now (T.pre self.now.1) (T.post self.now.1) (Q.pre self.now.2) (Q.post self.now.2) }
         requires within { IsWithin parts.now self.now.0.now.whole.now }
         ensures { IsMade (reference span (parts_in self.now.0.now.source parts.now)) result }
@@ -170,7 +174,7 @@ impl<
         n: usize,
     ) -> Result<(TsEntityName, Option<Nodes<TsType>>), DressError>
         requires ring { IsRing self.now.0.now.source self.now.0.now.whole.now (E.pre self.now.0.now.expr) (E.post self.now.0.now.expr)
-            (P.pre self.now.0.now.pat) (P.post self.now.0.now.pat) (S.pre self.now.0.now.stmt) (S.post self.now.0.now.stmt) }
+            (P.pre self.now.0.now.pat) (P.post self.now.0.now.pat) (S.pre self.now.0.now.stmt) (S.post self.now.0.now.stmt) (I.pre self.now.0.now.item) (I.post self.now.0.now.item) }
         requires types { IsTypeRing self.now.0.now.source self.now.0.now.whole.now (T.pre self.now.1) (T.post self.now.1) (Q.pre self.now.2) (Q.post self.now.2) }
         requires within { IsWithin parts.now self.now.0.now.whole.now }
         ensures { IsMade (reference_at (parts_in self.now.0.now.source parts.now) n) result }
@@ -192,7 +196,7 @@ impl<
     #[tactic(auto, unfolding(es_dress::specs::TypeNames::import_type))]
     pub(crate) fn import_type(&self, span: Range, parts: &[Tree]) -> Result<TsType, DressError>
         requires ring { IsRing self.now.0.now.source self.now.0.now.whole.now (E.pre self.now.0.now.expr) (E.post self.now.0.now.expr)
-            (P.pre self.now.0.now.pat) (P.post self.now.0.now.pat) (S.pre self.now.0.now.stmt) (S.post self.now.0.now.stmt) }
+            (P.pre self.now.0.now.pat) (P.post self.now.0.now.pat) (S.pre self.now.0.now.stmt) (S.post self.now.0.now.stmt) (I.pre self.now.0.now.item) (I.post self.now.0.now.item) }
         requires types { IsTypeRing self.now.0.now.source self.now.0.now.whole.now (T.pre self.now.1) (T.post self.now.1) (Q.pre self.now.2) (Q.post self.now.2) }
         requires within { IsWithin parts.now self.now.0.now.whole.now }
         ensures { IsMade (import_type self.now.0.now.source.text.now self.now.0.now.source.tokens.now span (parts_in self.now.0.now.source parts.now)) result }
@@ -211,7 +215,7 @@ impl<
     /// A type, and others behind separators.
     pub(crate) fn types_from(&self, parts: &[Tree], n: usize) -> Result<Items<TsType>, DressError>
         requires ring { IsRing self.now.0.now.source self.now.0.now.whole.now (E.pre self.now.0.now.expr) (E.post self.now.0.now.expr)
-            (P.pre self.now.0.now.pat) (P.post self.now.0.now.pat) (S.pre self.now.0.now.stmt) (S.post self.now.0.now.stmt) }
+            (P.pre self.now.0.now.pat) (P.post self.now.0.now.pat) (S.pre self.now.0.now.stmt) (S.post self.now.0.now.stmt) (I.pre self.now.0.now.item) (I.post self.now.0.now.item) }
         requires types { IsTypeRing self.now.0.now.source self.now.0.now.whole.now (T.pre self.now.1) (T.post self.now.1) (Q.pre self.now.2) (Q.post self.now.2) }
         requires within { IsWithin parts.now self.now.0.now.whole.now }
         requires place { n < 7 }
@@ -226,7 +230,7 @@ impl<
     #[tactic(auto, unfolding(es_dress::specs::TypeNames::arguments))]
     pub(crate) fn arguments(&self, span: Range, parts: &[Tree]) -> Result<Nodes<TsType>, DressError>
         requires ring { IsRing self.now.0.now.source self.now.0.now.whole.now (E.pre self.now.0.now.expr) (E.post self.now.0.now.expr)
-            (P.pre self.now.0.now.pat) (P.post self.now.0.now.pat) (S.pre self.now.0.now.stmt) (S.post self.now.0.now.stmt) }
+            (P.pre self.now.0.now.pat) (P.post self.now.0.now.pat) (S.pre self.now.0.now.stmt) (S.post self.now.0.now.stmt) (I.pre self.now.0.now.item) (I.post self.now.0.now.item) }
         requires types { IsTypeRing self.now.0.now.source self.now.0.now.whole.now (T.pre self.now.1) (T.post self.now.1) (Q.pre self.now.2) (Q.post self.now.2) }
         requires within { IsWithin parts.now self.now.0.now.whole.now }
         ensures { IsMade (arguments span (parts_in self.now.0.now.source parts.now)) result }
@@ -239,7 +243,7 @@ impl<
     #[tactic(auto, unfolding(es_dress::specs::Dress::build, es_dress::specs::Dress::arguments_of))]
     pub(crate) fn arguments_at(&self, parts: &[Tree], n: usize) -> Result<Nodes<TsType>, DressError>
         requires ring { IsRing self.now.0.now.source self.now.0.now.whole.now (E.pre self.now.0.now.expr) (E.post self.now.0.now.expr)
-            (P.pre self.now.0.now.pat) (P.post self.now.0.now.pat) (S.pre self.now.0.now.stmt) (S.post self.now.0.now.stmt) }
+            (P.pre self.now.0.now.pat) (P.post self.now.0.now.pat) (S.pre self.now.0.now.stmt) (S.post self.now.0.now.stmt) (I.pre self.now.0.now.item) (I.post self.now.0.now.item) }
         requires types { IsTypeRing self.now.0.now.source self.now.0.now.whole.now (T.pre self.now.1) (T.post self.now.1) (Q.pre self.now.2) (Q.post self.now.2) }
         requires within { IsWithin parts.now self.now.0.now.whole.now }
         ensures { IsMade (arguments_at (parts_in self.now.0.now.source parts.now) n) result }
@@ -254,7 +258,7 @@ impl<
     /// Arguments that may be absent.
     pub fn optional_arguments(&self, group: &[Tree]) -> Result<Option<Nodes<TsType>>, DressError>
         requires ring { IsRing self.now.0.now.source self.now.0.now.whole.now (E.pre self.now.0.now.expr) (E.post self.now.0.now.expr)
-            (P.pre self.now.0.now.pat) (P.post self.now.0.now.pat) (S.pre self.now.0.now.stmt) (S.post self.now.0.now.stmt) }
+            (P.pre self.now.0.now.pat) (P.post self.now.0.now.pat) (S.pre self.now.0.now.stmt) (S.post self.now.0.now.stmt) (I.pre self.now.0.now.item) (I.post self.now.0.now.item) }
         requires types { IsTypeRing self.now.0.now.source self.now.0.now.whole.now (T.pre self.now.1) (T.post self.now.1) (Q.pre self.now.2) (Q.post self.now.2) }
         requires within { IsWithin group.now self.now.0.now.whole.now }
         ensures { IsMade (optional arguments_at (parts_in self.now.0.now.source group.now)) result }
@@ -268,7 +272,7 @@ impl<
     /// One of the words in a list of them is of this kind.
     pub(crate) fn holds(&self, kind: TokenKind, group: &[Tree]) -> Result<bool, DressError>
         requires ring { IsRing self.now.0.now.source self.now.0.now.whole.now (E.pre self.now.0.now.expr) (E.post self.now.0.now.expr)
-            (P.pre self.now.0.now.pat) (P.post self.now.0.now.pat) (S.pre self.now.0.now.stmt) (S.post self.now.0.now.stmt) }
+            (P.pre self.now.0.now.pat) (P.post self.now.0.now.pat) (S.pre self.now.0.now.stmt) (S.post self.now.0.now.stmt) (I.pre self.now.0.now.item) (I.post self.now.0.now.item) }
         requires types { IsTypeRing self.now.0.now.source self.now.0.now.whole.now (T.pre self.now.1) (T.post self.now.1) (Q.pre self.now.2) (Q.post self.now.2) }
         requires within { IsWithin group.now self.now.0.now.whole.now }
         ensures { IsMade (holds self.now.0.now.source.tokens.now kind (parts_in self.now.0.now.source group.now)) result }
@@ -287,7 +291,7 @@ impl<
     #[tactic(auto, unfolding(es_dress::specs::TypeNames::type_param))]
     pub(crate) fn type_param(&self, parts: &[Tree]) -> Result<TsTypeParam, DressError>
         requires ring { IsRing self.now.0.now.source self.now.0.now.whole.now (E.pre self.now.0.now.expr) (E.post self.now.0.now.expr)
-            (P.pre self.now.0.now.pat) (P.post self.now.0.now.pat) (S.pre self.now.0.now.stmt) (S.post self.now.0.now.stmt) }
+            (P.pre self.now.0.now.pat) (P.post self.now.0.now.pat) (S.pre self.now.0.now.stmt) (S.post self.now.0.now.stmt) (I.pre self.now.0.now.item) (I.post self.now.0.now.item) }
         requires types { IsTypeRing self.now.0.now.source self.now.0.now.whole.now (T.pre self.now.1) (T.post self.now.1) (Q.pre self.now.2) (Q.post self.now.2) }
         requires within { IsWithin parts.now self.now.0.now.whole.now }
         ensures { IsMade (type_param self.now.0.now.source.text.now self.now.0.now.source.tokens.now (parts_in self.now.0.now.source parts.now)) result }
@@ -319,7 +323,7 @@ impl<
         parts: &[Tree],
     ) -> Result<Nodes<TsTypeParam>, DressError>
         requires ring { IsRing self.now.0.now.source self.now.0.now.whole.now (E.pre self.now.0.now.expr) (E.post self.now.0.now.expr)
-            (P.pre self.now.0.now.pat) (P.post self.now.0.now.pat) (S.pre self.now.0.now.stmt) (S.post self.now.0.now.stmt) }
+            (P.pre self.now.0.now.pat) (P.post self.now.0.now.pat) (S.pre self.now.0.now.stmt) (S.post self.now.0.now.stmt) (I.pre self.now.0.now.item) (I.post self.now.0.now.item) }
         requires types { IsTypeRing self.now.0.now.source self.now.0.now.whole.now (T.pre self.now.1) (T.post self.now.1) (Q.pre self.now.2) (Q.post self.now.2) }
         requires within { IsWithin parts.now self.now.0.now.whole.now }
         ensures { IsMade (type_params self.now.0.now.source.text.now self.now.0.now.source.tokens.now span (parts_in self.now.0.now.source parts.now)) result }
@@ -338,7 +342,7 @@ impl<
         n: usize,
     ) -> Result<Nodes<TsTypeParam>, DressError>
         requires ring { IsRing self.now.0.now.source self.now.0.now.whole.now (E.pre self.now.0.now.expr) (E.post self.now.0.now.expr)
-            (P.pre self.now.0.now.pat) (P.post self.now.0.now.pat) (S.pre self.now.0.now.stmt) (S.post self.now.0.now.stmt) }
+            (P.pre self.now.0.now.pat) (P.post self.now.0.now.pat) (S.pre self.now.0.now.stmt) (S.post self.now.0.now.stmt) (I.pre self.now.0.now.item) (I.post self.now.0.now.item) }
         requires types { IsTypeRing self.now.0.now.source self.now.0.now.whole.now (T.pre self.now.1) (T.post self.now.1) (Q.pre self.now.2) (Q.post self.now.2) }
         requires within { IsWithin parts.now self.now.0.now.whole.now }
         ensures { IsMade (type_params_at (parts_in self.now.0.now.source parts.now) n) result }
@@ -356,7 +360,7 @@ impl<
         group: &[Tree],
     ) -> Result<Option<Nodes<TsTypeParam>>, DressError>
         requires ring { IsRing self.now.0.now.source self.now.0.now.whole.now (E.pre self.now.0.now.expr) (E.post self.now.0.now.expr)
-            (P.pre self.now.0.now.pat) (P.post self.now.0.now.pat) (S.pre self.now.0.now.stmt) (S.post self.now.0.now.stmt) }
+            (P.pre self.now.0.now.pat) (P.post self.now.0.now.pat) (S.pre self.now.0.now.stmt) (S.post self.now.0.now.stmt) (I.pre self.now.0.now.item) (I.post self.now.0.now.item) }
         requires types { IsTypeRing self.now.0.now.source self.now.0.now.whole.now (T.pre self.now.1) (T.post self.now.1) (Q.pre self.now.2) (Q.post self.now.2) }
         requires within { IsWithin group.now self.now.0.now.whole.now }
         ensures { IsMade (optional type_params_at (parts_in self.now.0.now.source group.now)) result }

@@ -1,6 +1,6 @@
 //! What the tree of expressions and statements holds of types: parts that may be absent, and lists of names.
 
-ghost use Rattle.es_dress.specs.Value.{turns, type_at, type_member_at};
+ghost use Rattle.es_dress.specs.Value.{entity_at, turns, type_at, type_member_at};
 ghost use Rattle.es_dress.specs.TypedParts.{annotation_at, params_part_at, args_part_at, heritage_at, heritage_from, heritage_in};
 ghost use Rattle.es_dresser.specs.Nodes.{IsWithin};
 ghost use Rattle.es_dresser.specs.Ring.{IsMade, IsRing, parts_in};
@@ -12,23 +12,24 @@ use crate::knot::{dress_type, dress_type_pat};
 use crate::lists::turns;
 use crate::types::MemberTurn;
 use base::{Boxed, Items};
-use es_ast::{Expr, Pat, Stmt};
+use es_ast::{Expr, ModuleItem, Pat, Stmt};
 use es_dresser::{DressError, Dresser, Source, Turn, single, turns_behind};
 use es_whole_reader::Tree;
-use ts_ast::{TsExprWithTypeArgs, TsPart};
+use ts_ast::{TsEntityName, TsExprWithTypeArgs, TsPart};
 
 /// `: a`, which may be absent.
 pub fn annotation_at<
     E: Fn(Source<'_>, &Tree) -> Result<Expr, DressError>,
     P: Fn(Source<'_>, &Tree) -> Result<Pat, DressError>,
     S: Fn(Source<'_>, &Tree) -> Result<Stmt, DressError>,
+    I: Fn(Source<'_>, &Tree) -> Result<ModuleItem, DressError>,
 >(
-    dresser: &Dresser<'_, E, P, S>,
+    dresser: &Dresser<'_, E, P, S, I>,
     parts: &[Tree],
     n: usize,
 ) -> Result<Option<Boxed<TsPart>>, DressError>
     requires ring { IsRing dresser.now.source dresser.now.whole.now (E.pre dresser.now.expr) (E.post dresser.now.expr)
-        (P.pre dresser.now.pat) (P.post dresser.now.pat) (S.pre dresser.now.stmt) (S.post dresser.now.stmt) }
+        (P.pre dresser.now.pat) (P.post dresser.now.pat) (S.pre dresser.now.stmt) (S.post dresser.now.stmt) (I.pre dresser.now.item) (I.post dresser.now.item) }
     requires within { IsWithin parts.now dresser.now.whole.now }
     ensures { IsMade (annotation_at (parts_in dresser.now.source parts.now) n) result }
 {
@@ -44,13 +45,14 @@ pub fn params_part_at<
     E: Fn(Source<'_>, &Tree) -> Result<Expr, DressError>,
     P: Fn(Source<'_>, &Tree) -> Result<Pat, DressError>,
     S: Fn(Source<'_>, &Tree) -> Result<Stmt, DressError>,
+    I: Fn(Source<'_>, &Tree) -> Result<ModuleItem, DressError>,
 >(
-    dresser: &Dresser<'_, E, P, S>,
+    dresser: &Dresser<'_, E, P, S, I>,
     parts: &[Tree],
     n: usize,
 ) -> Result<Option<Boxed<TsPart>>, DressError>
     requires ring { IsRing dresser.now.source dresser.now.whole.now (E.pre dresser.now.expr) (E.post dresser.now.expr)
-        (P.pre dresser.now.pat) (P.post dresser.now.pat) (S.pre dresser.now.stmt) (S.post dresser.now.stmt) }
+        (P.pre dresser.now.pat) (P.post dresser.now.pat) (S.pre dresser.now.stmt) (S.post dresser.now.stmt) (I.pre dresser.now.item) (I.post dresser.now.item) }
     requires within { IsWithin parts.now dresser.now.whole.now }
     ensures { IsMade (params_part_at (parts_in dresser.now.source parts.now) n) result }
 {
@@ -66,13 +68,14 @@ pub fn args_part_at<
     E: Fn(Source<'_>, &Tree) -> Result<Expr, DressError>,
     P: Fn(Source<'_>, &Tree) -> Result<Pat, DressError>,
     S: Fn(Source<'_>, &Tree) -> Result<Stmt, DressError>,
+    I: Fn(Source<'_>, &Tree) -> Result<ModuleItem, DressError>,
 >(
-    dresser: &Dresser<'_, E, P, S>,
+    dresser: &Dresser<'_, E, P, S, I>,
     parts: &[Tree],
     n: usize,
 ) -> Result<Option<Boxed<TsPart>>, DressError>
     requires ring { IsRing dresser.now.source dresser.now.whole.now (E.pre dresser.now.expr) (E.post dresser.now.expr)
-        (P.pre dresser.now.pat) (P.post dresser.now.pat) (S.pre dresser.now.stmt) (S.post dresser.now.stmt) }
+        (P.pre dresser.now.pat) (P.post dresser.now.pat) (S.pre dresser.now.stmt) (S.post dresser.now.stmt) (I.pre dresser.now.item) (I.post dresser.now.item) }
     requires within { IsWithin parts.now dresser.now.whole.now }
     ensures { IsMade (args_part_at (parts_in dresser.now.source parts.now) n) result }
 {
@@ -88,9 +91,10 @@ pub fn type_part_at<
     E: Fn(Source<'_>, &Tree) -> Result<Expr, DressError>,
     P: Fn(Source<'_>, &Tree) -> Result<Pat, DressError>,
     S: Fn(Source<'_>, &Tree) -> Result<Stmt, DressError>,
->(dresser: &Dresser<'_, E, P, S>, parts: &[Tree], n: usize) -> Result<Boxed<TsPart>, DressError>
+    I: Fn(Source<'_>, &Tree) -> Result<ModuleItem, DressError>,
+>(dresser: &Dresser<'_, E, P, S, I>, parts: &[Tree], n: usize) -> Result<Boxed<TsPart>, DressError>
     requires ring { IsRing dresser.now.source dresser.now.whole.now (E.pre dresser.now.expr) (E.post dresser.now.expr)
-        (P.pre dresser.now.pat) (P.post dresser.now.pat) (S.pre dresser.now.stmt) (S.post dresser.now.stmt) }
+        (P.pre dresser.now.pat) (P.post dresser.now.pat) (S.pre dresser.now.stmt) (S.post dresser.now.stmt) (I.pre dresser.now.item) (I.post dresser.now.item) }
     requires within { IsWithin parts.now dresser.now.whole.now }
     ensures { IsMade (option_map vPart.TypeAnn (type_at (parts_in dresser.now.source parts.now) n)) result }
 {
@@ -104,13 +108,14 @@ pub(crate) fn heritage_at<
     E: Fn(Source<'_>, &Tree) -> Result<Expr, DressError>,
     P: Fn(Source<'_>, &Tree) -> Result<Pat, DressError>,
     S: Fn(Source<'_>, &Tree) -> Result<Stmt, DressError>,
+    I: Fn(Source<'_>, &Tree) -> Result<ModuleItem, DressError>,
 >(
-    dresser: &Dresser<'_, E, P, S>,
+    dresser: &Dresser<'_, E, P, S, I>,
     parts: &[Tree],
     n: usize,
 ) -> Result<TsExprWithTypeArgs, DressError>
     requires ring { IsRing dresser.now.source dresser.now.whole.now (E.pre dresser.now.expr) (E.post dresser.now.expr)
-        (P.pre dresser.now.pat) (P.post dresser.now.pat) (S.pre dresser.now.stmt) (S.post dresser.now.stmt) }
+        (P.pre dresser.now.pat) (P.post dresser.now.pat) (S.pre dresser.now.stmt) (S.post dresser.now.stmt) (I.pre dresser.now.item) (I.post dresser.now.item) }
     requires within { IsWithin parts.now dresser.now.whole.now }
     ensures { IsMade (heritage_at dresser.now.source.tokens.now (parts_in dresser.now.source parts.now) n) result }
 {
@@ -135,9 +140,10 @@ impl Turn<TsExprWithTypeArgs> for HeritageTurn {
         E: Fn(Source<'_>, &Tree) -> Result<Expr, DressError>,
         P: Fn(Source<'_>, &Tree) -> Result<Pat, DressError>,
         S: Fn(Source<'_>, &Tree) -> Result<Stmt, DressError>,
+        I: Fn(Source<'_>, &Tree) -> Result<ModuleItem, DressError>,
     >(
         &self,
-        dresser: &Dresser<'_, E, P, S>,
+        dresser: &Dresser<'_, E, P, S, I>,
         turn: &[Tree],
     ) -> Result<TsExprWithTypeArgs, DressError> {
         heritage_at(dresser, turn, 0)
@@ -149,13 +155,14 @@ fn heritage_from<
     E: Fn(Source<'_>, &Tree) -> Result<Expr, DressError>,
     P: Fn(Source<'_>, &Tree) -> Result<Pat, DressError>,
     S: Fn(Source<'_>, &Tree) -> Result<Stmt, DressError>,
+    I: Fn(Source<'_>, &Tree) -> Result<ModuleItem, DressError>,
 >(
-    dresser: &Dresser<'_, E, P, S>,
+    dresser: &Dresser<'_, E, P, S, I>,
     parts: &[Tree],
     n: usize,
 ) -> Result<Items<TsExprWithTypeArgs>, DressError>
     requires ring { IsRing dresser.now.source dresser.now.whole.now (E.pre dresser.now.expr) (E.post dresser.now.expr)
-        (P.pre dresser.now.pat) (P.post dresser.now.pat) (S.pre dresser.now.stmt) (S.post dresser.now.stmt) }
+        (P.pre dresser.now.pat) (P.post dresser.now.pat) (S.pre dresser.now.stmt) (S.post dresser.now.stmt) (I.pre dresser.now.item) (I.post dresser.now.item) }
     requires within { IsWithin parts.now dresser.now.whole.now }
     requires place { n < 7 }
     ensures { IsMade (heritage_from dresser.now.source.tokens.now (parts_in dresser.now.source parts.now) n) result }
@@ -170,9 +177,10 @@ pub fn heritage_in<
     E: Fn(Source<'_>, &Tree) -> Result<Expr, DressError>,
     P: Fn(Source<'_>, &Tree) -> Result<Pat, DressError>,
     S: Fn(Source<'_>, &Tree) -> Result<Stmt, DressError>,
->(dresser: &Dresser<'_, E, P, S>, group: &[Tree]) -> Result<Option<Boxed<TsPart>>, DressError>
+    I: Fn(Source<'_>, &Tree) -> Result<ModuleItem, DressError>,
+>(dresser: &Dresser<'_, E, P, S, I>, group: &[Tree]) -> Result<Option<Boxed<TsPart>>, DressError>
     requires ring { IsRing dresser.now.source dresser.now.whole.now (E.pre dresser.now.expr) (E.post dresser.now.expr)
-        (P.pre dresser.now.pat) (P.post dresser.now.pat) (S.pre dresser.now.stmt) (S.post dresser.now.stmt) }
+        (P.pre dresser.now.pat) (P.post dresser.now.pat) (S.pre dresser.now.stmt) (S.post dresser.now.stmt) (I.pre dresser.now.item) (I.post dresser.now.item) }
     requires within { IsWithin group.now dresser.now.whole.now }
     ensures { IsMade (heritage_in dresser.now.source.tokens.now (parts_in dresser.now.source group.now)) result }
 {
@@ -188,13 +196,29 @@ pub fn members_part<
     E: Fn(Source<'_>, &Tree) -> Result<Expr, DressError>,
     P: Fn(Source<'_>, &Tree) -> Result<Pat, DressError>,
     S: Fn(Source<'_>, &Tree) -> Result<Stmt, DressError>,
->(dresser: &Dresser<'_, E, P, S>, group: &[Tree]) -> Result<Boxed<TsPart>, DressError>
+    I: Fn(Source<'_>, &Tree) -> Result<ModuleItem, DressError>,
+>(dresser: &Dresser<'_, E, P, S, I>, group: &[Tree]) -> Result<Boxed<TsPart>, DressError>
     requires ring { IsRing dresser.now.source dresser.now.whole.now (E.pre dresser.now.expr) (E.post dresser.now.expr)
-        (P.pre dresser.now.pat) (P.post dresser.now.pat) (S.pre dresser.now.stmt) (S.post dresser.now.stmt) }
+        (P.pre dresser.now.pat) (P.post dresser.now.pat) (S.pre dresser.now.stmt) (S.post dresser.now.stmt) (I.pre dresser.now.item) (I.post dresser.now.item) }
     requires within { IsWithin group.now dresser.now.whole.now }
     ensures { IsMade (option_map vPart.Members (turns (λ turn. type_member_at turn 0) (parts_in dresser.now.source group.now))) result }
 {
     let types = Types(dresser, dress_type, dress_type_pat);
     let members = turns(&MemberTurn, &types, group)?;
     Ok(Boxed::new(dresser.source.alloc, TsPart::Members(members))?)
+}
+
+/// A name with names of namespaces before it.
+pub fn entity_at<
+    E: Fn(Source<'_>, &Tree) -> Result<Expr, DressError>,
+    P: Fn(Source<'_>, &Tree) -> Result<Pat, DressError>,
+    S: Fn(Source<'_>, &Tree) -> Result<Stmt, DressError>,
+    I: Fn(Source<'_>, &Tree) -> Result<ModuleItem, DressError>,
+>(dresser: &Dresser<'_, E, P, S, I>, parts: &[Tree], n: usize) -> Result<TsEntityName, DressError>
+    requires ring { IsRing dresser.now.source dresser.now.whole.now (E.pre dresser.now.expr) (E.post dresser.now.expr)
+        (P.pre dresser.now.pat) (P.post dresser.now.pat) (S.pre dresser.now.stmt) (S.post dresser.now.stmt) (I.pre dresser.now.item) (I.post dresser.now.item) }
+    requires within { IsWithin parts.now dresser.now.whole.now }
+    ensures { IsMade (entity_at (parts_in dresser.now.source parts.now) n) result }
+{
+    Types(dresser, dress_type, dress_type_pat).entity_at(parts, n)
 }

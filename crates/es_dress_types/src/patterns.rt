@@ -12,7 +12,7 @@ use crate::base::Types;
 use crate::lists::{TypeTurn, turns};
 use crate::texts::{before, marked, with_rest};
 use base::{Items, Range};
-use es_ast::{Expr, Pat, Stmt};
+use es_ast::{Expr, ModuleItem, Pat, Stmt};
 use es_dresser::{DressError, Node, Source};
 use es_whole_grammar::Label;
 use es_whole_reader::Tree;
@@ -29,9 +29,14 @@ impl TypeTurn<TsPatProp> for PropTurn {
         E: Fn(Source<'_>, &Tree) -> Result<Expr, DressError>,
         P: Fn(Source<'_>, &Tree) -> Result<Pat, DressError>,
         S: Fn(Source<'_>, &Tree) -> Result<Stmt, DressError>,
+        I: Fn(Source<'_>, &Tree) -> Result<ModuleItem, DressError>,
         T: Fn(Source<'_>, &Tree) -> Result<TsType, DressError>,
         Q: Fn(Source<'_>, &Tree) -> Result<TsParamPat, DressError>,
-    >(&self, types: &Types<'_, '_, E, P, S, T, Q>, turn: &[Tree]) -> Result<TsPatProp, DressError> {
+    >(
+        &self,
+        types: &Types<'_, '_, E, P, S, I, T, Q>,
+        turn: &[Tree],
+    ) -> Result<TsPatProp, DressError> {
         types.prop_at(turn, 0)
     }
 }
@@ -47,9 +52,14 @@ impl TypeTurn<TsFnParam> for FnParamTurn {
         E: Fn(Source<'_>, &Tree) -> Result<Expr, DressError>,
         P: Fn(Source<'_>, &Tree) -> Result<Pat, DressError>,
         S: Fn(Source<'_>, &Tree) -> Result<Stmt, DressError>,
+        I: Fn(Source<'_>, &Tree) -> Result<ModuleItem, DressError>,
         T: Fn(Source<'_>, &Tree) -> Result<TsType, DressError>,
         Q: Fn(Source<'_>, &Tree) -> Result<TsParamPat, DressError>,
-    >(&self, types: &Types<'_, '_, E, P, S, T, Q>, turn: &[Tree]) -> Result<TsFnParam, DressError> {
+    >(
+        &self,
+        types: &Types<'_, '_, E, P, S, I, T, Q>,
+        turn: &[Tree],
+    ) -> Result<TsFnParam, DressError> {
         types.param_at(turn, 0)
     }
 }
@@ -58,9 +68,10 @@ impl<
     E: Fn(Source<'_>, &Tree) -> Result<Expr, DressError>,
     P: Fn(Source<'_>, &Tree) -> Result<Pat, DressError>,
     S: Fn(Source<'_>, &Tree) -> Result<Stmt, DressError>,
+    I: Fn(Source<'_>, &Tree) -> Result<ModuleItem, DressError>,
     T: Fn(Source<'_>, &Tree) -> Result<TsType, DressError>,
     Q: Fn(Source<'_>, &Tree) -> Result<TsParamPat, DressError>,
-> Types<'_, '_, E, P, S, T, Q> {
+> Types<'_, '_, E, P, S, I, T, Q> {
     /// `{ a: b }`
     #[tactic(auto, unfolding(es_dress::specs::TypePatterns::object_pattern))]
     pub(crate) fn object_pattern(
@@ -69,7 +80,7 @@ impl<
         parts: &[Tree],
     ) -> Result<TsParamPat, DressError>
         requires ring { IsRing self.now.0.now.source self.now.0.now.whole.now (E.pre self.now.0.now.expr) (E.post self.now.0.now.expr)
-            (P.pre self.now.0.now.pat) (P.post self.now.0.now.pat) (S.pre self.now.0.now.stmt) (S.post self.now.0.now.stmt) }
+            (P.pre self.now.0.now.pat) (P.post self.now.0.now.pat) (S.pre self.now.0.now.stmt) (S.post self.now.0.now.stmt) (I.pre self.now.0.now.item) (I.post self.now.0.now.item) }
         requires types { IsTypeRing self.now.0.now.source self.now.0.now.whole.now (T.pre self.now.1) (T.post self.now.1) (Q.pre self.now.2) (Q.post self.now.2) }
         requires within { IsWithin parts.now self.now.0.now.whole.now }
         ensures { IsMade (object_pattern span (parts_in self.now.0.now.source parts.now)) result }
@@ -82,7 +93,7 @@ impl<
     #[tactic(auto, unfolding(es_dress::specs::TypePatterns::rest_pattern))]
     pub(crate) fn rest_pattern(&self, span: Range, parts: &[Tree]) -> Result<TsParamPat, DressError>
         requires ring { IsRing self.now.0.now.source self.now.0.now.whole.now (E.pre self.now.0.now.expr) (E.post self.now.0.now.expr)
-            (P.pre self.now.0.now.pat) (P.post self.now.0.now.pat) (S.pre self.now.0.now.stmt) (S.post self.now.0.now.stmt) }
+            (P.pre self.now.0.now.pat) (P.post self.now.0.now.pat) (S.pre self.now.0.now.stmt) (S.post self.now.0.now.stmt) (I.pre self.now.0.now.item) (I.post self.now.0.now.item) }
         requires types { IsTypeRing self.now.0.now.source self.now.0.now.whole.now (T.pre self.now.1) (T.post self.now.1) (Q.pre self.now.2) (Q.post self.now.2) }
         requires within { IsWithin parts.now self.now.0.now.whole.now }
         ensures { IsMade (rest_pattern span (parts_in self.now.0.now.source parts.now)) result }
@@ -95,7 +106,7 @@ impl<
     #[tactic(auto, unfolding(es_dress::specs::Dress::type_prop_of, es_dress::specs::TypePatterns::rest_property, es_dress::specs::TypePatterns::key_property, es_dress::specs::TypePatterns::name_property))]
     pub(crate) fn prop(&self, node: &Node<'_>) -> Result<TsPatProp, DressError>
         requires ring { IsRing self.now.0.now.source self.now.0.now.whole.now (E.pre self.now.0.now.expr) (E.post self.now.0.now.expr)
-            (P.pre self.now.0.now.pat) (P.post self.now.0.now.pat) (S.pre self.now.0.now.stmt) (S.post self.now.0.now.stmt) }
+            (P.pre self.now.0.now.pat) (P.post self.now.0.now.pat) (S.pre self.now.0.now.stmt) (S.post self.now.0.now.stmt) (I.pre self.now.0.now.item) (I.post self.now.0.now.item) }
         requires types { IsTypeRing self.now.0.now.source self.now.0.now.whole.now (T.pre self.now.1) (T.post self.now.1) (Q.pre self.now.2) (Q.post self.now.2) }
         requires within { IsWithin node.now.parts.now self.now.0.now.whole.now }
         ensures { IsMade (type_prop_of self.now.0.now.source.text.now self.now.0.now.source.tokens.now node.now.label node.now.span (parts_in self.now.0.now.source node.now.parts.now)) result }
@@ -120,7 +131,7 @@ impl<
     #[tactic(auto, unfolding(es_dress::specs::Dress::build))]
     pub(crate) fn prop_at(&self, parts: &[Tree], n: usize) -> Result<TsPatProp, DressError>
         requires ring { IsRing self.now.0.now.source self.now.0.now.whole.now (E.pre self.now.0.now.expr) (E.post self.now.0.now.expr)
-            (P.pre self.now.0.now.pat) (P.post self.now.0.now.pat) (S.pre self.now.0.now.stmt) (S.post self.now.0.now.stmt) }
+            (P.pre self.now.0.now.pat) (P.post self.now.0.now.pat) (S.pre self.now.0.now.stmt) (S.post self.now.0.now.stmt) (I.pre self.now.0.now.item) (I.post self.now.0.now.item) }
         requires types { IsTypeRing self.now.0.now.source self.now.0.now.whole.now (T.pre self.now.1) (T.post self.now.1) (Q.pre self.now.2) (Q.post self.now.2) }
         requires within { IsWithin parts.now self.now.0.now.whole.now }
         ensures { IsMade (type_prop_at (parts_in self.now.0.now.source parts.now) n) result }
@@ -133,7 +144,7 @@ impl<
     #[tactic(auto, unfolding(es_dress::specs::Dress::type_pat_of, es_dress::specs::TypePatterns::name_pattern))]
     pub(crate) fn pat(&self, node: &Node<'_>) -> Result<TsParamPat, DressError>
         requires ring { IsRing self.now.0.now.source self.now.0.now.whole.now (E.pre self.now.0.now.expr) (E.post self.now.0.now.expr)
-            (P.pre self.now.0.now.pat) (P.post self.now.0.now.pat) (S.pre self.now.0.now.stmt) (S.post self.now.0.now.stmt) }
+            (P.pre self.now.0.now.pat) (P.post self.now.0.now.pat) (S.pre self.now.0.now.stmt) (S.post self.now.0.now.stmt) (I.pre self.now.0.now.item) (I.post self.now.0.now.item) }
         requires types { IsTypeRing self.now.0.now.source self.now.0.now.whole.now (T.pre self.now.1) (T.post self.now.1) (Q.pre self.now.2) (Q.post self.now.2) }
         requires within { IsWithin node.now.parts.now self.now.0.now.whole.now }
         ensures { IsMade (type_pat_of self.now.0.now.source.text.now self.now.0.now.source.tokens.now node.now.label node.now.from node.now.span (parts_in self.now.0.now.source node.now.parts.now)) result }
@@ -156,7 +167,7 @@ impl<
         parts: &[Tree],
     ) -> Result<TsFnParam, DressError>
         requires ring { IsRing self.now.0.now.source self.now.0.now.whole.now (E.pre self.now.0.now.expr) (E.post self.now.0.now.expr)
-            (P.pre self.now.0.now.pat) (P.post self.now.0.now.pat) (S.pre self.now.0.now.stmt) (S.post self.now.0.now.stmt) }
+            (P.pre self.now.0.now.pat) (P.post self.now.0.now.pat) (S.pre self.now.0.now.stmt) (S.post self.now.0.now.stmt) (I.pre self.now.0.now.item) (I.post self.now.0.now.item) }
         requires types { IsTypeRing self.now.0.now.source self.now.0.now.whole.now (T.pre self.now.1) (T.post self.now.1) (Q.pre self.now.2) (Q.post self.now.2) }
         requires within { IsWithin parts.now self.now.0.now.whole.now }
         ensures { IsMade (this_parameter self.now.0.now.source.tokens.now span (parts_in self.now.0.now.source parts.now)) result }
@@ -177,7 +188,7 @@ impl<
     #[tactic(auto, unfolding(es_dress::specs::Dress::build, es_dress::specs::Dress::type_pat_of, es_dress::specs::Dress::type_name_of, es_dress::specs::TypePatterns::name_pattern))]
     pub(crate) fn marked_pat_at(&self, parts: &[Tree], n: usize) -> Result<TsParamPat, DressError>
         requires ring { IsRing self.now.0.now.source self.now.0.now.whole.now (E.pre self.now.0.now.expr) (E.post self.now.0.now.expr)
-            (P.pre self.now.0.now.pat) (P.post self.now.0.now.pat) (S.pre self.now.0.now.stmt) (S.post self.now.0.now.stmt) }
+            (P.pre self.now.0.now.pat) (P.post self.now.0.now.pat) (S.pre self.now.0.now.stmt) (S.post self.now.0.now.stmt) (I.pre self.now.0.now.item) (I.post self.now.0.now.item) }
         requires types { IsTypeRing self.now.0.now.source self.now.0.now.whole.now (T.pre self.now.1) (T.post self.now.1) (Q.pre self.now.2) (Q.post self.now.2) }
         requires within { IsWithin parts.now self.now.0.now.whole.now }
         ensures { IsMade (given (type_pat_at (parts_in self.now.0.now.source parts.now) n) (λ pat. Some (marked_pat (type_name_at (parts_in self.now.0.now.source parts.now) n) pat))) result }
@@ -198,7 +209,7 @@ impl<
         parts: &[Tree],
     ) -> Result<TsFnParam, DressError>
         requires ring { IsRing self.now.0.now.source self.now.0.now.whole.now (E.pre self.now.0.now.expr) (E.post self.now.0.now.expr)
-            (P.pre self.now.0.now.pat) (P.post self.now.0.now.pat) (S.pre self.now.0.now.stmt) (S.post self.now.0.now.stmt) }
+            (P.pre self.now.0.now.pat) (P.post self.now.0.now.pat) (S.pre self.now.0.now.stmt) (S.post self.now.0.now.stmt) (I.pre self.now.0.now.item) (I.post self.now.0.now.item) }
         requires types { IsTypeRing self.now.0.now.source self.now.0.now.whole.now (T.pre self.now.1) (T.post self.now.1) (Q.pre self.now.2) (Q.post self.now.2) }
         requires within { IsWithin parts.now self.now.0.now.whole.now }
         ensures { IsMade (marked_parameter span (parts_in self.now.0.now.source parts.now)) result }
@@ -230,7 +241,7 @@ impl<
     #[tactic(auto, unfolding(es_dress::specs::Dress::build, es_dress::specs::Dress::fn_param_of))]
     pub(crate) fn param_at(&self, parts: &[Tree], n: usize) -> Result<TsFnParam, DressError>
         requires ring { IsRing self.now.0.now.source self.now.0.now.whole.now (E.pre self.now.0.now.expr) (E.post self.now.0.now.expr)
-            (P.pre self.now.0.now.pat) (P.post self.now.0.now.pat) (S.pre self.now.0.now.stmt) (S.post self.now.0.now.stmt) }
+            (P.pre self.now.0.now.pat) (P.post self.now.0.now.pat) (S.pre self.now.0.now.stmt) (S.post self.now.0.now.stmt) (I.pre self.now.0.now.item) (I.post self.now.0.now.item) }
         requires types { IsTypeRing self.now.0.now.source self.now.0.now.whole.now (T.pre self.now.1) (T.post self.now.1) (Q.pre self.now.2) (Q.post self.now.2) }
         requires within { IsWithin parts.now self.now.0.now.whole.now }
         ensures { IsMade (fn_param_at (parts_in self.now.0.now.source parts.now) n) result }
@@ -255,7 +266,7 @@ impl<
     /// The last parameter, behind `...`, from the parts of its group.
     pub(crate) fn rest_param(&self, group: &[Tree]) -> Result<Option<TsFnParam>, DressError>
         requires ring { IsRing self.now.0.now.source self.now.0.now.whole.now (E.pre self.now.0.now.expr) (E.post self.now.0.now.expr)
-            (P.pre self.now.0.now.pat) (P.post self.now.0.now.pat) (S.pre self.now.0.now.stmt) (S.post self.now.0.now.stmt) }
+            (P.pre self.now.0.now.pat) (P.post self.now.0.now.pat) (S.pre self.now.0.now.stmt) (S.post self.now.0.now.stmt) (I.pre self.now.0.now.item) (I.post self.now.0.now.item) }
         requires types { IsTypeRing self.now.0.now.source self.now.0.now.whole.now (T.pre self.now.1) (T.post self.now.1) (Q.pre self.now.2) (Q.post self.now.2) }
         requires within { IsWithin group.now self.now.0.now.whole.now }
         ensures { IsMade (rest_at self.now.0.now.source.tokens.now (parts_in self.now.0.now.source group.now)) result }
@@ -285,7 +296,7 @@ impl<
     #[tactic(auto, unfolding(es_dress::specs::TypePatterns::parameters))]
     pub(crate) fn parameters(&self, parts: &[Tree]) -> Result<Items<TsFnParam>, DressError>
         requires ring { IsRing self.now.0.now.source self.now.0.now.whole.now (E.pre self.now.0.now.expr) (E.post self.now.0.now.expr)
-            (P.pre self.now.0.now.pat) (P.post self.now.0.now.pat) (S.pre self.now.0.now.stmt) (S.post self.now.0.now.stmt) }
+            (P.pre self.now.0.now.pat) (P.post self.now.0.now.pat) (S.pre self.now.0.now.stmt) (S.post self.now.0.now.stmt) (I.pre self.now.0.now.item) (I.post self.now.0.now.item) }
         requires types { IsTypeRing self.now.0.now.source self.now.0.now.whole.now (T.pre self.now.1) (T.post self.now.1) (Q.pre self.now.2) (Q.post self.now.2) }
         requires within { IsWithin parts.now self.now.0.now.whole.now }
         ensures { IsMade (parameters self.now.0.now.source.tokens.now (parts_in self.now.0.now.source parts.now)) result }
@@ -299,7 +310,7 @@ impl<
     #[tactic(auto, unfolding(es_dress::specs::Dress::build, es_dress::specs::Dress::fn_params_of))]
     pub(crate) fn params_at(&self, parts: &[Tree], n: usize) -> Result<Items<TsFnParam>, DressError>
         requires ring { IsRing self.now.0.now.source self.now.0.now.whole.now (E.pre self.now.0.now.expr) (E.post self.now.0.now.expr)
-            (P.pre self.now.0.now.pat) (P.post self.now.0.now.pat) (S.pre self.now.0.now.stmt) (S.post self.now.0.now.stmt) }
+            (P.pre self.now.0.now.pat) (P.post self.now.0.now.pat) (S.pre self.now.0.now.stmt) (S.post self.now.0.now.stmt) (I.pre self.now.0.now.item) (I.post self.now.0.now.item) }
         requires types { IsTypeRing self.now.0.now.source self.now.0.now.whole.now (T.pre self.now.1) (T.post self.now.1) (Q.pre self.now.2) (Q.post self.now.2) }
         requires within { IsWithin parts.now self.now.0.now.whole.now }
         ensures { IsMade (fn_params_at (parts_in self.now.0.now.source parts.now) n) result }

@@ -15,7 +15,7 @@ use crate::lists::{TypeTurn, turns, turns_behind};
 use crate::names::OneType;
 use crate::texts::{keyword_kind, marked, numeric_lit, operator, sign};
 use base::{Items, Range};
-use es_ast::{Expr, Pat, Stmt};
+use es_ast::{Expr, ModuleItem, Pat, Stmt};
 use es_dresser::{DressError, Node, Source, single, some};
 use es_token::TokenKind;
 use es_whole_grammar::Label;
@@ -35,11 +35,12 @@ impl TypeTurn<TplElement> for MiddlePiece {
         E: Fn(Source<'_>, &Tree) -> Result<Expr, DressError>,
         P: Fn(Source<'_>, &Tree) -> Result<Pat, DressError>,
         S: Fn(Source<'_>, &Tree) -> Result<Stmt, DressError>,
+        I: Fn(Source<'_>, &Tree) -> Result<ModuleItem, DressError>,
         T: Fn(Source<'_>, &Tree) -> Result<TsType, DressError>,
         Q: Fn(Source<'_>, &Tree) -> Result<TsParamPat, DressError>,
     >(
         &self,
-        types: &Types<'_, '_, E, P, S, T, Q>,
+        types: &Types<'_, '_, E, P, S, I, T, Q>,
         turn: &[Tree],
     ) -> Result<TplElement, DressError> {
         types.0.piece_at(turn, 0)
@@ -57,9 +58,10 @@ impl TypeTurn<TsType> for PieceType {
         E: Fn(Source<'_>, &Tree) -> Result<Expr, DressError>,
         P: Fn(Source<'_>, &Tree) -> Result<Pat, DressError>,
         S: Fn(Source<'_>, &Tree) -> Result<Stmt, DressError>,
+        I: Fn(Source<'_>, &Tree) -> Result<ModuleItem, DressError>,
         T: Fn(Source<'_>, &Tree) -> Result<TsType, DressError>,
         Q: Fn(Source<'_>, &Tree) -> Result<TsParamPat, DressError>,
-    >(&self, types: &Types<'_, '_, E, P, S, T, Q>, turn: &[Tree]) -> Result<TsType, DressError> {
+    >(&self, types: &Types<'_, '_, E, P, S, I, T, Q>, turn: &[Tree]) -> Result<TsType, DressError> {
         types.type_at(turn, 1)
     }
 }
@@ -75,11 +77,12 @@ impl TypeTurn<TsTypeElement> for MemberTurn {
         E: Fn(Source<'_>, &Tree) -> Result<Expr, DressError>,
         P: Fn(Source<'_>, &Tree) -> Result<Pat, DressError>,
         S: Fn(Source<'_>, &Tree) -> Result<Stmt, DressError>,
+        I: Fn(Source<'_>, &Tree) -> Result<ModuleItem, DressError>,
         T: Fn(Source<'_>, &Tree) -> Result<TsType, DressError>,
         Q: Fn(Source<'_>, &Tree) -> Result<TsParamPat, DressError>,
     >(
         &self,
-        types: &Types<'_, '_, E, P, S, T, Q>,
+        types: &Types<'_, '_, E, P, S, I, T, Q>,
         turn: &[Tree],
     ) -> Result<TsTypeElement, DressError> {
         types.member_at(turn, 0)
@@ -97,11 +100,12 @@ impl TypeTurn<TsTupleElement> for ElementTurn {
         E: Fn(Source<'_>, &Tree) -> Result<Expr, DressError>,
         P: Fn(Source<'_>, &Tree) -> Result<Pat, DressError>,
         S: Fn(Source<'_>, &Tree) -> Result<Stmt, DressError>,
+        I: Fn(Source<'_>, &Tree) -> Result<ModuleItem, DressError>,
         T: Fn(Source<'_>, &Tree) -> Result<TsType, DressError>,
         Q: Fn(Source<'_>, &Tree) -> Result<TsParamPat, DressError>,
     >(
         &self,
-        types: &Types<'_, '_, E, P, S, T, Q>,
+        types: &Types<'_, '_, E, P, S, I, T, Q>,
         turn: &[Tree],
     ) -> Result<TsTupleElement, DressError> {
         types.element_at(turn, 0)
@@ -112,14 +116,15 @@ impl<
     E: Fn(Source<'_>, &Tree) -> Result<Expr, DressError>,
     P: Fn(Source<'_>, &Tree) -> Result<Pat, DressError>,
     S: Fn(Source<'_>, &Tree) -> Result<Stmt, DressError>,
+    I: Fn(Source<'_>, &Tree) -> Result<ModuleItem, DressError>,
     T: Fn(Source<'_>, &Tree) -> Result<TsType, DressError>,
     Q: Fn(Source<'_>, &Tree) -> Result<TsParamPat, DressError>,
-> Types<'_, '_, E, P, S, T, Q> {
+> Types<'_, '_, E, P, S, I, T, Q> {
     /// `string`
     #[tactic(auto, unfolding(es_dress::specs::Types::keyword_type))]
     pub(crate) fn keyword_type(&self, span: Range, parts: &[Tree]) -> Result<TsType, DressError>
         requires ring { IsRing self.now.0.now.source self.now.0.now.whole.now (E.pre self.now.0.now.expr) (E.post self.now.0.now.expr)
-            (P.pre self.now.0.now.pat) (P.post self.now.0.now.pat) (S.pre self.now.0.now.stmt) (S.post self.now.0.now.stmt) }
+            (P.pre self.now.0.now.pat) (P.post self.now.0.now.pat) (S.pre self.now.0.now.stmt) (S.post self.now.0.now.stmt) (I.pre self.now.0.now.item) (I.post self.now.0.now.item) }
         requires types { IsTypeRing self.now.0.now.source self.now.0.now.whole.now (T.pre self.now.1) (T.post self.now.1) (Q.pre self.now.2) (Q.post self.now.2) }
         requires within { IsWithin parts.now self.now.0.now.whole.now }
         ensures { IsMade (keyword_type self.now.0.now.source.tokens.now span (parts_in self.now.0.now.source parts.now)) result }
@@ -135,7 +140,7 @@ impl<
     #[tactic(auto, unfolding(es_dress::specs::Types::word_type, es_dress::specs::Types::word_of))]
     pub(crate) fn word_type(&self, span: Range, parts: &[Tree]) -> Result<TsType, DressError>
         requires ring { IsRing self.now.0.now.source self.now.0.now.whole.now (E.pre self.now.0.now.expr) (E.post self.now.0.now.expr)
-            (P.pre self.now.0.now.pat) (P.post self.now.0.now.pat) (S.pre self.now.0.now.stmt) (S.post self.now.0.now.stmt) }
+            (P.pre self.now.0.now.pat) (P.post self.now.0.now.pat) (S.pre self.now.0.now.stmt) (S.post self.now.0.now.stmt) (I.pre self.now.0.now.item) (I.post self.now.0.now.item) }
         requires types { IsTypeRing self.now.0.now.source self.now.0.now.whole.now (T.pre self.now.1) (T.post self.now.1) (Q.pre self.now.2) (Q.post self.now.2) }
         requires within { IsWithin parts.now self.now.0.now.whole.now }
         ensures { IsMade (word_type self.now.0.now.source.tokens.now span (parts_in self.now.0.now.source parts.now)) result }
@@ -157,7 +162,7 @@ impl<
     #[tactic(auto, unfolding(es_dress::specs::Types::str_type))]
     pub(crate) fn str_type(&self, parts: &[Tree]) -> Result<TsType, DressError>
         requires ring { IsRing self.now.0.now.source self.now.0.now.whole.now (E.pre self.now.0.now.expr) (E.post self.now.0.now.expr)
-            (P.pre self.now.0.now.pat) (P.post self.now.0.now.pat) (S.pre self.now.0.now.stmt) (S.post self.now.0.now.stmt) }
+            (P.pre self.now.0.now.pat) (P.post self.now.0.now.pat) (S.pre self.now.0.now.stmt) (S.post self.now.0.now.stmt) (I.pre self.now.0.now.item) (I.post self.now.0.now.item) }
         requires types { IsTypeRing self.now.0.now.source self.now.0.now.whole.now (T.pre self.now.1) (T.post self.now.1) (Q.pre self.now.2) (Q.post self.now.2) }
         requires within { IsWithin parts.now self.now.0.now.whole.now }
         ensures { IsMade (str_type self.now.0.now.source.text.now self.now.0.now.source.tokens.now (parts_in self.now.0.now.source parts.now)) result }
@@ -170,7 +175,7 @@ impl<
     #[tactic(auto, unfolding(es_dress::specs::Types::number_type))]
     pub(crate) fn number_type(&self, span: Range, parts: &[Tree]) -> Result<TsType, DressError>
         requires ring { IsRing self.now.0.now.source self.now.0.now.whole.now (E.pre self.now.0.now.expr) (E.post self.now.0.now.expr)
-            (P.pre self.now.0.now.pat) (P.post self.now.0.now.pat) (S.pre self.now.0.now.stmt) (S.post self.now.0.now.stmt) }
+            (P.pre self.now.0.now.pat) (P.post self.now.0.now.pat) (S.pre self.now.0.now.stmt) (S.post self.now.0.now.stmt) (I.pre self.now.0.now.item) (I.post self.now.0.now.item) }
         requires types { IsTypeRing self.now.0.now.source self.now.0.now.whole.now (T.pre self.now.1) (T.post self.now.1) (Q.pre self.now.2) (Q.post self.now.2) }
         requires within { IsWithin parts.now self.now.0.now.whole.now }
         ensures { IsMade (number_type self.now.0.now.source.text.now self.now.0.now.source.tokens.now span (parts_in self.now.0.now.source parts.now)) result }
@@ -185,7 +190,7 @@ impl<
     #[tactic(auto, unfolding(es_dress::specs::Types::template_type))]
     pub(crate) fn template_type(&self, span: Range, parts: &[Tree]) -> Result<TsType, DressError>
         requires ring { IsRing self.now.0.now.source self.now.0.now.whole.now (E.pre self.now.0.now.expr) (E.post self.now.0.now.expr)
-            (P.pre self.now.0.now.pat) (P.post self.now.0.now.pat) (S.pre self.now.0.now.stmt) (S.post self.now.0.now.stmt) }
+            (P.pre self.now.0.now.pat) (P.post self.now.0.now.pat) (S.pre self.now.0.now.stmt) (S.post self.now.0.now.stmt) (I.pre self.now.0.now.item) (I.post self.now.0.now.item) }
         requires types { IsTypeRing self.now.0.now.source self.now.0.now.whole.now (T.pre self.now.1) (T.post self.now.1) (Q.pre self.now.2) (Q.post self.now.2) }
         requires within { IsWithin parts.now self.now.0.now.whole.now }
         ensures { IsMade (template_type self.now.0.now.source.text.now self.now.0.now.source.tokens.now span (parts_in self.now.0.now.source parts.now)) result }
@@ -204,7 +209,7 @@ impl<
     #[tactic(auto, unfolding(es_dress::specs::Types::template_types))]
     pub(crate) fn template_types(&self, span: Range, parts: &[Tree]) -> Result<TsType, DressError>
         requires ring { IsRing self.now.0.now.source self.now.0.now.whole.now (E.pre self.now.0.now.expr) (E.post self.now.0.now.expr)
-            (P.pre self.now.0.now.pat) (P.post self.now.0.now.pat) (S.pre self.now.0.now.stmt) (S.post self.now.0.now.stmt) }
+            (P.pre self.now.0.now.pat) (P.post self.now.0.now.pat) (S.pre self.now.0.now.stmt) (S.post self.now.0.now.stmt) (I.pre self.now.0.now.item) (I.post self.now.0.now.item) }
         requires types { IsTypeRing self.now.0.now.source self.now.0.now.whole.now (T.pre self.now.1) (T.post self.now.1) (Q.pre self.now.2) (Q.post self.now.2) }
         requires within { IsWithin parts.now self.now.0.now.whole.now }
         ensures { IsMade (template_types self.now.0.now.source.text.now self.now.0.now.source.tokens.now span (parts_in self.now.0.now.source parts.now)) result }
@@ -233,7 +238,7 @@ impl<
         parts: &[Tree],
     ) -> Result<TsType, DressError>
         requires ring { IsRing self.now.0.now.source self.now.0.now.whole.now (E.pre self.now.0.now.expr) (E.post self.now.0.now.expr)
-            (P.pre self.now.0.now.pat) (P.post self.now.0.now.pat) (S.pre self.now.0.now.stmt) (S.post self.now.0.now.stmt) }
+            (P.pre self.now.0.now.pat) (P.post self.now.0.now.pat) (S.pre self.now.0.now.stmt) (S.post self.now.0.now.stmt) (I.pre self.now.0.now.item) (I.post self.now.0.now.item) }
         requires types { IsTypeRing self.now.0.now.source self.now.0.now.whole.now (T.pre self.now.1) (T.post self.now.1) (Q.pre self.now.2) (Q.post self.now.2) }
         requires within { IsWithin parts.now self.now.0.now.whole.now }
         ensures { IsMade (parenthesized_type span (parts_in self.now.0.now.source parts.now)) result }
@@ -246,7 +251,7 @@ impl<
     #[tactic(auto, unfolding(es_dress::specs::Types::members_type))]
     pub(crate) fn members_type(&self, span: Range, parts: &[Tree]) -> Result<TsType, DressError>
         requires ring { IsRing self.now.0.now.source self.now.0.now.whole.now (E.pre self.now.0.now.expr) (E.post self.now.0.now.expr)
-            (P.pre self.now.0.now.pat) (P.post self.now.0.now.pat) (S.pre self.now.0.now.stmt) (S.post self.now.0.now.stmt) }
+            (P.pre self.now.0.now.pat) (P.post self.now.0.now.pat) (S.pre self.now.0.now.stmt) (S.post self.now.0.now.stmt) (I.pre self.now.0.now.item) (I.post self.now.0.now.item) }
         requires types { IsTypeRing self.now.0.now.source self.now.0.now.whole.now (T.pre self.now.1) (T.post self.now.1) (Q.pre self.now.2) (Q.post self.now.2) }
         requires within { IsWithin parts.now self.now.0.now.whole.now }
         ensures { IsMade (members_type span (parts_in self.now.0.now.source parts.now)) result }
@@ -259,7 +264,7 @@ impl<
     #[tactic(auto, unfolding(es_dress::specs::Types::tuple_type))]
     pub(crate) fn tuple_type(&self, span: Range, parts: &[Tree]) -> Result<TsType, DressError>
         requires ring { IsRing self.now.0.now.source self.now.0.now.whole.now (E.pre self.now.0.now.expr) (E.post self.now.0.now.expr)
-            (P.pre self.now.0.now.pat) (P.post self.now.0.now.pat) (S.pre self.now.0.now.stmt) (S.post self.now.0.now.stmt) }
+            (P.pre self.now.0.now.pat) (P.post self.now.0.now.pat) (S.pre self.now.0.now.stmt) (S.post self.now.0.now.stmt) (I.pre self.now.0.now.item) (I.post self.now.0.now.item) }
         requires types { IsTypeRing self.now.0.now.source self.now.0.now.whole.now (T.pre self.now.1) (T.post self.now.1) (Q.pre self.now.2) (Q.post self.now.2) }
         requires within { IsWithin parts.now self.now.0.now.whole.now }
         ensures { IsMade (tuple_type span (parts_in self.now.0.now.source parts.now)) result }
@@ -272,7 +277,7 @@ impl<
     #[tactic(auto, unfolding(es_dress::specs::Types::type_query))]
     pub(crate) fn type_query(&self, span: Range, parts: &[Tree]) -> Result<TsType, DressError>
         requires ring { IsRing self.now.0.now.source self.now.0.now.whole.now (E.pre self.now.0.now.expr) (E.post self.now.0.now.expr)
-            (P.pre self.now.0.now.pat) (P.post self.now.0.now.pat) (S.pre self.now.0.now.stmt) (S.post self.now.0.now.stmt) }
+            (P.pre self.now.0.now.pat) (P.post self.now.0.now.pat) (S.pre self.now.0.now.stmt) (S.post self.now.0.now.stmt) (I.pre self.now.0.now.item) (I.post self.now.0.now.item) }
         requires types { IsTypeRing self.now.0.now.source self.now.0.now.whole.now (T.pre self.now.1) (T.post self.now.1) (Q.pre self.now.2) (Q.post self.now.2) }
         requires within { IsWithin parts.now self.now.0.now.whole.now }
         ensures { IsMade (type_query span (parts_in self.now.0.now.source parts.now)) result }
@@ -284,7 +289,7 @@ impl<
     /// How `readonly` or `?` stands in a mapped type.
     pub(crate) fn signed_in(&self, group: &[Tree]) -> Result<TruePlusMinus, DressError>
         requires ring { IsRing self.now.0.now.source self.now.0.now.whole.now (E.pre self.now.0.now.expr) (E.post self.now.0.now.expr)
-            (P.pre self.now.0.now.pat) (P.post self.now.0.now.pat) (S.pre self.now.0.now.stmt) (S.post self.now.0.now.stmt) }
+            (P.pre self.now.0.now.pat) (P.post self.now.0.now.pat) (S.pre self.now.0.now.stmt) (S.post self.now.0.now.stmt) (I.pre self.now.0.now.item) (I.post self.now.0.now.item) }
         requires types { IsTypeRing self.now.0.now.source self.now.0.now.whole.now (T.pre self.now.1) (T.post self.now.1) (Q.pre self.now.2) (Q.post self.now.2) }
         requires within { IsWithin group.now self.now.0.now.whole.now }
         ensures { IsMade (signed_in self.now.0.now.source.tokens.now (parts_in self.now.0.now.source group.now)) result }
@@ -307,7 +312,7 @@ impl<
     #[tactic(auto, unfolding(es_dress::specs::Types::mapped_type))]
     pub(crate) fn mapped_type(&self, span: Range, parts: &[Tree]) -> Result<TsType, DressError>
         requires ring { IsRing self.now.0.now.source self.now.0.now.whole.now (E.pre self.now.0.now.expr) (E.post self.now.0.now.expr)
-            (P.pre self.now.0.now.pat) (P.post self.now.0.now.pat) (S.pre self.now.0.now.stmt) (S.post self.now.0.now.stmt) }
+            (P.pre self.now.0.now.pat) (P.post self.now.0.now.pat) (S.pre self.now.0.now.stmt) (S.post self.now.0.now.stmt) (I.pre self.now.0.now.item) (I.post self.now.0.now.item) }
         requires types { IsTypeRing self.now.0.now.source self.now.0.now.whole.now (T.pre self.now.1) (T.post self.now.1) (Q.pre self.now.2) (Q.post self.now.2) }
         requires within { IsWithin parts.now self.now.0.now.whole.now }
         ensures { IsMade (mapped_type self.now.0.now.source.text.now self.now.0.now.source.tokens.now span (parts_in self.now.0.now.source parts.now)) result }
@@ -333,7 +338,7 @@ impl<
     #[tactic(auto, unfolding(es_dress::specs::Types::type_operator))]
     pub(crate) fn type_operator(&self, span: Range, parts: &[Tree]) -> Result<TsType, DressError>
         requires ring { IsRing self.now.0.now.source self.now.0.now.whole.now (E.pre self.now.0.now.expr) (E.post self.now.0.now.expr)
-            (P.pre self.now.0.now.pat) (P.post self.now.0.now.pat) (S.pre self.now.0.now.stmt) (S.post self.now.0.now.stmt) }
+            (P.pre self.now.0.now.pat) (P.post self.now.0.now.pat) (S.pre self.now.0.now.stmt) (S.post self.now.0.now.stmt) (I.pre self.now.0.now.item) (I.post self.now.0.now.item) }
         requires types { IsTypeRing self.now.0.now.source self.now.0.now.whole.now (T.pre self.now.1) (T.post self.now.1) (Q.pre self.now.2) (Q.post self.now.2) }
         requires within { IsWithin parts.now self.now.0.now.whole.now }
         ensures { IsMade (type_operator self.now.0.now.source.tokens.now span (parts_in self.now.0.now.source parts.now)) result }
@@ -351,7 +356,7 @@ impl<
     #[tactic(auto, unfolding(es_dress::specs::Types::infer_type))]
     pub(crate) fn infer_type(&self, span: Range, parts: &[Tree]) -> Result<TsType, DressError>
         requires ring { IsRing self.now.0.now.source self.now.0.now.whole.now (E.pre self.now.0.now.expr) (E.post self.now.0.now.expr)
-            (P.pre self.now.0.now.pat) (P.post self.now.0.now.pat) (S.pre self.now.0.now.stmt) (S.post self.now.0.now.stmt) }
+            (P.pre self.now.0.now.pat) (P.post self.now.0.now.pat) (S.pre self.now.0.now.stmt) (S.post self.now.0.now.stmt) (I.pre self.now.0.now.item) (I.post self.now.0.now.item) }
         requires types { IsTypeRing self.now.0.now.source self.now.0.now.whole.now (T.pre self.now.1) (T.post self.now.1) (Q.pre self.now.2) (Q.post self.now.2) }
         requires within { IsWithin parts.now self.now.0.now.whole.now }
         ensures { IsMade (infer_type self.now.0.now.source.text.now self.now.0.now.source.tokens.now span (parts_in self.now.0.now.source parts.now)) result }
@@ -363,7 +368,7 @@ impl<
     /// Operands, the first before its operator.
     pub(crate) fn operands(&self, parts: &[Tree]) -> Result<Items<TsType>, DressError>
         requires ring { IsRing self.now.0.now.source self.now.0.now.whole.now (E.pre self.now.0.now.expr) (E.post self.now.0.now.expr)
-            (P.pre self.now.0.now.pat) (P.post self.now.0.now.pat) (S.pre self.now.0.now.stmt) (S.post self.now.0.now.stmt) }
+            (P.pre self.now.0.now.pat) (P.post self.now.0.now.pat) (S.pre self.now.0.now.stmt) (S.post self.now.0.now.stmt) (I.pre self.now.0.now.item) (I.post self.now.0.now.item) }
         requires types { IsTypeRing self.now.0.now.source self.now.0.now.whole.now (T.pre self.now.1) (T.post self.now.1) (Q.pre self.now.2) (Q.post self.now.2) }
         requires within { IsWithin parts.now self.now.0.now.whole.now }
         ensures { IsMade (operands (parts_in self.now.0.now.source parts.now)) result }
@@ -379,7 +384,7 @@ impl<
     #[tactic(auto, unfolding(es_dress::specs::Types::union_type))]
     pub(crate) fn union_type(&self, span: Range, parts: &[Tree]) -> Result<TsType, DressError>
         requires ring { IsRing self.now.0.now.source self.now.0.now.whole.now (E.pre self.now.0.now.expr) (E.post self.now.0.now.expr)
-            (P.pre self.now.0.now.pat) (P.post self.now.0.now.pat) (S.pre self.now.0.now.stmt) (S.post self.now.0.now.stmt) }
+            (P.pre self.now.0.now.pat) (P.post self.now.0.now.pat) (S.pre self.now.0.now.stmt) (S.post self.now.0.now.stmt) (I.pre self.now.0.now.item) (I.post self.now.0.now.item) }
         requires types { IsTypeRing self.now.0.now.source self.now.0.now.whole.now (T.pre self.now.1) (T.post self.now.1) (Q.pre self.now.2) (Q.post self.now.2) }
         requires within { IsWithin parts.now self.now.0.now.whole.now }
         ensures { IsMade (union_type span (parts_in self.now.0.now.source parts.now)) result }
@@ -396,7 +401,7 @@ impl<
         parts: &[Tree],
     ) -> Result<TsType, DressError>
         requires ring { IsRing self.now.0.now.source self.now.0.now.whole.now (E.pre self.now.0.now.expr) (E.post self.now.0.now.expr)
-            (P.pre self.now.0.now.pat) (P.post self.now.0.now.pat) (S.pre self.now.0.now.stmt) (S.post self.now.0.now.stmt) }
+            (P.pre self.now.0.now.pat) (P.post self.now.0.now.pat) (S.pre self.now.0.now.stmt) (S.post self.now.0.now.stmt) (I.pre self.now.0.now.item) (I.post self.now.0.now.item) }
         requires types { IsTypeRing self.now.0.now.source self.now.0.now.whole.now (T.pre self.now.1) (T.post self.now.1) (Q.pre self.now.2) (Q.post self.now.2) }
         requires within { IsWithin parts.now self.now.0.now.whole.now }
         ensures { IsMade (leading_union_type span (parts_in self.now.0.now.source parts.now)) result }
@@ -413,7 +418,7 @@ impl<
         parts: &[Tree],
     ) -> Result<TsType, DressError>
         requires ring { IsRing self.now.0.now.source self.now.0.now.whole.now (E.pre self.now.0.now.expr) (E.post self.now.0.now.expr)
-            (P.pre self.now.0.now.pat) (P.post self.now.0.now.pat) (S.pre self.now.0.now.stmt) (S.post self.now.0.now.stmt) }
+            (P.pre self.now.0.now.pat) (P.post self.now.0.now.pat) (S.pre self.now.0.now.stmt) (S.post self.now.0.now.stmt) (I.pre self.now.0.now.item) (I.post self.now.0.now.item) }
         requires types { IsTypeRing self.now.0.now.source self.now.0.now.whole.now (T.pre self.now.1) (T.post self.now.1) (Q.pre self.now.2) (Q.post self.now.2) }
         requires within { IsWithin parts.now self.now.0.now.whole.now }
         ensures { IsMade (intersection_type span (parts_in self.now.0.now.source parts.now)) result }
@@ -430,7 +435,7 @@ impl<
         parts: &[Tree],
     ) -> Result<TsType, DressError>
         requires ring { IsRing self.now.0.now.source self.now.0.now.whole.now (E.pre self.now.0.now.expr) (E.post self.now.0.now.expr)
-            (P.pre self.now.0.now.pat) (P.post self.now.0.now.pat) (S.pre self.now.0.now.stmt) (S.post self.now.0.now.stmt) }
+            (P.pre self.now.0.now.pat) (P.post self.now.0.now.pat) (S.pre self.now.0.now.stmt) (S.post self.now.0.now.stmt) (I.pre self.now.0.now.item) (I.post self.now.0.now.item) }
         requires types { IsTypeRing self.now.0.now.source self.now.0.now.whole.now (T.pre self.now.1) (T.post self.now.1) (Q.pre self.now.2) (Q.post self.now.2) }
         requires within { IsWithin parts.now self.now.0.now.whole.now }
         ensures { IsMade (leading_intersection_type span (parts_in self.now.0.now.source parts.now)) result }
@@ -443,7 +448,7 @@ impl<
     #[tactic(auto, unfolding(es_dress::specs::Types::conditional_type))]
     pub(crate) fn conditional_type(&self, span: Range, parts: &[Tree]) -> Result<TsType, DressError>
         requires ring { IsRing self.now.0.now.source self.now.0.now.whole.now (E.pre self.now.0.now.expr) (E.post self.now.0.now.expr)
-            (P.pre self.now.0.now.pat) (P.post self.now.0.now.pat) (S.pre self.now.0.now.stmt) (S.post self.now.0.now.stmt) }
+            (P.pre self.now.0.now.pat) (P.post self.now.0.now.pat) (S.pre self.now.0.now.stmt) (S.post self.now.0.now.stmt) (I.pre self.now.0.now.item) (I.post self.now.0.now.item) }
         requires types { IsTypeRing self.now.0.now.source self.now.0.now.whole.now (T.pre self.now.1) (T.post self.now.1) (Q.pre self.now.2) (Q.post self.now.2) }
         requires within { IsWithin parts.now self.now.0.now.whole.now }
         ensures { IsMade (conditional_type span (parts_in self.now.0.now.source parts.now)) result }
@@ -465,7 +470,7 @@ impl<
     #[tactic(auto, unfolding(es_dress::specs::Types::function_type))]
     pub(crate) fn function_type(&self, span: Range, parts: &[Tree]) -> Result<TsType, DressError>
         requires ring { IsRing self.now.0.now.source self.now.0.now.whole.now (E.pre self.now.0.now.expr) (E.post self.now.0.now.expr)
-            (P.pre self.now.0.now.pat) (P.post self.now.0.now.pat) (S.pre self.now.0.now.stmt) (S.post self.now.0.now.stmt) }
+            (P.pre self.now.0.now.pat) (P.post self.now.0.now.pat) (S.pre self.now.0.now.stmt) (S.post self.now.0.now.stmt) (I.pre self.now.0.now.item) (I.post self.now.0.now.item) }
         requires types { IsTypeRing self.now.0.now.source self.now.0.now.whole.now (T.pre self.now.1) (T.post self.now.1) (Q.pre self.now.2) (Q.post self.now.2) }
         requires within { IsWithin parts.now self.now.0.now.whole.now }
         ensures { IsMade (function_type span (parts_in self.now.0.now.source parts.now)) result }
@@ -485,7 +490,7 @@ impl<
     #[tactic(auto, unfolding(es_dress::specs::Types::constructor_type))]
     pub(crate) fn constructor_type(&self, span: Range, parts: &[Tree]) -> Result<TsType, DressError>
         requires ring { IsRing self.now.0.now.source self.now.0.now.whole.now (E.pre self.now.0.now.expr) (E.post self.now.0.now.expr)
-            (P.pre self.now.0.now.pat) (P.post self.now.0.now.pat) (S.pre self.now.0.now.stmt) (S.post self.now.0.now.stmt) }
+            (P.pre self.now.0.now.pat) (P.post self.now.0.now.pat) (S.pre self.now.0.now.stmt) (S.post self.now.0.now.stmt) (I.pre self.now.0.now.item) (I.post self.now.0.now.item) }
         requires types { IsTypeRing self.now.0.now.source self.now.0.now.whole.now (T.pre self.now.1) (T.post self.now.1) (Q.pre self.now.2) (Q.post self.now.2) }
         requires within { IsWithin parts.now self.now.0.now.whole.now }
         ensures { IsMade (constructor_type span (parts_in self.now.0.now.source parts.now)) result }
@@ -507,7 +512,7 @@ impl<
     #[tactic(auto, unfolding(es_dress::specs::Types::asserts_result))]
     pub(crate) fn asserts_result(&self, span: Range, parts: &[Tree]) -> Result<TsType, DressError>
         requires ring { IsRing self.now.0.now.source self.now.0.now.whole.now (E.pre self.now.0.now.expr) (E.post self.now.0.now.expr)
-            (P.pre self.now.0.now.pat) (P.post self.now.0.now.pat) (S.pre self.now.0.now.stmt) (S.post self.now.0.now.stmt) }
+            (P.pre self.now.0.now.pat) (P.post self.now.0.now.pat) (S.pre self.now.0.now.stmt) (S.post self.now.0.now.stmt) (I.pre self.now.0.now.item) (I.post self.now.0.now.item) }
         requires types { IsTypeRing self.now.0.now.source self.now.0.now.whole.now (T.pre self.now.1) (T.post self.now.1) (Q.pre self.now.2) (Q.post self.now.2) }
         requires within { IsWithin parts.now self.now.0.now.whole.now }
         ensures { IsMade (asserts_result self.now.0.now.source.text.now self.now.0.now.source.tokens.now span (parts_in self.now.0.now.source parts.now)) result }
@@ -526,7 +531,7 @@ impl<
     #[tactic(auto, unfolding(es_dress::specs::Types::predicate_result))]
     pub(crate) fn predicate_result(&self, span: Range, parts: &[Tree]) -> Result<TsType, DressError>
         requires ring { IsRing self.now.0.now.source self.now.0.now.whole.now (E.pre self.now.0.now.expr) (E.post self.now.0.now.expr)
-            (P.pre self.now.0.now.pat) (P.post self.now.0.now.pat) (S.pre self.now.0.now.stmt) (S.post self.now.0.now.stmt) }
+            (P.pre self.now.0.now.pat) (P.post self.now.0.now.pat) (S.pre self.now.0.now.stmt) (S.post self.now.0.now.stmt) (I.pre self.now.0.now.item) (I.post self.now.0.now.item) }
         requires types { IsTypeRing self.now.0.now.source self.now.0.now.whole.now (T.pre self.now.1) (T.post self.now.1) (Q.pre self.now.2) (Q.post self.now.2) }
         requires within { IsWithin parts.now self.now.0.now.whole.now }
         ensures { IsMade (predicate_result self.now.0.now.source.text.now self.now.0.now.source.tokens.now span (parts_in self.now.0.now.source parts.now)) result }
@@ -544,7 +549,7 @@ impl<
     /// A label, which says itself whether `?` stands behind it.
     pub(crate) fn label_at(&self, parts: &[Tree], n: usize) -> Result<Ident, DressError>
         requires ring { IsRing self.now.0.now.source self.now.0.now.whole.now (E.pre self.now.0.now.expr) (E.post self.now.0.now.expr)
-            (P.pre self.now.0.now.pat) (P.post self.now.0.now.pat) (S.pre self.now.0.now.stmt) (S.post self.now.0.now.stmt) }
+            (P.pre self.now.0.now.pat) (P.post self.now.0.now.pat) (S.pre self.now.0.now.stmt) (S.post self.now.0.now.stmt) (I.pre self.now.0.now.item) (I.post self.now.0.now.item) }
         requires types { IsTypeRing self.now.0.now.source self.now.0.now.whole.now (T.pre self.now.1) (T.post self.now.1) (Q.pre self.now.2) (Q.post self.now.2) }
         requires within { IsWithin parts.now self.now.0.now.whole.now }
         requires place { n < 7 }
@@ -560,7 +565,7 @@ impl<
     /// A label that may be absent.
     pub(crate) fn optional_label(&self, group: &[Tree]) -> Result<Option<Ident>, DressError>
         requires ring { IsRing self.now.0.now.source self.now.0.now.whole.now (E.pre self.now.0.now.expr) (E.post self.now.0.now.expr)
-            (P.pre self.now.0.now.pat) (P.post self.now.0.now.pat) (S.pre self.now.0.now.stmt) (S.post self.now.0.now.stmt) }
+            (P.pre self.now.0.now.pat) (P.post self.now.0.now.pat) (S.pre self.now.0.now.stmt) (S.post self.now.0.now.stmt) (I.pre self.now.0.now.item) (I.post self.now.0.now.item) }
         requires types { IsTypeRing self.now.0.now.source self.now.0.now.whole.now (T.pre self.now.1) (T.post self.now.1) (Q.pre self.now.2) (Q.post self.now.2) }
         requires within { IsWithin group.now self.now.0.now.whole.now }
         ensures { IsMade (optional (label_at self.now.0.now.source.text.now self.now.0.now.source.tokens.now) (parts_in self.now.0.now.source group.now)) result }
@@ -579,7 +584,7 @@ impl<
         parts: &[Tree],
     ) -> Result<TsTupleElement, DressError>
         requires ring { IsRing self.now.0.now.source self.now.0.now.whole.now (E.pre self.now.0.now.expr) (E.post self.now.0.now.expr)
-            (P.pre self.now.0.now.pat) (P.post self.now.0.now.pat) (S.pre self.now.0.now.stmt) (S.post self.now.0.now.stmt) }
+            (P.pre self.now.0.now.pat) (P.post self.now.0.now.pat) (S.pre self.now.0.now.stmt) (S.post self.now.0.now.stmt) (I.pre self.now.0.now.item) (I.post self.now.0.now.item) }
         requires types { IsTypeRing self.now.0.now.source self.now.0.now.whole.now (T.pre self.now.1) (T.post self.now.1) (Q.pre self.now.2) (Q.post self.now.2) }
         requires within { IsWithin parts.now self.now.0.now.whole.now }
         ensures { IsMade (rest_element self.now.0.now.source.text.now self.now.0.now.source.tokens.now span (parts_in self.now.0.now.source parts.now)) result }
@@ -604,7 +609,7 @@ impl<
         parts: &[Tree],
     ) -> Result<TsTupleElement, DressError>
         requires ring { IsRing self.now.0.now.source self.now.0.now.whole.now (E.pre self.now.0.now.expr) (E.post self.now.0.now.expr)
-            (P.pre self.now.0.now.pat) (P.post self.now.0.now.pat) (S.pre self.now.0.now.stmt) (S.post self.now.0.now.stmt) }
+            (P.pre self.now.0.now.pat) (P.post self.now.0.now.pat) (S.pre self.now.0.now.stmt) (S.post self.now.0.now.stmt) (I.pre self.now.0.now.item) (I.post self.now.0.now.item) }
         requires types { IsTypeRing self.now.0.now.source self.now.0.now.whole.now (T.pre self.now.1) (T.post self.now.1) (Q.pre self.now.2) (Q.post self.now.2) }
         requires within { IsWithin parts.now self.now.0.now.whole.now }
         ensures { IsMade (labelled_element self.now.0.now.source.text.now self.now.0.now.source.tokens.now span (parts_in self.now.0.now.source parts.now)) result }
@@ -625,7 +630,7 @@ impl<
     #[tactic(auto, unfolding(es_dress::specs::Dress::build, es_dress::specs::Dress::element_of, es_dress::specs::Types::optional_element))]
     pub(crate) fn element_at(&self, parts: &[Tree], n: usize) -> Result<TsTupleElement, DressError>
         requires ring { IsRing self.now.0.now.source self.now.0.now.whole.now (E.pre self.now.0.now.expr) (E.post self.now.0.now.expr)
-            (P.pre self.now.0.now.pat) (P.post self.now.0.now.pat) (S.pre self.now.0.now.stmt) (S.post self.now.0.now.stmt) }
+            (P.pre self.now.0.now.pat) (P.post self.now.0.now.pat) (S.pre self.now.0.now.stmt) (S.post self.now.0.now.stmt) (I.pre self.now.0.now.item) (I.post self.now.0.now.item) }
         requires types { IsTypeRing self.now.0.now.source self.now.0.now.whole.now (T.pre self.now.1) (T.post self.now.1) (Q.pre self.now.2) (Q.post self.now.2) }
         requires within { IsWithin parts.now self.now.0.now.whole.now }
         ensures { IsMade (element_at (parts_in self.now.0.now.source parts.now) n) result }
@@ -657,7 +662,7 @@ impl<
     #[tactic(auto, unfolding(es_dress::specs::Dress::type_of))]
     pub(crate) fn ty(&self, node: &Node<'_>) -> Result<TsType, DressError>
         requires ring { IsRing self.now.0.now.source self.now.0.now.whole.now (E.pre self.now.0.now.expr) (E.post self.now.0.now.expr)
-            (P.pre self.now.0.now.pat) (P.post self.now.0.now.pat) (S.pre self.now.0.now.stmt) (S.post self.now.0.now.stmt) }
+            (P.pre self.now.0.now.pat) (P.post self.now.0.now.pat) (S.pre self.now.0.now.stmt) (S.post self.now.0.now.stmt) (I.pre self.now.0.now.item) (I.post self.now.0.now.item) }
         requires types { IsTypeRing self.now.0.now.source self.now.0.now.whole.now (T.pre self.now.1) (T.post self.now.1) (Q.pre self.now.2) (Q.post self.now.2) }
         requires within { IsWithin node.now.parts.now self.now.0.now.whole.now }
         ensures { IsMade (type_of self.now.0.now.source.text.now self.now.0.now.source.tokens.now node.now.label node.now.span (parts_in self.now.0.now.source node.now.parts.now)) result }

@@ -6,7 +6,7 @@ ghost use Rattle.es_dresser.specs.Ring.{IsMade, IsRing, parts_in};
 ghost use Rattle.es_dress.specs.Dress.{expr_of};
 
 use crate::whole::Whole;
-use es_ast::{Expr, Pat, Stmt};
+use es_ast::{Expr, ModuleItem, Pat, Stmt};
 use es_dress_expressions::Expressions;
 use es_dress_functions::Functions;
 use es_dresser::{DressError, Node, Source};
@@ -17,12 +17,13 @@ impl<
     E: Fn(Source<'_>, &Tree) -> Result<Expr, DressError>,
     P: Fn(Source<'_>, &Tree) -> Result<Pat, DressError>,
     S: Fn(Source<'_>, &Tree) -> Result<Stmt, DressError>,
-> Whole<'_, '_, E, P, S> {
+    I: Fn(Source<'_>, &Tree) -> Result<ModuleItem, DressError>,
+> Whole<'_, '_, E, P, S, I> {
     /// A node as an expression.
     #[tactic(auto, unfolding(es_dress::specs::Dress::expr_of))]
     pub(crate) fn expr_by(&self, node: &Node<'_>) -> Result<Expr, DressError>
         requires ring { IsRing self.now.0.now.source self.now.0.now.whole.now (E.pre self.now.0.now.expr) (E.post self.now.0.now.expr)
-            (P.pre self.now.0.now.pat) (P.post self.now.0.now.pat) (S.pre self.now.0.now.stmt) (S.post self.now.0.now.stmt) }
+            (P.pre self.now.0.now.pat) (P.post self.now.0.now.pat) (S.pre self.now.0.now.stmt) (S.post self.now.0.now.stmt) (I.pre self.now.0.now.item) (I.post self.now.0.now.item) }
         requires within { IsWithin node.now.parts.now self.now.0.now.whole.now }
         ensures { IsMade (expr_of self.now.0.now.source.text.now self.now.0.now.source.tokens.now node.now.label node.now.from node.now.span (parts_in self.now.0.now.source node.now.parts.now)) result }
     {

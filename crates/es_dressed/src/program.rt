@@ -4,7 +4,7 @@ ghost use Rattle.es_dress.specs.Dress.{value_of};
 ghost use Rattle.es_dresser.specs.Ring.{IsCut, IsMade};
 ghost use Rattle.es_derives.specs.Derives.{program_in};
 
-use crate::knot::{dress_expr, dress_pat, dress_stmt};
+use crate::knot::{dress_expr, dress_item, dress_pat, dress_stmt};
 use crate::whole::Whole;
 use es_ast::Program;
 use es_dresser::{DressError, Dresser, Source};
@@ -33,6 +33,7 @@ pub fn dress_program(
         expr: dress_expr,
         pat: dress_pat,
         stmt: dress_stmt,
+        item: dress_item,
     };
     Whole(&dresser).program()
 }

@@ -7,6 +7,7 @@ use Rattle.es_token.specs.declared.token.TokenKind.TheVariants as k
 use Rattle.es_ast.specs.declared.ast.Expr.{Expr}
 use Rattle.es_ast.specs.declared.ast.Pat.{Pat}
 use Rattle.es_ast.specs.declared.ast.Stmt.{Stmt}
+use Rattle.es_ast.specs.declared.ast.ModuleItem.{ModuleItem}
 use Rattle.es_whole_reader.specs.declared.tree.Tree.{Tree}
 use Rattle.es_dress.specs.Value.{Value, Typed, absent, given, typed}
 use Rattle.es_dress.specs.Texts.{stop_of}
@@ -33,7 +34,7 @@ abbrev pub there : List ℕ → List Token → Option (Bor Tree) → Value
 there x ts (Some t) = value_of x ts t.now
 there x ts None = absent
 
--- what a tree is as an expression, as a pattern, as a statement
+-- what a tree is as an expression, as a pattern, as a statement, as an item
 abbrev pub expr_in : Value → Option Expr
 expr_in v = given (typed v) (λ m. m.expr)
 
@@ -42,6 +43,9 @@ pat_in v = given (typed v) (λ m. m.pat)
 
 abbrev pub stmt_in : Value → Option Stmt
 stmt_in v = given (typed v) (λ m. m.stmt)
+
+abbrev pub item_in : Value → Option ModuleItem
+item_in v = given (typed v) (λ m. m.item)
 
 -- two places cut the text between characters
 pub record Cuts (x : List ℕ) (start end : ℕ) : Type 0 where
@@ -71,8 +75,10 @@ pub record IsRing (source : Source) (whole : Tree)
     (expr_pre : Source → Bor Tree → Type 0) (expr_post : Source → Bor Tree → Result Expr DressError → Type 0)
     (pat_pre : Source → Bor Tree → Type 0) (pat_post : Source → Bor Tree → Result Pat DressError → Type 0)
     (stmt_pre : Source → Bor Tree → Type 0) (stmt_post : Source → Bor Tree → Result Stmt DressError → Type 0)
+    (item_pre : Source → Bor Tree → Type 0) (item_post : Source → Bor Tree → Result ModuleItem DressError → Type 0)
     : Type 0 where
   pub cut : IsCut source.text.now source.tokens.now
   pub expr : Dresses expr_in source whole expr_pre expr_post
   pub pat : Dresses pat_in source whole pat_pre pat_post
   pub stmt : Dresses stmt_in source whole stmt_pre stmt_post
+  pub item : Dresses item_in source whole item_pre item_post

@@ -4,7 +4,7 @@ ghost use Rattle.std.specs.Prelude.{◌≡◌, ℕ, ◌<◌, List, true, false, 
 ghost use Rattle.std.specs.Option.{option_copied};
 ghost use Rattle.es_token.specs.declared.token.Token.{Token as Tok};
 ghost use Rattle.es_whole_reader.specs.declared.tree.Tree.{Tree as Plain};
-ghost use Rattle.es_dress.specs.Value.{Value, nil, more, part, as_group, group, is_there, optional, expr_at, pat_at, stmt_at};
+ghost use Rattle.es_dress.specs.Value.{Value, nil, more, part, as_group, group, is_there, optional, expr_at, pat_at, stmt_at, item_at};
 ghost use Rattle.es_dress.specs.Dress.{value_of};
 ghost use Rattle.es_dresser.specs.Nodes.{nodes, IsWithin};
 ghost use Rattle.es_dresser.specs.Ring.{IsMade, IsRing, parts_of, parts_in, there};
@@ -12,18 +12,19 @@ ghost use Rattle.es_dresser.specs.Ring.{IsMade, IsRing, parts_of, parts_in, ther
 use crate::error::DressError;
 use crate::source::Source;
 use base::Boxed;
-use es_ast::{Expr, Pat, Stmt};
+use es_ast::{Expr, ModuleItem, Pat, Stmt};
 use es_whole_reader::Tree;
 use std::alloc::Global;
 
-/// What dresses a tree: `expr`, `pat` and `stmt` dress what stands below it.
+/// What dresses a tree: `expr`, `pat`, `stmt` and `item` dress what stands below it.
 #[derive(Clone, Copy)]
-pub struct Dresser<'a, E, P, S> {
+pub struct Dresser<'a, E, P, S, I> {
     pub source: Source<'a>,
     pub whole: &'a Tree,
     pub expr: E,
     pub pat: P,
     pub stmt: S,
+    pub item: I,
 }
 
 /// The tree at a place.
@@ -78,11 +79,12 @@ impl<
     E: Fn(Source<'_>, &Tree) -> Result<Expr, DressError>,
     P: Fn(Source<'_>, &Tree) -> Result<Pat, DressError>,
     S: Fn(Source<'_>, &Tree) -> Result<Stmt, DressError>,
-> Dresser<'_, E, P, S> {
+    I: Fn(Source<'_>, &Tree) -> Result<ModuleItem, DressError>,
+> Dresser<'_, E, P, S, I> {
     /// A part that is an expression.
     pub fn expr_at(&self, parts: &[Tree], n: usize) -> Result<Expr, DressError>
         requires ring { IsRing self.now.source self.now.whole.now (E.pre self.now.expr) (E.post self.now.expr)
-            (P.pre self.now.pat) (P.post self.now.pat) (S.pre self.now.stmt) (S.post self.now.stmt) }
+            (P.pre self.now.pat) (P.post self.now.pat) (S.pre self.now.stmt) (S.post self.now.stmt) (I.pre self.now.item) (I.post self.now.item) }
         requires within { IsWithin parts.now self.now.whole.now }
         ensures { IsMade (expr_at (parts_in self.now.source parts.now) n) result }
     {
@@ -95,7 +97,7 @@ impl<
     /// The same in a box.
     pub fn boxed_expr_at(&self, parts: &[Tree], n: usize) -> Result<Boxed<Expr>, DressError>
         requires ring { IsRing self.now.source self.now.whole.now (E.pre self.now.expr) (E.post self.now.expr)
-            (P.pre self.now.pat) (P.post self.now.pat) (S.pre self.now.stmt) (S.post self.now.stmt) }
+            (P.pre self.now.pat) (P.post self.now.pat) (S.pre self.now.stmt) (S.post self.now.stmt) (I.pre self.now.item) (I.post self.now.item) }
         requires within { IsWithin parts.now self.now.whole.now }
         ensures { IsMade (expr_at (parts_in self.now.source parts.now) n) result }
     {
@@ -105,7 +107,7 @@ impl<
     /// An expression that may be absent, from the parts of its group.
     pub fn optional_expr(&self, group: &[Tree]) -> Result<Option<Boxed<Expr>>, DressError>
         requires ring { IsRing self.now.source self.now.whole.now (E.pre self.now.expr) (E.post self.now.expr)
-            (P.pre self.now.pat) (P.post self.now.pat) (S.pre self.now.stmt) (S.post self.now.stmt) }
+            (P.pre self.now.pat) (P.post self.now.pat) (S.pre self.now.stmt) (S.post self.now.stmt) (I.pre self.now.item) (I.post self.now.item) }
         requires within { IsWithin group.now self.now.whole.now }
         ensures { IsMade (optional expr_at (parts_in self.now.source group.now)) result }
     {
@@ -118,7 +120,7 @@ impl<
     /// A part that is a pattern.
     pub fn pat_at(&self, parts: &[Tree], n: usize) -> Result<Pat, DressError>
         requires ring { IsRing self.now.source self.now.whole.now (E.pre self.now.expr) (E.post self.now.expr)
-            (P.pre self.now.pat) (P.post self.now.pat) (S.pre self.now.stmt) (S.post self.now.stmt) }
+            (P.pre self.now.pat) (P.post self.now.pat) (S.pre self.now.stmt) (S.post self.now.stmt) (I.pre self.now.item) (I.post self.now.item) }
         requires within { IsWithin parts.now self.now.whole.now }
         ensures { IsMade (pat_at (parts_in self.now.source parts.now) n) result }
     {
@@ -131,7 +133,7 @@ impl<
     /// The same in a box.
     pub fn boxed_pat_at(&self, parts: &[Tree], n: usize) -> Result<Boxed<Pat>, DressError>
         requires ring { IsRing self.now.source self.now.whole.now (E.pre self.now.expr) (E.post self.now.expr)
-            (P.pre self.now.pat) (P.post self.now.pat) (S.pre self.now.stmt) (S.post self.now.stmt) }
+            (P.pre self.now.pat) (P.post self.now.pat) (S.pre self.now.stmt) (S.post self.now.stmt) (I.pre self.now.item) (I.post self.now.item) }
         requires within { IsWithin parts.now self.now.whole.now }
         ensures { IsMade (pat_at (parts_in self.now.source parts.now) n) result }
     {
@@ -141,7 +143,7 @@ impl<
     /// A pattern that may be absent, from the parts of its group.
     pub fn optional_pat(&self, group: &[Tree]) -> Result<Option<Boxed<Pat>>, DressError>
         requires ring { IsRing self.now.source self.now.whole.now (E.pre self.now.expr) (E.post self.now.expr)
-            (P.pre self.now.pat) (P.post self.now.pat) (S.pre self.now.stmt) (S.post self.now.stmt) }
+            (P.pre self.now.pat) (P.post self.now.pat) (S.pre self.now.stmt) (S.post self.now.stmt) (I.pre self.now.item) (I.post self.now.item) }
         requires within { IsWithin group.now self.now.whole.now }
         ensures { IsMade (optional pat_at (parts_in self.now.source group.now)) result }
     {
@@ -154,7 +156,7 @@ impl<
     /// A part that is a statement.
     pub fn stmt_at(&self, parts: &[Tree], n: usize) -> Result<Stmt, DressError>
         requires ring { IsRing self.now.source self.now.whole.now (E.pre self.now.expr) (E.post self.now.expr)
-            (P.pre self.now.pat) (P.post self.now.pat) (S.pre self.now.stmt) (S.post self.now.stmt) }
+            (P.pre self.now.pat) (P.post self.now.pat) (S.pre self.now.stmt) (S.post self.now.stmt) (I.pre self.now.item) (I.post self.now.item) }
         requires within { IsWithin parts.now self.now.whole.now }
         ensures { IsMade (stmt_at (parts_in self.now.source parts.now) n) result }
     {
@@ -167,7 +169,7 @@ impl<
     /// The same in a box.
     pub fn boxed_stmt_at(&self, parts: &[Tree], n: usize) -> Result<Boxed<Stmt>, DressError>
         requires ring { IsRing self.now.source self.now.whole.now (E.pre self.now.expr) (E.post self.now.expr)
-            (P.pre self.now.pat) (P.post self.now.pat) (S.pre self.now.stmt) (S.post self.now.stmt) }
+            (P.pre self.now.pat) (P.post self.now.pat) (S.pre self.now.stmt) (S.post self.now.stmt) (I.pre self.now.item) (I.post self.now.item) }
         requires within { IsWithin parts.now self.now.whole.now }
         ensures { IsMade (stmt_at (parts_in self.now.source parts.now) n) result }
     {
@@ -177,7 +179,7 @@ impl<
     /// A statement that may be absent, from the parts of its group.
     pub fn optional_stmt(&self, group: &[Tree]) -> Result<Option<Boxed<Stmt>>, DressError>
         requires ring { IsRing self.now.source self.now.whole.now (E.pre self.now.expr) (E.post self.now.expr)
-            (P.pre self.now.pat) (P.post self.now.pat) (S.pre self.now.stmt) (S.post self.now.stmt) }
+            (P.pre self.now.pat) (P.post self.now.pat) (S.pre self.now.stmt) (S.post self.now.stmt) (I.pre self.now.item) (I.post self.now.item) }
         requires within { IsWithin group.now self.now.whole.now }
         ensures { IsMade (optional stmt_at (parts_in self.now.source group.now)) result }
     {
@@ -185,6 +187,19 @@ impl<
             return Ok(None);
         }
         some(self.boxed_stmt_at(group, 0))
+    }
+
+    /// A part that is an item.
+    pub fn item_at(&self, parts: &[Tree], n: usize) -> Result<ModuleItem, DressError>
+        requires ring { IsRing self.now.source self.now.whole.now (E.pre self.now.expr) (E.post self.now.expr)
+            (P.pre self.now.pat) (P.post self.now.pat) (S.pre self.now.stmt) (S.post self.now.stmt) (I.pre self.now.item) (I.post self.now.item) }
+        requires within { IsWithin parts.now self.now.whole.now }
+        ensures { IsMade (item_at (parts_in self.now.source parts.now) n) result }
+    {
+        match part(parts, n) {
+            Some(tree) => (self.item)(self.source, tree),
+            None => Err(DressError::OtherForm),
+        }
     }
 
     /// The parts of a group at a place; none where no group is there.

@@ -14,8 +14,8 @@ use crate::operators::{accessor_kind, unary_op, update_op, variable_kind};
 use crate::places::leaf_in;
 use crate::source::{Source, ident, name, numeric, piece, private, property, regex, str_literal};
 use es_ast::{
-    Expr, Ident, Lit, MethodKind, ModuleExportName, Pat, Regex, Stmt, Str, TplElement, UnaryOp,
-    UpdateOp, VarDeclKind,
+    Expr, Ident, Lit, MethodKind, ModuleExportName, ModuleItem, Pat, Regex, Stmt, Str, TplElement,
+    UnaryOp, UpdateOp, VarDeclKind,
 };
 use es_token::{Token, TokenKind};
 use es_whole_reader::Tree;
@@ -37,7 +37,8 @@ impl<
     E: Fn(Source<'_>, &Tree) -> Result<Expr, DressError>,
     P: Fn(Source<'_>, &Tree) -> Result<Pat, DressError>,
     S: Fn(Source<'_>, &Tree) -> Result<Stmt, DressError>,
-> Dresser<'_, E, P, S> {
+    I: Fn(Source<'_>, &Tree) -> Result<ModuleItem, DressError>,
+> Dresser<'_, E, P, S, I> {
     /// The token that a part is.
     fn found(&self, parts: &[Tree], n: usize) -> Option<Token>
         ensures { result ≡ token_at self.now.source.tokens.now (parts_in self.now.source parts.now) n }
@@ -51,7 +52,7 @@ impl<
     /// A part that is a token.
     pub fn token_at(&self, parts: &[Tree], n: usize) -> Result<Token, DressError>
         requires ring { IsRing self.now.source self.now.whole.now (E.pre self.now.expr) (E.post self.now.expr)
-            (P.pre self.now.pat) (P.post self.now.pat) (S.pre self.now.stmt) (S.post self.now.stmt) }
+            (P.pre self.now.pat) (P.post self.now.pat) (S.pre self.now.stmt) (S.post self.now.stmt) (I.pre self.now.item) (I.post self.now.item) }
         requires within { IsWithin parts.now self.now.whole.now }
         ensures value { IsMade (token_at self.now.source.tokens.now (parts_in self.now.source parts.now) n) result }
         ensures cuts { IfOk result (λ t. TokenCuts self.now.source.text.now t) }
@@ -65,7 +66,7 @@ impl<
     /// The kind of a part that is a token.
     pub fn kind_at(&self, parts: &[Tree], n: usize) -> Result<TokenKind, DressError>
         requires ring { IsRing self.now.source self.now.whole.now (E.pre self.now.expr) (E.post self.now.expr)
-            (P.pre self.now.pat) (P.post self.now.pat) (S.pre self.now.stmt) (S.post self.now.stmt) }
+            (P.pre self.now.pat) (P.post self.now.pat) (S.pre self.now.stmt) (S.post self.now.stmt) (I.pre self.now.item) (I.post self.now.item) }
         requires within { IsWithin parts.now self.now.whole.now }
         ensures { IsMade (kind_at self.now.source.tokens.now (parts_in self.now.source parts.now) n) result }
     {
@@ -75,7 +76,7 @@ impl<
     /// A name.
     pub fn ident_at(&self, parts: &[Tree], n: usize) -> Result<Ident, DressError>
         requires ring { IsRing self.now.source self.now.whole.now (E.pre self.now.expr) (E.post self.now.expr)
-            (P.pre self.now.pat) (P.post self.now.pat) (S.pre self.now.stmt) (S.post self.now.stmt) }
+            (P.pre self.now.pat) (P.post self.now.pat) (S.pre self.now.stmt) (S.post self.now.stmt) (I.pre self.now.item) (I.post self.now.item) }
         requires within { IsWithin parts.now self.now.whole.now }
         ensures { IsMade (ident_at self.now.source.text.now self.now.source.tokens.now (parts_in self.now.source parts.now) n) result }
     {
@@ -86,7 +87,7 @@ impl<
     /// A private name.
     pub fn private_at(&self, parts: &[Tree], n: usize) -> Result<Ident, DressError>
         requires ring { IsRing self.now.source self.now.whole.now (E.pre self.now.expr) (E.post self.now.expr)
-            (P.pre self.now.pat) (P.post self.now.pat) (S.pre self.now.stmt) (S.post self.now.stmt) }
+            (P.pre self.now.pat) (P.post self.now.pat) (S.pre self.now.stmt) (S.post self.now.stmt) (I.pre self.now.item) (I.post self.now.item) }
         requires within { IsWithin parts.now self.now.whole.now }
         ensures { IsMade (private_at self.now.source.text.now self.now.source.tokens.now (parts_in self.now.source parts.now) n) result }
     {
@@ -97,7 +98,7 @@ impl<
     /// A string literal, with its value.
     pub fn str_at(&self, parts: &[Tree], n: usize) -> Result<Str, DressError>
         requires ring { IsRing self.now.source self.now.whole.now (E.pre self.now.expr) (E.post self.now.expr)
-            (P.pre self.now.pat) (P.post self.now.pat) (S.pre self.now.stmt) (S.post self.now.stmt) }
+            (P.pre self.now.pat) (P.post self.now.pat) (S.pre self.now.stmt) (S.post self.now.stmt) (I.pre self.now.item) (I.post self.now.item) }
         requires within { IsWithin parts.now self.now.whole.now }
         ensures { IsMade (str_at self.now.source.text.now self.now.source.tokens.now (parts_in self.now.source parts.now) n) result }
     {
@@ -108,7 +109,7 @@ impl<
     /// A number or a BigInt.
     pub fn numeric_at(&self, parts: &[Tree], n: usize) -> Result<Lit, DressError>
         requires ring { IsRing self.now.source self.now.whole.now (E.pre self.now.expr) (E.post self.now.expr)
-            (P.pre self.now.pat) (P.post self.now.pat) (S.pre self.now.stmt) (S.post self.now.stmt) }
+            (P.pre self.now.pat) (P.post self.now.pat) (S.pre self.now.stmt) (S.post self.now.stmt) (I.pre self.now.item) (I.post self.now.item) }
         requires within { IsWithin parts.now self.now.whole.now }
         ensures { IsMade (numeric_at self.now.source.text.now self.now.source.tokens.now (parts_in self.now.source parts.now) n) result }
     {
@@ -119,7 +120,7 @@ impl<
     /// A piece of a template.
     pub fn piece_at(&self, parts: &[Tree], n: usize) -> Result<TplElement, DressError>
         requires ring { IsRing self.now.source self.now.whole.now (E.pre self.now.expr) (E.post self.now.expr)
-            (P.pre self.now.pat) (P.post self.now.pat) (S.pre self.now.stmt) (S.post self.now.stmt) }
+            (P.pre self.now.pat) (P.post self.now.pat) (S.pre self.now.stmt) (S.post self.now.stmt) (I.pre self.now.item) (I.post self.now.item) }
         requires within { IsWithin parts.now self.now.whole.now }
         ensures { IsMade (piece_there self.now.source.text.now self.now.source.tokens.now (parts_in self.now.source parts.now) n) result }
     {
@@ -130,7 +131,7 @@ impl<
     /// A name behind a dot, and whether it is private.
     pub fn property_at(&self, parts: &[Tree], n: usize) -> Result<(bool, Ident), DressError>
         requires ring { IsRing self.now.source self.now.whole.now (E.pre self.now.expr) (E.post self.now.expr)
-            (P.pre self.now.pat) (P.post self.now.pat) (S.pre self.now.stmt) (S.post self.now.stmt) }
+            (P.pre self.now.pat) (P.post self.now.pat) (S.pre self.now.stmt) (S.post self.now.stmt) (I.pre self.now.item) (I.post self.now.item) }
         requires within { IsWithin parts.now self.now.whole.now }
         ensures { IsMade (property_at self.now.source.text.now self.now.source.tokens.now (parts_in self.now.source parts.now) n) result }
     {
@@ -141,7 +142,7 @@ impl<
     /// A name or a string literal.
     pub fn name_at(&self, parts: &[Tree], n: usize) -> Result<ModuleExportName, DressError>
         requires ring { IsRing self.now.source self.now.whole.now (E.pre self.now.expr) (E.post self.now.expr)
-            (P.pre self.now.pat) (P.post self.now.pat) (S.pre self.now.stmt) (S.post self.now.stmt) }
+            (P.pre self.now.pat) (P.post self.now.pat) (S.pre self.now.stmt) (S.post self.now.stmt) (I.pre self.now.item) (I.post self.now.item) }
         requires within { IsWithin parts.now self.now.whole.now }
         ensures { IsMade (name_at self.now.source.text.now self.now.source.tokens.now (parts_in self.now.source parts.now) n) result }
     {
@@ -152,7 +153,7 @@ impl<
     /// A regular expression.
     pub fn regex_at(&self, parts: &[Tree], n: usize) -> Result<Regex, DressError>
         requires ring { IsRing self.now.source self.now.whole.now (E.pre self.now.expr) (E.post self.now.expr)
-            (P.pre self.now.pat) (P.post self.now.pat) (S.pre self.now.stmt) (S.post self.now.stmt) }
+            (P.pre self.now.pat) (P.post self.now.pat) (S.pre self.now.stmt) (S.post self.now.stmt) (I.pre self.now.item) (I.post self.now.item) }
         requires within { IsWithin parts.now self.now.whole.now }
         ensures { IsMade (option_map (regex_of self.now.source.text.now) (token_at self.now.source.tokens.now (parts_in self.now.source parts.now) n)) result }
     {
@@ -163,7 +164,7 @@ impl<
     /// A name that may be absent, from the parts of its group.
     pub fn optional_ident(&self, group: &[Tree]) -> Result<Option<Ident>, DressError>
         requires ring { IsRing self.now.source self.now.whole.now (E.pre self.now.expr) (E.post self.now.expr)
-            (P.pre self.now.pat) (P.post self.now.pat) (S.pre self.now.stmt) (S.post self.now.stmt) }
+            (P.pre self.now.pat) (P.post self.now.pat) (S.pre self.now.stmt) (S.post self.now.stmt) (I.pre self.now.item) (I.post self.now.item) }
         requires within { IsWithin group.now self.now.whole.now }
         ensures { IsMade (optional (ident_at self.now.source.text.now self.now.source.tokens.now) (parts_in self.now.source group.now)) result }
     {
@@ -176,7 +177,7 @@ impl<
     /// The name of a function or a class: a token where it is asked for, else a part that may be absent.
     pub fn own_name_at(&self, parts: &[Tree], n: usize) -> Result<Option<Ident>, DressError>
         requires ring { IsRing self.now.source self.now.whole.now (E.pre self.now.expr) (E.post self.now.expr)
-            (P.pre self.now.pat) (P.post self.now.pat) (S.pre self.now.stmt) (S.post self.now.stmt) }
+            (P.pre self.now.pat) (P.post self.now.pat) (S.pre self.now.stmt) (S.post self.now.stmt) (I.pre self.now.item) (I.post self.now.item) }
         requires within { IsWithin parts.now self.now.whole.now }
         ensures { IsMade (own_name_at self.now.source.text.now self.now.source.tokens.now (parts_in self.now.source parts.now) n) result }
     {
@@ -189,7 +190,7 @@ impl<
     /// A prefix operator.
     pub fn unary_op_at(&self, parts: &[Tree], n: usize) -> Result<UnaryOp, DressError>
         requires ring { IsRing self.now.source self.now.whole.now (E.pre self.now.expr) (E.post self.now.expr)
-            (P.pre self.now.pat) (P.post self.now.pat) (S.pre self.now.stmt) (S.post self.now.stmt) }
+            (P.pre self.now.pat) (P.post self.now.pat) (S.pre self.now.stmt) (S.post self.now.stmt) (I.pre self.now.item) (I.post self.now.item) }
         requires within { IsWithin parts.now self.now.whole.now }
         ensures { IsMade (given (kind_at self.now.source.tokens.now (parts_in self.now.source parts.now) n) (listed unary_ops)) result }
     {
@@ -202,7 +203,7 @@ impl<
     /// `++` or `--`.
     pub fn update_op_at(&self, parts: &[Tree], n: usize) -> Result<UpdateOp, DressError>
         requires ring { IsRing self.now.source self.now.whole.now (E.pre self.now.expr) (E.post self.now.expr)
-            (P.pre self.now.pat) (P.post self.now.pat) (S.pre self.now.stmt) (S.post self.now.stmt) }
+            (P.pre self.now.pat) (P.post self.now.pat) (S.pre self.now.stmt) (S.post self.now.stmt) (I.pre self.now.item) (I.post self.now.item) }
         requires within { IsWithin parts.now self.now.whole.now }
         ensures { IsMade (given (kind_at self.now.source.tokens.now (parts_in self.now.source parts.now) n) (listed update_ops)) result }
     {
@@ -215,7 +216,7 @@ impl<
     /// How variables are declared.
     pub fn variable_kind_at(&self, parts: &[Tree], n: usize) -> Result<VarDeclKind, DressError>
         requires ring { IsRing self.now.source self.now.whole.now (E.pre self.now.expr) (E.post self.now.expr)
-            (P.pre self.now.pat) (P.post self.now.pat) (S.pre self.now.stmt) (S.post self.now.stmt) }
+            (P.pre self.now.pat) (P.post self.now.pat) (S.pre self.now.stmt) (S.post self.now.stmt) (I.pre self.now.item) (I.post self.now.item) }
         requires within { IsWithin parts.now self.now.whole.now }
         ensures { IsMade (given (kind_at self.now.source.tokens.now (parts_in self.now.source parts.now) n) (listed variable_kinds)) result }
     {
@@ -228,7 +229,7 @@ impl<
     /// `get` or `set`.
     pub fn accessor_kind_at(&self, parts: &[Tree], n: usize) -> Result<MethodKind, DressError>
         requires ring { IsRing self.now.source self.now.whole.now (E.pre self.now.expr) (E.post self.now.expr)
-            (P.pre self.now.pat) (P.post self.now.pat) (S.pre self.now.stmt) (S.post self.now.stmt) }
+            (P.pre self.now.pat) (P.post self.now.pat) (S.pre self.now.stmt) (S.post self.now.stmt) (I.pre self.now.item) (I.post self.now.item) }
         requires within { IsWithin parts.now self.now.whole.now }
         ensures { IsMade (given (kind_at self.now.source.tokens.now (parts_in self.now.source parts.now) n) (listed accessor_kinds)) result }
     {

@@ -10,7 +10,7 @@ use crate::dresser::{Dresser, group_in};
 use crate::error::DressError;
 use crate::source::Source;
 use base::Items;
-use es_ast::{Expr, Pat, Stmt};
+use es_ast::{Expr, ModuleItem, Pat, Stmt};
 use es_whole_reader::Tree;
 use std::alloc::{AllocError, Global};
 
@@ -24,9 +24,10 @@ pub trait Turn<T> {
         E: Fn(Source<'_>, &Tree) -> Result<Expr, DressError>,
         P: Fn(Source<'_>, &Tree) -> Result<Pat, DressError>,
         S: Fn(Source<'_>, &Tree) -> Result<Stmt, DressError>,
-    >(&self, dresser: &Dresser<'_, E, P, S>, turn: &[Tree]) -> Result<T, DressError>
+        I: Fn(Source<'_>, &Tree) -> Result<ModuleItem, DressError>,
+    >(&self, dresser: &Dresser<'_, E, P, S, I>, turn: &[Tree]) -> Result<T, DressError>
         requires ring { IsRing dresser.now.source dresser.now.whole.now (E.pre dresser.now.expr) (E.post dresser.now.expr)
-            (P.pre dresser.now.pat) (P.post dresser.now.pat) (S.pre dresser.now.stmt) (S.post dresser.now.stmt) }
+            (P.pre dresser.now.pat) (P.post dresser.now.pat) (S.pre dresser.now.stmt) (S.post dresser.now.stmt) (I.pre dresser.now.item) (I.post dresser.now.item) }
         requires within { IsWithin turn.now dresser.now.whole.now }
         ensures { IsMade (value dresser.now.source.text.now dresser.now.source.tokens.now
             (parts_in dresser.now.source turn.now)) result };
@@ -48,14 +49,15 @@ pub fn turns_behind<
     E: Fn(Source<'_>, &Tree) -> Result<Expr, DressError>,
     P: Fn(Source<'_>, &Tree) -> Result<Pat, DressError>,
     S: Fn(Source<'_>, &Tree) -> Result<Stmt, DressError>,
+    I: Fn(Source<'_>, &Tree) -> Result<ModuleItem, DressError>,
 >(
     one: &D,
-    dresser: &Dresser<'_, E, P, S>,
+    dresser: &Dresser<'_, E, P, S, I>,
     before: Items<T>,
     list: &[Tree],
 ) -> Result<Items<T>, DressError>
     requires ring { IsRing dresser.now.source dresser.now.whole.now (E.pre dresser.now.expr) (E.post dresser.now.expr)
-        (P.pre dresser.now.pat) (P.post dresser.now.pat) (S.pre dresser.now.stmt) (S.post dresser.now.stmt) }
+        (P.pre dresser.now.pat) (P.post dresser.now.pat) (S.pre dresser.now.stmt) (S.post dresser.now.stmt) (I.pre dresser.now.item) (I.post dresser.now.item) }
     requires within { IsWithin list.now dresser.now.whole.now }
     ensures { IsMade (option_map (λ others. before ++ others)
         (turns (D.value dresser.now.source.text.now dresser.now.source.tokens.now) (parts_in dresser.now.source list.now))) result }
@@ -77,9 +79,10 @@ pub fn turns<
     E: Fn(Source<'_>, &Tree) -> Result<Expr, DressError>,
     P: Fn(Source<'_>, &Tree) -> Result<Pat, DressError>,
     S: Fn(Source<'_>, &Tree) -> Result<Stmt, DressError>,
->(one: &D, dresser: &Dresser<'_, E, P, S>, list: &[Tree]) -> Result<Items<T>, DressError>
+    I: Fn(Source<'_>, &Tree) -> Result<ModuleItem, DressError>,
+>(one: &D, dresser: &Dresser<'_, E, P, S, I>, list: &[Tree]) -> Result<Items<T>, DressError>
     requires ring { IsRing dresser.now.source dresser.now.whole.now (E.pre dresser.now.expr) (E.post dresser.now.expr)
-        (P.pre dresser.now.pat) (P.post dresser.now.pat) (S.pre dresser.now.stmt) (S.post dresser.now.stmt) }
+        (P.pre dresser.now.pat) (P.post dresser.now.pat) (S.pre dresser.now.stmt) (S.post dresser.now.stmt) (I.pre dresser.now.item) (I.post dresser.now.item) }
     requires within { IsWithin list.now dresser.now.whole.now }
     ensures { IsMade (turns (D.value dresser.now.source.text.now dresser.now.source.tokens.now)
         (parts_in dresser.now.source list.now)) result }

@@ -53,7 +53,7 @@ impl Source<'_> {
     }
 }
 
-impl<E, P, S> Dresser<'_, E, P, S> {
+impl<E, P, S, I> Dresser<'_, E, P, S, I> {
     /// A part that is a node.
     pub fn node_at<'t>(&self, parts: &'t [Tree], n: usize) -> Result<Node<'t>, DressError>
         requires { IsWithin parts.now self.now.whole.now }

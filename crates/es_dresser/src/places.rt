@@ -130,7 +130,7 @@ impl Source<'_> {
     }
 }
 
-impl<E, P, S> Dresser<'_, E, P, S> {
+impl<E, P, S, I> Dresser<'_, E, P, S, I> {
     /// The first token of a part, or 0.
     pub fn first_at(&self, parts: &[Tree], n: usize) -> usize
         ensures { result ≡ first_of (part (parts_in self.now.source parts.now) n) }

@@ -9,3 +9,6 @@ decreases-dress_pat l = nodes l.tree.now
 
 abbrev pub decreases-dress_stmt : goal.decreases-dress_stmt
 decreases-dress_stmt l = nodes l.tree.now
+
+abbrev pub decreases-dress_item : goal.decreases-dress_item
+decreases-dress_item l = nodes l.tree.now

@@ -28,4 +28,5 @@ returns-in_default g c =
       other label l.TryStatement d.not-TryStatement,
       other label l.DebuggerStatement d.not-DebuggerStatement,
       other label l.WithStatement d.not-WithStatement,
+      other label l.TypedTryStatement d.not-TypedTryStatement,
     ) c.decl_statement.ensures

@@ -44,4 +44,12 @@ returns-in_default g c =
       other label l.AsyncNameArrow c.in_default.not-AsyncNameArrow,
       other label l.AsyncParenthesizedArrow c.in_default.not-AsyncParenthesizedArrow,
       other label l.Sequence c.in_default.not-Sequence,
+      other label l.TypedFunction c.in_default.not-TypedFunction,
+      other label l.TypedAsyncFunction c.in_default.not-TypedAsyncFunction,
+      other label l.TypedClass c.in_default.not-TypedClass,
+      other label l.AbstractClass c.in_default.not-AbstractClass,
+      other label l.TypedNew c.in_default.not-TypedNew,
+      other label l.TypedBinary c.in_default.not-TypedBinary,
+      other label l.TypedParenthesizedArrow c.in_default.not-TypedParenthesizedArrow,
+      other label l.TypedAsyncParenthesizedArrow c.in_default.not-TypedAsyncParenthesizedArrow,
     )
