@@ -6,3 +6,5 @@ pub mod NameLemmas
 pub mod BodyLemmas
 -- parameters in parentheses
 pub mod FewerLemmas
+-- modifiers, one behind the other
+mod ModifierLemmas

@@ -229,7 +229,8 @@ impl<
         let mut rest = group;
         'words: while let Some((word, others)) = rest.split_first() {
             let kind = self.0.kind_at(group_in(word), 0)?;
-            modifiers = with_modifier(kind, modifiers);
+            let next = with_modifier(kind, modifiers);
+            modifiers = next;
             rest = others;
         }
         Ok(modifiers)

@@ -1,9 +1,10 @@
 //! Names of types, arguments and parameters of types.
 
-ghost use Rattle.std.specs.Prelude.{◌≡◌, ◌<◌, option_map};
+ghost use Rattle.std.specs.Prelude.{◌≡◌, ◌<◌, ◌||◌, option_map};
 ghost use Rattle.es_dress.specs.Value.{optional, part, group, first_of, behind, type_at, reference_at, arguments_at, type_params_at, entity_at};
 ghost use Rattle.es_dress.specs.Texts.{span_of, ident_at};
 ghost use Rattle.es_dress.specs.Modules.{entity};
+ghost use Rattle.es_tree.specs.Key.{same_kind};
 ghost use Rattle.es_dress.specs.TypeNames.{named, reference, import_type, types_from, arguments, holds, first_in, behind_in, type_param, type_params};
 ghost use Rattle.es_dresser.specs.Nodes.{IsWithin};
 ghost use Rattle.es_dresser.specs.Ring.{IsMade, IsRing, parts_in};
@@ -18,6 +19,13 @@ use es_token::TokenKind;
 use es_whole_grammar::Label;
 use es_whole_reader::Tree;
 use ts_ast::{Ident, Nodes, TsEntityName, TsParamPat, TsType, TsTypeParam};
+
+/// Whether a word of this kind was read before, or is this one.
+fn also(is: bool, other: TokenKind, kind: TokenKind) -> bool
+    ensures { result ≡ (is || same_kind other kind) }
+{
+    is || other == kind
+}
 
 /// A name behind a dot.
 #[derive(Clone, Copy)]
@@ -281,7 +289,8 @@ impl<
         let mut rest = group;
         'words: while let Some((word, others)) = rest.split_first() {
             let other = self.0.kind_at(group_in(word), 0)?;
-            is = is || other == kind;
+            let next = also(is, other, kind);
+            is = next;
             rest = others;
         }
         Ok(is)

@@ -2,7 +2,7 @@ use Rattle.std.proofs.Common.{subst}
 use Rattle.es_dresser.specs.Places.{IsSamePlace}
 use Rattle.es_dresser.specs.Ring.{parts_in}
 use Rattle.es_dress_types.proofs.ElementLemmas.{comma_none, comma_more}
-use Rattle.es_dress_types.proofs.elements.Types.comma_behind.Goals as goal
+use Rattle.es_dress_types.proofs.base.Types.comma_behind.Goals as goal
 
 -- behind no element
 pub returns-then-is_absent : goal.returns-then-is_absent

@@ -5,7 +5,7 @@ use Rattle.std.proofs.Common.{subst}
 use Rattle.std.specs.Prelude.{◌+◌}
 use Rattle.es_dresser.specs.Ring.{IsMade, parts_in}
 use Rattle.es_dress_types.proofs.ElementLemmas.{no_element, there_element}
-use Rattle.es_dress_types.proofs.elements.Types.next_element.Goals as goal
+use Rattle.es_dress_types.proofs.base.Types.next_element.Goals as goal
 
 -- no element
 pub returns-then-is_absent : goal.returns-then-is_absent

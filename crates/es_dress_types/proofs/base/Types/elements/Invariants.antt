@@ -6,7 +6,7 @@ use Rattle.es_dress.specs.Expressions.{elements}
 use Rattle.es_dresser.specs.Nodes.{IsWithin}
 use Rattle.es_dresser.specs.Ring.{parts_in}
 use Rattle.es_dress_types.proofs.ElementLemmas.{IsListed}
-use Rattle.es_dress_types.proofs.elements.Types.elements.Given as goal
+use Rattle.es_dress_types.proofs.base.Types.elements.Given as goal
 
 -- the elements so far stand before what is left
 abbrev pub invariant-elements : goal.invariant-elements
