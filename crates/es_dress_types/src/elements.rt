@@ -41,7 +41,7 @@ impl<
     }
 
     /// The comma behind an element of an array; `last` is the token before it.
-    fn comma_behind(&self, last: usize, element: &[Tree]) -> usize
+    pub(crate) fn comma_behind(&self, last: usize, element: &[Tree]) -> usize
         ensures { IsSamePlace self.now.0.now.source.tokens.now result (comma_behind last (parts_in self.now.0.now.source element.now)) }
     {
         if self.0.is_absent(element) {

@@ -7,6 +7,7 @@
 //! Not promised: when memory runs out.
 #![tactic(auto)]
 
+mod arrays;
 mod base;
 mod elements;
 mod knot;

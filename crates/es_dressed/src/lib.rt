@@ -7,5 +7,5 @@ mod program;
 mod whole;
 
 pub use es_dresser::DressError;
-pub use knot::{dress_expr, dress_pat, dress_stmt};
+pub use knot::{dress_expr, dress_item, dress_pat, dress_stmt};
 pub use program::dress_program;
