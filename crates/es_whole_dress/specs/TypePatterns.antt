@@ -13,6 +13,7 @@ use Rattle.ts_ast.specs.declared.ts.TsPatProp.{TsPatProp}
 use Rattle.ts_ast.specs.declared.ts.TsPatProp.TheVariants as vProp
 use Rattle.es_whole_dress.specs.Value.{given, option_list, Value, more, token, as_group, group, first_of, behind, optional, is_there, turns, type_at, type_pat_at, type_name_at, type_prop_at, fn_param_at, type_key_at}
 use Rattle.es_whole_dress.specs.Texts.{span_of, token_at, ident_at, str_at}
+use Rattle.es_whole_dress.specs.Expressions.{elements}
 use Rattle.es_whole_dress.specs.TypeTexts.{marked, number_at}
 use Rattle.es_whole_dress.specs.TypeNames.{behind_in}
 
@@ -20,25 +21,8 @@ use Rattle.es_whole_dress.specs.TypeNames.{behind_in}
 unfoldable pub name_pattern : List ℕ → List Token → Value → Option TsParamPat
 name_pattern x ts p = option_map vPat.Ident (ident_at x ts p 0)
 
--- an element of an array that stands at this token: a group without parts is none
-abbrev pub element_of : List Token → ℕ → Value → Option TsParamPat
-element_of ts at (more v vs) = type_pat_at (more v vs) 0
-element_of ts at _ = Some (vPat.Hole (span_of ts at at))
-
--- where the element behind it stands, behind its comma
-abbrev pub behind_element : ℕ → Value → ℕ
-behind_element at (more v vs) = behind v + 1
-behind_element at v = at + 1
-
--- the elements of an array, the first of which stands at this token
-abbrev pub elements : List Token → ℕ → Value → Option (List TsParamPat)
-elements ts at (more turn vs) =
-    given (element_of ts at (group (as_group turn) 0)) (λ pat.
-    given (elements ts (behind_element at (group (as_group turn) 0)) vs) (λ rest. Some (pat ∷ rest)))
-elements ts at _ = Some []
-
 unfoldable pub array_pattern : List Token → ℕ → Range → Value → Option TsParamPat
-array_pattern ts from r p = option_map (λ elems. vPat.Array elems r) (elements ts (from + 1) (group p 0))
+array_pattern ts from r p = option_map (λ elems. vPat.Array elems r) (elements vPat.Hole type_pat_at ts (from + 1) (group p 0))
 
 unfoldable pub object_pattern : Range → Value → Option TsParamPat
 object_pattern r p = option_map (λ props. vPat.Object props r) (turns (λ turn. type_prop_at turn 0) (group p 0))
