@@ -75,8 +75,7 @@ annotated_span ts p n at = span_of ts (first_of (part p n)) (behind_in (group p 
 -- the pattern at this part, with the type that stands at another one
 abbrev pub annotated_at : List Token → Value → ℕ → ℕ → Option Pat
 annotated_at ts p n at =
-    given (marked_at p n) (λ pat.
-    given (annotation_at p at) (λ ty. Some (pat false ty (annotated_span ts p n at))))
+    given (annotation_at p at) (λ ty. option_map (λ pat. pat false ty (annotated_span ts p n at)) (marked_at p n))
 
 -- ---- modifiers
 unfoldable pub access_of : TokenKind → Accessibility → Accessibility
@@ -110,15 +109,14 @@ param_by modifiers r pat = roll-Param (record { modifiers = modifiers; pat = pat
 -- a pattern at this part, and behind it '?'? (':' Type)? ('=' Assign)?
 abbrev pub tailed_at : List Token → Value → ℕ → Option Pat
 tailed_at ts p n =
-    given (marked_at p n) (λ pat.
     given (annotation_at p (n + 2)) (λ ty.
     given (optional expr_at (group p (n + 3))) (λ value.
-    Some (with_default
+    option_map (λ pat. with_default
     (span_of ts (first_of (part p n))
     (behind_in (group p (n + 3)) (behind_in (group p (n + 2)) (behind_in (group p (n + 1)) (behind (part p n))))))
     (pat (is_there (group p (n + 1))) ty
     (span_of ts (first_of (part p n)) (behind_in (group p (n + 2)) (behind_in (group p (n + 1)) (behind (part p n))))))
-    value))))
+    value) (marked_at p n)))
 
 unfoldable pub marked_parameter : List Token → Range → Value → Option Param
 marked_parameter ts r p = option_map (param_by plain r) (tailed_at ts p 0)
