@@ -2,14 +2,15 @@
 
 ghost use Rattle.es_whole_grammar.specs.Functions.{plain_key, key, typed_head_in, unmarked, mark_in, method_in, property};
 
+use crate::parameters::MarkIn;
 use es_token::TokenKind;
 use es_tree::{Lang, SyntaxError};
 use es_whole_expressions::StarIn;
 use es_whole_grammar::{Context, Label, Row};
-use es_whole_reader::Ahead::{Has, Is};
+use es_whole_reader::Ahead::{Has, Is, Other};
 use es_whole_reader::{
-    Choose, Cursor, Done, Grammar, Guard, Input, Kinds, Make, MakeBy, Measured, OfRow, Parts, Pick,
-    Punct, ReadsForm, ReadsRule, Sort, Tok, Where,
+    Alt, Choose, Cursor, Done, Grammar, Guard, Input, Kinds, Make, MakeBy, Measured, OfRow, Parts,
+    Pick, Punct, ReadsForm, ReadsRule, Sort, Tok, When, Where,
 };
 
 /// Key: Word | Str | Number | BigInt | '[' Assign ']'
