@@ -10,10 +10,10 @@ ghost use Rattle.es_lexer.specs.Goal.{state_of};
 ghost use Rattle.es_lexer.specs.Scan.{text_end, HasCommentText, comment_at};
 
 use crate::error::{LexError, LexicalError};
-use crate::goal::{State, blank_state, comment_state, goal_in, line_state};
+use crate::goal::{State, blank_state, comment_state, goal_in, line_state, token_state};
 use crate::look::{Look, behind_blanks, look_from, short_word};
 use crate::short::short_sign;
-use crate::stack::{innermost, push_found, push_short, push_word};
+use crate::stack::{innermost, push_short, push_token, push_word};
 use base::{Items, Range, Text};
 use es_token::{Comment, CommentKind, Lexed};
 use std::alloc::{AllocError, Global};
@@ -84,7 +84,8 @@ fn scan(alloc: Global, text: &str) -> Result<Lexed, LexError>
             }
             Look::Token { kind, end } => {
                 let range = Range { start: at, end };
-                state = push_found(&mut tokens, &mut brackets, state, kind, range)?;
+                let closed = push_token(&mut tokens, &mut brackets, state, kind, range)?;
+                state = token_state(state, kind, closed);
                 at = behind_blanks(bytes, end);
             }
             Look::Fault { kind, at } => {

@@ -44,26 +44,6 @@ pub fn push_word(
     }
 }
 
-/// Puts a token that isn't told by its first bytes at the end, and answers the state behind it.
-#[inline(always)]
-pub fn push_found(
-    tokens: &mut Items<Token>,
-    brackets: &mut Items<OpenBracket>,
-    state: State,
-    kind: TokenKind,
-    range: Range,
-) -> Result<State, AllocError>
-    ensures state { IfOk result (λ next. next ≡ token_state state kind (is_headed (closed_of (role_of kind) (reverse brackets.old)))) }
-    ensures tokens { OnOk result (tokens.new ≡ joined (closed_of (role_of kind) (reverse brackets.old)) (length tokens.old) tokens.old ++ token_with kind range state.line (role_of kind) (closed_of (role_of kind) (reverse brackets.old)) ∷ []) }
-    ensures brackets { OnOk result (reverse brackets.new ≡ pushed (role_of kind) (length tokens.old) state.headed (left_of (role_of kind) (reverse brackets.old))) }
-{
-    match kind {
-        TokenKind::Number => push_known(tokens, brackets, state, TokenKind::Number, range),
-        TokenKind::Str => push_known(tokens, brackets, state, TokenKind::Str, range),
-        kind => push_known(tokens, brackets, state, kind, range),
-    }
-}
-
 /// Puts a token of this kind at the end, and answers the state behind it.
 #[inline(always)]
 fn push_known(
@@ -195,7 +175,7 @@ fn push_closer(
 /// Puts a token at the end, joined to the bracket that it closes. Answers whether that one belongs to a statement's head.
 #[inline(always)]
 #[tactic(auto, unfolding(crate::specs::Scan::closed_of, crate::specs::Scan::left_of, crate::specs::Scan::joined, crate::specs::Scan::pushed, crate::specs::Scan::numbered, crate::specs::Scan::is_headed))]
-fn push_token(
+pub fn push_token(
     tokens: &mut Items<Token>,
     brackets: &mut Items<OpenBracket>,
     state: State,

@@ -5,7 +5,7 @@ use Rattle.es_lexer.specs.Brackets.{role_of}
 use Rattle.es_lexer.specs.Short.{short_kind, short_role}
 use Rattle.es_lexer.proofs.ShortLemmas.{role_is}
 use Rattle.es_lexer.specs.Goal.{blank_state, line_state, token_state}
-use Rattle.es_lexer.proofs.ScanLemmas.{SoFar, After, TokenAfter, advance_at, so_far_first, less_left, so_far_as, fault_as, blank_passed, line_passed, within_bytes, token_within, token_passed}
+use Rattle.es_lexer.proofs.ScanLemmas.{SoFar, After, TokenAfter, advance_at, so_far_first, less_left, so_far_as, fault_as, blank_passed, line_passed, behind_piece, settled_token, within_bytes, token_within, token_passed}
 use Rattle.es_lexer.proofs.scan.scan.Goals as goal
 
 pub pieces-init : goal.pieces-init
@@ -215,32 +215,46 @@ behind_blanks-at-requires-in-Token c =
 
 pub pieces-smaller : goal.pieces-smaller
 pieces-smaller c =
+    let after : TokenAfter c.args.text.now c.pieces.at c.pieces.state c.pieces.brackets c.pieces.tokens
+    c.pieces.comments c.in-Token.kind c.in-Token.end =
+    advance_at c.args.text.now c.as_bytes-bytes.result.now c.pieces.at c.pieces.state c.pieces.brackets c.pieces.tokens
+    c.pieces.comments _ _ _
+    c.utf8.text c.pieces.invariant.same c.pieces.invariant.so_far c.innermost.ensures c.goal_in-goal.ensures
+    c.in-Token.ensures in
     let on : (c.pieces.at < c.behind_blanks-at-in-Token.result) × SoFar c.args.text.now
-    c.behind_blanks-at-in-Token.result c.in_ok-state-in-Token.state c.push_found.new.brackets
-    c.push_found.new.tokens c.pieces.comments =
-    token_passed c.args.text.now c.as_bytes-bytes.result.now c.pieces.at c.pieces.state c.pieces.brackets
-    c.pieces.tokens c.pieces.comments _ _ c.in-Token.kind (role_of c.in-Token.kind) c.in-Token.end
-    c.behind_blanks-at-in-Token.result c.push_found.new.brackets c.push_found.new.tokens
-    c.in_ok-state-in-Token.state c.utf8.text
-    c.pieces.invariant.same c.pieces.invariant.so_far c.innermost.ensures c.goal_in-goal.ensures
-    (sym c.in-Token.ensures) refl c.in_ok-state-in-Token.ensures.state c.in_ok-state-in-Token.ensures.tokens
-    c.in_ok-state-in-Token.ensures.brackets c.behind_blanks-at-in-Token.ensures in
+    c.behind_blanks-at-in-Token.result (token_state c.pieces.state c.in-Token.kind c.in_ok-closed-in-Token.closed)
+    c.push_token.new.brackets c.push_token.new.tokens c.pieces.comments =
+    behind_piece c.args.text.now c.as_bytes-bytes.result.now c.pieces.at c.in-Token.end
+    c.behind_blanks-at-in-Token.result (token_state c.pieces.state c.in-Token.kind c.in_ok-closed-in-Token.closed) _ _
+    c.pieces.comments c.utf8.text c.pieces.invariant.same
+    (settled_token c.pieces.state c.in-Token.kind c.in_ok-closed-in-Token.closed)
+    after.forward
+    (after.goes _ _ _ c.in_ok-closed-in-Token.ensures.closed c.in_ok-closed-in-Token.ensures.tokens
+    c.in_ok-closed-in-Token.ensures.brackets)
+    c.behind_blanks-at-in-Token.ensures in
     less_left c.args.text.now c.as_bytes-bytes.result.now c.pieces.at c.behind_blanks-at-in-Token.result
     c.pieces.invariant.same on.0 on.1.within
 
 pub pieces-preserved : goal.pieces-preserved
 pieces-preserved c =
+    let after : TokenAfter c.args.text.now c.pieces.at c.pieces.state c.pieces.brackets c.pieces.tokens
+    c.pieces.comments c.in-Token.kind c.in-Token.end =
+    advance_at c.args.text.now c.as_bytes-bytes.result.now c.pieces.at c.pieces.state c.pieces.brackets c.pieces.tokens
+    c.pieces.comments _ _ _
+    c.utf8.text c.pieces.invariant.same c.pieces.invariant.so_far c.innermost.ensures c.goal_in-goal.ensures
+    c.in-Token.ensures in
     let on : (c.pieces.at < c.behind_blanks-at-in-Token.result) × SoFar c.args.text.now
-    c.behind_blanks-at-in-Token.result c.in_ok-state-in-Token.state c.push_found.new.brackets
-    c.push_found.new.tokens c.pieces.comments =
-    token_passed c.args.text.now c.as_bytes-bytes.result.now c.pieces.at c.pieces.state c.pieces.brackets
-    c.pieces.tokens c.pieces.comments _ _ c.in-Token.kind (role_of c.in-Token.kind) c.in-Token.end
-    c.behind_blanks-at-in-Token.result c.push_found.new.brackets c.push_found.new.tokens
-    c.in_ok-state-in-Token.state c.utf8.text
-    c.pieces.invariant.same c.pieces.invariant.so_far c.innermost.ensures c.goal_in-goal.ensures
-    (sym c.in-Token.ensures) refl c.in_ok-state-in-Token.ensures.state c.in_ok-state-in-Token.ensures.tokens
-    c.in_ok-state-in-Token.ensures.brackets c.behind_blanks-at-in-Token.ensures in
+    c.behind_blanks-at-in-Token.result (token_state c.pieces.state c.in-Token.kind c.in_ok-closed-in-Token.closed)
+    c.push_token.new.brackets c.push_token.new.tokens c.pieces.comments =
+    behind_piece c.args.text.now c.as_bytes-bytes.result.now c.pieces.at c.in-Token.end
+    c.behind_blanks-at-in-Token.result (token_state c.pieces.state c.in-Token.kind c.in_ok-closed-in-Token.closed) _ _
+    c.pieces.comments c.utf8.text c.pieces.invariant.same
+    (settled_token c.pieces.state c.in-Token.kind c.in_ok-closed-in-Token.closed)
+    after.forward
+    (after.goes _ _ _ c.in_ok-closed-in-Token.ensures.closed c.in_ok-closed-in-Token.ensures.tokens
+    c.in_ok-closed-in-Token.ensures.brackets)
+    c.behind_blanks-at-in-Token.ensures in
     record {
       same = c.pieces.invariant.same;
-      so_far = on.1;
+      so_far = so_far_as _ _ _ _ _ _ _ _ on.1 c.token_state-state.ensures refl;
     }
