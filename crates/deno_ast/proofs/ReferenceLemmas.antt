@@ -155,7 +155,8 @@ opening-end : (text : List ℕ) → EndOf text (behind_opening text)
 opening-end text =
     then_end text (behind (codes "/") text)
     (λ inner. option_and_then behind_gap (behind (codes "<reference") (behind_blanks inner)))
-    (behind-end (codes "/") text) (λ inner. then_end inner (behind (codes "<reference") (behind_blanks inner)) behind_gap
+    (behind-end (codes "/") text)
+    (λ inner. then_end inner (behind (codes "<reference") (behind_blanks inner)) behind_gap
     (λ rest is. end_of_end inner (behind_blanks inner) rest (blanks-end inner)
     (behind-end (codes "<reference") (behind_blanks inner) rest is))
     (λ part. gap-end part))
@@ -166,7 +167,8 @@ named-end text n is = by (starts_with nat_eq text (codes "path")) (starts_with n
     by : (path types : Bool) → (if path then Some (ReferencePath, drop 4 text)
         else (if types then Some (ReferenceTypes, drop 5 text) else None)) ≡ Some n → IsEnd text n.1
     by true types same = subst (λ (m : Named). IsEnd text m.1) (same_Some (ReferencePath, drop 4 text) n same) (4, refl)
-    by false true same = subst (λ (m : Named). IsEnd text m.1) (same_Some (ReferenceTypes, drop 5 text) n same) (5, refl)
+    by false true same =
+        subst (λ (m : Named). IsEnd text m.1) (same_Some (ReferenceTypes, drop 5 text) n same) (5, refl)
     by false false same = cc
 
 named-parts : (n : Named) (o : Option (List ℕ)) (r : Reference) → EndOf n.1 o
