@@ -5,7 +5,7 @@ use Rattle.es_tree.specs.declared.error.Lang.{Lang}
 use Rattle.es_tree.specs.declared.error.Mode.{Mode}
 use Rattle.es_tree.specs.declared.error.Mode.TheVariants as mode
 use Rattle.es_tree.specs.Key.{Key}
-use Rattle.es_tree.specs.Plain.{Plain, node, leaf, cons, mark, turn, via}
+use Rattle.es_tree.specs.Plain.{Plain, node, leaf, nil, cons, mark, turn, via}
 use Rattle.es_tree.specs.Fits.{free, Shape}
 use Rattle.es_grammar.specs.declared.rows.Label.TheVariants.{Name, Parenthesized, Chain, Binary, MemberPost, IndexPost, Assignment, UpdatePostfix, UpdatePrefix}
 use Rattle.es_whole_grammar.specs.Rows.{Row, ModuleRow, ScriptRow, Label, plain_, type_, NonNullPost}
@@ -27,7 +27,7 @@ abbrev pub ends_in_member : Bool → Plain Label → Plain Label → Bool
 ends_in_member before p (turn (cons q ps) rest) = ends_in_member (unless_non_null p before) q rest
 ends_in_member before p _ = unless_non_null p before
 
--- the parts of a turn are `as const`, or `as` or `satisfies` with a type
+-- the parts of a turn are `as const`, or `as` or `satisfies` with a type; such a turn is the only part behind its operand
 abbrev pub is_assertion : Plain Label → Bool
 is_assertion (cons operator (cons (cons (node (type_ l) from to ts) ps) rest)) = true
 is_assertion (cons operator (cons (cons (leaf s n) ps) rest)) = true
@@ -39,7 +39,7 @@ abbrev pub is_simple : Plain Label → Bool
 is_simple (node (plain_ Name) from to ps) = true
 is_simple (node (plain_ Parenthesized) from to (mark n (cons q ps))) = is_simple q
 is_simple (node (plain_ Chain) from to (cons q (cons p (cons more ps)))) = ends_in_member (is_simple q) p more
-is_simple (node (plain_ Binary) from to (cons q (cons assertion ps))) = is_assertion assertion && is_simple q
+is_simple (node (plain_ Binary) from to (cons q (cons assertion nil))) = is_assertion assertion && is_simple q
 is_simple _ = false
 
 -- the parts of a node are those that its alternative may have
