@@ -21,9 +21,9 @@ _REASONS = {
     6: "the text is over 16 MiB",
     7: "the text is no UTF-8",
     8: "no media type has this number",
-    9: "sources of this media type aren't read yet",
+    9: "modules of this media type are no sources",
     10: "a part of the text is no token",
-    11: "the tokens are no module of the grammar that is read",
+    11: "the tokens are no program of the grammar",
 }
 
 

@@ -45,7 +45,7 @@ class Sites(unittest.TestCase):
         rows = [
             (b"", 99, 8, None),
             (b"", joravelsu.WASM, 9, None),
-            (b"", joravelsu.TSX, 9, None),
+            (b"", joravelsu.JSON, 9, None),
             (b"\xff", joravelsu.MJS, 7, None),
             (b" " * (1 << 24) + b" ", joravelsu.MJS, 6, None),
             (b'import "a', joravelsu.MJS, 10, 7),

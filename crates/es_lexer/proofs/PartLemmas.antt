@@ -1,5 +1,5 @@
 -- Parts of names: where they end, and that they end there alone.
-use Rattle.std.proofs.Common.{◌≡◌, ℕ, zero, suc, ◌+◌, ◌<◌, ◌≤◌, Bool, true, false, not, ◌||◌, ◌==◌, List, [], ◌∷◌, ◌++◌, length, drop, get_or, refl, sym, ◌∙◌, ap, subst, arith, eq-eqb, eqb-true}
+use Rattle.std.proofs.Common.{◌≡◌, ℕ, zero, suc, ◌+◌, ◌<◌, ◌≤◌, Bool, true, false, not, ◌||◌, ◌==◌, List, [], ◌∷◌, ◌++◌, length, drop, get_or, refl, sym, ◌∙◌, ap, subst, arith, eq-eqb, eqb-true, true≢false}
 use Rattle.std.proofs.lemmas.Bool.Decides.{nat_tests}
 use Rattle.es_spelling.specs.Units.{concat, AreUnits, units_end}
 use Rattle.es_wide.specs.Wide.{wide_size}
@@ -7,8 +7,10 @@ use Rattle.es_wide.specs.Escapes.{escaped_start, escaped_part}
 use Rattle.es_spelling.proofs.UnitLemmas.{Within, Units, units, Step, step, passes_unit, passes_units, stops, ap2}
 use Rattle.es_wide.proofs.WideLemmas.{wide_local, wide_within, wide_more, wide_begins}
 use Rattle.es_wide.proofs.EscapeLemmas as escape
-use Rattle.es_lexer.specs.declared.bytes.First.TheVariants.{Start, Wide, Backslash}
-use Rattle.es_lexer.specs.Bytes.{is_start, is_part, first_of, part_unit, word_unit, begins_name, begins_comment}
+use Rattle.std.specs.Char.{is_ascii_digit}
+use Rattle.es_lexer.specs.declared.bytes.First.{First}
+use Rattle.es_lexer.specs.declared.bytes.First.TheVariants.{Start, Blank, LineEnd, Quote, Slash, Backtick, Brace, Hash, Digit, Dot, Backslash, Wide, Other}
+use Rattle.es_lexer.specs.Bytes.{is_start, is_part, is_letter, first_of, part_unit, word_unit, begins_name, begins_letter, begins_comment}
 use Rattle.es_lexer.specs.Spelling.{AreParts}
 use Rattle.es_lexer.specs.Look.{word_end, flags_end}
 use Rattle.es_lexer.proofs.ByteLemmas.{start_is, start_class, backslash_is, backslash_class, wide_class, apart, no_comment_at}
@@ -152,6 +154,33 @@ pub word_turn : (at first : ℕ) (s t text : List ℕ) (v : Bool) → 1 ≤ leng
 word_turn at first [] t text v l e p d w = absurd (omega arith)
 word_turn at first (b ∷ s) t text v l e p d w =
     ap (word_end (at + 1)) d ∙ (sym (part_passed at b s (sym e ∙ p)) ∙ w)
+
+-- behind what begins a word
+letter_class : (c : First) → is_letter c ≡ true → c ≡ Start
+unfolding is_letter
+letter_class Start h = refl
+letter_class Blank h = absurd (true≢false (sym h))
+letter_class LineEnd h = absurd (true≢false (sym h))
+letter_class Quote h = absurd (true≢false (sym h))
+letter_class Slash h = absurd (true≢false (sym h))
+letter_class Backtick h = absurd (true≢false (sym h))
+letter_class Brace h = absurd (true≢false (sym h))
+letter_class Hash h = absurd (true≢false (sym h))
+letter_class Digit h = absurd (true≢false (sym h))
+letter_class Dot h = absurd (true≢false (sym h))
+letter_class Backslash h = absurd (true≢false (sym h))
+letter_class Wide h = absurd (true≢false (sym h))
+letter_class Other h = absurd (true≢false (sym h))
+
+letter_part : (b : ℕ) → is_letter (first_of b) ≡ true → is_part b ≡ true
+letter_part b h = ap (λ v. v || is_ascii_digit b) (start_is b (letter_class (first_of b) h))
+
+pub letter_passed : (r at : ℕ) (s t : List ℕ) → begins_letter s ≡ true → 1 ≤ length s
+    → t ≡ drop 1 s → r ≡ word_end (at + 1) t → r ≡ word_end at s
+unfolding begins_letter
+letter_passed r at [] t h l d w = absurd (omega arith)
+letter_passed r at (c ∷ s) t h l d w =
+    w ∙ (ap (word_end (at + 1)) d ∙ sym (part_passed at c s (letter_part c h)))
 
 -- nothing is left
 pub word_done : (at first : ℕ) (s text : List ℕ) → length s < 1 → word_end at s ≡ word_end first text

@@ -1,8 +1,8 @@
--- The table of the bytes that may stand in a name says what `is_part` does, byte by byte.
+-- The tables of bytes say what the classes do, byte by byte.
 use Rattle.std.proofs.Common.{◌≡◌, ℕ, zero, suc, ◌<◌, Bool, true, false, not, ◌&&◌, ◌==◌, get_or, refl, sym, ⊎_elim, arith}
 use Rattle.std.proofs.lemmas.Bool.{and_parts, cases_eq}
-use Rattle.es_lexer.specs.declared.bytes.TheConstants.{PARTS}
-use Rattle.es_lexer.specs.Bytes.{is_part}
+use Rattle.es_lexer.specs.declared.bytes.TheConstants.{PARTS, LETTERS}
+use Rattle.es_lexer.specs.Bytes.{is_part, is_letter, first_of}
 
 abbrev all_below : (ℕ → Bool) → ℕ → Bool
 all_below test zero = true
@@ -26,3 +26,8 @@ same_is false false is = refl
 
 pub part_told : (b : ℕ) → b < 256 → (get_or PARTS b 0 == 1) ≡ is_part b
 part_told b small = same_is _ _ (checked (λ x. same (get_or PARTS x 0 == 1) (is_part x)) 256 refl b small)
+
+pub letter_told : (b : ℕ) → b < 256 → (get_or LETTERS b 0 == 1) ≡ is_letter (first_of b)
+unfolding is_letter first_of
+letter_told b small =
+    same_is _ _ (checked (λ x. same (get_or LETTERS x 0 == 1) (is_letter (first_of x))) 256 refl b small)

@@ -1,6 +1,6 @@
 ghost use Rattle.std.specs.Prelude.{◌≡◌, ◌≤◌, length};
 ghost use Rattle.std.specs.Bool.{OnTrue};
-ghost use Rattle.es_lexer.specs.Bytes.{begins_backslash, begins_escape, begins_name, ends_plainly, first_of, is_blank, is_part, is_start, joins, part_unit, word_unit};
+ghost use Rattle.es_lexer.specs.Bytes.{begins_backslash, begins_escape, begins_name, ends_plainly, first_of, is_blank, is_letter, is_part, is_start, joins, part_unit, word_unit};
 
 use es_wide::{escaped_part, escaped_start, wide_size};
 
@@ -77,6 +77,26 @@ pub fn is_part(b: u8) -> bool
     ensures { result ≡ is_part b }
 {
     PARTS[b as usize] == 1
+}
+
+/// 1 for the bytes of ASCII that begin a word: letters, `$` and `_`.
+const LETTERS: [u8; 256] = [
+    0, 0, 0, 0, 0, 0, 0, 0, 0, 0, 0, 0, 0, 0, 0, 0, 0, 0, 0, 0, 0, 0, 0, 0, 0, 0, 0, 0, 0, 0, 0, 0,
+    0, 0, 0, 0, 1, 0, 0, 0, 0, 0, 0, 0, 0, 0, 0, 0, 0, 0, 0, 0, 0, 0, 0, 0, 0, 0, 0, 0, 0, 0, 0, 0,
+    0, 1, 1, 1, 1, 1, 1, 1, 1, 1, 1, 1, 1, 1, 1, 1, 1, 1, 1, 1, 1, 1, 1, 1, 1, 1, 1, 0, 0, 0, 0, 1,
+    0, 1, 1, 1, 1, 1, 1, 1, 1, 1, 1, 1, 1, 1, 1, 1, 1, 1, 1, 1, 1, 1, 1, 1, 1, 1, 1, 0, 0, 0, 0, 0,
+    0, 0, 0, 0, 0, 0, 0, 0, 0, 0, 0, 0, 0, 0, 0, 0, 0, 0, 0, 0, 0, 0, 0, 0, 0, 0, 0, 0, 0, 0, 0, 0,
+    0, 0, 0, 0, 0, 0, 0, 0, 0, 0, 0, 0, 0, 0, 0, 0, 0, 0, 0, 0, 0, 0, 0, 0, 0, 0, 0, 0, 0, 0, 0, 0,
+    0, 0, 0, 0, 0, 0, 0, 0, 0, 0, 0, 0, 0, 0, 0, 0, 0, 0, 0, 0, 0, 0, 0, 0, 0, 0, 0, 0, 0, 0, 0, 0,
+    0, 0, 0, 0, 0, 0, 0, 0, 0, 0, 0, 0, 0, 0, 0, 0, 0, 0, 0, 0, 0, 0, 0, 0, 0, 0, 0, 0, 0, 0, 0, 0,
+];
+
+/// Whether this byte begins a word; told by a table, so that no table of all classes is looked at for it.
+#[tactic(auto, using(crate::proofs::TableLemmas::letter_told))]
+pub fn is_letter(b: u8) -> bool
+    ensures { result ≡ is_letter (first_of b) }
+{
+    LETTERS[b as usize] == 1
 }
 
 /// The size of the character of a name that stands here, 0 where none does.

@@ -1,4 +1,4 @@
-ghost use Rattle.std.specs.Prelude.{◌≡◌, ◌+◌, ◌<◌, ◌≤◌, ◌^◌, ◌∷◌, false, length, drop, IfSome, IfNone};
+ghost use Rattle.std.specs.Prelude.{◌≡◌, ◌+◌, ◌<◌, ◌≤◌, ◌^◌, ◌∷◌, false, true, length, drop, IfSome, IfNone};
 ghost use Rattle.std.specs.Bool.{OnTrue};
 ghost use Rattle.es_lexer.specs.Bytes.{begins_closer, begins_letter};
 ghost use Rattle.es_lexer.specs.Signs.{sign_at};
@@ -9,8 +9,8 @@ ghost use Rattle.es_lexer.specs.Look.{line_stop, blanks_end, word_end, flags_end
 
 use crate::bracket::{BracketKind, is_open, may_close, role_of};
 use crate::bytes::{
-    First, begins_backslash, begins_escape, begins_name, ends_word, first_of, is_blank, is_part,
-    joins, part_unit, word_unit,
+    First, begins_backslash, begins_escape, begins_name, ends_word, first_of, is_blank, is_letter,
+    is_part, joins, part_unit, word_unit,
 };
 use crate::error::LexicalKind;
 use crate::goal::Goal;
@@ -442,16 +442,32 @@ pub fn short_word(goal: Goal, at: usize, text: &[u8]) -> Option<Word>
 {
     match text {
         [] => None,
-        [b, ..] => match first_of(*b) {
-            First::Start => {
-                let end = word_end_from(at, text);
+        [b, ..] => {
+            if is_letter(*b) {
+                let end = behind_letter(at, text);
                 Some(Word {
                     kind: kind_at(goal.member, &text[..end - at]),
                     end,
                 })
+            } else {
+                None
             }
-            _ => None,
-        },
+        }
+    }
+}
+
+/// The place behind the word at `first`, where a letter, `$` or `_` stands at the front of `text`.
+#[inline(always)]
+fn behind_letter(first: usize, text: &[u8]) -> usize
+    requires room { first + length text.now < 2 ^ 64 }
+    requires letter { begins_letter text.now ≡ true }
+    ensures value { result ≡ word_end first text.now }
+    ensures forward { first ≤ result }
+    ensures within { result ≤ first + length text.now }
+{
+    match text {
+        [] => first,
+        [_, after @ ..] => word_end_from(first + 1, after),
     }
 }
 

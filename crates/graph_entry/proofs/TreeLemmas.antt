@@ -1,6 +1,6 @@
 -- The tree of a source: there is at most one, its sites cut their literals, and what the parser tells of it.
 use Rattle.std.specs.Prelude.{All, Result}
-use Rattle.std.proofs.Common.{◌≡◌, ℕ, List, [], ◌∷◌, inl, inr}
+use Rattle.std.proofs.Common.{◌≡◌, sym, subst, ℕ, List, [], ◌∷◌, inl, inr}
 use Rattle.es_token.specs.declared.token.Token.{Token}
 use Rattle.es_lexer.specs.Reads.{ReadsTokens}
 use Rattle.es_tree.specs.declared.error.Lang.{Lang}
@@ -17,7 +17,7 @@ use Rattle.graph_entry.specs.Tree.{language_of, modes_of, IsFirstTree, IsTree}
 
 module _ (lang : Lang) (text : List ℕ) (tokens : List Token) where
   -- the first mode that derives a tree derives one alone
-  first_once : (modes : List Mode) (p q : Program) → IsFirstTree lang text tokens modes p
+  pub first_once : (modes : List Mode) (p q : Program) → IsFirstTree lang text tokens modes p
       → IsFirstTree lang text tokens modes q → p ≡ q
   first_once [] p q is so = absurd is
   first_once (m ∷ modes) p q (inl is) (inl so) = one_tree lang m text tokens p q is so
@@ -54,6 +54,17 @@ module _ (lang : Lang) (text : List ℕ) (tokens : List Token) where
   first_given m n r p one other (inl is) = one p is
   first_given m n r p one other (inr (none, inl is)) = other p is
   first_given m n r p one other (inr (none, inr is)) = absurd is.1
+
+-- the tree of a source, by its language and the modes that are allowed
+module _ (media : MediaType) (text : List ℕ) (tokens : List Token) (lang : Lang) (modes : List Mode)
+    (same : lang ≡ language_of media) (allowed : modes ≡ modes_of media) (p : Program) where
+  pub as_tree : IsFirstTree lang text tokens modes p → IsTree media text tokens p
+  as_tree is = subst (λ (ms : List Mode). IsFirstTree (language_of media) text tokens ms p) allowed
+      (subst (λ (l : Lang). IsFirstTree l text tokens modes p) same is)
+
+  pub of_tree : IsTree media text tokens p → IsFirstTree lang text tokens modes p
+  of_tree is = subst (λ (l : Lang). IsFirstTree l text tokens modes p) (sym same)
+      (subst (λ (ms : List Mode). IsFirstTree (language_of media) text tokens ms p) (sym allowed) is)
 
 -- a source has one tree at most
 pub one_tree_of : (media : MediaType) (text : List ℕ) (tokens : List Token) (p q : Program) → IsTree media text tokens p

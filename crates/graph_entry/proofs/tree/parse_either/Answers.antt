@@ -1,11 +1,11 @@
-use Rattle.std.proofs.Common.{subst, Err}
+use Rattle.std.proofs.Common.{subst, Err, inl, [], ◌∷◌}
 use Rattle.std.proofs.lemmas.Result.{IfOk-weaker}
 use Rattle.es_tree.specs.declared.error.SyntaxError.{SyntaxError}
 use Rattle.es_tree.specs.declared.error.Mode.TheVariants as mode
 use Rattle.es_ast.specs.declared.ast.Program.{Program as Typed}
 use Rattle.es_derives.specs.Derives.{Derives}
 use Rattle.es_parser.specs.Answers.{GivesTree}
-use Rattle.graph_entry.proofs.TreeLemmas.{later, first_given}
+use Rattle.graph_entry.proofs.TreeLemmas.{later, first_given, first_once}
 use Rattle.graph_entry.proofs.tree.parse_either.Goals as goal
 
 -- it is no script, and what is read is a module
@@ -26,3 +26,9 @@ returns-in-Err-Syntax-clause-only c = λ tree is.
     (λ tree script. absurd (subst (λ (e : SyntaxError). GivesTree (Err e) tree) c.in-Err-Syntax.field-0-is
     (c.in-Err-Syntax.ensures.only tree script)))
     c.parse_tokens-in-Err-Syntax.ensures.only is
+
+-- it is a script: the one that was read
+pub returns-in-Ok-clause-only : goal.returns-in-Ok-clause-only
+returns-in-Ok-clause-only c = λ tree is.
+    first_once c.args.lang c.args.text.now c.args.tokens.now (mode.Script ∷ mode.Module ∷ []) c.in-Ok.program tree
+    (inl c.in-Ok.ensures.derived) is

@@ -1,0 +1,4 @@
+pub mod TreeLemmas
+pub mod FaultLemmas
+pub mod ReferenceLemmas
+pub mod Theorems

@@ -1,0 +1,154 @@
+//! A program that is lent, and its items.
+ghost use Rattle.std.specs.Prelude.{◌≡◌, IfOk};
+ghost use Rattle.deno_ast.specs.Refs.{tree_of, IsModule, IsScript};
+
+use base::Range;
+use es_ast::{Module, ModuleDecl, ModuleItem, Program, Script, Stmt};
+use es_copy::ProgramCopy;
+use std::alloc::{AllocError, Global};
+use std::slice;
+
+/// A program that is lent.
+#[derive(Clone, Copy)]
+pub enum ProgramRef<'a> {
+    Module(&'a Module),
+    Script(&'a Script),
+}
+
+impl<'a> ProgramRef<'a> {
+    pub fn of(program: &'a Program) -> ProgramRef<'a>
+        ensures { tree_of result ≡ program.now }
+    {
+        match program {
+            Program::Module(module) => ProgramRef::Module(module),
+            Program::Script(script) => ProgramRef::Script(script),
+        }
+    }
+
+    /// Whether the program is a script, or a module whose first item that tells is `import a = ..` or `export = a`.
+    /// Any other import or export tells that it is none; `export as namespace a` tells nothing.
+    pub fn compute_is_script(self) -> bool {
+        match self {
+            ProgramRef::Module(module) => tells_script(module.body.as_slice()),
+            ProgramRef::Script(_) => true,
+        }
+    }
+
+    pub fn unwrap_module(self) -> &'a Module
+        requires { IsModule (tree_of self) }
+        ensures { Program.Module result.now ≡ tree_of self.entry }
+    {
+        match self {
+            ProgramRef::Module(module) => module,
+            ProgramRef::Script(_) => unreachable!(),
+        }
+    }
+
+    pub fn unwrap_script(self) -> &'a Script
+        requires { IsScript (tree_of self) }
+        ensures { Program.Script result.now ≡ tree_of self.entry }
+    {
+        match self {
+            ProgramRef::Module(_) => unreachable!(),
+            ProgramRef::Script(script) => script,
+        }
+    }
+
+    /// The text behind `#!`.
+    pub fn shebang(self) -> Option<&'a str> {
+        let shebang = match self {
+            ProgramRef::Module(module) => &module.shebang,
+            ProgramRef::Script(script) => &script.shebang,
+        };
+        match shebang {
+            Some(text) => Some(text.as_str()),
+            None => None,
+        }
+    }
+
+    pub fn body(self) -> Body<'a> {
+        match self {
+            ProgramRef::Module(module) => Body {
+                items: module.body.as_slice().iter(),
+                stmts: [].iter(),
+            },
+            ProgramRef::Script(script) => Body {
+                items: [].iter(),
+                stmts: script.body.as_slice().iter(),
+            },
+        }
+    }
+
+    /// An equal program.
+    pub fn to_owned(self, alloc: Global) -> Result<Program, AllocError>
+        ensures { IfOk result (λ program. program ≡ tree_of self.entry) }
+    {
+        match self {
+            ProgramRef::Module(module) => Ok(Program::Module(module.copy(alloc)?)),
+            ProgramRef::Script(script) => Ok(Program::Script(script.copy(alloc)?)),
+        }
+    }
+
+    pub fn span(self) -> Range {
+        match self {
+            ProgramRef::Module(module) => module.span,
+            ProgramRef::Script(script) => script.span,
+        }
+    }
+}
+
+impl<'a> From<&'a Program> for ProgramRef<'a> {
+    fn from(program: &'a Program) -> ProgramRef<'a> {
+        ProgramRef::of(program)
+    }
+}
+
+// What the first item says that tells.
+fn tells_script(items: &[ModuleItem]) -> bool {
+    for item in items {
+        if let ModuleItem::ModuleDecl(decl) = item {
+            match decl.get() {
+                ModuleDecl::TsImportEquals(_) | ModuleDecl::TsExportAssignment { .. } => {
+                    return true;
+                }
+                ModuleDecl::TsNamespaceExport(_) => {}
+                _ => return false,
+            }
+        }
+    }
+    false
+}
+
+/// An item of a program that is lent.
+#[derive(Clone, Copy)]
+pub enum ModuleItemRef<'a> {
+    ModuleDecl(&'a ModuleDecl),
+    Stmt(&'a Stmt),
+}
+
+impl<'a> From<&'a ModuleItem> for ModuleItemRef<'a> {
+    fn from(item: &'a ModuleItem) -> ModuleItemRef<'a> {
+        match item {
+            ModuleItem::ModuleDecl(decl) => ModuleItemRef::ModuleDecl(decl.get()),
+            ModuleItem::Stmt(stmt) => ModuleItemRef::Stmt(stmt.get()),
+        }
+    }
+}
+
+/// The items of a program, one by one.
+#[derive(Drop)]
+pub struct Body<'a> {
+    items: slice::Iter<'a, ModuleItem>,
+    stmts: slice::Iter<'a, Stmt>,
+}
+
+impl<'a> Iterator for Body<'a> {
+    type Item = ModuleItemRef<'a>;
+
+    fn next(&mut self) -> Option<ModuleItemRef<'a>> {
+        match self.items.next() {
+            Some(item) => Some(ModuleItemRef::from(item)),
+            None => Some(ModuleItemRef::Stmt(self.stmts.next()?)),
+        }
+    }
+}
