@@ -1,2 +1,4 @@
 -- labels that differ
 pub mod LabelLemmas
+-- tokens past all tokens
+mod PlaceLemmas

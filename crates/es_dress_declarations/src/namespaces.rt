@@ -3,7 +3,8 @@
 ghost use Rattle.std.specs.Prelude.{◌≡◌, true, false, Option, option_map};
 ghost use Rattle.es_dress.specs.Dress.{declarable_of};
 ghost use Rattle.es_dress.specs.TypedStatements.{declared, global, items_of, module_namespace, namespace};
-ghost use Rattle.es_dress.specs.Value.{declarable_at, item_at};
+ghost use Rattle.es_dress.specs.Operators.{is_kind_at};
+ghost use Rattle.es_dress.specs.Value.{behind, declarable_at, item_at, part};
 ghost use Rattle.es_dresser.specs.Nodes.{IsWithin};
 ghost use Rattle.es_dresser.specs.Ring.{IsMade, IsRing, parts_in};
 
@@ -69,6 +70,13 @@ impl<
         })
     }
 
+    /// Whether a token of this kind stands behind a part.
+    fn is_behind(&self, kind: TokenKind, parts: &[Tree], n: usize) -> bool
+        ensures { result ≡ is_kind_at self.now.0.now.source.tokens.now kind (behind (part (parts_in self.now.0.now.source parts.now) n)) }
+    {
+        self.0.source.is_kind(kind, self.0.last_at(parts, n))
+    }
+
     /// `module "a" {}`
     #[tactic(auto, unfolding(es_dress::specs::TypedStatements::module_namespace))]
     fn module_namespace(
@@ -84,10 +92,7 @@ impl<
     {
         let id = self.0.str_at(parts, 0)?;
         let body = self.items_of(self.0.group(self.0.group(parts, 1), 0))?;
-        let has_body = self
-            .0
-            .source
-            .is_kind(TokenKind::OpenBrace, self.0.last_at(parts, 0));
+        let has_body = self.is_behind(TokenKind::OpenBrace, parts, 0);
         Ok(Decl::TsModule {
             declare,
             id,

@@ -146,12 +146,7 @@ impl<
         let (computed, id) = Keys(self.0).key_at(parts, 0)?;
         let group = self.0.group(parts, 1);
         let init = self.0.optional_expr(group)?;
-        let first = self.0.first_at(parts, 0);
-        let span = if self.0.is_absent(group) {
-            self.0.span_to(first, parts, 0)
-        } else {
-            self.0.span_to(first, group, 0)
-        };
+        let span = Functions(self.0).span_over(self.0.first_at(parts, 0), parts, 0, group);
         Ok(TsEnumMember {
             computed,
             id,

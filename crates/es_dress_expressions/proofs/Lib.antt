@@ -1,2 +1,4 @@
 -- chains, as far as they were dressed
 pub mod ChainLemmas
+-- operators behind an operand
+pub mod TypedLemmas

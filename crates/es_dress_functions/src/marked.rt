@@ -77,7 +77,7 @@ impl<
     I: Fn(Source<'_>, &Tree) -> Result<ModuleItem, DressError>,
 > Functions<'_, '_, E, P, S, I> {
     /// The span from a token to the end of what may be absent, or of the part before it.
-    pub(crate) fn span_over(&self, from: usize, parts: &[Tree], n: usize, group: &[Tree]) -> Range
+    pub fn span_over(&self, from: usize, parts: &[Tree], n: usize, group: &[Tree]) -> Range
         ensures { result ≡ span_of self.now.0.now.source.tokens.now from (behind_in (parts_in self.now.0.now.source group.now) (behind (part (parts_in self.now.0.now.source parts.now) n))) }
     {
         if self.0.is_absent(group) {

@@ -86,7 +86,7 @@ impl<
         requires ring { IsRing self.now.0.now.source self.now.0.now.whole.now (E.pre self.now.0.now.expr) (E.post self.now.0.now.expr)
             (P.pre self.now.0.now.pat) (P.post self.now.0.now.pat) (S.pre self.now.0.now.stmt) (S.post self.now.0.now.stmt) (I.pre self.now.0.now.item) (I.post self.now.0.now.item) }
         requires within { IsWithin node.now.parts.now self.now.0.now.whole.now }
-        ensures { IsMade (item_by (module_decl_of self.now.0.now.source.text.now self.now.0.now.source.tokens.now node.now.label node.now.span (parts_in self.now.0.now.source node.now.parts.now))
+        ensures { IsMade (item_by self.now.0.now.source.text.now self.now.0.now.source.tokens.now (module_decl_of self.now.0.now.source.text.now self.now.0.now.source.tokens.now node.now.label node.now.span (parts_in self.now.0.now.source node.now.parts.now))
             (stmt_of self.now.0.now.source.text.now self.now.0.now.source.tokens.now node.now.label node.now.span (parts_in self.now.0.now.source node.now.parts.now))) result }
     {
         if is_module_decl(node.label) {

@@ -2,12 +2,11 @@ use Rattle.es_whole_grammar.specs.declared.rows.Label.TheVariants as l
 use Rattle.es_dress.specs.Dress.{decl_of}
 use Rattle.es_dress_declarations.proofs.LabelLemmas.{other}
 use Rattle.es_dress_declarations.proofs.declarations.Declarations.decl.Goals as goal
-use Rattle.std.proofs.Common.{refl}
 
--- none of the labels
+-- a declaration that `declare` may stand before
 pub returns-in_default : goal.returns-in_default
 unfolding decl_of
-returns-in_default g c = λ _.
+returns-in_default g c =
     let label = c.args.node.now.label in
     let d = c.in_default in
     rw (
@@ -18,4 +17,6 @@ returns-in_default g c = λ _.
       other label l.UsingDeclaration d.not-UsingDeclaration,
       other label l.Variables d.not-Variables,
       other label l.Using d.not-Using,
-    ) refl
+      other label l.Declared d.not-Declared,
+      other label l.DeclaredVariables d.not-DeclaredVariables,
+    ) c.declarable.ensures

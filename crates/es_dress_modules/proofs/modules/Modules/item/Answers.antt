@@ -15,8 +15,8 @@ returns-in_err-decl g c =
     let parts = parts_of x ts node.parts.now in
     let decl = module_decl_of x ts node.label node.span parts in
     let stmt = stmt_of x ts node.label node.span parts in
-    made_refused (item_by decl stmt) c.from_residual-in_err-decl.result p.0 c.in_err-decl.field-0.0 p.1 p.2
-    (λ memory. item_none decl stmt (c.in_err-decl.ensures decl c.module_decl.ensures memory)
+    made_refused (item_by x ts decl stmt) c.from_residual-in_err-decl.result p.0 c.in_err-decl.field-0.0 p.1 p.2
+    (λ memory. item_none x ts decl stmt (c.in_err-decl.ensures decl c.module_decl.ensures memory)
     (c.is_module_decl.ensures.no_stmt x ts node.span parts c.if-is_module_decl.true))
 
 -- it is an import or an export
@@ -27,7 +27,7 @@ returns-then-is_module_decl g c =
     let node = c.args.node.now in
     let parts = parts_of x ts node.parts.now in
     let decl = module_decl_of x ts node.label node.span parts in
-    item_decl decl (stmt_of x ts node.label node.span parts) c.in_ok-decl.decl
+    item_decl x ts decl (stmt_of x ts node.label node.span parts) c.in_ok-decl.decl
     (c.in_ok-decl.ensures decl c.module_decl.ensures)
 
 -- it is no import and no export, and nothing is made of it as a statement
@@ -40,8 +40,8 @@ returns-in_err-stmt g c =
     let parts = parts_of x ts node.parts.now in
     let decl = module_decl_of x ts node.label node.span parts in
     let stmt = stmt_of x ts node.label node.span parts in
-    made_refused (item_by decl stmt) c.from_residual-in_err-stmt.result p.0 c.in_err-stmt.field-0.0 p.1 p.2
-    (λ memory. item_none decl stmt (c.is_module_decl.ensures.no_decl x ts node.span parts c.if-is_module_decl.false)
+    made_refused (item_by x ts decl stmt) c.from_residual-in_err-stmt.result p.0 c.in_err-stmt.field-0.0 p.1 p.2
+    (λ memory. item_none x ts decl stmt (c.is_module_decl.ensures.no_decl x ts node.span parts c.if-is_module_decl.false)
     (c.in_err-stmt.ensures stmt c.stmt.ensures memory))
 
 -- it is a statement
@@ -53,6 +53,6 @@ returns g c =
     let parts = parts_of x ts node.parts.now in
     let decl = module_decl_of x ts node.label node.span parts in
     let stmt = stmt_of x ts node.label node.span parts in
-    item_stmt decl stmt c.in_ok-stmt.stmt
+    item_stmt x ts decl stmt c.in_ok-stmt.stmt
     (c.is_module_decl.ensures.no_decl x ts node.span parts c.if-is_module_decl.false)
     (c.in_ok-stmt.ensures stmt c.stmt.ensures)
