@@ -8,10 +8,11 @@ ghost use Rattle.es_dress.specs.Functions.{body_of, arrow_of, name_param, name_a
 ghost use Rattle.es_dresser.specs.Nodes.{IsWithin};
 ghost use Rattle.es_dresser.specs.Ring.{IsMade, IsRing, parts_in};
 
-use crate::functions::{StmtTurn, plain_function, plain_param};
+use crate::functions::{StmtTurn, plain_function};
 use crate::nodes::Functions;
 use base::{Boxed, Items, Range};
 use es_ast::{Expr, ModuleItem, Param, Pat, Stmt};
+use es_dress_patterns::{Patterns, plain_param};
 use es_dresser::{DressError, Source, single, turns};
 use es_whole_grammar::Label;
 use es_whole_reader::Tree;
@@ -144,7 +145,7 @@ impl<
         requires within { IsWithin parts.now self.now.0.now.whole.now }
         ensures { IsMade (parenthesized_arrow self.now.0.now.source.tokens.now is_async span (parts_in self.now.0.now.source parts.now)) result }
     {
-        let params = self.params_at(parts, 0)?;
+        let params = Patterns(self.0).params_at(parts, 0)?;
         self.arrow(is_async, span, params, parts)
     }
 }

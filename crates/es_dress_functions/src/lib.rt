@@ -1,5 +1,5 @@
-//! Patterns, functions, objects, arrays and classes from their plain trees, as `es_dress` defines them: one method of
-//! `Functions` a label, given functions that dress what stands below (`IsRing`, of `es_dresser`).
+//! Functions, arrows, objects and classes from their plain trees, as `es_dress` defines them: one method of `Functions` a
+//! label, given functions that dress what stands below (`IsRing`, of `es_dresser`).
 //!
 //! - Each answers what the definition makes of the same parts (`IsMade`), `DressError::OtherForm` where it makes nothing, or
 //!   that memory ran out.
@@ -9,11 +9,8 @@
 
 mod arrows;
 mod classes;
-mod elements;
 mod functions;
-mod marked;
 mod nodes;
-mod patterns;
 mod props;
 mod typed;
 

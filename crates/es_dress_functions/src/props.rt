@@ -13,6 +13,7 @@ use crate::nodes::Functions;
 use base::{Boxed, Range};
 use es_ast::{Expr, Function, MethodKind, ModuleItem, Pat, Prop, Stmt};
 use es_dress_keys::Keys;
+use es_dress_patterns::Patterns;
 use es_dresser::{DressError, Dresser, Node, Source, Turn, turns};
 use es_whole_grammar::Label;
 use es_whole_reader::Tree;
@@ -55,7 +56,7 @@ impl<
         requires place { n < 8 }
         ensures { IsMade (method_at self.now.0.now.source.tokens.now is_async is_generator (parts_in self.now.0.now.source parts.now) n) result }
     {
-        let params = self.params_at(parts, n)?;
+        let params = Patterns(self.0).params_at(parts, n)?;
         let body = self.0.boxed_stmt_at(parts, n + 1)?;
         let span = self.0.span_to(self.0.first_at(parts, n), parts, n + 1);
         let function = plain_function(is_async, is_generator, span, None, params, body);

@@ -17,6 +17,7 @@ use es_ast::{
     Stmt, TsPart,
 };
 use es_dress_keys::Keys;
+use es_dress_patterns::Patterns;
 use es_dress_types::{annotation_at, args_part_at, heritage_in, params_part_at, type_part_at};
 use es_dresser::{DressError, Source, part, turns};
 use es_token::TokenKind;
@@ -118,7 +119,7 @@ impl<
         ensures { IsMade (typed_function self.now.0.now.source.text.now self.now.0.now.source.tokens.now is_async span (parts_in self.now.0.now.source parts.now)) result }
     {
         let ident = self.0.own_name_at(parts, 1)?;
-        let signature = self.signature_at(parts, 2)?;
+        let signature = Patterns(self.0).signature_at(parts, 2)?;
         let body = self.body_in(self.0.group(parts, 3))?;
         let is_generator = self.0.is_there(parts, 0);
         let function = typed_function_of(is_async, is_generator, span, ident, signature, body);
@@ -155,7 +156,7 @@ impl<
         ensures { IsMade (typed_arrow self.now.0.now.source.tokens.now is_async span (parts_in self.now.0.now.source parts.now)) result }
     {
         let type_params = params_part_at(self.0, parts, 0)?;
-        let params = self.params_at(parts, 1)?;
+        let params = Patterns(self.0).params_at(parts, 1)?;
         let result = annotation_at(self.0, parts, 2)?;
         let body = self.body(self.0.group(parts, 3))?;
         let body = Boxed::new(self.0.source.alloc, body)?;
@@ -183,7 +184,7 @@ impl<
     {
         let head = self.0.group(parts, n);
         let (computed, key) = Keys(self.0).key_at(head, 0)?;
-        let signature = self.signature_at(head, 1)?;
+        let signature = Patterns(self.0).signature_at(head, 1)?;
         let body = self.0.boxed_stmt_at(parts, n + 1)?;
         let over = self.0.span_to(self.0.first_at(head, 1), parts, n + 1);
         let function = typed_function_of(is_async, is_generator, over, None, signature, Some(body));
@@ -279,10 +280,10 @@ impl<
         requires place { n < 7 }
         ensures { IsMade (typed_method_member self.now.0.now.source.tokens.now kind is_async is_generator span (parts_in self.now.0.now.source parts.now) n) result }
     {
-        let modifiers = self.modifiers_in(self.0.group(parts, 0))?;
+        let modifiers = Patterns(self.0).modifiers_in(self.0.group(parts, 0))?;
         let head = self.0.group(parts, n);
         let (computed, key) = Keys(self.0).key_at(head, 0)?;
-        let signature = self.signature_at(head, 2)?;
+        let signature = Patterns(self.0).signature_at(head, 2)?;
         let below = self.0.group(parts, n + 1);
         let body = self.body_in(below)?;
         let over = self.body_span(self.0.first_at(head, 2), head, 2, below);
@@ -328,7 +329,7 @@ impl<
         requires within { IsWithin parts.now self.now.0.now.whole.now }
         ensures { IsMade (typed_field self.now.0.now.source.tokens.now accessor span (parts_in self.now.0.now.source parts.now)) result }
     {
-        let modifiers = self.modifiers_in(self.0.group(parts, 0))?;
+        let modifiers = Patterns(self.0).modifiers_in(self.0.group(parts, 0))?;
         let (computed, key) = Keys(self.0).key_at(parts, 1)?;
         let type_ann = annotation_at(self.0, parts, 3)?;
         let value = self.0.optional_expr(self.0.group(parts, 4))?;
@@ -357,7 +358,7 @@ impl<
         requires within { IsWithin parts.now self.now.0.now.whole.now }
         ensures { IsMade (index_member self.now.0.now.source.text.now self.now.0.now.source.tokens.now span (parts_in self.now.0.now.source parts.now)) result }
     {
-        let modifiers = self.modifiers_in(self.0.group(parts, 0))?;
+        let modifiers = Patterns(self.0).modifiers_in(self.0.group(parts, 0))?;
         let name = self.0.ident_at(parts, 1)?;
         let of = type_part_at(self.0, parts, 2)?;
         let type_ann = annotation_at(self.0, parts, 3)?;

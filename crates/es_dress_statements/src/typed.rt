@@ -10,7 +10,7 @@ ghost use Rattle.es_dresser.specs.Ring.{IsMade, IsRing, parts_in};
 use crate::statements::Statements;
 use base::{Boxed, Range};
 use es_ast::{Expr, ModuleItem, Pat, Stmt, VarDeclKind, VarDeclarator};
-use es_dress_functions::Functions;
+use es_dress_patterns::Patterns;
 use es_dresser::{DressError, Source};
 use es_whole_reader::Tree;
 
@@ -32,7 +32,7 @@ impl<
         requires within { IsWithin parts.now self.now.0.now.whole.now }
         ensures { IsMade (typed_declarator self.now.0.now.source.tokens.now span (parts_in self.now.0.now.source parts.now)) result }
     {
-        let name = Functions(self.0).annotated_at(parts, 0, 2)?;
+        let name = Patterns(self.0).annotated_at(parts, 0, 2)?;
         let name = Boxed::new(self.0.source.alloc, name)?;
         let init = self.0.optional_expr(self.0.group(parts, 3))?;
         Ok(VarDeclarator {
@@ -55,7 +55,7 @@ impl<
         ensures { IsMade (typed_head self.now.0.now.source.tokens.now (parts_in self.now.0.now.source parts.now)) result }
     {
         let kind = self.0.variable_kind_at(parts, 0)?;
-        let pat = Functions(self.0).annotated_at(parts, 1, 2)?;
+        let pat = Patterns(self.0).annotated_at(parts, 1, 2)?;
         Ok((Some(kind), Boxed::new(self.0.source.alloc, pat)?))
     }
 
@@ -69,7 +69,7 @@ impl<
         if self.0.is_absent(group) {
             return Ok(None);
         }
-        let pat = Functions(self.0).annotated_at(group, 0, 1)?;
+        let pat = Patterns(self.0).annotated_at(group, 0, 1)?;
         Ok(Some(Boxed::new(self.0.source.alloc, pat)?))
     }
 

@@ -9,6 +9,7 @@ use crate::whole::Whole;
 use es_ast::{Expr, ModuleItem, Pat, Stmt};
 use es_dress_expressions::Expressions;
 use es_dress_functions::Functions;
+use es_dress_patterns::Patterns;
 use es_dresser::{DressError, Node, Source};
 use es_whole_grammar::Label;
 use es_whole_reader::Tree;
@@ -37,7 +38,7 @@ impl<
             Label::Template => Expressions(self.0).template(span, parts),
             Label::TemplateParts => Expressions(self.0).template_parts(span, parts),
             Label::Parenthesized => Expressions(self.0).parenthesized(span, parts),
-            Label::ArrayLiteral => Functions(self.0).array_literal(node.from, span, parts),
+            Label::ArrayLiteral => Patterns(self.0).array_literal(node.from, span, parts),
             Label::ObjectLiteral => Functions(self.0).object_literal(span, parts),
             Label::Spread => Expressions(self.0).spread(span, parts),
             Label::Function => Functions(self.0).function_expr(false, span, parts),

@@ -10,7 +10,7 @@ ghost use Rattle.es_derives.specs.Derives.{program_in};
 use base::Boxed;
 use es_ast::{Expr, ModuleItem, Pat, Program, Stmt};
 use es_dress_declarations::Declarations;
-use es_dress_functions::Functions;
+use es_dress_patterns::Patterns;
 use es_dress_modules::Modules;
 use es_dresser::{DressError, Dresser, Node, Source};
 use es_whole_reader::Tree;
@@ -95,7 +95,7 @@ impl<
                 parts,
             } => {
                 let span = self.0.source.span(*from, *to);
-                Functions(self.0).pat(&Node {
+                Patterns(self.0).pat(&Node {
                     label: *label,
                     from: *from,
                     span,

@@ -6,7 +6,7 @@ use Rattle.es_dress.specs.Texts.{token_at}
 use Rattle.es_dress.specs.Functions.{body_of, arrow_of, name_param, name_arrow}
 use Rattle.es_dresser.specs.Ring.{IsMade, parts_in}
 use Rattle.es_dresser.proofs.MadeLemmas.{made_refused}
-use Rattle.es_dress_functions.proofs.NameLemmas.{named_arrow, unnamed_arrow}
+use Rattle.es_dress_patterns.proofs.NameLemmas.{named_arrow, unnamed_arrow}
 use Rattle.es_dress_functions.proofs.nodes.Functions.name_arrow.Goals as goal
 
 pub returns-in_err-params : goal.returns-in_err-params

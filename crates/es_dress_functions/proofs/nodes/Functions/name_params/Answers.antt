@@ -8,7 +8,7 @@ use Rattle.es_dress.specs.Functions.{param_of}
 use Rattle.es_dress.specs.Texts.{ident_of, token_at}
 use Rattle.es_dresser.specs.Ring.{parts_in}
 use Rattle.es_dresser.proofs.MadeLemmas.{made_refused}
-use Rattle.es_dress_functions.proofs.NameLemmas.{of_name, of_no_name}
+use Rattle.es_dress_patterns.proofs.NameLemmas.{of_name, of_no_name}
 use Rattle.es_dress_functions.proofs.nodes.Functions.name_params.Goals as goal
 
 abbrev params_by : Ident → List Param

@@ -2,7 +2,7 @@ use Rattle.std.proofs.Common.{subst}
 use Rattle.es_dress.specs.Value.{part, group, params_at}
 use Rattle.es_dress.specs.Functions.{body_of, arrow_of, parenthesized_arrow}
 use Rattle.es_dresser.specs.Ring.{IsMade, parts_in}
-use Rattle.es_dress_functions.proofs.NameLemmas.{parenthesized}
+use Rattle.es_dress_patterns.proofs.NameLemmas.{parenthesized}
 use Rattle.es_dress_functions.proofs.nodes.Functions.parenthesized_arrow.Goals as goal
 
 pub returns : goal.returns

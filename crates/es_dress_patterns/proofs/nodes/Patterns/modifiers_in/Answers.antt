@@ -4,8 +4,8 @@ use Rattle.es_dress.specs.Functions.{plain}
 use Rattle.es_dress.specs.TypedParts.{modifiers_in}
 use Rattle.es_dresser.specs.Ring.{parts_in}
 use Rattle.es_dresser.proofs.MadeLemmas.{made_refused, first_less, others_within, no_length}
-use Rattle.es_dress_functions.proofs.ModifierLemmas.{modifiers_more, modifiers_stuck, modifiers_done}
-use Rattle.es_dress_functions.proofs.nodes.Functions.modifiers_in.Goals as goal
+use Rattle.es_dress_patterns.proofs.ModifierLemmas.{modifiers_more, modifiers_stuck, modifiers_done}
+use Rattle.es_dress_patterns.proofs.nodes.Patterns.modifiers_in.Goals as goal
 
 -- no word is read yet
 pub words-init : goal.words-init

@@ -1,5 +1,5 @@
-use Rattle.es_dress_functions.proofs.FewerLemmas.{fewer_below}
-use Rattle.es_dress_functions.proofs.nodes.Functions.first_node.Goals as goal
+use Rattle.es_dress_patterns.proofs.FewerLemmas.{fewer_below}
+use Rattle.es_dress_patterns.proofs.nodes.Patterns.first_node.Goals as goal
 
 -- what stands below a part is less than the parts
 pub returns-in-Some-clause-fewer : goal.returns-in-Some-clause-fewer

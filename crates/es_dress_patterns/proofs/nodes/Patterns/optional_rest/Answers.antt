@@ -1,7 +1,7 @@
 use Rattle.es_dress.specs.Functions.{rest_at}
 use Rattle.es_dresser.specs.Ring.{parts_in}
 use Rattle.es_dresser.proofs.MadeLemmas.{optional_none, optional_made}
-use Rattle.es_dress_functions.proofs.nodes.Functions.optional_rest.Goals as goal
+use Rattle.es_dress_patterns.proofs.nodes.Patterns.optional_rest.Goals as goal
 
 pub returns-then-is_absent : goal.returns-then-is_absent
 returns-then-is_absent g c =

@@ -8,8 +8,8 @@ use Rattle.es_dress.specs.Patterns.{name_pattern}
 use Rattle.es_dress.specs.Texts.{ident_of, token_at}
 use Rattle.es_dresser.specs.Ring.{parts_in}
 use Rattle.es_dresser.proofs.MadeLemmas.{made_refused}
-use Rattle.es_dress_functions.proofs.NameLemmas.{of_name, of_no_name}
-use Rattle.es_dress_functions.proofs.nodes.Functions.name_pattern.Goals as goal
+use Rattle.es_dress_patterns.proofs.NameLemmas.{of_name, of_no_name}
+use Rattle.es_dress_patterns.proofs.nodes.Patterns.name_pattern.Goals as goal
 
 abbrev pat_by : Ident → Pat
 pat_by id = vPat.Ident id None id.span

@@ -13,7 +13,7 @@ use Rattle.es_dress.specs.Expressions.{element_of, behind_element, elements}
 use Rattle.es_dress.specs.Dress.{value_of}
 use Rattle.es_dresser.specs.Places.{IsSamePlace}
 use Rattle.es_dresser.specs.Ring.{parts_of}
-use Rattle.es_dress_functions.specs.Elements.{comma_behind}
+use Rattle.es_dress_patterns.specs.Elements.{comma_behind}
 
 -- ---- places past all tokens
 same_token : (ts : List Token) (a b : ℕ) → IsSamePlace ts a b → slice_get ts a ≡ slice_get ts b

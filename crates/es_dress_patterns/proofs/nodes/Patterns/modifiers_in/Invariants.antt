@@ -3,7 +3,7 @@ use Rattle.es_dress.specs.Functions.{plain}
 use Rattle.es_dress.specs.TypedParts.{modifiers_in}
 use Rattle.es_dresser.specs.Nodes.{IsWithin}
 use Rattle.es_dresser.specs.Ring.{parts_in}
-use Rattle.es_dress_functions.proofs.nodes.Functions.modifiers_in.Given as goal
+use Rattle.es_dress_patterns.proofs.nodes.Patterns.modifiers_in.Given as goal
 
 -- the words so far stand before those that are left
 abbrev pub invariant-words : goal.invariant-words

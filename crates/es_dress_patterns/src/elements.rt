@@ -12,9 +12,9 @@ ghost use Rattle.es_dress.specs.Value.{Value, expr_at, pat_at, group};
 ghost use Rattle.es_dress.specs.Expressions.{element_of, elements, array_literal};
 ghost use Rattle.es_dress.specs.Patterns.{array_pattern};
 ghost use Rattle.es_dresser.specs.Places.{IsSamePlace};
-ghost use Rattle.es_dress_functions.specs.Elements.{comma_behind};
+ghost use Rattle.es_dress_patterns.specs.Elements.{comma_behind};
 
-use crate::nodes::Functions;
+use crate::nodes::Patterns;
 use base::{Items, Range};
 use es_ast::{Expr, ModuleItem, Pat, Stmt};
 use es_dresser::{DressError, Dresser, Source, group_in};
@@ -178,7 +178,7 @@ impl<
     P: Fn(Source<'_>, &Tree) -> Result<Pat, DressError>,
     S: Fn(Source<'_>, &Tree) -> Result<Stmt, DressError>,
     I: Fn(Source<'_>, &Tree) -> Result<ModuleItem, DressError>,
-> Functions<'_, '_, E, P, S, I> {
+> Patterns<'_, '_, E, P, S, I> {
     /// `[a]`
     #[tactic(auto, unfolding(es_dress::specs::Expressions::array_literal))]
     pub fn array_literal(

@@ -8,7 +8,7 @@ ghost use Rattle.es_dress.specs.Patterns.{name_pattern, array_pattern, object_pa
 ghost use Rattle.std.specs.Prelude.{IfOk};
 ghost use Rattle.es_dress.specs.Dress.{pat_of, pat_prop_of};
 
-use crate::nodes::Functions;
+use crate::nodes::Patterns;
 use base::{Boxed, Range};
 use es_ast::{Expr, ModuleItem, ObjectPatProp, Pat, Stmt};
 use es_dress_keys::Keys;
@@ -56,7 +56,7 @@ impl Turn<ObjectPatProp> for PatPropTurn {
         dresser: &Dresser<'_, E, P, S, I>,
         turn: &[Tree],
     ) -> Result<ObjectPatProp, DressError> {
-        Functions(dresser).pat_prop_at(turn, 0)
+        Patterns(dresser).pat_prop_at(turn, 0)
     }
 }
 
@@ -65,7 +65,7 @@ impl<
     P: Fn(Source<'_>, &Tree) -> Result<Pat, DressError>,
     S: Fn(Source<'_>, &Tree) -> Result<Stmt, DressError>,
     I: Fn(Source<'_>, &Tree) -> Result<ModuleItem, DressError>,
-> Functions<'_, '_, E, P, S, I> {
+> Patterns<'_, '_, E, P, S, I> {
     /// `a`
     #[tactic(auto, unfolding(es_dress::specs::Patterns::name_pattern))]
     fn name_pattern(&self, parts: &[Tree]) -> Result<Pat, DressError>

@@ -1,8 +1,8 @@
 use Rattle.std.proofs.Common.{subst}
 use Rattle.std.specs.Prelude.{◌+◌}
 use Rattle.es_dresser.specs.Ring.{IsMade, parts_in}
-use Rattle.es_dress_functions.proofs.ElementLemmas.{no_element, there_element}
-use Rattle.es_dress_functions.proofs.elements.next_element.Goals as goal
+use Rattle.es_dress_patterns.proofs.ElementLemmas.{no_element, there_element}
+use Rattle.es_dress_patterns.proofs.elements.next_element.Goals as goal
 
 -- no element
 pub returns-then-is_absent : goal.returns-then-is_absent

@@ -1,5 +1,5 @@
 use Rattle.es_dresser.specs.Nodes.{nodes_in}
-use Rattle.es_dress_functions.proofs.nodes.Functions.+params.Given as goal
+use Rattle.es_dress_patterns.proofs.nodes.Patterns.+params.Given as goal
 
 -- parameters in parentheses stand below them
 abbrev pub decreases-params : goal.decreases-params

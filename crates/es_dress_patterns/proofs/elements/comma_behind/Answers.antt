@@ -1,8 +1,8 @@
 use Rattle.std.proofs.Common.{subst}
 use Rattle.es_dresser.specs.Places.{IsSamePlace}
 use Rattle.es_dresser.specs.Ring.{parts_in}
-use Rattle.es_dress_functions.proofs.ElementLemmas.{comma_none, comma_more}
-use Rattle.es_dress_functions.proofs.elements.comma_behind.Goals as goal
+use Rattle.es_dress_patterns.proofs.ElementLemmas.{comma_none, comma_more}
+use Rattle.es_dress_patterns.proofs.elements.comma_behind.Goals as goal
 
 -- behind no element
 pub returns-then-is_absent : goal.returns-then-is_absent

@@ -4,8 +4,8 @@ use Rattle.es_dress.specs.Value.{group}
 use Rattle.es_dress.specs.Expressions.{elements}
 use Rattle.es_dresser.specs.Ring.{parts_in}
 use Rattle.es_dresser.proofs.MadeLemmas.{made_refused, first_less, others_within, no_length}
-use Rattle.es_dress_functions.proofs.ElementLemmas.{listed_start, listed_push, listed_stuck, listed_done}
-use Rattle.es_dress_functions.proofs.elements.elements.Goals as goal
+use Rattle.es_dress_patterns.proofs.ElementLemmas.{listed_start, listed_push, listed_stuck, listed_done}
+use Rattle.es_dress_patterns.proofs.elements.elements.Goals as goal
 
 -- nothing is dressed yet
 pub elements-init : goal.elements-init

@@ -3,8 +3,8 @@ use Rattle.std.proofs.Common.{length}
 use Rattle.es_dress.specs.Expressions.{elements}
 use Rattle.es_dresser.specs.Nodes.{IsWithin}
 use Rattle.es_dresser.specs.Ring.{parts_in}
-use Rattle.es_dress_functions.proofs.ElementLemmas.{IsListed}
-use Rattle.es_dress_functions.proofs.elements.elements.Given as goal
+use Rattle.es_dress_patterns.proofs.ElementLemmas.{IsListed}
+use Rattle.es_dress_patterns.proofs.elements.elements.Given as goal
 
 -- the elements so far stand before what is left
 abbrev pub invariant-elements : goal.invariant-elements
