@@ -11,6 +11,7 @@ use crate::declarations::Declarations;
 use base::Range;
 use es_ast::{Decl, Expr, ModuleItem, Pat, Stmt, TsEnumMember};
 use es_dress_functions::Functions;
+use es_dress_patterns::Patterns;
 use es_dress_keys::Keys;
 use es_dress_statements::Statements;
 use es_dress_types::{heritage_in, members_part, params_part_at, type_part_at};
@@ -146,7 +147,7 @@ impl<
         let (computed, id) = Keys(self.0).key_at(parts, 0)?;
         let group = self.0.group(parts, 1);
         let init = self.0.optional_expr(group)?;
-        let span = Functions(self.0).span_over(self.0.first_at(parts, 0), parts, 0, group);
+        let span = Patterns(self.0).span_over(self.0.first_at(parts, 0), parts, 0, group);
         Ok(TsEnumMember {
             computed,
             id,
