@@ -69,18 +69,9 @@ pub(crate) fn sign(kind: TokenKind) -> Option<TruePlusMinus>
 pub(crate) fn marked(name: Ident) -> Ident
     ensures { result ≡ marked true name }
 {
-    let Ident {
-        sym,
-        ctxt,
-        optional: _,
-        span,
-    } = name;
-    Ident {
-        sym,
-        ctxt,
-        optional: true,
-        span,
-    }
+    let mut name = name;
+    name.optional = true;
+    name
 }
 
 /// The place before this one, or 0.
