@@ -138,6 +138,6 @@ unfoldable pub index_member : List ℕ → List Token → Range → Value → Op
 index_member x ts r p =
     given (modifiers_in ts plain (group p 0)) (λ modifiers.
     given (ident_at x ts p 1) (λ name.
-    given (type_at p 2) (λ of.
+    given (option_map vPart.TypeAnn (type_at p 2)) (λ of.
     given (annotation_at p 3) (λ ty.
-    Some (vMember.TsIndexSignature modifiers name (Some (vPart.TypeAnn of)) ty r)))))
+    Some (vMember.TsIndexSignature modifiers name (Some of) ty r)))))

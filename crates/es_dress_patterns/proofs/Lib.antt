@@ -6,3 +6,5 @@ pub mod NameLemmas
 mod FewerLemmas
 -- modifiers, one behind the other
 mod ModifierLemmas
+-- spans to the end of what may be absent
+pub mod SpanLemmas

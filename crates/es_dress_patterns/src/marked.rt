@@ -1,9 +1,9 @@
 //! Patterns that may have a mark or a type behind them.
 
-ghost use Rattle.std.specs.Prelude.{◌≡◌, ◌+◌, ◌<◌, Option, option_map};
+ghost use Rattle.std.specs.Prelude.{◌≡◌, ◌+◌, ◌<◌, Option};
 ghost use Rattle.es_dress.specs.Dress.{marked_of};
 ghost use Rattle.es_dress.specs.TypeNames.{behind_in};
-ghost use Rattle.es_dress.specs.TypedParts.{annotated_at, marked_array, marked_name, marked_object, tailed_at};
+ghost use Rattle.es_dress.specs.TypedParts.{annotated_at, marked_array, marked_by, marked_name, marked_object, tailed_at, tailed_span, typed_span};
 ghost use Rattle.es_dress.specs.Texts.{span_of};
 ghost use Rattle.es_dress.specs.Value.{behind, group, marked_at, part};
 ghost use Rattle.es_dresser.specs.Nodes.{IsWithin};
@@ -64,7 +64,7 @@ impl<
         requires ring { IsRing self.now.0.now.source self.now.0.now.whole.now (E.pre self.now.0.now.expr) (E.post self.now.0.now.expr)
             (P.pre self.now.0.now.pat) (P.post self.now.0.now.pat) (S.pre self.now.0.now.stmt) (S.post self.now.0.now.stmt) (I.pre self.now.0.now.item) (I.post self.now.0.now.item) }
         requires within { IsWithin parts.now self.now.0.now.whole.now }
-        ensures { IsMade (option_map (λ pat. pat mark ty span) (marked_name self.now.0.now.source.text.now self.now.0.now.source.tokens.now (parts_in self.now.0.now.source parts.now))) result }
+        ensures { IsMade (marked_by (marked_name self.now.0.now.source.text.now self.now.0.now.source.tokens.now (parts_in self.now.0.now.source parts.now)) mark ty span) result }
     {
         let mut id = self.0.ident_at(parts, 0)?;
         id.optional = mark;
@@ -88,7 +88,7 @@ impl<
         requires ring { IsRing self.now.0.now.source self.now.0.now.whole.now (E.pre self.now.0.now.expr) (E.post self.now.0.now.expr)
             (P.pre self.now.0.now.pat) (P.post self.now.0.now.pat) (S.pre self.now.0.now.stmt) (S.post self.now.0.now.stmt) (I.pre self.now.0.now.item) (I.post self.now.0.now.item) }
         requires within { IsWithin parts.now self.now.0.now.whole.now }
-        ensures { IsMade (option_map (λ pat. pat mark ty span) (marked_array self.now.0.now.source.tokens.now from (parts_in self.now.0.now.source parts.now))) result }
+        ensures { IsMade (marked_by (marked_array self.now.0.now.source.tokens.now from (parts_in self.now.0.now.source parts.now)) mark ty span) result }
     {
         let elems = elements(&PatElement, self.0, from, self.0.group(parts, 0))?;
         Ok(Pat::Array {
@@ -111,7 +111,7 @@ impl<
         requires ring { IsRing self.now.0.now.source self.now.0.now.whole.now (E.pre self.now.0.now.expr) (E.post self.now.0.now.expr)
             (P.pre self.now.0.now.pat) (P.post self.now.0.now.pat) (S.pre self.now.0.now.stmt) (S.post self.now.0.now.stmt) (I.pre self.now.0.now.item) (I.post self.now.0.now.item) }
         requires within { IsWithin parts.now self.now.0.now.whole.now }
-        ensures { IsMade (option_map (λ pat. pat mark ty span) (marked_object (parts_in self.now.0.now.source parts.now))) result }
+        ensures { IsMade (marked_by (marked_object (parts_in self.now.0.now.source parts.now)) mark ty span) result }
     {
         let props = turns(&PatPropTurn, self.0, self.0.group(parts, 0))?;
         Ok(Pat::Object {
@@ -135,7 +135,7 @@ impl<
         requires ring { IsRing self.now.0.now.source self.now.0.now.whole.now (E.pre self.now.0.now.expr) (E.post self.now.0.now.expr)
             (P.pre self.now.0.now.pat) (P.post self.now.0.now.pat) (S.pre self.now.0.now.stmt) (S.post self.now.0.now.stmt) (I.pre self.now.0.now.item) (I.post self.now.0.now.item) }
         requires within { IsWithin parts.now self.now.0.now.whole.now }
-        ensures { IsMade (option_map (λ pat. pat mark ty span) (marked_at (parts_in self.now.0.now.source parts.now) n)) result }
+        ensures { IsMade (marked_by (marked_at (parts_in self.now.0.now.source parts.now) n) mark ty span) result }
     {
         let node = self.0.node_at(parts, n)?;
         if node.label == Label::NamePattern {
@@ -162,20 +162,32 @@ impl<
         self.marked_at(false, ty, span, parts, n)
     }
 
-    /// The span from a token to the end of a pattern with its mark, its type and its default.
-    fn tail_span(&self, from: usize, parts: &[Tree], n: usize) -> Range
+    /// The span of a pattern with its mark and its type.
+    fn typed_span(&self, parts: &[Tree], n: usize) -> Range
         requires ring { IsRing self.now.0.now.source self.now.0.now.whole.now (E.pre self.now.0.now.expr) (E.post self.now.0.now.expr)
             (P.pre self.now.0.now.pat) (P.post self.now.0.now.pat) (S.pre self.now.0.now.stmt) (S.post self.now.0.now.stmt) (I.pre self.now.0.now.item) (I.post self.now.0.now.item) }
         requires within { IsWithin parts.now self.now.0.now.whole.now }
         requires place { n < 5 }
-        ensures { result ≡ span_of self.now.0.now.source.tokens.now from (behind_in (group (parts_in self.now.0.now.source parts.now) (n + 3)) (behind_in (group (parts_in self.now.0.now.source parts.now) (n + 2)) (behind_in (group (parts_in self.now.0.now.source parts.now) (n + 1)) (behind (part (parts_in self.now.0.now.source parts.now) n))))) }
+        ensures { result ≡ typed_span self.now.0.now.source.tokens.now (parts_in self.now.0.now.source parts.now) n }
     {
-        let default = self.0.group(parts, n + 3);
-        if !self.0.is_absent(default) {
-            return self.0.span_to(from, default, 0);
-        }
+        let from = self.0.first_at(parts, n);
         let (mark, annotation) = (self.0.group(parts, n + 1), self.0.group(parts, n + 2));
         self.span_over_both(from, parts, n, mark, annotation)
+    }
+
+    /// The span of a pattern with its mark, its type and its default.
+    fn tailed_span(&self, parts: &[Tree], n: usize) -> Range
+        requires ring { IsRing self.now.0.now.source self.now.0.now.whole.now (E.pre self.now.0.now.expr) (E.post self.now.0.now.expr)
+            (P.pre self.now.0.now.pat) (P.post self.now.0.now.pat) (S.pre self.now.0.now.stmt) (S.post self.now.0.now.stmt) (I.pre self.now.0.now.item) (I.post self.now.0.now.item) }
+        requires within { IsWithin parts.now self.now.0.now.whole.now }
+        requires place { n < 5 }
+        ensures { result ≡ tailed_span self.now.0.now.source.tokens.now (parts_in self.now.0.now.source parts.now) n }
+    {
+        let default = self.0.group(parts, n + 3);
+        if self.0.is_absent(default) {
+            return self.typed_span(parts, n);
+        }
+        self.0.span_to(self.0.first_at(parts, n), default, 0)
     }
 
     /// A pattern at this part, with its mark, its type and its default behind it.
@@ -187,13 +199,11 @@ impl<
         ensures { IsMade (tailed_at self.now.0.now.source.tokens.now (parts_in self.now.0.now.source parts.now) n) result }
     {
         let ty = annotation_at(self.0, parts, n + 2)?;
-        let default = self.0.optional_expr(self.0.group(parts, n + 3))?;
-        let from = self.0.first_at(parts, n);
-        let (mark, annotation) = (self.0.group(parts, n + 1), self.0.group(parts, n + 2));
-        let span = self.span_over_both(from, parts, n, mark, annotation);
-        let pat = self.marked_at(self.0.is_there(parts, n + 1), ty, span, parts, n)?;
+        let mark = self.0.is_there(parts, n + 1);
+        let pat = self.marked_at(mark, ty, self.typed_span(parts, n), parts, n)?;
         let pat = Boxed::new(self.0.source.alloc, pat)?;
-        let both = self.tail_span(from, parts, n);
+        let default = self.0.optional_expr(self.0.group(parts, n + 3))?;
+        let both = self.tailed_span(parts, n);
         Ok(with_default(self.0.source.alloc, both, pat, default)?)
     }
 }

@@ -1,8 +1,8 @@
 //! Parameters of TypeScript.
 
 ghost use Rattle.std.specs.Prelude.{◌≡◌, ◌+◌, ◌-◌, ◌++◌, Option, option_map};
-ghost use Rattle.es_dress.specs.TypedParts.{marked_parameter, param_by, property_parameter, this_parameter, typed_parameters, typed_rest, typed_signature};
-ghost use Rattle.es_dress.specs.Value.{signature_at};
+ghost use Rattle.es_dress.specs.TypedParts.{marked_parameter, param_by, property_parameter, this_parameter, typed_parameters, typed_rest_at, typed_signature};
+ghost use Rattle.es_dress.specs.Value.{optional, signature_at};
 ghost use Rattle.es_dresser.specs.Nodes.{IsWithin};
 ghost use Rattle.es_dresser.specs.Ring.{IsMade, IsRing, parts_in};
 
@@ -12,7 +12,7 @@ use crate::patterns::with_default;
 use base::{Boxed, Items, Range};
 use es_ast::{Expr, ModuleItem, Param, Pat, Stmt, TsPart};
 use es_dress_types::{annotation_at, params_part_at};
-use es_dresser::{DressError, Source, turns};
+use es_dresser::{DressError, Source, some, turns};
 use es_whole_grammar::Label;
 use es_whole_reader::Tree;
 
@@ -76,27 +76,37 @@ impl<
         Ok(plain_param(pat, span))
     }
 
+    /// The last parameter, behind `...`, with its type.
+    fn typed_rest_at(&self, parts: &[Tree]) -> Result<Param, DressError>
+        requires ring { IsRing self.now.0.now.source self.now.0.now.whole.now (E.pre self.now.0.now.expr) (E.post self.now.0.now.expr)
+            (P.pre self.now.0.now.pat) (P.post self.now.0.now.pat) (S.pre self.now.0.now.stmt) (S.post self.now.0.now.stmt) (I.pre self.now.0.now.item) (I.post self.now.0.now.item) }
+        requires within { IsWithin parts.now self.now.0.now.whole.now }
+        ensures { IsMade (typed_rest_at self.now.0.now.source.tokens.now (parts_in self.now.0.now.source parts.now) 0) result }
+    {
+        let arg = self.0.boxed_pat_at(parts, 0)?;
+        let type_ann = annotation_at(self.0, parts, 1)?;
+        let from = before(self.0.first_at(parts, 0));
+        let span = self.span_over(from, parts, 0, self.0.group(parts, 1));
+        let rest = Pat::Rest {
+            arg,
+            type_ann,
+            span,
+        };
+        let pat = Boxed::new(self.0.source.alloc, rest)?;
+        Ok(plain_param(pat, span))
+    }
+
     /// The last parameter, from the parts of its group.
     fn typed_rest(&self, group: &[Tree]) -> Result<Option<Param>, DressError>
         requires ring { IsRing self.now.0.now.source self.now.0.now.whole.now (E.pre self.now.0.now.expr) (E.post self.now.0.now.expr)
             (P.pre self.now.0.now.pat) (P.post self.now.0.now.pat) (S.pre self.now.0.now.stmt) (S.post self.now.0.now.stmt) (I.pre self.now.0.now.item) (I.post self.now.0.now.item) }
         requires within { IsWithin group.now self.now.0.now.whole.now }
-        ensures { IsMade (typed_rest self.now.0.now.source.tokens.now (parts_in self.now.0.now.source group.now)) result }
+        ensures { IsMade (optional (typed_rest_at self.now.0.now.source.tokens.now) (parts_in self.now.0.now.source group.now)) result }
     {
         if self.0.is_absent(group) {
             return Ok(None);
         }
-        let arg = self.0.boxed_pat_at(group, 0)?;
-        let ty = annotation_at(self.0, group, 1)?;
-        let from = before(self.0.first_at(group, 0));
-        let span = self.span_over(from, group, 0, self.0.group(group, 1));
-        let pat = Pat::Rest {
-            arg,
-            type_ann: ty,
-            span,
-        };
-        let pat = Boxed::new(self.0.source.alloc, pat)?;
-        Ok(Some(plain_param(pat, span)))
+        some(self.typed_rest_at(group))
     }
 
     /// Parameters.
