@@ -8,3 +8,5 @@ pub mod SpanLemmas
 pub mod SwitchLemmas
 -- which trees are heads of `for`
 pub mod HeadLemmas
+-- the parameter of `catch`
+pub mod CatchLemmas

@@ -11,7 +11,7 @@ use crate::statements::Statements;
 use base::{Boxed, Range};
 use es_ast::{Expr, ModuleItem, Pat, Stmt, VarDeclKind, VarDeclarator};
 use es_dress_patterns::Patterns;
-use es_dresser::{DressError, Source};
+use es_dresser::{DressError, Source, boxed, some};
 use es_whole_reader::Tree;
 
 impl<
@@ -69,8 +69,8 @@ impl<
         if self.0.is_absent(group) {
             return Ok(None);
         }
-        let pat = Patterns(self.0).annotated_at(group, 0, 1)?;
-        Ok(Some(Boxed::new(self.0.source.alloc, pat)?))
+        let pat = Patterns(self.0).annotated_at(group, 0, 1);
+        some(boxed(self.0.source.alloc, pat))
     }
 
     /// `try` with `catch` and perhaps `finally`.
