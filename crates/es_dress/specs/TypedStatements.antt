@@ -65,16 +65,16 @@ interface x ts p =
     given (ident_at x ts p 0) (λ id.
     given (params_part_at p 1) (λ type_params.
     given (heritage_in ts (group p 2)) (λ extends.
-    given (turns (λ turn. type_member_at turn 0) (group p 3)) (λ members.
-    Some (λ declare r. vDecl.TsInterface declare id type_params extends (Some (vPart.Members members)) r)))))
+    given (option_map vPart.Members (turns (λ turn. type_member_at turn 0) (group p 3))) (λ body.
+    Some (λ declare r. vDecl.TsInterface declare id type_params extends (Some body) r)))))
 
 -- 'type' Name TParams? '=' Type END
 unfoldable pub alias : List ℕ → List Token → Value → Option Declarable
 alias x ts p =
     given (ident_at x ts p 0) (λ id.
     given (params_part_at p 1) (λ type_params.
-    given (type_at p 2) (λ ty.
-    Some (λ declare r. vDecl.TsTypeAlias declare id type_params (Some (vPart.TypeAnn ty)) r))))
+    given (option_map vPart.TypeAnn (type_at p 2)) (λ ty.
+    Some (λ declare r. vDecl.TsTypeAlias declare id type_params (Some ty) r))))
 
 -- Key ('=' Assign)?
 abbrev pub enum_member : List Token → Value → Option TsEnumMember
