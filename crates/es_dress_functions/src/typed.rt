@@ -4,7 +4,7 @@ ghost use Rattle.std.specs.Prelude.{◌≡◌, ◌+◌, ◌<◌, true, false, Op
 ghost use Rattle.es_ast.specs.declared.ast.Expr.TheVariants as vExpr;
 ghost use Rattle.es_dress.specs.TypedFunctions.{is_mark, index_member, typed_accessor_member, typed_accessor_property, typed_arrow, typed_class, typed_field, typed_function, typed_function_of, typed_method_member, typed_method_property, with_accessor};
 ghost use Rattle.es_dress.specs.TypedParts.{behind_body, body_in};
-ghost use Rattle.es_dress.specs.Texts.{kind_at, span_of};
+ghost use Rattle.es_dress.specs.Texts.{kind_at, span_of, token_at};
 ghost use Rattle.es_dress.specs.Value.{behind, part};
 ghost use Rattle.es_dresser.specs.Nodes.{IsWithin};
 ghost use Rattle.es_dresser.specs.Ring.{IsMade, IsRing, parts_in};
@@ -19,8 +19,8 @@ use es_ast::{
 use es_dress_keys::Keys;
 use es_dress_patterns::Patterns;
 use es_dress_types::{annotation_at, args_part_at, heritage_in, params_part_at, type_part_at};
-use es_dresser::{DressError, Source, part, turns};
-use es_token::TokenKind;
+use es_dresser::{DressError, Source, part, some, turns};
+use es_token::{Token, TokenKind};
 use es_whole_reader::Tree;
 
 /// A function of this signature and this body.
@@ -76,8 +76,7 @@ impl<
         ensures { IsMade (body_in (parts_in self.now.0.now.source group.now)) result }
     {
         if self.0.is_node(group, 0) {
-            let body = self.0.boxed_stmt_at(group, 0)?;
-            return Ok(Some(body));
+            return some(self.0.boxed_stmt_at(group, 0));
         }
         Ok(None)
     }
@@ -92,15 +91,22 @@ impl<
         self.0.span_to(from, parts, n)
     }
 
+    /// The token that stands first in a group.
+    fn first_token(&self, group: &[Tree]) -> Option<Token>
+        ensures { result ≡ token_at self.now.0.now.source.tokens.now (parts_in self.now.0.now.source group.now) 0 }
+    {
+        match part(group, 0) {
+            Some(tree) => self.0.source.token_in(tree),
+            None => None,
+        }
+    }
+
     /// Whether the mark behind a key is this token.
     fn is_mark(&self, kind: TokenKind, group: &[Tree]) -> bool
         ensures { result ≡ is_mark kind (kind_at self.now.0.now.source.tokens.now (parts_in self.now.0.now.source group.now) 0) }
     {
-        match part(group, 0) {
-            Some(tree) => match self.0.source.token_in(tree) {
-                Some(token) => token.kind == kind,
-                None => false,
-            },
+        match self.first_token(group) {
+            Some(token) => token.kind == kind,
             None => false,
         }
     }
