@@ -27,13 +27,14 @@ use Rattle.es_ast.specs.declared.ast.Class.{Class, roll-Class, out-Class, out-ro
 use Rattle.es_ast.specs.declared.ast.Function.{Function, roll-Function, out-Function, out-roll-Function}
 use Rattle.es_ast.specs.declared.ast.Param.{Param, roll-Param, out-roll-Param}
 use Rattle.es_ast.specs.declared.ast.SwitchCase.{SwitchCase, roll-SwitchCase, out-SwitchCase, out-roll-SwitchCase}
+use Rattle.es_ast.specs.declared.ast.TsEnumMember.{TsEnumMember, roll-TsEnumMember, out-TsEnumMember, out-roll-TsEnumMember}
 use Rattle.es_ast.specs.declared.ast.VarDeclarator.{VarDeclarator, roll-VarDeclarator, out-VarDeclarator, out-roll-VarDeclarator}
-use Rattle.es_ast.specs.declared.ast.ClassMember.TheOpen.{Expr-F, Class-F, Function-F, Param-F, SwitchCase-F, VarDeclarator-F}
+use Rattle.es_ast.specs.declared.ast.ClassMember.TheOpen.{Expr-F, Class-F, Function-F, Param-F, SwitchCase-F, TsEnumMember-F, VarDeclarator-F}
 use Rattle.es_walk.specs.Parts.{Whole, ExprParts}
 use Rattle.es_walk.specs.declared.site.Site.{Site}
 use Rattle.es_walk.specs.Sites.{Found, if_some, CutsLiteral, export_site, module_ref_sites, first_argument, call_sites}
-use Rattle.es_walk.specs.Sites.{sites_of_class_member, sites_of_decl, sites_of_expr, sites_of_module_decl, sites_of_module_item, sites_of_object_pat_prop, sites_of_pat, sites_of_prop, sites_of_stmt, sites_of_class, sites_of_function, sites_of_param, sites_of_switch_case, sites_of_var_declarator}
-use Rattle.es_walk.proofs.Equations.{expr_Lit, expr_ImportCall, module_decl_Import, module_decl_ExportNamed, module_decl_ExportAll, module_decl_TsImportEquals, class_parts, function_parts, param_parts, switch_case_parts, var_declarator_parts}
+use Rattle.es_walk.specs.Sites.{sites_of_class_member, sites_of_decl, sites_of_expr, sites_of_module_decl, sites_of_module_item, sites_of_object_pat_prop, sites_of_pat, sites_of_prop, sites_of_stmt, sites_of_class, sites_of_function, sites_of_param, sites_of_switch_case, sites_of_ts_enum_member, sites_of_var_declarator}
+use Rattle.es_walk.proofs.Equations.{expr_Lit, expr_ImportCall, module_decl_Import, module_decl_ExportNamed, module_decl_ExportAll, module_decl_TsImportEquals, class_parts, function_parts, param_parts, switch_case_parts, ts_enum_member_parts, var_declarator_parts}
 
 -- the claim holds of each item
 abbrev pub Each : {A : Type 0} → (A → Type 0) → List A → Type 0
@@ -103,6 +104,9 @@ CaseCuts x it = Cut x (sites_of_switch_case it)
 
 abbrev pub DeclaratorCuts : List ℕ → VarDeclarator → Type 0
 DeclaratorCuts x it = Cut x (sites_of_var_declarator it)
+
+abbrev pub EnumMemberCuts : List ℕ → TsEnumMember → Type 0
+EnumMemberCuts x it = Cut x (sites_of_ts_enum_member it)
 
 -- ---- lists of sites
 pub cut_both : (x : List ℕ) (a b : List Site) → Cut x a → Cut x b → Cut x (a ++ b)
@@ -237,3 +241,13 @@ var_declarator_cuts x r f g =
     cut_at x (sites_of_var_declarator it) _ (var_declarator_parts [] it)
     (cut_both x (sites_of_pat (out-VarDeclarator it).name) (if_some sites_of_expr (out-VarDeclarator it).init) h.0
     (expr_if_cut x (out-VarDeclarator it).init h.1))
+
+pub ts_enum_member_cuts : (x : List ℕ) (r : Whole TsEnumMember-F) → ExprCuts x r.id → Opt (ExprCuts x) r.init
+    → EnumMemberCuts x (roll-TsEnumMember r)
+ts_enum_member_cuts x r f g =
+    let P : Whole TsEnumMember-F → Type 0 = λ w. ExprCuts x w.id × Opt (ExprCuts x) w.init in
+    let h = subst P (sym (out-roll-TsEnumMember r)) (f, g) in
+    let it = roll-TsEnumMember r in
+    cut_at x (sites_of_ts_enum_member it) _ (ts_enum_member_parts [] it)
+    (cut_both x (sites_of_expr (out-TsEnumMember it).id) (if_some sites_of_expr (out-TsEnumMember it).init) h.0.0
+    (expr_if_cut x (out-TsEnumMember it).init h.1))

@@ -220,10 +220,10 @@ module _ (x : List ℕ) (ts : List Token) where
   arguments_cuts p fine =
       turns_fine x (ExprCuts x) (argument ts) argument_cuts (group p 0) (group_fine x p 0 fine)
 
-  member_of_cuts : (there : Bool) (r : Range) (m : Bool × Ident) → PostCuts x (member_of there r m)
+  pub member_of_cuts : (there : Bool) (r : Range) (m : Bool × Ident) → PostCuts x (member_of there r m)
   member_of_cuts there r m start e f = expr_Member_cuts x e there m.0 m.1 _ f
 
-  index_of_cuts : (there : Bool) (r : Range) (i : Expr) → ExprCuts x i → PostCuts x (index_of there r i)
+  pub index_of_cuts : (there : Bool) (r : Range) (i : Expr) → ExprCuts x i → PostCuts x (index_of there r i)
   index_of_cuts there r i g start e f = expr_Index_cuts x e there i _ f g
 
   call_of_cuts : (there : Bool) (r : Range) (args : List Expr) → Each (ExprCuts x) args

@@ -1,13 +1,16 @@
 -- What a part of a plain tree becomes is fine where the sites of all that it may be read as cut their literals.
 use Rattle.std.specs.Prelude.{Bool, true, false, List, [], ◌∷◌, ◌++◌, Option, Some, None, option_map, if◌then◌else◌}
 use Rattle.std.proofs.Common.{◌≡◌, ℕ, zero, suc, refl}
+use Rattle.ts_ast.specs.declared.ts.TsPart.{TsPart}
+use Rattle.base.specs.declared.range.Range.{Range}
 use Rattle.es_ast.specs.declared.leaf.VarDeclKind.{VarDeclKind}
 use Rattle.es_ast.specs.declared.ast.Program.{Program}
 use Rattle.es_ast.specs.declared.ast.Expr.{Expr}
+use Rattle.es_ast.specs.declared.ast.Decl.{Decl}
 use Rattle.es_ast.specs.declared.ast.Pat.{Pat}
 use Rattle.es_ast.specs.declared.ast.VarDeclarator.{VarDeclarator}
 use Rattle.es_walk.specs.Sites.{sites_of}
-use Rattle.es_dress.specs.Value.{Typed, Value, absent, nil, more, token, node, given, part, typed, as_group, group, optional, option_list, turns, expr_at, pat_at, stmt_at, decl_at, item_at, block_at, variables_at, declarator_at, head_at, param_at, params_at, pat_prop_at, prop_at, member_at, key_at, post_at, args_at}
+use Rattle.es_dress.specs.Value.{Signature, Typed, Value, absent, nil, more, token, node, given, part, typed, as_group, group, optional, option_list, turns, expr_at, pat_at, stmt_at, decl_at, item_at, block_at, variables_at, declarator_at, head_at, param_at, params_at, pat_prop_at, prop_at, member_at, key_at, post_at, args_at, marked_at, signature_at, declarable_at}
 use Rattle.es_cuts.proofs.Cuts.{Each, Opt, Cut, ExprCuts, MemberCuts, DeclCuts, ItemCuts, PatPropCuts, PatCuts, PropCuts, StmtCuts, ParamCuts, DeclaratorCuts}
 
 abbrev pub ProgramCuts : List ℕ → Program → Type 0
@@ -25,6 +28,17 @@ VariablesCut x v = Each (DeclaratorCuts x) v.1
 -- what is made of an expression that is fine
 abbrev pub PostCuts : List ℕ → (ℕ → Expr → Expr) → Type 0
 PostCuts x post = (start : ℕ) (e : Expr) → ExprCuts x e → ExprCuts x (post start e)
+
+-- what is made of a mark, a type and a range
+abbrev pub MarkedCuts : List ℕ → (Bool → Option TsPart → Range → Pat) → Type 0
+MarkedCuts x pat = (mark : Bool) (ty : Option TsPart) (r : Range) → PatCuts x (pat mark ty r)
+
+abbrev pub SignatureCuts : List ℕ → Signature → Type 0
+SignatureCuts x signature = Each (ParamCuts x) signature.1
+
+-- behind `declare` or not, over a range
+abbrev pub DeclarableCuts : List ℕ → (Bool → Range → Decl) → Type 0
+DeclarableCuts x decl = (declare : Bool) (r : Range) → DeclCuts x (decl declare r)
 
 -- all that a node may be read as
 pub record TypedFine (x : List ℕ) (m : Typed) : Type 0 where
@@ -46,6 +60,9 @@ pub record TypedFine (x : List ℕ) (m : Typed) : Type 0 where
   pub key : Opt (KeyCuts x) m.key
   pub post : Opt (PostCuts x) m.post
   pub args : Opt (Each (ExprCuts x)) m.args
+  pub marked : Opt (MarkedCuts x) m.marked
+  pub signature : Opt (SignatureCuts x) m.signature
+  pub declarable : Opt (DeclarableCuts x) m.declarable
 
 abbrev pub Fine : List ℕ → Value → Type 0
 Fine x absent = Unit {0}
@@ -190,3 +207,12 @@ module _ (x : List ℕ) where
 
   pub args_fine : (p : Value) (n : ℕ) → Fine x p → Opt (Each (ExprCuts x)) (args_at p n)
   args_fine p n fine = at_fine (Each (ExprCuts x)) (λ (m : Typed). m.args) (λ m f. f.args) p n fine
+
+  pub marked_fine : (p : Value) (n : ℕ) → Fine x p → Opt (MarkedCuts x) (marked_at p n)
+  marked_fine p n fine = at_fine (MarkedCuts x) (λ (m : Typed). m.marked) (λ m f. f.marked) p n fine
+
+  pub signature_fine : (p : Value) (n : ℕ) → Fine x p → Opt (SignatureCuts x) (signature_at p n)
+  signature_fine p n fine = at_fine (SignatureCuts x) (λ (m : Typed). m.signature) (λ m f. f.signature) p n fine
+
+  pub declarable_fine : (p : Value) (n : ℕ) → Fine x p → Opt (DeclarableCuts x) (declarable_at p n)
+  declarable_fine p n fine = at_fine (DeclarableCuts x) (λ (m : Typed). m.declarable) (λ m f. f.declarable) p n fine

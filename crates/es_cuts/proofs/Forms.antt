@@ -4,6 +4,8 @@ use Rattle.std.specs.List.{flat_map}
 use Rattle.std.proofs.Common.{ℕ}
 use Rattle.base.specs.declared.range.Range.{Range}
 use Rattle.ts_ast.specs.declared.leaf.Ident.{Ident}
+use Rattle.ts_ast.specs.declared.leaf.Str.{Str}
+use Rattle.ts_ast.specs.declared.leaf.TsEntityName.{TsEntityName}
 use Rattle.ts_ast.specs.declared.leaf.MethodKind.{MethodKind}
 use Rattle.ts_ast.specs.declared.leaf.TplElement.{TplElement}
 use Rattle.ts_ast.specs.declared.ts.TsPart.{TsPart}
@@ -21,6 +23,7 @@ use Rattle.es_ast.specs.declared.ast.Expr.{Expr}
 use Rattle.es_ast.specs.declared.ast.Expr.TheVariants as vExpr
 use Rattle.es_ast.specs.declared.ast.ModuleDecl.{ModuleDecl}
 use Rattle.es_ast.specs.declared.ast.ModuleDecl.TheVariants as vModuleDecl
+use Rattle.es_ast.specs.declared.ast.ModuleItem.{ModuleItem}
 use Rattle.es_ast.specs.declared.ast.ModuleItem.TheVariants as vModuleItem
 use Rattle.es_ast.specs.declared.ast.ObjectPatProp.{ObjectPatProp}
 use Rattle.es_ast.specs.declared.ast.ObjectPatProp.TheVariants as vObjectPatProp
@@ -33,12 +36,13 @@ use Rattle.es_ast.specs.declared.ast.Stmt.TheVariants as vStmt
 use Rattle.es_ast.specs.declared.ast.Class.{Class}
 use Rattle.es_ast.specs.declared.ast.Function.{Function}
 use Rattle.es_ast.specs.declared.ast.SwitchCase.{SwitchCase}
+use Rattle.es_ast.specs.declared.ast.TsEnumMember.{TsEnumMember}
 use Rattle.es_ast.specs.declared.ast.VarDeclarator.{VarDeclarator}
 use Rattle.es_ast.specs.declared.ast.ClassMember.TheOpen.{Expr-F}
 use Rattle.es_walk.specs.Sites.{if_some}
-use Rattle.es_walk.specs.Sites.{sites_of_class_member, sites_of_decl, sites_of_expr, sites_of_module_decl, sites_of_module_item, sites_of_object_pat_prop, sites_of_pat, sites_of_prop, sites_of_stmt, sites_of_function, sites_of_switch_case, sites_of_var_declarator}
-use Rattle.es_walk.proofs.Equations.{class_member_Empty, class_member_StaticBlock, class_member_Method, class_member_Prop, decl_Class, decl_Fn, decl_Var, expr_This, expr_Super, expr_Ident, expr_PrivateName, expr_Hole, expr_Array, expr_Spread, expr_Object, expr_Fn, expr_Class, expr_Arrow, expr_Paren, expr_Unary, expr_Update, expr_Await, expr_Yield, expr_Bin, expr_Assign, expr_Cond, expr_Seq, expr_Member, expr_Index, expr_Call, expr_New, expr_ImportMeta, expr_NewTarget, expr_Tpl, expr_TaggedTpl, module_decl_ExportDecl, module_decl_ExportDefaultDecl, module_decl_ExportDefaultExpr, module_decl_TsNamespaceExport, module_item_ModuleDecl, module_item_Stmt, object_pat_prop_KeyValue, object_pat_prop_Assign, object_pat_prop_Rest, pat_Ident, pat_This, pat_Hole, pat_Array, pat_Object, pat_Rest, pat_Assign, pat_Expr, prop_Spread, prop_Shorthand, prop_KeyValue, prop_Method, stmt_Block, stmt_Empty, stmt_Debugger, stmt_With, stmt_Return, stmt_Labeled, stmt_Break, stmt_Continue, stmt_If, stmt_Switch, stmt_Throw, stmt_Try, stmt_While, stmt_DoWhile, stmt_For, stmt_ForIn, stmt_ForOf, stmt_Decl, stmt_Expr}
-use Rattle.es_cuts.proofs.Cuts.{Each, Opt, ExprCuts, MemberCuts, DeclCuts, ModuleDeclCuts, ItemCuts, PatPropCuts, PatCuts, PropCuts, StmtCuts, ClassCuts, FunctionCuts, CaseCuts, DeclaratorCuts, cut_both, cut_at, expr_by, exprs_cut, all_cut, expr_if_cut, if_cut}
+use Rattle.es_walk.specs.Sites.{sites_of_class_member, sites_of_decl, sites_of_expr, sites_of_module_decl, sites_of_module_item, sites_of_object_pat_prop, sites_of_pat, sites_of_prop, sites_of_stmt, sites_of_function, sites_of_switch_case, sites_of_ts_enum_member, sites_of_var_declarator}
+use Rattle.es_walk.proofs.Equations.{class_member_Empty, class_member_StaticBlock, class_member_Method, class_member_Prop, class_member_TsIndexSignature, decl_Class, decl_Fn, decl_Var, decl_TsInterface, decl_TsTypeAlias, decl_TsEnum, decl_TsNamespace, decl_TsModule, decl_TsGlobal, expr_This, expr_Super, expr_Ident, expr_PrivateName, expr_Hole, expr_Array, expr_Spread, expr_Object, expr_Fn, expr_Class, expr_Arrow, expr_Paren, expr_Unary, expr_Update, expr_Await, expr_Yield, expr_Bin, expr_Assign, expr_Cond, expr_Seq, expr_Member, expr_Index, expr_Call, expr_New, expr_ImportMeta, expr_NewTarget, expr_Tpl, expr_TaggedTpl, expr_TsNonNull, expr_TsAs, expr_TsConstAssertion, expr_TsSatisfies, module_decl_ExportDecl, module_decl_ExportDefaultDecl, module_decl_ExportDefaultExpr, module_decl_TsExportAssignment, module_decl_TsNamespaceExport, module_item_ModuleDecl, module_item_Stmt, object_pat_prop_KeyValue, object_pat_prop_Assign, object_pat_prop_Rest, pat_Ident, pat_This, pat_Hole, pat_Array, pat_Object, pat_Rest, pat_Assign, pat_Expr, prop_Spread, prop_Shorthand, prop_KeyValue, prop_Method, stmt_Block, stmt_Empty, stmt_Debugger, stmt_With, stmt_Return, stmt_Labeled, stmt_Break, stmt_Continue, stmt_If, stmt_Switch, stmt_Throw, stmt_Try, stmt_While, stmt_DoWhile, stmt_For, stmt_ForIn, stmt_ForOf, stmt_Decl, stmt_Expr}
+use Rattle.es_cuts.proofs.Cuts.{Each, Opt, ExprCuts, MemberCuts, DeclCuts, ModuleDeclCuts, ItemCuts, PatPropCuts, PatCuts, PropCuts, StmtCuts, ClassCuts, FunctionCuts, CaseCuts, EnumMemberCuts, DeclaratorCuts, cut_both, cut_at, expr_by, exprs_cut, all_cut, expr_if_cut, if_cut}
 
 pub class_member_Empty_cuts : (x : List ℕ) (it : Range) → MemberCuts x (vClassMember.Empty it)
 class_member_Empty_cuts x it =
@@ -67,6 +71,13 @@ class_member_Prop_cuts x modifiers computed key optional definite type_ann value
     (class_member_Prop [] modifiers computed key optional definite type_ann value span)
     (cut_both x (sites_of_expr key) (if_some sites_of_expr value) f0.0 (expr_if_cut x value f1))
 
+pub class_member_TsIndexSignature_cuts : (x : List ℕ) (modifiers : Modifiers) (name : Ident) (of : Option TsPart)
+    (type_ann : Option TsPart) (span : Range)
+    → MemberCuts x (vClassMember.TsIndexSignature modifiers name of type_ann span)
+class_member_TsIndexSignature_cuts x modifiers name of type_ann span =
+    cut_at x (sites_of_class_member (vClassMember.TsIndexSignature modifiers name of type_ann span)) _
+    (class_member_TsIndexSignature [] modifiers name of type_ann span) tt
+
 pub decl_Class_cuts : (x : List ℕ) (declare : Bool) (class : Class) (span : Range) → ClassCuts x class
     → DeclCuts x (vDecl.Class declare class span)
 decl_Class_cuts x declare class span f0 =
@@ -82,6 +93,44 @@ pub decl_Var_cuts : (x : List ℕ) (declare : Bool) (kind : VarDeclKind) (decls 
 decl_Var_cuts x declare kind decls span f0 =
     cut_at x (sites_of_decl (vDecl.Var declare kind decls span)) _ (decl_Var [] declare kind decls span)
     (all_cut x sites_of_var_declarator decls f0)
+
+pub decl_TsInterface_cuts : (x : List ℕ) (declare : Bool) (id : Ident) (type_params : Option TsPart)
+    (extends : Option TsPart) (body : Option TsPart) (span : Range)
+    → DeclCuts x (vDecl.TsInterface declare id type_params extends body span)
+decl_TsInterface_cuts x declare id type_params extends body span =
+    cut_at x (sites_of_decl (vDecl.TsInterface declare id type_params extends body span)) _
+    (decl_TsInterface [] declare id type_params extends body span) tt
+
+pub decl_TsTypeAlias_cuts : (x : List ℕ) (declare : Bool) (id : Ident) (type_params : Option TsPart)
+    (type_ann : Option TsPart) (span : Range) → DeclCuts x (vDecl.TsTypeAlias declare id type_params type_ann span)
+decl_TsTypeAlias_cuts x declare id type_params type_ann span =
+    cut_at x (sites_of_decl (vDecl.TsTypeAlias declare id type_params type_ann span)) _
+    (decl_TsTypeAlias [] declare id type_params type_ann span) tt
+
+pub decl_TsEnum_cuts : (x : List ℕ) (declare : Bool) (is_const : Bool) (id : Ident) (members : List TsEnumMember)
+    (span : Range) → Each (EnumMemberCuts x) members → DeclCuts x (vDecl.TsEnum declare is_const id members span)
+decl_TsEnum_cuts x declare is_const id members span f0 =
+    cut_at x (sites_of_decl (vDecl.TsEnum declare is_const id members span)) _
+    (decl_TsEnum [] declare is_const id members span) (all_cut x sites_of_ts_enum_member members f0)
+
+pub decl_TsNamespace_cuts : (x : List ℕ) (declare : Bool) (is_module : Bool) (id : TsEntityName)
+    (body : List ModuleItem) (span : Range) → Each (ItemCuts x) body
+    → DeclCuts x (vDecl.TsNamespace declare is_module id body span)
+decl_TsNamespace_cuts x declare is_module id body span f0 =
+    cut_at x (sites_of_decl (vDecl.TsNamespace declare is_module id body span)) _
+    (decl_TsNamespace [] declare is_module id body span) (all_cut x sites_of_module_item body f0)
+
+pub decl_TsModule_cuts : (x : List ℕ) (declare : Bool) (id : Str) (has_body : Bool) (body : List ModuleItem)
+    (span : Range) → Each (ItemCuts x) body → DeclCuts x (vDecl.TsModule declare id has_body body span)
+decl_TsModule_cuts x declare id has_body body span f0 =
+    cut_at x (sites_of_decl (vDecl.TsModule declare id has_body body span)) _
+    (decl_TsModule [] declare id has_body body span) (all_cut x sites_of_module_item body f0)
+
+pub decl_TsGlobal_cuts : (x : List ℕ) (declare : Bool) (body : List ModuleItem) (span : Range)
+    → Each (ItemCuts x) body → DeclCuts x (vDecl.TsGlobal declare body span)
+decl_TsGlobal_cuts x declare body span f0 =
+    cut_at x (sites_of_decl (vDecl.TsGlobal declare body span)) _ (decl_TsGlobal [] declare body span)
+    (all_cut x sites_of_module_item body f0)
 
 pub expr_This_cuts : (x : List ℕ) (it : Range) → ExprCuts x (vExpr.This it)
 expr_This_cuts x it =
@@ -239,6 +288,30 @@ expr_TaggedTpl_cuts x tag type_args tpl span f0 f1 =
     (vExpr.rolls-TaggedTpl tag type_args tpl span) (expr_TaggedTpl [] tag type_args tpl span)
     (cut_both x (sites_of_expr tag) (sites_of_expr tpl) f0.0 f1.0) tt
 
+pub expr_TsNonNull_cuts : (x : List ℕ) (expr : Expr) (span : Range) → ExprCuts x expr
+    → ExprCuts x (vExpr.TsNonNull expr span)
+expr_TsNonNull_cuts x expr span f0 =
+    expr_by x (vExpr.TsNonNull expr span) (Expr-F.TsNonNull expr span) _ (vExpr.rolls-TsNonNull expr span)
+    (expr_TsNonNull [] expr span) f0.0 tt
+
+pub expr_TsAs_cuts : (x : List ℕ) (expr : Expr) (type_ann : Option TsPart) (span : Range) → ExprCuts x expr
+    → ExprCuts x (vExpr.TsAs expr type_ann span)
+expr_TsAs_cuts x expr type_ann span f0 =
+    expr_by x (vExpr.TsAs expr type_ann span) (Expr-F.TsAs expr type_ann span) _ (vExpr.rolls-TsAs expr type_ann span)
+    (expr_TsAs [] expr type_ann span) f0.0 tt
+
+pub expr_TsConstAssertion_cuts : (x : List ℕ) (expr : Expr) (span : Range) → ExprCuts x expr
+    → ExprCuts x (vExpr.TsConstAssertion expr span)
+expr_TsConstAssertion_cuts x expr span f0 =
+    expr_by x (vExpr.TsConstAssertion expr span) (Expr-F.TsConstAssertion expr span) _
+    (vExpr.rolls-TsConstAssertion expr span) (expr_TsConstAssertion [] expr span) f0.0 tt
+
+pub expr_TsSatisfies_cuts : (x : List ℕ) (expr : Expr) (type_ann : Option TsPart) (span : Range) → ExprCuts x expr
+    → ExprCuts x (vExpr.TsSatisfies expr type_ann span)
+expr_TsSatisfies_cuts x expr type_ann span f0 =
+    expr_by x (vExpr.TsSatisfies expr type_ann span) (Expr-F.TsSatisfies expr type_ann span) _
+    (vExpr.rolls-TsSatisfies expr type_ann span) (expr_TsSatisfies [] expr type_ann span) f0.0 tt
+
 pub module_decl_ExportDecl_cuts : (x : List ℕ) (decl : Decl) (span : Range) → DeclCuts x decl
     → ModuleDeclCuts x (vModuleDecl.ExportDecl decl span)
 module_decl_ExportDecl_cuts x decl span f0 =
@@ -255,6 +328,12 @@ pub module_decl_ExportDefaultExpr_cuts : (x : List ℕ) (expr : Expr) (span : Ra
 module_decl_ExportDefaultExpr_cuts x expr span f0 =
     cut_at x (sites_of_module_decl (vModuleDecl.ExportDefaultExpr expr span)) _
     (module_decl_ExportDefaultExpr [] expr span) f0.0
+
+pub module_decl_TsExportAssignment_cuts : (x : List ℕ) (expr : Expr) (span : Range) → ExprCuts x expr
+    → ModuleDeclCuts x (vModuleDecl.TsExportAssignment expr span)
+module_decl_TsExportAssignment_cuts x expr span f0 =
+    cut_at x (sites_of_module_decl (vModuleDecl.TsExportAssignment expr span)) _
+    (module_decl_TsExportAssignment [] expr span) f0.0
 
 pub module_decl_TsNamespaceExport_cuts : (x : List ℕ) (it : TsNamespaceExportDecl)
     → ModuleDeclCuts x (vModuleDecl.TsNamespaceExport it)

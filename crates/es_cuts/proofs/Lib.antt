@@ -5,6 +5,7 @@ mod Exprs
 mod Patterns
 mod Stmts
 mod Modules
+mod Typed
 mod Build
 mod Kept
 pub mod Theorems

@@ -63,7 +63,7 @@ module _ (x : List ℕ) (ts : List Token) where
       map_fine (PatCuts x) (PatPropCuts x) (pat_at p 0) _ (pat_fine x p 0 fine) (λ arg f.
       object_pat_prop_Rest_cuts x arg r f)
 
-  default_cuts : (r : Range) (pat : Pat) (value : Option Expr) → PatCuts x pat → Opt (ExprCuts x) value
+  pub default_cuts : (r : Range) (pat : Pat) (value : Option Expr) → PatCuts x pat → Opt (ExprCuts x) value
       → PatCuts x (with_default r pat value)
   default_cuts r pat (Some value) f g = pat_Assign_cuts x pat value r f g
   default_cuts r pat None f g = f
@@ -162,7 +162,7 @@ module _ (x : List ℕ) (ts : List Token) where
   block_or_cuts r (Some stmts) e f g = stmt_Block_cuts x stmts r f
   block_or_cuts r None e f g = map_fine (ExprCuts x) (StmtCuts x) e _ g (λ e h. stmt_Expr_cuts x e r h)
 
-  body_of_cuts : (v : Value) → Fine x v → Opt (StmtCuts x) (body_of ts v)
+  pub body_of_cuts : (v : Value) → Fine x v → Opt (StmtCuts x) (body_of ts v)
   body_of_cuts (node from to m) fine = block_or_cuts (span_of ts from to) m.block m.expr fine.block fine.expr
   body_of_cuts absent fine = tt
   body_of_cuts nil fine = tt

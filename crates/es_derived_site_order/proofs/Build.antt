@@ -14,11 +14,13 @@ use Rattle.es_whole_grammar.specs.declared.rows.Label.TheVariants as l
 use Rattle.es_dress.specs.Functions as functions
 use Rattle.es_dress.specs.Classes as classes
 use Rattle.es_dress.specs.Statements as stmts
-use Rattle.es_dress.specs.Dress.{same_label, expr_of, pat_of, variables_of, decl_of, block_of, stmt_of, declarator_of, param_of, head_of, params_of, pat_prop_of, key_of, prop_of, member_of, post_of, args_of, module_decl_of, program_of, build, target_of, as_target}
+use Rattle.es_dress.specs.TypedFunctions as typed
+use Rattle.es_dress.specs.Dress.{same_label, expr_of, pat_of, marked_of, variables_of, declarable_of, decl_of, block_of, stmt_of, declarator_of, param_of, head_of, params_of, signature_of, pat_prop_of, key_of, prop_of, member_of, post_of, args_of, module_decl_of, program_of, build, target_of, as_target}
 use Rattle.es_derived_site_order.proofs.Exprs.{name_on, word_on, number_on, str_on, regexp_on, template_on, template_parts_on, object_literal_on, parenthesized_on, spread_on, await_on, conditional_on, prefix_on, update_prefix_on, update_postfix_on, binary_on, private_in_on, assignment_on, pattern_assignment_on, yield_on, sequence_on, import_call_on, new_on, arguments_on, member_post_on, index_post_on, call_post_on, template_post_on, optional_post_on, chain_on, array_literal_on}
 use Rattle.es_derived_site_order.proofs.Patterns.{param_of_on, name_pattern_on, array_pattern_on, object_pattern_on, rest_pattern_on, default_pattern_on, rest_property_on, key_pattern_on, name_property_on, default_parameter_on, parameters_on, signature_on, function_made_on, name_arrow_on, parenthesized_arrow_on, word_key_on, str_key_on, number_key_on, computed_key_on, private_key_on, spread_property_on, shorthand_on, key_value_on, method_property_on, accessor_property_on, class_made_on, static_block_on, method_member_on, accessor_member_on, field_member_on}
 use Rattle.es_derived_site_order.proofs.Stmts.{bare_declarator_on, decl_made_on, block_on, declarator_on, variables_on, using_on, variable_declaration_on, variable_head_on, using_head_on, for_on, for_each_on, for_await_on, while_on, do_on, expression_statement_on, labelled_on, if_on, continue_on, break_on, return_on, throw_on, switch_on, try_on, with_on}
 use Rattle.es_derived_site_order.proofs.Modules.{item_by_on, bare_import_on, from_import_on, require_import_on, entity_import_on, export_all_on, export_names_on, export_namespace_on, export_default_decl_on, export_default_expression_on, export_declaration_on, module_on, script_on}
+use Rattle.es_derived_site_order.proofs.Typed.{alias_on, declared_on, declared_variables_on, enum_on, export_assignment_on, global_on, index_member_on, interface_on, marked_array_on, marked_name_on, marked_object_on, marked_parameter_on, module_namespace_on, namespace_on, non_null_post_on, property_parameter_on, this_parameter_on, typed_accessor_member_on, typed_accessor_property_on, typed_arrow_on, typed_binary_on, typed_call_post_on, typed_class_on, typed_declarator_on, typed_field_on, typed_function_on, typed_head_on, typed_method_member_on, typed_method_property_on, typed_new_on, typed_optional_post_on, typed_parameters_on, typed_signature_on, typed_template_post_on, typed_try_on}
 use Rattle.es_walk.specs.Sites.{sites_of, sites_of_class_member, sites_of_decl, sites_of_expr, sites_of_module_decl, sites_of_object_pat_prop, sites_of_pat, sites_of_prop, sites_of_stmt, sites_of_class, sites_of_function, sites_of_param, sites_of_var_declarator}
 use Rattle.es_dress.specs.Value.{Value, absent, nil, more, token, node, group, is_there}
 use Rattle.es_cuts.proofs.Cuts.{Opt}
@@ -26,7 +28,7 @@ use Rattle.es_derived_site_order.proofs.Given.{map_fine, if_fine}
 use Rattle.es_derived_site_order.proofs.Sites.{Of}
 use Rattle.es_derived_site_order.proofs.Own.{ExprOn}
 use Rattle.es_derived_site_order.proofs.Forms.{class_member_Empty_on, decl_Class_on, decl_Fn_on, expr_Super_on, expr_Fn_on, expr_Class_on, expr_ImportMeta_on, expr_NewTarget_on, pat_Expr_on, stmt_Block_on, stmt_Empty_on, stmt_Debugger_on, stmt_Decl_on}
-use Rattle.es_derived_site_order.proofs.On.{PostOn, TypedOn, Stands, key_sites, head_sites, variables_sites, ahead}
+use Rattle.es_derived_site_order.proofs.On.{PostOn, MarkedOn, DeclarableOn, TypedOn, Stands, key_sites, head_sites, variables_sites, signature_sites, ahead}
 
 -- for laws that have no range of their own
 none : Range
@@ -80,7 +82,25 @@ module _ (x : List ℕ) (ts : List Token) (a b : ℕ) where
       (if_fine (ExprOn ts a b) (same_label label l.AsyncParenthesizedArrow) _ _
       (λ e. parenthesized_arrow_on x ts a b r p h true)
       (if_fine (ExprOn ts a b) (same_label label l.Sequence) _ _ (λ e. sequence_on x ts a b r p h)
-      (tt)))))))))))))))))))))))))))))))))))
+      (if_fine (ExprOn ts a b) (same_label label l.TypedFunction) _ _
+      (λ e. map_fine (Of sites_of_function ts a b) (ExprOn ts a b) (typed.typed_function x ts false r p) vExpr.Fn
+      (typed_function_on x ts a b r p h false) (expr_Fn_on ts a b))
+      (if_fine (ExprOn ts a b) (same_label label l.TypedAsyncFunction) _ _
+      (λ e. map_fine (Of sites_of_function ts a b) (ExprOn ts a b) (typed.typed_function x ts true r p) vExpr.Fn
+      (typed_function_on x ts a b r p h true) (expr_Fn_on ts a b))
+      (if_fine (ExprOn ts a b) (same_label label l.TypedClass) _ _
+      (λ e. map_fine (Of sites_of_class ts a b) (ExprOn ts a b) (typed.typed_class x ts false r p) vExpr.Class
+      (typed_class_on x ts a b r p h false) (expr_Class_on ts a b))
+      (if_fine (ExprOn ts a b) (same_label label l.AbstractClass) _ _
+      (λ e. map_fine (Of sites_of_class ts a b) (ExprOn ts a b) (typed.typed_class x ts true r p) vExpr.Class
+      (typed_class_on x ts a b r p h true) (expr_Class_on ts a b))
+      (if_fine (ExprOn ts a b) (same_label label l.TypedNew) _ _ (λ e. typed_new_on x ts a b r p h)
+      (if_fine (ExprOn ts a b) (same_label label l.TypedBinary) _ _ (λ e. typed_binary_on x ts a b r p h)
+      (if_fine (ExprOn ts a b) (same_label label l.TypedParenthesizedArrow) _ _
+      (λ e. typed_arrow_on x ts a b r p h false)
+      (if_fine (ExprOn ts a b) (same_label label l.TypedAsyncParenthesizedArrow) _ _
+      (λ e. typed_arrow_on x ts a b r p h true)
+      (tt)))))))))))))))))))))))))))))))))))))))))))
 
   pat_of_law : (label : Label) (from : ℕ) (r : Range) (p : Value) → Stands ts a b p
       → Opt (Of sites_of_pat ts a b) (pat_of x ts label from r p)
@@ -101,6 +121,48 @@ module _ (x : List ℕ) (ts : List Token) (a b : ℕ) where
       if_fine (Of variables_sites ts a b) (same_label label l.Variables) _ _ (λ e. variables_on x ts a b none p h)
       (if_fine (Of variables_sites ts a b) (same_label label l.Using) _ _ (λ e. using_on x ts a b none p h)
       (tt))
+
+  marked_of_law : (label : Label) (from : ℕ) (p : Value) → Stands ts a b p
+      → Opt (MarkedOn ts a b) (marked_of x ts label from p)
+  unfolding marked_of
+  marked_of_law label from p h =
+      if_fine (MarkedOn ts a b) (same_label label l.NamePattern) _ _ (λ e. marked_name_on x ts a b none p h)
+      (if_fine (MarkedOn ts a b) (same_label label l.ArrayPattern) _ _ (λ e. marked_array_on x ts a b none p h from)
+      (if_fine (MarkedOn ts a b) (same_label label l.ObjectPattern) _ _ (λ e. marked_object_on x ts a b none p h)
+      (tt)))
+
+  signature_of_law : (label : Label) (p : Value) → Stands ts a b p
+      → Opt (Of signature_sites ts a b) (signature_of x ts label p)
+  unfolding signature_of
+  signature_of_law label p h =
+      if_fine (Of signature_sites ts a b) (same_label label l.TypedSignature) _ _
+      (λ e. typed_signature_on x ts a b none p h)
+      (tt)
+
+  declarable_of_law : (label : Label) (r : Range) (p : Value) → Stands ts a b p
+      → Opt (DeclarableOn ts a b) (declarable_of x ts label r p)
+  unfolding declarable_of
+  declarable_of_law label r p h =
+      if_fine (DeclarableOn ts a b) (same_label label l.TypedFunction) _ _
+      (λ e. map_fine (Of sites_of_function ts a b) (DeclarableOn ts a b) (typed.typed_function x ts false r p) _
+      (typed_function_on x ts a b r p h false) (λ function f declare span. decl_Fn_on ts a b declare function span f))
+      (if_fine (DeclarableOn ts a b) (same_label label l.TypedAsyncFunction) _ _
+      (λ e. map_fine (Of sites_of_function ts a b) (DeclarableOn ts a b) (typed.typed_function x ts true r p) _
+      (typed_function_on x ts a b r p h true) (λ function f declare span. decl_Fn_on ts a b declare function span f))
+      (if_fine (DeclarableOn ts a b) (same_label label l.TypedClass) _ _
+      (λ e. map_fine (Of sites_of_class ts a b) (DeclarableOn ts a b) (typed.typed_class x ts false r p) _
+      (typed_class_on x ts a b r p h false) (λ class f declare span. decl_Class_on ts a b declare class span f))
+      (if_fine (DeclarableOn ts a b) (same_label label l.AbstractClass) _ _
+      (λ e. map_fine (Of sites_of_class ts a b) (DeclarableOn ts a b) (typed.typed_class x ts true r p) _
+      (typed_class_on x ts a b r p h true) (λ class f declare span. decl_Class_on ts a b declare class span f))
+      (if_fine (DeclarableOn ts a b) (same_label label l.InterfaceDeclaration) _ _ (λ e. interface_on x ts a b r p h)
+      (if_fine (DeclarableOn ts a b) (same_label label l.AliasDeclaration) _ _ (λ e. alias_on x ts a b r p h)
+      (if_fine (DeclarableOn ts a b) (same_label label l.EnumDeclaration) _ _ (λ e. enum_on x ts a b r p h)
+      (if_fine (DeclarableOn ts a b) (same_label label l.NamespaceDeclaration) _ _ (λ e. namespace_on x ts a b r p h)
+      (if_fine (DeclarableOn ts a b) (same_label label l.ModuleDeclaration) _ _
+      (λ e. module_namespace_on x ts a b r p h)
+      (if_fine (DeclarableOn ts a b) (same_label label l.GlobalDeclaration) _ _ (λ e. global_on x ts a b r p h)
+      (tt))))))))))
 
   decl_of_law : (label : Label) (r : Range) (p : Value) → Stands ts a b p
       → Opt (Of sites_of_decl ts a b) (decl_of x ts label r p)
@@ -127,7 +189,11 @@ module _ (x : List ℕ) (ts : List Token) (a b : ℕ) where
       (λ e. map_fine (Of variables_sites ts a b) (Of sites_of_decl ts a b) (stmts.using_ p) (stmts.decl_of r)
       (using_on x ts a b none p h)
       (λ v f. decl_made_on x ts a b r v f))
-      (tt)))))))
+      (if_fine (Of sites_of_decl ts a b) (same_label label l.Declared) _ _ (λ e. declared_on x ts a b r p h)
+      (if_fine (Of sites_of_decl ts a b) (same_label label l.DeclaredVariables) _ _
+      (λ e. declared_variables_on x ts a b r p h)
+      (map_fine (DeclarableOn ts a b) (Of sites_of_decl ts a b) (declarable_of x ts label r p) _
+      (declarable_of_law label r p h) (λ decl f. f false r))))))))))
 
   block_of_law : (label : Label) (p : Value) → Stands ts a b p
       → Opt (Of (flat_map sites_of_stmt) ts a b) (block_of x ts label p)
@@ -164,9 +230,10 @@ module _ (x : List ℕ) (ts : List Token) (a b : ℕ) where
       (if_fine (Of sites_of_stmt ts a b) (same_label label l.DebuggerStatement) _ _
       (λ e. stmt_Debugger_on ts a b r (ahead ts a b p h))
       (if_fine (Of sites_of_stmt ts a b) (same_label label l.WithStatement) _ _ (λ e. with_on x ts a b r p h)
+      (if_fine (Of sites_of_stmt ts a b) (same_label label l.TypedTryStatement) _ _ (λ e. typed_try_on x ts a b r p h)
       (map_fine (Of sites_of_decl ts a b) (Of sites_of_stmt ts a b) (decl_of x ts label r p) vStmt.Decl
       (decl_of_law label r p h)
-      (stmt_Decl_on ts a b)))))))))))))))))))
+      (stmt_Decl_on ts a b))))))))))))))))))))
 
   declarator_of_law : (label : Label) (from : ℕ) (r : Range) (p : Value) → Stands ts a b p
       → Opt (Of sites_of_var_declarator ts a b) (declarator_of x ts label from r p)
@@ -174,9 +241,11 @@ module _ (x : List ℕ) (ts : List Token) (a b : ℕ) where
   declarator_of_law label from r p h =
       if_fine (Of sites_of_var_declarator ts a b) (same_label label l.Declarator) _ _
       (λ e. declarator_on x ts a b r p h)
+      (if_fine (Of sites_of_var_declarator ts a b) (same_label label l.TypedDeclarator) _ _
+      (λ e. typed_declarator_on x ts a b r p h)
       (map_fine (Of sites_of_pat ts a b) (Of sites_of_var_declarator ts a b) (pat_of x ts label from r p)
       (stmts.declarator_of r None)
-      (pat_of_law label from r p h) (bare_declarator_on x ts a b r))
+      (pat_of_law label from r p h) (bare_declarator_on x ts a b r)))
 
   param_of_law : (label : Label) (from : ℕ) (r : Range) (p : Value) → Stands ts a b p
       → Opt (Of sites_of_param ts a b) (param_of x ts label from r p)
@@ -184,8 +253,13 @@ module _ (x : List ℕ) (ts : List Token) (a b : ℕ) where
   param_of_law label from r p h =
       if_fine (Of sites_of_param ts a b) (same_label label l.DefaultParameter) _ _
       (λ e. default_parameter_on x ts a b r p h)
+      (if_fine (Of sites_of_param ts a b) (same_label label l.ThisParameter) _ _ (λ e. this_parameter_on x ts a b r p h)
+      (if_fine (Of sites_of_param ts a b) (same_label label l.PropertyParameter) _ _
+      (λ e. property_parameter_on x ts a b r p h)
+      (if_fine (Of sites_of_param ts a b) (same_label label l.MarkedParameter) _ _
+      (λ e. marked_parameter_on x ts a b r p h)
       (map_fine (Of sites_of_pat ts a b) (Of sites_of_param ts a b) (pat_of x ts label from r p) (functions.param_of r)
-      (pat_of_law label from r p h) (param_of_on x ts a b r))
+      (pat_of_law label from r p h) (param_of_on x ts a b r)))))
 
   head_of_law : (label : Label) (from : ℕ) (r : Range) (p : Value) → Stands ts a b p
       → Opt (Of head_sites ts a b) (head_of x ts label from r p)
@@ -193,9 +267,10 @@ module _ (x : List ℕ) (ts : List Token) (a b : ℕ) where
   head_of_law label from r p h =
       if_fine (Of head_sites ts a b) (same_label label l.VariableHead) _ _ (λ e. variable_head_on x ts a b r p h)
       (if_fine (Of head_sites ts a b) (same_label label l.UsingHead) _ _ (λ e. using_head_on x ts a b r p h)
+      (if_fine (Of head_sites ts a b) (same_label label l.TypedVariableHead) _ _ (λ e. typed_head_on x ts a b r p h)
       (map_fine (Of sites_of_pat ts a b) (Of head_sites ts a b) (pat_of x ts label from r p) _
       (pat_of_law label from r p h)
-      (λ target f. f)))
+      (λ target f. f))))
 
   params_of_law : (label : Label) (p : Value) → Stands ts a b p
       → Opt (Of (flat_map sites_of_param) ts a b) (params_of x ts label p)
@@ -205,7 +280,9 @@ module _ (x : List ℕ) (ts : List Token) (a b : ℕ) where
       (λ e. parameters_on x ts a b none p h)
       (if_fine (Of (flat_map sites_of_param) ts a b) (same_label label l.Signature) _ _
       (λ e. signature_on x ts a b none p h)
-      (tt))
+      (if_fine (Of (flat_map sites_of_param) ts a b) (same_label label l.TypedParameters) _ _
+      (λ e. typed_parameters_on x ts a b none p h)
+      (tt)))
 
   pat_prop_of_law : (label : Label) (r : Range) (p : Value) → Stands ts a b p
       → Opt (Of sites_of_object_pat_prop ts a b) (pat_prop_of x ts label r p)
@@ -244,7 +321,15 @@ module _ (x : List ℕ) (ts : List Token) (a b : ℕ) where
       (λ e. method_property_on x ts a b r p h vMethod.Method false false 0)
       (if_fine (Of sites_of_prop ts a b) (same_label label l.KeyValue) _ _ (λ e. key_value_on x ts a b r p h)
       (if_fine (Of sites_of_prop ts a b) (same_label label l.Shorthand) _ _ (λ e. shorthand_on x ts a b r p h)
-      (tt)))))))
+      (if_fine (Of sites_of_prop ts a b) (same_label label l.TypedAccessorProperty) _ _
+      (λ e. typed_accessor_property_on x ts a b r p h)
+      (if_fine (Of sites_of_prop ts a b) (same_label label l.TypedAsyncProperty) _ _
+      (λ e. typed_method_property_on x ts a b r p h vMethod.Method true (is_there (group p 0)) 1)
+      (if_fine (Of sites_of_prop ts a b) (same_label label l.TypedGeneratorProperty) _ _
+      (λ e. typed_method_property_on x ts a b r p h vMethod.Method false true 0)
+      (if_fine (Of sites_of_prop ts a b) (same_label label l.TypedMethodProperty) _ _
+      (λ e. typed_method_property_on x ts a b r p h vMethod.Method false false 0)
+      (tt)))))))))))
 
   member_of_law : (label : Label) (r : Range) (p : Value) → Stands ts a b p
       → Opt (Of sites_of_class_member ts a b) (member_of x ts label r p)
@@ -266,7 +351,21 @@ module _ (x : List ℕ) (ts : List Token) (a b : ℕ) where
       (λ e. field_member_on x ts a b r p h false)
       (if_fine (Of sites_of_class_member ts a b) (same_label label l.AccessorField) _ _
       (λ e. field_member_on x ts a b r p h true)
-      (tt))))))))
+      (if_fine (Of sites_of_class_member ts a b) (same_label label l.TypedAccessorMember) _ _
+      (λ e. typed_accessor_member_on x ts a b r p h)
+      (if_fine (Of sites_of_class_member ts a b) (same_label label l.TypedAsyncMember) _ _
+      (λ e. typed_method_member_on x ts a b r p h vMethod.Method true (is_there (group p 1)) 2)
+      (if_fine (Of sites_of_class_member ts a b) (same_label label l.TypedGeneratorMember) _ _
+      (λ e. typed_method_member_on x ts a b r p h vMethod.Method false true 1)
+      (if_fine (Of sites_of_class_member ts a b) (same_label label l.TypedMethodMember) _ _
+      (λ e. typed_method_member_on x ts a b r p h vMethod.Method false false 1)
+      (if_fine (Of sites_of_class_member ts a b) (same_label label l.TypedFieldMember) _ _
+      (λ e. typed_field_on x ts a b r p h false)
+      (if_fine (Of sites_of_class_member ts a b) (same_label label l.TypedAccessorField) _ _
+      (λ e. typed_field_on x ts a b r p h true)
+      (if_fine (Of sites_of_class_member ts a b) (same_label label l.IndexMember) _ _
+      (λ e. index_member_on x ts a b r p h)
+      (tt)))))))))))))))
 
   post_of_law : (label : Label) (r : Range) (p : Value) → Stands ts a b p → Opt (PostOn ts a b) (post_of x ts label r p)
   unfolding post_of
@@ -276,7 +375,11 @@ module _ (x : List ℕ) (ts : List Token) (a b : ℕ) where
       (if_fine (PostOn ts a b) (same_label label l.CallPost) _ _ (λ e. call_post_on x ts a b r p h)
       (if_fine (PostOn ts a b) (same_label label l.TemplatePost) _ _ (λ e. template_post_on x ts a b r p h)
       (if_fine (PostOn ts a b) (same_label label l.OptionalPost) _ _ (λ e. optional_post_on x ts a b r p h)
-      (tt)))))
+      (if_fine (PostOn ts a b) (same_label label l.TypedCallPost) _ _ (λ e. typed_call_post_on x ts a b r p h)
+      (if_fine (PostOn ts a b) (same_label label l.TypedTemplatePost) _ _ (λ e. typed_template_post_on x ts a b r p h)
+      (if_fine (PostOn ts a b) (same_label label l.TypedOptionalPost) _ _ (λ e. typed_optional_post_on x ts a b r p h)
+      (if_fine (PostOn ts a b) (same_label label l.NonNullPost) _ _ (λ e. non_null_post_on x ts a b r p h)
+      (tt)))))))))
 
   args_of_law : (label : Label) (p : Value) → Stands ts a b p
       → Opt (Of (flat_map sites_of_expr) ts a b) (args_of x ts label p)
@@ -316,7 +419,11 @@ module _ (x : List ℕ) (ts : List Token) (a b : ℕ) where
       (λ e. export_default_expression_on x ts a b r p h)
       (if_fine (Of sites_of_module_decl ts a b) (same_label label l.ExportDeclaration) _ _
       (λ e. export_declaration_on x ts a b r p h)
-      (tt)))))))))))))
+      (if_fine (Of sites_of_module_decl ts a b) (same_label label l.ExportDefaultInterface) _ _
+      (λ e. export_default_decl_on x ts a b r p h)
+      (if_fine (Of sites_of_module_decl ts a b) (same_label label l.ExportAssignment) _ _
+      (λ e. export_assignment_on x ts a b r p h)
+      (tt)))))))))))))))
 
   program_of_law : (label : Label) (r : Range) (p : Value) → Stands ts a b p
       → Opt (Of sites_of ts a b) (program_of x ts label r p)
@@ -350,6 +457,9 @@ module _ (x : List ℕ) (ts : List Token) (a b : ℕ) where
     key = key_of_law label p h;
     post = post_of_law label r p h;
     args = args_of_law label p h;
+    marked = marked_of_law label from p h;
+    signature = signature_of_law label p h;
+    declarable = declarable_of_law label r p h;
   }
 
   target_on : (e : Option Expr) → a ≤ b → Opt (ExprOn ts a b) e → TypedOn ts a b (target_of x ts e)
@@ -372,6 +482,9 @@ module _ (x : List ℕ) (ts : List Token) (a b : ℕ) where
     key = tt;
     post = tt;
     args = tt;
+    marked = tt;
+    signature = tt;
+    declarable = tt;
   }
 
 -- the target of an assignment

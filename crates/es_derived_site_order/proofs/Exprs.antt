@@ -76,13 +76,14 @@ module _ (x : List ℕ) (ts : List Token) where
       argument_of_on a b (is_there (group turn 0))
       (span_of ts (first_of (part (group turn 0) 0)) (behind (part turn 1))) e f)
 
-  member_of_on : (a b : ℕ) (there : Bool) (r : Range) (m : Bool × Ident) → a ≤ b → PostOn ts a b (member_of there r m)
+  pub member_of_on : (a b : ℕ) (there : Bool) (r : Range) (m : Bool × Ident) → a ≤ b
+      → PostOn ts a b (member_of there r m)
   member_of_on a b there r m low = (
     low,
     λ c start e f. expr_Member_on ts c b e there m.0 m.1 _ (widen ts c c a b (sites_of_expr e) (omega arith) low f),
   )
 
-  index_of_on : (a b : ℕ) (there : Bool) (r : Range) (i : Expr) → StandOn ts a b (sites_of_expr i)
+  pub index_of_on : (a b : ℕ) (there : Bool) (r : Range) (i : Expr) → StandOn ts a b (sites_of_expr i)
       → PostOn ts a b (index_of there r i)
   index_of_on a b there r i g =
       (forward ts a b (sites_of_expr i) g, λ c start e f. expr_Index_on ts c a b e there i _ f g)

@@ -7,6 +7,7 @@ mod Exprs
 mod Patterns
 mod Stmts
 mod Modules
+mod Typed
 mod Build
 mod Kept
 mod AscendLemmas

@@ -3,13 +3,16 @@ use Rattle.std.specs.Prelude.{Bool, List, Option, Some, None, option_map, slice_
 use Rattle.std.specs.List.{flat_map}
 use Rattle.std.proofs.Common.{◌≡◌, ℕ, zero, suc, ◌<◌, ◌≤◌, refl, arith}
 use Rattle.es_token.specs.declared.token.Token.{Token}
+use Rattle.base.specs.declared.range.Range.{Range}
+use Rattle.ts_ast.specs.declared.ts.TsPart.{TsPart}
 use Rattle.es_ast.specs.declared.leaf.VarDeclKind.{VarDeclKind}
+use Rattle.es_ast.specs.declared.ast.Decl.{Decl}
 use Rattle.es_ast.specs.declared.ast.Expr.{Expr}
 use Rattle.es_ast.specs.declared.ast.Pat.{Pat}
 use Rattle.es_ast.specs.declared.ast.VarDeclarator.{VarDeclarator}
 use Rattle.es_walk.specs.Sites.{Found, if_some, sites_of}
 use Rattle.es_walk.specs.Sites.{sites_of_class_member, sites_of_decl, sites_of_expr, sites_of_module_item, sites_of_object_pat_prop, sites_of_pat, sites_of_prop, sites_of_stmt, sites_of_param, sites_of_var_declarator}
-use Rattle.es_dress.specs.Value.{Typed, Value, absent, nil, more, token, node, given, part, typed, as_group, optional, turns}
+use Rattle.es_dress.specs.Value.{Signature, Typed, Value, absent, nil, more, token, node, given, part, typed, as_group, optional, turns}
 use Rattle.es_dress.specs.Texts.{str_of, token_of}
 use Rattle.es_cuts.proofs.Cuts.{Opt}
 use Rattle.es_derived_site_order.proofs.Given.{given_fine, map_fine}
@@ -31,6 +34,17 @@ abbrev pub PostOn : List Token → ℕ → ℕ → (ℕ → Expr → Expr) → T
 PostOn ts a b post =
     (a ≤ b) × ((c start : ℕ) (e : Expr) → StandOn ts c a (sites_of_expr e) → ExprOn ts c b (post start e))
 
+abbrev pub signature_sites : Signature → Found
+signature_sites signature = flat_map sites_of_param signature.1
+
+-- what is made of a mark, a type and a range
+abbrev pub MarkedOn : List Token → ℕ → ℕ → (Bool → Option TsPart → Range → Pat) → Type 0
+MarkedOn ts a b pat = (mark : Bool) (ty : Option TsPart) (r : Range) → StandOn ts a b (sites_of_pat (pat mark ty r))
+
+-- behind `declare` or not, over a range
+abbrev pub DeclarableOn : List Token → ℕ → ℕ → (Bool → Range → Decl) → Type 0
+DeclarableOn ts a b decl = (declare : Bool) (r : Range) → StandOn ts a b (sites_of_decl (decl declare r))
+
 -- all that a node may be read as
 pub record TypedOn (ts : List Token) (a b : ℕ) (m : Typed) : Type 0 where
   pub expr : Opt (ExprOn ts a b) m.expr
@@ -51,6 +65,9 @@ pub record TypedOn (ts : List Token) (a b : ℕ) (m : Typed) : Type 0 where
   pub key : Opt (Of key_sites ts a b) m.key
   pub args : Opt (Of (flat_map sites_of_expr) ts a b) m.args
   pub post : Opt (PostOn ts a b) m.post
+  pub marked : Opt (MarkedOn ts a b) m.marked
+  pub signature : Opt (Of signature_sites ts a b) m.signature
+  pub declarable : Opt (DeclarableOn ts a b) m.declarable
 
 abbrev pub Stands : List Token → ℕ → ℕ → Value → Type 0
 Stands ts a b absent = a ≤ b
@@ -267,6 +284,29 @@ module _ (ts : List Token) where
   pub read_args : (a b : ℕ) (v : Value) → Stands ts a b v
       → Opt (Of (flat_map sites_of_expr) ts a b) (given (typed v) (λ m. m.args))
   read_args a b v h = read_on (flat_map sites_of_expr) (λ (m : Typed). m.args) (λ from to m on. on.args) a b v h
+
+  pub read_signature : (a b : ℕ) (v : Value) → Stands ts a b v
+      → Opt (Of signature_sites ts a b) (given (typed v) (λ m. m.signature))
+  read_signature a b v h = read_on signature_sites (λ (m : Typed). m.signature) (λ from to m on. on.signature) a b v h
+
+  pub read_marked : (a b : ℕ) (v : Value) → Stands ts a b v → Opt (MarkedOn ts a b) (given (typed v) (λ m. m.marked))
+  read_marked a b (node from to m) h =
+      opt_mapped (MarkedOn ts from to) (MarkedOn ts a b) m.marked
+      (λ pat on mark ty r. widen ts a from to b (sites_of_pat (pat mark ty r)) h.0 h.2 (on mark ty r)) h.3.marked
+  read_marked a b absent h = tt
+  read_marked a b nil h = tt
+  read_marked a b (more v vs) h = tt
+  read_marked a b (token n) h = tt
+
+  pub read_declarable : (a b : ℕ) (v : Value) → Stands ts a b v
+      → Opt (DeclarableOn ts a b) (given (typed v) (λ m. m.declarable))
+  read_declarable a b (node from to m) h =
+      opt_mapped (DeclarableOn ts from to) (DeclarableOn ts a b) m.declarable
+      (λ decl on declare r. widen ts a from to b (sites_of_decl (decl declare r)) h.0 h.2 (on declare r)) h.3.declarable
+  read_declarable a b absent h = tt
+  read_declarable a b nil h = tt
+  read_declarable a b (more v vs) h = tt
+  read_declarable a b (token n) h = tt
 
   -- ---- parts that may be absent, and lists
   pub optional_on : {A : Type 0} (sites : A → Found) (one : Value → ℕ → Option A)

@@ -20,8 +20,9 @@ use Rattle.es_ast.specs.declared.ast.Class.{roll-Class, out-Class, out-roll-Clas
 use Rattle.es_ast.specs.declared.ast.Function.{roll-Function, out-Function, out-roll-Function}
 use Rattle.es_ast.specs.declared.ast.Param.{roll-Param, out-roll-Param}
 use Rattle.es_ast.specs.declared.ast.SwitchCase.{roll-SwitchCase, out-SwitchCase, out-roll-SwitchCase}
+use Rattle.es_ast.specs.declared.ast.TsEnumMember.{roll-TsEnumMember, out-TsEnumMember, out-roll-TsEnumMember}
 use Rattle.es_ast.specs.declared.ast.VarDeclarator.{roll-VarDeclarator, out-VarDeclarator, out-roll-VarDeclarator}
-use Rattle.es_ast.specs.declared.ast.ClassMember.TheOpen.{Expr-F, Class-F, Function-F, Param-F, SwitchCase-F, VarDeclarator-F}
+use Rattle.es_ast.specs.declared.ast.ClassMember.TheOpen.{Expr-F, Class-F, Function-F, Param-F, SwitchCase-F, TsEnumMember-F, VarDeclarator-F}
 use Rattle.es_walk.specs.Parts.{Whole, ExprParts}
 use Rattle.es_walk.specs.declared.site.Site.{Site}
 use Rattle.es_walk.specs.declared.site.Attribute.{Attribute}
@@ -29,8 +30,8 @@ use Rattle.es_walk.specs.declared.site.Attribute.TheVariants.{Unknown}
 use Rattle.es_walk.specs.declared.site.DependencyKind.TheVariants as kind
 use Rattle.es_walk.specs.Attributes.{attribute_of, options_attribute}
 use Rattle.es_walk.specs.Sites.{if_some, site_at, export_site, module_ref_sites, first_argument}
-use Rattle.es_walk.specs.Sites.{sites_of_class_member, sites_of_expr, sites_of_module_decl, sites_of_pat, sites_of_stmt, sites_of_class, sites_of_function, sites_of_param, sites_of_switch_case, sites_of_var_declarator}
-use Rattle.es_walk.proofs.Equations.{expr_Lit, expr_ImportCall, module_decl_Import, module_decl_ExportNamed, module_decl_ExportAll, module_decl_TsImportEquals, class_parts, function_parts, param_parts, switch_case_parts, var_declarator_parts}
+use Rattle.es_walk.specs.Sites.{sites_of_class_member, sites_of_expr, sites_of_module_decl, sites_of_pat, sites_of_stmt, sites_of_class, sites_of_function, sites_of_param, sites_of_switch_case, sites_of_ts_enum_member, sites_of_var_declarator}
+use Rattle.es_walk.proofs.Equations.{expr_Lit, expr_ImportCall, module_decl_Import, module_decl_ExportNamed, module_decl_ExportAll, module_decl_TsImportEquals, class_parts, function_parts, param_parts, switch_case_parts, ts_enum_member_parts, var_declarator_parts}
 use Rattle.es_cuts.proofs.Cuts.{Opt}
 use Rattle.es_derived_site_order.specs.Order.{StandOn}
 use Rattle.es_derived_site_order.proofs.Sites.{StrOn, widen, both, same, one_on, str_widen, str_forward}
@@ -189,4 +190,15 @@ module _ (ts : List Token) where
       let it = roll-VarDeclarator r in
       same ts a b (sites_of_var_declarator it) _ (var_declarator_parts [] it)
       (both ts a m b (sites_of_pat (out-VarDeclarator it).name) (if_some sites_of_expr (out-VarDeclarator it).init)
+      h.0 h.1)
+
+  pub ts_enum_member_on : (a m b : ℕ) (r : Whole TsEnumMember-F) → StandOn ts a m (sites_of_expr r.id)
+      → StandOn ts m b (if_some sites_of_expr r.init) → StandOn ts a b (sites_of_ts_enum_member (roll-TsEnumMember r))
+  ts_enum_member_on a m b r f g =
+      let P : Whole TsEnumMember-F → Type 0 = λ w. StandOn ts a m (sites_of_expr w.id)
+      × StandOn ts m b (if_some sites_of_expr w.init) in
+      let h = subst P (sym (out-roll-TsEnumMember r)) (f, g) in
+      let it = roll-TsEnumMember r in
+      same ts a b (sites_of_ts_enum_member it) _ (ts_enum_member_parts [] it)
+      (both ts a m b (sites_of_expr (out-TsEnumMember it).id) (if_some sites_of_expr (out-TsEnumMember it).init)
       h.0 h.1)

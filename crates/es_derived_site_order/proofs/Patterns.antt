@@ -31,7 +31,7 @@ use Rattle.es_derived_site_order.proofs.Forms.{class_member_StaticBlock_on, clas
 use Rattle.es_derived_site_order.proofs.On.{Stands, key_sites, ahead, place, among, behind_all, as_group_on, sites_in, optional_on, turns_on, turn_on, str_in, read_pat, read_stmt, read_block, read_param, read_params, read_pat_prop, read_member, read_key}
 
 module _ (x : List ℕ) (ts : List Token) where
-  default_on : (a m b : ℕ) (r : Range) (pat : Pat) (value : Option Expr) → StandOn ts a m (sites_of_pat pat)
+  pub default_on : (a m b : ℕ) (r : Range) (pat : Pat) (value : Option Expr) → StandOn ts a m (sites_of_pat pat)
       → StandOn ts m b (if_some sites_of_expr value) → StandOn ts a b (sites_of_pat (with_default r pat value))
   default_on a m b r pat (Some value) f g = pat_Assign_on ts a m b pat value r f g
   default_on a m b r pat None f g = widen ts a a m b (sites_of_pat pat) (omega arith) g f
@@ -48,7 +48,7 @@ module _ (x : List ℕ) (ts : List Token) where
       (vPat.Rest pat None (span_of ts (first_of (part p 0) - 1) (behind (part p 0))))
       (pat_Rest_on ts a b pat None (span_of ts (first_of (part p 0) - 1) (behind (part p 0))) f))
 
-  params_both : (a m b : ℕ) (all : List Param) (rest : Option Param) → StandOn ts a m (flat_map sites_of_param all)
+  pub params_both : (a m b : ℕ) (all : List Param) (rest : Option Param) → StandOn ts a m (flat_map sites_of_param all)
       → StandOn ts m b (if_some sites_of_param rest)
       → StandOn ts a b (flat_map sites_of_param (all ++ option_list rest))
   params_both a m b [] (Some p) f g =
@@ -85,7 +85,7 @@ module _ (x : List ℕ) (ts : List Token) where
   block_or_on a b r None e f g =
       map_fine (Of sites_of_expr ts a b) (Of sites_of_stmt ts a b) e _ g (λ e i. stmt_Expr_on ts a b e r i)
 
-  body_of_on : (a b : ℕ) (v : Value) → Stands ts a b v → Opt (Of sites_of_stmt ts a b) (body_of ts v)
+  pub body_of_on : (a b : ℕ) (v : Value) → Stands ts a b v → Opt (Of sites_of_stmt ts a b) (body_of ts v)
   body_of_on a b (node from to m) h =
       block_or_on a b (span_of ts from to) m.block m.expr (read_block ts a b (node from to m) h)
       (sites_in ts a b (node from to m) h)
