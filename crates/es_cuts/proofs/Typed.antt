@@ -26,7 +26,7 @@ use Rattle.es_dress.specs.Patterns.{with_default}
 use Rattle.es_dress.specs.Functions.{plain, body_of}
 use Rattle.es_dress.specs.TypeTexts.{marked}
 use Rattle.es_dress.specs.TypeNames.{behind_in}
-use Rattle.es_dress.specs.TypedParts.{annotation_at, params_part_at, args_part_at, heritage_in, marked_name, marked_array, marked_object, annotated_span, annotated_at, modifiers_in, param_by, tailed_at, marked_parameter, property_parameter, this_parameter, typed_rest, typed_parameters, typed_signature, body_in, behind_body}
+use Rattle.es_dress.specs.TypedParts.{annotation_at, params_part_at, args_part_at, heritage_in, marked_name, marked_array, marked_object, marked_by, annotated_span, annotated_at, modifiers_in, param_by, typed_span, tailed_span, tailed_at, marked_parameter, property_parameter, this_parameter, typed_rest_at, typed_parameters, typed_signature, body_in, behind_body}
 use Rattle.es_dress.specs.TypedFunctions.{typed_function_of, typed_function, typed_arrow, typed_method_property, typed_accessor_property, typed_class, typed_method_member, typed_accessor_member, with_accessor, is_mark, typed_field, index_member}
 use Rattle.es_dress.specs.TypedExpressions.{typed_call_of, typed_call, typed_call_post, typed_tagged_of, typed_template_post, non_null_of, non_null_post, typed_optional_inner, typed_optional_of, typed_optional_post, typed_new_of, typed_new, asserted_by, turned_by, typed_binary}
 use Rattle.es_dress.specs.TypedStatements.{typed_declarator, typed_head, caught_in, typed_handled, typed_try, interface, alias, enum_member, enum_, items_of, namespace, module_namespace, global, declared, declared_variables, export_assignment}
@@ -62,11 +62,15 @@ module _ (x : List ℕ) (ts : List Token) where
       (turns_fine x (PatPropCuts x) (λ turn. pat_prop_at turn 0) (λ turn here. pat_prop_fine x turn 0 here) (group p 0)
       (group_fine x p 0 fine)) (λ props f mark ty r. pat_Object_cuts x props mark ty r f)
 
+  marked_by_cuts : (o : Option (Bool → Option TsPart → Range → Pat)) (mark : Bool) (ty : Option TsPart) (r : Range)
+      → Opt (MarkedCuts x) o → Opt (PatCuts x) (marked_by o mark ty r)
+  marked_by_cuts (Some pat) mark ty r f = f mark ty r
+  marked_by_cuts None mark ty r f = tt
+
   annotated_cuts : (p : Value) (n at : ℕ) → Fine x p → Opt (PatCuts x) (annotated_at ts p n at)
   annotated_cuts p n at fine =
       given_any (PatCuts x) (annotation_at p at) _ (λ ty.
-      map_fine (MarkedCuts x) (PatCuts x) (marked_at p n) _ (marked_fine x p n fine) (λ pat f.
-      f false ty (annotated_span ts p n at)))
+      marked_by_cuts (marked_at p n) false ty (annotated_span ts p n at) (marked_fine x p n fine))
 
   -- ---- parameters
   param_by_cuts : (modifiers : Modifiers) (r : Range) (pat : Pat) → PatCuts x pat
@@ -76,20 +80,12 @@ module _ (x : List ℕ) (ts : List Token) where
   tailed_cuts : (p : Value) (n : ℕ) → Fine x p → Opt (PatCuts x) (tailed_at ts p n)
   tailed_cuts p n fine =
       given_any (PatCuts x) (annotation_at p (n + 2)) _ (λ ty.
+      given_fine (PatCuts x) (PatCuts x)
+      (marked_by (marked_at p n) (is_there (group p (n + 1))) ty (typed_span ts p n)) _
+      (marked_by_cuts (marked_at p n) (is_there (group p (n + 1))) ty (typed_span ts p n) (marked_fine x p n fine))
+      (λ pat f.
       given_fine (Opt (ExprCuts x)) (PatCuts x) (optional expr_at (group p (n + 3))) _ (maybe_expr p (n + 3) fine)
-      (λ value g.
-      map_fine (MarkedCuts x) (PatCuts x) (marked_at p n) _ (marked_fine x p n fine) (λ pat f.
-      default_cuts x ts
-      (span_of ts (first_of (part p n))
-      (behind_in (group p (n + 3)) (behind_in (group p (n + 2)) (behind_in (group p (n + 1)) (behind (part p n))))))
-      (pat (is_there (group p (n + 1))) ty
-      (span_of ts (first_of (part p n))
-      (behind_in (group p (n + 2)) (behind_in (group p (n + 1)) (behind (part p n))))))
-      value
-      (f (is_there (group p (n + 1))) ty
-      (span_of ts (first_of (part p n))
-      (behind_in (group p (n + 2)) (behind_in (group p (n + 1)) (behind (part p n))))))
-      g)))
+      (λ value g. default_cuts x ts (tailed_span ts p n) pat value f g)))
 
   pub marked_parameter_cuts : (r : Range) (p : Value) → Fine x p → Opt (ParamCuts x) (marked_parameter ts r p)
   unfolding marked_parameter
@@ -114,16 +110,12 @@ module _ (x : List ℕ) (ts : List Token) where
       param_by_cuts plain r (with_default r (vPat.This ty over) value)
       (default_cuts x ts r (vPat.This ty over) value (pat_This_cuts x ty over) g))))
 
-  typed_rest_cuts : (v : Value) → Fine x v → Opt (Opt (ParamCuts x)) (typed_rest ts v)
-  typed_rest_cuts (more v vs) fine =
-      given_fine (PatCuts x) (Opt (ParamCuts x)) (pat_at (more v vs) 0) _ (pat_fine x (more v vs) 0 fine) (λ pat f.
-      given_any (Opt (ParamCuts x)) (annotation_at (more v vs) 1) _ (λ ty.
-      let over : Range = span_of ts (first_of v - 1) (behind_in (group (more v vs) 1) (behind v)) in
+  typed_rest_cuts : (p : Value) → Fine x p → Opt (ParamCuts x) (typed_rest_at ts p 0)
+  typed_rest_cuts p fine =
+      given_fine (PatCuts x) (ParamCuts x) (pat_at p 0) _ (pat_fine x p 0 fine) (λ pat f.
+      given_any (ParamCuts x) (annotation_at p 1) _ (λ ty.
+      let over : Range = span_of ts (first_of (part p 0) - 1) (behind_in (group p 1) (behind (part p 0))) in
       param_by_cuts plain over (vPat.Rest pat ty over) (pat_Rest_cuts x pat ty over f)))
-  typed_rest_cuts absent fine = tt
-  typed_rest_cuts nil fine = tt
-  typed_rest_cuts (token n) fine = tt
-  typed_rest_cuts (node from to m) fine = tt
 
   pub typed_parameters_cuts : (p : Value) → Fine x p → Opt (Each (ParamCuts x)) (typed_parameters ts p)
   unfolding typed_parameters
@@ -131,8 +123,8 @@ module _ (x : List ℕ) (ts : List Token) where
       given_fine (Each (ParamCuts x)) (Each (ParamCuts x)) (turns (λ turn. param_at turn 0) (group p 0)) _
       (turns_fine x (ParamCuts x) (λ turn. param_at turn 0) (λ turn here. param_fine x turn 0 here) (group p 0)
       (group_fine x p 0 fine)) (λ all f.
-      given_fine (Opt (ParamCuts x)) (Each (ParamCuts x)) (typed_rest ts (group p 1)) _
-      (typed_rest_cuts (group p 1) (group_fine x p 1 fine)) (λ rest g.
+      given_fine (Opt (ParamCuts x)) (Each (ParamCuts x)) (optional (typed_rest_at ts) (group p 1)) _
+      (optional_fine x (ParamCuts x) (typed_rest_at ts) typed_rest_cuts (group p 1) (group_fine x p 1 fine)) (λ rest g.
       each_both (ParamCuts x) all (option_list rest) f (listed_fine (ParamCuts x) rest g)))
 
   pub typed_signature_cuts : (p : Value) → Fine x p → Opt (SignatureCuts x) (typed_signature p)
@@ -279,9 +271,9 @@ module _ (x : List ℕ) (ts : List Token) where
   index_member_cuts r p =
       given_any (MemberCuts x) (modifiers_in ts plain (group p 0)) _ (λ modifiers.
       given_any (MemberCuts x) (ident_at x ts p 1) _ (λ name.
-      given_any (MemberCuts x) (type_at p 2) _ (λ of.
+      given_any (MemberCuts x) (option_map vPart.TypeAnn (type_at p 2)) _ (λ of.
       given_any (MemberCuts x) (annotation_at p 3) _ (λ ty.
-      class_member_TsIndexSignature_cuts x modifiers name (Some (vPart.TypeAnn of)) ty r))))
+      class_member_TsIndexSignature_cuts x modifiers name (Some of) ty r))))
 
   -- ---- calls
   typed_call_of_cuts : (there : Bool) (r : Range) (type_args : Option TsPart) (args : List Expr)
@@ -461,16 +453,17 @@ module _ (x : List ℕ) (ts : List Token) where
       given_any (DeclarableCuts x) (ident_at x ts p 0) _ (λ id.
       given_any (DeclarableCuts x) (params_part_at p 1) _ (λ type_params.
       given_any (DeclarableCuts x) (heritage_in ts (group p 2)) _ (λ extends.
-      given_any (DeclarableCuts x) (turns (λ turn. type_member_at turn 0) (group p 3)) _ (λ members.
-      λ declare r. decl_TsInterface_cuts x declare id type_params extends (Some (vPart.Members members)) r))))
+      given_any (DeclarableCuts x)
+      (option_map vPart.Members (turns (λ turn. type_member_at turn 0) (group p 3))) _ (λ body.
+      λ declare r. decl_TsInterface_cuts x declare id type_params extends (Some body) r))))
 
   pub alias_cuts : (p : Value) → Opt (DeclarableCuts x) (alias x ts p)
   unfolding alias
   alias_cuts p =
       given_any (DeclarableCuts x) (ident_at x ts p 0) _ (λ id.
       given_any (DeclarableCuts x) (params_part_at p 1) _ (λ type_params.
-      given_any (DeclarableCuts x) (type_at p 2) _ (λ ty.
-      λ declare r. decl_TsTypeAlias_cuts x declare id type_params (Some (vPart.TypeAnn ty)) r)))
+      given_any (DeclarableCuts x) (option_map vPart.TypeAnn (type_at p 2)) _ (λ ty.
+      λ declare r. decl_TsTypeAlias_cuts x declare id type_params (Some ty) r)))
 
   enum_member_cuts : (turn : Value) → Fine x turn → Opt (EnumMemberCuts x) (enum_member ts turn)
   enum_member_cuts turn fine =

@@ -25,7 +25,7 @@ use Rattle.es_dress.specs.Patterns.{with_default}
 use Rattle.es_dress.specs.Functions.{plain, body_of}
 use Rattle.es_dress.specs.TypeTexts.{marked}
 use Rattle.es_dress.specs.TypeNames.{behind_in}
-use Rattle.es_dress.specs.TypedParts.{annotation_at, params_part_at, args_part_at, heritage_in, marked_name, marked_array, marked_object, annotated_span, annotated_at, modifiers_in, param_by, tailed_at, marked_parameter, property_parameter, this_parameter, typed_rest, typed_parameters, typed_signature, body_in, behind_body}
+use Rattle.es_dress.specs.TypedParts.{annotation_at, params_part_at, args_part_at, heritage_in, marked_name, marked_array, marked_object, marked_by, annotated_span, annotated_at, modifiers_in, param_by, typed_span, tailed_span, tailed_at, marked_parameter, property_parameter, this_parameter, typed_rest_at, typed_parameters, typed_signature, body_in, behind_body}
 use Rattle.es_dress.specs.TypedFunctions.{typed_function_of, typed_function, typed_arrow, typed_method_property, typed_accessor_property, typed_class, typed_method_member, typed_accessor_member, with_accessor, is_mark, typed_field, index_member}
 use Rattle.es_dress.specs.TypedExpressions.{typed_call_of, typed_call, typed_call_post, typed_tagged_of, typed_template_post, non_null_of, non_null_post, typed_optional_inner, typed_optional_of, typed_optional_post, typed_new_of, typed_new, asserted_by, turned_by, typed_binary}
 use Rattle.es_dress.specs.TypedStatements.{typed_declarator, typed_head, caught_in, typed_handled, typed_try, interface, alias, enum_member, enum_, items_of, namespace, module_namespace, global, declared, declared_variables, export_assignment}
@@ -51,13 +51,17 @@ module _ (x : List ℕ) (ts : List Token) where
       (as_group_on ts a b v h)
 
   -- ---- patterns
+  made_on : (a b : ℕ) (o : Option (Bool → Option TsPart → Range → Pat)) (mark : Bool) (ty : Option TsPart) (r : Range)
+      → Opt (MarkedOn ts a b) o → Opt (Of sites_of_pat ts a b) (marked_by o mark ty r)
+  made_on a b (Some pat) mark ty r f = f mark ty r
+  made_on a b None mark ty r f = tt
+
   -- the pattern at a part, with the type that stands at another one
   annotated_on : (a b : ℕ) (p : Value) (n at : ℕ) → Stands ts a b (part p n)
       → Opt (Of sites_of_pat ts a b) (annotated_at ts p n at)
   annotated_on a b p n at h =
       given_any (Of sites_of_pat ts a b) (annotation_at p at) _ (λ ty.
-      map_fine (MarkedOn ts a b) (Of sites_of_pat ts a b) (marked_at p n) _ (read_marked ts a b (part p n) h) (λ pat f.
-      f false ty (annotated_span ts p n at)))
+      made_on a b (marked_at p n) false ty (annotated_span ts p n at) (read_marked ts a b (part p n) h))
 
   -- ---- parameters
   param_by_on : (a b : ℕ) (modifiers : Modifiers) (r : Range) (pat : Pat) → StandOn ts a b (sites_of_pat pat)
@@ -68,32 +72,20 @@ module _ (x : List ℕ) (ts : List Token) where
       → Opt (Of sites_of_pat ts a b) (tailed_at ts p n)
   tailed_on a m b p n h i =
       given_any (Of sites_of_pat ts a b) (annotation_at p (n + 2)) _ (λ ty.
+      given_fine (Of sites_of_pat ts a m) (Of sites_of_pat ts a b)
+      (marked_by (marked_at p n) (is_there (group p (n + 1))) ty (typed_span ts p n)) _
+      (made_on a m (marked_at p n) (is_there (group p (n + 1))) ty (typed_span ts p n)
+      (read_marked ts a m (part p n) h)) (λ pat f.
       given_fine (Of (if_some sites_of_expr) ts m b) (Of sites_of_pat ts a b) (optional expr_at (group p (n + 3))) _
-      (maybe_on m b (part p (n + 3)) i) (λ value g.
-      map_fine (MarkedOn ts a m) (Of sites_of_pat ts a b) (marked_at p n) _ (read_marked ts a m (part p n) h) (λ pat f.
-      default_on x ts a m b
-      (span_of ts (first_of (part p n))
-      (behind_in (group p (n + 3)) (behind_in (group p (n + 2)) (behind_in (group p (n + 1)) (behind (part p n))))))
-      (pat (is_there (group p (n + 1))) ty
-      (span_of ts (first_of (part p n))
-      (behind_in (group p (n + 2)) (behind_in (group p (n + 1)) (behind (part p n))))))
-      value
-      (f (is_there (group p (n + 1))) ty
-      (span_of ts (first_of (part p n))
-      (behind_in (group p (n + 2)) (behind_in (group p (n + 1)) (behind (part p n))))))
-      g)))
+      (maybe_on m b (part p (n + 3)) i) (λ value g. default_on x ts a m b (tailed_span ts p n) pat value f g)))
 
-  typed_rest_on : (a b : ℕ) (v : Value) → Stands ts a b v → Opt (Of (if_some sites_of_param) ts a b) (typed_rest ts v)
-  typed_rest_on a b (more v vs) h =
-      given_fine (Of sites_of_pat ts a b) (Of (if_some sites_of_param) ts a b) (pat_at (more v vs) 0) _
-      (turn_on ts sites_of_pat (λ (m : Typed). m.pat) (read_pat ts) 0 a b (more v vs) h) (λ pat f.
-      given_any (Of (if_some sites_of_param) ts a b) (annotation_at (more v vs) 1) _ (λ ty.
-      let over : Range = span_of ts (first_of v - 1) (behind_in (group (more v vs) 1) (behind v)) in
+  typed_rest_on : (a b : ℕ) (p : Value) → Stands ts a b p → Opt (Of sites_of_param ts a b) (typed_rest_at ts p 0)
+  typed_rest_on a b p h =
+      given_fine (Of sites_of_pat ts a b) (Of sites_of_param ts a b) (pat_at p 0) _
+      (turn_on ts sites_of_pat (λ (m : Typed). m.pat) (read_pat ts) 0 a b p h) (λ pat f.
+      given_any (Of sites_of_param ts a b) (annotation_at p 1) _ (λ ty.
+      let over : Range = span_of ts (first_of (part p 0) - 1) (behind_in (group p 1) (behind (part p 0))) in
       param_by_on a b plain over (vPat.Rest pat ty over) (pat_Rest_on ts a b pat ty over f)))
-  typed_rest_on a b absent h = h
-  typed_rest_on a b nil h = h
-  typed_rest_on a b (token n) h = ahead ts a b (token n) h
-  typed_rest_on a b (node from to m) h = ahead ts a b (node from to m) h
 
   -- ---- functions
   body_in_on : (a b : ℕ) (v : Value) → Stands ts a b v → Opt (Of (if_some sites_of_stmt) ts a b) (body_in v)
@@ -359,8 +351,8 @@ module _ (x : List ℕ) (ts : List Token) (a b : ℕ) (r : Range) (p : Value) (h
       (pl 1) (group p 0) (as_group_on ts a (pl 1) (part p 0)
       (among ts 0 0 1 a b p h (omega arith) (omega arith)))) (λ all f.
       given_fine (Of (if_some sites_of_param) ts (pl 1) b) (Of (flat_map sites_of_param) ts a b)
-      (typed_rest ts (group p 1)) _
-      (typed_rest_on x ts (pl 1) b (group p 1)
+      (optional (typed_rest_at ts) (group p 1)) _
+      (optional_on ts sites_of_param (typed_rest_at ts) (typed_rest_on x ts) (pl 1) b (group p 1)
       (as_group_on ts (pl 1) b (part p 1) (behind_all ts 1 1 a b p h (omega arith)))) (λ rest g.
       params_both x ts a (pl 1) b all rest f g))
 
@@ -505,9 +497,9 @@ module _ (x : List ℕ) (ts : List Token) (a b : ℕ) (r : Range) (p : Value) (h
   index_member_on =
       given_any (Of sites_of_class_member ts a b) (modifiers_in ts plain (group p 0)) _ (λ modifiers.
       given_any (Of sites_of_class_member ts a b) (ident_at x ts p 1) _ (λ name.
-      given_any (Of sites_of_class_member ts a b) (type_at p 2) _ (λ of.
+      given_any (Of sites_of_class_member ts a b) (option_map vPart.TypeAnn (type_at p 2)) _ (λ of.
       given_any (Of sites_of_class_member ts a b) (annotation_at p 3) _ (λ ty.
-      class_member_TsIndexSignature_on ts a b modifiers name (Some (vPart.TypeAnn of)) ty r (ahead ts a b p h)))))
+      class_member_TsIndexSignature_on ts a b modifiers name (Some of) ty r (ahead ts a b p h)))))
 
   -- ---- calls
   pub typed_call_post_on : Opt (PostOn ts a b) (typed_call_post r p)
@@ -593,19 +585,17 @@ module _ (x : List ℕ) (ts : List Token) (a b : ℕ) (r : Range) (p : Value) (h
       given_any (DeclarableOn ts a b) (ident_at x ts p 0) _ (λ id.
       given_any (DeclarableOn ts a b) (params_part_at p 1) _ (λ type_params.
       given_any (DeclarableOn ts a b) (heritage_in ts (group p 2)) _ (λ extends.
-      given_any (DeclarableOn ts a b) (turns (λ turn. type_member_at turn 0) (group p 3)) _ (λ members.
-      λ declare over.
-      decl_TsInterface_on ts a b declare id type_params extends (Some (vPart.Members members)) over
-      (ahead ts a b p h)))))
+      given_any (DeclarableOn ts a b) (option_map vPart.Members (turns (λ turn. type_member_at turn 0) (group p 3))) _
+      (λ body.
+      λ declare over. decl_TsInterface_on ts a b declare id type_params extends (Some body) over (ahead ts a b p h)))))
 
   pub alias_on : Opt (DeclarableOn ts a b) (alias x ts p)
   unfolding alias
   alias_on =
       given_any (DeclarableOn ts a b) (ident_at x ts p 0) _ (λ id.
       given_any (DeclarableOn ts a b) (params_part_at p 1) _ (λ type_params.
-      given_any (DeclarableOn ts a b) (type_at p 2) _ (λ ty.
-      λ declare over.
-      decl_TsTypeAlias_on ts a b declare id type_params (Some (vPart.TypeAnn ty)) over (ahead ts a b p h))))
+      given_any (DeclarableOn ts a b) (option_map vPart.TypeAnn (type_at p 2)) _ (λ ty.
+      λ declare over. decl_TsTypeAlias_on ts a b declare id type_params (Some ty) over (ahead ts a b p h))))
 
   pub enum_on : Opt (DeclarableOn ts a b) (enum_ x ts p)
   unfolding enum_
