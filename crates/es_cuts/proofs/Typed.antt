@@ -1,5 +1,5 @@
 -- What the patterns, functions, classes, expressions and declarations of TypeScript become: a type has no site.
-use Rattle.std.specs.Prelude.{Bool, true, false, List, [], ◌∷◌, Option, Some, None, option_map, if◌then◌else◌, ◌-◌}
+use Rattle.std.specs.Prelude.{Bool, true, false, List, [], Option, Some, None, option_map, if◌then◌else◌, ◌-◌}
 use Rattle.std.proofs.Common.{ℕ, ◌+◌}
 use Rattle.base.specs.declared.range.Range.{Range}
 use Rattle.es_token.specs.declared.token.Token.{Token}
@@ -17,22 +17,21 @@ use Rattle.es_ast.specs.declared.ast.Pat.{Pat}
 use Rattle.es_ast.specs.declared.ast.Pat.TheVariants as vPat
 use Rattle.es_ast.specs.declared.ast.Stmt.{Stmt}
 use Rattle.es_ast.specs.declared.ast.Stmt.TheVariants as vStmt
-use Rattle.es_ast.specs.declared.ast.ModuleItem.{ModuleItem}
-use Rattle.es_dress.specs.Value.{Signature, Typed, Value, absent, nil, more, token, node, given, part, as_group, group, first_of, behind, optional, option_list, is_there, turns, expr_at, pat_at, stmt_at, item_at, variables_at, param_at, params_at, pat_prop_at, member_at, key_at, args_at, marked_at, signature_at, declarable_at, type_at, type_member_at, entity_at}
+use Rattle.es_dress.specs.Value.{Signature, Value, absent, nil, more, token, node, given, part, group, first_of, behind, optional, option_list, is_there, turns, expr_at, pat_at, stmt_at, item_at, variables_at, param_at, params_at, pat_prop_at, member_at, key_at, args_at, marked_at, signature_at, declarable_at, type_at, type_member_at, entity_at}
 use Rattle.es_dress.specs.Texts.{span_of, token_of, token_at, kind_at, ident_at, str_at, own_name_at, property_of}
 use Rattle.es_dress.specs.Operators.{listed, variable_kinds, accessor_kinds, binary_between, is_kind_at}
-use Rattle.es_dress.specs.Expressions.{Post, elements, from_byte, member_of, index_of}
+use Rattle.es_dress.specs.Expressions.{elements, from_byte, member_of, index_of}
 use Rattle.es_dress.specs.Patterns.{with_default}
 use Rattle.es_dress.specs.Functions.{plain, body_of}
 use Rattle.es_dress.specs.TypeTexts.{marked}
 use Rattle.es_dress.specs.TypeNames.{behind_in}
 use Rattle.es_dress.specs.TypedParts.{annotation_at, params_part_at, args_part_at, heritage_in, marked_name, marked_array, marked_object, marked_by, annotated_span, annotated_at, modifiers_in, param_by, typed_span, tailed_span, tailed_at, marked_parameter, property_parameter, this_parameter, typed_rest_at, typed_parameters, typed_signature, body_in, behind_body}
 use Rattle.es_dress.specs.TypedFunctions.{typed_function_of, typed_function, typed_arrow, typed_method_property, typed_accessor_property, typed_class, typed_method_member, typed_accessor_member, with_accessor, is_mark, typed_field, index_member}
-use Rattle.es_dress.specs.TypedExpressions.{typed_call_of, typed_call, typed_call_post, typed_tagged_of, typed_template_post, non_null_of, non_null_post, typed_optional_inner, typed_optional_of, typed_optional_post, typed_new_of, typed_new, asserted_by, turned_by, typed_binary}
+use Rattle.es_dress.specs.TypedExpressions.{typed_call_of, typed_call, typed_call_post, typed_tagged_of, typed_template_post, non_null_post, typed_optional_inner, typed_optional_of, typed_optional_post, typed_new_of, typed_new, asserted_by, turned_by, typed_binary}
 use Rattle.es_dress.specs.TypedStatements.{typed_declarator, typed_head, caught_in, typed_handled, typed_try, interface, alias, enum_member, enum_, items_of, namespace, module_namespace, global, declared, declared_variables, export_assignment}
 use Rattle.es_cuts.proofs.Cuts.{Each, Opt, ExprCuts, PatCuts, PatPropCuts, PropCuts, StmtCuts, DeclCuts, ItemCuts, ModuleDeclCuts, ParamCuts, FunctionCuts, ClassCuts, MemberCuts, DeclaratorCuts, EnumMemberCuts, class_cuts, function_cuts, param_cuts, ts_enum_member_cuts, var_declarator_cuts}
 use Rattle.es_cuts.proofs.Forms.{pat_Ident_cuts, pat_This_cuts, pat_Hole_cuts, pat_Array_cuts, pat_Object_cuts, pat_Rest_cuts, prop_Method_cuts, class_member_Method_cuts, class_member_Prop_cuts, class_member_TsIndexSignature_cuts, decl_Var_cuts, decl_TsInterface_cuts, decl_TsTypeAlias_cuts, decl_TsEnum_cuts, decl_TsNamespace_cuts, decl_TsModule_cuts, decl_TsGlobal_cuts, module_decl_TsExportAssignment_cuts, expr_Arrow_cuts, expr_Bin_cuts, expr_Call_cuts, expr_New_cuts, expr_TaggedTpl_cuts, expr_TsNonNull_cuts, expr_TsAs_cuts, expr_TsConstAssertion_cuts, expr_TsSatisfies_cuts, stmt_Try_cuts}
-use Rattle.es_cuts.proofs.Fine.{KeyCuts, HeadCuts, VariablesCut, PostCuts, MarkedCuts, SignatureCuts, DeclarableCuts, Fine, given_fine, given_any, map_fine, map_any, if_fine, each_both, listed_fine, part_fine, as_group_fine, group_fine, optional_fine, turns_fine, expr_fine, pat_fine, stmt_fine, item_fine, variables_fine, param_fine, params_fine, pat_prop_fine, member_fine, key_fine, args_fine, marked_fine, signature_fine, declarable_fine}
+use Rattle.es_cuts.proofs.Fine.{KeyCuts, HeadCuts, VariablesCut, PostCuts, MarkedCuts, SignatureCuts, DeclarableCuts, Fine, given_fine, given_any, map_fine, map_any, each_both, listed_fine, part_fine, group_fine, optional_fine, turns_fine, expr_fine, pat_fine, stmt_fine, item_fine, variables_fine, param_fine, params_fine, pat_prop_fine, member_fine, key_fine, args_fine, marked_fine, signature_fine, declarable_fine}
 use Rattle.es_cuts.proofs.Exprs.{elements_cuts, member_of_cuts, index_of_cuts}
 use Rattle.es_cuts.proofs.Patterns.{default_cuts, body_of_cuts}
 

@@ -1,5 +1,5 @@
 -- Where the sites stand of what the patterns, functions, classes, expressions and declarations of TypeScript become.
-use Rattle.std.specs.Prelude.{Bool, true, false, List, [], ◌∷◌, Option, Some, None, option_map, if◌then◌else◌, ◌-◌}
+use Rattle.std.specs.Prelude.{Bool, true, false, List, [], Option, Some, None, option_map, if◌then◌else◌, ◌-◌}
 use Rattle.std.specs.List.{flat_map}
 use Rattle.std.proofs.Common.{ℕ, ◌+◌, arith}
 use Rattle.base.specs.declared.range.Range.{Range}
@@ -27,7 +27,7 @@ use Rattle.es_dress.specs.TypeTexts.{marked}
 use Rattle.es_dress.specs.TypeNames.{behind_in}
 use Rattle.es_dress.specs.TypedParts.{annotation_at, params_part_at, args_part_at, heritage_in, marked_name, marked_array, marked_object, marked_by, annotated_span, annotated_at, modifiers_in, param_by, typed_span, tailed_span, tailed_at, marked_parameter, property_parameter, this_parameter, typed_rest_at, typed_parameters, typed_signature, body_in, behind_body}
 use Rattle.es_dress.specs.TypedFunctions.{typed_function_of, typed_function, typed_arrow, typed_method_property, typed_accessor_property, typed_class, typed_method_member, typed_accessor_member, with_accessor, is_mark, typed_field, index_member}
-use Rattle.es_dress.specs.TypedExpressions.{typed_call_of, typed_call, typed_call_post, typed_tagged_of, typed_template_post, non_null_of, non_null_post, typed_optional_inner, typed_optional_of, typed_optional_post, typed_new_of, typed_new, asserted_by, turned_by, typed_binary}
+use Rattle.es_dress.specs.TypedExpressions.{typed_call_of, typed_call, typed_call_post, typed_tagged_of, typed_template_post, non_null_post, typed_optional_inner, typed_optional_of, typed_optional_post, typed_new_of, typed_new, asserted_by, turned_by, typed_binary}
 use Rattle.es_dress.specs.TypedStatements.{typed_declarator, typed_head, caught_in, typed_handled, typed_try, interface, alias, enum_member, enum_, items_of, namespace, module_namespace, global, declared, declared_variables, export_assignment}
 use Rattle.es_derived_site_order.proofs.Exprs.{elements_on, member_of_on, index_of_on}
 use Rattle.es_derived_site_order.proofs.Patterns.{default_on, params_both, body_of_on}
