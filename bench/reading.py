@@ -14,6 +14,7 @@ ROOT = os.path.dirname(os.path.dirname(os.path.abspath(__file__)))
 RUNS = 5
 MORE = 20
 MORE_COUNTED = 2
+SMALL, LARGE = 1 << 20, 1 << 24
 
 
 def rows_below(crates):
@@ -86,4 +87,45 @@ def measure(program, folder, label, data):
     if shutil.which("valgrind"):
         count = instructions(program, path, 1 + MORE_COUNTED) - instructions(program, path, 1)
         said += f", {count / MORE_COUNTED / len(data):.1f} instructions a byte"
+    print(said, flush=True)
+
+
+def peak(program, path, times):
+    """The most memory that a run of so many readings has, as the system says of it until it ends (VmHWM of Linux)."""
+    most = 0
+    with open(path, "rb") as source:
+        child = subprocess.Popen([program] + ["again"] * times, stdin=source, stdout=subprocess.DEVNULL)
+        while child.poll() is None:
+            with open(f"/proc/{child.pid}/status", encoding="ascii", errors="replace") as status:
+                found = re.search(r"VmHWM:\s*(\d+) kB", status.read())
+            most = max(most, int(found[1]) * 1024 if found else 0)
+    return most
+
+
+def hostile(made_of, size):
+    """A text of this size: of a function of it, of a text over and over, or of one between two others."""
+    if callable(made_of):
+        return made_of(size).encode()
+    before, body, behind = made_of if isinstance(made_of, tuple) else ("", made_of, "")
+    inside = size - len(before) - len(behind)
+    return (before + body * (inside // len(body.encode())) + behind).encode()
+
+
+def growth(program, folder, label, made_of):
+    """Prints how the time and the instructions a byte grow from a small text to a large one."""
+    path = os.path.join(folder, "input")
+    own, of_system, counts = [], [], []
+    for size, times in ((SMALL, 129), (LARGE, 9)):
+        with open(path, "wb") as file:
+            file.write(hostile(made_of, size))
+        one, many = ([seconds(program, path, n) for _ in range(RUNS)] for n in (1, times))
+        for each, i in ((own, 0), (of_system, 1)):
+            each.append((min(it[i] for it in many) - min(it[i] for it in one)) / (times - 1) / size)
+        if shutil.which("valgrind"):
+            counts.append((instructions(program, path, 2) - instructions(program, path, 1)) / size)
+    small, large = own
+    said = f"{label}: {1e-6 / small:.0f} and {1e-6 / large:.0f} MB/s, ratio {large / small:.2f}; "
+    said += "in the system " + " and ".join(f"{1e9 * each:.1f}" for each in of_system) + " ns a byte"
+    if counts:
+        said += f"; {counts[0]:.1f} and {counts[1]:.1f} instructions a byte, ratio {counts[1] / counts[0]:.2f}"
     print(said, flush=True)

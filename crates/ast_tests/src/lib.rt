@@ -6,8 +6,6 @@ mod comments;
 #[cfg(test)]
 mod diagnostics;
 #[cfg(test)]
-mod parsed;
-#[cfg(test)]
 mod references;
 #[cfg(test)]
 mod texts;

@@ -1,4 +1,0 @@
-pub mod TreeLemmas
-pub mod FaultLemmas
-pub mod ReferenceLemmas
-pub mod Theorems
