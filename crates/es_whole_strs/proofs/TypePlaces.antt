@@ -1,5 +1,5 @@
 -- String literals in the rows of types: computed, row by row.
-use Rattle.std.specs.Prelude.{true}
+use Rattle.std.specs.Prelude.{true, false}
 use Rattle.std.proofs.Common.{◌≡◌, refl}
 use Rattle.es_tree.specs.declared.error.Lang.{Lang}
 use Rattle.es_tree.proofs.EachKind.{holds_everywhere}
