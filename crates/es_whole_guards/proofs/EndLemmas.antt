@@ -1,8 +1,7 @@
 -- Where type arguments and type parameters end, as a guard asks of the table of types.
 use Rattle.std.specs.Prelude.{ℕ, leb, Bool, true, false, ◌&&◌, List, Option, Some, None, IfSome}
-use Rattle.std.proofs.Common.{◌≡◌, ◌≤◌, refl, sym, ap, ◌∙◌, length, leb-le, le-leb, absurd, subst}
-use Rattle.es_token.specs.declared.token.Token.{Token}
-use Rattle.es_tree.specs.Key.{Key, Seen, keys_of, seen}
+use Rattle.std.proofs.Common.{◌≡◌, ◌≤◌, refl, sym, ap, ◌∙◌, length, leb-true, le-leb, subst, arith}
+use Rattle.es_tree.specs.Key.{Key, Seen, seen}
 use Rattle.es_tree.specs.Form.{Guard}
 use Rattle.es_tree.specs.Plain.{Plain, plain, tall}
 use Rattle.es_tree.specs.Fits.{most_nodes}
@@ -15,9 +14,8 @@ use Rattle.es_grammar.specs.TypeTable.{type_rule}
 use Rattle.es_types.specs.declared.types.TypePart.{TypePart}
 use Rattle.es_types.specs.declared.types.TypePart.TheVariants as parts
 use Rattle.es_types.specs.Derived.{part_row, Reaches}
-use Rattle.es_whole_grammar.specs.TypeNames.{row_name}
 use Rattle.es_types.proofs.Claims.{sets, follow, solid, table_told}
-use Rattle.es_whole_grammar.specs.Embedding.{ends_before, reads_before}
+use Rattle.es_whole_grammar.specs.Embedding.{ends_before}
 use Rattle.es_whole_guards.specs.Named.{holds_behind}
 
 -- anything may follow a part
@@ -41,7 +39,7 @@ module _ (which : TypePart) (K : List Key) (at : ℕ) (within : at ≤ length K)
     stands = record {
       derived = Free.chosen_is_free K type_rule most_nodes (part_row which) p at to
           (row_fits K type_rule most_nodes (part_row which) at p to e);
-      low = leb-le (tall p) 500 low;
+      low = leb-true (tall p) 500 low;
     };
   }
 
@@ -64,7 +62,9 @@ module _ (which : TypePart) (K : List Key) (at : ℕ) (within : at ≤ length K)
     at_tree p to e false high (Some n) is_end =
         let of : Reaches which K 500 at n = if_some_of (λ to. Reaches which K 500 at to) end n some is_end in
         let same = gives_same p of.plain to n (sym e ∙ read_of n of) in
-        let low : leb (tall p) 500 ≡ true = le-leb (tall p) 500 (let le = of.stands.low in omega (arith, same)) in
+        let tall_same : tall p ≡ tall of.plain = ap tall same.0 in
+        let small : tall of.plain ≤ 500 = of.stands.low in
+        let low : leb (tall p) 500 ≡ true = le-leb (tall p) 500 (omega arith) in
         absurd (let bad : ⊥ = cc in bad)
 
     at_answer : (o : Out (Plain Label)) → read_row plain K type_rule most_nodes (part_row which) at ≡ o

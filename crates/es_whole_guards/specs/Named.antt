@@ -1,5 +1,5 @@
 -- The tests and guards that are named by a value, and what each is.
-use Rattle.std.specs.Prelude.{ℕ, Bool, true, false, List, Option, Some, None}
+use Rattle.std.specs.Prelude.{ℕ, Bool, true, false, ◌||◌, List, Option, Some, None}
 use Rattle.es_token.specs.declared.token.TokenKind.{TokenKind}
 use Rattle.es_tree.specs.Key.{Key, TokenTest, has_kind}
 use Rattle.es_tree.specs.Form.{Guard}
@@ -24,6 +24,8 @@ use Rattle.es_whole_guards.specs.declared.named.Ahead.{Ahead}
 use Rattle.es_whole_guards.specs.declared.named.Ahead.TheVariants as ahead
 use Rattle.es_whole_guards.specs.declared.named.Guard.{Guard as NamedGuard}
 use Rattle.es_whole_guards.specs.declared.named.Guard.TheVariants as guard
+use Rattle.es_whole_guards.specs.declared.named.Modifiers.{Modifiers}
+use Rattle.es_whole_guards.specs.declared.named.Modifiers.TheVariants as modifiers
 
 -- the guard holds behind what was read
 abbrev pub holds_behind : Guard → List Key → Option ℕ → Bool
@@ -179,3 +181,14 @@ guard_of (guard.OpensAnyDefaultClass l) = opens_any_default_class l
 guard_of guard.OpensDefaultInterface = opens_default_interface
 guard_of (guard.OpensAnyDeclaration l) = opens_any_declaration l
 guard_of guard.OpensExportAssignment = opens_export_assignment
+
+-- a modifier of the run stands at a place
+abbrev pub modifier_of : Modifiers → Guard
+modifier_of modifiers.OfMember = opens_modifier
+modifier_of (modifiers.OfParameter c) = opens_parameter_modifier c
+
+-- a declaration of TypeScript begins here, or one with `declare` or `abstract`
+abbrev pub heads_typed : Guard
+heads_typed K at =
+    opens_enum K at || (opens_declare K at || (opens_abstract_class K at || (opens_interface K at || (opens_alias K at
+    || (opens_namespace K at || (opens_module K at || opens_global K at))))))

@@ -17,7 +17,6 @@ use std::alloc::Global;
 
 /// The number behind the type arguments that can be read here, or none: a guard holds behind them exactly where it does
 /// behind that number.
-#[tactic(auto, using(crate::proofs::EndLemmas::behind))]
 fn arguments_end(tokens: &Tokens<'_>, alloc: Global, at: usize) -> Option<usize>
     requires { at ≤ length tokens.now.tokens.now }
     ensures { (g : Guarding) → reads_before ArgumentsRow g (keys_of tokens.now.tokens.now) at
@@ -27,7 +26,6 @@ fn arguments_end(tokens: &Tokens<'_>, alloc: Global, at: usize) -> Option<usize>
 }
 
 /// The number behind the type parameters that can be read here, or none.
-#[tactic(auto, using(crate::proofs::EndLemmas::behind))]
 pub fn parameters_end(tokens: &Tokens<'_>, alloc: Global, at: usize) -> Option<usize>
     requires { at ≤ length tokens.now.tokens.now }
     ensures { (g : Guarding) → reads_before TypeParametersRow g (keys_of tokens.now.tokens.now) at

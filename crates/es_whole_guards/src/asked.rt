@@ -5,7 +5,7 @@ ghost use Rattle.es_tree.specs.Key.{keys_of, seen, has_kind};
 ghost use Rattle.es_whole_guards.specs.Named.{kinds_of, look_of, guard_of};
 
 use crate::arguments::{opens_call, opens_call_arguments, opens_heritage_arguments};
-use crate::named::{Ahead, Guard, Kinds};
+use crate::named::{Ahead, Guard, Kinds, Modifiers};
 use crate::{arrows, classes, declarations, expressions, looks};
 use es_guards as plain;
 use es_guards::Tokens;
@@ -52,6 +52,7 @@ pub fn sees_ahead(tokens: &Tokens<'_>, ahead: Ahead, at: usize) -> bool
 }
 
 /// Whether the guard holds at this place.
+#[tactic(auto, unfolding(es_whole_grammar::specs::Expressions::opens_typed_template, es_whole_grammar::specs::Expressions::may_await, es_whole_grammar::specs::Expressions::may_test, es_whole_grammar::specs::Expressions::is_module, es_whole_grammar::specs::Statements::is_script))]
 pub fn holds(tokens: &Tokens<'_>, alloc: Global, guard: Guard, at: usize) -> bool
     ensures { result ≡ guard_of guard (keys_of tokens.now.tokens.now) at }
 {
@@ -59,11 +60,15 @@ pub fn holds(tokens: &Tokens<'_>, alloc: Global, guard: Guard, at: usize) -> boo
         Guard::OpensParameterModifier(context) => classes::opens_parameter_modifier(
             tokens, context, at,
         ),
-        Guard::ParameterModifiersOnce(context) => classes::parameters_once(tokens, context, at),
+        Guard::ParameterModifiersOnce(context) => classes::each_once(
+            tokens,
+            Modifiers::OfParameter(context),
+            at,
+        ),
         Guard::OpensMarked => classes::opens_marked(tokens, at),
         Guard::OpensAnyMethod(lang) => classes::opens_any_method(tokens, lang, at),
         Guard::OpensModifier => classes::opens_modifier(tokens, at),
-        Guard::ModifiersOnce => classes::members_once(tokens, at),
+        Guard::ModifiersOnce => classes::each_once(tokens, Modifiers::OfMember, at),
         Guard::IsMemberKey => classes::is_member_key(tokens, at),
         Guard::BehindAllIndex => classes::behind_all_index(tokens, at),
         Guard::BehindAllAccessor => classes::behind_all_accessor(tokens, at),

@@ -1,7 +1,7 @@
 //! Guards of parameters, members and variables.
 
 ghost use Rattle.std.specs.Prelude.{◌≡◌, ◌+◌, ◌<◌, ◌≤◌, true, length, Some};
-ghost use Rattle.es_tree.specs.Key.{Seen, keys_of};
+ghost use Rattle.es_tree.specs.Key.{keys_of, seen};
 ghost use Rattle.es_grammar.specs.Functions.{opens_accessor, opens_async, opens_star};
 ghost use Rattle.es_grammar.specs.Classes.{opens_field_accessor};
 ghost use Rattle.es_grammar.specs.Members.{shows_index};
@@ -9,22 +9,28 @@ ghost use Rattle.es_tree.specs.declared.error.Lang.TheVariants as lang;
 ghost use Rattle.es_whole_grammar.specs.Functions.{opens_parameter_modifier, stands_again, each_once, opens_marked, begins_method, opens_any_method};
 ghost use Rattle.es_whole_grammar.specs.Classes.{opens_modifier, behind_modifiers, behind_all, is_member_key};
 ghost use Rattle.es_whole_grammar.specs.Statements.{opens_declarator};
+ghost use Rattle.es_guards.specs.Sight.{sight};
+ghost use Rattle.es_whole_guards.specs.Named.{modifier_of};
 
 use crate::looks::{
     has, has_name, is, is_declarator_mark, is_near, is_parameter_mark, opens_parameters,
     starts_member_key,
 };
-use crate::named::Kinds;
-use es_guards::Tokens;
+use crate::named::{Kinds, Modifiers};
+use es_guards::{Seen, Tokens};
 use es_token::TokenKind;
 use es_tree::Lang;
 use es_whole_grammar::Context;
 
-/// A modifier of a parameter stands here.
+/// A modifier of a parameter stands here; then a token is at this place.
 #[tactic(auto, unfolding(es_whole_grammar::specs::Functions::opens_parameter_modifier))]
 pub fn opens_parameter_modifier(tokens: &Tokens<'_>, context: Context, at: usize) -> bool
-    ensures { result ≡ opens_parameter_modifier context (keys_of tokens.now.tokens.now) at }
+    ensures guard { result ≡ opens_parameter_modifier context (keys_of tokens.now.tokens.now) at }
+    ensures within { result ≡ true → at < length tokens.now.tokens.now }
 {
+    if at >= tokens.tokens.len() {
+        return false;
+    }
     if !context.in_constructor || !has(Kinds::Modifier, tokens.seen(at)) {
         return false;
     }
@@ -66,18 +72,28 @@ fn behind_modifiers(tokens: &Tokens<'_>, from: usize) -> usize
     at
 }
 
-/// A modifier of this kind stands in the run of a member from here on, among so many tokens.
-fn members_again(tokens: &Tokens<'_>, kind: TokenKind, from: usize, turns: usize) -> bool
-    requires { from + turns ≤ length tokens.now.tokens.now }
-    ensures { (s : Seen) → s.kind ≡ kind → result ≡ stands_again opens_modifier (keys_of tokens.now.tokens.now) (Some s) turns from }
+/// A modifier of this run stands here; then a token is at this place.
+fn opens_one(tokens: &Tokens<'_>, run: Modifiers, at: usize) -> bool
+    ensures guard { result ≡ modifier_of run (keys_of tokens.now.tokens.now) at }
+    ensures within { result ≡ true → at < length tokens.now.tokens.now }
+{
+    match run {
+        Modifiers::OfMember => opens_modifier(tokens, at),
+        Modifiers::OfParameter(context) => opens_parameter_modifier(tokens, context, at),
+    }
+}
+
+/// A modifier of the kind that was seen stands in the run from here on, among so many tokens.
+fn stands_from(tokens: &Tokens<'_>, run: Modifiers, seen: Seen, from: usize, turns: usize) -> bool
+    ensures { result ≡ stands_again (modifier_of run) (keys_of tokens.now.tokens.now) (sight (Some seen)) turns from }
 {
     let mut at = from;
     for turn in 0..turns {
         let _ = turn;
-        if !opens_modifier(tokens, at) {
+        if !opens_one(tokens, run, at) {
             return false;
         }
-        if tokens.sees(kind, at) {
+        if tokens.sees(seen.kind, at) {
             return true;
         }
         at += 1;
@@ -85,72 +101,31 @@ fn members_again(tokens: &Tokens<'_>, kind: TokenKind, from: usize, turns: usize
     false
 }
 
-/// Each modifier of a member stands at most once, from here on.
+/// The modifier at this place stands again in its run, among so many tokens behind it.
+fn stands_again(tokens: &Tokens<'_>, run: Modifiers, at: usize, turns: usize) -> bool
+    requires { at < length tokens.now.tokens.now }
+    ensures { result ≡ stands_again (modifier_of run) (keys_of tokens.now.tokens.now)
+        (seen (keys_of tokens.now.tokens.now) at) turns (at + 1) }
+{
+    match tokens.seen(at) {
+        Some(seen) => stands_from(tokens, run, seen, at + 1, turns),
+        None => false,
+    }
+}
+
+/// Each modifier of the run stands at most once, from here on.
 #[tactic(auto, unfolding(es_whole_grammar::specs::Functions::each_once))]
-pub fn members_once(tokens: &Tokens<'_>, from: usize) -> bool
-    ensures { result ≡ each_once opens_modifier (keys_of tokens.now.tokens.now) from }
+pub fn each_once(tokens: &Tokens<'_>, run: Modifiers, from: usize) -> bool
+    ensures { result ≡ each_once (modifier_of run) (keys_of tokens.now.tokens.now) from }
 {
     let mut at = from;
     let mut left = tokens.tokens.len();
     'modifiers: while left > 0 {
         left -= 1;
-        if !opens_modifier(tokens, at) {
+        if !opens_one(tokens, run, at) {
             return true;
         }
-        let kind = match tokens.token(at) {
-            Some(token) => token.kind,
-            None => return true,
-        };
-        if members_again(tokens, kind, at + 1, left) {
-            return false;
-        }
-        at += 1;
-    }
-    true
-}
-
-/// A modifier of this kind stands in the run of a parameter from here on, among so many tokens.
-fn parameters_again(
-    tokens: &Tokens<'_>,
-    context: Context,
-    kind: TokenKind,
-    from: usize,
-    turns: usize,
-) -> bool
-    requires { from + turns ≤ length tokens.now.tokens.now }
-    ensures { (s : Seen) → s.kind ≡ kind → result ≡ stands_again (opens_parameter_modifier context) (keys_of tokens.now.tokens.now) (Some s) turns from }
-{
-    let mut at = from;
-    for turn in 0..turns {
-        let _ = turn;
-        if !opens_parameter_modifier(tokens, context, at) {
-            return false;
-        }
-        if tokens.sees(kind, at) {
-            return true;
-        }
-        at += 1;
-    }
-    false
-}
-
-/// Each modifier of a parameter stands at most once, from here on.
-#[tactic(auto, unfolding(es_whole_grammar::specs::Functions::each_once))]
-pub fn parameters_once(tokens: &Tokens<'_>, context: Context, from: usize) -> bool
-    ensures { result ≡ each_once (opens_parameter_modifier context) (keys_of tokens.now.tokens.now) from }
-{
-    let mut at = from;
-    let mut left = tokens.tokens.len();
-    'modifiers: while left > 0 {
-        left -= 1;
-        if !opens_parameter_modifier(tokens, context, at) {
-            return true;
-        }
-        let kind = match tokens.token(at) {
-            Some(token) => token.kind,
-            None => return true,
-        };
-        if parameters_again(tokens, context, kind, at + 1, left) {
+        if stands_again(tokens, run, at, left) {
             return false;
         }
         at += 1;

@@ -1,10 +1,11 @@
 //! Guards of declarations and items.
 
-ghost use Rattle.std.specs.Prelude.{◌≡◌, ◌||◌, ◌<◌, length};
+ghost use Rattle.std.specs.Prelude.{◌≡◌, ◌+◌};
 ghost use Rattle.es_tree.specs.Key.{keys_of};
 ghost use Rattle.es_whole_grammar.specs.Declarations.{heads_name, opens_interface, opens_alias, opens_enum, opens_namespace, opens_module, opens_global, opens_declare, declares_variables};
 ghost use Rattle.es_whole_grammar.specs.Expressions.{opens_abstract_class};
 ghost use Rattle.es_whole_grammar.specs.Items.{opens_any_default_class, opens_default_interface, opens_any_declaration, opens_export_assignment};
+ghost use Rattle.es_whole_guards.specs.Named.{heads_typed};
 
 use crate::expressions::opens_abstract_class;
 use crate::looks::{has, has_name, is, is_near};
@@ -93,10 +94,7 @@ pub fn opens_declare(tokens: &Tokens<'_>, at: usize) -> bool
 
 /// A declaration of TypeScript begins here, or one with `declare` or `abstract`.
 fn heads_typed(tokens: &Tokens<'_>, at: usize) -> bool
-    ensures { result ≡ opens_enum (keys_of tokens.now.tokens.now) at || (opens_declare (keys_of tokens.now.tokens.now) at
-        || (opens_abstract_class (keys_of tokens.now.tokens.now) at || (opens_interface (keys_of tokens.now.tokens.now) at
-        || (opens_alias (keys_of tokens.now.tokens.now) at || (opens_namespace (keys_of tokens.now.tokens.now) at
-        || (opens_module (keys_of tokens.now.tokens.now) at || opens_global (keys_of tokens.now.tokens.now) at)))))) }
+    ensures { result ≡ heads_typed (keys_of tokens.now.tokens.now) at }
 {
     opens_enum(tokens, at)
         || opens_declare(tokens, at)
@@ -108,25 +106,42 @@ fn heads_typed(tokens: &Tokens<'_>, at: usize) -> bool
         || opens_global(tokens, at)
 }
 
+/// `enum`, or `const enum`, one token behind a place.
+#[tactic(auto, unfolding(es_whole_grammar::specs::Declarations::opens_enum))]
+fn opens_enum_behind(tokens: &Tokens<'_>, at: usize) -> bool
+    ensures { result ≡ opens_enum (keys_of tokens.now.tokens.now) (at + 1) }
+{
+    is(TokenKind::EnumWord, tokens.seen_after(at, 1))
+        || (is(TokenKind::ConstWord, tokens.seen_after(at, 1))
+            && is(TokenKind::EnumWord, tokens.seen_after(at, 2)))
+}
+
 /// Variables stand behind `declare`.
 #[tactic(auto, unfolding(es_whole_grammar::specs::Declarations::declares_variables))]
 pub fn declares_variables(tokens: &Tokens<'_>, at: usize) -> bool
     ensures { result ≡ declares_variables (keys_of tokens.now.tokens.now) at }
 {
-    has(Kinds::VariableWord, tokens.seen_after(at, 1))
-        && !(is(TokenKind::ConstWord, tokens.seen_after(at, 1))
-            && is(TokenKind::EnumWord, tokens.seen_after(at, 2)))
+    has(Kinds::VariableWord, tokens.seen_after(at, 1)) && !opens_enum_behind(tokens, at)
+}
+
+/// A declaration of TypeScript begins one token behind a place.
+fn heads_typed_behind(tokens: &Tokens<'_>, at: usize) -> bool
+    ensures { result ≡ heads_typed (keys_of tokens.now.tokens.now) (at + 1) }
+{
+    if at >= tokens.tokens.len() {
+        return false;
+    }
+    heads_typed(tokens, at + 1)
 }
 
 /// Behind `export` stands a declaration.
 #[tactic(auto, unfolding(es_whole_grammar::specs::Items::opens_any_declaration))]
 pub fn opens_any_declaration(tokens: &Tokens<'_>, lang: Lang, at: usize) -> bool
-    requires { at < length tokens.now.tokens.now }
     ensures { result ≡ opens_any_declaration lang (keys_of tokens.now.tokens.now) at }
 {
     match lang {
         Lang::Es => tokens.opens_declaration(at),
-        Lang::Typescript => tokens.opens_declaration(at) || heads_typed(tokens, at + 1),
+        Lang::Typescript => tokens.opens_declaration(at) || heads_typed_behind(tokens, at),
     }
 }
 

@@ -165,3 +165,10 @@ pub enum Guard {
     OpensAnyDeclaration(Lang),
     OpensExportAssignment,
 }
+
+/// Whose modifiers: those of a member, or those of a parameter in this place.
+#[derive(Clone, Copy)]
+pub enum Modifiers {
+    OfMember,
+    OfParameter(Context),
+}

@@ -1,4 +1,4 @@
-//! The reader of the table of programs (`es_grammar`): from tokens to a tree of nodes.
+//! The reader of the table of programs in both languages (`es_whole_grammar`): from tokens to a tree of nodes.
 //!
 //! - `Tree`: the nodes, and the tokens that are kept, of a plain tree (`slim`, `specs/Slim.antt`).
 //! - `ReadsForm` and `ReadsRule`: what reads a form, and a rule, of the table. A struct stands for each way to write one

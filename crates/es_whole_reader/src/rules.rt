@@ -120,6 +120,16 @@ impl<P: ReadsForm> ReadsRule for Make<P> {
     }
 }
 
+/// The label of a node by the language.
+fn label_by(lang: Lang, plain: Label, typed: Label) -> Label
+    ensures { result ≡ label_by lang plain typed }
+{
+    match lang {
+        Lang::Es => plain,
+        Lang::Typescript => typed,
+    }
+}
+
 /// A node with these parts, whose alternative is another one in TypeScript.
 #[derive(Clone, Copy)]
 pub struct MakeBy<P>(pub Lang, pub Label, pub Label, pub P);
@@ -135,10 +145,7 @@ impl<P: ReadsForm> ReadsRule for MakeBy<P> {
         let from = cursor.at;
         let mut parts = Parts::new(grammar.input.alloc);
         self.3.read(grammar, cursor, &mut parts)?;
-        match self.0 {
-            Lang::Es => node(self.1, from, parts, cursor),
-            Lang::Typescript => node(self.2, from, parts, cursor),
-        }
+        node(label_by(self.0, self.1, self.2), from, parts, cursor)
     }
 }
 

@@ -1,0 +1,13 @@
+use Rattle.std.specs.Prelude.{None}
+use Rattle.std.proofs.Common.{◌+◌, ap}
+use Rattle.es_tree.specs.Key.{keys_of}
+use Rattle.es_guards.specs.Sight.{sight}
+use Rattle.es_whole_grammar.specs.Functions.{stands_again}
+use Rattle.es_whole_guards.specs.Named.{modifier_of}
+use Rattle.es_whole_guards.proofs.classes.stands_again.Goals as goal
+
+pub returns-in-None : goal.returns-in-None
+unfolding sight
+returns-in-None c =
+    ap (λ s. stands_again (modifier_of c.args.run) (keys_of c.args.tokens.now.tokens.now) s c.args.turns
+    (c.args.at + 1)) c.in-None.ensures
