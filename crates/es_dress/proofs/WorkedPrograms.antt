@@ -12,7 +12,6 @@ use Rattle.ts_ast.specs.declared.leaf.Str.{Str}
 use Rattle.ts_ast.specs.declared.leaf.TplElement.{TplElement}
 use Rattle.ts_ast.specs.declared.leaf.MethodKind.TheVariants as vMethod
 use Rattle.es_ast.specs.declared.leaf.Modifiers.{Modifiers}
-use Rattle.es_ast.specs.declared.leaf.Lit.TheVariants as vLit
 use Rattle.es_ast.specs.declared.leaf.BinaryOp.TheVariants as vBinary
 use Rattle.es_ast.specs.declared.leaf.AssignOp.TheVariants as vAssign
 use Rattle.es_ast.specs.declared.leaf.UnaryOp.TheVariants as vUnary

@@ -1,6 +1,6 @@
 -- What TypeScript adds to patterns, parameters and functions (the handbook of TypeScript, "Everyday Types", "More on
 -- Functions"): types behind `:`, and what stands between `<` and `>`.
-use Rattle.std.specs.Prelude.{ℕ, ◌+◌, ◌-◌, Bool, true, false, ◌||◌, List, [], ◌∷◌, ◌++◌, Option, Some, None, option_map, if◌then◌else◌}
+use Rattle.std.specs.Prelude.{ℕ, ◌+◌, ◌-◌, Bool, false, ◌||◌, List, ◌∷◌, ◌++◌, Option, Some, None, option_map, if◌then◌else◌}
 use Rattle.base.specs.declared.range.Range.{Range}
 use Rattle.es_token.specs.declared.token.Token.{Token}
 use Rattle.es_token.specs.declared.token.TokenKind.{TokenKind}
@@ -12,7 +12,6 @@ use Rattle.ts_ast.specs.declared.ts.TsExprWithTypeArgs.{TsExprWithTypeArgs}
 use Rattle.es_ast.specs.declared.leaf.Accessibility.{Accessibility}
 use Rattle.es_ast.specs.declared.leaf.Accessibility.TheVariants as vAccessibility
 use Rattle.es_ast.specs.declared.leaf.Modifiers.{Modifiers}
-use Rattle.es_ast.specs.declared.ast.Expr.{Expr}
 use Rattle.es_ast.specs.declared.ast.Stmt.{Stmt}
 use Rattle.es_ast.specs.declared.ast.Pat.{Pat}
 use Rattle.es_ast.specs.declared.ast.Pat.TheVariants as vPat

@@ -1,13 +1,11 @@
 -- What variables, declarations and items of TypeScript become (the handbook of TypeScript, "Everyday Types", "Object Types",
 -- "Enums", "Namespaces", "Modules").
-use Rattle.std.specs.Prelude.{ℕ, ◌+◌, Bool, true, false, List, ◌∷◌, Option, Some, None, option_map}
+use Rattle.std.specs.Prelude.{ℕ, Bool, true, List, Option, Some, None, option_map}
 use Rattle.base.specs.declared.range.Range.{Range}
 use Rattle.es_token.specs.declared.token.Token.{Token}
 use Rattle.es_token.specs.declared.token.TokenKind.TheVariants as k
 use Rattle.es_tree.specs.Key.{same_kind}
-use Rattle.ts_ast.specs.declared.ts.TsPart.{TsPart}
 use Rattle.ts_ast.specs.declared.ts.TsPart.TheVariants as vPart
-use Rattle.es_ast.specs.declared.ast.Expr.{Expr}
 use Rattle.es_ast.specs.declared.ast.Pat.{Pat}
 use Rattle.es_ast.specs.declared.ast.Stmt.{Stmt}
 use Rattle.es_ast.specs.declared.ast.Stmt.TheVariants as vStmt

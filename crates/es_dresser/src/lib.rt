@@ -23,4 +23,4 @@ pub use lists::{Turn, single, turns, turns_behind};
 pub use node::Node;
 pub use operators::listed;
 pub use places::{leaf_in, place_in};
-pub use source::{Source, cut, shebang};
+pub use source::{Source, cut, ident, shebang};
