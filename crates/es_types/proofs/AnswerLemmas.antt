@@ -1,6 +1,6 @@
 -- What the reader's answer tells of the plain trees of a part, and the other way round.
-use Rattle.std.specs.Prelude.{List, Result, Ok, Err, Bool, true, false, Option, Some, None, IsTrue, ◌↔◌}
-use Rattle.std.proofs.Common.{◌≡◌, ◌≢◌, ℕ, ◌<◌, ◌≤◌, length, refl, sym, ap, ◌∙◌, subst, arith, leb-true, le-leb}
+use Rattle.std.specs.Prelude.{List, Result, Err, Bool, true, false, Option, Some, None, IsTrue, ◌↔◌}
+use Rattle.std.proofs.Common.{◌≡◌, ◌≢◌, ℕ, ◌<◌, ◌≤◌, length, refl, sym, ap, ◌∙◌, subst, arith, le-leb}
 use Rattle.es_token.specs.declared.token.Token.{Token}
 use Rattle.es_tree.specs.declared.error.SyntaxError.{SyntaxError}
 use Rattle.es_tree.specs.declared.error.SyntaxError.TheVariants.{Syntax, OutOfMemory}
@@ -17,9 +17,9 @@ use Rattle.es_grammar.specs.TypeRows.{Label}
 use Rattle.es_grammar.specs.TypeTable.{type_rule}
 use Rattle.es_type_reader.specs.declared.tree.Tree.{Tree}
 use Rattle.es_type_reader.specs.declared.cursor.Measured.{Measured}
-use Rattle.es_type_reader.specs.Slim.{Kept, slim, one, tree_in, tree_of}
+use Rattle.es_type_reader.specs.Slim.{slim, one, tree_in}
 use Rattle.es_type_reader.specs.Bounded.{Read, makes, row_at}
-use Rattle.es_type_reader.specs.Steps.{single, IsTelling}
+use Rattle.es_type_reader.specs.Steps.{single}
 use Rattle.es_types.specs.declared.types.TypePart.{TypePart}
 use Rattle.es_types.specs.declared.types.TypePart.TheVariants as parts
 use Rattle.es_types.specs.declared.types.TypeRead.{TypeRead}

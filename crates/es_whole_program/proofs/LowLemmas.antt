@@ -5,10 +5,9 @@ use Rattle.std.proofs.lemmas.Bool.{lt-leb}
 use Rattle.es_tree.specs.declared.error.Lang.{Lang}
 use Rattle.es_tree.specs.Key.{Key, seen, has_kind, is}
 use Rattle.es_tree.specs.Form.{Guard, test, Form, done, tok, punct, row, opt, many, alt, when_, where_, Rule, refuse, make, choose, as_, pick, wrap}
-use Rattle.es_tree.specs.Plain.{Plain, node, leaf, nil, cons, mark, turn, via, tall, Makes, made, plain, Tallied, tallied}
+use Rattle.es_tree.specs.Plain.{Plain, node, leaf, nil, cons, mark, turn, via, tall, made, plain}
 use Rattle.es_tree.specs.Fits.{most_nodes}
 use Rattle.es_tree.specs.Reader.{Out, nothing, gives, and_then, changed, only_if, either, read_turns, read_wraps, read_form, read_rule, read_row}
-use Rattle.es_tree.proofs.OutLemmas.{clash}
 use Rattle.es_tree.proofs.TallLemmas.{made_tallied}
 use Rattle.es_whole_grammar.specs.declared.rows.Row.{Row}
 use Rattle.es_whole_grammar.specs.declared.rows.Label.{Label}

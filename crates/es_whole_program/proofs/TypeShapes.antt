@@ -1,5 +1,5 @@
 -- Where the parts of nodes stand, in the rows of types: nothing is claimed there.
-use Rattle.std.specs.Prelude.{true}
+use Rattle.std.specs.Prelude.{true, false}
 use Rattle.std.proofs.Common.{◌≡◌, refl}
 use Rattle.es_tree.specs.declared.error.Lang.{Lang}
 use Rattle.es_whole_grammar.specs.declared.rows.TypeRow.{TypeRow as Row}
