@@ -46,13 +46,23 @@ variables_read :
     × (read_program lang.Typescript mode.Module (one k.LetWord ∷ one k.Name ∷ one k.Exclamation ∷ one k.Colon ∷ one
     k.Name ∷ one k.Comma ∷ paired k.OpenBracket 8 ∷ one k.Name ∷ paired k.CloseBracket 6 ∷ one k.Colon ∷ one k.Name ∷
     []) ≡ gives (node Module 0 11 (cons nil (cons (turn (cons (node VariableDeclaration 0 11 (cons
-    (node Variables 0 11 (cons (leaf as_kind 0) (cons (node TypedDeclarator 1 5 (cons (node NamePattern 1 2 (cons (leaf as_name 1) nil)) (cons (cons (leaf as_there 2) nil) (cons (mark 3 (cons (node EntityOfType 4 5 (cons (leaf as_name 4) (cons nil nil))) nil)) (cons nil nil))))) (cons (turn (mark 5 (cons (node
-    TypedDeclarator 6 11 (cons (node ArrayPattern 6 9 (mark 6 (cons (turn (cons (cons (node NamePattern 7 8 (cons (leaf as_name 7) nil)) (cons nil nil)) nil) nil) (mark 8 nil)))) (cons nil (cons (mark 9
+    (node Variables 0 11
+    (cons (leaf as_kind 0)
+    (cons (node TypedDeclarator 1 5
+    (cons (node NamePattern 1 2 (cons (leaf as_name 1) nil))
+    (cons (cons (leaf as_there 2) nil)
+    (cons (mark 3 (cons (node EntityOfType 4 5 (cons (leaf as_name 4) (cons nil nil))) nil))
+    (cons nil nil))))) (cons (turn (mark 5 (cons (node
+    TypedDeclarator 6 11
+    (cons (node ArrayPattern 6 9
+    (mark 6 (cons (turn (cons (cons (node NamePattern 7 8 (cons (leaf as_name 7) nil)) (cons nil nil)) nil)
+    nil) (mark 8 nil)))) (cons nil (cons (mark 9
     (cons (node EntityOfType 10 11 (cons (leaf as_name 10) (cons nil nil))) nil)) (cons nil nil))))) nil))
     nil) nil)))) (cons nil nil))) nil) nil) nil))) 11)
     -- let a: (b) => c = d
     × (read_program lang.Typescript mode.Module (one k.LetWord ∷ one k.Name ∷ one k.Colon ∷ paired k.OpenParen 5 ∷ one
-    k.Name ∷ paired k.CloseParen 3 ∷ one k.Arrow ∷ one k.Name ∷ one k.Equal ∷ one k.Name ∷ []) ≡ gives (node Module 0 10 (cons nil (cons (turn (cons (node VariableDeclaration 0 10 (cons (node Variables 0
+    k.Name ∷ paired k.CloseParen 3 ∷ one k.Arrow ∷ one k.Name ∷ one k.Equal ∷ one k.Name ∷ [])
+    ≡ gives (node Module 0 10 (cons nil (cons (turn (cons (node VariableDeclaration 0 10 (cons (node Variables 0
     10 (cons (leaf as_kind 0) (cons (node TypedDeclarator 1 10 (cons (node NamePattern 1 2 (cons (leaf
     as_name 1) nil)) (cons nil (cons (mark 2 (cons (node FunctionType 3 8 (cons nil (mark 3 (cons (node
     ParametersOfType 4 5 (cons (turn (cons (node NamePatternOfType 4 5 (cons (leaf as_name 4) nil))
@@ -62,7 +72,11 @@ variables_read :
     -- declare let a: b
     × (read_program lang.Typescript mode.Module (one k.DeclareWord ∷ one k.LetWord ∷ one k.Name ∷ one k.Colon ∷ one
     k.Name ∷ []) ≡ gives (node Module 0 5 (cons nil (cons (turn (cons (node DeclaredVariables 0 5 (mark 0
-    (cons (node Variables 1 5 (cons (leaf as_kind 1) (cons (node TypedDeclarator 2 5 (cons (node NamePattern 2 3 (cons (leaf as_name 2) nil)) (cons nil (cons (mark 3 (cons (node EntityOfType 4 5 (cons
+    (cons (node Variables 1 5
+    (cons (leaf as_kind 1)
+    (cons (node TypedDeclarator 2 5
+    (cons (node NamePattern 2 3 (cons (leaf as_name 2) nil))
+    (cons nil (cons (mark 3 (cons (node EntityOfType 4 5 (cons
     (leaf as_name 4) (cons nil nil))) nil)) (cons nil nil))))) (cons nil nil)))) (cons nil nil)))) nil) nil) nil))) 5)
     -- for (let a: b of c) d
     × (read_program lang.Typescript mode.Module (one k.ForWord ∷ paired k.OpenParen 8 ∷ one k.LetWord ∷ one k.Name ∷
@@ -78,11 +92,17 @@ variables_read :
     k.CatchWord ∷ paired k.OpenParen 8 ∷ one k.Name ∷ one k.Colon ∷ one k.Name ∷ paired k.CloseParen 4 ∷ paired
     k.OpenBrace 10 ∷ paired k.CloseBrace 9 ∷ []) ≡ gives (node Module 0 11 (cons nil (cons (turn (cons (node
     TypedTryStatement 0 11 (mark 0 (cons (node Block 1 3 (mark 1 (cons nil (mark 2 nil)))) (cons (mark 3
-    (cons (mark 4 (cons (node NamePattern 5 6 (cons (leaf as_name 5) nil)) (cons (mark 6 (cons (node EntityOfType 7 8 (cons (leaf as_name 7) (cons nil nil))) nil)) (mark 8 nil)))) (cons (node Block 9 11
+    (cons (mark 4 (cons (node NamePattern 5 6 (cons (leaf as_name 5) nil))
+    (cons (mark 6 (cons (node EntityOfType 7 8 (cons (leaf as_name 7) (cons nil nil))) nil)) (mark 8 nil))))
+    (cons (node Block 9 11
     (mark 9 (cons nil (mark 10 nil)))) (cons nil nil)))) nil)))) nil) nil) nil))) 11)
     -- var a = b⏎!c
     × (read_program lang.Typescript mode.Module (one k.VarWord ∷ one k.Name ∷ one k.Equal ∷ one k.Name ∷ line
-    k.Exclamation ∷ one k.Name ∷ []) ≡ gives (node Module 0 6 (cons nil (cons (turn (cons (node VariableDeclaration 0 4 (cons (node Variables 0 4 (cons (leaf as_kind 0) (cons (node TypedDeclarator
+    k.Exclamation ∷ one k.Name ∷ [])
+    ≡ gives (node Module 0 6
+    (cons nil (cons (turn
+    (cons (node VariableDeclaration 0 4
+    (cons (node Variables 0 4 (cons (leaf as_kind 0) (cons (node TypedDeclarator
     1 4 (cons (node NamePattern 1 2 (cons (leaf as_name 1) nil)) (cons nil (cons nil (cons (mark 2 (cons
     (node Name 3 4 (cons (leaf as_name 3) nil)) nil)) nil))))) (cons nil nil)))) (cons nil nil))) nil) (turn
     (cons (node ExpressionStatement 4 6 (cons (node UnaryExpression 4 6 (cons (leaf as_kind 4) (cons
@@ -165,7 +185,11 @@ functions_read :
     × (read_program lang.Typescript mode.Module (one k.FunctionWord ∷ one k.Name ∷ paired k.OpenParen 8 ∷ one k.Name ∷
     one k.Colon ∷ one k.Name ∷ one k.Equal ∷ one k.Name ∷ paired k.CloseParen 2 ∷ one k.Colon ∷ one k.AssertsWord ∷
     one k.Name ∷ []) ≡ gives (node Module 0 12 (cons nil (cons (turn (cons (node TypedFunction 0 12 (mark
-    0 (cons nil (cons (leaf as_name 1) (cons (node TypedSignature 2 12 (cons nil (mark 2 (cons (node TypedParameters 3 8 (cons (turn (cons (node MarkedParameter 3 8 (cons (node NamePattern 3 4 (cons (leaf
+    0 (cons nil (cons (leaf as_name 1)
+    (cons (node TypedSignature 2 12
+    (cons nil (mark 2 (cons
+    (node TypedParameters 3 8
+    (cons (turn (cons (node MarkedParameter 3 8 (cons (node NamePattern 3 4 (cons (leaf
     as_name 3) nil)) (cons nil (cons (mark 4 (cons (node EntityOfType 5 6 (cons (leaf as_name 5) (cons nil
     nil))) nil)) (cons (mark 6 (cons (node Name 7 8 (cons (leaf as_name 7) nil)) nil)) nil))))) (cons nil
     nil)) nil) (cons nil nil))) (mark 8 (cons (mark 9 (cons (node AssertsResult 10 12 (mark 10 (cons
@@ -173,7 +197,11 @@ functions_read :
     -- declare function f(a): a is b
     × (read_program lang.Typescript mode.Module (one k.DeclareWord ∷ one k.FunctionWord ∷ one k.Name ∷ paired
     k.OpenParen 5 ∷ one k.Name ∷ paired k.CloseParen 3 ∷ one k.Colon ∷ one k.Name ∷ one k.IsWord ∷ one k.Name ∷ []) ≡
-    gives (node Module 0 10 (cons nil (cons (turn (cons (node Declared 0 10 (mark 0 (cons (node TypedFunction 1 10 (mark 1 (cons nil (cons (leaf as_name 2) (cons (node TypedSignature 3 10 (cons nil (mark 3
+    gives (node Module 0 10
+    (cons nil (cons (turn
+    (cons (node Declared 0 10
+    (mark 0 (cons (node TypedFunction 1 10
+    (mark 1 (cons nil (cons (leaf as_name 2) (cons (node TypedSignature 3 10 (cons nil (mark 3
     (cons (node TypedParameters 4 5 (cons (turn (cons (node NamePattern 4 5 (cons (leaf as_name 4) nil))
     (cons nil nil)) nil) (cons nil nil))) (mark 5 (cons (mark 6 (cons (node PredicateResult 7 10 (cons
     (leaf as_name 7) (mark 8 (cons (node EntityOfType 9 10 (cons (leaf as_name 9) (cons nil nil))) nil))))
@@ -183,7 +211,10 @@ functions_read :
     k.OpenParen 5 ∷ paired k.CloseParen 4 ∷ one k.Semicolon ∷ []) ≡ gives (node Module 0 7 (cons nil (cons
     (turn (cons (node ExpressionStatement 0 7 (cons (node Assignment 0 7 (cons (node Name 0
     1 (cons (leaf as_name 0) nil)) (cons (cons (leaf as_kind 1) nil) (cons (node TypedFunction 2 7 (mark 2 (cons
-    nil (cons (cons (leaf as_name 3) nil) (cons (node TypedSignature 4 6 (cons nil (mark 4 (cons (node TypedParameters 5 5 (cons nil (cons nil nil))) (mark 5 (cons nil nil)))))) (cons (cons (mark 6 nil) nil) nil))))))
+    nil (cons (cons (leaf as_name 3) nil)
+    (cons (node TypedSignature 4 6
+    (cons nil (mark 4 (cons (node TypedParameters 5 5 (cons nil (cons nil nil))) (mark 5 (cons nil nil))))))
+    (cons (cons (mark 6 nil) nil) nil))))))
     nil)))) (cons nil nil))) nil) nil) nil))) 7)
     -- async function f(): a
     × (read_program lang.Typescript mode.Module (one k.AsyncWord ∷ one k.FunctionWord ∷ one k.Name ∷ paired
@@ -251,7 +282,9 @@ classes_read :
     -- class A<T> extends B<c> implements D, E { }
     (read_program lang.Typescript mode.Module (one k.ClassWord ∷ one k.Name ∷ one k.Less ∷ one k.Name ∷ joined
     k.Greater ∷ one k.ExtendsWord ∷ one k.Name ∷ one k.Less ∷ one k.Name ∷ joined k.Greater ∷ one k.ImplementsWord ∷
-    one k.Name ∷ one k.Comma ∷ one k.Name ∷ paired k.OpenBrace 15 ∷ paired k.CloseBrace 14 ∷ []) ≡ gives (node Module 0 16 (cons nil (cons (turn (cons (node TypedClass 0 16 (mark 0 (cons (leaf as_name 1) (cons (cons
+    one k.Name ∷ one k.Comma ∷ one k.Name ∷ paired k.OpenBrace 15 ∷ paired k.CloseBrace 14 ∷ [])
+    ≡ gives (node Module 0 16
+    (cons nil (cons (turn (cons (node TypedClass 0 16 (mark 0 (cons (leaf as_name 1) (cons (cons
     (node TypeParameters 2 5 (mark 2 (cons nil (cons (leaf as_name 3) (cons nil (cons nil (cons nil
     (cons nil (mark 4 nil))))))))) nil) (cons (mark 5 (cons (node Name 6 7 (cons (leaf as_name 6) nil)) (cons
     (cons (node TypeArguments 7 10 (mark 7 (cons (node EntityOfType 8 9 (cons (leaf as_name 8)
@@ -267,7 +300,9 @@ classes_read :
     (turn (cons (leaf as_kind 4) nil) nil) (cons (node WordKey 5 6 (cons (leaf as_name 5) nil)) (cons nil
     (cons (mark 6 (cons (node EntityOfType 7 8 (cons (leaf as_name 7) (cons nil nil))) nil)) (cons nil (cons
     (mark 8 nil) nil))))))) nil) (turn (cons (node TypedMethodMember 9 15 (cons (turn (cons (leaf as_kind 9) nil)
-    nil) (cons (cons (node WordKey 10 11 (cons (leaf as_name 10) nil)) (cons nil (cons (node TypedSignature 11 15 (cons nil (mark 11 (cons (node TypedParameters 12 12 (cons nil (cons nil nil))) (mark 12
+    nil) (cons (cons (node WordKey 10 11 (cons (leaf as_name 10) nil))
+    (cons nil (cons (node TypedSignature 11 15
+    (cons nil (mark 11 (cons (node TypedParameters 12 12 (cons nil (cons nil nil))) (mark 12
     (cons (mark 13 (cons (node EntityOfType 14 15 (cons (leaf as_name 14) (cons nil nil))) nil)) nil))))))
     nil))) (cons (cons nil nil) nil)))) nil) nil)) (mark 15 nil)))))))))) nil) nil) nil))) 16)
     -- class A { private readonly a?: b = c; static d!: e }
@@ -288,7 +323,11 @@ classes_read :
     k.ConstructorWord ∷ paired k.OpenParen 12 ∷ one k.PublicWord ∷ one k.Name ∷ one k.Comma ∷ one k.ReadonlyWord ∷ one
     k.Name ∷ one k.Colon ∷ one k.Name ∷ paired k.CloseParen 4 ∷ paired k.OpenBrace 14 ∷ paired k.CloseBrace 13 ∷
     paired k.CloseBrace 2 ∷ []) ≡ gives (node Module 0 16 (cons nil (cons (turn (cons (node TypedClass 0
-    16 (mark 0 (cons (leaf as_name 1) (cons nil (cons nil (cons nil (mark 2 (cons (turn (cons (node TypedMethodMember 3 15 (cons nil (cons (cons (node WordKey 3 4 (cons (leaf as_name 3) nil)) (cons nil (cons
+    16 (mark 0 (cons (leaf as_name 1)
+    (cons nil (cons nil (cons nil
+    (mark 2 (cons (turn (cons
+    (node TypedMethodMember 3 15
+    (cons nil (cons (cons (node WordKey 3 4 (cons (leaf as_name 3) nil)) (cons nil (cons
     (node TypedSignature 4 13 (cons nil (mark 4 (cons (node TypedParameters 5 12 (cons (turn (cons (node
     PropertyParameter 5 7 (cons (turn (cons (leaf as_kind 5) nil) nil) (cons (node NamePattern 6 7 (cons
     (leaf as_name 6) nil)) (cons nil (cons nil (cons nil nil)))))) (cons (mark 7 nil) nil)) (turn (cons (node
@@ -308,10 +347,14 @@ classes_read :
     4) nil) nil)) (mark 5 (cons (leaf as_name 6) (mark 7 (cons (node KeywordType 8 9 (cons (leaf as_kind
     8) nil)) (mark 9 (cons (mark 10 (cons (node KeywordType 11 12 (cons (leaf as_kind 11) nil)) nil))
     (cons (mark 12 nil) nil))))))))) nil) (turn (cons (node TypedAccessorMember 13 20 (cons nil (cons (leaf
-    as_kind 13) (cons (cons (node WordKey 14 15 (cons (leaf as_name 14) nil)) (cons nil (cons (node TypedSignature 15 19 (cons nil (mark 15 (cons (node TypedParameters 16 16 (cons nil (cons nil nil))) (mark 16
+    as_kind 13) (cons (cons (node WordKey 14 15 (cons (leaf as_name 14) nil))
+    (cons nil (cons (node TypedSignature 15 19
+    (cons nil (mark 15 (cons (node TypedParameters 16 16 (cons nil (cons nil nil))) (mark 16
     (cons (mark 17 (cons (node EntityOfType 18 19 (cons (leaf as_name 18) (cons nil nil))) nil)) nil))))))
     nil))) (cons (cons (mark 19 nil) nil) nil))))) nil) (turn (cons (node TypedAccessorField 20 26 (cons nil (mark
-    20 (cons (node WordKey 21 22 (cons (leaf as_name 21) nil)) (cons nil (cons (mark 22 (cons (node EntityOfType 23 24 (cons (leaf as_name 23) (cons nil nil))) nil)) (cons (mark 24 (cons (node Name 25 26
+    20 (cons (node WordKey 21 22 (cons (leaf as_name 21) nil))
+    (cons nil (cons (mark 22 (cons (node EntityOfType 23 24 (cons (leaf as_name 23) (cons nil nil))) nil))
+    (cons (mark 24 (cons (node Name 25 26
     (cons (leaf as_name 25) nil)) nil)) (cons nil nil)))))))) nil) nil))) (mark 26 nil))))))))) nil) nil) nil))) 27)
     -- class A { a?<T>(): b; override async *c() { } }
     × (read_program lang.Typescript mode.Module (one k.ClassWord ∷ one k.Name ∷ paired k.OpenBrace 21 ∷ one k.Name ∷
@@ -324,7 +367,9 @@ classes_read :
     TypedSignature 5 12 (cons (cons (node TypeParameters 5 8 (mark 5 (cons nil (cons (leaf as_name
     6) (cons nil (cons nil (cons nil (cons nil (mark 7 nil))))))))) nil) (mark 8 (cons (node TypedParameters 9 9
     (cons nil (cons nil nil))) (mark 9 (cons (mark 10 (cons (node EntityOfType 11 12 (cons (leaf as_name 11)
-    (cons nil nil))) nil)) nil)))))) nil))) (cons (cons (mark 12 nil) nil) nil)))) nil) (turn (cons (node TypedAsyncMember 13 21 (cons (turn (cons (leaf as_kind 13) nil) nil) (mark 14 (cons (cons (leaf as_there 15) nil)
+    (cons nil nil))) nil)) nil)))))) nil))) (cons (cons (mark 12 nil) nil) nil)))) nil)
+    (turn (cons (node TypedAsyncMember 13 21
+    (cons (turn (cons (leaf as_kind 13) nil) nil) (mark 14 (cons (cons (leaf as_there 15) nil)
     (cons (cons (node WordKey 16 17 (cons (leaf as_name 16) nil)) (cons nil (cons (node TypedSignature 17
     19 (cons nil (mark 17 (cons (node TypedParameters 18 18 (cons nil (cons nil nil))) (mark 18 (cons nil
     nil)))))) nil))) (cons (cons (node Block 19 21 (mark 19 (cons nil (mark 20 nil)))) nil) nil)))))) nil)
@@ -344,9 +389,13 @@ classes_read :
     TypedClass 0 18 (mark 0 (cons (leaf as_name 1) (cons nil (cons nil (cons nil (mark 2 (cons (turn (cons (node
     TypedMethodMember 3 11 (cons nil (cons (cons (node WordKey 3 4 (cons (leaf as_name 3) nil)) (cons nil
     (cons (node TypedSignature 4 9 (cons (cons (node TypeParameters 4 7 (mark 4 (cons nil (cons
-    (leaf as_name 5) (cons nil (cons nil (cons nil (cons nil (mark 6 nil))))))))) nil) (mark 7 (cons (node TypedParameters 8 8 (cons nil (cons nil nil))) (mark 8 (cons nil nil)))))) nil))) (cons (cons (node Block 9
+    (leaf as_name 5) (cons nil (cons nil (cons nil (cons nil (mark 6 nil))))))))) nil)
+    (mark 7 (cons (node TypedParameters 8 8 (cons nil (cons nil nil))) (mark 8 (cons nil nil)))))) nil)))
+    (cons (cons (node Block 9
     11 (mark 9 (cons nil (mark 10 nil)))) nil) nil)))) nil) (turn (cons (node TypedFieldMember 11 15 (cons nil
-    (cons (node WordKey 11 12 (cons (leaf as_name 11) nil)) (cons nil (cons (mark 12 (cons (node EntityOfType 13 14 (cons (leaf as_name 13) (cons nil nil))) nil)) (cons nil (cons (mark 14 nil) nil))))))) nil)
+    (cons (node WordKey 11 12 (cons (leaf as_name 11) nil))
+    (cons nil (cons (mark 12 (cons (node EntityOfType 13 14 (cons (leaf as_name 13) (cons nil nil))) nil))
+    (cons nil (cons (mark 14 nil) nil))))))) nil)
     (turn (cons (node TypedFieldMember 15 16 (cons nil (cons (node WordKey 15 16 (cons (leaf as_name 15)
     nil)) (cons nil (cons nil (cons nil (cons nil nil))))))) nil) (turn (cons (node TypedFieldMember 16 17 (cons
     nil (cons (node WordKey 16 17 (cons (leaf as_name 16) nil)) (cons nil (cons nil (cons nil (cons nil
@@ -414,12 +463,16 @@ types_and_spaces_read :
     one k.Semicolon ∷ one k.ReadonlyWord ∷ one k.Name ∷ one k.Question ∷ one k.Colon ∷ one k.Name ∷ paired
     k.CloseBrace 12 ∷ []) ≡ gives (node Module 0 25 (cons nil (cons (turn (cons (node InterfaceDeclaration 0 25 (mark 0
     (cons (leaf as_name 1) (cons (cons (node TypeParameters 2 5 (mark 2 (cons nil (cons (leaf as_name 3)
-    (cons nil (cons nil (cons nil (cons nil (mark 4 nil))))))))) nil) (cons (mark 5 (cons (node Reference 6 10 (cons (node EntityOfType 6 7 (cons (leaf as_name 6) (cons nil nil))) (cons (node
+    (cons nil (cons nil (cons nil (cons nil (mark 4 nil))))))))) nil)
+    (cons (mark 5 (cons (node Reference 6 10
+    (cons (node EntityOfType 6 7 (cons (leaf as_name 6) (cons nil nil))) (cons (node
     TypeArguments 7 10 (mark 7 (cons (node EntityOfType 8 9 (cons (leaf as_name 8) (cons nil
     nil))) (cons nil (mark 9 nil))))) nil))) (cons (turn (mark 10 (cons (node EntityOfType 11 12 (cons (leaf
     as_name 11) (cons nil nil))) nil)) nil) nil))) (mark 12 (cons (turn (cons (node CallSignature 13 19
     (cons nil (mark 13 (cons (node ParametersOfType 14 15 (cons (turn (cons (node NamePatternOfType 14
-    15 (cons (leaf as_name 14) nil)) (cons nil nil)) nil) (cons nil nil))) (mark 15 (cons (mark 16 (cons (node EntityOfType 17 18 (cons (leaf as_name 17) (cons nil nil))) nil)) (cons (cons (leaf as_there 18) nil) nil)))))))
+    15 (cons (leaf as_name 14) nil)) (cons nil nil)) nil) (cons nil nil)))
+    (mark 15 (cons (mark 16 (cons (node EntityOfType 17 18 (cons (leaf as_name 17) (cons nil nil))) nil))
+    (cons (cons (leaf as_there 18) nil) nil)))))))
     nil) (turn (cons (node ReadonlyProperty 19 24 (mark 19 (cons (node WordKeyOfType 20 21 (cons
     (leaf as_name 20) nil)) (cons (cons (leaf as_there 21) nil) (cons (mark 22 (cons (node EntityOfType 23 24
     (cons (leaf as_name 23) (cons nil nil))) nil)) (cons nil nil)))))) nil) nil)) (mark 24 nil)))))))) nil) nil)
@@ -434,7 +487,8 @@ types_and_spaces_read :
     × (read_program lang.Typescript mode.Module (one k.ConstWord ∷ one k.EnumWord ∷ one k.Name ∷ paired k.OpenBrace 14
     ∷ one k.Name ∷ one k.Comma ∷ one k.Name ∷ one k.Equal ∷ one k.Number ∷ one k.Comma ∷ one k.Str ∷ one k.Equal ∷ one
     k.Number ∷ one k.Comma ∷ paired k.CloseBrace 3 ∷ []) ≡ gives (node Module 0 15 (cons nil (cons (turn
-    (cons (node EnumDeclaration 0 15 (cons (cons (leaf as_there 0) nil) (mark 1 (cons (leaf as_name 2) (mark 3 (cons (turn (cons
+    (cons (node EnumDeclaration 0 15
+    (cons (cons (leaf as_there 0) nil) (mark 1 (cons (leaf as_name 2) (mark 3 (cons (turn (cons
     (node WordKey 4 5 (cons (leaf as_name 4) nil)) (cons nil (cons (mark 5 nil) nil))) (turn (cons (node
     WordKey 6 7 (cons (leaf as_name 6) nil)) (cons (mark 7 (cons (node Number 8 9 (cons (leaf as_raw
     8) nil)) nil)) (cons (mark 9 nil) nil))) (turn (cons (node StrKey 10 11 (cons (leaf as_str 10) nil))
@@ -442,7 +496,9 @@ types_and_spaces_read :
     nil))) (mark 14 nil))))))) nil) nil) nil))) 15)
     -- namespace a.b { export = c }
     × (read_program lang.Typescript mode.Module (one k.NamespaceWord ∷ one k.Name ∷ one k.Dot ∷ one k.Name ∷ paired
-    k.OpenBrace 8 ∷ one k.ExportWord ∷ one k.Equal ∷ one k.Name ∷ paired k.CloseBrace 4 ∷ []) ≡ gives (node Module 0 9 (cons nil (cons (turn (cons (node NamespaceDeclaration 0 9 (cons (leaf as_kind 0) (cons (node Entity 1 4
+    k.OpenBrace 8 ∷ one k.ExportWord ∷ one k.Equal ∷ one k.Name ∷ paired k.CloseBrace 4 ∷ [])
+    ≡ gives (node Module 0 9
+    (cons nil (cons (turn (cons (node NamespaceDeclaration 0 9 (cons (leaf as_kind 0) (cons (node Entity 1 4
     (cons (leaf as_name 1) (cons (turn (mark 2 (cons (leaf as_name 3) nil)) nil) nil))) (mark 4 (cons (turn (cons
     (node ExportAssignment 5 8 (mark 5 (mark 6 (cons (node Name 7 8 (cons (leaf as_name 7) nil)) (cons nil
     nil))))) nil) nil) (mark 8 nil)))))) nil) nil) nil))) 9)
@@ -462,7 +518,8 @@ types_and_spaces_read :
     -- declare const enum A { }
     × (read_program lang.Typescript mode.Module (one k.DeclareWord ∷ one k.ConstWord ∷ one k.EnumWord ∷ one k.Name ∷
     paired k.OpenBrace 5 ∷ paired k.CloseBrace 4 ∷ []) ≡ gives (node Module 0 6 (cons nil (cons (turn (cons
-    (node Declared 0 6 (mark 0 (cons (node EnumDeclaration 1 6 (cons (cons (leaf as_there 1) nil) (mark 2 (cons (leaf as_name 3)
+    (node Declared 0 6 (mark 0
+    (cons (node EnumDeclaration 1 6 (cons (cons (leaf as_there 1) nil) (mark 2 (cons (leaf as_name 3)
     (mark 4 (cons nil (mark 5 nil))))))) nil))) nil) nil) nil))) 6)
     -- declare abstract class A { }
     × (read_program lang.Typescript mode.Module (one k.DeclareWord ∷ one k.AbstractWord ∷ one k.ClassWord ∷ one k.Name
@@ -471,7 +528,10 @@ types_and_spaces_read :
     nil (cons nil (mark 4 (cons nil (mark 5 nil)))))))))) nil))) nil) nil) nil))) 6)
     -- type⏎A = b
     × (read_program lang.Typescript mode.Module (one k.TypeWord ∷ line k.Name ∷ one k.Equal ∷ one k.Name ∷ []) ≡ gives
-    (node Module 0 4 (cons nil (cons (turn (cons (node ExpressionStatement 0 1 (cons (node Name 0 1 (cons (leaf as_name 0) nil)) (cons nil nil))) nil) (turn (cons (node ExpressionStatement 1 4
+    (node Module 0 4 (cons nil
+    (cons (turn (cons (node ExpressionStatement 0 1
+    (cons (node Name 0 1 (cons (leaf as_name 0) nil)) (cons nil nil))) nil)
+    (turn (cons (node ExpressionStatement 1 4
     (cons (node Assignment 1 4 (cons (node Name 1 2 (cons (leaf as_name 1) nil)) (cons (cons (leaf
     as_kind 2) nil) (cons (node Name 3 4 (cons (leaf as_name 3) nil)) nil)))) (cons nil nil))) nil) nil))
     nil))) 4)

@@ -80,14 +80,18 @@ assertions_read :
     -- a⏎as
     × (read_program lang.Typescript mode.Module (one k.Name ∷ line k.AsWord ∷ []) ≡ gives (node Module 0 2
     (cons nil (cons (turn (cons (node ExpressionStatement 0 1 (cons (node Name 0 1 (cons (leaf
-    as_name 0) nil)) (cons nil nil))) nil) (turn (cons (node ExpressionStatement 1 2 (cons (node Name 1 2 (cons (leaf as_name 1) nil)) (cons nil nil))) nil) nil)) nil))) 2)
+    as_name 0) nil)) (cons nil nil))) nil)
+    (turn (cons (node ExpressionStatement 1 2 (cons (node Name 1 2 (cons (leaf as_name 1) nil)) (cons nil nil)))
+    nil) nil)) nil))) 2)
     -- for (a as b of c) d
     × (read_program lang.Typescript mode.Module (one k.ForWord ∷ paired k.OpenParen 7 ∷ one k.Name ∷ one k.AsWord ∷
     one k.Name ∷ one k.OfWord ∷ one k.Name ∷ paired k.CloseParen 1 ∷ one k.Name ∷ []) ≡ gives (node Module 0
     9 (cons nil (cons (turn (cons (node ForEachStatement 0 9 (mark 0 (mark 1 (cons (via Target (node
     TypedBinary 2 5 (cons (node Name 2 3 (cons (leaf as_name 2) nil)) (cons (cons (leaf as_kind 3) (cons
     (cons (node EntityOfType 4 5 (cons (leaf as_name 4) (cons nil nil))) nil) nil)) nil)))) (cons (cons (leaf
-    as_kind 5) (cons (node Name 6 7 (cons (leaf as_name 6) nil)) nil)) (mark 7 (cons (node ExpressionStatement 8 9 (cons (node Name 8 9 (cons (leaf as_name 8) nil)) (cons nil nil))) nil)))))))
+    as_kind 5) (cons (node Name 6 7 (cons (leaf as_name 6) nil)) nil))
+    (mark 7 (cons (node ExpressionStatement 8 9 (cons (node Name 8 9 (cons (leaf as_name 8) nil)) (cons nil nil)))
+    nil)))))))
     nil) nil) nil))) 9)
 unfolding read_program read_row read_turns read_wraps most_nodes is_name is_word is_name_or_this is_numeric
     is_sign is_accessor_word is_near begins_key may_end ended word_or_str_in names_in attributes attributes_ended
@@ -155,13 +159,26 @@ arguments_read :
     nil)) (cons nil nil))) nil) (mark 6 nil)))) nil))) (cons nil nil)))) (cons nil nil))) nil) nil) nil))) 7)
     -- f<a>`b`
     × (read_program lang.Typescript mode.Module (one k.Name ∷ one k.Less ∷ one k.Name ∷ joined k.Greater ∷ one
-    k.TemplateWhole ∷ []) ≡ gives (node Module 0 5 (cons nil (cons (turn (cons (node ExpressionStatement 0 5 (cons (node Chain 0 5 (cons (node Name 0 1 (cons (leaf as_name 0) nil))
-    (cons (node TypedTemplatePost 1 5 (cons (cons (node TypeArguments 1 4 (mark 1 (cons (node EntityOfType 2 3 (cons (leaf as_name 2) (cons nil nil))) (cons nil (mark 3 nil))))) nil) (cons (node Template 4 5 (cons (leaf as_raw 4) nil)) nil))) (cons nil nil)))) (cons nil nil))) nil) nil) nil))) 5)
+    k.TemplateWhole ∷ [])
+    ≡ gives (node Module 0 5
+    (cons nil (cons (turn
+    (cons (node ExpressionStatement 0 5
+    (cons (node Chain 0 5 (cons (node Name 0 1 (cons (leaf as_name 0) nil))
+    (cons (node TypedTemplatePost 1 5
+    (cons (cons (node TypeArguments 1 4
+    (mark 1 (cons (node EntityOfType 2 3 (cons (leaf as_name 2) (cons nil nil))) (cons nil (mark 3 nil)))))
+    nil) (cons (node Template 4 5 (cons (leaf as_raw 4) nil)) nil))) (cons nil nil)))) (cons nil nil)))
+    nil) nil) nil))) 5)
     -- a<b<c>>(d)
     × (read_program lang.Typescript mode.Module (one k.Name ∷ one k.Less ∷ one k.Name ∷ one k.Less ∷ one k.Name ∷
     joined k.Greater ∷ joined k.Greater ∷ paired k.OpenParen 9 ∷ one k.Name ∷ paired k.CloseParen 7 ∷ []) ≡ gives
-    (node Module 0 10 (cons nil (cons (turn (cons (node ExpressionStatement 0 10 (cons (node Chain 0 10 (cons (node Name 0 1 (cons (leaf as_name 0) nil)) (cons (node TypedCallPost 1 10 (cons
-    (cons (node TypeArguments 1 7 (mark 1 (cons (node Reference 2 6 (cons (node EntityOfType 2 3 (cons (leaf as_name 2) (cons nil nil))) (cons (node TypeArguments 3 6 (mark 3
+    (node Module 0 10 (cons nil
+    (cons (turn (cons (node ExpressionStatement 0 10
+    (cons (node Chain 0 10
+    (cons (node Name 0 1 (cons (leaf as_name 0) nil)) (cons (node TypedCallPost 1 10 (cons
+    (cons (node TypeArguments 1 7
+    (mark 1 (cons (node Reference 2 6
+    (cons (node EntityOfType 2 3 (cons (leaf as_name 2) (cons nil nil))) (cons (node TypeArguments 3 6 (mark 3
     (cons (node EntityOfType 4 5 (cons (leaf as_name 4) (cons nil nil))) (cons nil (mark 5 nil))))) nil)))
     (cons nil (mark 6 nil))))) nil) (cons (node Arguments 7 10 (mark 7 (cons (turn (cons nil (cons (node
     Name 8 9 (cons (leaf as_name 8) nil)) (cons nil nil))) nil) (mark 9 nil)))) nil))) (cons nil nil))))
@@ -183,7 +200,14 @@ arguments_read :
     6) nil)) (cons nil nil))) nil) (mark 7 nil)))) nil) nil))))) (cons nil nil))) nil) nil) nil))) 8)
     -- new A<b>`c`
     × (read_program lang.Typescript mode.Module (one k.NewWord ∷ one k.Name ∷ one k.Less ∷ one k.Name ∷ joined
-    k.Greater ∷ one k.TemplateWhole ∷ []) ≡ gives (node Module 0 6 (cons nil (cons (turn (cons (node ExpressionStatement 0 6 (cons (node Chain 0 6 (cons (node TypedNew 0 5 (mark 0 (cons (node Name 1 2 (cons (leaf as_name 1) nil)) (cons (cons (node TypeArguments 2 5 (mark 2 (cons (node
+    k.Greater ∷ one k.TemplateWhole ∷ [])
+    ≡ gives (node Module 0 6
+    (cons nil (cons (turn
+    (cons (node ExpressionStatement 0 6
+    (cons (node Chain 0 6
+    (cons (node TypedNew 0 5
+    (mark 0 (cons (node Name 1 2 (cons (leaf as_name 1) nil))
+    (cons (cons (node TypeArguments 2 5 (mark 2 (cons (node
     EntityOfType 3 4 (cons (leaf as_name 3) (cons nil nil))) (cons nil (mark 4 nil))))) nil) (cons nil
     nil))))) (cons (node TemplatePost 5 6 (cons (node Template 5 6 (cons (leaf as_raw 5) nil)) nil))
     (cons nil nil)))) (cons nil nil))) nil) nil) nil))) 6)
@@ -293,9 +317,17 @@ arrows_read :
     -- async <T>(a: T): b => c
     × (read_program lang.Typescript mode.Module (one k.AsyncWord ∷ one k.Less ∷ one k.Name ∷ joined k.Greater ∷ paired
     k.OpenParen 8 ∷ one k.Name ∷ one k.Colon ∷ one k.Name ∷ paired k.CloseParen 4 ∷ one k.Colon ∷ one k.Name ∷ one
-    k.Arrow ∷ one k.Name ∷ []) ≡ gives (node Module 0 13 (cons nil (cons (turn (cons (node ExpressionStatement 0 13 (cons (node TypedAsyncParenthesizedArrow 0 13 (mark 0 (cons (cons (node TypeParameters 1 4 (mark 1 (cons nil (cons (leaf as_name 2) (cons nil (cons nil (cons nil (cons nil (mark 3
+    k.Arrow ∷ one k.Name ∷ [])
+    ≡ gives (node Module 0 13
+    (cons nil (cons (turn
+    (cons (node ExpressionStatement 0 13
+    (cons (node TypedAsyncParenthesizedArrow 0 13
+    (mark 0 (cons (cons (node TypeParameters 1 4
+    (mark 1 (cons nil (cons (leaf as_name 2) (cons nil (cons nil (cons nil (cons nil (mark 3
     nil))))))))) nil) (mark 4 (cons (node TypedParameters 5 8 (cons (turn (cons (node MarkedParameter 5 8 (cons
-    (node NamePattern 5 6 (cons (leaf as_name 5) nil)) (cons nil (cons (mark 6 (cons (node EntityOfType 7 8 (cons (leaf as_name 7) (cons nil nil))) nil)) (cons nil nil))))) (cons nil nil)) nil) (cons nil
+    (node NamePattern 5 6 (cons (leaf as_name 5) nil))
+    (cons nil (cons (mark 6 (cons (node EntityOfType 7 8 (cons (leaf as_name 7) (cons nil nil))) nil))
+    (cons nil nil))))) (cons nil nil)) nil) (cons nil
     nil))) (mark 8 (cons (mark 9 (cons (node EntityOfType 10 11 (cons (leaf as_name 10) (cons nil nil))) nil))
     (mark 11 (cons (cons (node Name 12 13 (cons (leaf as_name 12) nil)) nil) nil))))))))) (cons nil nil)))
     nil) nil) nil))) 13)
@@ -318,7 +350,10 @@ arrows_read :
     -- [(a): b => c]
     × (read_program lang.Typescript mode.Module (paired k.OpenBracket 8 ∷ paired k.OpenParen 3 ∷ one k.Name ∷ paired
     k.CloseParen 1 ∷ one k.Colon ∷ one k.Name ∷ one k.Arrow ∷ one k.Name ∷ paired k.CloseBracket 0 ∷ []) ≡ gives (node
-    Module 0 9 (cons nil (cons (turn (cons (node ExpressionStatement 0 9 (cons (node ArrayLiteral 0 9 (mark 0 (cons (turn (cons (cons (node TypedParenthesizedArrow 1 8 (cons nil (mark 1 (cons
+    Module 0 9 (cons nil
+    (cons (turn (cons (node ExpressionStatement 0 9
+    (cons (node ArrayLiteral 0 9
+    (mark 0 (cons (turn (cons (cons (node TypedParenthesizedArrow 1 8 (cons nil (mark 1 (cons
     (node TypedParameters 2 3 (cons (turn (cons (node NamePattern 2 3 (cons (leaf as_name 2) nil)) (cons
     nil nil)) nil) (cons nil nil))) (mark 3 (cons (mark 4 (cons (node EntityOfType 5 6 (cons (leaf as_name 5)
     (cons nil nil))) nil)) (mark 6 (cons (cons (node Name 7 8 (cons (leaf as_name 7) nil)) nil) nil))))))))
@@ -327,13 +362,27 @@ arrows_read :
     × (read_program lang.Typescript mode.Module (paired k.OpenBrace 10 ∷ one k.Name ∷ one k.Colon ∷ paired k.OpenParen
     5 ∷ one k.Name ∷ paired k.CloseParen 3 ∷ one k.Colon ∷ one k.Name ∷ one k.Arrow ∷ one k.Name ∷ paired k.CloseBrace
     0 ∷ []) ≡ gives (node Module 0 11 (cons nil (cons (turn (cons (node Block 0 11 (mark 0 (cons
-    (turn (cons (node LabelledStatement 1 10 (cons (leaf as_name 1) (mark 2 (cons (node ExpressionStatement 3 10 (cons (node TypedParenthesizedArrow 3 10 (cons nil (mark 3 (cons (node TypedParameters 4 5 (cons (turn (cons (node NamePattern 4 5 (cons (leaf as_name 4) nil)) (cons nil nil)) nil)
+    (turn (cons (node LabelledStatement 1 10
+    (cons (leaf as_name 1)
+    (mark 2 (cons (node ExpressionStatement 3 10
+    (cons (node TypedParenthesizedArrow 3 10
+    (cons nil (mark 3 (cons
+    (node TypedParameters 4 5
+    (cons (turn (cons (node NamePattern 4 5 (cons (leaf as_name 4) nil)) (cons nil nil)) nil)
     (cons nil nil))) (mark 5 (cons (mark 6 (cons (node EntityOfType 7 8 (cons (leaf as_name 7) (cons nil
     nil))) nil)) (mark 8 (cons (cons (node Name 9 10 (cons (leaf as_name 9) nil)) nil) nil)))))))) (cons nil
     nil))) nil)))) nil) nil) (mark 10 nil)))) nil) nil) nil))) 11)
     -- (this) => a
     × (read_program lang.Typescript mode.Module (paired k.OpenParen 2 ∷ one k.ThisWord ∷ paired k.CloseParen 0 ∷ one
-    k.Arrow ∷ one k.Name ∷ []) ≡ gives (node Module 0 5 (cons nil (cons (turn (cons (node ExpressionStatement 0 5 (cons (node TypedParenthesizedArrow 0 5 (cons nil (mark 0 (cons (node TypedParameters 1 2 (cons (turn (cons (node ThisParameter 1 2 (cons (leaf as_there 1) (cons nil (cons nil (cons nil
+    k.Arrow ∷ one k.Name ∷ [])
+    ≡ gives (node Module 0 5
+    (cons nil (cons (turn
+    (cons (node ExpressionStatement 0 5
+    (cons (node TypedParenthesizedArrow 0 5
+    (cons nil (mark 0 (cons
+    (node TypedParameters 1 2
+    (cons (turn (cons (node ThisParameter 1 2
+    (cons (leaf as_there 1) (cons nil (cons nil (cons nil
     nil))))) (cons nil nil)) nil) (cons nil nil))) (mark 2 (cons nil (mark 3 (cons (cons (node Name 4 5 (cons
     (leaf as_name 4) nil)) nil) nil)))))))) (cons nil nil))) nil) nil) nil))) 5)
     -- yield <T>(a) => b
@@ -402,7 +451,9 @@ arrows_read =
 -- items of modules
 items_read :
     -- export = a
-    (read_program lang.Typescript mode.Module (one k.ExportWord ∷ one k.Equal ∷ one k.Name ∷ []) ≡ gives (node Module 0 3 (cons nil (cons (turn (cons (node ExportAssignment 0 3 (mark 0 (mark 1 (cons (node Name 2 3
+    (read_program lang.Typescript mode.Module (one k.ExportWord ∷ one k.Equal ∷ one k.Name ∷ [])
+    ≡ gives (node Module 0 3
+    (cons nil (cons (turn (cons (node ExportAssignment 0 3 (mark 0 (mark 1 (cons (node Name 2 3
     (cons (leaf as_name 2) nil)) (cons nil nil))))) nil) nil) nil))) 3)
     -- export abstract class A { }
     × (read_program lang.Typescript mode.Module (one k.ExportWord ∷ one k.AbstractWord ∷ one k.ClassWord ∷ one k.Name
@@ -417,7 +468,8 @@ items_read :
     -- export default interface A { }
     × (read_program lang.Typescript mode.Module (one k.ExportWord ∷ one k.DefaultWord ∷ one k.InterfaceWord ∷ one
     k.Name ∷ paired k.OpenBrace 5 ∷ paired k.CloseBrace 4 ∷ []) ≡ gives (node Module 0 6 (cons nil (cons
-    (turn (cons (node ExportDefaultInterface 0 6 (mark 0 (mark 1 (cons (node InterfaceDeclaration 2 6 (mark 2 (cons (leaf as_name
+    (turn (cons (node ExportDefaultInterface 0 6
+    (mark 0 (mark 1 (cons (node InterfaceDeclaration 2 6 (mark 2 (cons (leaf as_name
     3) (cons nil (cons nil (mark 4 (cons nil (mark 5 nil)))))))) nil)))) nil) nil) nil))) 6)
     -- export type A = b
     × (read_program lang.Typescript mode.Module (one k.ExportWord ∷ one k.TypeWord ∷ one k.Name ∷ one k.Equal ∷ one

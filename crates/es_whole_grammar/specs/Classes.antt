@@ -106,10 +106,12 @@ modified_member l c =
     (make (label_by l AccessorMember TypedAccessorMember) (marked_in l accessor_word_in (class_method_in l c c)))
     (pick (behind l (opens_async true))
     (make (label_by l AsyncMember TypedAsyncMember) (marked_in l async_word_in (class_method_in l c (async_in c))))
-    (pick (behind l opens_star) (make (label_by l GeneratorMember TypedGeneratorMember) (marked_in l star_word_in (class_method_in l c c)))
+    (pick (behind l opens_star)
+    (make (label_by l GeneratorMember TypedGeneratorMember) (marked_in l star_word_in (class_method_in l c c)))
     (pick (behind l opens_field_accessor)
     (make (label_by l AccessorField TypedAccessorField) (marked_in l field_word_in (field_in l c)))
-    (pick (behind l (opens_any_method l)) (make (label_by l MethodMember TypedMethodMember) (head_in l (class_method_in l c c)))
+    (pick (behind l (opens_any_method l))
+    (make (label_by l MethodMember TypedMethodMember) (head_in l (class_method_in l c c)))
     (make (label_by l FieldMember TypedFieldMember) (head_in l (field_in l c)))))))
 
 -- TS Mod* '[' Name ':' Type ']' (':' Type)? END

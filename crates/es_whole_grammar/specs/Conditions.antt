@@ -29,8 +29,8 @@ abbrev pub ends_in_member : Bool → Plain Label → Plain Label → Bool
 ends_in_member before p (turn (cons q ps) rest) = ends_in_member (unless_non_null p before) q rest
 ends_in_member before p _ = unless_non_null p before
 
--- the parts of a turn are `as const`, or `as` or `satisfies` with a type: a group of its own stands behind the word, and
--- behind any other operator an operand
+-- the parts of a turn are `as const`, or `as` or `satisfies` with a type: a group of its own stands behind the word,
+-- and behind any other operator an operand
 abbrev pub is_assertion : Plain Label → Bool
 is_assertion (cons operator (cons (cons q ps) rest)) = true
 is_assertion _ = false

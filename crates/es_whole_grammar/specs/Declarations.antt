@@ -128,7 +128,8 @@ typed_declaration c other =
     (pick opens_module (module_namespace c)
     (pick opens_global (global c) other))))
 
--- what stands behind `declare` besides variables: Fn | Class | InterfaceDeclaration | AliasDeclaration | EnumDeclaration | Space
+-- what stands behind `declare` besides variables:
+-- Fn | Class | InterfaceDeclaration | AliasDeclaration | EnumDeclaration | Space
 unfoldable pub declared : Context → Rule Row Label
 declared c =
     pick opens_enum (enum_ c)
@@ -155,7 +156,8 @@ plain_declaration l c other =
     (pick opens_using (make UsingDeclaration (row (UsingRow c) (plain_form ended)))
     (pick opens_async_function (async_function l true c) other))))
 
--- Decl: Var END | Using END | Fn | Class | TS 'declare'? (InterfaceDeclaration | AliasDeclaration | EnumDeclaration | Space)
+-- Decl: Var END | Using END | Fn | Class
+--       | TS 'declare'? (InterfaceDeclaration | AliasDeclaration | EnumDeclaration | Space)
 --       | TS 'declare' (Var END | Fn | Class)
 unfoldable pub declaration : Lang → Context → Rule Row Label → Rule Row Label
 declaration lang.Es c other = plain_declaration lang.Es c other

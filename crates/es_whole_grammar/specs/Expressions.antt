@@ -87,7 +87,8 @@ begins_parameters lang.Typescript x = is k.OpenParen x || is k.Less x
 -- Name ~ '=>' .. | (TS TParams)? '(' Params ')' (TS ':' Ret)? ~ '=>' ..
 unfoldable pub plain_arrow : Lang → Context → Rule Row Label
 plain_arrow l c =
-    choose (begins_parameters l) (make (label_by l ParenthesizedArrow TypedParenthesizedArrow) (parameters_arrow_in l (outside c) c c))
+    choose (begins_parameters l)
+    (make (label_by l ParenthesizedArrow TypedParenthesizedArrow) (parameters_arrow_in l (outside c) c c))
     (make NameArrow (tok as_name is_name (arrow_in c c)))
 
 unfoldable pub opens_async_list : Lang → Guard
@@ -98,8 +99,8 @@ opens_async_list lang.Typescript K at = is k.OpenParen (seen K (at + 1)) || is k
 unfoldable pub async_arrow : Lang → Context → Rule Row Label
 async_arrow l c =
     pick (opens_async_list l)
-    (make (label_by l AsyncParenthesizedArrow TypedAsyncParenthesizedArrow) (punct k.AsyncWord (when_ is_near (parameters_arrow_in l (async_in c) c
-    (async_here c)))))
+    (make (label_by l AsyncParenthesizedArrow TypedAsyncParenthesizedArrow)
+    (punct k.AsyncWord (when_ is_near (parameters_arrow_in l (async_in c) c (async_here c)))))
     (make AsyncNameArrow (punct k.AsyncWord (when_ is_near (tok as_name is_name (arrow_in c (async_here c))))))
 
 -- ---- templates
@@ -132,13 +133,14 @@ body_in lang.Typescript c =
 -- 'function' '*'? Name? Sig (Block | TS END)
 unfoldable pub function : Lang → Bool → Context → Rule Row Label
 function l named c =
-    make (label_by l Function TypedFunction) (punct k.FunctionWord (star_in (name_in named (row (SignatureRow (outside c))
-    (body_in l (outside c))))))
+    make (label_by l Function TypedFunction) (punct k.FunctionWord (star_in (name_in named
+    (row (SignatureRow (outside c)) (body_in l (outside c))))))
 
 -- 'async' ~ 'function' '*'? Name? Sig (Block | TS END)
 unfoldable pub async_function : Lang → Bool → Context → Rule Row Label
 async_function l named c =
-    make (label_by l AsyncFunction TypedAsyncFunction) (punct k.AsyncWord (when_ is_near (punct k.FunctionWord (star_in (name_in named
+    make (label_by l AsyncFunction TypedAsyncFunction)
+    (punct k.AsyncWord (when_ is_near (punct k.FunctionWord (star_in (name_in named
     (row (SignatureRow (async_in c)) (body_in l (async_in c))))))))
 
 -- Fn: 'function' .. | 'async' ~ 'function' ..

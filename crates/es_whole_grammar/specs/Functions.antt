@@ -210,8 +210,10 @@ property l c =
     (make (label_by l AsyncProperty TypedAsyncProperty) (punct k.AsyncWord (star_in (where_ is_plain_key
     (method_in l (outside c) (async_in c))))))
     (choose (is k.Star)
-    (make (label_by l GeneratorProperty TypedGeneratorProperty) (punct k.Star (where_ is_plain_key (method_in l (outside c) (outside c)))))
-    (pick (opens_any_method l) (make (label_by l MethodProperty TypedMethodProperty) (method_in l (outside c) (outside c)))
+    (make (label_by l GeneratorProperty TypedGeneratorProperty)
+    (punct k.Star (where_ is_plain_key (method_in l (outside c) (outside c)))))
+    (pick (opens_any_method l)
+    (make (label_by l MethodProperty TypedMethodProperty) (method_in l (outside c) (outside c)))
     (pick opens_value (make KeyValue (row (KeyRow false (outside c)) (punct k.Colon (row (AssignmentRow
     (outside c)) done))))
     (make Shorthand (tok as_name is_name done)))))))

@@ -79,8 +79,9 @@ using_ c = make Using (using_in c (declarators c))
 -- Head: ('var' | 'let' | 'const') Pat (TS ':' Type)? | ('await' ~)? 'using' ~ Name | Target
 unfoldable pub head : Lang → Context → Rule Row Label
 head l c =
-    choose (has_kind is_variable_word) (make (label_by l VariableHead TypedVariableHead) (tok as_kind is_variable_word (row
-    (PatternRow false c) (typed_in l annotation_in done))))
+    choose (has_kind is_variable_word)
+    (make (label_by l VariableHead TypedVariableHead)
+    (tok as_kind is_variable_word (row (PatternRow false c) (typed_in l annotation_in done))))
     (pick opens_using (make UsingHead (using_in c (tok as_name is_name done)))
     (pick opens_head_pattern (pattern l true c) (target l (in_head c))))
 

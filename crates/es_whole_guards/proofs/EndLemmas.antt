@@ -71,7 +71,8 @@ module _ (which : TypePart) (K : List Key) (at : ℕ) (within : at ≤ length K)
         → (n : Option ℕ) → end ≡ n → ends_before g K o ≡ holds_behind g K n
     at_answer nothing e None is_end = refl
     at_answer nothing e (Some n) is_end =
-        nothing_gives (if_some_of (λ to. Reaches which K 500 at to) end n some is_end).plain n (sym e ∙ read_of n (if_some_of (λ to. Reaches which K 500 at to) end n some is_end))
+        nothing_gives (if_some_of (λ to. Reaches which K 500 at to) end n some is_end).plain n
+        (sym e ∙ read_of n (if_some_of (λ to. Reaches which K 500 at to) end n some is_end))
     at_answer (gives p to) e n is_end = at_tree p to e (leb (tall p) 500) refl n is_end
 
     -- a guard holds behind what is read exactly where it does behind the end

@@ -1,8 +1,23 @@
--- One of two guards, by the language.
+-- A member with its modifiers, by the guards that tell behind the modifiers which it is.
 use Rattle.es_tree.specs.declared.error.Lang.{Lang}
-use Rattle.es_tree.specs.declared.error.Lang.TheVariants as lang
-use Rattle.es_whole_guards.specs.declared.named.Guard.{Guard}
+use Rattle.es_tree.specs.Form.{Guard, Rule, make, pick}
+use Rattle.es_whole_grammar.specs.declared.rows.Context.{Context}
+use Rattle.es_whole_grammar.specs.declared.rows.Row.{Row}
+use Rattle.es_whole_grammar.specs.declared.rows.Label.{Label}
+use Rattle.es_whole_grammar.specs.declared.rows.Label.TheVariants.{AccessorField, AccessorMember, AsyncMember, FieldMember, GeneratorMember, MethodMember, TypedAccessorField, TypedAccessorMember, TypedAsyncMember, TypedFieldMember, TypedGeneratorMember, TypedMethodMember}
+use Rattle.es_whole_grammar.specs.Rows.{async_in}
+use Rattle.es_whole_grammar.specs.Embedding.{label_by}
+use Rattle.es_whole_grammar.specs.Classes.{head_in, marked_in, accessor_word_in, async_word_in, star_word_in, field_word_in, class_method_in, field_in}
 
-abbrev pub behind_of : Lang → Guard → Guard → Guard
-behind_of lang.Es plain typed = plain
-behind_of lang.Typescript plain typed = typed
+-- the guards of an accessor, an async method, a generator, a field with `accessor`, a method
+abbrev pub member_behind : Lang → Context → Guard → Guard → Guard → Guard → Guard → Rule Row Label
+member_behind l c accessor asynced star field method =
+    pick accessor
+    (make (label_by l AccessorMember TypedAccessorMember) (marked_in l accessor_word_in (class_method_in l c c)))
+    (pick asynced
+    (make (label_by l AsyncMember TypedAsyncMember) (marked_in l async_word_in (class_method_in l c (async_in c))))
+    (pick star
+    (make (label_by l GeneratorMember TypedGeneratorMember) (marked_in l star_word_in (class_method_in l c c)))
+    (pick field (make (label_by l AccessorField TypedAccessorField) (marked_in l field_word_in (field_in l c)))
+    (pick method (make (label_by l MethodMember TypedMethodMember) (head_in l (class_method_in l c c)))
+    (make (label_by l FieldMember TypedFieldMember) (head_in l (field_in l c)))))))

@@ -1,2 +1,2 @@
--- the guards behind modifiers, by the language
+-- a member with its modifiers, by what stands behind them
 pub mod Behind

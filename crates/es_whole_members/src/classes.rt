@@ -2,7 +2,8 @@
 
 ghost use Rattle.es_whole_grammar.specs.Classes.{static_in, opens_modifier, head_in, marked_in, accessor_word_in, async_word_in, star_word_in, field_word_in, value_in, class_method_in, field_in, index_member, modified_member, any_member, member};
 ghost use Rattle.es_whole_grammar.specs.Functions.{modifiers_in};
-ghost use Rattle.es_whole_members.specs.Behind.{behind_of};
+ghost use Rattle.es_whole_guards.specs.Named.{guard_of};
+ghost use Rattle.es_whole_members.specs.Behind.{member_behind};
 
 use crate::ends::Ended;
 use crate::properties::MarkedHeadIn;
@@ -327,24 +328,21 @@ impl ReadsRule for IndexMember {
     }
 }
 
-/// The guards behind the modifiers, by the language.
-fn behind(lang: Lang, plain: Guard, typed: Guard) -> Guard
-    ensures { result ≡ behind_of lang plain typed }
-{
-    match lang {
-        Lang::Es => plain,
-        Lang::Typescript => typed,
-    }
+/// Member, with its modifiers: a method or a field, by the guards that tell which behind the modifiers.
+#[derive(Clone, Copy)]
+struct MemberBehind {
+    lang: Lang,
+    context: Context,
+    accessor: Guard,
+    asynced: Guard,
+    star: Guard,
+    field: Guard,
+    method: Guard,
 }
 
-/// Member, with its modifiers: a method or a field.
-#[derive(Clone, Copy)]
-pub struct ModifiedMember(pub Lang, pub Context);
+impl ReadsRule for MemberBehind {
+    ghost rule = { λ s. member_behind s.lang s.context (guard_of s.accessor) (guard_of s.asynced) (guard_of s.star) (guard_of s.field) (guard_of s.method) };
 
-impl ReadsRule for ModifiedMember {
-    ghost rule = { λ s. modified_member s.0 s.1 };
-
-    #[tactic(auto, unfolding(es_whole_grammar::specs::Classes::modified_member))]
     fn read<F: Fn(Input<'_>, usize, Row, &mut Cursor) -> Result<Measured, SyntaxError>>(
         &self,
         grammar: &Grammar<'_, F>,
@@ -355,13 +353,13 @@ impl ReadsRule for ModifiedMember {
             no_colon: false,
             in_constructor: false,
             in_async: true,
-            ..self.1
+            ..self.context
         };
-        let lang = self.0;
-        let method = ClassMethodIn(lang, self.1, self.1);
-        let field = FieldIn(lang, self.1);
+        let lang = self.lang;
+        let method = ClassMethodIn(lang, self.context, self.context);
+        let field = FieldIn(lang, self.context);
         Pick(
-            behind(lang, Guard::BehindStaticAccessor, Guard::BehindAllAccessor),
+            self.accessor,
             MakeBy(
                 lang,
                 Label::AccessorMember,
@@ -369,15 +367,15 @@ impl ReadsRule for ModifiedMember {
                 AccessorHead(lang, method),
             ),
             Pick(
-                behind(lang, Guard::BehindStaticAsync, Guard::BehindAllAsync),
+                self.asynced,
                 MakeBy(
                     lang,
                     Label::AsyncMember,
                     Label::TypedAsyncMember,
-                    AsyncHead(lang, ClassMethodIn(lang, self.1, async_in)),
+                    AsyncHead(lang, ClassMethodIn(lang, self.context, async_in)),
                 ),
                 Pick(
-                    behind(lang, Guard::BehindStaticStar, Guard::BehindAllStar),
+                    self.star,
                     MakeBy(
                         lang,
                         Label::GeneratorMember,
@@ -385,11 +383,7 @@ impl ReadsRule for ModifiedMember {
                         StarHead(lang, method),
                     ),
                     Pick(
-                        behind(
-                            lang,
-                            Guard::BehindStaticFieldAccessor,
-                            Guard::BehindAllFieldAccessor,
-                        ),
+                        self.field,
                         MakeBy(
                             lang,
                             Label::AccessorField,
@@ -397,7 +391,7 @@ impl ReadsRule for ModifiedMember {
                             FieldHead(lang, field),
                         ),
                         Pick(
-                            behind(lang, Guard::BehindStaticMethod, Guard::BehindAllMethod),
+                            self.method,
                             MakeBy(
                                 lang,
                                 Label::MethodMember,
@@ -416,6 +410,45 @@ impl ReadsRule for ModifiedMember {
             ),
         )
         .read(grammar, cursor)
+    }
+}
+
+/// The same; in JavaScript the one modifier is `static`.
+#[derive(Clone, Copy)]
+pub struct ModifiedMember(pub Lang, pub Context);
+
+impl ReadsRule for ModifiedMember {
+    ghost rule = { λ s. modified_member s.0 s.1 };
+
+    #[tactic(auto, unfolding(es_whole_grammar::specs::Classes::modified_member, es_whole_grammar::specs::Functions::opens_any_method))]
+    fn read<F: Fn(Input<'_>, usize, Row, &mut Cursor) -> Result<Measured, SyntaxError>>(
+        &self,
+        grammar: &Grammar<'_, F>,
+        cursor: &mut Cursor,
+    ) -> Result<Measured, SyntaxError> {
+        let context = self.1;
+        match self.0 {
+            Lang::Es => MemberBehind {
+                lang: Lang::Es,
+                context,
+                accessor: Guard::BehindStaticAccessor,
+                asynced: Guard::BehindStaticAsync,
+                star: Guard::BehindStaticStar,
+                field: Guard::BehindStaticFieldAccessor,
+                method: Guard::BehindStaticMethod,
+            }
+            .read(grammar, cursor),
+            Lang::Typescript => MemberBehind {
+                lang: Lang::Typescript,
+                context,
+                accessor: Guard::BehindAllAccessor,
+                asynced: Guard::BehindAllAsync,
+                star: Guard::BehindAllStar,
+                field: Guard::BehindAllFieldAccessor,
+                method: Guard::BehindAllMethod,
+            }
+            .read(grammar, cursor),
+        }
     }
 }
 

@@ -14,4 +14,4 @@ pub use patterns::{
     ArrayPattern, BracketPattern, DefaultIn, InnerPattern, ObjectPattern, Pattern, PatternElement,
     PatternProperty, Target,
 };
-pub use properties::{AsyncMethodIn, Key, MethodIn, PlainKey, Property};
+pub use properties::{Key, MethodIn, PlainKey, Property};

@@ -22,7 +22,7 @@ pub struct Parameters(pub Lang, pub Context);
 impl ReadsRule for Parameters {
     ghost rule = { λ s. parameters s.0 s.1 };
 
-    #[tactic(auto, unfolding(es_whole_grammar::specs::Functions::parameters))]
+    #[tactic(auto, unfolding(es_whole_grammar::specs::Functions::parameters, es_whole_grammar::specs::Functions::rest_in))]
     fn read<F: Fn(Input<'_>, usize, Row, &mut Cursor) -> Result<Measured, SyntaxError>>(
         &self,
         grammar: &Grammar<'_, F>,

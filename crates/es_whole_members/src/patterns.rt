@@ -10,8 +10,8 @@ use es_whole_grammar::{Context, Label, Row};
 use es_whole_reader::Ahead::{Has, Is, Other};
 use es_whole_reader::Told::{Hint, Taken};
 use es_whole_reader::{
-    Alt, As, Choose, Cursor, Done, Grammar, Guard, Input, Kinds, Make, Many, Measured, OfRow, Opt,
-    Parts, Pick, Punct, ReadsForm, ReadsRule, Sort, Tok, When, Wrap,
+    Ahead, Alt, As, Choose, Cursor, Done, Grammar, Guard, Input, Kinds, Make, Many, Measured,
+    OfRow, Opt, Parts, Pick, Punct, ReadsForm, ReadsRule, Sort, Tok, When, Wrap,
 };
 
 /// ('=' Assign)?, and what stands behind it

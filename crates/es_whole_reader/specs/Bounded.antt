@@ -1,5 +1,5 @@
--- The reader of the table of programs, as the code runs it: it keeps of each part what `slim` keeps, counts the nodes on a
--- path, and makes no node that stands on a path with too many.
+-- The reader of the table of programs, as the code runs it: it keeps of each part what `slim` keeps, counts the nodes
+-- on a path, and makes no node that stands on a path with too many.
 use Rattle.std.specs.Prelude.{ℕ, zero, suc, ◌+◌, leb, Bool, true, false, List, length}
 use Rattle.es_tree.specs.declared.error.Lang.{Lang}
 use Rattle.es_tree.specs.Key.{Key, seen}
@@ -37,7 +37,8 @@ unfoldable pub wraps_at : List Key → Label → Guard → (ℕ → Out Read) �
 wraps_at K l t parts from zero q at = either (t K at) nothing (gives q at)
 wraps_at K l t parts from (suc n) q at =
     either (t K at)
-    (and_then (parts at) (λ ps to. and_then (node_at l from to (makes.of_cons q ps)) (wraps_at K l t parts from n))) (gives q at)
+    (and_then (parts at) (λ ps to. and_then (node_at l from to (makes.of_cons q ps)) (wraps_at K l t parts from n)))
+    (gives q at)
 
 -- a rule
 abbrev pub rule_at : List Key → Below → Rule Row Label → ℕ → Out Read

@@ -35,7 +35,8 @@ IsPart out (Err e) to = e ≢ OutOfMemory → out ≡ nothing
 -- the parts that were read stand behind those that were there
 abbrev pub Adds : {A : Type 0} → Out Read → Parts → Parts → Result A SyntaxError → ℕ → Type 0
 Adds out old new (Ok u) to =
-    (ts : List Tree) × (h : ℕ) × (out ≡ gives (group ts h) to) × (new.trees ≡ old.trees ++ ts) × (new.height ≡ max old.height h)
+    (ts : List Tree) × (h : ℕ) × (out ≡ gives (group ts h) to) × (new.trees ≡ old.trees ++ ts)
+    × (new.height ≡ max old.height h)
 Adds out old new (Err e) to = e ≢ OutOfMemory → out ≡ nothing
 
 -- a function value that reads each row where so many rows may stand on a path
@@ -43,5 +44,6 @@ pub record IsRing (input : Input) (room : ℕ)
     (pre : Input → ℕ → Row → MutBor Cursor → Type 0)
     (post : Input → ℕ → Row → MutBor Cursor → Result Measured SyntaxError → MutBor Cursor → Type 0) : Type 0 where
   pub callable : (r : Row) (old : MutBor Cursor) → pre input room r old
-  pub reads : (r : Row) (old new : MutBor Cursor) (answer : Result Measured SyntaxError) → post input room r old answer new
+  pub reads : (r : Row) (old new : MutBor Cursor) (answer : Result Measured SyntaxError)
+      → post input room r old answer new
       → IsRead (row_at input.lang (keys_of input.tokens.tokens.now) room r old.now.at) answer new.now.at

@@ -392,7 +392,7 @@ pub struct Statement(pub Lang, pub Context);
 impl ReadsRule for Statement {
     ghost rule = { λ s. statement s.0 s.1 };
 
-    #[tactic(auto, unfolding(es_whole_grammar::specs::Declarations::statement))]
+    #[tactic(auto, unfolding(es_whole_grammar::specs::Declarations::statement, es_whole_grammar::specs::Statements::other_statement))]
     fn read<F: Fn(Input<'_>, usize, Row, &mut Cursor) -> Result<Measured, SyntaxError>>(
         &self,
         grammar: &Grammar<'_, F>,

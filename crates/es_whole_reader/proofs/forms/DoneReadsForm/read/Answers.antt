@@ -6,5 +6,6 @@ use Rattle.es_whole_reader.proofs.forms.DoneReadsForm.read.Goals as goal
 pub returns : goal.returns
 returns g c =
     adds_done (keys_of c.args._grammar.now.input.tokens.tokens.now)
-    (row_at c.args._grammar.now.input.lang (keys_of c.args._grammar.now.input.tokens.tokens.now) c.args._grammar.now.room) c.args._cursor.now.at
+    (row_at c.args._grammar.now.input.lang (keys_of c.args._grammar.now.input.tokens.tokens.now)
+    c.args._grammar.now.room) c.args._cursor.now.at
     c.args._parts.now
