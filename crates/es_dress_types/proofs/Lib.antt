@@ -1,2 +1,4 @@
-mod ElementLemmas
-mod WordLemmas
+-- brackets behind a type
+mod ArrayLemmas
+-- labels that differ
+mod LabelLemmas

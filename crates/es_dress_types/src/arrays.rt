@@ -1,16 +1,17 @@
 //! `[]` and `[a]` behind a type, one behind the other.
 
-ghost use Rattle.std.specs.Prelude.{◌≡◌, ◌+◌};
+ghost use Rattle.std.specs.Prelude.{◌≡◌, ◌+◌, IfOk};
 ghost use Rattle.es_dress.specs.Types.{array_types, indexed, indexes};
 ghost use Rattle.es_dresser.specs.Nodes.{IsWithin};
 ghost use Rattle.es_dresser.specs.Ring.{IsMade, IsRing, parts_in};
-ghost use Rattle.es_dress_types.specs.Ring.{IsTypeRing};
+ghost use Rattle.es_dress_type_parts.specs.Ring.{IsTypeRing};
 
-use crate::base::Types;
+use crate::types::Types;
 use base::{Boxed, Range};
 use es_ast::{Expr, ModuleItem, Pat, Stmt};
 use es_dresser::{DressError, Source, group_in};
 use es_whole_reader::Tree;
+use std::alloc::AllocError;
 use ts_ast::{TsParamPat, TsType};
 
 impl<
@@ -20,27 +21,28 @@ impl<
     I: Fn(Source<'_>, &Tree) -> Result<ModuleItem, DressError>,
     T: Fn(Source<'_>, &Tree) -> Result<TsType, DressError>,
     Q: Fn(Source<'_>, &Tree) -> Result<TsParamPat, DressError>,
-> Types<'_, '_, E, P, S, I, T, Q> {
+> Types<'_, '_, '_, E, P, S, I, T, Q> {
     /// `a[]` or `a[b]`, whose `]` is this token.
     #[tactic(auto, unfolding(es_dress::specs::Texts::end_before))]
     fn indexed(
         &self,
         start: usize,
         close: usize,
-        ty: Boxed<TsType>,
+        ty: TsType,
         index: Option<Boxed<TsType>>,
-    ) -> TsType
-        ensures { result ≡ indexed self.now.0.now.source.tokens.now start (close + 1) ty index }
+    ) -> Result<TsType, AllocError>
+        ensures { IfOk result (λ whole. whole ≡ indexed self.now.0.now.0.now.source.tokens.now start (close + 1) ty index) }
     {
-        let end = self.0.source.end_of(close);
+        let end = self.0.0.source.end_of(close);
         let span = Range { start, end };
+        let inner = Boxed::new(self.0.0.source.alloc, ty)?;
         match index {
-            Some(index) => TsType::IndexedAccess {
-                obj: ty,
+            Some(index) => Ok(TsType::IndexedAccess {
+                obj: inner,
                 index,
                 span,
-            },
-            None => TsType::Array { elem: ty, span },
+            }),
+            None => Ok(TsType::Array { elem: inner, span }),
         }
     }
 
@@ -52,40 +54,40 @@ impl<
         before: TsType,
         list: &[Tree],
     ) -> Result<TsType, DressError>
-        requires ring { IsRing self.now.0.now.source self.now.0.now.whole.now (E.pre self.now.0.now.expr) (E.post self.now.0.now.expr)
-            (P.pre self.now.0.now.pat) (P.post self.now.0.now.pat) (S.pre self.now.0.now.stmt) (S.post self.now.0.now.stmt) (I.pre self.now.0.now.item) (I.post self.now.0.now.item) }
-        requires types { IsTypeRing self.now.0.now.source self.now.0.now.whole.now (T.pre self.now.1) (T.post self.now.1) (Q.pre self.now.2) (Q.post self.now.2) }
-        requires within { IsWithin list.now self.now.0.now.whole.now }
-        ensures { IsMade (indexes self.now.0.now.source.tokens.now start (last + 1) before (parts_in self.now.0.now.source list.now)) result }
+        requires ring { IsRing self.now.0.now.0.now.source self.now.0.now.0.now.whole.now (E.pre self.now.0.now.0.now.expr) (E.post self.now.0.now.0.now.expr)
+            (P.pre self.now.0.now.0.now.pat) (P.post self.now.0.now.0.now.pat) (S.pre self.now.0.now.0.now.stmt) (S.post self.now.0.now.0.now.stmt) (I.pre self.now.0.now.0.now.item) (I.post self.now.0.now.0.now.item) }
+        requires types { IsTypeRing self.now.0.now.0.now.source self.now.0.now.0.now.whole.now (T.pre self.now.0.now.1) (T.post self.now.0.now.1) (Q.pre self.now.0.now.2) (Q.post self.now.0.now.2) }
+        requires within { IsWithin list.now self.now.0.now.0.now.whole.now }
+        ensures { IsMade (indexes self.now.0.now.0.now.source.tokens.now start (last + 1) before (parts_in self.now.0.now.0.now.source list.now)) result }
     {
         let mut whole = before;
         let mut close = last;
         let mut rest = list;
         'indexes: while let Some((turn, others)) = rest.split_first() {
-            let group = self.0.group(group_in(turn), 0);
-            let index = self.optional_type(group)?;
-            let inner = Boxed::new(self.0.source.alloc, whole)?;
-            close = self.comma_behind(self.0.source.next(close), group);
-            whole = self.indexed(start, close, inner, index);
+            let group = self.0.0.group(group_in(turn), 0);
+            let index = self.0.optional_type(group)?;
+            let bracket = self.0.comma_behind(self.0.0.source.next(close), group);
+            let made = self.indexed(start, bracket, whole, index)?;
+            whole = made;
+            close = bracket;
             rest = others;
         }
         Ok(whole)
     }
 
     /// `a[]`, `a[b]`, `a[][]`
-    #[tactic(auto, unfolding(es_dress::specs::Types::array_types))]
     pub(crate) fn array_types(&self, span: Range, parts: &[Tree]) -> Result<TsType, DressError>
-        requires ring { IsRing self.now.0.now.source self.now.0.now.whole.now (E.pre self.now.0.now.expr) (E.post self.now.0.now.expr)
-            (P.pre self.now.0.now.pat) (P.post self.now.0.now.pat) (S.pre self.now.0.now.stmt) (S.post self.now.0.now.stmt) (I.pre self.now.0.now.item) (I.post self.now.0.now.item) }
-        requires types { IsTypeRing self.now.0.now.source self.now.0.now.whole.now (T.pre self.now.1) (T.post self.now.1) (Q.pre self.now.2) (Q.post self.now.2) }
-        requires within { IsWithin parts.now self.now.0.now.whole.now }
-        ensures { IsMade (array_types self.now.0.now.source.tokens.now span (parts_in self.now.0.now.source parts.now)) result }
+        requires ring { IsRing self.now.0.now.0.now.source self.now.0.now.0.now.whole.now (E.pre self.now.0.now.0.now.expr) (E.post self.now.0.now.0.now.expr)
+            (P.pre self.now.0.now.0.now.pat) (P.post self.now.0.now.0.now.pat) (S.pre self.now.0.now.0.now.stmt) (S.post self.now.0.now.0.now.stmt) (I.pre self.now.0.now.0.now.item) (I.post self.now.0.now.0.now.item) }
+        requires types { IsTypeRing self.now.0.now.0.now.source self.now.0.now.0.now.whole.now (T.pre self.now.0.now.1) (T.post self.now.0.now.1) (Q.pre self.now.0.now.2) (Q.post self.now.0.now.2) }
+        requires within { IsWithin parts.now self.now.0.now.0.now.whole.now }
+        ensures { IsMade (array_types self.now.0.now.0.now.source.tokens.now span (parts_in self.now.0.now.0.now.source parts.now)) result }
     {
-        let ty = self.boxed_type_at(parts, 0)?;
-        let group = self.0.group(parts, 1);
-        let index = self.optional_type(group)?;
-        let close = self.comma_behind(self.0.last_at(parts, 0), group);
-        let first = self.indexed(span.start, close, ty, index);
-        self.indexes(span.start, close, first, self.0.group(parts, 2))
+        let ty = self.0.type_at(parts, 0)?;
+        let group = self.0.0.group(parts, 1);
+        let index = self.0.optional_type(group)?;
+        let close = self.0.comma_behind(self.0.0.last_at(parts, 0), group);
+        let first = self.indexed(span.start, close, ty, index)?;
+        self.indexes(span.start, close, first, self.0.0.group(parts, 2))
     }
 }

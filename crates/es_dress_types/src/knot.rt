@@ -1,53 +1,51 @@
 //! Types and patterns, each of which goes down the tree. They hold no expression: what would dress one says that memory ran
 //! out, and is never asked.
 
-ghost use Rattle.std.specs.Prelude.{Option};
-ghost use Rattle.es_ast.specs.declared.ast.Expr.{Expr as AnyExpr};
-ghost use Rattle.es_ast.specs.declared.ast.ModuleItem.{ModuleItem as AnyItem};
-ghost use Rattle.es_ast.specs.declared.ast.Pat.{Pat as AnyPat};
-ghost use Rattle.es_ast.specs.declared.ast.Stmt.{Stmt as AnyStmt};
 ghost use Rattle.es_dress.specs.Dress.{value_of};
-ghost use Rattle.es_dresser.specs.Ring.{IsCut, IsMade};
-ghost use Rattle.es_dress_types.specs.Ring.{type_in, type_pat_in};
+ghost use Rattle.es_dresser.specs.Ring.{IsCut, IsMade, expr_in, item_in, pat_in, stmt_in};
+ghost use Rattle.es_dress_type_parts.specs.Ring.{type_in, type_pat_in};
 
-use crate::base::Types;
+use crate::types::Types;
 use es_ast::{Expr, ModuleItem, Pat, Stmt};
+use es_dress_type_parts::TypeParts;
 use es_dresser::{DressError, Dresser, Source};
 use es_whole_reader::Tree;
 use ts_ast::{TsParamPat, TsType};
 
-fn no_expr(_source: Source<'_>, _tree: &Tree) -> Result<Expr, DressError>
-    ensures { (out : Option AnyExpr) → IsMade out result }
+fn no_expr(source: Source<'_>, tree: &Tree) -> Result<Expr, DressError>
+    ensures { IsMade (expr_in (value_of source.entry.text.now source.entry.tokens.now tree.now)) result }
 {
+    let _ = (source, tree);
     Err(DressError::OutOfMemory)
 }
 
-fn no_pat(_source: Source<'_>, _tree: &Tree) -> Result<Pat, DressError>
-    ensures { (out : Option AnyPat) → IsMade out result }
+fn no_pat(source: Source<'_>, tree: &Tree) -> Result<Pat, DressError>
+    ensures { IsMade (pat_in (value_of source.entry.text.now source.entry.tokens.now tree.now)) result }
 {
+    let _ = (source, tree);
     Err(DressError::OutOfMemory)
 }
 
-fn no_stmt(_source: Source<'_>, _tree: &Tree) -> Result<Stmt, DressError>
-    ensures { (out : Option AnyStmt) → IsMade out result }
+fn no_stmt(source: Source<'_>, tree: &Tree) -> Result<Stmt, DressError>
+    ensures { IsMade (stmt_in (value_of source.entry.text.now source.entry.tokens.now tree.now)) result }
 {
+    let _ = (source, tree);
     Err(DressError::OutOfMemory)
 }
 
-fn no_item(_source: Source<'_>, _tree: &Tree) -> Result<ModuleItem, DressError>
-    ensures { (out : Option AnyItem) → IsMade out result }
+fn no_item(source: Source<'_>, tree: &Tree) -> Result<ModuleItem, DressError>
+    ensures { IsMade (item_in (value_of source.entry.text.now source.entry.tokens.now tree.now)) result }
 {
+    let _ = (source, tree);
     Err(DressError::OutOfMemory)
 }
 
 /// A tree as a type.
-#[tactic(auto, unfolding(es_dress::specs::Dress::build))]
 #[cycle(ring)]
 pub fn dress_type(source: Source<'_>, tree: &Tree) -> Result<TsType, DressError>
     requires { IsCut source.text.now source.tokens.now }
     ensures { IsMade (type_in (value_of source.entry.text.now source.entry.tokens.now tree.now)) result }
 {
-    let node = source.node(tree)?;
     let dresser = Dresser {
         source,
         whole: tree,
@@ -56,17 +54,15 @@ pub fn dress_type(source: Source<'_>, tree: &Tree) -> Result<TsType, DressError>
         stmt: no_stmt,
         item: no_item,
     };
-    Types(&dresser, dress_type, dress_type_pat).ty(&node)
+    Types(&TypeParts(&dresser, dress_type, dress_type_pat)).whole_type()
 }
 
 /// A tree as a pattern of a parameter in a type.
-#[tactic(auto, unfolding(es_dress::specs::Dress::build))]
 #[cycle(ring)]
 pub fn dress_type_pat(source: Source<'_>, tree: &Tree) -> Result<TsParamPat, DressError>
     requires { IsCut source.text.now source.tokens.now }
     ensures { IsMade (type_pat_in (value_of source.entry.text.now source.entry.tokens.now tree.now)) result }
 {
-    let node = source.node(tree)?;
     let dresser = Dresser {
         source,
         whole: tree,
@@ -75,5 +71,5 @@ pub fn dress_type_pat(source: Source<'_>, tree: &Tree) -> Result<TsParamPat, Dre
         stmt: no_stmt,
         item: no_item,
     };
-    Types(&dresser, dress_type, dress_type_pat).pat(&node)
+    TypeParts(&dresser, dress_type, dress_type_pat).whole_pat()
 }

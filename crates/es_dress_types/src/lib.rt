@@ -8,19 +8,14 @@
 #![tactic(auto)]
 
 mod arrays;
-mod base;
-mod elements;
 mod knot;
-mod lists;
 mod members;
-mod names;
 mod parts;
-mod patterns;
 mod texts;
 mod types;
 
-pub use base::Types;
 pub use knot::{dress_type, dress_type_pat};
 pub use parts::{
     annotation_at, args_part_at, entity_at, heritage_in, members_part, params_part_at, type_part_at,
 };
+pub use types::Types;

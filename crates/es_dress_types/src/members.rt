@@ -1,21 +1,20 @@
 //! Members of types in braces, and their keys.
 
 ghost use Rattle.std.specs.Prelude.{◌<◌};
-ghost use Rattle.es_dress.specs.Value.{group, type_member_at, type_key_at};
-ghost use Rattle.es_dress.specs.TypeMembers.{call_signature, construct_signature, index_signature, method_by, accessor_signature, property_by, inner_key, bracket_key, computed_key};
-ghost use Rattle.es_dress.specs.Dress.{type_member_of, type_key_of};
+ghost use Rattle.es_dress.specs.Value.{type_member_at};
+ghost use Rattle.es_dress.specs.TypeMembers.{call_signature, construct_signature, index_signature, method_by, accessor_signature, property_by};
+ghost use Rattle.es_dress.specs.Dress.{type_member_of};
 ghost use Rattle.es_dresser.specs.Nodes.{IsWithin};
 ghost use Rattle.es_dresser.specs.Ring.{IsMade, IsRing, parts_in};
-ghost use Rattle.es_dress_types.specs.Ring.{IsTypeRing};
+ghost use Rattle.es_dress_type_parts.specs.Ring.{IsTypeRing};
 
-use crate::base::Types;
-use crate::texts::computed_numeric;
+use crate::types::Types;
 use base::Range;
 use es_ast::{Expr, ModuleItem, Pat, Stmt};
 use es_dresser::{DressError, Node, Source};
 use es_whole_grammar::Label;
 use es_whole_reader::Tree;
-use ts_ast::{Ident, MethodKind, TsKey, TsParamPat, TsType, TsTypeElement};
+use ts_ast::{MethodKind, TsParamPat, TsType, TsTypeElement};
 
 impl<
     E: Fn(Source<'_>, &Tree) -> Result<Expr, DressError>,
@@ -24,23 +23,19 @@ impl<
     I: Fn(Source<'_>, &Tree) -> Result<ModuleItem, DressError>,
     T: Fn(Source<'_>, &Tree) -> Result<TsType, DressError>,
     Q: Fn(Source<'_>, &Tree) -> Result<TsParamPat, DressError>,
-> Types<'_, '_, E, P, S, I, T, Q> {
+> Types<'_, '_, '_, E, P, S, I, T, Q> {
     /// `<a>(b): c`
     #[tactic(auto, unfolding(es_dress::specs::TypeMembers::call_signature))]
-    pub(crate) fn call_signature(
-        &self,
-        span: Range,
-        parts: &[Tree],
-    ) -> Result<TsTypeElement, DressError>
-        requires ring { IsRing self.now.0.now.source self.now.0.now.whole.now (E.pre self.now.0.now.expr) (E.post self.now.0.now.expr)
-            (P.pre self.now.0.now.pat) (P.post self.now.0.now.pat) (S.pre self.now.0.now.stmt) (S.post self.now.0.now.stmt) (I.pre self.now.0.now.item) (I.post self.now.0.now.item) }
-        requires types { IsTypeRing self.now.0.now.source self.now.0.now.whole.now (T.pre self.now.1) (T.post self.now.1) (Q.pre self.now.2) (Q.post self.now.2) }
-        requires within { IsWithin parts.now self.now.0.now.whole.now }
-        ensures { IsMade (call_signature span (parts_in self.now.0.now.source parts.now)) result }
+    fn call_signature(&self, span: Range, parts: &[Tree]) -> Result<TsTypeElement, DressError>
+        requires ring { IsRing self.now.0.now.0.now.source self.now.0.now.0.now.whole.now (E.pre self.now.0.now.0.now.expr) (E.post self.now.0.now.0.now.expr)
+            (P.pre self.now.0.now.0.now.pat) (P.post self.now.0.now.0.now.pat) (S.pre self.now.0.now.0.now.stmt) (S.post self.now.0.now.0.now.stmt) (I.pre self.now.0.now.0.now.item) (I.post self.now.0.now.0.now.item) }
+        requires types { IsTypeRing self.now.0.now.0.now.source self.now.0.now.0.now.whole.now (T.pre self.now.0.now.1) (T.post self.now.0.now.1) (Q.pre self.now.0.now.2) (Q.post self.now.0.now.2) }
+        requires within { IsWithin parts.now self.now.0.now.0.now.whole.now }
+        ensures { IsMade (call_signature span (parts_in self.now.0.now.0.now.source parts.now)) result }
     {
-        let type_params = self.optional_type_params(self.0.group(parts, 0))?;
-        let params = self.params_at(parts, 1)?;
-        let type_ann = self.optional_type(self.0.group(parts, 2))?;
+        let type_params = self.0.optional_type_params(self.0.0.group(parts, 0))?;
+        let params = self.0.params_at(parts, 1)?;
+        let type_ann = self.0.optional_type(self.0.0.group(parts, 2))?;
         Ok(TsTypeElement::CallSignature {
             type_params,
             params,
@@ -51,20 +46,16 @@ impl<
 
     /// `new <a>(b): c`
     #[tactic(auto, unfolding(es_dress::specs::TypeMembers::construct_signature))]
-    pub(crate) fn construct_signature(
-        &self,
-        span: Range,
-        parts: &[Tree],
-    ) -> Result<TsTypeElement, DressError>
-        requires ring { IsRing self.now.0.now.source self.now.0.now.whole.now (E.pre self.now.0.now.expr) (E.post self.now.0.now.expr)
-            (P.pre self.now.0.now.pat) (P.post self.now.0.now.pat) (S.pre self.now.0.now.stmt) (S.post self.now.0.now.stmt) (I.pre self.now.0.now.item) (I.post self.now.0.now.item) }
-        requires types { IsTypeRing self.now.0.now.source self.now.0.now.whole.now (T.pre self.now.1) (T.post self.now.1) (Q.pre self.now.2) (Q.post self.now.2) }
-        requires within { IsWithin parts.now self.now.0.now.whole.now }
-        ensures { IsMade (construct_signature span (parts_in self.now.0.now.source parts.now)) result }
+    fn construct_signature(&self, span: Range, parts: &[Tree]) -> Result<TsTypeElement, DressError>
+        requires ring { IsRing self.now.0.now.0.now.source self.now.0.now.0.now.whole.now (E.pre self.now.0.now.0.now.expr) (E.post self.now.0.now.0.now.expr)
+            (P.pre self.now.0.now.0.now.pat) (P.post self.now.0.now.0.now.pat) (S.pre self.now.0.now.0.now.stmt) (S.post self.now.0.now.0.now.stmt) (I.pre self.now.0.now.0.now.item) (I.post self.now.0.now.0.now.item) }
+        requires types { IsTypeRing self.now.0.now.0.now.source self.now.0.now.0.now.whole.now (T.pre self.now.0.now.1) (T.post self.now.0.now.1) (Q.pre self.now.0.now.2) (Q.post self.now.0.now.2) }
+        requires within { IsWithin parts.now self.now.0.now.0.now.whole.now }
+        ensures { IsMade (construct_signature span (parts_in self.now.0.now.0.now.source parts.now)) result }
     {
-        let type_params = self.optional_type_params(self.0.group(parts, 0))?;
-        let params = self.params_at(parts, 1)?;
-        let type_ann = self.optional_type(self.0.group(parts, 2))?;
+        let type_params = self.0.optional_type_params(self.0.0.group(parts, 0))?;
+        let params = self.0.params_at(parts, 1)?;
+        let type_ann = self.0.optional_type(self.0.0.group(parts, 2))?;
         Ok(TsTypeElement::ConstructSignature {
             type_params,
             params,
@@ -75,21 +66,17 @@ impl<
 
     /// `readonly [a: b]: c`
     #[tactic(auto, unfolding(es_dress::specs::TypeMembers::index_signature))]
-    pub(crate) fn index_signature(
-        &self,
-        span: Range,
-        parts: &[Tree],
-    ) -> Result<TsTypeElement, DressError>
-        requires ring { IsRing self.now.0.now.source self.now.0.now.whole.now (E.pre self.now.0.now.expr) (E.post self.now.0.now.expr)
-            (P.pre self.now.0.now.pat) (P.post self.now.0.now.pat) (S.pre self.now.0.now.stmt) (S.post self.now.0.now.stmt) (I.pre self.now.0.now.item) (I.post self.now.0.now.item) }
-        requires types { IsTypeRing self.now.0.now.source self.now.0.now.whole.now (T.pre self.now.1) (T.post self.now.1) (Q.pre self.now.2) (Q.post self.now.2) }
-        requires within { IsWithin parts.now self.now.0.now.whole.now }
-        ensures { IsMade (index_signature self.now.0.now.source.text.now self.now.0.now.source.tokens.now span (parts_in self.now.0.now.source parts.now)) result }
+    fn index_signature(&self, span: Range, parts: &[Tree]) -> Result<TsTypeElement, DressError>
+        requires ring { IsRing self.now.0.now.0.now.source self.now.0.now.0.now.whole.now (E.pre self.now.0.now.0.now.expr) (E.post self.now.0.now.0.now.expr)
+            (P.pre self.now.0.now.0.now.pat) (P.post self.now.0.now.0.now.pat) (S.pre self.now.0.now.0.now.stmt) (S.post self.now.0.now.0.now.stmt) (I.pre self.now.0.now.0.now.item) (I.post self.now.0.now.0.now.item) }
+        requires types { IsTypeRing self.now.0.now.0.now.source self.now.0.now.0.now.whole.now (T.pre self.now.0.now.1) (T.post self.now.0.now.1) (Q.pre self.now.0.now.2) (Q.post self.now.0.now.2) }
+        requires within { IsWithin parts.now self.now.0.now.0.now.whole.now }
+        ensures { IsMade (index_signature self.now.0.now.0.now.source.text.now self.now.0.now.0.now.source.tokens.now span (parts_in self.now.0.now.0.now.source parts.now)) result }
     {
-        let name = self.0.ident_at(parts, 1)?;
-        let of = self.boxed_type_at(parts, 2)?;
-        let type_ann = self.optional_type(self.0.group(parts, 3))?;
-        let readonly = self.0.is_there(parts, 0);
+        let name = self.0.0.ident_at(parts, 1)?;
+        let of = self.0.boxed_type_at(parts, 2)?;
+        let type_ann = self.0.optional_type(self.0.0.group(parts, 3))?;
+        let readonly = self.0.0.is_there(parts, 0);
         Ok(TsTypeElement::IndexSignature {
             readonly,
             name,
@@ -101,25 +88,25 @@ impl<
 
     /// A method of this kind, whose key stands at this part.
     #[tactic(auto, unfolding(es_dress::specs::TypeMembers::method_by))]
-    pub(crate) fn method_by(
+    fn method_by(
         &self,
         kind: MethodKind,
         span: Range,
         parts: &[Tree],
         n: usize,
     ) -> Result<TsTypeElement, DressError>
-        requires ring { IsRing self.now.0.now.source self.now.0.now.whole.now (E.pre self.now.0.now.expr) (E.post self.now.0.now.expr)
-            (P.pre self.now.0.now.pat) (P.post self.now.0.now.pat) (S.pre self.now.0.now.stmt) (S.post self.now.0.now.stmt) (I.pre self.now.0.now.item) (I.post self.now.0.now.item) }
-        requires types { IsTypeRing self.now.0.now.source self.now.0.now.whole.now (T.pre self.now.1) (T.post self.now.1) (Q.pre self.now.2) (Q.post self.now.2) }
-        requires within { IsWithin parts.now self.now.0.now.whole.now }
+        requires ring { IsRing self.now.0.now.0.now.source self.now.0.now.0.now.whole.now (E.pre self.now.0.now.0.now.expr) (E.post self.now.0.now.0.now.expr)
+            (P.pre self.now.0.now.0.now.pat) (P.post self.now.0.now.0.now.pat) (S.pre self.now.0.now.0.now.stmt) (S.post self.now.0.now.0.now.stmt) (I.pre self.now.0.now.0.now.item) (I.post self.now.0.now.0.now.item) }
+        requires types { IsTypeRing self.now.0.now.0.now.source self.now.0.now.0.now.whole.now (T.pre self.now.0.now.1) (T.post self.now.0.now.1) (Q.pre self.now.0.now.2) (Q.post self.now.0.now.2) }
+        requires within { IsWithin parts.now self.now.0.now.0.now.whole.now }
         requires place { n < 7 }
-        ensures { IsMade (method_by kind span (parts_in self.now.0.now.source parts.now) n) result }
+        ensures { IsMade (method_by kind span (parts_in self.now.0.now.0.now.source parts.now) n) result }
     {
-        let key = self.key_at(parts, n)?;
-        let type_params = self.optional_type_params(self.0.group(parts, n + 2))?;
-        let params = self.params_at(parts, n + 3)?;
-        let type_ann = self.optional_type(self.0.group(parts, n + 4))?;
-        let optional = self.0.is_there(parts, n + 1);
+        let key = self.0.key_at(parts, n)?;
+        let type_params = self.0.optional_type_params(self.0.0.group(parts, n + 2))?;
+        let params = self.0.params_at(parts, n + 3)?;
+        let type_ann = self.0.optional_type(self.0.0.group(parts, n + 4))?;
+        let optional = self.0.0.is_there(parts, n + 1);
         Ok(TsTypeElement::MethodSignature {
             kind,
             key,
@@ -133,38 +120,34 @@ impl<
 
     /// `get a(): b`, `set a(b)`
     #[tactic(auto, unfolding(es_dress::specs::TypeMembers::accessor_signature))]
-    pub(crate) fn accessor_signature(
-        &self,
-        span: Range,
-        parts: &[Tree],
-    ) -> Result<TsTypeElement, DressError>
-        requires ring { IsRing self.now.0.now.source self.now.0.now.whole.now (E.pre self.now.0.now.expr) (E.post self.now.0.now.expr)
-            (P.pre self.now.0.now.pat) (P.post self.now.0.now.pat) (S.pre self.now.0.now.stmt) (S.post self.now.0.now.stmt) (I.pre self.now.0.now.item) (I.post self.now.0.now.item) }
-        requires types { IsTypeRing self.now.0.now.source self.now.0.now.whole.now (T.pre self.now.1) (T.post self.now.1) (Q.pre self.now.2) (Q.post self.now.2) }
-        requires within { IsWithin parts.now self.now.0.now.whole.now }
-        ensures { IsMade (accessor_signature self.now.0.now.source.tokens.now span (parts_in self.now.0.now.source parts.now)) result }
+    fn accessor_signature(&self, span: Range, parts: &[Tree]) -> Result<TsTypeElement, DressError>
+        requires ring { IsRing self.now.0.now.0.now.source self.now.0.now.0.now.whole.now (E.pre self.now.0.now.0.now.expr) (E.post self.now.0.now.0.now.expr)
+            (P.pre self.now.0.now.0.now.pat) (P.post self.now.0.now.0.now.pat) (S.pre self.now.0.now.0.now.stmt) (S.post self.now.0.now.0.now.stmt) (I.pre self.now.0.now.0.now.item) (I.post self.now.0.now.0.now.item) }
+        requires types { IsTypeRing self.now.0.now.0.now.source self.now.0.now.0.now.whole.now (T.pre self.now.0.now.1) (T.post self.now.0.now.1) (Q.pre self.now.0.now.2) (Q.post self.now.0.now.2) }
+        requires within { IsWithin parts.now self.now.0.now.0.now.whole.now }
+        ensures { IsMade (accessor_signature self.now.0.now.0.now.source.tokens.now span (parts_in self.now.0.now.0.now.source parts.now)) result }
     {
-        let kind = self.0.accessor_kind_at(parts, 0)?;
+        let kind = self.0.0.accessor_kind_at(parts, 0)?;
         self.method_by(kind, span, parts, 1)
     }
 
     /// `a?: b`
     #[tactic(auto, unfolding(es_dress::specs::TypeMembers::property_by))]
-    pub(crate) fn property_by(
+    fn property_by(
         &self,
         readonly: bool,
         span: Range,
         parts: &[Tree],
     ) -> Result<TsTypeElement, DressError>
-        requires ring { IsRing self.now.0.now.source self.now.0.now.whole.now (E.pre self.now.0.now.expr) (E.post self.now.0.now.expr)
-            (P.pre self.now.0.now.pat) (P.post self.now.0.now.pat) (S.pre self.now.0.now.stmt) (S.post self.now.0.now.stmt) (I.pre self.now.0.now.item) (I.post self.now.0.now.item) }
-        requires types { IsTypeRing self.now.0.now.source self.now.0.now.whole.now (T.pre self.now.1) (T.post self.now.1) (Q.pre self.now.2) (Q.post self.now.2) }
-        requires within { IsWithin parts.now self.now.0.now.whole.now }
-        ensures { IsMade (property_by readonly span (parts_in self.now.0.now.source parts.now)) result }
+        requires ring { IsRing self.now.0.now.0.now.source self.now.0.now.0.now.whole.now (E.pre self.now.0.now.0.now.expr) (E.post self.now.0.now.0.now.expr)
+            (P.pre self.now.0.now.0.now.pat) (P.post self.now.0.now.0.now.pat) (S.pre self.now.0.now.0.now.stmt) (S.post self.now.0.now.0.now.stmt) (I.pre self.now.0.now.0.now.item) (I.post self.now.0.now.0.now.item) }
+        requires types { IsTypeRing self.now.0.now.0.now.source self.now.0.now.0.now.whole.now (T.pre self.now.0.now.1) (T.post self.now.0.now.1) (Q.pre self.now.0.now.2) (Q.post self.now.0.now.2) }
+        requires within { IsWithin parts.now self.now.0.now.0.now.whole.now }
+        ensures { IsMade (property_by readonly span (parts_in self.now.0.now.0.now.source parts.now)) result }
     {
-        let key = self.key_at(parts, 0)?;
-        let type_ann = self.optional_type(self.0.group(parts, 2))?;
-        let optional = self.0.is_there(parts, 1);
+        let key = self.0.key_at(parts, 0)?;
+        let type_ann = self.0.optional_type(self.0.0.group(parts, 2))?;
+        let optional = self.0.0.is_there(parts, 1);
         Ok(TsTypeElement::PropertySignature {
             readonly,
             key,
@@ -176,12 +159,12 @@ impl<
 
     /// A member of a type in braces.
     #[tactic(auto, unfolding(es_dress::specs::Dress::type_member_of))]
-    pub(crate) fn member(&self, node: &Node<'_>) -> Result<TsTypeElement, DressError>
-        requires ring { IsRing self.now.0.now.source self.now.0.now.whole.now (E.pre self.now.0.now.expr) (E.post self.now.0.now.expr)
-            (P.pre self.now.0.now.pat) (P.post self.now.0.now.pat) (S.pre self.now.0.now.stmt) (S.post self.now.0.now.stmt) (I.pre self.now.0.now.item) (I.post self.now.0.now.item) }
-        requires types { IsTypeRing self.now.0.now.source self.now.0.now.whole.now (T.pre self.now.1) (T.post self.now.1) (Q.pre self.now.2) (Q.post self.now.2) }
-        requires within { IsWithin node.now.parts.now self.now.0.now.whole.now }
-        ensures { IsMade (type_member_of self.now.0.now.source.text.now self.now.0.now.source.tokens.now node.now.label node.now.span (parts_in self.now.0.now.source node.now.parts.now)) result }
+    fn member(&self, node: &Node<'_>) -> Result<TsTypeElement, DressError>
+        requires ring { IsRing self.now.0.now.0.now.source self.now.0.now.0.now.whole.now (E.pre self.now.0.now.0.now.expr) (E.post self.now.0.now.0.now.expr)
+            (P.pre self.now.0.now.0.now.pat) (P.post self.now.0.now.0.now.pat) (S.pre self.now.0.now.0.now.stmt) (S.post self.now.0.now.0.now.stmt) (I.pre self.now.0.now.0.now.item) (I.post self.now.0.now.0.now.item) }
+        requires types { IsTypeRing self.now.0.now.0.now.source self.now.0.now.0.now.whole.now (T.pre self.now.0.now.1) (T.post self.now.0.now.1) (Q.pre self.now.0.now.2) (Q.post self.now.0.now.2) }
+        requires within { IsWithin node.now.parts.now self.now.0.now.0.now.whole.now }
+        ensures { IsMade (type_member_of self.now.0.now.0.now.source.text.now self.now.0.now.0.now.source.tokens.now node.now.label node.now.span (parts_in self.now.0.now.0.now.source node.now.parts.now)) result }
     {
         let (span, parts) = (node.span, node.parts);
         match node.label {
@@ -198,92 +181,14 @@ impl<
 
     /// A part that is such a member.
     #[tactic(auto, unfolding(es_dress::specs::Dress::build))]
-    pub fn member_at(&self, parts: &[Tree], n: usize) -> Result<TsTypeElement, DressError>
-        requires ring { IsRing self.now.0.now.source self.now.0.now.whole.now (E.pre self.now.0.now.expr) (E.post self.now.0.now.expr)
-            (P.pre self.now.0.now.pat) (P.post self.now.0.now.pat) (S.pre self.now.0.now.stmt) (S.post self.now.0.now.stmt) (I.pre self.now.0.now.item) (I.post self.now.0.now.item) }
-        requires types { IsTypeRing self.now.0.now.source self.now.0.now.whole.now (T.pre self.now.1) (T.post self.now.1) (Q.pre self.now.2) (Q.post self.now.2) }
-        requires within { IsWithin parts.now self.now.0.now.whole.now }
-        ensures { IsMade (type_member_at (parts_in self.now.0.now.source parts.now) n) result }
+    pub(crate) fn member_at(&self, parts: &[Tree], n: usize) -> Result<TsTypeElement, DressError>
+        requires ring { IsRing self.now.0.now.0.now.source self.now.0.now.0.now.whole.now (E.pre self.now.0.now.0.now.expr) (E.post self.now.0.now.0.now.expr)
+            (P.pre self.now.0.now.0.now.pat) (P.post self.now.0.now.0.now.pat) (S.pre self.now.0.now.0.now.stmt) (S.post self.now.0.now.0.now.stmt) (I.pre self.now.0.now.0.now.item) (I.post self.now.0.now.0.now.item) }
+        requires types { IsTypeRing self.now.0.now.0.now.source self.now.0.now.0.now.whole.now (T.pre self.now.0.now.1) (T.post self.now.0.now.1) (Q.pre self.now.0.now.2) (Q.post self.now.0.now.2) }
+        requires within { IsWithin parts.now self.now.0.now.0.now.whole.now }
+        ensures { IsMade (type_member_at (parts_in self.now.0.now.0.now.source parts.now) n) result }
     {
-        let node = self.0.node_at(parts, n)?;
+        let node = self.0.0.node_at(parts, n)?;
         self.member(&node)
-    }
-
-    /// A name, a number or a BigInt in the brackets of a key.
-    pub(crate) fn inner_key(&self, span: Range, group: &[Tree]) -> Result<TsKey, DressError>
-        requires ring { IsRing self.now.0.now.source self.now.0.now.whole.now (E.pre self.now.0.now.expr) (E.post self.now.0.now.expr)
-            (P.pre self.now.0.now.pat) (P.post self.now.0.now.pat) (S.pre self.now.0.now.stmt) (S.post self.now.0.now.stmt) (I.pre self.now.0.now.item) (I.post self.now.0.now.item) }
-        requires types { IsTypeRing self.now.0.now.source self.now.0.now.whole.now (T.pre self.now.1) (T.post self.now.1) (Q.pre self.now.2) (Q.post self.now.2) }
-        requires within { IsWithin group.now self.now.0.now.whole.now }
-        ensures { IsMade (inner_key self.now.0.now.source.text.now self.now.0.now.source.tokens.now span (parts_in self.now.0.now.source group.now)) result }
-    {
-        if self.0.is_leaf(group, 0) {
-            let token = self.0.token_at(group, 0)?;
-            return computed_numeric(self.0.source.alloc, self.0.source.text, span, token);
-        }
-        let name = self.entity_at(group, 0)?;
-        Ok(TsKey::Entity { name, span })
-    }
-
-    /// A string literal there, or one of these.
-    pub(crate) fn bracket_key(&self, span: Range, group: &[Tree]) -> Result<TsKey, DressError>
-        requires ring { IsRing self.now.0.now.source self.now.0.now.whole.now (E.pre self.now.0.now.expr) (E.post self.now.0.now.expr)
-            (P.pre self.now.0.now.pat) (P.post self.now.0.now.pat) (S.pre self.now.0.now.stmt) (S.post self.now.0.now.stmt) (I.pre self.now.0.now.item) (I.post self.now.0.now.item) }
-        requires types { IsTypeRing self.now.0.now.source self.now.0.now.whole.now (T.pre self.now.1) (T.post self.now.1) (Q.pre self.now.2) (Q.post self.now.2) }
-        requires within { IsWithin group.now self.now.0.now.whole.now }
-        ensures { IsMade (bracket_key self.now.0.now.source.text.now self.now.0.now.source.tokens.now span (parts_in self.now.0.now.source group.now)) result }
-    {
-        if self.0.is_leaf(group, 0) {
-            let str = self.0.str_at(group, 0)?;
-            return Ok(TsKey::ComputedStr { str, span });
-        }
-        self.inner_key(span, self.0.group(group, 0))
-    }
-
-    /// A key in brackets.
-    #[tactic(auto, unfolding(es_dress::specs::TypeMembers::computed_key))]
-    pub(crate) fn computed_key(&self, span: Range, parts: &[Tree]) -> Result<TsKey, DressError>
-        requires ring { IsRing self.now.0.now.source self.now.0.now.whole.now (E.pre self.now.0.now.expr) (E.post self.now.0.now.expr)
-            (P.pre self.now.0.now.pat) (P.post self.now.0.now.pat) (S.pre self.now.0.now.stmt) (S.post self.now.0.now.stmt) (I.pre self.now.0.now.item) (I.post self.now.0.now.item) }
-        requires types { IsTypeRing self.now.0.now.source self.now.0.now.whole.now (T.pre self.now.1) (T.post self.now.1) (Q.pre self.now.2) (Q.post self.now.2) }
-        requires within { IsWithin parts.now self.now.0.now.whole.now }
-        ensures { IsMade (computed_key self.now.0.now.source.text.now self.now.0.now.source.tokens.now span (parts_in self.now.0.now.source parts.now)) result }
-    {
-        self.bracket_key(span, self.0.group(parts, 0))
-    }
-
-    /// A key.
-    #[tactic(auto, unfolding(es_dress::specs::Dress::type_key_of, es_dress::specs::TypePatterns::word_key, es_dress::specs::TypePatterns::str_key, es_dress::specs::TypePatterns::number_key))]
-    pub(crate) fn key(&self, node: &Node<'_>) -> Result<TsKey, DressError>
-        requires ring { IsRing self.now.0.now.source self.now.0.now.whole.now (E.pre self.now.0.now.expr) (E.post self.now.0.now.expr)
-            (P.pre self.now.0.now.pat) (P.post self.now.0.now.pat) (S.pre self.now.0.now.stmt) (S.post self.now.0.now.stmt) (I.pre self.now.0.now.item) (I.post self.now.0.now.item) }
-        requires types { IsTypeRing self.now.0.now.source self.now.0.now.whole.now (T.pre self.now.1) (T.post self.now.1) (Q.pre self.now.2) (Q.post self.now.2) }
-        requires within { IsWithin node.now.parts.now self.now.0.now.whole.now }
-        ensures { IsMade (type_key_of self.now.0.now.source.text.now self.now.0.now.source.tokens.now node.now.label node.now.span (parts_in self.now.0.now.source node.now.parts.now)) result }
-    {
-        let parts = node.parts;
-        match node.label {
-            Label::WordKeyOfType => Ok(TsKey::Ident(self.0.ident_at(parts, 0)?)),
-            Label::StrKeyOfType => Ok(TsKey::Str(self.0.str_at(parts, 0)?)),
-            Label::NumberKeyOfType => Ok(TsKey::Num(self.number_at(parts, 0)?)),
-            Label::ComputedKeyOfType => self.computed_key(node.span, parts),
-            Label::WordPatternKey => Ok(TsKey::Ident(self.0.ident_at(parts, 0)?)),
-            Label::StrPatternKey => Ok(TsKey::Str(self.0.str_at(parts, 0)?)),
-            Label::NumberPatternKey => Ok(TsKey::Num(self.number_at(parts, 0)?)),
-            _ => Err(DressError::OtherForm),
-        }
-    }
-
-    /// A part that is a key.
-    #[tactic(auto, unfolding(es_dress::specs::Dress::build))]
-    pub(crate) fn key_at(&self, parts: &[Tree], n: usize) -> Result<TsKey, DressError>
-        requires ring { IsRing self.now.0.now.source self.now.0.now.whole.now (E.pre self.now.0.now.expr) (E.post self.now.0.now.expr)
-            (P.pre self.now.0.now.pat) (P.post self.now.0.now.pat) (S.pre self.now.0.now.stmt) (S.post self.now.0.now.stmt) (I.pre self.now.0.now.item) (I.post self.now.0.now.item) }
-        requires types { IsTypeRing self.now.0.now.source self.now.0.now.whole.now (T.pre self.now.1) (T.post self.now.1) (Q.pre self.now.2) (Q.post self.now.2) }
-        requires within { IsWithin parts.now self.now.0.now.whole.now }
-        ensures { IsMade (type_key_at (parts_in self.now.0.now.source parts.now) n) result }
-    {
-        let node = self.0.node_at(parts, n)?;
-        self.key(&node)
     }
 }

@@ -7,12 +7,11 @@ ghost use Rattle.es_dresser.specs.Ring.{IsMade, IsRing, parts_in};
 ghost use Rattle.std.specs.Prelude.{◌<◌, option_map};
 ghost use Rattle.ts_ast.specs.declared.ts.TsPart.TheVariants as vPart;
 
-use crate::base::Types;
 use crate::knot::{dress_type, dress_type_pat};
-use crate::lists::turns;
 use crate::types::MemberTurn;
 use base::{Boxed, Items};
 use es_ast::{Expr, ModuleItem, Pat, Stmt};
+use es_dress_type_parts::{TypeParts, turns};
 use es_dresser::{DressError, Dresser, Source, Turn, single, turns_behind};
 use es_whole_reader::Tree;
 use ts_ast::{TsEntityName, TsExprWithTypeArgs, TsPart};
@@ -33,7 +32,7 @@ pub fn annotation_at<
     requires within { IsWithin parts.now dresser.now.whole.now }
     ensures { IsMade (annotation_at (parts_in dresser.now.source parts.now) n) result }
 {
-    let types = Types(dresser, dress_type, dress_type_pat);
+    let types = TypeParts(dresser, dress_type, dress_type_pat);
     match types.optional_type(dresser.group(parts, n))? {
         Some(part) => Ok(Some(Boxed::new(dresser.source.alloc, TsPart::TypeAnn(part))?)),
         None => Ok(None),
@@ -56,7 +55,7 @@ pub fn params_part_at<
     requires within { IsWithin parts.now dresser.now.whole.now }
     ensures { IsMade (params_part_at (parts_in dresser.now.source parts.now) n) result }
 {
-    let types = Types(dresser, dress_type, dress_type_pat);
+    let types = TypeParts(dresser, dress_type, dress_type_pat);
     match types.optional_type_params(dresser.group(parts, n))? {
         Some(part) => Ok(Some(Boxed::new(dresser.source.alloc, TsPart::TypeParams(part))?)),
         None => Ok(None),
@@ -79,7 +78,7 @@ pub fn args_part_at<
     requires within { IsWithin parts.now dresser.now.whole.now }
     ensures { IsMade (args_part_at (parts_in dresser.now.source parts.now) n) result }
 {
-    let types = Types(dresser, dress_type, dress_type_pat);
+    let types = TypeParts(dresser, dress_type, dress_type_pat);
     match types.optional_arguments(dresser.group(parts, n))? {
         Some(part) => Ok(Some(Boxed::new(dresser.source.alloc, TsPart::TypeArgs(part))?)),
         None => Ok(None),
@@ -98,7 +97,7 @@ pub fn type_part_at<
     requires within { IsWithin parts.now dresser.now.whole.now }
     ensures { IsMade (option_map vPart.TypeAnn (type_at (parts_in dresser.now.source parts.now) n)) result }
 {
-    let types = Types(dresser, dress_type, dress_type_pat);
+    let types = TypeParts(dresser, dress_type, dress_type_pat);
     let ty = types.boxed_type_at(parts, n)?;
     Ok(Boxed::new(dresser.source.alloc, TsPart::TypeAnn(ty))?)
 }
@@ -119,7 +118,7 @@ pub(crate) fn heritage_at<
     requires within { IsWithin parts.now dresser.now.whole.now }
     ensures { IsMade (heritage_at dresser.now.source.tokens.now (parts_in dresser.now.source parts.now) n) result }
 {
-    let types = Types(dresser, dress_type, dress_type_pat);
+    let types = TypeParts(dresser, dress_type, dress_type_pat);
     let (expr, type_args) = types.reference_at(parts, n)?;
     let span = dresser.span_to(dresser.first_at(parts, n), parts, n);
     Ok(TsExprWithTypeArgs {
@@ -203,7 +202,7 @@ pub fn members_part<
     requires within { IsWithin group.now dresser.now.whole.now }
     ensures { IsMade (option_map vPart.Members (turns (λ turn. type_member_at turn 0) (parts_in dresser.now.source group.now))) result }
 {
-    let types = Types(dresser, dress_type, dress_type_pat);
+    let types = TypeParts(dresser, dress_type, dress_type_pat);
     let members = turns(&MemberTurn, &types, group)?;
     Ok(Boxed::new(dresser.source.alloc, TsPart::Members(members))?)
 }
@@ -220,5 +219,5 @@ pub fn entity_at<
     requires within { IsWithin parts.now dresser.now.whole.now }
     ensures { IsMade (entity_at (parts_in dresser.now.source parts.now) n) result }
 {
-    Types(dresser, dress_type, dress_type_pat).entity_at(parts, n)
+    TypeParts(dresser, dress_type, dress_type_pat).entity_at(parts, n)
 }

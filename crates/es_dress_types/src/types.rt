@@ -1,28 +1,32 @@
 //! Types.
 
 ghost use Rattle.std.specs.Prelude.{◌<◌};
-ghost use Rattle.es_dress.specs.Value.{optional, group, type_at, element_at, type_member_at};
-ghost use Rattle.es_dress.specs.Texts.{piece_there};
-ghost use Rattle.es_dress.specs.TypeTexts.{signed_in};
-ghost use Rattle.es_dress.specs.Types.{keyword_type, word_type, str_type, number_type, template_type, template_types, parenthesized_type, members_type, tuple_type, type_query, mapped_type, type_operator, infer_type, operands, union_type, leading_union_type, intersection_type, leading_intersection_type, conditional_type, function_type, constructor_type, asserts_result, predicate_result, label_at, rest_element, labelled_element};
-ghost use Rattle.es_dress.specs.Dress.{type_of};
+ghost use Rattle.es_dress.specs.Value.{given, optional, group, type_at, element_at, type_member_at};
+ghost use Rattle.es_dress.specs.Texts.{kind_at, piece_there};
+ghost use Rattle.es_dress.specs.Operators.{listed};
+ghost use Rattle.es_dress.specs.TypeTexts.{signed_by, signed_in, type_operators};
+ghost use Rattle.es_dress.specs.Types.{keyword_type, word_type, str_type, number_type, template_type, template_types, parenthesized_type, members_type, tuple_type, type_query, mapped_type, type_operator, infer_type, operands, union_type, leading_union_type, intersection_type, leading_intersection_type, conditional_type, function_type, constructor_type, asserts_result, predicate_result, label_at, rest_element, labelled_element, optional_element};
+ghost use Rattle.es_dress.specs.Dress.{type_of, value_of};
 ghost use Rattle.es_dresser.specs.Nodes.{IsWithin};
 ghost use Rattle.es_dresser.specs.Ring.{IsMade, IsRing, parts_in};
-ghost use Rattle.es_dress_types.specs.Ring.{IsTypeRing};
+ghost use Rattle.es_dress_type_parts.specs.Ring.{IsTypeRing, type_in};
 
-use crate::base::Types;
-use crate::lists::{TypeTurn, turns, turns_behind};
-use crate::names::OneType;
-use crate::texts::{keyword_kind, marked, numeric_lit, operator, sign};
+use crate::texts::{keyword_kind, numeric_lit, operator, sign};
 use base::{Items, Range};
 use es_ast::{Expr, ModuleItem, Pat, Stmt};
+use es_dress_type_parts::{OneType, TypeParts, TypeTurn, marked, turns, turns_behind};
 use es_dresser::{DressError, Node, Source, single, some};
 use es_token::TokenKind;
 use es_whole_grammar::Label;
 use es_whole_reader::Tree;
 use ts_ast::{
     Ident, TplElement, TruePlusMinus, TsLit, TsParamPat, TsTupleElement, TsType, TsTypeElement,
+    TsTypeOperatorOp,
 };
+
+/// What dresses types: parts of types, and functions that dress the types and the patterns below.
+#[derive(Clone, Copy)]
+pub struct Types<'p, 'd, 'a, E, P, S, I, T, Q>(pub &'p TypeParts<'d, 'a, E, P, S, I, T, Q>);
 
 /// A piece of a template before a type.
 #[derive(Clone, Copy)]
@@ -40,7 +44,7 @@ impl TypeTurn<TplElement> for MiddlePiece {
         Q: Fn(Source<'_>, &Tree) -> Result<TsParamPat, DressError>,
     >(
         &self,
-        types: &Types<'_, '_, E, P, S, I, T, Q>,
+        types: &TypeParts<'_, '_, E, P, S, I, T, Q>,
         turn: &[Tree],
     ) -> Result<TplElement, DressError> {
         types.0.piece_at(turn, 0)
@@ -61,7 +65,11 @@ impl TypeTurn<TsType> for PieceType {
         I: Fn(Source<'_>, &Tree) -> Result<ModuleItem, DressError>,
         T: Fn(Source<'_>, &Tree) -> Result<TsType, DressError>,
         Q: Fn(Source<'_>, &Tree) -> Result<TsParamPat, DressError>,
-    >(&self, types: &Types<'_, '_, E, P, S, I, T, Q>, turn: &[Tree]) -> Result<TsType, DressError> {
+    >(
+        &self,
+        types: &TypeParts<'_, '_, E, P, S, I, T, Q>,
+        turn: &[Tree],
+    ) -> Result<TsType, DressError> {
         types.type_at(turn, 1)
     }
 }
@@ -82,10 +90,10 @@ impl TypeTurn<TsTypeElement> for MemberTurn {
         Q: Fn(Source<'_>, &Tree) -> Result<TsParamPat, DressError>,
     >(
         &self,
-        types: &Types<'_, '_, E, P, S, I, T, Q>,
+        types: &TypeParts<'_, '_, E, P, S, I, T, Q>,
         turn: &[Tree],
     ) -> Result<TsTypeElement, DressError> {
-        types.member_at(turn, 0)
+        Types(types).member_at(turn, 0)
     }
 }
 
@@ -105,10 +113,10 @@ impl TypeTurn<TsTupleElement> for ElementTurn {
         Q: Fn(Source<'_>, &Tree) -> Result<TsParamPat, DressError>,
     >(
         &self,
-        types: &Types<'_, '_, E, P, S, I, T, Q>,
+        types: &TypeParts<'_, '_, E, P, S, I, T, Q>,
         turn: &[Tree],
     ) -> Result<TsTupleElement, DressError> {
-        types.element_at(turn, 0)
+        Types(types).element_at(turn, 0)
     }
 }
 
@@ -119,17 +127,17 @@ impl<
     I: Fn(Source<'_>, &Tree) -> Result<ModuleItem, DressError>,
     T: Fn(Source<'_>, &Tree) -> Result<TsType, DressError>,
     Q: Fn(Source<'_>, &Tree) -> Result<TsParamPat, DressError>,
-> Types<'_, '_, E, P, S, I, T, Q> {
+> Types<'_, '_, '_, E, P, S, I, T, Q> {
     /// `string`
     #[tactic(auto, unfolding(es_dress::specs::Types::keyword_type))]
-    pub(crate) fn keyword_type(&self, span: Range, parts: &[Tree]) -> Result<TsType, DressError>
-        requires ring { IsRing self.now.0.now.source self.now.0.now.whole.now (E.pre self.now.0.now.expr) (E.post self.now.0.now.expr)
-            (P.pre self.now.0.now.pat) (P.post self.now.0.now.pat) (S.pre self.now.0.now.stmt) (S.post self.now.0.now.stmt) (I.pre self.now.0.now.item) (I.post self.now.0.now.item) }
-        requires types { IsTypeRing self.now.0.now.source self.now.0.now.whole.now (T.pre self.now.1) (T.post self.now.1) (Q.pre self.now.2) (Q.post self.now.2) }
-        requires within { IsWithin parts.now self.now.0.now.whole.now }
-        ensures { IsMade (keyword_type self.now.0.now.source.tokens.now span (parts_in self.now.0.now.source parts.now)) result }
+    fn keyword_type(&self, span: Range, parts: &[Tree]) -> Result<TsType, DressError>
+        requires ring { IsRing self.now.0.now.0.now.source self.now.0.now.0.now.whole.now (E.pre self.now.0.now.0.now.expr) (E.post self.now.0.now.0.now.expr)
+            (P.pre self.now.0.now.0.now.pat) (P.post self.now.0.now.0.now.pat) (S.pre self.now.0.now.0.now.stmt) (S.post self.now.0.now.0.now.stmt) (I.pre self.now.0.now.0.now.item) (I.post self.now.0.now.0.now.item) }
+        requires types { IsTypeRing self.now.0.now.0.now.source self.now.0.now.0.now.whole.now (T.pre self.now.0.now.1) (T.post self.now.0.now.1) (Q.pre self.now.0.now.2) (Q.post self.now.0.now.2) }
+        requires within { IsWithin parts.now self.now.0.now.0.now.whole.now }
+        ensures { IsMade (keyword_type self.now.0.now.0.now.source.tokens.now span (parts_in self.now.0.now.0.now.source parts.now)) result }
     {
-        let kind = self.0.kind_at(parts, 0)?;
+        let kind = self.0.0.kind_at(parts, 0)?;
         match keyword_kind(kind) {
             Some(kind) => Ok(TsType::Keyword { kind, span }),
             None => Err(DressError::OtherForm),
@@ -138,14 +146,14 @@ impl<
 
     /// `null`, `void`, `true`, `false`
     #[tactic(auto, unfolding(es_dress::specs::Types::word_type, es_dress::specs::Types::word_of))]
-    pub(crate) fn word_type(&self, span: Range, parts: &[Tree]) -> Result<TsType, DressError>
-        requires ring { IsRing self.now.0.now.source self.now.0.now.whole.now (E.pre self.now.0.now.expr) (E.post self.now.0.now.expr)
-            (P.pre self.now.0.now.pat) (P.post self.now.0.now.pat) (S.pre self.now.0.now.stmt) (S.post self.now.0.now.stmt) (I.pre self.now.0.now.item) (I.post self.now.0.now.item) }
-        requires types { IsTypeRing self.now.0.now.source self.now.0.now.whole.now (T.pre self.now.1) (T.post self.now.1) (Q.pre self.now.2) (Q.post self.now.2) }
-        requires within { IsWithin parts.now self.now.0.now.whole.now }
-        ensures { IsMade (word_type self.now.0.now.source.tokens.now span (parts_in self.now.0.now.source parts.now)) result }
+    fn word_type(&self, span: Range, parts: &[Tree]) -> Result<TsType, DressError>
+        requires ring { IsRing self.now.0.now.0.now.source self.now.0.now.0.now.whole.now (E.pre self.now.0.now.0.now.expr) (E.post self.now.0.now.0.now.expr)
+            (P.pre self.now.0.now.0.now.pat) (P.post self.now.0.now.0.now.pat) (S.pre self.now.0.now.0.now.stmt) (S.post self.now.0.now.0.now.stmt) (I.pre self.now.0.now.0.now.item) (I.post self.now.0.now.0.now.item) }
+        requires types { IsTypeRing self.now.0.now.0.now.source self.now.0.now.0.now.whole.now (T.pre self.now.0.now.1) (T.post self.now.0.now.1) (Q.pre self.now.0.now.2) (Q.post self.now.0.now.2) }
+        requires within { IsWithin parts.now self.now.0.now.0.now.whole.now }
+        ensures { IsMade (word_type self.now.0.now.0.now.source.tokens.now span (parts_in self.now.0.now.0.now.source parts.now)) result }
     {
-        let kind = self.0.kind_at(parts, 0)?;
+        let kind = self.0.0.kind_at(parts, 0)?;
         if kind == TokenKind::TrueWord {
             return Ok(TsType::Lit(TsLit::Bool { value: true, span }));
         }
@@ -160,44 +168,50 @@ impl<
 
     /// `"a"`
     #[tactic(auto, unfolding(es_dress::specs::Types::str_type))]
-    pub(crate) fn str_type(&self, parts: &[Tree]) -> Result<TsType, DressError>
-        requires ring { IsRing self.now.0.now.source self.now.0.now.whole.now (E.pre self.now.0.now.expr) (E.post self.now.0.now.expr)
-            (P.pre self.now.0.now.pat) (P.post self.now.0.now.pat) (S.pre self.now.0.now.stmt) (S.post self.now.0.now.stmt) (I.pre self.now.0.now.item) (I.post self.now.0.now.item) }
-        requires types { IsTypeRing self.now.0.now.source self.now.0.now.whole.now (T.pre self.now.1) (T.post self.now.1) (Q.pre self.now.2) (Q.post self.now.2) }
-        requires within { IsWithin parts.now self.now.0.now.whole.now }
-        ensures { IsMade (str_type self.now.0.now.source.text.now self.now.0.now.source.tokens.now (parts_in self.now.0.now.source parts.now)) result }
+    fn str_type(&self, parts: &[Tree]) -> Result<TsType, DressError>
+        requires ring { IsRing self.now.0.now.0.now.source self.now.0.now.0.now.whole.now (E.pre self.now.0.now.0.now.expr) (E.post self.now.0.now.0.now.expr)
+            (P.pre self.now.0.now.0.now.pat) (P.post self.now.0.now.0.now.pat) (S.pre self.now.0.now.0.now.stmt) (S.post self.now.0.now.0.now.stmt) (I.pre self.now.0.now.0.now.item) (I.post self.now.0.now.0.now.item) }
+        requires types { IsTypeRing self.now.0.now.0.now.source self.now.0.now.0.now.whole.now (T.pre self.now.0.now.1) (T.post self.now.0.now.1) (Q.pre self.now.0.now.2) (Q.post self.now.0.now.2) }
+        requires within { IsWithin parts.now self.now.0.now.0.now.whole.now }
+        ensures { IsMade (str_type self.now.0.now.0.now.source.text.now self.now.0.now.0.now.source.tokens.now (parts_in self.now.0.now.0.now.source parts.now)) result }
     {
-        let str = self.0.str_at(parts, 0)?;
+        let str = self.0.0.str_at(parts, 0)?;
         Ok(TsType::Lit(TsLit::Str(str)))
     }
 
     /// `-1`
     #[tactic(auto, unfolding(es_dress::specs::Types::number_type))]
-    pub(crate) fn number_type(&self, span: Range, parts: &[Tree]) -> Result<TsType, DressError>
-        requires ring { IsRing self.now.0.now.source self.now.0.now.whole.now (E.pre self.now.0.now.expr) (E.post self.now.0.now.expr)
-            (P.pre self.now.0.now.pat) (P.post self.now.0.now.pat) (S.pre self.now.0.now.stmt) (S.post self.now.0.now.stmt) (I.pre self.now.0.now.item) (I.post self.now.0.now.item) }
-        requires types { IsTypeRing self.now.0.now.source self.now.0.now.whole.now (T.pre self.now.1) (T.post self.now.1) (Q.pre self.now.2) (Q.post self.now.2) }
-        requires within { IsWithin parts.now self.now.0.now.whole.now }
-        ensures { IsMade (number_type self.now.0.now.source.text.now self.now.0.now.source.tokens.now span (parts_in self.now.0.now.source parts.now)) result }
+    fn number_type(&self, span: Range, parts: &[Tree]) -> Result<TsType, DressError>
+        requires ring { IsRing self.now.0.now.0.now.source self.now.0.now.0.now.whole.now (E.pre self.now.0.now.0.now.expr) (E.post self.now.0.now.0.now.expr)
+            (P.pre self.now.0.now.0.now.pat) (P.post self.now.0.now.0.now.pat) (S.pre self.now.0.now.0.now.stmt) (S.post self.now.0.now.0.now.stmt) (I.pre self.now.0.now.0.now.item) (I.post self.now.0.now.0.now.item) }
+        requires types { IsTypeRing self.now.0.now.0.now.source self.now.0.now.0.now.whole.now (T.pre self.now.0.now.1) (T.post self.now.0.now.1) (Q.pre self.now.0.now.2) (Q.post self.now.0.now.2) }
+        requires within { IsWithin parts.now self.now.0.now.0.now.whole.now }
+        ensures { IsMade (number_type self.now.0.now.0.now.source.text.now self.now.0.now.0.now.source.tokens.now span (parts_in self.now.0.now.0.now.source parts.now)) result }
     {
-        let token = self.0.token_at(parts, 1)?;
-        let minus = self.0.is_there(parts, 0);
-        let lit = numeric_lit(self.0.source.alloc, self.0.source.text, minus, span, token)?;
+        let token = self.0.0.token_at(parts, 1)?;
+        let minus = self.0.0.is_there(parts, 0);
+        let lit = numeric_lit(
+            self.0.0.source.alloc,
+            self.0.0.source.text,
+            minus,
+            span,
+            token,
+        )?;
         Ok(TsType::Lit(lit))
     }
 
     /// A template without types.
     #[tactic(auto, unfolding(es_dress::specs::Types::template_type))]
-    pub(crate) fn template_type(&self, span: Range, parts: &[Tree]) -> Result<TsType, DressError>
-        requires ring { IsRing self.now.0.now.source self.now.0.now.whole.now (E.pre self.now.0.now.expr) (E.post self.now.0.now.expr)
-            (P.pre self.now.0.now.pat) (P.post self.now.0.now.pat) (S.pre self.now.0.now.stmt) (S.post self.now.0.now.stmt) (I.pre self.now.0.now.item) (I.post self.now.0.now.item) }
-        requires types { IsTypeRing self.now.0.now.source self.now.0.now.whole.now (T.pre self.now.1) (T.post self.now.1) (Q.pre self.now.2) (Q.post self.now.2) }
-        requires within { IsWithin parts.now self.now.0.now.whole.now }
-        ensures { IsMade (template_type self.now.0.now.source.text.now self.now.0.now.source.tokens.now span (parts_in self.now.0.now.source parts.now)) result }
+    fn template_type(&self, span: Range, parts: &[Tree]) -> Result<TsType, DressError>
+        requires ring { IsRing self.now.0.now.0.now.source self.now.0.now.0.now.whole.now (E.pre self.now.0.now.0.now.expr) (E.post self.now.0.now.0.now.expr)
+            (P.pre self.now.0.now.0.now.pat) (P.post self.now.0.now.0.now.pat) (S.pre self.now.0.now.0.now.stmt) (S.post self.now.0.now.0.now.stmt) (I.pre self.now.0.now.0.now.item) (I.post self.now.0.now.0.now.item) }
+        requires types { IsTypeRing self.now.0.now.0.now.source self.now.0.now.0.now.whole.now (T.pre self.now.0.now.1) (T.post self.now.0.now.1) (Q.pre self.now.0.now.2) (Q.post self.now.0.now.2) }
+        requires within { IsWithin parts.now self.now.0.now.0.now.whole.now }
+        ensures { IsMade (template_type self.now.0.now.0.now.source.text.now self.now.0.now.0.now.source.tokens.now span (parts_in self.now.0.now.0.now.source parts.now)) result }
     {
-        let piece = self.0.piece_at(parts, 0)?;
-        let quasis = single(self.0.source.alloc, piece)?;
-        let types = Items::new(self.0.source.alloc);
+        let piece = self.0.0.piece_at(parts, 0)?;
+        let quasis = single(self.0.0.source.alloc, piece)?;
+        let types = Items::new(self.0.0.source.alloc);
         Ok(TsType::Tpl {
             quasis,
             types,
@@ -207,21 +221,21 @@ impl<
 
     /// A template with types.
     #[tactic(auto, unfolding(es_dress::specs::Types::template_types))]
-    pub(crate) fn template_types(&self, span: Range, parts: &[Tree]) -> Result<TsType, DressError>
-        requires ring { IsRing self.now.0.now.source self.now.0.now.whole.now (E.pre self.now.0.now.expr) (E.post self.now.0.now.expr)
-            (P.pre self.now.0.now.pat) (P.post self.now.0.now.pat) (S.pre self.now.0.now.stmt) (S.post self.now.0.now.stmt) (I.pre self.now.0.now.item) (I.post self.now.0.now.item) }
-        requires types { IsTypeRing self.now.0.now.source self.now.0.now.whole.now (T.pre self.now.1) (T.post self.now.1) (Q.pre self.now.2) (Q.post self.now.2) }
-        requires within { IsWithin parts.now self.now.0.now.whole.now }
-        ensures { IsMade (template_types self.now.0.now.source.text.now self.now.0.now.source.tokens.now span (parts_in self.now.0.now.source parts.now)) result }
+    fn template_types(&self, span: Range, parts: &[Tree]) -> Result<TsType, DressError>
+        requires ring { IsRing self.now.0.now.0.now.source self.now.0.now.0.now.whole.now (E.pre self.now.0.now.0.now.expr) (E.post self.now.0.now.0.now.expr)
+            (P.pre self.now.0.now.0.now.pat) (P.post self.now.0.now.0.now.pat) (S.pre self.now.0.now.0.now.stmt) (S.post self.now.0.now.0.now.stmt) (I.pre self.now.0.now.0.now.item) (I.post self.now.0.now.0.now.item) }
+        requires types { IsTypeRing self.now.0.now.0.now.source self.now.0.now.0.now.whole.now (T.pre self.now.0.now.1) (T.post self.now.0.now.1) (Q.pre self.now.0.now.2) (Q.post self.now.0.now.2) }
+        requires within { IsWithin parts.now self.now.0.now.0.now.whole.now }
+        ensures { IsMade (template_types self.now.0.now.0.now.source.text.now self.now.0.now.0.now.source.tokens.now span (parts_in self.now.0.now.0.now.source parts.now)) result }
     {
-        let head = self.0.piece_at(parts, 0)?;
-        let first = self.type_at(parts, 1)?;
-        let list = self.0.group(parts, 2);
-        let head = single(self.0.source.alloc, head)?;
-        let first = single(self.0.source.alloc, first)?;
-        let mut quasis = turns_behind(&MiddlePiece, self, head, list)?;
-        let types = turns_behind(&PieceType, self, first, list)?;
-        let tail = self.0.piece_at(parts, 3)?;
+        let head = self.0.0.piece_at(parts, 0)?;
+        let first = self.0.type_at(parts, 1)?;
+        let list = self.0.0.group(parts, 2);
+        let head = single(self.0.0.source.alloc, head)?;
+        let first = single(self.0.0.source.alloc, first)?;
+        let mut quasis = turns_behind(&MiddlePiece, self.0, head, list)?;
+        let types = turns_behind(&PieceType, self.0, first, list)?;
+        let tail = self.0.0.piece_at(parts, 3)?;
         quasis.push(tail)?;
         Ok(TsType::Tpl {
             quasis,
@@ -232,97 +246,103 @@ impl<
 
     /// `(a)`
     #[tactic(auto, unfolding(es_dress::specs::Types::parenthesized_type))]
-    pub(crate) fn parenthesized_type(
-        &self,
-        span: Range,
-        parts: &[Tree],
-    ) -> Result<TsType, DressError>
-        requires ring { IsRing self.now.0.now.source self.now.0.now.whole.now (E.pre self.now.0.now.expr) (E.post self.now.0.now.expr)
-            (P.pre self.now.0.now.pat) (P.post self.now.0.now.pat) (S.pre self.now.0.now.stmt) (S.post self.now.0.now.stmt) (I.pre self.now.0.now.item) (I.post self.now.0.now.item) }
-        requires types { IsTypeRing self.now.0.now.source self.now.0.now.whole.now (T.pre self.now.1) (T.post self.now.1) (Q.pre self.now.2) (Q.post self.now.2) }
-        requires within { IsWithin parts.now self.now.0.now.whole.now }
-        ensures { IsMade (parenthesized_type span (parts_in self.now.0.now.source parts.now)) result }
+    fn parenthesized_type(&self, span: Range, parts: &[Tree]) -> Result<TsType, DressError>
+        requires ring { IsRing self.now.0.now.0.now.source self.now.0.now.0.now.whole.now (E.pre self.now.0.now.0.now.expr) (E.post self.now.0.now.0.now.expr)
+            (P.pre self.now.0.now.0.now.pat) (P.post self.now.0.now.0.now.pat) (S.pre self.now.0.now.0.now.stmt) (S.post self.now.0.now.0.now.stmt) (I.pre self.now.0.now.0.now.item) (I.post self.now.0.now.0.now.item) }
+        requires types { IsTypeRing self.now.0.now.0.now.source self.now.0.now.0.now.whole.now (T.pre self.now.0.now.1) (T.post self.now.0.now.1) (Q.pre self.now.0.now.2) (Q.post self.now.0.now.2) }
+        requires within { IsWithin parts.now self.now.0.now.0.now.whole.now }
+        ensures { IsMade (parenthesized_type span (parts_in self.now.0.now.0.now.source parts.now)) result }
     {
-        let type_ann = self.boxed_type_at(parts, 0)?;
+        let type_ann = self.0.boxed_type_at(parts, 0)?;
         Ok(TsType::Paren { type_ann, span })
     }
 
     /// `{ a: b }`
     #[tactic(auto, unfolding(es_dress::specs::Types::members_type))]
-    pub(crate) fn members_type(&self, span: Range, parts: &[Tree]) -> Result<TsType, DressError>
-        requires ring { IsRing self.now.0.now.source self.now.0.now.whole.now (E.pre self.now.0.now.expr) (E.post self.now.0.now.expr)
-            (P.pre self.now.0.now.pat) (P.post self.now.0.now.pat) (S.pre self.now.0.now.stmt) (S.post self.now.0.now.stmt) (I.pre self.now.0.now.item) (I.post self.now.0.now.item) }
-        requires types { IsTypeRing self.now.0.now.source self.now.0.now.whole.now (T.pre self.now.1) (T.post self.now.1) (Q.pre self.now.2) (Q.post self.now.2) }
-        requires within { IsWithin parts.now self.now.0.now.whole.now }
-        ensures { IsMade (members_type span (parts_in self.now.0.now.source parts.now)) result }
+    fn members_type(&self, span: Range, parts: &[Tree]) -> Result<TsType, DressError>
+        requires ring { IsRing self.now.0.now.0.now.source self.now.0.now.0.now.whole.now (E.pre self.now.0.now.0.now.expr) (E.post self.now.0.now.0.now.expr)
+            (P.pre self.now.0.now.0.now.pat) (P.post self.now.0.now.0.now.pat) (S.pre self.now.0.now.0.now.stmt) (S.post self.now.0.now.0.now.stmt) (I.pre self.now.0.now.0.now.item) (I.post self.now.0.now.0.now.item) }
+        requires types { IsTypeRing self.now.0.now.0.now.source self.now.0.now.0.now.whole.now (T.pre self.now.0.now.1) (T.post self.now.0.now.1) (Q.pre self.now.0.now.2) (Q.post self.now.0.now.2) }
+        requires within { IsWithin parts.now self.now.0.now.0.now.whole.now }
+        ensures { IsMade (members_type span (parts_in self.now.0.now.0.now.source parts.now)) result }
     {
-        let members = turns(&MemberTurn, self, self.0.group(parts, 0))?;
+        let members = turns(&MemberTurn, self.0, self.0.0.group(parts, 0))?;
         Ok(TsType::TypeLit { members, span })
     }
 
     /// `[a, b]`
     #[tactic(auto, unfolding(es_dress::specs::Types::tuple_type))]
-    pub(crate) fn tuple_type(&self, span: Range, parts: &[Tree]) -> Result<TsType, DressError>
-        requires ring { IsRing self.now.0.now.source self.now.0.now.whole.now (E.pre self.now.0.now.expr) (E.post self.now.0.now.expr)
-            (P.pre self.now.0.now.pat) (P.post self.now.0.now.pat) (S.pre self.now.0.now.stmt) (S.post self.now.0.now.stmt) (I.pre self.now.0.now.item) (I.post self.now.0.now.item) }
-        requires types { IsTypeRing self.now.0.now.source self.now.0.now.whole.now (T.pre self.now.1) (T.post self.now.1) (Q.pre self.now.2) (Q.post self.now.2) }
-        requires within { IsWithin parts.now self.now.0.now.whole.now }
-        ensures { IsMade (tuple_type span (parts_in self.now.0.now.source parts.now)) result }
+    fn tuple_type(&self, span: Range, parts: &[Tree]) -> Result<TsType, DressError>
+        requires ring { IsRing self.now.0.now.0.now.source self.now.0.now.0.now.whole.now (E.pre self.now.0.now.0.now.expr) (E.post self.now.0.now.0.now.expr)
+            (P.pre self.now.0.now.0.now.pat) (P.post self.now.0.now.0.now.pat) (S.pre self.now.0.now.0.now.stmt) (S.post self.now.0.now.0.now.stmt) (I.pre self.now.0.now.0.now.item) (I.post self.now.0.now.0.now.item) }
+        requires types { IsTypeRing self.now.0.now.0.now.source self.now.0.now.0.now.whole.now (T.pre self.now.0.now.1) (T.post self.now.0.now.1) (Q.pre self.now.0.now.2) (Q.post self.now.0.now.2) }
+        requires within { IsWithin parts.now self.now.0.now.0.now.whole.now }
+        ensures { IsMade (tuple_type span (parts_in self.now.0.now.0.now.source parts.now)) result }
     {
-        let elems = turns(&ElementTurn, self, self.0.group(parts, 0))?;
+        let elems = turns(&ElementTurn, self.0, self.0.0.group(parts, 0))?;
         Ok(TsType::Tuple { elems, span })
     }
 
     /// `typeof a`
     #[tactic(auto, unfolding(es_dress::specs::Types::type_query))]
-    pub(crate) fn type_query(&self, span: Range, parts: &[Tree]) -> Result<TsType, DressError>
-        requires ring { IsRing self.now.0.now.source self.now.0.now.whole.now (E.pre self.now.0.now.expr) (E.post self.now.0.now.expr)
-            (P.pre self.now.0.now.pat) (P.post self.now.0.now.pat) (S.pre self.now.0.now.stmt) (S.post self.now.0.now.stmt) (I.pre self.now.0.now.item) (I.post self.now.0.now.item) }
-        requires types { IsTypeRing self.now.0.now.source self.now.0.now.whole.now (T.pre self.now.1) (T.post self.now.1) (Q.pre self.now.2) (Q.post self.now.2) }
-        requires within { IsWithin parts.now self.now.0.now.whole.now }
-        ensures { IsMade (type_query span (parts_in self.now.0.now.source parts.now)) result }
+    fn type_query(&self, span: Range, parts: &[Tree]) -> Result<TsType, DressError>
+        requires ring { IsRing self.now.0.now.0.now.source self.now.0.now.0.now.whole.now (E.pre self.now.0.now.0.now.expr) (E.post self.now.0.now.0.now.expr)
+            (P.pre self.now.0.now.0.now.pat) (P.post self.now.0.now.0.now.pat) (S.pre self.now.0.now.0.now.stmt) (S.post self.now.0.now.0.now.stmt) (I.pre self.now.0.now.0.now.item) (I.post self.now.0.now.0.now.item) }
+        requires types { IsTypeRing self.now.0.now.0.now.source self.now.0.now.0.now.whole.now (T.pre self.now.0.now.1) (T.post self.now.0.now.1) (Q.pre self.now.0.now.2) (Q.post self.now.0.now.2) }
+        requires within { IsWithin parts.now self.now.0.now.0.now.whole.now }
+        ensures { IsMade (type_query span (parts_in self.now.0.now.0.now.source parts.now)) result }
     {
-        let expr_name = self.boxed_type_at(self.0.group(parts, 0), 0)?;
+        let expr_name = self.0.boxed_type_at(self.0.0.group(parts, 0), 0)?;
         Ok(TsType::Query { expr_name, span })
     }
 
-    /// How `readonly` or `?` stands in a mapped type.
-    pub(crate) fn signed_in(&self, group: &[Tree]) -> Result<TruePlusMinus, DressError>
-        requires ring { IsRing self.now.0.now.source self.now.0.now.whole.now (E.pre self.now.0.now.expr) (E.post self.now.0.now.expr)
-            (P.pre self.now.0.now.pat) (P.post self.now.0.now.pat) (S.pre self.now.0.now.stmt) (S.post self.now.0.now.stmt) (I.pre self.now.0.now.item) (I.post self.now.0.now.item) }
-        requires types { IsTypeRing self.now.0.now.source self.now.0.now.whole.now (T.pre self.now.1) (T.post self.now.1) (Q.pre self.now.2) (Q.post self.now.2) }
-        requires within { IsWithin group.now self.now.0.now.whole.now }
-        ensures { IsMade (signed_in self.now.0.now.source.tokens.now (parts_in self.now.0.now.source group.now)) result }
+    /// `+` or `-` before `readonly` or `?`, or none.
+    fn signed_by(&self, group: &[Tree]) -> Result<TruePlusMinus, DressError>
+        requires ring { IsRing self.now.0.now.0.now.source self.now.0.now.0.now.whole.now (E.pre self.now.0.now.0.now.expr) (E.post self.now.0.now.0.now.expr)
+            (P.pre self.now.0.now.0.now.pat) (P.post self.now.0.now.0.now.pat) (S.pre self.now.0.now.0.now.stmt) (S.post self.now.0.now.0.now.stmt) (I.pre self.now.0.now.0.now.item) (I.post self.now.0.now.0.now.item) }
+        requires types { IsTypeRing self.now.0.now.0.now.source self.now.0.now.0.now.whole.now (T.pre self.now.0.now.1) (T.post self.now.0.now.1) (Q.pre self.now.0.now.2) (Q.post self.now.0.now.2) }
+        requires within { IsWithin group.now self.now.0.now.0.now.whole.now }
+        ensures { IsMade (signed_by self.now.0.now.0.now.source.tokens.now (parts_in self.now.0.now.0.now.source group.now)) result }
     {
-        if self.0.is_absent(group) {
-            return Ok(TruePlusMinus::Absent);
-        }
-        let sign_in = self.0.group(group, 0);
-        if self.0.is_absent(sign_in) {
+        if self.0.0.is_absent(group) {
             return Ok(TruePlusMinus::True);
         }
-        let kind = self.0.kind_at(sign_in, 0)?;
+        let kind = self.0.0.kind_at(group, 0)?;
         match sign(kind) {
             Some(sign) => Ok(sign),
             None => Err(DressError::OtherForm),
         }
     }
 
+    /// How `readonly` or `?` stands in a mapped type.
+    fn signed_in(&self, group: &[Tree]) -> Result<TruePlusMinus, DressError>
+        requires ring { IsRing self.now.0.now.0.now.source self.now.0.now.0.now.whole.now (E.pre self.now.0.now.0.now.expr) (E.post self.now.0.now.0.now.expr)
+            (P.pre self.now.0.now.0.now.pat) (P.post self.now.0.now.0.now.pat) (S.pre self.now.0.now.0.now.stmt) (S.post self.now.0.now.0.now.stmt) (I.pre self.now.0.now.0.now.item) (I.post self.now.0.now.0.now.item) }
+        requires types { IsTypeRing self.now.0.now.0.now.source self.now.0.now.0.now.whole.now (T.pre self.now.0.now.1) (T.post self.now.0.now.1) (Q.pre self.now.0.now.2) (Q.post self.now.0.now.2) }
+        requires within { IsWithin group.now self.now.0.now.0.now.whole.now }
+        ensures { IsMade (signed_in self.now.0.now.0.now.source.tokens.now (parts_in self.now.0.now.0.now.source group.now)) result }
+    {
+        if self.0.0.is_absent(group) {
+            return Ok(TruePlusMinus::Absent);
+        }
+        self.signed_by(self.0.0.group(group, 0))
+    }
+
     /// `{ [a in b]: c }`
     #[tactic(auto, unfolding(es_dress::specs::Types::mapped_type))]
-    pub(crate) fn mapped_type(&self, span: Range, parts: &[Tree]) -> Result<TsType, DressError>
-        requires ring { IsRing self.now.0.now.source self.now.0.now.whole.now (E.pre self.now.0.now.expr) (E.post self.now.0.now.expr)
-            (P.pre self.now.0.now.pat) (P.post self.now.0.now.pat) (S.pre self.now.0.now.stmt) (S.post self.now.0.now.stmt) (I.pre self.now.0.now.item) (I.post self.now.0.now.item) }
-        requires types { IsTypeRing self.now.0.now.source self.now.0.now.whole.now (T.pre self.now.1) (T.post self.now.1) (Q.pre self.now.2) (Q.post self.now.2) }
-        requires within { IsWithin parts.now self.now.0.now.whole.now }
-        ensures { IsMade (mapped_type self.now.0.now.source.text.now self.now.0.now.source.tokens.now span (parts_in self.now.0.now.source parts.now)) result }
+    fn mapped_type(&self, span: Range, parts: &[Tree]) -> Result<TsType, DressError>
+        requires ring { IsRing self.now.0.now.0.now.source self.now.0.now.0.now.whole.now (E.pre self.now.0.now.0.now.expr) (E.post self.now.0.now.0.now.expr)
+            (P.pre self.now.0.now.0.now.pat) (P.post self.now.0.now.0.now.pat) (S.pre self.now.0.now.0.now.stmt) (S.post self.now.0.now.0.now.stmt) (I.pre self.now.0.now.0.now.item) (I.post self.now.0.now.0.now.item) }
+        requires types { IsTypeRing self.now.0.now.0.now.source self.now.0.now.0.now.whole.now (T.pre self.now.0.now.1) (T.post self.now.0.now.1) (Q.pre self.now.0.now.2) (Q.post self.now.0.now.2) }
+        requires within { IsWithin parts.now self.now.0.now.0.now.whole.now }
+        ensures { IsMade (mapped_type self.now.0.now.0.now.source.text.now self.now.0.now.0.now.source.tokens.now span (parts_in self.now.0.now.0.now.source parts.now)) result }
     {
-        let readonly = self.signed_in(self.0.group(parts, 0))?;
-        let name = self.0.ident_at(parts, 1)?;
-        let constraint = self.boxed_type_at(parts, 2)?;
-        let name_type = self.optional_type(self.0.group(parts, 3))?;
-        let optional = self.signed_in(self.0.group(parts, 4))?;
-        let type_ann = self.optional_type(self.0.group(parts, 5))?;
+        let readonly = self.signed_in(self.0.0.group(parts, 0))?;
+        let name = self.0.0.ident_at(parts, 1)?;
+        let constraint = self.0.boxed_type_at(parts, 2)?;
+        let name_type = self.0.optional_type(self.0.0.group(parts, 3))?;
+        let optional = self.signed_in(self.0.0.group(parts, 4))?;
+        let type_ann = self.0.optional_type(self.0.0.group(parts, 5))?;
         Ok(TsType::Mapped {
             readonly,
             name,
@@ -334,60 +354,71 @@ impl<
         })
     }
 
+    /// `keyof`, `unique`, `readonly`
+    fn operator_at(&self, parts: &[Tree], n: usize) -> Result<TsTypeOperatorOp, DressError>
+        requires ring { IsRing self.now.0.now.0.now.source self.now.0.now.0.now.whole.now (E.pre self.now.0.now.0.now.expr) (E.post self.now.0.now.0.now.expr)
+            (P.pre self.now.0.now.0.now.pat) (P.post self.now.0.now.0.now.pat) (S.pre self.now.0.now.0.now.stmt) (S.post self.now.0.now.0.now.stmt) (I.pre self.now.0.now.0.now.item) (I.post self.now.0.now.0.now.item) }
+        requires types { IsTypeRing self.now.0.now.0.now.source self.now.0.now.0.now.whole.now (T.pre self.now.0.now.1) (T.post self.now.0.now.1) (Q.pre self.now.0.now.2) (Q.post self.now.0.now.2) }
+        requires within { IsWithin parts.now self.now.0.now.0.now.whole.now }
+        ensures { IsMade (given (kind_at self.now.0.now.0.now.source.tokens.now (parts_in self.now.0.now.0.now.source parts.now) n) (listed type_operators)) result }
+    {
+        let kind = self.0.0.kind_at(parts, n)?;
+        match operator(kind) {
+            Some(op) => Ok(op),
+            None => Err(DressError::OtherForm),
+        }
+    }
+
     /// `keyof a`
     #[tactic(auto, unfolding(es_dress::specs::Types::type_operator))]
-    pub(crate) fn type_operator(&self, span: Range, parts: &[Tree]) -> Result<TsType, DressError>
-        requires ring { IsRing self.now.0.now.source self.now.0.now.whole.now (E.pre self.now.0.now.expr) (E.post self.now.0.now.expr)
-            (P.pre self.now.0.now.pat) (P.post self.now.0.now.pat) (S.pre self.now.0.now.stmt) (S.post self.now.0.now.stmt) (I.pre self.now.0.now.item) (I.post self.now.0.now.item) }
-        requires types { IsTypeRing self.now.0.now.source self.now.0.now.whole.now (T.pre self.now.1) (T.post self.now.1) (Q.pre self.now.2) (Q.post self.now.2) }
-        requires within { IsWithin parts.now self.now.0.now.whole.now }
-        ensures { IsMade (type_operator self.now.0.now.source.tokens.now span (parts_in self.now.0.now.source parts.now)) result }
+    fn type_operator(&self, span: Range, parts: &[Tree]) -> Result<TsType, DressError>
+        requires ring { IsRing self.now.0.now.0.now.source self.now.0.now.0.now.whole.now (E.pre self.now.0.now.0.now.expr) (E.post self.now.0.now.0.now.expr)
+            (P.pre self.now.0.now.0.now.pat) (P.post self.now.0.now.0.now.pat) (S.pre self.now.0.now.0.now.stmt) (S.post self.now.0.now.0.now.stmt) (I.pre self.now.0.now.0.now.item) (I.post self.now.0.now.0.now.item) }
+        requires types { IsTypeRing self.now.0.now.0.now.source self.now.0.now.0.now.whole.now (T.pre self.now.0.now.1) (T.post self.now.0.now.1) (Q.pre self.now.0.now.2) (Q.post self.now.0.now.2) }
+        requires within { IsWithin parts.now self.now.0.now.0.now.whole.now }
+        ensures { IsMade (type_operator self.now.0.now.0.now.source.tokens.now span (parts_in self.now.0.now.0.now.source parts.now)) result }
     {
-        let kind = self.0.kind_at(parts, 0)?;
-        let op = match operator(kind) {
-            Some(op) => op,
-            None => return Err(DressError::OtherForm),
-        };
-        let type_ann = self.boxed_type_at(parts, 1)?;
+        let op = self.operator_at(parts, 0)?;
+        let type_ann = self.0.boxed_type_at(parts, 1)?;
         Ok(TsType::Operator { op, type_ann, span })
     }
 
     /// `infer a`
     #[tactic(auto, unfolding(es_dress::specs::Types::infer_type))]
-    pub(crate) fn infer_type(&self, span: Range, parts: &[Tree]) -> Result<TsType, DressError>
-        requires ring { IsRing self.now.0.now.source self.now.0.now.whole.now (E.pre self.now.0.now.expr) (E.post self.now.0.now.expr)
-            (P.pre self.now.0.now.pat) (P.post self.now.0.now.pat) (S.pre self.now.0.now.stmt) (S.post self.now.0.now.stmt) (I.pre self.now.0.now.item) (I.post self.now.0.now.item) }
-        requires types { IsTypeRing self.now.0.now.source self.now.0.now.whole.now (T.pre self.now.1) (T.post self.now.1) (Q.pre self.now.2) (Q.post self.now.2) }
-        requires within { IsWithin parts.now self.now.0.now.whole.now }
-        ensures { IsMade (infer_type self.now.0.now.source.text.now self.now.0.now.source.tokens.now span (parts_in self.now.0.now.source parts.now)) result }
+    fn infer_type(&self, span: Range, parts: &[Tree]) -> Result<TsType, DressError>
+        requires ring { IsRing self.now.0.now.0.now.source self.now.0.now.0.now.whole.now (E.pre self.now.0.now.0.now.expr) (E.post self.now.0.now.0.now.expr)
+            (P.pre self.now.0.now.0.now.pat) (P.post self.now.0.now.0.now.pat) (S.pre self.now.0.now.0.now.stmt) (S.post self.now.0.now.0.now.stmt) (I.pre self.now.0.now.0.now.item) (I.post self.now.0.now.0.now.item) }
+        requires types { IsTypeRing self.now.0.now.0.now.source self.now.0.now.0.now.whole.now (T.pre self.now.0.now.1) (T.post self.now.0.now.1) (Q.pre self.now.0.now.2) (Q.post self.now.0.now.2) }
+        requires within { IsWithin parts.now self.now.0.now.0.now.whole.now }
+        ensures { IsMade (infer_type self.now.0.now.0.now.source.text.now self.now.0.now.0.now.source.tokens.now span (parts_in self.now.0.now.0.now.source parts.now)) result }
     {
-        let name = self.0.ident_at(parts, 0)?;
+        let name = self.0.0.ident_at(parts, 0)?;
         Ok(TsType::Infer { name, span })
     }
 
     /// Operands, the first before its operator.
-    pub(crate) fn operands(&self, parts: &[Tree]) -> Result<Items<TsType>, DressError>
-        requires ring { IsRing self.now.0.now.source self.now.0.now.whole.now (E.pre self.now.0.now.expr) (E.post self.now.0.now.expr)
-            (P.pre self.now.0.now.pat) (P.post self.now.0.now.pat) (S.pre self.now.0.now.stmt) (S.post self.now.0.now.stmt) (I.pre self.now.0.now.item) (I.post self.now.0.now.item) }
-        requires types { IsTypeRing self.now.0.now.source self.now.0.now.whole.now (T.pre self.now.1) (T.post self.now.1) (Q.pre self.now.2) (Q.post self.now.2) }
-        requires within { IsWithin parts.now self.now.0.now.whole.now }
-        ensures { IsMade (operands (parts_in self.now.0.now.source parts.now)) result }
+    fn operands(&self, parts: &[Tree]) -> Result<Items<TsType>, DressError>
+        requires ring { IsRing self.now.0.now.0.now.source self.now.0.now.0.now.whole.now (E.pre self.now.0.now.0.now.expr) (E.post self.now.0.now.0.now.expr)
+            (P.pre self.now.0.now.0.now.pat) (P.post self.now.0.now.0.now.pat) (S.pre self.now.0.now.0.now.stmt) (S.post self.now.0.now.0.now.stmt) (I.pre self.now.0.now.0.now.item) (I.post self.now.0.now.0.now.item) }
+        requires types { IsTypeRing self.now.0.now.0.now.source self.now.0.now.0.now.whole.now (T.pre self.now.0.now.1) (T.post self.now.0.now.1) (Q.pre self.now.0.now.2) (Q.post self.now.0.now.2) }
+        requires within { IsWithin parts.now self.now.0.now.0.now.whole.now }
+        ensures { IsMade (operands (parts_in self.now.0.now.0.now.source parts.now)) result }
     {
-        let first = self.type_at(parts, 0)?;
-        let mut items = single(self.0.source.alloc, first)?;
-        let second = self.type_at(parts, 1)?;
+        let first = self.0.type_at(parts, 0)?;
+        let mut items = single(self.0.0.source.alloc, first)?;
+        let second = self.0.type_at(parts, 1)?;
         items.push(second)?;
-        turns_behind(&OneType, self, items, self.0.group(parts, 2))
+        turns_behind(&OneType, self.0, items, self.0.0.group(parts, 2))
     }
 
     /// `a | b`
     #[tactic(auto, unfolding(es_dress::specs::Types::union_type))]
-    pub(crate) fn union_type(&self, span: Range, parts: &[Tree]) -> Result<TsType, DressError>
-        requires ring { IsRing self.now.0.now.source self.now.0.now.whole.now (E.pre self.now.0.now.expr) (E.post self.now.0.now.expr)
-            (P.pre self.now.0.now.pat) (P.post self.now.0.now.pat) (S.pre self.now.0.now.stmt) (S.post self.now.0.now.stmt) (I.pre self.now.0.now.item) (I.post self.now.0.now.item) }
-        requires types { IsTypeRing self.now.0.now.source self.now.0.now.whole.now (T.pre self.now.1) (T.post self.now.1) (Q.pre self.now.2) (Q.post self.now.2) }
-        requires within { IsWithin parts.now self.now.0.now.whole.now }
-        ensures { IsMade (union_type span (parts_in self.now.0.now.source parts.now)) result }
+    fn union_type(&self, span: Range, parts: &[Tree]) -> Result<TsType, DressError>
+        requires ring { IsRing self.now.0.now.0.now.source self.now.0.now.0.now.whole.now (E.pre self.now.0.now.0.now.expr) (E.post self.now.0.now.0.now.expr)
+            (P.pre self.now.0.now.0.now.pat) (P.post self.now.0.now.0.now.pat) (S.pre self.now.0.now.0.now.stmt) (S.post self.now.0.now.0.now.stmt) (I.pre self.now.0.now.0.now.item) (I.post self.now.0.now.0.now.item) }
+        requires types { IsTypeRing self.now.0.now.0.now.source self.now.0.now.0.now.whole.now (T.pre self.now.0.now.1) (T.post self.now.0.now.1) (Q.pre self.now.0.now.2) (Q.post self.now.0.now.2) }
+        requires within { IsWithin parts.now self.now.0.now.0.now.whole.now }
+        ensures { IsMade (union_type span (parts_in self.now.0.now.0.now.source parts.now)) result }
     {
         let types = self.operands(parts)?;
         Ok(TsType::Union { types, span })
@@ -395,33 +426,25 @@ impl<
 
     /// `| a | b`
     #[tactic(auto, unfolding(es_dress::specs::Types::leading_union_type))]
-    pub(crate) fn leading_union_type(
-        &self,
-        span: Range,
-        parts: &[Tree],
-    ) -> Result<TsType, DressError>
-        requires ring { IsRing self.now.0.now.source self.now.0.now.whole.now (E.pre self.now.0.now.expr) (E.post self.now.0.now.expr)
-            (P.pre self.now.0.now.pat) (P.post self.now.0.now.pat) (S.pre self.now.0.now.stmt) (S.post self.now.0.now.stmt) (I.pre self.now.0.now.item) (I.post self.now.0.now.item) }
-        requires types { IsTypeRing self.now.0.now.source self.now.0.now.whole.now (T.pre self.now.1) (T.post self.now.1) (Q.pre self.now.2) (Q.post self.now.2) }
-        requires within { IsWithin parts.now self.now.0.now.whole.now }
-        ensures { IsMade (leading_union_type span (parts_in self.now.0.now.source parts.now)) result }
+    fn leading_union_type(&self, span: Range, parts: &[Tree]) -> Result<TsType, DressError>
+        requires ring { IsRing self.now.0.now.0.now.source self.now.0.now.0.now.whole.now (E.pre self.now.0.now.0.now.expr) (E.post self.now.0.now.0.now.expr)
+            (P.pre self.now.0.now.0.now.pat) (P.post self.now.0.now.0.now.pat) (S.pre self.now.0.now.0.now.stmt) (S.post self.now.0.now.0.now.stmt) (I.pre self.now.0.now.0.now.item) (I.post self.now.0.now.0.now.item) }
+        requires types { IsTypeRing self.now.0.now.0.now.source self.now.0.now.0.now.whole.now (T.pre self.now.0.now.1) (T.post self.now.0.now.1) (Q.pre self.now.0.now.2) (Q.post self.now.0.now.2) }
+        requires within { IsWithin parts.now self.now.0.now.0.now.whole.now }
+        ensures { IsMade (leading_union_type span (parts_in self.now.0.now.0.now.source parts.now)) result }
     {
-        let types = self.types_from(parts, 0)?;
+        let types = self.0.types_from(parts, 0)?;
         Ok(TsType::Union { types, span })
     }
 
     /// `a & b`
     #[tactic(auto, unfolding(es_dress::specs::Types::intersection_type))]
-    pub(crate) fn intersection_type(
-        &self,
-        span: Range,
-        parts: &[Tree],
-    ) -> Result<TsType, DressError>
-        requires ring { IsRing self.now.0.now.source self.now.0.now.whole.now (E.pre self.now.0.now.expr) (E.post self.now.0.now.expr)
-            (P.pre self.now.0.now.pat) (P.post self.now.0.now.pat) (S.pre self.now.0.now.stmt) (S.post self.now.0.now.stmt) (I.pre self.now.0.now.item) (I.post self.now.0.now.item) }
-        requires types { IsTypeRing self.now.0.now.source self.now.0.now.whole.now (T.pre self.now.1) (T.post self.now.1) (Q.pre self.now.2) (Q.post self.now.2) }
-        requires within { IsWithin parts.now self.now.0.now.whole.now }
-        ensures { IsMade (intersection_type span (parts_in self.now.0.now.source parts.now)) result }
+    fn intersection_type(&self, span: Range, parts: &[Tree]) -> Result<TsType, DressError>
+        requires ring { IsRing self.now.0.now.0.now.source self.now.0.now.0.now.whole.now (E.pre self.now.0.now.0.now.expr) (E.post self.now.0.now.0.now.expr)
+            (P.pre self.now.0.now.0.now.pat) (P.post self.now.0.now.0.now.pat) (S.pre self.now.0.now.0.now.stmt) (S.post self.now.0.now.0.now.stmt) (I.pre self.now.0.now.0.now.item) (I.post self.now.0.now.0.now.item) }
+        requires types { IsTypeRing self.now.0.now.0.now.source self.now.0.now.0.now.whole.now (T.pre self.now.0.now.1) (T.post self.now.0.now.1) (Q.pre self.now.0.now.2) (Q.post self.now.0.now.2) }
+        requires within { IsWithin parts.now self.now.0.now.0.now.whole.now }
+        ensures { IsMade (intersection_type span (parts_in self.now.0.now.0.now.source parts.now)) result }
     {
         let types = self.operands(parts)?;
         Ok(TsType::Intersection { types, span })
@@ -429,34 +452,30 @@ impl<
 
     /// `& a & b`
     #[tactic(auto, unfolding(es_dress::specs::Types::leading_intersection_type))]
-    pub(crate) fn leading_intersection_type(
-        &self,
-        span: Range,
-        parts: &[Tree],
-    ) -> Result<TsType, DressError>
-        requires ring { IsRing self.now.0.now.source self.now.0.now.whole.now (E.pre self.now.0.now.expr) (E.post self.now.0.now.expr)
-            (P.pre self.now.0.now.pat) (P.post self.now.0.now.pat) (S.pre self.now.0.now.stmt) (S.post self.now.0.now.stmt) (I.pre self.now.0.now.item) (I.post self.now.0.now.item) }
-        requires types { IsTypeRing self.now.0.now.source self.now.0.now.whole.now (T.pre self.now.1) (T.post self.now.1) (Q.pre self.now.2) (Q.post self.now.2) }
-        requires within { IsWithin parts.now self.now.0.now.whole.now }
-        ensures { IsMade (leading_intersection_type span (parts_in self.now.0.now.source parts.now)) result }
+    fn leading_intersection_type(&self, span: Range, parts: &[Tree]) -> Result<TsType, DressError>
+        requires ring { IsRing self.now.0.now.0.now.source self.now.0.now.0.now.whole.now (E.pre self.now.0.now.0.now.expr) (E.post self.now.0.now.0.now.expr)
+            (P.pre self.now.0.now.0.now.pat) (P.post self.now.0.now.0.now.pat) (S.pre self.now.0.now.0.now.stmt) (S.post self.now.0.now.0.now.stmt) (I.pre self.now.0.now.0.now.item) (I.post self.now.0.now.0.now.item) }
+        requires types { IsTypeRing self.now.0.now.0.now.source self.now.0.now.0.now.whole.now (T.pre self.now.0.now.1) (T.post self.now.0.now.1) (Q.pre self.now.0.now.2) (Q.post self.now.0.now.2) }
+        requires within { IsWithin parts.now self.now.0.now.0.now.whole.now }
+        ensures { IsMade (leading_intersection_type span (parts_in self.now.0.now.0.now.source parts.now)) result }
     {
-        let types = self.types_from(parts, 0)?;
+        let types = self.0.types_from(parts, 0)?;
         Ok(TsType::Intersection { types, span })
     }
 
     /// `a extends b ? c : d`
     #[tactic(auto, unfolding(es_dress::specs::Types::conditional_type))]
-    pub(crate) fn conditional_type(&self, span: Range, parts: &[Tree]) -> Result<TsType, DressError>
-        requires ring { IsRing self.now.0.now.source self.now.0.now.whole.now (E.pre self.now.0.now.expr) (E.post self.now.0.now.expr)
-            (P.pre self.now.0.now.pat) (P.post self.now.0.now.pat) (S.pre self.now.0.now.stmt) (S.post self.now.0.now.stmt) (I.pre self.now.0.now.item) (I.post self.now.0.now.item) }
-        requires types { IsTypeRing self.now.0.now.source self.now.0.now.whole.now (T.pre self.now.1) (T.post self.now.1) (Q.pre self.now.2) (Q.post self.now.2) }
-        requires within { IsWithin parts.now self.now.0.now.whole.now }
-        ensures { IsMade (conditional_type span (parts_in self.now.0.now.source parts.now)) result }
+    fn conditional_type(&self, span: Range, parts: &[Tree]) -> Result<TsType, DressError>
+        requires ring { IsRing self.now.0.now.0.now.source self.now.0.now.0.now.whole.now (E.pre self.now.0.now.0.now.expr) (E.post self.now.0.now.0.now.expr)
+            (P.pre self.now.0.now.0.now.pat) (P.post self.now.0.now.0.now.pat) (S.pre self.now.0.now.0.now.stmt) (S.post self.now.0.now.0.now.stmt) (I.pre self.now.0.now.0.now.item) (I.post self.now.0.now.0.now.item) }
+        requires types { IsTypeRing self.now.0.now.0.now.source self.now.0.now.0.now.whole.now (T.pre self.now.0.now.1) (T.post self.now.0.now.1) (Q.pre self.now.0.now.2) (Q.post self.now.0.now.2) }
+        requires within { IsWithin parts.now self.now.0.now.0.now.whole.now }
+        ensures { IsMade (conditional_type span (parts_in self.now.0.now.0.now.source parts.now)) result }
     {
-        let check = self.boxed_type_at(parts, 0)?;
-        let extends = self.boxed_type_at(parts, 1)?;
-        let yes = self.boxed_type_at(parts, 2)?;
-        let no = self.boxed_type_at(parts, 3)?;
+        let check = self.0.boxed_type_at(parts, 0)?;
+        let extends = self.0.boxed_type_at(parts, 1)?;
+        let yes = self.0.boxed_type_at(parts, 2)?;
+        let no = self.0.boxed_type_at(parts, 3)?;
         Ok(TsType::Conditional {
             check,
             extends,
@@ -468,16 +487,16 @@ impl<
 
     /// `<a>(b) => c`
     #[tactic(auto, unfolding(es_dress::specs::Types::function_type))]
-    pub(crate) fn function_type(&self, span: Range, parts: &[Tree]) -> Result<TsType, DressError>
-        requires ring { IsRing self.now.0.now.source self.now.0.now.whole.now (E.pre self.now.0.now.expr) (E.post self.now.0.now.expr)
-            (P.pre self.now.0.now.pat) (P.post self.now.0.now.pat) (S.pre self.now.0.now.stmt) (S.post self.now.0.now.stmt) (I.pre self.now.0.now.item) (I.post self.now.0.now.item) }
-        requires types { IsTypeRing self.now.0.now.source self.now.0.now.whole.now (T.pre self.now.1) (T.post self.now.1) (Q.pre self.now.2) (Q.post self.now.2) }
-        requires within { IsWithin parts.now self.now.0.now.whole.now }
-        ensures { IsMade (function_type span (parts_in self.now.0.now.source parts.now)) result }
+    fn function_type(&self, span: Range, parts: &[Tree]) -> Result<TsType, DressError>
+        requires ring { IsRing self.now.0.now.0.now.source self.now.0.now.0.now.whole.now (E.pre self.now.0.now.0.now.expr) (E.post self.now.0.now.0.now.expr)
+            (P.pre self.now.0.now.0.now.pat) (P.post self.now.0.now.0.now.pat) (S.pre self.now.0.now.0.now.stmt) (S.post self.now.0.now.0.now.stmt) (I.pre self.now.0.now.0.now.item) (I.post self.now.0.now.0.now.item) }
+        requires types { IsTypeRing self.now.0.now.0.now.source self.now.0.now.0.now.whole.now (T.pre self.now.0.now.1) (T.post self.now.0.now.1) (Q.pre self.now.0.now.2) (Q.post self.now.0.now.2) }
+        requires within { IsWithin parts.now self.now.0.now.0.now.whole.now }
+        ensures { IsMade (function_type span (parts_in self.now.0.now.0.now.source parts.now)) result }
     {
-        let type_params = self.optional_type_params(self.0.group(parts, 0))?;
-        let params = self.params_at(parts, 1)?;
-        let type_ann = self.boxed_type_at(parts, 2)?;
+        let type_params = self.0.optional_type_params(self.0.0.group(parts, 0))?;
+        let params = self.0.params_at(parts, 1)?;
+        let type_ann = self.0.boxed_type_at(parts, 2)?;
         Ok(TsType::Fn {
             type_params,
             params,
@@ -488,17 +507,17 @@ impl<
 
     /// `abstract new (a) => b`
     #[tactic(auto, unfolding(es_dress::specs::Types::constructor_type))]
-    pub(crate) fn constructor_type(&self, span: Range, parts: &[Tree]) -> Result<TsType, DressError>
-        requires ring { IsRing self.now.0.now.source self.now.0.now.whole.now (E.pre self.now.0.now.expr) (E.post self.now.0.now.expr)
-            (P.pre self.now.0.now.pat) (P.post self.now.0.now.pat) (S.pre self.now.0.now.stmt) (S.post self.now.0.now.stmt) (I.pre self.now.0.now.item) (I.post self.now.0.now.item) }
-        requires types { IsTypeRing self.now.0.now.source self.now.0.now.whole.now (T.pre self.now.1) (T.post self.now.1) (Q.pre self.now.2) (Q.post self.now.2) }
-        requires within { IsWithin parts.now self.now.0.now.whole.now }
-        ensures { IsMade (constructor_type span (parts_in self.now.0.now.source parts.now)) result }
+    fn constructor_type(&self, span: Range, parts: &[Tree]) -> Result<TsType, DressError>
+        requires ring { IsRing self.now.0.now.0.now.source self.now.0.now.0.now.whole.now (E.pre self.now.0.now.0.now.expr) (E.post self.now.0.now.0.now.expr)
+            (P.pre self.now.0.now.0.now.pat) (P.post self.now.0.now.0.now.pat) (S.pre self.now.0.now.0.now.stmt) (S.post self.now.0.now.0.now.stmt) (I.pre self.now.0.now.0.now.item) (I.post self.now.0.now.0.now.item) }
+        requires types { IsTypeRing self.now.0.now.0.now.source self.now.0.now.0.now.whole.now (T.pre self.now.0.now.1) (T.post self.now.0.now.1) (Q.pre self.now.0.now.2) (Q.post self.now.0.now.2) }
+        requires within { IsWithin parts.now self.now.0.now.0.now.whole.now }
+        ensures { IsMade (constructor_type span (parts_in self.now.0.now.0.now.source parts.now)) result }
     {
-        let type_params = self.optional_type_params(self.0.group(parts, 1))?;
-        let params = self.params_at(parts, 2)?;
-        let type_ann = self.boxed_type_at(parts, 3)?;
-        let is_abstract = self.0.is_there(parts, 0);
+        let type_params = self.0.optional_type_params(self.0.0.group(parts, 1))?;
+        let params = self.0.params_at(parts, 2)?;
+        let type_ann = self.0.boxed_type_at(parts, 3)?;
+        let is_abstract = self.0.0.is_there(parts, 0);
         Ok(TsType::Constructor {
             is_abstract,
             type_params,
@@ -510,15 +529,15 @@ impl<
 
     /// `asserts a is b`
     #[tactic(auto, unfolding(es_dress::specs::Types::asserts_result))]
-    pub(crate) fn asserts_result(&self, span: Range, parts: &[Tree]) -> Result<TsType, DressError>
-        requires ring { IsRing self.now.0.now.source self.now.0.now.whole.now (E.pre self.now.0.now.expr) (E.post self.now.0.now.expr)
-            (P.pre self.now.0.now.pat) (P.post self.now.0.now.pat) (S.pre self.now.0.now.stmt) (S.post self.now.0.now.stmt) (I.pre self.now.0.now.item) (I.post self.now.0.now.item) }
-        requires types { IsTypeRing self.now.0.now.source self.now.0.now.whole.now (T.pre self.now.1) (T.post self.now.1) (Q.pre self.now.2) (Q.post self.now.2) }
-        requires within { IsWithin parts.now self.now.0.now.whole.now }
-        ensures { IsMade (asserts_result self.now.0.now.source.text.now self.now.0.now.source.tokens.now span (parts_in self.now.0.now.source parts.now)) result }
+    fn asserts_result(&self, span: Range, parts: &[Tree]) -> Result<TsType, DressError>
+        requires ring { IsRing self.now.0.now.0.now.source self.now.0.now.0.now.whole.now (E.pre self.now.0.now.0.now.expr) (E.post self.now.0.now.0.now.expr)
+            (P.pre self.now.0.now.0.now.pat) (P.post self.now.0.now.0.now.pat) (S.pre self.now.0.now.0.now.stmt) (S.post self.now.0.now.0.now.stmt) (I.pre self.now.0.now.0.now.item) (I.post self.now.0.now.0.now.item) }
+        requires types { IsTypeRing self.now.0.now.0.now.source self.now.0.now.0.now.whole.now (T.pre self.now.0.now.1) (T.post self.now.0.now.1) (Q.pre self.now.0.now.2) (Q.post self.now.0.now.2) }
+        requires within { IsWithin parts.now self.now.0.now.0.now.whole.now }
+        ensures { IsMade (asserts_result self.now.0.now.0.now.source.text.now self.now.0.now.0.now.source.tokens.now span (parts_in self.now.0.now.0.now.source parts.now)) result }
     {
-        let name = self.this_or_name_at(parts, 0)?;
-        let type_ann = self.optional_type(self.0.group(parts, 1))?;
+        let name = self.0.this_or_name_at(parts, 0)?;
+        let type_ann = self.0.optional_type(self.0.0.group(parts, 1))?;
         Ok(TsType::Predicate {
             asserts: true,
             name,
@@ -529,15 +548,15 @@ impl<
 
     /// `a is b`
     #[tactic(auto, unfolding(es_dress::specs::Types::predicate_result))]
-    pub(crate) fn predicate_result(&self, span: Range, parts: &[Tree]) -> Result<TsType, DressError>
-        requires ring { IsRing self.now.0.now.source self.now.0.now.whole.now (E.pre self.now.0.now.expr) (E.post self.now.0.now.expr)
-            (P.pre self.now.0.now.pat) (P.post self.now.0.now.pat) (S.pre self.now.0.now.stmt) (S.post self.now.0.now.stmt) (I.pre self.now.0.now.item) (I.post self.now.0.now.item) }
-        requires types { IsTypeRing self.now.0.now.source self.now.0.now.whole.now (T.pre self.now.1) (T.post self.now.1) (Q.pre self.now.2) (Q.post self.now.2) }
-        requires within { IsWithin parts.now self.now.0.now.whole.now }
-        ensures { IsMade (predicate_result self.now.0.now.source.text.now self.now.0.now.source.tokens.now span (parts_in self.now.0.now.source parts.now)) result }
+    fn predicate_result(&self, span: Range, parts: &[Tree]) -> Result<TsType, DressError>
+        requires ring { IsRing self.now.0.now.0.now.source self.now.0.now.0.now.whole.now (E.pre self.now.0.now.0.now.expr) (E.post self.now.0.now.0.now.expr)
+            (P.pre self.now.0.now.0.now.pat) (P.post self.now.0.now.0.now.pat) (S.pre self.now.0.now.0.now.stmt) (S.post self.now.0.now.0.now.stmt) (I.pre self.now.0.now.0.now.item) (I.post self.now.0.now.0.now.item) }
+        requires types { IsTypeRing self.now.0.now.0.now.source self.now.0.now.0.now.whole.now (T.pre self.now.0.now.1) (T.post self.now.0.now.1) (Q.pre self.now.0.now.2) (Q.post self.now.0.now.2) }
+        requires within { IsWithin parts.now self.now.0.now.0.now.whole.now }
+        ensures { IsMade (predicate_result self.now.0.now.0.now.source.text.now self.now.0.now.0.now.source.tokens.now span (parts_in self.now.0.now.0.now.source parts.now)) result }
     {
-        let name = self.this_or_name_at(parts, 0)?;
-        let type_ann = Some(self.boxed_type_at(parts, 1)?);
+        let name = self.0.this_or_name_at(parts, 0)?;
+        let type_ann = Some(self.0.boxed_type_at(parts, 1)?);
         Ok(TsType::Predicate {
             asserts: false,
             name,
@@ -547,30 +566,28 @@ impl<
     }
 
     /// A label, which says itself whether `?` stands behind it.
-    pub(crate) fn label_at(&self, parts: &[Tree], n: usize) -> Result<Ident, DressError>
-        requires ring { IsRing self.now.0.now.source self.now.0.now.whole.now (E.pre self.now.0.now.expr) (E.post self.now.0.now.expr)
-            (P.pre self.now.0.now.pat) (P.post self.now.0.now.pat) (S.pre self.now.0.now.stmt) (S.post self.now.0.now.stmt) (I.pre self.now.0.now.item) (I.post self.now.0.now.item) }
-        requires types { IsTypeRing self.now.0.now.source self.now.0.now.whole.now (T.pre self.now.1) (T.post self.now.1) (Q.pre self.now.2) (Q.post self.now.2) }
-        requires within { IsWithin parts.now self.now.0.now.whole.now }
+    fn label_at(&self, parts: &[Tree], n: usize) -> Result<Ident, DressError>
+        requires ring { IsRing self.now.0.now.0.now.source self.now.0.now.0.now.whole.now (E.pre self.now.0.now.0.now.expr) (E.post self.now.0.now.0.now.expr)
+            (P.pre self.now.0.now.0.now.pat) (P.post self.now.0.now.0.now.pat) (S.pre self.now.0.now.0.now.stmt) (S.post self.now.0.now.0.now.stmt) (I.pre self.now.0.now.0.now.item) (I.post self.now.0.now.0.now.item) }
+        requires types { IsTypeRing self.now.0.now.0.now.source self.now.0.now.0.now.whole.now (T.pre self.now.0.now.1) (T.post self.now.0.now.1) (Q.pre self.now.0.now.2) (Q.post self.now.0.now.2) }
+        requires within { IsWithin parts.now self.now.0.now.0.now.whole.now }
         requires place { n < 7 }
-        ensures { IsMade (label_at self.now.0.now.source.text.now self.now.0.now.source.tokens.now (parts_in self.now.0.now.source parts.now) n) result }
+        ensures { IsMade (label_at self.now.0.now.0.now.source.text.now self.now.0.now.0.now.source.tokens.now (parts_in self.now.0.now.0.now.source parts.now) n) result }
     {
-        let name = self.0.ident_at(parts, n)?;
-        if self.0.is_there(parts, n + 1) {
-            return Ok(marked(name));
-        }
-        Ok(name)
+        let name = self.0.0.ident_at(parts, n)?;
+        let mark = self.0.0.is_there(parts, n + 1);
+        Ok(marked(mark, name))
     }
 
     /// A label that may be absent.
-    pub(crate) fn optional_label(&self, group: &[Tree]) -> Result<Option<Ident>, DressError>
-        requires ring { IsRing self.now.0.now.source self.now.0.now.whole.now (E.pre self.now.0.now.expr) (E.post self.now.0.now.expr)
-            (P.pre self.now.0.now.pat) (P.post self.now.0.now.pat) (S.pre self.now.0.now.stmt) (S.post self.now.0.now.stmt) (I.pre self.now.0.now.item) (I.post self.now.0.now.item) }
-        requires types { IsTypeRing self.now.0.now.source self.now.0.now.whole.now (T.pre self.now.1) (T.post self.now.1) (Q.pre self.now.2) (Q.post self.now.2) }
-        requires within { IsWithin group.now self.now.0.now.whole.now }
-        ensures { IsMade (optional (label_at self.now.0.now.source.text.now self.now.0.now.source.tokens.now) (parts_in self.now.0.now.source group.now)) result }
+    fn optional_label(&self, group: &[Tree]) -> Result<Option<Ident>, DressError>
+        requires ring { IsRing self.now.0.now.0.now.source self.now.0.now.0.now.whole.now (E.pre self.now.0.now.0.now.expr) (E.post self.now.0.now.0.now.expr)
+            (P.pre self.now.0.now.0.now.pat) (P.post self.now.0.now.0.now.pat) (S.pre self.now.0.now.0.now.stmt) (S.post self.now.0.now.0.now.stmt) (I.pre self.now.0.now.0.now.item) (I.post self.now.0.now.0.now.item) }
+        requires types { IsTypeRing self.now.0.now.0.now.source self.now.0.now.0.now.whole.now (T.pre self.now.0.now.1) (T.post self.now.0.now.1) (Q.pre self.now.0.now.2) (Q.post self.now.0.now.2) }
+        requires within { IsWithin group.now self.now.0.now.0.now.whole.now }
+        ensures { IsMade (optional (label_at self.now.0.now.0.now.source.text.now self.now.0.now.0.now.source.tokens.now) (parts_in self.now.0.now.0.now.source group.now)) result }
     {
-        if self.0.is_absent(group) {
+        if self.0.0.is_absent(group) {
             return Ok(None);
         }
         some(self.label_at(group, 0))
@@ -578,20 +595,16 @@ impl<
 
     /// `...a: b`
     #[tactic(auto, unfolding(es_dress::specs::Types::rest_element))]
-    pub(crate) fn rest_element(
-        &self,
-        span: Range,
-        parts: &[Tree],
-    ) -> Result<TsTupleElement, DressError>
-        requires ring { IsRing self.now.0.now.source self.now.0.now.whole.now (E.pre self.now.0.now.expr) (E.post self.now.0.now.expr)
-            (P.pre self.now.0.now.pat) (P.post self.now.0.now.pat) (S.pre self.now.0.now.stmt) (S.post self.now.0.now.stmt) (I.pre self.now.0.now.item) (I.post self.now.0.now.item) }
-        requires types { IsTypeRing self.now.0.now.source self.now.0.now.whole.now (T.pre self.now.1) (T.post self.now.1) (Q.pre self.now.2) (Q.post self.now.2) }
-        requires within { IsWithin parts.now self.now.0.now.whole.now }
-        ensures { IsMade (rest_element self.now.0.now.source.text.now self.now.0.now.source.tokens.now span (parts_in self.now.0.now.source parts.now)) result }
+    fn rest_element(&self, span: Range, parts: &[Tree]) -> Result<TsTupleElement, DressError>
+        requires ring { IsRing self.now.0.now.0.now.source self.now.0.now.0.now.whole.now (E.pre self.now.0.now.0.now.expr) (E.post self.now.0.now.0.now.expr)
+            (P.pre self.now.0.now.0.now.pat) (P.post self.now.0.now.0.now.pat) (S.pre self.now.0.now.0.now.stmt) (S.post self.now.0.now.0.now.stmt) (I.pre self.now.0.now.0.now.item) (I.post self.now.0.now.0.now.item) }
+        requires types { IsTypeRing self.now.0.now.0.now.source self.now.0.now.0.now.whole.now (T.pre self.now.0.now.1) (T.post self.now.0.now.1) (Q.pre self.now.0.now.2) (Q.post self.now.0.now.2) }
+        requires within { IsWithin parts.now self.now.0.now.0.now.whole.now }
+        ensures { IsMade (rest_element self.now.0.now.0.now.source.text.now self.now.0.now.0.now.source.tokens.now span (parts_in self.now.0.now.0.now.source parts.now)) result }
     {
-        let label = self.optional_label(self.0.group(parts, 0))?;
-        let ty = self.type_at(parts, 1)?;
-        let optional = self.0.is_there(parts, 2);
+        let label = self.optional_label(self.0.0.group(parts, 0))?;
+        let ty = self.0.type_at(parts, 1)?;
+        let optional = self.0.0.is_there(parts, 2);
         Ok(TsTupleElement {
             rest: true,
             label,
@@ -603,20 +616,16 @@ impl<
 
     /// `a?: b`
     #[tactic(auto, unfolding(es_dress::specs::Types::labelled_element))]
-    pub(crate) fn labelled_element(
-        &self,
-        span: Range,
-        parts: &[Tree],
-    ) -> Result<TsTupleElement, DressError>
-        requires ring { IsRing self.now.0.now.source self.now.0.now.whole.now (E.pre self.now.0.now.expr) (E.post self.now.0.now.expr)
-            (P.pre self.now.0.now.pat) (P.post self.now.0.now.pat) (S.pre self.now.0.now.stmt) (S.post self.now.0.now.stmt) (I.pre self.now.0.now.item) (I.post self.now.0.now.item) }
-        requires types { IsTypeRing self.now.0.now.source self.now.0.now.whole.now (T.pre self.now.1) (T.post self.now.1) (Q.pre self.now.2) (Q.post self.now.2) }
-        requires within { IsWithin parts.now self.now.0.now.whole.now }
-        ensures { IsMade (labelled_element self.now.0.now.source.text.now self.now.0.now.source.tokens.now span (parts_in self.now.0.now.source parts.now)) result }
+    fn labelled_element(&self, span: Range, parts: &[Tree]) -> Result<TsTupleElement, DressError>
+        requires ring { IsRing self.now.0.now.0.now.source self.now.0.now.0.now.whole.now (E.pre self.now.0.now.0.now.expr) (E.post self.now.0.now.0.now.expr)
+            (P.pre self.now.0.now.0.now.pat) (P.post self.now.0.now.0.now.pat) (S.pre self.now.0.now.0.now.stmt) (S.post self.now.0.now.0.now.stmt) (I.pre self.now.0.now.0.now.item) (I.post self.now.0.now.0.now.item) }
+        requires types { IsTypeRing self.now.0.now.0.now.source self.now.0.now.0.now.whole.now (T.pre self.now.0.now.1) (T.post self.now.0.now.1) (Q.pre self.now.0.now.2) (Q.post self.now.0.now.2) }
+        requires within { IsWithin parts.now self.now.0.now.0.now.whole.now }
+        ensures { IsMade (labelled_element self.now.0.now.0.now.source.text.now self.now.0.now.0.now.source.tokens.now span (parts_in self.now.0.now.0.now.source parts.now)) result }
     {
         let label = Some(self.label_at(parts, 0)?);
-        let ty = self.type_at(parts, 2)?;
-        let optional = self.0.is_there(parts, 3);
+        let ty = self.0.type_at(parts, 2)?;
+        let optional = self.0.0.is_there(parts, 3);
         Ok(TsTupleElement {
             rest: false,
             label,
@@ -626,16 +635,35 @@ impl<
         })
     }
 
-    /// A part that is an element of a tuple, which may be a type alone.
-    #[tactic(auto, unfolding(es_dress::specs::Dress::build, es_dress::specs::Dress::element_of, es_dress::specs::Types::optional_element))]
-    pub(crate) fn element_at(&self, parts: &[Tree], n: usize) -> Result<TsTupleElement, DressError>
-        requires ring { IsRing self.now.0.now.source self.now.0.now.whole.now (E.pre self.now.0.now.expr) (E.post self.now.0.now.expr)
-            (P.pre self.now.0.now.pat) (P.post self.now.0.now.pat) (S.pre self.now.0.now.stmt) (S.post self.now.0.now.stmt) (I.pre self.now.0.now.item) (I.post self.now.0.now.item) }
-        requires types { IsTypeRing self.now.0.now.source self.now.0.now.whole.now (T.pre self.now.1) (T.post self.now.1) (Q.pre self.now.2) (Q.post self.now.2) }
-        requires within { IsWithin parts.now self.now.0.now.whole.now }
-        ensures { IsMade (element_at (parts_in self.now.0.now.source parts.now) n) result }
+    /// `a?`
+    #[tactic(auto, unfolding(es_dress::specs::Types::optional_element))]
+    fn optional_element(&self, span: Range, parts: &[Tree]) -> Result<TsTupleElement, DressError>
+        requires ring { IsRing self.now.0.now.0.now.source self.now.0.now.0.now.whole.now (E.pre self.now.0.now.0.now.expr) (E.post self.now.0.now.0.now.expr)
+            (P.pre self.now.0.now.0.now.pat) (P.post self.now.0.now.0.now.pat) (S.pre self.now.0.now.0.now.stmt) (S.post self.now.0.now.0.now.stmt) (I.pre self.now.0.now.0.now.item) (I.post self.now.0.now.0.now.item) }
+        requires types { IsTypeRing self.now.0.now.0.now.source self.now.0.now.0.now.whole.now (T.pre self.now.0.now.1) (T.post self.now.0.now.1) (Q.pre self.now.0.now.2) (Q.post self.now.0.now.2) }
+        requires within { IsWithin parts.now self.now.0.now.0.now.whole.now }
+        ensures { IsMade (optional_element span (parts_in self.now.0.now.0.now.source parts.now)) result }
     {
-        let node = self.0.node_at(parts, n)?;
+        let ty = self.0.type_at(parts, 0)?;
+        Ok(TsTupleElement {
+            rest: false,
+            label: None,
+            ty,
+            optional: true,
+            span,
+        })
+    }
+
+    /// A part that is an element of a tuple, which may be a type alone.
+    #[tactic(auto, unfolding(es_dress::specs::Dress::build, es_dress::specs::Dress::element_of))]
+    pub(crate) fn element_at(&self, parts: &[Tree], n: usize) -> Result<TsTupleElement, DressError>
+        requires ring { IsRing self.now.0.now.0.now.source self.now.0.now.0.now.whole.now (E.pre self.now.0.now.0.now.expr) (E.post self.now.0.now.0.now.expr)
+            (P.pre self.now.0.now.0.now.pat) (P.post self.now.0.now.0.now.pat) (S.pre self.now.0.now.0.now.stmt) (S.post self.now.0.now.0.now.stmt) (I.pre self.now.0.now.0.now.item) (I.post self.now.0.now.0.now.item) }
+        requires types { IsTypeRing self.now.0.now.0.now.source self.now.0.now.0.now.whole.now (T.pre self.now.0.now.1) (T.post self.now.0.now.1) (Q.pre self.now.0.now.2) (Q.post self.now.0.now.2) }
+        requires within { IsWithin parts.now self.now.0.now.0.now.whole.now }
+        ensures { IsMade (element_at (parts_in self.now.0.now.0.now.source parts.now) n) result }
+    {
+        let node = self.0.0.node_at(parts, n)?;
         let span = node.span;
         if node.label == Label::RestElement {
             return self.rest_element(span, node.parts);
@@ -643,29 +671,27 @@ impl<
         if node.label == Label::LabelledElement {
             return self.labelled_element(span, node.parts);
         }
-        let optional = node.label == Label::OptionalElement;
-        let ty = if optional {
-            self.type_at(node.parts, 0)?
-        } else {
-            self.ty(&node)?
-        };
+        if node.label == Label::OptionalElement {
+            return self.optional_element(span, node.parts);
+        }
+        let ty = self.ty(&node)?;
         Ok(TsTupleElement {
             rest: false,
             label: None,
             ty,
-            optional,
+            optional: false,
             span,
         })
     }
 
     /// A type, which the result of a function is too.
     #[tactic(auto, unfolding(es_dress::specs::Dress::type_of))]
-    pub(crate) fn ty(&self, node: &Node<'_>) -> Result<TsType, DressError>
-        requires ring { IsRing self.now.0.now.source self.now.0.now.whole.now (E.pre self.now.0.now.expr) (E.post self.now.0.now.expr)
-            (P.pre self.now.0.now.pat) (P.post self.now.0.now.pat) (S.pre self.now.0.now.stmt) (S.post self.now.0.now.stmt) (I.pre self.now.0.now.item) (I.post self.now.0.now.item) }
-        requires types { IsTypeRing self.now.0.now.source self.now.0.now.whole.now (T.pre self.now.1) (T.post self.now.1) (Q.pre self.now.2) (Q.post self.now.2) }
-        requires within { IsWithin node.now.parts.now self.now.0.now.whole.now }
-        ensures { IsMade (type_of self.now.0.now.source.text.now self.now.0.now.source.tokens.now node.now.label node.now.span (parts_in self.now.0.now.source node.now.parts.now)) result }
+    fn ty(&self, node: &Node<'_>) -> Result<TsType, DressError>
+        requires ring { IsRing self.now.0.now.0.now.source self.now.0.now.0.now.whole.now (E.pre self.now.0.now.0.now.expr) (E.post self.now.0.now.0.now.expr)
+            (P.pre self.now.0.now.0.now.pat) (P.post self.now.0.now.0.now.pat) (S.pre self.now.0.now.0.now.stmt) (S.post self.now.0.now.0.now.stmt) (I.pre self.now.0.now.0.now.item) (I.post self.now.0.now.0.now.item) }
+        requires types { IsTypeRing self.now.0.now.0.now.source self.now.0.now.0.now.whole.now (T.pre self.now.0.now.1) (T.post self.now.0.now.1) (Q.pre self.now.0.now.2) (Q.post self.now.0.now.2) }
+        requires within { IsWithin node.now.parts.now self.now.0.now.0.now.whole.now }
+        ensures { IsMade (type_of self.now.0.now.0.now.source.text.now self.now.0.now.0.now.source.tokens.now node.now.label node.now.span (parts_in self.now.0.now.0.now.source node.now.parts.now)) result }
     {
         let (span, parts) = (node.span, node.parts);
         match node.label {
@@ -691,12 +717,24 @@ impl<
             Label::MembersType => self.members_type(span, parts),
             Label::TupleType => self.tuple_type(span, parts),
             Label::MappedType => self.mapped_type(span, parts),
-            Label::Reference => self.reference(span, parts),
-            Label::ImportType => self.import_type(span, parts),
+            Label::Reference => self.0.reference(span, parts),
+            Label::ImportType => self.0.import_type(span, parts),
             Label::AssertsResult => self.asserts_result(span, parts),
             Label::PredicateResult => self.predicate_result(span, parts),
-            Label::EntityOfType => self.named_type(span, parts),
+            Label::EntityOfType => self.0.named_type(span, parts),
             _ => Err(DressError::OtherForm),
         }
+    }
+
+    /// The whole tree of the dresser as a type.
+    #[tactic(auto, unfolding(es_dress::specs::Dress::build))]
+    pub(crate) fn whole_type(&self) -> Result<TsType, DressError>
+        requires ring { IsRing self.now.0.now.0.now.source self.now.0.now.0.now.whole.now (E.pre self.now.0.now.0.now.expr) (E.post self.now.0.now.0.now.expr)
+            (P.pre self.now.0.now.0.now.pat) (P.post self.now.0.now.0.now.pat) (S.pre self.now.0.now.0.now.stmt) (S.post self.now.0.now.0.now.stmt) (I.pre self.now.0.now.0.now.item) (I.post self.now.0.now.0.now.item) }
+        requires types { IsTypeRing self.now.0.now.0.now.source self.now.0.now.0.now.whole.now (T.pre self.now.0.now.1) (T.post self.now.0.now.1) (Q.pre self.now.0.now.2) (Q.post self.now.0.now.2) }
+        ensures { IsMade (type_in (value_of self.now.0.now.0.now.source.text.now self.now.0.now.0.now.source.tokens.now self.now.0.now.0.now.whole.now)) result }
+    {
+        let node = self.0.0.source.node(self.0.0.whole)?;
+        self.ty(&node)
     }
 }

@@ -1,4 +1,0 @@
--- what the functions of the crate promise each other
-pub mod Ring
--- commas between the elements of an array
-pub mod Elements
