@@ -1,5 +1,5 @@
 -- Tokens at places that may stand past all tokens.
-use Rattle.std.specs.Prelude.{List, ◌⊎◌}
+use Rattle.std.specs.Prelude.{List}
 use Rattle.std.proofs.Common.{◌≡◌, ℕ, sym, ap, ◌∙◌, inl, inr}
 use Rattle.std.proofs.lemmas.Option.{slice_get_past}
 use Rattle.es_token.specs.declared.token.Token.{Token}

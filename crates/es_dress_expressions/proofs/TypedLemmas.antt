@@ -1,5 +1,5 @@
 -- What stands behind an operand at the level of `<`: an operator and another operand, or a word and a type.
-use Rattle.std.specs.Prelude.{Bool, true, false, List, Option, Some, None, option_map, if◌then◌else◌}
+use Rattle.std.specs.Prelude.{true, false, List, Option, Some, None, option_map, if◌then◌else◌}
 use Rattle.std.specs.Option.{is_some}
 use Rattle.std.proofs.Common.{◌≡◌, ℕ, refl, sym, ap, ◌∙◌}
 use Rattle.base.specs.declared.range.Range.{Range}

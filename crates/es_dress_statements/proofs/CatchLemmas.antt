@@ -1,5 +1,5 @@
 -- The parameter of `catch`.
-use Rattle.std.specs.Prelude.{List, Option, Some, None, option_map}
+use Rattle.std.specs.Prelude.{List, Some, None, option_map}
 use Rattle.std.proofs.Common.{◌≡◌, sym, ap, ◌∙◌}
 use Rattle.es_token.specs.declared.token.Token.{Token}
 use Rattle.es_dress.specs.Value.{Value, nil, more}
