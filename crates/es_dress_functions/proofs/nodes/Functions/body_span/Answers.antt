@@ -15,6 +15,6 @@ returns-then-is_node g c =
 pub returns : goal.returns
 returns g c =
     let source = c.args.self.now.0.now.source in
-    c.span_to.ensures
+    c.span_to-2.ensures
     ∙ ap (span_of source.tokens.now c.args.from) (behind_none (parts_in source c.args.group.now)
     (behind (part (parts_in source c.args.parts.now) c.args.n)) (sym c.is_node.ensures ∙ c.if-is_node.false))
