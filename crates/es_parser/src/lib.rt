@@ -1,10 +1,10 @@
-//! The parser of JavaScript programs (ECMA-262, "Scripts and Modules").
+//! The parser of JavaScript and TypeScript programs (ECMA-262, "Scripts and Modules"; the handbook of TypeScript).
 //!
-//! - `parse_tokens(lang, mode, text, tokens)`: the one tree that the table of programs (`es_grammar`) derives from the
+//! - `parse_tokens(lang, mode, text, tokens)`: the one tree that the table of programs (`es_whole_grammar`) derives from the
 //!   tokens of a text (`Derives`, of `es_derives`), or `Syntax` where it derives none. Both ways: besides it only "out of
 //!   memory" may come.
 //!
-//! It reads the tokens as a plain tree (`es_plain`), and dresses that as a typed one (`es_dressed`).
+//! It reads the tokens as a plain tree (`es_whole_program`), and dresses that as a typed one (`es_dressed`).
 //! Tokens have at most one tree (`es_derives`). `es_derived_sites` says that each site of a tree cuts its literal.
 //! Not promised: which token `Syntax` names, and when memory runs out. `docs/GRAMMAR.md` tells the rows in words.
 #![tactic(auto)]

@@ -5,3 +5,5 @@
 mod errors;
 #[cfg(test)]
 mod trees;
+#[cfg(test)]
+mod typed;
