@@ -1,4 +1,4 @@
-//! Rows of the table of programs (`es_grammar`): expressions, functions and classes.
+//! Rows of the table of programs (`es_whole_grammar`): expressions, functions and classes.
 #![tactic(auto)]
 
 mod arrows;

@@ -1,15 +1,14 @@
 //! Where type arguments and type parameters can be read.
 
 ghost use Rattle.std.specs.Prelude.{◌≡◌, ◌≤◌, length};
-ghost use Rattle.es_tree.specs.Key.{keys_of, seen, is};
+ghost use Rattle.es_tree.specs.Key.{keys_of};
 ghost use Rattle.es_tree.specs.Form.{Guard as Guarding};
-ghost use Rattle.es_token.specs.declared.token.TokenKind.TheVariants as k;
 ghost use Rattle.es_whole_grammar.specs.declared.rows.TypeRow.TheVariants.{ArgumentsRow, TypeParametersRow};
-ghost use Rattle.es_whole_grammar.specs.Embedding.{reads_before, stands_call, stands_heritage, opens_call_arguments, opens_heritage_arguments};
-ghost use Rattle.es_whole_grammar.specs.Expressions.{opens_call, opens_typed_template};
+ghost use Rattle.es_whole_grammar.specs.Embedding.{reads_before, opens_call_arguments, opens_heritage_arguments};
+ghost use Rattle.es_whole_grammar.specs.Expressions.{opens_call};
 ghost use Rattle.es_whole_guards.specs.Named.{holds_behind};
 
-use crate::looks::{begins_call, is};
+use crate::looks::begins_call;
 use es_guards::Tokens;
 use es_token::TokenKind;
 use es_types::{type_arguments_end, type_parameters_end};

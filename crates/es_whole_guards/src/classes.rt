@@ -1,6 +1,6 @@
 //! Guards of parameters, members and variables.
 
-ghost use Rattle.std.specs.Prelude.{◌≡◌, ◌+◌, ◌<◌, ◌≤◌, true, length, Some};
+ghost use Rattle.std.specs.Prelude.{◌≡◌, ◌+◌, ◌<◌, true, length, Some};
 ghost use Rattle.es_tree.specs.Key.{keys_of, seen};
 ghost use Rattle.es_grammar.specs.Functions.{opens_accessor, opens_async, opens_star};
 ghost use Rattle.es_grammar.specs.Classes.{opens_field_accessor};

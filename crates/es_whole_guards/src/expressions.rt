@@ -2,8 +2,8 @@
 
 ghost use Rattle.std.specs.Prelude.{◌≡◌};
 ghost use Rattle.es_tree.specs.Key.{keys_of, seen};
-ghost use Rattle.es_whole_grammar.specs.Expressions.{begins_value, begins_parameters, begins_arguments, begins_callee_post, opens_operand, opens_post, opens_comparison, is_behind_as, opens_abstract_class, may_await, may_test, is_module};
-ghost use Rattle.es_whole_grammar.specs.Statements.{begins_value_here, is_script};
+ghost use Rattle.es_whole_grammar.specs.Expressions.{begins_value, begins_parameters, begins_arguments, begins_callee_post, opens_operand, opens_post, opens_comparison, is_behind_as, opens_abstract_class};
+ghost use Rattle.es_whole_grammar.specs.Statements.{begins_value_here};
 
 use crate::arguments::opens_call_arguments;
 use crate::looks::{is, opens_assertion, opens_non_null};

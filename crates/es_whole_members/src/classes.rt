@@ -420,7 +420,7 @@ pub struct ModifiedMember(pub Lang, pub Context);
 impl ReadsRule for ModifiedMember {
     ghost rule = { λ s. modified_member s.0 s.1 };
 
-    #[tactic(auto, unfolding(es_whole_grammar::specs::Classes::modified_member, es_whole_grammar::specs::Functions::opens_any_method))]
+    #[tactic(auto, using(crate::proofs::Members::plain_member), unfolding(es_whole_grammar::specs::Classes::modified_member, es_whole_grammar::specs::Functions::opens_any_method))]
     fn read<F: Fn(Input<'_>, usize, Row, &mut Cursor) -> Result<Measured, SyntaxError>>(
         &self,
         grammar: &Grammar<'_, F>,

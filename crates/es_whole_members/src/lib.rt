@@ -1,4 +1,4 @@
-//! Rows of the table of programs (`es_grammar`): patterns, parameters, keys, properties, members of classes.
+//! Rows of the table of programs (`es_whole_grammar`): patterns, parameters, keys, properties, members of classes.
 #![tactic(auto)]
 
 mod classes;

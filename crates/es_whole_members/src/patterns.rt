@@ -125,7 +125,7 @@ pub struct NoForm;
 impl ReadsForm for NoForm {
     ghost form = { λ _. no_form };
 
-    #[tactic(auto, unfolding(es_whole_grammar::specs::Expressions::no_form))]
+    #[tactic(auto, unfolding(es_whole_grammar::specs::Expressions::no_form, es_whole_reader::specs::Bounded::form_at))]
     fn read<F: Fn(Input<'_>, usize, Row, &mut Cursor) -> Result<Measured, SyntaxError>>(
         &self,
         grammar: &Grammar<'_, F>,

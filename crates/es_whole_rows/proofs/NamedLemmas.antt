@@ -24,7 +24,6 @@ use Rattle.es_whole_grammar.specs.declared.rows.TypeRow.{TypeRow}
 use Rattle.es_whole_grammar.specs.TypeNames.{row_of_types, row_name, label_name}
 use Rattle.es_whole_grammar.specs.Embedding.{mapped_form, types_rule}
 use Rattle.es_whole_grammar.specs.Table.{rule}
-use Rattle.es_whole_grammar.proofs.Theorems.{rows_back}
 use Rattle.es_whole_reader.specs.declared.tree.Tree.{Tree}
 use Rattle.es_whole_reader.specs.declared.tree.Tree.TheVariants.{Node}
 use Rattle.es_whole_reader.specs.declared.cursor.Measured.{Measured}
@@ -322,6 +321,27 @@ module _ (K : List Key) (below : Row → ℕ → Out Read) (type_below : table.R
       (λ v to. wraps_named K l (test c) (form_at K below (outer f)) (type_form_at true K type_below f) (form_named f) at
       (length K) v to)
       (rule_at K below (types_rule a) at) (type_rule_at true K type_below a at) (rule_named a h at)
+
+-- a row of types is the one that its name names
+rows_back : (r : table.Row) → row_of_types (row_name r) ≡ r
+rows_back (table.TypeRow c) = refl
+rows_back table.IntersectionRow = refl
+rows_back table.OperandRow = refl
+rows_back table.ReferenceRow = refl
+rows_back table.EntityRow = refl
+rows_back table.ImportRow = refl
+rows_back table.ArgumentsRow = refl
+rows_back table.TypeParametersRow = refl
+rows_back table.ElementRow = refl
+rows_back table.MemberRow = refl
+rows_back table.KeyRow = refl
+rows_back (table.ResultRow c) = refl
+rows_back table.ParametersRow = refl
+rows_back table.ParameterRow = refl
+rows_back table.PatternRow = refl
+rows_back table.PatternElementRow = refl
+rows_back table.PatternPropertyRow = refl
+rows_back table.PatternKeyRow = refl
 
 -- a row
 row_named : (l : Lang) (K : List Key) (room : ℕ) (r : table.Row) (at : ℕ)

@@ -1,4 +1,4 @@
-//! Rows of the table of programs (`es_grammar`): statements, declarations, items of modules.
+//! Rows of the table of programs (`es_whole_grammar`): statements, declarations, items of modules.
 #![tactic(auto)]
 
 mod declarations;

@@ -1,4 +1,3 @@
-use Rattle.std.specs.Prelude.{None}
 use Rattle.std.proofs.Common.{◌+◌, ap}
 use Rattle.es_tree.specs.Key.{keys_of}
 use Rattle.es_guards.specs.Sight.{sight}
