@@ -14,7 +14,8 @@ use Rattle.es_dresser.specs.Ring.{parts_of}
 module _ (x : List ℕ) (ts : List Token) where
   modifiers_cons : (m : Modifiers) (t : Tree) (others : List Tree)
       → modifiers_in ts m (parts_of x ts (t ∷ others))
-      ≡ given (kind_at ts (as_group (value_of x ts t)) 0) (λ kind. modifiers_in ts (with_modifier kind m) (parts_of x ts others))
+      ≡ given (kind_at ts (as_group (value_of x ts t)) 0)
+      (λ kind. modifiers_in ts (with_modifier kind m) (parts_of x ts others))
   unfolding parts_of
   modifiers_cons m t others = refl
 
@@ -23,7 +24,8 @@ module _ (x : List ℕ) (ts : List Token) where
   modifiers_nil m = refl
 
   -- the first of those that are left
-  modifiers_first : (whole : Option Modifiers) (t : Tree) (word others rest : List Tree) (m : Modifiers) (o : Option TokenKind)
+  modifiers_first : (whole : Option Modifiers) (t : Tree) (word others rest : List Tree) (m : Modifiers)
+      (o : Option TokenKind)
       → rest ≡ t ∷ others → parts_of x ts word ≡ as_group (value_of x ts t) → kind_at ts (parts_of x ts word) 0 ≡ o
       → whole ≡ modifiers_in ts m (parts_of x ts rest)
       → whole ≡ given o (λ kind. modifiers_in ts (with_modifier kind m) (parts_of x ts others))
@@ -35,7 +37,8 @@ module _ (x : List ℕ) (ts : List Token) where
       ∙ ap (λ o. given o (λ kind. modifiers_in ts (with_modifier kind m) (parts_of x ts others))) made'
 
   -- one more
-  pub modifiers_more : (whole : Option Modifiers) (t : Tree) (word others rest : List Tree) (kind : TokenKind) (m new : Modifiers)
+  pub modifiers_more : (whole : Option Modifiers) (t : Tree) (word others rest : List Tree) (kind : TokenKind)
+      (m new : Modifiers)
       → rest ≡ t ∷ others → parts_of x ts word ≡ as_group (value_of x ts t)
       → kind_at ts (parts_of x ts word) 0 ≡ Some kind → new ≡ with_modifier kind m
       → whole ≡ modifiers_in ts m (parts_of x ts rest) → whole ≡ modifiers_in ts new (parts_of x ts others)

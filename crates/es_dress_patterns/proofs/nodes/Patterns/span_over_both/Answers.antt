@@ -9,11 +9,13 @@ returns-then-is_absent g c =
     let source = c.args.self.now.0.now.source in
     over_none source.tokens.now c.args.from
     (behind_in (parts_in source c.args.first.now) (behind (part (parts_in source c.args.parts.now) c.args.n)))
-    (parts_in source c.args.second.now) c.span_over.result (c.is_absent.ensures.none c.if-is_absent.true) c.span_over.ensures
+    (parts_in source c.args.second.now) c.span_over.result (c.is_absent.ensures.none c.if-is_absent.true)
+    c.span_over.ensures
 
 pub returns : goal.returns
 returns g c =
     let source = c.args.self.now.0.now.source in
     over_there source.tokens.now c.args.from
     (behind_in (parts_in source c.args.first.now) (behind (part (parts_in source c.args.parts.now) c.args.n)))
-    (parts_in source c.args.second.now) c.span_to.result (c.is_absent.ensures.some c.if-is_absent.false) c.span_to.ensures
+    (parts_in source c.args.second.now) c.span_to.result (c.is_absent.ensures.some c.if-is_absent.false)
+    c.span_to.ensures
