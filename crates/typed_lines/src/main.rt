@@ -1,0 +1,19 @@
+//! Prints where the nodes of plain trees of TypeScript stand that `read_program` answers, a line for each text (`src/line.rt`). The
+//! texts of the input stand between U+0001; the first character of each is its mode: `m` a module, `s` a script.
+#![tactic(auto)]
+
+mod line;
+
+use crate::line::line_of;
+use std::io::Read;
+
+fn main(rt: HostRuntime) -> anyhow::Result<()> {
+    let alloc = rt.alloc();
+    let mut input = String::new(alloc);
+    let mut reader = rt.reader();
+    reader.read_to_string(&mut input)?;
+    for text in input.as_str().split('\u{1}') {
+        println!(rt; "{}", line_of(alloc, text)?.as_str())?;
+    }
+    Ok(())
+}
