@@ -1,5 +1,5 @@
 -- A block that stands first in a group, or none.
-use Rattle.std.specs.Prelude.{Bool, true, false, Option, Some, None, option_map}
+use Rattle.std.specs.Prelude.{true, false, Some, None, option_map}
 use Rattle.std.specs.Option.{is_some}
 use Rattle.std.proofs.Common.{◌≡◌, ℕ, refl, sym}
 use Rattle.es_dress.specs.Value.{Value, absent, nil, more, token, node, part, behind, stmt_at}

@@ -1,5 +1,5 @@
 -- What stands behind `=>`: a block, or an expression alone.
-use Rattle.std.specs.Prelude.{List, Bool, true, false, Option, Some, None, option_map}
+use Rattle.std.specs.Prelude.{List, true, false, Option, Some, None, option_map}
 use Rattle.std.proofs.Common.{◌≡◌, ℕ, refl, sym, ap, ◌∙◌}
 use denote.Enum.Bare.{same_true}
 use Rattle.base.specs.declared.range.Range.{Range}
