@@ -99,7 +99,8 @@ impl<
         ensures { IsMade (number_at self.now.0.now.source.text.now self.now.0.now.source.tokens.now (parts_in self.now.0.now.source parts.now) n) result }
     {
         let token = self.0.token_at(parts, n)?;
-        Ok(number(self.0.source.alloc, self.0.source.text, token)?)
+        let source = self.0.source;
+        Ok(number(source.alloc, source.text, token)?)
     }
 
     /// `this` or a name.
@@ -111,6 +112,7 @@ impl<
         ensures { IsMade (this_or_name_at self.now.0.now.source.text.now self.now.0.now.source.tokens.now (parts_in self.now.0.now.source parts.now) n) result }
     {
         let token = self.0.token_at(parts, n)?;
-        Ok(this_or_name(self.0.source.alloc, self.0.source.text, token)?)
+        let source = self.0.source;
+        Ok(this_or_name(source.alloc, source.text, token)?)
     }
 }

@@ -37,7 +37,8 @@ impl<
         ensures { IsMade (given (token_at self.now.0.now.source.tokens.now (parts_in self.now.0.now.source group.now) 0) (computed_numeric self.now.0.now.source.text.now span)) result }
     {
         let token = self.0.token_at(group, 0)?;
-        computed_numeric(self.0.source.alloc, self.0.source.text, span, token)
+        let source = self.0.source;
+        computed_numeric(source.alloc, source.text, span, token)
     }
 
     /// A name in the brackets of a key.

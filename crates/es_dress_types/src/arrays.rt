@@ -33,9 +33,10 @@ impl<
     ) -> Result<TsType, AllocError>
         ensures { IfOk result (λ whole. whole ≡ indexed self.now.0.now.0.now.source.tokens.now start (close + 1) ty index) }
     {
-        let end = self.0.0.source.end_of(close);
+        let dresser = self.0.0;
+        let end = dresser.source.end_of(close);
         let span = Range { start, end };
-        let inner = Boxed::new(self.0.0.source.alloc, ty)?;
+        let inner = Boxed::new(dresser.source.alloc, ty)?;
         match index {
             Some(index) => Ok(TsType::IndexedAccess {
                 obj: inner,
@@ -60,13 +61,14 @@ impl<
         requires within { IsWithin list.now self.now.0.now.0.now.whole.now }
         ensures { IsMade (indexes self.now.0.now.0.now.source.tokens.now start (last + 1) before (parts_in self.now.0.now.0.now.source list.now)) result }
     {
+        let dresser = self.0.0;
         let mut whole = before;
         let mut close = last;
         let mut rest = list;
         'indexes: while let Some((turn, others)) = rest.split_first() {
-            let group = self.0.0.group(group_in(turn), 0);
+            let group = dresser.group(group_in(turn), 0);
             let index = self.0.optional_type(group)?;
-            let bracket = self.0.comma_behind(self.0.0.source.next(close), group);
+            let bracket = self.0.comma_behind(dresser.source.next(close), group);
             let made = self.indexed(start, bracket, whole, index)?;
             whole = made;
             close = bracket;
@@ -83,11 +85,12 @@ impl<
         requires within { IsWithin parts.now self.now.0.now.0.now.whole.now }
         ensures { IsMade (array_types self.now.0.now.0.now.source.tokens.now span (parts_in self.now.0.now.0.now.source parts.now)) result }
     {
+        let dresser = self.0.0;
         let ty = self.0.type_at(parts, 0)?;
-        let group = self.0.0.group(parts, 1);
+        let group = dresser.group(parts, 1);
         let index = self.0.optional_type(group)?;
-        let close = self.0.comma_behind(self.0.0.last_at(parts, 0), group);
+        let close = self.0.comma_behind(dresser.last_at(parts, 0), group);
         let first = self.indexed(span.start, close, ty, index)?;
-        self.indexes(span.start, close, first, self.0.0.group(parts, 2))
+        self.indexes(span.start, close, first, dresser.group(parts, 2))
     }
 }

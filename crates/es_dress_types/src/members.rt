@@ -33,9 +33,10 @@ impl<
         requires within { IsWithin parts.now self.now.0.now.0.now.whole.now }
         ensures { IsMade (call_signature span (parts_in self.now.0.now.0.now.source parts.now)) result }
     {
-        let type_params = self.0.optional_type_params(self.0.0.group(parts, 0))?;
+        let dresser = self.0.0;
+        let type_params = self.0.optional_type_params(dresser.group(parts, 0))?;
         let params = self.0.params_at(parts, 1)?;
-        let type_ann = self.0.optional_type(self.0.0.group(parts, 2))?;
+        let type_ann = self.0.optional_type(dresser.group(parts, 2))?;
         Ok(TsTypeElement::CallSignature {
             type_params,
             params,
@@ -53,9 +54,10 @@ impl<
         requires within { IsWithin parts.now self.now.0.now.0.now.whole.now }
         ensures { IsMade (construct_signature span (parts_in self.now.0.now.0.now.source parts.now)) result }
     {
-        let type_params = self.0.optional_type_params(self.0.0.group(parts, 0))?;
+        let dresser = self.0.0;
+        let type_params = self.0.optional_type_params(dresser.group(parts, 0))?;
         let params = self.0.params_at(parts, 1)?;
-        let type_ann = self.0.optional_type(self.0.0.group(parts, 2))?;
+        let type_ann = self.0.optional_type(dresser.group(parts, 2))?;
         Ok(TsTypeElement::ConstructSignature {
             type_params,
             params,
@@ -73,10 +75,11 @@ impl<
         requires within { IsWithin parts.now self.now.0.now.0.now.whole.now }
         ensures { IsMade (index_signature self.now.0.now.0.now.source.text.now self.now.0.now.0.now.source.tokens.now span (parts_in self.now.0.now.0.now.source parts.now)) result }
     {
-        let name = self.0.0.ident_at(parts, 1)?;
+        let dresser = self.0.0;
+        let name = dresser.ident_at(parts, 1)?;
         let of = self.0.boxed_type_at(parts, 2)?;
-        let type_ann = self.0.optional_type(self.0.0.group(parts, 3))?;
-        let readonly = self.0.0.is_there(parts, 0);
+        let type_ann = self.0.optional_type(dresser.group(parts, 3))?;
+        let readonly = dresser.is_there(parts, 0);
         Ok(TsTypeElement::IndexSignature {
             readonly,
             name,
@@ -102,11 +105,12 @@ impl<
         requires place { n < 7 }
         ensures { IsMade (method_by kind span (parts_in self.now.0.now.0.now.source parts.now) n) result }
     {
+        let dresser = self.0.0;
         let key = self.0.key_at(parts, n)?;
-        let type_params = self.0.optional_type_params(self.0.0.group(parts, n + 2))?;
+        let type_params = self.0.optional_type_params(dresser.group(parts, n + 2))?;
         let params = self.0.params_at(parts, n + 3)?;
-        let type_ann = self.0.optional_type(self.0.0.group(parts, n + 4))?;
-        let optional = self.0.0.is_there(parts, n + 1);
+        let type_ann = self.0.optional_type(dresser.group(parts, n + 4))?;
+        let optional = dresser.is_there(parts, n + 1);
         Ok(TsTypeElement::MethodSignature {
             kind,
             key,
@@ -127,7 +131,8 @@ impl<
         requires within { IsWithin parts.now self.now.0.now.0.now.whole.now }
         ensures { IsMade (accessor_signature self.now.0.now.0.now.source.tokens.now span (parts_in self.now.0.now.0.now.source parts.now)) result }
     {
-        let kind = self.0.0.accessor_kind_at(parts, 0)?;
+        let dresser = self.0.0;
+        let kind = dresser.accessor_kind_at(parts, 0)?;
         self.method_by(kind, span, parts, 1)
     }
 
@@ -145,9 +150,10 @@ impl<
         requires within { IsWithin parts.now self.now.0.now.0.now.whole.now }
         ensures { IsMade (property_by readonly span (parts_in self.now.0.now.0.now.source parts.now)) result }
     {
+        let dresser = self.0.0;
         let key = self.0.key_at(parts, 0)?;
-        let type_ann = self.0.optional_type(self.0.0.group(parts, 2))?;
-        let optional = self.0.0.is_there(parts, 1);
+        let type_ann = self.0.optional_type(dresser.group(parts, 2))?;
+        let optional = dresser.is_there(parts, 1);
         Ok(TsTypeElement::PropertySignature {
             readonly,
             key,
@@ -188,7 +194,8 @@ impl<
         requires within { IsWithin parts.now self.now.0.now.0.now.whole.now }
         ensures { IsMade (type_member_at (parts_in self.now.0.now.0.now.source parts.now) n) result }
     {
-        let node = self.0.0.node_at(parts, n)?;
+        let dresser = self.0.0;
+        let node = dresser.node_at(parts, n)?;
         self.member(&node)
     }
 }

@@ -137,7 +137,8 @@ impl<
         requires within { IsWithin parts.now self.now.0.now.0.now.whole.now }
         ensures { IsMade (keyword_type self.now.0.now.0.now.source.tokens.now span (parts_in self.now.0.now.0.now.source parts.now)) result }
     {
-        let kind = self.0.0.kind_at(parts, 0)?;
+        let dresser = self.0.0;
+        let kind = dresser.kind_at(parts, 0)?;
         match keyword_kind(kind) {
             Some(kind) => Ok(TsType::Keyword { kind, span }),
             None => Err(DressError::OtherForm),
@@ -153,7 +154,8 @@ impl<
         requires within { IsWithin parts.now self.now.0.now.0.now.whole.now }
         ensures { IsMade (word_type self.now.0.now.0.now.source.tokens.now span (parts_in self.now.0.now.0.now.source parts.now)) result }
     {
-        let kind = self.0.0.kind_at(parts, 0)?;
+        let dresser = self.0.0;
+        let kind = dresser.kind_at(parts, 0)?;
         if kind == TokenKind::TrueWord {
             return Ok(TsType::Lit(TsLit::Bool { value: true, span }));
         }
@@ -175,7 +177,8 @@ impl<
         requires within { IsWithin parts.now self.now.0.now.0.now.whole.now }
         ensures { IsMade (str_type self.now.0.now.0.now.source.text.now self.now.0.now.0.now.source.tokens.now (parts_in self.now.0.now.0.now.source parts.now)) result }
     {
-        let str = self.0.0.str_at(parts, 0)?;
+        let dresser = self.0.0;
+        let str = dresser.str_at(parts, 0)?;
         Ok(TsType::Lit(TsLit::Str(str)))
     }
 
@@ -188,11 +191,12 @@ impl<
         requires within { IsWithin parts.now self.now.0.now.0.now.whole.now }
         ensures { IsMade (number_type self.now.0.now.0.now.source.text.now self.now.0.now.0.now.source.tokens.now span (parts_in self.now.0.now.0.now.source parts.now)) result }
     {
-        let token = self.0.0.token_at(parts, 1)?;
-        let minus = self.0.0.is_there(parts, 0);
+        let dresser = self.0.0;
+        let token = dresser.token_at(parts, 1)?;
+        let minus = dresser.is_there(parts, 0);
         let lit = numeric_lit(
-            self.0.0.source.alloc,
-            self.0.0.source.text,
+            dresser.source.alloc,
+            dresser.source.text,
             minus,
             span,
             token,
@@ -209,9 +213,10 @@ impl<
         requires within { IsWithin parts.now self.now.0.now.0.now.whole.now }
         ensures { IsMade (template_type self.now.0.now.0.now.source.text.now self.now.0.now.0.now.source.tokens.now span (parts_in self.now.0.now.0.now.source parts.now)) result }
     {
-        let piece = self.0.0.piece_at(parts, 0)?;
-        let quasis = single(self.0.0.source.alloc, piece)?;
-        let types = Items::new(self.0.0.source.alloc);
+        let dresser = self.0.0;
+        let piece = dresser.piece_at(parts, 0)?;
+        let quasis = single(dresser.source.alloc, piece)?;
+        let types = Items::new(dresser.source.alloc);
         Ok(TsType::Tpl {
             quasis,
             types,
@@ -228,14 +233,15 @@ impl<
         requires within { IsWithin parts.now self.now.0.now.0.now.whole.now }
         ensures { IsMade (template_types self.now.0.now.0.now.source.text.now self.now.0.now.0.now.source.tokens.now span (parts_in self.now.0.now.0.now.source parts.now)) result }
     {
-        let head = self.0.0.piece_at(parts, 0)?;
+        let dresser = self.0.0;
+        let head = dresser.piece_at(parts, 0)?;
         let first = self.0.type_at(parts, 1)?;
-        let list = self.0.0.group(parts, 2);
-        let head = single(self.0.0.source.alloc, head)?;
-        let first = single(self.0.0.source.alloc, first)?;
+        let list = dresser.group(parts, 2);
+        let head = single(dresser.source.alloc, head)?;
+        let first = single(dresser.source.alloc, first)?;
         let mut quasis = turns_behind(&MiddlePiece, self.0, head, list)?;
         let types = turns_behind(&PieceType, self.0, first, list)?;
-        let tail = self.0.0.piece_at(parts, 3)?;
+        let tail = dresser.piece_at(parts, 3)?;
         quasis.push(tail)?;
         Ok(TsType::Tpl {
             quasis,
@@ -266,7 +272,8 @@ impl<
         requires within { IsWithin parts.now self.now.0.now.0.now.whole.now }
         ensures { IsMade (members_type span (parts_in self.now.0.now.0.now.source parts.now)) result }
     {
-        let members = turns(&MemberTurn, self.0, self.0.0.group(parts, 0))?;
+        let dresser = self.0.0;
+        let members = turns(&MemberTurn, self.0, dresser.group(parts, 0))?;
         Ok(TsType::TypeLit { members, span })
     }
 
@@ -279,7 +286,8 @@ impl<
         requires within { IsWithin parts.now self.now.0.now.0.now.whole.now }
         ensures { IsMade (tuple_type span (parts_in self.now.0.now.0.now.source parts.now)) result }
     {
-        let elems = turns(&ElementTurn, self.0, self.0.0.group(parts, 0))?;
+        let dresser = self.0.0;
+        let elems = turns(&ElementTurn, self.0, dresser.group(parts, 0))?;
         Ok(TsType::Tuple { elems, span })
     }
 
@@ -292,7 +300,8 @@ impl<
         requires within { IsWithin parts.now self.now.0.now.0.now.whole.now }
         ensures { IsMade (type_query span (parts_in self.now.0.now.0.now.source parts.now)) result }
     {
-        let expr_name = self.0.boxed_type_at(self.0.0.group(parts, 0), 0)?;
+        let dresser = self.0.0;
+        let expr_name = self.0.boxed_type_at(dresser.group(parts, 0), 0)?;
         Ok(TsType::Query { expr_name, span })
     }
 
@@ -304,10 +313,11 @@ impl<
         requires within { IsWithin group.now self.now.0.now.0.now.whole.now }
         ensures { IsMade (signed_by self.now.0.now.0.now.source.tokens.now (parts_in self.now.0.now.0.now.source group.now)) result }
     {
-        if self.0.0.is_absent(group) {
+        let dresser = self.0.0;
+        if dresser.is_absent(group) {
             return Ok(TruePlusMinus::True);
         }
-        let kind = self.0.0.kind_at(group, 0)?;
+        let kind = dresser.kind_at(group, 0)?;
         match sign(kind) {
             Some(sign) => Ok(sign),
             None => Err(DressError::OtherForm),
@@ -322,10 +332,11 @@ impl<
         requires within { IsWithin group.now self.now.0.now.0.now.whole.now }
         ensures { IsMade (signed_in self.now.0.now.0.now.source.tokens.now (parts_in self.now.0.now.0.now.source group.now)) result }
     {
-        if self.0.0.is_absent(group) {
+        let dresser = self.0.0;
+        if dresser.is_absent(group) {
             return Ok(TruePlusMinus::Absent);
         }
-        self.signed_by(self.0.0.group(group, 0))
+        self.signed_by(dresser.group(group, 0))
     }
 
     /// `{ [a in b]: c }`
@@ -337,12 +348,13 @@ impl<
         requires within { IsWithin parts.now self.now.0.now.0.now.whole.now }
         ensures { IsMade (mapped_type self.now.0.now.0.now.source.text.now self.now.0.now.0.now.source.tokens.now span (parts_in self.now.0.now.0.now.source parts.now)) result }
     {
-        let readonly = self.signed_in(self.0.0.group(parts, 0))?;
-        let name = self.0.0.ident_at(parts, 1)?;
+        let dresser = self.0.0;
+        let readonly = self.signed_in(dresser.group(parts, 0))?;
+        let name = dresser.ident_at(parts, 1)?;
         let constraint = self.0.boxed_type_at(parts, 2)?;
-        let name_type = self.0.optional_type(self.0.0.group(parts, 3))?;
-        let optional = self.signed_in(self.0.0.group(parts, 4))?;
-        let type_ann = self.0.optional_type(self.0.0.group(parts, 5))?;
+        let name_type = self.0.optional_type(dresser.group(parts, 3))?;
+        let optional = self.signed_in(dresser.group(parts, 4))?;
+        let type_ann = self.0.optional_type(dresser.group(parts, 5))?;
         Ok(TsType::Mapped {
             readonly,
             name,
@@ -362,7 +374,8 @@ impl<
         requires within { IsWithin parts.now self.now.0.now.0.now.whole.now }
         ensures { IsMade (given (kind_at self.now.0.now.0.now.source.tokens.now (parts_in self.now.0.now.0.now.source parts.now) n) (listed type_operators)) result }
     {
-        let kind = self.0.0.kind_at(parts, n)?;
+        let dresser = self.0.0;
+        let kind = dresser.kind_at(parts, n)?;
         match operator(kind) {
             Some(op) => Ok(op),
             None => Err(DressError::OtherForm),
@@ -392,7 +405,8 @@ impl<
         requires within { IsWithin parts.now self.now.0.now.0.now.whole.now }
         ensures { IsMade (infer_type self.now.0.now.0.now.source.text.now self.now.0.now.0.now.source.tokens.now span (parts_in self.now.0.now.0.now.source parts.now)) result }
     {
-        let name = self.0.0.ident_at(parts, 0)?;
+        let dresser = self.0.0;
+        let name = dresser.ident_at(parts, 0)?;
         Ok(TsType::Infer { name, span })
     }
 
@@ -404,11 +418,12 @@ impl<
         requires within { IsWithin parts.now self.now.0.now.0.now.whole.now }
         ensures { IsMade (operands (parts_in self.now.0.now.0.now.source parts.now)) result }
     {
+        let dresser = self.0.0;
         let first = self.0.type_at(parts, 0)?;
-        let mut items = single(self.0.0.source.alloc, first)?;
+        let mut items = single(dresser.source.alloc, first)?;
         let second = self.0.type_at(parts, 1)?;
         items.push(second)?;
-        turns_behind(&OneType, self.0, items, self.0.0.group(parts, 2))
+        turns_behind(&OneType, self.0, items, dresser.group(parts, 2))
     }
 
     /// `a | b`
@@ -494,7 +509,8 @@ impl<
         requires within { IsWithin parts.now self.now.0.now.0.now.whole.now }
         ensures { IsMade (function_type span (parts_in self.now.0.now.0.now.source parts.now)) result }
     {
-        let type_params = self.0.optional_type_params(self.0.0.group(parts, 0))?;
+        let dresser = self.0.0;
+        let type_params = self.0.optional_type_params(dresser.group(parts, 0))?;
         let params = self.0.params_at(parts, 1)?;
         let type_ann = self.0.boxed_type_at(parts, 2)?;
         Ok(TsType::Fn {
@@ -514,10 +530,11 @@ impl<
         requires within { IsWithin parts.now self.now.0.now.0.now.whole.now }
         ensures { IsMade (constructor_type span (parts_in self.now.0.now.0.now.source parts.now)) result }
     {
-        let type_params = self.0.optional_type_params(self.0.0.group(parts, 1))?;
+        let dresser = self.0.0;
+        let type_params = self.0.optional_type_params(dresser.group(parts, 1))?;
         let params = self.0.params_at(parts, 2)?;
         let type_ann = self.0.boxed_type_at(parts, 3)?;
-        let is_abstract = self.0.0.is_there(parts, 0);
+        let is_abstract = dresser.is_there(parts, 0);
         Ok(TsType::Constructor {
             is_abstract,
             type_params,
@@ -536,8 +553,9 @@ impl<
         requires within { IsWithin parts.now self.now.0.now.0.now.whole.now }
         ensures { IsMade (asserts_result self.now.0.now.0.now.source.text.now self.now.0.now.0.now.source.tokens.now span (parts_in self.now.0.now.0.now.source parts.now)) result }
     {
+        let dresser = self.0.0;
         let name = self.0.this_or_name_at(parts, 0)?;
-        let type_ann = self.0.optional_type(self.0.0.group(parts, 1))?;
+        let type_ann = self.0.optional_type(dresser.group(parts, 1))?;
         Ok(TsType::Predicate {
             asserts: true,
             name,
@@ -574,8 +592,9 @@ impl<
         requires place { n < 7 }
         ensures { IsMade (label_at self.now.0.now.0.now.source.text.now self.now.0.now.0.now.source.tokens.now (parts_in self.now.0.now.0.now.source parts.now) n) result }
     {
-        let name = self.0.0.ident_at(parts, n)?;
-        let mark = self.0.0.is_there(parts, n + 1);
+        let dresser = self.0.0;
+        let name = dresser.ident_at(parts, n)?;
+        let mark = dresser.is_there(parts, n + 1);
         Ok(marked(mark, name))
     }
 
@@ -587,7 +606,8 @@ impl<
         requires within { IsWithin group.now self.now.0.now.0.now.whole.now }
         ensures { IsMade (optional (label_at self.now.0.now.0.now.source.text.now self.now.0.now.0.now.source.tokens.now) (parts_in self.now.0.now.0.now.source group.now)) result }
     {
-        if self.0.0.is_absent(group) {
+        let dresser = self.0.0;
+        if dresser.is_absent(group) {
             return Ok(None);
         }
         some(self.label_at(group, 0))
@@ -602,9 +622,10 @@ impl<
         requires within { IsWithin parts.now self.now.0.now.0.now.whole.now }
         ensures { IsMade (rest_element self.now.0.now.0.now.source.text.now self.now.0.now.0.now.source.tokens.now span (parts_in self.now.0.now.0.now.source parts.now)) result }
     {
-        let label = self.optional_label(self.0.0.group(parts, 0))?;
+        let dresser = self.0.0;
+        let label = self.optional_label(dresser.group(parts, 0))?;
         let ty = self.0.type_at(parts, 1)?;
-        let optional = self.0.0.is_there(parts, 2);
+        let optional = dresser.is_there(parts, 2);
         Ok(TsTupleElement {
             rest: true,
             label,
@@ -623,9 +644,10 @@ impl<
         requires within { IsWithin parts.now self.now.0.now.0.now.whole.now }
         ensures { IsMade (labelled_element self.now.0.now.0.now.source.text.now self.now.0.now.0.now.source.tokens.now span (parts_in self.now.0.now.0.now.source parts.now)) result }
     {
+        let dresser = self.0.0;
         let label = Some(self.label_at(parts, 0)?);
         let ty = self.0.type_at(parts, 2)?;
-        let optional = self.0.0.is_there(parts, 3);
+        let optional = dresser.is_there(parts, 3);
         Ok(TsTupleElement {
             rest: false,
             label,
@@ -663,7 +685,8 @@ impl<
         requires within { IsWithin parts.now self.now.0.now.0.now.whole.now }
         ensures { IsMade (element_at (parts_in self.now.0.now.0.now.source parts.now) n) result }
     {
-        let node = self.0.0.node_at(parts, n)?;
+        let dresser = self.0.0;
+        let node = dresser.node_at(parts, n)?;
         let span = node.span;
         if node.label == Label::RestElement {
             return self.rest_element(span, node.parts);
@@ -734,7 +757,8 @@ impl<
         requires types { IsTypeRing self.now.0.now.0.now.source self.now.0.now.0.now.whole.now (T.pre self.now.0.now.1) (T.post self.now.0.now.1) (Q.pre self.now.0.now.2) (Q.post self.now.0.now.2) }
         ensures { IsMade (type_in (value_of self.now.0.now.0.now.source.text.now self.now.0.now.0.now.source.tokens.now self.now.0.now.0.now.whole.now)) result }
     {
-        let node = self.0.0.source.node(self.0.0.whole)?;
+        let dresser = self.0.0;
+        let node = dresser.source.node(dresser.whole)?;
         self.ty(&node)
     }
 }

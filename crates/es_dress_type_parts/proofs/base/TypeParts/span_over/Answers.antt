@@ -13,4 +13,4 @@ pub returns : goal.returns
 returns g c =
     let source = c.args.self.now.0.now.source in
     over_there source.tokens.now c.args.from (behind (part (parts_in source c.args.parts.now) c.args.n))
-    (parts_in source c.args.group.now) c.span_to.result (c.is_absent.ensures.some c.if-is_absent.false) c.span_to.ensures
+    (parts_in source c.args.group.now) c.span_to-2.result (c.is_absent.ensures.some c.if-is_absent.false) c.span_to-2.ensures
