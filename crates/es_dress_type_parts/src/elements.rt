@@ -11,7 +11,7 @@ ghost use Rattle.es_dresser.specs.Ring.{IsMade, IsRing, parts_in};
 ghost use Rattle.es_dress_type_parts.specs.Elements.{comma_behind};
 ghost use Rattle.es_dress_type_parts.specs.Ring.{IsTypeRing};
 
-use crate::base::TypeParts;
+use crate::parts::TypeParts;
 use base::{Items, Range};
 use es_ast::{Expr, ModuleItem, Pat, Stmt};
 use es_dresser::{DressError, Source, group_in};

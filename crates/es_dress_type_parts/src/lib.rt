@@ -7,16 +7,16 @@
 //! Not promised: when memory runs out.
 #![tactic(auto)]
 
-mod base;
 mod elements;
 mod keys;
 mod lists;
 mod names;
+mod parts;
 mod patterns;
 mod spans;
 mod texts;
 
-pub use base::TypeParts;
 pub use lists::{TypeTurn, turns, turns_behind};
 pub use names::OneType;
+pub use parts::TypeParts;
 pub use texts::{big, marked, number};

@@ -9,8 +9,8 @@ ghost use Rattle.es_dresser.specs.Ring.{IsMade, IsRing, parts_in};
 ghost use Rattle.es_dress_type_parts.specs.Marks.{marked_pat_at, question_param, typed_param};
 ghost use Rattle.es_dress_type_parts.specs.Ring.{IsTypeRing, type_pat_in};
 
-use crate::base::TypeParts;
 use crate::lists::{TypeTurn, turns};
+use crate::parts::TypeParts;
 use crate::texts::{before, marked, with_rest};
 use base::{Items, Range};
 use es_ast::{Expr, ModuleItem, Pat, Stmt};

@@ -7,7 +7,7 @@ ghost use Rattle.es_dress.specs.TypeNames.{first_in, behind_in};
 ghost use Rattle.es_dresser.specs.Nodes.{IsWithin};
 ghost use Rattle.es_dresser.specs.Ring.{parts_in};
 
-use crate::base::TypeParts;
+use crate::parts::TypeParts;
 use base::Range;
 use es_ast::{Expr, ModuleItem, Pat, Stmt};
 use es_dresser::{DressError, Source};
