@@ -2,3 +2,5 @@
 pub mod ChainLemmas
 -- operators behind an operand
 pub mod TypedLemmas
+-- labels that differ
+pub mod LabelLemmas

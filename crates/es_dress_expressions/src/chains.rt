@@ -221,37 +221,22 @@ impl<
         requires within { IsWithin node.now.parts.now self.now.0.now.whole.now }
         ensures { IsMade (option_map (λ post. post start obj) (post_of self.now.0.now.source.text.now self.now.0.now.source.tokens.now node.now.label node.now.span (parts_in self.now.0.now.source node.now.parts.now))) result }
     {
-        if node.label == Label::MemberPost {
-            return self.member_post(node.span, node.parts, false, start, obj);
-        }
-        if node.label == Label::IndexPost {
-            return self.index_post(node.span, node.parts, false, start, obj);
-        }
-        if node.label == Label::CallPost {
-            return self.call_post(node.span, node.parts, false, start, obj);
-        }
-        if node.label == Label::TemplatePost {
-            return self.template_post(node.span, node.parts, start, obj);
-        }
-        if node.label == Label::OptionalPost {
-            return self.optional_post(node.span, node.parts, start, obj);
-        }
-        if node.label == Label::TypedCallPost {
-            return self.typed_call(node.span, node.parts, false, start, obj);
-        }
-        if node.label == Label::TypedTemplatePost {
-            return self.typed_template_post(node.span, node.parts, start, obj);
-        }
-        if node.label == Label::TypedOptionalPost {
-            return self.typed_optional_post(node.span, node.parts, start, obj);
-        }
-        if node.label == Label::NonNullPost {
-            return Ok(Expr::TsNonNull {
+        let (span, parts) = (node.span, node.parts);
+        match node.label {
+            Label::MemberPost => self.member_post(span, parts, false, start, obj),
+            Label::IndexPost => self.index_post(span, parts, false, start, obj),
+            Label::CallPost => self.call_post(span, parts, false, start, obj),
+            Label::TemplatePost => self.template_post(span, parts, start, obj),
+            Label::OptionalPost => self.optional_post(span, parts, start, obj),
+            Label::TypedCallPost => self.typed_call(span, parts, false, start, obj),
+            Label::TypedTemplatePost => self.typed_template_post(span, parts, start, obj),
+            Label::TypedOptionalPost => self.typed_optional_post(span, parts, start, obj),
+            Label::NonNullPost => Ok(Expr::TsNonNull {
                 expr: obj,
-                span: from_byte(start, node.span),
-            });
+                span: from_byte(start, span),
+            }),
+            _ => Err(DressError::OtherForm),
         }
-        Err(DressError::OtherForm)
     }
 
     /// The same of a part.

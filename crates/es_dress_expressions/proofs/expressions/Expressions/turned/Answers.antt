@@ -11,7 +11,7 @@ returns-then-is_absent g c =
     let turn = parts_in source c.args.turn.now in
     subst (λ o. IsMade o c.operated.result)
     (sym (turned_none source.tokens.now c.args.span c.args.left (behind (part (parts_in source c.args.parts.now) 0)) turn
-    (part turn 1) (sym c.group.ensures.value ∙ c.is_absent.ensures.none c.if-is_absent.true)))
+    (part turn 1) (sym c.group-group.ensures.value ∙ c.is_absent.ensures.none c.if-is_absent.true)))
     c.operated.ensures
 
 -- a word and a type
@@ -22,5 +22,5 @@ returns g c =
     let some = c.is_absent.ensures.some c.if-is_absent.false in
     subst (λ o. IsMade o c.worded.result)
     (sym (turned_some source.tokens.now c.args.span c.args.left (behind (part (parts_in source c.args.parts.now) 0)) turn
-    (part turn 1) (parts_in source c.group.result.now) some.0 some.1 c.group.ensures.value some.2))
+    (part turn 1) (parts_in source c.group-group.result.now) some.0 some.1 c.group-group.ensures.value some.2))
     c.worded.ensures
