@@ -22,5 +22,6 @@ row_below l K (suc n) r at answer to ne read =
 
 pub returns : goal.returns
 returns t c =
-    row_below c.args.input.lang (keys_of c.args.input.tokens.tokens.now) c.args.room c.args.row c.args.cursor.now.at c.read.result
+    row_below c.args.input.lang (keys_of c.args.input.tokens.tokens.now) c.args.room c.args.row c.args.cursor.now.at
+    c.read.result
     c.read.new.cursor.at c.if-room-eq0.false c.read.ensures
