@@ -1,0 +1,2 @@
+-- when a type is read from tokens
+pub mod Derived
