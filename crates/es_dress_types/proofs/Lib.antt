@@ -2,3 +2,5 @@
 mod ArrayLemmas
 -- labels that differ
 mod LabelLemmas
+-- types as elements of tuples
+mod AloneLemmas

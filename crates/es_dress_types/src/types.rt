@@ -697,7 +697,7 @@ impl<
         if node.label == Label::OptionalElement {
             return self.optional_element(span, node.parts);
         }
-        let ty = self.ty(&node)?;
+        let ty = self.0.type_at(parts, n)?;
         Ok(TsTupleElement {
             rest: false,
             label: None,

@@ -19,10 +19,10 @@ returns-in_err-ty g c =
 -- no index in the first ones
 pub returns-in_err-index : goal.returns-in_err-index
 returns-in_err-index g c =
-    let q = err_from_is_err_and c.from_residual.result c.from_residual.ensures.1 in
+    let q = err_from_is_err_and c.from_residual-in_err-index.result c.from_residual-in_err-index.ensures.1 in
     let source = c.args.self.now.0.now.0.now.source in
     let p = parts_in source c.args.parts.now in
-    made_refused (array_types source.tokens.now c.args.span p) c.from_residual.result q.0 c.in_err-index.field-0.0 q.1 q.2
+    made_refused (array_types source.tokens.now c.args.span p) c.from_residual-in_err-index.result q.0 c.in_err-index.field-0.0 q.1 q.2
     (λ memory. no_index source.tokens.now c.args.span p (parts_in source c.group-group.result.now) c.in_ok-ty.ty
     c.in_ok-ty.ensures c.group-group.ensures.value (c.in_err-index.ensures memory))
 
