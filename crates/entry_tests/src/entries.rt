@@ -204,7 +204,7 @@ const EDGES: &[(&str, &str)] = &[
 ];
 
 // The entry of a source whose name is this one.
-fn source(rt: &impl Abort, alloc: Global, name: &str, text: &str) -> String {
+pub fn source(rt: &impl Abort, alloc: Global, name: &str, text: &str) -> String {
     let specifier = format!(in alloc; "file:///{name}").expect(rt, "memory");
     let answer = content(rt, alloc, text.as_bytes(), "", "");
     answered(rt, alloc, specifier.as_str(), answer)

@@ -7,3 +7,5 @@ mod entries;
 mod lines;
 #[cfg(test)]
 mod resolution;
+#[cfg(test)]
+mod typed;

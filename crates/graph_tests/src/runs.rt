@@ -50,6 +50,14 @@ const RUNS: &[(&str, &str)] = &[
         r#"{"roots":["npm:@s/p@1/x"],"modules":[]}"#,
         "0 root npm:@s/p@1/x\nnpm:@s/p@1/x package npm \"@s/p\" \"1\" \"x\"\nentries 1\n",
     ),
+    (
+        r#"{"roots":["file:///a.ts"],"kind":"code","modules":[{"specifier":"file:///a.ts","text":"import type { A } from \"./b.ts\";"},{"specifier":"file:///b.ts","text":"export interface A {}"}]}"#,
+        "0 root file:///a.ts\nfile:///a.ts module TypeScript 32\n  import-type 23-31 \"./b.ts\" - -> file:///b.ts\nentries 1\n",
+    ),
+    (
+        r#"{"roots":["https://x.test/main.ts"],"modules":[{"specifier":"https://x.test/main.ts","text":"import { serve } from \"./deps.ts\";\nimport type { Conf } from \"./types.ts\";\nconst m = await import(\"npm:chalk@5\");\n"},{"specifier":"https://x.test/deps.ts","redirect":"https://x.test/v1/deps.ts"},{"specifier":"https://x.test/v1/deps.ts","text":"export const serve = 1;\n"}]}"#,
+        "0 root https://x.test/main.ts\nhttps://x.test/deps.ts redirect https://x.test/v1/deps.ts\nhttps://x.test/main.ts module TypeScript 114\n  import 22-33 \"./deps.ts\" - -> https://x.test/deps.ts\n  import-type 61-73 \"./types.ts\" - -> https://x.test/types.ts\n  dynamic 98-111 \"npm:chalk@5\" - -> npm:chalk@5\nhttps://x.test/types.ts error Missing\nhttps://x.test/v1/deps.ts module TypeScript 24\nnpm:chalk@5 package npm \"chalk\" \"5\" -\nentries 5\n",
+    ),
     (r#"{"modules":[],"roots":[]}"#, "0 entries 0\n"),
     ("[", "2 error NotJson\n"),
     ("[]", "2 error Bundle \"\"\n"),
