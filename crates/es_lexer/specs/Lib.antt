@@ -15,3 +15,4 @@ pub mod Answers
 pub mod Look
 pub mod Scan
 pub mod Short
+pub mod Spans

@@ -170,6 +170,7 @@ fn is_for(kind: TokenKind) -> bool
 }
 
 /// The state behind a token. `headed` is that of the bracket that it closes.
+#[inline(always)]
 #[tactic(auto, unfolding(crate::specs::Goal::token_state))]
 pub fn token_state(state: State, kind: TokenKind, headed: bool) -> State
     ensures { result ≡ token_state state kind headed }

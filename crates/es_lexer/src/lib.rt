@@ -16,6 +16,7 @@ mod look;
 mod scan;
 mod short;
 mod signs;
+mod spans;
 mod stack;
 mod words;
 

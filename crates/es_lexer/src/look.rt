@@ -15,11 +15,10 @@ use crate::bytes::{
 use crate::error::LexicalKind;
 use crate::goal::Goal;
 use crate::signs::{Sign, sign_at};
+use crate::spans::{number_end_from, string_end_from};
 use crate::words::kind_at;
-use es_literal::{StringEnd, string_from};
-use es_spelling::{
-    NumberEnd, TemplateEnd, begins_line_end, number_from, regexp_from, template_from,
-};
+use es_literal::StringEnd;
+use es_spelling::{NumberEnd, TemplateEnd, begins_line_end, regexp_from, template_from};
 use es_token::{CommentKind, TokenKind};
 use es_wide::{wide_blank, wide_line, wide_size};
 
@@ -68,7 +67,7 @@ pub fn look_from(goal: Goal, at: usize, text: &[u8]) -> Look
             First::Blank => Look::Blank { end: at + 1 },
             First::LineEnd => Look::LineEnd { end: at + 1 },
             First::Start => word_from(goal.member, at, text),
-            First::Quote => string_token(at, string_from(at, text)),
+            First::Quote => string_token(at, string_end_from(at, text)),
             First::Slash => slash_from(goal, at, text, rest),
             First::Backtick => template_token(true, at, template_from(at + 1, rest)),
             First::Brace => brace_from(goal, at, text, rest),
@@ -88,7 +87,7 @@ fn number_token(at: usize, text: &[u8]) -> Look
     requires { at + length text.now < 2 ^ 64 }
     ensures { result ≡ number_look at text.now }
 {
-    let number = number_from(at, text);
+    let number = number_end_from(at, text);
     number_before(number, &text[number.end - at..])
 }
 

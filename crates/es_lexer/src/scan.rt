@@ -15,8 +15,9 @@ use crate::look::{Look, behind_blanks, look_from, short_word};
 use crate::short::short_sign;
 use crate::stack::{innermost, push_short, push_token, push_word};
 use base::{Items, Range, Text};
-use es_token::{Comment, CommentKind, Lexed};
+use es_token::{Comment, CommentKind, Lexed, Token};
 use std::alloc::{AllocError, Global};
+use std::cmp;
 
 /// The tokens and comments of a text, or its first lexical fault (ECMA-262, "Lexical Grammar").
 pub fn lex_tokens(alloc: Global, text: &str) -> Result<Lexed, LexError>
@@ -37,7 +38,7 @@ fn scan(alloc: Global, text: &str) -> Result<Lexed, LexError>
     ensures stopped { (e : LexicalError) → result ≡ Err (LexError.Lexical e) → Stops text.now e.kind e.at }
 {
     let bytes = text.as_bytes();
-    let mut tokens = Items::new(alloc);
+    let mut tokens = room_for(alloc, bytes.len())?;
     let mut comments = Items::new(alloc);
     let mut brackets = Items::new(alloc);
     let mut at = 0;
@@ -93,6 +94,20 @@ fn scan(alloc: Global, text: &str) -> Result<Lexed, LexError>
             }
         }
     }
+}
+
+/// How many bytes of a text there are to a token, in dense code.
+const BYTES_PER_TOKEN: usize = 4;
+
+/// The most tokens that room is made for before any is read.
+const MOST_ROOM: usize = 1 << 20;
+
+/// An empty list, with room for the tokens of a text of so many bytes, so that it seldom has to grow.
+fn room_for(alloc: Global, bytes: usize) -> Result<Items<Token>, AllocError>
+    ensures { IfOk result (λ tokens. tokens ≡ []) }
+{
+    let room = cmp::min(bytes / BYTES_PER_TOKEN, MOST_ROOM);
+    Ok(Items::from_vec(Vec::with_capacity(alloc, room)?))
 }
 
 /// The state at the front of a text.

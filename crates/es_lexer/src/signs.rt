@@ -1,4 +1,4 @@
-ghost use Rattle.std.specs.Prelude.{◌≡◌, ℕ, [], ◌∷◌, IfSome};
+ghost use Rattle.std.specs.Prelude.{◌≡◌, ℕ, [], ◌∷◌};
 ghost use Rattle.es_lexer.specs.Signs.{sign_kind, sized, two_before, longest, single, sign_at};
 
 use es_token::TokenKind;
@@ -20,32 +20,35 @@ pub fn sign_at(text: &[u8]) -> Option<Sign>
         [] => None,
         [a] => sized(1, one_byte(*a), None),
         [a, b] => sized(2, two_bytes(*a, *b), sized(1, one_byte(*a), None)),
-        [a, b, c, ..] => match lone(*a) {
-            Some(kind) => Some(Sign { kind, size: 1 }),
-            None => longest(*a, *b, *c),
-        },
+        [a, b, c, ..] => sign_before(*a, *b, *c),
     }
 }
 
-/// The punctuator of this byte, where no longer one begins with it.
+/// The longest punctuator that begins three bytes, with a short way for a byte with which no longer one begins.
 #[tactic(auto, unfolding(crate::specs::Signs::sign_kind, crate::specs::Signs::sign_in, crate::specs::Signs::signs_of_one, crate::specs::Signs::signs_of_two, crate::specs::Signs::signs_of_three, crate::specs::Signs::two_before, crate::specs::Signs::sized))]
-fn lone(a: u8) -> Option<TokenKind>
-    ensures { IfSome result (λ kind. (b c : ℕ) → longest a b c ≡ single kind) }
+fn sign_before(a: u8, b: u8, c: u8) -> Option<Sign>
+    ensures { result ≡ longest a b c }
 {
     match a {
-        b'{' => Some(TokenKind::OpenBrace),
-        b'}' => Some(TokenKind::CloseBrace),
-        b'(' => Some(TokenKind::OpenParen),
-        b')' => Some(TokenKind::CloseParen),
-        b'[' => Some(TokenKind::OpenBracket),
-        b']' => Some(TokenKind::CloseBracket),
-        b';' => Some(TokenKind::Semicolon),
-        b',' => Some(TokenKind::Comma),
-        b'>' => Some(TokenKind::Greater),
-        b'~' => Some(TokenKind::Tilde),
-        b':' => Some(TokenKind::Colon),
-        _ => None,
+        b'{' => single(TokenKind::OpenBrace),
+        b'}' => single(TokenKind::CloseBrace),
+        b'(' => single(TokenKind::OpenParen),
+        b')' => single(TokenKind::CloseParen),
+        b'[' => single(TokenKind::OpenBracket),
+        b']' => single(TokenKind::CloseBracket),
+        b';' => single(TokenKind::Semicolon),
+        b',' => single(TokenKind::Comma),
+        b'>' => single(TokenKind::Greater),
+        b'~' => single(TokenKind::Tilde),
+        b':' => single(TokenKind::Colon),
+        _ => longest(a, b, c),
     }
+}
+
+fn single(kind: TokenKind) -> Option<Sign>
+    ensures { result ≡ single kind }
+{
+    Some(Sign { kind, size: 1 })
 }
 
 /// The longest punctuator that begins three bytes.

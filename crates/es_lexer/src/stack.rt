@@ -300,15 +300,8 @@ fn join(tokens: &mut Items<Token>, closed: Option<OpenBracket>, number: usize)
     ensures { tokens.new ≡ joined closed number tokens.old }
 {
     if let Some(bracket) = closed {
-        let found = tokens.get(bracket.number).copied();
-        if let Some(token) = found {
-            tokens.set(
-                bracket.number,
-                Token {
-                    partner: Some(number),
-                    ..token
-                },
-            );
+        if let Some(token) = tokens.get_mut(bracket.number) {
+            token.partner = Some(number);
         }
     }
 }

@@ -402,7 +402,7 @@ module _ (x : List ℕ) (ts : List Token) where
       else (if same_label label l.ImportType then type_names.import_type x ts r p
       else (if same_label label l.AssertsResult then types.asserts_result x ts r p
       else (if same_label label l.PredicateResult then types.predicate_result x ts r p
-      else (if same_label label l.EntityOfType then option_map (type_names.named r) (type_names.entity x ts r p)
+      else (if same_label label l.EntityOfType then option_map (type_names.named r) (modules.entity x ts r p)
       else None))))))))))))))))))))))))))
 
   unfoldable pub arguments_of : Label → Range → Value → Option (Nodes TsType)
@@ -482,7 +482,7 @@ module _ (x : List ℕ) (ts : List Token) where
   unfoldable pub reference_of : Label → Range → Value → Option (TsEntityName × Option (Nodes TsType))
   reference_of label r p =
       if same_label label l.Reference then type_names.named_reference p
-      else (if same_label label l.EntityOfType then option_map (λ name. (name, None)) (type_names.entity x ts r p)
+      else (if same_label label l.EntityOfType then option_map (λ name. (name, None)) (modules.entity x ts r p)
       else None)
 
   -- all that a node is, from its alternative, its first token, its span and its parts

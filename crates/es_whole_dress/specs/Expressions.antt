@@ -1,5 +1,5 @@
 -- What expressions become (ECMA-262, "Expressions").
-use Rattle.std.specs.Prelude.{ℕ, ◌+◌, ◌-◌, Bool, true, false, List, [], ◌∷◌, ◌++◌, Option, Some, None, option_map, fold, if◌then◌else◌}
+use Rattle.std.specs.Prelude.{ℕ, ◌+◌, Bool, true, false, List, [], ◌∷◌, ◌++◌, Option, Some, None, option_map, fold, if◌then◌else◌}
 use Rattle.base.specs.declared.range.Range.{Range}
 use Rattle.es_token.specs.declared.token.Token.{Token}
 use Rattle.es_token.specs.declared.token.TokenKind.{TokenKind}
@@ -12,9 +12,8 @@ use Rattle.es_ast.specs.declared.leaf.BinaryOp.TheVariants as vBinary
 use Rattle.es_ast.specs.declared.ast.Expr.{Expr}
 use Rattle.es_ast.specs.declared.ast.Expr.TheVariants as vExpr
 use Rattle.es_ast.specs.declared.ast.Pat.TheVariants as vPat
-use Rattle.es_ast.specs.declared.ast.Prop.{Prop}
-use Rattle.es_whole_dress.specs.Value.{Value, more, token, node, Typed, given, part, as_group, group, typed, first_of, behind, optional, option_list, is_there, turns, expr_at, pat_at, prop_at, post_at, args_at}
-use Rattle.es_whole_dress.specs.Texts.{span_of, ident_of, regex_of, token_of, token_at, kind_at, ident_at, private_at, str_at, numeric_at, piece_there, property_of, property_at}
+use Rattle.es_whole_dress.specs.Value.{Value, more, token, node, given, part, as_group, group, typed, first_of, behind, optional, option_list, is_there, turns, expr_at, pat_at, prop_at, post_at, args_at}
+use Rattle.es_whole_dress.specs.Texts.{span_of, regex_of, token_of, token_at, kind_at, ident_at, private_at, str_at, numeric_at, piece_there, property_of, property_at}
 use Rattle.es_whole_dress.specs.Operators.{listed, unary_ops, update_ops, binary_between, assign_between}
 
 -- ---- names and literals

@@ -4,7 +4,6 @@ use Rattle.base.specs.declared.range.Range.{Range}
 use Rattle.es_token.specs.declared.token.Token.{Token}
 use Rattle.ts_ast.specs.declared.leaf.Ident.{Ident}
 use Rattle.ts_ast.specs.declared.leaf.MethodKind.{MethodKind}
-use Rattle.ts_ast.specs.declared.leaf.MethodKind.TheVariants as vMethod
 use Rattle.es_ast.specs.declared.leaf.Lit.TheVariants as vLit
 use Rattle.es_ast.specs.declared.leaf.Modifiers.{Modifiers}
 use Rattle.es_ast.specs.declared.leaf.Accessibility.TheVariants as vAccessibility
@@ -18,7 +17,7 @@ use Rattle.es_ast.specs.declared.ast.Prop.{Prop}
 use Rattle.es_ast.specs.declared.ast.Prop.TheVariants as vProp
 use Rattle.es_ast.specs.declared.ast.Function.{Function, roll-Function}
 use Rattle.es_ast.specs.declared.ast.Param.{Param, roll-Param}
-use Rattle.es_whole_dress.specs.Value.{Value, node, Typed, given, part, group, first_of, behind, optional, option_list, is_there, turns, expr_at, pat_at, stmt_at, param_at, params_at, key_at}
+use Rattle.es_whole_dress.specs.Value.{Value, node, given, part, group, first_of, behind, optional, option_list, is_there, turns, expr_at, pat_at, stmt_at, param_at, params_at, key_at}
 use Rattle.es_whole_dress.specs.Texts.{span_of, ident_of, token_at, kind_at, ident_at, private_at, str_at, numeric_at, own_name_at}
 use Rattle.es_whole_dress.specs.Operators.{listed, accessor_kinds}
 

@@ -1,5 +1,5 @@
 -- What is kept of tokens: names, literals and pieces of templates, by the text of a token; spans of nodes.
-use Rattle.std.specs.Prelude.{ℕ, zero, suc, ◌+◌, ◌-◌, ◌==◌, Bool, true, false, List, [], ◌∷◌, Option, Some, None, option_map, if◌then◌else◌, slice_get, slice_range}
+use Rattle.std.specs.Prelude.{ℕ, zero, suc, ◌+◌, ◌-◌, ◌==◌, Bool, true, false, List, Option, Some, None, option_map, if◌then◌else◌, slice_get, slice_range}
 use Rattle.base.specs.declared.range.Range.{Range}
 use Rattle.es_token.specs.declared.token.Token.{Token}
 use Rattle.es_token.specs.declared.token.TokenKind.{TokenKind}
@@ -8,8 +8,6 @@ use Rattle.es_literal.specs.Values.{value_of, is_lone}
 use Rattle.es_tree.specs.Key.{same_kind}
 use Rattle.ts_ast.specs.declared.leaf.Ident.{Ident}
 use Rattle.ts_ast.specs.declared.leaf.Str.{Str}
-use Rattle.ts_ast.specs.declared.leaf.Number.{Number}
-use Rattle.ts_ast.specs.declared.leaf.BigInt.{BigInt}
 use Rattle.ts_ast.specs.declared.leaf.TplElement.{TplElement}
 use Rattle.ts_ast.specs.declared.leaf.TsThisTypeOrIdent.{TsThisTypeOrIdent}
 use Rattle.ts_ast.specs.declared.leaf.TsThisTypeOrIdent.TheVariants as vThis

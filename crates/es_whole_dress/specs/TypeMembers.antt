@@ -7,7 +7,7 @@ use Rattle.ts_ast.specs.declared.leaf.TsKey.{TsKey}
 use Rattle.ts_ast.specs.declared.leaf.TsKey.TheVariants as vKey
 use Rattle.ts_ast.specs.declared.ts.TsTypeElement.{TsTypeElement}
 use Rattle.ts_ast.specs.declared.ts.TsTypeElement.TheVariants as vMember
-use Rattle.es_whole_dress.specs.Value.{given, Value, more, token, part, group, optional, is_there, type_at, entity_at, type_params_at, fn_params_at, type_key_at}
+use Rattle.es_whole_dress.specs.Value.{given, Value, more, token, group, optional, is_there, type_at, entity_at, type_params_at, fn_params_at, type_key_at}
 use Rattle.es_whole_dress.specs.Texts.{token_at, kind_at, ident_at, str_at}
 use Rattle.es_whole_dress.specs.Operators.{listed, accessor_kinds}
 use Rattle.es_whole_dress.specs.TypeTexts.{computed_numeric}

@@ -1,5 +1,5 @@
 -- What names of types, arguments, parameters and their patterns become.
-use Rattle.std.specs.Prelude.{ℕ, ◌+◌, ◌-◌, Bool, false, ◌||◌, List, [], ◌∷◌, ◌++◌, Option, Some, None, option_map}
+use Rattle.std.specs.Prelude.{ℕ, ◌+◌, Bool, false, ◌||◌, List, ◌∷◌, Option, Some, None, option_map}
 use Rattle.base.specs.declared.range.Range.{Range}
 use Rattle.es_token.specs.declared.token.Token.{Token}
 use Rattle.es_token.specs.declared.token.TokenKind.{TokenKind}
@@ -11,17 +11,10 @@ use Rattle.ts_ast.specs.declared.ts.TsType.{TsType}
 use Rattle.ts_ast.specs.declared.ts.TsType.TheVariants as vType
 use Rattle.ts_ast.specs.declared.ts.TsTypeParam.{TsTypeParam, roll-TsTypeParam}
 use Rattle.es_whole_dress.specs.Value.{given, Value, more, part, as_group, group, first_of, behind, optional, turns, type_at, entity_at, arguments_at}
-use Rattle.es_whole_dress.specs.Texts.{span_of, kind_at, ident_at, this_or_name_at, str_at}
+use Rattle.es_whole_dress.specs.Texts.{span_of, kind_at, ident_at, str_at}
 
--- ---- names
--- (Name | 'this') ('.' Name)*
-unfoldable pub entity : List ℕ → List Token → Range → Value → Option TsEntityName
-entity x ts r p =
-    given (this_or_name_at x ts p 0) (λ left.
-    given (turns (λ turn. ident_at x ts turn 0) (group p 1)) (λ rest.
-    Some (record { left = left; rest = rest; span = r })))
-
--- a name alone as a type
+-- ---- names of types
+-- a name alone
 abbrev pub named : Range → TsEntityName → TsType
 named r name = vType.Ref name None r
 

@@ -1,5 +1,5 @@
 -- What parameters of functions in types, and their patterns, become.
-use Rattle.std.specs.Prelude.{ℕ, ◌+◌, ◌-◌, Bool, true, false, List, [], ◌∷◌, ◌++◌, Option, Some, None, option_map}
+use Rattle.std.specs.Prelude.{ℕ, ◌+◌, ◌-◌, Bool, true, false, List, ◌++◌, Option, Some, None, option_map}
 use Rattle.base.specs.declared.range.Range.{Range}
 use Rattle.es_token.specs.declared.token.Token.{Token}
 use Rattle.ts_ast.specs.declared.leaf.Ident.{Ident}
@@ -11,7 +11,7 @@ use Rattle.ts_ast.specs.declared.ts.TsParamPat.{TsParamPat}
 use Rattle.ts_ast.specs.declared.ts.TsParamPat.TheVariants as vPat
 use Rattle.ts_ast.specs.declared.ts.TsPatProp.{TsPatProp}
 use Rattle.ts_ast.specs.declared.ts.TsPatProp.TheVariants as vProp
-use Rattle.es_whole_dress.specs.Value.{given, option_list, Value, more, token, as_group, group, first_of, behind, optional, is_there, turns, type_at, type_pat_at, type_name_at, type_prop_at, fn_param_at, type_key_at}
+use Rattle.es_whole_dress.specs.Value.{given, option_list, Value, more, token, part, group, first_of, behind, optional, is_there, turns, type_at, type_pat_at, type_name_at, type_prop_at, fn_param_at, type_key_at}
 use Rattle.es_whole_dress.specs.Texts.{span_of, token_at, ident_at, str_at}
 use Rattle.es_whole_dress.specs.Expressions.{elements}
 use Rattle.es_whole_dress.specs.TypeTexts.{marked, number_at}
@@ -81,16 +81,15 @@ unfoldable pub marked_parameter : Range → Value → Option TsFnParam
 marked_parameter r p = given (type_pat_at p 0) (λ pat. marked_by r (type_name_at p 0) pat (group p 1))
 
 -- the last parameter, behind `...`
-abbrev pub rest_at : List Token → Value → Option (Option TsFnParam)
-rest_at ts (more v vs) =
-    given (type_pat_at (more v vs) 0) (λ pat.
-    given (optional type_at (group (more v vs) 1)) (λ ty.
-    Some (Some (param_by true false
-    (span_of ts (first_of v - 1) (behind_in (group (more v vs) 1) (behind v))) pat ty))))
-rest_at ts _ = Some None
+abbrev pub rest_at : List Token → Value → ℕ → Option TsFnParam
+rest_at ts p n =
+    given (type_pat_at p n) (λ pat.
+    given (optional type_at (group p (n + 1))) (λ ty.
+    Some (param_by true false
+    (span_of ts (first_of (part p n) - 1) (behind_in (group p (n + 1)) (behind (part p n)))) pat ty)))
 
 -- Param% | (Param ',')* '...' Pat (':' Type)?
 unfoldable pub parameters : List Token → Value → Option (List TsFnParam)
 parameters ts p =
     given (turns (λ turn. fn_param_at turn 0) (group p 0)) (λ all.
-    given (rest_at ts (group p 1)) (λ rest. Some (all ++ option_list rest)))
+    given (optional (rest_at ts) (group p 1)) (λ rest. Some (all ++ option_list rest)))

@@ -18,7 +18,7 @@ use Rattle.ts_ast.specs.declared.leaf.TsTypeOperatorOp.{TsTypeOperatorOp}
 use Rattle.ts_ast.specs.declared.leaf.TsTypeOperatorOp.TheVariants as operator
 use Rattle.ts_ast.specs.declared.leaf.TruePlusMinus.{TruePlusMinus}
 use Rattle.ts_ast.specs.declared.leaf.TruePlusMinus.TheVariants as sign
-use Rattle.es_whole_dress.specs.Value.{given, Value, more, as_group, group}
+use Rattle.es_whole_dress.specs.Value.{given, Value, more, as_group}
 use Rattle.es_whole_dress.specs.Texts.{kind_at, token_at}
 use Rattle.es_whole_dress.specs.Operators.{listed}
 

@@ -1,6 +1,6 @@
 -- What functions, arrows, methods of objects and classes of TypeScript become (the handbook of TypeScript, "More on
 -- Functions" and "Classes").
-use Rattle.std.specs.Prelude.{ℕ, ◌+◌, Bool, true, false, List, Option, Some, None, option_map, if◌then◌else◌}
+use Rattle.std.specs.Prelude.{ℕ, ◌+◌, Bool, false, List, Option, Some, None, option_map}
 use Rattle.base.specs.declared.range.Range.{Range}
 use Rattle.es_token.specs.declared.token.Token.{Token}
 use Rattle.es_token.specs.declared.token.TokenKind.{TokenKind}
@@ -138,6 +138,6 @@ unfoldable pub index_member : List ℕ → List Token → Range → Value → Op
 index_member x ts r p =
     given (modifiers_in ts plain (group p 0)) (λ modifiers.
     given (ident_at x ts p 1) (λ name.
-    given (type_at p 2) (λ of.
+    given (option_map vPart.TypeAnn (type_at p 2)) (λ of.
     given (annotation_at p 3) (λ ty.
-    Some (vMember.TsIndexSignature modifiers name (Some (vPart.TypeAnn of)) ty r)))))
+    Some (vMember.TsIndexSignature modifiers name (Some of) ty r)))))

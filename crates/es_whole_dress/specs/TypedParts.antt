@@ -1,6 +1,6 @@
 -- What TypeScript adds to patterns, parameters and functions (the handbook of TypeScript, "Everyday Types", "More on
 -- Functions"): types behind `:`, and what stands between `<` and `>`.
-use Rattle.std.specs.Prelude.{ℕ, ◌+◌, ◌-◌, Bool, true, false, ◌||◌, List, [], ◌∷◌, ◌++◌, Option, Some, None, option_map, if◌then◌else◌}
+use Rattle.std.specs.Prelude.{ℕ, ◌+◌, ◌-◌, Bool, false, ◌||◌, List, ◌∷◌, ◌++◌, Option, Some, None, option_map, if◌then◌else◌}
 use Rattle.base.specs.declared.range.Range.{Range}
 use Rattle.es_token.specs.declared.token.Token.{Token}
 use Rattle.es_token.specs.declared.token.TokenKind.{TokenKind}
@@ -12,7 +12,6 @@ use Rattle.ts_ast.specs.declared.ts.TsExprWithTypeArgs.{TsExprWithTypeArgs}
 use Rattle.es_ast.specs.declared.leaf.Accessibility.{Accessibility}
 use Rattle.es_ast.specs.declared.leaf.Accessibility.TheVariants as vAccessibility
 use Rattle.es_ast.specs.declared.leaf.Modifiers.{Modifiers}
-use Rattle.es_ast.specs.declared.ast.Expr.{Expr}
 use Rattle.es_ast.specs.declared.ast.Stmt.{Stmt}
 use Rattle.es_ast.specs.declared.ast.Pat.{Pat}
 use Rattle.es_ast.specs.declared.ast.Pat.TheVariants as vPat
@@ -68,6 +67,11 @@ unfoldable pub marked_object : Value → Option (Bool → Option TsPart → Rang
 marked_object p =
     option_map (λ props mark ty r. vPat.Object props mark ty r) (turns (λ turn. pat_prop_at turn 0) (group p 0))
 
+-- such a pattern with this mark and this type, over this range
+abbrev pub marked_by : Option (Bool → Option TsPart → Range → Pat) → Bool → Option TsPart → Range → Option Pat
+marked_by (Some pat) mark ty r = Some (pat mark ty r)
+marked_by None mark ty r = None
+
 -- where a pattern ends with the part behind it that may be absent
 abbrev pub annotated_span : List Token → Value → ℕ → ℕ → Range
 annotated_span ts p n at = span_of ts (first_of (part p n)) (behind_in (group p at) (behind (part p n)))
@@ -75,7 +79,7 @@ annotated_span ts p n at = span_of ts (first_of (part p n)) (behind_in (group p 
 -- the pattern at this part, with the type that stands at another one
 abbrev pub annotated_at : List Token → Value → ℕ → ℕ → Option Pat
 annotated_at ts p n at =
-    given (annotation_at p at) (λ ty. option_map (λ pat. pat false ty (annotated_span ts p n at)) (marked_at p n))
+    given (annotation_at p at) (λ ty. marked_by (marked_at p n) false ty (annotated_span ts p n at))
 
 -- ---- modifiers
 unfoldable pub access_of : TokenKind → Accessibility → Accessibility
@@ -106,17 +110,21 @@ modifiers_in ts before _ = Some before
 abbrev pub param_by : Modifiers → Range → Pat → Param
 param_by modifiers r pat = roll-Param (record { modifiers = modifiers; pat = pat; span = r })
 
--- a pattern at this part, and behind it '?'? (':' Type)? ('=' Assign)?
+-- a pattern at this part, and behind it '?'? (':' Type)? ('=' Assign)?: where it ends without its default, and with it
+abbrev pub typed_span : List Token → Value → ℕ → Range
+typed_span ts p n =
+    span_of ts (first_of (part p n)) (behind_in (group p (n + 2)) (behind_in (group p (n + 1)) (behind (part p n))))
+
+abbrev pub tailed_span : List Token → Value → ℕ → Range
+tailed_span ts p n =
+    span_of ts (first_of (part p n))
+    (behind_in (group p (n + 3)) (behind_in (group p (n + 2)) (behind_in (group p (n + 1)) (behind (part p n)))))
+
 abbrev pub tailed_at : List Token → Value → ℕ → Option Pat
 tailed_at ts p n =
     given (annotation_at p (n + 2)) (λ ty.
-    given (optional expr_at (group p (n + 3))) (λ value.
-    option_map (λ pat. with_default
-    (span_of ts (first_of (part p n))
-    (behind_in (group p (n + 3)) (behind_in (group p (n + 2)) (behind_in (group p (n + 1)) (behind (part p n))))))
-    (pat (is_there (group p (n + 1))) ty
-    (span_of ts (first_of (part p n)) (behind_in (group p (n + 2)) (behind_in (group p (n + 1)) (behind (part p n))))))
-    value) (marked_at p n)))
+    given (marked_by (marked_at p n) (is_there (group p (n + 1))) ty (typed_span ts p n)) (λ pat.
+    given (optional expr_at (group p (n + 3))) (λ value. Some (with_default (tailed_span ts p n) pat value))))
 
 unfoldable pub marked_parameter : List Token → Range → Value → Option Param
 marked_parameter ts r p = option_map (param_by plain r) (tailed_at ts p 0)
@@ -136,20 +144,21 @@ this_parameter ts r p =
     (vPat.This ty (span_of ts (first_of (part p 0)) (behind_in (group p 2) (behind (part p 0))))) value)))))
 
 -- the last one, behind `...`
-abbrev pub typed_rest : List Token → Value → Option (Option Param)
-typed_rest ts (more v vs) =
-    given (pat_at (more v vs) 0) (λ pat.
-    given (annotation_at (more v vs) 1) (λ ty.
-    Some (Some (param_by plain
-    (span_of ts (first_of v - 1) (behind_in (group (more v vs) 1) (behind v)))
-    (vPat.Rest pat ty (span_of ts (first_of v - 1) (behind_in (group (more v vs) 1) (behind v))))))))
-typed_rest ts _ = Some None
+abbrev pub typed_rest_of : Range → Pat → Option TsPart → Param
+typed_rest_of r pat ty = param_by plain r (vPat.Rest pat ty r)
+
+abbrev pub typed_rest_at : List Token → Value → ℕ → Option Param
+typed_rest_at ts p n =
+    given (pat_at p n) (λ pat.
+    given (annotation_at p (n + 1)) (λ ty.
+    Some (typed_rest_of
+    (span_of ts (first_of (part p n) - 1) (behind_in (group p (n + 1)) (behind (part p n)))) pat ty)))
 
 -- Param% | (Param ',')* '...' Pat (':' Type)?
 unfoldable pub typed_parameters : List Token → Value → Option (List Param)
 typed_parameters ts p =
     given (turns (λ turn. param_at turn 0) (group p 0)) (λ all.
-    given (typed_rest ts (group p 1)) (λ rest. Some (all ++ option_list rest)))
+    given (optional (typed_rest_at ts) (group p 1)) (λ rest. Some (all ++ option_list rest)))
 
 -- TParams? '(' Params ')' (':' Ret)?
 unfoldable pub typed_signature : Value → Option Signature

@@ -1,13 +1,11 @@
 -- What variables, declarations and items of TypeScript become (the handbook of TypeScript, "Everyday Types", "Object Types",
 -- "Enums", "Namespaces", "Modules").
-use Rattle.std.specs.Prelude.{ℕ, ◌+◌, Bool, true, false, List, ◌∷◌, Option, Some, None, option_map}
+use Rattle.std.specs.Prelude.{ℕ, Bool, true, List, Option, Some, None, option_map}
 use Rattle.base.specs.declared.range.Range.{Range}
 use Rattle.es_token.specs.declared.token.Token.{Token}
 use Rattle.es_token.specs.declared.token.TokenKind.TheVariants as k
 use Rattle.es_tree.specs.Key.{same_kind}
-use Rattle.ts_ast.specs.declared.ts.TsPart.{TsPart}
 use Rattle.ts_ast.specs.declared.ts.TsPart.TheVariants as vPart
-use Rattle.es_ast.specs.declared.ast.Expr.{Expr}
 use Rattle.es_ast.specs.declared.ast.Pat.{Pat}
 use Rattle.es_ast.specs.declared.ast.Stmt.{Stmt}
 use Rattle.es_ast.specs.declared.ast.Stmt.TheVariants as vStmt
@@ -65,16 +63,16 @@ interface x ts p =
     given (ident_at x ts p 0) (λ id.
     given (params_part_at p 1) (λ type_params.
     given (heritage_in ts (group p 2)) (λ extends.
-    given (turns (λ turn. type_member_at turn 0) (group p 3)) (λ members.
-    Some (λ declare r. vDecl.TsInterface declare id type_params extends (Some (vPart.Members members)) r)))))
+    given (option_map vPart.Members (turns (λ turn. type_member_at turn 0) (group p 3))) (λ body.
+    Some (λ declare r. vDecl.TsInterface declare id type_params extends (Some body) r)))))
 
 -- 'type' Name TParams? '=' Type END
 unfoldable pub alias : List ℕ → List Token → Value → Option Declarable
 alias x ts p =
     given (ident_at x ts p 0) (λ id.
     given (params_part_at p 1) (λ type_params.
-    given (type_at p 2) (λ ty.
-    Some (λ declare r. vDecl.TsTypeAlias declare id type_params (Some (vPart.TypeAnn ty)) r))))
+    given (option_map vPart.TypeAnn (type_at p 2)) (λ ty.
+    Some (λ declare r. vDecl.TsTypeAlias declare id type_params (Some ty) r))))
 
 -- Key ('=' Assign)?
 abbrev pub enum_member : List Token → Value → Option TsEnumMember

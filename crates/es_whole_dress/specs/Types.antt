@@ -10,7 +10,7 @@ use Rattle.ts_ast.specs.declared.leaf.TsLit.TheVariants as vLit
 use Rattle.ts_ast.specs.declared.ts.TsType.{TsType}
 use Rattle.ts_ast.specs.declared.ts.TsType.TheVariants as vType
 use Rattle.ts_ast.specs.declared.ts.TsTupleElement.{TsTupleElement, roll-TsTupleElement}
-use Rattle.es_whole_dress.specs.Value.{given, Value, more, token, part, as_group, group, behind, optional, is_there, turns, type_at, element_at, type_member_at, type_params_at, fn_params_at}
+use Rattle.es_whole_dress.specs.Value.{given, Value, more, part, as_group, group, behind, optional, is_there, turns, type_at, element_at, type_member_at, type_params_at, fn_params_at}
 use Rattle.es_whole_dress.specs.Texts.{end_before, token_at, kind_at, ident_at, this_or_name_at, str_at, piece_there}
 use Rattle.es_whole_dress.specs.Operators.{listed}
 use Rattle.es_whole_dress.specs.TypeTexts.{marked, numeric_lit, keyword_kinds, type_operators, signed_in}
@@ -107,7 +107,10 @@ infer_type x ts r p = option_map (λ name. vType.Infer name r) (ident_at x ts p 
 
 -- operands of `|` or `&`, the first before its operator, or behind one too
 abbrev pub operands : Value → Option (List TsType)
-operands p = given (type_at p 0) (λ first. given (types_from p 1) (λ rest. Some (first ∷ rest)))
+operands p =
+    given (type_at p 0) (λ first.
+    given (type_at p 1) (λ second.
+    given (turns (λ turn. type_at turn 0) (group p 2)) (λ rest. Some (first ∷ second ∷ rest))))
 
 unfoldable pub union_type : Range → Value → Option TsType
 union_type r p = option_map (λ types. vType.Union types r) (operands p)

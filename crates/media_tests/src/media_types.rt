@@ -1,6 +1,10 @@
 //! The tables against examples.
 
 use media_type::{MediaType, ModuleKind};
+use std::alloc::Global;
+use std::collections::BTreeMap;
+use std::process::Abort;
+use url::Url;
 
 /// A path, and the media type of its ending.
 const PATHS: &[(&str, &str)] = &[
@@ -50,6 +54,16 @@ const CONTENT_TYPES: &[(MediaType, &str, &str)] = &[
     (MediaType::TypeScript, "", "Unknown"),
 ];
 
+/// A specifier, the header `content-type` of its content, if it has one, and the media type of both.
+const SPECIFIERS: &[(&str, Option<&str>, &str)] = &[
+    ("file:///a.ts", None, "TypeScript"),
+    ("https://a/b.ts?c.js#d.mjs", None, "TypeScript"),
+    ("data:text/a.ts", None, "Unknown"),
+    ("https://a/b", Some("text/javascript"), "JavaScript"),
+    ("https://a/b.ts", Some("text/plain"), "TypeScript"),
+    ("data:text/a.ts", Some("application/json"), "Json"),
+];
+
 /// A media type, how its modules are read, whether they are typed, and whether they are JavaScript.
 const KINDS: &[(MediaType, Option<ModuleKind>, bool, bool)] = &[
     (MediaType::Dmts, Some(ModuleKind::Source), true, false),
@@ -77,4 +91,30 @@ fn paths_and_content_types(rt: HostRuntime) {
         assert_eq!(rt; media_type.is_typed(), *typed);
         assert_eq!(rt; media_type.is_javascript(), *javascript);
     }
+}
+
+#[test]
+fn specifiers(rt: HostRuntime) {
+    let alloc = rt.alloc();
+    for (text, header, want) in SPECIFIERS {
+        let url = Url::parse(alloc, text).expect(&rt, "a URL");
+        let headers = headers(&rt, alloc, *header);
+        let told = MediaType::from_specifier_and_headers(alloc, &url, Some(&headers));
+        assert_eq!(rt; told.expect(&rt, "memory").name(), *want, "{text}");
+        if header.is_none() {
+            let told = MediaType::from_specifier(alloc, &url).expect(&rt, "memory");
+            assert_eq!(rt; told.name(), *want, "{text}");
+        }
+    }
+}
+
+fn headers(rt: &impl Abort, alloc: Global, content_type: Option<&str>) -> BTreeMap<String, String> {
+    let mut headers = BTreeMap::new(alloc);
+    if let Some(content_type) = content_type {
+        let name = String::from_str(alloc, "content-type").expect(rt, "memory");
+        let value = String::from_str(alloc, content_type).expect(rt, "memory");
+        let inserted: Result<_, _> = headers.insert(name, value);
+        drop(inserted.expect(rt, "memory"));
+    }
+    headers
 }

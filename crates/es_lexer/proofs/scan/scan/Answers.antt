@@ -11,7 +11,8 @@ use Rattle.es_lexer.proofs.scan.scan.Goals as goal
 pub pieces-init : goal.pieces-init
 pieces-init c = record {
   same = c.as_bytes-bytes.ensures.value;
-  so_far = so_far_first c.args.text.now _ _ _ _ c.first_state-state.ensures c.new-brackets.ensures c.new-tokens.ensures
+  so_far = so_far_first c.args.text.now _ _ _ _ c.first_state-state.ensures c.new-brackets.ensures
+      c.in_ok-tokens.ensures
       c.new-comments.ensures;
 }
 

@@ -1,0 +1,16 @@
+use Rattle.std.proofs.Common.{subst, List}
+use Rattle.std.specs.Result.{IfErr}
+use Rattle.es_tree.specs.declared.error.Mode.{Mode}
+use Rattle.module_text.specs.ModuleText.{without_mark}
+use Rattle.deno_ast.specs.Source.{IsFault, Refuses}
+use Rattle.deno_ast.specs.Steps.{modes_in}
+use Rattle.deno_ast.proofs.FaultLemmas.{other_text_if}
+use Rattle.deno_ast.proofs.parsing.parse_program.Goals as goal
+
+-- the fault of the text without its mark, in the modes of the media type
+pub returns-clause-refused : goal.returns-clause-refused
+returns-clause-refused c =
+    subst (λ (ms : List Mode). IfErr c.parse_in.result
+    (Refuses (IsFault ms c.args.params (without_mark c.args.params.text)))) c.modes_of-modes.ensures
+    (other_text_if (modes_in c.modes_of-modes.result) c.args.params c.in_ok-without_bom.field-0
+    (without_mark c.args.params.text) c.parse_in.result c.in_ok-without_bom.ensures c.parse_in.ensures.refused)

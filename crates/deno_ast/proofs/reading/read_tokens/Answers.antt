@@ -1,0 +1,25 @@
+use Rattle.std.proofs.Common.{sym, subst, List, Err}
+use Rattle.es_token.specs.declared.token.Token.{Token}
+use Rattle.es_tree.specs.declared.error.SyntaxError.{SyntaxError}
+use Rattle.es_ast.specs.declared.ast.Program.{Program as Typed}
+use Rattle.es_parser.specs.Answers.{GivesTree}
+use Rattle.deno_ast.specs.Tree.{IsFirstTree}
+use Rattle.deno_ast.specs.Source.{lang_for}
+use Rattle.deno_ast.specs.Steps.{modes_in}
+use Rattle.deno_ast.proofs.FaultLemmas.{Refuses-weaker, syntax_refusal}
+use Rattle.deno_ast.proofs.reading.read_tokens.Goals as goal
+
+-- a refusal says that the tokens have no tree
+pub returns-in-Err-Syntax-clause-refused : goal.returns-in-Err-Syntax-clause-refused
+returns-in-Err-Syntax-clause-refused c =
+    let params = c.args.params.now in
+    let modes = modes_in c.args.modes in
+    let none = λ (tree : Typed) (is : IsFirstTree (lang_for params) params.text c.args.lexed.tokens modes tree).
+    subst (λ (e : SyntaxError). GivesTree (Err e) tree) c.in-Err-Syntax.field-0-is
+    (c.in-Err-Syntax.ensures.only tree
+    (subst (λ (ts : List Token). IsFirstTree (lang_for params) params.text ts modes tree) (sym c.as_slice.ensures)
+    is)) in
+    Refuses-weaker _ _
+    (λ d same. syntax_refusal modes params d c.range_at-range.result c.args.lexed.tokens
+    (c.args.lexed.comments, c.requires) none same)
+    c.fault_at.result c.fault_at.ensures

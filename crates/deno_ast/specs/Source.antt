@@ -1,0 +1,67 @@
+-- Parsed sources.
+use Rattle.std.specs.Prelude.{◌≡◌, ℕ, List, Option, Some, None}
+use Rattle.url.specs.Parts.{serialize}
+use Rattle.es_tree.specs.declared.error.Lang.{Lang}
+use Rattle.es_tree.specs.declared.error.Lang.TheVariants as lang
+use Rattle.es_tree.specs.declared.error.Mode.{Mode}
+use Rattle.es_ast.specs.declared.ast.Program.{Program}
+use Rattle.es_ast.specs.declared.ast.Program.TheVariants as program
+use Rattle.es_ast.specs.declared.ast.Module.{Module}
+use Rattle.es_ast.specs.declared.ast.Script.{Script}
+use Rattle.media_type.specs.declared.media_type.MediaType.{MediaType}
+use Rattle.parse_diagnostic.specs.declared.diagnostic.ParseFault.{ParseFault}
+use Rattle.parse_diagnostic.specs.declared.diagnostic.ParseFault.TheVariants.{Diagnostic, OutOfMemory}
+use Rattle.parse_diagnostic.specs.Diagnosis.{Diagnosis}
+use Rattle.deno_ast.specs.declared.syntax.Syntax.{Syntax}
+use Rattle.deno_ast.specs.declared.syntax.Syntax.TheVariants.{Es, Typescript}
+use Rattle.deno_ast.specs.declared.params.ParseParams.{ParseParams}
+use Rattle.deno_ast.specs.Tree.{language_of}
+use Rattle.deno_ast.specs.Read.{IsRead, IsRefused}
+use Rattle.deno_ast.specs.Parsed.{Parsed}
+
+-- the syntax that a language has
+abbrev pub lang_of : Syntax → Lang
+lang_of Es = lang.Es
+lang_of Typescript = lang.Typescript
+
+-- the language that was asked for, else that of the media type
+abbrev pub lang_in : Option Syntax → MediaType → Lang
+lang_in (Some syntax) media = lang_of syntax
+lang_in None media = language_of media
+
+abbrev pub lang_for : ParseParams → Lang
+lang_for params = lang_in params.maybe_syntax params.media_type
+
+-- a source of this text, read in one of these modes; P tells of the tree that was read and the tree that is kept
+pub record IsParsedWith (P : Program → Program → Type 0) (modes : List Mode) (params : ParseParams) (text : List ℕ)
+    (s : Parsed) : Type 0 where
+  pub specifier : s.specifier ≡ params.specifier
+  pub media_type : s.media_type ≡ params.media_type
+  pub text_is : s.text ≡ text
+  pub tree : Program
+  pub read : IsRead (lang_for params) modes params.media_type text tree s.references
+  pub kept : P tree s.tree
+
+-- the tree that was read is kept
+abbrev pub IsParsed : List Mode → ParseParams → List ℕ → Parsed → Type 0
+IsParsed modes params text s = IsParsedWith (λ tree kept. kept ≡ tree) modes params text s
+
+-- what is kept of a module is what P tells
+abbrev pub OfModule : (Module → Module → Type 0) → Program → Program → Type 0
+OfModule P (program.Module m) kept = (other : Module) × (kept ≡ program.Module other) × P m other
+OfModule P (program.Script s) kept = kept ≡ program.Script s
+
+-- what is kept of a script is what P tells
+abbrev pub OfScript : (Script → Script → Type 0) → Program → Program → Type 0
+OfScript P (program.Script s) kept = (other : Script) × (kept ≡ program.Script other) × P s other
+OfScript P (program.Module m) kept = kept ≡ program.Module m
+
+-- why a source of this text isn't read in any of these modes
+abbrev pub IsFault : List Mode → ParseParams → List ℕ → Diagnosis → Type 0
+IsFault modes params text d =
+    (d.specifier ≡ serialize params.specifier) × IsRefused (lang_for params) modes text d.kind d.range
+
+-- a refusal is such a fault, unless memory ran out
+abbrev pub Refuses : (Diagnosis → Type 0) → ParseFault → Type 0
+Refuses P (Diagnostic d) = P d
+Refuses P OutOfMemory = Unit {0}

@@ -1,0 +1,50 @@
+-- What the functions inside the crate promise each other.
+use Rattle.std.specs.Prelude.{ℕ, Bool, List, [], ◌∷◌, Option, Some, None, if◌then◌else◌}
+use Rattle.es_token.specs.declared.token.Token.{Token}
+use Rattle.es_lexer.specs.Reads.{Reads}
+use Rattle.es_tree.specs.declared.error.Mode.{Mode}
+use Rattle.es_tree.specs.declared.error.Mode.TheVariants as mode
+use Rattle.deno_ast.specs.declared.tree.Modes.{Modes}
+use Rattle.deno_ast.specs.declared.tree.Modes.TheVariants.{Only, ScriptFirst}
+use Rattle.deno_ast.specs.declared.params.ParseParams.{ParseParams}
+use Rattle.deno_ast.specs.declared.reading.Reading.{Reading}
+use Rattle.deno_ast.specs.Tree.{IsFirstTree}
+use Rattle.deno_ast.specs.Read.{references_in}
+use Rattle.deno_ast.specs.Parsed.{Parsed}
+use Rattle.deno_ast.specs.Source.{lang_for}
+
+-- the modes that are allowed, in their order
+abbrev pub modes_in : Modes → List Mode
+modes_in (Only m) = m ∷ []
+modes_in ScriptFirst = mode.Script ∷ mode.Module ∷ []
+
+-- the parameters with another text
+abbrev pub with_text : ParseParams → List ℕ → ParseParams
+with_text p text = record {
+  specifier = p.specifier;
+  text = text;
+  media_type = p.media_type;
+  capture_tokens = p.capture_tokens;
+  scope_analysis = p.scope_analysis;
+  maybe_syntax = p.maybe_syntax;
+}
+
+-- the text of the parameters was read so
+pub record IsReading (modes : List Mode) (params : ParseParams) (r : Reading) : Type 0 where
+  pub reads : Reads params.text r.tokens r.comments
+  pub is_tree : IsFirstTree (lang_for params) params.text r.tokens modes r.program
+
+-- the tokens that are kept
+abbrev pub captured : Bool → List Token → Option (List Token)
+captured capture tokens = if capture then Some tokens else None
+
+-- the source of what was read
+abbrev pub parsed_of : ParseParams → Reading → Parsed
+parsed_of p r = record {
+  specifier = p.specifier;
+  media_type = p.media_type;
+  text = p.text;
+  tree = r.program;
+  references = references_in p.media_type r.tokens r.comments;
+  tokens = captured p.capture_tokens r.tokens;
+}

@@ -1,0 +1,57 @@
+//! Parsed sources of JavaScript and TypeScript: what the crates above know of a source text.
+//!
+//! - `parse_program(params)`, `parse_module`, `parse_script`, and their forms with a closure that changes the tree: the
+//!   source of a text (`IsParsed`, `specs/Source.antt`), or the fault for which there is none (`IsFault`). Both ways.
+//! - `ParsedSource`: what a source keeps (`Parsed`, `specs/Parsed.antt`); `sites`: where it names others.
+//! - `lex(source)`: the tokens and comments of a text by their places (`AreByPlace`, `specs/Lexing.antt`).
+//! - For the crates above: a text of a media type has sites (`HasSites`, `specs/Read.antt`), or it is faulty
+//!   (`IsFaulty`), one list or one fault at most, and never both; each site cuts its value (`proofs/Theorems.antt`).
+//!
+//! It hands on `media_type`, `source_text`, `text_changes`, `es_comments`, `parse_diagnostic`, `module_text`, and the
+//! sites of `es_walk`. Not promised: where comments stand, the range of a `Syntax` fault, and when memory runs out.
+#![tactic(auto)]
+
+mod lexing;
+mod module_kind;
+mod params;
+mod parsing;
+mod program_ref;
+mod reading;
+mod source;
+mod syntax;
+mod tree;
+
+pub use crate::lexing::{LexedItem, TokenOrComment, lex};
+pub use crate::module_kind::ModuleKind;
+pub use crate::params::ParseParams;
+pub use crate::parsing::{
+    parse_module, parse_module_with_post_process, parse_program, parse_program_with_post_process,
+    parse_script, parse_script_with_post_process, parse_text,
+};
+pub use crate::program_ref::{Body, ModuleItemRef, ProgramRef};
+pub use crate::source::ParsedSource;
+pub use crate::syntax::{Syntax, get_syntax};
+pub use crate::tree::tree_of;
+pub use base::{Items, Range, SharedText, Text};
+pub use es_comments::{CommentMap, CommentsIter, MultiThreadedComments, SingleThreadedComments};
+pub use es_lexer::{LexError, LexicalError, LexicalKind};
+pub use es_literal::quote;
+pub use es_token::{Comment, CommentKind, Token, TokenKind};
+pub use es_walk::{Attribute, DependencyKind, Site};
+pub use media_type::MediaType;
+pub use module_text::{strip_bom, without_mark};
+pub use parse_diagnostic::{ParseDiagnostic, ParseDiagnosticsError, ParseFault, SyntaxErrorKind};
+pub use source_text::{LineAndColumnDisplay, SourceTextInfo};
+pub use text_changes::{TextChange, TextChangeError, apply_text_changes};
+pub use url::Url as ModuleSpecifier;
+
+/// The version of the original whose names and behaviour these calls have.
+pub const VERSION: &str = "0.53.3";
+
+/// An edition of ECMA-262.
+#[derive(Clone, Copy, Debug, PartialEq, Eq, PartialOrd, Ord, Hash)]
+pub enum EsVersion {
+    Es2021,
+}
+
+pub const ES_VERSION: EsVersion = EsVersion::Es2021;

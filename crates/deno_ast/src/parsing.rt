@@ -1,0 +1,180 @@
+//! The calls that parse.
+ghost use Rattle.std.specs.Prelude.{◌≡◌, false, [], ◌∷◌, IfOk};
+ghost use Rattle.std.specs.Result.{IfErr};
+ghost use Rattle.es_tree.specs.declared.error.Mode.TheVariants as mode;
+ghost use Rattle.module_text.specs.ModuleText.{without_mark};
+ghost use Rattle.deno_ast.specs.Tree as tree;
+ghost use Rattle.deno_ast.specs.Source.{IsParsed, IsParsedWith, IsFault, OfModule, OfScript, Refuses};
+ghost use Rattle.deno_ast.specs.Steps.{modes_in};
+
+use crate::params::{ParseParams, without_bom};
+use crate::reading::{Reading, read_in};
+use crate::source::{ParsedSource, source_of};
+use crate::tree::{Modes, modes_of};
+use base::{Items, Range};
+use es_ast::{Module, Program, Script};
+use es_tree::Mode;
+use parse_diagnostic::ParseFault;
+use std::alloc::Global;
+use std::mem;
+
+/// The source of a text, less one byte order mark at its front, read in the first of the modes of its media type in
+/// which it is a program: as a script alone for `Cjs`, as a module alone for `Cts`, `Mjs` and `Mts`, else as a script
+/// or, where it is none, as a module.
+pub fn parse_program(alloc: Global, params: ParseParams) -> Result<ParsedSource, ParseFault>
+    requires unscoped { params.scope_analysis ≡ false }
+    // What is answered is the source.
+    ensures parsed { IfOk result (IsParsed (tree.modes_of params.media_type) params (without_mark params.text)) }
+    // A refusal, but for memory, is the fault of the text.
+    ensures refused { IfErr result (Refuses
+        (IsFault (tree.modes_of params.media_type) params (without_mark params.text))) }
+{
+    let modes = modes_of(params.media_type);
+    parse_in(alloc, without_bom(alloc, params)?, modes)
+}
+
+/// The same of a text as it stands, which has no byte order mark.
+pub fn parse_text(alloc: Global, params: ParseParams) -> Result<ParsedSource, ParseFault>
+    requires unscoped { params.scope_analysis ≡ false }
+    ensures parsed { IfOk result (IsParsed (tree.modes_of params.media_type) params params.text) }
+    ensures refused { IfErr result (Refuses (IsFault (tree.modes_of params.media_type) params params.text)) }
+{
+    let modes = modes_of(params.media_type);
+    parse_in(alloc, params, modes)
+}
+
+/// The same as `parse_program`, read as a module alone.
+pub fn parse_module(alloc: Global, params: ParseParams) -> Result<ParsedSource, ParseFault>
+    requires unscoped { params.scope_analysis ≡ false }
+    ensures parsed { IfOk result (IsParsed (mode.Module ∷ []) params (without_mark params.text)) }
+    ensures refused { IfErr result (Refuses (IsFault (mode.Module ∷ []) params (without_mark params.text))) }
+{
+    parse_in(
+        alloc,
+        without_bom(alloc, params)?,
+        Modes::Only(Mode::Module),
+    )
+}
+
+/// The same as `parse_program`, read as a script alone.
+pub fn parse_script(alloc: Global, params: ParseParams) -> Result<ParsedSource, ParseFault>
+    requires unscoped { params.scope_analysis ≡ false }
+    ensures parsed { IfOk result (IsParsed (mode.Script ∷ []) params (without_mark params.text)) }
+    ensures refused { IfErr result (Refuses (IsFault (mode.Script ∷ []) params (without_mark params.text))) }
+{
+    parse_in(
+        alloc,
+        without_bom(alloc, params)?,
+        Modes::Only(Mode::Script),
+    )
+}
+
+fn parse_in(alloc: Global, params: ParseParams, modes: Modes) -> Result<ParsedSource, ParseFault>
+    ensures parsed { IfOk result (IsParsed (modes_in modes) params params.text) }
+    ensures refused { IfErr result (Refuses (IsFault (modes_in modes) params params.text)) }
+{
+    let reading = read_in(alloc, &params, modes)?;
+    Ok(source_of(alloc, params, reading)?)
+}
+
+/// As `parse_program`; the source keeps what `post_process` makes of the tree.
+pub fn parse_program_with_post_process<F: FnOnce(Program) -> Program>(
+    alloc: Global,
+    params: ParseParams,
+    post_process: F,
+) -> Result<ParsedSource, ParseFault>
+    requires unscoped { params.scope_analysis ≡ false }
+    requires callable { F.IsAlwaysCallable post_process }
+    ensures parsed { IfOk result (IsParsedWith (F.post post_process)
+        (tree.modes_of params.media_type) params (without_mark params.text)) }
+    ensures refused { IfErr result (Refuses
+        (IsFault (tree.modes_of params.media_type) params (without_mark params.text))) }
+{
+    let modes = modes_of(params.media_type);
+    let params = without_bom(alloc, params)?;
+    let Reading {
+        program,
+        tokens,
+        comments,
+    } = read_in(alloc, &params, modes)?;
+    let reading = Reading {
+        program: post_process(program),
+        tokens,
+        comments,
+    };
+    Ok(source_of(alloc, params, reading)?)
+}
+
+/// As `parse_module`; the source keeps what `post_process` makes of the module.
+pub fn parse_module_with_post_process<F: FnOnce(Module) -> Module>(
+    alloc: Global,
+    params: ParseParams,
+    post_process: F,
+) -> Result<ParsedSource, ParseFault>
+    requires unscoped { params.scope_analysis ≡ false }
+    requires callable { F.IsAlwaysCallable post_process }
+    ensures parsed { IfOk result (IsParsedWith (OfModule (F.post post_process))
+        (mode.Module ∷ []) params (without_mark params.text)) }
+    ensures refused { IfErr result (Refuses (IsFault (mode.Module ∷ []) params (without_mark params.text))) }
+{
+    let params = without_bom(alloc, params)?;
+    let mut reading = read_in(alloc, &params, Modes::Only(Mode::Module))?;
+    change_module(alloc, &mut reading.program, post_process);
+    Ok(source_of(alloc, params, reading)?)
+}
+
+/// As `parse_script`; the source keeps what `post_process` makes of the script.
+pub fn parse_script_with_post_process<F: FnOnce(Script) -> Script>(
+    alloc: Global,
+    params: ParseParams,
+    post_process: F,
+) -> Result<ParsedSource, ParseFault>
+    requires unscoped { params.scope_analysis ≡ false }
+    requires callable { F.IsAlwaysCallable post_process }
+    ensures parsed { IfOk result (IsParsedWith (OfScript (F.post post_process))
+        (mode.Script ∷ []) params (without_mark params.text)) }
+    ensures refused { IfErr result (Refuses (IsFault (mode.Script ∷ []) params (without_mark params.text))) }
+{
+    let params = without_bom(alloc, params)?;
+    let mut reading = read_in(alloc, &params, Modes::Only(Mode::Script))?;
+    change_script(alloc, &mut reading.program, post_process);
+    Ok(source_of(alloc, params, reading)?)
+}
+
+// Replaces the module by what is made of it.
+fn change_module<F: FnOnce(Module) -> Module>(alloc: Global, program: &mut Program, post_process: F)
+    requires { F.IsAlwaysCallable post_process }
+    ensures { OfModule (F.post post_process) program.old program.new }
+{
+    if let Program::Module(module) = program {
+        let taken = mem::replace(module, no_module(alloc));
+        *module = post_process(taken);
+    }
+}
+
+fn no_module(alloc: Global) -> Module {
+    Module {
+        shebang: None,
+        body: Items::new(alloc),
+        span: Range { start: 0, end: 0 },
+    }
+}
+
+// Replaces the script by what is made of it.
+fn change_script<F: FnOnce(Script) -> Script>(alloc: Global, program: &mut Program, post_process: F)
+    requires { F.IsAlwaysCallable post_process }
+    ensures { OfScript (F.post post_process) program.old program.new }
+{
+    if let Program::Script(script) = program {
+        let taken = mem::replace(script, no_script(alloc));
+        *script = post_process(taken);
+    }
+}
+
+fn no_script(alloc: Global) -> Script {
+    Script {
+        shebang: None,
+        body: Items::new(alloc),
+        span: Range { start: 0, end: 0 },
+    }
+}

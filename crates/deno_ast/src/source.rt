@@ -1,0 +1,308 @@
+//! Parsed sources.
+ghost use Rattle.std.specs.Prelude.{◌≡◌, ◌≢◌, ◌++◌, None, Some, false, not, length, IfOk};
+ghost use Rattle.std.specs.Arc.{arc_value};
+ghost use Rattle.deno_ast.specs.Refs.{tree_of};
+ghost use Rattle.deno_ast.specs.Parsed as spec;
+ghost use Rattle.deno_ast.specs.Read.{references_in as refers};
+ghost use Rattle.deno_ast.specs.Steps.{parsed_of, captured as kept};
+
+use crate::params::ParseParams;
+use crate::program_ref::ProgramRef;
+use crate::reading::Reading;
+use base::{Items, Range, SharedText};
+use es_ast::Program;
+use es_comments::{MultiThreadedComments, comments_of};
+use es_references::references;
+use es_token::{Comment, Token, TokenKind};
+use es_walk::{Site, sites};
+use media_type::MediaType;
+use source_text::SourceTextInfo;
+use std::alloc::{AllocError, Global};
+use std::marker::Model;
+use std::sync::Arc;
+use url::Url;
+
+/// A source that was parsed: its text, its tree and its comments. Its copies share all of them.
+#[derive(Drop)]
+pub struct ParsedSource {
+    inner: Arc<Source>,
+}
+
+/// What the copies share.
+#[derive(Drop)]
+pub struct Source {
+    specifier: Url,
+    media_type: MediaType,
+    text: SharedText,
+    info: SourceTextInfo,
+    program: Arc<Program>,
+    references: Items<Site>,
+    comments: MultiThreadedComments,
+    front: Front,
+    tokens: Option<Items<Token>>,
+}
+
+// Where the leading comments of the program stand.
+#[derive(Clone, Copy)]
+enum Front {
+    // Before the first item.
+    Before(usize),
+    // Behind the shebang, where no item follows.
+    Behind(usize),
+}
+
+impl Model for ParsedSource {
+    ghost use Rattle.std.specs.Prelude.{◌≡◌};
+    ghost use Rattle.std.specs.Arc.{arc_value};
+    ghost use Rattle.std.specs.Coded.{codes};
+    ghost use Rattle.es_ast.specs.contracts.ast.ModuleItem as module_item;
+    ghost use Rattle.es_ast.specs.contracts.ast.Stmt as stmt;
+    ghost use Rattle.deno_ast.specs.Parsed.{Parsed};
+    ghost use Rattle.deno_ast.specs.Kept.{parsed};
+
+    ghost Value = { Parsed };
+
+    ghost coded = { Prim.hlevel (codes, module_item.the_row.coded, stmt.the_row.coded) };
+
+    ghost view = { λ s. parsed (arc_value s.inner) };
+
+    ghost invariant = { λ s. (arc_value s.inner).info ≡ (arc_value s.inner).text };
+}
+
+impl ParsedSource {
+    pub fn specifier(&self) -> &Url
+        ensures { result.now ≡ self.now.specifier }
+    {
+        &self.inner.specifier
+    }
+
+    pub fn media_type(&self) -> MediaType
+        ensures { result ≡ self.now.media_type }
+    {
+        self.inner.media_type
+    }
+
+    /// The text without a byte order mark: places count from its start.
+    pub fn text(&self) -> &SharedText
+        ensures { result.now ≡ self.now.text }
+    {
+        &self.inner.text
+    }
+
+    pub fn text_info_lazy(&self) -> &SourceTextInfo
+        ensures { result.now ≡ self.now.text }
+    {
+        &self.inner.info
+    }
+
+    pub fn range(&self) -> Range
+        ensures start { result.start ≡ 0 }
+        ensures end { result.end ≡ length self.now.text }
+    {
+        Range {
+            start: self.start(),
+            end: self.end(),
+        }
+    }
+
+    pub fn start(&self) -> usize
+        ensures { result ≡ 0 }
+    {
+        0
+    }
+
+    pub fn end(&self) -> usize
+        ensures { result ≡ length self.now.text }
+    {
+        self.inner.text.len()
+    }
+
+    pub fn program_ref(&self) -> ProgramRef<'_>
+        ensures { tree_of result ≡ self.now.tree }
+    {
+        ProgramRef::of(&self.inner.program)
+    }
+
+    /// The tree, which is shared.
+    pub fn program(&self) -> Result<Arc<Program>, AllocError>
+        ensures { IfOk result (λ program. arc_value program ≡ self.now.tree) }
+    {
+        self.inner.program.clone()
+    }
+
+    pub fn comments(&self) -> &MultiThreadedComments {
+        &self.inner.comments
+    }
+
+    /// The comments before the first item; with no item, those behind the shebang, or those of a text without tokens.
+    pub fn get_leading_comments(&self) -> Option<&Vec<Comment>> {
+        match self.inner.front {
+            Front::Before(place) => self.inner.comments.get_leading(place),
+            Front::Behind(place) => self.inner.comments.get_trailing(place),
+        }
+    }
+
+    /// The tokens, where they were asked for.
+    pub fn tokens(&self) -> &[Token]
+        requires { self.now.tokens ≢ None }
+        ensures { Some result.now ≡ self.now.tokens }
+    {
+        match &self.inner.tokens {
+            Some(tokens) => tokens.as_slice(),
+            None => unreachable!(),
+        }
+    }
+
+    /// There are no scopes yet.
+    pub fn has_scope_analysis(&self) -> bool
+        ensures { result ≡ false }
+    {
+        false
+    }
+
+    pub fn is_module(&self) -> bool
+        ensures { result ≡ not (spec.is_script self.now.tree) }
+    {
+        !self.is_script()
+    }
+
+    pub fn is_script(&self) -> bool
+        ensures { result ≡ spec.is_script self.now.tree }
+    {
+        matches!(&*self.inner.program, Program::Script(_))
+    }
+
+    /// Whether the source is one of CommonJS: `is_script`, but for typed sources what their items say.
+    pub fn compute_is_script(&self) -> bool
+        ensures { result ≡ spec.computed_is_script self.now }
+    {
+        if self.inner.media_type.is_typed() {
+            self.program_ref().compute_is_script()
+        } else {
+            self.is_script()
+        }
+    }
+
+    /// The places where the source names another: reference comments come first, then those of the tree.
+    pub fn sites(&self, alloc: Global) -> Result<Items<Site>, AllocError>
+        ensures { IfOk result (λ found. found ≡ spec.parsed_sites self.now) }
+    {
+        let found = copy_sites(alloc, self.inner.references.as_slice())?;
+        with_sites(found, sites(alloc, &self.inner.program)?)
+    }
+
+    /// One more reference to the same source.
+    pub fn copy(&self) -> Result<ParsedSource, AllocError>
+        ensures { IfOk result (λ copy. copy ≡ self.now) }
+    {
+        Ok(ParsedSource {
+            inner: self.inner.clone()?,
+        })
+    }
+}
+
+fn copy_sites(alloc: Global, found: &[Site]) -> Result<Items<Site>, AllocError>
+    ensures { IfOk result (λ copy. copy ≡ found.now) }
+{
+    let mut copy = Items::new(alloc);
+    for site in found {
+        copy.push(copy_site(site)?)?;
+    }
+    Ok(copy)
+}
+
+fn copy_site(site: &Site) -> Result<Site, AllocError>
+    ensures { IfOk result (λ copy. copy ≡ site.now) }
+{
+    Ok(Site {
+        kind: site.kind,
+        type_only: site.type_only,
+        range: site.range,
+        value: site.value.copy()?,
+        attribute: site.attribute.copy()?,
+    })
+}
+
+fn with_sites(found: Items<Site>, more: Items<Site>) -> Result<Items<Site>, AllocError>
+    ensures { IfOk result (λ all. all ≡ found ++ more) }
+{
+    let mut all = found;
+    for site in more.into_vec() {
+        all.push(site)?;
+    }
+    Ok(all)
+}
+
+/// The source of what was read.
+pub fn source_of(
+    alloc: Global,
+    params: ParseParams,
+    reading: Reading,
+) -> Result<ParsedSource, AllocError>
+    ensures { IfOk result (λ s. s ≡ parsed_of params reading) }
+{
+    let Reading {
+        program,
+        tokens,
+        comments,
+    } = reading;
+    let references = references_in(alloc, params.media_type, &tokens, &comments)?;
+    let comments = shared_comments(alloc, params.text.as_str(), &tokens, &comments)?;
+    let source = Source {
+        info: SourceTextInfo::new(alloc, params.text.copy()?)?,
+        specifier: params.specifier,
+        media_type: params.media_type,
+        text: params.text,
+        program: Arc::new(alloc, program)?,
+        references,
+        comments,
+        front: front_of(tokens.as_slice()),
+        tokens: captured(params.capture_tokens, tokens),
+    };
+    Ok(ParsedSource {
+        inner: Arc::new(alloc, source)?,
+    })
+}
+
+// Comments of typed sources alone refer.
+fn references_in(
+    alloc: Global,
+    media_type: MediaType,
+    tokens: &Items<Token>,
+    comments: &Items<Comment>,
+) -> Result<Items<Site>, AllocError>
+    ensures { IfOk result (λ found. found ≡ refers media_type tokens.now comments.now) }
+{
+    if media_type.is_typed() {
+        references(alloc, tokens.as_slice(), comments.as_slice())
+    } else {
+        Ok(Items::new(alloc))
+    }
+}
+
+fn shared_comments(
+    alloc: Global,
+    text: &str,
+    tokens: &Items<Token>,
+    comments: &Items<Comment>,
+) -> Result<MultiThreadedComments, AllocError> {
+    let placed = comments_of(alloc, text, tokens.as_slice(), comments.as_slice())?;
+    MultiThreadedComments::from_single_threaded(alloc, placed)
+}
+
+fn front_of(tokens: &[Token]) -> Front {
+    match tokens {
+        [] => Front::Before(0),
+        [first] if first.kind == TokenKind::Shebang => Front::Behind(first.range.end),
+        [first, second, ..] if first.kind == TokenKind::Shebang => {
+            Front::Before(second.range.start)
+        }
+        [first, ..] => Front::Before(first.range.start),
+    }
+}
+
+fn captured(capture: bool, tokens: Items<Token>) -> Option<Items<Token>>
+    ensures { result ≡ kept capture tokens }
+{
+    if capture { Some(tokens) } else { None }
+}

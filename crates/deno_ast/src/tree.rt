@@ -1,0 +1,104 @@
+//! The tree of a source.
+ghost use Rattle.std.specs.Prelude.{◌≡◌, IfOk, [], ◌∷◌, List};
+ghost use Rattle.es_tree.specs.declared.error.Mode.TheVariants as mode;
+ghost use Rattle.es_lexer.specs.Reads.{ReadsTokens};
+ghost use Rattle.es_ast.specs.declared.ast.Program.{Program as Typed};
+ghost use Rattle.es_parser.specs.Answers.{GivesTree};
+ghost use Rattle.deno_ast.specs.Tree.{modes_of, IsFirstTree, IsTree};
+ghost use Rattle.deno_ast.specs.Steps.{modes_in};
+
+use crate::syntax::lang_in;
+use es_ast::Program;
+use es_parser::parse_tokens;
+use es_token::Token;
+use es_tree::{Lang, Mode, SyntaxError};
+use media_type::MediaType;
+use std::alloc::Global;
+
+/// The modes that a media type allows.
+#[derive(Clone, Copy)]
+pub enum Modes {
+    Only(Mode),
+    ScriptFirst,
+}
+
+/// The tree of a source of this media type with these tokens.
+pub fn tree_of(
+    alloc: Global,
+    media_type: MediaType,
+    text: &str,
+    tokens: &[Token],
+) -> Result<Program, SyntaxError>
+    requires { ReadsTokens text.now tokens.now }
+    ensures made { IfOk result (IsTree media_type text.now tokens.now) }
+    ensures only { (tree : Typed) → IsTree media_type text.now tokens.now tree → GivesTree result tree }
+{
+    let lang = lang_in(None, media_type);
+    tree_in(alloc, lang, modes_of(media_type), text, tokens)
+}
+
+/// The modes in which a source of this media type may be read.
+pub fn modes_of(media_type: MediaType) -> Modes
+    ensures { modes_in result ≡ modes_of media_type }
+{
+    match media_type {
+        MediaType::Cjs => Modes::Only(Mode::Script),
+        MediaType::Cts | MediaType::Mjs | MediaType::Mts => Modes::Only(Mode::Module),
+        _ => Modes::ScriptFirst,
+    }
+}
+
+/// The tree of a text with these tokens, in the first of these modes that derives one.
+pub fn tree_in(
+    alloc: Global,
+    lang: Lang,
+    modes: Modes,
+    text: &str,
+    tokens: &[Token],
+) -> Result<Program, SyntaxError>
+    requires { ReadsTokens text.now tokens.now }
+    // What is answered is the tree.
+    ensures made { IfOk result (IsFirstTree lang text.now tokens.now (modes_in modes)) }
+    // The tree is answered, unless memory runs out.
+    ensures only { (tree : Typed) → IsFirstTree lang text.now tokens.now (modes_in modes) tree → GivesTree result tree }
+{
+    match modes {
+        Modes::Only(mode) => parse_only(alloc, lang, mode, text, tokens),
+        Modes::ScriptFirst => parse_either(alloc, lang, text, tokens),
+    }
+}
+
+fn parse_only(
+    alloc: Global,
+    lang: Lang,
+    mode: Mode,
+    text: &str,
+    tokens: &[Token],
+) -> Result<Program, SyntaxError>
+    requires { ReadsTokens text.now tokens.now }
+    ensures made { IfOk result (IsFirstTree lang text.now tokens.now (mode ∷ [])) }
+    ensures only { (tree : Typed) → IsFirstTree lang text.now tokens.now (mode ∷ []) tree → GivesTree result tree }
+{
+    parse_tokens(alloc, lang, mode, text, tokens)
+}
+
+/// As a script, and where it is none as a module.
+fn parse_either(
+    alloc: Global,
+    lang: Lang,
+    text: &str,
+    tokens: &[Token],
+) -> Result<Program, SyntaxError>
+    requires { ReadsTokens text.now tokens.now }
+    ensures made { IfOk result (IsFirstTree lang text.now tokens.now (mode.Script ∷ mode.Module ∷ [])) }
+    ensures only { (tree : Typed) → IsFirstTree lang text.now tokens.now (mode.Script ∷ mode.Module ∷ []) tree
+        → GivesTree result tree }
+{
+    match parse_tokens(alloc, lang, Mode::Script, text, tokens) {
+        Ok(program) => Ok(program),
+        Err(SyntaxError::Syntax { token: _ }) => {
+            parse_tokens(alloc, lang, Mode::Module, text, tokens)
+        }
+        Err(SyntaxError::OutOfMemory) => Err(SyntaxError::OutOfMemory),
+    }
+}
