@@ -371,7 +371,8 @@ orderly_last rules starts0 before [] s a h = rw append-nil h.0
 orderly_last rules starts0 before (x ∷ log) s a h =
     rw (sym (append_assoc before (x ∷ []) log)) (orderly_last rules starts0 (before ++ x ∷ []) log s a h.1)
 
-pub unawaited_none : (rules : Rules) {L W : Type 0} (old new : BuildingBy L W) (s : Specifier) → IsUnawaited rules 1 old new s
+pub unawaited_none : (rules : Rules) {L W : Type 0} (old new : BuildingBy L W) (s : Specifier)
+    → IsUnawaited rules 1 old new s
     → IsOrderly rules (starts old) new.log → ⊥
 unawaited_none rules old new s u h = by u.unawaited
   where

@@ -198,11 +198,15 @@ settled_by means f firsts entry.External = refl
 settled_by means f firsts (entry.Error e) = refl
 
 each_by : (means : Means) (f : Following) (firsts rest : List (Parts × Entry))
-    → map (λ (e : Parts × Entry). (e.0, settled (rules_of f) firsts e.1)) rest
+    → map {B = Parts × Entry} (λ (e : Parts × Entry). (e.0, settled (rules_of f) firsts e.1)) rest
     ≡ map (λ (e : Parts × Entry). (e.0, settled (rules_by means f) firsts e.1)) rest
 each_by means f firsts [] = refl
 each_by means f firsts (e ∷ rest) =
-    rw (settled_by means f firsts e.1, each_by means f firsts rest) refl
+    ap (λ (x : Entry). (e.0, x)
+    ∷ map {B = Parts × Entry} (λ (r : Parts × Entry). (r.0, settled (rules_of f) firsts r.1)) rest)
+    (settled_by means f firsts e.1)
+    ∙ ap (λ (rs : List (Parts × Entry)). (e.0, settled (rules_by means f) firsts e.1) ∷ rs)
+    (each_by means f firsts rest)
 
 pub finals_by : (means : Means) (f : Following) (firsts : List (Parts × Entry))
     → finals_of (rules_of f) firsts ≡ finals_of (rules_by means f) firsts

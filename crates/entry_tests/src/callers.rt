@@ -20,12 +20,7 @@ struct Nowhere;
 impl Resolver for Nowhere {
     ghost resolving = { λ _ text referrer. Err (fault.Refused text) };
 
-    fn resolve(
-        &self,
-        alloc: Global,
-        specifier: &str,
-        referrer: &Url,
-    ) -> Result<Url, ResolveFault> {
+    fn resolve(&self, alloc: Global, specifier: &str, referrer: &Url) -> Result<Url, ResolveFault> {
         let _ = referrer;
         match Text::from_str(alloc, specifier) {
             Ok(text) => Err(ResolveFault::Refused(text)),
@@ -87,9 +82,15 @@ fn modules_by_callers(rt: HostRuntime) {
     let alloc = rt.alloc();
     let none: Option<&DefaultResolver> = None;
     let line = parsed(&rt, alloc, none, &ParserModuleAnalyzer);
-    assert_eq!(rt; line.as_str(), "TypeScript 16; import 7-15 ./b.ts -> file:///b.ts");
+    assert_eq!(rt;
+        line.as_str(),
+        "TypeScript 16; import 7-15 ./b.ts -> file:///b.ts"
+    );
     let line = parsed(&rt, alloc, Some(&Nowhere), &ParserModuleAnalyzer);
-    assert_eq!(rt; line.as_str(), "TypeScript 16; import 7-15 ./b.ts ! Refused");
+    assert_eq!(rt;
+        line.as_str(),
+        "TypeScript 16; import 7-15 ./b.ts ! Refused"
+    );
     let line = parsed(&rt, alloc, none, &Blind);
     assert_eq!(rt; line.as_str(), "TypeScript 16");
 }

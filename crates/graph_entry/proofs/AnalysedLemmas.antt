@@ -28,11 +28,13 @@ use Rattle.graph_entry.proofs.ContentLemmas.{OfJson-once, OfWasm-once}
 
 module _ (ways : Ways) (reads_once : IsFunction ways.reads) (s : List ℕ) (media : MediaType) where
   -- a text
-  pub OfText-once : (text : List ℕ) (made other : Entry) → OfText ways s media text made → OfText ways s media text other
+  pub OfText-once : (text : List ℕ) (made other : Entry) → OfText ways s media text made
+      → OfText ways s media text other
       → made ≡ other
   OfText-once text made other makes also =
       makes.is
-      ∙ ap (source_entry ways.resolves s media text) (reads_once s media text makes.sites also.sites makes.read also.read)
+      ∙ ap (source_entry ways.resolves s media text)
+      (reads_once s media text makes.sites also.sites makes.read also.read)
       ∙ sym also.is
 
   -- bytes

@@ -73,7 +73,8 @@ imports-CutsName by s bytes deps reads = along deps.imports (cuts_names true byt
         → All (λ i. CutsName bytes (wasm_dependency by s i)) is
     along [] cuts = All-nil (λ i. CutsName bytes (wasm_dependency by s i))
     along (i ∷ is) cuts =
-        All-cons (λ i. CutsName bytes (wasm_dependency by s i)) i is (i.module_range, refl, cuts.0.0, cuts.0.1, cuts.0.2)
+        All-cons (λ i. CutsName bytes (wasm_dependency by s i)) i is
+        (i.module_range, refl, cuts.0.0, cuts.0.1, cuts.0.2)
         (along is cuts.1)
 
 -- the edge of an import never keeps that room ran out

@@ -33,11 +33,13 @@ HoldsOfSites P ways s text =
     → All (λ site. P text (dependency_of ways.resolves s site)) sites
 
 module _ (P Q : List ℕ → Dependency → Type 0) (ways : Ways) (s : List ℕ)
-    (sites : (text : List ℕ) → HoldsOfSites P ways s text) (imports : (bytes : List ℕ) → HoldsOfImports Q ways.resolves s bytes)
+    (sites : (text : List ℕ) → HoldsOfSites P ways s text)
+    (imports : (bytes : List ℕ) → HoldsOfImports Q ways.resolves s bytes)
   where
     -- ---- level by level
 
-    OfText-edges : (media : MediaType) (text : List ℕ) (made : Entry) → OfText ways s media text made → EachEdge P Q made
+    OfText-edges : (media : MediaType) (text : List ℕ) (made : Entry) → OfText ways s media text made
+        → EachEdge P Q made
     OfText-edges media text made makes = subst (EachEdge P Q) (sym makes.is) (by makes.sites makes.read)
       where
         by : (found : Sites) → ways.reads s media text found

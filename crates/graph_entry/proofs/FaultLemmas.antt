@@ -51,7 +51,8 @@ OfWasm-fault : (by : Resolves) (s bytes : List ℕ) (made : Entry) → OfWasm by
 OfWasm-fault by s bytes made (with_imports deps reads is) = subst KeepsFault (sym is) tt
 OfWasm-fault by s bytes made (faulty e room reads is) = subst KeepsFault (sym is) (kept e room)
 
-by_kind-fault : (ways : Ways) (s : List ℕ) (media : MediaType) (bytes : List ℕ) (read : Option ModuleKind) (made : Entry)
+by_kind-fault : (ways : Ways) (s : List ℕ) (media : MediaType) (bytes : List ℕ) (read : Option ModuleKind)
+    (made : Entry)
     → MatchOption read (made ≡ unsupported media) (λ k. OfKind ways s media k bytes made) → KeepsFault made
 by_kind-fault ways s media bytes None made is = subst KeepsFault (sym is) tt
 by_kind-fault ways s media bytes (Some module_kind.Source) made makes =

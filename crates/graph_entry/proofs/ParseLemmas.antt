@@ -44,7 +44,8 @@ wasm-parsed : (by : Resolves) (s bytes : List ℕ) (made : Entry) → OfWasm by 
 wasm-parsed by s bytes made (with_imports deps reads is) = subst IsOfContent (sym is) tt
 wasm-parsed by s bytes made (faulty e room reads is) = subst IsOfContent (sym is) tt
 
-by_kind-parsed : (ways : Ways) (s : List ℕ) (media : MediaType) (bytes : List ℕ) (read : Option ModuleKind) (made : Entry)
+by_kind-parsed : (ways : Ways) (s : List ℕ) (media : MediaType) (bytes : List ℕ) (read : Option ModuleKind)
+    (made : Entry)
     → MatchOption read (made ≡ unsupported media) (λ k. OfKind ways s media k bytes made) → IsOfContent made
 by_kind-parsed ways s media bytes None made is = subst IsOfContent (sym is) tt
 by_kind-parsed ways s media bytes (Some module_kind.Source) made makes = bytes-parsed ways s media bytes made makes

@@ -15,6 +15,7 @@ settle_by-requires g c =
 pub new-requires-2 : goal.new-requires-2
 new-requires-2 g c =
     rw c.in_ok-entries.ensures
-    (ascending_finals (rules_by (g.W.Ways.means c.args.ways.now) (g.W.Ways.follows c.args.ways.now)) c.in_ok-firsts.firsts
+    (ascending_finals (rules_by (g.W.Ways.means c.args.ways.now) (g.W.Ways.follows c.args.ways.now))
+    c.in_ok-firsts.firsts
     (ascending_done c.args.reached.now.entries c.in_ok-firsts.firsts c.len-count.ensures.ordered
     (rw (← c.replace-taken.ensures.value) c.in_ok-firsts.ensures)))

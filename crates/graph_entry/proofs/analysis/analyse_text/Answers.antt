@@ -33,7 +33,8 @@ returns-in-Err-Parse g c =
     let reads = g.M.ModuleAnalyzer.reads c.args.analyzer.now in
     let d = c.in-Err-Parse.diagnostic in
     let same : c.in_ok-text.text ≡ c.args.text.now = c.in_ok-text.ensures in
-    let told = subst (λ (e : AnalyzeFault). IsAnalysis (reads s media c.in_ok-text.text) (Err e)) c.in-Err-Parse.field-0-is
+    let told = subst (λ (e : AnalyzeFault). IsAnalysis (reads s media c.in_ok-text.text) (Err e))
+    c.in-Err-Parse.field-0-is
     c.in-Err-Parse.ensures.analysed in
     record {
       sites = Err d;

@@ -8,4 +8,5 @@ use Rattle.graph_entry.proofs.referrer.edges_of.Given as goal
 abbrev pub invariant-loop-text : goal.invariant-loop-text
 invariant-loop-text g l =
     l.edges
-    ≡ map (referrer_edge (resolve_by (g.R.Resolver.resolving l.resolver)) (text_of l.referrer)) (take l.text-index l.texts)
+    ≡ map (referrer_edge (resolve_by (g.R.Resolver.resolving l.resolver)) (text_of l.referrer))
+    (take l.text-index l.texts)

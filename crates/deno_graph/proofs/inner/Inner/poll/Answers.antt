@@ -16,7 +16,9 @@ finish-requires g c =
 pub returns-in-Ok-finish-clause-graph : goal.returns-in-Ok-finish-clause-graph
 returns-in-Ok-finish-clause-graph g c =
     rw (← c.self.view_is)
-    (result_graph {rules = rules_by (g.W.Ways.means c.self.inside.following) (g.W.Ways.follows c.self.inside.following)} (g.met.W.Ways.once c.self.inside.following)
+    (result_graph {rules =
+    rules_by (g.W.Ways.means c.self.inside.following) (g.W.Ways.follows c.self.inside.following)}
+    (g.met.W.Ways.once c.self.inside.following)
     (at (g.L.Loader.seen c.self.inside.loader) c.self.inside.progress)
     (at (g.L.Loader.seen c.run.new.loader) c.run.new.self) c.run.new.self.reaching.reached.entries _
     c.in-Ok.ensures.runs c.run.ensures.goes refl
@@ -34,13 +36,16 @@ returns-in-Ok-finish-clause-limit g c =
 pub returns-in-Ok-finish-clause-asked : goal.returns-in-Ok-finish-clause-asked
 returns-in-Ok-finish-clause-asked g c =
     rw (← c.self.view_is)
-    (result_asked {rules = rules_by (g.W.Ways.means c.self.inside.following) (g.W.Ways.follows c.self.inside.following)} (g.met.W.Ways.once c.self.inside.following)
+    (result_asked {rules =
+    rules_by (g.W.Ways.means c.self.inside.following) (g.W.Ways.follows c.self.inside.following)}
+    (g.met.W.Ways.once c.self.inside.following)
     (at (g.L.Loader.seen c.self.inside.loader) c.self.inside.progress)
     (at (g.L.Loader.seen c.run.new.loader) c.run.new.self) c.in-Ok.ensures.runs c.run.ensures.goes)
 
 pub returns-in-Ok-finish-clause-answered : goal.returns-in-Ok-finish-clause-answered
 returns-in-Ok-finish-clause-answered g c =
-    answered_now (rules_by (g.W.Ways.means c.self.inside.following) (g.W.Ways.follows c.self.inside.following)) (at (g.L.Loader.seen c.run.new.loader) c.run.new.self)
+    answered_now (rules_by (g.W.Ways.means c.self.inside.following) (g.W.Ways.follows c.self.inside.following))
+    (at (g.L.Loader.seen c.run.new.loader) c.run.new.self)
     c.in-Ok.ensures.runs.live c.in-Ok.ensures.runs.all_taken
 
 -- ---- why there is none
@@ -48,7 +53,9 @@ returns-in-Ok-finish-clause-answered g c =
 pub returns-in-Err-NotYet-clause-not_yet : goal.returns-in-Err-NotYet-clause-not_yet
 returns-in-Err-NotYet-clause-not_yet g c = λ same.
     rw (← c.self.view_is)
-    (result_not_yet {rules = rules_by (g.W.Ways.means c.self.inside.following) (g.W.Ways.follows c.self.inside.following)} (g.met.W.Ways.once c.self.inside.following) _ _
+    (result_not_yet {rules =
+    rules_by (g.W.Ways.means c.self.inside.following) (g.W.Ways.follows c.self.inside.following)}
+    (g.met.W.Ways.once c.self.inside.following) _ _
     c.self.inside.following c.self.inside.roots c.self.inside.imports
     (at (g.L.Loader.seen c.self.inside.loader) c.self.inside.progress)
     (at (g.L.Loader.seen c.run.new.loader) c.run.new.self) _ _
@@ -64,7 +71,9 @@ returns-in-Err-TooManyModules-clause-complete g c = λ live within orderly still
 pub returns-in-Err-UnaskedAnswer-clause-unasked : goal.returns-in-Err-UnaskedAnswer-clause-unasked
 returns-in-Err-UnaskedAnswer-clause-unasked g c = λ s same.
     rw (← unasked_same c.in-Err-UnaskedAnswer.specifier s same, ← c.self.view_is)
-    (result_unasked {rules = rules_by (g.W.Ways.means c.self.inside.following) (g.W.Ways.follows c.self.inside.following)} (g.met.W.Ways.once c.self.inside.following) _ c.run.new.loader
+    (result_unasked {rules =
+    rules_by (g.W.Ways.means c.self.inside.following) (g.W.Ways.follows c.self.inside.following)}
+    (g.met.W.Ways.once c.self.inside.following) _ c.run.new.loader
     c.self.inside.following c.self.inside.roots c.self.inside.imports
     (at (g.L.Loader.seen c.self.inside.loader) c.self.inside.progress)
     (at (g.L.Loader.seen c.run.new.loader) c.run.new.self) _ true (text_of c.in-Err-UnaskedAnswer.specifier)
@@ -72,13 +81,16 @@ returns-in-Err-UnaskedAnswer-clause-unasked g c = λ s same.
 
 pub returns-in-Err-UnaskedAnswer-clause-complete : goal.returns-in-Err-UnaskedAnswer-clause-complete
 returns-in-Err-UnaskedAnswer-clause-complete g c = λ live within orderly still.
-    absurd (unawaited_none (rules_by (g.W.Ways.means c.self.inside.following) (g.W.Ways.follows c.self.inside.following))
+    absurd (unawaited_none
+    (rules_by (g.W.Ways.means c.self.inside.following) (g.W.Ways.follows c.self.inside.following))
     (seen_of c.self.inside.loader c.self.inside.following c.self.inside.roots c.self.inside.imports
     (at (g.L.Loader.seen c.self.inside.loader) c.self.inside.progress) c.self.inside.finished)
     (seen_of c.run.new.loader c.self.inside.following c.self.inside.roots c.self.inside.imports
     (at (g.L.Loader.seen c.run.new.loader) c.run.new.self) true)
     (text_of c.in-Err-UnaskedAnswer.specifier)
-    (result_unasked {rules = rules_by (g.W.Ways.means c.self.inside.following) (g.W.Ways.follows c.self.inside.following)} (g.met.W.Ways.once c.self.inside.following)
+    (result_unasked {rules =
+    rules_by (g.W.Ways.means c.self.inside.following) (g.W.Ways.follows c.self.inside.following)}
+    (g.met.W.Ways.once c.self.inside.following)
     c.self.inside.loader c.run.new.loader c.self.inside.following c.self.inside.roots c.self.inside.imports
     (at (g.L.Loader.seen c.self.inside.loader) c.self.inside.progress)
     (at (g.L.Loader.seen c.run.new.loader) c.run.new.self) c.self.inside.finished true

@@ -6,7 +6,8 @@ use Rattle.deno_graph.proofs.progress.Progress.ask_next.Goals as goal
 
 pub deal-requires : goal.deal-requires
 deal-requires g c = record {
-  in_hand = live_popped (rules_by (g.W.Ways.means c.args.ways.now) (g.W.Ways.follows c.args.ways.now)) _ c.pop.new.self c.in-Some.url c.requires.live
+  in_hand = live_popped (rules_by (g.W.Ways.means c.args.ways.now) (g.W.Ways.follows c.args.ways.now)) _ c.pop.new.self
+      c.in-Some.url c.requires.live
       c.in-Some.ensures;
 }
 

@@ -33,7 +33,9 @@ returns-in-Err-clause-runs g c =
 
 pub returns-in-Err-clause-in_time : goal.returns-in-Err-clause-in_time
 returns-in-Err-clause-in_time g c =
-    in_time_err (rules_by (g.W.Ways.means c.args.ways.now) (g.W.Ways.follows c.args.ways.now)) Bool (Unit {0}) _ _ c.in-Err.error
-    (in_time_after {A = Bool} (rules_by (g.W.Ways.means c.args.ways.now) (g.W.Ways.follows c.args.ways.now)) (at (g.L.Loader.seen c.args.loader.now) c.args.self.now)
+    in_time_err (rules_by (g.W.Ways.means c.args.ways.now) (g.W.Ways.follows c.args.ways.now)) Bool (Unit {0}) _ _
+    c.in-Err.error
+    (in_time_after {A = Bool} (rules_by (g.W.Ways.means c.args.ways.now) (g.W.Ways.follows c.args.ways.now))
+    (at (g.L.Loader.seen c.args.loader.now) c.args.self.now)
     (at (g.L.Loader.seen c.turns.loader) c.turns.self) (Err c.in-Err.error) _
     c.turns.invariant.goes c.in-Err.ensures.in_time)

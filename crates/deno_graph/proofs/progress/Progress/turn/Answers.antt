@@ -13,7 +13,8 @@ returns-clause-turns g c =
 
 pub returns-clause-in_time : goal.returns-clause-in_time
 returns-clause-in_time g c =
-    in_time_after (rules_by (g.W.Ways.means c.args.ways.now) (g.W.Ways.follows c.args.ways.now)) (at (g.L.Loader.seen c.args.loader.now) c.args.self.now)
+    in_time_after (rules_by (g.W.Ways.means c.args.ways.now) (g.W.Ways.follows c.args.ways.now))
+    (at (g.L.Loader.seen c.args.loader.now) c.args.self.now)
     (at (g.L.Loader.seen c.ask_all.new.loader) c.ask_all.new.self)
     c.poll.result _ c.ask_all.ensures.asks.goes c.poll.ensures.in_time
 
