@@ -89,27 +89,27 @@ fn entries_of_content(rt: HostRuntime) {
         (
             "file:///a.ts",
             b"const \x01;",
-            "Parse InvalidChar 6-6; SyntaxError: InvalidChar\n    at file:///a.ts byte 6",
+            "Parse InvalidChar 6-6; SyntaxError: InvalidChar\n    at file:///a.ts:1:7",
         ),
         (
             "file:///a.ts",
             b"\xEF\xBB\xBFimport \"a",
-            "Parse UnterminatedString 7-7; SyntaxError: UnterminatedString\n    at file:///a.ts byte 7",
+            "Parse UnterminatedString 7-7; SyntaxError: UnterminatedString\n    at file:///a.ts:1:8",
         ),
         (
             "file:///a.ts",
             b"; /*",
-            "Parse UnterminatedComment 2-2; SyntaxError: UnterminatedComment\n    at file:///a.ts byte 2",
+            "Parse UnterminatedComment 2-2; SyntaxError: UnterminatedComment\n    at file:///a.ts:1:3",
         ),
         (
             "file:///a.ts",
             b"import x;",
-            "Parse Syntax 8-9; SyntaxError: Syntax\n    at file:///a.ts byte 8",
+            "Parse Syntax 8-9; SyntaxError: Syntax\n    at file:///a.ts:1:9",
         ),
         (
             "file:///a.ts",
             b"import",
-            "Parse Syntax 6-6; SyntaxError: Syntax\n    at file:///a.ts byte 6",
+            "Parse Syntax 6-6; SyntaxError: Syntax\n    at file:///a.ts:1:7",
         ),
         ("file:///a.ts", b"\xFF", "Decode"),
         ("file:///a.json", b"\xFF", "Decode"),

@@ -20,8 +20,8 @@ pub fn line_of(alloc: Global, entry: &Entry) -> Result<String, AllocError> {
 fn line_of_error(alloc: Global, error: &ModuleError) -> Result<String, AllocError> {
     match error {
         ModuleError::Parse(fault) => {
-            let Range { start, end } = fault.range;
-            format!(in alloc; "{error} {} {start}-{end}; {fault}", fault.kind)
+            let Range { start, end } = fault.range();
+            format!(in alloc; "{error} {} {start}-{end}; {fault}", fault.kind())
         }
         ModuleError::WasmParse(fault) => format!(in alloc; "{error} {fault}"),
         _ => format!(in alloc; "{error}"),

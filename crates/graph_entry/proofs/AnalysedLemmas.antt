@@ -1,13 +1,10 @@
 -- One answer makes one entry of a specifier, given the laws of readings and of trees.
-use Rattle.std.proofs.Common.{◌≡◌, ◌∙◌, sym, ap, subst, List, ℕ}
+use Rattle.std.proofs.Common.{◌≡◌, ◌∙◌, sym, ap, List, ℕ}
 use Rattle.std.specs.Prelude.{Bool, true, false, codes, Option, Some, None, MatchOption, Result, Ok, Err}
-use Rattle.es_token.specs.declared.token.Token.{Token}
-use Rattle.es_lexer.specs.declared.error.LexicalKind.{LexicalKind}
-use Rattle.es_lexer.specs.Reads.{ReadsTokens}
-use Rattle.es_lexer.specs.Stops.{Stops}
-use Rattle.es_ast.specs.declared.ast.Program.{Program}
-use Rattle.graph_entry.specs.Tree.{IsTree}
-use Rattle.graph_entry.specs.declared.diagnostic.SyntaxErrorKind.TheVariants.{Lexical}
+use Rattle.base.specs.declared.range.Range.{Range}
+use Rattle.es_walk.specs.declared.site.Site.{Site}
+use Rattle.parse_diagnostic.specs.declared.kind.SyntaxErrorKind.{SyntaxErrorKind}
+use Rattle.deno_ast.specs.Read.{HasSites, IsFaulty}
 use Rattle.url.specs.Parser.{parse_url}
 use Rattle.graph_entry.specs.declared.answer.LoadAnswer.{LoadAnswer}
 use Rattle.graph_entry.specs.declared.answer.LoadAnswer.TheVariants as answer
@@ -27,46 +24,37 @@ use Rattle.package_ref.proofs.Theorems.{one_reference}
 use Rattle.graph_entry.specs.declared.entry.Entry.TheVariants as entry
 use Rattle.lexical_path.specs.Specifiers.{begins}
 use Rattle.graph_entry.specs.Headers.{header_value}
-use Rattle.graph_entry.specs.ModuleText.{without_mark}
-use Rattle.graph_entry.specs.Analysed.{Analysed, OfContent, OfData, OfPackage, with_package, no_package, OfUnasked, by_header, OfKind, OfBytes, OfText, OfTokens, with_tree, no_tree, with_tokens, no_tokens, with_text, no_text, module_of, no_module, unsupported, at_place, media_type_read}
+use Rattle.module_text.specs.ModuleText.{without_mark}
+use Rattle.graph_entry.specs.Analysed.{Analysed, OfContent, OfData, OfPackage, with_package, no_package, OfUnasked, by_header, OfKind, OfBytes, OfText, with_sites, no_program, with_text, no_text, module_of, no_module, unsupported, media_type_read}
 use Rattle.graph_entry.proofs.ContentLemmas.{OfJson-once, OfWasm-once}
 
 -- ---- the laws below, as one record
 
--- what the crates below say of a text: it has one reading or one first fault, and tokens have one tree
+-- what the crate below says of a text: it has one list of sites or one fault
 pub record HasOneReading (text : List ℕ) : Type 0 where
-  pub one_tree : (media : MediaType) (tokens : List Token) (p q : Program) → IsTree media text tokens p
-      → IsTree media text tokens q → p ≡ q
-  pub one_list : (ts us : List Token) → ReadsTokens text ts → ReadsTokens text us → ts ≡ us
-  pub one_fault : (k l : LexicalKind) (at by : ℕ) → Stops text k at → Stops text l by → (k ≡ l) × (at ≡ by)
-  pub no_both : (ts : List Token) (k : LexicalKind) (at : ℕ) → ReadsTokens text ts → Stops text k at → ⊥
+  pub one_sites : (media : MediaType) (found other : List Site) → HasSites media text found → HasSites media text other
+      → found ≡ other
+  pub one_fault : (media : MediaType) (k l : SyntaxErrorKind) (r q : Option Range) → IsFaulty media text k r
+      → IsFaulty media text l q → (k ≡ l) × (r ≡ q)
+  pub no_both : (media : MediaType) (found : List Site) (k : SyntaxErrorKind) (r : Option Range)
+      → HasSites media text found → IsFaulty media text k r → ⊥
 
 -- ---- one entry, level by level
 
 module _ (s : List ℕ) (media : MediaType) where
-  -- tokens
-  pub OfTokens-once : (text : List ℕ) (tokens : List Token) (made other : Entry) → HasOneReading text
-      → OfTokens s media text tokens made → OfTokens s media text tokens other → made ≡ other
-  OfTokens-once text tokens made other laws (with_tree p derived is) (with_tree q also so) =
-      is ∙ ap (module_of s media text) (laws.one_tree media tokens p q derived also) ∙ sym so
-  OfTokens-once text tokens made other laws (with_tree p derived is) (no_tree nothing so) = absurd (nothing p derived)
-  OfTokens-once text tokens made other laws (no_tree nothing is) (with_tree q also so) = absurd (nothing q also)
-  OfTokens-once text tokens made other laws (no_tree nothing is) (no_tree also so) = is ∙ sym so
-
   -- a text
   pub OfText-once : (text : List ℕ) (made other : Entry) → HasOneReading text
       → OfText s media text made → OfText s media text other → made ≡ other
-  OfText-once text made other laws (with_tokens ts reads makes) (with_tokens us also makes_too) =
-      let P : List Token → Type 0 = λ xs. OfTokens s media text xs other in
-      OfTokens-once text ts made other laws makes (subst P (laws.one_list us ts also reads) makes_too)
-  OfText-once text made other laws (with_tokens ts reads makes) (no_tokens k at stops so) =
-      absurd (laws.no_both ts k at reads stops)
-  OfText-once text made other laws (no_tokens k at stops is) (with_tokens us also makes_too) =
-      absurd (laws.no_both us k at also stops)
-  OfText-once text made other laws (no_tokens k at stops is) (no_tokens l by also so) =
-      let same = laws.one_fault k l at by stops also in
-      is ∙ ap (λ (x : LexicalKind). no_module s (Lexical x) (Some (at_place at))) same.0
-      ∙ ap (λ (p : ℕ). no_module s (Lexical l) (Some (at_place p))) same.1 ∙ sym so
+  OfText-once text made other laws (with_sites found has is) (with_sites others also so) =
+      is ∙ ap (module_of s media text) (laws.one_sites media found others has also) ∙ sym so
+  OfText-once text made other laws (with_sites found has is) (no_program k r faulty so) =
+      absurd (laws.no_both media found k r has faulty)
+  OfText-once text made other laws (no_program k r faulty is) (with_sites others also so) =
+      absurd (laws.no_both media others k r also faulty)
+  OfText-once text made other laws (no_program k r faulty is) (no_program l q also so) =
+      let same = laws.one_fault media k l r q faulty also in
+      is ∙ ap (λ (x : SyntaxErrorKind). no_module s x r) same.0
+      ∙ ap (λ (p : Option Range). no_module s l p) same.1 ∙ sym so
 
   -- bytes
   pub OfBytes-once : (bytes : List ℕ) (made other : Entry) → HasOneReading (without_mark bytes)

@@ -2,12 +2,9 @@
 use Rattle.std.proofs.Common.{◌≡◌, sym, subst, refl, List, ℕ}
 use Rattle.std.specs.Prelude.{Bool, true, false, codes, All, Option, Some, None, MatchOption, Result, Ok, Err, slice_index_or}
 use Rattle.std.proofs.lemmas.List.Elements.{All-map}
-use Rattle.es_token.specs.declared.token.Token.{Token}
-use Rattle.es_lexer.specs.Reads.{ReadsTokens}
-use Rattle.es_ast.specs.declared.ast.Program.{Program}
 use Rattle.es_walk.specs.declared.site.Site.{Site}
-use Rattle.es_walk.specs.Sites.{sites_of, CutsLiteral}
-use Rattle.graph_entry.specs.Tree.{IsTree}
+use Rattle.deno_ast.specs.Read.{HasSites}
+use Rattle.deno_ast.specs.Cuts.{Cuts}
 use Rattle.url.specs.Parser.{parse_url}
 use Rattle.graph_entry.specs.declared.answer.LoadAnswer.{LoadAnswer}
 use Rattle.graph_entry.specs.declared.answer.LoadAnswer.TheVariants as answer
@@ -25,31 +22,24 @@ use Rattle.data_specifier.specs.declared.error.DataError.{DataError}
 use Rattle.data_specifier.specs.Data.{data_of}
 use Rattle.lexical_path.specs.Specifiers.{begins}
 use Rattle.graph_entry.specs.Headers.{header_value}
-use Rattle.graph_entry.specs.ModuleText.{without_mark}
-use Rattle.graph_entry.specs.Analysed.{Analysed, OfContent, OfData, OfPackage, with_package, no_package, OfUnasked, by_header, media_type_read, OfKind, OfBytes, OfText, OfTokens, with_tree, no_tree, with_tokens, no_tokens, with_text, no_text, dependency_of, unsupported}
+use Rattle.module_text.specs.ModuleText.{without_mark}
+use Rattle.graph_entry.specs.Analysed.{Analysed, OfContent, OfData, OfPackage, with_package, no_package, OfUnasked, by_header, media_type_read, OfKind, OfBytes, OfText, with_sites, no_program, with_text, no_text, dependency_of, unsupported}
 use Rattle.graph_entry.proofs.ContentLemmas.{HoldsOfImports, OfJson-edges, OfWasm-edges}
 use Rattle.graph_entry.proofs.RoomLemmas.{resolve-kept}
 
--- P holds of the edge of each site of each tree of the text, in the module at s
+-- P holds of the edge of each site of the text, in the module at s
 abbrev pub HoldsOfSites : (List ℕ → Dependency → Type 0) → List ℕ → List ℕ → Type 0
-HoldsOfSites P s text = (media : MediaType) (tokens : List Token) (tree : Program) → ReadsTokens text tokens
-    → IsTree media text tokens tree → All (λ site. P text (dependency_of s site)) (sites_of tree)
+HoldsOfSites P s text = (media : MediaType) (found : List Site) → HasSites media text found
+    → All (λ site. P text (dependency_of s site)) found
 
 -- ---- level by level
 
 module _ (P Q : List ℕ → Dependency → Type 0) (s : List ℕ) (media : MediaType) where
-  OfTokens-edges : (text : List ℕ) (tokens : List Token) (made : Entry) → HoldsOfSites P s text
-      → ReadsTokens text tokens
-      → OfTokens s media text tokens made → EachEdge P Q made
-  OfTokens-edges text tokens made holds reads (with_tree tree derived is) =
-      subst (EachEdge P Q) (sym is)
-      (All-map (P text) (dependency_of s) (sites_of tree) (holds media tokens tree reads derived))
-  OfTokens-edges text tokens made holds reads (no_tree nothing is) = subst (EachEdge P Q) (sym is) tt
-
   OfText-edges : (text : List ℕ) (made : Entry) → HoldsOfSites P s text → OfText s media text made
       → EachEdge P Q made
-  OfText-edges text made holds (with_tokens tokens reads makes) = OfTokens-edges text tokens made holds reads makes
-  OfText-edges text made holds (no_tokens kind place stops is) = subst (EachEdge P Q) (sym is) tt
+  OfText-edges text made holds (with_sites found has is) =
+      subst (EachEdge P Q) (sym is) (All-map (P text) (dependency_of s) found (holds media found has))
+  OfText-edges text made holds (no_program kind range faulty is) = subst (EachEdge P Q) (sym is) tt
 
   OfBytes-edges : (bytes : List ℕ) (made : Entry) → HoldsOfSites P s (without_mark bytes)
       → OfBytes s media bytes made → EachEdge P Q made
@@ -114,8 +104,8 @@ Analysed-edges P Q s sites imports None made is = OfUnasked-edges P Q s sites im
 
 -- ---- two facts of each edge
 
--- a site that cuts its literal has an edge that does
-pub All-CutsFrom : (s text : List ℕ) (sites : List Site) → All (λ site. CutsLiteral text site.range site.value) sites
+-- a site that cuts its value has an edge that does
+pub All-CutsFrom : (s text : List ℕ) (sites : List Site) → All (λ site. Cuts text site.range site.value) sites
     → All (λ site. CutsFrom text (dependency_of s site)) sites
 All-CutsFrom s text sites cuts k site within = ((slice_index_or sites k site).range, refl, cuts k site within)
 

@@ -1,7 +1,6 @@
 -- No entry's fault is that memory ran out.
 use Rattle.std.proofs.Common.{◌≡◌, ◌≢◌, sym, subst, refl, List, ℕ}
 use Rattle.std.specs.Prelude.{Bool, true, false, ◌==◌, codes, take, position, Option, Some, None, MatchOption, Result, Ok, Err}
-use Rattle.es_token.specs.declared.token.Token.{Token}
 use Rattle.url.specs.Parser.{parse_url}
 use Rattle.wasm_dep_analyzer.specs.declared.error.ParseError.{ParseError}
 use Rattle.wasm_dep_analyzer.specs.declared.error.ParseError.TheVariants as wasm
@@ -25,17 +24,12 @@ use Rattle.graph_entry.specs.Headers.{header_value}
 use Rattle.graph_entry.specs.Entry.{KeepsFault}
 use Rattle.graph_entry.specs.Json.{OfJson, with_json, no_json}
 use Rattle.graph_entry.specs.Wasm.{OfWasm, with_imports, faulty}
-use Rattle.graph_entry.specs.Analysed.{Analysed, OfContent, OfData, OfPackage, with_package, no_package, OfUnasked, by_header, OfKind, OfBytes, OfText, OfTokens, with_tree, no_tree, with_tokens, no_tokens, with_text, no_text, media_type_read, unsupported}
+use Rattle.graph_entry.specs.Analysed.{Analysed, OfContent, OfData, OfPackage, with_package, no_package, OfUnasked, by_header, OfKind, OfBytes, OfText, with_sites, no_program, with_text, no_text, media_type_read, unsupported}
 
 module _ (s : List ℕ) (media : MediaType) where
-  OfTokens-fault : (text : List ℕ) (tokens : List Token) (made : Entry) → OfTokens s media text tokens made
-      → KeepsFault made
-  OfTokens-fault text tokens made (with_tree tree derived is) = subst KeepsFault (sym is) tt
-  OfTokens-fault text tokens made (no_tree nothing is) = subst KeepsFault (sym is) tt
-
   OfText-fault : (text : List ℕ) (made : Entry) → OfText s media text made → KeepsFault made
-  OfText-fault text made (with_tokens tokens reads makes) = OfTokens-fault text tokens made makes
-  OfText-fault text made (no_tokens kind place stops is) = subst KeepsFault (sym is) tt
+  OfText-fault text made (with_sites found has is) = subst KeepsFault (sym is) tt
+  OfText-fault text made (no_program kind range faulty is) = subst KeepsFault (sym is) tt
 
   OfBytes-fault : (bytes : List ℕ) (made : Entry) → OfBytes s media bytes made → KeepsFault made
   OfBytes-fault bytes made (with_text utf8 makes) = OfText-fault _ made makes

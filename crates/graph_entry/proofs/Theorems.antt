@@ -1,25 +1,22 @@
 -- The laws of an analysis that other crates name.
 use Rattle.std.proofs.Common.{◌≡◌, List, ℕ}
-use Rattle.es_lexer.proofs.Theorems.{one_reading, one_fault, no_reading_stops}
-use Rattle.es_walk.specs.Sites.{sites_of}
+use Rattle.deno_ast.proofs.Theorems.{one_sites, one_fault_of, sites_or_fault, sites_cut}
 use Rattle.std.specs.Prelude.{Option}
 use Rattle.graph_entry.specs.declared.answer.LoadAnswer.{LoadAnswer}
 use Rattle.graph_entry.specs.declared.entry.Entry.{Entry}
 use Rattle.graph_entry.specs.Entry.{CutsFrom, CutsName, EachEdge, EdgesCut, KeepsReasonOf, KeepsFault}
 use Rattle.graph_entry.specs.Analysed.{Analysed}
-use Rattle.graph_entry.proofs.TreeLemmas.{one_tree_of, tree_cuts}
 use Rattle.graph_entry.proofs.AnalysedLemmas.{HasOneReading, Analysed-once}
 use Rattle.graph_entry.proofs.ContentLemmas.{imports-CutsName, imports-KeepsReasonOf}
 use Rattle.graph_entry.proofs.FaultLemmas.{Analysed-fault}
 use Rattle.graph_entry.proofs.EdgeLemmas.{Analysed-edges, All-CutsFrom, All-KeepsReasonOf}
 
--- a text has one reading or one first fault, and one tree
+-- a text has one list of sites or one fault
 has_one_reading : (text : List ℕ) → HasOneReading text
 has_one_reading text = record {
-  one_tree = λ media tokens. one_tree_of media text tokens;
-  one_list = λ ts us reads also. (one_reading text ts us reads.0 also.0 reads.1 also.1).0;
-  one_fault = one_fault text;
-  no_both = λ ts k at reads stops. no_reading_stops text ts reads.0 k at reads.1 stops;
+  one_sites = λ media. one_sites media text;
+  one_fault = λ media. one_fault_of media text;
+  no_both = λ media. sites_or_fault media text;
 }
 
 -- one answer, or none where no loader is asked, makes one entry of a specifier
@@ -27,12 +24,12 @@ pub analysed_once : (s : List ℕ) (a : Option LoadAnswer) (made other : Entry)
     → Analysed s a made → Analysed s a other → made ≡ other
 analysed_once = Analysed-once has_one_reading
 
--- each edge of a source cuts from the module's text the literal whose value is the edge's text, and each of a
+-- each edge of a source cuts from the module's text the literal or the reference whose value is the edge's text, and each of a
 -- WebAssembly module from its bytes the edge's text itself
 pub analysed_cuts : (s : List ℕ) (a : Option LoadAnswer) (made : Entry) → Analysed s a made → EdgesCut made
 analysed_cuts s =
-    Analysed-edges CutsFrom CutsName s (λ text media tokens tree reads is.
-    All-CutsFrom s text (sites_of tree) (tree_cuts media text tokens tree reads is))
+    Analysed-edges CutsFrom CutsName s (λ text media found has.
+    All-CutsFrom s text found (sites_cut media text found has))
     (imports-CutsName s)
 
 -- an edge without target never keeps as its reason that room ran out
@@ -40,7 +37,7 @@ pub analysed_reasons : (s : List ℕ) (a : Option LoadAnswer) (made : Entry) →
     → EachEdge KeepsReasonOf KeepsReasonOf made
 analysed_reasons s =
     Analysed-edges KeepsReasonOf KeepsReasonOf s
-    (λ text media tokens tree reads is. All-KeepsReasonOf s text (sites_of tree))
+    (λ text media found has. All-KeepsReasonOf s text found)
     (imports-KeepsReasonOf s)
 
 -- an entry's fault is never that memory ran out

@@ -3,17 +3,12 @@ use Rattle.std.specs.Prelude.{◌≡◌, ℕ, Bool, true, false, List, map, code
 use Rattle.base.specs.declared.range.Range.{Range}
 use Rattle.url.specs.Parts.{Parts}
 use Rattle.url.specs.Parser.{Parsed, parse_url}
-use Rattle.es_token.specs.declared.token.Token.{Token}
-use Rattle.es_lexer.specs.declared.error.LexicalKind.{LexicalKind}
-use Rattle.es_lexer.specs.Reads.{ReadsTokens}
-use Rattle.es_lexer.specs.Stops.{Stops}
-use Rattle.es_ast.specs.declared.ast.Program.{Program}
 use Rattle.es_walk.specs.declared.site.Site.{Site}
-use Rattle.es_walk.specs.Sites.{sites_of}
+use Rattle.deno_ast.specs.Read.{HasSites, IsFaulty}
+use Rattle.module_text.specs.ModuleText.{without_mark}
 use Rattle.graph_entry.specs.declared.answer.LoadAnswer.{LoadAnswer}
 use Rattle.graph_entry.specs.declared.answer.LoadAnswer.TheVariants as answer
-use Rattle.graph_entry.specs.declared.diagnostic.SyntaxErrorKind.{SyntaxErrorKind}
-use Rattle.graph_entry.specs.declared.diagnostic.SyntaxErrorKind.TheVariants.{Lexical, Syntax}
+use Rattle.parse_diagnostic.specs.declared.kind.SyntaxErrorKind.{SyntaxErrorKind}
 use Rattle.graph_entry.specs.declared.entry.Dependency.{Dependency}
 use Rattle.graph_entry.specs.declared.entry.Module.TheVariants.{Js}
 use Rattle.graph_entry.specs.declared.entry.Entry.{Entry}
@@ -33,11 +28,9 @@ use Rattle.package_ref.specs.declared.reference.PackageRef.{PackageRef}
 use Rattle.package_ref.specs.Reference.{IsReference}
 use Rattle.lexical_path.specs.Specifiers.{begins}
 use Rattle.graph_entry.specs.Headers.{header_value}
-use Rattle.graph_entry.specs.ModuleText.{without_mark}
 use Rattle.graph_entry.specs.Json.{no_utf8, OfJson}
 use Rattle.graph_entry.specs.Wasm.{OfWasm}
 use Rattle.graph_entry.specs.Resolution.{resolve}
-use Rattle.graph_entry.specs.Tree.{IsTree}
 
 -- the media type of a specifier is that of the path of the URL that its text is read as
 abbrev pub media_type_read : Parsed Parts → MediaType
@@ -52,10 +45,6 @@ unsupported media_type = entry.Error (UnsupportedMediaType media_type)
 abbrev pub no_module : List ℕ → SyntaxErrorKind → Option Range → Entry
 no_module s kind range = entry.Error (Parse (record { specifier = s; kind = kind; range = range }))
 
--- the empty range at a place
-abbrev pub at_place : ℕ → Range
-at_place place = record { start = place; end = place }
-
 -- the edge of a site in the module at this specifier
 abbrev pub dependency_of : List ℕ → Site → Dependency
 dependency_of s site = record {
@@ -67,32 +56,22 @@ dependency_of s site = record {
   resolution = resolve s site.value;
 }
 
--- the module at this specifier: its text, and one edge for each site of its tree, in order
-abbrev pub module_of : List ℕ → MediaType → List ℕ → Program → Entry
-module_of s media_type text program = entry.Module (Js (record {
+-- the module at this specifier: its text, and one edge for each of these sites, in order
+abbrev pub module_of : List ℕ → MediaType → List ℕ → List Site → Entry
+module_of s media_type text sites = entry.Module (Js (record {
   media_type = media_type;
   text = text;
-  dependencies = map (dependency_of s) (sites_of program);
+  dependencies = map (dependency_of s) sites;
 }))
-
--- what the tokens of a source make
-pub data OfTokens (s : List ℕ) (media_type : MediaType) (text : List ℕ) (tokens : List Token)
-    (made : Entry) : Type 0 where
-  -- the module of their tree
-  with_tree : (program : Program) → IsTree media_type text tokens program → made ≡ module_of s media_type text program
-      → OfTokens s media_type text tokens made
-  -- they have no tree
-  no_tree : ((program : Program) → ¬ IsTree media_type text tokens program) → made ≡ no_module s Syntax None
-      → OfTokens s media_type text tokens made
 
 -- what the text of a source makes
 pub data OfText (s : List ℕ) (media_type : MediaType) (text : List ℕ) (made : Entry) : Type 0 where
-  -- what its tokens make
-  with_tokens : (tokens : List Token) → ReadsTokens text tokens → OfTokens s media_type text tokens made
+  -- the module of its sites
+  with_sites : (sites : List Site) → HasSites media_type text sites → made ≡ module_of s media_type text sites
       → OfText s media_type text made
-  -- no tokens read it: the first fault
-  no_tokens : (kind : LexicalKind) (place : ℕ) → Stops text kind place
-      → made ≡ no_module s (Lexical kind) (Some (at_place place)) → OfText s media_type text made
+  -- it is no program: the fault
+  no_program : (kind : SyntaxErrorKind) (range : Option Range) → IsFaulty media_type text kind range
+      → made ≡ no_module s kind range → OfText s media_type text made
 
 -- what the bytes of a source make
 pub data OfBytes (s : List ℕ) (media_type : MediaType) (bytes : List ℕ) (made : Entry) : Type 0 where

@@ -3,16 +3,17 @@ pub mod Specifier
 pub use Rattle.media_type.specs.MediaType
 pub use Rattle.media_type.specs.Endings
 pub use Rattle.media_type.specs.ContentTypes
-pub mod ModuleText
+pub use Rattle.module_text.specs.ModuleText
 pub use Rattle.file_url.specs.Imports
 pub mod Resolution
 pub mod Headers
-pub mod Diagnosis
+pub use Rattle.parse_diagnostic.specs.Diagnosis
 pub mod Entry
 pub mod Referrer
 pub mod Json
 pub mod Wasm
-pub mod Tree
+pub use Rattle.deno_ast.specs.Read
+pub use Rattle.deno_ast.specs.Cuts
 pub mod Analysed
 -- ---- what the functions inside the crate promise each other
 pub mod Steps

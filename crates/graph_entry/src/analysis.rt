@@ -1,29 +1,23 @@
 //! What one answer of a loader makes of one specifier.
 ghost use Rattle.std.specs.Prelude.{◌≡◌, None, Some, codes, map, IfOk};
 ghost use Rattle.url.specs.Parser.{parse_url};
-ghost use Rattle.es_lexer.specs.Reads.{ReadsTokens};
-ghost use Rattle.es_walk.specs.Sites.{sites_of};
+ghost use Rattle.module_text.specs.ModuleText.{without_mark};
+ghost use Rattle.deno_ast.specs.Parsed.{parsed_sites};
 ghost use Rattle.graph_entry.specs.Specifier.{text_of};
 ghost use Rattle.graph_entry.specs.Headers.{header_value};
-ghost use Rattle.graph_entry.specs.Diagnosis.{told_range};
 ghost use Rattle.graph_entry.specs.Steps.{IsReadAgain};
+ghost use Rattle.graph_entry.specs.Steps as steps;
 ghost use Rattle.graph_entry.specs.Analysed as spec;
-ghost use Rattle.graph_entry.specs.Analysed.{Analysed, OfContent, OfBytes, OfText, OfTokens};
+ghost use Rattle.graph_entry.specs.Analysed.{Analysed, OfContent, OfBytes, OfText};
 
 use crate::answer::LoadAnswer;
-use crate::diagnostic::{ParseDiagnostic, SyntaxErrorKind};
 use crate::entry::{Dependency, Entry, JsModule, Module, ModuleError};
 use crate::headers::Headers;
 use crate::json::{analyse_json, no_text};
-use crate::module_text::without_mark;
 use crate::resolution::{ReadAgain, read_again, resolve_from};
-use crate::tree::tree_of;
 use crate::wasm::analyse_wasm;
-use base::{Items, Range, SharedBytes, SharedText};
-use es_ast::Program;
-use es_lexer::{LexError, LexicalError, Token, lex_tokens};
-use es_tree::SyntaxError;
-use es_walk::{Site, sites};
+use base::{Items, SharedBytes, SharedText};
+use deno_ast::{ParseFault, ParseParams, ParsedSource, Site, parse_program};
 use media_type::{MediaType, ModuleKind};
 use std::alloc::{AllocError, Global};
 use std::str;
@@ -133,7 +127,7 @@ fn analyse_bytes(alloc: Global, source: Source<'_>, bytes: &[u8]) -> Result<Entr
         (OfBytes (text_of source.entry.specifier.now) source.entry.media_type bytes.now) }
 {
     match str::from_utf8(bytes) {
-        Ok(text) => analyse_text(alloc, source, without_mark(text)),
+        Ok(text) => analyse_text(alloc, source, text),
         Err(_) => Ok(no_text()),
     }
 }
@@ -141,96 +135,44 @@ fn analyse_bytes(alloc: Global, source: Source<'_>, bytes: &[u8]) -> Result<Entr
 fn analyse_text(alloc: Global, source: Source<'_>, text: &str) -> Result<Entry, AllocError>
     requires { IsReadAgain source }
     ensures { IfOk result
-        (OfText (text_of source.entry.specifier.now) source.entry.media_type text.now) }
+        (OfText (text_of source.entry.specifier.now) source.entry.media_type (without_mark text.now)) }
 {
-    match lex_tokens(alloc, text) {
-        Ok(lexed) => analyse_tokens(alloc, source, text, lexed.tokens.as_slice()),
-        Err(error) => no_tokens(source.specifier, fault_of(error)?),
+    let params = params_of(alloc, source, text)?;
+    match parse_program(alloc, params) {
+        Ok(parsed) => module_of(alloc, source, &parsed),
+        Err(ParseFault::Diagnostic(fault)) => Ok(Entry::Error(ModuleError::Parse(fault))),
+        Err(ParseFault::OutOfMemory) => Err(AllocError),
     }
 }
 
-// The fault of a text, unless memory ran out.
-fn fault_of(error: LexError) -> Result<LexicalError, AllocError>
-    ensures { IfOk result (λ fault. error ≡ LexError.Lexical fault) }
+// What is to be parsed of a source.
+fn params_of(alloc: Global, source: Source<'_>, text: &str) -> Result<ParseParams, AllocError>
+    ensures { IfOk result (λ params. params ≡ steps.params_of source.entry.specifier.now source.entry.media_type text.now) }
 {
-    match error {
-        LexError::Lexical(fault) => Ok(fault),
-        LexError::OutOfMemory => Err(AllocError),
-    }
-}
-
-// The entry of a source with a lexical fault.
-fn no_tokens(specifier: &Url, error: LexicalError) -> Result<Entry, AllocError>
-    ensures { IfOk result (λ made. made ≡ spec.no_module (text_of specifier.now)
-        (SyntaxErrorKind.Lexical error.kind) (Some (spec.at_place error.at))) }
-{
-    let range = Range {
-        start: error.at,
-        end: error.at,
-    };
-    no_module(specifier, SyntaxErrorKind::Lexical(error.kind), range)
-}
-
-fn no_module(specifier: &Url, kind: SyntaxErrorKind, range: Range) -> Result<Entry, AllocError>
-    ensures { IfOk result (λ made. made ≡ spec.no_module (text_of specifier.now) kind (told_range kind range)) }
-{
-    Ok(Entry::Error(ModuleError::Parse(ParseDiagnostic {
-        specifier: specifier.clone()?,
-        range,
-        kind,
-    })))
-}
-
-fn analyse_tokens(
-    alloc: Global,
-    source: Source<'_>,
-    text: &str,
-    tokens: &[Token],
-) -> Result<Entry, AllocError>
-    requires again { IsReadAgain source }
-    requires tokens { ReadsTokens text.now tokens.now }
-    ensures { IfOk result
-        (OfTokens (text_of source.entry.specifier.now) source.entry.media_type text.now tokens.now) }
-{
-    match tree_of(alloc, source.media_type, text, tokens) {
-        Ok(program) => module_of(alloc, source, text, &program),
-        Err(SyntaxError::Syntax { token }) => {
-            no_module(
-                source.specifier,
-                SyntaxErrorKind::Syntax,
-                range_at(text, tokens, token),
-            )
-        }
-        Err(SyntaxError::OutOfMemory) => Err(AllocError),
-    }
-}
-
-// The range of the token, or the empty one at the end of the text.
-fn range_at(text: &str, tokens: &[Token], token: usize) -> Range {
-    match tokens.get(token) {
-        Some(token) => token.range,
-        None => Range {
-            start: text.len(),
-            end: text.len(),
-        },
-    }
+    Ok(ParseParams {
+        specifier: source.specifier.clone()?,
+        text: SharedText::from_str(alloc, text)?,
+        media_type: source.media_type,
+        capture_tokens: false,
+        scope_analysis: false,
+        maybe_syntax: None,
+    })
 }
 
 fn module_of(
     alloc: Global,
     source: Source<'_>,
-    text: &str,
-    program: &Program,
+    parsed: &ParsedSource,
 ) -> Result<Entry, AllocError>
     requires { IsReadAgain source }
     ensures { IfOk result (λ made. made ≡ spec.module_of
-        (text_of source.entry.specifier.now) source.entry.media_type text.now program.now) }
+        (text_of source.entry.specifier.now) source.entry.media_type parsed.now.text (parsed_sites parsed.now)) }
 {
-    let found = sites(alloc, program)?;
+    let found = parsed.sites(alloc)?;
     let dependencies = dependencies_of(alloc, source, found)?;
     Ok(Entry::Module(Module::Js(JsModule {
         media_type: source.media_type,
-        text: SharedText::from_str(alloc, text)?,
+        text: parsed.text().copy()?,
         dependencies,
     })))
 }

@@ -7,8 +7,6 @@
 //! - `resolve(text, referrer)`: what a specifier in a source leads to (`resolve`, `specs/Resolution.antt`).
 //! - `referred(places)`, `starts_of(roots, places)`: the edges of what places outside a graph import, and where reach
 //!   starts by them (`specs/Referrer.antt`).
-//! - `tree_of(media_type, text, tokens)`: the tree of a source (`IsTree`, `specs/Tree.antt`), or `Syntax` where it has
-//!   none.
 //! - `is_loadable(specifier)`: whether a loader is asked for it (`loadable`, `specs/Specifier.antt`).
 //! - `Entry`, `LoadAnswer` and their parts are plain data in contracts.
 //!
@@ -20,31 +18,26 @@
 
 mod analysis;
 mod answer;
-mod diagnostic;
 mod entry;
 mod headers;
 mod json;
 mod kind;
-mod module_text;
 mod referrer;
 mod resolution;
 mod specifier;
-mod tree;
 mod unasked;
 mod wasm;
 
 pub use crate::analysis::analyse;
 pub use crate::answer::LoadAnswer;
-pub use crate::diagnostic::{ParseDiagnostic, SyntaxErrorKind};
 pub use crate::entry::{Dependency, Entry, JsModule, JsonModule, Module, ModuleError, WasmModule};
 pub use crate::headers::Headers;
 pub use crate::kind::GraphKind;
 pub use crate::referrer::{ReferrerImports, referred, starts_of};
 pub use crate::resolution::{ResolutionError, Resolved, resolve};
 pub use crate::specifier::is_loadable;
-pub use crate::tree::tree_of;
 pub use crate::unasked::analyse_unasked;
 pub use data_specifier::DataError;
-pub use es_walk::{Attribute, DependencyKind};
+pub use deno_ast::{Attribute, DependencyKind, ParseDiagnostic, SyntaxErrorKind};
 pub use media_type::{MediaType, ModuleKind};
 pub use package_ref::{PackageKind, PackageRef};

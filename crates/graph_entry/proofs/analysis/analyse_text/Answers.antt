@@ -1,23 +1,45 @@
-use Rattle.std.proofs.Common.{subst, List, ap, Err}
+use Rattle.std.proofs.Common.{◌≡◌, ◌∙◌, ap, subst, List, ℕ}
 use Rattle.std.proofs.lemmas.Result.{IfOk-weaker}
-use Rattle.es_token.specs.declared.token.Token.{Token}
+use Rattle.deno_ast.specs.declared.params.ParseParams.{ParseParams}
+use Rattle.module_text.specs.ModuleText.{without_mark}
+use Rattle.deno_ast.specs.Parsed.{parsed_sites}
+use Rattle.deno_ast.specs.Read.{HasSites, IsFaulty}
+use Rattle.deno_ast.specs.Tree.{modes_of}
+use Rattle.deno_ast.specs.Source.{IsFault, Refuses}
+use Rattle.deno_ast.proofs.Theorems.{source_sites, source_fault}
 use Rattle.graph_entry.specs.Specifier.{text_of}
-use Rattle.graph_entry.specs.Analysed.{OfTokens, with_tokens, no_tokens}
+use Rattle.graph_entry.specs.Analysed.{module_of, no_module, with_sites, no_program}
 use Rattle.graph_entry.proofs.analysis.analyse_text.Goals as goal
 
--- what the tokens make that were read
+-- the module of its sites
 pub returns-in-Ok : goal.returns-in-Ok
 returns-in-Ok c =
-    let lexed = c.in-Ok.lexed in
-    IfOk-weaker c.analyse_tokens.result _ _
-    (λ made is. with_tokens lexed.tokens (lexed.comments, c.in-Ok.ensures.read)
-    (subst (λ (ts : List Token). OfTokens (text_of c.args.source.specifier.now) c.args.source.media_type
-    c.args.text.now ts made) c.as_slice.ensures is))
-    c.analyse_tokens.ensures
+    let s = text_of c.args.source.specifier.now in
+    let media = c.args.source.media_type in
+    let parsed = c.in-Ok.parsed in
+    let made_of = c.in_ok-params.ensures in
+    let has : HasSites media (without_mark c.args.text.now) (parsed_sites parsed)
+    = subst (λ (p : ParseParams). HasSites p.media_type (without_mark p.text) (parsed_sites parsed)) made_of
+    (source_sites c.in_ok-params.params _ parsed (ap (λ (p : ParseParams). p.maybe_syntax) made_of) c.in-Ok.ensures.parsed) in
+    let text : parsed.text ≡ without_mark c.args.text.now
+    = c.in-Ok.ensures.parsed.text_is ∙ ap (λ (p : ParseParams). without_mark p.text) made_of in
+    IfOk-weaker c.module_of.result _ _
+    (λ made is. with_sites (parsed_sites parsed) has
+    (is ∙ ap (λ (t : List ℕ). module_of s media t (parsed_sites parsed)) text))
+    c.module_of.ensures
 
--- the fault that was found
-pub returns-in_ok-fault_of-in-Err : goal.returns-in_ok-fault_of-in-Err
-returns-in_ok-fault_of-in-Err c =
-    let fault = c.in_ok-fault_of-in-Err.field-0 in
-    let stopped = c.in-Err.ensures.stopped fault (ap Err c.in_ok-fault_of-in-Err.ensures) in
-    IfOk-weaker c.no_tokens.result _ _ (λ made is. no_tokens fault.kind fault.at stopped is) c.no_tokens.ensures
+-- the fault of the text
+pub returns-in-Err-Diagnostic : goal.returns-in-Err-Diagnostic
+unfolding text_of
+returns-in-Err-Diagnostic c =
+    let s = text_of c.args.source.specifier.now in
+    let media = c.args.source.media_type in
+    let fault = c.in-Err-Diagnostic.fault in
+    let made_of = c.in_ok-params.ensures in
+    let is = subst (Refuses (IsFault (modes_of c.in_ok-params.params.media_type) c.in_ok-params.params (without_mark c.in_ok-params.params.text))) c.in-Err-Diagnostic.field-0-is
+    c.in-Err-Diagnostic.ensures.refused in
+    let faulty : IsFaulty media (without_mark c.args.text.now) fault.kind fault.range
+    = subst (λ (p : ParseParams). IsFaulty p.media_type (without_mark p.text) fault.kind fault.range) made_of
+    (source_fault c.in_ok-params.params _ fault (ap (λ (p : ParseParams). p.maybe_syntax) made_of) is) in
+    let place : fault.specifier ≡ s = is.0 ∙ ap (λ (p : ParseParams). text_of p.specifier) made_of in
+    no_program fault.kind fault.range faulty (ap (λ (x : List ℕ). no_module x fault.kind fault.range) place)
