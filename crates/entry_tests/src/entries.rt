@@ -161,6 +161,26 @@ const SOURCES: &[(&str, &str, &str)] = &[
     ("a.tsx", "a < b", "Tsx 5"),
     ("a.js", "import(x);import('./a' + x)", "JavaScript 27"),
     ("a.js", "f('./a.js'); './b.js'", "JavaScript 21"),
+    (
+        "a.ts",
+        "/// <reference path=\"./b.d.ts\" />\nimport \"./c.ts\";",
+        "TypeScript 50; reference-path 20-30 ./b.d.ts with ? -> file:///b.d.ts; import 41-49 ./c.ts -> file:///c.ts",
+    ),
+    (
+        "a.js",
+        "/// <reference path=\"./b.d.ts\" />\nimport \"./c.ts\";",
+        "JavaScript 50; import 41-49 ./c.ts -> file:///c.ts",
+    ),
+    (
+        "a.d.mts",
+        "/// <reference types='./t.d.ts' />",
+        "Dmts 34; reference-types 21-31 ./t.d.ts with ? -> file:///t.d.ts",
+    ),
+    (
+        "a.ts",
+        "a; /// <reference types='./t.d.ts' />",
+        "TypeScript 37",
+    ),
 ];
 
 /// The text of a module `/a.js`, and its edges.

@@ -98,6 +98,8 @@ fn kind_of(edge: &Dependency) -> &'static str {
         (DependencyKind::ImportEquals, false) => "import-equals",
         (DependencyKind::ImportEquals, true) => "import-equals-type",
         (DependencyKind::Dynamic, _) => "dynamic",
+        (DependencyKind::ReferencePath, _) => "reference-path",
+        (DependencyKind::ReferenceTypes, _) => "reference-types",
         _ => "other",
     }
 }
