@@ -24,8 +24,8 @@ pub analysed_once : (s : List ℕ) (a : Option LoadAnswer) (made other : Entry)
     → Analysed s a made → Analysed s a other → made ≡ other
 analysed_once = Analysed-once has_one_reading
 
--- each edge of a source cuts from the module's text the literal or the reference whose value is the edge's text, and each of a
--- WebAssembly module from its bytes the edge's text itself
+-- each edge of a source cuts from the module's text the literal or the reference whose value is the edge's text, and
+-- each of a WebAssembly module from its bytes the edge's text itself
 pub analysed_cuts : (s : List ℕ) (a : Option LoadAnswer) (made : Entry) → Analysed s a made → EdgesCut made
 analysed_cuts s =
     Analysed-edges CutsFrom CutsName s (λ text media found has.

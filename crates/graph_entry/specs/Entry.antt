@@ -42,7 +42,8 @@ EachEdge P Q (entry.Redirect target) = Unit {0}
 EachEdge P Q entry.External = Unit {0}
 EachEdge P Q (entry.Error e) = Unit {0}
 
--- each edge of a source cuts its literal or reference from the module's text, and each of a WebAssembly module its name from the bytes
+-- each edge of a source cuts its literal or reference from the module's text, and each of a WebAssembly module its name
+-- from the bytes
 abbrev pub EdgesCut : Entry → Type 0
 EdgesCut made = EachEdge CutsFrom CutsName made
 

@@ -22,7 +22,7 @@ GivesEdges s bytes (Ok edges) =
     (deps : Deps) × ReadsModule true bytes (Ok deps) × (edges ≡ map (wasm_dependency s) deps.imports)
 GivesEdges s bytes (Err e) = (e ≢ OutOfMemory) × ReadsModule true bytes (Err e)
 
--- what is to be parsed of a source: its text with a byte order mark that it may have
+-- what is to be parsed of a source, its text without a byte order mark
 abbrev pub params_of : Parts → MediaType → List ℕ → ParseParams
 params_of specifier media_type text = record {
   specifier = specifier;

@@ -1,7 +1,7 @@
 //! What one answer of a loader makes of one specifier.
 ghost use Rattle.std.specs.Prelude.{◌≡◌, None, Some, codes, map, IfOk};
 ghost use Rattle.url.specs.Parser.{parse_url};
-ghost use Rattle.module_text.specs.ModuleText.{without_mark};
+ghost use Rattle.module_text.specs.ModuleText.{without_mark as unmarked};
 ghost use Rattle.deno_ast.specs.Parsed.{parsed_sites};
 ghost use Rattle.graph_entry.specs.Specifier.{text_of};
 ghost use Rattle.graph_entry.specs.Headers.{header_value};
@@ -17,7 +17,7 @@ use crate::json::{analyse_json, no_text};
 use crate::resolution::{ReadAgain, read_again, resolve_from};
 use crate::wasm::analyse_wasm;
 use base::{Items, SharedBytes, SharedText};
-use deno_ast::{ParseFault, ParseParams, ParsedSource, Site, parse_program};
+use deno_ast::{ParseFault, ParseParams, ParsedSource, Site, parse_text, without_mark};
 use media_type::{MediaType, ModuleKind};
 use std::alloc::{AllocError, Global};
 use std::str;
@@ -135,10 +135,10 @@ fn analyse_bytes(alloc: Global, source: Source<'_>, bytes: &[u8]) -> Result<Entr
 fn analyse_text(alloc: Global, source: Source<'_>, text: &str) -> Result<Entry, AllocError>
     requires { IsReadAgain source }
     ensures { IfOk result
-        (OfText (text_of source.entry.specifier.now) source.entry.media_type (without_mark text.now)) }
+        (OfText (text_of source.entry.specifier.now) source.entry.media_type (unmarked text.now)) }
 {
-    let params = params_of(alloc, source, text)?;
-    match parse_program(alloc, params) {
+    let params = params_of(alloc, source, without_mark(text))?;
+    match parse_text(alloc, params) {
         Ok(parsed) => module_of(alloc, source, &parsed),
         Err(ParseFault::Diagnostic(fault)) => Ok(Entry::Error(ModuleError::Parse(fault))),
         Err(ParseFault::OutOfMemory) => Err(AllocError),
@@ -147,7 +147,8 @@ fn analyse_text(alloc: Global, source: Source<'_>, text: &str) -> Result<Entry, 
 
 // What is to be parsed of a source.
 fn params_of(alloc: Global, source: Source<'_>, text: &str) -> Result<ParseParams, AllocError>
-    ensures { IfOk result (λ params. params ≡ steps.params_of source.entry.specifier.now source.entry.media_type text.now) }
+    ensures { IfOk result (λ params. params
+        ≡ steps.params_of source.entry.specifier.now source.entry.media_type text.now) }
 {
     Ok(ParseParams {
         specifier: source.specifier.clone()?,
@@ -159,11 +160,7 @@ fn params_of(alloc: Global, source: Source<'_>, text: &str) -> Result<ParseParam
     })
 }
 
-fn module_of(
-    alloc: Global,
-    source: Source<'_>,
-    parsed: &ParsedSource,
-) -> Result<Entry, AllocError>
+fn module_of(alloc: Global, source: Source<'_>, parsed: &ParsedSource) -> Result<Entry, AllocError>
     requires { IsReadAgain source }
     ensures { IfOk result (λ made. made ≡ spec.module_of
         (text_of source.entry.specifier.now) source.entry.media_type parsed.now.text (parsed_sites parsed.now)) }
