@@ -2,7 +2,9 @@ pub mod ResolutionLemmas
 pub mod HeadersLemmas
 pub mod RoomLemmas
 pub mod ContentLemmas
+pub mod ReadingLemmas
 pub mod AnalysedLemmas
 pub mod EdgeLemmas
 pub mod FaultLemmas
+pub mod ParseLemmas
 pub mod Theorems

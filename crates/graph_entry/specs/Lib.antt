@@ -5,6 +5,7 @@ pub use Rattle.media_type.specs.Endings
 pub use Rattle.media_type.specs.ContentTypes
 pub use Rattle.module_text.specs.ModuleText
 pub use Rattle.file_url.specs.Imports
+pub mod Resolver
 pub mod Resolution
 pub mod Headers
 pub use Rattle.parse_diagnostic.specs.Diagnosis
@@ -14,6 +15,9 @@ pub mod Json
 pub mod Wasm
 pub use Rattle.deno_ast.specs.Read
 pub use Rattle.deno_ast.specs.Cuts
+pub mod Reading
+pub mod ReadingLaws
+pub mod Ways
 pub mod Analysed
 -- ---- what the functions inside the crate promise each other
 pub mod Steps

@@ -7,6 +7,7 @@ use Rattle.wasm_dep_analyzer.specs.declared.error.ParseError.{ParseError}
 use Rattle.wasm_dep_analyzer.specs.declared.error.ParseError.TheVariants.{OutOfMemory}
 use Rattle.wasm_dep_analyzer.specs.Module.{Deps, ReadsModule}
 use Rattle.graph_entry.specs.declared.entry.Dependency.{Dependency}
+use Rattle.graph_entry.specs.Resolution.{Resolves}
 use Rattle.graph_entry.specs.Wasm.{wasm_dependency}
 use Rattle.graph_entry.specs.declared.analysis.Source.{Source}
 use Rattle.media_type.specs.declared.media_type.MediaType.{MediaType}
@@ -17,10 +18,10 @@ abbrev pub IsReadAgain : Source → Type 0
 IsReadAgain source = source.base.now ≡ parse_url None (text_of source.specifier.now)
 
 -- the edges of the WebAssembly module at this specifier, or its first fault
-abbrev pub GivesEdges : List ℕ → List ℕ → Result (List Dependency) ParseError → Type 0
-GivesEdges s bytes (Ok edges) =
-    (deps : Deps) × ReadsModule true bytes (Ok deps) × (edges ≡ map (wasm_dependency s) deps.imports)
-GivesEdges s bytes (Err e) = (e ≢ OutOfMemory) × ReadsModule true bytes (Err e)
+abbrev pub GivesEdges : Resolves → List ℕ → List ℕ → Result (List Dependency) ParseError → Type 0
+GivesEdges resolves s bytes (Ok edges) =
+    (deps : Deps) × ReadsModule true bytes (Ok deps) × (edges ≡ map (wasm_dependency resolves s) deps.imports)
+GivesEdges resolves s bytes (Err e) = (e ≢ OutOfMemory) × ReadsModule true bytes (Err e)
 
 -- what is to be parsed of a source, its text without a byte order mark
 abbrev pub params_of : Parts → MediaType → List ℕ → ParseParams

@@ -1,36 +1,57 @@
 //! What one answer of a loader makes of one specifier.
 ghost use Rattle.std.specs.Prelude.{◌≡◌, None, Some, codes, map, IfOk};
 ghost use Rattle.url.specs.Parser.{parse_url};
-ghost use Rattle.module_text.specs.ModuleText.{without_mark as unmarked};
-ghost use Rattle.deno_ast.specs.Parsed.{parsed_sites};
 ghost use Rattle.graph_entry.specs.Specifier.{text_of};
 ghost use Rattle.graph_entry.specs.Headers.{header_value};
+ghost use Rattle.graph_entry.specs.Resolution.{resolve_by};
 ghost use Rattle.graph_entry.specs.Steps.{IsReadAgain};
-ghost use Rattle.graph_entry.specs.Steps as steps;
+ghost use Rattle.graph_entry.specs.Ways.{ways_by};
 ghost use Rattle.graph_entry.specs.Analysed as spec;
-ghost use Rattle.graph_entry.specs.Analysed.{Analysed, OfContent, OfBytes, OfText};
+ghost use Rattle.graph_entry.specs.Analysed.{Analysed, AnalysedBy, OfContent, OfBytes, OfText};
 
+use crate::analyzer::{AnalyzeFault, ModuleAnalyzer, ParserModuleAnalyzer};
 use crate::answer::LoadAnswer;
 use crate::entry::{Dependency, Entry, JsModule, Module, ModuleError};
 use crate::headers::Headers;
 use crate::json::{analyse_json, no_text};
 use crate::resolution::{ReadAgain, read_again, resolve_from};
+use crate::resolver::{DefaultResolver, Resolver};
 use crate::wasm::analyse_wasm;
 use base::{Items, SharedBytes, SharedText};
-use deno_ast::{ParseFault, ParseParams, ParsedSource, Site, parse_text, without_mark};
+use deno_ast::{Site, without_mark};
 use media_type::{MediaType, ModuleKind};
 use std::alloc::{AllocError, Global};
 use std::str;
 use url::Url;
 
 /// The entry of the specifier, where a loader gave this answer for it.
-#[tactic(auto, unfolding(crate::specs::Analysed::Analysed))]
 pub fn analyse(alloc: Global, specifier: &Url, answer: LoadAnswer) -> Result<Entry, AllocError>
     ensures { IfOk result (λ made. Analysed (text_of specifier.now) (Some answer) made) }
 {
+    analyse_by(
+        alloc,
+        &DefaultResolver,
+        &ParserModuleAnalyzer,
+        specifier,
+        answer,
+    )
+}
+
+/// The same by a resolver and an analyser of the caller's.
+#[tactic(auto, unfolding(crate::specs::Analysed::AnalysedBy))]
+pub fn analyse_by<R: Resolver, M: ModuleAnalyzer>(
+    alloc: Global,
+    resolver: &R,
+    analyzer: &M,
+    specifier: &Url,
+    answer: LoadAnswer,
+) -> Result<Entry, AllocError>
+    ensures { IfOk result (λ made. AnalysedBy (ways_by (R.resolving resolver.now) (M.reads analyzer.now))
+        (text_of specifier.now) (Some answer) made) }
+{
     match answer {
         LoadAnswer::Content { headers, bytes } => {
-            analyse_content(alloc, specifier, &headers, bytes)
+            analyse_content(alloc, resolver, analyzer, specifier, &headers, bytes)
         }
         LoadAnswer::Redirect(target) => Ok(Entry::Redirect(target)),
         LoadAnswer::External => Ok(Entry::External),
@@ -39,19 +60,23 @@ pub fn analyse(alloc: Global, specifier: &Url, answer: LoadAnswer) -> Result<Ent
     }
 }
 
-fn analyse_content(
+/// The entry of content, whatever the specifier's scheme.
+pub fn analyse_content<R: Resolver, M: ModuleAnalyzer>(
     alloc: Global,
+    resolver: &R,
+    analyzer: &M,
     specifier: &Url,
     headers: &Headers,
     bytes: SharedBytes,
 ) -> Result<Entry, AllocError>
-    ensures { IfOk result (OfContent (text_of specifier.now)
-        (spec.by_header (spec.media_type_read (parse_url None (text_of specifier.now)))
-        (header_value (codes "content-type") headers.now)) bytes) }
+    ensures { IfOk result (OfContent (ways_by (R.resolving resolver.now) (M.reads analyzer.now))
+        (text_of specifier.now) (spec.media_type_at (text_of specifier.now) headers.now) bytes) }
 {
     let base = read_again(alloc, specifier)?;
     let media_type = media_type_by(alloc, &base, headers)?;
-    analyse_as(alloc, specifier, &base, media_type, bytes)
+    analyse_as(
+        alloc, resolver, analyzer, specifier, &base, media_type, bytes,
+    )
 }
 
 // The media type of content with these headers, at a specifier that was read again.
@@ -71,15 +96,18 @@ fn media_type_by(
 }
 
 /// The entry of content of this media type. The base is the specifier, read again.
-pub fn analyse_as(
+pub fn analyse_as<R: Resolver, M: ModuleAnalyzer>(
     alloc: Global,
+    resolver: &R,
+    analyzer: &M,
     specifier: &Url,
     base: &ReadAgain,
     media_type: MediaType,
     bytes: SharedBytes,
 ) -> Result<Entry, AllocError>
     requires again { base.now ≡ parse_url None (text_of specifier.now) }
-    ensures { IfOk result (OfContent (text_of specifier.now) media_type bytes) }
+    ensures { IfOk result (OfContent (ways_by (R.resolving resolver.now) (M.reads analyzer.now))
+        (text_of specifier.now) media_type bytes) }
 {
     match media_type.kind() {
         None => Ok(unsupported(media_type)),
@@ -89,10 +117,10 @@ pub fn analyse_as(
                 base,
                 media_type,
             };
-            analyse_bytes(alloc, source, bytes.as_slice())
+            analyse_bytes(alloc, resolver, analyzer, source, bytes.as_slice())
         }
         Some(ModuleKind::Json) => analyse_json(alloc, bytes.as_slice()),
-        Some(ModuleKind::Wasm) => analyse_wasm(alloc, specifier, base, bytes),
+        Some(ModuleKind::Wasm) => analyse_wasm(alloc, resolver, specifier, base, bytes),
     }
 }
 
@@ -121,79 +149,113 @@ struct Source<'a> {
     media_type: MediaType,
 }
 
-fn analyse_bytes(alloc: Global, source: Source<'_>, bytes: &[u8]) -> Result<Entry, AllocError>
+fn analyse_bytes<R: Resolver, M: ModuleAnalyzer>(
+    alloc: Global,
+    resolver: &R,
+    analyzer: &M,
+    source: Source<'_>,
+    bytes: &[u8],
+) -> Result<Entry, AllocError>
     requires { IsReadAgain source }
-    ensures { IfOk result
-        (OfBytes (text_of source.entry.specifier.now) source.entry.media_type bytes.now) }
+    ensures { IfOk result (OfBytes (ways_by (R.resolving resolver.now) (M.reads analyzer.now))
+        (text_of source.entry.specifier.now) source.entry.media_type bytes.now) }
 {
     match str::from_utf8(bytes) {
-        Ok(text) => analyse_text(alloc, source, text),
+        Ok(text) => analyse_text(alloc, resolver, analyzer, source, without_mark(text)),
         Err(_) => Ok(no_text()),
     }
 }
 
-fn analyse_text(alloc: Global, source: Source<'_>, text: &str) -> Result<Entry, AllocError>
+fn analyse_text<R: Resolver, M: ModuleAnalyzer>(
+    alloc: Global,
+    resolver: &R,
+    analyzer: &M,
+    source: Source<'_>,
+    text: &str,
+) -> Result<Entry, AllocError>
     requires { IsReadAgain source }
-    ensures { IfOk result
-        (OfText (text_of source.entry.specifier.now) source.entry.media_type (unmarked text.now)) }
+    ensures { IfOk result (OfText (ways_by (R.resolving resolver.now) (M.reads analyzer.now))
+        (text_of source.entry.specifier.now) source.entry.media_type text.now) }
 {
-    let params = params_of(alloc, source, without_mark(text))?;
-    match parse_text(alloc, params) {
-        Ok(parsed) => module_of(alloc, source, &parsed),
-        Err(ParseFault::Diagnostic(fault)) => Ok(Entry::Error(ModuleError::Parse(fault))),
-        Err(ParseFault::OutOfMemory) => Err(AllocError),
+    let text = SharedText::from_str(alloc, text)?;
+    match analyzer.analyze(alloc, source.specifier, &text, source.media_type) {
+        Ok(info) => {
+            let module = module_of(alloc, resolver, source, text, info.sites)?;
+            Ok(Entry::Module(Module::Js(module)))
+        }
+        Err(AnalyzeFault::Parse(diagnostic)) => Ok(Entry::Error(ModuleError::Parse(diagnostic))),
+        Err(AnalyzeFault::OutOfMemory) => Err(AllocError),
     }
 }
 
-// What is to be parsed of a source.
-fn params_of(alloc: Global, source: Source<'_>, text: &str) -> Result<ParseParams, AllocError>
-    ensures { IfOk result (λ params. params
-        ≡ steps.params_of source.entry.specifier.now source.entry.media_type text.now) }
+fn module_of<R: Resolver>(
+    alloc: Global,
+    resolver: &R,
+    source: Source<'_>,
+    text: SharedText,
+    sites: Items<Site>,
+) -> Result<JsModule, AllocError>
+    requires { IsReadAgain source }
+    ensures { IfOk result (λ made. made ≡ spec.js_module (resolve_by (R.resolving resolver.now))
+        (text_of source.entry.specifier.now) source.entry.media_type text sites) }
 {
-    Ok(ParseParams {
-        specifier: source.specifier.clone()?,
-        text: SharedText::from_str(alloc, text)?,
+    let dependencies = dependencies_of(alloc, resolver, source, sites)?;
+    Ok(JsModule {
         media_type: source.media_type,
-        capture_tokens: false,
-        scope_analysis: false,
-        maybe_syntax: None,
+        text,
+        dependencies,
     })
 }
 
-fn module_of(alloc: Global, source: Source<'_>, parsed: &ParsedSource) -> Result<Entry, AllocError>
-    requires { IsReadAgain source }
-    ensures { IfOk result (λ made. made ≡ spec.module_of
-        (text_of source.entry.specifier.now) source.entry.media_type parsed.now.text (parsed_sites parsed.now)) }
+/// The module of the sites of a source at a specifier.
+pub fn module_at<R: Resolver>(
+    alloc: Global,
+    resolver: &R,
+    specifier: &Url,
+    media_type: MediaType,
+    text: SharedText,
+    sites: Items<Site>,
+) -> Result<JsModule, AllocError>
+    ensures { IfOk result (λ made. made ≡ spec.js_module (resolve_by (R.resolving resolver.now))
+        (text_of specifier.now) media_type text sites) }
 {
-    let found = parsed.sites(alloc)?;
-    let dependencies = dependencies_of(alloc, source, found)?;
-    Ok(Entry::Module(Module::Js(JsModule {
-        media_type: source.media_type,
-        text: parsed.text().copy()?,
-        dependencies,
-    })))
+    let base = read_again(alloc, specifier)?;
+    let source = Source {
+        specifier,
+        base: &base,
+        media_type,
+    };
+    module_of(alloc, resolver, source, text, sites)
 }
 
-fn dependencies_of(
+fn dependencies_of<R: Resolver>(
     alloc: Global,
+    resolver: &R,
     source: Source<'_>,
-    found: Items<Site>,
+    sites: Items<Site>,
 ) -> Result<Items<Dependency>, AllocError>
     requires { IsReadAgain source }
-    ensures { IfOk result (λ edges. edges ≡ map (spec.dependency_of (text_of source.entry.specifier.now)) found) }
+    ensures { IfOk result (λ edges. edges ≡ map (spec.dependency_of (resolve_by (R.resolving resolver.now))
+        (text_of source.entry.specifier.now)) sites) }
 {
     let mut edges = Items::new(alloc);
-    for site in found.into_vec() {
-        edges.push(dependency_of(alloc, source, site)?)?;
+    for site in sites.into_vec() {
+        edges.push(dependency_of(alloc, resolver, source, site)?)?;
     }
     Ok(edges)
 }
 
-fn dependency_of(alloc: Global, source: Source<'_>, site: Site) -> Result<Dependency, AllocError>
+fn dependency_of<R: Resolver>(
+    alloc: Global,
+    resolver: &R,
+    source: Source<'_>,
+    site: Site,
+) -> Result<Dependency, AllocError>
     requires { IsReadAgain source }
-    ensures { IfOk result (λ edge. edge ≡ spec.dependency_of (text_of source.entry.specifier.now) site) }
+    ensures { IfOk result (λ edge. edge ≡ spec.dependency_of (resolve_by (R.resolving resolver.now))
+        (text_of source.entry.specifier.now) site) }
 {
-    let resolution = resolve_from(alloc, source.base, site.value.as_str())?;
+    let resolution = resolve_from(alloc, resolver, source.base, site.value.as_str())?;
     Ok(Dependency {
         kind: site.kind,
         type_only: site.type_only,

@@ -17,26 +17,34 @@
 #![tactic(auto)]
 
 mod analysis;
+mod analyzer;
 mod answer;
 mod entry;
 mod headers;
 mod json;
 mod kind;
+mod parse;
 mod referrer;
 mod resolution;
+mod resolver;
 mod specifier;
 mod unasked;
 mod wasm;
 
-pub use crate::analysis::analyse;
+pub use crate::analysis::{analyse, analyse_by};
+pub use crate::analyzer::{AnalyzeFault, ModuleAnalyzer, ModuleInfo, ParserModuleAnalyzer};
 pub use crate::answer::LoadAnswer;
 pub use crate::entry::{Dependency, Entry, JsModule, JsonModule, Module, ModuleError, WasmModule};
 pub use crate::headers::Headers;
 pub use crate::kind::GraphKind;
-pub use crate::referrer::{ReferrerImports, referred, starts_of};
-pub use crate::resolution::{ResolutionError, Resolved, resolve};
+pub use crate::parse::{
+    ParseModuleFromAstOptions, ParseModuleOptions, parse_module, parse_module_from_ast,
+};
+pub use crate::referrer::{ReferrerImports, referred, referred_by, starts_by, starts_of};
+pub use crate::resolution::{ResolutionError, Resolved, resolve, resolve_by};
+pub use crate::resolver::{DefaultResolver, ResolveFault, Resolver};
 pub use crate::specifier::is_loadable;
-pub use crate::unasked::analyse_unasked;
+pub use crate::unasked::{analyse_unasked, analyse_unasked_by};
 pub use data_specifier::DataError;
 pub use deno_ast::{Attribute, DependencyKind, ParseDiagnostic, SyntaxErrorKind};
 pub use media_type::{MediaType, ModuleKind};

@@ -1,53 +1,42 @@
-use Rattle.std.proofs.Common.{◌≡◌, ◌∙◌, ap, subst, List, ℕ}
-use Rattle.std.proofs.lemmas.Result.{IfOk-weaker}
-use Rattle.module_text.specs.ModuleText.{without_mark}
-use Rattle.deno_ast.specs.declared.params.ParseParams.{ParseParams}
-use Rattle.deno_ast.specs.Parsed.{parsed_sites}
-use Rattle.deno_ast.specs.Read.{HasSites, IsFaulty}
-use Rattle.deno_ast.specs.Tree.{modes_of}
-use Rattle.deno_ast.specs.Source.{IsFault, Refuses}
-use Rattle.deno_ast.proofs.Theorems.{source_sites, source_fault}
+use Rattle.std.proofs.Common.{refl, ◌≡◌, ◌∙◌, ap, subst, List, ℕ, Ok, Err}
+use Rattle.graph_entry.specs.declared.analyzer.AnalyzeFault.{AnalyzeFault}
+use Rattle.graph_entry.specs.declared.entry.JsModule.{JsModule}
+use Rattle.graph_entry.specs.declared.entry.Module.TheVariants.{Js}
+use Rattle.graph_entry.specs.declared.entry.Entry.TheVariants as entry
 use Rattle.graph_entry.specs.Specifier.{text_of}
-use Rattle.graph_entry.specs.Steps.{params_of}
-use Rattle.graph_entry.specs.Analysed.{module_of, no_module, with_sites, no_program}
+use Rattle.graph_entry.specs.Resolution.{resolve_by}
+use Rattle.graph_entry.specs.Reading.{Sites, IsAnalysis}
+use Rattle.graph_entry.specs.Analysed.{js_module}
 use Rattle.graph_entry.proofs.analysis.analyse_text.Goals as goal
 
--- the module of its sites
-pub returns-in-Ok : goal.returns-in-Ok
-returns-in-Ok c =
-    let source = c.args.source in
-    let unmarked = without_mark c.args.text.now in
-    let parsed = c.in-Ok.parsed in
-    let params = c.in_ok-params.params in
-    let made_of : params ≡ params_of source.specifier.now source.media_type unmarked
-    = c.in_ok-params.ensures ∙ ap (params_of source.specifier.now source.media_type) c.without_mark.ensures in
-    let has : HasSites source.media_type unmarked (parsed_sites parsed)
-    = subst (λ (p : ParseParams). HasSites p.media_type p.text (parsed_sites parsed)) made_of
-    (source_sites params params.text parsed (ap (λ (p : ParseParams). p.maybe_syntax) made_of)
-    c.in-Ok.ensures.parsed) in
-    let text : parsed.text ≡ unmarked
-    = c.in-Ok.ensures.parsed.text_is ∙ ap (λ (p : ParseParams). p.text) made_of in
-    IfOk-weaker c.module_of.result _ _
-    (λ made is. with_sites (parsed_sites parsed) has
-    (is ∙ ap (λ (t : List ℕ). module_of (text_of source.specifier.now) source.media_type t (parsed_sites parsed)) text))
-    c.module_of.ensures
+-- the module of the sites that were read
+pub returns-in_ok-module-in-Ok : goal.returns-in_ok-module-in-Ok
+returns-in_ok-module-in-Ok g c =
+    let s = text_of c.args.source.specifier.now in
+    let media = c.args.source.media_type in
+    let by = resolve_by (g.R.Resolver.resolving c.args.resolver.now) in
+    let reads = g.M.ModuleAnalyzer.reads c.args.analyzer.now in
+    let sites = c.in-Ok.info.sites in
+    let same : c.in_ok-text.text ≡ c.args.text.now = c.in_ok-text.ensures in
+    record {
+      sites = Ok sites;
+      read = subst (λ (t : List ℕ). reads s media t (Ok sites)) same c.in-Ok.ensures.analysed;
+      is = ap (λ (m : JsModule). entry.Module (Js m))
+          (c.in_ok-module-in-Ok.ensures ∙ ap (λ (t : List ℕ). js_module by s media t sites) same);
+    }
 
--- the fault of the text
-pub returns-in-Err-Diagnostic : goal.returns-in-Err-Diagnostic
-unfolding text_of
-returns-in-Err-Diagnostic c =
-    let source = c.args.source in
-    let unmarked = without_mark c.args.text.now in
-    let fault = c.in-Err-Diagnostic.fault in
-    let params = c.in_ok-params.params in
-    let made_of : params ≡ params_of source.specifier.now source.media_type unmarked
-    = c.in_ok-params.ensures ∙ ap (params_of source.specifier.now source.media_type) c.without_mark.ensures in
-    let is : IsFault (modes_of params.media_type) params params.text fault
-    = subst (Refuses (IsFault (modes_of params.media_type) params params.text)) c.in-Err-Diagnostic.field-0-is
-    c.in-Err-Diagnostic.ensures.refused in
-    let faulty : IsFaulty source.media_type unmarked fault.kind fault.range
-    = subst (λ (p : ParseParams). IsFaulty p.media_type p.text fault.kind fault.range) made_of
-    (source_fault params params.text fault (ap (λ (p : ParseParams). p.maybe_syntax) made_of) is) in
-    let place : fault.specifier ≡ text_of source.specifier.now
-    = is.0 ∙ ap (λ (p : ParseParams). text_of p.specifier) made_of in
-    no_program fault.kind fault.range faulty (ap (λ (x : List ℕ). no_module x fault.kind fault.range) place)
+-- what is wrong with the source
+pub returns-in-Err-Parse : goal.returns-in-Err-Parse
+returns-in-Err-Parse g c =
+    let s = text_of c.args.source.specifier.now in
+    let media = c.args.source.media_type in
+    let reads = g.M.ModuleAnalyzer.reads c.args.analyzer.now in
+    let d = c.in-Err-Parse.diagnostic in
+    let same : c.in_ok-text.text ≡ c.args.text.now = c.in_ok-text.ensures in
+    let told = subst (λ (e : AnalyzeFault). IsAnalysis (reads s media c.in_ok-text.text) (Err e)) c.in-Err-Parse.field-0-is
+    c.in-Err-Parse.ensures.analysed in
+    record {
+      sites = Err d;
+      read = subst (λ (t : List ℕ). reads s media t (Err d)) same told;
+      is = refl;
+    }
