@@ -43,6 +43,14 @@ const RUNS: &[(&str, &str)] = &[
         "0 root file:///a.js\nfile:///a.js module JavaScript 70\n  import 14-24 \"./d.json\" \"json\" -> file:///d.json\n  export 60-70 \"./d.json\" - ! InvalidTypeAssertion\nfile:///d.json module Json 2\nentries 2\n",
     ),
     (
+        r#"{"roots":["file:///a.ts"],"modules":[{"specifier":"file:///a.ts","text":"/// <reference types='./t.d.ts' />"},{"specifier":"file:///t.d.ts","text":""}]}"#,
+        "0 root file:///a.ts\nfile:///a.ts module TypeScript 34\n  reference-types 21-31 \"./t.d.ts\" ? -> file:///t.d.ts\nfile:///t.d.ts module Dts 0\nentries 2\n",
+    ),
+    (
+        r#"{"roots":["file:///a.ts"],"kind":"code","modules":[{"specifier":"file:///a.ts","text":"/// <reference types='./t.d.ts' />"},{"specifier":"file:///t.d.ts","text":""}]}"#,
+        "0 root file:///a.ts\nfile:///a.ts module TypeScript 34\n  reference-types 21-31 \"./t.d.ts\" ? -> file:///t.d.ts\nentries 1\n",
+    ),
+    (
         r#"{"roots":["file:///m.wasm"],"modules":[{"specifier":"file:///m.wasm","base64":"AGFzbQEAAAACCQEDLi9hAWYAAA=="}]}"#,
         "0 root file:///m.wasm\nfile:///a error Missing\nfile:///m.wasm module Wasm 19\n  wasm 12-15 \"./a\" - -> file:///a\nentries 2\n",
     ),
