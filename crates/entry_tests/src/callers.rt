@@ -4,10 +4,12 @@ ghost use Rattle.std.specs.Prelude.{◌≡◌, Err, Ok, []};
 ghost use Rattle.graph_entry.specs.declared.resolver.ResolveFault.TheVariants as fault;
 
 use crate::lines::line_of;
-use base::{Items, SharedBytes, SharedText, Text};
+use base::{Items, Range, SharedBytes, SharedText, Text};
+use es_lexer::lex_tokens;
 use graph_entry::{
-    AnalyzeFault, DefaultResolver, Entry, MediaType, ModuleAnalyzer, ModuleInfo,
-    ParseModuleOptions, ParserModuleAnalyzer, ResolveFault, Resolver, parse_module,
+    AnalyzeFault, DefaultResolver, Entry, MediaType, Module, ModuleAnalyzer, ModuleInfo,
+    ParseModuleFromAstOptions, ParseModuleOptions, ParserModuleAnalyzer, ResolveFault, Resolver,
+    parse_module, parse_module_from_ast, tree_of,
 };
 use std::alloc::Global;
 use std::process::Abort;
@@ -93,4 +95,45 @@ fn modules_by_callers(rt: HostRuntime) {
     );
     let line = parsed(&rt, alloc, none, &Blind);
     assert_eq!(rt; line.as_str(), "TypeScript 16");
+}
+
+// The one site of a source, by its range and its text.
+fn site_of(rt: &impl Abort, alloc: Global, info: &ModuleInfo) -> String {
+    let sites = info.sites.as_slice();
+    assert_eq!(rt; sites.len(), 1);
+    let Range { start, end } = sites[0].range;
+    format!(in alloc; "{start}-{end} {}", sites[0].value.as_str()).expect(rt, "memory")
+}
+
+#[test]
+fn parts_of_one_module(rt: HostRuntime) {
+    let alloc = rt.alloc();
+    let media_type = MediaType::TypeScript;
+    let specifier = Url::parse(alloc, "file:///a.ts").expect(&rt, "a URL");
+    let text = SharedText::from_str(alloc, "import \"./b.ts\";").expect(&rt, "memory");
+    let analysed = ParserModuleAnalyzer.analyze(alloc, &specifier, &text, media_type);
+    let info = analysed.expect(&rt, "a source");
+    assert_eq!(rt; site_of(&rt, alloc, &info).as_str(), "7-15 ./b.ts");
+    let target = DefaultResolver.resolve(alloc, "./b.ts", &specifier);
+    assert_eq!(rt; target.expect(&rt, "a target").as_str(), "file:///b.ts");
+    let lexed = lex_tokens(alloc, text.as_str()).expect(&rt, "tokens");
+    let program = tree_of(alloc, media_type, text.as_str(), lexed.tokens.as_slice());
+    let program = program.expect(&rt, "a tree");
+    let info = ParserModuleAnalyzer.module_info(alloc, &program);
+    let line = site_of(&rt, alloc, &info.expect(&rt, "memory"));
+    assert_eq!(rt; line.as_str(), "7-15 ./b.ts");
+    let none: Option<&DefaultResolver> = None;
+    let options = ParseModuleFromAstOptions {
+        specifier,
+        media_type,
+        text,
+        program: &program,
+        maybe_resolver: none,
+    };
+    let module = parse_module_from_ast(alloc, options).expect(&rt, "memory");
+    let line = line_of(alloc, &Entry::Module(Module::Js(module))).expect(&rt, "memory");
+    assert_eq!(rt;
+        line.as_str(),
+        "TypeScript 16; import 7-15 ./b.ts -> file:///b.ts"
+    );
 }

@@ -6,10 +6,10 @@ use graph_run::{MemorySink, MemorySource, run};
 use std::alloc::{AllocError, Global};
 use std::process::Abort;
 
-const ROW: &str =
+pub const ROW: &str =
     r#"{"roots":["file:///a.ts"],"modules":[{"specifier":"file:///a.ts","text":"import \"./b.ts\";"}]}"#;
 
-const REPORT: &str =
+pub const REPORT: &str =
     "0 root file:///a.ts\nfile:///a.ts module TypeScript 16\n  import 7-15 \"./b.ts\" - -> file:///b.ts\nfile:///b.ts error Missing\nentries 2\n";
 
 const FIVE: &str = r#"{"roots":["file:///1.ts"],"modules":[
@@ -130,7 +130,7 @@ fn ended(
 }
 
 /// The same for `build` over the input, in pieces of this size.
-fn built(rt: &impl Abort, alloc: Global, input: &str, piece: usize) -> String
+pub fn built(rt: &impl Abort, alloc: Global, input: &str, piece: usize) -> String
     requires { 0 < piece }
 {
     let bytes = input.as_bytes().to_vec(alloc).expect(rt, "memory");

@@ -8,14 +8,14 @@ use Rattle.es_dress_modules.proofs.modules.Modules.item.Goals as goal
 -- nothing is made of it as an import or an export, and it is no statement
 pub returns-in_err-decl : goal.returns-in_err-decl
 returns-in_err-decl g c =
-    let p = err_from_is_err_and c.from_residual-in_err-decl.result c.from_residual-in_err-decl.ensures.1 in
+    let p = err_from_is_err_and c.from_residual.result c.from_residual.ensures.1 in
     let x = c.args.self.now.0.now.source.text.now in
     let ts = c.args.self.now.0.now.source.tokens.now in
     let node = c.args.node.now in
     let parts = parts_of x ts node.parts.now in
     let decl = module_decl_of x ts node.label node.span parts in
     let stmt = stmt_of x ts node.label node.span parts in
-    made_refused (item_by x ts decl stmt) c.from_residual-in_err-decl.result p.0 c.in_err-decl.field-0.0 p.1 p.2
+    made_refused (item_by x ts decl stmt) c.from_residual.result p.0 c.in_err-decl.field-0.0 p.1 p.2
     (λ memory. item_none x ts decl stmt (c.in_err-decl.ensures decl c.module_decl.ensures memory)
     (c.is_module_decl.ensures.no_stmt x ts node.span parts c.if-is_module_decl.true))
 
