@@ -5,11 +5,11 @@ ghost use Rattle.graph_entry.specs.declared.resolver.ResolveFault.TheVariants as
 
 use crate::lines::line_of;
 use base::{Items, Range, SharedBytes, SharedText, Text};
-use es_lexer::lex_tokens;
+use deno_ast::{ParseParams, parse_program};
 use graph_entry::{
     AnalyzeFault, DefaultResolver, Entry, MediaType, Module, ModuleAnalyzer, ModuleInfo,
     ParseModuleFromAstOptions, ParseModuleOptions, ParserModuleAnalyzer, ResolveFault, Resolver,
-    parse_module, parse_module_from_ast, tree_of,
+    parse_module, parse_module_from_ast,
 };
 use std::alloc::Global;
 use std::process::Abort;
@@ -116,18 +116,22 @@ fn parts_of_one_module(rt: HostRuntime) {
     assert_eq!(rt; site_of(&rt, alloc, &info).as_str(), "7-15 ./b.ts");
     let target = DefaultResolver.resolve(alloc, "./b.ts", &specifier);
     assert_eq!(rt; target.expect(&rt, "a target").as_str(), "file:///b.ts");
-    let lexed = lex_tokens(alloc, text.as_str()).expect(&rt, "tokens");
-    let program = tree_of(alloc, media_type, text.as_str(), lexed.tokens.as_slice());
-    let program = program.expect(&rt, "a tree");
-    let info = ParserModuleAnalyzer.module_info(alloc, &program);
+    let params = ParseParams {
+        specifier: specifier.clone().expect(&rt, "memory"),
+        text,
+        media_type,
+        capture_tokens: false,
+        scope_analysis: false,
+        maybe_syntax: None,
+    };
+    let parsed = parse_program(alloc, params).expect(&rt, "a source");
+    let info = ParserModuleAnalyzer.module_info(alloc, &parsed);
     let line = site_of(&rt, alloc, &info.expect(&rt, "memory"));
     assert_eq!(rt; line.as_str(), "7-15 ./b.ts");
     let none: Option<&DefaultResolver> = None;
     let options = ParseModuleFromAstOptions {
         specifier,
-        media_type,
-        text,
-        program: &program,
+        parsed_source: &parsed,
         maybe_resolver: none,
     };
     let module = parse_module_from_ast(alloc, options).expect(&rt, "memory");
