@@ -1,5 +1,5 @@
 -- Answers of analysers, and resolvers' faults.
-use Rattle.std.proofs.Common.{◌≡◌, ◌⊎◌, inl, inr, sym, ap, subst, Ok, Err}
+use Rattle.std.proofs.Common.{◌≡◌, ◌⊎◌, inl, inr, ap, Ok, Err}
 use Rattle.std.specs.Prelude.{Result}
 use Rattle.graph_entry.specs.declared.analyzer.ModuleInfo.{ModuleInfo}
 use Rattle.graph_entry.specs.declared.analyzer.AnalyzeFault.{AnalyzeFault}

@@ -1,5 +1,5 @@
 -- A source is read as one thing at most: a law that analysers owe.
-use Rattle.std.specs.Prelude.{◌≡◌, ℕ, List, Option, Ok, Err}
+use Rattle.std.specs.Prelude.{List, Option, Ok, Err}
 use Rattle.std.proofs.Common.{◌∙◌, sym, ap}
 use Rattle.base.specs.declared.range.Range.{Range}
 use Rattle.es_walk.specs.declared.site.Site.{Site}

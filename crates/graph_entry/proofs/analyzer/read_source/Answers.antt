@@ -4,8 +4,6 @@ use Rattle.graph_entry.specs.Specifier.{text_of}
 use Rattle.graph_entry.specs.Reading.{IsAnalysis, ReadsSource}
 use Rattle.graph_entry.proofs.analyzer.read_source.Goals as goal
 
--- Guessed, not checked: the names of the goals.
-
 -- what was parsed is the source
 pub returns-in-Ok : goal.returns-in-Ok
 returns-in-Ok c =
