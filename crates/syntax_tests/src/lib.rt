@@ -4,6 +4,8 @@
 #[cfg(test)]
 mod errors;
 #[cfg(test)]
+mod heads;
+#[cfg(test)]
 mod trees;
 #[cfg(test)]
 mod typed;
