@@ -3,7 +3,7 @@
 ghost use Rattle.std.specs.Prelude.{◌≡◌, ◌+◌, Option, option_map};
 ghost use Rattle.es_ast.specs.declared.ast.Decl.TheVariants as vDecl;
 ghost use Rattle.es_dress.specs.TypedFunctions.{typed_class, typed_function};
-ghost use Rattle.es_dress.specs.TypedStatements.{alias, declared_variables, enum_, enum_member, interface};
+ghost use Rattle.es_dress.specs.TypedStatements.{Declarable, alias, declared_variables, enum_, enum_member, interface};
 ghost use Rattle.es_dresser.specs.Nodes.{IsWithin};
 ghost use Rattle.es_dresser.specs.Ring.{IsMade, IsRing, parts_in};
 
@@ -53,7 +53,7 @@ impl<
         requires ring { IsRing self.now.0.now.source self.now.0.now.whole.now (E.pre self.now.0.now.expr) (E.post self.now.0.now.expr)
             (P.pre self.now.0.now.pat) (P.post self.now.0.now.pat) (S.pre self.now.0.now.stmt) (S.post self.now.0.now.stmt) (I.pre self.now.0.now.item) (I.post self.now.0.now.item) }
         requires within { IsWithin parts.now self.now.0.now.whole.now }
-        ensures { IsMade (option_map (λ decl. decl declare span) (option_map (λ function declared r. vDecl.Fn declared function r) (typed_function self.now.0.now.source.text.now self.now.0.now.source.tokens.now is_async over (parts_in self.now.0.now.source parts.now)))) result }
+        ensures { IsMade (option_map (λ (decl : Declarable). decl declare span) (option_map (λ function declared r. vDecl.Fn declared function r) (typed_function self.now.0.now.source.text.now self.now.0.now.source.tokens.now is_async over (parts_in self.now.0.now.source parts.now)))) result }
     {
         let function = Functions(self.0).typed_function(is_async, over, parts)?;
         Ok(Decl::Fn {
@@ -75,7 +75,7 @@ impl<
         requires ring { IsRing self.now.0.now.source self.now.0.now.whole.now (E.pre self.now.0.now.expr) (E.post self.now.0.now.expr)
             (P.pre self.now.0.now.pat) (P.post self.now.0.now.pat) (S.pre self.now.0.now.stmt) (S.post self.now.0.now.stmt) (I.pre self.now.0.now.item) (I.post self.now.0.now.item) }
         requires within { IsWithin parts.now self.now.0.now.whole.now }
-        ensures { IsMade (option_map (λ decl. decl declare span) (option_map (λ class declared r. vDecl.Class declared class r) (typed_class self.now.0.now.source.text.now self.now.0.now.source.tokens.now is_abstract over (parts_in self.now.0.now.source parts.now)))) result }
+        ensures { IsMade (option_map (λ (decl : Declarable). decl declare span) (option_map (λ class declared r. vDecl.Class declared class r) (typed_class self.now.0.now.source.text.now self.now.0.now.source.tokens.now is_abstract over (parts_in self.now.0.now.source parts.now)))) result }
     {
         let class = Functions(self.0).typed_class(is_abstract, over, parts)?;
         Ok(Decl::Class {
