@@ -11,7 +11,7 @@ use graph_entry::{
     ParseModuleFromAstOptions, ParseModuleOptions, ParserModuleAnalyzer, ResolveFault, Resolver,
     parse_module, parse_module_from_ast,
 };
-use std::alloc::Global;
+use std::alloc::{AllocError, Global};
 use std::process::Abort;
 use url::Url;
 
@@ -97,12 +97,15 @@ fn modules_by_callers(rt: HostRuntime) {
     assert_eq!(rt; line.as_str(), "TypeScript 16");
 }
 
-// The one site of a source, by its range and its text.
-fn site_of(rt: &impl Abort, alloc: Global, info: &ModuleInfo) -> String {
-    let sites = info.sites.as_slice();
-    assert_eq!(rt; sites.len(), 1);
-    let Range { start, end } = sites[0].range;
-    format!(in alloc; "{start}-{end} {}", sites[0].value.as_str()).expect(rt, "memory")
+// The sites of a source, each by its range and its text.
+fn sites_in(alloc: Global, info: &ModuleInfo) -> Result<String, AllocError> {
+    let mut line = String::new(alloc);
+    for site in info.sites.as_slice() {
+        let Range { start, end } = site.range;
+        let shown = format!(in alloc; "{start}-{end} {};", site.value.as_str())?;
+        line.push_str(shown.as_str())?;
+    }
+    Ok(line)
 }
 
 #[test]
@@ -113,7 +116,8 @@ fn parts_of_one_module(rt: HostRuntime) {
     let text = SharedText::from_str(alloc, "import \"./b.ts\";").expect(&rt, "memory");
     let analysed = ParserModuleAnalyzer.analyze(alloc, &specifier, &text, media_type);
     let info = analysed.expect(&rt, "a source");
-    assert_eq!(rt; site_of(&rt, alloc, &info).as_str(), "7-15 ./b.ts");
+    let line = sites_in(alloc, &info).expect(&rt, "memory");
+    assert_eq!(rt; line.as_str(), "7-15 ./b.ts;");
     let target = DefaultResolver.resolve(alloc, "./b.ts", &specifier);
     assert_eq!(rt; target.expect(&rt, "a target").as_str(), "file:///b.ts");
     let params = ParseParams {
@@ -126,8 +130,8 @@ fn parts_of_one_module(rt: HostRuntime) {
     };
     let parsed = parse_program(alloc, params).expect(&rt, "a source");
     let info = ParserModuleAnalyzer.module_info(alloc, &parsed);
-    let line = site_of(&rt, alloc, &info.expect(&rt, "memory"));
-    assert_eq!(rt; line.as_str(), "7-15 ./b.ts");
+    let line = sites_in(alloc, &info.expect(&rt, "memory")).expect(&rt, "memory");
+    assert_eq!(rt; line.as_str(), "7-15 ./b.ts;");
     let none: Option<&DefaultResolver> = None;
     let options = ParseModuleFromAstOptions {
         specifier,
