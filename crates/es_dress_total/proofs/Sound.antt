@@ -25,7 +25,7 @@ use Rattle.es_dress.specs.Dress.{packed, value_of}
 use Rattle.es_dress.proofs.Equations.{value_leaf, value_parts}
 use Rattle.es_dress_total.proofs.Uses.{Use, IsThere, HasAt}
 use Rattle.es_dress_total.proofs.Words.{there_of, if_there, rest_true, not_both, kind_there}
-use Rattle.es_dress_total.proofs.Needs.{Needs, rest, never, any, of, leaf as a_leaf, word, name, maybe, hollow, list, group_of, either_of, or_one, binary, assign, HasKind, MayMeet, EachTurn, IsAlone, Meets, only_such, never_holds, is_bare, is_single, are_tokens, least, most, some, is_binary, is_assign, is_greater, begins_with, spells_binary, spells_assign, goes_on, is_closed, closes, told, stands_once, or_asks, covers}
+use Rattle.es_dress_total.proofs.Needs.{Needs, rest, never, any, of, leaf as a_leaf, word, name, maybe, hollow, list, group_of, either_of, or_one, binary, assign, HasKind, MayMeet, EachTurn, IsAlone, Meets, only_such, never_holds, is_bare, is_single, are_tokens, least, most, is_binary, is_assign, is_greater, begins_with, spells_binary, spells_assign, goes_on, is_closed, closes, told, stands_once, or_asks, covers}
 
 -- ---- tests
 pub either_holds : (a b : Bool) → a || b ≡ true → (a ≡ true) ⊎ (b ≡ true)

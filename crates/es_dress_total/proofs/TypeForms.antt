@@ -22,7 +22,7 @@ use Rattle.es_dress.specs.TypePatterns as type_pats
 use Rattle.es_dress.specs.TypeMembers as type_members
 use Rattle.es_dress.specs.Types as types
 use Rattle.es_dress_total.proofs.Uses.{as_entity, as_type, as_arguments, as_type_params, as_element, as_type_member, as_fn_param, as_type_pat, as_type_prop, IsThere}
-use Rattle.es_dress_total.proofs.Needs.{rest, of, leaf, word, name, maybe, list, Meets}
+use Rattle.es_dress_total.proofs.Needs.{rest, of, leaf, word, maybe, list, Meets}
 use Rattle.es_dress_total.proofs.Words.{given_there, map_there, is_piece, listed_there, type_word_found, number_lit_found, piece_found}
 use Rattle.es_dress_total.proofs.Parts.{optional_in, turns_in, elements_in, holds_found, type_marked_found, signed_found, indexes_in, bracket_found}
 use Rattle.es_dress_total.proofs.Table.{needs_type, needs_arguments, needs_type_params, needs_element, needs_type_member, needs_type_key, needs_type_pat, needs_type_prop, needs_fn_param, needs_fn_params, needs_reference}
