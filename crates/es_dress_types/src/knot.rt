@@ -15,28 +15,24 @@ use ts_ast::{TsParamPat, TsType};
 fn no_expr(source: Source<'_>, tree: &Tree) -> Result<Expr, DressError>
     ensures { IsMade (expr_in (value_of source.entry.text.now source.entry.tokens.now tree.now)) result }
 {
-    let _ = (source, tree);
     Err(DressError::OutOfMemory)
 }
 
 fn no_pat(source: Source<'_>, tree: &Tree) -> Result<Pat, DressError>
     ensures { IsMade (pat_in (value_of source.entry.text.now source.entry.tokens.now tree.now)) result }
 {
-    let _ = (source, tree);
     Err(DressError::OutOfMemory)
 }
 
 fn no_stmt(source: Source<'_>, tree: &Tree) -> Result<Stmt, DressError>
     ensures { IsMade (stmt_in (value_of source.entry.text.now source.entry.tokens.now tree.now)) result }
 {
-    let _ = (source, tree);
     Err(DressError::OutOfMemory)
 }
 
 fn no_item(source: Source<'_>, tree: &Tree) -> Result<ModuleItem, DressError>
     ensures { IsMade (item_in (value_of source.entry.text.now source.entry.tokens.now tree.now)) result }
 {
-    let _ = (source, tree);
     Err(DressError::OutOfMemory)
 }
 
