@@ -1,2 +1,4 @@
 -- items of modules
 pub mod ItemLemmas
+-- labels that differ
+mod LabelLemmas
