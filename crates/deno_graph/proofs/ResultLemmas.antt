@@ -11,9 +11,9 @@ use Rattle.url.specs.Parts.{Parts}
 use Rattle.graph_entry.specs.declared.answer.LoadAnswer.{LoadAnswer}
 use Rattle.graph_entry.specs.declared.entry.Entry.{Entry}
 use Rattle.graph_entry.specs.declared.referrer.ReferrerImports.{ReferrerImports}
-use Rattle.graph_entry.specs.Referrer.{starts_of}
+use Rattle.graph_entry.specs.Resolution.{Resolves}
+use Rattle.graph_entry.specs.Referrer.{starts_by}
 use Rattle.graph_entry.specs.Specifier.{text_of, loadable}
-use Rattle.deno_graph.specs.declared.following.Following.{Following}
 use Rattle.deno_graph.specs.declared.slot.Slot.{Slot}
 use Rattle.deno_graph.specs.declared.slot.Slot.TheVariants.{Queued, Asked, Done}
 use Rattle.deno_graph.specs.Reach.{Specifier, Log, Rules, answer_to, has, IsEntry, IsReached, IsReach, IsFunctional}
@@ -21,7 +21,7 @@ use Rattle.deno_graph.specs.Graph.{texts, members_of, IsGraph, IsAscending}
 use Rattle.deno_graph.specs.ByText.{value_at}
 use Rattle.deno_graph.specs.Events.{Event, Answered, asked_of, log_of, IsOutstanding, IsTimely, IsSettled, times, requests, answers}
 use Rattle.deno_graph.specs.Building.{IsBuilding, no_one}
-use Rattle.deno_graph.specs.Builder.{last_of, before_last, SomeOutstanding, IsFairly, IsAskedFor, EachAnswered, ReachesAtMost, IsOrderly, IsOrderlyAfter, IsAwaited, IsUnawaited, IsUnawaitedOver, IsNotYet, IsTooMany, Building, starts, HasHistory}
+use Rattle.deno_graph.specs.Builder.{last_of, before_last, SomeOutstanding, IsFairly, IsAskedFor, EachAnswered, ReachesAtMost, IsOrderly, IsOrderlyAfter, IsAwaited, IsUnawaited, IsUnawaitedOver, IsNotYet, IsTooMany, BuildingBy, starts, HasHistory}
 use Rattle.deno_graph.specs.declared.error.BuildError.{BuildError}
 use Rattle.deno_graph.specs.declared.error.BuildError.TheVariants as error
 use Rattle.deno_graph.specs.Progress.{At, IsLive, starts_at, own_count, own_events, own_asked, own_log, slots_at, todo_at, IsThrough, IsPaused, IsUnasked, GoesOnAt, IsKeptAt}
@@ -229,7 +229,7 @@ result_asked {rules} once x y t g =
     (asked_now rules once y t.live t.begun t.asked_all)
 
 pub result_not_yet : {rules : Rules} → IsFunctional rules
-    → {L : Type 0} (l m : L) (w : Following) (rs : List Parts) (os : List ReferrerImports) (x y : At) (f g1 : Bool)
+    → {L W : Type 0} (l m : L) (w : W) (rs : List Parts) (os : List ReferrerImports) (x y : At) (f g1 : Bool)
     → IsPaused rules x y → GoesOnAt x y → IsKeptAt rules x
     → IsStrictlySortedBy url_cmp (keys_of y.progress.reaching.reached.entries)
     → IsNotYet rules (seen_of l w rs os x f) (seen_of m w rs os y g1)
@@ -302,7 +302,7 @@ result_not_yet {rules} once l m w rs os x y f g1 p g k sorted = record {
         )
 
 pub result_unasked : {rules : Rules} → IsFunctional rules
-    → {L : Type 0} (l m : L) (w : Following) (rs : List Parts) (os : List ReferrerImports) (x y : At) (f g1 : Bool)
+    → {L W : Type 0} (l m : L) (w : W) (rs : List Parts) (os : List ReferrerImports) (x y : At) (f g1 : Bool)
     (s : Specifier)
     → IsUnasked rules x y s → IsUnawaited rules 1 (seen_of l w rs os x f) (seen_of m w rs os y g1) s
 result_unasked {rules} once l m w rs os x y f g1 s u = record {
@@ -348,7 +348,7 @@ fairly {rules} x y s kx ky g u fair none_open =
 
 -- as `poll` says it
 pub result_fair : {rules : Rules}
-    → {L A : Type 0} (l : L) (w : Following) (rs : List Parts) (os : List ReferrerImports) (x y : At) (f : Bool)
+    → {L W A : Type 0} (l : L) (w : W) (rs : List Parts) (os : List ReferrerImports) (x y : At) (f : Bool)
     (url : Parts)
     → IsKeptAt rules x → IsKeptAt rules y → GoesOnAt x y
     → IsUnasked rules x y (text_of url)
@@ -371,7 +371,8 @@ orderly_last rules starts0 before [] s a h = rw append-nil h.0
 orderly_last rules starts0 before (x ∷ log) s a h =
     rw (sym (append_assoc before (x ∷ []) log)) (orderly_last rules starts0 (before ++ x ∷ []) log s a h.1)
 
-pub unawaited_none : (rules : Rules) {L : Type 0} (old new : Building L) (s : Specifier) → IsUnawaited rules 1 old new s
+pub unawaited_none : (rules : Rules) {L W : Type 0} (old new : BuildingBy L W) (s : Specifier)
+    → IsUnawaited rules 1 old new s
     → IsOrderly rules (starts old) new.log → ⊥
 unawaited_none rules old new s u h = by u.unawaited
   where
@@ -387,11 +388,11 @@ unawaited_none rules old new s u h = by u.unawaited
         (subst (λ (l : Log). IsReached rules (starts old) (answer_to l) s) (sym whole) awaited.reached) awaited.loads
 
 -- a builder that begins has nothing
-pub inside_new : (rules : Rules) (rs : List Parts) (os : List ReferrerImports) (x : At)
-    → starts_at x ≡ starts_of rs os → x.progress.asked ≡ 0 → x.progress.taken ≡ 0 → x.progress.begun ≡ false
-    → x.progress.reaching.reached.entries ≡ [] → x.progress.reaching.todo ≡ [] → IsInside rules rs os x false
+pub inside_new : (rules : Rules) (resolves : Resolves) (rs : List Parts) (os : List ReferrerImports) (x : At)
+    → starts_at x ≡ starts_by resolves rs os → x.progress.asked ≡ 0 → x.progress.taken ≡ 0 → x.progress.begun ≡ false
+    → x.progress.reaching.reached.entries ≡ [] → x.progress.reaching.todo ≡ [] → IsInside rules resolves rs os x false
 unfolding IsDistinct
-inside_new rules rs os x starting a t b r d = record {
+inside_new rules resolves rs os x starting a t b r d = record {
   starting = starting;
   kept = kept;
   live = λ e. record {
@@ -430,7 +431,7 @@ inside_new rules rs os x starting a t b r d = record {
 -- ---- history
 
 pub result_history : {rules : Rules}
-    → {L : Type 0} (l m : L) (w : Following) (rs : List Parts) (os : List ReferrerImports) (x y : At) (f g1 : Bool)
+    → {L W : Type 0} (l m : L) (w : W) (rs : List Parts) (os : List ReferrerImports) (x y : At) (f g1 : Bool)
     → GoesOnAt x y
     → IsKeptAt rules x → IsKeptAt rules y
     → HasHistory (seen_of l w rs os x f) (seen_of m w rs os y g1)

@@ -12,11 +12,12 @@ use Rattle.graph_entry.specs.declared.entry.Module.{Module}
 use Rattle.graph_entry.specs.declared.entry.ModuleError.TheVariants.{TooManyRedirects}
 use Rattle.deno_graph.specs.declared.settle.Verdict.{Verdict}
 use Rattle.deno_graph.specs.declared.settle.Verdict.TheVariants.{Kept, TooFar, Judged}
-use Rattle.deno_graph.specs.Rules.{edges_of}
+use Rattle.deno_graph.specs.declared.following.Following.{Following}
+use Rattle.deno_graph.specs.Rules.{edges_of, Means, rules_of, rules_by}
 use Rattle.deno_graph.specs.Reach.{Specifier, Rules}
 use Rattle.deno_graph.specs.Graph.{redirected, on_from, resolved_over}
 use Rattle.deno_graph.specs.Final.{with_edges}
-use Rattle.deno_graph.specs.Settling.{led, leads_on, is_misfit, verdict_of, settled_edge, judged_edges, judged, IsVerdictOn, settled}
+use Rattle.deno_graph.specs.Settling.{led, leads_on, is_misfit, verdict_of, settled_edge, judged_edges, judged, IsVerdictOn, settled, finals_of}
 
 -- ---- redirects, step by step
 
@@ -185,3 +186,28 @@ pub edges_whole : (refused : List Bool) (edges made : List Dependency) → lengt
     → made ≡ judged_edges (take (length edges) refused) edges → made ≡ judged_edges refused edges
 edges_whole refused edges made long is =
     is ∙ ap (λ (bs : List Bool). judged_edges bs edges) (take_all (length edges) refused (omega (arith, long)))
+
+-- ---- what becomes of entries is told by which edges are followed
+
+settled_by : (means : Means) (f : Following) (firsts : List (Parts × Entry)) (e : Entry)
+    → settled (rules_of f) firsts e ≡ settled (rules_by means f) firsts e
+settled_by means f firsts (entry.Redirect target) = refl
+settled_by means f firsts (entry.Module m) = refl
+settled_by means f firsts (entry.Package held) = refl
+settled_by means f firsts entry.External = refl
+settled_by means f firsts (entry.Error e) = refl
+
+each_by : (means : Means) (f : Following) (firsts rest : List (Parts × Entry))
+    → map {B = Parts × Entry} (λ (e : Parts × Entry). (e.0, settled (rules_of f) firsts e.1)) rest
+    ≡ map (λ (e : Parts × Entry). (e.0, settled (rules_by means f) firsts e.1)) rest
+each_by means f firsts [] = refl
+each_by means f firsts (e ∷ rest) =
+    ap (λ (x : Entry). (e.0, x)
+    ∷ map {B = Parts × Entry} (λ (r : Parts × Entry). (r.0, settled (rules_of f) firsts r.1)) rest)
+    (settled_by means f firsts e.1)
+    ∙ ap (λ (rs : List (Parts × Entry)). (e.0, settled (rules_by means f) firsts e.1) ∷ rs)
+    (each_by means f firsts rest)
+
+pub finals_by : (means : Means) (f : Following) (firsts : List (Parts × Entry))
+    → finals_of (rules_of f) firsts ≡ finals_of (rules_by means f) firsts
+finals_by means f firsts = each_by means f firsts firsts

@@ -25,30 +25,35 @@ pub use Rattle.deno_graph.proofs.ReachLemmas.{IsWithin, reached_start, reached_o
 pub rules_once : (following : Following) → IsFunctional (rules_of following)
 rules_once following = analysed_once
 
--- each edge of a graph's module cuts from the module's text the literal whose value is the edge's text
-pub edges_cut : (following : Following) (starts : List Specifier) (answers : Answers) (entries : List (Parts × Entry))
-    → IsGraph (rules_of following) starts answers entries
-    → EachEdgeCuts entries
-edges_cut following starts answers entries g s e h = by (g.each s e h)
-  where
-    first : (f : Entry) → IsEntry (rules_of following) answers s f → EdgesCut f
-    first f (inl a) = analysed_cuts s (Some a.answer) f a.means
-    first f (inr u) = analysed_cuts s None f u.1
+-- what the answers mean cuts
+abbrev pub MeansCut : Rules → Type 0
+MeansCut rules = (s : Specifier) (a : Option LoadAnswer) (made : Entry) → rules.means s a made → EdgesCut made
 
-    by : IsFinal (rules_of following) answers s e → EdgesCut e
+-- each edge of a graph's module cuts from the module's text the literal whose value is the edge's text
+pub edges_cut : (rules : Rules) → MeansCut rules → (starts : List Specifier) (answers : Answers)
+    (entries : List (Parts × Entry))
+    → IsGraph rules starts answers entries
+    → EachEdgeCuts entries
+edges_cut rules cuts starts answers entries g s e h = by (g.each s e h)
+  where
+    first : (f : Entry) → IsEntry rules answers s f → EdgesCut f
+    first f (inl a) = cuts s (Some a.answer) f a.means
+    first f (inr u) = cuts s None f u.1
+
+    by : IsFinal rules answers s e → EdgesCut e
     by (redirect target is_entry last leads stays is) = subst EdgesCut (sym is) tt
     by (too_far target is_entry far is) = subst EdgesCut (sym is) tt
     by (with_module m is_entry edges all is) =
-        subst EdgesCut (sym is) (final_cuts (rules_of following) answers m edges (first (entry.Module m) is_entry) all)
+        subst EdgesCut (sym is) (final_cuts rules answers m edges (first (entry.Module m) is_entry) all)
     by (same f is_entry stays plain is) = subst EdgesCut (sym is) (first f is_entry)
 
 -- the same of a graph that is answered
-pub answered_cut : {Refused : Type 0} (following : Following) (starts : List Specifier) (answers : Answers)
+pub answered_cut : {Refused : Type 0} (rules : Rules) → MeansCut rules → (starts : List Specifier) (answers : Answers)
     (result : Result GraphData Refused)
-    → IfOk result (λ g. IsGraph (rules_of following) starts answers g.entries)
+    → IfOk result (λ g. IsGraph rules starts answers g.entries)
     → IfOk result (λ g. EachEdgeCuts g.entries)
-answered_cut following starts answers (Ok g) graph = edges_cut following starts answers g.entries graph
-answered_cut following starts answers (Err e) graph = tt
+answered_cut rules cuts starts answers (Ok g) graph = edges_cut rules cuts starts answers g.entries graph
+answered_cut rules cuts starts answers (Err e) graph = tt
 
 -- ---- the graph over answers that were told
 

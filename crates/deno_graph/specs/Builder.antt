@@ -5,7 +5,8 @@ use Rattle.url.specs.Parts.{Parts}
 use Rattle.graph_entry.specs.declared.answer.LoadAnswer.{LoadAnswer}
 use Rattle.graph_entry.specs.declared.referrer.ReferrerImports.{ReferrerImports}
 use Rattle.graph_entry.specs.Specifier.{text_of, loadable}
-use Rattle.graph_entry.specs.Referrer.{starts_of}
+use Rattle.graph_entry.specs.Resolution.{Resolves, resolve}
+use Rattle.graph_entry.specs.Referrer.{starts_by}
 use Rattle.deno_graph.specs.declared.options.BuildOptions.{BuildOptions}
 use Rattle.deno_graph.specs.declared.following.Following.{Following}
 use Rattle.deno_graph.specs.declared.error.BuildError.{BuildError}
@@ -15,11 +16,12 @@ use Rattle.deno_graph.specs.Reach.{Specifier, Log, Answers, Rules, answer_to, ha
 use Rattle.deno_graph.specs.Events.{Event, Answered, asked_of, log_of, IsOutstanding, IsTimely, IsSettled}
 use Rattle.deno_graph.specs.Loader.{LoaderData, HasRisen, NeverRises, Falls}
 
--- What contracts see of a builder. `events` is what happened to its loader since the builder was made; `asked` and `log` are
--- the requests and the answers of it.
-pub record Building (L : Type 0) : Type 0 where
+-- What contracts see of a builder. `following` says which edges are followed, and for a builder with a caller's own resolver
+-- or analyser which these are. `events` is what happened to its loader since the builder was made; `asked` and `log` are the
+-- requests and the answers of it.
+pub record BuildingBy (L W : Type 0) : Type 0 where
   pub loader : L
-  pub following : Following
+  pub following : W
   pub roots : List Parts
   -- what places outside the graph import
   pub imports : List ReferrerImports
@@ -37,12 +39,16 @@ pub record Building (L : Type 0) : Type 0 where
   pub patience : Option ℕ
   pub finished : Bool
 
+-- one without
+abbrev pub Building : Type 0 → Type 0
+Building L = BuildingBy L Following
+
 -- the rules of its graph
 abbrev pub graph_rules : {L : Type 0} → Building L → Rules
 graph_rules b = rules_of b.following
 
 -- the starts of reach: the roots, and where the referrer imports lead (`poll`, the clause `starts`)
-abbrev pub starts : {L : Type 0} → Building L → List Specifier
+abbrev pub starts : {L W : Type 0} → BuildingBy L W → List Specifier
 starts b = b.starting
 
 -- ---- the list asked and the log
@@ -123,14 +129,15 @@ abbrev pub following_of : BuildOptions → Following
 following_of options = record { kind = options.kind; skip_dynamic_deps = options.skip_dynamic_deps }
 
 -- a new builder over a loader: nothing is asked yet, and the loader's events count from now on
-abbrev pub new_building : {L : Type 0} → List Parts → BuildOptions → L → LoaderData → Building L
-new_building given_roots options given seen = record {
+abbrev pub new_building_by : {L W : Type 0} → W → Resolves → List Parts → List ReferrerImports → ℕ → L → LoaderData
+    → BuildingBy L W
+new_building_by ways resolves given_roots outside bound given seen = record {
   loader = given;
-  following = following_of options;
+  following = ways;
   roots = given_roots;
-  imports = options.imports;
-  starting = starts_of given_roots options.imports;
-  limit = options.limit;
+  imports = outside;
+  starting = starts_by resolves given_roots outside;
+  limit = bound;
   events = [];
   events_before = seen.events;
   asked = [];
@@ -143,12 +150,16 @@ new_building given_roots options given seen = record {
   finished = false;
 }
 
+abbrev pub new_building : {L : Type 0} → List Parts → BuildOptions → L → LoaderData → Building L
+new_building given_roots options given seen =
+    new_building_by (following_of options) resolve given_roots options.imports options.limit given seen
+
 -- the list gained something at its end, or nothing
 abbrev pub GoesOn : {A : Type 0} → List A → List A → Type 0
 GoesOn {A} old new = (more : List A) × (new ≡ old ++ more)
 
 -- what every call keeps: the lists go on, the counts go one way, and all else stays
-pub record HasHistory {L : Type 0} (old new : Building L) : Type 0 where
+pub record HasHistory {L W : Type 0} (old new : BuildingBy L W) : Type 0 where
   pub following : new.following ≡ old.following
   pub roots : new.roots ≡ old.roots
   pub imports : new.imports ≡ old.imports
@@ -178,7 +189,7 @@ CameInTime rules starts events (Err OutOfMemory) = IsInTime rules starts events
 -- ---- the causes of the errors
 
 -- why the graph isn't there yet
-pub record IsNotYet (rules : Rules) {L : Type 0} (old new : Building L) : Type 0 where
+pub record IsNotYet (rules : Rules) {L W : Type 0} (old new : BuildingBy L W) : Type 0 where
   pub orderly : IsOrderly rules (starts old) new.log
   pub asked : IsAskedFor rules (starts old) new.asked new.log
   pub within : ReachesAtMost rules (starts old) (answer_to new.log) old.limit
@@ -197,7 +208,7 @@ IsUnawaitedOver rules batch starts before s =
     ⊎ (IsReached rules starts (answer_to (take (length before - (batch - 1)) before)) s → loadable s ≡ true → ⊥)
 
 -- the last answer wasn't awaited when it came; `batch` answers were taken before any of them was analysed
-pub record IsUnawaited (rules : Rules) (batch : ℕ) {L : Type 0} (old new : Building L) (s : Specifier) : Type 0 where
+pub record IsUnawaited (rules : Rules) (batch : ℕ) {L W : Type 0} (old new : BuildingBy L W) (s : Specifier) : Type 0 where
   pub before : Log
   pub answer : LoadAnswer
   pub last : new.log ≡ before ++ (s, answer) ∷ []
@@ -217,14 +228,14 @@ pub record IsTooMany (rules : Rules) (starts : List Specifier) (log : Log) (limi
   pub reached : (s : Specifier) → has members s ≡ true → IsReached rules starts (answer_to log) s
 
 -- no answer is unasked of a loader that tells that it answers open requests alone, where none was open when the builder was made
-abbrev pub IsFairly : {L A : Type 0} → LoaderData → Building L → Result A BuildError → Type 0
+abbrev pub IsFairly : {L W A : Type 0} → LoaderData → BuildingBy L W → Result A BuildError → Type 0
 IsFairly seen old result = seen.fair ≡ true → IsSettled old.events_before → (s : Parts) → result ≡ Err (UnaskedAnswer s) → ⊥
 
 -- ---- and when there is none
 
 -- A live builder gives the graph, unless memory runs out: where at most `limit` specifiers are reached, each answer was
 -- awaited, and the pending count neither rose nor stands at its last value.
-abbrev pub IsComplete : Rules → {L A : Type 0} → Building L → Building L → Result A BuildError → Type 0
+abbrev pub IsComplete : Rules → {L W A : Type 0} → BuildingBy L W → BuildingBy L W → Result A BuildError → Type 0
 IsComplete rules old new result =
     old.finished ≡ false
     → ReachesAtMost rules (starts old) (answer_to new.log) old.limit

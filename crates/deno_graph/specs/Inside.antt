@@ -3,18 +3,18 @@ use Rattle.std.specs.Prelude.{◌≡◌, Bool, false, List, map, Some}
 use Rattle.url.specs.Parts.{Parts}
 use Rattle.graph_entry.specs.declared.entry.Entry.{Entry}
 use Rattle.graph_entry.specs.declared.referrer.ReferrerImports.{ReferrerImports}
-use Rattle.graph_entry.specs.Referrer.{starts_of}
-use Rattle.deno_graph.specs.declared.following.Following.{Following}
+use Rattle.graph_entry.specs.Resolution.{Resolves}
+use Rattle.graph_entry.specs.Referrer.{starts_by}
 use Rattle.deno_graph.specs.declared.slot.Slot.{Slot}
 use Rattle.deno_graph.specs.declared.slot.Slot.TheVariants.{Queued, Asked, Done}
 use Rattle.deno_graph.specs.Reach.{Specifier, Rules}
 use Rattle.deno_graph.specs.ByText.{value_at}
 use Rattle.deno_graph.specs.Events.{asked_of, log_of}
-use Rattle.deno_graph.specs.Builder.{Building, before_last}
+use Rattle.deno_graph.specs.Builder.{BuildingBy, before_last}
 use Rattle.deno_graph.specs.Progress.{At, IsKeptAt, IsLive, own_count, own_events, starts_at}
 
 -- what contracts see of a builder
-abbrev pub seen_of : {L : Type 0} → L → Following → List Parts → List ReferrerImports → At → Bool → Building L
+abbrev pub seen_of : {L W : Type 0} → L → W → List Parts → List ReferrerImports → At → Bool → BuildingBy L W
 seen_of given followed given_roots outside x over = record {
   loader = given;
   following = followed;
@@ -35,8 +35,9 @@ seen_of given followed given_roots outside x over = record {
 }
 
 -- until it is finished, the builder can go on; it starts at its roots and where the referrer imports lead
-pub record IsInside (rules : Rules) (given_roots : List Parts) (outside : List ReferrerImports) (x : At) (finished : Bool) : Type 0 where
-  pub starting : starts_at x ≡ starts_of given_roots outside
+pub record IsInside (rules : Rules) (resolves : Resolves) (given_roots : List Parts) (outside : List ReferrerImports) (x : At)
+    (finished : Bool) : Type 0 where
+  pub starting : starts_at x ≡ starts_by resolves given_roots outside
   pub kept : IsKeptAt rules x
   pub live : finished ≡ false → IsLive rules x
 

@@ -8,6 +8,7 @@ pub mod Events
 pub mod Loader
 pub mod Memory
 pub mod Builder
+pub mod Own
 pub use Rattle.graph_entry.specs.Specifier
 pub use Rattle.graph_entry.specs.Analysed
 pub use Rattle.graph_entry.specs.Entry

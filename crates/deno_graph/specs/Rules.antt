@@ -69,6 +69,14 @@ abbrev pub is_followed : Following → Bool → Dependency → Bool
 is_followed following typed d =
     of_kind following.kind typed d.type_only && not (following.skip_dynamic_deps && is_dynamic d.kind)
 
+-- which entries an answer for a specifier can have
+abbrev pub Means : Type 1
+Means = Specifier → Option LoadAnswer → Entry → Type 0
+
+-- the answers mean this
+abbrev pub rules_by : Means → Following → Rules
+rules_by means following = record { means = means; follows = λ m. is_followed following (has_types m) }
+
 -- the answers mean what the analysis says
 abbrev pub rules_of : Following → Rules
-rules_of following = record { means = Analysed; follows = λ m. is_followed following (has_types m) }
+rules_of following = rules_by Analysed following

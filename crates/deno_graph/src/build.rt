@@ -1,55 +1,29 @@
 //! The builder: asks a loader for all that is reached, and makes the graph of its answers.
-ghost use Rattle.std.specs.Prelude.{◌≡◌, ◌≤◌, ℕ, [], true, false, ◌↔◌, length, map, IfOk, OnOk, Err};
+ghost use Rattle.std.specs.Prelude.{◌≡◌, ◌≤◌, ℕ, true, false, ◌↔◌, length, map, IfOk, OnOk, Err};
 ghost use Rattle.url.specs.Parts.{Parts};
 ghost use Rattle.graph_entry.specs.Specifier.{text_of};
+ghost use Rattle.graph_entry.specs.Resolution.{resolve, resolve_by};
 ghost use Rattle.graph_entry.specs.Referrer.{referred, starts_of};
 ghost use Rattle.deno_graph.specs.Reach.{answer_to};
 ghost use Rattle.deno_graph.specs.Graph.{IsGraph, EachEdgeCuts};
-ghost use Rattle.deno_graph.specs.Builder.{graph_rules, starts, new_building, IsOrderly, IsAsking, IsAskedFor, EachAnswered, IsToldLog, HasHistory, IsNotYet, IsUnawaited, IsTooMany, IsComplete, IsFairly, CameInTime};
+ghost use Rattle.deno_graph.specs.Builder.{graph_rules, starts, new_building, new_building_by, IsOrderly, IsAsking, IsAskedFor, EachAnswered, IsToldLog, HasHistory, IsNotYet, IsUnawaited, IsTooMany, IsComplete, IsFairly, CameInTime};
 
+use crate::custom::CustomBuild;
 use crate::error::BuildError;
-use crate::finish::finish;
 use crate::following::Following;
 use crate::graph::ModuleGraph;
+use crate::inner::Inner;
 use crate::loader::Loader;
 use crate::options::BuildOptions;
-use crate::progress::Progress;
-use crate::reaching::Reaching;
 use base::Items;
-use graph_entry::{ReferrerImports, starts_of};
+use graph_entry::{DefaultResolver, ModuleAnalyzer, ParserModuleAnalyzer, Resolver};
 use std::alloc::{AllocError, Global};
-use std::marker::Model;
 use url::Url;
 
-/// A graph under construction, over a loader. It keeps an inner part, which contracts see as plain data:
-/// an analyser or a resolver of the caller's can stand beside it.
+/// A graph under construction, over a loader. It keeps an inner part, which contracts see as plain data.
 #[derive(Drop)]
 pub struct GraphBuild<L: Loader + Drop> {
-    inner: Inner<L>,
-}
-
-#[derive(Drop)]
-struct Inner<L: Loader + Drop> {
-    alloc: Global,
-    loader: L,
-    following: Following,
-    roots: Items<Url>,
-    imports: Items<ReferrerImports>,
-    progress: Progress,
-    finished: bool,
-}
-
-impl<L: Loader + Drop> Model for Inner<L> {
-    ghost use Rattle.deno_graph.specs.Rules.{rules_of};
-    ghost use Rattle.deno_graph.specs.Builder.{Building};
-    ghost use Rattle.deno_graph.specs.Progress.{at};
-    ghost use Rattle.deno_graph.specs.Inside.{IsInside, seen_of};
-
-    ghost Value = { Building L };
-
-    ghost view = { λ b. seen_of b.loader b.following b.roots b.imports (at (L.seen b.loader) b.progress) b.finished };
-
-    ghost invariant = { λ b. IsInside (rules_of b.following) b.roots b.imports (at (L.seen b.loader) b.progress) b.finished };
+    inner: Inner<L, Following>,
 }
 
 impl<L: Loader + Drop> GraphBuild<L> {
@@ -68,27 +42,40 @@ impl<L: Loader + Drop> GraphBuild<L> {
             skip_dynamic_deps,
             imports,
         } = options;
-        let starts = starts_of(alloc, roots.as_slice(), imports.as_slice())?;
+        let following = Following {
+            kind,
+            skip_dynamic_deps,
+        };
         Ok(GraphBuild {
-            inner: Inner {
-                alloc,
-                loader,
-                following: Following {
-                    kind,
-                    skip_dynamic_deps,
-                },
-                roots,
-                imports,
-                progress: Progress {
-                    starts,
-                    reaching: Reaching::new(alloc, limit),
-                    asked: 0,
-                    taken: 0,
-                    begun: false,
-                },
-                finished: false,
-            },
+            inner: Inner::new(alloc, following, roots, imports, limit, loader)?,
         })
+    }
+
+    /// The same builder with a resolver of the caller's. It begins anew: the loader's lists count from now on.
+    pub fn with_resolver<R: Resolver + Drop>(
+        self,
+        resolver: R,
+    ) -> Result<CustomBuild<L, R, ParserModuleAnalyzer>, AllocError>
+        ensures { IfOk result (λ b. b.inner ≡ new_building_by
+            (record { following = self.inner.following; resolver = resolver; analyzer = record {} })
+            (resolve_by (R.resolving resolver)) self.inner.roots self.inner.imports self.inner.limit
+            self.inner.loader (L.seen self.inner.loader)) }
+    {
+        let GraphBuild { inner } = self;
+        CustomBuild::from_parts(inner.into_parts(), resolver, ParserModuleAnalyzer)
+    }
+
+    /// The same builder with an analyser of the caller's. It begins anew: the loader's lists count from now on.
+    pub fn with_analyzer<M: ModuleAnalyzer + Drop>(
+        self,
+        analyzer: M,
+    ) -> Result<CustomBuild<L, DefaultResolver, M>, AllocError>
+        ensures { IfOk result (λ b. b.inner ≡ new_building_by
+            (record { following = self.inner.following; resolver = record {}; analyzer = analyzer })
+            resolve self.inner.roots self.inner.imports self.inner.limit self.inner.loader (L.seen self.inner.loader)) }
+    {
+        let GraphBuild { inner } = self;
+        CustomBuild::from_parts(inner.into_parts(), DefaultResolver, analyzer)
     }
 
     /// Asks the loader for what is reached, takes its answers, and gives the graph once nothing is outstanding.
@@ -141,7 +128,7 @@ impl<L: Loader + Drop> GraphBuild<L> {
     pub fn loader(&self) -> &L
         ensures { result.now ≡ self.now.inner.loader }
     {
-        &self.inner.loader
+        self.inner.loader()
     }
 
     /// The loader, back from the builder.
@@ -149,83 +136,6 @@ impl<L: Loader + Drop> GraphBuild<L> {
         ensures { result ≡ self.inner.loader }
     {
         let GraphBuild { inner } = self;
-        let Inner {
-            alloc: _,
-            loader,
-            following: _,
-            roots: _,
-            imports: _,
-            progress: _,
-            finished: _,
-        } = inner;
-        loader
-    }
-}
-
-impl<L: Loader + Drop> Inner<L> {
-    fn poll(&mut self) -> Result<ModuleGraph, BuildError>
-        ensures graph { IfOk result (λ g.
-            IsGraph (graph_rules self.old) (starts self.old) (answer_to self.new.log) g.entries) }
-        ensures roots { IfOk result (λ g. g.roots ≡ self.old.roots) }
-        ensures imports { IfOk result (λ g. g.imports ≡ map referred self.old.imports) }
-        ensures starts { starts self.old ≡ starts_of self.old.roots self.old.imports }
-        ensures orderly { OnOk result (IsOrderly (graph_rules self.old) (starts self.old) self.new.log) }
-        ensures asked { OnOk result
-            (IsAskedFor (graph_rules self.old) (starts self.old) self.new.asked self.new.log) }
-        ensures answered { OnOk result (EachAnswered self.new.asked self.new.log) }
-        ensures limit { IfOk result (λ g. length g.entries ≤ self.old.limit) }
-        ensures pending { OnOk result (self.new.pending ≡ self.old.pending) }
-        ensures not_yet { result ≡ Err BuildError.NotYet →
-            IsNotYet (graph_rules self.old) self.old self.new }
-        ensures unasked { (s : Parts) → result ≡ Err (BuildError.UnaskedAnswer s) →
-            IsUnawaited (graph_rules self.old) 1 self.old self.new (text_of s) }
-        ensures unasked_pending { (s : Parts) → result ≡ Err (BuildError.UnaskedAnswer s) →
-            self.new.pending ≡ self.old.pending }
-        ensures too_many { (seen : ℕ) → result ≡ Err (BuildError.TooManyModules seen) →
-            IsTooMany (graph_rules self.old) (starts self.old) self.new.log self.old.limit seen }
-        ensures finished { (result ≡ Err BuildError.Finished) ↔ (self.old.finished ≡ true) }
-        ensures complete { IsComplete (graph_rules self.old) self.old self.new result }
-        ensures fair { IsFairly (L.seen self.old.loader) self.old result }
-        ensures in_time { CameInTime (graph_rules self.old) (starts self.old) self.new.events result }
-        ensures asking { IsAsking (graph_rules self.old) (starts self.old) self.new.asked self.new.log }
-        ensures told { IsToldLog ((L.seen self.new.loader).told) self.new.log }
-        ensures telling { (L.seen self.new.loader).told ≡ (L.seen self.old.loader).told }
-        ensures stays_fair { (L.seen self.old.loader).fair ≡ true → (L.seen self.new.loader).fair ≡ true }
-        ensures history { HasHistory self.old self.new }
-        ensures idle { self.old.finished ≡ true → self.new ≡ self.old }
-        ensures later { (self.new.finished ≡ false) ↔ (result ≡ Err BuildError.NotYet) }
-    {
-        if self.finished {
-            return Err(BuildError::Finished);
-        }
-        self.finished = true;
-        match self
-            .progress
-            .run(self.alloc, self.following, &mut self.loader)
-        {
-            Ok(()) => {
-                match finish(
-                    self.alloc,
-                    self.following,
-                    self.roots.as_slice(),
-                    self.imports.as_slice(),
-                    &mut self.progress.reaching.reached,
-                ) {
-                    Ok(graph) => return Ok(graph),
-                    Err(_) => return Err(BuildError::OutOfMemory),
-                }
-            }
-            Err(BuildError::NotYet) => {
-                self.finished = false;
-                // The proof learns from it that the map is in order.
-                let _count = self.progress.reaching.reached.len();
-                Err(BuildError::NotYet)
-            }
-            Err(BuildError::TooManyModules { seen }) => Err(BuildError::TooManyModules { seen }),
-            Err(BuildError::UnaskedAnswer(specifier)) => Err(BuildError::UnaskedAnswer(specifier)),
-            Err(BuildError::OutOfMemory) => Err(BuildError::OutOfMemory),
-            // A run of a builder that goes on never says so.
-            Err(BuildError::Finished) => unreachable!(),
-        }
+        inner.into_parts().loader
     }
 }

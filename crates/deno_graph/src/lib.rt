@@ -11,26 +11,34 @@
 
 mod build;
 mod by_text;
+mod custom;
 mod error;
 mod finish;
 mod following;
 mod graph;
+mod inner;
 mod loader;
 mod memory_loader;
 mod options;
+mod own;
 mod progress;
 mod reaching;
 mod settle;
 mod slot;
+mod ways;
 
 pub use build::GraphBuild;
+pub use custom::CustomBuild;
 pub use error::BuildError;
 pub use file_url::{SpecifierError, resolve_import};
 pub use graph::{Entries, ModuleGraph};
 pub use graph_entry::{
-    Attribute, DataError, Dependency, DependencyKind, Entry, GraphKind, Headers, JsModule,
-    JsonModule, LoadAnswer, MediaType, Module, ModuleError, ModuleKind, PackageKind, PackageRef,
-    ParseDiagnostic, ReferrerImports, ResolutionError, SyntaxErrorKind, WasmModule,
+    AnalyzeFault, Attribute, DataError, DefaultResolver, Dependency, DependencyKind, Entry,
+    GraphKind, Headers, JsModule, JsonModule, LoadAnswer, MediaType, Module, ModuleAnalyzer,
+    ModuleError, ModuleInfo, ModuleKind, PackageKind, PackageRef, ParseDiagnostic,
+    ParseModuleFromAstOptions, ParseModuleOptions, ParserModuleAnalyzer, ReferrerImports,
+    ResolutionError, ResolveFault, Resolver, SyntaxErrorKind, WasmModule, parse_module,
+    parse_module_from_ast,
 };
 pub use loader::{Loader, LoaderPoll};
 pub use memory_loader::{Arrival, MemoryLoader};

@@ -1,15 +1,15 @@
 //! How far a builder is: what it asks for next, and the answers that it takes.
 ghost use Rattle.std.specs.Prelude.{◌≡◌, ◌+◌, ◌≤◌, ◌<◌, ℕ, true, []};
 ghost use Rattle.graph_entry.specs.Specifier.{text_of, loadable};
-ghost use Rattle.deno_graph.specs.Rules.{rules_of};
+ghost use Rattle.deno_graph.specs.Rules.{rules_by};
 ghost use Rattle.deno_graph.specs.Graph.{texts};
 ghost use Rattle.deno_graph.specs.Builder.{CameInTime};
 ghost use Rattle.deno_graph.specs.Progress.{at, own_events, IsKeptAt, IsLive, IsInHand, GoesOnAt, OnlyAsks, Begins, Deals, AsksNext, AsksAll, Turns, Runs};
 
 use crate::error::BuildError;
-use crate::following::Following;
 use crate::loader::{Loader, LoaderPoll};
 use crate::reaching::{GrowError, Reaching};
+use crate::ways::Ways;
 use base::Items;
 use graph_entry::is_loadable;
 use std::alloc::Global;
@@ -28,25 +28,25 @@ pub struct Progress {
 
 impl Progress {
     /// Asks for all that is reached and takes answers until nothing is outstanding.
-    pub fn run<L: Loader>(
+    pub fn run<L: Loader, W: Ways>(
         &mut self,
         alloc: Global,
-        following: Following,
+        ways: &W,
         loader: &mut L,
     ) -> Result<(), BuildError>
-        requires live { IsLive (rules_of following) (at (L.seen loader.old) self.old) }
-        ensures runs { Runs (rules_of following) (at (L.seen loader.old) self.old) (at (L.seen loader.new) self.new) result }
-        ensures in_time { CameInTime (rules_of following) (texts self.old.starts) (own_events (at (L.seen loader.new) self.new)) result }
-        ensures kept { IsKeptAt (rules_of following) (at (L.seen loader.new) self.new) }
+        requires live { IsLive (rules_by (W.means ways.now) (W.follows ways.now)) (at (L.seen loader.old) self.old) }
+        ensures runs { Runs (rules_by (W.means ways.now) (W.follows ways.now)) (at (L.seen loader.old) self.old) (at (L.seen loader.new) self.new) result }
+        ensures in_time { CameInTime (rules_by (W.means ways.now) (W.follows ways.now)) (texts self.old.starts) (own_events (at (L.seen loader.new) self.new)) result }
+        ensures kept { IsKeptAt (rules_by (W.means ways.now) (W.follows ways.now)) (at (L.seen loader.new) self.new) }
         ensures goes { GoesOnAt (at (L.seen loader.old) self.old) (at (L.seen loader.new) self.new) }
     {
-        match self.begin(following, loader) {
+        match self.begin(ways, loader) {
             Ok(()) => {}
             Err(GrowError::TooMany { seen }) => return Err(BuildError::TooManyModules { seen }),
             Err(GrowError::OutOfMemory) => return Err(BuildError::OutOfMemory),
         }
         'turns: loop {
-            match self.turn(alloc, following, loader) {
+            match self.turn(alloc, ways, loader) {
                 Ok(true) => {}
                 Ok(false) => return Ok(()),
                 Err(error) => return Err(error),
@@ -55,16 +55,16 @@ impl Progress {
     }
 
     // Reaches the starts, the first time. What is followed and the loader are there for the contract.
-    fn begin<L: Loader>(&mut self, following: Following, loader: &mut L) -> Result<(), GrowError>
-        requires live { IsLive (rules_of following) (at (L.seen loader.old) self.old) }
-        ensures begins { Begins (rules_of following) (at (L.seen loader.old) self.old) (at (L.seen loader.new) self.new) result }
-        ensures kept { IsKeptAt (rules_of following) (at (L.seen loader.new) self.new) }
+    fn begin<L: Loader, W: Ways>(&mut self, ways: &W, loader: &mut L) -> Result<(), GrowError>
+        requires live { IsLive (rules_by (W.means ways.now) (W.follows ways.now)) (at (L.seen loader.old) self.old) }
+        ensures begins { Begins (rules_by (W.means ways.now) (W.follows ways.now)) (at (L.seen loader.old) self.old) (at (L.seen loader.new) self.new) result }
+        ensures kept { IsKeptAt (rules_by (W.means ways.now) (W.follows ways.now)) (at (L.seen loader.new) self.new) }
         ensures goes { GoesOnAt (at (L.seen loader.old) self.old) (at (L.seen loader.new) self.new) }
         ensures stays { loader.new ≡ loader.old }
         ensures counts { (self.new.asked ≡ self.old.asked) × (self.new.taken ≡ self.old.taken) }
     {
         // The contract speaks of them.
-        let _ = following;
+        let _ = ways;
         let _ = loader;
         if self.begun {
             return Ok(());
@@ -79,20 +79,20 @@ impl Progress {
     }
 
     // Asks for all that is reached, and takes one answer. `false`: nothing is outstanding.
-    fn turn<L: Loader>(
+    fn turn<L: Loader, W: Ways>(
         &mut self,
         alloc: Global,
-        following: Following,
+        ways: &W,
         loader: &mut L,
     ) -> Result<bool, BuildError>
-        requires live { IsLive (rules_of following) (at (L.seen loader.old) self.old) }
+        requires live { IsLive (rules_by (W.means ways.now) (W.follows ways.now)) (at (L.seen loader.old) self.old) }
         requires begun { self.old.begun ≡ true }
-        ensures turns { Turns (rules_of following) (at (L.seen loader.old) self.old) (at (L.seen loader.new) self.new) result }
-        ensures in_time { CameInTime (rules_of following) (texts self.old.starts) (own_events (at (L.seen loader.new) self.new)) result }
-        ensures kept { IsKeptAt (rules_of following) (at (L.seen loader.new) self.new) }
+        ensures turns { Turns (rules_by (W.means ways.now) (W.follows ways.now)) (at (L.seen loader.old) self.old) (at (L.seen loader.new) self.new) result }
+        ensures in_time { CameInTime (rules_by (W.means ways.now) (W.follows ways.now)) (texts self.old.starts) (own_events (at (L.seen loader.new) self.new)) result }
+        ensures kept { IsKeptAt (rules_by (W.means ways.now) (W.follows ways.now)) (at (L.seen loader.new) self.new) }
         ensures goes { GoesOnAt (at (L.seen loader.old) self.old) (at (L.seen loader.new) self.new) }
     {
-        match self.ask_all(alloc, following, loader) {
+        match self.ask_all(alloc, ways, loader) {
             Ok(()) => {}
             Err(GrowError::TooMany { seen }) => return Err(BuildError::TooManyModules { seen }),
             Err(GrowError::OutOfMemory) => return Err(BuildError::OutOfMemory),
@@ -100,23 +100,23 @@ impl Progress {
         if self.taken == self.asked {
             return Ok(false);
         }
-        self.poll(alloc, following, loader)
+        self.poll(alloc, ways, loader)
     }
 
     // Takes one answer.
-    fn poll<L: Loader>(
+    fn poll<L: Loader, W: Ways>(
         &mut self,
         alloc: Global,
-        following: Following,
+        ways: &W,
         loader: &mut L,
     ) -> Result<bool, BuildError>
-        requires live { IsLive (rules_of following) (at (L.seen loader.old) self.old) }
+        requires live { IsLive (rules_by (W.means ways.now) (W.follows ways.now)) (at (L.seen loader.old) self.old) }
         requires begun { self.old.begun ≡ true }
         requires asked_all { self.old.reaching.todo ≡ [] }
         requires open_yet { self.old.taken < self.old.asked }
-        ensures turns { Turns (rules_of following) (at (L.seen loader.old) self.old) (at (L.seen loader.new) self.new) result }
-        ensures in_time { CameInTime (rules_of following) (texts self.old.starts) (own_events (at (L.seen loader.new) self.new)) result }
-        ensures kept { IsKeptAt (rules_of following) (at (L.seen loader.new) self.new) }
+        ensures turns { Turns (rules_by (W.means ways.now) (W.follows ways.now)) (at (L.seen loader.old) self.old) (at (L.seen loader.new) self.new) result }
+        ensures in_time { CameInTime (rules_by (W.means ways.now) (W.follows ways.now)) (texts self.old.starts) (own_events (at (L.seen loader.new) self.new)) result }
+        ensures kept { IsKeptAt (rules_by (W.means ways.now) (W.follows ways.now)) (at (L.seen loader.new) self.new) }
         ensures goes { GoesOnAt (at (L.seen loader.old) self.old) (at (L.seen loader.new) self.new) }
     {
         // The proof learns from it that one can be added to the lower count.
@@ -124,7 +124,7 @@ impl Progress {
         match loader.poll() {
             Ok(LoaderPoll::Answer(specifier, answer)) => {
                 self.taken += 1;
-                match self.reaching.take(alloc, following, specifier, answer) {
+                match self.reaching.take(alloc, ways, specifier, answer) {
                     Ok(()) => Ok(true),
                     Err(error) => Err(error),
                 }
@@ -135,19 +135,19 @@ impl Progress {
     }
 
     // Empties the worklist.
-    fn ask_all<L: Loader>(
+    fn ask_all<L: Loader, W: Ways>(
         &mut self,
         alloc: Global,
-        following: Following,
+        ways: &W,
         loader: &mut L,
     ) -> Result<(), GrowError>
-        requires live { IsLive (rules_of following) (at (L.seen loader.old) self.old) }
-        ensures all { AsksAll (rules_of following) (at (L.seen loader.old) self.old) (at (L.seen loader.new) self.new) result }
-        ensures kept { IsKeptAt (rules_of following) (at (L.seen loader.new) self.new) }
+        requires live { IsLive (rules_by (W.means ways.now) (W.follows ways.now)) (at (L.seen loader.old) self.old) }
+        ensures all { AsksAll (rules_by (W.means ways.now) (W.follows ways.now)) (at (L.seen loader.old) self.old) (at (L.seen loader.new) self.new) result }
+        ensures kept { IsKeptAt (rules_by (W.means ways.now) (W.follows ways.now)) (at (L.seen loader.new) self.new) }
         ensures asks { OnlyAsks (at (L.seen loader.old) self.old) (at (L.seen loader.new) self.new) }
     {
         'asking: loop {
-            match self.ask_next(alloc, following, loader) {
+            match self.ask_next(alloc, ways, loader) {
                 Ok(true) => {}
                 Ok(false) => return Ok(()),
                 Err(error) => return Err(error),
@@ -156,61 +156,61 @@ impl Progress {
     }
 
     // Deals with the next specifier of the worklist. `false`: there is none.
-    fn ask_next<L: Loader>(
+    fn ask_next<L: Loader, W: Ways>(
         &mut self,
         alloc: Global,
-        following: Following,
+        ways: &W,
         loader: &mut L,
     ) -> Result<bool, GrowError>
-        requires live { IsLive (rules_of following) (at (L.seen loader.old) self.old) }
-        ensures next { AsksNext (rules_of following) (at (L.seen loader.old) self.old) (at (L.seen loader.new) self.new) result }
-        ensures kept { IsKeptAt (rules_of following) (at (L.seen loader.new) self.new) }
+        requires live { IsLive (rules_by (W.means ways.now) (W.follows ways.now)) (at (L.seen loader.old) self.old) }
+        ensures next { AsksNext (rules_by (W.means ways.now) (W.follows ways.now)) (at (L.seen loader.old) self.old) (at (L.seen loader.new) self.new) result }
+        ensures kept { IsKeptAt (rules_by (W.means ways.now) (W.follows ways.now)) (at (L.seen loader.new) self.new) }
         ensures asks { OnlyAsks (at (L.seen loader.old) self.old) (at (L.seen loader.new) self.new) }
     {
         let Some(url) = self.reaching.todo.pop() else {
             return Ok(false);
         };
-        match self.deal(alloc, following, loader, url) {
+        match self.deal(alloc, ways, loader, url) {
             Ok(()) => Ok(true),
             Err(error) => Err(error),
         }
     }
 
     // Asks for the specifier in hand, or gives it its entry where no loader is asked for it.
-    fn deal<L: Loader>(
+    fn deal<L: Loader, W: Ways>(
         &mut self,
         alloc: Global,
-        following: Following,
+        ways: &W,
         loader: &mut L,
         url: Url,
     ) -> Result<(), GrowError>
-        requires in_hand { IsInHand (rules_of following) (at (L.seen loader.old) self.old) (text_of url) }
-        ensures deals { Deals (rules_of following) (at (L.seen loader.old) self.old) (at (L.seen loader.new) self.new) result }
-        ensures kept { IsKeptAt (rules_of following) (at (L.seen loader.new) self.new) }
+        requires in_hand { IsInHand (rules_by (W.means ways.now) (W.follows ways.now)) (at (L.seen loader.old) self.old) (text_of url) }
+        ensures deals { Deals (rules_by (W.means ways.now) (W.follows ways.now)) (at (L.seen loader.old) self.old) (at (L.seen loader.new) self.new) result }
+        ensures kept { IsKeptAt (rules_by (W.means ways.now) (W.follows ways.now)) (at (L.seen loader.new) self.new) }
         ensures asks { OnlyAsks (at (L.seen loader.old) self.old) (at (L.seen loader.new) self.new) }
     {
         if is_loadable(&url) {
-            self.ask(following, loader, url)
+            self.ask(ways, loader, url)
         } else {
-            self.reaching.fill_unasked(alloc, following, url)
+            self.reaching.fill_unasked(alloc, ways, url)
         }
     }
 
     // Asks for the specifier in hand. What is followed is there for the contract.
-    fn ask<L: Loader>(
+    fn ask<L: Loader, W: Ways>(
         &mut self,
-        following: Following,
+        ways: &W,
         loader: &mut L,
         url: Url,
     ) -> Result<(), GrowError>
-        requires in_hand { IsInHand (rules_of following) (at (L.seen loader.old) self.old) (text_of url) }
+        requires in_hand { IsInHand (rules_by (W.means ways.now) (W.follows ways.now)) (at (L.seen loader.old) self.old) (text_of url) }
         requires loads { loadable (text_of url) ≡ true }
-        ensures deals { Deals (rules_of following) (at (L.seen loader.old) self.old) (at (L.seen loader.new) self.new) result }
-        ensures kept { IsKeptAt (rules_of following) (at (L.seen loader.new) self.new) }
+        ensures deals { Deals (rules_by (W.means ways.now) (W.follows ways.now)) (at (L.seen loader.old) self.old) (at (L.seen loader.new) self.new) result }
+        ensures kept { IsKeptAt (rules_by (W.means ways.now) (W.follows ways.now)) (at (L.seen loader.new) self.new) }
         ensures asks { OnlyAsks (at (L.seen loader.old) self.old) (at (L.seen loader.new) self.new) }
     {
         // The rules that the contract speaks of.
-        let _ = following;
+        let _ = ways;
         // The proof learns from it that one can be added to the count, which stays below it.
         let _limit = self.reaching.limit;
         match loader.start(&url) {

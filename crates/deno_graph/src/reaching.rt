@@ -3,7 +3,7 @@ ghost use Rattle.std.specs.Prelude.{◌↔◌, IsTrue, Some, IsSome, ◌≡◌, 
 ghost use Rattle.std.specs.List.{filter_map};
 ghost use Rattle.graph_entry.specs.Specifier.{text_of};
 ghost use Rattle.deno_graph.specs.declared.slot.Slot.TheVariants.{Asked};
-ghost use Rattle.deno_graph.specs.Rules.{edges_of, led_to, targets, has_types, is_followed, rules_of};
+ghost use Rattle.deno_graph.specs.Rules.{edges_of, led_to, targets, has_types, is_followed, rules_by};
 ghost use Rattle.deno_graph.specs.Graph.{texts};
 ghost use Rattle.deno_graph.specs.ByText.{value_at};
 ghost use Rattle.deno_graph.specs.Slots.{HasGrown, IsOverfull};
@@ -14,8 +14,9 @@ use crate::by_text::{find, has, put};
 use crate::error::BuildError;
 use crate::following::Following;
 use crate::slot::Slot;
+use crate::ways::Ways;
 use base::Items;
-use graph_entry::{Dependency, Entry, LoadAnswer, Module, analyse, analyse_unasked};
+use graph_entry::{Dependency, Entry, LoadAnswer, Module};
 use std::alloc::{AllocError, Global};
 use std::collections::BTreeMap;
 use url::Url;
@@ -95,14 +96,14 @@ impl Reaching {
 
     /// Reaches what an entry leads to.
     #[tactic(auto, unfolding(crate::specs::Rules::targets))]
-    pub fn reach_targets(&mut self, following: Following, entry: &Entry) -> Result<(), GrowError>
+    pub fn reach_targets<W: Ways>(&mut self, ways: &W, entry: &Entry) -> Result<(), GrowError>
         requires room { length self.old.reached.entries ≤ self.old.limit }
-        ensures grows { Grows (targets (rules_of following) entry.now) self.old self.new result }
+        ensures grows { Grows (targets (rules_by (W.means ways.now) (W.follows ways.now)) entry.now) self.old self.new result }
         ensures limit { self.new.limit ≡ self.old.limit }
     {
         match entry {
             Entry::Redirect(target) => self.reach(target),
-            Entry::Module(importer) => self.reach_edges(following, importer),
+            Entry::Module(importer) => self.reach_edges(ways.following(), importer),
             Entry::Package(_) | Entry::External | Entry::Error(_) => Ok(()),
         }
     }
@@ -175,13 +176,13 @@ impl Reaching {
     }
 
     /// The specifier has this entry: what the entry leads to is reached.
-    pub fn fill(&mut self, following: Following, url: Url, entry: Entry) -> Result<(), GrowError>
+    pub fn fill<W: Ways>(&mut self, ways: &W, url: Url, entry: Entry) -> Result<(), GrowError>
         requires room { length self.old.reached.entries ≤ self.old.limit }
         requires there { IsSome (value_at self.old.reached.entries (text_of url)) }
-        ensures fills { Fills (rules_of following) (text_of url) entry self.old self.new result }
+        ensures fills { Fills (rules_by (W.means ways.now) (W.follows ways.now)) (text_of url) entry self.old self.new result }
         ensures limit { self.new.limit ≡ self.old.limit }
     {
-        match self.reach_targets(following, &entry) {
+        match self.reach_targets(ways, &entry) {
             Ok(()) => {}
             Err(error) => return Err(error),
         }
@@ -192,43 +193,43 @@ impl Reaching {
     }
 
     /// The specifier, which no loader is asked for, has its entry: what the entry leads to is reached.
-    pub fn fill_unasked(
+    pub fn fill_unasked<W: Ways>(
         &mut self,
         alloc: Global,
-        following: Following,
+        ways: &W,
         url: Url,
     ) -> Result<(), GrowError>
         requires room { length self.old.reached.entries ≤ self.old.limit }
         requires there { IsSome (value_at self.old.reached.entries (text_of url)) }
-        ensures fills { FillsUnasked (rules_of following) (text_of url) self.old self.new result }
+        ensures fills { FillsUnasked (rules_by (W.means ways.now) (W.follows ways.now)) (text_of url) self.old self.new result }
         ensures limit { self.new.limit ≡ self.old.limit }
     {
-        match analyse_unasked(alloc, &url) {
-            Ok(entry) => self.fill(following, url, entry),
+        match ways.analyse_unasked(alloc, &url) {
+            Ok(entry) => self.fill(ways, url, entry),
             Err(_) => Err(GrowError::OutOfMemory),
         }
     }
 
     /// Takes an answer for a specifier that waits, and refuses any other.
-    pub fn take(
+    pub fn take<W: Ways>(
         &mut self,
         alloc: Global,
-        following: Following,
+        ways: &W,
         specifier: Url,
         answer: LoadAnswer,
     ) -> Result<(), BuildError>
         requires room { length self.old.reached.entries ≤ self.old.limit }
-        ensures takes { Takes (rules_of following) specifier answer self.old self.new result }
+        ensures takes { Takes (rules_by (W.means ways.now) (W.follows ways.now)) specifier answer self.old self.new result }
         ensures limit { self.new.limit ≡ self.old.limit }
     {
         if !self.is_asked(&specifier) {
             return Err(BuildError::UnaskedAnswer(specifier));
         }
-        let entry = match analyse(alloc, &specifier, answer) {
+        let entry = match ways.analyse(alloc, &specifier, answer) {
             Ok(entry) => entry,
             Err(_) => return Err(BuildError::OutOfMemory),
         };
-        match self.fill(following, specifier, entry) {
+        match self.fill(ways, specifier, entry) {
             Ok(()) => Ok(()),
             Err(GrowError::TooMany { seen }) => Err(BuildError::TooManyModules { seen }),
             Err(GrowError::OutOfMemory) => Err(BuildError::OutOfMemory),

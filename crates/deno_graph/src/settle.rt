@@ -1,7 +1,7 @@
 //! What becomes of the first entries of all that is reached: the entries of the graph.
 ghost use Rattle.std.specs.Prelude.{◌≡◌, length, map, not, IfOk, if◌then◌else◌};
 ghost use Rattle.graph_entry.specs.Specifier.{text_of};
-ghost use Rattle.deno_graph.specs.Rules.{edges_of, has_types, rules_of};
+ghost use Rattle.deno_graph.specs.Rules.{edges_of, has_types, rules_of, rules_by};
 ghost use Rattle.deno_graph.specs.Graph.{IsAscending};
 ghost use Rattle.deno_graph.specs.Final.{fits, refused_edge, with_edges};
 ghost use Rattle.deno_graph.specs.Settling as spec;
@@ -9,6 +9,7 @@ ghost use Rattle.deno_graph.specs.Settling.{finals_of, verdict_of, settled_edge}
 
 use crate::following::Following;
 use crate::graph::{MOST_REDIRECTS, module_in, redirect_in};
+use crate::ways::Ways;
 use base::Items;
 use graph_entry::{
     Attribute, Dependency, Entry, JsModule, Module, ModuleError, ResolutionError, WasmModule,
@@ -28,7 +29,7 @@ pub enum Verdict {
 }
 
 /// The entries of the graph, of the first entries of all that is reached.
-pub fn settle(
+fn settle(
     alloc: Global,
     following: Following,
     firsts: Items<(Url, Entry)>,
@@ -41,6 +42,18 @@ pub fn settle(
     }
     let verdicts = verdicts_of(alloc, following, firsts.as_slice())?;
     settle_each(alloc, following, firsts, verdicts.as_slice())
+}
+
+/// The same by the rules of a builder.
+pub fn settle_by<W: Ways>(
+    alloc: Global,
+    ways: &W,
+    firsts: Items<(Url, Entry)>,
+) -> Result<Items<(Url, Entry)>, AllocError>
+    requires { IsAscending firsts }
+    ensures { IfOk result (λ entries. entries ≡ finals_of (rules_by (W.means ways.now) (W.follows ways.now)) firsts) }
+{
+    settle(alloc, ways.following(), firsts)
 }
 
 // Whether all first entries stay as they are: none redirects, none is JSON, and no attribute asks for something.

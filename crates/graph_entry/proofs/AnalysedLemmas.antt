@@ -1,14 +1,6 @@
--- One answer makes one entry of a specifier, given the laws of readings and of trees.
+-- One answer makes one entry of a specifier, where a source is read as one thing.
 use Rattle.std.proofs.Common.{◌≡◌, ◌∙◌, sym, ap, subst, List, ℕ}
 use Rattle.std.specs.Prelude.{Bool, true, false, codes, Option, Some, None, MatchOption, Result, Ok, Err}
-use Rattle.es_token.specs.declared.token.Token.{Token}
-use Rattle.es_lexer.specs.declared.error.LexicalKind.{LexicalKind}
-use Rattle.es_lexer.specs.Reads.{ReadsTokens}
-use Rattle.es_lexer.specs.Stops.{Stops}
-use Rattle.es_ast.specs.declared.ast.Program.{Program}
-use Rattle.graph_entry.specs.Tree.{IsTree}
-use Rattle.graph_entry.specs.declared.diagnostic.SyntaxErrorKind.TheVariants.{Lexical}
-use Rattle.url.specs.Parser.{parse_url}
 use Rattle.graph_entry.specs.declared.answer.LoadAnswer.{LoadAnswer}
 use Rattle.graph_entry.specs.declared.answer.LoadAnswer.TheVariants as answer
 use Rattle.graph_entry.specs.declared.entry.Entry.{Entry}
@@ -26,86 +18,35 @@ use Rattle.package_ref.specs.Reference.{IsReference}
 use Rattle.package_ref.proofs.Theorems.{one_reference}
 use Rattle.graph_entry.specs.declared.entry.Entry.TheVariants as entry
 use Rattle.lexical_path.specs.Specifiers.{begins}
-use Rattle.graph_entry.specs.Headers.{header_value}
 use Rattle.graph_entry.specs.ModuleText.{without_mark}
-use Rattle.graph_entry.specs.Analysed.{Analysed, OfContent, OfData, OfPackage, with_package, no_package, OfUnasked, by_header, OfKind, OfBytes, OfText, OfTokens, with_tree, no_tree, with_tokens, no_tokens, with_text, no_text, module_of, no_module, unsupported, at_place, media_type_read}
+use Rattle.graph_entry.specs.Reading.{IsFunction}
+use Rattle.graph_entry.specs.Ways.{Ways}
+use Rattle.graph_entry.specs.Analysed.{AnalysedBy, OfContent, OfData, OfPackage, with_package, no_package, OfUnasked, media_type_at, OfKind, OfBytes, OfText, source_entry, with_text, no_text, unsupported}
 use Rattle.graph_entry.proofs.ContentLemmas.{OfJson-once, OfWasm-once}
-
--- ---- the laws below, as one record
-
--- what the crates below say of a text: it has one reading or one first fault, and tokens have one tree
-pub record HasOneReading (text : List ℕ) : Type 0 where
-  pub one_tree : (media : MediaType) (tokens : List Token) (p q : Program) → IsTree media text tokens p
-      → IsTree media text tokens q → p ≡ q
-  pub one_list : (ts us : List Token) → ReadsTokens text ts → ReadsTokens text us → ts ≡ us
-  pub one_fault : (k l : LexicalKind) (at by : ℕ) → Stops text k at → Stops text l by → (k ≡ l) × (at ≡ by)
-  pub no_both : (ts : List Token) (k : LexicalKind) (at : ℕ) → ReadsTokens text ts → Stops text k at → ⊥
 
 -- ---- one entry, level by level
 
-module _ (s : List ℕ) (media : MediaType) where
-  -- tokens
-  pub OfTokens-once : (text : List ℕ) (tokens : List Token) (made other : Entry) → HasOneReading text
-      → OfTokens s media text tokens made → OfTokens s media text tokens other → made ≡ other
-  OfTokens-once text tokens made other laws (with_tree p derived is) (with_tree q also so) =
-      is ∙ ap (module_of s media text) (laws.one_tree media tokens p q derived also) ∙ sym so
-  OfTokens-once text tokens made other laws (with_tree p derived is) (no_tree nothing so) = absurd (nothing p derived)
-  OfTokens-once text tokens made other laws (no_tree nothing is) (with_tree q also so) = absurd (nothing q also)
-  OfTokens-once text tokens made other laws (no_tree nothing is) (no_tree also so) = is ∙ sym so
-
+module _ (ways : Ways) (reads_once : IsFunction ways.reads) (s : List ℕ) (media : MediaType) where
   -- a text
-  pub OfText-once : (text : List ℕ) (made other : Entry) → HasOneReading text
-      → OfText s media text made → OfText s media text other → made ≡ other
-  OfText-once text made other laws (with_tokens ts reads makes) (with_tokens us also makes_too) =
-      let P : List Token → Type 0 = λ xs. OfTokens s media text xs other in
-      OfTokens-once text ts made other laws makes (subst P (laws.one_list us ts also reads) makes_too)
-  OfText-once text made other laws (with_tokens ts reads makes) (no_tokens k at stops so) =
-      absurd (laws.no_both ts k at reads stops)
-  OfText-once text made other laws (no_tokens k at stops is) (with_tokens us also makes_too) =
-      absurd (laws.no_both us k at also stops)
-  OfText-once text made other laws (no_tokens k at stops is) (no_tokens l by also so) =
-      let same = laws.one_fault k l at by stops also in
-      is ∙ ap (λ (x : LexicalKind). no_module s (Lexical x) (Some (at_place at))) same.0
-      ∙ ap (λ (p : ℕ). no_module s (Lexical l) (Some (at_place p))) same.1 ∙ sym so
+  pub OfText-once : (text : List ℕ) (made other : Entry) → OfText ways s media text made
+      → OfText ways s media text other
+      → made ≡ other
+  OfText-once text made other makes also =
+      makes.is
+      ∙ ap (source_entry ways.resolves s media text)
+      (reads_once s media text makes.sites also.sites makes.read also.read)
+      ∙ sym also.is
 
   -- bytes
-  pub OfBytes-once : (bytes : List ℕ) (made other : Entry) → HasOneReading (without_mark bytes)
-      → OfBytes s media bytes made → OfBytes s media bytes other → made ≡ other
-  OfBytes-once bytes made other laws (with_text utf8 makes) (with_text also makes_too) =
-      OfText-once (without_mark bytes) made other laws makes makes_too
-  OfBytes-once bytes made other laws (with_text utf8 makes) (no_text not so) = absurd (not utf8)
-  OfBytes-once bytes made other laws (no_text not is) (with_text utf8 makes) = absurd (not utf8)
-  OfBytes-once bytes made other laws (no_text not is) (no_text also so) = is ∙ sym so
+  pub OfBytes-once : (bytes : List ℕ) (made other : Entry) → OfBytes ways s media bytes made
+      → OfBytes ways s media bytes other → made ≡ other
+  OfBytes-once bytes made other (with_text utf8 makes) (with_text also makes_too) =
+      OfText-once (without_mark bytes) made other makes makes_too
+  OfBytes-once bytes made other (with_text utf8 makes) (no_text not so) = absurd (not utf8)
+  OfBytes-once bytes made other (no_text not is) (with_text utf8 makes) = absurd (not utf8)
+  OfBytes-once bytes made other (no_text not is) (no_text also so) = is ∙ sym so
 
--- content, by how it is read
-by_kind-once : (s : List ℕ) (media : MediaType) (bytes : List ℕ) (read : Option ModuleKind) (made other : Entry)
-    → HasOneReading (without_mark bytes)
-    → MatchOption read (made ≡ unsupported media) (λ k. OfKind s media k bytes made)
-    → MatchOption read (other ≡ unsupported media) (λ k. OfKind s media k bytes other) → made ≡ other
-by_kind-once s media bytes None made other laws is so = is ∙ sym so
-by_kind-once s media bytes (Some module_kind.Source) made other laws makes makes_too =
-    OfBytes-once s media bytes made other laws makes makes_too
-by_kind-once s media bytes (Some module_kind.Json) made other laws makes makes_too =
-    OfJson-once bytes made other makes makes_too
-by_kind-once s media bytes (Some module_kind.Wasm) made other laws makes makes_too =
-    OfWasm-once s bytes made other makes makes_too
-
--- content of a media type
-OfContent-once : (s : List ℕ) (media : MediaType) (bytes : List ℕ) (made other : Entry)
-    → HasOneReading (without_mark bytes) → OfContent s media bytes made → OfContent s media bytes other → made ≡ other
-OfContent-once s media bytes made other laws makes makes_too =
-    by_kind-once s media bytes (kind_of media) made other laws makes makes_too
-
--- ---- where no loader is asked
-
-OfData-once : ((text : List ℕ) → HasOneReading text)
-    → (s : List ℕ) (held : Result DataModule DataError) (made other : Entry)
-    → OfData s held made → OfData s held other → made ≡ other
-OfData-once laws s (Ok held) made other makes makes_too =
-    OfContent-once s (with_content_type Unknown held.mime) held.body made other (laws (without_mark held.body)) makes
-    makes_too
-OfData-once laws s (Err e) made other is so = is ∙ sym so
-
+-- a package
 OfPackage-once : (s : List ℕ) (made other : Entry) → OfPackage s made → OfPackage s other → made ≡ other
 OfPackage-once s made other (with_package p names is) (with_package q also so) =
     is ∙ ap entry.Package (one_reference s p q names also) ∙ sym so
@@ -113,23 +54,49 @@ OfPackage-once s made other (with_package p names is) (no_package none so) = abs
 OfPackage-once s made other (no_package none is) (with_package q also so) = absurd (none q also)
 OfPackage-once s made other (no_package none is) (no_package also so) = is ∙ sym so
 
-OfUnasked-once : ((text : List ℕ) → HasOneReading text) → (s : List ℕ) (is_data : Bool) (made other : Entry)
-    → OfUnasked is_data s made → OfUnasked is_data s other → made ≡ other
-OfUnasked-once laws s true made other makes makes_too = OfData-once laws s (data_of s) made other makes makes_too
-OfUnasked-once laws s false made other makes makes_too = OfPackage-once s made other makes makes_too
+-- an answer
+module _ (ways : Ways) (reads_once : IsFunction ways.reads) where
+  -- content, by how it is read
+  by_kind-once : (s : List ℕ) (media : MediaType) (bytes : List ℕ) (read : Option ModuleKind) (made other : Entry)
+      → MatchOption read (made ≡ unsupported media) (λ k. OfKind ways s media k bytes made)
+      → MatchOption read (other ≡ unsupported media) (λ k. OfKind ways s media k bytes other) → made ≡ other
+  by_kind-once s media bytes None made other is so = is ∙ sym so
+  by_kind-once s media bytes (Some module_kind.Source) made other makes makes_too =
+      OfBytes-once ways reads_once s media bytes made other makes makes_too
+  by_kind-once s media bytes (Some module_kind.Json) made other makes makes_too =
+      OfJson-once bytes made other makes makes_too
+  by_kind-once s media bytes (Some module_kind.Wasm) made other makes makes_too =
+      OfWasm-once ways.resolves s bytes made other makes makes_too
 
--- ---- the whole
+  -- content of a media type
+  OfContent-once : (s : List ℕ) (media : MediaType) (bytes : List ℕ) (made other : Entry)
+      → OfContent ways s media bytes made → OfContent ways s media bytes other → made ≡ other
+  OfContent-once s media bytes made other makes makes_too =
+      by_kind-once s media bytes (kind_of media) made other makes makes_too
 
--- one answer makes one entry
-pub Analysed-once : ((text : List ℕ) → HasOneReading text) → (s : List ℕ) (a : Option LoadAnswer) (made other : Entry)
-    → Analysed s a made → Analysed s a other → made ≡ other
-unfolding Analysed
-Analysed-once laws s (Some (answer.Content headers bytes)) made other is so =
-    OfContent-once s (by_header (media_type_read (parse_url None s)) (header_value (codes "content-type") headers))
-    bytes made other
-    (laws (without_mark bytes)) is so
-Analysed-once laws s (Some (answer.Redirect target)) made other is so = is ∙ sym so
-Analysed-once laws s (Some answer.External) made other is so = is ∙ sym so
-Analysed-once laws s (Some answer.Absent) made other is so = is ∙ sym so
-Analysed-once laws s (Some answer.Failed) made other is so = is ∙ sym so
-Analysed-once laws s None made other is so = OfUnasked-once laws s (begins s (codes "data:")) made other is so
+  -- ---- where no loader is asked
+
+  OfData-once : (s : List ℕ) (held : Result DataModule DataError) (made other : Entry)
+      → OfData ways s held made → OfData ways s held other → made ≡ other
+  OfData-once s (Ok held) made other makes makes_too =
+      OfContent-once s (with_content_type Unknown held.mime) held.body made other makes makes_too
+  OfData-once s (Err e) made other is so = is ∙ sym so
+
+  OfUnasked-once : (s : List ℕ) (is_data : Bool) (made other : Entry)
+      → OfUnasked ways is_data s made → OfUnasked ways is_data s other → made ≡ other
+  OfUnasked-once s true made other makes makes_too = OfData-once s (data_of s) made other makes makes_too
+  OfUnasked-once s false made other makes makes_too = OfPackage-once s made other makes makes_too
+
+  -- ---- the whole
+
+  -- one answer makes one entry
+  pub Analysed-once : (s : List ℕ) (a : Option LoadAnswer) (made other : Entry)
+      → AnalysedBy ways s a made → AnalysedBy ways s a other → made ≡ other
+  unfolding AnalysedBy
+  Analysed-once s (Some (answer.Content headers bytes)) made other is so =
+      OfContent-once s (media_type_at s headers) bytes made other is so
+  Analysed-once s (Some (answer.Redirect target)) made other is so = is ∙ sym so
+  Analysed-once s (Some answer.External) made other is so = is ∙ sym so
+  Analysed-once s (Some answer.Absent) made other is so = is ∙ sym so
+  Analysed-once s (Some answer.Failed) made other is so = is ∙ sym so
+  Analysed-once s None made other is so = OfUnasked-once s (begins s (codes "data:")) made other is so

@@ -16,9 +16,9 @@ use Rattle.graph_entry.specs.declared.entry.ModuleError.TheVariants.{WasmParse}
 use Rattle.graph_entry.specs.Entry.{CutsName, EachEdge, KeepsReasonOf}
 use Rattle.graph_entry.specs.Json.{OfJson, with_json, no_json}
 use Rattle.graph_entry.specs.declared.entry.Module.TheVariants.{Wasm}
+use Rattle.graph_entry.specs.Resolution.{Resolves, KeepsReason}
 use Rattle.graph_entry.specs.Steps.{GivesEdges}
 use Rattle.graph_entry.specs.Wasm.{OfWasm, with_imports, faulty, wasm_dependency, wasm_module}
-use Rattle.graph_entry.proofs.RoomLemmas.{resolve-kept}
 
 -- ---- one entry
 
@@ -29,18 +29,19 @@ OfJson-once bytes made other (no_json not is) (with_json utf8 so) = absurd (not 
 OfJson-once bytes made other (no_json not is) (no_json also so) = is ∙ sym so
 
 -- the entry of an outcome
-abbrev outcome_entry : List ℕ → List ℕ → Result Deps ParseError → Entry
-outcome_entry s bytes (Ok deps) = wasm_module s bytes deps.imports
-outcome_entry s bytes (Err e) = entry.Error (WasmParse e)
+abbrev outcome_entry : Resolves → List ℕ → List ℕ → Result Deps ParseError → Entry
+outcome_entry by s bytes (Ok deps) = wasm_module by s bytes deps.imports
+outcome_entry by s bytes (Err e) = entry.Error (WasmParse e)
 
-pub OfWasm-once : (s bytes : List ℕ) (made other : Entry) → OfWasm s bytes made → OfWasm s bytes other → made ≡ other
-OfWasm-once s bytes made other makes also = one makes also
+pub OfWasm-once : (by : Resolves) (s bytes : List ℕ) (made other : Entry) → OfWasm by s bytes made
+    → OfWasm by s bytes other → made ≡ other
+OfWasm-once by s bytes made other makes also = one makes also
   where
     same : (a b : Result Deps ParseError) → ReadsModule true bytes a → ReadsModule true bytes b
-        → outcome_entry s bytes a ≡ outcome_entry s bytes b
-    same a b h k = ap (outcome_entry s bytes) (one_outcome true bytes a b h k)
+        → outcome_entry by s bytes a ≡ outcome_entry by s bytes b
+    same a b h k = ap (outcome_entry by s bytes) (one_outcome true bytes a b h k)
 
-    one : OfWasm s bytes made → OfWasm s bytes other → made ≡ other
+    one : OfWasm by s bytes made → OfWasm by s bytes other → made ≡ other
     one (with_imports d reads is) (with_imports e too so) = is ∙ same (Ok d) (Ok e) reads too ∙ sym so
     one (with_imports d reads is) (faulty e room too so) = is ∙ same (Ok d) (Err e) reads too ∙ sym so
     one (faulty d room reads is) (with_imports e too so) = is ∙ same (Err d) (Ok e) reads too ∙ sym so
@@ -49,42 +50,44 @@ OfWasm-once s bytes made other makes also = one makes also
 -- ---- the facts of the edges
 
 -- Q holds of the edge of each import of the bytes, in the module at s
-abbrev pub HoldsOfImports : (List ℕ → Dependency → Type 0) → List ℕ → List ℕ → Type 0
-HoldsOfImports Q s bytes =
-    (deps : Deps) → ReadsModule true bytes (Ok deps) → All (λ i. Q bytes (wasm_dependency s i)) deps.imports
+abbrev pub HoldsOfImports : (List ℕ → Dependency → Type 0) → Resolves → List ℕ → List ℕ → Type 0
+HoldsOfImports Q by s bytes =
+    (deps : Deps) → ReadsModule true bytes (Ok deps) → All (λ i. Q bytes (wasm_dependency by s i)) deps.imports
 
 module _ (P Q : List ℕ → Dependency → Type 0) where
   pub OfJson-edges : (bytes : List ℕ) (made : Entry) → OfJson bytes made → EachEdge P Q made
   OfJson-edges bytes made (with_json utf8 is) = subst (EachEdge P Q) (sym is) tt
   OfJson-edges bytes made (no_json not is) = subst (EachEdge P Q) (sym is) tt
 
-  pub OfWasm-edges : (s bytes : List ℕ) (made : Entry) → HoldsOfImports Q s bytes
-      → OfWasm s bytes made → EachEdge P Q made
-  OfWasm-edges s bytes made holds (with_imports deps reads is) =
-      subst (EachEdge P Q) (sym is) (All-map (Q bytes) (wasm_dependency s) deps.imports (holds deps reads))
-  OfWasm-edges s bytes made holds (faulty e room reads is) = subst (EachEdge P Q) (sym is) tt
+  pub OfWasm-edges : (by : Resolves) (s bytes : List ℕ) (made : Entry) → HoldsOfImports Q by s bytes
+      → OfWasm by s bytes made → EachEdge P Q made
+  OfWasm-edges by s bytes made holds (with_imports deps reads is) =
+      subst (EachEdge P Q) (sym is) (All-map (Q bytes) (wasm_dependency by s) deps.imports (holds deps reads))
+  OfWasm-edges by s bytes made holds (faulty e room reads is) = subst (EachEdge P Q) (sym is) tt
 
 -- an import that cuts its module's name has an edge that does
-pub imports-CutsName : (s bytes : List ℕ) → HoldsOfImports CutsName s bytes
-imports-CutsName s bytes deps reads = along deps.imports (cuts_names true bytes deps reads)
+pub imports-CutsName : (by : Resolves) (s bytes : List ℕ) → HoldsOfImports CutsName by s bytes
+imports-CutsName by s bytes deps reads = along deps.imports (cuts_names true bytes deps reads)
   where
     along : (is : List Imported) → AllByRecursion (wasm.CutsName bytes) is
-        → All (λ i. CutsName bytes (wasm_dependency s i)) is
-    along [] cuts = All-nil (λ i. CutsName bytes (wasm_dependency s i))
+        → All (λ i. CutsName bytes (wasm_dependency by s i)) is
+    along [] cuts = All-nil (λ i. CutsName bytes (wasm_dependency by s i))
     along (i ∷ is) cuts =
-        All-cons (λ i. CutsName bytes (wasm_dependency s i)) i is (i.module_range, refl, cuts.0.0, cuts.0.1, cuts.0.2)
+        All-cons (λ i. CutsName bytes (wasm_dependency by s i)) i is
+        (i.module_range, refl, cuts.0.0, cuts.0.1, cuts.0.2)
         (along is cuts.1)
 
 -- the edge of an import never keeps that room ran out
-pub imports-KeepsReasonOf : (s bytes : List ℕ) → HoldsOfImports KeepsReasonOf s bytes
-imports-KeepsReasonOf s bytes deps reads k i within = resolve-kept s (slice_index_or deps.imports k i).origin
+pub imports-KeepsReasonOf : (by : Resolves) → ((s text : List ℕ) → KeepsReason (by s text)) → (s bytes : List ℕ)
+    → HoldsOfImports KeepsReasonOf by s bytes
+imports-KeepsReasonOf by kept s bytes deps reads k i within = kept s (slice_index_or deps.imports k i).origin
 
 -- ---- what the code gives
 
-pub wasm_given : (s bytes : List ℕ) (edges : List Dependency) → GivesEdges s bytes (Ok edges)
-    → OfWasm s bytes (entry.Module (Wasm (record { bytes = bytes; dependencies = edges })))
-wasm_given s bytes edges gives = with_imports gives.0 gives.1 (rw gives.2 refl)
+pub wasm_given : (by : Resolves) (s bytes : List ℕ) (edges : List Dependency) → GivesEdges by s bytes (Ok edges)
+    → OfWasm by s bytes (entry.Module (Wasm (record { bytes = bytes; dependencies = edges })))
+wasm_given by s bytes edges gives = with_imports gives.0 gives.1 (rw gives.2 refl)
 
-pub wasm_refused : (s bytes : List ℕ) (e : ParseError) → GivesEdges s bytes (Err e)
-    → OfWasm s bytes (entry.Error (WasmParse e))
-wasm_refused s bytes e gives = faulty e gives.0 gives.1 refl
+pub wasm_refused : (by : Resolves) (s bytes : List ℕ) (e : ParseError) → GivesEdges by s bytes (Err e)
+    → OfWasm by s bytes (entry.Error (WasmParse e))
+wasm_refused by s bytes e gives = faulty e gives.0 gives.1 refl

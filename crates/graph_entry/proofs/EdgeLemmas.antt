@@ -1,14 +1,9 @@
--- What holds of the edges of each site of a tree holds of the edges of what an answer makes.
+-- What holds of the edge of each site of a source holds of the edges of what an answer makes.
 use Rattle.std.proofs.Common.{◌≡◌, sym, subst, refl, List, ℕ}
 use Rattle.std.specs.Prelude.{Bool, true, false, codes, All, Option, Some, None, MatchOption, Result, Ok, Err, slice_index_or}
 use Rattle.std.proofs.lemmas.List.Elements.{All-map}
-use Rattle.es_token.specs.declared.token.Token.{Token}
-use Rattle.es_lexer.specs.Reads.{ReadsTokens}
-use Rattle.es_ast.specs.declared.ast.Program.{Program}
 use Rattle.es_walk.specs.declared.site.Site.{Site}
-use Rattle.es_walk.specs.Sites.{sites_of, CutsLiteral}
-use Rattle.graph_entry.specs.Tree.{IsTree}
-use Rattle.url.specs.Parser.{parse_url}
+use Rattle.es_walk.specs.Sites.{CutsLiteral}
 use Rattle.graph_entry.specs.declared.answer.LoadAnswer.{LoadAnswer}
 use Rattle.graph_entry.specs.declared.answer.LoadAnswer.TheVariants as answer
 use Rattle.graph_entry.specs.declared.entry.Dependency.{Dependency}
@@ -24,102 +19,90 @@ use Rattle.data_specifier.specs.declared.data_module.DataModule.{DataModule}
 use Rattle.data_specifier.specs.declared.error.DataError.{DataError}
 use Rattle.data_specifier.specs.Data.{data_of}
 use Rattle.lexical_path.specs.Specifiers.{begins}
-use Rattle.graph_entry.specs.Headers.{header_value}
 use Rattle.graph_entry.specs.ModuleText.{without_mark}
-use Rattle.graph_entry.specs.Analysed.{Analysed, OfContent, OfData, OfPackage, with_package, no_package, OfUnasked, by_header, media_type_read, OfKind, OfBytes, OfText, OfTokens, with_tree, no_tree, with_tokens, no_tokens, with_text, no_text, dependency_of, unsupported}
+use Rattle.graph_entry.specs.Resolution.{Resolves, KeepsReason}
+use Rattle.graph_entry.specs.Reading.{Sites}
+use Rattle.graph_entry.specs.Ways.{Ways}
+use Rattle.graph_entry.specs.Analysed.{AnalysedBy, OfContent, OfData, OfPackage, with_package, no_package, OfUnasked, media_type_at, OfKind, OfBytes, OfText, source_entry, with_text, no_text, dependency_of, unsupported}
 use Rattle.graph_entry.proofs.ContentLemmas.{HoldsOfImports, OfJson-edges, OfWasm-edges}
-use Rattle.graph_entry.proofs.RoomLemmas.{resolve-kept}
 
--- P holds of the edge of each site of each tree of the text, in the module at s
-abbrev pub HoldsOfSites : (List ℕ → Dependency → Type 0) → List ℕ → List ℕ → Type 0
-HoldsOfSites P s text = (media : MediaType) (tokens : List Token) (tree : Program) → ReadsTokens text tokens
-    → IsTree media text tokens tree → All (λ site. P text (dependency_of s site)) (sites_of tree)
+-- P holds of the edge of each site of the source, in the module at s
+abbrev pub HoldsOfSites : (List ℕ → Dependency → Type 0) → Ways → List ℕ → List ℕ → Type 0
+HoldsOfSites P ways s text =
+    (media : MediaType) (sites : List Site) → ways.reads s media text (Ok sites)
+    → All (λ site. P text (dependency_of ways.resolves s site)) sites
 
--- ---- level by level
+module _ (P Q : List ℕ → Dependency → Type 0) (ways : Ways) (s : List ℕ)
+    (sites : (text : List ℕ) → HoldsOfSites P ways s text)
+    (imports : (bytes : List ℕ) → HoldsOfImports Q ways.resolves s bytes)
+  where
+    -- ---- level by level
 
-module _ (P Q : List ℕ → Dependency → Type 0) (s : List ℕ) (media : MediaType) where
-  OfTokens-edges : (text : List ℕ) (tokens : List Token) (made : Entry) → HoldsOfSites P s text
-      → ReadsTokens text tokens
-      → OfTokens s media text tokens made → EachEdge P Q made
-  OfTokens-edges text tokens made holds reads (with_tree tree derived is) =
-      subst (EachEdge P Q) (sym is)
-      (All-map (P text) (dependency_of s) (sites_of tree) (holds media tokens tree reads derived))
-  OfTokens-edges text tokens made holds reads (no_tree nothing is) = subst (EachEdge P Q) (sym is) tt
+    OfText-edges : (media : MediaType) (text : List ℕ) (made : Entry) → OfText ways s media text made
+        → EachEdge P Q made
+    OfText-edges media text made makes = subst (EachEdge P Q) (sym makes.is) (by makes.sites makes.read)
+      where
+        by : (found : Sites) → ways.reads s media text found
+            → EachEdge P Q (source_entry ways.resolves s media text found)
+        by (Ok found) read = All-map (P text) (dependency_of ways.resolves s) found (sites text media found read)
+        by (Err d) read = tt
 
-  OfText-edges : (text : List ℕ) (made : Entry) → HoldsOfSites P s text → OfText s media text made
-      → EachEdge P Q made
-  OfText-edges text made holds (with_tokens tokens reads makes) = OfTokens-edges text tokens made holds reads makes
-  OfText-edges text made holds (no_tokens kind place stops is) = subst (EachEdge P Q) (sym is) tt
+    OfBytes-edges : (media : MediaType) (bytes : List ℕ) (made : Entry) → OfBytes ways s media bytes made
+        → EachEdge P Q made
+    OfBytes-edges media bytes made (with_text utf8 makes) = OfText-edges media (without_mark bytes) made makes
+    OfBytes-edges media bytes made (no_text not is) = subst (EachEdge P Q) (sym is) tt
 
-  OfBytes-edges : (bytes : List ℕ) (made : Entry) → HoldsOfSites P s (without_mark bytes)
-      → OfBytes s media bytes made → EachEdge P Q made
-  OfBytes-edges bytes made holds (with_text utf8 makes) = OfText-edges (without_mark bytes) made holds makes
-  OfBytes-edges bytes made holds (no_text not is) = subst (EachEdge P Q) (sym is) tt
+    -- content, by how it is read
+    by_kind-edges : (media : MediaType) (bytes : List ℕ) (read : Option ModuleKind) (made : Entry)
+        → MatchOption read (made ≡ unsupported media) (λ k. OfKind ways s media k bytes made) → EachEdge P Q made
+    by_kind-edges media bytes None made is = subst (EachEdge P Q) (sym is) tt
+    by_kind-edges media bytes (Some module_kind.Source) made makes = OfBytes-edges media bytes made makes
+    by_kind-edges media bytes (Some module_kind.Json) made makes = OfJson-edges P Q bytes made makes
+    by_kind-edges media bytes (Some module_kind.Wasm) made makes =
+        OfWasm-edges P Q ways.resolves s bytes made (imports bytes) makes
 
--- content, by how it is read
-by_kind-edges : (P Q : List ℕ → Dependency → Type 0) (s : List ℕ) (media : MediaType) (bytes : List ℕ)
-    (read : Option ModuleKind) (made : Entry) → HoldsOfSites P s (without_mark bytes) → HoldsOfImports Q s bytes
-    → MatchOption read (made ≡ unsupported media) (λ k. OfKind s media k bytes made) → EachEdge P Q made
-by_kind-edges P Q s media bytes None made sites imports is = subst (EachEdge P Q) (sym is) tt
-by_kind-edges P Q s media bytes (Some module_kind.Source) made sites imports makes =
-    OfBytes-edges P Q s media bytes made sites makes
-by_kind-edges P Q s media bytes (Some module_kind.Json) made sites imports makes = OfJson-edges P Q bytes made makes
-by_kind-edges P Q s media bytes (Some module_kind.Wasm) made sites imports makes =
-    OfWasm-edges P Q s bytes made imports makes
+    -- content of a media type
+    OfContent-edges : (media : MediaType) (bytes : List ℕ) (made : Entry) → OfContent ways s media bytes made
+        → EachEdge P Q made
+    OfContent-edges media bytes made makes = by_kind-edges media bytes (kind_of media) made makes
 
--- content of a media type
-OfContent-edges : (P Q : List ℕ → Dependency → Type 0) (s : List ℕ) (media : MediaType) (bytes : List ℕ) (made : Entry)
-    → HoldsOfSites P s (without_mark bytes) → HoldsOfImports Q s bytes → OfContent s media bytes made
-    → EachEdge P Q made
-OfContent-edges P Q s media bytes made sites imports makes =
-    by_kind-edges P Q s media bytes (kind_of media) made sites imports makes
+    -- ---- where no loader is asked
 
--- ---- where no loader is asked
+    OfData-edges : (held : Result DataModule DataError) (made : Entry) → OfData ways s held made → EachEdge P Q made
+    OfData-edges (Ok held) made makes = OfContent-edges (with_content_type Unknown held.mime) held.body made makes
+    OfData-edges (Err e) made is = subst (EachEdge P Q) (sym is) tt
 
-OfData-edges : (P Q : List ℕ → Dependency → Type 0) (s : List ℕ) → ((text : List ℕ) → HoldsOfSites P s text)
-    → ((bytes : List ℕ) → HoldsOfImports Q s bytes) → (held : Result DataModule DataError) (made : Entry)
-    → OfData s held made → EachEdge P Q made
-OfData-edges P Q s sites imports (Ok held) made makes =
-    OfContent-edges P Q s (with_content_type Unknown held.mime) held.body made (sites (without_mark held.body))
-    (imports held.body) makes
-OfData-edges P Q s sites imports (Err e) made is = subst (EachEdge P Q) (sym is) tt
+    OfPackage-edges : (made : Entry) → OfPackage s made → EachEdge P Q made
+    OfPackage-edges made (with_package p names is) = subst (EachEdge P Q) (sym is) tt
+    OfPackage-edges made (no_package none is) = subst (EachEdge P Q) (sym is) tt
 
-OfPackage-edges : (P Q : List ℕ → Dependency → Type 0) (s : List ℕ) (made : Entry) → OfPackage s made
-    → EachEdge P Q made
-OfPackage-edges P Q s made (with_package p names is) = subst (EachEdge P Q) (sym is) tt
-OfPackage-edges P Q s made (no_package none is) = subst (EachEdge P Q) (sym is) tt
+    OfUnasked-edges : (is_data : Bool) (made : Entry) → OfUnasked ways is_data s made → EachEdge P Q made
+    OfUnasked-edges true made makes = OfData-edges (data_of s) made makes
+    OfUnasked-edges false made makes = OfPackage-edges made makes
 
-OfUnasked-edges : (P Q : List ℕ → Dependency → Type 0) (s : List ℕ) → ((text : List ℕ) → HoldsOfSites P s text)
-    → ((bytes : List ℕ) → HoldsOfImports Q s bytes) → (is_data : Bool) (made : Entry) → OfUnasked is_data s made
-    → EachEdge P Q made
-OfUnasked-edges P Q s sites imports true made makes = OfData-edges P Q s sites imports (data_of s) made makes
-OfUnasked-edges P Q s sites imports false made makes = OfPackage-edges P Q s made makes
+    -- ---- the whole
 
--- ---- the whole
-
--- the edges of what an answer makes
-pub Analysed-edges : (P Q : List ℕ → Dependency → Type 0) (s : List ℕ) → ((text : List ℕ) → HoldsOfSites P s text)
-    → ((bytes : List ℕ) → HoldsOfImports Q s bytes) → (a : Option LoadAnswer) (made : Entry) → Analysed s a made
-    → EachEdge P Q made
-unfolding Analysed
-Analysed-edges P Q s sites imports (Some (answer.Content headers bytes)) made is =
-    OfContent-edges P Q s
-    (by_header (media_type_read (parse_url None s)) (header_value (codes "content-type") headers)) bytes made
-    (sites (without_mark bytes)) (imports bytes) is
-Analysed-edges P Q s sites imports (Some (answer.Redirect target)) made is = subst (EachEdge P Q) (sym is) tt
-Analysed-edges P Q s sites imports (Some answer.External) made is = subst (EachEdge P Q) (sym is) tt
-Analysed-edges P Q s sites imports (Some answer.Absent) made is = subst (EachEdge P Q) (sym is) tt
-Analysed-edges P Q s sites imports (Some answer.Failed) made is = subst (EachEdge P Q) (sym is) tt
-Analysed-edges P Q s sites imports None made is = OfUnasked-edges P Q s sites imports (begins s (codes "data:")) made is
+    -- the edges of what an answer makes
+    pub Analysed-edges : (a : Option LoadAnswer) (made : Entry) → AnalysedBy ways s a made → EachEdge P Q made
+    unfolding AnalysedBy
+    Analysed-edges (Some (answer.Content headers bytes)) made is =
+        OfContent-edges (media_type_at s headers) bytes made is
+    Analysed-edges (Some (answer.Redirect target)) made is = subst (EachEdge P Q) (sym is) tt
+    Analysed-edges (Some answer.External) made is = subst (EachEdge P Q) (sym is) tt
+    Analysed-edges (Some answer.Absent) made is = subst (EachEdge P Q) (sym is) tt
+    Analysed-edges (Some answer.Failed) made is = subst (EachEdge P Q) (sym is) tt
+    Analysed-edges None made is = OfUnasked-edges (begins s (codes "data:")) made is
 
 -- ---- two facts of each edge
 
 -- a site that cuts its literal has an edge that does
-pub All-CutsFrom : (s text : List ℕ) (sites : List Site) → All (λ site. CutsLiteral text site.range site.value) sites
-    → All (λ site. CutsFrom text (dependency_of s site)) sites
-All-CutsFrom s text sites cuts k site within = ((slice_index_or sites k site).range, refl, cuts k site within)
+pub All-CutsFrom : (by : Resolves) (s text : List ℕ) (sites : List Site)
+    → All (λ site. CutsLiteral text site.range site.value) sites
+    → All (λ site. CutsFrom text (dependency_of by s site)) sites
+All-CutsFrom by s text sites cuts k site within = ((slice_index_or sites k site).range, refl, cuts k site within)
 
 -- the edge of a site never keeps that room ran out
-pub All-KeepsReasonOf : (s text : List ℕ) (sites : List Site)
-    → All (λ site. KeepsReasonOf text (dependency_of s site)) sites
-All-KeepsReasonOf s text sites k site within = resolve-kept s (slice_index_or sites k site).value
+pub All-KeepsReasonOf : (by : Resolves) → ((s text : List ℕ) → KeepsReason (by s text)) → (s text : List ℕ)
+    (sites : List Site)
+    → All (λ site. KeepsReasonOf text (dependency_of by s site)) sites
+All-KeepsReasonOf by kept s text sites k site within = kept s (slice_index_or sites k site).value

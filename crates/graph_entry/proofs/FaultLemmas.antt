@@ -1,8 +1,6 @@
 -- No entry's fault is that memory ran out.
 use Rattle.std.proofs.Common.{◌≡◌, ◌≢◌, sym, subst, refl, List, ℕ}
 use Rattle.std.specs.Prelude.{Bool, true, false, ◌==◌, codes, take, position, Option, Some, None, MatchOption, Result, Ok, Err}
-use Rattle.es_token.specs.declared.token.Token.{Token}
-use Rattle.url.specs.Parser.{parse_url}
 use Rattle.wasm_dep_analyzer.specs.declared.error.ParseError.{ParseError}
 use Rattle.wasm_dep_analyzer.specs.declared.error.ParseError.TheVariants as wasm
 use Rattle.graph_entry.specs.declared.answer.LoadAnswer.{LoadAnswer}
@@ -21,23 +19,23 @@ use Rattle.data_specifier.specs.declared.error.DataError.{DataError}
 use Rattle.data_specifier.specs.declared.error.DataError.TheVariants as data_url
 use Rattle.data_specifier.specs.Data.{content_of, or_no_base64, body_of, with_mime, data_at, data_of}
 use Rattle.lexical_path.specs.Specifiers.{begins}
-use Rattle.graph_entry.specs.Headers.{header_value}
 use Rattle.graph_entry.specs.Entry.{KeepsFault}
 use Rattle.graph_entry.specs.Json.{OfJson, with_json, no_json}
 use Rattle.graph_entry.specs.Wasm.{OfWasm, with_imports, faulty}
-use Rattle.graph_entry.specs.Analysed.{Analysed, OfContent, OfData, OfPackage, with_package, no_package, OfUnasked, by_header, OfKind, OfBytes, OfText, OfTokens, with_tree, no_tree, with_tokens, no_tokens, with_text, no_text, media_type_read, unsupported}
+use Rattle.graph_entry.specs.Resolution.{Resolves}
+use Rattle.graph_entry.specs.Reading.{Sites}
+use Rattle.graph_entry.specs.Ways.{Ways}
+use Rattle.graph_entry.specs.Analysed.{AnalysedBy, OfContent, OfData, OfPackage, with_package, no_package, OfUnasked, media_type_at, OfKind, OfBytes, OfText, source_entry, with_text, no_text, unsupported}
 
-module _ (s : List ℕ) (media : MediaType) where
-  OfTokens-fault : (text : List ℕ) (tokens : List Token) (made : Entry) → OfTokens s media text tokens made
-      → KeepsFault made
-  OfTokens-fault text tokens made (with_tree tree derived is) = subst KeepsFault (sym is) tt
-  OfTokens-fault text tokens made (no_tree nothing is) = subst KeepsFault (sym is) tt
+module _ (ways : Ways) (s : List ℕ) (media : MediaType) where
+  OfText-fault : (text : List ℕ) (made : Entry) → OfText ways s media text made → KeepsFault made
+  OfText-fault text made makes = subst KeepsFault (sym makes.is) (by makes.sites)
+    where
+      by : (found : Sites) → KeepsFault (source_entry ways.resolves s media text found)
+      by (Ok found) = tt
+      by (Err d) = tt
 
-  OfText-fault : (text : List ℕ) (made : Entry) → OfText s media text made → KeepsFault made
-  OfText-fault text made (with_tokens tokens reads makes) = OfTokens-fault text tokens made makes
-  OfText-fault text made (no_tokens kind place stops is) = subst KeepsFault (sym is) tt
-
-  OfBytes-fault : (bytes : List ℕ) (made : Entry) → OfBytes s media bytes made → KeepsFault made
+  OfBytes-fault : (bytes : List ℕ) (made : Entry) → OfBytes ways s media bytes made → KeepsFault made
   OfBytes-fault bytes made (with_text utf8 makes) = OfText-fault _ made makes
   OfBytes-fault bytes made (no_text not is) = subst KeepsFault (sym is) tt
 
@@ -49,17 +47,18 @@ kept : (e : ParseError) → e ≢ wasm.OutOfMemory → KeepsFault (entry.Error (
 kept wasm.OutOfMemory room = absurd (room refl)
 kept _ room = tt
 
-OfWasm-fault : (s bytes : List ℕ) (made : Entry) → OfWasm s bytes made → KeepsFault made
-OfWasm-fault s bytes made (with_imports deps reads is) = subst KeepsFault (sym is) tt
-OfWasm-fault s bytes made (faulty e room reads is) = subst KeepsFault (sym is) (kept e room)
+OfWasm-fault : (by : Resolves) (s bytes : List ℕ) (made : Entry) → OfWasm by s bytes made → KeepsFault made
+OfWasm-fault by s bytes made (with_imports deps reads is) = subst KeepsFault (sym is) tt
+OfWasm-fault by s bytes made (faulty e room reads is) = subst KeepsFault (sym is) (kept e room)
 
-by_kind-fault : (s : List ℕ) (media : MediaType) (bytes : List ℕ) (read : Option ModuleKind) (made : Entry)
-    → MatchOption read (made ≡ unsupported media) (λ k. OfKind s media k bytes made) → KeepsFault made
-by_kind-fault s media bytes None made is = subst KeepsFault (sym is) tt
-by_kind-fault s media bytes (Some module_kind.Source) made makes =
-    OfBytes-fault s media bytes made makes
-by_kind-fault s media bytes (Some module_kind.Json) made makes = OfJson-fault bytes made makes
-by_kind-fault s media bytes (Some module_kind.Wasm) made makes = OfWasm-fault s bytes made makes
+by_kind-fault : (ways : Ways) (s : List ℕ) (media : MediaType) (bytes : List ℕ) (read : Option ModuleKind)
+    (made : Entry)
+    → MatchOption read (made ≡ unsupported media) (λ k. OfKind ways s media k bytes made) → KeepsFault made
+by_kind-fault ways s media bytes None made is = subst KeepsFault (sym is) tt
+by_kind-fault ways s media bytes (Some module_kind.Source) made makes =
+    OfBytes-fault ways s media bytes made makes
+by_kind-fault ways s media bytes (Some module_kind.Json) made makes = OfJson-fault bytes made makes
+by_kind-fault ways s media bytes (Some module_kind.Wasm) made makes = OfWasm-fault ways.resolves s bytes made makes
 
 -- ---- where no loader is asked
 
@@ -88,26 +87,28 @@ kept_data : (e : DataError) → e ≢ data_url.OutOfMemory → KeepsFault (entry
 kept_data data_url.OutOfMemory room = absurd (room refl)
 kept_data _ room = tt
 
-OfData-fault : (s : List ℕ) (held : Result DataModule DataError) (made : Entry) → told held → OfData s held made
+OfData-fault : (ways : Ways) (s : List ℕ) (held : Result DataModule DataError) (made : Entry) → told held
+    → OfData ways s held made
     → KeepsFault made
-OfData-fault s (Ok held) made t makes =
+OfData-fault ways s (Ok held) made t makes =
     let media = with_content_type Unknown held.mime in
-    by_kind-fault s media held.body (kind_of media) made makes
-OfData-fault s (Err e) made t is = subst KeepsFault (sym is) (kept_data e t)
+    by_kind-fault ways s media held.body (kind_of media) made makes
+OfData-fault ways s (Err e) made t is = subst KeepsFault (sym is) (kept_data e t)
 
-OfUnasked-fault : (s : List ℕ) (is_data : Bool) (made : Entry) → OfUnasked is_data s made → KeepsFault made
-OfUnasked-fault s true made makes = OfData-fault s (data_of s) made (data_of-told s) makes
-OfUnasked-fault s false made (with_package p names is) = subst KeepsFault (sym is) tt
-OfUnasked-fault s false made (no_package none is) = subst KeepsFault (sym is) tt
+OfUnasked-fault : (ways : Ways) (s : List ℕ) (is_data : Bool) (made : Entry) → OfUnasked ways is_data s made
+    → KeepsFault made
+OfUnasked-fault ways s true made makes = OfData-fault ways s (data_of s) made (data_of-told s) makes
+OfUnasked-fault ways s false made (with_package p names is) = subst KeepsFault (sym is) tt
+OfUnasked-fault ways s false made (no_package none is) = subst KeepsFault (sym is) tt
 
 -- what an answer makes keeps no fault that memory ran out
-pub Analysed-fault : (s : List ℕ) (a : Option LoadAnswer) (made : Entry) → Analysed s a made → KeepsFault made
-unfolding Analysed
-Analysed-fault s (Some (answer.Content headers bytes)) made is =
-    let media = by_header (media_type_read (parse_url None s)) (header_value (codes "content-type") headers) in
-    by_kind-fault s media bytes (kind_of media) made is
-Analysed-fault s (Some (answer.Redirect target)) made is = subst KeepsFault (sym is) tt
-Analysed-fault s (Some answer.External) made is = subst KeepsFault (sym is) tt
-Analysed-fault s (Some answer.Absent) made is = subst KeepsFault (sym is) tt
-Analysed-fault s (Some answer.Failed) made is = subst KeepsFault (sym is) tt
-Analysed-fault s None made is = OfUnasked-fault s (begins s (codes "data:")) made is
+pub Analysed-fault : (ways : Ways) (s : List ℕ) (a : Option LoadAnswer) (made : Entry) → AnalysedBy ways s a made
+    → KeepsFault made
+unfolding AnalysedBy
+Analysed-fault ways s (Some (answer.Content headers bytes)) made is =
+    let media = media_type_at s headers in by_kind-fault ways s media bytes (kind_of media) made is
+Analysed-fault ways s (Some (answer.Redirect target)) made is = subst KeepsFault (sym is) tt
+Analysed-fault ways s (Some answer.External) made is = subst KeepsFault (sym is) tt
+Analysed-fault ways s (Some answer.Absent) made is = subst KeepsFault (sym is) tt
+Analysed-fault ways s (Some answer.Failed) made is = subst KeepsFault (sym is) tt
+Analysed-fault ways s None made is = OfUnasked-fault ways s (begins s (codes "data:")) made is

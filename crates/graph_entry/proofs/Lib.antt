@@ -4,7 +4,9 @@ pub mod ModuleTextLemmas
 pub mod RoomLemmas
 pub mod ContentLemmas
 pub mod TreeLemmas
+pub mod ReadingLemmas
 pub mod AnalysedLemmas
 pub mod EdgeLemmas
 pub mod FaultLemmas
+pub mod ParseLemmas
 pub mod Theorems

@@ -13,7 +13,8 @@ use Rattle.file_url.specs.declared.errors.SpecifierError.TheVariants as specifie
 use Rattle.file_url.specs.Imports as imports
 use Rattle.file_url.specs.Imports.{refusal, resolved_as, relative_import, import_read, import_of}
 use Rattle.graph_entry.specs.declared.resolution.ResolutionError.TheVariants.{InvalidDowngrade, InvalidLocalImport}
-use Rattle.graph_entry.specs.Resolution.{Resolved, KeepsReason, kept_of, resolve, is_downgrade, is_local_import, allowed, allowed_from}
+use Rattle.graph_entry.specs.Resolver.{as_fault, default_resolving}
+use Rattle.graph_entry.specs.Resolution.{Resolved, KeepsReason, kept_of, kept_resolving, target_by, resolve_by, resolve, is_downgrade, is_local_import, allowed, allowed_from}
 
 -- this refusal is not that room ran out
 abbrev pub IsReason : ParseError → Type 0
@@ -203,8 +204,18 @@ from-kept (Ok referrer) (Ok target) kept = allowed-kept referrer target
 from-kept (Ok referrer) (Err e) kept = kept
 from-kept (Err e) r kept = kept
 
+-- what an import leads to, as an edge keeps it, is the same however a resolver's fault stands for it
+as_fault-kept : (r : imports.Resolved) → KeepsReason (kept_of r) → KeepsReason (kept_resolving (as_fault r))
+as_fault-kept (Ok url) kept = tt
+as_fault-kept (Err e) kept = kept
+
+target-kept : (base : Parsed Parts) (text : List ℕ) → IsTold base → KeepsReason (target_by default_resolving base text)
+unfolding import_of
+target-kept (Ok referrer) text told = as_fault-kept _ (read-kept _ _ text (parse_url-told None text) told)
+target-kept (Err e) text told = read-kept _ _ text (parse_url-told None text) told
+
 -- that room ran out is never an edge's reason
 pub resolve-kept : (referrer text : List ℕ) → KeepsReason (resolve referrer text)
-unfolding resolve import_of
+unfolding resolve_by
 resolve-kept referrer text =
-    from-kept (parse_url None referrer) _ (read-kept _ _ text (parse_url-told None text) (parse_url-told None referrer))
+    from-kept (parse_url None referrer) _ (target-kept (parse_url None referrer) text (parse_url-told None referrer))

@@ -16,15 +16,6 @@ use Rattle.media_type.specs.declared.media_type.MediaType.{MediaType}
 use Rattle.graph_entry.specs.Tree.{language_of, modes_of, IsFirstTree, IsTree}
 
 module _ (lang : Lang) (text : List ℕ) (tokens : List Token) where
-  -- the first mode that derives a tree derives one alone
-  pub first_once : (modes : List Mode) (p q : Program) → IsFirstTree lang text tokens modes p
-      → IsFirstTree lang text tokens modes q → p ≡ q
-  first_once [] p q is so = absurd is
-  first_once (m ∷ modes) p q (inl is) (inl so) = one_tree lang m text tokens p q is so
-  first_once (m ∷ modes) p q (inl is) (inr so) = absurd (so.0 p is)
-  first_once (m ∷ modes) p q (inr is) (inl so) = absurd (is.0 q so)
-  first_once (m ∷ modes) p q (inr is) (inr so) = first_once modes p q is.1 so.1
-
   -- what holds of each derived tree
   first_holds : (P : Program → Type 0) → ((m : Mode) (p : Program) → Derives lang m text tokens p → P p)
       → (modes : List Mode) (p : Program) → IsFirstTree lang text tokens modes p → P p
@@ -65,11 +56,6 @@ module _ (media : MediaType) (text : List ℕ) (tokens : List Token) (lang : Lan
   pub of_tree : IsTree media text tokens p → IsFirstTree lang text tokens modes p
   of_tree is = subst (λ (l : Lang). IsFirstTree l text tokens modes p) (sym same)
       (subst (λ (ms : List Mode). IsFirstTree (language_of media) text tokens ms p) (sym allowed) is)
-
--- a source has one tree at most
-pub one_tree_of : (media : MediaType) (text : List ℕ) (tokens : List Token) (p q : Program) → IsTree media text tokens p
-    → IsTree media text tokens q → p ≡ q
-one_tree_of media text tokens p q is so = first_once (language_of media) text tokens (modes_of media) p q is so
 
 -- the sites of the tree of a source cut their literals
 pub tree_cuts : (media : MediaType) (text : List ℕ) (tokens : List Token) (p : Program) → ReadsTokens text tokens

@@ -1,24 +1,18 @@
 -- What one answer of a loader makes of one specifier, case by case (this project's profile).
 use Rattle.std.specs.Prelude.{◌≡◌, ℕ, Bool, true, false, List, map, codes, Option, Some, None, MatchOption, Result, Ok, Err, IsUtf8}
-use Rattle.base.specs.declared.range.Range.{Range}
 use Rattle.url.specs.Parts.{Parts}
 use Rattle.url.specs.Parser.{Parsed, parse_url}
-use Rattle.es_token.specs.declared.token.Token.{Token}
-use Rattle.es_lexer.specs.declared.error.LexicalKind.{LexicalKind}
-use Rattle.es_lexer.specs.Reads.{ReadsTokens}
-use Rattle.es_lexer.specs.Stops.{Stops}
-use Rattle.es_ast.specs.declared.ast.Program.{Program}
 use Rattle.es_walk.specs.declared.site.Site.{Site}
-use Rattle.es_walk.specs.Sites.{sites_of}
 use Rattle.graph_entry.specs.declared.answer.LoadAnswer.{LoadAnswer}
 use Rattle.graph_entry.specs.declared.answer.LoadAnswer.TheVariants as answer
-use Rattle.graph_entry.specs.declared.diagnostic.SyntaxErrorKind.{SyntaxErrorKind}
-use Rattle.graph_entry.specs.declared.diagnostic.SyntaxErrorKind.TheVariants.{Lexical, Syntax}
 use Rattle.graph_entry.specs.declared.entry.Dependency.{Dependency}
+use Rattle.graph_entry.specs.declared.entry.JsModule.{JsModule}
+use Rattle.graph_entry.specs.declared.entry.Module.{Module}
 use Rattle.graph_entry.specs.declared.entry.Module.TheVariants.{Js}
+use Rattle.graph_entry.specs.declared.entry.ModuleError.{ModuleError}
 use Rattle.graph_entry.specs.declared.entry.Entry.{Entry}
 use Rattle.graph_entry.specs.declared.entry.Entry.TheVariants as entry
-use Rattle.graph_entry.specs.declared.entry.ModuleError.TheVariants.{Missing, Loading, UnsupportedMediaType, Parse, DataUrl, PackageReference}
+use Rattle.graph_entry.specs.declared.entry.ModuleError.TheVariants.{Missing, Loading, UnsupportedMediaType, Parse, DataUrl, PackageReference, OutOfMemory}
 use Rattle.media_type.specs.declared.media_type.MediaType.{MediaType}
 use Rattle.media_type.specs.declared.media_type.MediaType.TheVariants.{Unknown}
 use Rattle.media_type.specs.declared.media_type.ModuleKind.{ModuleKind}
@@ -32,12 +26,13 @@ use Rattle.data_specifier.specs.Data.{data_of}
 use Rattle.package_ref.specs.declared.reference.PackageRef.{PackageRef}
 use Rattle.package_ref.specs.Reference.{IsReference}
 use Rattle.lexical_path.specs.Specifiers.{begins}
-use Rattle.graph_entry.specs.Headers.{header_value}
+use Rattle.graph_entry.specs.Headers.{HeaderList, header_value}
 use Rattle.graph_entry.specs.ModuleText.{without_mark}
 use Rattle.graph_entry.specs.Json.{no_utf8, OfJson}
 use Rattle.graph_entry.specs.Wasm.{OfWasm}
-use Rattle.graph_entry.specs.Resolution.{resolve}
-use Rattle.graph_entry.specs.Tree.{IsTree}
+use Rattle.graph_entry.specs.Resolution.{Resolves}
+use Rattle.graph_entry.specs.Reading.{Sites}
+use Rattle.graph_entry.specs.Ways.{Ways, default_ways}
 
 -- the media type of a specifier is that of the path of the URL that its text is read as
 abbrev pub media_type_read : Parsed Parts → MediaType
@@ -48,88 +43,84 @@ media_type_read (Err e) = Unknown
 abbrev pub unsupported : MediaType → Entry
 unsupported media_type = entry.Error (UnsupportedMediaType media_type)
 
--- the source at this specifier is no module
-abbrev pub no_module : List ℕ → SyntaxErrorKind → Option Range → Entry
-no_module s kind range = entry.Error (Parse (record { specifier = s; kind = kind; range = range }))
-
--- the empty range at a place
-abbrev pub at_place : ℕ → Range
-at_place place = record { start = place; end = place }
-
 -- the edge of a site in the module at this specifier
-abbrev pub dependency_of : List ℕ → Site → Dependency
-dependency_of s site = record {
+abbrev pub dependency_of : Resolves → List ℕ → Site → Dependency
+dependency_of resolves s site = record {
   kind = site.kind;
   type_only = site.type_only;
   range = Some site.range;
   text = site.value;
   attribute = site.attribute;
-  resolution = resolve s site.value;
+  resolution = resolves s site.value;
 }
 
--- the module at this specifier: its text, and one edge for each site of its tree, in order
-abbrev pub module_of : List ℕ → MediaType → List ℕ → Program → Entry
-module_of s media_type text program = entry.Module (Js (record {
+-- the module at this specifier: its text, and one edge for each of its sites, in order
+abbrev pub js_module : Resolves → List ℕ → MediaType → List ℕ → List Site → JsModule
+js_module resolves s media_type text sites = record {
   media_type = media_type;
   text = text;
-  dependencies = map (dependency_of s) (sites_of program);
-}))
+  dependencies = map (dependency_of resolves s) sites;
+}
 
--- what the tokens of a source make
-pub data OfTokens (s : List ℕ) (media_type : MediaType) (text : List ℕ) (tokens : List Token)
-    (made : Entry) : Type 0 where
-  -- the module of their tree
-  with_tree : (program : Program) → IsTree media_type text tokens program → made ≡ module_of s media_type text program
-      → OfTokens s media_type text tokens made
-  -- they have no tree
-  no_tree : ((program : Program) → ¬ IsTree media_type text tokens program) → made ≡ no_module s Syntax None
-      → OfTokens s media_type text tokens made
+abbrev pub module_of : Resolves → List ℕ → MediaType → List ℕ → List Site → Entry
+module_of resolves s media_type text sites = entry.Module (Js (js_module resolves s media_type text sites))
+
+-- the entry of a source: the module of its sites, or what is wrong with it
+abbrev pub source_entry : Resolves → List ℕ → MediaType → List ℕ → Sites → Entry
+source_entry resolves s media_type text (Ok sites) = module_of resolves s media_type text sites
+source_entry resolves s media_type text (Err d) = entry.Error (Parse d)
 
 -- what the text of a source makes
-pub data OfText (s : List ℕ) (media_type : MediaType) (text : List ℕ) (made : Entry) : Type 0 where
-  -- what its tokens make
-  with_tokens : (tokens : List Token) → ReadsTokens text tokens → OfTokens s media_type text tokens made
-      → OfText s media_type text made
-  -- no tokens read it: the first fault
-  no_tokens : (kind : LexicalKind) (place : ℕ) → Stops text kind place
-      → made ≡ no_module s (Lexical kind) (Some (at_place place)) → OfText s media_type text made
+pub record OfText (ways : Ways) (s : List ℕ) (media_type : MediaType) (text : List ℕ) (made : Entry) : Type 0 where
+  pub sites : Sites
+  pub read : ways.reads s media_type text sites
+  pub is : made ≡ source_entry ways.resolves s media_type text sites
 
 -- what the bytes of a source make
-pub data OfBytes (s : List ℕ) (media_type : MediaType) (bytes : List ℕ) (made : Entry) : Type 0 where
+pub data OfBytes (ways : Ways) (s : List ℕ) (media_type : MediaType) (bytes : List ℕ) (made : Entry) : Type 0 where
   -- what their text makes
-  with_text : IsUtf8 bytes → OfText s media_type (without_mark bytes) made → OfBytes s media_type bytes made
+  with_text : IsUtf8 bytes → OfText ways s media_type (without_mark bytes) made → OfBytes ways s media_type bytes made
   -- they are no text
-  no_text : ¬ IsUtf8 bytes → made ≡ no_utf8 → OfBytes s media_type bytes made
+  no_text : ¬ IsUtf8 bytes → made ≡ no_utf8 → OfBytes ways s media_type bytes made
 
 -- what content makes, by how a module of its media type is read
-abbrev pub OfKind : List ℕ → MediaType → ModuleKind → List ℕ → Entry → Type 0
-OfKind s media_type module_kind.Source bytes made = OfBytes s media_type bytes made
-OfKind s media_type module_kind.Json bytes made = OfJson bytes made
-OfKind s media_type module_kind.Wasm bytes made = OfWasm s bytes made
+abbrev pub OfKind : Ways → List ℕ → MediaType → ModuleKind → List ℕ → Entry → Type 0
+OfKind ways s media_type module_kind.Source bytes made = OfBytes ways s media_type bytes made
+OfKind ways s media_type module_kind.Json bytes made = OfJson bytes made
+OfKind ways s media_type module_kind.Wasm bytes made = OfWasm ways.resolves s bytes made
 
 -- what content makes: of some media types there are no modules
-abbrev pub OfContent : List ℕ → MediaType → List ℕ → Entry → Type 0
-OfContent s media_type bytes made =
-    MatchOption (kind_of media_type) (made ≡ unsupported media_type) (λ read. OfKind s media_type read bytes made)
+abbrev pub OfContent : Ways → List ℕ → MediaType → List ℕ → Entry → Type 0
+OfContent ways s media_type bytes made =
+    MatchOption (kind_of media_type) (made ≡ unsupported media_type) (λ read. OfKind ways s media_type read bytes made)
+
+-- a module that content makes, or why it makes none; or memory ran out
+abbrev pub IsParsed : (Entry → Type 0) → Result Module ModuleError → Type 0
+IsParsed makes (Ok m) = makes (entry.Module m)
+IsParsed makes (Err OutOfMemory) = Unit {0}
+IsParsed makes (Err e) = makes (entry.Error e)
 
 -- the media type of content: what its header `content-type` says where it has one, over what the path tells
 abbrev pub by_header : MediaType → Option (List ℕ) → MediaType
 by_header by_path None = by_path
 by_header by_path (Some header) = with_content_type by_path header
 
+-- the media type of content with these headers, at this specifier
+abbrev pub media_type_at : List ℕ → HeaderList → MediaType
+media_type_at s headers = by_header (media_type_read (parse_url None s)) (header_value (codes "content-type") headers)
+
 -- what a loader's answer makes of this specifier
-abbrev pub OfAnswer : List ℕ → LoadAnswer → Entry → Type 0
-OfAnswer s (answer.Content headers bytes) made =
-    OfContent s (by_header (media_type_read (parse_url None s)) (header_value (codes "content-type") headers)) bytes made
-OfAnswer s (answer.Redirect target) made = made ≡ entry.Redirect target
-OfAnswer s answer.External made = made ≡ entry.External
-OfAnswer s answer.Absent made = made ≡ entry.Error Missing
-OfAnswer s answer.Failed made = made ≡ entry.Error Loading
+abbrev pub OfAnswer : Ways → List ℕ → LoadAnswer → Entry → Type 0
+OfAnswer ways s (answer.Content headers bytes) made = OfContent ways s (media_type_at s headers) bytes made
+OfAnswer ways s (answer.Redirect target) made = made ≡ entry.Redirect target
+OfAnswer ways s answer.External made = made ≡ entry.External
+OfAnswer ways s answer.Absent made = made ≡ entry.Error Missing
+OfAnswer ways s answer.Failed made = made ≡ entry.Error Loading
 
 -- what a `data:` specifier makes: the content that it holds, whose media type no path tells
-abbrev pub OfData : List ℕ → Result DataModule DataError → Entry → Type 0
-OfData s (Ok held) made = OfContent s (with_content_type Unknown held.mime) held.body made
-OfData s (Err e) made = made ≡ entry.Error (DataUrl e)
+abbrev pub OfData : Ways → List ℕ → Result DataModule DataError → Entry → Type 0
+OfData ways s (Ok held) made = OfContent ways s (with_content_type Unknown held.mime) held.body made
+OfData ways s (Err e) made = made ≡ entry.Error (DataUrl e)
 
 -- what an `npm:` or `jsr:` specifier makes
 pub data OfPackage (s : List ℕ) (made : Entry) : Type 0 where
@@ -139,11 +130,15 @@ pub data OfPackage (s : List ℕ) (made : Entry) : Type 0 where
   no_package : ((named : PackageRef) → ¬ IsReference s named) → made ≡ entry.Error PackageReference → OfPackage s made
 
 -- what a specifier makes that no loader is asked for, by whether it is a `data:` specifier
-abbrev pub OfUnasked : Bool → List ℕ → Entry → Type 0
-OfUnasked true s made = OfData s (data_of s) made
-OfUnasked false s made = OfPackage s made
+abbrev pub OfUnasked : Ways → Bool → List ℕ → Entry → Type 0
+OfUnasked ways true s made = OfData ways s (data_of s) made
+OfUnasked ways false s made = OfPackage s made
 
 -- what this answer makes of this specifier; `None` where no loader is asked for it
-unfoldable pub Analysed : List ℕ → Option LoadAnswer → Entry → Type 0
-Analysed s (Some answer) made = OfAnswer s answer made
-Analysed s None made = OfUnasked (begins s (codes "data:")) s made
+unfoldable pub AnalysedBy : Ways → List ℕ → Option LoadAnswer → Entry → Type 0
+AnalysedBy ways s (Some answer) made = OfAnswer ways s answer made
+AnalysedBy ways s None made = OfUnasked ways (begins s (codes "data:")) s made
+
+-- by the URL Standard and the parser
+abbrev pub Analysed : List ℕ → Option LoadAnswer → Entry → Type 0
+Analysed = AnalysedBy default_ways

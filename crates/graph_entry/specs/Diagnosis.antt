@@ -11,6 +11,14 @@ pub record Diagnosis : Type 0 where
   pub kind : SyntaxErrorKind
   pub range : Option Range
 
+-- the diagnosis of the source at a specifier
+abbrev pub diagnosis : List ℕ → SyntaxErrorKind → Option Range → Diagnosis
+diagnosis s kind range = record { specifier = s; kind = kind; range = range }
+
+-- the empty range at a place
+abbrev pub at_place : ℕ → Range
+at_place place = record { start = place; end = place }
+
 -- the place of a fault among the tokens is no part of the meaning
 abbrev pub told_range : SyntaxErrorKind → Range → Option Range
 told_range (Lexical kind) range = Some range

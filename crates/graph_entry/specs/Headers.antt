@@ -1,5 +1,5 @@
 -- Headers of a loader's answer, as their list of entries.
-use Rattle.std.specs.Prelude.{ℕ, List, [], ◌∷◌, map, Option, bytes_eq, String, string_bytes}
+use Rattle.std.specs.Prelude.{ℕ, List, [], ◌∷◌, map, Option, None, Some, bytes_eq, String, string_bytes}
 use Rattle.std.specs.Map.{lookup}
 use Rattle.std.specs.Ordering.{nat_cmp}
 use Rattle.std.specs.Cmp.Lexicographic.{slice_cmp}
@@ -30,3 +30,8 @@ with_header headers name value = insert_entry (slice_cmp nat_cmp) headers (str_t
 abbrev pub with_headers : HeaderList → HeaderList → HeaderList
 with_headers headers [] = headers
 with_headers headers (e ∷ es) = with_headers (with_header headers e.0 e.1) es
+
+-- the headers of those that are given, if any are
+abbrev pub headers_or_none : Option HeaderList → HeaderList
+headers_or_none None = []
+headers_or_none (Some given) = with_headers [] given

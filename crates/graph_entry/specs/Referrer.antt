@@ -8,38 +8,44 @@ use Rattle.graph_entry.specs.declared.entry.Dependency.{Dependency}
 use Rattle.graph_entry.specs.declared.referrer.ReferrerImports.{ReferrerImports}
 use Rattle.graph_entry.specs.Specifier.{text_of}
 use Rattle.graph_entry.specs.Entry.{edge_target}
-use Rattle.graph_entry.specs.Resolution.{resolve}
+use Rattle.graph_entry.specs.Resolution.{Resolves, resolve}
 
 -- the edge of a text that a referrer imports: it stands in no module, and its attribute isn't told
-abbrev pub referrer_edge : List ℕ → List ℕ → Dependency
-referrer_edge referrer text = record {
+abbrev pub referrer_edge : Resolves → List ℕ → List ℕ → Dependency
+referrer_edge resolves referrer text = record {
   kind = Referrer;
   type_only = false;
   range = None;
   text = text;
   attribute = Unknown;
-  resolution = resolve referrer text;
+  resolution = resolves referrer text;
 }
 
 -- the edges of what a referrer imports, in its order
-abbrev pub referrer_edges : ReferrerImports → List Dependency
-referrer_edges place = map (referrer_edge (text_of place.referrer)) place.imports
+abbrev pub referrer_edges : Resolves → ReferrerImports → List Dependency
+referrer_edges resolves place = map (referrer_edge resolves (text_of place.referrer)) place.imports
 
 -- a referrer with its edges
+abbrev pub referred_by : Resolves → ReferrerImports → Parts × List Dependency
+referred_by resolves place = (place.referrer, referrer_edges resolves place)
+
 abbrev pub referred : ReferrerImports → Parts × List Dependency
-referred place = (place.referrer, referrer_edges place)
+referred = referred_by resolve
 
 -- where an edge leads, if it has a target
 abbrev pub led_by : Dependency → List (List ℕ)
 led_by d = option_to_list (edge_target d)
 
 -- where the edges of what a referrer imports lead
-abbrev pub led_from : ReferrerImports → List (List ℕ)
-led_from place = flat_map led_by (referrer_edges place)
+abbrev pub led_from : Resolves → ReferrerImports → List (List ℕ)
+led_from resolves place = flat_map led_by (referrer_edges resolves place)
 
 -- where reach starts: at the roots, and at the targets of what is imported outside
+abbrev pub starts_by : Resolves → List Parts → List ReferrerImports → List (List ℕ)
+starts_by resolves roots places = map text_of roots ++ flat_map (led_from resolves) places
+
 abbrev pub starts_of : List Parts → List ReferrerImports → List (List ℕ)
-starts_of roots places = map text_of roots ++ flat_map led_from places
+starts_of = starts_by resolve
 
 -- specifiers were put behind a list of URLs
 abbrev pub Adds : List Parts → List Parts → List (List ℕ) → Type 0

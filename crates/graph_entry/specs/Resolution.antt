@@ -1,4 +1,4 @@
--- What a specifier in a source leads to: the answer of `import_of`, where the referrer is read again from its text, unless the
+-- What a specifier in a source leads to: what a resolver answers, where the referrer is read again from its text, unless the
 -- referrer's scheme may not lead to the target's.
 use Rattle.std.specs.Prelude.{ℕ, Bool, ◌&&◌, ◌||◌, List, codes, bytes_eq, None, Result, Ok, Err, if◌then◌else◌}
 use Rattle.url.specs.declared.error.ParseError.TheVariants as url
@@ -6,8 +6,10 @@ use Rattle.url.specs.Parts.{Parts}
 use Rattle.url.specs.Parser.{Parsed, parse_url, IsOutOfRoom}
 use Rattle.file_url.specs.declared.errors.SpecifierError.TheVariants as specifier
 use Rattle.file_url.specs.Imports as imports
+use Rattle.graph_entry.specs.declared.resolver.ResolveFault.TheVariants as fault
+use Rattle.graph_entry.specs.Resolver.{Resolving, default_resolving}
 use Rattle.graph_entry.specs.declared.resolution.ResolutionError.{ResolutionError}
-use Rattle.graph_entry.specs.declared.resolution.ResolutionError.TheVariants.{ImportPrefixMissing, InvalidUrl, InvalidDowngrade, InvalidLocalImport, InvalidTypeAssertion}
+use Rattle.graph_entry.specs.declared.resolution.ResolutionError.TheVariants.{ImportPrefixMissing, InvalidUrl, InvalidDowngrade, InvalidLocalImport, InvalidTypeAssertion, Refused}
 
 -- a target, or why there is none
 abbrev pub Resolved : Type 0
@@ -19,6 +21,18 @@ kept_of (Ok url) = Ok url
 kept_of (Err (specifier.ImportPrefixMissing text)) = Err (ImportPrefixMissing text)
 kept_of (Err (specifier.InvalidUrl e)) = Err (InvalidUrl e)
 kept_of (Err specifier.OutOfMemory) = Err (InvalidUrl url.OutOfMemory)
+
+-- what it keeps of the answer of a resolver
+abbrev pub kept_resolving : Resolving → Resolved
+kept_resolving (Ok url) = Ok url
+kept_resolving (Err (fault.Specifier e)) = kept_of (Err e)
+kept_resolving (Err (fault.Refused text)) = Err (Refused text)
+kept_resolving (Err fault.OutOfMemory) = Err (InvalidUrl url.OutOfMemory)
+
+-- where a text leads from a referrer that was read again; a resolver is asked where it is a URL
+abbrev pub target_by : (List ℕ → Parts → Resolving) → Parsed Parts → List ℕ → Resolved
+target_by resolving (Ok referrer) text = kept_resolving (resolving text referrer)
+target_by resolving (Err e) text = kept_of (imports.import_of (Err e) text)
 
 -- the URL has this scheme
 abbrev pub has_scheme : List ℕ → Parts → Bool
@@ -46,12 +60,19 @@ allowed_from (Ok referrer) (Err e) = Err e
 allowed_from (Err e) resolved = resolved
 
 -- what the text leads to from a referrer that was read again
-abbrev pub resolved_from : Parsed Parts → List ℕ → Resolved
-resolved_from base text = allowed_from base (kept_of (imports.import_of base text))
+abbrev pub resolved_by : (List ℕ → Parts → Resolving) → Parsed Parts → List ℕ → Resolved
+resolved_by resolving base text = allowed_from base (target_by resolving base text)
 
--- what the text leads to from the module at the referrer's text
-unfoldable pub resolve : List ℕ → List ℕ → Resolved
-resolve referrer text = resolved_from (parse_url None referrer) text
+-- what a text leads to from the module at a specifier's text
+abbrev pub Resolves : Type 0
+Resolves = List ℕ → List ℕ → Resolved
+
+unfoldable pub resolve_by : (List ℕ → Parts → Resolving) → Resolves
+resolve_by resolving referrer text = resolved_by resolving (parse_url None referrer) text
+
+-- by the URL Standard
+abbrev pub resolve : Resolves
+resolve = resolve_by default_resolving
 
 -- the reason that an edge keeps, if it keeps one, is not that room ran out
 abbrev pub KeepsReason : Resolved → Type 0
@@ -61,6 +82,7 @@ KeepsReason (Err (InvalidUrl e)) = ¬ IsOutOfRoom e
 KeepsReason (Err InvalidDowngrade) = Unit {0}
 KeepsReason (Err InvalidLocalImport) = Unit {0}
 KeepsReason (Err InvalidTypeAssertion) = Unit {0}
+KeepsReason (Err (Refused text)) = Unit {0}
 
 -- the name of a refusal, as reports write it
 abbrev pub name_of_error : ResolutionError → List ℕ
@@ -69,3 +91,4 @@ name_of_error (InvalidUrl e) = codes "InvalidUrl"
 name_of_error InvalidDowngrade = codes "InvalidDowngrade"
 name_of_error InvalidLocalImport = codes "InvalidLocalImport"
 name_of_error InvalidTypeAssertion = codes "InvalidTypeAssertion"
+name_of_error (Refused text) = codes "Refused"

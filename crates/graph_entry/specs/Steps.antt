@@ -6,6 +6,7 @@ use Rattle.wasm_dep_analyzer.specs.declared.error.ParseError.{ParseError}
 use Rattle.wasm_dep_analyzer.specs.declared.error.ParseError.TheVariants.{OutOfMemory}
 use Rattle.wasm_dep_analyzer.specs.Module.{Deps, ReadsModule}
 use Rattle.graph_entry.specs.declared.entry.Dependency.{Dependency}
+use Rattle.graph_entry.specs.Resolution.{Resolves}
 use Rattle.graph_entry.specs.Wasm.{wasm_dependency}
 use Rattle.graph_entry.specs.declared.analysis.Source.{Source}
 use Rattle.es_tree.specs.declared.error.Mode.{Mode}
@@ -18,10 +19,10 @@ abbrev pub IsReadAgain : Source → Type 0
 IsReadAgain source = source.base.now ≡ parse_url None (text_of source.specifier.now)
 
 -- the edges of the WebAssembly module at this specifier, or its first fault
-abbrev pub GivesEdges : List ℕ → List ℕ → Result (List Dependency) ParseError → Type 0
-GivesEdges s bytes (Ok edges) =
-    (deps : Deps) × ReadsModule true bytes (Ok deps) × (edges ≡ map (wasm_dependency s) deps.imports)
-GivesEdges s bytes (Err e) = (e ≢ OutOfMemory) × ReadsModule true bytes (Err e)
+abbrev pub GivesEdges : Resolves → List ℕ → List ℕ → Result (List Dependency) ParseError → Type 0
+GivesEdges resolves s bytes (Ok edges) =
+    (deps : Deps) × ReadsModule true bytes (Ok deps) × (edges ≡ map (wasm_dependency resolves s) deps.imports)
+GivesEdges resolves s bytes (Err e) = (e ≢ OutOfMemory) × ReadsModule true bytes (Err e)
 
 -- the modes that are allowed, in their order
 abbrev pub modes_in : Modes → List Mode

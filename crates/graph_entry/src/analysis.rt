@@ -1,42 +1,58 @@
 //! What one answer of a loader makes of one specifier.
 ghost use Rattle.std.specs.Prelude.{◌≡◌, None, Some, codes, map, IfOk};
 ghost use Rattle.url.specs.Parser.{parse_url};
-ghost use Rattle.es_lexer.specs.Reads.{ReadsTokens};
-ghost use Rattle.es_walk.specs.Sites.{sites_of};
 ghost use Rattle.graph_entry.specs.Specifier.{text_of};
 ghost use Rattle.graph_entry.specs.Headers.{header_value};
-ghost use Rattle.graph_entry.specs.Diagnosis.{told_range};
+ghost use Rattle.graph_entry.specs.Resolution.{resolve_by};
 ghost use Rattle.graph_entry.specs.Steps.{IsReadAgain};
+ghost use Rattle.graph_entry.specs.Ways.{ways_by};
 ghost use Rattle.graph_entry.specs.Analysed as spec;
-ghost use Rattle.graph_entry.specs.Analysed.{Analysed, OfContent, OfBytes, OfText, OfTokens};
+ghost use Rattle.graph_entry.specs.Analysed.{Analysed, AnalysedBy, OfContent, OfBytes, OfText};
 
+use crate::analyzer::{AnalyzeFault, ModuleAnalyzer, ParserModuleAnalyzer};
 use crate::answer::LoadAnswer;
-use crate::diagnostic::{ParseDiagnostic, SyntaxErrorKind};
 use crate::entry::{Dependency, Entry, JsModule, Module, ModuleError};
 use crate::headers::Headers;
 use crate::json::{analyse_json, no_text};
 use crate::module_text::without_mark;
 use crate::resolution::{ReadAgain, read_again, resolve_from};
-use crate::tree::tree_of;
+use crate::resolver::{DefaultResolver, Resolver};
 use crate::wasm::analyse_wasm;
-use base::{Items, Range, SharedBytes, SharedText};
-use es_ast::Program;
-use es_lexer::{LexError, LexicalError, Token, lex_tokens};
-use es_tree::SyntaxError;
-use es_walk::{Site, sites};
+use base::{Items, SharedBytes, SharedText};
+use es_walk::Site;
 use media_type::{MediaType, ModuleKind};
 use std::alloc::{AllocError, Global};
 use std::str;
 use url::Url;
 
 /// The entry of the specifier, where a loader gave this answer for it.
-#[tactic(auto, unfolding(crate::specs::Analysed::Analysed))]
 pub fn analyse(alloc: Global, specifier: &Url, answer: LoadAnswer) -> Result<Entry, AllocError>
     ensures { IfOk result (λ made. Analysed (text_of specifier.now) (Some answer) made) }
 {
+    analyse_by(
+        alloc,
+        &DefaultResolver,
+        &ParserModuleAnalyzer,
+        specifier,
+        answer,
+    )
+}
+
+/// The same by a resolver and an analyser of the caller's.
+#[tactic(auto, unfolding(crate::specs::Analysed::AnalysedBy))]
+pub fn analyse_by<R: Resolver, M: ModuleAnalyzer>(
+    alloc: Global,
+    resolver: &R,
+    analyzer: &M,
+    specifier: &Url,
+    answer: LoadAnswer,
+) -> Result<Entry, AllocError>
+    ensures { IfOk result (λ made. AnalysedBy (ways_by (R.resolving resolver.now) (M.reads analyzer.now))
+        (text_of specifier.now) (Some answer) made) }
+{
     match answer {
         LoadAnswer::Content { headers, bytes } => {
-            analyse_content(alloc, specifier, &headers, bytes)
+            analyse_content(alloc, resolver, analyzer, specifier, &headers, bytes)
         }
         LoadAnswer::Redirect(target) => Ok(Entry::Redirect(target)),
         LoadAnswer::External => Ok(Entry::External),
@@ -45,19 +61,23 @@ pub fn analyse(alloc: Global, specifier: &Url, answer: LoadAnswer) -> Result<Ent
     }
 }
 
-fn analyse_content(
+/// The entry of content, whatever the specifier's scheme.
+pub fn analyse_content<R: Resolver, M: ModuleAnalyzer>(
     alloc: Global,
+    resolver: &R,
+    analyzer: &M,
     specifier: &Url,
     headers: &Headers,
     bytes: SharedBytes,
 ) -> Result<Entry, AllocError>
-    ensures { IfOk result (OfContent (text_of specifier.now)
-        (spec.by_header (spec.media_type_read (parse_url None (text_of specifier.now)))
-        (header_value (codes "content-type") headers.now)) bytes) }
+    ensures { IfOk result (OfContent (ways_by (R.resolving resolver.now) (M.reads analyzer.now))
+        (text_of specifier.now) (spec.media_type_at (text_of specifier.now) headers.now) bytes) }
 {
     let base = read_again(alloc, specifier)?;
     let media_type = media_type_by(alloc, &base, headers)?;
-    analyse_as(alloc, specifier, &base, media_type, bytes)
+    analyse_as(
+        alloc, resolver, analyzer, specifier, &base, media_type, bytes,
+    )
 }
 
 // The media type of content with these headers, at a specifier that was read again.
@@ -77,15 +97,18 @@ fn media_type_by(
 }
 
 /// The entry of content of this media type. The base is the specifier, read again.
-pub fn analyse_as(
+pub fn analyse_as<R: Resolver, M: ModuleAnalyzer>(
     alloc: Global,
+    resolver: &R,
+    analyzer: &M,
     specifier: &Url,
     base: &ReadAgain,
     media_type: MediaType,
     bytes: SharedBytes,
 ) -> Result<Entry, AllocError>
     requires again { base.now ≡ parse_url None (text_of specifier.now) }
-    ensures { IfOk result (OfContent (text_of specifier.now) media_type bytes) }
+    ensures { IfOk result (OfContent (ways_by (R.resolving resolver.now) (M.reads analyzer.now))
+        (text_of specifier.now) media_type bytes) }
 {
     match media_type.kind() {
         None => Ok(unsupported(media_type)),
@@ -95,10 +118,10 @@ pub fn analyse_as(
                 base,
                 media_type,
             };
-            analyse_bytes(alloc, source, bytes.as_slice())
+            analyse_bytes(alloc, resolver, analyzer, source, bytes.as_slice())
         }
         Some(ModuleKind::Json) => analyse_json(alloc, bytes.as_slice()),
-        Some(ModuleKind::Wasm) => analyse_wasm(alloc, specifier, base, bytes),
+        Some(ModuleKind::Wasm) => analyse_wasm(alloc, resolver, specifier, base, bytes),
     }
 }
 
@@ -127,134 +150,113 @@ struct Source<'a> {
     media_type: MediaType,
 }
 
-fn analyse_bytes(alloc: Global, source: Source<'_>, bytes: &[u8]) -> Result<Entry, AllocError>
+fn analyse_bytes<R: Resolver, M: ModuleAnalyzer>(
+    alloc: Global,
+    resolver: &R,
+    analyzer: &M,
+    source: Source<'_>,
+    bytes: &[u8],
+) -> Result<Entry, AllocError>
     requires { IsReadAgain source }
-    ensures { IfOk result
-        (OfBytes (text_of source.entry.specifier.now) source.entry.media_type bytes.now) }
+    ensures { IfOk result (OfBytes (ways_by (R.resolving resolver.now) (M.reads analyzer.now))
+        (text_of source.entry.specifier.now) source.entry.media_type bytes.now) }
 {
     match str::from_utf8(bytes) {
-        Ok(text) => analyse_text(alloc, source, without_mark(text)),
+        Ok(text) => analyse_text(alloc, resolver, analyzer, source, without_mark(text)),
         Err(_) => Ok(no_text()),
     }
 }
 
-fn analyse_text(alloc: Global, source: Source<'_>, text: &str) -> Result<Entry, AllocError>
-    requires { IsReadAgain source }
-    ensures { IfOk result
-        (OfText (text_of source.entry.specifier.now) source.entry.media_type text.now) }
-{
-    match lex_tokens(alloc, text) {
-        Ok(lexed) => analyse_tokens(alloc, source, text, lexed.tokens.as_slice()),
-        Err(error) => no_tokens(source.specifier, fault_of(error)?),
-    }
-}
-
-// The fault of a text, unless memory ran out.
-fn fault_of(error: LexError) -> Result<LexicalError, AllocError>
-    ensures { IfOk result (λ fault. error ≡ LexError.Lexical fault) }
-{
-    match error {
-        LexError::Lexical(fault) => Ok(fault),
-        LexError::OutOfMemory => Err(AllocError),
-    }
-}
-
-// The entry of a source with a lexical fault.
-fn no_tokens(specifier: &Url, error: LexicalError) -> Result<Entry, AllocError>
-    ensures { IfOk result (λ made. made ≡ spec.no_module (text_of specifier.now)
-        (SyntaxErrorKind.Lexical error.kind) (Some (spec.at_place error.at))) }
-{
-    let range = Range {
-        start: error.at,
-        end: error.at,
-    };
-    no_module(specifier, SyntaxErrorKind::Lexical(error.kind), range)
-}
-
-fn no_module(specifier: &Url, kind: SyntaxErrorKind, range: Range) -> Result<Entry, AllocError>
-    ensures { IfOk result (λ made. made ≡ spec.no_module (text_of specifier.now) kind (told_range kind range)) }
-{
-    Ok(Entry::Error(ModuleError::Parse(ParseDiagnostic {
-        specifier: specifier.clone()?,
-        range,
-        kind,
-    })))
-}
-
-fn analyse_tokens(
+fn analyse_text<R: Resolver, M: ModuleAnalyzer>(
     alloc: Global,
+    resolver: &R,
+    analyzer: &M,
     source: Source<'_>,
     text: &str,
-    tokens: &[Token],
 ) -> Result<Entry, AllocError>
-    requires again { IsReadAgain source }
-    requires tokens { ReadsTokens text.now tokens.now }
-    ensures { IfOk result
-        (OfTokens (text_of source.entry.specifier.now) source.entry.media_type text.now tokens.now) }
+    requires { IsReadAgain source }
+    ensures { IfOk result (OfText (ways_by (R.resolving resolver.now) (M.reads analyzer.now))
+        (text_of source.entry.specifier.now) source.entry.media_type text.now) }
 {
-    match tree_of(alloc, source.media_type, text, tokens) {
-        Ok(program) => module_of(alloc, source, text, &program),
-        Err(SyntaxError::Syntax { token }) => {
-            no_module(
-                source.specifier,
-                SyntaxErrorKind::Syntax,
-                range_at(text, tokens, token),
-            )
+    let text = SharedText::from_str(alloc, text)?;
+    match analyzer.analyze(alloc, source.specifier, &text, source.media_type) {
+        Ok(info) => {
+            let module = module_of(alloc, resolver, source, text, info.sites)?;
+            Ok(Entry::Module(Module::Js(module)))
         }
-        Err(SyntaxError::OutOfMemory) => Err(AllocError),
+        Err(AnalyzeFault::Parse(diagnostic)) => Ok(Entry::Error(ModuleError::Parse(diagnostic))),
+        Err(AnalyzeFault::OutOfMemory) => Err(AllocError),
     }
 }
 
-// The range of the token, or the empty one at the end of the text.
-fn range_at(text: &str, tokens: &[Token], token: usize) -> Range {
-    match tokens.get(token) {
-        Some(token) => token.range,
-        None => Range {
-            start: text.len(),
-            end: text.len(),
-        },
-    }
-}
-
-fn module_of(
+fn module_of<R: Resolver>(
     alloc: Global,
+    resolver: &R,
     source: Source<'_>,
-    text: &str,
-    program: &Program,
-) -> Result<Entry, AllocError>
+    text: SharedText,
+    sites: Items<Site>,
+) -> Result<JsModule, AllocError>
     requires { IsReadAgain source }
-    ensures { IfOk result (λ made. made ≡ spec.module_of
-        (text_of source.entry.specifier.now) source.entry.media_type text.now program.now) }
+    ensures { IfOk result (λ made. made ≡ spec.js_module (resolve_by (R.resolving resolver.now))
+        (text_of source.entry.specifier.now) source.entry.media_type text sites) }
 {
-    let found = sites(alloc, program)?;
-    let dependencies = dependencies_of(alloc, source, found)?;
-    Ok(Entry::Module(Module::Js(JsModule {
+    let dependencies = dependencies_of(alloc, resolver, source, sites)?;
+    Ok(JsModule {
         media_type: source.media_type,
-        text: SharedText::from_str(alloc, text)?,
+        text,
         dependencies,
-    })))
+    })
 }
 
-fn dependencies_of(
+/// The module of the sites of a source at a specifier.
+pub fn module_at<R: Resolver>(
     alloc: Global,
+    resolver: &R,
+    specifier: &Url,
+    media_type: MediaType,
+    text: SharedText,
+    sites: Items<Site>,
+) -> Result<JsModule, AllocError>
+    ensures { IfOk result (λ made. made ≡ spec.js_module (resolve_by (R.resolving resolver.now))
+        (text_of specifier.now) media_type text sites) }
+{
+    let base = read_again(alloc, specifier)?;
+    let source = Source {
+        specifier,
+        base: &base,
+        media_type,
+    };
+    module_of(alloc, resolver, source, text, sites)
+}
+
+fn dependencies_of<R: Resolver>(
+    alloc: Global,
+    resolver: &R,
     source: Source<'_>,
-    found: Items<Site>,
+    sites: Items<Site>,
 ) -> Result<Items<Dependency>, AllocError>
     requires { IsReadAgain source }
-    ensures { IfOk result (λ edges. edges ≡ map (spec.dependency_of (text_of source.entry.specifier.now)) found) }
+    ensures { IfOk result (λ edges. edges ≡ map (spec.dependency_of (resolve_by (R.resolving resolver.now))
+        (text_of source.entry.specifier.now)) sites) }
 {
     let mut edges = Items::new(alloc);
-    for site in found.into_vec() {
-        edges.push(dependency_of(alloc, source, site)?)?;
+    for site in sites.into_vec() {
+        edges.push(dependency_of(alloc, resolver, source, site)?)?;
     }
     Ok(edges)
 }
 
-fn dependency_of(alloc: Global, source: Source<'_>, site: Site) -> Result<Dependency, AllocError>
+fn dependency_of<R: Resolver>(
+    alloc: Global,
+    resolver: &R,
+    source: Source<'_>,
+    site: Site,
+) -> Result<Dependency, AllocError>
     requires { IsReadAgain source }
-    ensures { IfOk result (λ edge. edge ≡ spec.dependency_of (text_of source.entry.specifier.now) site) }
+    ensures { IfOk result (λ edge. edge ≡ spec.dependency_of (resolve_by (R.resolving resolver.now))
+        (text_of source.entry.specifier.now) site) }
 {
-    let resolution = resolve_from(alloc, source.base, site.value.as_str())?;
+    let resolution = resolve_from(alloc, resolver, source.base, site.value.as_str())?;
     Ok(Dependency {
         kind: site.kind,
         type_only: site.type_only,

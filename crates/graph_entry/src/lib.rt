@@ -19,6 +19,7 @@
 #![tactic(auto)]
 
 mod analysis;
+mod analyzer;
 mod answer;
 mod diagnostic;
 mod entry;
@@ -26,24 +27,31 @@ mod headers;
 mod json;
 mod kind;
 mod module_text;
+mod parse;
 mod referrer;
 mod resolution;
+mod resolver;
 mod specifier;
 mod tree;
 mod unasked;
 mod wasm;
 
-pub use crate::analysis::analyse;
+pub use crate::analysis::{analyse, analyse_by};
+pub use crate::analyzer::{AnalyzeFault, ModuleAnalyzer, ModuleInfo, ParserModuleAnalyzer};
 pub use crate::answer::LoadAnswer;
 pub use crate::diagnostic::{ParseDiagnostic, SyntaxErrorKind};
 pub use crate::entry::{Dependency, Entry, JsModule, JsonModule, Module, ModuleError, WasmModule};
 pub use crate::headers::Headers;
 pub use crate::kind::GraphKind;
-pub use crate::referrer::{ReferrerImports, referred, starts_of};
-pub use crate::resolution::{ResolutionError, Resolved, resolve};
+pub use crate::parse::{
+    ParseModuleFromAstOptions, ParseModuleOptions, parse_module, parse_module_from_ast,
+};
+pub use crate::referrer::{ReferrerImports, referred, referred_by, starts_by, starts_of};
+pub use crate::resolution::{ResolutionError, Resolved, resolve, resolve_by};
+pub use crate::resolver::{DefaultResolver, ResolveFault, Resolver};
 pub use crate::specifier::is_loadable;
 pub use crate::tree::tree_of;
-pub use crate::unasked::analyse_unasked;
+pub use crate::unasked::{analyse_unasked, analyse_unasked_by};
 pub use data_specifier::DataError;
 pub use es_walk::{Attribute, DependencyKind};
 pub use media_type::{MediaType, ModuleKind};

@@ -2,10 +2,12 @@
 ghost use Rattle.std.specs.Prelude.{◌≡◌, map, IfOk, OnOk};
 ghost use Rattle.std.specs.List.{flat_map};
 ghost use Rattle.graph_entry.specs.Specifier.{text_of};
+ghost use Rattle.graph_entry.specs.Resolution.{resolve_by};
 ghost use Rattle.graph_entry.specs.Referrer as spec;
 
 use crate::entry::Dependency;
-use crate::resolution::resolve;
+use crate::resolution::resolve_by;
+use crate::resolver::{DefaultResolver, Resolver};
 use base::{Items, Text};
 use es_walk::{Attribute, DependencyKind};
 use std::alloc::{AllocError, Global};
@@ -25,20 +27,33 @@ pub fn referred(
 ) -> Result<Items<(Url, Items<Dependency>)>, AllocError>
     ensures { IfOk result (λ made. made ≡ map spec.referred places.now) }
 {
+    referred_by(alloc, &DefaultResolver, places)
+}
+
+/// The same by a resolver of the caller's.
+pub fn referred_by<R: Resolver>(
+    alloc: Global,
+    resolver: &R,
+    places: &[ReferrerImports],
+) -> Result<Items<(Url, Items<Dependency>)>, AllocError>
+    ensures { IfOk result (λ made. made
+        ≡ map (spec.referred_by (resolve_by (R.resolving resolver.now))) places.now) }
+{
     let mut made = Items::new(alloc);
     for place in places {
-        made.push(one_referred(alloc, place)?)?;
+        made.push(one_referred(alloc, resolver, place)?)?;
     }
     Ok(made)
 }
 
-fn one_referred(
+fn one_referred<R: Resolver>(
     alloc: Global,
+    resolver: &R,
     place: &ReferrerImports,
 ) -> Result<(Url, Items<Dependency>), AllocError>
-    ensures { IfOk result (λ made. made ≡ spec.referred place.now) }
+    ensures { IfOk result (λ made. made ≡ spec.referred_by (resolve_by (R.resolving resolver.now)) place.now) }
 {
-    let edges = edges_of(alloc, &place.referrer, place.imports.as_slice())?;
+    let edges = edges_of(alloc, resolver, &place.referrer, place.imports.as_slice())?;
     Ok((place.referrer.clone()?, edges))
 }
 
@@ -50,8 +65,21 @@ pub fn starts_of(
 ) -> Result<Items<Url>, AllocError>
     ensures { IfOk result (λ starts. map text_of starts ≡ spec.starts_of roots.now places.now) }
 {
+    starts_by(alloc, &DefaultResolver, roots, places)
+}
+
+/// The same by a resolver of the caller's.
+pub fn starts_by<R: Resolver>(
+    alloc: Global,
+    resolver: &R,
+    roots: &[Url],
+    places: &[ReferrerImports],
+) -> Result<Items<Url>, AllocError>
+    ensures { IfOk result (λ starts. map text_of starts
+        ≡ spec.starts_by (resolve_by (R.resolving resolver.now)) roots.now places.now) }
+{
     let mut starts = copies(alloc, roots)?;
-    add_targets_of_all(alloc, &mut starts, places)?;
+    add_targets_of_all(alloc, resolver, &mut starts, places)?;
     Ok(starts)
 }
 
@@ -65,15 +93,16 @@ fn copies(alloc: Global, urls: &[Url]) -> Result<Items<Url>, AllocError>
     Ok(copy)
 }
 
-fn add_targets_of_all(
+fn add_targets_of_all<R: Resolver>(
     alloc: Global,
+    resolver: &R,
     starts: &mut Items<Url>,
     places: &[ReferrerImports],
 ) -> Result<(), AllocError>
-    ensures { OnOk result (spec.Adds starts.old starts.new (flat_map spec.led_from places.now)) }
+    ensures { OnOk result (spec.Adds starts.old starts.new (flat_map (spec.led_from (resolve_by (R.resolving resolver.now))) places.now)) }
 {
     for place in places {
-        let edges = edges_of(alloc, &place.referrer, place.imports.as_slice())?;
+        let edges = edges_of(alloc, resolver, &place.referrer, place.imports.as_slice())?;
         add_targets(starts, edges.as_slice())?;
     }
     Ok(())
@@ -98,18 +127,30 @@ fn add_target(starts: &mut Items<Url>, edge: &Dependency) -> Result<(), AllocErr
 }
 
 // The edges of the texts that a referrer imports, in their order.
-fn edges_of(alloc: Global, referrer: &Url, texts: &[Text]) -> Result<Items<Dependency>, AllocError>
-    ensures { IfOk result (λ edges. edges ≡ map (spec.referrer_edge (text_of referrer.now)) texts.now) }
+fn edges_of<R: Resolver>(
+    alloc: Global,
+    resolver: &R,
+    referrer: &Url,
+    texts: &[Text],
+) -> Result<Items<Dependency>, AllocError>
+    ensures { IfOk result (λ edges. edges
+        ≡ map (spec.referrer_edge (resolve_by (R.resolving resolver.now)) (text_of referrer.now)) texts.now) }
 {
     let mut edges = Items::new(alloc);
     for text in texts {
-        edges.push(edge_of(alloc, referrer, text)?)?;
+        edges.push(edge_of(alloc, resolver, referrer, text)?)?;
     }
     Ok(edges)
 }
 
-fn edge_of(alloc: Global, referrer: &Url, text: &Text) -> Result<Dependency, AllocError>
-    ensures { IfOk result (λ edge. edge ≡ spec.referrer_edge (text_of referrer.now) text.now) }
+fn edge_of<R: Resolver>(
+    alloc: Global,
+    resolver: &R,
+    referrer: &Url,
+    text: &Text,
+) -> Result<Dependency, AllocError>
+    ensures { IfOk result (λ edge. edge
+        ≡ spec.referrer_edge (resolve_by (R.resolving resolver.now)) (text_of referrer.now) text.now) }
 {
     Ok(Dependency {
         kind: DependencyKind::Referrer,
@@ -117,6 +158,6 @@ fn edge_of(alloc: Global, referrer: &Url, text: &Text) -> Result<Dependency, All
         range: None,
         text: text.copy()?,
         attribute: Attribute::Unknown,
-        resolution: resolve(alloc, text.as_str(), referrer)?,
+        resolution: resolve_by(alloc, resolver, text.as_str(), referrer)?,
     })
 }

@@ -1,10 +1,11 @@
 //! What a specifier in a source leads to.
-ghost use Rattle.std.specs.Prelude.{◌≡◌, IfOk, None};
+ghost use Rattle.std.specs.Prelude.{◌≡◌, IfOk, None, Err};
 ghost use Rattle.url.specs.Parser.{parse_url, IsOutOfRoom};
 ghost use Rattle.file_url.specs.Imports.{import_of};
 ghost use Rattle.graph_entry.specs.Specifier.{text_of};
 ghost use Rattle.graph_entry.specs.Resolution as spec;
 
+use crate::resolver::{DefaultResolver, ResolveFault, Resolver};
 use base::Text;
 use file_url::{SpecifierError, resolve_import_from};
 use std::alloc::{AllocError, Global};
@@ -24,6 +25,8 @@ pub enum ResolutionError {
     InvalidLocalImport,
     /// The import attribute doesn't fit the module at the edge's end. Never what a text and a referrer lead to.
     InvalidTypeAssertion,
+    /// For a reason of a caller's own resolver.
+    Refused(Text),
 }
 
 impl ResolutionError {
@@ -40,6 +43,7 @@ impl ResolutionError {
             ResolutionError::InvalidDowngrade => ResolutionError::InvalidDowngrade,
             ResolutionError::InvalidLocalImport => ResolutionError::InvalidLocalImport,
             ResolutionError::InvalidTypeAssertion => ResolutionError::InvalidTypeAssertion,
+            ResolutionError::Refused(why) => ResolutionError::Refused(why.copy()?),
         })
     }
 
@@ -53,6 +57,7 @@ impl ResolutionError {
             ResolutionError::InvalidDowngrade => "InvalidDowngrade",
             ResolutionError::InvalidLocalImport => "InvalidLocalImport",
             ResolutionError::InvalidTypeAssertion => "InvalidTypeAssertion",
+            ResolutionError::Refused(_) => "Refused",
         }
     }
 }
@@ -74,8 +79,20 @@ pub type ReadAgain = Result<Url, ParseError>;
 pub fn resolve(alloc: Global, text: &str, referrer: &Url) -> Result<Resolved, AllocError>
     ensures { IfOk result (λ r. r ≡ spec.resolve (text_of referrer.now) text.now) }
 {
+    resolve_by(alloc, &DefaultResolver, text, referrer)
+}
+
+/// The same, where a resolver of the caller's says what an import leads to.
+pub fn resolve_by<R: Resolver>(
+    alloc: Global,
+    resolver: &R,
+    text: &str,
+    referrer: &Url,
+) -> Result<Resolved, AllocError>
+    ensures { IfOk result (λ r. r ≡ spec.resolve_by (R.resolving resolver.now) (text_of referrer.now) text.now) }
+{
     let base = read_again(alloc, referrer)?;
-    resolve_from(alloc, &base, text)
+    resolve_from(alloc, resolver, &base, text)
 }
 
 /// The URL that the specifier's own text is read as.
@@ -89,10 +106,15 @@ pub fn read_again(alloc: Global, specifier: &Url) -> Result<ReadAgain, AllocErro
 }
 
 /// What a text leads to from a referrer that was read again.
-pub fn resolve_from(alloc: Global, base: &ReadAgain, text: &str) -> Result<Resolved, AllocError>
-    ensures { IfOk result (λ r. r ≡ spec.resolved_from base.now text.now) }
+pub fn resolve_from<R: Resolver>(
+    alloc: Global,
+    resolver: &R,
+    base: &ReadAgain,
+    text: &str,
+) -> Result<Resolved, AllocError>
+    ensures { IfOk result (λ r. r ≡ spec.resolved_by (R.resolving resolver.now) base.now text.now) }
 {
-    let resolved = target_from(alloc, base, text)?;
+    let resolved = target_by(alloc, resolver, base, text)?;
     Ok(allowed_from(base, resolved))
 }
 
@@ -120,10 +142,49 @@ fn allowed(referrer: &Url, target: Url) -> Resolved
 }
 
 // The target of a text, whatever the referrer may lead to.
-fn target_from(alloc: Global, base: &ReadAgain, text: &str) -> Result<Resolved, AllocError>
-    ensures { IfOk result (λ r. r ≡ spec.kept_of (import_of base.now text.now)) }
+fn target_by<R: Resolver>(
+    alloc: Global,
+    resolver: &R,
+    base: &ReadAgain,
+    text: &str,
+) -> Result<Resolved, AllocError>
+    ensures { IfOk result (λ r. r ≡ spec.target_by (R.resolving resolver.now) base.now text.now) }
 {
-    match resolve_import_from(alloc, text, base) {
+    match base {
+        Ok(referrer) => target_from(alloc, resolver, referrer, text),
+        Err(error) => target_from_none(alloc, *error, text),
+    }
+}
+
+// The target that the resolver gives.
+fn target_from<R: Resolver>(
+    alloc: Global,
+    resolver: &R,
+    referrer: &Url,
+    text: &str,
+) -> Result<Resolved, AllocError>
+    ensures { IfOk result (λ r. r ≡ spec.kept_resolving (R.resolving resolver.now text.now referrer.now)) }
+{
+    match resolver.resolve(alloc, text, referrer) {
+        Ok(url) => Ok(Ok(url)),
+        Err(ResolveFault::Specifier(SpecifierError::ImportPrefixMissing { specifier })) => {
+            Ok(Err(ResolutionError::ImportPrefixMissing { specifier }))
+        }
+        Err(ResolveFault::Specifier(SpecifierError::InvalidUrl(error))) => {
+            Ok(Err(ResolutionError::InvalidUrl(kept(error)?)))
+        }
+        Err(ResolveFault::Refused(why)) => Ok(Err(ResolutionError::Refused(why))),
+        Err(ResolveFault::Specifier(SpecifierError::OutOfMemory) | ResolveFault::OutOfMemory) => {
+            Err(AllocError)
+        }
+    }
+}
+
+// The target from a referrer that is no URL.
+fn target_from_none(alloc: Global, error: ParseError, text: &str) -> Result<Resolved, AllocError>
+    ensures { IfOk result (λ r. r ≡ spec.kept_of (import_of (Err error) text.now)) }
+{
+    match resolve_import_from(alloc, text, &Err(error)) {
         Ok(url) => Ok(Ok(url)),
         Err(SpecifierError::ImportPrefixMissing { specifier }) => {
             Ok(Err(ResolutionError::ImportPrefixMissing { specifier }))

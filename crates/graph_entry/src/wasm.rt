@@ -3,11 +3,13 @@ ghost use Rattle.std.specs.Prelude.{◌≡◌, None, map, IfOk};
 ghost use Rattle.url.specs.Parser.{parse_url};
 ghost use Rattle.wasm_dep_analyzer.specs.Imports.{imported};
 ghost use Rattle.graph_entry.specs.Specifier.{text_of};
+ghost use Rattle.graph_entry.specs.Resolution.{resolve_by};
 ghost use Rattle.graph_entry.specs.Wasm.{wasm_dependency, OfWasm};
 ghost use Rattle.graph_entry.specs.Steps.{GivesEdges};
 
 use crate::entry::{Dependency, Entry, Module, ModuleError, WasmModule};
 use crate::resolution::{ReadAgain, resolve_from};
+use crate::resolver::Resolver;
 use base::{Items, SharedBytes, Text};
 use es_walk::{Attribute, DependencyKind};
 use std::alloc::{AllocError, Global};
@@ -15,16 +17,17 @@ use url::Url;
 use wasm_dep_analyzer::{Import, ParseError, ParseOptions, WasmDeps};
 
 /// The module that the bytes are, or why they are none. The base is the specifier, read again.
-pub fn analyse_wasm(
+pub fn analyse_wasm<R: Resolver>(
     alloc: Global,
+    resolver: &R,
     specifier: &Url,
     base: &ReadAgain,
     bytes: SharedBytes,
 ) -> Result<Entry, AllocError>
     requires again { base.now ≡ parse_url None (text_of specifier.now) }
-    ensures { IfOk result (OfWasm (text_of specifier.now) bytes) }
+    ensures { IfOk result (OfWasm (resolve_by (R.resolving resolver.now)) (text_of specifier.now) bytes) }
 {
-    match read_edges(alloc, specifier, base, bytes.as_slice())? {
+    match read_edges(alloc, resolver, specifier, base, bytes.as_slice())? {
         Ok(dependencies) => Ok(Entry::Module(Module::Wasm(WasmModule {
             bytes,
             dependencies,
@@ -34,47 +37,50 @@ pub fn analyse_wasm(
 }
 
 // The edges of a module, or its first fault.
-fn read_edges(
+fn read_edges<R: Resolver>(
     alloc: Global,
+    resolver: &R,
     specifier: &Url,
     base: &ReadAgain,
     bytes: &[u8],
 ) -> Result<Result<Items<Dependency>, ParseError>, AllocError>
     requires again { base.now ≡ parse_url None (text_of specifier.now) }
-    ensures { IfOk result (GivesEdges (text_of specifier.now) bytes.now) }
+    ensures { IfOk result (GivesEdges (resolve_by (R.resolving resolver.now)) (text_of specifier.now) bytes.now) }
 {
     match WasmDeps::parse(alloc, bytes, ParseOptions { skip_types: true }) {
-        Ok(deps) => Ok(Ok(edges_of(alloc, specifier, base, &deps.imports)?)),
+        Ok(deps) => Ok(Ok(edges_of(alloc, resolver, specifier, base, &deps.imports)?)),
         Err(ParseError::OutOfMemory) => Err(AllocError),
         Err(error) => Ok(Err(error)),
     }
 }
 
-fn edges_of(
+fn edges_of<R: Resolver>(
     alloc: Global,
+    resolver: &R,
     specifier: &Url,
     base: &ReadAgain,
     imports: &[Import<'_>],
 ) -> Result<Items<Dependency>, AllocError>
     requires again { base.now ≡ parse_url None (text_of specifier.now) }
     ensures { IfOk result (λ edges. edges
-        ≡ map (wasm_dependency (text_of specifier.now)) (map imported imports.now)) }
+        ≡ map (wasm_dependency (resolve_by (R.resolving resolver.now)) (text_of specifier.now)) (map imported imports.now)) }
 {
     let mut edges = Items::new(alloc);
     for import in imports {
-        edges.push(edge_of(alloc, specifier, base, import)?)?;
+        edges.push(edge_of(alloc, resolver, specifier, base, import)?)?;
     }
     Ok(edges)
 }
 
-fn edge_of(
+fn edge_of<R: Resolver>(
     alloc: Global,
+    resolver: &R,
     specifier: &Url,
     base: &ReadAgain,
     import: &Import<'_>,
 ) -> Result<Dependency, AllocError>
     requires again { base.now ≡ parse_url None (text_of specifier.now) }
-    ensures { IfOk result (λ edge. edge ≡ wasm_dependency (text_of specifier.now) (imported import.now)) }
+    ensures { IfOk result (λ edge. edge ≡ wasm_dependency (resolve_by (R.resolving resolver.now)) (text_of specifier.now) (imported import.now)) }
 {
     Ok(Dependency {
         kind: DependencyKind::Wasm,
@@ -82,6 +88,6 @@ fn edge_of(
         range: Some(import.module_range),
         text: Text::from_str(alloc, import.module)?,
         attribute: Attribute::Absent,
-        resolution: resolve_from(alloc, base, import.module)?,
+        resolution: resolve_from(alloc, resolver, base, import.module)?,
     })
 }

@@ -1,8 +1,11 @@
 use Rattle.std.proofs.Common.{◌≡◌, map}
 use Rattle.graph_entry.specs.Specifier.{text_of}
+use Rattle.graph_entry.specs.Resolution.{resolve_by}
 use Rattle.graph_entry.specs.Analysed.{dependency_of}
 use Rattle.graph_entry.proofs.analysis.dependencies_of.Given as goal
 
 -- one edge for each site so far, in order
 abbrev pub invariant-loop-site : goal.invariant-loop-site
-invariant-loop-site l = l.edges ≡ map (dependency_of (text_of l.source.specifier.now)) l.yielded
+invariant-loop-site g l =
+    l.edges
+    ≡ map (dependency_of (resolve_by (g.R.Resolver.resolving l.resolver)) (text_of l.source.specifier.now)) l.yielded

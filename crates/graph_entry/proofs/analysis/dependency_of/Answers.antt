@@ -2,16 +2,17 @@ use Rattle.std.proofs.Common.{◌≡◌, ◌∙◌, ap, List, ℕ, refl}
 use Rattle.url.specs.Parts.{Parts}
 use Rattle.url.specs.Parser.{Parsed}
 use Rattle.graph_entry.specs.Specifier.{text_of}
-use Rattle.graph_entry.specs.Resolution.{resolve, resolved_from}
+use Rattle.graph_entry.specs.Resolution.{resolve_by, resolved_by}
 use Rattle.graph_entry.proofs.analysis.dependency_of.Goals as goal
 
 -- the base is the specifier's text read again, and the text is the site's value
 pub returns : goal.returns
-unfolding resolve
-returns c =
+unfolding resolve_by
+returns g c =
     let s = text_of c.args.source.specifier.now in
-    let found : c.in_ok-resolution.resolution ≡ resolve s c.args.site.value
+    let asks = g.R.Resolver.resolving c.args.resolver.now in
+    let found : c.in_ok-resolution.resolution ≡ resolve_by asks s c.args.site.value
     = c.in_ok-resolution.ensures
-    ∙ ap (λ (t : List ℕ). resolved_from c.args.source.base.now t) c.as_str.ensures
-    ∙ ap (λ (b : Parsed Parts). resolved_from b c.args.site.value) c.requires in
+    ∙ ap (λ (t : List ℕ). resolved_by asks c.args.source.base.now t) c.as_str.ensures
+    ∙ ap (λ (b : Parsed Parts). resolved_by asks b c.args.site.value) c.requires in
     rw found refl

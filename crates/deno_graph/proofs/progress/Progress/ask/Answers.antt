@@ -1,12 +1,13 @@
 use Rattle.std.proofs.Common.{◌+◌, refl}
-use Rattle.deno_graph.specs.Rules.{rules_of}
+use Rattle.deno_graph.specs.Rules.{rules_by}
 use Rattle.deno_graph.specs.Progress.{at}
 use Rattle.deno_graph.proofs.ProgressLemmas.{live_asked, kept_started, asks_one, asks_none}
 use Rattle.deno_graph.proofs.progress.Progress.ask.Goals as goal
 
 pub returns-in-Ok-mark_asked-clause-deals : goal.returns-in-Ok-mark_asked-clause-deals
 returns-in-Ok-mark_asked-clause-deals g c = (
-  live_asked (rules_of c.args.following) (at (g.L.Loader.seen c.args.loader.now) c.args.self.now) _
+  live_asked (rules_by (g.W.Ways.means c.args.ways.now) (g.W.Ways.follows c.args.ways.now))
+      (at (g.L.Loader.seen c.args.loader.now) c.args.self.now) _
       (g.L.Loader.seen c.start.new.self) c.mark_asked.new.self c.requires.in_hand
       c.requires.loads c.in-Ok.ensures.started c.in-Ok-mark_asked.ensures.ok c.in-Ok-mark_asked.ensures.limit,
   rw (c.in-Ok-mark_asked.ensures.ok.counted, c.in-Ok-mark_asked.ensures.ok.todo) refl,

@@ -1,12 +1,12 @@
 use Rattle.std.proofs.Common.{◌+◌, ◌-◌, length}
-use Rattle.deno_graph.specs.Rules.{rules_of}
+use Rattle.deno_graph.specs.Rules.{rules_by}
 use Rattle.deno_graph.specs.Progress.{at, IsLive, OnlyAsks}
 use Rattle.deno_graph.proofs.progress.Progress.ask_all.Given as goal
 
 -- the builder goes on, and the loader was only asked
 abbrev pub invariant-asking : goal.invariant-asking
 invariant-asking g l = record {
-  live : IsLive (rules_of l.following) (at (g.L.Loader.seen l.loader) l.self);
+  live : IsLive (rules_by (g.W.Ways.means l.ways) (g.W.Ways.follows l.ways)) (at (g.L.Loader.seen l.loader) l.self);
   asks : OnlyAsks (at (g.L.Loader.seen l.fn.loader) l.fn.self) (at (g.L.Loader.seen l.loader) l.self);
 }
 

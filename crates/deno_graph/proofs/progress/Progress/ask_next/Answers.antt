@@ -1,12 +1,13 @@
 use Rattle.std.proofs.Common.{refl}
-use Rattle.deno_graph.specs.Rules.{rules_of}
+use Rattle.deno_graph.specs.Rules.{rules_by}
 use Rattle.deno_graph.specs.Progress.{at}
 use Rattle.deno_graph.proofs.ProgressLemmas.{live_popped, asks_still, only_asks_more}
 use Rattle.deno_graph.proofs.progress.Progress.ask_next.Goals as goal
 
 pub deal-requires : goal.deal-requires
 deal-requires g c = record {
-  in_hand = live_popped (rules_of c.args.following) _ c.pop.new.self c.in-Some.url c.requires.live
+  in_hand = live_popped (rules_by (g.W.Ways.means c.args.ways.now) (g.W.Ways.follows c.args.ways.now)) _ c.pop.new.self
+      c.in-Some.url c.requires.live
       c.in-Some.ensures;
 }
 

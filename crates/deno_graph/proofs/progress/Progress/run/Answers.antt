@@ -1,5 +1,5 @@
 use Rattle.std.proofs.Common.{Bool, Err, ◌∙◌}
-use Rattle.deno_graph.specs.Rules.{rules_of}
+use Rattle.deno_graph.specs.Rules.{rules_by}
 use Rattle.deno_graph.specs.Progress.{at}
 use Rattle.deno_graph.proofs.ProgressLemmas.{goes_more, errs_after, runs_err, in_time_after, in_time_err}
 use Rattle.deno_graph.proofs.progress.Progress.run.Goals as goal
@@ -21,7 +21,7 @@ returns-in-Err-clause-goes g c = goes_more _ _ _ c.turns.invariant.goes c.turn.e
 
 pub returns-in-Err-clause-runs : goal.returns-in-Err-clause-runs
 returns-in-Err-clause-runs g c =
-    runs_err (rules_of c.args.following)
+    runs_err (rules_by (g.W.Ways.means c.args.ways.now) (g.W.Ways.follows c.args.ways.now))
     (at (g.L.Loader.seen c.args.loader.now) c.args.self.now)
     (at (g.L.Loader.seen c.turn.new.loader) c.turn.new.self)
     c.in-Err.error
@@ -33,7 +33,9 @@ returns-in-Err-clause-runs g c =
 
 pub returns-in-Err-clause-in_time : goal.returns-in-Err-clause-in_time
 returns-in-Err-clause-in_time g c =
-    in_time_err (rules_of c.args.following) Bool (Unit {0}) _ _ c.in-Err.error
-    (in_time_after {A = Bool} (rules_of c.args.following) (at (g.L.Loader.seen c.args.loader.now) c.args.self.now)
+    in_time_err (rules_by (g.W.Ways.means c.args.ways.now) (g.W.Ways.follows c.args.ways.now)) Bool (Unit {0}) _ _
+    c.in-Err.error
+    (in_time_after {A = Bool} (rules_by (g.W.Ways.means c.args.ways.now) (g.W.Ways.follows c.args.ways.now))
+    (at (g.L.Loader.seen c.args.loader.now) c.args.self.now)
     (at (g.L.Loader.seen c.turns.loader) c.turns.self) (Err c.in-Err.error) _
     c.turns.invariant.goes c.in-Err.ensures.in_time)

@@ -1,12 +1,12 @@
 use Rattle.std.proofs.Common.{◌≡◌, ◌-◌, true}
-use Rattle.deno_graph.specs.Rules.{rules_of}
+use Rattle.deno_graph.specs.Rules.{rules_by}
 use Rattle.deno_graph.specs.Progress.{at, IsLive, GoesOnAt}
 use Rattle.deno_graph.proofs.progress.Progress.run.Given as goal
 
 -- the builder goes on, and the pending count is what it was
 abbrev pub invariant-turns : goal.invariant-turns
 invariant-turns g l = record {
-  live : IsLive (rules_of l.following) (at (g.L.Loader.seen l.loader) l.self);
+  live : IsLive (rules_by (g.W.Ways.means l.ways) (g.W.Ways.follows l.ways)) (at (g.L.Loader.seen l.loader) l.self);
   begun : l.self.begun ≡ true;
   goes : GoesOnAt (at (g.L.Loader.seen l.fn.loader) l.fn.self) (at (g.L.Loader.seen l.loader) l.self);
   pending : (g.L.Loader.seen l.loader).pending ≡ (g.L.Loader.seen l.fn.loader).pending;

@@ -1,4 +1,4 @@
-use Rattle.deno_graph.specs.Rules.{rules_of}
+use Rattle.deno_graph.specs.Rules.{rules_by}
 use Rattle.deno_graph.specs.Progress.{at}
 use Rattle.deno_graph.proofs.ProgressLemmas.{turns_after, goes_more, too_many_later, asked_in_time, in_time_after}
 use Rattle.deno_graph.proofs.progress.Progress.turn.Goals as goal
@@ -13,7 +13,8 @@ returns-clause-turns g c =
 
 pub returns-clause-in_time : goal.returns-clause-in_time
 returns-clause-in_time g c =
-    in_time_after (rules_of c.args.following) (at (g.L.Loader.seen c.args.loader.now) c.args.self.now)
+    in_time_after (rules_by (g.W.Ways.means c.args.ways.now) (g.W.Ways.follows c.args.ways.now))
+    (at (g.L.Loader.seen c.args.loader.now) c.args.self.now)
     (at (g.L.Loader.seen c.ask_all.new.loader) c.ask_all.new.self)
     c.poll.result _ c.ask_all.ensures.asks.goes c.poll.ensures.in_time
 

@@ -1,11 +1,10 @@
 use Rattle.std.proofs.Common.{refl, true, false}
 use Rattle.graph_entry.specs.Specifier.{text_of}
-use Rattle.deno_graph.specs.Rules.{rules_of}
-use Rattle.deno_graph.proofs.Theorems.{rules_once}
+use Rattle.deno_graph.specs.Rules.{rules_by}
 use Rattle.deno_graph.specs.Progress.{at}
 use Rattle.deno_graph.specs.Inside.{seen_of}
 use Rattle.deno_graph.proofs.ResultLemmas.{result_graph, result_limit, result_asked, answered_now, none_open, result_not_yet, result_unasked, result_fair, result_too_many, unawaited_none, unasked_same, result_history}
-use Rattle.deno_graph.proofs.build.Inner.poll.Goals as goal
+use Rattle.deno_graph.proofs.inner.Inner.poll.Goals as goal
 
 -- ---- the graph
 
@@ -17,7 +16,9 @@ finish-requires g c =
 pub returns-in-Ok-finish-clause-graph : goal.returns-in-Ok-finish-clause-graph
 returns-in-Ok-finish-clause-graph g c =
     rw (← c.self.view_is)
-    (result_graph {rules = rules_of c.self.inside.following} (rules_once c.self.inside.following)
+    (result_graph {rules =
+    rules_by (g.W.Ways.means c.self.inside.following) (g.W.Ways.follows c.self.inside.following)}
+    (g.met.W.Ways.once c.self.inside.following)
     (at (g.L.Loader.seen c.self.inside.loader) c.self.inside.progress)
     (at (g.L.Loader.seen c.run.new.loader) c.run.new.self) c.run.new.self.reaching.reached.entries _
     c.in-Ok.ensures.runs c.run.ensures.goes refl
@@ -26,7 +27,7 @@ returns-in-Ok-finish-clause-graph g c =
 pub returns-in-Ok-finish-clause-limit : goal.returns-in-Ok-finish-clause-limit
 returns-in-Ok-finish-clause-limit g c =
     rw (← c.self.view_is)
-    (result_limit {rules = rules_of c.self.inside.following}
+    (result_limit {rules = rules_by (g.W.Ways.means c.self.inside.following) (g.W.Ways.follows c.self.inside.following)}
     (at (g.L.Loader.seen c.self.inside.loader) c.self.inside.progress)
     (at (g.L.Loader.seen c.run.new.loader) c.run.new.self) c.run.new.self.reaching.reached.entries _
     c.in-Ok.ensures.runs c.run.ensures.goes refl
@@ -35,13 +36,16 @@ returns-in-Ok-finish-clause-limit g c =
 pub returns-in-Ok-finish-clause-asked : goal.returns-in-Ok-finish-clause-asked
 returns-in-Ok-finish-clause-asked g c =
     rw (← c.self.view_is)
-    (result_asked {rules = rules_of c.self.inside.following} (rules_once c.self.inside.following)
+    (result_asked {rules =
+    rules_by (g.W.Ways.means c.self.inside.following) (g.W.Ways.follows c.self.inside.following)}
+    (g.met.W.Ways.once c.self.inside.following)
     (at (g.L.Loader.seen c.self.inside.loader) c.self.inside.progress)
     (at (g.L.Loader.seen c.run.new.loader) c.run.new.self) c.in-Ok.ensures.runs c.run.ensures.goes)
 
 pub returns-in-Ok-finish-clause-answered : goal.returns-in-Ok-finish-clause-answered
 returns-in-Ok-finish-clause-answered g c =
-    answered_now (rules_of c.self.inside.following) (at (g.L.Loader.seen c.run.new.loader) c.run.new.self)
+    answered_now (rules_by (g.W.Ways.means c.self.inside.following) (g.W.Ways.follows c.self.inside.following))
+    (at (g.L.Loader.seen c.run.new.loader) c.run.new.self)
     c.in-Ok.ensures.runs.live c.in-Ok.ensures.runs.all_taken
 
 -- ---- why there is none
@@ -49,7 +53,9 @@ returns-in-Ok-finish-clause-answered g c =
 pub returns-in-Err-NotYet-clause-not_yet : goal.returns-in-Err-NotYet-clause-not_yet
 returns-in-Err-NotYet-clause-not_yet g c = λ same.
     rw (← c.self.view_is)
-    (result_not_yet {rules = rules_of c.self.inside.following} (rules_once c.self.inside.following) _ _
+    (result_not_yet {rules =
+    rules_by (g.W.Ways.means c.self.inside.following) (g.W.Ways.follows c.self.inside.following)}
+    (g.met.W.Ways.once c.self.inside.following) _ _
     c.self.inside.following c.self.inside.roots c.self.inside.imports
     (at (g.L.Loader.seen c.self.inside.loader) c.self.inside.progress)
     (at (g.L.Loader.seen c.run.new.loader) c.run.new.self) _ _
@@ -65,7 +71,9 @@ returns-in-Err-TooManyModules-clause-complete g c = λ live within orderly still
 pub returns-in-Err-UnaskedAnswer-clause-unasked : goal.returns-in-Err-UnaskedAnswer-clause-unasked
 returns-in-Err-UnaskedAnswer-clause-unasked g c = λ s same.
     rw (← unasked_same c.in-Err-UnaskedAnswer.specifier s same, ← c.self.view_is)
-    (result_unasked {rules = rules_of c.self.inside.following} (rules_once c.self.inside.following) _ c.run.new.loader
+    (result_unasked {rules =
+    rules_by (g.W.Ways.means c.self.inside.following) (g.W.Ways.follows c.self.inside.following)}
+    (g.met.W.Ways.once c.self.inside.following) _ c.run.new.loader
     c.self.inside.following c.self.inside.roots c.self.inside.imports
     (at (g.L.Loader.seen c.self.inside.loader) c.self.inside.progress)
     (at (g.L.Loader.seen c.run.new.loader) c.run.new.self) _ true (text_of c.in-Err-UnaskedAnswer.specifier)
@@ -73,13 +81,16 @@ returns-in-Err-UnaskedAnswer-clause-unasked g c = λ s same.
 
 pub returns-in-Err-UnaskedAnswer-clause-complete : goal.returns-in-Err-UnaskedAnswer-clause-complete
 returns-in-Err-UnaskedAnswer-clause-complete g c = λ live within orderly still.
-    absurd (unawaited_none (rules_of c.self.inside.following)
+    absurd (unawaited_none
+    (rules_by (g.W.Ways.means c.self.inside.following) (g.W.Ways.follows c.self.inside.following))
     (seen_of c.self.inside.loader c.self.inside.following c.self.inside.roots c.self.inside.imports
     (at (g.L.Loader.seen c.self.inside.loader) c.self.inside.progress) c.self.inside.finished)
     (seen_of c.run.new.loader c.self.inside.following c.self.inside.roots c.self.inside.imports
     (at (g.L.Loader.seen c.run.new.loader) c.run.new.self) true)
     (text_of c.in-Err-UnaskedAnswer.specifier)
-    (result_unasked {rules = rules_of c.self.inside.following} (rules_once c.self.inside.following)
+    (result_unasked {rules =
+    rules_by (g.W.Ways.means c.self.inside.following) (g.W.Ways.follows c.self.inside.following)}
+    (g.met.W.Ways.once c.self.inside.following)
     c.self.inside.loader c.run.new.loader c.self.inside.following c.self.inside.roots c.self.inside.imports
     (at (g.L.Loader.seen c.self.inside.loader) c.self.inside.progress)
     (at (g.L.Loader.seen c.run.new.loader) c.run.new.self) c.self.inside.finished true
