@@ -54,7 +54,7 @@ fn entries_of(
     requires { AreDone reached.entries }
     ensures { IfOk result (λ entries. reached.entries ≡ all_done entries) }
 {
-    let mut entries = Items::new(alloc);
+    let mut entries = Items::from_vec(Vec::with_capacity(alloc, reached.len())?);
     for (url, slot) in reached {
         match slot {
             Slot::Done(entry) => entries.push((url, entry))?,

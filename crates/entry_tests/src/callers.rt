@@ -4,12 +4,14 @@ ghost use Rattle.std.specs.Prelude.{◌≡◌, Err, Ok, []};
 ghost use Rattle.graph_entry.specs.declared.resolver.ResolveFault.TheVariants as fault;
 
 use crate::lines::line_of;
-use base::{Items, SharedBytes, SharedText, Text};
+use base::{Items, Range, SharedBytes, SharedText, Text};
+use deno_ast::{ParseParams, parse_program};
 use graph_entry::{
-    AnalyzeFault, DefaultResolver, Entry, MediaType, ModuleAnalyzer, ModuleInfo,
-    ParseModuleOptions, ParserModuleAnalyzer, ResolveFault, Resolver, parse_module,
+    AnalyzeFault, DefaultResolver, Entry, MediaType, Module, ModuleAnalyzer, ModuleInfo,
+    ParseModuleFromAstOptions, ParseModuleOptions, ParserModuleAnalyzer, ResolveFault, Resolver,
+    parse_module, parse_module_from_ast,
 };
-use std::alloc::Global;
+use std::alloc::{AllocError, Global};
 use std::process::Abort;
 use url::Url;
 
@@ -93,4 +95,53 @@ fn modules_by_callers(rt: HostRuntime) {
     );
     let line = parsed(&rt, alloc, none, &Blind);
     assert_eq!(rt; line.as_str(), "TypeScript 16");
+}
+
+// The sites of a source, each by its range and its text.
+fn sites_in(alloc: Global, info: &ModuleInfo) -> Result<String, AllocError> {
+    let mut line = String::new(alloc);
+    for site in info.sites.as_slice() {
+        let Range { start, end } = site.range;
+        let shown = format!(in alloc; "{start}-{end} {};", site.value.as_str())?;
+        line.push_str(shown.as_str())?;
+    }
+    Ok(line)
+}
+
+#[test]
+fn parts_of_one_module(rt: HostRuntime) {
+    let alloc = rt.alloc();
+    let media_type = MediaType::TypeScript;
+    let specifier = Url::parse(alloc, "file:///a.ts").expect(&rt, "a URL");
+    let text = SharedText::from_str(alloc, "import \"./b.ts\";").expect(&rt, "memory");
+    let analysed = ParserModuleAnalyzer.analyze(alloc, &specifier, &text, media_type);
+    let info = analysed.expect(&rt, "a source");
+    let line = sites_in(alloc, &info).expect(&rt, "memory");
+    assert_eq!(rt; line.as_str(), "7-15 ./b.ts;");
+    let target = DefaultResolver.resolve(alloc, "./b.ts", &specifier);
+    assert_eq!(rt; target.expect(&rt, "a target").as_str(), "file:///b.ts");
+    let params = ParseParams {
+        specifier: specifier.clone().expect(&rt, "memory"),
+        text,
+        media_type,
+        capture_tokens: false,
+        scope_analysis: false,
+        maybe_syntax: None,
+    };
+    let parsed = parse_program(alloc, params).expect(&rt, "a source");
+    let info = ParserModuleAnalyzer.module_info(alloc, &parsed);
+    let line = sites_in(alloc, &info.expect(&rt, "memory")).expect(&rt, "memory");
+    assert_eq!(rt; line.as_str(), "7-15 ./b.ts;");
+    let none: Option<&DefaultResolver> = None;
+    let options = ParseModuleFromAstOptions {
+        specifier,
+        parsed_source: &parsed,
+        maybe_resolver: none,
+    };
+    let module = parse_module_from_ast(alloc, options).expect(&rt, "memory");
+    let line = line_of(alloc, &Entry::Module(Module::Js(module))).expect(&rt, "memory");
+    assert_eq!(rt;
+        line.as_str(),
+        "TypeScript 16; import 7-15 ./b.ts -> file:///b.ts"
+    );
 }

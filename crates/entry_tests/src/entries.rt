@@ -89,27 +89,27 @@ fn entries_of_content(rt: HostRuntime) {
         (
             "file:///a.ts",
             b"const \x01;",
-            "Parse InvalidChar 6-6; SyntaxError: InvalidChar\n    at file:///a.ts byte 6",
+            "Parse InvalidChar 6-6; SyntaxError: InvalidChar\n    at file:///a.ts:1:7",
         ),
         (
             "file:///a.ts",
             b"\xEF\xBB\xBFimport \"a",
-            "Parse UnterminatedString 7-7; SyntaxError: UnterminatedString\n    at file:///a.ts byte 7",
+            "Parse UnterminatedString 7-7; SyntaxError: UnterminatedString\n    at file:///a.ts:1:8",
         ),
         (
             "file:///a.ts",
             b"; /*",
-            "Parse UnterminatedComment 2-2; SyntaxError: UnterminatedComment\n    at file:///a.ts byte 2",
+            "Parse UnterminatedComment 2-2; SyntaxError: UnterminatedComment\n    at file:///a.ts:1:3",
         ),
         (
             "file:///a.ts",
             b"import x;",
-            "Parse Syntax 8-9; SyntaxError: Syntax\n    at file:///a.ts byte 8",
+            "Parse Syntax 8-9; SyntaxError: Syntax\n    at file:///a.ts:1:9",
         ),
         (
             "file:///a.ts",
             b"import",
-            "Parse Syntax 6-6; SyntaxError: Syntax\n    at file:///a.ts byte 6",
+            "Parse Syntax 6-6; SyntaxError: Syntax\n    at file:///a.ts:1:7",
         ),
         ("file:///a.ts", b"\xFF", "Decode"),
         ("file:///a.json", b"\xFF", "Decode"),
@@ -161,6 +161,26 @@ const SOURCES: &[(&str, &str, &str)] = &[
     ("a.tsx", "a < b", "Tsx 5"),
     ("a.js", "import(x);import('./a' + x)", "JavaScript 27"),
     ("a.js", "f('./a.js'); './b.js'", "JavaScript 21"),
+    (
+        "a.ts",
+        "/// <reference path=\"./b.d.ts\" />\nimport \"./c.ts\";",
+        "TypeScript 50; reference-path 20-30 ./b.d.ts with ? -> file:///b.d.ts; import 41-49 ./c.ts -> file:///c.ts",
+    ),
+    (
+        "a.js",
+        "/// <reference path=\"./b.d.ts\" />\nimport \"./c.ts\";",
+        "JavaScript 50; import 41-49 ./c.ts -> file:///c.ts",
+    ),
+    (
+        "a.d.mts",
+        "/// <reference types='./t.d.ts' />",
+        "Dmts 34; reference-types 21-31 ./t.d.ts with ? -> file:///t.d.ts",
+    ),
+    (
+        "a.ts",
+        "a; /// <reference types='./t.d.ts' />",
+        "TypeScript 37",
+    ),
 ];
 
 /// The text of a module `/a.js`, and its edges.
@@ -204,7 +224,7 @@ const EDGES: &[(&str, &str)] = &[
 ];
 
 // The entry of a source whose name is this one.
-fn source(rt: &impl Abort, alloc: Global, name: &str, text: &str) -> String {
+pub fn source(rt: &impl Abort, alloc: Global, name: &str, text: &str) -> String {
     let specifier = format!(in alloc; "file:///{name}").expect(rt, "memory");
     let answer = content(rt, alloc, text.as_bytes(), "", "");
     answered(rt, alloc, specifier.as_str(), answer)

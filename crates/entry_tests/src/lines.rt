@@ -20,8 +20,8 @@ pub fn line_of(alloc: Global, entry: &Entry) -> Result<String, AllocError> {
 fn line_of_error(alloc: Global, error: &ModuleError) -> Result<String, AllocError> {
     match error {
         ModuleError::Parse(fault) => {
-            let Range { start, end } = fault.range;
-            format!(in alloc; "{error} {} {start}-{end}; {fault}", fault.kind)
+            let Range { start, end } = fault.range();
+            format!(in alloc; "{error} {} {start}-{end}; {fault}", fault.kind())
         }
         ModuleError::WasmParse(fault) => format!(in alloc; "{error} {fault}"),
         _ => format!(in alloc; "{error}"),
@@ -98,6 +98,8 @@ fn kind_of(edge: &Dependency) -> &'static str {
         (DependencyKind::ImportEquals, false) => "import-equals",
         (DependencyKind::ImportEquals, true) => "import-equals-type",
         (DependencyKind::Dynamic, _) => "dynamic",
+        (DependencyKind::ReferencePath, _) => "reference-path",
+        (DependencyKind::ReferenceTypes, _) => "reference-types",
         _ => "other",
     }
 }

@@ -1,2 +1,4 @@
 -- what the public contract rests on, besides `Derives` of `es_derives`
 pub mod Answers
+-- when an arrow or a pattern opens at a token
+pub mod Heads

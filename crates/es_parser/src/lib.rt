@@ -3,12 +3,16 @@
 //! - `parse_tokens(lang, mode, text, tokens)`: the one tree that the table of programs (`es_grammar`) derives from the
 //!   tokens of a text (`Derives`, of `es_derives`), or `Syntax` where it derives none. Both ways: besides it only "out of
 //!   memory" may come.
+//! - `is_arrow_head`, `is_pattern_head`: whether an arrow, of either language, or a pattern that is assigned to, opens at a
+//!   token; they take no memory.
 //!
 //! It reads the tokens as a plain tree (`es_plain`), and dresses that as a typed one (`es_dressed`).
 //! Tokens have at most one tree (`es_derives`). `es_derived_sites` says that each site of a tree cuts its literal.
 //! Not promised: which token `Syntax` names, and when memory runs out. `docs/GRAMMAR.md` tells the rows in words.
 #![tactic(auto)]
 
+mod heads;
 mod program;
 
+pub use heads::{is_arrow_head, is_pattern_head};
 pub use program::parse_tokens;

@@ -6,8 +6,8 @@ use Rattle.es_lexer.specs.Reads.{ReadsTokens}
 use Rattle.es_lexer.specs.Stops.{Stops}
 use Rattle.es_ast.specs.declared.ast.Program.{Program}
 use Rattle.es_walk.specs.Sites.{sites_of}
-use Rattle.graph_entry.specs.ModuleText.{without_mark}
-use Rattle.graph_entry.specs.Tree.{IsTree}
+use Rattle.module_text.specs.ModuleText.{without_mark}
+use Rattle.deno_ast.specs.Tree.{IsTree}
 use Rattle.media_type.specs.declared.media_type.MediaType.{MediaType}
 use Rattle.media_type.specs.declared.media_type.ModuleKind.{ModuleKind}
 use Rattle.media_type.specs.declared.media_type.ModuleKind.TheVariants.{Source}

@@ -1,16 +1,15 @@
 //! What there is to tell of a source.
 ghost use Rattle.std.specs.Prelude.{◌≡◌, IfOk};
 ghost use Rattle.es_lexer.specs.Reads.{ReadsTokens};
-ghost use Rattle.graph_entry.specs.ModuleText as texts;
 ghost use Rattle.graph_c.specs.Finding.{IsFinding, OfKind, OfBytes, OfText, OfTokens, text_limit};
 ghost use Rattle.media_type.specs.MediaType.{kind_of};
 
 use crate::media_types::media_type_at;
 use base::Items;
+use deno_ast::{tree_of, without_mark};
 use es_lexer::{LexError, LexicalError, Token, lex_tokens};
 use es_tree::SyntaxError;
 use es_walk::{Site, sites};
-use graph_entry::tree_of;
 use media_type::{MediaType, ModuleKind};
 use std::alloc::{AllocError, Global};
 use std::str;
@@ -62,16 +61,6 @@ fn of_bytes(alloc: Global, media_type: MediaType, bytes: &[u8]) -> Result<Findin
     match str::from_utf8(bytes) {
         Ok(text) => of_text(alloc, media_type, without_mark(text)),
         Err(_) => Ok(Finding::NoUtf8),
-    }
-}
-
-/// The text less one byte order mark at the front.
-fn without_mark(text: &str) -> &str
-    ensures { result.now ≡ texts.without_mark text.now }
-{
-    match text.strip_prefix("\u{feff}") {
-        Some(rest) => rest,
-        None => text,
     }
 }
 

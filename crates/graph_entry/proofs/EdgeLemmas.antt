@@ -3,7 +3,7 @@ use Rattle.std.proofs.Common.{◌≡◌, sym, subst, refl, List, ℕ}
 use Rattle.std.specs.Prelude.{Bool, true, false, codes, All, Option, Some, None, MatchOption, Result, Ok, Err, slice_index_or}
 use Rattle.std.proofs.lemmas.List.Elements.{All-map}
 use Rattle.es_walk.specs.declared.site.Site.{Site}
-use Rattle.es_walk.specs.Sites.{CutsLiteral}
+use Rattle.deno_ast.specs.Cuts.{Cuts}
 use Rattle.graph_entry.specs.declared.answer.LoadAnswer.{LoadAnswer}
 use Rattle.graph_entry.specs.declared.answer.LoadAnswer.TheVariants as answer
 use Rattle.graph_entry.specs.declared.entry.Dependency.{Dependency}
@@ -19,7 +19,7 @@ use Rattle.data_specifier.specs.declared.data_module.DataModule.{DataModule}
 use Rattle.data_specifier.specs.declared.error.DataError.{DataError}
 use Rattle.data_specifier.specs.Data.{data_of}
 use Rattle.lexical_path.specs.Specifiers.{begins}
-use Rattle.graph_entry.specs.ModuleText.{without_mark}
+use Rattle.module_text.specs.ModuleText.{without_mark}
 use Rattle.graph_entry.specs.Resolution.{Resolves, KeepsReason}
 use Rattle.graph_entry.specs.Reading.{Sites}
 use Rattle.graph_entry.specs.Ways.{Ways}
@@ -97,7 +97,7 @@ module _ (P Q : List ℕ → Dependency → Type 0) (ways : Ways) (s : List ℕ)
 
 -- a site that cuts its literal has an edge that does
 pub All-CutsFrom : (by : Resolves) (s text : List ℕ) (sites : List Site)
-    → All (λ site. CutsLiteral text site.range site.value) sites
+    → All (λ site. Cuts text site.range site.value) sites
     → All (λ site. CutsFrom text (dependency_of by s site)) sites
 All-CutsFrom by s text sites cuts k site within = ((slice_index_or sites k site).range, refl, cuts k site within)
 

@@ -1,9 +1,7 @@
 pub mod ResolutionLemmas
 pub mod HeadersLemmas
-pub mod ModuleTextLemmas
 pub mod RoomLemmas
 pub mod ContentLemmas
-pub mod TreeLemmas
 pub mod ReadingLemmas
 pub mod AnalysedLemmas
 pub mod EdgeLemmas

@@ -1,5 +1,5 @@
 -- Answers of analysers, and resolvers' faults.
-use Rattle.std.proofs.Common.{◌≡◌, ◌⊎◌, inl, inr, sym, ap, subst, Ok, Err}
+use Rattle.std.proofs.Common.{◌≡◌, ◌⊎◌, inl, inr, ap, Ok, Err}
 use Rattle.std.specs.Prelude.{Result}
 use Rattle.graph_entry.specs.declared.analyzer.ModuleInfo.{ModuleInfo}
 use Rattle.graph_entry.specs.declared.analyzer.AnalyzeFault.{AnalyzeFault}
@@ -9,8 +9,7 @@ use Rattle.file_url.specs.declared.errors.SpecifierError.TheVariants as specifie
 use Rattle.file_url.specs.Imports as imports
 use Rattle.graph_entry.specs.declared.resolver.ResolveFault.TheVariants.{Specifier}
 use Rattle.graph_entry.specs.Resolver.{as_fault, IsFaultOf}
-use Rattle.graph_entry.specs.Diagnosis.{Diagnosis}
-use Rattle.graph_entry.specs.Reading.{Sites, IsAnalysis, IsFault}
+use Rattle.graph_entry.specs.Reading.{Sites, IsAnalysis}
 
 -- where one meaning gives another
 pub analysis_weaker : (P Q : Sites → Type 0) → ((x : Sites) → P x → Q x) → (r : Result ModuleInfo AnalyzeFault)
@@ -18,12 +17,6 @@ pub analysis_weaker : (P Q : Sites → Type 0) → ((x : Sites) → P x → Q x)
 analysis_weaker P Q gives (Ok info) is = gives (Ok info.sites) is
 analysis_weaker P Q gives (Err (Parse d)) is = gives (Err d) is
 analysis_weaker P Q gives (Err OutOfMemory) is = tt
-
--- a diagnosis that the meaning gives
-pub analysis_fault : (P : Sites → Type 0) (d : Diagnosis) → P (Err d) → (fault : AnalyzeFault) → IsFault d fault
-    → IsAnalysis P (Err fault)
-analysis_fault P d gives (Parse e) is = subst (λ (x : Diagnosis). P (Err x)) (sym is) gives
-analysis_fault P d gives OutOfMemory is = tt
 
 -- a refusal of an import is a fault of the default resolver's meaning
 pub default_fault : (expected : imports.Resolved) (e : SpecifierError)

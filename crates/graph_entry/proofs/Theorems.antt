@@ -1,18 +1,17 @@
 -- The laws of an analysis that other crates name.
-use Rattle.std.proofs.Common.{◌≡◌, inl, inr, List, ℕ, ap, subst, sym}
-use Rattle.std.specs.Prelude.{All, Option, Result, Ok, Err}
+use Rattle.std.proofs.Common.{◌≡◌, List, ℕ, subst, sym}
+use Rattle.std.specs.Prelude.{All, Option}
 use Rattle.es_walk.specs.declared.site.Site.{Site}
-use Rattle.es_walk.specs.Sites.{sites_of, CutsLiteral}
-use Rattle.media_type.specs.declared.media_type.MediaType.{MediaType}
+use Rattle.deno_ast.specs.Cuts.{Cuts}
+use Rattle.deno_ast.proofs.Theorems.{sites_cut}
 use Rattle.graph_entry.specs.declared.answer.LoadAnswer.{LoadAnswer}
 use Rattle.graph_entry.specs.declared.entry.Entry.{Entry}
 use Rattle.graph_entry.specs.Entry.{CutsFrom, CutsName, EachEdge, EdgesCut, KeepsReasonOf, KeepsFault}
 use Rattle.graph_entry.specs.Resolution.{resolve}
-use Rattle.graph_entry.specs.Reading.{IsFunction, CutsSites, ReadsSource, with_tokens, no_tokens, with_tree, no_tree}
+use Rattle.graph_entry.specs.Reading.{IsFunction, CutsSites, ReadsSource, with_sites, no_program}
 use Rattle.graph_entry.specs.ReadingLaws.{reads_once}
 use Rattle.graph_entry.specs.Ways.{Ways, default_ways}
 use Rattle.graph_entry.specs.Analysed.{Analysed, AnalysedBy}
-use Rattle.graph_entry.proofs.TreeLemmas.{tree_cuts}
 use Rattle.graph_entry.proofs.RoomLemmas.{resolve-kept}
 use Rattle.graph_entry.proofs.AnalysedLemmas.{Analysed-once}
 use Rattle.graph_entry.proofs.ContentLemmas.{imports-CutsName, imports-KeepsReasonOf}
@@ -28,17 +27,16 @@ pub analysed_once : (s : List ℕ) (a : Option LoadAnswer) (made other : Entry)
     → Analysed s a made → Analysed s a other → made ≡ other
 analysed_once = analysed_by_once default_ways reads_once
 
--- the sites of a source cut their literals
+-- the sites of a source cut their literals or references
 pub reads_cuts : CutsSites ReadsSource
-reads_cuts s media text found (with_tokens tokens reads (with_tree tree is same)) =
-    let all : found ≡ sites_of tree = cc in
-    subst (λ (sites : List Site). All (λ site. CutsLiteral text site.range site.value) sites) (sym all)
-    (tree_cuts media text tokens tree reads is)
-reads_cuts s media text found (with_tokens tokens reads (no_tree nothing same)) = absurd cc
-reads_cuts s media text found (no_tokens kind place stops same) = absurd cc
+reads_cuts s media text found (with_sites sites has same) =
+    let P : List Site → Type 0 = All (λ site. Cuts text site.range site.value) in
+    let is : found ≡ sites = cc in
+    subst P (sym is) (sites_cut media text sites has)
+reads_cuts s media text found (no_program kind range faulty same) = absurd cc
 
--- where each site cuts its literal, each edge of a source cuts from the module's text the literal whose value is the edge's
--- text, and each of a WebAssembly module from its bytes the edge's text itself
+-- where each site cuts its literal or reference, each edge of a source cuts from the module's text the one whose value
+-- is the edge's text, and each of a WebAssembly module from its bytes the edge's text itself
 pub analysed_by_cuts : (ways : Ways) → CutsSites ways.reads → (s : List ℕ) (a : Option LoadAnswer) (made : Entry)
     → AnalysedBy ways s a made → EdgesCut made
 analysed_by_cuts ways cuts s =

@@ -2,7 +2,7 @@
 use Rattle.std.specs.Prelude.{◌≡◌, ℕ, ◌≤◌, List, [], length, slice_range, All, codes, Option, Some, option_map}
 use Rattle.std.specs.Result.{result_ok}
 use Rattle.base.specs.declared.range.Range.{Range}
-use Rattle.es_walk.specs.Sites.{CutsLiteral}
+use Rattle.deno_ast.specs.Cuts.{Cuts}
 use Rattle.graph_entry.specs.declared.entry.Dependency.{Dependency}
 use Rattle.graph_entry.specs.declared.entry.Module.TheVariants.{Js, Json, Wasm}
 use Rattle.graph_entry.specs.declared.entry.Entry.{Entry}
@@ -18,9 +18,9 @@ use Rattle.graph_entry.specs.Resolution.{KeepsReason}
 abbrev pub edge_target : Dependency → Option (List ℕ)
 edge_target d = option_map text_of (result_ok d.resolution)
 
--- the edge's range cuts from the text a string literal whose value is the edge's text
+-- the edge's range cuts from the text the literal or the reference whose value is the edge's text
 abbrev pub CutsFrom : List ℕ → Dependency → Type 0
-CutsFrom text d = (range : Range) × (d.range ≡ Some range) × CutsLiteral text range d.text
+CutsFrom text d = (range : Range) × (d.range ≡ Some range) × Cuts text range d.text
 
 -- the edge's range cuts from the bytes the edge's text itself
 abbrev pub CutsName : List ℕ → Dependency → Type 0
@@ -42,7 +42,8 @@ EachEdge P Q (entry.Redirect target) = Unit {0}
 EachEdge P Q entry.External = Unit {0}
 EachEdge P Q (entry.Error e) = Unit {0}
 
--- each edge of a source cuts its literal from the module's text, and each of a WebAssembly module its name from the bytes
+-- each edge of a source cuts its literal or reference from the module's text, and each of a WebAssembly module its name
+-- from the bytes
 abbrev pub EdgesCut : Entry → Type 0
 EdgesCut made = EachEdge CutsFrom CutsName made
 

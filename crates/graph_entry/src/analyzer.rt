@@ -1,20 +1,14 @@
 //! What reads sources: the parser, or a caller's own.
-ghost use Rattle.std.specs.Prelude.{◌≡◌, List, ℕ, Some, IfOk};
-ghost use Rattle.es_lexer.specs.Reads.{ReadsTokens};
-ghost use Rattle.es_walk.specs.Sites.{sites_of};
+ghost use Rattle.std.specs.Prelude.{◌≡◌, List, ℕ, Ok, None, false, IfOk};
 ghost use Rattle.media_type.specs.declared.media_type.MediaType.{MediaType as Media};
+ghost use Rattle.deno_ast.specs.Parsed.{parsed_sites};
 ghost use Rattle.graph_entry.specs.Specifier.{text_of};
-ghost use Rattle.graph_entry.specs.Diagnosis.{diagnosis, at_place, told_range};
-ghost use Rattle.graph_entry.specs.Reading.{Sites, ReadsSource, ReadsAmong, IsAnalysis, IsFault, IsFunction};
+ghost use Rattle.graph_entry.specs.Steps as steps;
+ghost use Rattle.graph_entry.specs.Reading.{Sites, ReadsSource, IsAnalysis, IsFunction};
 ghost use Rattle.graph_entry.specs.ReadingLaws.{reads_once};
 
-use crate::diagnostic::{ParseDiagnostic, SyntaxErrorKind};
-use crate::tree::tree_of;
-use base::{Items, Range, SharedText};
-use es_ast::Program;
-use es_lexer::{LexError, LexicalError, Token, lex_tokens};
-use es_tree::SyntaxError;
-use es_walk::{Site, sites};
+use base::{Items, SharedText};
+use deno_ast::{ParseDiagnostic, ParseFault, ParseParams, ParsedSource, Site, parse_text};
 use media_type::MediaType;
 use std::alloc::{AllocError, Global};
 use url::Url;
@@ -51,7 +45,7 @@ pub trait ModuleAnalyzer {
     ghost once: { (analyzer : Self) → IsFunction (reads analyzer) };
 }
 
-/// Reads by `lex_tokens`, `tree_of` and `sites`.
+/// Reads by `parse_text` of `deno_ast`.
 #[derive(Clone, Copy, Drop)]
 pub struct ParserModuleAnalyzer;
 
@@ -65,19 +59,23 @@ impl ModuleAnalyzer for ParserModuleAnalyzer {
         text: &SharedText,
         media_type: MediaType,
     ) -> Result<ModuleInfo, AnalyzeFault> {
-        read_source(alloc, specifier, text.as_str(), media_type)
+        read_source(alloc, specifier, text, media_type)
     }
 
     ghost once = { λ _. reads_once };
 }
 
 impl ParserModuleAnalyzer {
-    /// What a program names.
-    pub fn module_info(&self, alloc: Global, program: &Program) -> Result<ModuleInfo, AllocError>
-        ensures { IfOk result (λ info. info.sites ≡ sites_of program.now) }
+    /// What a source that was parsed names.
+    pub fn module_info(
+        &self,
+        alloc: Global,
+        parsed: &ParsedSource,
+    ) -> Result<ModuleInfo, AllocError>
+        ensures { IfOk result (λ info. info.sites ≡ parsed_sites parsed.now) }
     {
-        let found = sites(alloc, program)?;
-        Ok(ModuleInfo { sites: found })
+        let sites = parsed.sites(alloc)?;
+        Ok(ModuleInfo { sites })
     }
 }
 
@@ -85,74 +83,52 @@ impl ParserModuleAnalyzer {
 fn read_source(
     alloc: Global,
     specifier: &Url,
-    text: &str,
+    text: &SharedText,
     media_type: MediaType,
 ) -> Result<ModuleInfo, AnalyzeFault>
     ensures { IsAnalysis (ReadsSource (text_of specifier.now) media_type text.now) result }
 {
-    match lex_tokens(alloc, text) {
-        Ok(lexed) => read_tokens(alloc, specifier, text, media_type, lexed.tokens.as_slice()),
-        Err(LexError::Lexical(fault)) => Err(no_tokens(specifier, fault)),
-        Err(LexError::OutOfMemory) => Err(AnalyzeFault::OutOfMemory),
+    match params_of(specifier, text, media_type) {
+        Ok(params) => parsed_by(alloc, params),
+        Err(_) => Err(AnalyzeFault::OutOfMemory),
     }
 }
 
-// The fault of a source with a lexical fault.
-fn no_tokens(specifier: &Url, error: LexicalError) -> AnalyzeFault
-    ensures { IsFault (diagnosis (text_of specifier.now) (SyntaxErrorKind.Lexical error.kind)
-        (Some (at_place error.at))) result }
-{
-    let range = Range {
-        start: error.at,
-        end: error.at,
-    };
-    fault_of(specifier, SyntaxErrorKind::Lexical(error.kind), range)
-}
-
-fn fault_of(specifier: &Url, kind: SyntaxErrorKind, range: Range) -> AnalyzeFault
-    ensures { IsFault (diagnosis (text_of specifier.now) kind (told_range kind range)) result }
-{
-    match specifier.clone() {
-        Ok(specifier) => AnalyzeFault::Parse(ParseDiagnostic {
-            specifier,
-            range,
-            kind,
-        }),
-        Err(_) => AnalyzeFault::OutOfMemory,
-    }
-}
-
-fn read_tokens(
-    alloc: Global,
+// What is to be parsed of a source.
+fn params_of(
     specifier: &Url,
-    text: &str,
+    text: &SharedText,
     media_type: MediaType,
-    tokens: &[Token],
-) -> Result<ModuleInfo, AnalyzeFault>
-    requires { ReadsTokens text.now tokens.now }
-    ensures { IsAnalysis (ReadsAmong (text_of specifier.now) media_type text.now tokens.now) result }
+) -> Result<ParseParams, AllocError>
+    ensures { IfOk result (λ params. params ≡ steps.params_of specifier.now media_type text.now) }
 {
-    match tree_of(alloc, media_type, text, tokens) {
-        Ok(program) => match ParserModuleAnalyzer.module_info(alloc, &program) {
-            Ok(info) => Ok(info),
-            Err(_) => Err(AnalyzeFault::OutOfMemory),
-        },
-        Err(SyntaxError::Syntax { token }) => Err(fault_of(
-            specifier,
-            SyntaxErrorKind::Syntax,
-            range_at(text, tokens, token),
-        )),
-        Err(SyntaxError::OutOfMemory) => Err(AnalyzeFault::OutOfMemory),
+    Ok(ParseParams {
+        specifier: specifier.clone()?,
+        text: text.copy()?,
+        media_type,
+        capture_tokens: false,
+        scope_analysis: false,
+        maybe_syntax: None,
+    })
+}
+
+fn parsed_by(alloc: Global, params: ParseParams) -> Result<ModuleInfo, AnalyzeFault>
+    requires unscoped { params.scope_analysis ≡ false }
+    requires untold { params.maybe_syntax ≡ None }
+    ensures { IsAnalysis (ReadsSource (text_of params.specifier) params.media_type params.text) result }
+{
+    match parse_text(alloc, params) {
+        Ok(parsed) => info_of(alloc, &parsed),
+        Err(ParseFault::Diagnostic(fault)) => Err(AnalyzeFault::Parse(fault)),
+        Err(ParseFault::OutOfMemory) => Err(AnalyzeFault::OutOfMemory),
     }
 }
 
-// The range of the token, or the empty one at the end of the text.
-fn range_at(text: &str, tokens: &[Token], token: usize) -> Range {
-    match tokens.get(token) {
-        Some(token) => token.range,
-        None => Range {
-            start: text.len(),
-            end: text.len(),
-        },
+fn info_of(alloc: Global, parsed: &ParsedSource) -> Result<ModuleInfo, AnalyzeFault>
+    ensures { IsAnalysis (λ sites. sites ≡ Ok (parsed_sites parsed.now)) result }
+{
+    match ParserModuleAnalyzer.module_info(alloc, parsed) {
+        Ok(info) => Ok(info),
+        Err(_) => Err(AnalyzeFault::OutOfMemory),
     }
 }

@@ -2,11 +2,10 @@
 ghost use Rattle.std.specs.Prelude.{◌≡◌};
 ghost use Rattle.graph_entry.specs.Entry.{name_of_error};
 
-use crate::diagnostic::ParseDiagnostic;
 use crate::resolution::ResolutionError;
 use base::{Items, Range, SharedBytes, SharedText, Text};
 use data_specifier::DataError;
-use es_walk::{Attribute, DependencyKind};
+use deno_ast::{Attribute, DependencyKind, ParseDiagnostic};
 use media_type::MediaType;
 use package_ref::PackageRef;
 use std::fmt;

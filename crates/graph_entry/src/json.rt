@@ -3,8 +3,8 @@ ghost use Rattle.std.specs.Prelude.{◌≡◌, IfOk};
 ghost use Rattle.graph_entry.specs.Json.{no_utf8, json_module, OfJson};
 
 use crate::entry::{Entry, JsonModule, Module, ModuleError};
-use crate::module_text::without_mark;
 use base::SharedText;
+use deno_ast::without_mark;
 use std::alloc::{AllocError, Global};
 use std::str;
 

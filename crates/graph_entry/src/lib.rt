@@ -7,8 +7,6 @@
 //! - `resolve(text, referrer)`: what a specifier in a source leads to (`resolve`, `specs/Resolution.antt`).
 //! - `referred(places)`, `starts_of(roots, places)`: the edges of what places outside a graph import, and where reach
 //!   starts by them (`specs/Referrer.antt`).
-//! - `tree_of(media_type, text, tokens)`: the tree of a source (`IsTree`, `specs/Tree.antt`), or `Syntax` where it has
-//!   none.
 //! - `is_loadable(specifier)`: whether a loader is asked for it (`loadable`, `specs/Specifier.antt`).
 //! - `Entry`, `LoadAnswer` and their parts are plain data in contracts.
 //!
@@ -21,25 +19,21 @@
 mod analysis;
 mod analyzer;
 mod answer;
-mod diagnostic;
 mod entry;
 mod headers;
 mod json;
 mod kind;
-mod module_text;
 mod parse;
 mod referrer;
 mod resolution;
 mod resolver;
 mod specifier;
-mod tree;
 mod unasked;
 mod wasm;
 
 pub use crate::analysis::{analyse, analyse_by};
 pub use crate::analyzer::{AnalyzeFault, ModuleAnalyzer, ModuleInfo, ParserModuleAnalyzer};
 pub use crate::answer::LoadAnswer;
-pub use crate::diagnostic::{ParseDiagnostic, SyntaxErrorKind};
 pub use crate::entry::{Dependency, Entry, JsModule, JsonModule, Module, ModuleError, WasmModule};
 pub use crate::headers::Headers;
 pub use crate::kind::GraphKind;
@@ -50,9 +44,8 @@ pub use crate::referrer::{ReferrerImports, referred, referred_by, starts_by, sta
 pub use crate::resolution::{ResolutionError, Resolved, resolve, resolve_by};
 pub use crate::resolver::{DefaultResolver, ResolveFault, Resolver};
 pub use crate::specifier::is_loadable;
-pub use crate::tree::tree_of;
 pub use crate::unasked::{analyse_unasked, analyse_unasked_by};
 pub use data_specifier::DataError;
-pub use es_walk::{Attribute, DependencyKind};
+pub use deno_ast::{Attribute, DependencyKind, ParseDiagnostic, SyntaxErrorKind};
 pub use media_type::{MediaType, ModuleKind};
 pub use package_ref::{PackageKind, PackageRef};

@@ -6,4 +6,6 @@ mod arrivals;
 #[cfg(test)]
 mod graphs;
 #[cfg(test)]
+mod rules;
+#[cfg(test)]
 mod runs;

@@ -6,10 +6,10 @@ use graph_run::{MemorySink, MemorySource, run};
 use std::alloc::{AllocError, Global};
 use std::process::Abort;
 
-const ROW: &str =
+pub const ROW: &str =
     r#"{"roots":["file:///a.ts"],"modules":[{"specifier":"file:///a.ts","text":"import \"./b.ts\";"}]}"#;
 
-const REPORT: &str =
+pub const REPORT: &str =
     "0 root file:///a.ts\nfile:///a.ts module TypeScript 16\n  import 7-15 \"./b.ts\" - -> file:///b.ts\nfile:///b.ts error Missing\nentries 2\n";
 
 const FIVE: &str = r#"{"roots":["file:///1.ts"],"modules":[
@@ -43,12 +43,28 @@ const RUNS: &[(&str, &str)] = &[
         "0 root file:///a.js\nfile:///a.js module JavaScript 70\n  import 14-24 \"./d.json\" \"json\" -> file:///d.json\n  export 60-70 \"./d.json\" - ! InvalidTypeAssertion\nfile:///d.json module Json 2\nentries 2\n",
     ),
     (
+        r#"{"roots":["file:///a.ts"],"modules":[{"specifier":"file:///a.ts","text":"/// <reference types='./t.d.ts' />"},{"specifier":"file:///t.d.ts","text":""}]}"#,
+        "0 root file:///a.ts\nfile:///a.ts module TypeScript 34\n  reference-types 21-31 \"./t.d.ts\" ? -> file:///t.d.ts\nfile:///t.d.ts module Dts 0\nentries 2\n",
+    ),
+    (
+        r#"{"roots":["file:///a.ts"],"kind":"code","modules":[{"specifier":"file:///a.ts","text":"/// <reference types='./t.d.ts' />"},{"specifier":"file:///t.d.ts","text":""}]}"#,
+        "0 root file:///a.ts\nfile:///a.ts module TypeScript 34\n  reference-types 21-31 \"./t.d.ts\" ? -> file:///t.d.ts\nentries 1\n",
+    ),
+    (
         r#"{"roots":["file:///m.wasm"],"modules":[{"specifier":"file:///m.wasm","base64":"AGFzbQEAAAACCQEDLi9hAWYAAA=="}]}"#,
         "0 root file:///m.wasm\nfile:///a error Missing\nfile:///m.wasm module Wasm 19\n  wasm 12-15 \"./a\" - -> file:///a\nentries 2\n",
     ),
     (
         r#"{"roots":["npm:@s/p@1/x"],"modules":[]}"#,
         "0 root npm:@s/p@1/x\nnpm:@s/p@1/x package npm \"@s/p\" \"1\" \"x\"\nentries 1\n",
+    ),
+    (
+        r#"{"roots":["file:///a.ts"],"kind":"code","modules":[{"specifier":"file:///a.ts","text":"import type { A } from \"./b.ts\";"},{"specifier":"file:///b.ts","text":"export interface A {}"}]}"#,
+        "0 root file:///a.ts\nfile:///a.ts module TypeScript 32\n  import-type 23-31 \"./b.ts\" - -> file:///b.ts\nentries 1\n",
+    ),
+    (
+        r#"{"roots":["https://x.test/main.ts"],"modules":[{"specifier":"https://x.test/main.ts","text":"import { serve } from \"./deps.ts\";\nimport type { Conf } from \"./types.ts\";\nconst m = await import(\"npm:chalk@5\");\n"},{"specifier":"https://x.test/deps.ts","redirect":"https://x.test/v1/deps.ts"},{"specifier":"https://x.test/v1/deps.ts","text":"export const serve = 1;\n"}]}"#,
+        "0 root https://x.test/main.ts\nhttps://x.test/deps.ts redirect https://x.test/v1/deps.ts\nhttps://x.test/main.ts module TypeScript 114\n  import 22-33 \"./deps.ts\" - -> https://x.test/deps.ts\n  import-type 61-73 \"./types.ts\" - -> https://x.test/types.ts\n  dynamic 98-111 \"npm:chalk@5\" - -> npm:chalk@5\nhttps://x.test/types.ts error Missing\nhttps://x.test/v1/deps.ts module TypeScript 24\nnpm:chalk@5 package npm \"chalk\" \"5\" -\nentries 5\n",
     ),
     (r#"{"modules":[],"roots":[]}"#, "0 entries 0\n"),
     ("[", "2 error NotJson\n"),
@@ -114,7 +130,7 @@ fn ended(
 }
 
 /// The same for `build` over the input, in pieces of this size.
-fn built(rt: &impl Abort, alloc: Global, input: &str, piece: usize) -> String
+pub fn built(rt: &impl Abort, alloc: Global, input: &str, piece: usize) -> String
     requires { 0 < piece }
 {
     let bytes = input.as_bytes().to_vec(alloc).expect(rt, "memory");

@@ -4,4 +4,6 @@
 #[cfg(test)]
 mod errors;
 #[cfg(test)]
+mod heads;
+#[cfg(test)]
 mod trees;

@@ -1,6 +1,6 @@
 use Rattle.std.proofs.Common.{◌≡◌, ◌∙◌, ap, subst, List, ℕ, arith}
 use Rattle.std.proofs.lemmas.Result.{IfOk-weaker}
-use Rattle.graph_entry.specs.ModuleText.{without_mark}
+use Rattle.module_text.specs.ModuleText.{without_mark}
 use Rattle.graph_c.specs.Finding.{OfText, with_text}
 use Rattle.graph_c.proofs.finding.of_bytes.Goals as goal
 

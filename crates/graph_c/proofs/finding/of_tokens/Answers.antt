@@ -2,7 +2,7 @@ use Rattle.std.proofs.Common.{refl, ap, subst, Err}
 use Rattle.es_ast.specs.declared.ast.Program.{Program}
 use Rattle.es_tree.specs.declared.error.SyntaxError.{SyntaxError}
 use Rattle.es_parser.specs.Answers.{GivesTree}
-use Rattle.graph_entry.specs.Tree.{IsTree}
+use Rattle.deno_ast.specs.Tree.{IsTree}
 use Rattle.graph_c.specs.declared.finding.Finding.TheVariants.{Found}
 use Rattle.graph_c.specs.Finding.{with_tree, no_tree}
 use Rattle.graph_c.proofs.finding.of_tokens.Goals as goal

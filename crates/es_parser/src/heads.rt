@@ -1,0 +1,68 @@
+//! Guards of expressions, over tokens.
+
+ghost use Rattle.std.specs.Prelude.{◌≡◌, ◌&&◌};
+ghost use Rattle.es_grammar.specs.Functions.{opens_inner_pattern};
+ghost use Rattle.es_grammar.specs.Statements.{opens_head_pattern};
+ghost use Rattle.es_tree.specs.Key.{keys_of};
+ghost use Rattle.es_whole_grammar.specs.Expressions.{opens_any_arrow};
+ghost use Rattle.es_parser.specs.Heads.{arrow_place, is_pattern_head};
+
+use es_guards::Tokens;
+use es_token::Token;
+use es_tree::Lang;
+use es_whole_grammar::Context;
+use es_whole_guards::{Guard, holds};
+use std::alloc::Global;
+
+/// Whether an arrow function opens at a token where an expression may begin: a name, `(`, `async`, in TypeScript `<`.
+/// With `colon` a `:` may open its result there: so it is everywhere but in the first branch of a conditional and in a
+/// case test, outside deeper brackets.
+pub fn is_arrow_head(alloc: Global, lang: Lang, colon: bool, tokens: &[Token], at: usize) -> bool
+    ensures { result ≡ opens_any_arrow lang (arrow_place colon) (keys_of tokens.now) at }
+{
+    let place = Context {
+        script: false,
+        no_in: false,
+        in_async: false,
+        no_colon: !colon,
+        in_constructor: false,
+    };
+    holds(
+        &Tokens { tokens },
+        alloc,
+        Guard::OpensAnyArrow(lang, place),
+        at,
+    )
+}
+
+/// `[` or `{` opens a pattern in the head of a `for`.
+fn opens_in_head(tokens: &Tokens<'_>, at: usize, in_for: bool) -> bool
+    ensures { result ≡ (in_for && opens_head_pattern (keys_of tokens.now.tokens.now) at) }
+{
+    in_for && tokens.opens_head_pattern(at)
+}
+
+/// `[` or `{` opens a pattern inside one.
+fn opens_inside(tokens: &Tokens<'_>, at: usize, in_pattern: bool) -> bool
+    ensures { result ≡ (in_pattern && opens_inner_pattern (keys_of tokens.now.tokens.now) at) }
+{
+    in_pattern && tokens.opens_inner_pattern(at)
+}
+
+/// The same over `Tokens`.
+#[tactic(auto, unfolding(crate::specs::Heads::is_pattern_head))]
+fn opens_pattern_at(tokens: &Tokens<'_>, at: usize, in_for: bool, in_pattern: bool) -> bool
+    ensures { result ≡ is_pattern_head in_for in_pattern (keys_of tokens.now.tokens.now) at }
+{
+    tokens.opens_pattern(at)
+        || opens_in_head(tokens, at, in_for)
+        || opens_inside(tokens, at, in_pattern)
+}
+
+/// Whether `[` or `{` opens a pattern that is assigned to, at a token where an expression may begin; `in_for`: in the
+/// head of a `for`; `in_pattern`: inside such a pattern, and no default or key.
+pub fn is_pattern_head(tokens: &[Token], at: usize, in_for: bool, in_pattern: bool) -> bool
+    ensures { result ≡ is_pattern_head in_for in_pattern (keys_of tokens.now) at }
+{
+    opens_pattern_at(&Tokens { tokens }, at, in_for, in_pattern)
+}
