@@ -1,0 +1,17 @@
+mod Uses
+mod Needs
+mod Words
+mod Parts
+mod Sound
+mod Rules
+mod Table
+mod ExprForms
+mod StmtForms
+mod ModuleForms
+mod TypeForms
+mod Build
+mod Rows
+mod TypeClaims
+mod EsClaims
+mod TypescriptClaims
+pub mod Theorems

@@ -1,0 +1,2 @@
+-- when a tree is derived from the tokens of a text
+pub mod Derives
