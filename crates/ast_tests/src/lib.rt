@@ -6,10 +6,6 @@ mod comments;
 #[cfg(test)]
 mod diagnostics;
 #[cfg(test)]
-mod parsed;
-#[cfg(test)]
-mod programs;
-#[cfg(test)]
 mod references;
 #[cfg(test)]
 mod texts;

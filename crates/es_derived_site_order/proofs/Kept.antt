@@ -6,9 +6,9 @@ use Rattle.es_tree.specs.Key.{keys_of}
 use Rattle.es_tree.specs.Plain.{Plain, node, leaf, nil, cons, mark, turn, via, made}
 use Rattle.es_grammar.specs.Order.{StandsBetween}
 use Rattle.es_whole_grammar.specs.declared.rows.Label.{Label}
-use Rattle.es_whole_reader.specs.declared.tree.Tree.{Tree}
-use Rattle.es_whole_reader.specs.declared.tree.Tree.TheVariants as vTree
-use Rattle.es_whole_reader.specs.Slim.{parts_in, slim, tree_of}
+use Rattle.es_whole_tree.specs.declared.tree.Tree.{Tree}
+use Rattle.es_whole_tree.specs.declared.tree.Tree.TheVariants as vTree
+use Rattle.es_whole_tree.specs.Slim.{parts_in, slim, tree_of}
 use Rattle.es_shapes.proofs.FormedLemmas.{IsList, Formed}
 use Rattle.es_strs.proofs.Places.{Names}
 use Rattle.es_dress.specs.Value.{Value}

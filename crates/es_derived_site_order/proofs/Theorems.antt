@@ -12,7 +12,7 @@ use Rattle.es_whole_grammar.specs.Table.{rule}
 use Rattle.es_whole_grammar.specs.Conditions.{program_row}
 use Rattle.es_grammar.proofs.OrderLemmas.{row_stands}
 use Rattle.es_guards.proofs.TokenLemmas.{length-keys_of}
-use Rattle.es_whole_reader.specs.Slim.{tree_of}
+use Rattle.es_whole_tree.specs.Slim.{tree_of}
 use Rattle.es_strs.proofs.Theorems.{strs}
 use Rattle.es_walk.specs.Sites.{sites_of}
 use Rattle.es_dress.specs.Dress.{value_of}

@@ -7,7 +7,7 @@ use Rattle.es_tree.specs.declared.error.Mode.{Mode}
 use Rattle.es_ast.specs.declared.ast.Program.{Program}
 use Rattle.es_tree.specs.Key.{keys_of}
 use Rattle.es_whole_grammar.proofs.Theorems.{one_program}
-use Rattle.es_whole_reader.specs.Slim.{tree_of}
+use Rattle.es_whole_tree.specs.Slim.{tree_of}
 use Rattle.es_dress.specs.Dress.{value_of}
 use Rattle.es_derives.specs.Derives.{program_in, Derives}
 

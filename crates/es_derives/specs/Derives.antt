@@ -8,7 +8,7 @@ use Rattle.es_tree.specs.Key.{keys_of}
 use Rattle.es_tree.specs.Plain.{Plain}
 use Rattle.es_whole_grammar.specs.declared.rows.Label.{Label}
 use Rattle.es_whole_grammar.specs.Conditions.{IsProgram}
-use Rattle.es_whole_reader.specs.Slim.{tree_of}
+use Rattle.es_whole_tree.specs.Slim.{tree_of}
 use Rattle.es_dress.specs.Value.{Value, given, typed}
 use Rattle.es_dress.specs.Dress.{value_of}
 

@@ -3,10 +3,10 @@ use Rattle.std.specs.Prelude.{ℕ, List, map}
 use Rattle.std.proofs.Common.{◌≡◌, sym, ap, ◌∙◌}
 use Rattle.es_token.specs.declared.token.Token.{Token}
 use Rattle.es_whole_grammar.specs.declared.rows.Label.{Label}
-use Rattle.es_whole_reader.specs.declared.tree.Tree.{Tree}
-use Rattle.es_whole_reader.specs.declared.tree.Tree.TheVariants as vTree
-use Rattle.es_whole_reader.specs.declared.tree.Tree.TheOpen.{Tree-F}
-use Rattle.es_whole_reader.specs.declared.tree.Tree.TheFolds.{fold-roll-Tree}
+use Rattle.es_whole_tree.specs.declared.tree.Tree.{Tree}
+use Rattle.es_whole_tree.specs.declared.tree.Tree.TheVariants as vTree
+use Rattle.es_whole_tree.specs.declared.tree.Tree.TheOpen.{Tree-F}
+use Rattle.es_whole_tree.specs.declared.tree.Tree.TheFolds.{fold-roll-Tree}
 use Rattle.es_dress.specs.Value.{Value, token, node}
 use Rattle.es_dress.specs.Texts.{span_of}
 use Rattle.es_dress.specs.Dress.{packed, build, as_target, value_step, value_of}

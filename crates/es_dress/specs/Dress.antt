@@ -44,9 +44,9 @@ use Rattle.es_ast.specs.declared.ast.ClassMember.TheVariants as vMember
 use Rattle.es_whole_grammar.specs.contracts.rows.Label.{the_type}
 use Rattle.es_whole_grammar.specs.declared.rows.Label.{Label}
 use Rattle.es_whole_grammar.specs.declared.rows.Label.TheVariants as l
-use Rattle.es_whole_reader.specs.declared.tree.Tree.{Tree}
-use Rattle.es_whole_reader.specs.declared.tree.Tree.TheOpen.{Tree-F}
-use Rattle.es_whole_reader.specs.declared.tree.Tree.TheFolds.{fold-Tree}
+use Rattle.es_whole_tree.specs.declared.tree.Tree.{Tree}
+use Rattle.es_whole_tree.specs.declared.tree.Tree.TheOpen.{Tree-F}
+use Rattle.es_whole_tree.specs.declared.tree.Tree.TheFolds.{fold-Tree}
 use Rattle.es_dress.specs.Value.{Signature, Typed, Value, absent, nil, more, token, node, group, is_there}
 use Rattle.es_dress.specs.Texts.{span_of}
 use Rattle.es_dress.specs.Texts as texts

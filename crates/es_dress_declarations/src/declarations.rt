@@ -16,7 +16,7 @@ use es_dress_functions::Functions;
 use es_dress_statements::{Statements, decl_of};
 use es_dresser::{DressError, Dresser, Node, Source};
 use es_whole_grammar::Label;
-use es_whole_reader::Tree;
+use es_whole_tree::Tree;
 
 /// What dresses declarations, and each statement.
 #[derive(Clone, Copy)]

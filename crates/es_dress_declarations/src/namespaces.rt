@@ -15,7 +15,7 @@ use es_dress_types::entity_at;
 use es_dresser::{DressError, Dresser, Node, Source, Turn, turns};
 use es_token::TokenKind;
 use es_whole_grammar::Label;
-use es_whole_reader::Tree;
+use es_whole_tree::Tree;
 
 /// A turn of items.
 #[derive(Clone, Copy)]

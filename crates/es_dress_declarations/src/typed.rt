@@ -16,7 +16,7 @@ use es_dress_patterns::Patterns;
 use es_dress_statements::Statements;
 use es_dress_types::{heritage_in, members_part, params_part_at, type_part_at};
 use es_dresser::{DressError, Dresser, Source, Turn, turns};
-use es_whole_reader::Tree;
+use es_whole_tree::Tree;
 
 /// A member of an enum.
 #[derive(Clone, Copy)]

@@ -14,7 +14,7 @@ use base::{Boxed, Items, Range};
 use es_ast::{Expr, Ident, ModuleItem, Pat, Stmt};
 use es_dresser::{DressError, Dresser, Node, Source, Turn, group_in, turns};
 use es_whole_grammar::Label;
-use es_whole_reader::Tree;
+use es_whole_tree::Tree;
 
 /// From this byte to the end of a range.
 pub(crate) fn from_byte(start: usize, span: Range) -> Range

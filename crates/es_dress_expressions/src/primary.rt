@@ -13,7 +13,7 @@ use base::{Items, Range};
 use es_ast::{Expr, Lit, ModuleItem, Pat, Stmt, TplElement};
 use es_dresser::{DressError, Dresser, Source, Turn, single, turns_behind};
 use es_token::TokenKind;
-use es_whole_reader::Tree;
+use es_whole_tree::Tree;
 
 /// `this`, `null`, `true`, `false`.
 #[tactic(auto, unfolding(es_dress::specs::Expressions::word_of))]

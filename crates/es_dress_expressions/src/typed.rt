@@ -19,7 +19,7 @@ use es_ast::{Expr, ModuleItem, Pat, Stmt, TsPart};
 use es_dress_types::{args_part_at, type_part_at};
 use es_dresser::{DressError, Source};
 use es_token::TokenKind;
-use es_whole_reader::Tree;
+use es_whole_tree::Tree;
 
 /// `a as b` or `a satisfies b`, by the word.
 fn assertion(span: Range, expr: Boxed<Expr>, kind: TokenKind, ty: Boxed<TsPart>) -> Expr

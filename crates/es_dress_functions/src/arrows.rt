@@ -15,7 +15,7 @@ use es_ast::{Expr, ModuleItem, Param, Pat, Stmt};
 use es_dress_patterns::{Patterns, plain_param};
 use es_dresser::{DressError, Source, single, turns};
 use es_whole_grammar::Label;
-use es_whole_reader::Tree;
+use es_whole_tree::Tree;
 
 impl<
     E: Fn(Source<'_>, &Tree) -> Result<Expr, DressError>,

@@ -16,7 +16,7 @@ use es_ast::{
 use es_dress_keys::Keys;
 use es_dresser::{DressError, Dresser, Node, Source, Turn, turns};
 use es_whole_grammar::Label;
-use es_whole_reader::Tree;
+use es_whole_tree::Tree;
 
 /// `static`, and `accessor` before the key of a field.
 fn modified(is_static: bool, accessor: bool) -> Modifiers

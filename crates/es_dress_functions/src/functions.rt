@@ -12,7 +12,7 @@ use base::{Boxed, Items, Range};
 use es_ast::{Expr, Function, Ident, ModuleItem, Param, Pat, Stmt};
 use es_dress_patterns::Patterns;
 use es_dresser::{DressError, Dresser, Source, Turn};
-use es_whole_reader::Tree;
+use es_whole_tree::Tree;
 
 /// A function of these parameters and this body.
 pub(crate) fn plain_function(

@@ -16,7 +16,7 @@ use es_dress_keys::Keys;
 use es_dress_patterns::Patterns;
 use es_dresser::{DressError, Dresser, Node, Source, Turn, turns};
 use es_whole_grammar::Label;
-use es_whole_reader::Tree;
+use es_whole_tree::Tree;
 
 /// A turn of an object.
 #[derive(Clone, Copy)]

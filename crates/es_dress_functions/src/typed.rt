@@ -21,7 +21,7 @@ use es_dress_patterns::Patterns;
 use es_dress_types::{annotation_at, args_part_at, heritage_in, params_part_at, type_part_at};
 use es_dresser::{DressError, Source, part, some, turns};
 use es_token::{Token, TokenKind};
-use es_whole_reader::Tree;
+use es_whole_tree::Tree;
 
 /// A function of this signature and this body.
 fn typed_function_of(

@@ -11,7 +11,7 @@ use base::Boxed;
 use es_ast::{Expr, Lit, ModuleItem, Pat, Stmt};
 use es_dresser::{DressError, Dresser, Node, Source};
 use es_whole_grammar::Label;
-use es_whole_reader::Tree;
+use es_whole_tree::Tree;
 
 /// What dresses keys.
 #[derive(Clone, Copy)]

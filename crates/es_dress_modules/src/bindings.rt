@@ -17,7 +17,7 @@ use es_ast::{
 };
 use es_dresser::{DressError, Dresser, Node, Source, Turn, some, turns};
 use es_whole_grammar::Label;
-use es_whole_reader::Tree;
+use es_whole_tree::Tree;
 
 /// A turn of attributes.
 #[derive(Clone, Copy)]

@@ -17,7 +17,7 @@ use es_ast::{
 };
 use es_dress_declarations::Declarations;
 use es_dresser::{DressError, Source, some, turns};
-use es_whole_reader::Tree;
+use es_whole_tree::Tree;
 
 /// What stands behind `from`, its two parts by themselves.
 fn parted(

@@ -18,7 +18,7 @@ use es_dress_statements::{Statements, between, next};
 use es_dresser::{DressError, Dresser, Source, Turn, turns};
 use es_token::TokenKind;
 use es_whole_grammar::Label;
-use es_whole_reader::Tree;
+use es_whole_tree::Tree;
 
 /// `import a =` with what it names.
 fn equals_of(

@@ -18,7 +18,7 @@ use es_dress_declarations::{Declarations, ItemTurn};
 use es_dress_statements::StmtTurn;
 use es_dresser::{DressError, Node, Source, boxed, shebang, some, turns};
 use es_whole_grammar::Label;
-use es_whole_reader::Tree;
+use es_whole_tree::Tree;
 
 /// Whether a node with this label is an import or an export.
 #[tactic(auto, unfolding(es_dress::specs::Dress::module_decl_of, es_dress::specs::Dress::stmt_of, es_dress::specs::Dress::decl_of, es_dress::specs::Dress::declarable_of))]

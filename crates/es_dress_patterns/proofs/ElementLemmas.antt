@@ -6,7 +6,7 @@ use Rattle.std.proofs.lemmas.List.{append-nil, append_assoc}
 use Rattle.std.proofs.lemmas.Option.{slice_get_past}
 use Rattle.base.specs.declared.range.Range.{Range}
 use Rattle.es_token.specs.declared.token.Token.{Token}
-use Rattle.es_whole_reader.specs.declared.tree.Tree.{Tree}
+use Rattle.es_whole_tree.specs.declared.tree.Tree.{Tree}
 use Rattle.es_dress.specs.Value.{Value, absent, nil, more, token, node, given, part, as_group, group, behind}
 use Rattle.es_dress.specs.Texts.{span_of, start_of, end_of, end_before}
 use Rattle.es_dress.specs.Expressions.{element_of, behind_element, elements}

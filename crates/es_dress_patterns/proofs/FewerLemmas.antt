@@ -1,8 +1,8 @@
 -- What stands below a part is less than the parts.
 use Rattle.std.specs.Prelude.{List, Result, Ok, Err, IfOk}
 use Rattle.std.proofs.Common.{◌≡◌, suc, ◌<◌, arith}
-use Rattle.es_whole_reader.specs.declared.tree.Tree.{Tree}
-use Rattle.es_whole_reader.specs.declared.tree.Tree.TheVariants as vTree
+use Rattle.es_whole_tree.specs.declared.tree.Tree.{Tree}
+use Rattle.es_whole_tree.specs.declared.tree.Tree.TheVariants as vTree
 use Rattle.es_dresser.specs.declared.error.DressError.{DressError}
 use Rattle.es_dresser.specs.declared.node.Node.{Node}
 use Rattle.es_dresser.specs.Nodes.{nodes, nodes_in, IsWithin}

@@ -4,7 +4,7 @@ use Rattle.std.proofs.Common.{◌≡◌, ℕ, refl, sym, ap, ◌∙◌}
 use Rattle.es_token.specs.declared.token.Token.{Token}
 use Rattle.es_token.specs.declared.token.TokenKind.{TokenKind}
 use Rattle.es_ast.specs.declared.leaf.Modifiers.{Modifiers}
-use Rattle.es_whole_reader.specs.declared.tree.Tree.{Tree}
+use Rattle.es_whole_tree.specs.declared.tree.Tree.{Tree}
 use Rattle.es_dress.specs.Value.{given, as_group}
 use Rattle.es_dress.specs.Texts.{kind_at}
 use Rattle.es_dress.specs.Dress.{value_of}

@@ -18,7 +18,7 @@ use crate::nodes::Patterns;
 use base::{Items, Range};
 use es_ast::{Expr, ModuleItem, Pat, Stmt};
 use es_dresser::{DressError, Dresser, Source, group_in};
-use es_whole_reader::Tree;
+use es_whole_tree::Tree;
 
 /// What dresses an element of an array, and what stands where there is none.
 pub(crate) trait Element<T> {

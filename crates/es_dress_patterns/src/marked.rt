@@ -17,7 +17,7 @@ use es_ast::{Expr, ModuleItem, Pat, Stmt, TsPart};
 use es_dress_types::annotation_at;
 use es_dresser::{DressError, Source, turns};
 use es_whole_grammar::Label;
-use es_whole_reader::Tree;
+use es_whole_tree::Tree;
 
 impl<
     E: Fn(Source<'_>, &Tree) -> Result<Expr, DressError>,

@@ -10,7 +10,7 @@ use crate::nodes::Patterns;
 use es_ast::{Accessibility, Expr, Modifiers, ModuleItem, Pat, Stmt};
 use es_dresser::{DressError, Source, group_in};
 use es_token::TokenKind;
-use es_whole_reader::Tree;
+use es_whole_tree::Tree;
 
 /// What a modifier says of who may use what it stands before.
 #[tactic(auto, unfolding(es_dress::specs::TypedParts::access_of))]

@@ -13,7 +13,7 @@ use base::{Boxed, Items, Range};
 use es_ast::{Accessibility, Expr, Modifiers, ModuleItem, Param, Pat, Stmt};
 use es_dresser::{DressError, Dresser, Node, Source, Turn, part, some, turns};
 use es_whole_grammar::Label;
-use es_whole_reader::Tree;
+use es_whole_tree::Tree;
 use std::alloc::AllocError;
 
 /// A parameter: nothing stands before it.

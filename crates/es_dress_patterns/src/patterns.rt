@@ -14,7 +14,7 @@ use es_ast::{Expr, ModuleItem, ObjectPatProp, Pat, Stmt};
 use es_dress_keys::Keys;
 use es_dresser::{DressError, Dresser, Node, Source, Turn, turns};
 use es_whole_grammar::Label;
-use es_whole_reader::Tree;
+use es_whole_tree::Tree;
 use std::alloc::{AllocError, Global};
 
 /// A pattern with a default or without, which spans both.

@@ -14,7 +14,7 @@ use es_ast::{Expr, ModuleItem, Param, Pat, Stmt, TsPart};
 use es_dress_types::{annotation_at, params_part_at};
 use es_dresser::{DressError, Source, some, turns};
 use es_whole_grammar::Label;
-use es_whole_reader::Tree;
+use es_whole_tree::Tree;
 
 impl<
     E: Fn(Source<'_>, &Tree) -> Result<Expr, DressError>,

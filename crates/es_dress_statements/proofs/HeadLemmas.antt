@@ -5,8 +5,8 @@ use Rattle.es_token.specs.declared.token.Token.{Token}
 use Rattle.es_whole_grammar.specs.declared.rows.Label.{Label}
 use Rattle.es_ast.specs.declared.ast.Expr.{Expr}
 use Rattle.es_ast.specs.declared.ast.Pat.TheVariants as vPat
-use Rattle.es_whole_reader.specs.declared.tree.Tree.{Tree}
-use Rattle.es_whole_reader.specs.declared.tree.Tree.TheVariants as vTree
+use Rattle.es_whole_tree.specs.declared.tree.Tree.{Tree}
+use Rattle.es_whole_tree.specs.declared.tree.Tree.TheVariants as vTree
 use Rattle.es_dress.specs.Value.{Value, Typed, absent, nil, more, token, node, given, typed}
 use Rattle.es_dress.specs.Texts.{span_of}
 use Rattle.es_dress.specs.Dress.{packed, build, head_of, pat_of, target_of, as_target, value_of}

@@ -2,7 +2,7 @@
 use Rattle.std.specs.Prelude.{List, [], ◌∷◌, map}
 use Rattle.std.proofs.Common.{◌≡◌, ◌≢◌, ℕ, length, refl, arith}
 use Rattle.es_token.specs.declared.token.Token.{Token}
-use Rattle.es_whole_reader.specs.declared.tree.Tree.{Tree}
+use Rattle.es_whole_tree.specs.declared.tree.Tree.{Tree}
 use Rattle.es_dress.specs.Value.{Value, nil, more}
 use Rattle.es_dress.specs.Dress.{packed, value_of}
 use Rattle.es_dresser.specs.Ring.{parts_of}

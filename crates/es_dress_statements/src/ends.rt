@@ -11,7 +11,7 @@ ghost use Rattle.es_dress_statements.specs.Places.{IsPlace};
 use crate::statements::Statements;
 use base::Range;
 use es_dresser::{Source, leaf_in, part, place_in};
-use es_whole_reader::Tree;
+use es_whole_tree::Tree;
 
 /// The place behind a token.
 fn after(source: &Source<'_>, at: usize) -> Option<usize>

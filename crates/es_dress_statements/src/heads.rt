@@ -17,7 +17,7 @@ use base::Boxed;
 use es_ast::{Expr, ModuleItem, Pat, Stmt, VarDeclKind};
 use es_dresser::{DressError, Source, part};
 use es_whole_grammar::Label;
-use es_whole_reader::Tree;
+use es_whole_tree::Tree;
 
 impl<
     E: Fn(Source<'_>, &Tree) -> Result<Expr, DressError>,

@@ -14,7 +14,7 @@ use base::{Boxed, Range};
 use es_ast::{Expr, ModuleItem, Pat, Stmt, VarDeclKind};
 use es_dresser::{DressError, Source, boxed, some};
 use es_token::TokenKind;
-use es_whole_reader::Tree;
+use es_whole_tree::Tree;
 
 /// The first of two, where it is there, else the other.
 fn or_else<T: Drop>(first: Option<T>, other: Option<T>) -> Option<T>

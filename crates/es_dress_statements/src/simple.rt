@@ -11,7 +11,7 @@ use crate::statements::Statements;
 use base::{Boxed, Items, Range};
 use es_ast::{Expr, ModuleItem, Pat, Stmt};
 use es_dresser::{DressError, Dresser, Source, Turn, some, turns};
-use es_whole_reader::Tree;
+use es_whole_tree::Tree;
 
 /// A turn of statements.
 #[derive(Clone, Copy)]

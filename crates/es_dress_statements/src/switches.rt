@@ -15,7 +15,7 @@ use crate::statements::Statements;
 use base::{Items, Range};
 use es_ast::{Expr, ModuleItem, Pat, Stmt, SwitchCase};
 use es_dresser::{DressError, Source, group_in, turns};
-use es_whole_reader::Tree;
+use es_whole_tree::Tree;
 
 impl<
     E: Fn(Source<'_>, &Tree) -> Result<Expr, DressError>,

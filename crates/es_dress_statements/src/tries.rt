@@ -11,7 +11,7 @@ use crate::statements::Statements;
 use base::{Boxed, Range};
 use es_ast::{Expr, ModuleItem, Pat, Stmt};
 use es_dresser::{DressError, Source};
-use es_whole_reader::Tree;
+use es_whole_tree::Tree;
 
 impl<
     E: Fn(Source<'_>, &Tree) -> Result<Expr, DressError>,

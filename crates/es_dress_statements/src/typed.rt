@@ -12,7 +12,7 @@ use base::{Boxed, Range};
 use es_ast::{Expr, ModuleItem, Pat, Stmt, VarDeclKind, VarDeclarator};
 use es_dress_patterns::Patterns;
 use es_dresser::{DressError, Source, boxed, some};
-use es_whole_reader::Tree;
+use es_whole_tree::Tree;
 
 impl<
     E: Fn(Source<'_>, &Tree) -> Result<Expr, DressError>,

@@ -13,7 +13,7 @@ use base::{Boxed, Items, Range};
 use es_ast::{Decl, Expr, ModuleItem, Pat, Stmt, VarDeclKind, VarDeclarator};
 use es_dresser::{DressError, Dresser, Source, Turn, single, turns_behind};
 use es_whole_grammar::Label;
-use es_whole_reader::Tree;
+use es_whole_tree::Tree;
 
 /// A declarator of this pattern.
 fn declarator_of(span: Range, init: Option<Boxed<Expr>>, name: Boxed<Pat>) -> VarDeclarator

@@ -10,7 +10,7 @@ use Rattle.es_tree.proofs.Progress.{both_hold}
 use Rattle.es_tree.proofs.OutLemmas.{clash}
 use Rattle.es_whole_grammar.specs.declared.rows.Row.{Row}
 use Rattle.es_whole_grammar.specs.declared.rows.Label.{Label}
-use Rattle.es_whole_reader.specs.Slim.{tree_of}
+use Rattle.es_whole_tree.specs.Slim.{tree_of}
 use Rattle.es_ast.specs.declared.ast.Pat.TheVariants as vPat
 use Rattle.es_dress.specs.Value.{Typed, Value, part, behind}
 use Rattle.es_dress.specs.Value.{absent as no_part, node as made_node}

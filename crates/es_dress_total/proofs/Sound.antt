@@ -14,8 +14,8 @@ use Rattle.es_tree.proofs.EachKind.{holds_of_each}
 use Rattle.es_guards.proofs.TokenLemmas.{token_seen, seen-keys_of}
 use Rattle.es_whole_grammar.specs.declared.rows.Row.{Row}
 use Rattle.es_whole_grammar.specs.declared.rows.Label.{Label}
-use Rattle.es_whole_reader.specs.declared.tree.Tree.{Tree}
-use Rattle.es_whole_reader.specs.Slim.{parts_in, slim, tree_of}
+use Rattle.es_whole_tree.specs.declared.tree.Tree.{Tree}
+use Rattle.es_whole_tree.specs.Slim.{parts_in, slim, tree_of}
 use Rattle.es_dress.specs.Value.{Typed, Value, given, part, as_group, first_of, behind}
 use Rattle.es_dress.specs.Value.{absent as no_part, nil as no_more, more, token, node as made_node}
 use Rattle.es_dress.specs.Texts.{ident_of, token_of, own_name_of}

@@ -18,7 +18,7 @@ use Rattle.es_whole_grammar.specs.declared.rows.Label.{Label}
 use Rattle.es_whole_grammar.specs.Table.{rule}
 use Rattle.es_whole_grammar.specs.Conditions.{program_row, IsProgram}
 use Rattle.es_whole_grammar.proofs.Theorems.{free_is_chosen}
-use Rattle.es_whole_reader.specs.Slim.{tree_of}
+use Rattle.es_whole_tree.specs.Slim.{tree_of}
 use Rattle.es_dress.specs.Dress.{value_of}
 use Rattle.es_derives.specs.Derives.{program_in, Derives}
 use Rattle.es_dress_total.proofs.Uses.{Use, as_program, IsThere, same_use, same_uses}

@@ -3,7 +3,7 @@ use Rattle.std.specs.Prelude.{Option, Result}
 use Rattle.std.specs.Borrow.{Bor}
 use Rattle.ts_ast.specs.declared.ts.TsType.{TsType}
 use Rattle.ts_ast.specs.declared.ts.TsParamPat.{TsParamPat}
-use Rattle.es_whole_reader.specs.declared.tree.Tree.{Tree}
+use Rattle.es_whole_tree.specs.declared.tree.Tree.{Tree}
 use Rattle.es_dress.specs.Value.{Value, given, typed}
 use Rattle.es_dresser.specs.declared.error.DressError.{DressError}
 use Rattle.es_dresser.specs.declared.source.Source.{Source}

@@ -17,7 +17,7 @@ use base::Range;
 use es_ast::{Expr, ModuleItem, Pat, Stmt};
 use es_dresser::{DressError, Node, Source};
 use es_whole_grammar::Label;
-use es_whole_reader::Tree;
+use es_whole_tree::Tree;
 use ts_ast::{TsKey, TsParamPat, TsType};
 
 impl<

@@ -11,7 +11,7 @@ use crate::parts::TypeParts;
 use base::Items;
 use es_ast::{Expr, ModuleItem, Pat, Stmt};
 use es_dresser::{DressError, Source, group_in};
-use es_whole_reader::Tree;
+use es_whole_tree::Tree;
 use ts_ast::{TsParamPat, TsType};
 
 /// What dresses a turn of a list.

@@ -17,7 +17,7 @@ use es_ast::{Expr, ModuleItem, Pat, Stmt};
 use es_dresser::{DressError, Source, group_in, single, some};
 use es_token::TokenKind;
 use es_whole_grammar::Label;
-use es_whole_reader::Tree;
+use es_whole_tree::Tree;
 use ts_ast::{Ident, Nodes, TsEntityName, TsParamPat, TsType, TsTypeParam};
 
 /// Whether a word of this kind was read before, or is this one.

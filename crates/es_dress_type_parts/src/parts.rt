@@ -11,7 +11,7 @@ use crate::texts::{number, this_or_name};
 use base::Boxed;
 use es_ast::{Expr, ModuleItem, Pat, Stmt};
 use es_dresser::{DressError, Dresser, Source, boxed, part, some};
-use es_whole_reader::Tree;
+use es_whole_tree::Tree;
 use ts_ast::{Ident, Number, TsParamPat, TsThisTypeOrIdent, TsType};
 
 /// What dresses types: a dresser of what stands about them, and functions that dress the types and the patterns below.

@@ -16,7 +16,7 @@ use base::{Items, Range};
 use es_ast::{Expr, ModuleItem, Pat, Stmt};
 use es_dresser::{DressError, Node, Source, some};
 use es_whole_grammar::Label;
-use es_whole_reader::Tree;
+use es_whole_tree::Tree;
 use ts_ast::{TsFnParam, TsParamPat, TsPatProp, TsType};
 
 /// A property of a pattern.

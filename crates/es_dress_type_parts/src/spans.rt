@@ -11,7 +11,7 @@ use crate::parts::TypeParts;
 use base::Range;
 use es_ast::{Expr, ModuleItem, Pat, Stmt};
 use es_dresser::{DressError, Source};
-use es_whole_reader::Tree;
+use es_whole_tree::Tree;
 use ts_ast::{TsParamPat, TsType};
 
 impl<

@@ -5,11 +5,11 @@ ghost use Rattle.es_dress.specs.Dress.{value_of};
 ghost use Rattle.es_dresser.specs.Ring.{IsCut, IsMade, expr_in, item_in, pat_in, stmt_in};
 ghost use Rattle.es_dress_type_parts.specs.Ring.{type_in, type_pat_in};
 
-use crate::types::Types;
+use es_dress_type_forms::Types;
 use es_ast::{Expr, ModuleItem, Pat, Stmt};
 use es_dress_type_parts::TypeParts;
 use es_dresser::{DressError, Dresser, Source};
-use es_whole_reader::Tree;
+use es_whole_tree::Tree;
 use ts_ast::{TsParamPat, TsType};
 
 fn no_expr(source: Source<'_>, tree: &Tree) -> Result<Expr, DressError>

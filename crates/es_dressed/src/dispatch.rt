@@ -12,7 +12,7 @@ use es_dress_functions::Functions;
 use es_dress_patterns::Patterns;
 use es_dresser::{DressError, Node, Source};
 use es_whole_grammar::Label;
-use es_whole_reader::Tree;
+use es_whole_tree::Tree;
 
 impl<
     E: Fn(Source<'_>, &Tree) -> Result<Expr, DressError>,

@@ -6,7 +6,7 @@ ghost use Rattle.es_dresser.specs.Ring.{IsCut, IsMade, expr_in, item_in, pat_in,
 use crate::whole::Whole;
 use es_ast::{Expr, ModuleItem, Pat, Stmt};
 use es_dresser::{DressError, Dresser, Source};
-use es_whole_reader::Tree;
+use es_whole_tree::Tree;
 
 /// A tree as an expression.
 #[cycle(ring)]

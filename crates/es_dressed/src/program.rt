@@ -9,7 +9,7 @@ use crate::whole::Whole;
 use es_ast::Program;
 use es_dresser::{DressError, Dresser, Source};
 use es_token::Token;
-use es_whole_reader::Tree;
+use es_whole_tree::Tree;
 use std::alloc::Global;
 
 /// The typed tree of a program: of its text, its tokens and its plain tree.

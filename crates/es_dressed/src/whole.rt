@@ -13,7 +13,7 @@ use es_dress_declarations::Declarations;
 use es_dress_patterns::Patterns;
 use es_dress_modules::Modules;
 use es_dresser::{DressError, Dresser, Node, Source};
-use es_whole_reader::Tree;
+use es_whole_tree::Tree;
 
 /// What dresses the whole tree of a dresser.
 #[derive(Clone, Copy)]

@@ -4,8 +4,8 @@ use Rattle.std.proofs.Common.{◌≡◌, ℕ, refl, sym, ap, ◌∙◌, subst}
 use Rattle.es_token.specs.declared.token.Token.{Token}
 use Rattle.es_whole_grammar.specs.declared.rows.Label.{Label}
 use Rattle.es_ast.specs.declared.ast.Expr.{Expr}
-use Rattle.es_whole_reader.specs.declared.tree.Tree.{Tree}
-use Rattle.es_whole_reader.specs.declared.tree.Tree.TheVariants as vTree
+use Rattle.es_whole_tree.specs.declared.tree.Tree.{Tree}
+use Rattle.es_whole_tree.specs.declared.tree.Tree.TheVariants as vTree
 use Rattle.es_dress.specs.Value.{Value, Typed, absent, nil, more, token, node, typed}
 use Rattle.es_dress.specs.Texts.{span_of}
 use Rattle.es_dress.specs.Dress.{packed, build, target_of, as_target, value_of}

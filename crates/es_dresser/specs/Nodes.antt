@@ -1,8 +1,8 @@
 -- How many trees stand in a tree: what a dressing goes down by.
 use Rattle.std.specs.Prelude.{ℕ, zero, suc, ◌+◌, ◌<◌, List, [], ◌∷◌, map}
-use Rattle.es_whole_reader.specs.declared.tree.Tree.{Tree}
-use Rattle.es_whole_reader.specs.declared.tree.Tree.TheOpen.{Tree-F}
-use Rattle.es_whole_reader.specs.declared.tree.Tree.TheFolds.{fold-Tree}
+use Rattle.es_whole_tree.specs.declared.tree.Tree.{Tree}
+use Rattle.es_whole_tree.specs.declared.tree.Tree.TheOpen.{Tree-F}
+use Rattle.es_whole_tree.specs.declared.tree.Tree.TheFolds.{fold-Tree}
 
 -- all of these numbers together
 abbrev pub total : List ℕ → ℕ

@@ -8,7 +8,7 @@ use Rattle.es_ast.specs.declared.ast.Expr.{Expr}
 use Rattle.es_ast.specs.declared.ast.Pat.{Pat}
 use Rattle.es_ast.specs.declared.ast.Stmt.{Stmt}
 use Rattle.es_ast.specs.declared.ast.ModuleItem.{ModuleItem}
-use Rattle.es_whole_reader.specs.declared.tree.Tree.{Tree}
+use Rattle.es_whole_tree.specs.declared.tree.Tree.{Tree}
 use Rattle.es_dress.specs.Value.{Value, Typed, absent, given, typed}
 use Rattle.es_dress.specs.Texts.{stop_of}
 use Rattle.es_dress.specs.Dress.{packed, value_of}

@@ -3,7 +3,7 @@
 ghost use Rattle.std.specs.Prelude.{◌≡◌, ℕ, ◌<◌, List, true, false, Option, Some, None, option_map, IfSome, slice_get};
 ghost use Rattle.std.specs.Option.{option_copied};
 ghost use Rattle.es_token.specs.declared.token.Token.{Token as Tok};
-ghost use Rattle.es_whole_reader.specs.declared.tree.Tree.{Tree as Plain};
+ghost use Rattle.es_whole_tree.specs.declared.tree.Tree.{Tree as Plain};
 ghost use Rattle.es_dress.specs.Value.{Value, nil, more, part, as_group, group, is_there, optional, expr_at, pat_at, stmt_at, item_at};
 ghost use Rattle.es_dress.specs.Dress.{value_of};
 ghost use Rattle.es_dresser.specs.Nodes.{nodes, IsWithin};
@@ -13,7 +13,7 @@ use crate::error::DressError;
 use crate::source::Source;
 use base::Boxed;
 use es_ast::{Expr, ModuleItem, Pat, Stmt};
-use es_whole_reader::Tree;
+use es_whole_tree::Tree;
 use std::alloc::Global;
 
 /// What dresses a tree: `expr`, `pat`, `stmt` and `item` dress what stands below it.

@@ -18,7 +18,7 @@ use es_ast::{
     UnaryOp, UpdateOp, VarDeclKind,
 };
 use es_token::{Token, TokenKind};
-use es_whole_reader::Tree;
+use es_whole_tree::Tree;
 
 impl Source<'_> {
     /// A tree that is a token.

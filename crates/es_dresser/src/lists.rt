@@ -11,7 +11,7 @@ use crate::error::DressError;
 use crate::source::Source;
 use base::Items;
 use es_ast::{Expr, ModuleItem, Pat, Stmt};
-use es_whole_reader::Tree;
+use es_whole_tree::Tree;
 use std::alloc::{AllocError, Global};
 
 /// What dresses a turn of a list.

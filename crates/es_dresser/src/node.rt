@@ -13,7 +13,7 @@ use crate::error::DressError;
 use crate::source::Source;
 use base::Range;
 use es_whole_grammar::Label;
-use es_whole_reader::Tree;
+use es_whole_tree::Tree;
 
 /// A node: its alternative, its first token, its span and its parts.
 #[derive(Clone, Copy)]

@@ -17,7 +17,7 @@ use crate::operators::{assign_op, binary_op};
 use crate::source::Source;
 use base::Range;
 use es_ast::{AssignOp, BinaryOp};
-use es_whole_reader::Tree;
+use es_whole_tree::Tree;
 
 /// The first token of a node, and the token behind its last one.
 #[tactic(auto, using(crate::proofs::PlaceLemmas::place_leaf, crate::proofs::PlaceLemmas::place_node, crate::proofs::PlaceLemmas::place_role, crate::proofs::PlaceLemmas::place_parts))]

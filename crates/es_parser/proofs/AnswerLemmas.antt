@@ -9,8 +9,8 @@ use Rattle.es_tree.specs.Key.{keys_of}
 use Rattle.es_tree.specs.declared.error.SyntaxError.{SyntaxError}
 use Rattle.es_tree.specs.declared.error.SyntaxError.TheVariants.{Syntax, OutOfMemory}
 use Rattle.es_ast.specs.declared.ast.Program.{Program}
-use Rattle.es_whole_reader.specs.declared.tree.Tree.{Tree}
-use Rattle.es_whole_reader.specs.Slim.{tree_of}
+use Rattle.es_whole_tree.specs.declared.tree.Tree.{Tree}
+use Rattle.es_whole_tree.specs.Slim.{tree_of}
 use Rattle.es_whole_program.specs.Program.{IsKept}
 use Rattle.es_whole_program.specs.Derived.{GivesTree as GivesPlain}
 use Rattle.es_dress.specs.Dress.{value_of}

@@ -20,9 +20,9 @@ use Rattle.es_whole_grammar.specs.Table.{rule}
 use Rattle.es_whole_grammar.specs.Conditions.{program_row}
 use Rattle.es_whole_grammar.proofs.Sets.{sets}
 use Rattle.es_whole_grammar.proofs.Theorems.{programs, free_is_chosen}
-use Rattle.es_whole_reader.specs.declared.tree.Tree.{Tree}
+use Rattle.es_whole_tree.specs.declared.tree.Tree.{Tree}
 use Rattle.es_whole_reader.specs.declared.cursor.Measured.{Measured}
-use Rattle.es_whole_reader.specs.Slim.{slim, one, tree_in}
+use Rattle.es_whole_tree.specs.Slim.{slim, one, tree_in}
 use Rattle.es_whole_reader.specs.Bounded.{Read, makes, row_at}
 use Rattle.es_whole_reader.specs.Steps.{single}
 use Rattle.es_whole_program.specs.Derived.{IsShaped, GivesTree}

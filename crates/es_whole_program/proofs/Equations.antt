@@ -2,10 +2,10 @@
 use Rattle.std.specs.Prelude.{List, [], ◌∷◌, Bool, true, false, ◌&&◌, map}
 use Rattle.std.proofs.Common.{◌≡◌, ℕ, refl, sym, ap, ◌∙◌}
 use Rattle.es_whole_grammar.specs.declared.rows.Label.{Label}
-use Rattle.es_whole_reader.specs.declared.tree.Tree.{Tree, out-Tree, roll-Tree, out-roll-Tree, map-Tree}
-use Rattle.es_whole_reader.specs.declared.tree.Tree.TheVariants as vTree
-use Rattle.es_whole_reader.specs.declared.tree.Tree.TheOpen.{Tree-F}
-use Rattle.es_whole_reader.specs.declared.tree.Tree.TheFolds.{para-roll-Tree}
+use Rattle.es_whole_tree.specs.declared.tree.Tree.{Tree, out-Tree, roll-Tree, out-roll-Tree, map-Tree}
+use Rattle.es_whole_tree.specs.declared.tree.Tree.TheVariants as vTree
+use Rattle.es_whole_tree.specs.declared.tree.Tree.TheOpen.{Tree-F}
+use Rattle.es_whole_tree.specs.declared.tree.Tree.TheFolds.{para-roll-Tree}
 use Rattle.es_whole_program.specs.Sound.{names_member, member_layer, is_member, names_non_null, non_null_layer, is_non_null, second_asserted, turn_layer, is_assertion, first_is, simple_by, simple_step, is_simple, may_hold, each_holds, sound_step, is_sound, are_sound}
 
 firsts_of : {B : Type 0} (f : Tree → B) (ts : List Tree)

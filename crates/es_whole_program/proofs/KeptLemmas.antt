@@ -4,7 +4,7 @@ use Rattle.std.proofs.Common.{◌≡◌, ap}
 use Rattle.es_tree.specs.declared.error.Lang.{Lang}
 use Rattle.es_tree.specs.declared.error.Mode.{Mode}
 use Rattle.es_tree.specs.Key.{Key}
-use Rattle.es_whole_reader.specs.declared.tree.Tree.{Tree}
+use Rattle.es_whole_tree.specs.declared.tree.Tree.{Tree}
 use Rattle.es_whole_program.specs.Derived.{IsShaped}
 use Rattle.es_whole_program.specs.Sound.{is_sound}
 use Rattle.es_whole_program.specs.Program.{IsKept}

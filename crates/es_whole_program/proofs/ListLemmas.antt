@@ -3,7 +3,7 @@ use Rattle.std.specs.Prelude.{List, [], ◌∷◌, ◌++◌, Bool, true, false, 
 use Rattle.std.proofs.Common.{◌≡◌, ℕ, zero, suc, ◌+◌, ◌<◌, length, take, get_or, refl, ap, ◌∙◌, arith}
 use Rattle.std.proofs.lemmas.List.{take_more}
 use Rattle.es_tree.proofs.OutLemmas.{clash}
-use Rattle.es_whole_reader.specs.declared.tree.Tree.{Tree, out-Tree}
+use Rattle.es_whole_tree.specs.declared.tree.Tree.{Tree, out-Tree}
 use Rattle.es_whole_program.specs.Sound.{behind_part, first_in, behind_turns, is_sound, are_sound}
 
 -- one more turn of a chain

@@ -12,7 +12,7 @@ use Rattle.es_tree.proofs.TallLemmas.{made_tallied}
 use Rattle.es_whole_grammar.specs.declared.rows.Row.{Row}
 use Rattle.es_whole_grammar.specs.declared.rows.Label.{Label}
 use Rattle.es_whole_grammar.specs.Table.{rule}
-use Rattle.es_whole_reader.specs.Slim.{slim}
+use Rattle.es_whole_tree.specs.Slim.{slim}
 use Rattle.es_whole_reader.specs.Bounded.{Read, makes, Below, node_at, form_at, wraps_at, rule_at, row_at}
 
 -- a tree no path of which has too many nodes

@@ -11,9 +11,9 @@ use Rattle.es_whole_grammar.specs.declared.rows.Label.TheVariants.{Name, Parenth
 use Rattle.es_whole_grammar.specs.Table.{rule}
 use Rattle.es_whole_grammar.specs.Conditions as plains
 use Rattle.es_whole_grammar.specs.Conditions.{program_row}
-use Rattle.es_whole_reader.specs.declared.tree.Tree.{Tree, out-Tree}
-use Rattle.es_whole_reader.specs.declared.tree.Tree.TheVariants as vTree
-use Rattle.es_whole_reader.specs.Slim.{parts_in, slim, tree_of}
+use Rattle.es_whole_tree.specs.declared.tree.Tree.{Tree, out-Tree}
+use Rattle.es_whole_tree.specs.declared.tree.Tree.TheVariants as vTree
+use Rattle.es_whole_tree.specs.Slim.{parts_in, slim, tree_of}
 use Rattle.es_whole_program.proofs.FormedLemmas.{IsList, Formed}
 use Rattle.es_whole_program.proofs.Shapes.{EachBegins, IsPart, IsGroup, Stands}
 use Rattle.es_whole_program.proofs.RowShapes.{formed}

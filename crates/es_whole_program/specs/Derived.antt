@@ -10,8 +10,8 @@ use Rattle.es_tree.specs.Fits.{free, Shape}
 use Rattle.es_whole_grammar.specs.declared.rows.Label.{Label}
 use Rattle.es_whole_grammar.specs.Table.{rule}
 use Rattle.es_whole_grammar.specs.Conditions.{program_row}
-use Rattle.es_whole_reader.specs.declared.tree.Tree.{Tree}
-use Rattle.es_whole_reader.specs.Slim.{tree_of}
+use Rattle.es_whole_tree.specs.declared.tree.Tree.{Tree}
+use Rattle.es_whole_tree.specs.Slim.{tree_of}
 
 -- the tree is that of a plain tree which has the shape of a program over the keys of all tokens
 pub record IsShaped (l : Lang) (m : Mode) (K : List Key) (tree : Tree) : Type 0 where

@@ -6,8 +6,8 @@ use Rattle.es_tree.specs.Key.{Key}
 use Rattle.es_tree.specs.Plain.{Plain}
 use Rattle.es_whole_grammar.specs.declared.rows.Label.{Label}
 use Rattle.es_whole_grammar.specs.Conditions.{IsProgram}
-use Rattle.es_whole_reader.specs.declared.tree.Tree.{Tree}
-use Rattle.es_whole_reader.specs.Slim.{tree_of}
+use Rattle.es_whole_tree.specs.declared.tree.Tree.{Tree}
+use Rattle.es_whole_tree.specs.Slim.{tree_of}
 
 -- the tree is kept of a plain tree of a program over these keys
 pub record IsKept (l : Lang) (m : Mode) (K : List Key) (tree : Tree) : Type 0 where

@@ -3,9 +3,9 @@
 use Rattle.std.specs.Prelude.{Bool, true, false, ◌&&◌, List, [], ◌∷◌, map, if◌then◌else◌}
 use Rattle.es_whole_grammar.specs.declared.rows.Label.{Label}
 use Rattle.es_whole_grammar.specs.declared.rows.Label.TheVariants as l
-use Rattle.es_whole_reader.specs.declared.tree.Tree.{Tree, out-Tree}
-use Rattle.es_whole_reader.specs.declared.tree.Tree.TheOpen.{Tree-F}
-use Rattle.es_whole_reader.specs.declared.tree.Tree.TheFolds.{para-Tree}
+use Rattle.es_whole_tree.specs.declared.tree.Tree.{Tree, out-Tree}
+use Rattle.es_whole_tree.specs.declared.tree.Tree.TheOpen.{Tree-F}
+use Rattle.es_whole_tree.specs.declared.tree.Tree.TheFolds.{para-Tree}
 
 -- ---- members
 

@@ -4,7 +4,7 @@ ghost use Rattle.std.specs.Prelude.{IfOk};
 ghost use Rattle.es_whole_reader.specs.Bounded.{row_at};
 ghost use Rattle.es_whole_reader.specs.Steps.{IsRead};
 ghost use Rattle.es_tree.specs.Key.{keys_of};
-ghost use Rattle.es_whole_reader.specs.declared.tree.Tree.{Tree as Kept};
+ghost use Rattle.es_whole_tree.specs.declared.tree.Tree.{Tree as Kept};
 ghost use Rattle.es_whole_program.specs.Derived.{IsShaped, GivesTree};
 ghost use Rattle.es_whole_program.specs.Program.{IsKept};
 

@@ -4,7 +4,7 @@ ghost use Rattle.std.specs.Prelude.{◌≡◌, IfOk};
 ghost use Rattle.es_tree.specs.Key.{keys_of};
 ghost use Rattle.es_tree.specs.Fits.{most_nodes};
 ghost use Rattle.es_whole_grammar.specs.Conditions.{program_row};
-ghost use Rattle.es_whole_reader.specs.declared.tree.Tree.{Tree as Kept};
+ghost use Rattle.es_whole_tree.specs.declared.tree.Tree.{Tree as Kept};
 ghost use Rattle.es_whole_reader.specs.Steps.{IsRing};
 ghost use Rattle.es_whole_program.specs.Derived.{IsShaped, GivesTree};
 

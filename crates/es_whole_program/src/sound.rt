@@ -1,11 +1,11 @@
 //! Sound trees.
 
 ghost use Rattle.std.specs.Prelude.{◌≡◌};
-ghost use Rattle.es_whole_reader.specs.declared.tree.Tree.{out-Tree};
+ghost use Rattle.es_whole_tree.specs.declared.tree.Tree.{out-Tree};
 ghost use Rattle.es_whole_program.specs.Sound.{names_member, is_member, names_non_null, is_non_null, behind_part, first_in, behind_turns, ends_in_member, chain_ends, group_layer, second_asserted, is_assertion, asserted_target, first_is, simple_by, is_simple, first_simple, second_simple, may_hold, is_sound, are_sound};
 
 use es_whole_grammar::Label;
-use es_whole_reader::Tree;
+use es_whole_tree::Tree;
 
 /// The alternative of `.a` or `[a]`.
 fn names_member(label: Label) -> bool

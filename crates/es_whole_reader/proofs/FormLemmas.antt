@@ -10,11 +10,11 @@ use Rattle.es_tree.specs.Form.{Guard, Sort, Told, test, Form, done, tok, punct, 
 use Rattle.es_tree.specs.Reader.{Out, nothing, gives, and_then, changed, either, only_if, read_turns, read_form}
 use Rattle.es_tree.proofs.OutLemmas.{then_gives, change_gives, only_if_true, either_true, either_false}
 use Rattle.es_whole_grammar.specs.declared.rows.Row.{Row}
-use Rattle.es_whole_reader.specs.declared.tree.Tree.{Tree}
-use Rattle.es_whole_reader.specs.declared.tree.Tree.TheVariants as vTree
+use Rattle.es_whole_tree.specs.declared.tree.Tree.{Tree}
+use Rattle.es_whole_tree.specs.declared.tree.Tree.TheVariants as vTree
 use Rattle.es_whole_reader.specs.declared.cursor.Measured.{Measured}
 use Rattle.es_whole_reader.specs.declared.cursor.Parts.{Parts}
-use Rattle.es_whole_reader.specs.Slim.{Kept, one, several, tree_in}
+use Rattle.es_whole_tree.specs.Slim.{Kept, one, several, tree_in}
 use Rattle.es_whole_reader.specs.Bounded.{Read, makes, Below, form_at}
 use Rattle.es_whole_reader.specs.Steps.{single, group, IsRead, IsPart, Adds}
 

@@ -10,7 +10,7 @@ use Rattle.es_tree.specs.Reader.{Out, nothing, gives, and_then, changed, only_if
 use Rattle.es_whole_grammar.specs.declared.rows.Row.{Row}
 use Rattle.es_whole_grammar.specs.declared.rows.Label.{Label}
 use Rattle.es_whole_grammar.specs.Table.{rule}
-use Rattle.es_whole_reader.specs.Slim.{Kept, slim}
+use Rattle.es_whole_tree.specs.Slim.{Kept, slim}
 
 -- what is read: what is kept, with the most nodes on a path
 abbrev pub Read : Type 0

@@ -1,5 +1,4 @@
--- the tree that is kept of a plain tree, and the reader that makes it
-pub mod Slim
+-- the reader that makes the tree that is kept of a plain tree
 pub mod Bounded
 -- what the values of the code stand for
 pub mod Told

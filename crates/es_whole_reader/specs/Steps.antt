@@ -6,12 +6,12 @@ use Rattle.es_tree.specs.declared.error.SyntaxError.TheVariants.{OutOfMemory}
 use Rattle.es_tree.specs.Key.{keys_of}
 use Rattle.es_tree.specs.Reader.{Out, nothing, gives}
 use Rattle.es_whole_grammar.specs.declared.rows.Row.{Row}
-use Rattle.es_whole_reader.specs.declared.tree.Tree.{Tree}
+use Rattle.es_whole_tree.specs.declared.tree.Tree.{Tree}
 use Rattle.es_whole_reader.specs.declared.cursor.Input.{Input}
 use Rattle.es_whole_reader.specs.declared.cursor.Cursor.{Cursor}
 use Rattle.es_whole_reader.specs.declared.cursor.Measured.{Measured}
 use Rattle.es_whole_reader.specs.declared.cursor.Parts.{Parts}
-use Rattle.es_whole_reader.specs.Slim.{one, several, tree_in}
+use Rattle.es_whole_tree.specs.Slim.{one, several, tree_in}
 use Rattle.es_whole_reader.specs.Bounded.{Read, row_at}
 
 -- a tree with its height

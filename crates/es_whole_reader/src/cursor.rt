@@ -7,7 +7,7 @@ ghost use Rattle.es_whole_guards.specs.Named.{kinds_of};
 ghost use Rattle.es_whole_reader.specs.Bounded.{row_at, node_at};
 ghost use Rattle.es_whole_reader.specs.Steps.{IsRead, IsRing, group};
 
-use crate::tree::Tree;
+use es_whole_tree::Tree;
 use base::Items;
 use es_guards::Tokens;
 use es_token::TokenKind;

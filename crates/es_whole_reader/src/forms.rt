@@ -12,7 +12,7 @@ ghost use Rattle.es_whole_reader.specs.Steps.{IsRing, IsPart, Adds};
 
 use crate::cursor::{Cursor, Grammar, Input, Measured, Parts, expect, take};
 use crate::told::{Sort, Told};
-use crate::tree::Tree;
+use es_whole_tree::Tree;
 use base::Items;
 use es_token::TokenKind;
 use es_tree::SyntaxError;

@@ -1,6 +1,6 @@
 //! The reader of the table of programs in both languages (`es_whole_grammar`): from tokens to a tree of nodes.
 //!
-//! - `Tree`: the nodes, and the tokens that are kept, of a plain tree (`slim`, `specs/Slim.antt`).
+//! - `Tree` (of `es_whole_tree`): the nodes, and the tokens that are kept, of a plain tree.
 //! - `ReadsForm` and `ReadsRule`: what reads a form, and a rule, of the table. A struct stands for each way to write one
 //!   (`Punct`, `Opt`, `Many`, .., `Make`, `Choose`, `Wrap`), so that a row of the table is written in the code as it
 //!   stands there. Each answers what the reader of the table answers (`specs/Bounded.antt`), or that memory ran out.
@@ -13,7 +13,6 @@ mod cursor;
 mod forms;
 mod rules;
 mod told;
-mod tree;
 
 pub use cursor::{Cursor, Grammar, Input, Measured, Parts};
 pub use es_guards::Tokens;
@@ -21,4 +20,4 @@ pub use es_whole_guards::{Ahead, Guard, Kinds};
 pub use forms::{Alt, Done, Many, OfRow, Opt, Punct, ReadsForm, Tok, When, Where};
 pub use rules::{As, Choose, Make, MakeBy, Pick, ReadsRule, Refuse, Wrap};
 pub use told::{Sort, Told};
-pub use tree::Tree;
+pub use es_whole_tree::Tree;

@@ -15,7 +15,7 @@ ghost use Rattle.es_whole_reader.specs.Steps.{IsRing, IsRead, single};
 use crate::cursor::{Cursor, Grammar, Input, Measured, Parts, node};
 use crate::forms::ReadsForm;
 use crate::told::Told;
-use crate::tree::Tree;
+use es_whole_tree::Tree;
 use base::Boxed;
 use es_tree::{Lang, SyntaxError};
 use es_whole_grammar::{Label, Row};

@@ -7,8 +7,8 @@ use Rattle.es_type_reader.specs.declared.tree.Tree.{Tree as TypeTree, roll-Tree,
 use Rattle.es_type_reader.specs.declared.tree.Tree.TheVariants as vTree
 use Rattle.es_type_reader.specs.declared.tree.Tree.TheOpen.{Tree-F}
 use Rattle.es_type_reader.specs.declared.tree.Tree.TheFolds.{para-roll-Tree}
-use Rattle.es_whole_reader.specs.declared.tree.Tree.{Tree}
-use Rattle.es_whole_reader.specs.declared.tree.Tree.TheVariants as tree
+use Rattle.es_whole_tree.specs.declared.tree.Tree.{Tree}
+use Rattle.es_whole_tree.specs.declared.tree.Tree.TheVariants as tree
 use Rattle.es_whole_rows.specs.Named.{named_label, named_step, named}
 
 seconds_of : (ts : List TypeTree) → map (λ (part : TypeTree × Tree). part.1) (map (λ t. (t, named t)) ts) ≡ map named ts

@@ -24,10 +24,10 @@ use Rattle.es_whole_grammar.specs.declared.rows.TypeRow.{TypeRow}
 use Rattle.es_whole_grammar.specs.TypeNames.{row_of_types, row_name, label_name}
 use Rattle.es_whole_grammar.specs.Embedding.{mapped_form, types_rule}
 use Rattle.es_whole_grammar.specs.Table.{rule}
-use Rattle.es_whole_reader.specs.declared.tree.Tree.{Tree}
-use Rattle.es_whole_reader.specs.declared.tree.Tree.TheVariants.{Node}
+use Rattle.es_whole_tree.specs.declared.tree.Tree.{Tree}
+use Rattle.es_whole_tree.specs.declared.tree.Tree.TheVariants.{Node}
 use Rattle.es_whole_reader.specs.declared.cursor.Measured.{Measured}
-use Rattle.es_whole_reader.specs.Slim.{Kept, one, several, tree_in, parts_in}
+use Rattle.es_whole_tree.specs.Slim.{Kept, one, several, tree_in, parts_in}
 use Rattle.es_whole_reader.specs.Bounded.{Read, makes, node_at, form_at, wraps_at, rule_at, row_at}
 use Rattle.es_whole_reader.specs.Steps.{IsRead}
 use Rattle.es_whole_rows.specs.Named.{named}

@@ -7,8 +7,8 @@ use Rattle.es_type_reader.specs.declared.tree.Tree.TheFolds.{para-Tree}
 use Rattle.es_type_reader.specs.Names.{label_of}
 use Rattle.es_whole_grammar.specs.TypeNames.{label_name}
 use Rattle.es_whole_grammar.specs.declared.rows.Label.{Label}
-use Rattle.es_whole_reader.specs.declared.tree.Tree.{Tree}
-use Rattle.es_whole_reader.specs.declared.tree.Tree.TheVariants as tree
+use Rattle.es_whole_tree.specs.declared.tree.Tree.{Tree}
+use Rattle.es_whole_tree.specs.declared.tree.Tree.TheVariants as tree
 
 -- the alternative, by the name that the table of programs gives it
 abbrev pub named_label : TypeName → Label

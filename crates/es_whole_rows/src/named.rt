@@ -8,7 +8,7 @@ ghost use Rattle.es_whole_rows.specs.Named.{named};
 use base::Items;
 use es_type_reader as types;
 use es_whole_grammar::Label;
-use es_whole_reader::Tree;
+use es_whole_tree::Tree;
 use std::alloc::{AllocError, Global};
 
 /// The alternative of types, by the name that the table of programs gives it.

@@ -15,6 +15,32 @@ const PAIRS: &[(usize, usize, &str, usize, usize, &str, &str)] = &[
     (2, 3, "x", 4, 4, "y", "MidCharacter"),
 ];
 
+/// A text, its changes, and the changed text or which change has which fault.
+type Row = (
+    &'static str,
+    &'static [(usize, usize, &'static str)],
+    &'static str,
+);
+
+const ROWS: &[Row] = &[
+    (
+        "0123456789",
+        &[(0, 7, "a"), (0, 0, "b"), (0, 0, "c"), (7, 10, "d")],
+        "bcad",
+    ),
+    ("0123456789", &[(11, 11, "x")], "0123456789x"),
+    ("0123456789", &[(0, 11, "x")], "x"),
+    (
+        "0123456789",
+        &[(9, 10, "z"), (4, 6, "y"), (1, 2, "x")],
+        "0x23y678z",
+    ),
+    ("0123456789", &[(2, 1, "x")], "Reversed 0"),
+    ("0123456789", &[(3, 10, "x"), (5, 7, "y")], "Overlapping 1"),
+    ("\u{e9}", &[(1, 2, "x")], "MidCharacter 0"),
+    ("0123456789", &[], "0123456789"),
+];
+
 fn text(rt: &impl Abort, alloc: Global, text: &str) -> String {
     String::from_str(alloc, text).expect(rt, "memory")
 }
@@ -44,6 +70,42 @@ fn changes_in_pairs(rt: HostRuntime) {
         let first = change(&rt, rt.alloc(), *start, *end, new);
         let second = change(&rt, rt.alloc(), *other_start, *other_end, other);
         let got = changed(&rt, rt.alloc(), first, second);
+        assert_eq!(rt; got.as_str(), *want);
+    }
+}
+
+// The number of the faulty change.
+fn number_of(error: &TextChangeError) -> usize {
+    match error {
+        TextChangeError::Reversed(number) => *number,
+        TextChangeError::Overlapping(number) => *number,
+        TextChangeError::MidCharacter(number) => *number,
+        TextChangeError::OutOfMemory => 0,
+    }
+}
+
+// The text with the changes, or the fault and the number of the faulty one.
+fn all_changed(
+    rt: &impl Abort,
+    alloc: Global,
+    source: &str,
+    all: &[(usize, usize, &str)],
+) -> String {
+    let mut changes = Vec::new(alloc);
+    for (start, end, new) in all.iter() {
+        let each = change(rt, alloc, *start, *end, new);
+        changes.push(each).expect(rt, "memory");
+    }
+    match apply_text_changes(alloc, source, changes) {
+        Ok(text) => text,
+        Err(error) => format!(in alloc; "{error} {}", number_of(&error)).expect(rt, "memory"),
+    }
+}
+
+#[test]
+fn changes_of_a_text(rt: HostRuntime) {
+    for (source, all, want) in ROWS.iter() {
+        let got = all_changed(&rt, rt.alloc(), source, all);
         assert_eq!(rt; got.as_str(), *want);
     }
 }

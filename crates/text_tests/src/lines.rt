@@ -31,6 +31,15 @@ fn line_at(info: &SourceTextInfo, place: usize) -> &str {
     }
 }
 
+// Where the line of a place ends.
+fn end_at(info: &SourceTextInfo, place: usize) -> usize {
+    if place <= info.text_str().len() {
+        info.line_end(info.line_index(place))
+    } else {
+        0
+    }
+}
+
 // Line and column of a place.
 fn display_at(info: &SourceTextInfo, place: usize) -> (usize, usize) {
     if info.text_str().is_char_boundary(place) {
@@ -48,4 +57,13 @@ fn places_have_lines_and_columns(rt: HostRuntime) {
         assert_eq!(rt; line_at(&info, *place), *line_text);
         assert_eq!(rt; display_at(&info, *place), (*line, *column));
     }
+}
+
+#[test]
+fn lines_end_before_their_line_ends(rt: HostRuntime) {
+    let info = info(&rt, rt.alloc(), "a\r\nb\n");
+    assert_eq!(rt;
+        (end_at(&info, 0), end_at(&info, 3), end_at(&info, 5)),
+        (1, 4, 5)
+    );
 }

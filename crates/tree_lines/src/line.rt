@@ -2,7 +2,7 @@
 
 use es_lexer::{LexError, lex_tokens};
 use es_whole_program::read_program;
-use es_whole_reader::Tree;
+use es_whole_tree::Tree;
 use es_token::Token;
 use es_tree::{Lang, Mode, SyntaxError};
 use std::alloc::{AllocError, Global};

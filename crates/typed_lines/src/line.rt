@@ -4,7 +4,7 @@ use es_lexer::{LexError, lex_tokens};
 use es_token::Token;
 use es_tree::{Lang, Mode, SyntaxError};
 use es_whole_program::read_program;
-use es_whole_reader::Tree;
+use es_whole_tree::Tree;
 use std::alloc::{AllocError, Global};
 
 /// The nodes of the text behind its mode, or why it has no tree.
@@ -18,22 +18,35 @@ pub fn line_of(alloc: Global, text: &str) -> Result<String, AllocError> {
     }
 }
 
+/// The nodes of the text as a module, if it has a tree.
+pub fn module_line(alloc: Global, text: &str) -> Result<Option<String>, AllocError> {
+    match lex_tokens(alloc, text) {
+        Ok(lexed) => nodes_of(alloc, Mode::Module, lexed.tokens.as_slice()),
+        Err(LexError::Lexical(_)) => Ok(None),
+        Err(LexError::OutOfMemory) => Err(AllocError),
+    }
+}
+
 fn program_line(alloc: Global, mode: Mode, text: &str) -> Result<String, AllocError> {
     match lex_tokens(alloc, text) {
-        Ok(lexed) => tokens_line(alloc, mode, lexed.tokens.as_slice()),
+        Ok(lexed) => match nodes_of(alloc, mode, lexed.tokens.as_slice())? {
+            Some(line) => Ok(line),
+            None => format!(in alloc; "Syntax"),
+        },
         Err(LexError::Lexical(error)) => format!(in alloc; "{error}"),
         Err(LexError::OutOfMemory) => Err(AllocError),
     }
 }
 
-fn tokens_line(alloc: Global, mode: Mode, tokens: &[Token]) -> Result<String, AllocError> {
+/// The nodes of the tree of the tokens, if they have one.
+fn nodes_of(alloc: Global, mode: Mode, tokens: &[Token]) -> Result<Option<String>, AllocError> {
     let mut line = String::new(alloc);
     match read_program(alloc, Lang::Typescript, mode, tokens) {
         Ok(tree) => push_tree(alloc, &mut line, &tree)?,
-        Err(SyntaxError::Syntax { token: _ }) => line.push_str("Syntax")?,
+        Err(SyntaxError::Syntax { token: _ }) => return Ok(None),
         Err(SyntaxError::OutOfMemory) => return Err(AllocError),
     }
-    Ok(line)
+    Ok(Some(line))
 }
 
 /// A node that takes a token: its first one and the one behind its last, before the nodes in it.

@@ -1,5 +1,5 @@
 use Rattle.std.proofs.lemmas.Result.{err_from_is_err_and}
-use Rattle.es_whole_reader.specs.Slim.{tree_of}
+use Rattle.es_whole_tree.specs.Slim.{tree_of}
 use Rattle.es_parser.proofs.CutLemmas.{reads_cut}
 use Rattle.es_parser.proofs.AnswerLemmas.{kept_of, one_made, none_derived, refused, other_form}
 use Rattle.es_parser.proofs.program.parse_tokens.Goals as goal

@@ -1,5 +1,5 @@
 use Rattle.std.proofs.Common.{sym, ap, ◌∙◌, take}
-use Rattle.es_whole_reader.specs.declared.tree.Tree.{out-Tree}
+use Rattle.es_whole_tree.specs.declared.tree.Tree.{out-Tree}
 use Rattle.es_whole_program.specs.Sound.{behind_part, first_in, behind_turns}
 use Rattle.es_whole_program.proofs.ListLemmas.{turns_more}
 use Rattle.es_whole_program.proofs.sound.behind_turns.Goals as goal

@@ -1,5 +1,5 @@
 use Rattle.std.proofs.Common.{◌≡◌, sym, subst}
-use Rattle.es_whole_reader.specs.declared.tree.Tree.TheVariants as vTree
+use Rattle.es_whole_tree.specs.declared.tree.Tree.TheVariants as vTree
 use Rattle.es_dress.specs.Value.{typed}
 use Rattle.es_dress.specs.Dress.{value_of}
 use Rattle.es_dresser.specs.Roles.{IsNoNode}

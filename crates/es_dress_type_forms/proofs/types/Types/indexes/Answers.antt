@@ -4,8 +4,8 @@ use Rattle.es_dress.specs.Value.{group}
 use Rattle.es_dress.specs.Types.{indexes}
 use Rattle.es_dresser.specs.Ring.{parts_in}
 use Rattle.es_dresser.proofs.MadeLemmas.{made_refused, first_less, others_within, no_length}
-use Rattle.es_dress_types.proofs.ArrayLemmas.{closes, index_push, index_stuck, index_done}
-use Rattle.es_dress_types.proofs.types.Types.indexes.Goals as goal
+use Rattle.es_dress_type_forms.proofs.ArrayLemmas.{closes, index_push, index_stuck, index_done}
+use Rattle.es_dress_type_forms.proofs.types.Types.indexes.Goals as goal
 
 -- nothing is dressed yet
 pub indexes-init : goal.indexes-init

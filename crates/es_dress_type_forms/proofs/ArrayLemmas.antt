@@ -6,7 +6,7 @@ use Rattle.base.specs.declared.range.Range.{Range}
 use Rattle.es_token.specs.declared.token.Token.{Token}
 use Rattle.ts_ast.specs.declared.ts.TsType.{TsType}
 use Rattle.ts_ast.specs.declared.ts.TsType.TheVariants as vType
-use Rattle.es_whole_reader.specs.declared.tree.Tree.{Tree}
+use Rattle.es_whole_tree.specs.declared.tree.Tree.{Tree}
 use Rattle.es_dress.specs.Value.{Value, absent, nil, more, token, node, given, part, as_group, group, behind, optional, type_at}
 use Rattle.es_dress.specs.Texts.{end_of, end_before}
 use Rattle.es_dress.specs.Types.{indexed, bracket_end, indexes, array_types}

@@ -1,7 +1,7 @@
 use Rattle.es_whole_grammar.specs.declared.rows.Label.TheVariants as l
 use Rattle.es_dress.specs.Dress.{type_member_of}
-use Rattle.es_dress_types.proofs.LabelLemmas.{other}
-use Rattle.es_dress_types.proofs.types.Types.member.Goals as goal
+use Rattle.es_dress_type_forms.proofs.LabelLemmas.{other}
+use Rattle.es_dress_type_forms.proofs.types.Types.member.Goals as goal
 
 -- no other node is one
 pub returns-in_default : goal.returns-in_default

@@ -2,8 +2,8 @@
 use Rattle.std.specs.Prelude.{List, [], ◌∷◌}
 use Rattle.es_tree.specs.Plain.{Plain, Makes, made}
 use Rattle.es_whole_grammar.specs.declared.rows.Label.{Label}
-use Rattle.es_whole_reader.specs.declared.tree.Tree.{Tree}
-use Rattle.es_whole_reader.specs.declared.tree.Tree.TheVariants.{Leaf, Node, Role, Parts}
+use Rattle.es_whole_tree.specs.declared.tree.Tree.{Tree}
+use Rattle.es_whole_tree.specs.declared.tree.Tree.TheVariants.{Leaf, Node, Role, Parts}
 
 -- what is kept: a tree, or the parts of a node or of a list
 pub data Kept : Type 0 where

@@ -4,8 +4,8 @@ use Rattle.std.specs.Prelude.{Some, None}
 use Rattle.es_dress.specs.Value.{part, element_at}
 use Rattle.es_dresser.specs.Ring.{parts_in}
 use Rattle.es_dresser.proofs.MadeLemmas.{made_refused}
-use Rattle.es_dress_types.proofs.AloneLemmas.{alone}
-use Rattle.es_dress_types.proofs.types.Types.element_at.Goals as goal
+use Rattle.es_dress_type_forms.proofs.AloneLemmas.{alone}
+use Rattle.es_dress_type_forms.proofs.types.Types.element_at.Goals as goal
 
 -- no type alone
 pub returns-in_err-ty : goal.returns-in_err-ty

@@ -4,8 +4,8 @@ use Rattle.es_dress.specs.Value.{part, behind}
 use Rattle.es_dress.specs.Types.{array_types}
 use Rattle.es_dresser.specs.Ring.{IsMade, parts_in}
 use Rattle.es_dresser.proofs.MadeLemmas.{made_refused}
-use Rattle.es_dress_types.proofs.ArrayLemmas.{closes, array_made, no_type, no_index}
-use Rattle.es_dress_types.proofs.types.Types.array_types.Goals as goal
+use Rattle.es_dress_type_forms.proofs.ArrayLemmas.{closes, array_made, no_type, no_index}
+use Rattle.es_dress_type_forms.proofs.types.Types.array_types.Goals as goal
 
 -- no type before the brackets
 pub returns-in_err-ty : goal.returns-in_err-ty

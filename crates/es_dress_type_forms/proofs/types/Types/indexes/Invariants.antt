@@ -2,7 +2,7 @@ use Rattle.std.proofs.Common.{◌≡◌, ◌+◌, length}
 use Rattle.es_dress.specs.Types.{indexes}
 use Rattle.es_dresser.specs.Nodes.{IsWithin}
 use Rattle.es_dresser.specs.Ring.{parts_in}
-use Rattle.es_dress_types.proofs.types.Types.indexes.Given as goal
+use Rattle.es_dress_type_forms.proofs.types.Types.indexes.Given as goal
 
 -- the type so far stands before the brackets that are left
 abbrev pub invariant-indexes : goal.invariant-indexes

@@ -10,7 +10,7 @@ use crate::types::Types;
 use base::{Boxed, Range};
 use es_ast::{Expr, ModuleItem, Pat, Stmt};
 use es_dresser::{DressError, Source, group_in};
-use es_whole_reader::Tree;
+use es_whole_tree::Tree;
 use std::alloc::AllocError;
 use ts_ast::{TsParamPat, TsType};
 

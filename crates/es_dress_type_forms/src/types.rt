@@ -18,7 +18,7 @@ use es_dress_type_parts::{OneType, TypeParts, TypeTurn, marked, turns, turns_beh
 use es_dresser::{DressError, Node, Source, single, some};
 use es_token::TokenKind;
 use es_whole_grammar::Label;
-use es_whole_reader::Tree;
+use es_whole_tree::Tree;
 use ts_ast::{
     Ident, TplElement, TruePlusMinus, TsLit, TsParamPat, TsTupleElement, TsType, TsTypeElement,
     TsTypeOperatorOp,
@@ -76,7 +76,7 @@ impl TypeTurn<TsType> for PieceType {
 
 /// A member of a type in braces.
 #[derive(Clone, Copy)]
-pub(crate) struct MemberTurn;
+pub struct MemberTurn;
 
 impl TypeTurn<TsTypeElement> for MemberTurn {
     ghost value = { λ x ts turn. type_member_at turn 0 };
@@ -751,7 +751,7 @@ impl<
 
     /// The whole tree of the dresser as a type.
     #[tactic(auto, unfolding(es_dress::specs::Dress::build))]
-    pub(crate) fn whole_type(&self) -> Result<TsType, DressError>
+    pub fn whole_type(&self) -> Result<TsType, DressError>
         requires ring { IsRing self.now.0.now.0.now.source self.now.0.now.0.now.whole.now (E.pre self.now.0.now.0.now.expr) (E.post self.now.0.now.0.now.expr)
             (P.pre self.now.0.now.0.now.pat) (P.post self.now.0.now.0.now.pat) (S.pre self.now.0.now.0.now.stmt) (S.post self.now.0.now.0.now.stmt) (I.pre self.now.0.now.0.now.item) (I.post self.now.0.now.0.now.item) }
         requires types { IsTypeRing self.now.0.now.0.now.source self.now.0.now.0.now.whole.now (T.pre self.now.0.now.1) (T.post self.now.0.now.1) (Q.pre self.now.0.now.2) (Q.post self.now.0.now.2) }

@@ -1,7 +1,7 @@
 use Rattle.es_dress.specs.Types.{label_at}
 use Rattle.es_dresser.specs.Ring.{parts_in}
 use Rattle.es_dresser.proofs.MadeLemmas.{optional_none, optional_made}
-use Rattle.es_dress_types.proofs.types.Types.optional_label.Goals as goal
+use Rattle.es_dress_type_forms.proofs.types.Types.optional_label.Goals as goal
 
 pub returns-then-is_absent : goal.returns-then-is_absent
 returns-then-is_absent g c =

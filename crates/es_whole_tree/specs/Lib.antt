@@ -1,0 +1,2 @@
+-- the tree that is kept of a plain tree
+pub mod Slim
