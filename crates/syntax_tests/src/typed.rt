@@ -1,7 +1,7 @@
 //! Texts of TypeScript with their trees and their sites.
 
 use base::Range;
-use es_ast::{Expr, ModuleItem, Program, Stmt};
+use es_ast::{Expr, ModuleItem, Pat, Program, Stmt};
 use es_lexer::lex_tokens;
 use es_parser::parse_tokens;
 use es_tree::{Lang, Mode, SyntaxError};
@@ -281,6 +281,22 @@ fn second_branch_is_the_arrow(rt: HostRuntime) -> Result<(), Fail> {
         return Err("no conditional")?;
     };
     assert!(rt; matches!(cons.get(), Expr::Paren { .. }) && matches!(alt.get(), Expr::Arrow(_)));
+    Ok(())
+}
+
+#[test]
+fn brackets_are_a_pattern_before_an_equal_sign(rt: HostRuntime) -> Result<(), Fail> {
+    let Some(program) = tree_of(rt.alloc(), Lang::Es, "[a] = b;")? else {
+        return Err("no tree")?;
+    };
+    let Expr::Assign { left, .. } = expression(&program)? else {
+        return Err("no assignment")?;
+    };
+    assert!(rt; matches!(left.get(), Pat::Array { .. }));
+    let Some(program) = tree_of(rt.alloc(), Lang::Es, "[a];")? else {
+        return Err("no tree")?;
+    };
+    assert!(rt; matches!(expression(&program)?, Expr::Array { .. }));
     Ok(())
 }
 
