@@ -8,6 +8,10 @@ mod diagnostics;
 #[cfg(test)]
 mod lexing;
 #[cfg(test)]
+mod parsed;
+#[cfg(test)]
+mod programs;
+#[cfg(test)]
 mod references;
 #[cfg(test)]
 mod texts;
