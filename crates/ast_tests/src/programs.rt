@@ -1,4 +1,5 @@
-//! Programs that are lent: their shebang, their items, their span, whether they are scripts, and their leading comments.
+//! Programs that are lent: their shebang, their items, their span, whether they are scripts, and their leading
+//! comments.
 
 use crate::parsed::params;
 use deno_ast::{
