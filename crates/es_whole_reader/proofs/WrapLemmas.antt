@@ -1,15 +1,16 @@
 -- What a loop over the turns behind an operand makes of what the table's reader answers.
 use Rattle.std.specs.Prelude.{List, Result, Ok, Err, true, false}
-use Rattle.std.proofs.Common.{◌≡◌, ◌≢◌, ℕ, zero, suc, ◌-◌, refl, sym, ap, ◌∙◌, subst, arith}
+use Rattle.std.proofs.Common.{◌≡◌, ◌≢◌, ℕ, zero, suc, ◌-◌, length, refl, sym, ap, ◌∙◌, subst, arith}
 use Rattle.es_tree.specs.declared.error.SyntaxError.{SyntaxError}
 use Rattle.es_tree.specs.declared.error.SyntaxError.TheVariants.{OutOfMemory}
 use Rattle.es_tree.specs.Key.{Key}
-use Rattle.es_tree.specs.Form.{Guard}
+use Rattle.es_tree.specs.Form.{Guard, Told, test, Form, Rule, wrap}
 use Rattle.es_tree.specs.Reader.{Out, nothing, gives, and_then, either}
-use Rattle.es_tree.proofs.OutLemmas.{either_true}
+use Rattle.es_tree.proofs.OutLemmas.{either_true, then_gives}
+use Rattle.es_whole_grammar.specs.declared.rows.Row.{Row}
 use Rattle.es_whole_grammar.specs.declared.rows.Label.{Label}
 use Rattle.es_whole_reader.specs.declared.cursor.Measured.{Measured}
-use Rattle.es_whole_reader.specs.Bounded.{Read, makes, node_at, wraps_at}
+use Rattle.es_whole_reader.specs.Bounded.{Read, makes, Below, node_at, wraps_at, form_at, rule_at}
 use Rattle.es_whole_reader.specs.Steps.{single, IsRead}
 
 pub read_refused : (out : Out Read) (r : Result Measured SyntaxError) (y e : SyntaxError) (to : ℕ)
@@ -67,3 +68,16 @@ module _ (K : List Key) (l : Label) (t : Guard) (parts : ℕ → Out Read) (from
   unfolding wraps_at
   wraps_end zero q at e = rw e refl
   wraps_end (suc n) q at e = rw e refl
+
+module _ (K : List Key) (below : Below) (l : Label) (a : Rule Row Label) (c : Told) (f : Form Row) (from at : ℕ) where
+  -- what is behind the operand
+  abbrev behind_at : Read → ℕ → Out Read
+  behind_at q mid = wraps_at K l (test c) (form_at K below f) from (length K) q mid
+
+  -- no turn stands there: the operand alone is read
+  pub wrap_absent : (r : Result Measured SyntaxError) → test c K at ≡ false
+      → IsRead (rule_at K below a from) r at → IsRead (rule_at K below (wrap l a c f) from) r at
+  wrap_absent (Ok x) none operand =
+      then_gives (rule_at K below a from) behind_at (single x) at (gives (single x) at) operand
+      (wraps_end K l (test c) (form_at K below f) from (length K) (single x) at none)
+  wrap_absent (Err e) none operand = λ memory. ap (λ o. and_then o behind_at) (operand memory)

@@ -7,13 +7,13 @@ ghost use Rattle.es_whole_guards.specs.Named.{kinds_of};
 ghost use Rattle.es_whole_reader.specs.Bounded.{row_at, node_at};
 ghost use Rattle.es_whole_reader.specs.Steps.{IsRead, IsRing, group};
 
-use es_whole_tree::Tree;
 use base::Items;
 use es_guards::Tokens;
 use es_token::TokenKind;
 use es_tree::{Lang, SyntaxError};
 use es_whole_grammar::{Label, Row};
 use es_whole_guards::{Kinds, is_kind};
+use es_whole_tree::Tree;
 use std::alloc::{AllocError, Global};
 
 /// The most nodes on a path of a tree: the program's own, and 500 below it.

@@ -12,12 +12,12 @@ ghost use Rattle.es_whole_reader.specs.Steps.{IsRing, IsPart, Adds};
 
 use crate::cursor::{Cursor, Grammar, Input, Measured, Parts, expect, take};
 use crate::told::{Sort, Told};
-use es_whole_tree::Tree;
 use base::Items;
 use es_token::TokenKind;
 use es_tree::SyntaxError;
 use es_whole_grammar::Row;
 use es_whole_guards::{Ahead, Guard, Kinds, holds, sees_ahead};
+use es_whole_tree::Tree;
 
 /// What reads parts of a node.
 pub trait ReadsForm {

@@ -15,11 +15,11 @@ ghost use Rattle.es_whole_reader.specs.Steps.{IsRing, IsRead, single};
 use crate::cursor::{Cursor, Grammar, Input, Measured, Parts, node};
 use crate::forms::ReadsForm;
 use crate::told::Told;
-use es_whole_tree::Tree;
 use base::Boxed;
 use es_tree::{Lang, SyntaxError};
 use es_whole_grammar::{Label, Row};
 use es_whole_guards::{Ahead, Guard, holds, sees_ahead};
+use es_whole_tree::Tree;
 
 /// What reads a rule.
 pub trait ReadsRule {
@@ -59,7 +59,10 @@ fn wrapped<
 }
 
 /// The turns behind an operand that was read from a place on: no more than there are tokens.
-fn wraps<P: ReadsForm, F: Fn(Input<'_>, usize, Row, &mut Cursor) -> Result<Measured, SyntaxError>>(
+pub fn wraps<
+    P: ReadsForm,
+    F: Fn(Input<'_>, usize, Row, &mut Cursor) -> Result<Measured, SyntaxError>,
+>(
     label: Label,
     told: Told,
     turn: &P,
