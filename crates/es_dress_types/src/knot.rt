@@ -5,8 +5,8 @@ ghost use Rattle.es_dress.specs.Dress.{value_of};
 ghost use Rattle.es_dresser.specs.Ring.{IsCut, IsMade, expr_in, item_in, pat_in, stmt_in};
 ghost use Rattle.es_dress_type_parts.specs.Ring.{type_in, type_pat_in};
 
-use es_dress_type_forms::Types;
 use es_ast::{Expr, ModuleItem, Pat, Stmt};
+use es_dress_type_forms::Types;
 use es_dress_type_parts::TypeParts;
 use es_dresser::{DressError, Dresser, Source};
 use es_whole_tree::Tree;

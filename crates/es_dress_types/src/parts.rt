@@ -8,9 +8,9 @@ ghost use Rattle.std.specs.Prelude.{◌<◌, option_map};
 ghost use Rattle.ts_ast.specs.declared.ts.TsPart.TheVariants as vPart;
 
 use crate::knot::{dress_type, dress_type_pat};
-use es_dress_type_forms::MemberTurn;
 use base::{Boxed, Items};
 use es_ast::{Expr, ModuleItem, Pat, Stmt};
+use es_dress_type_forms::MemberTurn;
 use es_dress_type_parts::{TypeParts, turns};
 use es_dresser::{DressError, Dresser, Source, Turn, single, turns_behind};
 use es_whole_tree::Tree;

@@ -10,8 +10,8 @@ ghost use Rattle.es_derives.specs.Derives.{program_in};
 use base::Boxed;
 use es_ast::{Expr, ModuleItem, Pat, Program, Stmt};
 use es_dress_declarations::Declarations;
-use es_dress_patterns::Patterns;
 use es_dress_modules::Modules;
+use es_dress_patterns::Patterns;
 use es_dresser::{DressError, Dresser, Node, Source};
 use es_whole_tree::Tree;
 
