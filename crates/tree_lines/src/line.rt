@@ -1,10 +1,10 @@
 //! What the plain tree of one text is, in a line.
 
 use es_lexer::{LexError, lex_tokens};
-use es_whole_program::read_program;
-use es_whole_tree::Tree;
 use es_token::Token;
 use es_tree::{Lang, Mode, SyntaxError};
+use es_whole_program::read_program;
+use es_whole_tree::Tree;
 use std::alloc::{AllocError, Global};
 
 /// The tree of a text behind its mode, or why it has none.
