@@ -10,157 +10,157 @@ pub struct Seen {
     pub span: Range,
 }
 
-pub fn seen(kind: &'static str, span: Range) -> Seen {
+pub fn told(kind: &'static str, span: Range) -> Seen {
     Seen { kind, span }
 }
 
 /// An import or an export.
 pub fn module_decl(it: &ModuleDecl) -> Seen {
     match it {
-        ModuleDecl::Import(it) => seen("Import", it.span),
-        ModuleDecl::ExportDecl { span, .. } => seen("ExportDecl", *span),
-        ModuleDecl::ExportNamed(it) => seen("ExportNamed", it.span),
-        ModuleDecl::ExportDefaultDecl { span, .. } => seen("ExportDefaultDecl", *span),
-        ModuleDecl::ExportDefaultExpr { span, .. } => seen("ExportDefaultExpr", *span),
-        ModuleDecl::ExportAll(it) => seen("ExportAll", it.span),
-        ModuleDecl::TsImportEquals(it) => seen("TsImportEquals", it.span),
-        ModuleDecl::TsExportAssignment { span, .. } => seen("TsExportAssignment", *span),
-        ModuleDecl::TsNamespaceExport(it) => seen("TsNamespaceExport", it.span),
+        ModuleDecl::Import(it) => told("Import", it.span),
+        ModuleDecl::ExportDecl { span, .. } => told("ExportDecl", *span),
+        ModuleDecl::ExportNamed(it) => told("ExportNamed", it.span),
+        ModuleDecl::ExportDefaultDecl { span, .. } => told("ExportDefaultDecl", *span),
+        ModuleDecl::ExportDefaultExpr { span, .. } => told("ExportDefaultExpr", *span),
+        ModuleDecl::ExportAll(it) => told("ExportAll", it.span),
+        ModuleDecl::TsImportEquals(it) => told("TsImportEquals", it.span),
+        ModuleDecl::TsExportAssignment { span, .. } => told("TsExportAssignment", *span),
+        ModuleDecl::TsNamespaceExport(it) => told("TsNamespaceExport", it.span),
     }
 }
 
 /// A statement, or the declaration that it is.
 pub fn statement(it: &Stmt) -> Seen {
     match it {
-        Stmt::Block { span, .. } => seen("Block", *span),
-        Stmt::Empty(span) => seen("Empty", *span),
-        Stmt::Debugger(span) => seen("Debugger", *span),
-        Stmt::With { span, .. } => seen("With", *span),
-        Stmt::Return { span, .. } => seen("Return", *span),
-        Stmt::Labeled { span, .. } => seen("Labeled", *span),
-        Stmt::Break { span, .. } => seen("Break", *span),
-        Stmt::Continue { span, .. } => seen("Continue", *span),
-        Stmt::If { span, .. } => seen("If", *span),
-        Stmt::Switch { span, .. } => seen("Switch", *span),
-        Stmt::Throw { span, .. } => seen("Throw", *span),
-        Stmt::Try { span, .. } => seen("Try", *span),
-        Stmt::While { span, .. } => seen("While", *span),
-        Stmt::DoWhile { span, .. } => seen("DoWhile", *span),
-        Stmt::For { span, .. } => seen("For", *span),
-        Stmt::ForIn { span, .. } => seen("ForIn", *span),
-        Stmt::ForOf { span, .. } => seen("ForOf", *span),
+        Stmt::Block { span, .. } => told("Block", *span),
+        Stmt::Empty(span) => told("Empty", *span),
+        Stmt::Debugger(span) => told("Debugger", *span),
+        Stmt::With { span, .. } => told("With", *span),
+        Stmt::Return { span, .. } => told("Return", *span),
+        Stmt::Labeled { span, .. } => told("Labeled", *span),
+        Stmt::Break { span, .. } => told("Break", *span),
+        Stmt::Continue { span, .. } => told("Continue", *span),
+        Stmt::If { span, .. } => told("If", *span),
+        Stmt::Switch { span, .. } => told("Switch", *span),
+        Stmt::Throw { span, .. } => told("Throw", *span),
+        Stmt::Try { span, .. } => told("Try", *span),
+        Stmt::While { span, .. } => told("While", *span),
+        Stmt::DoWhile { span, .. } => told("DoWhile", *span),
+        Stmt::For { span, .. } => told("For", *span),
+        Stmt::ForIn { span, .. } => told("ForIn", *span),
+        Stmt::ForOf { span, .. } => told("ForOf", *span),
         Stmt::Decl(it) => declaration(it.get()),
-        Stmt::Expr { span, .. } => seen("Expr", *span),
+        Stmt::Expr { span, .. } => told("Expr", *span),
     }
 }
 
 /// A declaration.
 pub fn declaration(it: &Decl) -> Seen {
     match it {
-        Decl::Class { span, .. } => seen("Class", *span),
-        Decl::Fn { span, .. } => seen("Fn", *span),
-        Decl::Var { span, .. } => seen("Var", *span),
-        Decl::TsInterface { span, .. } => seen("TsInterface", *span),
-        Decl::TsTypeAlias { span, .. } => seen("TsTypeAlias", *span),
-        Decl::TsEnum { span, .. } => seen("TsEnum", *span),
-        Decl::TsNamespace { span, .. } => seen("TsNamespace", *span),
-        Decl::TsModule { span, .. } => seen("TsModule", *span),
-        Decl::TsGlobal { span, .. } => seen("TsGlobal", *span),
+        Decl::Class { span, .. } => told("Class", *span),
+        Decl::Fn { span, .. } => told("Fn", *span),
+        Decl::Var { span, .. } => told("Var", *span),
+        Decl::TsInterface { span, .. } => told("TsInterface", *span),
+        Decl::TsTypeAlias { span, .. } => told("TsTypeAlias", *span),
+        Decl::TsEnum { span, .. } => told("TsEnum", *span),
+        Decl::TsNamespace { span, .. } => told("TsNamespace", *span),
+        Decl::TsModule { span, .. } => told("TsModule", *span),
+        Decl::TsGlobal { span, .. } => told("TsGlobal", *span),
     }
 }
 
 /// An expression, or the literal that it is.
 pub fn expression(it: &Expr) -> Seen {
     match it {
-        Expr::This(span) => seen("This", *span),
-        Expr::Super(span) => seen("Super", *span),
-        Expr::Ident(it) => seen("Ident", it.span),
-        Expr::PrivateName(it) => seen("PrivateName", it.span),
+        Expr::This(span) => told("This", *span),
+        Expr::Super(span) => told("Super", *span),
+        Expr::Ident(it) => told("Ident", it.span),
+        Expr::PrivateName(it) => told("PrivateName", it.span),
         Expr::Lit(it) => literal(it),
-        Expr::Hole(span) => seen("Hole", *span),
-        Expr::Array { span, .. } => seen("Array", *span),
-        Expr::Spread { span, .. } => seen("Spread", *span),
-        Expr::Object { span, .. } => seen("Object", *span),
-        Expr::Fn(it) => seen("Fn", it.get().span),
-        Expr::Class(it) => seen("Class", it.get().span),
-        Expr::Arrow(it) => seen("Arrow", it.get().span),
-        Expr::Paren { span, .. } => seen("Paren", *span),
-        Expr::Unary { span, .. } => seen("Unary", *span),
-        Expr::Update { span, .. } => seen("Update", *span),
-        Expr::Await { span, .. } => seen("Await", *span),
-        Expr::Yield { span, .. } => seen("Yield", *span),
-        Expr::Bin { span, .. } => seen("Bin", *span),
-        Expr::Assign { span, .. } => seen("Assign", *span),
-        Expr::Cond { span, .. } => seen("Cond", *span),
-        Expr::Seq { span, .. } => seen("Seq", *span),
-        Expr::Member { span, .. } => seen("Member", *span),
-        Expr::Index { span, .. } => seen("Index", *span),
-        Expr::Call { span, .. } => seen("Call", *span),
-        Expr::New { span, .. } => seen("New", *span),
-        Expr::ImportCall { span, .. } => seen("ImportCall", *span),
-        Expr::ImportMeta(span) => seen("ImportMeta", *span),
-        Expr::NewTarget(span) => seen("NewTarget", *span),
-        Expr::Tpl { span, .. } => seen("Tpl", *span),
-        Expr::TaggedTpl { span, .. } => seen("TaggedTpl", *span),
-        Expr::TsNonNull { span, .. } => seen("TsNonNull", *span),
-        Expr::TsAs { span, .. } => seen("TsAs", *span),
-        Expr::TsConstAssertion { span, .. } => seen("TsConstAssertion", *span),
-        Expr::TsSatisfies { span, .. } => seen("TsSatisfies", *span),
+        Expr::Hole(span) => told("Hole", *span),
+        Expr::Array { span, .. } => told("Array", *span),
+        Expr::Spread { span, .. } => told("Spread", *span),
+        Expr::Object { span, .. } => told("Object", *span),
+        Expr::Fn(it) => told("Fn", it.get().span),
+        Expr::Class(it) => told("Class", it.get().span),
+        Expr::Arrow(it) => told("Arrow", it.get().span),
+        Expr::Paren { span, .. } => told("Paren", *span),
+        Expr::Unary { span, .. } => told("Unary", *span),
+        Expr::Update { span, .. } => told("Update", *span),
+        Expr::Await { span, .. } => told("Await", *span),
+        Expr::Yield { span, .. } => told("Yield", *span),
+        Expr::Bin { span, .. } => told("Bin", *span),
+        Expr::Assign { span, .. } => told("Assign", *span),
+        Expr::Cond { span, .. } => told("Cond", *span),
+        Expr::Seq { span, .. } => told("Seq", *span),
+        Expr::Member { span, .. } => told("Member", *span),
+        Expr::Index { span, .. } => told("Index", *span),
+        Expr::Call { span, .. } => told("Call", *span),
+        Expr::New { span, .. } => told("New", *span),
+        Expr::ImportCall { span, .. } => told("ImportCall", *span),
+        Expr::ImportMeta(span) => told("ImportMeta", *span),
+        Expr::NewTarget(span) => told("NewTarget", *span),
+        Expr::Tpl { span, .. } => told("Tpl", *span),
+        Expr::TaggedTpl { span, .. } => told("TaggedTpl", *span),
+        Expr::TsNonNull { span, .. } => told("TsNonNull", *span),
+        Expr::TsAs { span, .. } => told("TsAs", *span),
+        Expr::TsConstAssertion { span, .. } => told("TsConstAssertion", *span),
+        Expr::TsSatisfies { span, .. } => told("TsSatisfies", *span),
     }
 }
 
 /// A literal.
 pub fn literal(it: &Lit) -> Seen {
     match it {
-        Lit::Null(span) => seen("Null", *span),
-        Lit::Bool { span, .. } => seen("Bool", *span),
-        Lit::Num(it) => seen("Num", it.span),
-        Lit::BigInt(it) => seen("BigInt", it.span),
-        Lit::Str(it) => seen("Str", it.span),
-        Lit::Regex(it) => seen("Regex", it.span),
+        Lit::Null(span) => told("Null", *span),
+        Lit::Bool { span, .. } => told("Bool", *span),
+        Lit::Num(it) => told("Num", it.span),
+        Lit::BigInt(it) => told("BigInt", it.span),
+        Lit::Str(it) => told("Str", it.span),
+        Lit::Regex(it) => told("Regex", it.span),
     }
 }
 
 /// A pattern. A simple target is told by the range of its expression.
 pub fn pattern(it: &Pat) -> Seen {
     match it {
-        Pat::Ident { span, .. } => seen("Ident", *span),
-        Pat::This { span, .. } => seen("This", *span),
-        Pat::Hole(span) => seen("Hole", *span),
-        Pat::Array { span, .. } => seen("Array", *span),
-        Pat::Object { span, .. } => seen("Object", *span),
-        Pat::Rest { span, .. } => seen("Rest", *span),
-        Pat::Assign { span, .. } => seen("Assign", *span),
-        Pat::Expr(it) => seen("Expr", expression(it.get()).span),
+        Pat::Ident { span, .. } => told("Ident", *span),
+        Pat::This { span, .. } => told("This", *span),
+        Pat::Hole(span) => told("Hole", *span),
+        Pat::Array { span, .. } => told("Array", *span),
+        Pat::Object { span, .. } => told("Object", *span),
+        Pat::Rest { span, .. } => told("Rest", *span),
+        Pat::Assign { span, .. } => told("Assign", *span),
+        Pat::Expr(it) => told("Expr", expression(it.get()).span),
     }
 }
 
 /// A property of a pattern.
 pub fn pattern_property(it: &ObjectPatProp) -> Seen {
     match it {
-        ObjectPatProp::KeyValue { span, .. } => seen("KeyValue", *span),
-        ObjectPatProp::Assign { span, .. } => seen("Assign", *span),
-        ObjectPatProp::Rest { span, .. } => seen("Rest", *span),
+        ObjectPatProp::KeyValue { span, .. } => told("KeyValue", *span),
+        ObjectPatProp::Assign { span, .. } => told("Assign", *span),
+        ObjectPatProp::Rest { span, .. } => told("Rest", *span),
     }
 }
 
 /// A property of an object.
 pub fn property(it: &Prop) -> Seen {
     match it {
-        Prop::Spread { span, .. } => seen("Spread", *span),
-        Prop::Shorthand(it) => seen("Shorthand", it.span),
-        Prop::KeyValue { span, .. } => seen("KeyValue", *span),
-        Prop::Method { span, .. } => seen("Method", *span),
+        Prop::Spread { span, .. } => told("Spread", *span),
+        Prop::Shorthand(it) => told("Shorthand", it.span),
+        Prop::KeyValue { span, .. } => told("KeyValue", *span),
+        Prop::Method { span, .. } => told("Method", *span),
     }
 }
 
 /// A member of a class.
 pub fn member(it: &ClassMember) -> Seen {
     match it {
-        ClassMember::Empty(span) => seen("Empty", *span),
-        ClassMember::StaticBlock { span, .. } => seen("StaticBlock", *span),
-        ClassMember::TsIndexSignature { span, .. } => seen("TsIndexSignature", *span),
-        ClassMember::Method { span, .. } => seen("Method", *span),
-        ClassMember::Prop { span, .. } => seen("Prop", *span),
+        ClassMember::Empty(span) => told("Empty", *span),
+        ClassMember::StaticBlock { span, .. } => told("StaticBlock", *span),
+        ClassMember::TsIndexSignature { span, .. } => told("TsIndexSignature", *span),
+        ClassMember::Method { span, .. } => told("Method", *span),
+        ClassMember::Prop { span, .. } => told("Prop", *span),
     }
 }

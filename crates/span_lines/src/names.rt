@@ -1,6 +1,6 @@
 //! What stands in imports and exports, and the small parts of types.
 
-use crate::kinds::{Seen, seen};
+use crate::kinds::{Seen, told};
 use es_ast::{ImportClause, ImportDecl, ImportNames, ModuleDecl, TsModuleRef};
 use ts_ast::{TsKey, TsParamPat, TsPatProp, TsType, TsTypeElement};
 
@@ -8,10 +8,10 @@ use ts_ast::{TsKey, TsParamPat, TsPatProp, TsType, TsTypeElement};
 pub fn in_module_decl(letter: &str, it: &ModuleDecl) -> Option<Seen> {
     match it {
         ModuleDecl::Import(it) => in_import(letter, it),
-        ModuleDecl::ExportNamed(it) => Some(seen("ExportSpecifier", it.specifiers.get(0)?.span)),
+        ModuleDecl::ExportNamed(it) => Some(told("ExportSpecifier", it.specifiers.get(0)?.span)),
         ModuleDecl::TsImportEquals(it) => Some(match &it.module_ref {
-            TsModuleRef::TsEntityName(name) => seen("Entity", name.span),
-            TsModuleRef::TsExternalModuleRef { span, .. } => seen("Require", *span),
+            TsModuleRef::TsEntityName(name) => told("Entity", name.span),
+            TsModuleRef::TsExternalModuleRef { span, .. } => told("Require", *span),
         }),
         _ => None,
     }
@@ -19,20 +19,20 @@ pub fn in_module_decl(letter: &str, it: &ModuleDecl) -> Option<Seen> {
 
 fn in_import(letter: &str, it: &ImportDecl) -> Option<Seen> {
     match letter {
-        "z" => Some(seen("Str", it.src.span)),
-        "w" => Some(seen("ImportAttributes", it.with.as_ref()?.span)),
-        "v" => Some(seen("ImportAttribute", it.with.as_ref()?.items.get(0)?.span)),
+        "z" => Some(told("Str", it.src.span)),
+        "w" => Some(told("ImportAttributes", it.with.as_ref()?.span)),
+        "v" => Some(told("ImportAttribute", it.with.as_ref()?.items.get(0)?.span)),
         _ => in_clause(it.clause.as_ref()?),
     }
 }
 
 fn in_clause(it: &ImportClause) -> Option<Seen> {
     match it {
-        ImportClause::Default(ident) => Some(seen("Ident", ident.span)),
-        ImportClause::Both { span, .. } => Some(seen("Both", *span)),
-        ImportClause::Names(ImportNames::Namespace { span, .. }) => Some(seen("Namespace", *span)),
+        ImportClause::Default(ident) => Some(told("Ident", ident.span)),
+        ImportClause::Both { span, .. } => Some(told("Both", *span)),
+        ImportClause::Names(ImportNames::Namespace { span, .. }) => Some(told("Namespace", *span)),
         ImportClause::Names(ImportNames::Named { specifiers, .. }) => {
-            Some(seen("ImportSpecifier", specifiers.get(0)?.span))
+            Some(told("ImportSpecifier", specifiers.get(0)?.span))
         }
     }
 }
@@ -48,20 +48,20 @@ pub fn type_pattern(letter: &str, it: &TsParamPat) -> Option<Seen> {
 
 fn pattern_kind(it: &TsParamPat) -> Seen {
     match it {
-        TsParamPat::Ident(ident) => seen("Ident", ident.span),
-        TsParamPat::This(span) => seen("This", *span),
-        TsParamPat::Array { span, .. } => seen("Array", *span),
-        TsParamPat::Object { span, .. } => seen("Object", *span),
-        TsParamPat::Rest { span, .. } => seen("Rest", *span),
-        TsParamPat::Hole(span) => seen("Hole", *span),
+        TsParamPat::Ident(ident) => told("Ident", ident.span),
+        TsParamPat::This(span) => told("This", *span),
+        TsParamPat::Array { span, .. } => told("Array", *span),
+        TsParamPat::Object { span, .. } => told("Object", *span),
+        TsParamPat::Rest { span, .. } => told("Rest", *span),
+        TsParamPat::Hole(span) => told("Hole", *span),
     }
 }
 
 fn property_kind(it: &TsPatProp) -> Seen {
     match it {
-        TsPatProp::Rest { span, .. } => seen("Rest", *span),
-        TsPatProp::KeyValue { span, .. } => seen("KeyValue", *span),
-        TsPatProp::Shorthand(ident) => seen("Shorthand", ident.span),
+        TsPatProp::Rest { span, .. } => told("Rest", *span),
+        TsPatProp::KeyValue { span, .. } => told("KeyValue", *span),
+        TsPatProp::Shorthand(ident) => told("Shorthand", ident.span),
     }
 }
 
@@ -73,8 +73,8 @@ pub fn in_reference(letter: &str, it: &TsType) -> Option<Seen> {
             type_params,
             ..
         } => match letter {
-            "T" => Some(seen("TypeArgs", type_params.as_ref()?.span)),
-            _ => Some(seen("Entity", name.span)),
+            "T" => Some(told("TypeArgs", type_params.as_ref()?.span)),
+            _ => Some(told("Entity", name.span)),
         },
         _ => None,
     }
@@ -84,8 +84,8 @@ pub fn in_reference(letter: &str, it: &TsType) -> Option<Seen> {
 pub fn key_of(it: &TsTypeElement) -> Option<Seen> {
     match it {
         TsTypeElement::PropertySignature { key, .. } => match key {
-            TsKey::Ident(ident) => Some(seen("Ident", ident.span)),
-            TsKey::Entity { span, .. } => Some(seen("Entity", *span)),
+            TsKey::Ident(ident) => Some(told("Ident", ident.span)),
+            TsKey::Entity { span, .. } => Some(told("Entity", *span)),
             _ => None,
         },
         _ => None,

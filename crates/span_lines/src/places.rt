@@ -1,8 +1,8 @@
 //! The node of a program that a letter names.
 
 use crate::kinds::{
-    Seen, declaration, expression, member, module_decl, pattern, pattern_property, property, seen,
-    statement,
+    Seen, declaration, expression, member, module_decl, pattern, pattern_property, property,
+    statement, told,
 };
 use crate::names::{in_module_decl, in_reference, key_of, type_pattern};
 use crate::types::{element, type_};
@@ -26,7 +26,7 @@ pub fn place(letter: &str, program: &Program) -> Option<Seen> {
 fn in_statement(letter: &str, stmt: &Stmt) -> Option<Seen> {
     match stmt {
         Stmt::Expr { expr, .. } if letter != "i" => in_expression(letter, expr.get()),
-        Stmt::Switch { cases, .. } if letter == "s" => Some(seen("SwitchCase", cases.get(0)?.span)),
+        Stmt::Switch { cases, .. } if letter == "s" => Some(told("SwitchCase", cases.get(0)?.span)),
         Stmt::Decl(decl) if letter != "i" => in_declaration(letter, decl.get()),
         _ => Some(statement(stmt)),
     }
@@ -38,7 +38,7 @@ fn in_expression(letter: &str, it: &Expr) -> Option<Seen> {
         return Some(unwrapped(it));
     }
     match it {
-        Expr::Tpl { quasis, .. } => Some(seen("TplElement", quasis.get(0)?.span)),
+        Expr::Tpl { quasis, .. } => Some(told("TplElement", quasis.get(0)?.span)),
         Expr::Call { args, .. } => Some(expression(args.get(0)?)),
         Expr::Array { elems, .. } => Some(expression(elems.get(0)?)),
         Expr::Member { obj, .. } => Some(expression(obj.get())),
@@ -71,14 +71,14 @@ fn in_declaration(letter: &str, it: &Decl) -> Option<Seen> {
         Decl::Var { decls, .. } => {
             let first = decls.get(0)?;
             match letter {
-                "d" => Some(seen("Declarator", first.span)),
+                "d" => Some(told("Declarator", first.span)),
                 "k" => first_of_pattern(first.name.get()),
                 _ => Some(pattern(first.name.get())),
             }
         }
         Decl::Fn { function, .. } => in_function(letter, function.get()),
         Decl::Class { class, .. } => in_member(letter, class.get().body.get(0)?),
-        Decl::TsEnum { members, .. } => Some(seen("EnumMember", members.get(0)?.span)),
+        Decl::TsEnum { members, .. } => Some(told("EnumMember", members.get(0)?.span)),
         Decl::TsInterface { extends, body, .. } => match letter {
             "h" => in_part(letter, extends.as_ref()?.get()),
             _ => in_part(letter, body.as_ref()?.get()),
@@ -105,8 +105,8 @@ fn first_of_pattern(it: &Pat) -> Option<Seen> {
 /// The function itself, its first parameter or the pattern of that, the expression of its body, or its result.
 fn in_function(letter: &str, it: &Function) -> Option<Seen> {
     match letter {
-        "u" => Some(seen("Function", it.span)),
-        "f" => Some(seen("Param", it.params.get(0)?.span)),
+        "u" => Some(told("Function", it.span)),
+        "f" => Some(told("Param", it.params.get(0)?.span)),
         "q" => Some(pattern(it.params.get(0)?.pat.get())),
         "r" => in_part(letter, it.return_type.as_ref()?.get()),
         _ => first_of_body(it.body.as_ref()?.get()),
@@ -137,9 +137,9 @@ fn in_member(letter: &str, it: &ClassMember) -> Option<Seen> {
 fn in_part(letter: &str, it: &TsPart) -> Option<Seen> {
     match it {
         TsPart::TypeAnn(it) => in_type(letter, it.get()),
-        TsPart::TypeParams(params) => Some(seen("TypeParam", params.items.get(0)?.span)),
+        TsPart::TypeParams(params) => Some(told("TypeParam", params.items.get(0)?.span)),
         TsPart::TypeArgs(args) => Some(type_(args.items.get(0)?)),
-        TsPart::Heritage(all) => Some(seen("Heritage", all.get(0)?.span)),
+        TsPart::Heritage(all) => Some(told("Heritage", all.get(0)?.span)),
         TsPart::Members(all) => match letter {
             "K" => key_of(all.get(0)?),
             _ => Some(element(all.get(0)?)),
@@ -149,8 +149,8 @@ fn in_part(letter: &str, it: &TsPart) -> Option<Seen> {
 
 fn in_type(letter: &str, it: &TsType) -> Option<Seen> {
     match it {
-        TsType::Fn { params, .. } if letter == "w" => Some(seen("TsParam", params.get(0)?.span)),
-        TsType::Tuple { elems, .. } if letter == "z" => Some(seen(
+        TsType::Fn { params, .. } if letter == "w" => Some(told("TsParam", params.get(0)?.span)),
+        TsType::Tuple { elems, .. } if letter == "z" => Some(told(
             "TupleElement",
             elems.get(0)?.span,
         )),

@@ -1,52 +1,52 @@
 //! The kinds of types and of their members.
 
-use crate::kinds::{Seen, seen};
+use crate::kinds::{Seen, told};
 use ts_ast::{TsLit, TsType, TsTypeElement};
 
 /// A type.
 pub fn type_(it: &TsType) -> Seen {
     match it {
-        TsType::Keyword { span, .. } => seen("Keyword", *span),
-        TsType::This(span) => seen("This", *span),
+        TsType::Keyword { span, .. } => told("Keyword", *span),
+        TsType::This(span) => told("This", *span),
         TsType::Lit(it) => type_literal(it),
-        TsType::Tpl { span, .. } => seen("Tpl", *span),
-        TsType::Ref { span, .. } => seen("Ref", *span),
-        TsType::Query { span, .. } => seen("Query", *span),
-        TsType::Import { span, .. } => seen("Import", *span),
-        TsType::Paren { span, .. } => seen("Paren", *span),
-        TsType::TypeLit { span, .. } => seen("TypeLit", *span),
-        TsType::Tuple { span, .. } => seen("Tuple", *span),
-        TsType::Mapped { span, .. } => seen("Mapped", *span),
-        TsType::Fn { span, .. } => seen("Fn", *span),
-        TsType::Constructor { span, .. } => seen("Constructor", *span),
-        TsType::Conditional { span, .. } => seen("Conditional", *span),
-        TsType::Union { span, .. } => seen("Union", *span),
-        TsType::Intersection { span, .. } => seen("Intersection", *span),
-        TsType::Operator { span, .. } => seen("Operator", *span),
-        TsType::Infer { span, .. } => seen("Infer", *span),
-        TsType::Array { span, .. } => seen("Array", *span),
-        TsType::IndexedAccess { span, .. } => seen("IndexedAccess", *span),
-        TsType::Predicate { span, .. } => seen("Predicate", *span),
+        TsType::Tpl { span, .. } => told("Tpl", *span),
+        TsType::Ref { span, .. } => told("Ref", *span),
+        TsType::Query { span, .. } => told("Query", *span),
+        TsType::Import { span, .. } => told("Import", *span),
+        TsType::Paren { span, .. } => told("Paren", *span),
+        TsType::TypeLit { span, .. } => told("TypeLit", *span),
+        TsType::Tuple { span, .. } => told("Tuple", *span),
+        TsType::Mapped { span, .. } => told("Mapped", *span),
+        TsType::Fn { span, .. } => told("Fn", *span),
+        TsType::Constructor { span, .. } => told("Constructor", *span),
+        TsType::Conditional { span, .. } => told("Conditional", *span),
+        TsType::Union { span, .. } => told("Union", *span),
+        TsType::Intersection { span, .. } => told("Intersection", *span),
+        TsType::Operator { span, .. } => told("Operator", *span),
+        TsType::Infer { span, .. } => told("Infer", *span),
+        TsType::Array { span, .. } => told("Array", *span),
+        TsType::IndexedAccess { span, .. } => told("IndexedAccess", *span),
+        TsType::Predicate { span, .. } => told("Predicate", *span),
     }
 }
 
 /// A literal as a type.
 pub fn type_literal(it: &TsLit) -> Seen {
     match it {
-        TsLit::Bool { span, .. } => seen("Lit", *span),
-        TsLit::Str(it) => seen("Lit", it.span),
-        TsLit::Number { span, .. } => seen("Lit", *span),
-        TsLit::BigInt { span, .. } => seen("Lit", *span),
+        TsLit::Bool { span, .. } => told("Lit", *span),
+        TsLit::Str(it) => told("Lit", it.span),
+        TsLit::Number { span, .. } => told("Lit", *span),
+        TsLit::BigInt { span, .. } => told("Lit", *span),
     }
 }
 
 /// A member of an interface.
 pub fn element(it: &TsTypeElement) -> Seen {
     match it {
-        TsTypeElement::CallSignature { span, .. } => seen("CallSignature", *span),
-        TsTypeElement::ConstructSignature { span, .. } => seen("ConstructSignature", *span),
-        TsTypeElement::IndexSignature { span, .. } => seen("IndexSignature", *span),
-        TsTypeElement::MethodSignature { span, .. } => seen("MethodSignature", *span),
-        TsTypeElement::PropertySignature { span, .. } => seen("PropertySignature", *span),
+        TsTypeElement::CallSignature { span, .. } => told("CallSignature", *span),
+        TsTypeElement::ConstructSignature { span, .. } => told("ConstructSignature", *span),
+        TsTypeElement::IndexSignature { span, .. } => told("IndexSignature", *span),
+        TsTypeElement::MethodSignature { span, .. } => told("MethodSignature", *span),
+        TsTypeElement::PropertySignature { span, .. } => told("PropertySignature", *span),
     }
 }
