@@ -67,7 +67,7 @@ pub fn params(
     text: &str,
     maybe_syntax: Option<Syntax>,
 ) -> Result<ParseParams, AllocError>
-    ensures { IfOk result (λ params. params.scope_analysis ≡ false) }
+    ensures { IfOk result (λ p. p.scope_analysis ≡ false) }
 {
     Ok(ParseParams {
         specifier: specifier(alloc)?,
@@ -151,7 +151,7 @@ enum Call {
 }
 
 /// A call, and what it makes of a module.
-const CALLS: &[(Call, &str)] = &[
+const BY_CALL: &[(Call, &str)] = &[
     (Call::Program, "module 7-15 ./b.ts -"),
     (Call::Module, "module 7-15 ./b.ts -"),
     (Call::Script, "SyntaxError: Syntax"),
@@ -177,7 +177,7 @@ fn parsed_by(alloc: Global, call: Call, params: ParseParams) -> Result<ParsedSou
 fn calls(rt: HostRuntime) {
     let alloc = rt.alloc();
     let (media_type, syntax) = (MediaType::TypeScript, Some(Syntax::Es));
-    for (call, want) in CALLS.iter() {
+    for (call, want) in BY_CALL.iter() {
         let params = params(alloc, media_type, "import \"./b.ts\";", syntax).expect(&rt, "memory");
         let got = told(alloc, parsed_by(alloc, *call, params)).expect(&rt, "memory");
         assert_eq!(rt; got.as_str(), *want, "{call:?}");
