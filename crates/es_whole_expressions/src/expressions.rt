@@ -1,18 +1,21 @@
 //! Assignments and whole expressions.
 
-ghost use Rattle.es_whole_grammar.specs.Expressions.{yield_, assignment, expression, element};
+ghost use Rattle.es_whole_grammar.specs.Expressions.{conditional, yield_, assignment, expression, element};
+ghost use Rattle.es_whole_expressions.specs.Levels.{assignment_over};
 
 use crate::arrows::{AsyncArrow, PlainArrow};
-use crate::operators::Conditional;
+use crate::levels::Operators;
+use crate::operators::Power;
 use crate::primary::Spread;
 use es_token::TokenKind;
 use es_tree::{Lang, SyntaxError};
 use es_whole_grammar::{Context, Label, Row};
+use es_whole_guards::opens_operator;
 use es_whole_reader::Ahead::Is;
-use es_whole_reader::Told::{Guarded, Taken};
+use es_whole_reader::Told::Taken;
 use es_whole_reader::{
-    Ahead, Alt, Choose, Cursor, Done, Grammar, Guard, Input, Kinds, Make, Many, Measured, OfRow,
-    Opt, Pick, Punct, ReadsRule, Sort, Tok, When, Wrap,
+    Ahead, Choose, Cursor, Done, Grammar, Guard, Input, Kinds, Make, Many, Measured, OfRow, Opt,
+    Pick, Punct, ReadsBehind, ReadsRule, Sort, Tok, When, Wrap,
 };
 
 /// 'yield' (~ '*'? Assign)?
@@ -47,6 +50,28 @@ impl ReadsRule for Yield {
             ),
         )
         .read(grammar, cursor)
+    }
+}
+
+/// Cond, or Target AssignOp Assign: an operand, and all levels behind it.
+#[derive(Clone, Copy)]
+pub struct Operated(pub Lang, pub Context);
+
+impl ReadsRule for Operated {
+    ghost rule = { λ s. assignment_over s.1 (conditional s.0 s.1) };
+
+    fn read<F: Fn(Input<'_>, usize, Row, &mut Cursor) -> Result<Measured, SyntaxError>>(
+        &self,
+        grammar: &Grammar<'_, F>,
+        cursor: &mut Cursor,
+    ) -> Result<Measured, SyntaxError> {
+        let from = cursor.at;
+        let operand = Power(self.0, self.1).read(grammar, cursor);
+        let tokens = grammar.input.tokens;
+        if !opens_operator(&tokens, cursor.at) && !tokens.sees(TokenKind::PrivateName, from) {
+            return operand;
+        }
+        Operators(self.0, self.1).read(from, operand, grammar, cursor)
     }
 }
 
@@ -88,29 +113,7 @@ impl ReadsRule for Assignment {
                             Punct(TokenKind::Equal, OfRow(Row::AssignmentRow(self.1), Done)),
                         ),
                     ),
-                    Wrap(
-                        Label::Assignment,
-                        Conditional(self.0, self.1),
-                        Guarded(Guard::OpensAssignment),
-                        Alt(
-                            Is(TokenKind::Greater),
-                            Tok(
-                                Sort::Kind,
-                                Kinds::Only(TokenKind::Greater),
-                                Tok(
-                                    Sort::There,
-                                    Kinds::Only(TokenKind::Greater),
-                                    Opt(
-                                        Guarded(Guard::Joins(TokenKind::Greater)),
-                                        Tok(Sort::There, Kinds::Only(TokenKind::Greater), Done),
-                                        Tok(Sort::There, Kinds::Only(TokenKind::Equal), Done),
-                                    ),
-                                ),
-                            ),
-                            Tok(Sort::Kind, Kinds::Assignment, Done),
-                            OfRow(Row::AssignmentRow(self.1), Done),
-                        ),
-                    ),
+                    Operated(self.0, self.1),
                 ),
             ),
         )

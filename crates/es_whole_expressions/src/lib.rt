@@ -5,6 +5,7 @@ mod arrows;
 mod chains;
 mod expressions;
 mod functions;
+mod levels;
 mod operators;
 mod primary;
 mod typed;
@@ -13,14 +14,14 @@ pub use arrows::{ArrowIn, AsyncArrow, PlainArrow};
 pub use chains::{
     Arguments, Base, Callee, Chain, ImportCall, ImportMeta, MemberPost, OptionalPost, Post,
 };
-pub use expressions::{Assignment, Element, Expression, Yield};
+pub use expressions::{Assignment, Element, Expression, Operated, Yield};
 pub use functions::{
     AbstractClass, AnyClass, AnyFunction, AsyncFunction, BodyIn, Class, ClassForm, Ended, Function,
     NameIn, StarIn,
 };
 pub use operators::{
-    And, Await, Binary, BitAnd, BitOr, BitXor, Coalesce, Conditional, Equality, Level, Power,
-    Prefix, PrivateIn, Product, Relation, Shift, Sum, Unary, Update,
+    And, Await, BitAnd, BitOr, BitXor, Equality, Level, Power, Prefix, PrivateIn, Product,
+    Relation, Shift, Sum, Unary, Update,
 };
 pub use primary::{ArrayLiteral, ObjectLiteral, Primary, Spread, Template};
 pub use typed::{

@@ -1,18 +1,18 @@
 //! Operators, from the tightest to the loosest.
 
-ghost use Rattle.es_whole_grammar.specs.Expressions.{update, prefix, await_, unary, power, level, product, sum, shift, private_in, comparison_in, relation, equality, bit_and, bit_xor, bit_or, and_, coalesce, binary, conditional};
+ghost use Rattle.es_whole_grammar.specs.Expressions.{update, prefix, await_, unary, power, level, product, sum, shift, private_in, comparison_in, relation, equality, bit_and, bit_xor, bit_or, and_};
 ghost use Rattle.es_whole_guards.specs.Named.{kinds_of};
 
 use crate::chains::Chain;
-use crate::typed::{AssertedOr, without_colon};
+use crate::levels::{Arithmetic, Bitwise, Comparing, LevelBehind, Related, Shifted};
 use es_token::TokenKind;
 use es_tree::{Lang, SyntaxError};
 use es_whole_grammar::{Context, Label, Row};
 use es_whole_reader::Ahead::{Has, Is, Other};
 use es_whole_reader::Told::{Guarded, Taken};
 use es_whole_reader::{
-    Ahead, Alt, Choose, Cursor, Done, Grammar, Guard, Input, Kinds, Make, Measured, OfRow, Opt,
-    Parts, Punct, ReadsForm, ReadsRule, Sort, Tok, When, Where, Wrap,
+    Ahead, Alt, Both, Choose, Cursor, Done, Grammar, Guard, Input, Kinds, Make, Measured, OfRow,
+    Opt, Parts, Punct, ReadsBehind, ReadsForm, ReadsRule, Sort, Tok, When, Where, Wrap,
 };
 
 /// ('++' | '--') Unary | Chain (~ ('++' | '--'))?
@@ -218,7 +218,9 @@ impl ReadsRule for Sum {
         grammar: &Grammar<'_, F>,
         cursor: &mut Cursor,
     ) -> Result<Measured, SyntaxError> {
-        Level(Kinds::Sum, Row::ProductRow(self.1), Product(self.0, self.1)).read(grammar, cursor)
+        let from = cursor.at;
+        let operand = Power(self.0, self.1).read(grammar, cursor);
+        Arithmetic(self.1).read(from, operand, grammar, cursor)
     }
 }
 
@@ -235,30 +237,9 @@ impl ReadsRule for Shift {
         grammar: &Grammar<'_, F>,
         cursor: &mut Cursor,
     ) -> Result<Measured, SyntaxError> {
-        Wrap(
-            Label::Binary,
-            Sum(self.0, self.1),
-            Guarded(Guard::OpensShift),
-            Alt(
-                Is(TokenKind::Greater),
-                Tok(
-                    Sort::Kind,
-                    Kinds::Only(TokenKind::Greater),
-                    Tok(
-                        Sort::There,
-                        Kinds::Only(TokenKind::Greater),
-                        Opt(
-                            Guarded(Guard::Joins(TokenKind::Greater)),
-                            Tok(Sort::There, Kinds::Only(TokenKind::Greater), Done),
-                            Done,
-                        ),
-                    ),
-                ),
-                Tok(Sort::Kind, Kinds::Only(TokenKind::LessLess), Done),
-                OfRow(Row::SumRow(self.1), Done),
-            ),
-        )
-        .read(grammar, cursor)
+        let from = cursor.at;
+        let operand = Power(self.0, self.1).read(grammar, cursor);
+        Both(Arithmetic(self.1), Shifted(self.1)).read(from, operand, grammar, cursor)
     }
 }
 
@@ -303,24 +284,13 @@ impl ReadsRule for Relation {
         grammar: &Grammar<'_, F>,
         cursor: &mut Cursor,
     ) -> Result<Measured, SyntaxError> {
-        let operand = Choose(
-            Is(TokenKind::PrivateName),
-            PrivateIn(self.1),
-            Shift(self.0, self.1),
-        );
-        let told = Guarded(Guard::OpensComparison(self.0, self.1));
-        match self.0 {
-            Lang::Es => {
-                Wrap(Label::Binary, operand, told, ComparisonIn(self.1)).read(grammar, cursor)
-            }
-            Lang::Typescript => Wrap(
-                Label::TypedBinary,
-                operand,
-                told,
-                AssertedOr(ComparisonIn(self.1)),
-            )
-            .read(grammar, cursor),
-        }
+        let from = cursor.at;
+        let operand = Power(self.0, self.1).read(grammar, cursor);
+        Both(
+            Both(Arithmetic(self.1), Shifted(self.1)),
+            Related(self.0, self.1),
+        )
+        .read(from, operand, grammar, cursor)
     }
 }
 
@@ -369,12 +339,9 @@ impl ReadsRule for Equality {
         grammar: &Grammar<'_, F>,
         cursor: &mut Cursor,
     ) -> Result<Measured, SyntaxError> {
-        Level(
-            Kinds::Equality,
-            Row::RelationRow(self.1),
-            Relation(self.0, self.1),
-        )
-        .read(grammar, cursor)
+        let from = cursor.at;
+        let operand = Power(self.0, self.1).read(grammar, cursor);
+        Both(Arithmetic(self.1), Comparing(self.0, self.1)).read(from, operand, grammar, cursor)
     }
 }
 
@@ -391,12 +358,13 @@ impl ReadsRule for BitAnd {
         grammar: &Grammar<'_, F>,
         cursor: &mut Cursor,
     ) -> Result<Measured, SyntaxError> {
-        Level(
-            Kinds::Only(TokenKind::Ampersand),
-            Row::EqualityRow(self.1),
-            Equality(self.0, self.1),
+        let from = cursor.at;
+        let operand = Power(self.0, self.1).read(grammar, cursor);
+        Both(
+            Both(Arithmetic(self.1), Comparing(self.0, self.1)),
+            LevelBehind(Kinds::Only(TokenKind::Ampersand), Row::EqualityRow(self.1)),
         )
-        .read(grammar, cursor)
+        .read(from, operand, grammar, cursor)
     }
 }
 
@@ -413,12 +381,16 @@ impl ReadsRule for BitXor {
         grammar: &Grammar<'_, F>,
         cursor: &mut Cursor,
     ) -> Result<Measured, SyntaxError> {
-        Level(
-            Kinds::Only(TokenKind::Caret),
-            Row::BitAndRow(self.1),
-            BitAnd(self.0, self.1),
+        let from = cursor.at;
+        let operand = Power(self.0, self.1).read(grammar, cursor);
+        Both(
+            Both(Arithmetic(self.1), Comparing(self.0, self.1)),
+            Both(
+                LevelBehind(Kinds::Only(TokenKind::Ampersand), Row::EqualityRow(self.1)),
+                LevelBehind(Kinds::Only(TokenKind::Caret), Row::BitAndRow(self.1)),
+            ),
         )
-        .read(grammar, cursor)
+        .read(from, operand, grammar, cursor)
     }
 }
 
@@ -435,12 +407,13 @@ impl ReadsRule for BitOr {
         grammar: &Grammar<'_, F>,
         cursor: &mut Cursor,
     ) -> Result<Measured, SyntaxError> {
-        Level(
-            Kinds::Only(TokenKind::Bar),
-            Row::BitXorRow(self.1),
-            BitXor(self.0, self.1),
+        let from = cursor.at;
+        let operand = Power(self.0, self.1).read(grammar, cursor);
+        Both(
+            Both(Arithmetic(self.1), Comparing(self.0, self.1)),
+            Bitwise(self.1),
         )
-        .read(grammar, cursor)
+        .read(from, operand, grammar, cursor)
     }
 }
 
@@ -461,91 +434,6 @@ impl<A: ReadsRule + Copy> ReadsRule for And<A> {
             Kinds::Only(TokenKind::AmpersandAmpersand),
             Row::BitOrRow(self.0),
             self.1,
-        )
-        .read(grammar, cursor)
-    }
-}
-
-/// BitOr ('??' BitOr)*, which mixes with '||' or '&&' only in brackets.
-#[derive(Clone, Copy)]
-pub struct Coalesce(pub Lang, pub Context);
-
-impl ReadsRule for Coalesce {
-    ghost rule = { λ s. coalesce s.0 s.1 };
-
-    #[tactic(auto, unfolding(es_whole_grammar::specs::Expressions::coalesce))]
-    fn read<F: Fn(Input<'_>, usize, Row, &mut Cursor) -> Result<Measured, SyntaxError>>(
-        &self,
-        grammar: &Grammar<'_, F>,
-        cursor: &mut Cursor,
-    ) -> Result<Measured, SyntaxError> {
-        Wrap(
-            Label::Binary,
-            BitOr(self.0, self.1),
-            Taken(Is(TokenKind::QuestionQuestion)),
-            Tok(
-                Sort::Kind,
-                Kinds::Only(TokenKind::QuestionQuestion),
-                OfRow(Row::BitOrRow(self.1), When(Ahead::NoMix, Done)),
-            ),
-        )
-        .read(grammar, cursor)
-    }
-}
-
-/// Binary, from its loosest level.
-#[derive(Clone, Copy)]
-pub struct Binary(pub Lang, pub Context);
-
-impl ReadsRule for Binary {
-    ghost rule = { λ s. binary s.0 s.1 };
-
-    #[tactic(auto, unfolding(es_whole_grammar::specs::Expressions::binary))]
-    fn read<F: Fn(Input<'_>, usize, Row, &mut Cursor) -> Result<Measured, SyntaxError>>(
-        &self,
-        grammar: &Grammar<'_, F>,
-        cursor: &mut Cursor,
-    ) -> Result<Measured, SyntaxError> {
-        Level(
-            Kinds::Only(TokenKind::BarBar),
-            Row::AndRow(self.1),
-            And(self.1, Coalesce(self.0, self.1)),
-        )
-        .read(grammar, cursor)
-    }
-}
-
-/// Cond: Binary ('?' Assign ':' Assign)?
-#[derive(Clone, Copy)]
-pub struct Conditional(pub Lang, pub Context);
-
-impl ReadsRule for Conditional {
-    ghost rule = { λ s. conditional s.0 s.1 };
-
-    #[tactic(auto, unfolding(es_whole_grammar::specs::Expressions::conditional))]
-    fn read<F: Fn(Input<'_>, usize, Row, &mut Cursor) -> Result<Measured, SyntaxError>>(
-        &self,
-        grammar: &Grammar<'_, F>,
-        cursor: &mut Cursor,
-    ) -> Result<Measured, SyntaxError> {
-        let first = without_colon(self.0, self.1);
-        Wrap(
-            Label::Conditional,
-            Binary(self.0, self.1),
-            Taken(Is(TokenKind::Question)),
-            Punct(
-                TokenKind::Question,
-                OfRow(
-                    Row::AssignmentRow(first),
-                    Punct(
-                        TokenKind::Colon,
-                        OfRow(
-                            Row::AssignmentRow(self.1),
-                            When(Other(TokenKind::Question), Done),
-                        ),
-                    ),
-                ),
-            ),
         )
         .read(grammar, cursor)
     }

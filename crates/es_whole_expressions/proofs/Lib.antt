@@ -1,0 +1,3 @@
+mod OperatorLemmas
+mod Absent
+mod Same

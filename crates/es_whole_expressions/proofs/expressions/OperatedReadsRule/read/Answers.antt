@@ -1,0 +1,34 @@
+use Rattle.es_tree.specs.Key.{keys_of}
+use Rattle.es_whole_reader.specs.Bounded.{row_at}
+use Rattle.std.proofs.Common.{sym}
+use Rattle.es_whole_grammar.specs.Expressions.{power, conditional}
+use Rattle.es_whole_expressions.specs.Levels.{assignment_over, operators_over}
+use Rattle.es_whole_expressions.proofs.Absent.{operators_absent}
+use Rattle.es_whole_expressions.proofs.Same.{conditional_same, read_as}
+use Rattle.es_whole_expressions.proofs.expressions.OperatedReadsRule.read.Goals as goal
+
+-- no operator stands here: the operand alone is read
+pub returns-then-not-sees : goal.returns-then-not-sees
+returns-then-not-sees g c =
+    read_as (keys_of c.args.grammar.now.input.tokens.tokens.now)
+    (row_at c.args.grammar.now.input.lang (keys_of c.args.grammar.now.input.tokens.tokens.now) c.args.grammar.now.room)
+    c.args.cursor.now.at c.read-operand.new.cursor.at c.read-operand.result
+    (operators_over c.args.self.now.0 c.args.self.now.1 (power c.args.self.now.0 c.args.self.now.1))
+    (assignment_over c.args.self.now.1 (conditional c.args.self.now.0 c.args.self.now.1))
+    (conditional_same c.args.self.now.0 c.args.self.now.1)
+    (operators_absent (keys_of c.args.grammar.now.input.tokens.tokens.now)
+    (row_at c.args.grammar.now.input.lang (keys_of c.args.grammar.now.input.tokens.tokens.now) c.args.grammar.now.room)
+    c.args.cursor.now.at c.read-operand.new.cursor.at c.read-operand.result c.args.self.now.0 c.args.self.now.1
+    (power c.args.self.now.0 c.args.self.now.1)
+    (sym c.if-not-opens_operator.ensures) (sym c.if-not-sees.ensures) c.read-operand.ensures)
+
+-- all levels are read behind it
+pub returns : goal.returns
+returns g c =
+    read_as (keys_of c.args.grammar.now.input.tokens.tokens.now)
+    (row_at c.args.grammar.now.input.lang (keys_of c.args.grammar.now.input.tokens.tokens.now) c.args.grammar.now.room)
+    c.args.cursor.now.at c.read.new.cursor.at c.read.result
+    (operators_over c.args.self.now.0 c.args.self.now.1 (power c.args.self.now.0 c.args.self.now.1))
+    (assignment_over c.args.self.now.1 (conditional c.args.self.now.0 c.args.self.now.1))
+    (conditional_same c.args.self.now.0 c.args.self.now.1)
+    (c.read.ensures (power c.args.self.now.0 c.args.self.now.1) c.read-operand.ensures)

@@ -1,0 +1,2 @@
+-- levels of operators, over any operand
+pub mod Levels
