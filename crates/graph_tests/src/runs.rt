@@ -83,6 +83,34 @@ const RUNS: &[(&str, &str)] = &[
     ),
 ];
 
+/// The same, of the forms of sites, and of a form that scripts alone have.
+const FORMS_OF_SITES: &[(&str, &str)] = &[
+    (
+        r#"{"roots":["file:///a.ts"],"modules":[{"specifier":"file:///a.ts","text":"import type { A } from \"./a.ts\";"}]}"#,
+        "0 root file:///a.ts\nfile:///a.ts module TypeScript 32\n  import-type 23-31 \"./a.ts\" - -> file:///a.ts\nentries 1\n",
+    ),
+    (
+        r#"{"roots":["file:///a.ts"],"modules":[{"specifier":"file:///a.ts","text":"import v = require(\"./x.cjs\");"},{"specifier":"file:///x.cjs","text":"with (a) b;"}]}"#,
+        "0 root file:///a.ts\nfile:///a.ts module TypeScript 30\n  import-equals 19-28 \"./x.cjs\" ? -> file:///x.cjs\nfile:///x.cjs module Cjs 11\nentries 2\n",
+    ),
+    (
+        r#"{"roots":["file:///a.ts"],"modules":[{"specifier":"file:///a.ts","text":"import type from \"./a.ts\";"}]}"#,
+        "0 root file:///a.ts\nfile:///a.ts module TypeScript 26\n  import 17-25 \"./a.ts\" - -> file:///a.ts\nentries 1\n",
+    ),
+    (
+        r#"{"roots":["file:///a.ts"],"modules":[{"specifier":"file:///a.ts","text":"f(<T,>(x: T) => import(\"./a.ts\"));"}]}"#,
+        "0 root file:///a.ts\nfile:///a.ts module TypeScript 34\n  dynamic 23-31 \"./a.ts\" - -> file:///a.ts\nentries 1\n",
+    ),
+    (
+        r#"{"roots":["file:///a.ts"],"modules":[{"specifier":"file:///a.ts","text":"import(\"./a.ts\", o);import(x);import(\"./a\" + x);"}]}"#,
+        "0 root file:///a.ts\nfile:///a.ts module TypeScript 48\n  dynamic 7-15 \"./a.ts\" ? -> file:///a.ts\nentries 1\n",
+    ),
+    (
+        r#"{"roots":["file:///a.mjs"],"modules":[{"specifier":"file:///a.mjs","text":"with (a) b;"}]}"#,
+        "0 root file:///a.mjs\nfile:///a.mjs error Parse\nentries 1\n",
+    ),
+];
+
 const MADE: &str =
     r#"0 {"limit":2,"modules":[{"specifier":"file:///m/0.ts","text":"import \"./1.ts\";\nexport const v0 = 0;\n"},{"specifier":"file:///m/1.ts","text":"import(\"./0.ts\");\nexport const v1 = 1;\n"}],"roots":["file:///m/0.ts"]}
 "#;
@@ -157,6 +185,15 @@ fn runs_of_inputs(rt: HostRuntime) {
         assert_eq!(rt; got.as_str(), *want, "{input}");
     }
     assert_eq!(rt; built(&rt, alloc, ROW, 1).as_str(), REPORT);
+}
+
+#[test]
+fn runs_of_each_form_of_site(rt: HostRuntime) {
+    let alloc = rt.alloc();
+    for (input, want) in FORMS_OF_SITES {
+        let got = built(&rt, alloc, input, 65_536);
+        assert_eq!(rt; got.as_str(), *want, "{input}");
+    }
 }
 
 /// What a run with these words says where this much may be written, and how much of the input is left.
