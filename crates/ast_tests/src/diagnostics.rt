@@ -1,8 +1,8 @@
 //! What a diagnostic displays.
 
-use base::{Range, SharedText};
+use base::Range;
 use parse_diagnostic::{LexicalKind, ParseDiagnostic, ParseDiagnosticsError, SyntaxErrorKind};
-use source_text::SourceTextInfo;
+use source_text::{SourceText, SourceTextInfo};
 use std::alloc::Global;
 use std::process::Abort;
 use url::Url;
@@ -23,7 +23,7 @@ fn fault(
     place: usize,
     kind: SyntaxErrorKind,
 ) -> ParseDiagnostic {
-    let text = SharedText::from_str(alloc, text).expect(rt, "memory");
+    let text = SourceText::from_str(alloc, text).expect(rt, "memory");
     let info = SourceTextInfo::new(alloc, text).expect(rt, "memory");
     let specifier = Url::parse(alloc, "file:///a.js").expect(rt, "a URL");
     let range = Range {
@@ -56,4 +56,19 @@ fn several(rt: HostRuntime) {
     let want =
         "SyntaxError: Syntax\n    at file:///a.js:1:1\n\nSyntaxError: Syntax\n    at file:///a.js:1:2";
     assert_eq!(rt; got.as_str(), want);
+}
+
+#[test]
+fn compares(rt: HostRuntime) {
+    let alloc = rt.alloc();
+    let kind = SyntaxErrorKind::Lexical(LexicalKind::InvalidChar);
+    let first = fault(&rt, alloc, "ab", 0, kind);
+    let copy = first.copy().expect(&rt, "memory");
+    assert!(rt; first == copy);
+    let second = fault(&rt, alloc, "ab", 1, kind);
+    assert!(rt; first != second);
+    let stop = fault(&rt, alloc, "ab", 0, SyntaxErrorKind::Syntax);
+    assert!(rt; first != stop);
+    let later = fault(&rt, alloc, "ab", 1, SyntaxErrorKind::Syntax);
+    assert!(rt; stop == later);
 }

@@ -2,9 +2,9 @@
 ghost use Rattle.std.specs.Prelude.{◌≡◌, false, IfOk};
 
 use deno_ast::{
-    Attribute, MediaType, ModuleSpecifier, ParseFault, ParseParams, ParsedSource, SharedText, Site,
+    Attribute, MediaType, ModuleSpecifier, ParseFault, ParseParams, ParsedSource, Site, SourceText,
     Syntax, parse_module, parse_module_with_post_process, parse_program,
-    parse_program_with_post_process, parse_script, parse_script_with_post_process,
+    parse_program_with_post_process, parse_script, parse_script_with_post_process, read_sites,
 };
 use std::alloc::{AllocError, Global};
 
@@ -71,7 +71,7 @@ pub fn params(
 {
     Ok(ParseParams {
         specifier: specifier(alloc)?,
-        text: SharedText::from_str(alloc, text)?,
+        text: SourceText::from_str(alloc, text)?,
         media_type,
         capture_tokens: true,
         scope_analysis: false,
@@ -97,6 +97,15 @@ fn add_site(alloc: Global, line: &mut String, site: &Site) -> Result<(), AllocEr
     line.push_str(told.as_str())
 }
 
+fn line_with(alloc: Global, front: &str, sites: &[Site]) -> Result<String, AllocError> {
+    let mut line = String::from_str(alloc, front)?;
+    for (number, site) in sites.iter().enumerate() {
+        line.push_str(if number == 0 { " " } else { "|" })?;
+        add_site(alloc, &mut line, site)?;
+    }
+    Ok(line)
+}
+
 // The mode of a source and its sites.
 fn line_of(alloc: Global, parsed: &ParsedSource) -> Result<String, AllocError> {
     let mode = if parsed.is_script() {
@@ -104,12 +113,7 @@ fn line_of(alloc: Global, parsed: &ParsedSource) -> Result<String, AllocError> {
     } else {
         "module"
     };
-    let mut line = String::from_str(alloc, mode)?;
-    for (number, site) in parsed.sites(alloc)?.as_slice().iter().enumerate() {
-        line.push_str(if number == 0 { " " } else { "|" })?;
-        add_site(alloc, &mut line, site)?;
-    }
-    Ok(line)
+    line_with(alloc, mode, parsed.sites(alloc)?.as_slice())
 }
 
 fn first_line(text: &str) -> &str {
@@ -119,14 +123,16 @@ fn first_line(text: &str) -> &str {
     }
 }
 
+fn fault_line(alloc: Global, fault: &ParseFault) -> Result<String, AllocError> {
+    let shown = format!(in alloc; "{fault}")?;
+    String::from_str(alloc, first_line(shown.as_str()))
+}
+
 // The same, or what the first line of the fault displays.
 fn told(alloc: Global, parsed: Result<ParsedSource, ParseFault>) -> Result<String, AllocError> {
     match parsed {
         Ok(parsed) => line_of(alloc, &parsed),
-        Err(fault) => {
-            let shown = format!(in alloc; "{fault}")?;
-            String::from_str(alloc, first_line(shown.as_str()))
-        }
+        Err(fault) => fault_line(alloc, &fault),
     }
 }
 
@@ -181,5 +187,43 @@ fn calls(rt: HostRuntime) {
         let params = params(alloc, media_type, "import \"./b.ts\";", syntax).expect(&rt, "memory");
         let got = told(alloc, parsed_by(alloc, *call, params)).expect(&rt, "memory");
         assert_eq!(rt; got.as_str(), *want, "{call:?}");
+    }
+}
+
+/// A media type, a text, and its sites, or its fault.
+const SITES: &[(MediaType, &str, &str)] = &[
+    (
+        MediaType::JavaScript,
+        "import \"./b.ts\";",
+        "sites 7-15 ./b.ts -",
+    ),
+    (
+        MediaType::Mts,
+        "/// <reference path=\"a\" />\nimport \"b\";",
+        "sites 20-23 a ?|34-37 b -",
+    ),
+    (MediaType::JavaScript, "a;", "sites"),
+    (MediaType::Cjs, "import \"a\";", "SyntaxError: Syntax"),
+    (
+        MediaType::JavaScript,
+        "a \"b",
+        "SyntaxError: UnterminatedString",
+    ),
+];
+
+fn told_sites(alloc: Global, media_type: MediaType, text: &str) -> Result<String, AllocError> {
+    let specifier = specifier(alloc)?;
+    let text = SourceText::from_str(alloc, text)?;
+    match read_sites(alloc, &specifier, &text, media_type) {
+        Ok(sites) => line_with(alloc, "sites", sites.as_slice()),
+        Err(fault) => fault_line(alloc, &fault),
+    }
+}
+
+#[test]
+fn sites_alone(rt: HostRuntime) {
+    for (media_type, text, want) in SITES.iter() {
+        let got = told_sites(rt.alloc(), *media_type, text).expect(&rt, "memory");
+        assert_eq!(rt; got.as_str(), *want);
     }
 }

@@ -3,3 +3,4 @@ pub mod FaultLemmas
 pub mod ReferenceLemmas
 pub mod Theorems
 mod ParsedLemmas
+mod SitesLemmas

@@ -10,6 +10,7 @@ pub mod Cuts
 pub mod Parsed
 pub mod Source
 pub mod Refs
+pub mod Spans
 pub mod Lexing
 -- ---- what the functions inside the crate promise each other
 pub mod Kept

@@ -16,7 +16,7 @@ use Rattle.deno_ast.specs.declared.syntax.Syntax.{Syntax}
 use Rattle.deno_ast.specs.declared.syntax.Syntax.TheVariants.{Es, Typescript}
 use Rattle.deno_ast.specs.declared.params.ParseParams.{ParseParams}
 use Rattle.deno_ast.specs.Tree.{language_of}
-use Rattle.deno_ast.specs.Read.{IsRead, IsRefused}
+use Rattle.deno_ast.specs.Read.{IsRead, IsRefused, IsFaulty}
 use Rattle.deno_ast.specs.Parsed.{Parsed}
 
 -- the syntax that a language has
@@ -60,6 +60,10 @@ OfScript P (program.Module m) kept = kept ≡ program.Module m
 abbrev pub IsFault : List Mode → ParseParams → List ℕ → Diagnosis → Type 0
 IsFault modes params text d =
     (d.specifier ≡ serialize params.specifier) × IsRefused (lang_for params) modes text d.kind d.range
+
+-- why a text of this media type at a specifier is no program
+abbrev pub IsFaultAt : List ℕ → MediaType → List ℕ → Diagnosis → Type 0
+IsFaultAt specifier media text d = (d.specifier ≡ specifier) × IsFaulty media text d.kind d.range
 
 -- a refusal is such a fault, unless memory ran out
 abbrev pub Refuses : (Diagnosis → Type 0) → ParseFault → Type 0

@@ -3,6 +3,7 @@
 //! - `parse_program(params)`, `parse_module`, `parse_script`, and their forms with a closure that changes the tree: the
 //!   source of a text (`IsParsed`, `specs/Source.antt`), or the fault for which there is none (`IsFault`). Both ways.
 //! - `ParsedSource`: what a source keeps (`Parsed`, `specs/Parsed.antt`); `sites`: where it names others.
+//! - `read_sites(specifier, text, media_type)`: these alone (`HasSites`, `specs/Read.antt`), or the fault (`IsFaultAt`).
 //! - `lex(source)`: the tokens and comments of a text by their places (`AreByPlace`, `specs/Lexing.antt`).
 //! - For the crates above: a text of a media type has sites (`HasSites`, `specs/Read.antt`), or it is faulty
 //!   (`IsFaulty`), one list or one fault at most, and never both; each site cuts its value (`proofs/Theorems.antt`).
@@ -17,7 +18,9 @@ mod params;
 mod parsing;
 mod program_ref;
 mod reading;
+mod sites;
 mod source;
+mod spans;
 mod syntax;
 mod tree;
 
@@ -29,10 +32,11 @@ pub use crate::parsing::{
     parse_script, parse_script_with_post_process, parse_text,
 };
 pub use crate::program_ref::{Body, ModuleItemRef, ProgramRef};
+pub use crate::sites::read_sites;
 pub use crate::source::ParsedSource;
 pub use crate::syntax::{Syntax, get_syntax};
 pub use crate::tree::tree_of;
-pub use base::{Items, Range, SharedText, Text};
+pub use base::{Items, Range, Text};
 pub use es_comments::{CommentMap, CommentsIter, MultiThreadedComments, SingleThreadedComments};
 pub use es_lexer::{LexError, LexicalError, LexicalKind};
 pub use es_literal::quote;
@@ -41,7 +45,7 @@ pub use es_walk::{Attribute, DependencyKind, Site};
 pub use media_type::MediaType;
 pub use module_text::{strip_bom, without_mark};
 pub use parse_diagnostic::{ParseDiagnostic, ParseDiagnosticsError, ParseFault, SyntaxErrorKind};
-pub use source_text::{LineAndColumnDisplay, SourceTextInfo};
+pub use source_text::{LineAndColumnDisplay, SourceText, SourceTextInfo};
 pub use text_changes::{TextChange, TextChangeError, apply_text_changes};
 pub use url::Url as ModuleSpecifier;
 

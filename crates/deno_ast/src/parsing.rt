@@ -30,7 +30,7 @@ pub fn parse_program(alloc: Global, params: ParseParams) -> Result<ParsedSource,
         (IsFault (tree.modes_of params.media_type) params (without_mark params.text))) }
 {
     let modes = modes_of(params.media_type);
-    parse_in(alloc, without_bom(alloc, params)?, modes)
+    parse_in(alloc, without_bom(params), modes)
 }
 
 /// The same of a text as it stands, which has no byte order mark.
@@ -49,11 +49,7 @@ pub fn parse_module(alloc: Global, params: ParseParams) -> Result<ParsedSource, 
     ensures parsed { IfOk result (IsParsed (mode.Module ∷ []) params (without_mark params.text)) }
     ensures refused { IfErr result (Refuses (IsFault (mode.Module ∷ []) params (without_mark params.text))) }
 {
-    parse_in(
-        alloc,
-        without_bom(alloc, params)?,
-        Modes::Only(Mode::Module),
-    )
+    parse_in(alloc, without_bom(params), Modes::Only(Mode::Module))
 }
 
 /// The same as `parse_program`, read as a script alone.
@@ -62,11 +58,7 @@ pub fn parse_script(alloc: Global, params: ParseParams) -> Result<ParsedSource, 
     ensures parsed { IfOk result (IsParsed (mode.Script ∷ []) params (without_mark params.text)) }
     ensures refused { IfErr result (Refuses (IsFault (mode.Script ∷ []) params (without_mark params.text))) }
 {
-    parse_in(
-        alloc,
-        without_bom(alloc, params)?,
-        Modes::Only(Mode::Script),
-    )
+    parse_in(alloc, without_bom(params), Modes::Only(Mode::Script))
 }
 
 fn parse_in(alloc: Global, params: ParseParams, modes: Modes) -> Result<ParsedSource, ParseFault>
@@ -91,7 +83,7 @@ pub fn parse_program_with_post_process<F: FnOnce(Program) -> Program>(
         (IsFault (tree.modes_of params.media_type) params (without_mark params.text))) }
 {
     let modes = modes_of(params.media_type);
-    let params = without_bom(alloc, params)?;
+    let params = without_bom(params);
     let Reading {
         program,
         tokens,
@@ -117,7 +109,7 @@ pub fn parse_module_with_post_process<F: FnOnce(Module) -> Module>(
         (mode.Module ∷ []) params (without_mark params.text)) }
     ensures refused { IfErr result (Refuses (IsFault (mode.Module ∷ []) params (without_mark params.text))) }
 {
-    let params = without_bom(alloc, params)?;
+    let params = without_bom(params);
     let mut reading = read_in(alloc, &params, Modes::Only(Mode::Module))?;
     change_module(alloc, &mut reading.program, post_process);
     Ok(source_of(alloc, params, reading)?)
@@ -135,7 +127,7 @@ pub fn parse_script_with_post_process<F: FnOnce(Script) -> Script>(
         (mode.Script ∷ []) params (without_mark params.text)) }
     ensures refused { IfErr result (Refuses (IsFault (mode.Script ∷ []) params (without_mark params.text))) }
 {
-    let params = without_bom(alloc, params)?;
+    let params = without_bom(params);
     let mut reading = read_in(alloc, &params, Modes::Only(Mode::Script))?;
     change_script(alloc, &mut reading.program, post_process);
     Ok(source_of(alloc, params, reading)?)

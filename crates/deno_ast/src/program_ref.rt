@@ -2,8 +2,10 @@
 ghost use Rattle.std.specs.Prelude.{◌≡◌, None, Some, IfOk, MatchOption};
 ghost use Rattle.es_ast.specs.declared.ast.ModuleDecl.{out-ModuleDecl};
 ghost use Rattle.deno_ast.specs.Refs as spec;
+ghost use Rattle.deno_ast.specs.Spans as spans;
 ghost use Rattle.deno_ast.specs.Refs.{tree_of, IsModule, IsScript};
 
+use crate::spans::{module_decl_span, stmt_span};
 use base::Range;
 use es_ast::{Module, ModuleDecl, ModuleItem, Program, Script, Stmt};
 use es_copy::ProgramCopy;
@@ -148,6 +150,18 @@ fn told_by_decl(decl: &ModuleDecl) -> Option<bool>
 pub enum ModuleItemRef<'a> {
     ModuleDecl(&'a ModuleDecl),
     Stmt(&'a Stmt),
+}
+
+impl ModuleItemRef<'_> {
+    /// The range of bytes of the text that the item was read from.
+    pub fn span(self) -> Range
+        ensures { result ≡ spans.span_of_item self.entry }
+    {
+        match self {
+            ModuleItemRef::ModuleDecl(decl) => module_decl_span(decl),
+            ModuleItemRef::Stmt(stmt) => stmt_span(stmt),
+        }
+    }
 }
 
 impl<'a> From<&'a ModuleItem> for ModuleItemRef<'a> {

@@ -9,14 +9,14 @@ ghost use Rattle.deno_ast.specs.Steps.{parsed_of, captured as kept};
 use crate::params::ParseParams;
 use crate::program_ref::ProgramRef;
 use crate::reading::Reading;
-use base::{Items, Range, SharedText};
+use base::{Items, Range};
 use es_ast::Program;
 use es_comments::{MultiThreadedComments, comments_of};
 use es_references::references;
 use es_token::{Comment, Token, TokenKind};
 use es_walk::{Site, sites};
 use media_type::MediaType;
-use source_text::SourceTextInfo;
+use source_text::{SourceText, SourceTextInfo};
 use std::alloc::{AllocError, Global};
 use std::marker::Model;
 use std::sync::Arc;
@@ -33,7 +33,7 @@ pub struct ParsedSource {
 pub struct Source {
     specifier: Url,
     media_type: MediaType,
-    text: SharedText,
+    text: SourceText,
     info: SourceTextInfo,
     program: Arc<Program>,
     references: Items<Site>,
@@ -83,7 +83,7 @@ impl ParsedSource {
     }
 
     /// The text without a byte order mark: places count from its start.
-    pub fn text(&self) -> &SharedText
+    pub fn text(&self) -> &SourceText
         ensures { result.now ≡ self.now.text }
     {
         &self.inner.text
@@ -223,7 +223,8 @@ fn copy_site(site: &Site) -> Result<Site, AllocError>
     })
 }
 
-fn with_sites(found: Items<Site>, more: Items<Site>) -> Result<Items<Site>, AllocError>
+/// The sites, and then more.
+pub fn with_sites(found: Items<Site>, more: Items<Site>) -> Result<Items<Site>, AllocError>
     ensures { IfOk result (λ all. all ≡ found ++ more) }
 {
     let mut all = found;
@@ -264,8 +265,8 @@ pub fn source_of(
     })
 }
 
-// Comments of typed sources alone refer.
-fn references_in(
+/// Comments of typed sources alone refer.
+pub fn references_in(
     alloc: Global,
     media_type: MediaType,
     tokens: &Items<Token>,

@@ -4,8 +4,8 @@ ghost use Rattle.std.specs.Prelude.{◌≡◌, Err, Ok, []};
 ghost use Rattle.graph_entry.specs.declared.resolver.ResolveFault.TheVariants as fault;
 
 use crate::lines::line_of;
-use base::{Items, Range, SharedBytes, SharedText, Text};
-use deno_ast::{ParseParams, parse_program};
+use base::{Items, Range, SharedBytes, Text};
+use deno_ast::{ParseParams, SourceText, parse_program};
 use graph_entry::{
     AnalyzeFault, DefaultResolver, Entry, MediaType, Module, ModuleAnalyzer, ModuleInfo,
     ParseModuleFromAstOptions, ParseModuleOptions, ParserModuleAnalyzer, ResolveFault, Resolver,
@@ -44,7 +44,7 @@ impl ModuleAnalyzer for Blind {
         &self,
         alloc: Global,
         specifier: &Url,
-        text: &SharedText,
+        text: &SourceText,
         media_type: MediaType,
     ) -> Result<ModuleInfo, AnalyzeFault> {
         let _ = specifier;
@@ -113,7 +113,7 @@ fn parts_of_one_module(rt: HostRuntime) {
     let alloc = rt.alloc();
     let media_type = MediaType::TypeScript;
     let specifier = Url::parse(alloc, "file:///a.ts").expect(&rt, "a URL");
-    let text = SharedText::from_str(alloc, "import \"./b.ts\";").expect(&rt, "memory");
+    let text = SourceText::from_str(alloc, "import \"./b.ts\";").expect(&rt, "memory");
     let analysed = ParserModuleAnalyzer.analyze(alloc, &specifier, &text, media_type);
     let info = analysed.expect(&rt, "a source");
     let line = sites_in(alloc, &info).expect(&rt, "memory");

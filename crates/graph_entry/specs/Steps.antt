@@ -1,5 +1,5 @@
 -- What the functions inside the crate promise each other.
-use Rattle.std.specs.Prelude.{◌≡◌, ◌≢◌, ℕ, true, false, List, map, None, Result, Ok, Err}
+use Rattle.std.specs.Prelude.{◌≡◌, ◌≢◌, ℕ, true, List, map, None, Result, Ok, Err}
 use Rattle.url.specs.Parts.{Parts}
 use Rattle.url.specs.Parser.{parse_url}
 use Rattle.graph_entry.specs.Specifier.{text_of}
@@ -10,8 +10,6 @@ use Rattle.graph_entry.specs.declared.entry.Dependency.{Dependency}
 use Rattle.graph_entry.specs.Resolution.{Resolves}
 use Rattle.graph_entry.specs.Wasm.{wasm_dependency}
 use Rattle.graph_entry.specs.declared.analysis.Source.{Source}
-use Rattle.media_type.specs.declared.media_type.MediaType.{MediaType}
-use Rattle.deno_ast.specs.declared.params.ParseParams.{ParseParams}
 
 -- the base is what the specifier's text is read as
 abbrev pub IsReadAgain : Source → Type 0
@@ -22,14 +20,3 @@ abbrev pub GivesEdges : Resolves → List ℕ → List ℕ → Result (List Depe
 GivesEdges resolves s bytes (Ok edges) =
     (deps : Deps) × ReadsModule true bytes (Ok deps) × (edges ≡ map (wasm_dependency resolves s) deps.imports)
 GivesEdges resolves s bytes (Err e) = (e ≢ OutOfMemory) × ReadsModule true bytes (Err e)
-
--- what is to be parsed of a source, its text without a byte order mark
-abbrev pub params_of : Parts → MediaType → List ℕ → ParseParams
-params_of specifier media_type text = record {
-  specifier = specifier;
-  text = text;
-  media_type = media_type;
-  capture_tokens = false;
-  scope_analysis = false;
-  maybe_syntax = None;
-}

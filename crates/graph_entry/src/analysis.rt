@@ -17,11 +17,10 @@ use crate::json::{analyse_json, no_text};
 use crate::resolution::{ReadAgain, read_again, resolve_from};
 use crate::resolver::{DefaultResolver, Resolver};
 use crate::wasm::analyse_wasm;
-use base::{Items, SharedBytes, SharedText};
-use deno_ast::{Site, without_mark};
+use base::{Items, SharedBytes};
+use deno_ast::{Site, SourceText};
 use media_type::{MediaType, ModuleKind};
 use std::alloc::{AllocError, Global};
-use std::str;
 use url::Url;
 
 /// The entry of the specifier, where a loader gave this answer for it.
@@ -117,9 +116,9 @@ pub fn analyse_as<R: Resolver, M: ModuleAnalyzer>(
                 base,
                 media_type,
             };
-            analyse_bytes(alloc, resolver, analyzer, source, bytes.as_slice())
+            analyse_bytes(alloc, resolver, analyzer, source, bytes)
         }
-        Some(ModuleKind::Json) => analyse_json(alloc, bytes.as_slice()),
+        Some(ModuleKind::Json) => Ok(analyse_json(bytes)),
         Some(ModuleKind::Wasm) => analyse_wasm(alloc, resolver, specifier, base, bytes),
     }
 }
@@ -154,14 +153,14 @@ fn analyse_bytes<R: Resolver, M: ModuleAnalyzer>(
     resolver: &R,
     analyzer: &M,
     source: Source<'_>,
-    bytes: &[u8],
+    bytes: SharedBytes,
 ) -> Result<Entry, AllocError>
     requires { IsReadAgain source }
     ensures { IfOk result (OfBytes (ways_by (R.resolving resolver.now) (M.reads analyzer.now))
-        (text_of source.entry.specifier.now) source.entry.media_type bytes.now) }
+        (text_of source.entry.specifier.now) source.entry.media_type bytes) }
 {
-    match str::from_utf8(bytes) {
-        Ok(text) => analyse_text(alloc, resolver, analyzer, source, without_mark(text)),
+    match SourceText::from_utf8(bytes) {
+        Ok(text) => analyse_text(alloc, resolver, analyzer, source, text.without_mark()),
         Err(_) => Ok(no_text()),
     }
 }
@@ -171,13 +170,12 @@ fn analyse_text<R: Resolver, M: ModuleAnalyzer>(
     resolver: &R,
     analyzer: &M,
     source: Source<'_>,
-    text: &str,
+    text: SourceText,
 ) -> Result<Entry, AllocError>
     requires { IsReadAgain source }
     ensures { IfOk result (OfText (ways_by (R.resolving resolver.now) (M.reads analyzer.now))
-        (text_of source.entry.specifier.now) source.entry.media_type text.now) }
+        (text_of source.entry.specifier.now) source.entry.media_type text) }
 {
-    let text = SharedText::from_str(alloc, text)?;
     match analyzer.analyze(alloc, source.specifier, &text, source.media_type) {
         Ok(info) => {
             let module = module_of(alloc, resolver, source, text, info.sites)?;
@@ -192,7 +190,7 @@ fn module_of<R: Resolver>(
     alloc: Global,
     resolver: &R,
     source: Source<'_>,
-    text: SharedText,
+    text: SourceText,
     sites: Items<Site>,
 ) -> Result<JsModule, AllocError>
     requires { IsReadAgain source }
@@ -213,7 +211,7 @@ pub fn module_at<R: Resolver>(
     resolver: &R,
     specifier: &Url,
     media_type: MediaType,
-    text: SharedText,
+    text: SourceText,
     sites: Items<Site>,
 ) -> Result<JsModule, AllocError>
     ensures { IfOk result (λ made. made ≡ spec.js_module (resolve_by (R.resolving resolver.now))

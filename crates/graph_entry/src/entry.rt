@@ -3,9 +3,9 @@ ghost use Rattle.std.specs.Prelude.{◌≡◌};
 ghost use Rattle.graph_entry.specs.Entry.{name_of_error};
 
 use crate::resolution::ResolutionError;
-use base::{Items, Range, SharedBytes, SharedText, Text};
+use base::{Items, Range, SharedBytes, Text};
 use data_specifier::DataError;
-use deno_ast::{Attribute, DependencyKind, ParseDiagnostic};
+use deno_ast::{Attribute, DependencyKind, ParseDiagnostic, SourceText};
 use media_type::MediaType;
 use package_ref::PackageRef;
 use std::fmt;
@@ -37,8 +37,8 @@ pub enum Module {
 #[derive(Debug, Drop)]
 pub struct JsModule {
     pub media_type: MediaType,
-    /// The source without a byte order mark. Places count from its start.
-    pub text: SharedText,
+    /// The source without a byte order mark: a view of the content. Places count from its start.
+    pub text: SourceText,
     /// One for each place where the source names another module, in the order of the text.
     pub dependencies: Items<Dependency>,
 }
@@ -46,8 +46,8 @@ pub struct JsModule {
 /// A module of JSON. Its text isn't read further, and need not be JSON.
 #[derive(Debug, Drop)]
 pub struct JsonModule {
-    /// The content without a byte order mark.
-    pub text: SharedText,
+    /// The content without a byte order mark: a view of it.
+    pub text: SourceText,
 }
 
 /// A module of WebAssembly.

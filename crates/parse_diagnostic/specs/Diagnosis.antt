@@ -1,5 +1,5 @@
 -- What a diagnostic of a source means.
-use Rattle.std.specs.Prelude.{ℕ, List, codes, Option, Some, None}
+use Rattle.std.specs.Prelude.{ℕ, Bool, ◌&&◌, List, [], ◌∷◌, bytes_eq, codes, Option, Some, None}
 use Rattle.base.specs.declared.range.Range.{Range}
 use Rattle.es_lexer.specs.declared.error.LexicalKind.TheVariants.{UnterminatedString, UnterminatedComment, UnterminatedTemplate, UnterminatedRegExp, InvalidEscape, InvalidChar, Unbalanced}
 use Rattle.parse_diagnostic.specs.declared.kind.SyntaxErrorKind.{SyntaxErrorKind}
@@ -30,3 +30,15 @@ name_of_kind (Lexical InvalidEscape) = codes "InvalidEscape"
 name_of_kind (Lexical InvalidChar) = codes "InvalidChar"
 name_of_kind (Lexical Unbalanced) = codes "Unbalanced"
 name_of_kind Syntax = codes "Syntax"
+
+-- ---- two diagnoses are the same: by their specifiers, their kinds, and their places
+
+-- the place of a fault, if it is part of the meaning
+abbrev pub place_of : Option Range → List ℕ
+place_of None = []
+place_of (Some range) = range.start ∷ range.end ∷ []
+
+abbrev pub same : Diagnosis → Diagnosis → Bool
+same a b =
+    bytes_eq a.specifier b.specifier
+    && (bytes_eq (name_of_kind a.kind) (name_of_kind b.kind) && bytes_eq (place_of a.range) (place_of b.range))

@@ -1,1 +1,2 @@
 pub mod Diagnosis
+pub mod SameLaws

@@ -1,9 +1,10 @@
 //! Diagnostics of a text.
-ghost use Rattle.std.specs.Prelude.{◌≡◌, IfOk};
+ghost use Rattle.std.specs.Prelude.{◌≡◌, IfOk, bytes_eq};
 ghost use Rattle.std.specs.Str.{IsCharBoundary};
 ghost use Rattle.url.specs.Parts.{serialize};
 ghost use Rattle.source_text.specs.Lines.{IsDisplay};
-ghost use Rattle.parse_diagnostic.specs.Diagnosis.{told_range, diagnosis};
+ghost use Rattle.parse_diagnostic.specs.Diagnosis.{told_range, diagnosis, place_of, same};
+ghost use Rattle.parse_diagnostic.specs.SameLaws.{same_is_symmetric_and_transitive, same_is_an_equivalence};
 ghost use Rattle.parse_diagnostic.specs.declared.diagnostic.ParseFault.TheVariants.{OutOfMemory};
 
 use crate::kind::SyntaxErrorKind;
@@ -75,6 +76,16 @@ impl ParseDiagnostic {
         self.position
     }
 
+    // The range, where it is part of the meaning.
+    fn place(&self) -> Option<Range>
+        ensures { result ≡ self.now.range }
+    {
+        match self.kind {
+            SyntaxErrorKind::Lexical(_) => Some(self.range),
+            SyntaxErrorKind::Syntax => None,
+        }
+    }
+
     /// The same diagnostic.
     pub fn copy(&self) -> Result<ParseDiagnostic, AllocError>
         ensures { IfOk result (λ copy. copy ≡ self.now) }
@@ -85,6 +96,33 @@ impl ParseDiagnostic {
             kind: self.kind,
             position: self.position,
         })
+    }
+}
+
+/// By the specifier, the kind and, of a lexical fault, the range.
+impl PartialEq for ParseDiagnostic {
+    ghost eq = { same };
+
+    ghost laws = { same_is_symmetric_and_transitive };
+
+    fn eq(&self, other: &ParseDiagnostic) -> bool {
+        self.specifier.as_str() == other.specifier.as_str()
+            && self.kind.name() == other.kind.name()
+            && same_place(self.place(), other.place())
+    }
+}
+
+impl Eq for ParseDiagnostic {
+    ghost laws = { same_is_an_equivalence };
+}
+
+fn same_place(one: Option<Range>, other: Option<Range>) -> bool
+    ensures { result ≡ bytes_eq (place_of one) (place_of other) }
+{
+    match (one, other) {
+        (Some(one), Some(other)) => one.start == other.start && one.end == other.end,
+        (None, None) => true,
+        (Some(_), None) | (None, Some(_)) => false,
     }
 }
 

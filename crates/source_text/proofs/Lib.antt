@@ -1,2 +1,3 @@
 pub mod LinesLemmas
+mod TextLemmas
 pub mod Theorems

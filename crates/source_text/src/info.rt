@@ -6,14 +6,15 @@ ghost use Rattle.source_text.specs.Lines.{IsStart, IsStop, IsEnd, IsLineText, Is
 
 use crate::display::LineAndColumnDisplay;
 use crate::starts::line_starts;
-use base::{Range, SharedText};
+use crate::text::SourceText;
+use base::Range;
 use std::alloc::{AllocError, Global};
 use std::marker::Model;
 
 /// A text, and where its lines start. Contracts see it as its text.
 #[derive(Drop)]
 pub struct SourceTextInfo {
-    text: SharedText,
+    text: SourceText,
     line_starts: Vec<usize>,
 }
 
@@ -30,7 +31,7 @@ impl Model for SourceTextInfo {
 
 impl SourceTextInfo {
     /// Goes over the text once.
-    pub fn new(alloc: Global, text: SharedText) -> Result<SourceTextInfo, AllocError>
+    pub fn new(alloc: Global, text: SourceText) -> Result<SourceTextInfo, AllocError>
         ensures { IfOk result (λ info. info ≡ text) }
     {
         let line_starts = line_starts(alloc, text.as_str())?;

@@ -1,7 +1,9 @@
-//! Tests of changes of a text, and of its lines and columns, by their public calls.
+//! Tests of changes of a text, of its lines and columns, and of texts as views of bytes, by their public calls.
 #![tactic(auto)]
 
 #[cfg(test)]
 mod changes;
 #[cfg(test)]
 mod lines;
+#[cfg(test)]
+mod views;

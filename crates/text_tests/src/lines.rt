@@ -1,7 +1,6 @@
 //! Lines and columns of places.
 
-use base::SharedText;
-use source_text::SourceTextInfo;
+use source_text::{SourceText, SourceTextInfo};
 use std::alloc::Global;
 use std::process::Abort;
 
@@ -18,7 +17,7 @@ const PLACES: &[(&str, usize, &str, usize, usize)] = &[
 ];
 
 fn info(rt: &impl Abort, alloc: Global, text: &str) -> SourceTextInfo {
-    let text = SharedText::from_str(alloc, text).expect(rt, "memory");
+    let text = SourceText::from_str(alloc, text).expect(rt, "memory");
     SourceTextInfo::new(alloc, text).expect(rt, "memory")
 }
 

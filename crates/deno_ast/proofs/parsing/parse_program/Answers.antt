@@ -12,5 +12,5 @@ pub returns-clause-refused : goal.returns-clause-refused
 returns-clause-refused c =
     subst (λ (ms : List Mode). IfErr c.parse_in.result
     (Refuses (IsFault ms c.args.params (without_mark c.args.params.text)))) c.modes_of-modes.ensures
-    (other_text_if (modes_in c.modes_of-modes.result) c.args.params c.in_ok-without_bom.field-0
-    (without_mark c.args.params.text) c.parse_in.result c.in_ok-without_bom.ensures c.parse_in.ensures.refused)
+    (other_text_if (modes_in c.modes_of-modes.result) c.args.params c.without_bom.result
+    (without_mark c.args.params.text) c.parse_in.result c.without_bom.ensures c.parse_in.ensures.refused)

@@ -10,10 +10,10 @@ use Rattle.deno_ast.proofs.parsing.parse_program_with_post_process.Goals as goal
 -- the fault of the text without its mark, in the modes of the media type
 pub returns-in_err-program-clause-refused : goal.returns-in_err-program-clause-refused
 returns-in_err-program-clause-refused g c =
-    let p = err_from_is_err_and c.from_residual-in_err-program.result c.from_residual-in_err-program.ensures.1 in
+    let p = err_from_is_err_and c.from_residual.result c.from_residual.ensures.1 in
     rw (p.1, p.2)
     (subst (λ (ms : List Mode). Refuses (IsFault ms c.args.params (without_mark c.args.params.text))
     c.in_err-program.field-0.0) c.modes_of-modes.ensures
-    (other_text (modes_in c.modes_of-modes.result) c.args.params c.in_ok-params.params
-    (without_mark c.args.params.text) c.in_err-program.field-0.0 c.in_ok-params.ensures
+    (other_text (modes_in c.modes_of-modes.result) c.args.params c.without_bom-params.result
+    (without_mark c.args.params.text) c.in_err-program.field-0.0 c.without_bom-params.ensures
     c.in_err-program.ensures.refused))

@@ -7,5 +7,5 @@ use Rattle.deno_ast.proofs.parsing.parse_script.Goals as goal
 -- the fault of the text without its mark
 pub returns-clause-refused : goal.returns-clause-refused
 returns-clause-refused c =
-    other_text_if (mode.Script ∷ []) c.args.params c.in_ok-without_bom.field-0 (without_mark c.args.params.text)
-    c.parse_in.result c.in_ok-without_bom.ensures c.parse_in.ensures.refused
+    other_text_if (mode.Script ∷ []) c.args.params c.without_bom.result (without_mark c.args.params.text)
+    c.parse_in.result c.without_bom.ensures c.parse_in.ensures.refused

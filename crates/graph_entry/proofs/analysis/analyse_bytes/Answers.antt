@@ -9,9 +9,8 @@ use Rattle.graph_entry.proofs.analysis.analyse_bytes.Goals as goal
 -- what the text makes, less its mark
 pub returns-in-Ok : goal.returns-in-Ok
 returns-in-Ok g c =
-    let read = c.in-Ok.ensures.cases in
-    let same : c.without_mark.result.now ≡ without_mark c.args.bytes.now
-    = c.without_mark.ensures ∙ ap without_mark read.0 in
+    let read = c.in-Ok.ensures in
+    let same : c.without_mark.result ≡ without_mark c.args.bytes = c.without_mark.ensures ∙ ap without_mark read.0 in
     let ways = ways_by (g.R.Resolver.resolving c.args.resolver.now) (g.M.ModuleAnalyzer.reads c.args.analyzer.now) in
     IfOk-weaker c.analyse_text.result _ _
     (λ made is. with_text read.1
