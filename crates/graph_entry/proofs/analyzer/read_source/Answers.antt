@@ -18,4 +18,4 @@ returns-in-Err-Diagnostic c =
     = subst (Refuses (IsFaultAt (serialize c.args.specifier.now) c.args.media_type c.args.text.now))
     c.in-Err-Diagnostic.field-0-is c.in-Err-Diagnostic.ensures.refused in
     no_program fault.kind fault.range is.1
-    (rw c.in-Err-Diagnostic.field-0-is (ap (λ (s : List ℕ). Err (diagnosis_at s fault.kind fault.range)) is.0))
+    (ap (λ (s : List ℕ). Err (diagnosis_at s fault.kind fault.range)) is.0)
