@@ -68,19 +68,24 @@ fn sign_of(item: ModuleItemRef<'_>) -> &'static str {
     }
 }
 
-// The items of a program, of which there are four at most.
+fn add_item(
+    line: &mut String,
+    item: Option<ModuleItemRef<'_>>,
+    none: &str,
+) -> Result<(), AllocError> {
+    match item {
+        Some(item) => line.push_str(sign_of(item)),
+        None => line.push_str(none),
+    }
+}
+
+// The items of a program, of which there are three at most.
 fn add_items(line: &mut String, program: ProgramRef<'_>) -> Result<(), AllocError> {
     let mut body = program.body();
-    let Some(first) = body.next() else {
-        return line.push_str("-");
-    };
-    line.push_str(sign_of(first))?;
-    for _ in 0..4 {
-        if let Some(item) = body.next() {
-            line.push_str(sign_of(item))?;
-        }
-    }
-    Ok(())
+    add_item(line, body.next(), "-")?;
+    add_item(line, body.next(), "")?;
+    add_item(line, body.next(), "")?;
+    add_item(line, body.next(), "")
 }
 
 fn add_comments(line: &mut String, comments: &[Comment]) -> Result<(), AllocError> {
