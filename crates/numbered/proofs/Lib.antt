@@ -1,0 +1,3 @@
+pub mod NumbersLemmas
+pub mod ByTextLemmas
+pub mod OrderLemmas
