@@ -51,7 +51,7 @@ class Pack(unittest.TestCase):
         ]
         for name, _ in rows:
             self.put(name, b"")
-        found = self.specifiers()
+        found = self.specifiers("--all", self.folder, "main.ts")
         for name, path in rows:
             self.assertIn("file:///" + path, found, name)
         self.assertEqual(len(found), len(rows) + 1)
@@ -59,20 +59,81 @@ class Pack(unittest.TestCase):
     def test_content(self):
         for name, data in (("a.ts", "\ufeff/* é */\r\n".encode()), ("b.ts", b"\xff"), ("c.wasm", b"\0asm"), ("D.TS", b"d")):
             self.put(name, data)
-        modules = {module.pop("specifier"): module for module in self.bundle()["modules"]}
+        modules = {module.pop("specifier"): module for module in self.bundle("--all", self.folder, "main.ts")["modules"]}
         self.assertEqual(modules["file:///a.ts"], {"text": "\ufeff/* é */\r\n"})
         self.assertEqual(modules["file:///b.ts"], {"base64": "/w=="})
         self.assertEqual(base64.b64decode(modules["file:///c.wasm"]["base64"]), b"\0asm")
         self.assertEqual(modules["file:///D.TS"], {"text": "d"})
 
     def test_which_files(self):
-        for name in ("a.css", "b.txt", ".hidden.ts", ".git/c.ts", "node_modules/d/d.js", "noending"):
+        for name in ("a.css", "b.txt", ".hidden.ts", ".git/c.ts", "node_modules/d/d.js", "noending", "e.ts"):
             self.put(name, b"")
-        main, css, text, plain = ("file:///" + name for name in ("main.ts", "a.css", "b.txt", "noending"))
+        main, css, text, plain, other = ("file:///" + name for name in ("main.ts", "a.css", "b.txt", "noending", "e.ts"))
         self.assertEqual(self.specifiers(), [main])
-        self.assertEqual(self.specifiers("--also", ".css", self.folder, "main.ts"), [css, main])
-        self.assertEqual(self.specifiers("--also", "css", "--also", ".txt", self.folder, "main.ts"), [css, text, main])
-        self.assertEqual(self.specifiers("--all", self.folder, "main.ts"), [css, text, main, plain])
+        self.assertEqual(self.specifiers("--all", self.folder, "main.ts"), [other, main])
+        self.assertEqual(self.specifiers("--all", "--also", ".css", self.folder, "main.ts"), [css, other, main])
+        self.assertEqual(self.specifiers("--all", "--also", "css", "--also", ".txt", self.folder, "main.ts"), [css, text, other, main])
+        self.assertEqual(self.specifiers("--all", "--also", "*", self.folder, "main.ts"), [css, text, other, main, plain])
+        self.put("main.ts", b"import './a.css'; import './noending'; import './.hidden'")
+        self.assertEqual(self.specifiers(), ["file:///.hidden.ts", main, "file:///.hidden"])
+        self.assertEqual(self.specifiers("--also", ".css", self.folder, "main.ts"), ["file:///.hidden.ts", css, main, "file:///.hidden"])
+
+    def redirects(self, *words):
+        return {module["specifier"].removeprefix("file:///"): module["redirect"].removeprefix("file:///")
+                for module in self.bundle(*words)["modules"] if "redirect" in module}
+
+    def test_only_what_is_reached(self):
+        for name in ("a.ts", "b.ts", "c.ts", "d.d.ts", "e.js", "f.json", "g.wasm", "no.ts", "sub/h.ts", "i.ts", "j.ts", "k.ts"):
+            self.put(name, b"")
+        self.put("main.ts", b"""/// <reference path="./d.d.ts" />
+            import /* x */ './a.ts'; export * from "./b.ts"; import(// y
+             './c.ts'); import e = require('./e.js'); import f from './f.json' with { type: 'json' }; import './g.wasm';
+            import * as h from "./sub/\\x68.ts"; export { i } from'./i.ts'; type J = import('./j.ts').J; require('./no.ts'); let k = './no.ts'""")
+        found = {it.removeprefix("file:///") for it in self.specifiers()}
+        self.assertEqual(found, {"a.ts", "b.ts", "c.ts", "d.d.ts", "e.js", "f.json", "g.wasm", "sub/h.ts", "i.ts", "j.ts", "main.ts"})
+
+    def test_endings(self):
+        for ending in (".ts", ".tsx", ".mts", ".cts", ".d.ts", ".js", ".mjs", ".cjs", ".jsx", ".json"):
+            self.put("of" + ending + "/x" + ending, b"")
+            self.put("in" + ending + "/y/index" + ending, b"")
+            self.put("main.ts", f"import './of{ending}/x'; import './in{ending}/y'; import './in{ending}/y/'".encode())
+            self.assertEqual(self.redirects(), {
+                f"of{ending}/x": f"of{ending}/x{ending}", f"in{ending}/y": f"in{ending}/y/index{ending}",
+                f"in{ending}/y/": f"in{ending}/y/index{ending}"})
+        for name in ("a.ts", "a.js", "b.d.ts", "b.js", "c/index.ts", "c.ts", "d.tsx", "e.mts", "f.cts", "g.jsx.ts", "g.tsx", "h.d.mts", "i/i.ts"):
+            self.put(name, b"")
+        self.put("i/package.json", b'{"main": "./i.js"}')
+        self.put("main.ts", b"import './a'; import './b'; import './c'; import './d.js'; import './e.mjs'; import './f.cjs'; import './g.jsx';"
+                            b"import './h.mjs'; import './a.js'; import './i'; import '/c'; import './none'")
+        wanted = {"a": "a.ts", "b": "b.d.ts", "c": "c.ts", "d.js": "d.tsx", "e.mjs": "e.mts", "f.cjs": "f.cts", "g.jsx": "g.jsx.ts", "h.mjs": "h.d.mts", "i": "i/i.ts"}
+        self.assertEqual(self.redirects(), wanted)
+        self.assertEqual(self.redirects("--kind", "code", self.folder, "main.ts"), {**wanted, "b": "b.js"})
+
+    def test_external(self):
+        self.put("main.ts", b"import 'node:fs'; import 'https://a.test/b.js'; import './gen/x.ts'")
+        external = [module["specifier"] for module in self.bundle("--external", "https://*", "--external", "./gen/*", self.folder, "main.ts")["modules"]
+                    if module.get("external")]
+        self.assertEqual(external, ["file:///gen/x.ts", "https://a.test/b.js", "node:fs"])
+
+    def test_exclude(self):
+        for name in ("a.ts", "dist/b.ts", "src/c.test.ts"):
+            self.put(name, b"")
+        self.put("main.ts", b"import './a.ts'; import './dist/b.ts'; import './src/c.test.ts'")
+        status, out, errors = run("--exclude", "dist", "--exclude", "*.test.ts", self.folder, "main.ts")
+        self.assertEqual(status, 0)
+        self.assertEqual([module["specifier"] for module in json.loads(out)["modules"]], ["file:///a.ts", "file:///main.ts"])
+        self.assertEqual(errors.splitlines(), ["pack: dist/b.ts: left out: excluded", "pack: src/c.test.ts: left out: excluded"])
+
+    def test_output_file(self):
+        place = os.path.join(self.room, "out.json")
+        self.assertEqual(run("-o", place, self.folder, "main.ts")[:2], (0, b""))
+        with open(place, "rb") as file:
+            self.assertEqual(json.load(file)["roots"], ["file:///main.ts"])
+
+    def test_out_of_the_folder(self):
+        self.put("src/a.ts", b"import '../../x.ts'; import '../main.ts'")
+        status, out, errors = run(self.folder, "src/a.ts")
+        self.assertEqual((status, errors), (0, "pack: src/a.ts: ../../x.ts: left out: it leads out of the folder\n"))
 
     def test_roots(self):
         self.put("src/a.ts", b"")
@@ -90,16 +151,18 @@ class Pack(unittest.TestCase):
         self.assert_refused("pack: proj/main.ts: no folder", "proj/main.ts", "a.ts")
         self.assert_refused("pack: /etc/hosts: not below proj", "proj", "/etc/hosts")
         self.assert_refused("pack: src: a folder, and a root is a file", "proj", "src")
-        self.assert_refused("pack: src/a.css: left out of the bundle; --also .css takes such files", "proj", "src/a.css")
-        self.assert_refused("pack: .x/a.ts: left out of the bundle", "proj", ".x/a.ts")
+        self.assertEqual(self.specifiers(self.folder, "src/a.css"), ["file:///src/a.css"])
+        self.assertEqual(self.specifiers(self.folder, ".x/a.ts"), ["file:///.x/a.ts"])
 
     def test_too_large(self):
         self.put("a.wasm", bytes(12_582_912))  # its base64 alone has 16,777,216 bytes
-        status, out, errors = run(self.folder, "main.ts")
+        status, out, errors = run(self.folder, "a.wasm")
         self.assertEqual((status, out), (1, b""))
-        self.assertRegex(errors, r"^pack: too large: 16,777,[0-9]{3} bytes, and the program reads at most 16,777,216\n$")
+        self.assertRegex(errors, r"^pack: too large: 16,777,[0-9]{3} bytes, and the program reads at most 16,777,216; --exclude leaves out; the largest of 1 files:\n +12,582,912  a.wasm\n$")
         self.put("b.wasm", bytes(12_582_912))
-        self.assert_refused("pack: too large: 25,165,824 bytes, and the program reads at most 16,777,216", "proj", "main.ts")
+        self.put("main.ts", b"import './a.wasm'; import './b.wasm'")
+        status, out, errors = run(self.folder, "main.ts")
+        self.assertEqual((status, errors.split("\n")[0]), (1, "pack: too large: 25,165,860 bytes, and the program reads at most 16,777,216; --exclude leaves out; the largest of 3 files:"))
 
     def test_left_out(self):
         os.symlink("nowhere.ts", os.path.join(self.folder, "dangling.ts"))
@@ -109,7 +172,7 @@ class Pack(unittest.TestCase):
             self.put(b"caf\xe9.ts", b"")
         except OSError:
             self.skipTest("this file system has no names that are no UTF-8")
-        status, out, errors = run("proj", "main.ts", cwd=self.room)
+        status, out, errors = run("--all", "proj", "main.ts", cwd=self.room)
         self.assertEqual(status, 0)
         self.assertEqual(errors.splitlines(), [
             "pack: caf\\xe9.ts: left out: its name is no UTF-8", "pack: dangling.ts: left out: a link to nothing",
@@ -120,7 +183,7 @@ class Pack(unittest.TestCase):
         for words in ((), (self.folder,), ("--none", self.folder, "main.ts")):
             status, out, errors = run(*words)
             self.assertEqual((status, out), (64, b""))
-            self.assertTrue(errors.startswith("usage: pack [--also ENDING].. [--all] FOLDER ROOT..\n"))
+            self.assertTrue(errors.startswith("usage: pack [OPTION..] FOLDER ROOT..\n"))
 
     def test_output_that_fails(self):
         for target, line in (("exec >&-;", "pack: standard output was closed"), ("exec >/dev/full;", "pack: standard output: No space left on device")):
@@ -152,7 +215,7 @@ class Pack(unittest.TestCase):
         os.close(theirs)
         told = os.read(ours, 4096).decode()
         os.close(ours)
-        self.assertEqual((done.returncode, told), (0, "\rpack: 1 of 1 files\r\x1b[K"))
+        self.assertEqual((done.returncode, told), (0, "\r\x1b[Kpack: 1 files, 0 bytes\r\x1b[K"))
 
 
 if __name__ == "__main__":

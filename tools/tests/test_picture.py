@@ -1,5 +1,7 @@
 """tools/picture on reports."""
+import json
 import os
+import re
 import subprocess
 import unittest
 import xml.etree.ElementTree as xml
@@ -53,9 +55,12 @@ class Picture(unittest.TestCase):
 
     def test_html(self):
         page = drawn("--html")
-        self.assertIn('<li data-n="4">https://x.test/b.js<br>Missing</li>', page)
+        data = json.loads(re.search(r'<script type="application/json" id="data">(.*)</script>', page)[1])
+        self.assertEqual(data["entries"][4][:5], ["https://x.test/b.js", "https://x.test/", "b.js", "Missing", "error Missing"])
+        self.assertEqual(len(data["edges"]), 6)
+        self.assertEqual([(row[0], row[2]) for row in data["faults"]], [(3, '<"&\u0000')])
         self.assertNotIn("http://", page.replace("http://www.w3.org/2000/svg", ""))
-        self.assertEqual(page.count("<script"), 1)
+        self.assertEqual(page.count("<script"), 2)
         self.assertNotIn(" src=", page)
 
     def test_dot(self):
@@ -63,7 +68,15 @@ class Picture(unittest.TestCase):
         self.assertEqual((lines[0], lines[-1]), ("digraph modules {", "}"))
         self.assertIn('  "file:///src/a.ts" -> "npm:@a/b@1" [color="#3b6ea5", style=dotted, tooltip="import-type"];', lines)
         self.assertEqual(sum("->" in line for line in lines), 6 + 1)
-        self.assertEqual(sum("subgraph" in line for line in lines), 5)
+        self.assertEqual(sum("subgraph" in line for line in lines), 3)
+
+    def test_dot_names_what_is_outside_once(self):
+        report = ("root file:///a/1.ts\nfile:///a/1.ts module TypeScript 1\n  import 0-3 \"x\" - ! ImportPrefixMissing \"x\"\n  import 4-9 \"node:fs\" - -> node:fs\n"
+                  "file:///a/2.ts module TypeScript 1\n  import 0-3 \"x\" - ! ImportPrefixMissing \"x\"\n  import 4-9 \"node:fs\" - -> node:fs\nnode:fs external\nentries 3\n")
+        lines = drawn("--dot", report=report).splitlines()
+        self.assertEqual(sum("ImportPrefixMissing" in line for line in lines), 1)
+        self.assertEqual(sum(line.startswith('  "node:fs" [') for line in lines), 1)
+        self.assertEqual(sum("->" in line for line in lines), 4)
 
     def test_many(self):
         """A tree of 2,000 modules in 40 folders: each row stands on a place of its own."""
@@ -71,10 +84,24 @@ class Picture(unittest.TestCase):
         for i in range(2000):
             lines.append(f"file:///{i % 40}/{i}.ts module TypeScript 1")
             lines += [f'  import 0-1 "x" - -> file:///{j % 40}/{j}.ts' for j in (2 * i + 1, 2 * i + 2) if j < 2000]
-        picture = xml.fromstring(drawn(report="\n".join(lines + ["entries 2000", ""])))
+        report = "\n".join(lines + ["entries 2000", ""])
+        picture = xml.fromstring(drawn("--open", report=report))
         places = [(cell.get("x"), cell.get("y")) for cell in picture.iter(SVG + "rect") if cell.get("class") == "cell"]
         self.assertEqual((len(places), len(set(places))), (2000, 2000))
         self.assertEqual(sum(path.get("data-a") is not None for path in picture.iter(SVG + "path")), 1999)
+        closed = xml.fromstring(drawn(report=report))
+        rows = [group.findall(SVG + "text")[0].text for group in closed.iter(SVG + "g") if (group.get("class") or "").startswith("row closed")]
+        self.assertEqual(rows, ["50 entries"] * 40)
+
+    def test_folders(self):
+        """Folders are opened, the fullest first, until there are some thirty boxes; what stands alone is drawn as it is."""
+        lines = ["root file:///main.ts", "file:///main.ts module TypeScript 1"]
+        lines += [f"file:///src/{'ab'[i % 2]}/{i % 60}/{i}.ts module TypeScript 1" for i in range(300)]
+        closed = xml.fromstring(drawn(report="\n".join(lines + ["entries 301", ""])))
+        names = [text.find(SVG + "title").text for text in closed.iter(SVG + "text") if text.get("class") == "name"]
+        self.assertIn("/", names)
+        self.assertIn("/src/a/", names)
+        self.assertEqual(len(names), 32)
 
     def test_refusals(self):
         rows = [("error Bundle \"/roots\"\n", "picture: the report is 'error Bundle \"/roots\"', which has no graph"), ("", "picture: it is empty"),

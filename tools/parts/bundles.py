@@ -1,0 +1,96 @@
+"""Bundles, as docs/REPORT.md describes them: the texts of their modules, and places in these."""
+import base64
+import binascii
+import json
+from bisect import bisect_right
+from urllib.parse import unquote
+
+from parts import urls
+
+MARK = b"\xef\xbb\xbf"
+
+
+class NoBundle(Exception):
+    """Why the input is no bundle, in one line."""
+
+
+class Bundle:
+    def __init__(self, data):
+        try:
+            value = json.loads(data)
+            modules = value["modules"]
+            self.value = value
+            self.modules = {}
+            for module in modules:
+                self.modules[url_of(module["specifier"])] = module
+        except (ValueError, KeyError, TypeError) as error:
+            raise NoBundle("the bundle can't be read; tools/check-bundle says what is wrong with it") from error
+        self.sources = {}
+
+    def bytes_of(self, specifier):
+        """The bytes that a module has, or None."""
+        module = self.modules.get(specifier, {})
+        if "text" in module:
+            return module["text"].encode("utf-8", "surrogatepass")
+        if "base64" in module:
+            try:
+                return base64.b64decode(module["base64"])
+            except binascii.Error:
+                return None
+        return None
+
+    def source(self, specifier):
+        """The text of a module, as places count it, or None."""
+        if specifier not in self.sources:
+            data = self.bytes_of(specifier)
+            self.sources[specifier] = None if data is None else Source(data)
+        return self.sources[specifier]
+
+
+def url_of(text):
+    try:
+        return urls.url_of(text)
+    except urls.NoUrl:
+        return text
+
+
+class Source:
+    """Bytes as UTF-8 without one byte order mark, and where their lines begin."""
+
+    def __init__(self, data):
+        self.data = data.removeprefix(MARK)
+        self.mark = len(data) - len(self.data)
+        self.starts = None
+
+    def text(self):
+        return self.data.decode("utf-8", "replace")
+
+    def lines(self):
+        if self.starts is None:
+            self.starts = [0]
+            at = 0
+            for line in self.data.splitlines(keepends=True):  # of bytes: at \n, \r and \r\n
+                at += len(line)
+                if line.endswith((b"\n", b"\r")):
+                    self.starts.append(at)
+        return self.starts
+
+    def place(self, at):
+        """The line and the column of a byte, both from 1; a column counts characters."""
+        starts = self.lines()
+        line = bisect_right(starts, at)
+        return line, len(self.data[starts[line - 1]:at].decode("utf-8", "replace")) + 1
+
+    def line(self, number):
+        """The text of a line, from 1."""
+        starts = self.lines()
+        end = starts[number] if number < len(starts) else len(self.data)
+        return self.data[starts[number - 1]:end].decode("utf-8", "replace").rstrip("\r\n")
+
+
+def shown(specifier, front=""):
+    """A specifier as a person reads it: a file's path, or the URL."""
+    if not specifier.startswith("file:///"):
+        return specifier
+    path = unquote(specifier[len("file:///"):], errors="replace")
+    return front + "".join(c if c.isprintable() else repr(c)[1:-1] for c in path)

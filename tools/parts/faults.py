@@ -1,0 +1,149 @@
+"""The faults of a graph, each with its places in the sources and one sentence."""
+import collections
+import json
+
+from parts import places, report
+from parts.bundles import shown
+
+Fault = collections.namedtuple("Fault", "kind specifier start end what")
+Fault.__doc__ = """kind: missing, parse, decode, wasm, loading, redirects, unsupported, data, package, edge, or root.
+specifier: of the module in which it is told. start, end: bytes of its text, or None. what: one sentence."""
+
+# Which of the words of --fail-on a fault counts for, beside any.
+WORDS = {"Missing": "missing", "Parse": "parse", "Decode": "parse", "WasmParse": "parse"}
+OF_ENTRY = {
+    "Missing": "there is no such module in the bundle",
+    "Loading": "the module couldn't be loaded",
+    "TooManyRedirects": "more than ten redirects, or some that never end",
+    "UnsupportedMediaType": "no module is read from content of this media type",
+    "DataUrl": "the data: URL holds nothing",
+    "PackageReference": "this names no package",
+}
+OF_EDGE = {
+    "ImportPrefixMissing": "neither a URL, nor does it begin with /, ./ or ../: it leads nowhere without an import map",
+    "InvalidUrl": "this can't be read as a URL",
+    "InvalidDowngrade": "from https it would lead to http",
+    "InvalidLocalImport": "from the web it would lead to a local file",
+    "InvalidTypeAssertion": "the attribute type doesn't fit what the module is",
+}
+
+
+def word_of(entry):
+    """The word of --fail-on for an entry's fault."""
+    return WORDS.get(entry.fault().split(" ")[0], "other")
+
+
+def of_graph(graph, bundle, are_read):
+    """Each fault, by the order of the modules in which they are told; are_read asks which texts are programs."""
+    for specifier in graph.roots:
+        entry = graph.end_of(specifier)
+        if entry is None or (entry.is_faulty() and not is_in_itself(entry)):
+            yield Fault(entry.fault() if entry else "Missing", specifier, None, None, "a root: " + said_of_entry(entry))
+    for entry in graph.entries.values():
+        if entry.is_faulty() and is_in_itself(entry):
+            yield in_itself(entry, bundle, are_read)
+        for edge in entry.edges:
+            fault = of_edge(graph, entry, edge)
+            if fault:
+                yield fault
+    for place, edge in graph.referrers:
+        fault = of_edge(graph, report.Entry(place, "referrer"), edge)
+        if fault:
+            yield fault._replace(start=None, end=None)
+
+
+def is_in_itself(entry):
+    """Whether the fault is in the module's own bytes."""
+    return entry.fault().split(" ")[0] in ("Parse", "Decode", "WasmParse")
+
+
+def said_of_entry(entry):
+    if entry is None:
+        return OF_ENTRY["TooManyRedirects"]
+    name = entry.fault().split(" ")[0]
+    return OF_ENTRY.get(name, f"its module is in error: {entry.fault()}")
+
+
+def range_of(edge):
+    if edge.range == "-":
+        return None, None
+    start, end = edge.range.split("-")
+    return int(start), int(end)
+
+
+def of_edge(graph, entry, edge):
+    """The fault of an edge, or None where it leads to a module, to a package, outside, or to a module that is in error itself."""
+    if edge.kind == "redirect":
+        return None
+    start, end = range_of(edge)
+    text = json.dumps(report.value_of(edge), ensure_ascii=False)
+    if edge.fault:
+        name = edge.fault.split(" ")[0]
+        return Fault(name, entry.specifier, start, end, f"{text}: {OF_EDGE.get(name, edge.fault)}")
+    target = graph.end_of(edge.target)
+    if target is None:
+        return Fault("TooManyRedirects", entry.specifier, start, end, f"{text}: {OF_ENTRY['TooManyRedirects']}")
+    if not target.is_faulty() or is_in_itself(target):
+        return None
+    if target.specifier in graph.roots and target.specifier == entry.specifier:
+        return None
+    leads = "" if shown(target.specifier) == report.value_of(edge) else f" ({shown(target.specifier)})"
+    return Fault(target.fault().split(" ")[0], entry.specifier, start, end, f"{text}: {said_of_entry(target)}{leads}")
+
+
+def in_itself(entry, bundle, are_read):
+    """The fault of a module whose own bytes are refused, with its place."""
+    name = entry.fault().split(" ")[0]
+    source = bundle.source(entry.specifier)
+    if source is None:
+        return Fault(name, entry.specifier, None, None, f"its content isn't in the bundle, and it is in error: {entry.fault()}")
+    if name == "Decode":
+        return at_byte_no_utf8(entry, source)
+    if name == "WasmParse":
+        return Fault(name, entry.specifier, None, None, "these bytes are no WebAssembly module, as far as its imports and exports go")
+    text = source.text()
+    start, length, what = places.fault_of(text, entry.specifier, lambda texts: are_read(entry.specifier, texts))
+    first = places.scan.bytes_before(text, start)
+    return Fault(name, entry.specifier, first, first + places.scan.bytes_before(text[start:], length), what)
+
+
+def at_byte_no_utf8(entry, source):
+    try:
+        source.data.decode("utf-8")
+    except UnicodeDecodeError as error:
+        at = error.start
+        return Fault("Decode", entry.specifier, at, at + 1, f"byte {at:,} (0x{source.data[at]:02x}) is no UTF-8")
+    return Fault("Decode", entry.specifier, None, None, "these bytes are no UTF-8")
+
+
+def lines_of(fault, bundle, front=""):
+    """What is told of a fault: its place and sentence, and below them the line with a caret."""
+    source = bundle.source(fault.specifier) if fault.start is not None else None
+    where = shown(fault.specifier, front)
+    if source is None:
+        yield f"{where}: {fault.what}"
+        return
+    line, column = source.place(fault.start)
+    yield f"{where}:{line}:{column}: {fault.what}"
+    yield from excerpt(source, line, column, fault)
+
+
+WIDE = 100  # characters of a line that are shown
+
+
+def excerpt(source, line, column, fault):
+    text = source.line(line)
+    last = source.data[fault.start:fault.end].decode("utf-8", "replace").split("\n")[0]
+    count = max(1, min(len(last), len(text) - column + 1))
+    cut = max(0, min(column - WIDE // 2, len(text) - WIDE)) if len(text) > WIDE else 0
+    shown_part = text[cut:cut + WIDE]
+    before = "".join("\t" if c == "\t" else " " * wide(c) for c in shown_part[:column - 1 - cut])
+    under = sum(wide(c) for c in text[column - 1:column - 1 + count]) or 1
+    yield "    " + ("…" if cut else "") + "".join(c if c.isprintable() or c == "\t" else "\ufffd" for c in shown_part) + ("…" if cut + WIDE < len(text) else "")
+    yield "    " + (" " if cut else "") + before + "^" + "~" * (min(under, WIDE) - 1)
+
+
+def wide(character):
+    import unicodedata
+
+    return 2 if unicodedata.east_asian_width(character) in "WF" else 0 if unicodedata.combining(character) else 1

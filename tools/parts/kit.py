@@ -1,0 +1,110 @@
+"""The toolchain, the crates of the repository, and the folder where what was built is kept."""
+import importlib.machinery
+import importlib.util
+import os
+import re
+import shutil
+import subprocess
+
+ROOT = os.path.dirname(os.path.dirname(os.path.dirname(os.path.abspath(__file__))))
+KEPT = os.path.join(os.environ.get("XDG_CACHE_HOME") or os.path.expanduser("~/.cache"), "joravelsu")
+# The version of the tools, the program and the library.
+VERSION = "0.1.0"
+# The versions of the toolchain with which the gate passes.
+TRIED = ("rattle-kit-13b", "rattle-kit-13f")
+
+
+class NoKit(Exception):
+    """The toolchain isn't there."""
+
+
+def kit():
+    """The folder of the toolchain."""
+    command = shutil.which("rt")
+    if not command:
+        raise NoKit("the toolchain's command rt isn't on the path")
+    return os.path.dirname(os.path.dirname(os.path.realpath(command)))
+
+
+def version():
+    """The name of the toolchain's version, as rattle-kit-13f."""
+    ran = subprocess.run(["rt", "version"], capture_output=True, text=True, check=False)
+    return (ran.stdout.split() or ["unknown"])[0]
+
+
+def other_version():
+    """A line where the toolchain's version is none of those that were tried, else None."""
+    found = version()
+    if found in TRIED:
+        return None
+    return f"the toolchain is {found}, and the gate was run with {' and '.join(TRIED)}"
+
+
+def listed_crates():
+    """What each crate of crates.txt names: other crates, libraries of the toolchain, and whether it is a static library."""
+    with open(os.path.join(ROOT, "crates.txt"), encoding="utf-8") as file:
+        rows = [line.split("#")[0].partition(":") for line in file]
+    return {head.split()[0]: words.split() + head.split()[1:2] for head, _, words in rows if head.strip()}
+
+
+def crates_below(name, listed):
+    """The repository's crates that the crate stands on, and the crate itself."""
+    found, waiting = set(), [name]
+    while waiting:
+        crate = waiting.pop()
+        if crate not in found and crate in listed:
+            found.add(crate)
+            waiting += listed[crate]
+    return found
+
+
+def sources_of(crate):
+    """The files that a compiler without proofs reads of a crate."""
+    folder = os.path.join(ROOT, "crates", crate, "src")
+    return sorted(os.path.join(at, name) for at, _, names in os.walk(folder) for name in names)
+
+
+def keep(made, name, ending, most=6):
+    """Keeps a file under its name, and of all that have the ending the latest. The answer is where it is kept."""
+    os.makedirs(KEPT, mode=0o700, exist_ok=True)
+    place = os.path.join(KEPT, name)
+    shutil.copyfile(made, f"{place}.{os.getpid()}")
+    shutil.copymode(made, f"{place}.{os.getpid()}")
+    os.replace(f"{place}.{os.getpid()}", place)
+    kept = sorted((it for it in os.scandir(KEPT) if it.name.endswith(ending)), key=lambda it: it.stat().st_mtime)
+    for it in kept[:-most]:
+        os.unlink(it)
+    return place
+
+
+def seconds_in_times():
+    """The seconds that docs/TIMES.md has for the proof of each crate."""
+    with open(os.path.join(ROOT, "docs", "TIMES.md"), encoding="utf-8") as file:
+        text = file.read()
+    rows = re.findall(r"(?m)^\| `(\w+)` \|[^|]*\| *([\d,]+) *\|", text)
+    told = re.findall(r"`(\w+)`\s+(?:some\s+)?([\d,]+)(?=[,;.]| and)", text)
+    found = {}
+    for name, number in rows + told:  # where there are two, the greater
+        found[name] = max(found.get(name, 0), int(number.replace(",", "")))
+    return found
+
+
+def tool(name):
+    """A tool of tools/ as a module of Python."""
+    path = os.path.join(ROOT, "tools", name)
+    loader = importlib.machinery.SourceFileLoader(name.replace("-", "_"), path)
+    module = importlib.util.module_from_spec(importlib.util.spec_from_loader(loader.name, loader))
+    loader.exec_module(module)
+    return module
+
+
+def proved_program():
+    """The path of the proved program, or None where it isn't built or a source is newer."""
+    place = os.path.join(ROOT, "crates", "graph_tool", "out", "graph_tool")
+    if not os.access(place, os.X_OK):
+        return None
+    made = os.stat(place).st_mtime
+    files = [os.path.join(ROOT, "crates.txt")]
+    for crate in os.listdir(os.path.join(ROOT, "crates")):
+        files += sources_of(crate)
+    return place if all(os.stat(file).st_mtime <= made for file in files) else None

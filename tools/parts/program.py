@@ -1,0 +1,63 @@
+"""The program as the tools run it: proved where it is built, else compiled without its proofs."""
+import json
+import os
+import subprocess
+import sys
+
+from parts import kit as kits
+from parts import unproved
+
+# The statuses of docs/REPORT.md at which a report was written.
+REPORT = 0
+REASONS = {3: "a read failed", 4: "a write failed", 5: "memory ran out", -11: "it ended by a fault of memory, as where the stack ends",
+           -6: "it stopped at a check", -4: "it stopped at a check", -9: "it was killed"}
+
+
+class NoProgram(Exception):
+    """There is no program, or it gave no report; why, in a line."""
+
+
+class Program:
+    def __init__(self, who):
+        """The program; where it is compiled first, `who` is told to have done so."""
+        self.proved = kits.proved_program()
+        self.path = self.proved
+        if not self.path:
+            try:
+                self.path = unproved.program(who)
+            except (unproved.Failed, kits.NoKit, OSError) as failed:
+                raise NoProgram(f"the program can't be compiled: {failed}") from failed
+
+    def report(self, bundle):
+        """The status, and what the program writes for a bundle."""
+        ran = subprocess.run([self.path, "build"], input=bundle, stdout=subprocess.PIPE, check=False, env=os.environ)
+        if ran.returncode not in (0, 1, 2):
+            raise NoProgram(f"the program gave no report: {REASONS.get(ran.returncode, f'status {ran.returncode}')}")
+        return ran.returncode, ran.stdout
+
+    def which_are_read(self, specifier, texts):
+        """Of each text whether it is a program of the grammar, as a module of this specifier's ending."""
+        ending = specifier.rpartition("/")[2].partition(".")[2] or "js"
+        names = [f"file:///{number}.{ending}" for number in range(len(texts))]
+        modules = [{"specifier": name, "text": text} for name, text in zip(names, texts)]
+        bundle = {"roots": names, "kind": "code", "limit": 1_000_000, "modules": modules}
+        status, report = self.report(json.dumps(bundle).encode("utf-8", "surrogatepass"))
+        if status:
+            raise NoProgram(report.decode().strip())
+        wanted = {f"{name} error Parse" for name in names}
+        refused = {line for line in report.decode().split("\n") if line in wanted}
+        return [f"{name} error Parse" not in refused for name in names]
+
+
+def main():
+    """Prints the path of the program."""
+    try:
+        print(Program("graph_tool").path)
+    except NoProgram as error:
+        print(f"graph_tool: {error}", file=sys.stderr)
+        return 70
+    return 0
+
+
+if __name__ == "__main__":
+    sys.exit(main())
