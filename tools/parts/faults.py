@@ -33,8 +33,10 @@ def word_of(entry):
     return WORDS.get(entry.fault().split(" ")[0], "other")
 
 
-def of_graph(graph, bundle, are_read):
-    """Each fault, by the order of the modules in which they are told; are_read asks which texts are programs."""
+def of_graph(graph, bundle, are_read, reasons=None):
+    """Each fault, by the order of the modules in which they are told; are_read asks which texts are programs. reasons has
+    for URLs and bare specifiers why they lead nowhere, as far as that is known."""
+    reasons = reasons or {}
     for specifier in graph.roots:
         entry = graph.end_of(specifier)
         if entry is None or (entry.is_faulty() and not is_in_itself(entry)):
@@ -43,11 +45,11 @@ def of_graph(graph, bundle, are_read):
         if entry.is_faulty() and is_in_itself(entry):
             yield in_itself(entry, bundle, are_read)
         for edge in entry.edges:
-            fault = of_edge(graph, entry, edge)
+            fault = of_edge(graph, entry, edge, reasons)
             if fault:
                 yield fault
     for place, edge in graph.referrers:
-        fault = of_edge(graph, report.Entry(place, "referrer"), edge)
+        fault = of_edge(graph, report.Entry(place, "referrer"), edge, reasons)
         if fault:
             yield fault._replace(start=None, end=None)
 
@@ -71,7 +73,7 @@ def range_of(edge):
     return int(start), int(end)
 
 
-def of_edge(graph, entry, edge):
+def of_edge(graph, entry, edge, reasons):
     """The fault of an edge, or None where it leads to a module, to a package, outside, or to a module that is in error itself."""
     if edge.kind == "redirect":
         return None
@@ -79,7 +81,8 @@ def of_edge(graph, entry, edge):
     text = json.dumps(report.value_of(edge), ensure_ascii=False)
     if edge.fault:
         name = edge.fault.split(" ")[0]
-        return Fault(name, entry.specifier, start, end, f"{text}: {OF_EDGE.get(name, edge.fault)}")
+        said = reasons.get(report.value_of(edge)) if name == "ImportPrefixMissing" else None
+        return Fault(name, entry.specifier, start, end, f"{text}: {said or OF_EDGE.get(name, edge.fault)}")
     target = graph.end_of(edge.target)
     if target is None:
         return Fault("TooManyRedirects", entry.specifier, start, end, f"{text}: {OF_ENTRY['TooManyRedirects']}")
@@ -87,6 +90,9 @@ def of_edge(graph, entry, edge):
         return None
     if target.specifier in graph.roots and target.specifier == entry.specifier:
         return None
+    said = reasons.get(target.specifier) if target.fault() == "Missing" else None
+    if said:
+        return Fault("Missing", entry.specifier, start, end, f"{text}: {said}")
     leads = "" if shown(target.specifier) == report.value_of(edge) else f" ({shown(target.specifier)})"
     return Fault(target.fault().split(" ")[0], entry.specifier, start, end, f"{text}: {said_of_entry(target)}{leads}")
 

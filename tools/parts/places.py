@@ -205,11 +205,17 @@ def reason_at(search, number, specifier):
             return f"'{one.text}' isn't read as a name here, though in some places the language has it as one"
     if depth_of(tokens) > DEEP:
         return f"it may be nested too deep: more than 500 nodes on a path, {LEFT_OUT}"
-    if not typed and (token.is_sign(":") or token.is_word("as", "satisfies", "interface", "enum", "namespace", "declare", "abstract", "type")):
+    if not typed and is_of_types(token, before):
         return f"'{shortened(token.text)}' can't stand here; types are read in files of TypeScript alone"
     if behind is None:
         return f"'{shortened(token.text)}' can't stand here, at the end of the text"
     return f"'{shortened(token.text)}' can't stand here"
+
+
+def is_of_types(token, before):
+    """Whether a token is one that only TypeScript has there."""
+    words = ("interface", "enum", "namespace", "declare", "abstract", "type")
+    return token.is_sign(":") or token.is_word("as", "satisfies", *words) or (token.kind == "word" and before is not None and before.is_word(*words))
 
 
 def shortened(text, most=30):

@@ -174,10 +174,12 @@ class Graph:
         return any(target is entry for target in self.loaded(entry))
 
     def loaded(self, entry):
-        """The entries to which edges of an entry lead that aren't only for types; an import() waits, and is none of them."""
+        """The entries to which edges of an entry lead over redirects that aren't only for types; an import() waits, and is none."""
         for edge in entry.edges:
-            if edge.target in self.entries and not is_type_only(edge) and edge.kind != "dynamic":
-                yield self.entries[edge.target]
+            if edge.target in self.entries and not is_type_only(edge) and edge.kind != "dynamic" and entry.kind() != "redirect":
+                target = self.end_of(edge.target)
+                if target is not None:
+                    yield target
 
     def parts(self):
         """The strongly connected parts (Tarjan), without recursion."""
@@ -213,12 +215,17 @@ class Graph:
         return found
 
     def importers(self):
-        """The specifiers of the entries that have an edge to each entry, in the order of the report."""
-        found = {specifier: [] for specifier in self.entries}
-        for source, _, target in self.edges():
-            if found[target.specifier][-1:] != [source.specifier]:
-                found[target.specifier].append(source.specifier)
-        return found
+        """The specifiers of the modules of which an edge leads to each entry, over redirects too, in the order of the report."""
+        found = {specifier: {} for specifier in self.entries}
+        for source in self.entries.values():
+            for edge in source.edges if source.kind() != "redirect" else ():
+                target = self.entries.get(edge.target)
+                for _ in range(12):
+                    if target is None:
+                        break
+                    found[target.specifier][source.specifier] = None
+                    target = self.entries.get(target.edges[0].target) if target.kind() == "redirect" else None
+        return {specifier: list(names) for specifier, names in found.items()}
 
 
 def counted(count, one, many):

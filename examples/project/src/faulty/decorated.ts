@@ -1,0 +1,3 @@
+export class Service {
+  @memoize() load(): void {}
+}

@@ -1,0 +1,2 @@
+export const text = "no end;
+export const more = 1;

@@ -1,0 +1,1 @@
+export interface Note { title: string; text: string }
