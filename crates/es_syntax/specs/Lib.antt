@@ -1,0 +1,12 @@
+-- what a row of entries holds
+pub mod Held
+-- the kept trees that it is
+pub mod Trees
+-- what a value is in a role
+pub mod Roles
+-- words of views
+pub mod Views
+-- what a writer leaves
+pub mod Written
+-- where a node stands
+pub mod Places

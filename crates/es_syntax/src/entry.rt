@@ -1,0 +1,35 @@
+use es_whole_grammar::Label;
+
+/// The alternatives that lean left: their first part is again such a node, and a row has the whole chain as one entry.
+#[derive(Clone, Copy, Debug, PartialEq, Eq)]
+pub enum Lean {
+    Binary,
+    TypedBinary,
+}
+
+/// What stands at a place.
+#[derive(Clone, Copy)]
+pub enum What {
+    /// A token that is kept; its number is the entry's first token.
+    Leaf,
+    /// A node, by its alternative.
+    Node(Label),
+    /// A node in another role: the one that is its part.
+    Role(Label),
+    /// The turns of a list, or the parts of a turn or of an optional part.
+    Parts,
+    /// A first operand and turns: the nodes that lean left over these. A turn has the parts behind the first one, and the
+    /// token behind the last one of its node.
+    Lean(Lean),
+}
+
+/// What stands there, before its parts: its first token, the token behind its last one, and how many entries its parts take.
+#[derive(Clone, Copy)]
+pub struct Entry {
+    pub what: What,
+    pub from: u32,
+    pub to: u32,
+    pub size: u32,
+}
+
+const _: () = prove!(size_of::<Entry>() == 16);

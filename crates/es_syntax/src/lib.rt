@@ -1,0 +1,15 @@
+//! A kept tree in one row of entries, each before its parts, and cursors that go over it. No value is boxed, and none is
+//! dropped but the row.
+//!
+//! - `Entry`, `What`, `Lean`: what is kept.
+//! - `Row`, `Item`: the parts that stand in a row, and one of them; copies of a slice.
+//! - `Writer`: makes a row, as text is written: a node is opened, its parts are written, it is closed.
+#![tactic(auto)]
+
+mod cursor;
+mod entry;
+mod writer;
+
+pub use cursor::{Item, Row};
+pub use entry::{Entry, Lean, What};
+pub use writer::Writer;
