@@ -1,10 +1,12 @@
 //! The comments of a text by the places at which they stand: before a token, or behind one.
 //!
 //! - `comments_of(text, tokens, comments)`: a comment is trailing at the end of the token before it where no line end stands
-//!   between them, or where no token follows; else leading at the start of the next token. With no token it is leading at 0.
-//! - `MultiThreadedComments`: both maps, shared by its copies; `SingleThreadedComments`: the same two as its fields.
+//!   between them, or where no token follows; else leading at the start of the next token. With no token it is leading at 0
+//!   (`ArePlaced`, `specs/Standing.antt`).
+//! - `MultiThreadedComments`: both maps, shared by its copies, which contracts see as places with their comments (`Placed`,
+//!   `specs/Placed.antt`); `SingleThreadedComments`: the same two as its fields.
 //!
-//! The text, its tokens and its comments are gone through once. No clause says where a comment stands.
+//! Not promised: that text and tokens are gone through once, which is so where the comments ascend.
 #![tactic(auto)]
 
 mod maps;

@@ -1,5 +1,7 @@
 //! Comments by their places.
-ghost use Rattle.std.specs.Prelude.{◌≡◌, IfOk};
+ghost use Rattle.std.specs.Prelude.{◌≡◌, [], IfOk, OnOk};
+ghost use Rattle.es_comments.specs.Placed.{places_of, placed_in};
+ghost use Rattle.es_comments.specs.Steps.{Adds};
 
 use es_token::Comment;
 use std::alloc::{AllocError, Global};
@@ -16,7 +18,10 @@ pub struct SingleThreadedComments {
 }
 
 impl SingleThreadedComments {
-    pub fn new(alloc: Global) -> SingleThreadedComments {
+    pub fn new(alloc: Global) -> SingleThreadedComments
+        ensures leading { places_of result.leading ≡ [] }
+        ensures trailing { places_of result.trailing ≡ [] }
+    {
         SingleThreadedComments {
             leading: BTreeMap::new(alloc),
             trailing: BTreeMap::new(alloc),
@@ -24,7 +29,9 @@ impl SingleThreadedComments {
     }
 
     /// The same comments in memory of their own.
-    pub fn copy(&self, alloc: Global) -> Result<SingleThreadedComments, AllocError> {
+    pub fn copy(&self, alloc: Global) -> Result<SingleThreadedComments, AllocError>
+        ensures { IfOk result (λ copy. placed_in copy ≡ placed_in self.now) }
+    {
         Ok(SingleThreadedComments {
             leading: copy_map(alloc, &self.leading)?,
             trailing: copy_map(alloc, &self.trailing)?,
@@ -32,15 +39,20 @@ impl SingleThreadedComments {
     }
 }
 
-fn copy_map(alloc: Global, map: &CommentMap) -> Result<CommentMap, AllocError> {
+fn copy_map(alloc: Global, map: &CommentMap) -> Result<CommentMap, AllocError>
+    ensures { IfOk result (λ copy. places_of copy ≡ places_of map.now) }
+{
     let mut copy = BTreeMap::new(alloc);
     for (place, comments) in map {
-        drop(copy.insert(*place, copy_comments(alloc, comments.as_slice())?)?);
+        let comments = copy_comments(alloc, comments.as_slice())?;
+        drop(copy.insert(*place, comments)?);
     }
     Ok(copy)
 }
 
-fn copy_comments(alloc: Global, comments: &[Comment]) -> Result<Vec<Comment>, AllocError> {
+fn copy_comments(alloc: Global, comments: &[Comment]) -> Result<Vec<Comment>, AllocError>
+    ensures { IfOk result (λ copy. copy.items ≡ comments.now) }
+{
     let mut copy = Vec::new(alloc);
     for comment in comments {
         copy.push(copy_comment(comment)?)?;
@@ -65,7 +77,9 @@ pub fn add(
     map: &mut CommentMap,
     place: usize,
     comment: Comment,
-) -> Result<(), AllocError> {
+) -> Result<(), AllocError>
+    ensures { OnOk result (Adds map.old map.new place comment) }
+{
     if let Some(comments) = map.get_mut(&place) {
         comments.push(comment)?;
         return Ok(());

@@ -1,0 +1,5 @@
+mod LineLemmas
+mod TokenLemmas
+mod MapLemmas
+mod PlacedLemmas
+mod IteratorLemmas
