@@ -6,6 +6,7 @@ folder of links in the toolchain's place, whose compiler hands out what it is gi
 """
 import hashlib
 import os
+import re
 import shutil
 import signal
 import subprocess
@@ -17,6 +18,8 @@ import time
 from parts import kit as kits
 
 PROGRAM = "graph_tool"
+# How many compiled programs are kept, those of tests among them.
+MOST_KEPT = 80
 # Before the first run the compiler is asked for something small; the program itself has megabytes.
 SMALL = 100_000
 COMPILER = """#!/bin/bash
@@ -72,7 +75,7 @@ def sum_of(crate):
     listed = kits.listed_crates()
     with open(os.path.join(kits.kit(), "KIT-ID"), "rb") as file:
         found.update(file.read())
-    found.update(repr((HOW, COMPILER)).encode())
+    found.update(repr((HOW, COMPILER, CALLS if crate == LIBRARY else "")).encode())
     for name in sorted(kits.crates_below(crate, listed)):
         found.update(repr((name, listed[name])).encode())
         for path in kits.sources_of(name):
@@ -106,24 +109,40 @@ def kit_of_links(kit, room):
     return made
 
 
+RUNNING = set()
+
+
+def end_all():
+    """Ends all that was started and runs."""
+    for started in list(RUNNING):
+        try:
+            os.killpg(started.pid, signal.SIGTERM)
+        except ProcessLookupError:
+            pass
+
+
 def ran(words, **how):
     """Runs a command in a group of its own, which ends with this program."""
     started = subprocess.Popen(words, start_new_session=True, stdout=subprocess.PIPE, stderr=subprocess.STDOUT, errors="replace", **how)
+    RUNNING.add(started)
     try:
         said, _ = started.communicate()
     except BaseException:
         os.killpg(started.pid, signal.SIGTERM)
         started.wait()
         raise
+    finally:
+        RUNNING.discard(started)
     return started.returncode, said
 
 
-def module_of(crate, kit, room, root):
-    """What the toolchain makes of a program before it compiles it to machine code."""
+def module_of(crate, kit, room, root, is_test=False):
+    """What the toolchain makes of a program, or of a crate's tests, before it compiles it to machine code."""
     empty = os.path.join(room, "empty")
     with open(empty, "wb") as file:
         file.write(b'{"roots":[],"modules":[]}')
-    words = [sys.executable, os.path.join(kit_of_links(kit, room), "bin", "rt"), "try", "--steps", "1", "--", "build"]
+    words = [sys.executable, os.path.join(kit_of_links(kit, room), "bin", "rt"), "try", "--steps", "1"]
+    words += ["--test"] if is_test else ["--", "build"]
     with open(empty, "rb") as file:
         _, said = ran(words, cwd=os.path.join(root, "crates", crate), stdin=file, env={**os.environ, "TMPDIR": room, "PYTHONDONTWRITEBYTECODE": "1"})
     made = os.path.join(room, "module.bc")
@@ -132,10 +151,10 @@ def module_of(crate, kit, room, root):
     return made
 
 
-def object_of(module, kit, room):
+def object_of(module, kit, room, *more):
     """The machine code of a module."""
     made = os.path.join(room, "module.o")
-    status, said = ran([os.path.join(kit, "toolchain", "bin", "clang"), *HOW, module, "-o", made], stdin=subprocess.DEVNULL)
+    status, said = ran([os.path.join(kit, "toolchain", "bin", "clang"), *HOW, *more, module, "-o", made], stdin=subprocess.DEVNULL)
     if status:
         raise Failed("\n".join(said.splitlines()[-20:]))
     return made
@@ -151,25 +170,105 @@ def linked(made, kit, room):
     return program
 
 
-def program(told="unproved"):
-    """The path of the unproved program, compiled where that wasn't done of these sources yet."""
-    name = f"{PROGRAM}-{sum_of(PROGRAM)}.unproved"
+def compiled(crate, is_test=False, *more):
+    """The path of a crate's program, or of its tests, compiled where that wasn't done of these sources yet."""
+    name = f"{crate}{'-tests' if is_test else ''}-{sum_of(crate)}.unproved"
     place = os.path.join(kits.KEPT, name)
     if os.path.exists(place):
         os.utime(place)
         return place
     kit = kits.kit()
+    with tempfile.TemporaryDirectory(prefix="joravelsu-") as room:
+        made = linked(object_of(module_of(crate, kit, room, kits.ROOT, is_test), kit, room, *more), kit, room)
+        return kits.keep(made, name, ".unproved", MOST_KEPT)
+
+
+def is_compiled(crate, is_test=False):
+    return os.path.exists(os.path.join(kits.KEPT, f"{crate}{'-tests' if is_test else ''}-{sum_of(crate)}.unproved"))
+
+
+def program(told="unproved"):
+    """The path of the unproved program, compiled where that wasn't done of these sources yet."""
+    if is_compiled(PROGRAM):
+        return compiled(PROGRAM)
     other = kits.other_version()
     if other:
         print(f"{told}: {other}", file=sys.stderr)
+    with Clock(f"{told}: the program is compiled without its proofs, once, in some two minutes"):
+        return compiled(PROGRAM)
+
+
+# The calls of the C library, as a program calls each once, so that the toolchain compiles it.
+LIBRARY = "graph_c"
+CALLS = """
+fn main(rt: HostRuntime) {
+    let mut needed: usize = 0;
+    let mut answer = Answer { sites: 0, value_bytes: 0, fault: 0, place: 0 };
+    let _ = joravelsu_build(rt.alloc(), b"{}", &mut [], &mut needed);
+    let _ = joravelsu_sites(rt.alloc(), b"", 3, &mut [], &mut [], &mut answer);
+}
+"""
+
+
+def program_of_library(room):
+    """A copy of the sources in which the library is a program that makes each of its calls once."""
+    root = os.path.join(room, "root")
+    below = kits.crates_below(LIBRARY, kits.listed_crates())
+    for crate in below:
+        shutil.copytree(os.path.join(kits.ROOT, "crates", crate, "src"), os.path.join(root, "crates", crate, "src"))
+    at = os.path.join(root, "crates", LIBRARY, "src")
+    with open(os.path.join(at, "lib.rt"), encoding="utf-8") as file:
+        text = file.read()
+    with open(os.path.join(at, "main.rt"), "w", encoding="utf-8") as file:
+        file.write(text + CALLS)
+    os.unlink(os.path.join(at, "lib.rt"))
+    with open(os.path.join(kits.ROOT, "crates.txt"), encoding="utf-8") as file:
+        rows = [line.replace(f"{LIBRARY} staticlib:", f"{LIBRARY}:") for line in file if line.split(":")[0].split()[:1] and line.split(":")[0].split()[0] in below]
+    with open(os.path.join(root, "crates.txt"), "w", encoding="utf-8") as file:
+        file.writelines(rows)
+    shutil.copy(os.path.join(kits.ROOT, "HANDLES"), root)
+    return root
+
+
+def with_calls_visible(module, kit, room):
+    """A module in which the library's calls have their names for C."""
+    text = os.path.join(room, "module.ll")
+    words = [os.path.join(kit, "toolchain", "bin", "clang"), *HOW[:3], "-S", "-emit-llvm", "-O0", "-Xclang", "-disable-llvm-passes", "-x", "ir"]
+    status, said = ran([*words, module, "-o", text], stdin=subprocess.DEVNULL)
+    if status:
+        raise Failed(said[-2000:])
+    made = os.path.join(room, "calls.ll")
+    named = re.compile(rf'@"{LIBRARY}::(joravelsu_[a-z]+)"')
+    with open(text, encoding="latin-1") as given, open(made, "w", encoding="latin-1") as file:
+        for line in given:
+            if LIBRARY in line:
+                line = named.sub(r"@\1", line)
+                if line.startswith("define internal ") and "@joravelsu_" in line:
+                    line = line.replace("internal ", "", 1)
+            file.write(line)
+    return made
+
+
+def library(told="build-library"):
+    """The path of the object file of the unproved library, compiled where that wasn't done of these sources yet."""
+    name = f"{LIBRARY}-{sum_of(LIBRARY)}.unproved.o"
+    place = os.path.join(kits.KEPT, name)
+    if os.path.exists(place):
+        os.utime(place)
+        return place
+    kit = kits.kit()
     with tempfile.TemporaryDirectory(prefix="joravelsu-") as room:
-        with Clock(f"{told}: the program is compiled without its proofs, once, in some two minutes"):
-            made = linked(object_of(module_of(PROGRAM, kit, room, kits.ROOT), kit, room), kit, room)
-        return kits.keep(made, name, ".unproved")
+        with Clock(f"{told}: the library is compiled without its proofs, once, in some two minutes"):
+            module = module_of(LIBRARY, kit, room, program_of_library(room))
+            made = object_of(with_calls_visible(module, kit, room), kit, room, "-fPIC")
+        return kits.keep(made, name, ".unproved.o")
 
 
 def main():
     try:
+        if sys.argv[1:] == ["--library"]:
+            print(library())
+            return 0
         print(program(sys.argv[1] if len(sys.argv) > 1 else "graph_tool"))
     except (Failed, kits.NoKit, OSError) as failed:
         print(f"graph_tool: {failed}", file=sys.stderr)

@@ -77,12 +77,16 @@ class _Answer(ctypes.Structure):
 
 
 def _load() -> ctypes.CDLL:
-    library = ctypes.CDLL(os.environ.get("JORAVELSU_LIBRARY", "libjoravelsu.so"))
+    path = os.environ.get("JORAVELSU_LIBRARY", "libjoravelsu.so")
+    try:
+        library = ctypes.CDLL(path)
+    except OSError as error:
+        raise ImportError(f"{path} isn't there: tools/build-library --unproved PREFIX makes PREFIX/lib/libjoravelsu.so, which JORAVELSU_LIBRARY names") from error
     size, text = ctypes.c_size_t, ctypes.c_char_p
     library.joravelsu_build.argtypes = [text, size, text, size, ctypes.POINTER(size)]
     library.joravelsu_build.restype = ctypes.c_uint32
-    rooms = [ctypes.POINTER(_Site), size, text, size]
-    library.joravelsu_sites.argtypes = [text, size, ctypes.c_uint32, *rooms, ctypes.POINTER(_Answer)]
+    buffers = [ctypes.POINTER(_Site), size, text, size]
+    library.joravelsu_sites.argtypes = [text, size, ctypes.c_uint32, *buffers, ctypes.POINTER(_Answer)]
     library.joravelsu_sites.restype = ctypes.c_uint32
     return library
 
@@ -97,11 +101,11 @@ def imports_of(text: str | bytes, media_type: int) -> list[Site]:
     """
     source = text.encode() if isinstance(text, str) else bytes(text)
     answer = _Answer()
-    sites_room, values_room = 64, 4096
+    sites_length, values_length = 64, 4096
     while True:
-        sites, values = (_Site * sites_room)(), ctypes.create_string_buffer(values_room)
+        sites, values = (_Site * sites_length)(), ctypes.create_string_buffer(values_length)
         status = _library.joravelsu_sites(
-            source, len(source), media_type, sites, sites_room, values, values_room, ctypes.byref(answer)
+            source, len(source), media_type, sites, sites_length, values, values_length, ctypes.byref(answer)
         )
         if status == _NO_MEMORY:
             raise MemoryError
@@ -113,7 +117,7 @@ def imports_of(text: str | bytes, media_type: int) -> list[Site]:
             ]
         if status != _NO_ROOM:
             raise SourceError(status, answer.place if status >= 10 else None)
-        sites_room, values_room = answer.sites, answer.value_bytes
+        sites_length, values_length = answer.sites, answer.value_bytes
 
 
 def graph(bundle: str | bytes | dict) -> str:
@@ -127,16 +131,16 @@ def graph(bundle: str | bytes | dict) -> str:
     text = json.dumps(bundle) if isinstance(bundle, dict) else bundle
     source = text.encode() if isinstance(text, str) else bytes(text)
     needed = ctypes.c_size_t()
-    room_length = 2 * len(source) + 4096
+    length = 2 * len(source) + 4096
     while True:
-        room = ctypes.create_string_buffer(room_length)
-        status = _library.joravelsu_build(source, len(source), room, room_length, ctypes.byref(needed))
+        buffer = ctypes.create_string_buffer(length)
+        status = _library.joravelsu_build(source, len(source), buffer, length, ctypes.byref(needed))
         if status == _NO_MEMORY:
             raise MemoryError
         if status == _NO_ROOM:
-            room_length = needed.value
+            length = needed.value
             continue
-        report = room.raw[: needed.value].decode()
+        report = buffer.raw[: needed.value].decode()
         if status != _DONE:
             raise BundleError(report.strip())
         return report

@@ -7,7 +7,7 @@ import unittest
 
 import joravelsu
 
-EXAMPLES = os.path.dirname(os.path.dirname(os.path.abspath(__file__)))
+EXAMPLES = os.path.dirname(os.path.dirname(os.path.dirname(os.path.abspath(__file__))))
 
 
 def raw_sites(text, media_type, sites_room, values_room):
