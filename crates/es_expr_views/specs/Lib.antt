@@ -1,0 +1,2 @@
+-- primary expressions
+pub mod Primary
