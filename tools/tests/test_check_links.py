@@ -10,7 +10,7 @@ FILES = {
     "README.md": "# One\n\nA [page](docs/PAGE.md#the-second-part) and `IsRead`.\n",
     "docs/PAGE.md": "# Page\n\n## The second part\n\n| crate `lexer` | `scan` | `IsRead`, specs/Reads.antt |\n",
     "crates/lexer/README.md": "# lexer\n\nThe call `read_all` is what `IsRead` of `specs/Reads.antt` says.\n",
-    "crates/lexer/src/scan.rt": "pub fn read_all()\n    ensures read { 0 ≡ 0 }\n",
+    "crates/lexer/src/scan.rt": "ghost use Rattle.lexer.specs.Reads.{IsRead};\n\npub fn read_all()\n    ensures read { IsRead 0 }\n",
     "crates/lexer/specs/Reads.antt": "pub record IsRead (x : ℕ) : Type 0 where\n  pub whole : x ≡ x\n",
     "crates/lexer/must-fail/reads_nothing.edit": "",
 }
@@ -52,6 +52,14 @@ class CheckLinks(unittest.TestCase):
             self.put("README.md", f"# One\n\n{text}\n")
             status, lines = self.told()
             self.assertEqual((status, lines[0]), (1, f"README.md:3: {fault}"))
+
+    def test_what_no_contract_cites(self):
+        self.put("crates/lexer/specs/Dead.antt", "use Rattle.lexer.specs.Reads.{IsRead}\npub IsDead : Type\nIsDead = IsRead 1\n")
+        self.put("crates/lexer/specs/Reads.antt", FILES["crates/lexer/specs/Reads.antt"].replace("whole : x", "whole : IsBelow x") + "pub IsBelow : Type\n")
+        self.put("README.md", "# One\n\n[`IsBelow`](crates/lexer/specs/Reads.antt), law [`IsDead`](crates/lexer/specs/Dead.antt)\n")
+        self.assertEqual(self.told()[0], 0)
+        self.put("README.md", "# One\n\n[`IsDead`](crates/lexer/specs/Dead.antt)\n")
+        self.assertEqual(self.told()[1][0], "README.md:3: no contract cites IsDead of crates/lexer/specs/Dead.antt, and the line speaks of no law")
 
     def test_no_faults(self):
         for text in ("[a](https://example.com/none)", "[One](#one)", "`reads_nothing`", "`lexer`", "`FOLDER` and `check-NAME`", "`a word`",
