@@ -1,0 +1,34 @@
+use Rattle.std.proofs.Common.{◌∙◌, ap, sym}
+use Rattle.std.specs.Option.{option_copied}
+use Rattle.import_map.specs.Order.{match_of_entry}
+use Rattle.import_map.proofs.TableLemmas.{scoped_start, scoped_found, scoped_missed, scoped_end, front_in_order}
+use Rattle.import_map.proofs.table.front_match.Goals as goal
+
+pub loop-end-init : goal.loop-end-init
+loop-end-init c =
+    scoped_start c.args.fronts c.args.text.now c.args.referrer.now c.args.scopes.now c.requires.in_order.keys
+    c.requires.absent
+
+pub match_at-requires : goal.match_at-requires
+match_at-requires c =
+    rw c.front_at.ensures
+    (front_in_order c.args.scopes.now c.args.referrer.now c.loop-end.end c.requires.in_order.each)
+
+pub returns-in-Some : goal.returns-in-Some
+returns-in-Some c =
+    sym (scoped_found c.args.fronts c.args.text.now c.args.referrer.now c.args.scopes.now c.loop-end.end
+    c.in-Some.found.now c.loop-end.invariant c.loop-end-test.true
+    (sym (ap (match_of_entry c.args.fronts c.args.text.now) c.front_at.ensures) ∙ sym c.match_at.ensures
+    ∙ ap option_copied c.in-Some.is))
+
+pub loop-end-preserved : goal.loop-end-preserved
+loop-end-preserved c =
+    scoped_missed c.args.fronts c.args.text.now c.args.referrer.now c.args.scopes.now c.loop-end.end
+    c.requires.in_order.keys c.loop-end.invariant c.loop-end-test.true
+    (sym (ap (match_of_entry c.args.fronts c.args.text.now) c.front_at.ensures) ∙ sym c.match_at.ensures
+    ∙ ap option_copied c.in_default.is)
+
+pub returns : goal.returns
+returns c =
+    sym (scoped_end c.args.fronts c.args.text.now c.args.referrer.now c.args.scopes.now c.loop-end.end
+    c.loop-end.invariant c.loop-end-test.false)

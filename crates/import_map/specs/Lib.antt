@@ -1,0 +1,4 @@
+-- What the public contracts rest on.
+pub mod ImportMap
+pub mod Order
+pub mod Follow
