@@ -20,7 +20,8 @@ use Rattle.es_expr_views.specs.declared.primary.Primary.TheVariants as view
 -- the alternatives
 abbrev pub primaries : List Label
 primaries =
-    l.Name ∷ l.Word ∷ l.Number ∷ l.Str ∷ l.RegExp ∷ l.Template ∷ l.TemplateParts ∷ l.Parenthesized ∷ l.ArrayLiteral ∷ l.ObjectLiteral ∷ l.Spread ∷ []
+    l.Name ∷ l.Word ∷ l.Number ∷ l.Str ∷ l.RegExp ∷ l.Template ∷ l.TemplateParts ∷ l.Parenthesized ∷ l.ArrayLiteral ∷
+    l.ObjectLiteral ∷ l.Spread ∷ []
 
 -- ---- each form, of what its parts are
 unfoldable pub ident : List ℕ → Option Token → Option Expr
@@ -42,7 +43,8 @@ unfoldable pub template : List ℕ → Range → Option Token → Option Expr
 template x r token = option_map (λ piece. vExpr.Tpl (piece ∷ []) [] r) (given token (piece_of x))
 
 -- the turns behind the first hole are each a piece and an expression
-unfoldable pub template_parts : List ℕ → List Token → Range → Option Token → Option Expr → Value → Option Token → Option Expr
+unfoldable pub template_parts : List ℕ → List Token → Range → Option Token → Option Expr → Value → Option Token
+    → Option Expr
 template_parts x ts r head first others tail =
     given (given head (piece_of x)) (λ head.
     given first (λ first.
@@ -72,7 +74,8 @@ the_primary x ts r (view.Str token) = str x (slice_get ts token)
 the_primary x ts r (view.RegExp token) = regexp x (slice_get ts token)
 the_primary x ts r (view.Template token) = template x r (slice_get ts token)
 the_primary x ts r (view.TemplateParts head first others tail) =
-    template_parts x ts r (slice_get ts head) (expr_in (valued x ts first)) (held x ts others.entries.now) (slice_get ts tail)
+    template_parts x ts r (slice_get ts head) (expr_in (valued x ts first)) (held x ts others.entries.now)
+    (slice_get ts tail)
 the_primary x ts r (view.Paren expr) = paren r (expr_in (valued x ts expr))
 the_primary x ts r (view.Array from elems) = array ts r from (held x ts elems.entries.now)
 the_primary x ts r (view.Object props) = object r (held x ts props.entries.now)
