@@ -1,0 +1,4 @@
+-- operators
+pub mod Operator
+-- chains that lean left
+pub mod Lean
