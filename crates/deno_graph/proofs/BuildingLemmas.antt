@@ -1,6 +1,6 @@
 -- The steps of a builder keep what its slots say.
 use Rattle.std.proofs.Common.{◌≡◌, ◌⊎◌, inl, inr, Bool, true, false, List, [], ◌∷◌, ◌++◌, refl, sym, ◌∙◌, ap, subst, Option, Some, None, append-nil, append_assoc}
-use Rattle.std.specs.Prelude.{bytes_eq}
+use Rattle.std.specs.Prelude.{bytes_eq, ◌||◌}
 use Rattle.std.specs.List.{IsDistinct, AllByRecursion}
 use Rattle.std.specs.Cmp.Lexicographic.{nat_list_eq_equiv, same_text}
 use Rattle.graph_entry.specs.declared.answer.LoadAnswer.{LoadAnswer}
@@ -46,59 +46,60 @@ written_some old new s t x w h n = by (bytes_eq t s) refl
 
 -- ---- a specifier is taken from the worklist
 
--- what a list without repeats has before its last
-distinct_last : (xs : List Specifier) (y : Specifier) → IsDistinct bytes_eq (xs ++ y ∷ [])
-    → IsDistinct bytes_eq xs × (has xs y ≡ false)
-unfolding IsDistinct
-distinct_last [] y h = (tt, refl)
-distinct_last (x ∷ xs) y h =
-    let rest = distinct_last xs y h.1 in
-    ((front xs h.0, rest.0), rw (nat_list_eq_equiv.symm y x ∙ last xs h.0, rest.1) refl)
-  where
-    front : (ys : List Specifier) → AllByRecursion (λ z. bytes_eq x z ≡ false) (ys ++ y ∷ [])
-        → AllByRecursion (λ z. bytes_eq x z ≡ false) ys
-    front [] h = tt
-    front (z ∷ ys) h = (h.0, front ys h.1)
-
-    last : (ys : List Specifier) → AllByRecursion (λ z. bytes_eq x z ≡ false) (ys ++ y ∷ []) → bytes_eq x y ≡ false
-    last [] h = h.0
-    last (z ∷ ys) h = last ys h.1
+-- the first of a list without repeats isn't among the others
+apart_first : (s : Specifier) (rest : List Specifier) → AllByRecursion (λ z. bytes_eq s z ≡ false) rest
+    → has rest s ≡ false
+apart_first s [] h = refl
+apart_first s (z ∷ rest) h = rw (h.0, apart_first s rest h.1) refl
 
 pub building_popped : (rules : Rules) (starts asked : List Specifier) (log : Log) (slots : Slots)
     (rest : List Specifier) (s : Specifier)
-    → IsBuilding rules starts no_one asked log slots (rest ++ s ∷ [])
+    → IsBuilding rules starts no_one asked log slots (s ∷ rest)
     → IsBuilding rules starts (this_one s) asked log slots rest
+unfolding IsDistinct
 building_popped rules starts asked log slots rest s b = record {
   sound = b.sound;
   done = b.done;
   closed = b.closed;
   outstanding = λ t out h. b.outstanding t refl h;
-  queued = λ t out h. (queued t out (has_append rest (s ∷ []) t (b.queued t refl h).0), (b.queued t refl h).1);
-  listed = λ t h. ((b.listed t (has_left rest (s ∷ []) t h)).0, false_from (bytes_eq t s) (λ e. apart t h e));
+  queued = λ t out h. (queued t out (b.queued t refl h).0, (b.queued t refl h).1);
+  listed = λ t h. ((b.listed t (later t h)).0, false_from (bytes_eq t s) (λ e. apart t h e));
   holds = λ t e n. holds t e n;
-  todo_once = (distinct_last rest s b.todo_once).0;
+  todo_once = b.todo_once.1;
   asked_slot = b.asked_slot;
   answered = b.answered;
   orderly = b.orderly;
 }
   where
-    queued : (t : Specifier) → bytes_eq t s ≡ false → (has rest t ≡ true) ⊎ (has (s ∷ []) t ≡ true) → has rest t ≡ true
-    queued t out (inl h) = h
-    queued t out (inr h) = absurd (let e = sym (has_one s t) ∙ h in cc)
+    queued : (t : Specifier) → bytes_eq t s ≡ false → has (s ∷ rest) t ≡ true → has rest t ≡ true
+    queued t out h = by (bytes_eq t s) out h
+      where
+        by : (c : Bool) → c ≡ false → (c || has rest t) ≡ true → has rest t ≡ true
+        by true e g = absurd cc
+        by false e g = g
+
+    later : (t : Specifier) → has rest t ≡ true → has (s ∷ rest) t ≡ true
+    later t h = by (bytes_eq t s)
+      where
+        by : (c : Bool) → (c || has rest t) ≡ true
+        by true = refl
+        by false = h
 
     apart : (t : Specifier) → has rest t ≡ true → bytes_eq t s ≡ true → ⊥
-    apart t h e = let last = (distinct_last rest s b.todo_once).1 in let same = has_same rest s t e in cc
+    apart t h e = let first = apart_first s rest b.todo_once.0 in let same = has_same rest s t e in cc
+
+    here : (t : Specifier) → bytes_eq t s ≡ true → has (s ∷ rest) t ≡ true
+    here t e = rw e refl
 
     holds : (t : Specifier) → bytes_eq t s ≡ true → slots t ≡ None → ⊥
-    holds t e n = let q = (b.listed t (has_right rest (s ∷ []) t (has_one s t ∙ e))).0 in cc
+    holds t e n = let q = (b.listed t (here t e)).0 in cc
 
 -- what is known of the one that was taken
 pub popped_slot : (rules : Rules) (starts asked : List Specifier) (log : Log) (slots : Slots) (rest : List Specifier)
     (s : Specifier)
-    → IsBuilding rules starts no_one asked log slots (rest ++ s ∷ []) → (slots s ≡ Some Queued) × (has asked s ≡ false)
+    → IsBuilding rules starts no_one asked log slots (s ∷ rest) → (slots s ≡ Some Queued) × (has asked s ≡ false)
 popped_slot rules starts asked log slots rest s b =
-    let q : slots s ≡ Some Queued =
-    (b.listed s (has_right rest (s ∷ []) s (has_one s s ∙ nat_list_eq_equiv.refl s))).0 in
+    let q : slots s ≡ Some Queued = (b.listed s (rw (nat_list_eq_equiv.refl s) refl)).0 in
     (q, (b.queued s refl q).1)
 
 -- ---- the one in hand is asked for

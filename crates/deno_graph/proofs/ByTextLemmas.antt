@@ -1,90 +1,17 @@
--- A map by specifiers is read by their texts.
-use Rattle.std.proofs.Common.{◌≡◌, ◌+◌, Bool, true, false, cond, List, [], ◌∷◌, length, map, refl, sym, ◌∙◌, Some}
+-- The specifiers of entries, by their texts.
+use Rattle.std.proofs.Common.{◌≡◌, Bool, true, false, cond, List, [], ◌∷◌, length, refl, sym, ◌∙◌, Some}
 use Rattle.std.specs.Prelude.{bytes_eq, is_some, ◌||◌}
 use Rattle.std.specs.List.{AllByRecursion, IsDistinct}
 use Rattle.std.specs.List.Sorted.{IsStrictlySortedBy}
 use Rattle.std.proofs.lemmas.List.{length-map}
 use Rattle.std.proofs.lemmas.Map.Keys.{IsDistinct-from_sorted}
-use Rattle.std.specs.Map.{lookup, keys_of}
-use Rattle.std.specs.BTreeMap.{insert_entry, is_at}
-use Rattle.std.specs.Ordering.{nat_cmp, is_eq, match_ordering, eq_by_cmp}
-use Rattle.std.specs.Cmp.Lexicographic.{slice_cmp, nat_list_eq_equiv}
-use Rattle.std.specs.declared.cmp.Ordering.{Ordering}
-use Rattle.std.specs.declared.cmp.Ordering.TheVariants.{Less, Equal, Greater}
+use Rattle.std.specs.Ordering.{nat_cmp, eq_by_cmp}
+use Rattle.std.specs.Cmp.Lexicographic.{slice_cmp}
 use Rattle.std.proofs.lemmas.Map.Text.{is_eq-slice_cmp}
-use Rattle.url.specs.Parts.{Parts, serialize}
+use Rattle.url.specs.Parts.{Parts}
 use Rattle.graph_entry.specs.Specifier.{text_of}
 use Rattle.deno_graph.specs.Reach.{Specifier, has}
-use Rattle.deno_graph.specs.ByText.{value_at, IsPut}
-
--- URLs are ordered as their texts
-abbrev pub url_cmp : Parts → Parts → Ordering
-url_cmp a b = slice_cmp nat_cmp (serialize a) (serialize b)
-
--- whether two URLs compare as equal is whether their texts are equal
-pub is_eq-url_cmp : (a b : Parts) → is_eq (url_cmp a b) ≡ bytes_eq (text_of a) (text_of b)
-unfolding text_of
-is_eq-url_cmp a b = is_eq-slice_cmp (serialize a) (serialize b)
-
--- what a map gives at a URL is the value at its text
-pub value_at-get : {V : Type 0} (entries : List (Parts × V)) (url : Parts)
-    → lookup (is_at (url_cmp url)) entries ≡ value_at entries (text_of url)
-value_at-get [] url = refl
-value_at-get (e ∷ es) url = rw (is_eq-url_cmp url e.0, value_at-get es url) refl
-
--- equal texts are equal to the same ones
-same_side : (t s r : Specifier) → bytes_eq s r ≡ true → bytes_eq t r ≡ bytes_eq t s
-same_side t s r h = nat_list_eq_equiv.symm t r ∙ sym (nat_list_eq_equiv.congr s r t h) ∙ nat_list_eq_equiv.symm s t
-
--- one text isn't equal to two that differ
-apart : (t s r : Specifier) → bytes_eq s r ≡ false → bytes_eq t r ≡ true → bytes_eq t s ≡ true → ⊥
-apart t s r h e f =
-    let equal : bytes_eq s r ≡ true = sym (nat_list_eq_equiv.congr t s r f) ∙ e in cc
-
-cond_again : {A : Type 0} (b : Bool) (x y z : A) → cond b x z ≡ cond b x (cond b y z)
-cond_again true x y z = refl
-cond_again false x y z = refl
-
-cond_swap : {A : Type 0} (a b : Bool) (x y z : A) → (a ≡ true → b ≡ true → ⊥)
-    → cond a x (cond b y z) ≡ cond b y (cond a x z)
-cond_swap true true x y z h = absurd (h refl refl)
-cond_swap true false x y z h = refl
-cond_swap false b x y z h = refl
-
--- a value that is put somewhere
-pub value_at-insert : {V : Type 0} (entries : List (Parts × V)) (url : Parts) (value : V) (t : Specifier)
-    → value_at (insert_entry url_cmp entries url value) t
-    ≡ cond (bytes_eq t (text_of url)) (Some value) (value_at entries t)
-value_at-insert [] url value t = refl
-value_at-insert (e ∷ es) url value t = placed (url_cmp url e.0) (is_eq-url_cmp url e.0) (value_at-insert es url value t)
-  where
-    placed : (o : Ordering) → is_eq o ≡ bytes_eq (text_of url) (text_of e.0)
-        → value_at (insert_entry url_cmp es url value) t ≡ cond (bytes_eq t (text_of url)) (Some value) (value_at es t)
-        → value_at (match_ordering o ((url, value) ∷ e ∷ es) ((e.0, value) ∷ es)
-        (e ∷ insert_entry url_cmp es url value)) t
-        ≡ cond (bytes_eq t (text_of url)) (Some value) (cond (bytes_eq t (text_of e.0)) (Some e.1) (value_at es t))
-    placed Less h rest = refl
-    placed Equal h rest =
-        rw (same_side t (text_of url) (text_of e.0) (sym h)) (cond_again (bytes_eq t (text_of url)) _ _ _)
-    placed Greater h rest =
-        rw rest (cond_swap (bytes_eq t (text_of e.0)) (bytes_eq t (text_of url)) _ _ _
-        (apart t (text_of url) (text_of e.0) (sym h)))
-
--- what is put, by what the map's own clause says of the entries
-pub is_put : {V : Type 0} (old new : List (Parts × V)) (url : Parts) (value : V)
-    → new ≡ insert_entry url_cmp old url value
-    → length new ≡ length old + cond (is_some (lookup (is_at (url_cmp url)) old)) 0 1
-    → IsPut old new (text_of url) value
-is_put old new url value is grown = record {
-  at = λ t. rw is (value_at-insert old url value t);
-  counted = rw (← value_at-get old url) grown;
-}
-
--- ---- the specifiers of a map
-
--- the texts of the keys
-abbrev pub keys_at : {V : Type 0} → List (Parts × V) → List Specifier
-keys_at entries = map (λ e. text_of e.0) entries
+use Rattle.deno_graph.specs.ByText.{value_at, keys_at}
 
 -- a specifier is among them exactly if it has a value
 pub has-keys_at : {V : Type 0} (entries : List (Parts × V)) (t : Specifier)
@@ -96,21 +23,6 @@ has-keys_at (e ∷ es) t = by (bytes_eq t (text_of e.0)) (has-keys_at es t)
         → (b || has (keys_at es) t) ≡ is_some (cond b (Some e.1) (value_at es t))
     by true h = refl
     by false h = h
-
--- what is above the first key of a map is above its text
-less-keys_at : {V : Type 0} (url : Parts) (rest : List (Parts × V))
-    → AllByRecursion (λ y. url_cmp url y ≡ Less) (keys_of rest)
-    → AllByRecursion (λ y. slice_cmp nat_cmp (text_of url) y ≡ Less) (keys_at rest)
-unfolding text_of
-less-keys_at url [] h = tt
-less-keys_at url (f ∷ rest) h = (h.0, less-keys_at url rest h.1)
-
--- they are in order where the map is
-pub sorted-keys_at : {V : Type 0} (entries : List (Parts × V)) → IsStrictlySortedBy url_cmp (keys_of entries)
-    → IsStrictlySortedBy (slice_cmp nat_cmp) (keys_at entries)
-unfolding IsStrictlySortedBy
-sorted-keys_at [] sorted = tt
-sorted-keys_at (e ∷ es) sorted = (less-keys_at e.0 es sorted.0, sorted-keys_at es sorted.1)
 
 -- tests that agree find the same lists without repeats
 apart_by_same : (e f : Specifier → Specifier → Bool) → ((x y : Specifier) → e x y ≡ f x y)

@@ -1,7 +1,7 @@
 -- What first entries become is the entries of the graph.
-use Rattle.std.proofs.Common.{zero, suc, ◌≡◌, ◌≤◌, ◌<◌, ◌+◌, ◌-◌, ℕ, Bool, true, false, List, [], ◌∷◌, ◌++◌, length, map, get_or, refl, sym, ◌∙◌, ap, subst, arith, Option, Some, None}
-use Rattle.std.specs.Prelude.{bytes_eq, is_some, All, not, ◌&&◌, ◌||◌, option_map, option_and_then, Result, Ok, Err, if◌then◌else◌}
-use Rattle.std.specs.List.{filter_map, cons_option, zip}
+use Rattle.std.proofs.Common.{zero, suc, ◌≡◌, ◌≤◌, ◌<◌, ◌+◌, ◌-◌, ℕ, Bool, true, false, List, [], ◌∷◌, map, refl, sym, ◌∙◌, ap, subst, arith, Option, Some, None}
+use Rattle.std.specs.Prelude.{bytes_eq, is_some, All, not, ◌&&◌, ◌||◌, option_map, option_and_then, Ok, Err, if◌then◌else◌}
+use Rattle.std.specs.List.{filter_map, cons_option}
 use Rattle.std.specs.Cmp.Lexicographic.{nat_list_eq_equiv}
 use Rattle.std.proofs.lemmas.List.Elements.{All-nil, All-cons, All-head, All-tail}
 use Rattle.std.proofs.lemmas.Map.Made.{lookup-map_values}
@@ -17,12 +17,12 @@ use Rattle.graph_entry.specs.declared.entry.Entry.{Entry}
 use Rattle.graph_entry.specs.declared.entry.Entry.TheVariants as entry
 use Rattle.deno_graph.specs.Rules.{targets, edges_of, led_to}
 use Rattle.deno_graph.specs.Reach.{Specifier, Answers, Rules, has, IsFunctional, IsEntry, IsReached, IsReach}
-use Rattle.deno_graph.specs.Final.{Redirects, most_redirects, IsTooFar, redirect_of, is_redirect, is_module, LeadsTo, fits, IsMisfit, refused_edge, IsFinalEdge, misfit, fit, AreFinalEdges, with_edges, IsFinal, redirect, too_far, with_module, same}
+use Rattle.deno_graph.specs.Final.{Redirects, most_redirects, redirect_of, is_redirect, LeadsTo, fits, IsMisfit, refused_edge, IsFinalEdge, misfit, fit, AreFinalEdges, with_edges, IsFinal, redirect, too_far, with_module, same}
 use Rattle.deno_graph.specs.Graph.{members_of, entry_of, redirected, on_from, resolved_over, resolved, module_of, module_at, IsAscending, IsGraph}
-use Rattle.deno_graph.specs.Settling.{led, leads_on, is_unfit, is_unfit_at, is_misfit, settled_edge, settled, finals_of}
+use Rattle.deno_graph.specs.Settling.{led, is_unfit, is_unfit_at, is_misfit, settled_edge, settled, finals_of}
 use Rattle.deno_graph.proofs.ReachLemmas.{reached_on, entry_once}
 use Rattle.deno_graph.proofs.SlotsLemmas.{has_one}
-use Rattle.deno_graph.proofs.ByTextLemmas.{has-keys_at}
+use Rattle.deno_graph.proofs.ByTextLemmas.{has-keys_at, distinct_sorted}
 
 -- a redirect leads to where it says
 pub redirect_leads : (rules : Rules) (next : Parts) → has (targets rules (entry.Redirect next)) (text_of next) ≡ true
@@ -355,14 +355,25 @@ module _ (rules : Rules) (starts : List Specifier) (answers : Answers) (firsts :
   final_of s (entry.Error error) e = same (entry.Error error) (each s (entry.Error error) e) refl refl refl
 
   -- the graph
-  pub graph_settled : IsAscending firsts → IsGraph rules starts answers (finals_of rules firsts)
-  graph_settled ascending = record {
-    ascending = rw (members_finals (settled rules firsts) firsts) ascending;
-    members = rw (members_finals (settled rules firsts) firsts) reach;
+  -- the graph has them in the order of bytes
+  pub graph_settled : (entries : List (Parts × Entry)) → IsAscending entries
+      → ((t : Specifier) → entry_of entries t ≡ entry_of (finals_of rules firsts) t) → IsGraph rules starts answers entries
+  graph_settled entries ascending alike = record {
+    ascending = ascending;
+    members = record {
+      once = distinct_sorted (members_of entries) ascending;
+      reached = λ t h. reach.reached t (sym (alike_keys t) ∙ h);
+      all = λ t r. alike_keys t ∙ reach.all t r;
+    };
     each = λ s e h. by s e (entry_of firsts s) refl
-        (sym (lookup-map_values (settled rules firsts) (λ url. bytes_eq s (text_of url)) firsts) ∙ h);
+        (sym (lookup-map_values (settled rules firsts) (λ url. bytes_eq s (text_of url)) firsts) ∙ sym (alike s) ∙ h);
   }
     where
+      -- the graph has an entry of what has a first one
+      alike_keys : (t : Specifier) → has (members_of entries) t ≡ has (members_of firsts) t
+      alike_keys t = has-keys_at entries t ∙ ap is_some (alike t) ∙ sym (has-keys_at (finals_of rules firsts) t)
+          ∙ ap (λ (ts : List Specifier). has ts t) (members_finals (settled rules firsts) firsts)
+
       by : (s : Specifier) (e : Entry) (o : Option Entry) → entry_of firsts s ≡ o
           → option_map (settled rules firsts) o ≡ Some e → IsFinal rules answers s e
       by s e None d h = absurd cc
@@ -395,11 +406,6 @@ final_cuts rules answers (Wasm m) edges cuts are =
     all_final rules answers (Wasm m) (CutsName m.bytes) (λ d h. h) m.dependencies edges cuts are
 
 -- ---- what the code gives
-
--- what first entries become stands in their order
-pub ascending_finals : (rules : Rules) (firsts : List (Parts × Entry)) → IsAscending firsts
-    → IsAscending (finals_of rules firsts)
-ascending_finals rules firsts ascending = rw (members_finals (settled rules firsts) firsts) ascending
 
 -- one step more of those that are left
 pub led_step : (next : Specifier → Option Specifier) (most i : ℕ) (at : Specifier) → i < most

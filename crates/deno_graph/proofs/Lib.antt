@@ -1,14 +1,15 @@
-pub mod EntriesLemmas
 pub mod EventsLemmas
 pub mod BuilderLemmas
 pub mod ReachLemmas
 pub mod ByTextLemmas
+pub mod NumberLemmas
 pub mod SlotsLemmas
 pub mod ReachingLemmas
 pub mod BuildingLemmas
 pub mod ProgressLemmas
 pub mod FinalLemmas
 pub mod SettlingLemmas
+pub mod GraphLemmas
 pub mod PlainLemmas
 pub mod ResultLemmas
 pub mod Theorems

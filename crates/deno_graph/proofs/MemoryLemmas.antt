@@ -41,7 +41,7 @@ index_more modules old new at x lt is put rest s =
     let here : place_from at (drop at modules) s
     ≡ cond (bytes_eq s (text_of x.0)) (Some at) (place_from (at + 1) (drop (at + 1) modules) s) =
     rw (drop_more modules at x lt, ← is) refl in
-    put.at s ∙ rw (rest s) (sym here)
+    put s ∙ rw (rest s) (sym here)
 
 place_within : (n : ℕ) (modules : List (Parts × LoadAnswer)) (s : Specifier) (k : ℕ) → place_from n modules s ≡ Some k
     → (n ≤ k) × (k < n + length modules)

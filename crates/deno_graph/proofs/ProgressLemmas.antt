@@ -1,6 +1,6 @@
 -- The steps of a builder beside its loader's data.
-use Rattle.std.proofs.Common.{◌≡◌, ◌⊎◌, inl, inr, ◌≤◌, ◌<◌, ◌-◌, ℕ, ◌+◌, Bool, true, false, cond, List, [], ◌∷◌, ◌++◌, length, take, drop, refl, sym, ◌∙◌, ap, subst, arith, Option, Some, None, Result, Ok, Err, append-nil, append_assoc, length-append}
-use Rattle.std.specs.Prelude.{bytes_eq, ◌||◌, is_some, IsSome}
+use Rattle.std.proofs.Common.{◌≡◌, ◌⊎◌, inl, inr, ◌≤◌, ◌<◌, ◌-◌, ℕ, ◌+◌, Bool, true, false, cond, List, [], ◌∷◌, ◌++◌, length, take, slice_get, refl, sym, ◌∙◌, ap, subst, arith, Option, Some, None, Result, Ok, Err, append-nil, append_assoc, length-append}
+use Rattle.std.specs.Prelude.{bytes_eq, ◌||◌, is_some, IsSome, fold}
 use Rattle.std.specs.List.{IsDistinct, list_any}
 use Rattle.std.proofs.lemmas.Map.Made.{length-le_from_is_member, is_some-lookup}
 use Rattle.std.proofs.lemmas.Map.Entries.{length-keys_of}
@@ -9,8 +9,7 @@ use Rattle.deno_graph.specs.declared.error.BuildError.{BuildError}
 use Rattle.deno_graph.specs.declared.error.BuildError.TheVariants as error
 use Rattle.std.specs.Map.{keys_of}
 use Rattle.std.specs.Cmp.Lexicographic.{nat_list_eq_equiv}
-use Rattle.std.proofs.lemmas.List.{drop-append-le, map-append}
-use Rattle.std.proofs.Common.{length-drop}
+use Rattle.std.proofs.lemmas.List.{map-append}
 use Rattle.std.proofs.lemmas.Map.Keys.{IsDistinct-push, IsDistinct-cons}
 use Rattle.std.specs.declared.alloc.AllocError.{AllocError}
 use Rattle.deno_graph.specs.declared.progress.Progress.{Progress}
@@ -23,19 +22,21 @@ use Rattle.deno_graph.specs.declared.slot.Slot.TheVariants.{Queued, Asked, Done}
 use Rattle.deno_graph.specs.declared.reaching.Reaching.{Reaching}
 use Rattle.deno_graph.specs.Rules.{targets}
 use Rattle.deno_graph.specs.Reach.{Specifier, Log, Answers, Rules, answer_to, has, IsEntry, IsReached, Leads, IsFunctional}
-use Rattle.deno_graph.specs.Graph.{texts}
-use Rattle.deno_graph.specs.Builder.{last_of, before_last, IsOwn, IsKept, IsToldLog, IsTooMany, SomeOutstanding, EachAnswered, IsOrderly, IsOrderlyAfter, IsUnawaitedOver, IsInTime, CameInTime}
+use Rattle.deno_graph.specs.Graph.{texts, with_one, different}
+use Rattle.deno_graph.specs.Builder.{last_of, before_last, GoesOn, IsOwn, IsKept, IsToldLog, IsTooMany, SomeOutstanding, EachAnswered, IsOrderly, IsOrderlyAfter, IsUnawaitedOver, IsInTime, CameInTime}
 use Rattle.deno_graph.specs.Events.{Event, Requested, Answered, asked_of, log_of, IsOutstanding, IsTimely, requests, answers}
 use Rattle.deno_graph.specs.declared.loader.LoaderPoll.TheVariants.{Answer}
 use Rattle.deno_graph.proofs.EventsLemmas.{asked_of-append, log_of-append, asked_of-request, log_of-request, asked_of-answer, log_of-answer, length-events, timely_asked, timely_answer}
-use Rattle.deno_graph.proofs.BuilderLemmas.{last_of-more, last_of-push, length-last_of, before_last-last, before_last-more, before_last-push, own_of}
+use Rattle.deno_graph.proofs.BuilderLemmas.{last_of-more, last_of-push, before_last-last, before_last-more, before_last-push, own_of}
 use Rattle.deno_graph.specs.Slots.{Slots, IsOverfull}
 use Rattle.deno_graph.specs.Building.{IsBuilding, no_one, this_one}
-use Rattle.deno_graph.specs.Reaching.{slots_of, IsMarked, IsFilled, HasReached, Fills, Grows}
+use Rattle.deno_graph.specs.ByText.{value_at, keys_at}
+use Rattle.deno_graph.specs.Reaching.{slots_of, todo_of, IsMarked, IsFilled, HasReached, Grows, TakesNext}
+use Rattle.deno_graph.proofs.ReachingLemmas.{goes_on_more, goes_on_same, todo_marked}
 use Rattle.deno_graph.specs.declared.reaching.GrowError.{GrowError}
 use Rattle.deno_graph.specs.declared.reaching.GrowError.TheVariants.{TooMany, OutOfMemory}
 use Rattle.deno_graph.specs.Loader.{LoaderData, HasStarted, HasPolled, NeverRises, Falls}
-use Rattle.deno_graph.specs.Progress.{At, at, IsLive, IsInHand, starts_at, own_count, own_events, own_asked, own_log, slots_at, todo_at, IsKeptAt, Deals, GoOn, GoesOnAt, OnlyAsks, FillsUnasked, Takes, Turns, Runs, Begins, AsksNext, AsksAll}
+use Rattle.deno_graph.specs.Progress.{At, at, IsLive, HasFirst, IsInHand, IsInHandAt, starts_at, own_count, own_events, own_asked, own_log, slots_at, todo_at, IsKeptAt, Deals, GoOn, GoesOnAt, OnlyAsks, FillsUnasked, Takes, Turns, Runs, Begins, AsksNext, AsksAll}
 use Rattle.deno_graph.proofs.ReachLemmas.{reached_least, entry_once, answer_here, reached_start, reached_on, reached_grows, answer_kept, answer_later}
 use Rattle.deno_graph.proofs.SlotsLemmas.{has_append, has_one, has_same, none_equal}
 use Rattle.deno_graph.proofs.BuildingLemmas.{text_same, written_some, building_popped, popped_slot, building_asked, building_answered, building_grown, building_filled}
@@ -121,34 +122,67 @@ kept_answered rules starts events told n m s a k le as_told = record {
 
 -- ---- a specifier is taken in hand and asked for
 
-pub live_popped : (rules : Rules) (x : At) (rest : List Parts) (url : Parts) → IsLive rules x
-    → x.progress.reaching.todo ≡ rest ++ url ∷ []
-    → IsInHand rules (at x.loader (record {
+pub live_taken : (rules : Rules) (x : At) (new : Reaching) (n : ℕ) → IsLive rules x
+    → TakesNext x.progress.reaching new (Some n)
+    → IsInHandAt rules (at x.loader (record {
       starts = x.progress.starts;
-      reaching = record { reached = x.progress.reaching.reached; todo = rest; limit = x.progress.reaching.limit };
+      reaching = new;
       asked = x.progress.asked;
       taken = x.progress.taken;
       begun = x.progress.begun;
-    })) (text_of url)
-live_popped rules x rest url v is =
-    let same : todo_at x ≡ texts rest ++ text_of url ∷ [] = ap texts is ∙ map-append text_of rest (url ∷ []) in
-    let long : length x.progress.reaching.todo ≡ length rest + 1 = ap length is ∙ length-append rest (url ∷ []) in
-    let building : IsBuilding rules (starts_at x) no_one (own_asked x) (own_log x) (slots_at x)
-    (texts rest ++ text_of url ∷ []) =
-    subst (IsBuilding rules (starts_at x) no_one (own_asked x) (own_log x) (slots_at x)) same v.building in
-    let known = popped_slot rules (starts_at x) (own_asked x) (own_log x) (slots_at x) (texts rest) (text_of url)
-    building in record {
-      kept = v.kept;
-      behind = v.behind;
-      counted = omega (arith, v.counted, long);
-      room = v.room;
-      building = building_popped rules (starts_at x) (own_asked x) (own_log x) (slots_at x) (texts rest) (text_of url)
-          building;
-      queued = known.0;
-      fresh = known.1;
-      timely = v.timely;
-      rooted = v.rooted;
-    }
+    })) n
+live_taken rules x new n v t =
+    let s : Specifier = t.0 in
+    let building : IsBuilding rules (starts_at x) no_one (own_asked x) (own_log x) (slots_at x) (s ∷ todo_of new) =
+    subst (IsBuilding rules (starts_at x) no_one (own_asked x) (own_log x) (slots_at x)) t.1 v.building in
+    let known = popped_slot rules (starts_at x) (own_asked x) (own_log x) (slots_at x) (todo_of new) s building in
+    let same : slots_at x ≡ slots_of new = ap value_at (sym t.3) in
+    let even : length new.reached ≡ length x.progress.reaching.reached = ap length t.3 in
+    let long : length (todo_at x) ≡ length (todo_of new) + 1 = ap length t.1 ∙ omega arith in (
+      s,
+      t.2,
+      record {
+        kept = v.kept;
+        behind = v.behind;
+        counted = omega (arith, v.counted, long, even);
+        room = record { within = t.5; room = omega (arith, v.room.room, even, t.4) };
+        building = subst (λ (f : Slots). IsBuilding rules (starts_at x) (this_one s) (own_asked x) (own_log x) f (todo_of new))
+            same (building_popped rules (starts_at x) (own_asked x) (own_log x) (slots_at x) (todo_of new) s building);
+        queued = ap (λ (f : Slots). f s) (sym same) ∙ known.0;
+        fresh = known.1;
+        timely = v.timely;
+        rooted = subst (λ (f : Slots). x.progress.begun ≡ true → (t : Specifier) → has (starts_at x) t ≡ true → f t ≡ None → ⊥)
+            same v.rooted;
+        first = record {
+          before = λ b. t.3 ∙ v.first.before b;
+          after = λ b. rw t.3 (v.first.after b);
+        };
+      },
+    )
+
+-- where something has a slot, the builder has begun
+has_begun : (x : At) (s : Specifier) (o : Slot) → slots_at x s ≡ Some o → HasFirst x → x.progress.begun ≡ false → ⊥
+has_begun x s o some f b =
+    let none : slots_at x s ≡ None = ap (λ (es : List (Parts × Slot)). value_at es s) (f.before b) in cc
+
+-- the first numbers stay when others come
+first_later : (x y : At) (s : Specifier) (o : Slot) → HasFirst x → slots_at x s ≡ Some o
+    → y.progress.begun ≡ x.progress.begun → starts_at y ≡ starts_at x
+    → GoesOn (keys_at x.progress.reaching.reached) (keys_at y.progress.reaching.reached) → HasFirst y
+first_later x y s o f some begun starts goes = record {
+  before = λ b. absurd (has_begun x s o some f (sym begun ∙ b));
+  after = λ b. rw starts
+      (goes_on_more (different (starts_at x)) (keys_at x.progress.reaching.reached) (keys_at y.progress.reaching.reached)
+      (f.after (sym begun ∙ b)) goes);
+}
+
+-- the one in hand with a number is the one that stands there
+pub in_hand_here : (rules : Rules) (x : At) (n : ℕ) (s : Specifier) → IsInHandAt rules x n
+    → slice_get (keys_at x.progress.reaching.reached) n ≡ Some s → IsInHand rules x s
+in_hand_here rules x n s h at = subst (IsInHand rules x) (one h.0 s (sym h.1 ∙ at)) h.2
+  where
+    one : (t u : Specifier) → Some t ≡ Some u → t ≡ u
+    one t u e = cc
 
 pub live_asked : (rules : Rules) (x : At) (s : Specifier) (now : LoaderData) (new : Reaching)
     → IsInHand rules x s → loadable s ≡ true → HasStarted s x.loader now (Ok tt)
@@ -167,15 +201,20 @@ live_asked rules x s now new v loads started marked same = record {
       v.fresh
       (v.building.sound s Queued v.queued));
   behind = omega (arith, v.behind);
-  counted = rw (marked.counted, marked.todo) (omega (arith, v.counted));
-  room = rw (marked.counted, same) v.room;
+  counted = rw (marked.counted, todo_marked s Asked x.progress.reaching new marked) (omega (arith, v.counted));
+  room = record {
+    within = omega (arith, v.room.within, marked.next, marked.counted);
+    room = omega (arith, v.room.room, marked.counted, same);
+  };
   building = subst (λ (l : List Event). IsBuilding rules (starts_at x) no_one (asked_of l) (log_of l) (slots_of new)
-      (texts new.todo)) (sym later)
-      (rw (asked_of-request (own_events x) s, log_of-request (own_events x) s, marked.todo)
+      (todo_of new)) (sym later)
+      (rw (asked_of-request (own_events x) s, log_of-request (own_events x) s, todo_marked s Asked x.progress.reaching new marked)
       (building_asked rules (starts_at x) (own_asked x) (own_log x) (slots_at x) (slots_of new) (todo_at x) s
       v.building v.queued v.fresh marked.written));
   timely = subst IsTimely (sym later) (timely_asked (own_events x) (Requested s ∷ []) v.timely refl);
   rooted = λ b t h. written_some (slots_at x) (slots_of new) s t Asked marked.written (v.rooted b t h);
+  first = first_later x _ s Queued v.first v.queued refl refl
+      (goes_on_same (keys_at x.progress.reaching.reached) (keys_at new.reached) marked.keys);
 }
   where
     later : last_of ((x.progress.asked + 1) + x.progress.taken) now.events ≡ own_events x ++ Requested s ∷ []
@@ -222,13 +261,13 @@ filled_some {rules} s t e old new f h =
 -- the entry of the specifier in hand fills its slot
 pub building_entry : (rules : Rules) (starts asked : List Specifier) (log : Log) (s : Specifier) (e : Entry)
     (old new : Reaching)
-    → IsBuilding rules starts (this_one s) asked log (slots_of old) (texts old.todo)
+    → IsBuilding rules starts (this_one s) asked log (slots_of old) (todo_of old)
     → IsReached rules starts (answer_to log) s
     → IsEntry rules (answer_to log) s e → IsFilled rules s e old new
-    → IsBuilding rules starts no_one asked log (slots_of new) (texts new.todo)
+    → IsBuilding rules starts no_one asked log (slots_of new) (todo_of new)
 building_entry rules starts asked log s e old new b reached is_entry f =
-    building_filled rules starts asked log f.between (slots_of new) (texts new.todo) s e
-    (building_grown rules starts (this_one s) asked log (slots_of old) f.between (texts old.todo) (texts new.todo)
+    building_filled rules starts asked log f.between (slots_of new) (todo_of new) s e
+    (building_grown rules starts (this_one s) asked log (slots_of old) f.between (todo_of old) (todo_of new)
     (targets rules e) b f.grown
     (λ t h. reached_on rules starts (answer_to log) s t reached (record { entry = e; is_entry = is_entry; among = h })))
     reached is_entry f.grown.came f.written
@@ -252,6 +291,7 @@ live_alone rules x s e new v alone means f = record {
       (v.building.sound s Queued v.queued) (inr (alone, means)) f;
   timely = v.timely;
   rooted = λ b t h. filled_some s t e x.progress.reaching new f (v.rooted b t h);
+  first = first_later x _ s Queued v.first v.queued refl refl f.keys;
 }
 
 pub too_many_alone : (rules : Rules) (x : At) (s : Specifier) (e : Entry) (limit seen : ℕ) → IsInHand rules x s
@@ -539,13 +579,14 @@ live_answered {rules} x url a e now new v fewer polled open_slot means f = recor
   counted = omega (arith, v.counted, f.counted);
   room = f.room;
   building = subst (λ (l : List Event). IsBuilding rules (starts_at x) no_one (asked_of l) (log_of l) (slots_of new)
-      (texts new.todo)) (sym later)
+      (todo_of new)) (sym later)
       (rw (asked_of-answer (own_events x) s a, log_of-answer (own_events x) s a)
       (building_entry rules (starts_at x) (own_asked x) (own_log x ++ (s, a) ∷ []) s e x.progress.reaching new built
       (built.sound s Asked open_slot)
       (inl (record { loads = loads; answer = a; given = answer_here (own_log x) s a is_open.1; means = means })) f));
   timely = subst IsTimely (sym later) (timely_answer (own_events x) s a v.timely is_open);
   rooted = λ b t h. filled_some s t e x.progress.reaching new f (v.rooted b t h);
+  first = first_later x _ s Asked v.first open_slot refl refl f.keys;
 }
   where
     s : Specifier
@@ -571,7 +612,7 @@ live_answered {rules} x url a e now new v fewer polled open_slot means f = recor
 
 -- whatever is reached has a slot, where the worklist is empty
 pub way_in : (rules : Rules) → IsFunctional rules → (x : At) → IsLive rules x → x.progress.begun ≡ true
-    → x.progress.reaching.todo ≡ []
+    → todo_at x ≡ []
     → (t : Specifier) → IsReached rules (starts_at x) (answer_to (own_log x)) t → slots_at x t ≡ None → ⊥
 way_in rules once x v begun empty =
     reached_least rules (starts_at x) (answer_to (own_log x)) (λ t. slots_at x t ≡ None → ⊥)
@@ -580,7 +621,7 @@ way_in rules once x v begun empty =
   where
     not_queued : (t : Specifier) → slots_at x t ≡ Some Queued → ⊥
     not_queued t q = let h = (v.building.queued t refl q).0 in let none =
-        ap (λ (l : List Parts). has (texts l) t) empty in cc
+        ap (λ (l : List Specifier). has l t) empty in cc
 
     no_answer : (r : Specifier) (e : Entry) → answer_to (own_log x) r ≡ None → loadable r ≡ true
         → IsEntry rules (answer_to (own_log x)) r e → ⊥
@@ -681,7 +722,7 @@ all_answered asked log once answered fits s h = by (answer_to log s) refl
 
 -- what has no waiting slot isn't awaited, where the worklist is empty
 pub unawaited_now : (rules : Rules) → IsFunctional rules → (x : At) → IsLive rules x → x.progress.begun ≡ true
-    → x.progress.reaching.todo ≡ []
+    → todo_at x ≡ []
     → (s : Specifier) → (slots_at x s ≡ Some Asked → ⊥) → IsUnawaitedOver rules 1 (starts_at x) (own_log x) s
 unawaited_now rules once x v begun empty s not_asked = by (slots_at x s) refl
   where
@@ -696,7 +737,7 @@ unawaited_now rules once x v begun empty s not_asked = by (slots_at x s) refl
     by None d = inr (λ r loads. way_in rules once x v begun empty s
         (subst (λ (l : Log). IsReached rules (starts_at x) (answer_to l) s) whole r) d)
     by (Some Queued) d =
-        absurd (let h = (v.building.queued s refl d).0 in let none = ap (λ (l : List Parts). has (texts l) s) empty in
+        absurd (let h = (v.building.queued s refl d).0 in let none = ap (λ (l : List Specifier). has l s) empty in
         cc)
     by (Some Asked) d = absurd (not_asked d)
     by (Some (Done e)) d = from e (v.building.done s e d)
@@ -733,7 +774,7 @@ same_counts s xs ys is = subst (λ (l : List Event). answers l s < requests l s)
 
 -- the loader answers, and it is refused
 pub turns_refused : {rules : Rules} → (x y : At) (url : Parts) (a : LoadAnswer) (new : Reaching) (e : BuildError)
-    → IsLive rules x → x.progress.begun ≡ true → x.progress.reaching.todo ≡ [] → x.progress.taken < x.progress.asked
+    → IsLive rules x → x.progress.begun ≡ true → todo_at x ≡ [] → x.progress.taken < x.progress.asked
     → Takes rules url a x.progress.reaching new (Err e) → HasPolled x.loader y.loader (Ok (Answer url a))
     → y.progress.asked ≡ x.progress.asked → y.progress.taken ≡ x.progress.taken + 1
     → Turns rules x y (Err e)
@@ -924,7 +965,7 @@ runs_err rules x z error.Finished t = t
 
 -- ---- the starts are reached
 
-pub live_begun : (rules : Rules) (x : At) (new : Reaching) → IsLive rules x
+pub live_begun : (rules : Rules) (x : At) (new : Reaching) → IsLive rules x → x.progress.begun ≡ false
     → HasReached (starts_at x) x.progress.reaching new
     → IsLive rules (at x.loader (record {
       starts = x.progress.starts;
@@ -933,16 +974,21 @@ pub live_begun : (rules : Rules) (x : At) (new : Reaching) → IsLive rules x
       taken = x.progress.taken;
       begun = true;
     }))
-live_begun rules x new v r = record {
+live_begun rules x new v b r = record {
   kept = v.kept;
   behind = v.behind;
   counted = omega (arith, v.counted, r.counted);
   room = r.room;
   building = building_grown rules (starts_at x) no_one (own_asked x) (own_log x) (slots_at x) (slots_of new)
-      (todo_at x) (texts new.todo) (starts_at x)
+      (todo_at x) (todo_of new) (starts_at x)
       v.building r.grown (reached_start rules (starts_at x) (answer_to (own_log x)));
   timely = v.timely;
-  rooted = λ b t h. r.grown.came t h;
+  rooted = λ c t h. r.grown.came t h;
+  first = record {
+    before = λ c. absurd cc;
+    after = λ c. goes_on_same (different (starts_at x)) (keys_at new.reached)
+        (r.all ∙ ap (λ (es : List (Parts × Slot)). fold with_one (keys_at es) (starts_at x)) (v.first.before b));
+  };
 }
 
 pub begins_err : (rules : Rules) (x : At) (e : GrowError) (new : Reaching) → IsLive rules x

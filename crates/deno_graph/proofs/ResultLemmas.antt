@@ -1,8 +1,8 @@
 -- What a builder has when a run ends.
-use Rattle.std.proofs.Common.{◌≡◌, ◌⊎◌, inl, inr, ◌≤◌, ◌<◌, ◌-◌, ℕ, ◌+◌, Bool, true, false, List, [], ◌∷◌, ◌++◌, length, map, take, refl, sym, ◌∙◌, ap, subst, arith, Option, Some, None, Result, Err, append-nil, append_assoc, length-append}
+use Rattle.std.proofs.Common.{◌≡◌, ◌⊎◌, inl, inr, ◌≤◌, ◌<◌, ◌-◌, ℕ, ◌+◌, Bool, true, false, List, [], ◌∷◌, ◌++◌, length, map, take, drop, refl, sym, ◌∙◌, ap, subst, arith, Option, Some, None, Result, Err, append-nil, append_assoc, length-append}
 use Rattle.std.specs.Prelude.{bytes_eq, is_some, option_map}
-use Rattle.std.specs.List.{IsDistinct}
-use Rattle.std.specs.List.Sorted.{IsStrictlySortedBy}
+use Rattle.std.specs.List.{IsDistinct, flat_map, zip}
+use Rattle.std.proofs.lemmas.List.Sums.{fold-append}
 use Rattle.std.specs.Map.{keys_of}
 use Rattle.std.proofs.lemmas.List.{take_all, length-map, map-append}
 use Rattle.std.proofs.Common.{length-take-le}
@@ -12,40 +12,43 @@ use Rattle.graph_entry.specs.declared.answer.LoadAnswer.{LoadAnswer}
 use Rattle.graph_entry.specs.declared.entry.Entry.{Entry}
 use Rattle.graph_entry.specs.declared.referrer.ReferrerImports.{ReferrerImports}
 use Rattle.graph_entry.specs.Resolution.{Resolves}
-use Rattle.graph_entry.specs.Referrer.{starts_by}
+use Rattle.graph_entry.specs.Referrer.{starts_by, led_from}
 use Rattle.graph_entry.specs.Specifier.{text_of, loadable}
 use Rattle.deno_graph.specs.declared.slot.Slot.{Slot}
 use Rattle.deno_graph.specs.declared.slot.Slot.TheVariants.{Queued, Asked, Done}
 use Rattle.deno_graph.specs.Reach.{Specifier, Log, Rules, answer_to, has, IsEntry, IsReached, IsReach, IsFunctional}
-use Rattle.deno_graph.specs.Graph.{texts, members_of, IsGraph, IsAscending}
-use Rattle.deno_graph.specs.ByText.{value_at}
-use Rattle.deno_graph.specs.Events.{Event, Answered, asked_of, log_of, IsOutstanding, IsTimely, IsSettled, times, requests, answers}
+use Rattle.deno_graph.specs.Graph.{GraphData, texts, with_one, different, members_of, entry_of, IsGraph, IsAscending}
+use Rattle.deno_graph.specs.ByText.{value_at, keys_at}
+use Rattle.deno_graph.specs.Events.{Event, asked_of, log_of, IsOutstanding, IsTimely, IsSettled, times, requests, answers}
 use Rattle.deno_graph.specs.Building.{IsBuilding, no_one}
-use Rattle.deno_graph.specs.Builder.{last_of, before_last, SomeOutstanding, IsFairly, IsAskedFor, EachAnswered, ReachesAtMost, IsOrderly, IsOrderlyAfter, IsAwaited, IsUnawaited, IsUnawaitedOver, IsNotYet, IsTooMany, BuildingBy, starts, HasHistory}
+use Rattle.deno_graph.specs.Builder.{last_of, before_last, GoesOn, SomeOutstanding, IsFairly, IsAskedFor, EachAnswered, ReachesAtMost, IsOrderly, IsOrderlyAfter, IsAwaited, IsUnawaited, IsUnawaitedOver, IsNotYet, IsTooMany, BuildingBy, starts, HasHistory}
 use Rattle.deno_graph.specs.declared.error.BuildError.{BuildError}
 use Rattle.deno_graph.specs.declared.error.BuildError.TheVariants as error
 use Rattle.deno_graph.specs.Progress.{At, IsLive, starts_at, own_count, own_events, own_asked, own_log, slots_at, todo_at, IsThrough, IsPaused, IsUnasked, GoesOnAt, IsKeptAt}
-use Rattle.deno_graph.specs.Inside.{IsInside, all_done, AreDone, HaveEntries, seen_of}
+use Rattle.deno_graph.specs.Inside.{IsInside, all_done, AreDone, AreEntries, HaveEntries, seen_of}
 use Rattle.deno_graph.specs.Settling.{settled, finals_of, AreSettled}
+use Rattle.numbered.specs.Numbers.{at_numbers, IsByBytes}
+use Rattle.deno_graph.proofs.GraphLemmas.{ascending_numbered, entry_numbered}
+use Rattle.deno_graph.proofs.SettlingLemmas.{zip_mapped, values_zip}
 use Rattle.deno_graph.proofs.FinalLemmas.{graph_settled}
 use Rattle.std.specs.Cmp.Lexicographic.{nat_list_eq_equiv}
-use Rattle.deno_graph.proofs.ByTextLemmas.{url_cmp, keys_at, has-keys_at, sorted-keys_at, distinct_sorted, length-keys_at}
-use Rattle.deno_graph.proofs.EventsLemmas.{asked_of-append, log_of-append, asked_of-answer, log_of-answer, length-events, times-append, is_outstanding, not_among}
-use Rattle.deno_graph.proofs.BuilderLemmas.{last_of-zero, before_last-last, before_last-more, kept_new}
+use Rattle.deno_graph.proofs.ByTextLemmas.{has-keys_at, length-keys_at}
+use Rattle.deno_graph.proofs.ReachingLemmas.{goes_on_with, goes_on_more}
+use Rattle.deno_graph.proofs.EventsLemmas.{asked_of-append, log_of-append, asked_of-answer, log_of-answer, times-append, is_outstanding, not_among}
+use Rattle.deno_graph.proofs.BuilderLemmas.{last_of-zero, before_last-last, kept_new}
 use Rattle.deno_graph.proofs.ProgressLemmas.{way_in, distinct_log, all_answered, one_open, own_after, before_after}
 
 -- ---- what is reached
 
 module _ (rules : Rules) (once : IsFunctional rules) (x : At) (v : IsLive rules x)
-    (begun : x.progress.begun ≡ true) (empty : x.progress.reaching.todo ≡ []) where
+    (begun : x.progress.begun ≡ true) (empty : todo_at x ≡ []) where
   -- the specifiers with a slot are the reached ones
-  pub reach_now : IsStrictlySortedBy url_cmp (keys_of x.progress.reaching.reached.entries)
-      → IsReach rules (starts_at x) (answer_to (own_log x)) (keys_at x.progress.reaching.reached.entries)
-  reach_now sorted = record {
-    once = distinct_sorted (keys_at x.progress.reaching.reached.entries)
-        (sorted-keys_at x.progress.reaching.reached.entries sorted);
-    reached = λ t h. reached t (slots_at x t) refl (sym (has-keys_at x.progress.reaching.reached.entries t) ∙ h);
-    all = λ t r. has-keys_at x.progress.reaching.reached.entries t
+  pub reach_now : IsDistinct bytes_eq (keys_at x.progress.reaching.reached)
+      → IsReach rules (starts_at x) (answer_to (own_log x)) (keys_at x.progress.reaching.reached)
+  reach_now distinct = record {
+    once = distinct;
+    reached = λ t h. reached t (slots_at x t) refl (sym (has-keys_at x.progress.reaching.reached t) ∙ h);
+    all = λ t r. has-keys_at x.progress.reaching.reached t
         ∙ some (slots_at x t) (way_in rules once x v begun empty t r);
   }
     where
@@ -58,12 +61,12 @@ module _ (rules : Rules) (once : IsFunctional rules) (x : At) (v : IsLive rules 
       some (Some y) h = refl
       some None h = absurd (h refl)
 
-  pub within_now : IsStrictlySortedBy url_cmp (keys_of x.progress.reaching.reached.entries)
+  pub within_now : IsDistinct bytes_eq (keys_at x.progress.reaching.reached)
       → ReachesAtMost rules (starts_at x) (answer_to (own_log x)) x.progress.reaching.limit
-  within_now sorted = (
-    keys_at x.progress.reaching.reached.entries,
-    reach_now sorted,
-    rw (length-keys_at x.progress.reaching.reached.entries) v.room,
+  within_now distinct = (
+    keys_at x.progress.reaching.reached,
+    reach_now distinct,
+    rw (length-keys_at x.progress.reaching.reached) v.room.room,
   )
 
   -- the loadable ones of them are asked for
@@ -80,28 +83,29 @@ module _ (rules : Rules) (once : IsFunctional rules) (x : At) (v : IsLive rules 
       by t None d r loads = absurd (way_in rules once x v begun empty t r d)
       by t (Some Queued) d r loads =
           absurd (let h = (v.building.queued t refl d).0 in let none =
-          ap (λ (l : List Parts). has (texts l) t) empty in cc)
+          ap (λ (l : List Specifier). has l t) empty in cc)
       by t (Some Asked) d r loads = (v.building.outstanding t refl d).0
       by t (Some (Done e)) d r loads = from t e (v.building.done t e d) loads
 
   -- ---- the graph
 
-  -- what the entries of finished slots become
-  pub graph_now : (firsts : List (Parts × Entry))
-      → IsStrictlySortedBy url_cmp (keys_of x.progress.reaching.reached.entries)
-      → x.progress.reaching.reached.entries ≡ map (λ e. (e.0, Done e.1)) firsts
-      → IsGraph rules (starts_at x) (answer_to (own_log x)) (finals_of rules firsts)
-  graph_now firsts sorted is =
-      graph_settled rules (starts_at x) (answer_to (own_log x)) firsts (rw (← same) (reach_now sorted)) once
+  -- what the entries of finished slots become, in the order of bytes
+  pub graph_now : (firsts entries : List (Parts × Entry))
+      → IsDistinct bytes_eq (keys_at x.progress.reaching.reached)
+      → x.progress.reaching.reached ≡ map (λ e. (e.0, Done e.1)) firsts
+      → IsAscending entries → ((t : Specifier) → entry_of entries t ≡ entry_of (finals_of rules firsts) t)
+      → IsGraph rules (starts_at x) (answer_to (own_log x)) entries
+  graph_now firsts entries distinct is ascending alike =
+      graph_settled rules (starts_at x) (answer_to (own_log x)) firsts (rw (← same) (reach_now distinct)) once
       (λ s e h. v.building.done s e (ap (λ (es : List (Parts × Slot)). value_at es s) is
       ∙ lookup-map_values Done (λ url. bytes_eq s (text_of url)) firsts ∙ ap (option_map Done) h))
-      (rw (← same) (sorted-keys_at x.progress.reaching.reached.entries sorted))
+      entries ascending alike
     where
       marked : (es : List (Parts × Entry)) → keys_at (map (λ e. (e.0, Done e.1)) es) ≡ members_of es
       marked [] = refl
       marked (e ∷ es) = rw (marked es) refl
 
-      same : keys_at x.progress.reaching.reached.entries ≡ members_of firsts
+      same : keys_at x.progress.reaching.reached ≡ members_of firsts
       same = ap keys_at is ∙ marked firsts
 
 -- all that was asked is answered, where as many answers were taken
@@ -112,32 +116,54 @@ answered_now rules x v all =
     v.building.answered
     (omega (arith, v.kept.own.asked_counted, v.kept.own.taken_counted, all))
 
+-- slots without their specifiers
+pub entries_here : (ks : List Parts) (slots : List Slot) (reached : List (Parts × Slot)) → length ks ≡ length slots
+    → zip ks slots ≡ reached → AreDone reached → AreEntries slots
+entries_here ks slots reached even is d = record {
+  entries = map (λ (e : Parts × Entry). e.1) d.entries;
+  is = sym (values_zip ks slots even) ∙ ap (map (λ (e : Parts × Slot). e.1)) (is ∙ d.is) ∙ by d.entries;
+}
+  where
+    by : (es : List (Parts × Entry)) → map (λ (e : Parts × Slot). e.1) (all_done es)
+        ≡ map Done (map (λ (e : Parts × Entry). e.1) es)
+    by [] = refl
+    by (e ∷ es) = ap (λ (l : List Slot). Done e.1 ∷ l) (by es)
+
 -- of slots that all have an entry the first has one, and so have the others
-pub done_first : (x : Parts × Slot) (xs slots : List (Parts × Slot)) → slots ≡ x ∷ xs → AreDone slots
-    → (((x.1 ≡ Queued) ⊎ (x.1 ≡ Asked)) → ⊥) × AreDone xs
+pub done_first : (x : Slot) (xs slots : List Slot) → slots ≡ x ∷ xs → AreEntries slots
+    → (((x ≡ Queued) ⊎ (x ≡ Asked)) → ⊥) × AreEntries xs
 done_first x xs slots is d = by d.entries (sym is ∙ d.is)
   where
     open_not : (y : Slot) (e : Entry) → y ≡ Done e → ((y ≡ Queued) ⊎ (y ≡ Asked)) → ⊥
     open_not y e s (inl q) = let n = sym q ∙ s in cc
     open_not y e s (inr a) = let n = sym a ∙ s in cc
 
-    by : (es : List (Parts × Entry)) → x ∷ xs ≡ all_done es → (((x.1 ≡ Queued) ⊎ (x.1 ≡ Asked)) → ⊥) × AreDone xs
+    by : (es : List Entry) → x ∷ xs ≡ map Done es → (((x ≡ Queued) ⊎ (x ≡ Asked)) → ⊥) × AreEntries xs
     by [] h = absurd cc
     by (e ∷ es) h =
-        let first : x ≡ (e.0, Done e.1) = cc in
-        let rest : xs ≡ all_done es = cc in
-        (open_not x.1 e.1 (ap (λ (y : Parts × Slot). y.1) first), record { entries = es; is = rest })
+        let first : x ≡ Done e = cc in
+        let rest : xs ≡ map Done es = cc in
+        (open_not x e first, record { entries = es; is = rest })
 
 -- one slot more that has its entry
-pub done_push : (yielded : List (Parts × Slot)) (entries new : List (Parts × Entry)) (url : Parts) (slot : Slot)
-    (e : Entry)
-    → yielded ≡ all_done entries → slot ≡ Done e → new ≡ entries ++ (url, e) ∷ []
-    → yielded ++ (url, slot) ∷ [] ≡ all_done new
-done_push yielded entries new url slot e so_far is longer =
-    ap (λ (l : List (Parts × Slot)). l ++ (url, slot) ∷ []) so_far
-    ∙ ap (λ (y : Slot). all_done entries ++ (url, y) ∷ []) is
-    ∙ sym (map-append (λ (x : Parts × Entry). (x.0, Done x.1)) entries ((url, e) ∷ []))
-    ∙ ap all_done (sym longer)
+pub done_push : (yielded : List Slot) (entries new : List Entry) (slot : Slot) (e : Entry)
+    → yielded ≡ map Done entries → slot ≡ Done e → new ≡ entries ++ e ∷ []
+    → yielded ++ slot ∷ [] ≡ map Done new
+done_push yielded entries new slot e so_far is longer =
+    ap (λ (l : List Slot). l ++ slot ∷ []) so_far
+    ∙ ap (λ (y : Slot). map Done entries ++ y ∷ []) is
+    ∙ sym (map-append Done entries (e ∷ []))
+    ∙ ap (map Done) (sym longer)
+
+-- all slots have their entries
+pub done_whole : (ks : List Parts) (slots : List Slot) (entries : List Entry) (reached : List (Parts × Slot))
+    → zip ks slots ≡ reached → slots ≡ map Done entries → reached ≡ all_done (zip ks entries)
+done_whole ks slots entries reached is all = sym is ∙ ap (zip ks) all ∙ zip_mapped Done ks entries
+
+-- so many entries as specifiers
+pub done_even : (ks : List Parts) (slots : List Slot) (entries : List Entry) → length ks ≡ length slots
+    → slots ≡ map Done entries → length ks ≡ length entries
+done_even ks slots entries even all = even ∙ ap length all ∙ length-map entries Done
 
 -- a slot that waits for nothing has an entry
 done_of : (y : Slot) → (y ≡ Queued → ⊥) × (y ≡ Asked → ⊥) → (e : Entry) × (y ≡ Done e)
@@ -146,7 +172,7 @@ done_of Asked h = absurd (h.1 refl)
 done_of (Done e) h = (e, refl)
 
 -- slots that wait for nothing all have their entries
-done_from : (slots : List (Parts × Slot)) → IsDistinct bytes_eq (keys_at slots)
+pub done_from : (slots : List (Parts × Slot)) → IsDistinct bytes_eq (keys_at slots)
     → HaveEntries slots → AreDone slots
 unfolding IsDistinct
 done_from [] once each = record { entries = []; is = refl }
@@ -167,35 +193,41 @@ done_from (x ∷ xs) once each =
 
 -- so no slot waits for its entry
 pub none_open : {rules : Rules} → (x : At) → IsLive rules x → x.progress.taken ≡ x.progress.asked
-    → x.progress.reaching.todo ≡ []
-    → HaveEntries x.progress.reaching.reached.entries
+    → todo_at x ≡ []
+    → HaveEntries x.progress.reaching.reached
 none_open {rules} x v all empty t y d = (
   λ q. let h = (v.building.queued t refl (d ∙ ap Some q)).0 in let none =
-      ap (λ (l : List Parts). has (texts l) t) empty in cc,
+      ap (λ (l : List Specifier). has l t) empty in cc,
   λ a. let w = v.building.outstanding t refl (d ∙ ap Some a) in
       let some = answered_now rules x v all t w.0 in let none = ap is_some w.1 in cc,
 )
 
--- and each has its entry, in a map
-pub done_sorted : (slots : List (Parts × Slot)) → IsStrictlySortedBy url_cmp (keys_of slots) → HaveEntries slots
-    → AreDone slots
-done_sorted slots sorted have = done_from slots (distinct_sorted (keys_at slots) (sorted-keys_at slots sorted)) have
+-- ---- the order of bytes
 
--- so many entries as slots
-pub length_entries : (rules : Rules) (slots : List (Parts × Slot)) (entries : List (Parts × Entry))
-    → AreSettled rules slots entries → length slots ≡ length entries
-length_entries rules slots entries s =
-    ap length s.done ∙ length-map s.firsts (λ e. (e.0, Done e.1))
-    ∙ sym (ap length s.is ∙ length-map s.firsts (λ e. (e.0, settled rules s.firsts e.1)))
-
--- the entries of finished slots are in order
-pub ascending_done : (slots : List (Parts × Slot)) (entries : List (Parts × Entry))
-    → IsStrictlySortedBy url_cmp (keys_of slots) → slots ≡ all_done entries → IsAscending entries
-ascending_done slots entries sorted is = rw (← (ap keys_at is ∙ marked entries)) (sorted-keys_at slots sorted)
+pub settled_graph : (rules : Rules) (slots : List (Parts × Slot)) (firsts entries : List (Parts × Entry)) (order : List ℕ)
+    (graph : GraphData) → slots ≡ all_done firsts → entries ≡ finals_of rules firsts → IsByBytes entries order
+    → graph.entries ≡ at_numbers entries order → graph.numbered ≡ map (λ (e : Parts × Entry). e.0) entries
+    → AreSettled rules slots graph
+settled_graph rules slots firsts entries order graph done finals by_bytes is numbered = record {
+  firsts = firsts;
+  done = done;
+  ascending = rw is (ascending_numbered entries order by_bytes);
+  is = λ t. ap (λ (es : List (Parts × Entry)). entry_of es t) is ∙ entry_numbered entries order by_bytes t
+      ∙ ap (λ (es : List (Parts × Entry)). entry_of es t) finals;
+  counted = ap length is ∙ by_bytes.counted ∙ ap length finals
+      ∙ length-map firsts (λ (e : Parts × Entry). (e.0, settled rules firsts e.1));
+  numbered = ap texts (numbered ∙ ap (map (λ (e : Parts × Entry). e.0)) finals) ∙ each (settled rules firsts) firsts
+      ∙ sym (ap keys_at done ∙ marked firsts);
+}
   where
+    each : (f : Entry → Entry) (es : List (Parts × Entry))
+        → texts (map (λ (e : Parts × Entry). e.0) (map (λ (e : Parts × Entry). (e.0, f e.1)) es)) ≡ members_of es
+    each f [] = refl
+    each f (e ∷ es) = ap (λ ts. text_of e.0 ∷ ts) (each f es)
+
     marked : (es : List (Parts × Entry)) → keys_at (all_done es) ≡ members_of es
     marked [] = refl
-    marked (e ∷ es) = rw (marked es) refl
+    marked (e ∷ es) = ap (λ ts. text_of e.0 ∷ ts) (marked es)
 
 -- ---- what `poll` answers
 
@@ -204,23 +236,40 @@ pub length-before_last : {A : Type 0} (n : ℕ) (xs : List A) → length (before
 length-before_last n xs = length-take-le (length xs - n) xs (omega arith)
 
 pub result_graph : {rules : Rules} → IsFunctional rules
-    → (x y : At) (slots : List (Parts × Slot)) (entries : List (Parts × Entry))
-    → IsThrough rules x y → GoesOnAt x y → slots ≡ y.progress.reaching.reached.entries
-    → IsStrictlySortedBy url_cmp (keys_of slots)
-    → AreSettled rules slots entries → IsGraph rules (starts_at x) (answer_to (own_log y)) entries
-result_graph {rules} once x y slots entries t g is sorted all =
-    subst (λ (ss : List Specifier). IsGraph rules ss (answer_to (own_log y)) entries) (ap texts g.starts)
-    (subst (IsGraph rules (starts_at y) (answer_to (own_log y))) (sym all.is)
-    (graph_now rules once y t.live t.begun t.asked_all all.firsts (rw (← is) sorted) (sym is ∙ all.done)))
+    → (x y : At) (slots : List (Parts × Slot)) (graph : GraphData)
+    → IsThrough rules x y → GoesOnAt x y → slots ≡ y.progress.reaching.reached
+    → IsDistinct bytes_eq (keys_at slots)
+    → AreSettled rules slots graph → IsGraph rules (starts_at x) (answer_to (own_log y)) graph.entries
+result_graph {rules} once x y slots graph t g is distinct all =
+    subst (λ (ss : List Specifier). IsGraph rules ss (answer_to (own_log y)) graph.entries) (ap texts g.starts)
+    (graph_now rules once y t.live t.begun t.asked_all all.firsts graph.entries (rw (← is) distinct)
+    (sym is ∙ all.done) all.ascending all.is)
 
-pub result_limit : {rules : Rules} → (x y : At) (slots : List (Parts × Slot)) (entries : List (Parts × Entry))
+pub result_limit : {rules : Rules} → (x y : At) (slots : List (Parts × Slot)) (graph : GraphData)
     → IsThrough rules x y → GoesOnAt x y
-    → slots ≡ y.progress.reaching.reached.entries → AreSettled rules slots entries
-    → length entries ≤ x.progress.reaching.limit
-result_limit {rules} x y slots entries t g is all =
-    let same : length entries ≡ length y.progress.reaching.reached.entries =
-    sym (length_entries rules slots entries all) ∙ ap length is in
-    omega (arith, same, t.live.room, g.limit)
+    → slots ≡ y.progress.reaching.reached → AreSettled rules slots graph
+    → length graph.entries ≤ x.progress.reaching.limit
+result_limit {rules} x y slots graph t g is all =
+    let long : length (all_done all.firsts) ≡ length all.firsts =
+    length-map all.firsts (λ (e : Parts × Entry). (e.0, Done e.1)) in
+    let same : length slots ≡ length (all_done all.firsts) = ap length all.done in
+    let held : length slots ≡ length y.progress.reaching.reached = ap length is in
+    omega (arith, all.counted, long, same, held, t.live.room.room, g.limit)
+
+-- the different roots have the first numbers, since the starts begin with the roots
+pub result_firsts : {rules : Rules} → (resolves : Resolves) (roots : List Parts) (outside : List ReferrerImports) (x y : At)
+    (slots : List (Parts × Slot)) (graph : GraphData) → starts_at x ≡ starts_by resolves roots outside
+    → IsThrough rules x y → GoesOnAt x y → slots ≡ y.progress.reaching.reached → AreSettled rules slots graph
+    → GoesOn (different (texts roots)) (texts graph.numbered)
+result_firsts {rules} resolves roots outside x y slots graph starting t g is all =
+    goes_on_more (different (texts roots)) (different (starts_at y)) (texts graph.numbered)
+    (subst (λ (ss : List Specifier). GoesOn (different (texts roots)) (different ss)) (sym (ap texts g.starts ∙ starting))
+    (subst (GoesOn (different (texts roots))) (sym (fold-append with_one [] (texts roots) more))
+    (goes_on_with (different (texts roots)) more)))
+    (subst (GoesOn (different (starts_at y))) (sym (all.numbered ∙ ap keys_at is)) (t.live.first.after t.begun))
+  where
+    more : List Specifier
+    more = flat_map (led_from resolves) outside
 
 pub result_asked : {rules : Rules} → IsFunctional rules → (x y : At) → IsThrough rules x y → GoesOnAt x y
     → IsAskedFor rules (starts_at x) (own_asked y) (own_log y)
@@ -231,7 +280,7 @@ result_asked {rules} once x y t g =
 pub result_not_yet : {rules : Rules} → IsFunctional rules
     → {L W : Type 0} (l m : L) (w : W) (rs : List Parts) (os : List ReferrerImports) (x y : At) (f g1 : Bool)
     → IsPaused rules x y → GoesOnAt x y → IsKeptAt rules x
-    → IsStrictlySortedBy url_cmp (keys_of y.progress.reaching.reached.entries)
+    → IsDistinct bytes_eq (keys_at y.progress.reaching.reached)
     → IsNotYet rules (seen_of l w rs os x f) (seen_of m w rs os y g1)
 result_not_yet {rules} once l m w rs os x y f g1 p g k sorted = record {
   orderly = from (λ ss. IsOrderly rules ss (own_log y)) p.live.building.orderly;
@@ -390,7 +439,7 @@ unawaited_none rules old new s u h = by u.unawaited
 -- a builder that begins has nothing
 pub inside_new : (rules : Rules) (resolves : Resolves) (rs : List Parts) (os : List ReferrerImports) (x : At)
     → starts_at x ≡ starts_by resolves rs os → x.progress.asked ≡ 0 → x.progress.taken ≡ 0 → x.progress.begun ≡ false
-    → x.progress.reaching.reached.entries ≡ [] → x.progress.reaching.todo ≡ [] → IsInside rules resolves rs os x false
+    → x.progress.reaching.reached ≡ [] → x.progress.reaching.next ≡ 0 → IsInside rules resolves rs os x false
 unfolding IsDistinct
 inside_new rules resolves rs os x starting a t b r d = record {
   starting = starting;
@@ -398,8 +447,8 @@ inside_new rules resolves rs os x starting a t b r d = record {
   live = λ e. record {
     kept = kept;
     behind = omega arith;
-    counted = rw (d, r) (omega arith);
-    room = rw r (omega arith);
+    counted = rw (empty, r) (omega arith);
+    room = record { within = omega (arith, d); room = rw r (omega arith) };
     building = subst (λ (l : List Event). IsBuilding rules (starts_at x) no_one (asked_of l) (log_of l) (slots_at x)
         (todo_at x)) (sym nothing) (record {
           sound = λ u y h. absurd (let n = none u in cc);
@@ -407,18 +456,23 @@ inside_new rules resolves rs os x starting a t b r d = record {
           closed = λ u w e h. absurd (let n = none u in cc);
           outstanding = λ u out h. absurd (let n = none u in cc);
           queued = λ u out h. absurd (let n = none u in cc);
-          listed = λ u h. absurd (let n = ap (λ (l : List Parts). has (texts l) u) d in cc);
+          listed = λ u h. absurd (let n = ap (λ (l : List Specifier). has l u) empty in cc);
           holds = λ u h. absurd cc;
-          todo_once = rw d tt;
+          todo_once = rw empty tt;
           asked_slot = λ u h. absurd cc;
           answered = λ u c h. absurd cc;
           orderly = tt;
         });
     timely = subst IsTimely (sym nothing) tt;
     rooted = λ e. absurd cc;
+    first = record { before = λ e. r; after = λ e. absurd cc };
   };
 }
   where
+    empty : todo_at x ≡ []
+    empty = ap (λ (n : ℕ). drop n (keys_at x.progress.reaching.reached)) d
+        ∙ ap (λ (es : List (Parts × Slot)). drop 0 (keys_at es)) r
+
     kept : IsKeptAt rules x
     kept = rw (a, t) (kept_new rules (starts_at x) x.loader.events x.loader.told)
 

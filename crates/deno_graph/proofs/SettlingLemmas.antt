@@ -1,23 +1,22 @@
 -- The loops over first entries, their verdicts and their edges.
-use Rattle.std.proofs.Common.{zero, suc, ◌≡◌, ◌<◌, ◌≤◌, ◌+◌, ◌-◌, ℕ, Bool, true, false, List, [], ◌∷◌, ◌++◌, length, map, take, get_or, refl, sym, ◌∙◌, ap, subst, arith, Option, Some, None, length-append}
+use Rattle.std.proofs.Common.{zero, suc, ◌≡◌, ◌<◌, ◌≤◌, ◌+◌, ◌-◌, ℕ, Bool, true, false, List, [], ◌∷◌, ◌++◌, length, map, take, slice_get, get_or, refl, sym, ◌∙◌, ap, subst, arith, Option, Some, None, length-append}
 use Rattle.std.specs.Prelude.{option_and_then, if◌then◌else◌}
 use Rattle.std.specs.List.{zip}
-use Rattle.std.proofs.lemmas.List.{length-map, map-append, take_all}
+use Rattle.std.proofs.lemmas.List.{length-map, take_all}
 use Rattle.url.specs.Parts.{Parts}
 use Rattle.graph_entry.specs.Specifier.{text_of}
 use Rattle.graph_entry.specs.declared.entry.Dependency.{Dependency}
 use Rattle.graph_entry.specs.declared.entry.Entry.{Entry}
 use Rattle.graph_entry.specs.declared.entry.Entry.TheVariants as entry
-use Rattle.graph_entry.specs.declared.entry.Module.{Module}
 use Rattle.graph_entry.specs.declared.entry.ModuleError.TheVariants.{TooManyRedirects}
 use Rattle.deno_graph.specs.declared.settle.Verdict.{Verdict}
-use Rattle.deno_graph.specs.declared.settle.Verdict.TheVariants.{Kept, TooFar, Judged}
+use Rattle.deno_graph.specs.declared.settle.Verdict.TheVariants.{Kept, TooFar}
 use Rattle.deno_graph.specs.declared.following.Following.{Following}
 use Rattle.deno_graph.specs.Rules.{edges_of, Means, rules_of, rules_by}
 use Rattle.deno_graph.specs.Reach.{Specifier, Rules}
 use Rattle.deno_graph.specs.Graph.{redirected, on_from, resolved_over}
 use Rattle.deno_graph.specs.Final.{with_edges}
-use Rattle.deno_graph.specs.Settling.{led, leads_on, is_misfit, verdict_of, settled_edge, judged_edges, judged, IsVerdictOn, settled, finals_of}
+use Rattle.deno_graph.specs.Settling.{led, leads_on, is_misfit, verdict_of, settled_edge, judged_edges, judged, all_judged, IsVerdictOn, values_of, settled, finals_of}
 
 -- ---- redirects, step by step
 
@@ -146,18 +145,132 @@ pub value_now : {X V : Type 0} (h : X → V) (whole yielded rest : List X) (item
 value_now h whole yielded rest item values n d are is here =
     ap (λ (vs : List _). get_or vs n d) (are ∙ ap (map h) is) ∙ value_here h yielded item rest n d here
 
+-- values that were changed one by one beside their keys
+pub zip_mapped : {K V W : Type 0} (f : V → W) (ks : List K) (vs : List V)
+    → zip ks (map f vs) ≡ map (λ (e : K × V). (e.0, f e.1)) (zip ks vs)
+zip_mapped f [] vs = refl
+zip_mapped f (k ∷ ks) [] = refl
+zip_mapped f (k ∷ ks) (v ∷ vs) = ap (λ es. (k, f v) ∷ es) (zip_mapped f ks vs)
+
+-- the values beside keys
+pub values_zip : {K V : Type 0} (ks : List K) (vs : List V) → length ks ≡ length vs
+    → map (λ (e : K × V). e.1) (zip ks vs) ≡ vs
+values_zip [] [] h = refl
+values_zip [] (v ∷ vs) h = absurd (omega arith)
+values_zip (k ∷ ks) [] h = absurd (omega arith)
+values_zip (k ∷ ks) (v ∷ vs) h = ap (λ ws. v ∷ ws) (values_zip ks vs (omega arith))
+
+-- one more of what a function gives for two lists, one by one
+zipped_more : {A B C : Type 0} (f : A → B → C) (xs : List A) (yielded : List B) (item : B) (d : A)
+    → length yielded < length xs
+    → map (λ (p : A × B). f p.0 p.1) (zip (take (length (yielded ++ item ∷ [])) xs) (yielded ++ item ∷ []))
+    ≡ map (λ (p : A × B). f p.0 p.1) (zip (take (length yielded) xs) yielded) ++ f (get_or xs (length yielded) d) item ∷ []
+zipped_more f [] yielded item d within = absurd (omega (arith, within))
+zipped_more f (x ∷ xs) [] item d within = refl
+zipped_more f (x ∷ xs) (y ∷ ys) item d within =
+    ap (λ cs. f x y ∷ cs) (zipped_more f xs ys item d (omega (arith, within)))
+
 -- one more entry by its verdict
-pub settled_push : (rules : Rules) (firsts yielded entries new : List (Parts × Entry)) (url : Parts)
-    (first becomes : Entry) (verdict : Verdict)
-    → entries ≡ map (λ e. (e.0, settled rules firsts e.1)) yielded → verdict ≡ verdict_of rules firsts first
-    → becomes ≡ judged verdict first
-    → new ≡ entries ++ (url, becomes) ∷ []
-    → new ≡ map (λ e. (e.0, settled rules firsts e.1)) (yielded ++ (url, first) ∷ [])
-settled_push rules firsts yielded entries new url first becomes verdict so_far by_rules is longer =
-    longer ∙ ap (λ (es : List (Parts × Entry)). es ++ (url, becomes) ∷ []) so_far
-    ∙ ap (λ (e : Entry). map (λ (x : Parts × Entry). (x.0, settled rules firsts x.1)) yielded ++ (url, e) ∷ [])
-    (is ∙ ap (λ (v : Verdict). judged v first) by_rules ∙ judged_settled rules firsts first)
-    ∙ sym (map-append (λ (x : Parts × Entry). (x.0, settled rules firsts x.1)) yielded ((url, first) ∷ []))
+pub judged_push : (verdicts : List Verdict) (values yielded rest made new : List Entry) (first becomes : Entry)
+    (verdict d : Verdict) (n : ℕ)
+    → made ≡ all_judged (take (length yielded) verdicts) yielded → length made ≡ length yielded
+    → values ≡ yielded ++ first ∷ rest → length verdicts ≡ length values → n ≡ length made
+    → verdict ≡ get_or verdicts n d → becomes ≡ judged verdict first → new ≡ made ++ becomes ∷ []
+    → (new ≡ all_judged (take (length (yielded ++ first ∷ [])) verdicts) (yielded ++ first ∷ []))
+    × (length new ≡ length (yielded ++ first ∷ []))
+judged_push verdicts values yielded rest made new first becomes verdict d n so_far counted whole long here value is
+    longer = (
+      longer ∙ ap (λ (es : List Entry). es ++ becomes ∷ []) so_far
+          ∙ ap (λ (e : Entry). all_judged (take (length yielded) verdicts) yielded ++ e ∷ [])
+          (is ∙ ap (λ (v : Verdict). judged v first)
+          (value ∙ ap (λ (k : ℕ). get_or verdicts k d) (here ∙ counted)))
+          ∙ sym (zipped_more judged verdicts yielded first d
+          (place_now values yielded rest first (length yielded) (length verdicts) whole refl long)),
+      ap length longer ∙ length-append made (becomes ∷ []) ∙ ap (λ (k : ℕ). k + 1) counted
+          ∙ sym (length-append yielded (first ∷ [])),
+    )
+
+-- all of them
+pub judged_whole : (verdicts : List Verdict) (values made : List Entry) → length verdicts ≡ length values
+    → made ≡ all_judged (take (length values) verdicts) values → made ≡ all_judged verdicts values
+judged_whole verdicts values made long is =
+    is ∙ ap (λ (vs : List Verdict). all_judged vs values) (take_all (length values) verdicts (omega (arith, long)))
+
+-- the item at the next place
+pub next_there : {A : Type 0} (whole yielded rest : List A) (item : A) (n : ℕ) → whole ≡ yielded ++ item ∷ rest
+    → n ≡ length yielded → slice_get whole n ≡ Some item
+next_there {A} whole yielded rest item n is here =
+    ap (λ (l : List A). slice_get l n) is ∙ ap (slice_get (yielded ++ item ∷ rest)) here ∙ at yielded
+  where
+    at : (ys : List A) → slice_get (ys ++ item ∷ rest) (length ys) ≡ Some item
+    at [] = refl
+    at (y ∷ ys) = at ys
+
+-- what stands at a place within
+pub value_there : {A : Type 0} (xs : List A) (n : ℕ) (x d : A) → n < length xs → x ≡ get_or xs n d
+    → slice_get xs n ≡ Some x
+value_there [] n x d within is = absurd (omega (arith, within))
+value_there (y ∷ ys) zero x d within is = ap Some (sym is)
+value_there (y ∷ ys) (suc n) x d within is = value_there ys n x d (omega (arith, within)) is
+
+-- verdicts by the rules are verdicts on their entries
+pub verdicts_each : (rules : Rules) (firsts : List (Parts × Entry)) (verdicts : List Verdict) (values : List Entry)
+    → verdicts ≡ map (verdict_of rules firsts) values → (i : ℕ) (v : Verdict) (e : Entry)
+    → slice_get verdicts i ≡ Some v → slice_get values i ≡ Some e → IsVerdictOn v e
+verdicts_each rules firsts verdicts values is i v e at there =
+    by values i (ap (λ (vs : List Verdict). slice_get vs i) (sym is) ∙ at) there
+  where
+    one : {A : Type 0} (x y : A) → Some x ≡ Some y → x ≡ y
+    one x y h = cc
+
+    by : (es : List Entry) (n : ℕ) → slice_get (map (verdict_of rules firsts) es) n ≡ Some v → slice_get es n ≡ Some e
+        → IsVerdictOn v e
+    by [] n h g = absurd cc
+    by (f ∷ es) zero h g =
+        subst (λ (w : Verdict). IsVerdictOn w e)
+        (ap (verdict_of rules firsts) (sym (one f e g)) ∙ one (verdict_of rules firsts f) v h)
+        (verdict_on rules firsts e)
+    by (f ∷ es) (suc n) h g = by es n h g
+
+judged_mapped : (rules : Rules) (firsts : List (Parts × Entry)) (es : List Entry)
+    → all_judged (map (verdict_of rules firsts) es) es ≡ map (settled rules firsts) es
+judged_mapped rules firsts [] = refl
+judged_mapped rules firsts (e ∷ es) =
+    ap (λ (x : Entry). x ∷ all_judged (map (verdict_of rules firsts) es) es) (judged_settled rules firsts e)
+    ∙ ap (λ (xs : List Entry). settled rules firsts e ∷ xs) (judged_mapped rules firsts es)
+
+-- so many entries
+pub judged_even : (verdicts : List Verdict) (ks : List Parts) (values entries : List Entry)
+    → length ks ≡ length values → length verdicts ≡ length values → entries ≡ all_judged verdicts values
+    → length ks ≡ length entries
+judged_even verdicts ks values entries even long is =
+    even ∙ sym (by verdicts values long) ∙ sym (ap length is)
+  where
+    by : (vs : List Verdict) (es : List Entry) → length vs ≡ length es → length (all_judged vs es) ≡ length es
+    by [] [] h = refl
+    by [] (e ∷ es) h = absurd (omega (arith, h))
+    by (v ∷ vs) [] h = absurd (omega (arith, h))
+    by (v ∷ vs) (e ∷ es) h = ap suc (by vs es (omega (arith, h)))
+
+-- all entries are settled
+pub settled_whole : (rules : Rules) (firsts : List (Parts × Entry)) (verdicts : List Verdict) (ks : List Parts)
+    (vs entries : List Entry)
+    → length ks ≡ length vs → zip ks vs ≡ firsts
+    → verdicts ≡ map (verdict_of rules firsts) (values_of firsts) → entries ≡ all_judged verdicts vs
+    → zip ks entries ≡ finals_of rules firsts
+settled_whole rules firsts verdicts ks vs entries even is by_rules all =
+    ap (zip ks) (all ∙ ap (λ (ws : List Verdict). all_judged ws vs)
+    (by_rules ∙ ap (map (verdict_of rules firsts)) (sym (ap values_of is) ∙ values_zip ks vs even))
+    ∙ judged_mapped rules firsts vs)
+    ∙ zip_mapped (settled rules firsts) ks vs
+    ∙ ap (map (λ (e : Parts × Entry). (e.0, settled rules firsts e.1))) is
+
+-- verdicts on entries are as many
+pub verdicts_even : (rules : Rules) (firsts : List (Parts × Entry)) (verdicts : List Verdict) (ks : List Parts)
+    (vs : List Entry) → length ks ≡ length vs → zip ks vs ≡ firsts
+    → verdicts ≡ map (verdict_of rules firsts) (values_of firsts) → verdicts ≡ map (verdict_of rules firsts) vs
+verdicts_even rules firsts verdicts ks vs even is by_rules =
+    by_rules ∙ ap (map (verdict_of rules firsts)) (sym (ap values_of is) ∙ values_zip ks vs even)
 
 -- one more edge by its answer
 pub edges_push : (refused : List Bool) (edges yielded rest made new : List Dependency) (edge settled_one : Dependency)

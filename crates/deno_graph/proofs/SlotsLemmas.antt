@@ -1,16 +1,11 @@
 -- How slots grow.
-use Rattle.std.proofs.Common.{◌≡◌, ◌⊎◌, inl, inr, suc, ℕ, ◌+◌, Bool, true, false, cond, List, [], ◌∷◌, ◌++◌, length, refl, sym, ◌∙◌, ap, arith, Option, Some, None, length-append}
+use Rattle.std.proofs.Common.{◌≡◌, ◌⊎◌, inl, inr, ℕ, Bool, true, false, cond, List, [], ◌∷◌, ◌++◌, refl, sym, ◌∙◌, ap, Option, Some, None}
 use Rattle.std.specs.Prelude.{bytes_eq, is_some, ◌||◌}
 use Rattle.std.specs.List.{list_any, AllByRecursion}
-use Rattle.std.specs.Map.{keys_of}
-use Rattle.deno_graph.specs.ByText.{value_at, IsPut}
-use Rattle.deno_graph.specs.Graph.{texts}
-use Rattle.std.proofs.lemmas.List.{map-append}
-use Rattle.deno_graph.proofs.ByTextLemmas.{url_cmp, keys_at, has-keys_at, sorted-keys_at, distinct_sorted, length-keys_at}
-use Rattle.std.specs.List.Sorted.{IsStrictlySortedBy}
+use Rattle.deno_graph.specs.ByText.{value_at}
 use Rattle.std.specs.Cmp.Lexicographic.{nat_list_eq_equiv}
 use Rattle.std.proofs.lemmas.List.Folds.{list_any-append}
-use Rattle.std.proofs.lemmas.Map.Keys.{IsDistinct-push, IsDistinct-cons}
+use Rattle.std.proofs.lemmas.Map.Keys.{IsDistinct-push}
 use Rattle.url.specs.Parts.{Parts}
 use Rattle.graph_entry.specs.Specifier.{text_of}
 use Rattle.deno_graph.specs.declared.slot.Slot.{Slot}
@@ -217,27 +212,6 @@ none_equal s (x ∷ xs) h = (first (bytes_eq s x) (has xs s) h, none_equal s xs 
     second true b h = absurd cc
     second false b h = h
 
--- the limit is reached, and one more comes
-pub overfull_here : (entries : List (Parts × Slot)) (s : Specifier) (limit : ℕ)
-    → IsStrictlySortedBy url_cmp (keys_of entries) → value_at entries s ≡ None → length entries ≡ limit
-    → IsOverfull (s ∷ []) (value_at entries) limit (length entries + 1)
-overfull_here entries s limit sorted none full = record {
-  above = omega arith;
-  members = s ∷ keys_at entries;
-  counted = ap suc (length-keys_at entries) ∙ omega arith;
-  once = IsDistinct-cons bytes_eq s (keys_at entries)
-      (none_equal s (keys_at entries) (has-keys_at entries s ∙ ap is_some none))
-      (distinct_sorted (keys_at entries) (sorted-keys_at entries sorted));
-  each = λ t h. each t (bytes_eq t s) refl h;
-}
-  where
-    each : (t : Specifier) (b : Bool) → bytes_eq t s ≡ b → (b || has (keys_at entries) t) ≡ true
-        → (value_at entries t ≡ None → ⊥) ⊎ (has (s ∷ []) t ≡ true)
-    each t true e h = inr (has_one s t ∙ e)
-    each t false e h = inl
-        (λ n. let some : is_some (value_at entries t) ≡ true = sym (has-keys_at entries t) ∙ h in
-        let other : is_some (value_at entries t) ≡ false = ap is_some n in cc)
-
 -- what has a slot, by the test
 pub none_from_test : {A : Type 0} (o : Option A) → is_some o ≡ false → o ≡ None
 none_from_test None h = refl
@@ -251,30 +225,3 @@ pub value_at_same : {V : Type 0} (entries : List (Parts × V)) (s t : Specifier)
     → value_at entries t ≡ value_at entries s
 value_at_same [] s t h = refl
 value_at_same (e ∷ es) s t h = rw (nat_list_eq_equiv.congr t s (text_of e.0) h, value_at_same es s t h) refl
-
--- a worklist with one more
-pub texts_push : (todo later : List Parts) (u v : Parts) → later ≡ todo ++ u ∷ [] → u ≡ v
-    → texts later ≡ texts todo ++ text_of v ∷ []
-texts_push todo later u v is same =
-    ap texts is ∙ map-append text_of todo (u ∷ []) ∙ ap (λ w. texts todo ++ text_of w ∷ []) same
-
--- a new specifier is put and listed
-pub grown_listed : (old new : List (Parts × Slot)) (todo later : List Parts) (s u v : Parts)
-    → value_at old (text_of s) ≡ None → IsPut old new (text_of u) Queued → u ≡ s → later ≡ todo ++ v ∷ [] → v ≡ s
-    → HasGrown (text_of s ∷ []) (value_at old) (value_at new) (texts todo) (texts later)
-grown_listed old new todo later s u v none put same is like =
-    rw (texts_push todo later v s is like)
-    (grown_put (text_of s) (value_at old) (value_at new) (texts todo)
-    (λ t e. value_at_same old (text_of s) t e ∙ none)
-    (λ t. rw (← same) (put.at t)))
-
--- so many more
-pub counted_put : (old new : List (Parts × Slot)) (s u : Parts) → value_at old (text_of s) ≡ None
-    → IsPut old new (text_of u) Queued → u ≡ s
-    → length new ≡ length old + 1
-counted_put old new s u none put same =
-    put.counted ∙ ap (λ o. length old + cond (is_some o) 0 1) (ap (λ w. value_at old (text_of w)) same ∙ none)
-
--- a worklist with one more is longer
-pub length_push : {A : Type 0} (todo later : List A) (u : A) → later ≡ todo ++ u ∷ [] → length later ≡ length todo + 1
-length_push todo later u is = ap length is ∙ length-append todo (u ∷ [])

@@ -3,7 +3,8 @@ use Rattle.std.specs.Prelude.{List}
 use Rattle.std.specs.Borrow.{Bor}
 use Rattle.url.specs.Parts.{Parts}
 use Rattle.graph_entry.specs.declared.entry.Entry.{Entry}
-use Rattle.deno_graph.specs.declared.graph.Entries.{Entries}
+use Rattle.numbered.specs.Numbers.{at_numbers}
+use Rattle.deno_graph.specs.declared.entries.Entries.{Entries}
 
 -- what a specifier and its entry are, behind their references
 abbrev pub entry_pair : Bor Parts × Bor Entry → Parts × Entry
@@ -11,4 +12,4 @@ entry_pair e = (e.0.now, e.1.now)
 
 -- the entries that are still to come
 abbrev pub entries_left : Entries → List (Parts × Entry)
-entries_left it = it.rest.now
+entries_left it = at_numbers it.all.now it.rest.now

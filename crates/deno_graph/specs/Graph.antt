@@ -1,5 +1,5 @@
 -- The graph: the entries of all that is reached, by the text of the specifiers.
-use Rattle.std.specs.Prelude.{◌≡◌, ℕ, zero, suc, List, map, bytes_eq, Option, Some, None, option_and_then}
+use Rattle.std.specs.Prelude.{◌≡◌, ℕ, zero, suc, List, [], ◌∷◌, ◌++◌, map, fold, bytes_eq, Option, Some, None, option_and_then, position, if◌then◌else◌}
 use Rattle.std.specs.Map.{lookup}
 use Rattle.std.specs.List.Sorted.{IsStrictlySortedBy}
 use Rattle.std.specs.Ordering.{nat_cmp}
@@ -11,18 +11,28 @@ use Rattle.graph_entry.specs.declared.entry.Entry.{Entry}
 use Rattle.graph_entry.specs.declared.entry.Entry.TheVariants as entry
 use Rattle.graph_entry.specs.Specifier.{text_of}
 use Rattle.graph_entry.specs.Entry.{EdgesCut}
-use Rattle.deno_graph.specs.Reach.{Specifier, Answers, Rules, IsReach}
+use Rattle.deno_graph.specs.Reach.{Specifier, Answers, Rules, has, IsReach}
 use Rattle.deno_graph.specs.Final.{most_redirects, redirect_of, IsFinal}
 
--- what contracts see of a graph: its roots as handed in, the referrers outside with their edges, and its entries
+-- what contracts see of a graph: its roots as handed in, the referrers outside with their edges, its entries, and their
+-- specifiers by their numbers
 pub record GraphData : Type 0 where
   pub roots : List Parts
   pub imports : List (Parts × List Dependency)
   pub entries : List (Parts × Entry)
+  pub numbered : List Parts
 
 -- the specifiers' texts
 abbrev pub texts : List Parts → List Specifier
 texts urls = map text_of urls
+
+-- the list with one more at its end, unless it has it
+abbrev pub with_one : List Specifier → Specifier → List Specifier
+with_one ts t = if has ts t then ts else ts ++ t ∷ []
+
+-- the different ones of a list, in the order in which they first stand there
+abbrev pub different : List Specifier → List Specifier
+different ts = fold with_one [] ts
 
 -- the specifiers that have an entry
 abbrev pub members_of : List (Parts × Entry) → List Specifier
@@ -36,6 +46,10 @@ entry_of entries s = lookup (λ url. bytes_eq s (text_of url)) entries
 abbrev pub on_from : Specifier → (Specifier → Specifier) → Option Specifier → Specifier
 on_from s later None = s
 on_from s later (Some t) = later t
+
+-- the number of a specifier, which is its place
+abbrev pub number_in : List Parts → Specifier → Option ℕ
+number_in numbered s = position (bytes_eq s) (texts numbered)
 
 -- where a specifier redirects to
 abbrev pub redirected : List (Parts × Entry) → Specifier → Option Specifier

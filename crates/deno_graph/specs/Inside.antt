@@ -50,6 +50,11 @@ pub record AreDone (slots : List (Parts × Slot)) : Type 0 where
   pub entries : List (Parts × Entry)
   pub is : slots ≡ all_done entries
 
+-- the same without their specifiers
+pub record AreEntries (slots : List Slot) : Type 0 where
+  pub entries : List Entry
+  pub is : slots ≡ map Done entries
+
 -- no slot of a specifier waits for its entry
 abbrev pub HaveEntries : List (Parts × Slot) → Type 0
 HaveEntries slots = (s : Specifier) (x : Slot) → value_at slots s ≡ Some x → (x ≡ Queued → ⊥) × (x ≡ Asked → ⊥)

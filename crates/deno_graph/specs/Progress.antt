@@ -1,5 +1,5 @@
 -- What holds of a builder that goes on, beside its loader's data.
-use Rattle.std.specs.Prelude.{◌≡◌, ◌≤◌, ◌<◌, ◌+◌, ℕ, Bool, true, false, List, [], ◌∷◌, ◌++◌, length, Option, Some, None, Result, Ok, Err}
+use Rattle.std.specs.Prelude.{◌≡◌, ◌≤◌, ◌<◌, ◌+◌, ℕ, Bool, true, false, List, [], ◌∷◌, ◌++◌, length, slice_get, Some, None, Result, Ok, Err}
 use Rattle.url.specs.Parts.{Parts}
 use Rattle.graph_entry.specs.declared.answer.LoadAnswer.{LoadAnswer}
 use Rattle.graph_entry.specs.declared.entry.Entry.{Entry}
@@ -12,14 +12,15 @@ use Rattle.deno_graph.specs.declared.reaching.GrowError.TheVariants as grow
 use Rattle.deno_graph.specs.declared.reaching.Reaching.{Reaching}
 use Rattle.deno_graph.specs.declared.progress.Progress.{Progress}
 use Rattle.deno_graph.specs.Rules.{targets}
-use Rattle.deno_graph.specs.Reach.{Specifier, Log, Answers, Rules, has, IsFunctional}
-use Rattle.deno_graph.specs.Graph.{texts}
-use Rattle.deno_graph.specs.Events.{Event, Requested, Answered, asked_of, log_of, IsOutstanding, IsTimely, requests, answers}
+use Rattle.deno_graph.specs.Reach.{Specifier, Log, Rules, has, IsFunctional}
+use Rattle.deno_graph.specs.Graph.{texts, different}
+use Rattle.deno_graph.specs.ByText.{keys_at}
+use Rattle.deno_graph.specs.Events.{Event, Answered, asked_of, log_of, IsOutstanding, IsTimely, requests, answers}
 use Rattle.deno_graph.specs.Loader.{LoaderData, HasRisen, NeverRises, Falls}
-use Rattle.deno_graph.specs.Builder.{last_of, before_last, IsKept, IsOrderly, IsTooMany, IsUnawaitedOver, SomeOutstanding}
+use Rattle.deno_graph.specs.Builder.{last_of, before_last, GoesOn, IsKept, IsOrderly, IsTooMany, IsUnawaitedOver, SomeOutstanding}
 use Rattle.deno_graph.specs.Slots.{Slots, IsOverfull}
 use Rattle.deno_graph.specs.Building.{IsBuilding, no_one, this_one}
-use Rattle.deno_graph.specs.Reaching.{slots_of, IsFilled}
+use Rattle.deno_graph.specs.Reaching.{slots_of, todo_of, HasRoom, IsFilled}
 
 -- a loader's data, and how far the builder is
 pub record At : Type 0 where
@@ -50,7 +51,7 @@ abbrev pub slots_at : At → Slots
 slots_at x = slots_of x.progress.reaching
 
 abbrev pub todo_at : At → List Specifier
-todo_at x = texts x.progress.reaching.todo
+todo_at x = todo_of x.progress.reaching
 
 -- what holds at all times
 abbrev pub IsKeptAt : Rules → At → Type 0
@@ -60,27 +61,38 @@ IsKeptAt rules x = IsKept rules (starts_at x) x.loader.events x.loader.told x.pr
 abbrev pub IsRooted : At → Type 0
 IsRooted x = x.progress.begun ≡ true → (t : Specifier) → has (starts_at x) t ≡ true → slots_at x t ≡ None → ⊥
 
+-- the different starts have the first numbers once the builder has begun, and nothing has one before
+pub record HasFirst (x : At) : Type 0 where
+  pub before : x.progress.begun ≡ false → x.progress.reaching.reached ≡ []
+  pub after : x.progress.begun ≡ true → GoesOn (different (starts_at x)) (keys_at x.progress.reaching.reached)
+
 -- what holds while the builder goes on
 pub record IsLive (rules : Rules) (x : At) : Type 0 where
   pub kept : IsKeptAt rules x
   pub behind : x.progress.taken ≤ x.progress.asked
-  pub counted : x.progress.asked + length x.progress.reaching.todo ≤ length x.progress.reaching.reached.entries
-  pub room : length x.progress.reaching.reached.entries ≤ x.progress.reaching.limit
+  pub counted : x.progress.asked + length (todo_at x) ≤ length x.progress.reaching.reached
+  pub room : HasRoom x.progress.reaching
   pub building : IsBuilding rules (starts_at x) no_one (own_asked x) (own_log x) (slots_at x) (todo_at x)
   pub timely : IsTimely (own_events x)
   pub rooted : IsRooted x
+  pub first : HasFirst x
 
 -- the same with one specifier in hand, which was taken from the worklist
 pub record IsInHand (rules : Rules) (x : At) (s : Specifier) : Type 0 where
   pub kept : IsKeptAt rules x
   pub behind : x.progress.taken ≤ x.progress.asked
-  pub counted : x.progress.asked + length x.progress.reaching.todo + 1 ≤ length x.progress.reaching.reached.entries
-  pub room : length x.progress.reaching.reached.entries ≤ x.progress.reaching.limit
+  pub counted : x.progress.asked + length (todo_at x) + 1 ≤ length x.progress.reaching.reached
+  pub room : HasRoom x.progress.reaching
   pub building : IsBuilding rules (starts_at x) (this_one s) (own_asked x) (own_log x) (slots_at x) (todo_at x)
   pub queued : slots_at x s ≡ Some Queued
   pub fresh : has (own_asked x) s ≡ false
   pub timely : IsTimely (own_events x)
   pub rooted : IsRooted x
+  pub first : HasFirst x
+
+-- the one in hand has this number
+abbrev pub IsInHandAt : Rules → At → ℕ → Type 0
+IsInHandAt rules x n = (s : Specifier) × (slice_get (keys_at x.progress.reaching.reached) n ≡ Some s) × IsInHand rules x s
 
 -- the events go on, and requests and answers are counted
 pub record GoOn (old new : List Event) (asked taken asked_now taken_now : ℕ) : Type 0 where
@@ -111,8 +123,8 @@ pub record OnlyAsks (old new : At) : Type 0 where
 -- the next specifier of the worklist is dealt with, which makes the work less
 pub record IsOneOn (rules : Rules) (old new : At) : Type 0 where
   pub live : IsLive rules new
-  pub less : length new.progress.reaching.reached.entries + length old.progress.reaching.todo
-      ≡ length old.progress.reaching.reached.entries + length new.progress.reaching.todo + 1
+  pub less : length new.progress.reaching.reached + length (todo_at old)
+      ≡ length old.progress.reaching.reached + length (todo_at new) + 1
 
 -- the starts are reached
 abbrev pub Begins : Rules → At → At → Result (Unit {0}) GrowError → Type 0
@@ -124,8 +136,8 @@ Begins rules old new (Err grow.OutOfMemory) = Unit {0}
 -- one specifier is in hand, and then it is dealt with
 abbrev pub Deals : Rules → At → At → Result (Unit {0}) GrowError → Type 0
 Deals rules old new (Ok done) = IsLive rules new
-    × (length new.progress.reaching.reached.entries + length old.progress.reaching.todo
-    ≡ length old.progress.reaching.reached.entries + length new.progress.reaching.todo)
+    × (length new.progress.reaching.reached + length (todo_at old)
+    ≡ length old.progress.reaching.reached + length (todo_at new))
 Deals rules old new (Err (grow.TooMany seen)) =
     IsTooMany rules (starts_at old) (own_log old) old.progress.reaching.limit seen
 Deals rules old new (Err grow.OutOfMemory) = Unit {0}
@@ -133,14 +145,14 @@ Deals rules old new (Err grow.OutOfMemory) = Unit {0}
 -- the worklist has a next specifier or is empty
 abbrev pub AsksNext : Rules → At → At → Result Bool GrowError → Type 0
 AsksNext rules old new (Ok true) = IsOneOn rules old new
-AsksNext rules old new (Ok false) = IsLive rules new × (new.progress.reaching.todo ≡ [])
+AsksNext rules old new (Ok false) = IsLive rules new × (todo_at new ≡ [])
 AsksNext rules old new (Err (grow.TooMany seen)) =
     IsTooMany rules (starts_at old) (own_log old) old.progress.reaching.limit seen
 AsksNext rules old new (Err grow.OutOfMemory) = Unit {0}
 
 -- the worklist is empty
 abbrev pub AsksAll : Rules → At → At → Result (Unit {0}) GrowError → Type 0
-AsksAll rules old new (Ok done) = IsLive rules new × (new.progress.reaching.todo ≡ [])
+AsksAll rules old new (Ok done) = IsLive rules new × (todo_at new ≡ [])
 AsksAll rules old new (Err (grow.TooMany seen)) =
     IsTooMany rules (starts_at old) (own_log old) old.progress.reaching.limit seen
 AsksAll rules old new (Err grow.OutOfMemory) = Unit {0}
@@ -167,7 +179,7 @@ Takes rules url answer old new (Err error.Finished) = ⊥
 -- the builder waits for its loader
 pub record IsPaused (rules : Rules) (old new : At) : Type 0 where
   pub live : IsLive rules new
-  pub asked_all : new.progress.reaching.todo ≡ []
+  pub asked_all : todo_at new ≡ []
   pub begun : new.progress.begun ≡ true
   pub open_yet : new.progress.taken < new.progress.asked
   pub counted : HasRisen old.loader.pending new.loader.pending
@@ -192,7 +204,7 @@ pub record IsUnasked (rules : Rules) (old new : At) (s : Specifier) : Type 0 whe
 -- all is asked for and answered
 pub record IsThrough (rules : Rules) (old new : At) : Type 0 where
   pub live : IsLive rules new
-  pub asked_all : new.progress.reaching.todo ≡ []
+  pub asked_all : todo_at new ≡ []
   pub begun : new.progress.begun ≡ true
   pub all_taken : new.progress.taken ≡ new.progress.asked
   pub pending : new.loader.pending ≡ old.loader.pending

@@ -1,5 +1,5 @@
 -- How the first entries of all that is reached become those of the graph.
-use Rattle.std.specs.Prelude.{◌≡◌, ℕ, length, zero, suc, ◌+◌, Bool, true, false, not, ◌&&◌, List, [], ◌∷◌, map, Option, Some, None, is_some, option_and_then, Ok, Err, if◌then◌else◌}
+use Rattle.std.specs.Prelude.{◌≡◌, ℕ, length, zero, suc, Bool, true, false, not, ◌&&◌, List, map, Option, Some, None, is_some, option_and_then, Ok, Err, if◌then◌else◌}
 use Rattle.std.specs.List.{zip, list_all}
 use Rattle.url.specs.Parts.{Parts}
 use Rattle.es_walk.specs.declared.site.Attribute.{Attribute}
@@ -18,7 +18,8 @@ use Rattle.deno_graph.specs.declared.settle.Verdict.TheVariants.{Kept, TooFar, J
 use Rattle.deno_graph.specs.declared.following.Following.{Following}
 use Rattle.deno_graph.specs.Rules.{edges_of, is_followed}
 use Rattle.deno_graph.specs.Reach.{Specifier, Rules}
-use Rattle.deno_graph.specs.Graph.{redirected, module_at}
+use Rattle.deno_graph.specs.Graph.{GraphData, texts, entry_of, redirected, module_at, IsAscending}
+use Rattle.deno_graph.specs.ByText.{keys_at}
 use Rattle.deno_graph.specs.Final.{most_redirects, fits, refused_edge, with_edges}
 use Rattle.deno_graph.specs.Inside.{all_done}
 
@@ -75,11 +76,19 @@ is_plain (entry.Package held) = true
 is_plain entry.External = true
 is_plain (entry.Error e) = true
 
+-- all of a list are so
+abbrev pub all_plain : List Entry → Bool
+all_plain firsts = list_all is_plain firsts
+
 -- all entries are so
 abbrev pub are_plain : List (Parts × Entry) → Bool
 are_plain firsts = list_all (λ e. is_plain e.1) firsts
 
 -- ---- what becomes of an entry
+
+-- the entries without their specifiers
+abbrev pub values_of : List (Parts × Entry) → List Entry
+values_of firsts = map (λ e. e.1) firsts
 
 -- what is to become of it
 abbrev pub verdict_of : Rules → List (Parts × Entry) → Entry → Verdict
@@ -112,6 +121,10 @@ judged (Judged refused) (entry.Package held) = entry.Package held
 judged (Judged refused) entry.External = entry.External
 judged (Judged refused) (entry.Error e) = entry.Error e
 
+-- the entries by their verdicts
+abbrev pub all_judged : List Verdict → List Entry → List Entry
+all_judged verdicts firsts = map (λ p. judged p.0 p.1) (zip verdicts firsts)
+
 -- a verdict on a module has a place for each of its edges
 abbrev pub IsVerdictOn : Verdict → Entry → Type 0
 IsVerdictOn (Judged refused) (entry.Module m) = length refused ≡ length (edges_of m)
@@ -131,8 +144,11 @@ settled rules firsts (entry.Error e) = entry.Error e
 abbrev pub finals_of : Rules → List (Parts × Entry) → List (Parts × Entry)
 finals_of rules firsts = map (λ e. (e.0, settled rules firsts e.1)) firsts
 
--- the slots all have a first entry, and the entries are what these become
-pub record AreSettled (rules : Rules) (slots : List (Parts × Slot)) (entries : List (Parts × Entry)) : Type 0 where
+-- the slots all have a first entry; the graph's entries are what these become, in the order of bytes, and their numbers stay
+pub record AreSettled (rules : Rules) (slots : List (Parts × Slot)) (graph : GraphData) : Type 0 where
   pub firsts : List (Parts × Entry)
   pub done : slots ≡ all_done firsts
-  pub is : entries ≡ finals_of rules firsts
+  pub ascending : IsAscending graph.entries
+  pub is : (t : Specifier) → entry_of graph.entries t ≡ entry_of (finals_of rules firsts) t
+  pub counted : length graph.entries ≡ length firsts
+  pub numbered : texts graph.numbered ≡ keys_at slots

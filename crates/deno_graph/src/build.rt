@@ -5,8 +5,8 @@ ghost use Rattle.graph_entry.specs.Specifier.{text_of};
 ghost use Rattle.graph_entry.specs.Resolution.{resolve, resolve_by};
 ghost use Rattle.graph_entry.specs.Referrer.{referred, starts_of};
 ghost use Rattle.deno_graph.specs.Reach.{answer_to};
-ghost use Rattle.deno_graph.specs.Graph.{IsGraph, EachEdgeCuts};
-ghost use Rattle.deno_graph.specs.Builder.{graph_rules, starts, new_building, new_building_by, IsOrderly, IsAsking, IsAskedFor, EachAnswered, IsToldLog, HasHistory, IsNotYet, IsUnawaited, IsTooMany, IsComplete, IsFairly, CameInTime};
+ghost use Rattle.deno_graph.specs.Graph.{texts, different, IsGraph, EachEdgeCuts};
+ghost use Rattle.deno_graph.specs.Builder.{graph_rules, starts, GoesOn, new_building, new_building_by, IsOrderly, IsAsking, IsAskedFor, EachAnswered, IsToldLog, HasHistory, IsNotYet, IsUnawaited, IsTooMany, IsComplete, IsFairly, CameInTime};
 
 use crate::custom::CustomBuild;
 use crate::error::BuildError;
@@ -95,6 +95,8 @@ impl<L: Loader + Drop> GraphBuild<L> {
             (IsAskedFor (graph_rules self.old.inner) (starts self.old.inner) self.new.inner.asked self.new.inner.log) }
         ensures answered { OnOk result (EachAnswered self.new.inner.asked self.new.inner.log) }
         ensures limit { IfOk result (λ g. length g.entries ≤ self.old.inner.limit) }
+        // The different roots have the first numbers, in the order in which they first stand among the roots.
+        ensures firsts { IfOk result (λ g. GoesOn (different (texts self.old.inner.roots)) (texts g.numbered)) }
         ensures pending { OnOk result (self.new.inner.pending ≡ self.old.inner.pending) }
         // Why there is no graph.
         ensures not_yet { result ≡ Err BuildError.NotYet →

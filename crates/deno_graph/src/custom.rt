@@ -7,8 +7,8 @@ ghost use Rattle.graph_entry.specs.Referrer.{referred_by, starts_by};
 ghost use Rattle.graph_entry.specs.Reading.{CutsSites};
 ghost use Rattle.deno_graph.specs.Own.{own_rules, own_resolves};
 ghost use Rattle.deno_graph.specs.Reach.{answer_to};
-ghost use Rattle.deno_graph.specs.Graph.{IsGraph, EachEdgeCuts};
-ghost use Rattle.deno_graph.specs.Builder.{starts, new_building_by, IsOrderly, IsAsking, IsAskedFor, EachAnswered, IsToldLog, HasHistory, IsNotYet, IsUnawaited, IsTooMany, IsComplete, IsFairly, CameInTime};
+ghost use Rattle.deno_graph.specs.Graph.{texts, different, IsGraph, EachEdgeCuts};
+ghost use Rattle.deno_graph.specs.Builder.{starts, GoesOn, new_building_by, IsOrderly, IsAsking, IsAskedFor, EachAnswered, IsToldLog, HasHistory, IsNotYet, IsUnawaited, IsTooMany, IsComplete, IsFairly, CameInTime};
 
 use crate::error::BuildError;
 use crate::following::Following;
@@ -73,6 +73,8 @@ impl<L: Loader + Drop, R: Resolver + Drop, M: ModuleAnalyzer + Drop> CustomBuild
             (IsAskedFor (own_rules R.resolving M.reads self.old.inner.following) (starts self.old.inner) self.new.inner.asked self.new.inner.log) }
         ensures answered { OnOk result (EachAnswered self.new.inner.asked self.new.inner.log) }
         ensures limit { IfOk result (λ g. length g.entries ≤ self.old.inner.limit) }
+        // The different roots have the first numbers, in the order in which they first stand among the roots.
+        ensures firsts { IfOk result (λ g. GoesOn (different (texts self.old.inner.roots)) (texts g.numbered)) }
         ensures pending { OnOk result (self.new.inner.pending ≡ self.old.inner.pending) }
         // Why there is no graph.
         ensures not_yet { result ≡ Err BuildError.NotYet →

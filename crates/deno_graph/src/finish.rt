@@ -1,23 +1,22 @@
 //! The graph of what was reached.
-ghost use Rattle.std.specs.Prelude.{◌≡◌, map, IfOk, OnOk};
-ghost use Rattle.std.specs.Map.{keys_of};
-ghost use Rattle.std.specs.List.Sorted.{IsStrictlySortedBy};
-ghost use Rattle.std.specs.Ordering.{nat_cmp};
-ghost use Rattle.std.specs.Cmp.Lexicographic.{slice_cmp};
-ghost use Rattle.url.specs.Parts.{serialize};
+ghost use Rattle.std.specs.Prelude.{◌≡◌, map, bytes_eq, IfOk, OnOk};
+ghost use Rattle.std.specs.List.{IsDistinct};
 ghost use Rattle.graph_entry.specs.Referrer.{referred_by};
 ghost use Rattle.deno_graph.specs.Rules.{rules_by};
-ghost use Rattle.deno_graph.specs.Inside.{all_done, AreDone, HaveEntries};
+ghost use Rattle.deno_graph.specs.declared.slot.Slot.TheVariants.{Done};
+ghost use Rattle.deno_graph.specs.ByText.{keys_at};
+ghost use Rattle.deno_graph.specs.Inside.{all_done, AreDone, AreEntries, HaveEntries};
 ghost use Rattle.deno_graph.specs.Settling.{AreSettled};
 
+use crate::by_number::count;
 use crate::graph::ModuleGraph;
 use crate::settle::settle_by;
 use crate::slot::Slot;
 use crate::ways::Ways;
 use base::Items;
 use graph_entry::{Entry, ReferrerImports};
+use numbered::Numbered;
 use std::alloc::{AllocError, Global};
-use std::collections::BTreeMap;
 use std::mem;
 use url::Url;
 
@@ -27,37 +26,43 @@ pub fn finish<W: Ways>(
     ways: &W,
     roots: &[Url],
     outside: &[ReferrerImports],
-    reached: &mut BTreeMap<Url, Slot>,
+    reached: &mut Numbered<Slot>,
 ) -> Result<ModuleGraph, AllocError>
-    requires { HaveEntries reached.old.entries }
+    requires { HaveEntries reached.old }
     ensures roots { IfOk result (λ g. g.roots ≡ roots.now) }
     ensures imports { IfOk result (λ g. g.imports ≡ map (referred_by (W.resolves ways.now)) outside.now) }
-    ensures entries { IfOk result (λ g. AreSettled (rules_by (W.means ways.now) (W.follows ways.now)) reached.old.entries g.entries) }
-    ensures ordered { OnOk result (IsStrictlySortedBy
-        (λ a b. slice_cmp nat_cmp (serialize a) (serialize b)) (keys_of reached.old.entries)) }
+    ensures entries { IfOk result (λ g. AreSettled (rules_by (W.means ways.now) (W.follows ways.now)) reached.old g) }
+    ensures once { OnOk result (IsDistinct bytes_eq (keys_at reached.old)) }
 {
     let roots = copies(alloc, roots)?;
     let imports = ways.referred(alloc, outside)?;
-    // The proof learns from it that the map is in order.
-    let _count = reached.len();
-    let taken = mem::replace(reached, BTreeMap::new(alloc));
+    // The proof learns from it that no specifier has two numbers.
+    let _count = count(reached);
+    let taken = mem::replace(reached, Numbered::new(alloc));
     let firsts = entries_of(alloc, taken)?;
     let entries = settle_by(alloc, ways, firsts)?;
-    Ok(ModuleGraph::new(roots, imports, entries))
+    let order = entries.by_bytes(alloc)?;
+    Ok(ModuleGraph::new(roots, imports, entries, order))
 }
 
 // The entries of slots that all have one.
-fn entries_of(
-    alloc: Global,
-    reached: BTreeMap<Url, Slot>,
-) -> Result<Items<(Url, Entry)>, AllocError>
-    requires { AreDone reached.entries }
-    ensures { IfOk result (λ entries. reached.entries ≡ all_done entries) }
+fn entries_of(alloc: Global, reached: Numbered<Slot>) -> Result<Numbered<Entry>, AllocError>
+    requires { AreDone reached }
+    ensures { IfOk result (λ entries. reached ≡ all_done entries) }
 {
-    let mut entries = Items::from_vec(Vec::with_capacity(alloc, reached.len())?);
-    for (url, slot) in reached {
+    let (specifiers, slots) = reached.into_parts();
+    let entries = done_entries(alloc, slots)?;
+    Ok(Numbered::from_parts(specifiers, entries))
+}
+
+fn done_entries(alloc: Global, slots: Items<Slot>) -> Result<Items<Entry>, AllocError>
+    requires { AreEntries slots }
+    ensures { IfOk result (λ entries. slots ≡ map Done entries) }
+{
+    let mut entries = Items::from_vec(Vec::with_capacity(alloc, slots.len())?);
+    for slot in slots.into_vec() {
         match slot {
-            Slot::Done(entry) => entries.push((url, entry))?,
+            Slot::Done(entry) => entries.push(entry)?,
             Slot::Queued | Slot::Asked => unreachable!(),
         }
     }

@@ -5,9 +5,10 @@ ghost use Rattle.graph_entry.specs.Specifier.{text_of};
 ghost use Rattle.graph_entry.specs.Referrer.{referred_by, starts_by};
 ghost use Rattle.deno_graph.specs.Rules.{rules_by};
 ghost use Rattle.deno_graph.specs.Reach.{answer_to};
-ghost use Rattle.deno_graph.specs.Graph.{IsGraph};
-ghost use Rattle.deno_graph.specs.Builder.{starts, new_building_by, IsOrderly, IsAsking, IsAskedFor, EachAnswered, IsToldLog, HasHistory, IsNotYet, IsUnawaited, IsTooMany, IsComplete, IsFairly, CameInTime};
+ghost use Rattle.deno_graph.specs.Graph.{texts, different, IsGraph};
+ghost use Rattle.deno_graph.specs.Builder.{starts, GoesOn, new_building_by, IsOrderly, IsAsking, IsAskedFor, EachAnswered, IsToldLog, HasHistory, IsNotYet, IsUnawaited, IsTooMany, IsComplete, IsFairly, CameInTime};
 
+use crate::by_number::count;
 use crate::error::BuildError;
 use crate::finish::finish;
 use crate::graph::ModuleGraph;
@@ -134,6 +135,7 @@ impl<L: Loader + Drop, W: Ways + Drop> Inner<L, W> {
             (IsAskedFor (rules_by (W.means self.old.following) (W.follows self.old.following)) (starts self.old) self.new.asked self.new.log) }
         ensures answered { OnOk result (EachAnswered self.new.asked self.new.log) }
         ensures limit { IfOk result (λ g. length g.entries ≤ self.old.limit) }
+        ensures firsts { IfOk result (λ g. GoesOn (different (texts self.old.roots)) (texts g.numbered)) }
         ensures pending { OnOk result (self.new.pending ≡ self.old.pending) }
         ensures not_yet { result ≡ Err BuildError.NotYet →
             IsNotYet (rules_by (W.means self.old.following) (W.follows self.old.following)) self.old self.new }
@@ -177,8 +179,8 @@ impl<L: Loader + Drop, W: Ways + Drop> Inner<L, W> {
             }
             Err(BuildError::NotYet) => {
                 self.finished = false;
-                // The proof learns from it that the map is in order.
-                let _count = self.progress.reaching.reached.len();
+                // The proof learns from it that no specifier has two numbers.
+                let _count = count(&self.progress.reaching.reached);
                 Err(BuildError::NotYet)
             }
             Err(BuildError::TooManyModules { seen }) => Err(BuildError::TooManyModules { seen }),

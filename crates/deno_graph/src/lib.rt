@@ -10,8 +10,9 @@
 #![tactic(auto)]
 
 mod build;
-mod by_text;
+mod by_number;
 mod custom;
+mod entries;
 mod error;
 mod finish;
 mod following;
@@ -29,9 +30,10 @@ mod ways;
 
 pub use build::GraphBuild;
 pub use custom::CustomBuild;
+pub use entries::Entries;
 pub use error::BuildError;
 pub use file_url::{SpecifierError, resolve_import};
-pub use graph::{Entries, ModuleGraph};
+pub use graph::ModuleGraph;
 pub use graph_entry::{
     AnalyzeFault, Attribute, DataError, DefaultResolver, Dependency, DependencyKind, Entry,
     GraphKind, Headers, JsModule, JsonModule, LoadAnswer, MediaType, Module, ModuleAnalyzer,

@@ -6,13 +6,13 @@ ghost use Rattle.deno_graph.specs.ByText.{value_at};
 ghost use Rattle.deno_graph.specs.Loader.{HasStarted, HasPolled};
 ghost use Rattle.deno_graph.specs.Memory.{new_memory, module_answer, data_of, settled, next_answered, is_dropped, named, IsTaken, IsStarted, IsPolled, IsIndex};
 
-use crate::by_text::{find, put};
+use crate::by_number::{find, put};
 use crate::loader::{Loader, LoaderPoll};
 use base::Items;
 use graph_entry::LoadAnswer;
+use numbered::Numbered;
 use open_requests::Requests;
 use std::alloc::{AllocError, Global};
-use std::collections::BTreeMap;
 use std::marker::Model;
 use url::Url;
 
@@ -33,7 +33,7 @@ pub enum Arrival {
 pub struct MemoryLoader {
     modules: Items<(Url, LoadAnswer)>,
     // The number of the first module with each specifier.
-    places: BTreeMap<Url, usize>,
+    places: Numbered<usize>,
     arrival: Items<Arrival>,
     // How many items of the arrival list are used up.
     next: usize,
@@ -64,7 +64,7 @@ impl Model for MemoryLoader {
       forced = list_any is_forced m.arrival;
     } };
 
-    ghost invariant = { λ m. IsKeptMemory m.modules m.places.entries m.arrival m.order.items m.requests.all m.log
+    ghost invariant = { λ m. IsKeptMemory m.modules m.places m.arrival m.order.items m.requests.all m.log
         m.requests.waiting };
 }
 
@@ -151,18 +151,14 @@ fn number_of(urls: &[Url]) -> usize
 }
 
 // From the last module to the first, so that the first with a specifier stays.
-fn places_of(
-    alloc: Global,
-    modules: &[(Url, LoadAnswer)],
-) -> Result<BTreeMap<Url, usize>, AllocError>
-    ensures { IfOk result (λ places. IsIndex modules.now places.entries) }
+fn places_of(alloc: Global, modules: &[(Url, LoadAnswer)]) -> Result<Numbered<usize>, AllocError>
+    ensures { IfOk result (λ places. IsIndex modules.now places) }
 {
-    let mut places = BTreeMap::new(alloc);
+    let mut places = Numbered::new(alloc);
     let mut at = modules.len();
     while 0 < at {
         at -= 1;
-        let url = modules[at].0.clone()?;
-        put(&mut places, url, at)?;
+        put(&mut places, &modules[at].0, at)?;
     }
     Ok(places)
 }
@@ -170,10 +166,10 @@ fn places_of(
 // A copy of the module's answer.
 fn answer_for(
     modules: &[(Url, LoadAnswer)],
-    places: &BTreeMap<Url, usize>,
+    places: &Numbered<usize>,
     url: &Url,
 ) -> Result<LoadAnswer, AllocError>
-    requires { IsIndex modules.now places.now.entries }
+    requires { IsIndex modules.now places.now }
     ensures { IfOk result (λ answer. answer ≡ module_answer modules.now (text_of url.now)) }
 {
     match place_of(places, url) {
@@ -182,8 +178,8 @@ fn answer_for(
     }
 }
 
-fn place_of(places: &BTreeMap<Url, usize>, url: &Url) -> Option<usize>
-    ensures { result ≡ value_at places.now.entries (text_of url.now) }
+fn place_of(places: &Numbered<usize>, url: &Url) -> Option<usize>
+    ensures { result ≡ value_at places.now (text_of url.now) }
 {
     find(places, url).copied()
 }

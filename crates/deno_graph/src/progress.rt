@@ -1,10 +1,13 @@
 //! How far a builder is: what it asks for next, and the answers that it takes.
-ghost use Rattle.std.specs.Prelude.{◌≡◌, ◌+◌, ◌≤◌, ◌<◌, ℕ, true, []};
-ghost use Rattle.graph_entry.specs.Specifier.{text_of, loadable};
+ghost use Rattle.std.specs.Prelude.{◌≡◌, ◌+◌, ◌≤◌, ◌<◌, ℕ, true, [], Some, slice_get};
+ghost use Rattle.graph_entry.specs.Specifier.{loadable};
 ghost use Rattle.deno_graph.specs.Rules.{rules_by};
+ghost use Rattle.deno_graph.specs.Reach.{Specifier};
 ghost use Rattle.deno_graph.specs.Graph.{texts};
+ghost use Rattle.deno_graph.specs.ByText.{keys_at};
 ghost use Rattle.deno_graph.specs.Builder.{CameInTime};
-ghost use Rattle.deno_graph.specs.Progress.{at, own_events, IsKeptAt, IsLive, IsInHand, GoesOnAt, OnlyAsks, Begins, Deals, AsksNext, AsksAll, Turns, Runs};
+ghost use Rattle.deno_graph.specs.Reaching.{todo_of};
+ghost use Rattle.deno_graph.specs.Progress.{at, own_events, IsKeptAt, IsLive, IsInHandAt, GoesOnAt, OnlyAsks, Begins, Deals, AsksNext, AsksAll, Turns, Runs};
 
 use crate::error::BuildError;
 use crate::loader::{Loader, LoaderPoll};
@@ -112,7 +115,7 @@ impl Progress {
     ) -> Result<bool, BuildError>
         requires live { IsLive (rules_by (W.means ways.now) (W.follows ways.now)) (at (L.seen loader.old) self.old) }
         requires begun { self.old.begun ≡ true }
-        requires asked_all { self.old.reaching.todo ≡ [] }
+        requires asked_all { todo_of self.old.reaching ≡ [] }
         requires open_yet { self.old.taken < self.old.asked }
         ensures turns { Turns (rules_by (W.means ways.now) (W.follows ways.now)) (at (L.seen loader.old) self.old) (at (L.seen loader.new) self.new) result }
         ensures in_time { CameInTime (rules_by (W.means ways.now) (W.follows ways.now)) (texts self.old.starts) (own_events (at (L.seen loader.new) self.new)) result }
@@ -167,10 +170,10 @@ impl Progress {
         ensures kept { IsKeptAt (rules_by (W.means ways.now) (W.follows ways.now)) (at (L.seen loader.new) self.new) }
         ensures asks { OnlyAsks (at (L.seen loader.old) self.old) (at (L.seen loader.new) self.new) }
     {
-        let Some(url) = self.reaching.todo.pop() else {
+        let Some(number) = self.reaching.take_next() else {
             return Ok(false);
         };
-        match self.deal(alloc, ways, loader, url) {
+        match self.deal(alloc, ways, loader, number) {
             Ok(()) => Ok(true),
             Err(error) => Err(error),
         }
@@ -182,17 +185,17 @@ impl Progress {
         alloc: Global,
         ways: &W,
         loader: &mut L,
-        url: Url,
+        number: usize,
     ) -> Result<(), GrowError>
-        requires in_hand { IsInHand (rules_by (W.means ways.now) (W.follows ways.now)) (at (L.seen loader.old) self.old) (text_of url) }
+        requires in_hand { IsInHandAt (rules_by (W.means ways.now) (W.follows ways.now)) (at (L.seen loader.old) self.old) number }
         ensures deals { Deals (rules_by (W.means ways.now) (W.follows ways.now)) (at (L.seen loader.old) self.old) (at (L.seen loader.new) self.new) result }
         ensures kept { IsKeptAt (rules_by (W.means ways.now) (W.follows ways.now)) (at (L.seen loader.new) self.new) }
         ensures asks { OnlyAsks (at (L.seen loader.old) self.old) (at (L.seen loader.new) self.new) }
     {
-        if is_loadable(&url) {
-            self.ask(ways, loader, url)
+        if is_loadable(self.reaching.specifier(number)) {
+            self.ask(ways, loader, number)
         } else {
-            self.reaching.fill_unasked(alloc, ways, url)
+            self.reaching.fill_unasked(alloc, ways, number)
         }
     }
 
@@ -201,10 +204,10 @@ impl Progress {
         &mut self,
         ways: &W,
         loader: &mut L,
-        url: Url,
+        number: usize,
     ) -> Result<(), GrowError>
-        requires in_hand { IsInHand (rules_by (W.means ways.now) (W.follows ways.now)) (at (L.seen loader.old) self.old) (text_of url) }
-        requires loads { loadable (text_of url) ≡ true }
+        requires in_hand { IsInHandAt (rules_by (W.means ways.now) (W.follows ways.now)) (at (L.seen loader.old) self.old) number }
+        requires loads { (s : Specifier) → slice_get (keys_at self.old.reaching.reached) number ≡ Some s → loadable s ≡ true }
         ensures deals { Deals (rules_by (W.means ways.now) (W.follows ways.now)) (at (L.seen loader.old) self.old) (at (L.seen loader.new) self.new) result }
         ensures kept { IsKeptAt (rules_by (W.means ways.now) (W.follows ways.now)) (at (L.seen loader.new) self.new) }
         ensures asks { OnlyAsks (at (L.seen loader.old) self.old) (at (L.seen loader.new) self.new) }
@@ -213,14 +216,12 @@ impl Progress {
         let _ = ways;
         // The proof learns from it that one can be added to the count, which stays below it.
         let _limit = self.reaching.limit;
-        match loader.start(&url) {
+        match loader.start(self.reaching.specifier(number)) {
             Ok(()) => {}
             Err(_) => return Err(GrowError::OutOfMemory),
         }
         self.asked += 1;
-        match self.reaching.mark_asked(url) {
-            Ok(()) => Ok(()),
-            Err(_) => Err(GrowError::OutOfMemory),
-        }
+        self.reaching.mark_asked(number);
+        Ok(())
     }
 }

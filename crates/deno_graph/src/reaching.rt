@@ -1,24 +1,23 @@
-//! What is reached so far: a slot for each specifier, and a worklist.
-ghost use Rattle.std.specs.Prelude.{◌↔◌, IsTrue, Some, IsSome, ◌≡◌, ◌+◌, ◌≤◌, ℕ, [], ◌∷◌, length, OnOk, Err, option_to_list};
+//! What is reached so far: a slot for each specifier, by its number, and how many of them were dealt with.
+ghost use Rattle.std.specs.Prelude.{◌↔◌, IsTrue, option_map, Some, None, ◌≡◌, ◌+◌, ◌≤◌, ◌<◌, ℕ, [], ◌∷◌, length, slice_get, IfSome, Err, option_to_list};
 ghost use Rattle.std.specs.List.{filter_map};
 ghost use Rattle.graph_entry.specs.Specifier.{text_of};
 ghost use Rattle.deno_graph.specs.declared.slot.Slot.TheVariants.{Asked};
+ghost use Rattle.deno_graph.specs.Reach.{Specifier};
 ghost use Rattle.deno_graph.specs.Rules.{edges_of, led_to, targets, has_types, is_followed, rules_by};
 ghost use Rattle.deno_graph.specs.Graph.{texts};
-ghost use Rattle.deno_graph.specs.ByText.{value_at};
-ghost use Rattle.deno_graph.specs.Slots.{HasGrown, IsOverfull};
-ghost use Rattle.deno_graph.specs.Reaching.{Grows, Fills, IsMarked};
+ghost use Rattle.deno_graph.specs.ByText.{value_at, keys_at};
+ghost use Rattle.deno_graph.specs.Reaching.{todo_of, HasRoom, Grows, Fills, IsMarked, TakesNext};
 ghost use Rattle.deno_graph.specs.Progress.{FillsUnasked, Takes};
 
-use crate::by_text::{find, has, put};
+use crate::by_number::{add, count, number, set};
 use crate::error::BuildError;
 use crate::following::Following;
 use crate::slot::Slot;
 use crate::ways::Ways;
-use base::Items;
 use graph_entry::{Dependency, Entry, LoadAnswer, Module};
+use numbered::Numbered;
 use std::alloc::{AllocError, Global};
-use std::collections::BTreeMap;
 use url::Url;
 
 /// Why no more can be reached.
@@ -38,50 +37,64 @@ impl From<AllocError> for GrowError {
     }
 }
 
-/// A slot for each reached specifier, and the specifiers that are still to be asked for.
+/// A slot for each reached specifier, in the order in which they came. Those before `next` were dealt with.
 #[derive(Drop)]
 pub struct Reaching {
-    pub reached: BTreeMap<Url, Slot>,
-    pub todo: Items<Url>,
+    pub reached: Numbered<Slot>,
+    pub next: usize,
     pub limit: usize,
 }
 
 impl Reaching {
     /// Nothing is reached.
     pub fn new(alloc: Global, limit: usize) -> Reaching
-        ensures reached { result.reached.entries ≡ [] }
-        ensures todo { result.todo ≡ [] }
+        ensures reached { result.reached ≡ [] }
+        ensures next { result.next ≡ 0 }
         ensures limit { result.limit ≡ limit }
     {
         Reaching {
-            reached: BTreeMap::new(alloc),
-            todo: Items::new(alloc),
+            reached: Numbered::new(alloc),
+            next: 0,
             limit,
         }
     }
 
-    /// Reaches a specifier.
+    /// Reaches a specifier: a new one gets the next number.
     pub fn reach(&mut self, url: &Url) -> Result<(), GrowError>
-        requires room { length self.old.reached.entries ≤ self.old.limit }
+        requires room { HasRoom self.old }
         ensures grows { Grows (text_of url.now ∷ []) self.old self.new result }
         ensures limit { self.new.limit ≡ self.old.limit }
     {
-        if has(&self.reached, url) {
-            return Ok(());
+        match number(&self.reached, url) {
+            Some(_) => return Ok(()),
+            None => {}
         }
-        if self.reached.len() >= self.limit {
-            return Err(GrowError::TooMany {
-                seen: self.reached.len() + 1,
-            });
+        let before = count(&self.reached);
+        if before >= self.limit {
+            return Err(GrowError::TooMany { seen: before + 1 });
         }
-        put(&mut self.reached, url.clone()?, Slot::Queued)?;
-        self.todo.push(url.clone()?)?;
-        Ok(())
+        match add(&mut self.reached, url.clone()?, Slot::Queued) {
+            Ok(()) => return Ok(()),
+            Err(_) => return Err(GrowError::OutOfMemory),
+        }
+    }
+
+    /// Takes the next number that was not dealt with.
+    pub fn take_next(&mut self) -> Option<usize>
+        ensures takes { TakesNext self.old self.new result }
+        ensures limit { self.new.limit ≡ self.old.limit }
+    {
+        let number = self.next;
+        if number >= count(&self.reached) {
+            return None;
+        }
+        self.next = number + 1;
+        Some(number)
     }
 
     /// Reaches each of these specifiers.
     pub fn reach_all(&mut self, urls: &[Url]) -> Result<(), GrowError>
-        requires room { length self.old.reached.entries ≤ self.old.limit }
+        requires room { HasRoom self.old }
         ensures grows { Grows (texts urls.now) self.old self.new result }
         ensures limit { self.new.limit ≡ self.old.limit }
     {
@@ -97,7 +110,7 @@ impl Reaching {
     /// Reaches what an entry leads to.
     #[tactic(auto, unfolding(crate::specs::Rules::targets))]
     pub fn reach_targets<W: Ways>(&mut self, ways: &W, entry: &Entry) -> Result<(), GrowError>
-        requires room { length self.old.reached.entries ≤ self.old.limit }
+        requires room { HasRoom self.old }
         ensures grows { Grows (targets (rules_by (W.means ways.now) (W.follows ways.now)) entry.now) self.old self.new result }
         ensures limit { self.new.limit ≡ self.old.limit }
     {
@@ -110,7 +123,7 @@ impl Reaching {
 
     // Reaches the targets of the followed edges of a module.
     fn reach_edges(&mut self, following: Following, importer: &Module) -> Result<(), GrowError>
-        requires room { length self.old.reached.entries ≤ self.old.limit }
+        requires room { HasRoom self.old }
         ensures grows { Grows (filter_map (led_to (is_followed following (has_types importer.now)))
             (edges_of importer.now)) self.old self.new result }
         ensures limit { self.new.limit ≡ self.old.limit }
@@ -134,7 +147,7 @@ impl Reaching {
         typed: bool,
         dependencies: &[Dependency],
     ) -> Result<(), GrowError>
-        requires room { length self.old.reached.entries ≤ self.old.limit }
+        requires room { HasRoom self.old }
         ensures grows { Grows (filter_map (led_to (is_followed following typed)) dependencies.now) self.old self.new result }
         ensures limit { self.new.limit ≡ self.old.limit }
     {
@@ -153,7 +166,7 @@ impl Reaching {
         typed: bool,
         dependency: &Dependency,
     ) -> Result<(), GrowError>
-        requires room { length self.old.reached.entries ≤ self.old.limit }
+        requires room { HasRoom self.old }
         ensures grows { Grows (option_to_list (led_to (is_followed following typed) dependency.now)) self.old self.new result }
         ensures limit { self.new.limit ≡ self.old.limit }
     {
@@ -166,48 +179,61 @@ impl Reaching {
         }
     }
 
-    /// The loader was asked for this specifier.
-    pub fn mark_asked(&mut self, url: Url) -> Result<(), AllocError>
-        requires there { IsSome (value_at self.old.reached.entries (text_of url)) }
-        ensures ok { OnOk result (IsMarked (text_of url) Asked self.old self.new) }
+    /// The loader was asked for the specifier with this number.
+    pub fn mark_asked(&mut self, number: usize)
+        requires { number < length self.old.reached }
+        ensures marked { (s : Specifier) → slice_get (keys_at self.old.reached) number ≡ Some s
+            → IsMarked s Asked self.old self.new }
         ensures limit { self.new.limit ≡ self.old.limit }
     {
-        put(&mut self.reached, url, Slot::Asked)
+        set(&mut self.reached, number, Slot::Asked);
     }
 
-    /// The specifier has this entry: what the entry leads to is reached.
-    pub fn fill<W: Ways>(&mut self, ways: &W, url: Url, entry: Entry) -> Result<(), GrowError>
-        requires room { length self.old.reached.entries ≤ self.old.limit }
-        requires there { IsSome (value_at self.old.reached.entries (text_of url)) }
-        ensures fills { Fills (rules_by (W.means ways.now) (W.follows ways.now)) (text_of url) entry self.old self.new result }
+    /// The specifier with this number has this entry: what the entry leads to is reached.
+    pub fn fill<W: Ways>(&mut self, ways: &W, number: usize, entry: Entry) -> Result<(), GrowError>
+        requires room { HasRoom self.old }
+        requires there { number < length self.old.reached }
+        ensures fills { (s : Specifier) → slice_get (keys_at self.old.reached) number ≡ Some s
+            → Fills (rules_by (W.means ways.now) (W.follows ways.now)) s entry self.old self.new result }
         ensures limit { self.new.limit ≡ self.old.limit }
     {
         match self.reach_targets(ways, &entry) {
             Ok(()) => {}
             Err(error) => return Err(error),
         }
-        match put(&mut self.reached, url, Slot::Done(entry)) {
-            Ok(()) => Ok(()),
-            Err(_) => Err(GrowError::OutOfMemory),
-        }
+        set(&mut self.reached, number, Slot::Done(entry));
+        Ok(())
     }
 
-    /// The specifier, which no loader is asked for, has its entry: what the entry leads to is reached.
+    /// The specifier with this number, which no loader is asked for, has its entry: what the entry leads to is reached.
     pub fn fill_unasked<W: Ways>(
         &mut self,
         alloc: Global,
         ways: &W,
-        url: Url,
+        number: usize,
     ) -> Result<(), GrowError>
-        requires room { length self.old.reached.entries ≤ self.old.limit }
-        requires there { IsSome (value_at self.old.reached.entries (text_of url)) }
-        ensures fills { FillsUnasked (rules_by (W.means ways.now) (W.follows ways.now)) (text_of url) self.old self.new result }
+        requires room { HasRoom self.old }
+        requires there { number < length self.old.reached }
+        ensures fills { (s : Specifier) → slice_get (keys_at self.old.reached) number ≡ Some s
+            → FillsUnasked (rules_by (W.means ways.now) (W.follows ways.now)) s self.old self.new result }
         ensures limit { self.new.limit ≡ self.old.limit }
     {
-        match ways.analyse_unasked(alloc, &url) {
-            Ok(entry) => self.fill(ways, url, entry),
+        let made = ways.analyse_unasked(alloc, self.specifier(number));
+        match made {
+            Ok(entry) => self.fill(ways, number, entry),
             Err(_) => Err(GrowError::OutOfMemory),
         }
+    }
+
+    /// The specifier with this number.
+    pub fn specifier(&self, number: usize) -> &Url
+        requires { number < length self.now.reached }
+        ensures { slice_get (keys_at self.now.reached) number ≡ Some (text_of result.now) }
+    {
+        let Some(url) = self.reached.numbered(number) else {
+            unreachable!()
+        };
+        url
     }
 
     /// Takes an answer for a specifier that waits, and refuses any other.
@@ -218,29 +244,48 @@ impl Reaching {
         specifier: Url,
         answer: LoadAnswer,
     ) -> Result<(), BuildError>
-        requires room { length self.old.reached.entries ≤ self.old.limit }
+        requires room { HasRoom self.old }
         ensures takes { Takes (rules_by (W.means ways.now) (W.follows ways.now)) specifier answer self.old self.new result }
         ensures limit { self.new.limit ≡ self.old.limit }
     {
-        if !self.is_asked(&specifier) {
+        let Some(number) = self.asked_number(&specifier) else {
             return Err(BuildError::UnaskedAnswer(specifier));
-        }
+        };
         let entry = match ways.analyse(alloc, &specifier, answer) {
             Ok(entry) => entry,
             Err(_) => return Err(BuildError::OutOfMemory),
         };
-        match self.fill(ways, specifier, entry) {
+        match self.fill(ways, number, entry) {
             Ok(()) => Ok(()),
             Err(GrowError::TooMany { seen }) => Err(BuildError::TooManyModules { seen }),
             Err(GrowError::OutOfMemory) => Err(BuildError::OutOfMemory),
         }
     }
 
-    // Whether the loader was asked for it and has not answered.
-    fn is_asked(&self, url: &Url) -> bool
-        ensures { IsTrue result ↔ (value_at self.now.reached.entries (text_of url.now) ≡ Some Asked) }
+    // The number of a specifier that the loader was asked for and has not answered.
+    fn asked_number(&self, url: &Url) -> Option<usize>
+        ensures asked { IfSome result (λ n. (n < length self.now.reached)
+            × (slice_get (keys_at self.now.reached) n ≡ Some (text_of url.now))
+            × (value_at self.now.reached (text_of url.now) ≡ Some Asked)) }
+        ensures none { result ≡ None → value_at self.now.reached (text_of url.now) ≡ Some Asked → ⊥ }
     {
-        match find(&self.reached, url) {
+        match number(&self.reached, url) {
+            Some(number) => {
+                if self.is_asked(number) {
+                    Some(number)
+                } else {
+                    None
+                }
+            }
+            None => None,
+        }
+    }
+
+    // Whether the loader was asked for the specifier with this number and has not answered.
+    fn is_asked(&self, number: usize) -> bool
+        ensures { IsTrue result ↔ (option_map (λ e. e.1) (slice_get self.now.reached number) ≡ Some Asked) }
+    {
+        match self.reached.value(number) {
             Some(Slot::Asked) => true,
             Some(Slot::Queued | Slot::Done(_)) | None => false,
         }

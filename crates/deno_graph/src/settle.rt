@@ -1,11 +1,12 @@
 //! What becomes of the first entries of all that is reached: the entries of the graph.
-ghost use Rattle.std.specs.Prelude.{◌≡◌, length, map, not, IfOk, if◌then◌else◌};
+ghost use Rattle.std.specs.Prelude.{◌≡◌, ℕ, Some, length, map, not, slice_get, IfOk, if◌then◌else◌};
+ghost use Rattle.graph_entry.specs.declared.entry.Entry.{Entry as First};
+ghost use Rattle.deno_graph.specs.declared.settle.Verdict.{Verdict as Judgement};
 ghost use Rattle.graph_entry.specs.Specifier.{text_of};
 ghost use Rattle.deno_graph.specs.Rules.{edges_of, has_types, rules_of, rules_by};
-ghost use Rattle.deno_graph.specs.Graph.{IsAscending};
 ghost use Rattle.deno_graph.specs.Final.{fits, refused_edge, with_edges};
 ghost use Rattle.deno_graph.specs.Settling as spec;
-ghost use Rattle.deno_graph.specs.Settling.{finals_of, verdict_of, settled_edge};
+ghost use Rattle.deno_graph.specs.Settling.{finals_of, values_of, verdict_of, settled_edge};
 
 use crate::following::Following;
 use crate::graph::{MOST_REDIRECTS, module_in, redirect_in};
@@ -14,6 +15,7 @@ use base::Items;
 use graph_entry::{
     Attribute, Dependency, Entry, JsModule, Module, ModuleError, ResolutionError, WasmModule,
 };
+use numbered::Numbered;
 use std::alloc::{AllocError, Global};
 use url::Url;
 
@@ -32,15 +34,14 @@ pub enum Verdict {
 fn settle(
     alloc: Global,
     following: Following,
-    firsts: Items<(Url, Entry)>,
-) -> Result<Items<(Url, Entry)>, AllocError>
-    requires { IsAscending firsts }
+    firsts: Numbered<Entry>,
+) -> Result<Numbered<Entry>, AllocError>
     ensures { IfOk result (λ entries. entries ≡ finals_of (rules_of following) firsts) }
 {
-    if are_plain(firsts.as_slice()) {
+    if are_plain(firsts.values()) {
         return Ok(firsts);
     }
-    let verdicts = verdicts_of(alloc, following, firsts.as_slice())?;
+    let verdicts = verdicts_of(alloc, following, &firsts)?;
     settle_each(alloc, following, firsts, verdicts.as_slice())
 }
 
@@ -48,19 +49,18 @@ fn settle(
 pub fn settle_by<W: Ways>(
     alloc: Global,
     ways: &W,
-    firsts: Items<(Url, Entry)>,
-) -> Result<Items<(Url, Entry)>, AllocError>
-    requires { IsAscending firsts }
+    firsts: Numbered<Entry>,
+) -> Result<Numbered<Entry>, AllocError>
     ensures { IfOk result (λ entries. entries ≡ finals_of (rules_by (W.means ways.now) (W.follows ways.now)) firsts) }
 {
     settle(alloc, ways.following(), firsts)
 }
 
 // Whether all first entries stay as they are: none redirects, none is JSON, and no attribute asks for something.
-fn are_plain(firsts: &[(Url, Entry)]) -> bool
-    ensures { result ≡ spec.are_plain firsts.now }
+fn are_plain(firsts: &[Entry]) -> bool
+    ensures { result ≡ spec.all_plain firsts.now }
 {
-    firsts.iter().all(|first| is_plain(&first.1))
+    firsts.iter().all(is_plain)
 }
 
 fn is_plain(first: &Entry) -> bool
@@ -92,15 +92,25 @@ fn is_unnamed(attribute: &Attribute) -> bool
 fn verdicts_of(
     alloc: Global,
     following: Following,
-    firsts: &[(Url, Entry)],
+    firsts: &Numbered<Entry>,
 ) -> Result<Items<Verdict>, AllocError>
-    requires { IsAscending firsts.now }
     ensures { IfOk result (λ verdicts. verdicts
-        ≡ map (λ e. verdict_of (rules_of following) firsts.now e.1) firsts.now) }
+        ≡ map (verdict_of (rules_of following) firsts.now) (values_of firsts.now)) }
 {
-    let mut verdicts = Items::new(alloc);
-    for first in firsts {
-        verdicts.push(judge(alloc, following, firsts, &first.1)?)?;
+    verdicts_on(alloc, following, firsts, firsts.values())
+}
+
+fn verdicts_on(
+    alloc: Global,
+    following: Following,
+    firsts: &Numbered<Entry>,
+    values: &[Entry],
+) -> Result<Items<Verdict>, AllocError>
+    ensures { IfOk result (λ verdicts. verdicts ≡ map (verdict_of (rules_of following) firsts.now) values.now) }
+{
+    let mut verdicts = Items::from_vec(Vec::with_capacity(alloc, values.len())?);
+    for first in values {
+        verdicts.push(judge(alloc, following, firsts, first)?)?;
     }
     Ok(verdicts)
 }
@@ -108,10 +118,9 @@ fn verdicts_of(
 fn judge(
     alloc: Global,
     following: Following,
-    firsts: &[(Url, Entry)],
+    firsts: &Numbered<Entry>,
     first: &Entry,
 ) -> Result<Verdict, AllocError>
-    requires { IsAscending firsts.now }
     ensures { IfOk result (λ v. v ≡ verdict_of (rules_of following) firsts.now first.now) }
 {
     match first {
@@ -132,8 +141,7 @@ fn far_or_kept(is_far: bool) -> Verdict
 }
 
 // Whether from here as many redirects lead on as are followed.
-fn leads_on(firsts: &[(Url, Entry)], specifier: &Url) -> bool
-    requires { IsAscending firsts.now }
+fn leads_on(firsts: &Numbered<Entry>, specifier: &Url) -> bool
     ensures { result ≡ spec.leads_on firsts.now (text_of specifier.now) }
 {
     let mut at = specifier;
@@ -150,10 +158,9 @@ fn leads_on(firsts: &[(Url, Entry)], specifier: &Url) -> bool
 fn misfits(
     alloc: Global,
     following: Following,
-    firsts: &[(Url, Entry)],
+    firsts: &Numbered<Entry>,
     importer: &Module,
 ) -> Result<Items<bool>, AllocError>
-    requires { IsAscending firsts.now }
     ensures { IfOk result (λ refused. refused
         ≡ map (spec.is_misfit (rules_of following) firsts.now importer.now) (edges_of importer.now)) }
 {
@@ -186,10 +193,9 @@ fn misfits_among(
     alloc: Global,
     following: Following,
     typed: bool,
-    firsts: &[(Url, Entry)],
+    firsts: &Numbered<Entry>,
     edges: &[Dependency],
 ) -> Result<Items<bool>, AllocError>
-    requires { IsAscending firsts.now }
     ensures { IfOk result (λ refused. refused ≡ map (spec.is_misfit_here following typed firsts.now) edges.now) }
 {
     let mut refused = Items::new(alloc);
@@ -199,16 +205,14 @@ fn misfits_among(
     Ok(refused)
 }
 
-fn is_misfit(following: Following, typed: bool, firsts: &[(Url, Entry)], edge: &Dependency) -> bool
-    requires { IsAscending firsts.now }
+fn is_misfit(following: Following, typed: bool, firsts: &Numbered<Entry>, edge: &Dependency) -> bool
     ensures { result ≡ spec.is_misfit_here following typed firsts.now edge.now }
 {
     following.is_followed(typed, edge) && is_unfit(firsts, edge)
 }
 
 // Whether the edge's attribute doesn't fit the module that the edge leads to.
-fn is_unfit(firsts: &[(Url, Entry)], edge: &Dependency) -> bool
-    requires { IsAscending firsts.now }
+fn is_unfit(firsts: &Numbered<Entry>, edge: &Dependency) -> bool
     ensures { result ≡ spec.is_unfit_at firsts.now edge.now.attribute edge.now.resolution }
 {
     match &edge.resolution {
@@ -236,20 +240,35 @@ fn fits(attribute: &Attribute, found: &Module) -> bool
 fn settle_each(
     alloc: Global,
     following: Following,
-    firsts: Items<(Url, Entry)>,
+    firsts: Numbered<Entry>,
     verdicts: &[Verdict],
-) -> Result<Items<(Url, Entry)>, AllocError>
-    requires { verdicts.now ≡ map (λ e. verdict_of (rules_of following) firsts e.1) firsts }
+) -> Result<Numbered<Entry>, AllocError>
+    requires { verdicts.now ≡ map (verdict_of (rules_of following) firsts) (values_of firsts) }
     ensures { IfOk result (λ entries. entries ≡ finals_of (rules_of following) firsts) }
 {
     // The rules that the contract speaks of.
     let _ = following;
-    let mut entries = Items::new(alloc);
-    for (url, first) in firsts.into_vec() {
-        let entry = judged(alloc, &verdicts[entries.len()], first)?;
-        entries.push((url, entry))?;
+    let (specifiers, values) = firsts.into_parts();
+    let entries = judged_each(alloc, verdicts, values)?;
+    Ok(Numbered::from_parts(specifiers, entries))
+}
+
+fn judged_each(
+    alloc: Global,
+    verdicts: &[Verdict],
+    values: Items<Entry>,
+) -> Result<Items<Entry>, AllocError>
+    requires even { length verdicts.now ≡ length values }
+    requires each { (i : ℕ) (v : Judgement) (e : First) → slice_get verdicts.now i ≡ Some v
+        → slice_get values i ≡ Some e → spec.IsVerdictOn v e }
+    ensures { IfOk result (λ made. made ≡ spec.all_judged verdicts.now values) }
+{
+    let mut made = Items::from_vec(Vec::with_capacity(alloc, values.len())?);
+    for first in values.into_vec() {
+        let entry = judged(alloc, &verdicts[made.len()], first)?;
+        made.push(entry)?;
     }
-    Ok(entries)
+    Ok(made)
 }
 
 fn judged(alloc: Global, verdict: &Verdict, first: Entry) -> Result<Entry, AllocError>

@@ -1,5 +1,5 @@
 -- A map by specifiers is read by their texts.
-use Rattle.std.proofs.Common.{◌≡◌, ◌+◌, Bool, true, false, cond, List, [], ◌∷◌, length, map, refl, sym, ◌∙◌, Some}
+use Rattle.std.proofs.Common.{◌≡◌, ◌+◌, ℕ, Bool, true, false, cond, List, [], ◌∷◌, length, map, refl, sym, ap, ◌∙◌, Some}
 use Rattle.std.specs.Prelude.{bytes_eq, is_some, ◌||◌}
 use Rattle.std.specs.List.{AllByRecursion, IsDistinct}
 use Rattle.std.specs.List.Sorted.{IsStrictlySortedBy}
@@ -14,7 +14,8 @@ use Rattle.std.specs.declared.cmp.Ordering.TheVariants.{Less, Equal, Greater}
 use Rattle.std.proofs.lemmas.Map.Text.{is_eq-slice_cmp}
 use Rattle.std.specs.List.{list_any}
 use Rattle.url.specs.Parts.{Parts, serialize}
-use Rattle.numbered.specs.Numbers.{Specifier, value_at, IsPut}
+use Rattle.std.specs.Borrow.{Bor}
+use Rattle.numbered.specs.Numbers.{Specifier, value_at, plain, IsPut}
 
 -- the list holds the specifier
 abbrev pub has : List Specifier → Specifier → Bool
@@ -82,6 +83,53 @@ is_put old new url value is grown = record {
   at = λ t. rw is (value_at-insert old url value t);
   counted = rw (← value_at-get old url) grown;
 }
+
+-- ---- references to specifiers
+
+abbrev pub bor_cmp : Bor Parts → Bor Parts → Ordering
+bor_cmp a b = url_cmp a.now b.now
+
+pub plain-insert : {V : Type 0} (entries : List (Bor Parts × V)) (url : Bor Parts) (value : V)
+    → plain (insert_entry bor_cmp entries url value) ≡ insert_entry url_cmp (plain entries) url.now value
+plain-insert [] url value = refl
+plain-insert {V} (e ∷ es) url value = by (url_cmp url.now e.0.now) (plain-insert es url value)
+  where
+    by : (o : Ordering) → plain (insert_entry bor_cmp es url value) ≡ insert_entry url_cmp (plain es) url.now value
+        → plain (match_ordering o ((url, value) ∷ e ∷ es) ((e.0, value) ∷ es) (e ∷ insert_entry bor_cmp es url value))
+        ≡ match_ordering o ((url.now, value) ∷ (e.0.now, e.1) ∷ plain es) ((e.0.now, value) ∷ plain es)
+        ((e.0.now, e.1) ∷ insert_entry url_cmp (plain es) url.now value)
+    by Less rest = refl
+    by Equal rest = refl
+    by Greater rest = ap (λ (l : List (Parts × V)). (e.0.now, e.1) ∷ l) rest
+
+plain-lookup : {V : Type 0} (entries : List (Bor Parts × V)) (url : Bor Parts)
+    → lookup (is_at (bor_cmp url)) entries ≡ lookup (is_at (url_cmp url.now)) (plain entries)
+plain-lookup [] url = refl
+plain-lookup (e ∷ es) url = rw (plain-lookup es url) refl
+
+pub plain-length : {V : Type 0} (entries : List (Bor Parts × V)) → length (plain entries) ≡ length entries
+plain-length {V} entries = length-map entries (λ (e : Bor Parts × V). (e.0.now, e.1))
+
+pub is_put_plain : {V : Type 0} (old new : List (Bor Parts × V)) (url : Bor Parts) (value : V)
+    → new ≡ insert_entry bor_cmp old url value
+    → length new ≡ length old + cond (is_some (lookup (is_at (bor_cmp url)) old)) 0 1
+    → IsPut (plain old) (plain new) (serialize url.now) value
+is_put_plain old new url value is grown =
+    is_put (plain old) (plain new) url.now value (ap plain is ∙ plain-insert old url value)
+    (plain-length new ∙ grown ∙ ap (λ o. length old + cond (is_some o) 0 1) (plain-lookup old url)
+    ∙ ap (λ (n : ℕ). n + cond (is_some (lookup (is_at (url_cmp url.now)) (plain old))) 0 1) (sym (plain-length old)))
+
+plain-below : {V : Type 0} (url : Bor Parts) (rest : List (Bor Parts × V))
+    → AllByRecursion (λ y. bor_cmp url y ≡ Less) (keys_of rest)
+    → AllByRecursion (λ y. url_cmp url.now y ≡ Less) (keys_of (plain rest))
+plain-below url [] h = tt
+plain-below url (f ∷ rest) h = (h.0, plain-below url rest h.1)
+
+pub plain-sorted : {V : Type 0} (entries : List (Bor Parts × V)) → IsStrictlySortedBy bor_cmp (keys_of entries)
+    → IsStrictlySortedBy url_cmp (keys_of (plain entries))
+unfolding IsStrictlySortedBy
+plain-sorted [] sorted = tt
+plain-sorted (e ∷ es) sorted = (plain-below e.0 es sorted.0, plain-sorted es sorted.1)
 
 -- ---- the specifiers of a map
 

@@ -121,7 +121,7 @@ number_at entries s n h =
     (sym (position_from-zero (bytes_eq s) (specifiers entries)) ∙ h) in
     ap (slice_get (specifiers entries)) (omega (arith, r.1)) ∙ r.2
 
-slice_get-specifiers : {V : Type 0} (entries : List (Parts × V)) (n : ℕ)
+pub slice_get-specifiers : {V : Type 0} (entries : List (Parts × V)) (n : ℕ)
     → slice_get (specifiers entries) n ≡ option_map (λ (e : Parts × V). serialize e.0) (slice_get entries n)
 slice_get-specifiers [] n = refl
 slice_get-specifiers (e ∷ es) zero = refl
@@ -155,7 +155,7 @@ are_at entries (e ∷ es) once h = (
         absurd cc
 
 -- the entry with a number has the specifier of it
-entry_at : {V : Type 0} (entries : List (Parts × V)) (n : ℕ) (s : Specifier) → slice_get (specifiers entries) n ≡ Some s
+pub entry_at : {V : Type 0} (entries : List (Parts × V)) (n : ℕ) (s : Specifier) → slice_get (specifiers entries) n ≡ Some s
     → (x : Parts × V) × (slice_get entries n ≡ Some x) × (serialize x.0 ≡ s)
 entry_at {V} entries n s h = by (slice_get entries n) refl (sym (slice_get-specifiers entries n) ∙ h)
   where

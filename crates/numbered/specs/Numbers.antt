@@ -5,6 +5,7 @@ use Rattle.std.specs.List.Sorted.{IsStrictlySortedBy}
 use Rattle.std.specs.Map.{lookup}
 use Rattle.std.specs.Ordering.{nat_cmp}
 use Rattle.std.specs.Cmp.Lexicographic.{slice_cmp}
+use Rattle.std.specs.Borrow.{Bor}
 use Rattle.url.specs.Parts.{Parts, serialize}
 
 abbrev pub Specifier : Type 0
@@ -48,6 +49,10 @@ pub record IsByBytes {V : Type 0} (entries : List (Parts × V)) (order : List �
   pub same : (t : Specifier) → value_at (at_numbers entries order) t ≡ value_at entries t
   pub counted : length (at_numbers entries order) ≡ length entries
   pub each : (i n : ℕ) → slice_get order i ≡ Some n → n < length entries
+
+-- the entries behind references to their specifiers
+abbrev pub plain : {V : Type 0} → List (Bor Parts × V) → List (Parts × V)
+plain entries = map (λ e. (e.0.now, e.1)) entries
 
 -- the new entries have this value at the specifier, and the old ones elsewhere
 pub record IsPut {V : Type 0} (old new : List (Parts × V)) (s : Specifier) (value : V) : Type 0 where

@@ -1,7 +1,7 @@
 //! The numbers of specifiers, by the specifiers' bytes.
 ghost use Rattle.std.specs.Prelude.{◌≡◌, map, IfOk, OnOk};
 ghost use Rattle.url.specs.Parts.{serialize};
-ghost use Rattle.numbered.specs.Numbers.{HasNumbers, IsPut, IsByBytes};
+ghost use Rattle.numbered.specs.Numbers.{HasNumbers, plain, IsPut, IsByBytes};
 
 use crate::numbered::Numbered;
 use base::Items;
@@ -26,34 +26,41 @@ pub fn numbers_by_bytes<V: Drop>(
 }
 
 // Each specifier's number.
-fn places<V: Drop>(alloc: Global, all: &Numbered<V>) -> Result<BTreeMap<Url, usize>, AllocError>
-    ensures { IfOk result (λ map. HasNumbers all.now map.entries) }
+fn places<'a, V: Drop>(
+    alloc: Global,
+    all: &'a Numbered<V>,
+) -> Result<BTreeMap<&'a Url, usize>, AllocError>
+    ensures { IfOk result (λ map. HasNumbers all.now (plain map.entries)) }
 {
     let mut map = BTreeMap::new(alloc);
     for number in 0..all.len() {
         let Some(url) = all.numbered(number) else {
             unreachable!()
         };
-        put(&mut map, url.clone()?, number)?;
+        put(&mut map, url, number)?;
     }
     Ok(map)
 }
 
 // The numbers of a map, in its order.
-fn listed(alloc: Global, places: BTreeMap<Url, usize>) -> Result<Items<usize>, AllocError>
-    ensures { IfOk result (λ order. order ≡ map (λ e. e.1) places.entries) }
+fn listed(alloc: Global, places: BTreeMap<&Url, usize>) -> Result<Items<usize>, AllocError>
+    ensures { IfOk result (λ order. order ≡ map (λ e. e.1) (plain places.entry.entries)) }
 {
-    let mut order = Items::new(alloc);
+    let mut order = Items::from_vec(Vec::with_capacity(alloc, places.len())?);
     for (_, number) in places {
         order.push(number)?;
     }
     Ok(order)
 }
 
-// Puts the value at this specifier, in place of what was there.
-fn put<V: Drop>(map: &mut BTreeMap<Url, V>, url: Url, value: V) -> Result<(), AllocError>
-    ensures { OnOk result (IsPut map.old.entries map.new.entries (serialize url) value) }
+// Puts the number at this specifier, in place of what was there.
+fn put<'a>(
+    map: &mut BTreeMap<&'a Url, usize>,
+    url: &'a Url,
+    number: usize,
+) -> Result<(), AllocError>
+    ensures { OnOk result (IsPut (plain map.old.entries) (plain map.new.entries) (serialize url.now) number) }
 {
-    let _ = map.insert(url, value)?;
+    let _ = map.insert(url, number)?;
     Ok(())
 }

@@ -1,15 +1,18 @@
-use Rattle.deno_graph.proofs.ResultLemmas.{done_first, done_push}
+use Rattle.deno_graph.proofs.ResultLemmas.{entries_here, done_whole, done_even}
 use Rattle.deno_graph.proofs.finish.entries_of.Goals as goal
 
--- a slot without entry isn't among them
-pub unreachable-requires : goal.unreachable-requires
-unreachable-requires c =
-    (done_first (c.in-Some.url, c.in-Some.slot) _ _ c.in-Some.ensures.steps c.loop-url.invariant.rest).0 c.in-Queued.is
+pub done_entries-requires : goal.done_entries-requires
+done_entries-requires c =
+    entries_here c.into_parts-specifiers.result.0.keys c.into_parts-specifiers.result.1 c.args.reached c.into_parts-specifiers.ensures.even
+    c.into_parts-specifiers.ensures.entries c.requires
 
-pub loop-url-preserved : goal.loop-url-preserved
-loop-url-preserved c = record {
-  taken = done_push c.loop-url.yielded c.loop-url.entries c.push.new.self c.in-Some.url c.in-Some.slot c.in-Done.entry
-      c.loop-url.invariant.taken
-      c.in-Done.is c.in_ok-push-in-Done.ensures.ok;
-  rest = (done_first (c.in-Some.url, c.in-Some.slot) _ _ c.in-Some.ensures.steps c.loop-url.invariant.rest).1;
-}
+pub from_parts-requires : goal.from_parts-requires
+from_parts-requires c =
+    done_even c.into_parts-specifiers.result.0.keys c.into_parts-specifiers.result.1 c.in_ok-entries.entries c.into_parts-specifiers.ensures.even
+    c.in_ok-entries.ensures
+
+pub returns : goal.returns
+returns c =
+    rw c.from_parts.ensures
+    (done_whole c.into_parts-specifiers.result.0.keys c.into_parts-specifiers.result.1 c.in_ok-entries.entries c.args.reached
+    c.into_parts-specifiers.ensures.entries c.in_ok-entries.ensures)

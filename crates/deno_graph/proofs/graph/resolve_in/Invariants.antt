@@ -5,5 +5,5 @@ use Rattle.deno_graph.proofs.graph.resolve_in.Given as goal
 
 -- the redirects that are left lead from here to where all lead from the specifier
 abbrev pub invariant-loop : goal.invariant-loop
-invariant-loop l = resolved_over l.entries (10 - l.counter) (text_of l.at)
-    ≡ resolved_over l.entries 10 (text_of l.specifier)
+invariant-loop l = resolved_over l.all (10 - l.counter) (text_of l.at)
+    ≡ resolved_over l.all 10 (text_of l.specifier)

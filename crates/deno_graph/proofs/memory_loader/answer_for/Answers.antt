@@ -8,25 +8,25 @@ use Rattle.deno_graph.proofs.memory_loader.answer_for.Goals as goal
 
 pub offset_bounds-modules-at : goal.offset_bounds-modules-at
 offset_bounds-modules-at c =
-    let is : value_at c.args.places.now.entries (text_of c.args.url.now) ≡ Some c.in-Some.at = cc in
+    let is : value_at c.args.places.now (text_of c.args.url.now) ≡ Some c.in-Some.at = cc in
     let below : c.in-Some.at < length c.args.modules.now = placed_below _ _ c.args.url.now _ c.requires is in
     search rules
 
 pub bounds-modules-at : goal.bounds-modules-at
 bounds-modules-at c =
-    let is : value_at c.args.places.now.entries (text_of c.args.url.now) ≡ Some c.in-Some.at = cc in
+    let is : value_at c.args.places.now (text_of c.args.url.now) ≡ Some c.in-Some.at = cc in
     placed_below _ _ c.args.url.now _ c.requires is
 
 pub returns-in-Some : goal.returns-in-Some
 returns-in-Some c =
-    let is : value_at c.args.places.now.entries (text_of c.args.url.now) ≡ Some c.in-Some.at = cc in
+    let is : value_at c.args.places.now (text_of c.args.url.now) ≡ Some c.in-Some.at = cc in
     let here : (get_or c.args.modules.now c.in-Some.at c.index-modules-at.result).1
     ≡ module_answer c.args.modules.now (text_of c.args.url.now) =
-    placed_answer c.args.modules.now c.args.places.now.entries c.args.url.now c.in-Some.at c.index-modules-at.result
+    placed_answer c.args.modules.now c.args.places.now c.args.url.now c.in-Some.at c.index-modules-at.result
     c.requires is in
     subst (λ (y : LoadAnswer). IfOk c.copy.result (λ answer. answer ≡ y)) here c.copy.ensures
 
 pub returns-in-None : goal.returns-in-None
 returns-in-None c =
-    let is : value_at c.args.places.now.entries (text_of c.args.url.now) ≡ None = cc in
-    unplaced_answer c.args.modules.now c.args.places.now.entries c.args.url.now c.requires is
+    let is : value_at c.args.places.now (text_of c.args.url.now) ≡ None = cc in
+    unplaced_answer c.args.modules.now c.args.places.now c.args.url.now c.requires is

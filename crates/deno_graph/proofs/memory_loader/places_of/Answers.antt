@@ -1,4 +1,4 @@
-use Rattle.std.proofs.Common.{◌≡◌, ◌<◌, ◌+◌, ◌-◌, ℕ, arith, subst, sym, ap, ◌∙◌, length}
+use Rattle.std.proofs.Common.{◌≡◌, ◌<◌, ◌+◌, ◌-◌, ℕ, arith, subst, sym, ap, length}
 use Rattle.graph_entry.specs.declared.answer.LoadAnswer.{LoadAnswer}
 use Rattle.url.specs.Parts.{Parts}
 use Rattle.graph_entry.specs.Specifier.{text_of}
@@ -13,10 +13,10 @@ loop-at-preserved c =
     let on : c.loop-at.at ≡ (c.loop-at.at - 1) + 1 = omega arith in
     record {
       fits = omega (arith, c.loop-at.invariant.fits);
-      index = index_more c.args.modules.now c.loop-at.places.entries c.put.new.map.entries (c.loop-at.at - 1)
+      index = index_more c.args.modules.now c.loop-at.places c.put.new.all (c.loop-at.at - 1)
           c.index-modules-at.result below c.index-modules-at.is
-          (subst (λ (u : Parts). IsPut c.loop-at.places.entries c.put.new.map.entries (text_of u) (c.loop-at.at - 1))
-          (c.in_ok-url.ensures.cases ∙ ap (λ (x : Parts × LoadAnswer). x.0) (sym c.index-modules-at.is))
-          c.in_ok-put.ensures.ok)
-          (subst (λ (n : ℕ). IsIndexFrom n c.args.modules.now c.loop-at.places.entries) on c.loop-at.invariant.index);
+          (subst (λ (u : Parts). IsPut c.loop-at.places c.put.new.all (text_of u) (c.loop-at.at - 1))
+          (ap (λ (x : Parts × LoadAnswer). x.0) (sym c.index-modules-at.is))
+          c.in_ok-put.ensures)
+          (subst (λ (n : ℕ). IsIndexFrom n c.args.modules.now c.loop-at.places) on c.loop-at.invariant.index);
     }

@@ -1,43 +1,31 @@
-use Rattle.std.proofs.Common.{◌≡◌, ◌∙◌, ◌++◌, ◌∷◌, [], List, length, sym, ap, subst, append_assoc}
+use Rattle.std.proofs.Common.{◌∙◌, ap, length}
 use Rattle.std.proofs.lemmas.List.{length-map}
-use Rattle.url.specs.Parts.{Parts}
-use Rattle.graph_entry.specs.declared.entry.Entry.{Entry}
 use Rattle.deno_graph.specs.Rules.{rules_of}
-use Rattle.deno_graph.specs.Settling.{verdict_of, settled, IsVerdictOn}
-use Rattle.deno_graph.specs.declared.settle.Verdict.{Verdict}
-use Rattle.deno_graph.proofs.SettlingLemmas.{place_now, value_now, verdict_on, settled_push}
+use Rattle.deno_graph.specs.Settling.{verdict_of}
+use Rattle.deno_graph.proofs.SettlingLemmas.{verdicts_even, verdicts_each, judged_even, settled_whole}
 use Rattle.deno_graph.proofs.settle.settle_each.Goals as goal
 
--- there is a verdict on each entry
-pub bounds-verdicts-len : goal.bounds-verdicts-len
-bounds-verdicts-len c =
-    place_now c.args.firsts c.loop-url.yielded _ (c.in-Some.url, c.in-Some.first) c.len.result _
-    (c.loop-url.invariant.whole ∙ ap (λ l. c.loop-url.yielded ++ l) c.in-Some.ensures.steps.0)
-    (c.len.ensures ∙ ap length c.loop-url.invariant.made ∙ length-map c.loop-url.yielded _)
-    (ap length c.requires ∙ length-map c.args.firsts _)
-
-pub judged-requires : goal.judged-requires
-judged-requires c =
-    subst (λ (v : Verdict). IsVerdictOn v c.in-Some.first)
-    (sym (c.index-verdicts-len.is
-    ∙ value_now (λ (e : Parts × Entry). verdict_of (rules_of c.args.following) c.args.firsts e.1) c.args.firsts
-    c.loop-url.yielded _
-    (c.in-Some.url, c.in-Some.first) c.args.verdicts.now c.len.result c.index-verdicts-len.result c.requires
-    (c.loop-url.invariant.whole ∙ ap (λ l. c.loop-url.yielded ++ l) c.in-Some.ensures.steps.0)
-    (c.len.ensures ∙ ap length c.loop-url.invariant.made ∙ length-map c.loop-url.yielded _)))
-    (verdict_on (rules_of c.args.following) c.args.firsts c.in-Some.first)
-
-pub loop-url-preserved : goal.loop-url-preserved
-loop-url-preserved c =
-    let whole = c.loop-url.invariant.whole ∙ ap (λ l. c.loop-url.yielded ++ l) c.in-Some.ensures.steps.0 in record {
-      made = settled_push (rules_of c.args.following) c.args.firsts c.loop-url.yielded c.loop-url.entries
-          c.push.new.self c.in-Some.url c.in-Some.first
-          c.in_ok-entry.entry c.index-verdicts-len.result c.loop-url.invariant.made
-          (c.index-verdicts-len.is
-          ∙ value_now (λ (e : Parts × Entry). verdict_of (rules_of c.args.following) c.args.firsts e.1)
-          c.args.firsts c.loop-url.yielded _
-          (c.in-Some.url, c.in-Some.first) c.args.verdicts.now c.len.result c.index-verdicts-len.result c.requires whole
-          (c.len.ensures ∙ ap length c.loop-url.invariant.made ∙ length-map c.loop-url.yielded _))
-          c.in_ok-entry.ensures c.in_ok-push.ensures.ok;
-      whole = whole ∙ sym (append_assoc c.loop-url.yielded ((c.in-Some.url, c.in-Some.first) ∷ []) _);
+pub judged_each-requires : goal.judged_each-requires
+judged_each-requires c =
+    let by_rules = verdicts_even (rules_of c.args.following) c.args.firsts c.args.verdicts.now
+    c.into_parts-specifiers.result.0.keys c.into_parts-specifiers.result.1 c.into_parts-specifiers.ensures.even c.into_parts-specifiers.ensures.entries c.requires in
+    record {
+      even = ap length by_rules ∙ length-map c.into_parts-specifiers.result.1 (verdict_of (rules_of c.args.following) c.args.firsts);
+      each = verdicts_each (rules_of c.args.following) c.args.firsts c.args.verdicts.now c.into_parts-specifiers.result.1 by_rules;
     }
+
+pub from_parts-requires : goal.from_parts-requires
+from_parts-requires c =
+    let by_rules = verdicts_even (rules_of c.args.following) c.args.firsts c.args.verdicts.now
+    c.into_parts-specifiers.result.0.keys c.into_parts-specifiers.result.1 c.into_parts-specifiers.ensures.even c.into_parts-specifiers.ensures.entries c.requires in
+    judged_even c.args.verdicts.now c.into_parts-specifiers.result.0.keys c.into_parts-specifiers.result.1 c.in_ok-entries.entries
+    c.into_parts-specifiers.ensures.even
+    (ap length by_rules ∙ length-map c.into_parts-specifiers.result.1 (verdict_of (rules_of c.args.following) c.args.firsts))
+    c.in_ok-entries.ensures
+
+pub returns : goal.returns
+returns c =
+    c.from_parts.ensures
+    ∙ settled_whole (rules_of c.args.following) c.args.firsts c.args.verdicts.now c.into_parts-specifiers.result.0.keys
+    c.into_parts-specifiers.result.1 c.in_ok-entries.entries c.into_parts-specifiers.ensures.even c.into_parts-specifiers.ensures.entries c.requires
+    c.in_ok-entries.ensures

@@ -13,4 +13,4 @@ invariant_of-result g c =
     c.args.imports _
     (c.in_ok-starts.ensures ∙ ap (λ (rs : List Parts). starts_by by rs c.as_slice-2.result.now) c.as_slice.ensures
     ∙ ap (starts_by by c.args.roots) c.as_slice-2.ensures)
-    refl refl refl c.new.ensures.reached c.new.ensures.todo
+    refl refl refl c.new.ensures.reached c.new.ensures.next

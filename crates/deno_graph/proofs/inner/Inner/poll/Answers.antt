@@ -3,7 +3,7 @@ use Rattle.graph_entry.specs.Specifier.{text_of}
 use Rattle.deno_graph.specs.Rules.{rules_by}
 use Rattle.deno_graph.specs.Progress.{at}
 use Rattle.deno_graph.specs.Inside.{seen_of}
-use Rattle.deno_graph.proofs.ResultLemmas.{result_graph, result_limit, result_asked, answered_now, none_open, result_not_yet, result_unasked, result_fair, result_too_many, unawaited_none, unasked_same, result_history}
+use Rattle.deno_graph.proofs.ResultLemmas.{result_graph, result_limit, result_firsts, result_asked, answered_now, none_open, result_not_yet, result_unasked, result_fair, result_too_many, unawaited_none, unasked_same, result_history}
 use Rattle.deno_graph.proofs.inner.Inner.poll.Goals as goal
 
 -- ---- the graph
@@ -20,18 +20,27 @@ returns-in-Ok-finish-clause-graph g c =
     rules_by (g.W.Ways.means c.self.inside.following) (g.W.Ways.follows c.self.inside.following)}
     (g.met.W.Ways.once c.self.inside.following)
     (at (g.L.Loader.seen c.self.inside.loader) c.self.inside.progress)
-    (at (g.L.Loader.seen c.run.new.loader) c.run.new.self) c.run.new.self.reaching.reached.entries _
+    (at (g.L.Loader.seen c.run.new.loader) c.run.new.self) c.run.new.self.reaching.reached _
     c.in-Ok.ensures.runs c.run.ensures.goes refl
-    c.in-Ok-finish.ensures.ordered c.in-Ok-finish.ensures.entries)
+    c.in-Ok-finish.ensures.once c.in-Ok-finish.ensures.entries)
 
 pub returns-in-Ok-finish-clause-limit : goal.returns-in-Ok-finish-clause-limit
 returns-in-Ok-finish-clause-limit g c =
     rw (← c.self.view_is)
     (result_limit {rules = rules_by (g.W.Ways.means c.self.inside.following) (g.W.Ways.follows c.self.inside.following)}
     (at (g.L.Loader.seen c.self.inside.loader) c.self.inside.progress)
-    (at (g.L.Loader.seen c.run.new.loader) c.run.new.self) c.run.new.self.reaching.reached.entries _
+    (at (g.L.Loader.seen c.run.new.loader) c.run.new.self) c.run.new.self.reaching.reached _
     c.in-Ok.ensures.runs c.run.ensures.goes refl
     c.in-Ok-finish.ensures.entries)
+
+pub returns-in-Ok-finish-clause-firsts : goal.returns-in-Ok-finish-clause-firsts
+returns-in-Ok-finish-clause-firsts g c =
+    rw (← c.self.view_is)
+    (result_firsts {rules = rules_by (g.W.Ways.means c.self.inside.following) (g.W.Ways.follows c.self.inside.following)}
+    (g.W.Ways.resolves c.self.inside.following) c.self.inside.roots c.self.inside.imports
+    (at (g.L.Loader.seen c.self.inside.loader) c.self.inside.progress)
+    (at (g.L.Loader.seen c.run.new.loader) c.run.new.self) c.run.new.self.reaching.reached _
+    c.self.invariant.starting c.in-Ok.ensures.runs c.run.ensures.goes refl c.in-Ok-finish.ensures.entries)
 
 pub returns-in-Ok-finish-clause-asked : goal.returns-in-Ok-finish-clause-asked
 returns-in-Ok-finish-clause-asked g c =
@@ -60,7 +69,7 @@ returns-in-Err-NotYet-clause-not_yet g c = λ same.
     (at (g.L.Loader.seen c.self.inside.loader) c.self.inside.progress)
     (at (g.L.Loader.seen c.run.new.loader) c.run.new.self) _ _
     (rw c.in-Err-NotYet.field-0-is at c.in-Err-NotYet.ensures.runs) c.run.ensures.goes c.self.invariant.kept
-    c.len-count.ensures.ordered)
+    c.count-count.ensures.once)
 
 pub returns-in-Err-TooManyModules-clause-complete : goal.returns-in-Err-TooManyModules-clause-complete
 returns-in-Err-TooManyModules-clause-complete g c = λ live within orderly still.

@@ -1,4 +1,4 @@
-use Rattle.std.proofs.Common.{rules, ◌≡◌, ◌≤◌, ◌++◌, ◌∷◌, [], false, sym, ap, subst, ◌∙◌, drop, List, Bool, Some, Ok, arith, refl}
+use Rattle.std.proofs.Common.{rules, ◌≡◌, ◌≤◌, ◌++◌, ◌∷◌, [], false, sym, ap, subst, ◌∙◌, drop, List, Some, Ok, arith, refl}
 use Rattle.std.specs.Option.{option_copied}
 use Rattle.url.specs.Parts.{Parts}
 use Rattle.graph_entry.specs.Specifier.{text_of}
@@ -27,7 +27,7 @@ returns-in_default-clause-polled c =
     }) in
     let exact : IsPolled c.args.self.now (Ok Pending) later = search rules in
     rw (← c.self.view_is)
-    (polled_view c.self.inside.modules c.self.inside.places.entries c.self.inside.arrival c.self.inside.next
+    (polled_view c.self.inside.modules c.self.inside.places c.self.inside.arrival c.self.inside.next
     (the_view c.self.inside) later (Ok Pending) within
     c.self.invariant refl refl (subst (λ (m : Memory). IsPolled m (Ok Pending) later) (sym c.self.view_is) exact))
 
@@ -84,7 +84,7 @@ returns-clause-polled c =
       standing = c.self.inside.standing;
     }) in
     rw (← c.self.view_is)
-    (polled_view c.self.inside.modules c.self.inside.places.entries c.self.inside.arrival c.self.inside.next
+    (polled_view c.self.inside.modules c.self.inside.places c.self.inside.arrival c.self.inside.next
     (the_view c.self.inside) later
     (Ok (Answer c.in_ok-url.url c.in_ok-answer.answer)) within c.self.invariant refl refl
     (subst (λ (m : Memory). IsPolled m (Ok (Answer c.in_ok-url.url c.in_ok-answer.answer)) later) (sym c.self.view_is)

@@ -1,51 +1,43 @@
 use Rattle.std.proofs.Common.{◌+◌, refl}
+use Rattle.graph_entry.specs.Specifier.{text_of}
+use Rattle.deno_graph.specs.declared.slot.Slot.TheVariants.{Asked}
 use Rattle.deno_graph.specs.Rules.{rules_by}
 use Rattle.deno_graph.specs.Progress.{at}
-use Rattle.deno_graph.proofs.ProgressLemmas.{live_asked, kept_started, asks_one, asks_none}
+use Rattle.deno_graph.proofs.ReachingLemmas.{todo_marked}
+use Rattle.deno_graph.proofs.ProgressLemmas.{in_hand_here, live_asked, kept_started, asks_one, asks_none}
 use Rattle.deno_graph.proofs.progress.Progress.ask.Goals as goal
 
-pub returns-in-Ok-mark_asked-clause-deals : goal.returns-in-Ok-mark_asked-clause-deals
-returns-in-Ok-mark_asked-clause-deals g c = (
-  live_asked (rules_by (g.W.Ways.means c.args.ways.now) (g.W.Ways.follows c.args.ways.now))
-      (at (g.L.Loader.seen c.args.loader.now) c.args.self.now) _
-      (g.L.Loader.seen c.start.new.self) c.mark_asked.new.self c.requires.in_hand
-      c.requires.loads c.in-Ok.ensures.started c.in-Ok-mark_asked.ensures.ok c.in-Ok-mark_asked.ensures.limit,
-  rw (c.in-Ok-mark_asked.ensures.ok.counted, c.in-Ok-mark_asked.ensures.ok.todo) refl,
-)
+pub returns-clause-deals : goal.returns-clause-deals
+returns-clause-deals g c =
+    let rules = rules_by (g.W.Ways.means c.args.ways.now) (g.W.Ways.follows c.args.ways.now) in
+    let x = at (g.L.Loader.seen c.args.loader.now) c.args.self.now in
+    let s = text_of c.specifier.result.now in
+    let marks = c.mark_asked.ensures.marked s c.specifier.ensures in (
+      live_asked rules x s (g.L.Loader.seen c.start.new.self) c.mark_asked.new.self
+          (in_hand_here rules x c.args.number s c.requires.in_hand c.specifier.ensures)
+          (c.requires.loads s c.specifier.ensures) c.in-Ok.ensures.started marks c.mark_asked.ensures.limit,
+      rw (marks.counted, todo_marked s Asked c.args.self.now.reaching c.mark_asked.new.self marks) refl,
+    )
 
-pub returns-in-Ok-mark_asked-clause-kept : goal.returns-in-Ok-mark_asked-clause-kept
-returns-in-Ok-mark_asked-clause-kept g c =
-    kept_started (at (g.L.Loader.seen c.args.loader.now) c.args.self.now)
+pub returns-clause-kept : goal.returns-clause-kept
+returns-clause-kept g c =
+    let rules = rules_by (g.W.Ways.means c.args.ways.now) (g.W.Ways.follows c.args.ways.now) in
+    let x = at (g.L.Loader.seen c.args.loader.now) c.args.self.now in
+    let s = text_of c.specifier.result.now in
+    kept_started x
     (at (g.L.Loader.seen c.start.new.self) (record {
       starts = c.args.self.now.starts;
       reaching = c.mark_asked.new.self;
       asked = c.args.self.now.asked + 1;
       taken = c.args.self.now.taken;
       begun = c.args.self.now.begun;
-    })) _ c.requires.in_hand c.requires.loads c.in-Ok.ensures.started refl refl refl
+    })) s (in_hand_here rules x c.args.number s c.requires.in_hand c.specifier.ensures)
+    (c.requires.loads s c.specifier.ensures) c.in-Ok.ensures.started refl refl refl
 
-pub returns-in-Ok-mark_asked-clause-asks : goal.returns-in-Ok-mark_asked-clause-asks
-returns-in-Ok-mark_asked-clause-asks g c =
-    asks_one (at (g.L.Loader.seen c.args.loader.now) c.args.self.now) _ (g.L.Loader.seen c.start.new.self) _
-    c.in-Ok.ensures.started refl
-    c.in-Ok-mark_asked.ensures.limit refl refl refl
-
-pub returns-in-Err-mark_asked-clause-kept : goal.returns-in-Err-mark_asked-clause-kept
-returns-in-Err-mark_asked-clause-kept g c =
-    kept_started (at (g.L.Loader.seen c.args.loader.now) c.args.self.now)
-    (at (g.L.Loader.seen c.start.new.self) (record {
-      starts = c.args.self.now.starts;
-      reaching = c.mark_asked.new.self;
-      asked = c.args.self.now.asked + 1;
-      taken = c.args.self.now.taken;
-      begun = c.args.self.now.begun;
-    })) _ c.requires.in_hand c.requires.loads c.in-Ok.ensures.started refl refl refl
-
-pub returns-in-Err-mark_asked-clause-asks : goal.returns-in-Err-mark_asked-clause-asks
-returns-in-Err-mark_asked-clause-asks g c =
-    asks_one (at (g.L.Loader.seen c.args.loader.now) c.args.self.now) _ (g.L.Loader.seen c.start.new.self) _
-    c.in-Ok.ensures.started refl
-    c.in-Err-mark_asked.ensures.limit refl refl refl
+pub returns-clause-asks : goal.returns-clause-asks
+returns-clause-asks g c =
+    asks_one (at (g.L.Loader.seen c.args.loader.now) c.args.self.now) (text_of c.specifier.result.now)
+    (g.L.Loader.seen c.start.new.self) _ c.in-Ok.ensures.started refl c.mark_asked.ensures.limit refl refl refl
 
 pub returns-in-Err-clause-asks : goal.returns-in-Err-clause-asks
 returns-in-Err-clause-asks g c =

@@ -1,6 +1,7 @@
 use Rattle.std.proofs.Common.{◌+◌, ◌-◌, length}
 use Rattle.deno_graph.specs.Rules.{rules_by}
 use Rattle.deno_graph.specs.Progress.{at, IsLive, OnlyAsks}
+use Rattle.deno_graph.specs.Reaching.{todo_of}
 use Rattle.deno_graph.proofs.progress.Progress.ask_all.Given as goal
 
 -- the builder goes on, and the loader was only asked
@@ -12,4 +13,4 @@ invariant-asking g l = record {
 
 -- what is on the worklist, and what can still come
 abbrev pub decreases-asking : goal.decreases-asking
-decreases-asking g l = length l.self.reaching.todo + (l.self.reaching.limit - length l.self.reaching.reached.entries)
+decreases-asking g l = length (todo_of l.self.reaching) + (l.self.reaching.limit - length l.self.reaching.reached)
