@@ -1,0 +1,2 @@
+-- the entries of a tree
+pub mod Spilled
