@@ -1,0 +1,23 @@
+use Rattle.std.proofs.Common.{refl}
+use Rattle.es_whole_grammar.specs.declared.rows.Label.TheVariants as l
+use Rattle.es_syntax.proofs.Labels.{other}
+use Rattle.es_call_views.proofs.call.call_at.Goals as goal
+
+-- no other alternative is one of these
+pub returns-in_default : goal.returns-in_default
+returns-in_default c =
+    let label = c.in-Node.label in
+    record {
+      form = λ x ts. tt;
+      other = rw (
+        c.in-Node.is,
+        other label l.Super c.in_default.not-Super,
+        other label l.ImportMeta c.in_default.not-ImportMeta,
+        other label l.NewTarget c.in_default.not-NewTarget,
+        other label l.ImportCall c.in_default.not-ImportCall,
+        other label l.New c.in_default.not-New,
+        other label l.Chain c.in_default.not-Chain,
+        other label l.TypedNew c.in_default.not-TypedNew,
+      ) refl;
+      below = tt;
+    }
