@@ -4,19 +4,12 @@ use Rattle.std.specs.Prelude.{bytes_eq, is_some, ◌&&◌, ◌||◌, slice_get, 
 use Rattle.std.specs.Option.{option_map}
 use Rattle.std.specs.List.{list_any}
 use Rattle.std.specs.Map.{lookup}
-use Rattle.std.specs.BTreeMap.{is_at}
-use Rattle.std.specs.Ordering.{is_eq}
 use Rattle.std.specs.Cmp.Lexicographic.{nat_list_eq_equiv}
-use Rattle.std.proofs.lemmas.Map.Text.{is_eq-slice_cmp}
 use Rattle.std.proofs.lemmas.List.{drop_more, drop_all, length-set, length-append, length-drop}
 use Rattle.url.specs.Parts.{Parts, serialize}
 use Rattle.open_requests.specs.declared.requests.First.{First}
 use Rattle.open_requests.specs.Requests.{waits_for, settled, oldest}
-use Rattle.open_requests.specs.Inside.{is_same, url_cmp, marked, found, found_from, at_url, IsPassed, IsNext, IsIndex, IsKept}
-
--- whether a map's test at a URL passes is whether the texts are equal
-pub is_at-url : (p q : Parts) → is_at (url_cmp p) q ≡ is_same p q
-is_at-url p q = is_eq-slice_cmp (serialize p) (serialize q)
+use Rattle.open_requests.specs.Inside.{is_same, marked, found, found_from, at_url, IsPassed, IsNext, IsIndex, IsKept}
 
 -- ---- URLs with one text
 
@@ -123,12 +116,6 @@ pub first_within : (bs : List Bool) (us : List Parts) (firsts : List (Parts × F
     → IsIndex bs us firsts → at_url firsts q ≡ Some f → f.at < length bs
 first_within bs us firsts q f index is =
     found_within bs us q f.at (sym (index.first q) ∙ ap (option_map (λ (x : First). x.at)) is)
-
--- a map's own clause on a change, by texts
-pub updated : (old new : List (Parts × First)) (url q : Parts) (w : Option First)
-    → at_url new q ≡ cond (is_at (url_cmp url) q) w (at_url old q)
-    → at_url new q ≡ cond (is_same url q) w (at_url old q)
-updated old new url q w h = rw (← is_at-url url q) h
 
 -- ---- a mark is taken away
 

@@ -2,20 +2,12 @@
 use Rattle.std.specs.Prelude.{◌≡◌, ℕ, zero, suc, ◌+◌, ◌≤◌, ◌&&◌, Bool, true, false, List, [], ◌∷◌, length, drop, bytes_eq, Option, Some, None, if◌then◌else◌}
 use Rattle.std.specs.Option.{option_map}
 use Rattle.std.specs.Map.{lookup}
-use Rattle.std.specs.BTreeMap.{is_at}
-use Rattle.std.specs.Ordering.{nat_cmp}
-use Rattle.std.specs.Cmp.Lexicographic.{slice_cmp}
-use Rattle.std.specs.declared.cmp.Ordering.{Ordering}
 use Rattle.url.specs.Parts.{Parts, serialize}
 use Rattle.open_requests.specs.declared.requests.First.{First}
 
 -- URLs with one text
 abbrev pub is_same : Parts → Parts → Bool
 is_same a b = bytes_eq (serialize a) (serialize b)
-
--- URLs are ordered as their texts
-abbrev pub url_cmp : Parts → Parts → Ordering
-url_cmp a b = slice_cmp nat_cmp (serialize a) (serialize b)
 
 -- the marked ones of some requests
 abbrev pub marked : List Bool → List Parts → List Parts
@@ -36,7 +28,7 @@ found_from n bs us q = option_map (λ k. n + k) (found (drop n bs) (drop n us) q
 
 -- what a map has at a URL
 abbrev pub at_url : List (Parts × First) → Parts → Option First
-at_url firsts q = lookup (is_at (url_cmp q)) firsts
+at_url firsts q = lookup (is_same q) firsts
 
 -- so many at the front aren't marked
 abbrev pub IsPassed : ℕ → List Bool → Type 0

@@ -5,8 +5,8 @@ ghost use Rattle.url.specs.Parts.{Parts, serialize};
 ghost use Rattle.open_requests.specs.Requests.{waits_for, settled, oldest};
 ghost use Rattle.open_requests.specs.Inside.{is_same, found, found_from, at_url, IsPassed, IsNext};
 
+use indexmap::IndexMap;
 use std::alloc::{AllocError, Global};
-use std::collections::BTreeMap;
 use std::marker::Model;
 use url::Url;
 
@@ -25,7 +25,7 @@ pub struct Requests {
     marks: Vec<bool>,
     // How many at the front are settled.
     passed: usize,
-    firsts: BTreeMap<Url, First>,
+    firsts: IndexMap<Url, First>,
 }
 
 impl Model for Requests {
@@ -49,7 +49,7 @@ impl Requests {
             all: Vec::new(alloc),
             marks: Vec::new(alloc),
             passed: 0,
-            firsts: BTreeMap::new(alloc),
+            firsts: IndexMap::new(alloc),
         }
     }
 
@@ -114,7 +114,7 @@ fn request_at(all: &[Url], place: usize) -> Option<&Url>
 }
 
 // The first open request for a URL once there is one more, with this number.
-fn with_one_more(firsts: &BTreeMap<Url, First>, url: &Url, number: usize) -> First
+fn with_one_more(firsts: &IndexMap<Url, First>, url: &Url, number: usize) -> First
     ensures known { IfSome (at_url firsts.now.entries url.now) (λ f. (result.at ≡ f.at) × (result.more ≡ true)) }
     ensures new { at_url firsts.now.entries url.now ≡ None → (result.at ≡ number) × (result.more ≡ false) }
 {
@@ -174,13 +174,13 @@ fn is_open_for(all: &[Url], marks: &[bool], at: usize, url: &Url) -> bool
 }
 
 // The first open request for the URL is now the later one, if there is one.
-fn put_later(firsts: &mut BTreeMap<Url, First>, url: &Url, later: Option<usize>)
+fn put_later(firsts: &mut IndexMap<Url, First>, url: &Url, later: Option<usize>)
     requires { IsSome (at_url firsts.old.entries url.now) }
     ensures { (q : Parts) → at_url firsts.new.entries q
         ≡ cond (is_same url.now q) (option_map (λ n. record { at = n; more = true }) later) (at_url firsts.old.entries q) }
 {
     let Some(at) = later else {
-        let _ = firsts.remove(url);
+        let _ = firsts.swap_remove(url);
         return;
     };
     if let Some(first) = firsts.get_mut(url) {

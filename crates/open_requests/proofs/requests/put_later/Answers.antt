@@ -1,16 +1,14 @@
 use Rattle.std.proofs.Common.{Some, None, true}
 use Rattle.open_requests.specs.declared.requests.First.{First}
-use Rattle.open_requests.proofs.RequestLemmas.{updated}
 use Rattle.open_requests.proofs.requests.put_later.Goals as goal
 
 pub returns-in_default : goal.returns-in_default
 returns-in_default c q =
     rw c.in_default.is
-    (updated c.args.firsts.now.entries c.remove.new.self.entries c.args.url.now q None (c.remove.ensures.updates.0 q))
+    (c.swap_remove.ensures.updates.0 q)
 
 pub returns-in-Some-get_mut : goal.returns-in-Some-get_mut
 returns-in-Some-get_mut c q =
     let w : First = record { at = c.in-Some.at; more = true } in
     rw c.in-Some.is
-    (updated c.args.firsts.now.entries (c.get_mut.follows.lender w).entries c.args.url.now q (Some w)
-    (((c.get_mut.follows.holds w).3 c.requires).0 q))
+    (((c.get_mut.follows.holds w).3 c.requires).0 q)

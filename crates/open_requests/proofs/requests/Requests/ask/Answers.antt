@@ -2,7 +2,7 @@ use Rattle.std.proofs.Common.{rules, ◌≡◌, ◌++◌, ◌∷◌, [], ◌∙�
 use Rattle.url.specs.Parts.{Parts}
 use Rattle.open_requests.specs.declared.requests.First.{First}
 use Rattle.open_requests.specs.Inside.{is_same, at_url, IsKept}
-use Rattle.open_requests.proofs.RequestLemmas.{updated, kept_more, marked_more}
+use Rattle.open_requests.proofs.RequestLemmas.{kept_more, marked_more}
 use Rattle.open_requests.proofs.requests.Requests.ask.Goals as goal
 
 pub invariant_of-self-2 : goal.invariant_of-self-2
@@ -14,9 +14,7 @@ invariant_of-self-2 c =
     λ q. subst (λ (u : Parts). at_url c.insert.new.self.entries q
     ≡ cond (is_same u q) (Some c.with_one_more-first.result) (at_url c.self.inside.firsts.entries q))
     c.in_ok-key.ensures.cases
-    (updated c.self.inside.firsts.entries c.insert.new.self.entries c.in_ok-key.key q
-    (Some c.with_one_more-first.result)
-    (c.in_ok-insert.ensures.updates.0 q)) in
+    (c.in_ok-insert.ensures.updates.0 q) in
     rw (all, marks)
     (kept_more c.self.inside.all.items c.self.inside.marks.items c.self.inside.passed c.self.inside.firsts.entries
     c.insert.new.self.entries c.args.url.now c.with_one_more-first.result c.self.invariant put
