@@ -48,6 +48,25 @@ impl Row {
         }
     }
 
+    /// The bytes that the field of that number, from 0, has as pairs of hexadecimal digits. What stands between these is
+    /// passed over.
+    pub fn bytes(&self, alloc: Global, number: usize) -> Result<Vec<u8>, AllocError> {
+        let mut bytes = Vec::new(alloc);
+        let mut high: Option<u32> = None;
+        for c in self.at(number).chars() {
+            if let Some(digit) = c.to_digit(16) {
+                high = match high {
+                    Some(high) => {
+                        bytes.push((with_digit(high, digit) % 256) as u8)?;
+                        None
+                    }
+                    None => Some(digit),
+                };
+            }
+        }
+        Ok(bytes)
+    }
+
     /// The number in the field of that number, from 0; 0 where it holds none.
     pub fn number(&self, number: usize) -> usize {
         self.at(number).parse::<usize>().unwrap_or(0)
@@ -62,7 +81,9 @@ fn unescaped(alloc: Global, field: &str) -> Result<String, AllocError> {
             (Escape::None, '\\') => Escape::Begun,
             (Escape::Begun, 'u') => Escape::Code(0),
             (Escape::Code(code), '{') => Escape::Code(code),
-            (Escape::Code(code), digit) if digit != '}' => Escape::Code(with_digit(code, digit)),
+            (Escape::Code(code), digit) if digit != '}' => {
+                Escape::Code(with_digit(code, digit.to_digit(16).unwrap_or(0)))
+            }
             (escape, c) => {
                 out.push(character(escape, c))?;
                 Escape::None
@@ -72,9 +93,8 @@ fn unescaped(alloc: Global, field: &str) -> Result<String, AllocError> {
     Ok(out)
 }
 
-fn with_digit(code: u32, digit: char) -> u32 {
-    code.wrapping_mul(16)
-        .wrapping_add(digit.to_digit(16).unwrap_or(0))
+fn with_digit(code: u32, digit: u32) -> u32 {
+    code.wrapping_mul(16).wrapping_add(digit)
 }
 
 /// The character for which an escape stands, by its last one.
