@@ -8,12 +8,17 @@ from parts import scan
 
 # What may close a text that was cut off.
 ENDS = (
-    "", " x", ";", "{}", " x;", ": x", "(){}", "(x)", "(x){}", "(;;){}", " x{}", " x(){}", " x=x", "=x", " x:", ":", " x:x", " 'x'", " from 'x'",
-    " x from 'x'", " of x", " in x", ";;", "=x;;", "=>x", "{}catch{}", "catch{}", "{}while(x)", " while(x)",
+    "", " x", "{}", "(x)", "(){}", ": x", " x{}", ";", "=x", " from 'x'",
+    " x;", "(x){}", "(;;){}", " x(){}", " x=x", " x:", ":", " x:x", " 'x'", " x from 'x'", " of x", " in x", ";;", "=x;;", "=>x",
+    "{}catch{}", "catch{}", "{}while(x)", " while(x)",
 )
+LONG = 50_000  # characters, above which only the first ten are tried
 INSIDE = ("", "x", ";;", "x of x")
+MOST_SHELLS = 3  # of which each is tried
+# Words with which a statement goes on behind a }.
+GOES_ON = frozenset("else catch finally while in instanceof of as satisfies from extends implements".split())
 MOST_ASKED = 6_000_000  # bytes of all texts of one question
-MOST_ROUNDS = 60
+MOST_ROUNDS = 200
 DEEP = 90  # brackets within each other, from which the depth of 500 nodes is likely the reason
 
 LEXICAL = {
@@ -33,6 +38,7 @@ class Search:
         self.scan = scan.Scan(text)
         self.tokens = self.scan.tokens
         self.rounds = 0
+        self.inside = set()  # tokens at which no statement begins, as was found out
 
     def ask(self, texts):
         """Of each text whether it is read; asked in parts that aren't too large."""
@@ -49,7 +55,8 @@ class Search:
     def viable(self, head, tails, cuts):
         """Of each cut (a place in the text, from head's end on) the first end that makes a program of it, or None."""
         start, front = head
-        ends = [end + tail for tail in tails for end in ENDS]
+        most = 10 if cuts and len(front) + cuts[-1] - start > LONG else len(ENDS)
+        ends = [end + tail for tail in tails for end in ENDS[:most]]
         texts = [front + self.text[start:cut] + end for cut in cuts for end in ends]
         answers = self.ask(texts)
         made = []
@@ -63,7 +70,7 @@ class Search:
         first, last = 0, len(self.tokens)
         head, tails = (0, ""), ("",)
         while self.rounds < MOST_ROUNDS:
-            good = self.longest(head, tails, first, last)
+            good, head = self.longest(head, tails, first, last)
             if good >= last:
                 return good
             token = self.tokens[good]
@@ -71,68 +78,85 @@ class Search:
             if closer is None or closer <= good or closer > last:
                 return good
             # does what the brackets hold matter?
-            shell = self.shell(head, tails, good, closer)
-            if shell is None:
+            shells = self.shells(head, tails, good, closer)
+            if not shells:
                 return good
-            front = head[1] + self.text[head[0]:token.end]
-            inner = self.tokens[closer]
-            head, tails = (token.end, front), (inner.text[:1] + shell if inner.kind in ("middle", "tail") else inner.text + shell,)
-            if inner.kind in ("middle", "tail"):
-                tails = ("}`" + shell,)
+            head, tails = (token.end, head[1] + self.text[head[0]:token.end]), tuple(shells)
             first, last = good + 1, closer
         return first
 
-    def shell(self, head, tails, good, closer):
-        """What closes the text behind a pair of brackets that holds something simple; None where that isn't read."""
+    def shells(self, head, tails, good, closer):
+        """What may close the text behind a pair of brackets that holds something simple, the shortest first."""
         opener, inner = self.tokens[good], self.tokens[closer]
         close = "}`" if inner.kind in ("middle", "tail") else inner.text
         ends = [end + tail for tail in tails for end in ENDS]
         front = head[1] + self.text[head[0]:opener.end]
-        texts = [front + inside + close + end for inside in INSIDE for end in ends]
-        answers = self.ask(texts)
-        return ends[answers.index(True) % len(ends)] if True in answers else None
+        answers = self.ask([front + inside + close + end for inside in INSIDE for end in ends])
+        fitting = {ends[number % len(ends)] for number, answer in enumerate(answers) if answer}
+        return [close + end for end in sorted(fitting, key=lambda end: (len(end), end))[:MOST_SHELLS]]
 
     def longest(self, head, tails, first, last):
-        """The greatest number of a token up to which the part is read; brackets are taken whole."""
+        """The greatest number of a token up to which the part is read, and what stands in front of the part then."""
         outer = self.outer(first, last)
-        low, high = 0, len(outer)  # outer[low] is read up to, outer[high] and later aren't known
-        if len(outer) > 40:
-            low, high = self.narrowed(head, tails, outer)
-        # the last few one by one
-        numbers = outer[low:high + 1]
-        cuts = [self.start_of(number) for number in numbers]
-        made = self.viable(head, tails, cuts)
-        good = [number for number, end in zip(numbers, made) if end is not None]
-        return good[-1] if good else first
-
-    def narrowed(self, head, tails, outer):
-        """Two indices of outer between which reading stops, by cuts in front of what may be a statement."""
         low, high = 0, len(outer) - 1
-        while high - low > 40 and self.rounds < MOST_ROUNDS:
-            length = max(1, self.start_of(outer[high]) - head[0] + len(head[1]))
-            count = max(2, min(32, MOST_ASKED // length))
-            inside = [at for at in range(low + 1, high) if self.begins(outer[at])]
+        while True:
+            low, high = self.halved(head, tails, outer, low, high)
+            head = (self.start_of(outer[low]), head[1]) if low else head
+            numbers = outer[low:high + 1]
+            good = self.last_viable(head, tails, numbers)
+            if good < len(numbers) - 1 or high == len(outer) - 1 or self.rounds > MOST_ROUNDS:
+                return numbers[good], head
+            self.inside.add(outer[high])  # that cut fell inside a statement
+            high = len(outer) - 1
+
+    def last_viable(self, head, tails, numbers):
+        """The greatest index of a token up to which the part can be closed; the texts before a good cut are good too."""
+        low, high = 0, len(numbers)
+        length = max(1, self.start_of(numbers[-1]) - head[0] + len(head[1]))
+        while high - low > 1:
+            inside = range(low + 1, high)
+            count = max(1, min(len(inside), MOST_ASKED // (length * len(ENDS) * len(tails))))
+            picked = sorted({inside[len(inside) * number // count] for number in range(count)} | {inside[len(inside) // 2]})
+            made = self.viable(head, tails, [self.start_of(numbers[at]) for at in picked])
+            good = [at for at, end in zip(picked, made) if end is not None]
+            if good:
+                low = good[-1]
+            bad = [at for at in picked if at > low]
+            high = min([high, *bad])
+        return low
+
+    def halved(self, head, tails, outer, low, high):
+        """Two indices of outer between which reading stops: halves of the statements are asked one by one, without those
+        before them."""
+        is_switch = any(number < len(self.tokens) and self.tokens[number].is_word("case") for number in outer)
+        has_end = any(number < len(self.tokens) and self.tokens[number].is_sign(";") for number in outer)
+        front = head[1]
+        while high - low > 1:
+            inside = [at for at in range(low + 1, high) if self.begins(outer[at], is_switch, has_end)]
             if not inside:
-                return low, high
-            picked = sorted({inside[len(inside) * number // count] for number in range(count)})
-            start, front = head
-            texts = [front + self.text[start:self.start_of(outer[at])] + tail for at in picked for tail in tails[:1]]
-            answers = self.ask(texts)
-            good = [at for at, answer in zip(picked, answers) if answer]
-            before = (low, high)
-            low = max([low, *good])
-            later = [at for at in picked if at > low]
-            high = min(later[1] if len(later) > 1 else high, high)  # one cut may fall inside a statement
-            if (low, high) == before:
+                break
+            start, end = self.start_of(outer[low]) if low else head[0], self.start_of(outer[high])
+            middle = min(inside, key=lambda at: abs(self.start_of(outer[at]) - (start + end) // 2))
+            if any(self.ask([front + self.text[start:self.start_of(outer[middle])] + tail for tail in tails])):
+                low = middle
+            else:
+                high = middle
+            if self.rounds > MOST_ROUNDS:
                 break
         return low, high
 
-    def begins(self, number):
-        """Whether a statement or a member may begin at a token."""
-        if number >= len(self.tokens) or number == 0:
+    def begins(self, number, is_switch, has_end):
+        """Whether a statement, a member or an item begins at a token, so that what stands before can be left out."""
+        token, before = self.tokens[number], self.tokens[number - 1]
+        if number in self.inside:
             return False
-        before = self.tokens[number - 1]
-        return before.is_sign(";", "}", ",") or self.tokens[number].line_before
+        if is_switch:
+            return token.is_word("case", "default")
+        if before.is_sign(","):
+            return not has_end
+        if not before.is_sign(";", "}") or token.is_word(*GOES_ON):
+            return False
+        return token.kind in ("word", "string") or token.is_sign("{", "(", "[", "@", "*", ";", "#")
 
     def outer(self, first, last):
         """The tokens of a part that stand in no brackets of it, and its end."""
