@@ -2,7 +2,7 @@
 
 use es_lexer::lex_tokens;
 use es_references::references;
-use es_walk::{DependencyKind, Site};
+use es_site::{DependencyKind, Site};
 use std::alloc::{AllocError, Global};
 
 /// A text, and its reference comments, each as a line.

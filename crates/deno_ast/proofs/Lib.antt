@@ -1,6 +1,4 @@
 pub mod TreeLemmas
 pub mod FaultLemmas
-pub mod ReferenceLemmas
 pub mod Theorems
 mod ParsedLemmas
-mod SitesLemmas

@@ -3,10 +3,11 @@ pub use Rattle.module_text.specs.ModuleText
 pub use Rattle.media_type.specs.MediaType
 pub use Rattle.parse_diagnostic.specs.Diagnosis
 pub use Rattle.es_references.specs.References
-pub use Rattle.es_walk.specs.Sites
-pub mod Tree
-pub mod Read
-pub mod Cuts
+pub use Rattle.es_site.specs.Sites
+pub use Rattle.source_sites.specs.Tree
+pub use Rattle.source_sites.specs.Read
+pub use Rattle.source_sites.specs.Fault
+pub use Rattle.source_sites.specs.Cuts
 pub mod Parsed
 pub mod Source
 pub mod Refs

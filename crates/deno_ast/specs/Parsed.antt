@@ -4,8 +4,8 @@ use Rattle.url.specs.Parts.{Parts}
 use Rattle.es_token.specs.declared.token.Token.{Token}
 use Rattle.es_ast.specs.declared.ast.Program.{Program}
 use Rattle.es_ast.specs.declared.ast.Program.TheVariants.{Module, Script}
-use Rattle.es_walk.specs.declared.site.Site.{Site}
-use Rattle.es_walk.specs.Sites.{sites_of}
+use Rattle.es_site.specs.declared.site.Site.{Site}
+use Rattle.es_site.specs.Sites.{sites_of}
 use Rattle.media_type.specs.declared.media_type.MediaType.{MediaType}
 use Rattle.media_type.specs.MediaType.{is_typed}
 use Rattle.deno_ast.specs.Refs.{is_script_by_items}

@@ -6,7 +6,7 @@ use Rattle.es_ast.specs.declared.ast.Program.TheVariants as program
 use Rattle.es_ast.specs.declared.ast.ModuleItem.{ModuleItem, out-ModuleItem}
 use Rattle.es_ast.specs.declared.ast.ModuleDecl.{out-ModuleDecl}
 use Rattle.es_ast.specs.declared.ast.ClassMember.TheOpen.{ModuleDecl-F, ModuleItem-F}
-use Rattle.es_walk.specs.Parts.{Whole}
+use Rattle.es_site.specs.Parts.{Whole}
 use Rattle.deno_ast.specs.declared.program_ref.ProgramRef.{ProgramRef}
 use Rattle.deno_ast.specs.declared.program_ref.ProgramRef.TheVariants.{Module, Script}
 

@@ -9,14 +9,13 @@ use Rattle.es_ast.specs.declared.ast.Program.TheVariants as program
 use Rattle.es_ast.specs.declared.ast.Module.{Module}
 use Rattle.es_ast.specs.declared.ast.Script.{Script}
 use Rattle.media_type.specs.declared.media_type.MediaType.{MediaType}
-use Rattle.parse_diagnostic.specs.declared.diagnostic.ParseFault.{ParseFault}
-use Rattle.parse_diagnostic.specs.declared.diagnostic.ParseFault.TheVariants.{Diagnostic, OutOfMemory}
 use Rattle.parse_diagnostic.specs.Diagnosis.{Diagnosis}
 use Rattle.deno_ast.specs.declared.syntax.Syntax.{Syntax}
 use Rattle.deno_ast.specs.declared.syntax.Syntax.TheVariants.{Es, Typescript}
 use Rattle.deno_ast.specs.declared.params.ParseParams.{ParseParams}
-use Rattle.deno_ast.specs.Tree.{language_of}
-use Rattle.deno_ast.specs.Read.{IsRead, IsRefused, IsFaulty}
+use Rattle.source_sites.specs.Tree.{language_of}
+use Rattle.source_sites.specs.Read.{IsRead}
+use Rattle.source_sites.specs.Fault.{IsFaultIn}
 use Rattle.deno_ast.specs.Parsed.{Parsed}
 
 -- the syntax that a language has
@@ -58,14 +57,4 @@ OfScript P (program.Module m) kept = kept ≡ program.Module m
 
 -- why a source of this text isn't read in any of these modes
 abbrev pub IsFault : List Mode → ParseParams → List ℕ → Diagnosis → Type 0
-IsFault modes params text d =
-    (d.specifier ≡ serialize params.specifier) × IsRefused (lang_for params) modes text d.kind d.range
-
--- why a text of this media type at a specifier is no program
-abbrev pub IsFaultAt : List ℕ → MediaType → List ℕ → Diagnosis → Type 0
-IsFaultAt specifier media text d = (d.specifier ≡ specifier) × IsFaulty media text d.kind d.range
-
--- a refusal is such a fault, unless memory ran out
-abbrev pub Refuses : (Diagnosis → Type 0) → ParseFault → Type 0
-Refuses P (Diagnostic d) = P d
-Refuses P OutOfMemory = Unit {0}
+IsFault modes params text d = IsFaultIn (serialize params.specifier) (lang_for params) modes text d

@@ -4,7 +4,7 @@ use Rattle.es_ast.specs.declared.ast.Decl.{out-Decl}
 use Rattle.es_ast.specs.declared.ast.ModuleDecl.{out-ModuleDecl}
 use Rattle.es_ast.specs.declared.ast.Stmt.{out-Stmt}
 use Rattle.es_ast.specs.declared.ast.ClassMember.TheOpen.{Decl-F, ModuleDecl-F, Stmt-F}
-use Rattle.es_walk.specs.Parts.{Whole}
+use Rattle.es_site.specs.Parts.{Whole}
 use Rattle.deno_ast.specs.declared.program_ref.ModuleItemRef.{ModuleItemRef}
 use Rattle.deno_ast.specs.declared.program_ref.ModuleItemRef.TheVariants.{ModuleDecl, Stmt}
 

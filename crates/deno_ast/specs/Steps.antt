@@ -1,24 +1,14 @@
 -- What the functions inside the crate promise each other.
-use Rattle.std.specs.Prelude.{ℕ, Bool, false, List, [], ◌∷◌, Option, Some, None, if◌then◌else◌}
-use Rattle.url.specs.Parts.{Parts}
+use Rattle.std.specs.Prelude.{ℕ, Bool, List, Option, Some, None, if◌then◌else◌}
 use Rattle.es_token.specs.declared.token.Token.{Token}
 use Rattle.es_lexer.specs.Reads.{Reads}
 use Rattle.es_tree.specs.declared.error.Mode.{Mode}
-use Rattle.es_tree.specs.declared.error.Mode.TheVariants as mode
-use Rattle.media_type.specs.declared.media_type.MediaType.{MediaType}
-use Rattle.deno_ast.specs.declared.tree.Modes.{Modes}
-use Rattle.deno_ast.specs.declared.tree.Modes.TheVariants.{Only, ScriptFirst}
 use Rattle.deno_ast.specs.declared.params.ParseParams.{ParseParams}
 use Rattle.deno_ast.specs.declared.reading.Reading.{Reading}
-use Rattle.deno_ast.specs.Tree.{IsFirstTree}
-use Rattle.deno_ast.specs.Read.{references_in}
+use Rattle.source_sites.specs.Tree.{IsFirstTree}
+use Rattle.source_sites.specs.Read.{references_in}
 use Rattle.deno_ast.specs.Parsed.{Parsed}
 use Rattle.deno_ast.specs.Source.{lang_for}
-
--- the modes that are allowed, in their order
-abbrev pub modes_in : Modes → List Mode
-modes_in (Only m) = m ∷ []
-modes_in ScriptFirst = mode.Script ∷ mode.Module ∷ []
 
 -- the parameters with another text
 abbrev pub with_text : ParseParams → List ℕ → ParseParams
@@ -29,17 +19,6 @@ with_text p text = record {
   capture_tokens = p.capture_tokens;
   scope_analysis = p.scope_analysis;
   maybe_syntax = p.maybe_syntax;
-}
-
--- what is to be parsed of a text at a specifier, by its media type alone
-abbrev pub plain_params : Parts → MediaType → List ℕ → ParseParams
-plain_params specifier media text = record {
-  specifier = specifier;
-  text = text;
-  media_type = media;
-  capture_tokens = false;
-  scope_analysis = false;
-  maybe_syntax = None;
 }
 
 -- the text of the parameters was read so

@@ -3,13 +3,12 @@
 //! - `parse_program(params)`, `parse_module`, `parse_script`, and their forms with a closure that changes the tree: the
 //!   source of a text (`IsParsed`, `specs/Source.antt`), or the fault for which there is none (`IsFault`). Both ways.
 //! - `ParsedSource`: what a source keeps (`Parsed`, `specs/Parsed.antt`); `sites`: where it names others.
-//! - `read_sites(specifier, text, media_type)`: these alone (`HasSites`, `specs/Read.antt`), or the fault (`IsFaultAt`).
 //! - `lex(source)`: the tokens and comments of a text by their places (`AreByPlace`, `specs/Lexing.antt`).
-//! - For the crates above: a text of a media type has sites (`HasSites`, `specs/Read.antt`), or it is faulty
-//!   (`IsFaulty`), one list or one fault at most, and never both; each site cuts its value (`proofs/Theorems.antt`).
+//! - The sites of a source are those of its text (`source_sites`, `proofs/Theorems.antt`): what `read_sites` answers
+//!   without a tree.
 //!
-//! It hands on `media_type`, `source_text`, `text_changes`, `es_comments`, `parse_diagnostic`, `module_text`, and the
-//! sites of `es_walk`. Not promised: where comments stand, the range of a `Syntax` fault, and when memory runs out.
+//! It hands on `read_sites` of `source_sites`, `media_type`, `source_text`, `text_changes`, `es_comments`,
+//! `parse_diagnostic`, `module_text`, and the sites of `es_site`. Not promised: where comments stand, the range of a `Syntax` fault, and when memory runs out.
 #![tactic(auto)]
 
 mod lexing;
@@ -18,7 +17,6 @@ mod params;
 mod parsing;
 mod program_ref;
 mod reading;
-mod sites;
 mod source;
 mod spans;
 mod syntax;
@@ -32,7 +30,6 @@ pub use crate::parsing::{
     parse_script, parse_script_with_post_process, parse_text,
 };
 pub use crate::program_ref::{Body, ModuleItemRef, ProgramRef};
-pub use crate::sites::read_sites;
 pub use crate::source::ParsedSource;
 pub use crate::syntax::{Syntax, get_syntax};
 pub use crate::tree::tree_of;
@@ -40,11 +37,12 @@ pub use base::{Items, Range, Text};
 pub use es_comments::{CommentMap, CommentsIter, MultiThreadedComments, SingleThreadedComments};
 pub use es_lexer::{LexError, LexicalError, LexicalKind};
 pub use es_literal::quote;
+pub use es_site::{Attribute, DependencyKind, Site};
 pub use es_token::{Comment, CommentKind, Token, TokenKind};
-pub use es_walk::{Attribute, DependencyKind, Site};
 pub use media_type::MediaType;
 pub use module_text::{strip_bom, without_mark};
 pub use parse_diagnostic::{ParseDiagnostic, ParseDiagnosticsError, ParseFault, SyntaxErrorKind};
+pub use source_sites::read_sites;
 pub use source_text::{LineAndColumnDisplay, SourceText, SourceTextInfo};
 pub use text_changes::{TextChange, TextChangeError, apply_text_changes};
 pub use url::Url as ModuleSpecifier;

@@ -3,18 +3,19 @@ ghost use Rattle.std.specs.Prelude.{◌≡◌, false, [], ◌∷◌, IfOk};
 ghost use Rattle.std.specs.Result.{IfErr};
 ghost use Rattle.es_tree.specs.declared.error.Mode.TheVariants as mode;
 ghost use Rattle.module_text.specs.ModuleText.{without_mark};
-ghost use Rattle.deno_ast.specs.Tree as tree;
-ghost use Rattle.deno_ast.specs.Source.{IsParsed, IsParsedWith, IsFault, OfModule, OfScript, Refuses};
-ghost use Rattle.deno_ast.specs.Steps.{modes_in};
+ghost use Rattle.source_sites.specs.Tree as tree;
+ghost use Rattle.source_sites.specs.Fault.{Refuses};
+ghost use Rattle.source_sites.specs.Modes.{modes_in};
+ghost use Rattle.deno_ast.specs.Source.{IsParsed, IsParsedWith, IsFault, OfModule, OfScript};
 
 use crate::params::{ParseParams, without_bom};
 use crate::reading::{Reading, read_in};
 use crate::source::{ParsedSource, source_of};
-use crate::tree::{Modes, modes_of};
 use base::{Items, Range};
 use es_ast::{Module, Program, Script};
 use es_tree::Mode;
 use parse_diagnostic::ParseFault;
+use source_sites::{Modes, modes_of};
 use std::alloc::Global;
 use std::mem;
 

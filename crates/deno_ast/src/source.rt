@@ -3,7 +3,6 @@ ghost use Rattle.std.specs.Prelude.{◌≡◌, ◌≢◌, ◌++◌, None, Some, 
 ghost use Rattle.std.specs.Arc.{arc_value};
 ghost use Rattle.deno_ast.specs.Refs.{tree_of};
 ghost use Rattle.deno_ast.specs.Parsed as spec;
-ghost use Rattle.deno_ast.specs.Read.{references_in as refers};
 ghost use Rattle.deno_ast.specs.Steps.{parsed_of, captured as kept};
 
 use crate::params::ParseParams;
@@ -12,10 +11,11 @@ use crate::reading::Reading;
 use base::{Items, Range};
 use es_ast::Program;
 use es_comments::{MultiThreadedComments, comments_of};
-use es_references::references;
+use es_site::Site;
 use es_token::{Comment, Token, TokenKind};
-use es_walk::{Site, sites};
+use es_walk::sites;
 use media_type::MediaType;
+use source_sites::{references_in, with_sites};
 use source_text::{SourceText, SourceTextInfo};
 use std::alloc::{AllocError, Global};
 use std::marker::Model;
@@ -223,17 +223,6 @@ fn copy_site(site: &Site) -> Result<Site, AllocError>
     })
 }
 
-/// The sites, and then more.
-pub fn with_sites(found: Items<Site>, more: Items<Site>) -> Result<Items<Site>, AllocError>
-    ensures { IfOk result (λ all. all ≡ found ++ more) }
-{
-    let mut all = found;
-    for site in more.into_vec() {
-        all.push(site)?;
-    }
-    Ok(all)
-}
-
 /// The source of what was read.
 pub fn source_of(
     alloc: Global,
@@ -247,7 +236,12 @@ pub fn source_of(
         tokens,
         comments,
     } = reading;
-    let references = references_in(alloc, params.media_type, &tokens, &comments)?;
+    let references = references_in(
+        alloc,
+        params.media_type,
+        tokens.as_slice(),
+        comments.as_slice(),
+    )?;
     let comments = shared_comments(alloc, params.text.as_str(), &tokens, &comments)?;
     let source = Source {
         info: SourceTextInfo::new(alloc, params.text.copy()?)?,
@@ -263,22 +257,6 @@ pub fn source_of(
     Ok(ParsedSource {
         inner: Arc::new(alloc, source)?,
     })
-}
-
-/// Comments of typed sources alone refer.
-pub fn references_in(
-    alloc: Global,
-    media_type: MediaType,
-    tokens: &Items<Token>,
-    comments: &Items<Comment>,
-) -> Result<Items<Site>, AllocError>
-    ensures { IfOk result (λ found. found ≡ refers media_type tokens.now comments.now) }
-{
-    if media_type.is_typed() {
-        references(alloc, tokens.as_slice(), comments.as_slice())
-    } else {
-        Ok(Items::new(alloc))
-    }
 }
 
 fn shared_comments(

@@ -4,23 +4,16 @@ ghost use Rattle.es_tree.specs.declared.error.Mode.TheVariants as mode;
 ghost use Rattle.es_lexer.specs.Reads.{ReadsTokens};
 ghost use Rattle.es_ast.specs.declared.ast.Program.{Program as Typed};
 ghost use Rattle.es_parser.specs.Answers.{GivesTree};
-ghost use Rattle.deno_ast.specs.Tree.{modes_of, IsFirstTree, IsTree};
-ghost use Rattle.deno_ast.specs.Steps.{modes_in};
+ghost use Rattle.source_sites.specs.Tree.{IsFirstTree, IsTree};
+ghost use Rattle.source_sites.specs.Modes.{modes_in};
 
-use crate::syntax::lang_in;
 use es_ast::Program;
 use es_parser::parse_tokens;
 use es_token::Token;
 use es_tree::{Lang, Mode, SyntaxError};
 use media_type::MediaType;
+use source_sites::{Modes, language_of, modes_of};
 use std::alloc::Global;
-
-/// The modes that a media type allows.
-#[derive(Clone, Copy)]
-pub enum Modes {
-    Only(Mode),
-    ScriptFirst,
-}
 
 /// The tree of a source of this media type with these tokens.
 pub fn tree_of(
@@ -33,19 +26,8 @@ pub fn tree_of(
     ensures made { IfOk result (IsTree media_type text.now tokens.now) }
     ensures only { (tree : Typed) → IsTree media_type text.now tokens.now tree → GivesTree result tree }
 {
-    let lang = lang_in(None, media_type);
+    let lang = language_of(media_type);
     tree_in(alloc, lang, modes_of(media_type), text, tokens)
-}
-
-/// The modes in which a source of this media type may be read.
-pub fn modes_of(media_type: MediaType) -> Modes
-    ensures { modes_in result ≡ modes_of media_type }
-{
-    match media_type {
-        MediaType::Cjs => Modes::Only(Mode::Script),
-        MediaType::Cts | MediaType::Mjs | MediaType::Mts => Modes::Only(Mode::Module),
-        _ => Modes::ScriptFirst,
-    }
 }
 
 /// The tree of a text with these tokens, in the first of these modes that derives one.

@@ -3,8 +3,8 @@ use Rattle.std.proofs.Common.{◌≡◌, ℕ, Bool, true, false, cond, List, [],
 use Rattle.std.specs.Prelude.{not, ◌&&◌, bytes_eq, option_and_then, Result, Ok, Err}
 use Rattle.std.specs.List.{list_all}
 use Rattle.url.specs.Parts.{Parts}
-use Rattle.es_walk.specs.declared.site.Attribute.{Attribute}
-use Rattle.es_walk.specs.declared.site.Attribute.TheVariants.{Absent, Named, Unknown}
+use Rattle.es_site.specs.declared.site.Attribute.{Attribute}
+use Rattle.es_site.specs.declared.site.Attribute.TheVariants.{Absent, Named, Unknown}
 use Rattle.graph_entry.specs.Specifier.{text_of}
 use Rattle.graph_entry.specs.Resolution.{Resolved}
 use Rattle.graph_entry.specs.declared.entry.Dependency.{Dependency}

@@ -2,8 +2,8 @@
 -- too far is a fault, and so is an edge with an import attribute that the module at its end doesn't ask for.
 use Rattle.std.specs.Prelude.{◌≡◌, ℕ, zero, suc, ◌+◌, ◌≤◌, Bool, true, false, List, [], ◌∷◌, bytes_eq, codes, Option, Some, None, Ok, Err}
 use Rattle.url.specs.Parts.{Parts}
-use Rattle.es_walk.specs.declared.site.Attribute.{Attribute}
-use Rattle.es_walk.specs.declared.site.Attribute.TheVariants.{Absent, Named, Unknown}
+use Rattle.es_site.specs.declared.site.Attribute.{Attribute}
+use Rattle.es_site.specs.declared.site.Attribute.TheVariants.{Absent, Named, Unknown}
 use Rattle.graph_entry.specs.Specifier.{text_of}
 use Rattle.graph_entry.specs.declared.resolution.ResolutionError.TheVariants.{InvalidTypeAssertion}
 use Rattle.graph_entry.specs.declared.entry.Dependency.{Dependency}

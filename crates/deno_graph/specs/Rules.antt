@@ -1,8 +1,8 @@
 -- The rules of a graph: what an answer means, and which edges are followed.
 use Rattle.std.specs.Prelude.{ℕ, Bool, true, false, not, ◌&&◌, List, [], ◌∷◌, Option, None, if◌then◌else◌}
 use Rattle.std.specs.List.{filter_map}
-use Rattle.es_walk.specs.declared.site.DependencyKind.{DependencyKind}
-use Rattle.es_walk.specs.declared.site.DependencyKind.TheVariants.{Dynamic}
+use Rattle.es_site.specs.declared.site.DependencyKind.{DependencyKind}
+use Rattle.es_site.specs.declared.site.DependencyKind.TheVariants.{Dynamic}
 use Rattle.media_type.specs.MediaType.{is_typed}
 use Rattle.graph_entry.specs.declared.answer.LoadAnswer.{LoadAnswer}
 use Rattle.graph_entry.specs.declared.entry.Dependency.{Dependency}

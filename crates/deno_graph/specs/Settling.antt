@@ -2,8 +2,8 @@
 use Rattle.std.specs.Prelude.{◌≡◌, ℕ, length, zero, suc, Bool, true, false, not, ◌&&◌, List, map, Option, Some, None, is_some, option_and_then, Ok, Err, if◌then◌else◌}
 use Rattle.std.specs.List.{zip, list_all}
 use Rattle.url.specs.Parts.{Parts}
-use Rattle.es_walk.specs.declared.site.Attribute.{Attribute}
-use Rattle.es_walk.specs.declared.site.Attribute.TheVariants.{Absent, Named, Unknown}
+use Rattle.es_site.specs.declared.site.Attribute.{Attribute}
+use Rattle.es_site.specs.declared.site.Attribute.TheVariants.{Absent, Named, Unknown}
 use Rattle.graph_entry.specs.Specifier.{text_of}
 use Rattle.graph_entry.specs.Resolution.{Resolved}
 use Rattle.graph_entry.specs.declared.entry.Dependency.{Dependency}

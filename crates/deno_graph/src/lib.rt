@@ -38,9 +38,8 @@ pub use graph_entry::{
     AnalyzeFault, Attribute, DataError, DefaultResolver, Dependency, DependencyKind, Entry,
     GraphKind, Headers, JsModule, JsonModule, LoadAnswer, MediaType, Module, ModuleAnalyzer,
     ModuleError, ModuleInfo, ModuleKind, PackageKind, PackageRef, ParseDiagnostic,
-    ParseModuleFromAstOptions, ParseModuleOptions, ParserModuleAnalyzer, ReferrerImports,
-    ResolutionError, ResolveFault, Resolver, SyntaxErrorKind, WasmModule, parse_module,
-    parse_module_from_ast,
+    ParseModuleOptions, ParserModuleAnalyzer, ReferrerImports, ResolutionError, ResolveFault,
+    Resolver, SyntaxErrorKind, WasmModule, parse_module,
 };
 pub use loader::{Loader, LoaderPoll};
 pub use memory_loader::{Arrival, MemoryLoader};

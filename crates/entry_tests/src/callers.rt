@@ -6,10 +6,10 @@ ghost use Rattle.graph_entry.specs.declared.resolver.ResolveFault.TheVariants as
 use crate::lines::line_of;
 use base::{Items, Range, SharedBytes, Text};
 use deno_ast::{ParseParams, SourceText, parse_program};
+use graph_ast::{ParseModuleFromAstOptions, module_info, parse_module_from_ast};
 use graph_entry::{
     AnalyzeFault, DefaultResolver, Entry, MediaType, Module, ModuleAnalyzer, ModuleInfo,
-    ParseModuleFromAstOptions, ParseModuleOptions, ParserModuleAnalyzer, ResolveFault, Resolver,
-    parse_module, parse_module_from_ast,
+    ParseModuleOptions, ParserModuleAnalyzer, ResolveFault, Resolver, parse_module,
 };
 use std::alloc::{AllocError, Global};
 use std::process::Abort;
@@ -129,7 +129,7 @@ fn parts_of_one_module(rt: HostRuntime) {
         maybe_syntax: None,
     };
     let parsed = parse_program(alloc, params).expect(&rt, "a source");
-    let info = ParserModuleAnalyzer.module_info(alloc, &parsed);
+    let info = module_info(alloc, &parsed);
     let line = sites_in(alloc, &info.expect(&rt, "memory")).expect(&rt, "memory");
     assert_eq!(rt; line.as_str(), "7-15 ./b.ts;");
     let none: Option<&DefaultResolver> = None;

@@ -30,11 +30,11 @@ use Rattle.es_ast.specs.declared.ast.SwitchCase.{SwitchCase, roll-SwitchCase, ou
 use Rattle.es_ast.specs.declared.ast.TsEnumMember.{TsEnumMember, roll-TsEnumMember, out-TsEnumMember, out-roll-TsEnumMember}
 use Rattle.es_ast.specs.declared.ast.VarDeclarator.{VarDeclarator, roll-VarDeclarator, out-VarDeclarator, out-roll-VarDeclarator}
 use Rattle.es_ast.specs.declared.ast.ClassMember.TheOpen.{Expr-F, Class-F, Function-F, Param-F, SwitchCase-F, TsEnumMember-F, VarDeclarator-F}
-use Rattle.es_walk.specs.Parts.{Whole, ExprParts}
-use Rattle.es_walk.specs.declared.site.Site.{Site}
-use Rattle.es_walk.specs.Sites.{Found, if_some, CutsLiteral, export_site, module_ref_sites, first_argument, call_sites}
-use Rattle.es_walk.specs.Sites.{sites_of_class_member, sites_of_decl, sites_of_expr, sites_of_module_decl, sites_of_module_item, sites_of_object_pat_prop, sites_of_pat, sites_of_prop, sites_of_stmt, sites_of_class, sites_of_function, sites_of_param, sites_of_switch_case, sites_of_ts_enum_member, sites_of_var_declarator}
-use Rattle.es_walk.proofs.Equations.{expr_Lit, expr_ImportCall, module_decl_Import, module_decl_ExportNamed, module_decl_ExportAll, module_decl_TsImportEquals, class_parts, function_parts, param_parts, switch_case_parts, ts_enum_member_parts, var_declarator_parts}
+use Rattle.es_site.specs.Parts.{Whole, ExprParts}
+use Rattle.es_site.specs.declared.site.Site.{Site}
+use Rattle.es_site.specs.Sites.{Found, if_some, CutsLiteral, export_site, module_ref_sites, first_argument, call_sites}
+use Rattle.es_site.specs.Sites.{sites_of_class_member, sites_of_decl, sites_of_expr, sites_of_module_decl, sites_of_module_item, sites_of_object_pat_prop, sites_of_pat, sites_of_prop, sites_of_stmt, sites_of_class, sites_of_function, sites_of_param, sites_of_switch_case, sites_of_ts_enum_member, sites_of_var_declarator}
+use Rattle.es_site.proofs.Equations.{expr_Lit, expr_ImportCall, module_decl_Import, module_decl_ExportNamed, module_decl_ExportAll, module_decl_TsImportEquals, class_parts, function_parts, param_parts, switch_case_parts, ts_enum_member_parts, var_declarator_parts}
 
 -- the claim holds of each item
 abbrev pub Each : {A : Type 0} → (A → Type 0) → List A → Type 0

@@ -9,7 +9,7 @@ use Rattle.es_ast.specs.declared.ast.Expr.{Expr}
 use Rattle.es_ast.specs.declared.ast.Decl.{Decl}
 use Rattle.es_ast.specs.declared.ast.Pat.{Pat}
 use Rattle.es_ast.specs.declared.ast.VarDeclarator.{VarDeclarator}
-use Rattle.es_walk.specs.Sites.{sites_of}
+use Rattle.es_site.specs.Sites.{sites_of}
 use Rattle.es_dress.specs.Value.{Signature, Typed, Value, absent, nil, more, token, node, given, part, typed, as_group, group, optional, option_list, turns, expr_at, pat_at, stmt_at, decl_at, item_at, block_at, variables_at, declarator_at, head_at, param_at, params_at, pat_prop_at, prop_at, member_at, key_at, post_at, args_at, marked_at, signature_at, declarable_at}
 use Rattle.es_cuts.proofs.Cuts.{Each, Opt, Cut, ExprCuts, MemberCuts, DeclCuts, ItemCuts, PatPropCuts, PatCuts, PropCuts, StmtCuts, ParamCuts, DeclaratorCuts}
 

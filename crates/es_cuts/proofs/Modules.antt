@@ -8,7 +8,7 @@ use Rattle.es_ast.specs.declared.leaf.ImportAttributes.{ImportAttributes}
 use Rattle.es_ast.specs.declared.ast.Stmt.{Stmt}
 use Rattle.es_ast.specs.declared.ast.ModuleDecl.{ModuleDecl}
 use Rattle.es_ast.specs.declared.ast.ModuleItem.TheVariants as vItem
-use Rattle.es_walk.specs.Sites.{sites_of_module_item, sites_of_stmt}
+use Rattle.es_site.specs.Sites.{sites_of_module_item, sites_of_stmt}
 use Rattle.es_dress.specs.Value.{Value, absent, nil, more, token, node, group, optional, is_there, turns, expr_at, stmt_at, decl_at, item_at, clause_at, export_specifier_at, attributes_at, entity_at}
 use Rattle.es_dress.specs.Texts.{ident_at, str_at, name_at, shebang_at}
 use Rattle.es_dress.specs.Modules.{bare_import, from_import, require_import, entity_import, export_all, source_with, with_of, export_names, export_namespace, export_default_decl, export_default_expression, export_declaration, module_, script}

@@ -8,7 +8,7 @@ use Rattle.es_tree.specs.declared.error.Mode.{Mode}
 use Rattle.es_tree.specs.Key.{seen, keys_of, is}
 use Rattle.es_ast.specs.declared.ast.Program.{Program}
 use Rattle.es_whole_tree.specs.Slim.{tree_of}
-use Rattle.es_walk.specs.Sites.{sites_of}
+use Rattle.es_site.specs.Sites.{sites_of}
 use Rattle.es_strs.proofs.Theorems.{strs}
 use Rattle.es_dress.specs.Value.{Value, Typed}
 use Rattle.es_dress.specs.Texts.{str_of}

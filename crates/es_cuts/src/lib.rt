@@ -1,2 +1,2 @@
-//! The sites (`es_walk`) of what plain trees become (`es_dress`) cut their literals: laws, and no code.
+//! The sites (`es_site`) of what plain trees become (`es_dress`) cut their literals: laws, and no code.
 #![tactic(auto)]

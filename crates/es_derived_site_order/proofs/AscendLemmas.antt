@@ -6,7 +6,7 @@ use Rattle.es_token.specs.declared.token.Token.{Token}
 use Rattle.es_token.specs.declared.token.Comment.{Comment}
 use Rattle.es_lexer.specs.Reads.{Reads}
 use Rattle.es_lexer.proofs.Theorems.{reads_within, reads_ascend}
-use Rattle.es_walk.specs.declared.site.Site.{Site}
+use Rattle.es_site.specs.declared.site.Site.{Site}
 use Rattle.es_derived_site_order.specs.Order.{Ascend, token_range, site_range, StandOn}
 
 -- ---- tokens

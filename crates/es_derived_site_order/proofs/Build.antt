@@ -21,7 +21,7 @@ use Rattle.es_derived_site_order.proofs.Patterns.{param_of_on, name_pattern_on, 
 use Rattle.es_derived_site_order.proofs.Stmts.{bare_declarator_on, decl_made_on, block_on, declarator_on, variables_on, using_on, variable_declaration_on, variable_head_on, using_head_on, for_on, for_each_on, for_await_on, while_on, do_on, expression_statement_on, labelled_on, if_on, continue_on, break_on, return_on, throw_on, switch_on, try_on, with_on}
 use Rattle.es_derived_site_order.proofs.Modules.{item_by_on, bare_import_on, from_import_on, require_import_on, entity_import_on, export_all_on, export_names_on, export_namespace_on, export_default_decl_on, export_default_expression_on, export_declaration_on, module_on, script_on}
 use Rattle.es_derived_site_order.proofs.Typed.{alias_on, declared_on, declared_variables_on, enum_on, export_assignment_on, global_on, index_member_on, interface_on, marked_array_on, marked_name_on, marked_object_on, marked_parameter_on, module_namespace_on, namespace_on, non_null_post_on, property_parameter_on, this_parameter_on, typed_accessor_member_on, typed_accessor_property_on, typed_arrow_on, typed_binary_on, typed_call_post_on, typed_class_on, typed_declarator_on, typed_field_on, typed_function_on, typed_head_on, typed_method_member_on, typed_method_property_on, typed_new_on, typed_optional_post_on, typed_parameters_on, typed_signature_on, typed_template_post_on, typed_try_on}
-use Rattle.es_walk.specs.Sites.{sites_of, sites_of_class_member, sites_of_decl, sites_of_expr, sites_of_module_decl, sites_of_object_pat_prop, sites_of_pat, sites_of_prop, sites_of_stmt, sites_of_class, sites_of_function, sites_of_param, sites_of_var_declarator}
+use Rattle.es_site.specs.Sites.{sites_of, sites_of_class_member, sites_of_decl, sites_of_expr, sites_of_module_decl, sites_of_object_pat_prop, sites_of_pat, sites_of_prop, sites_of_stmt, sites_of_class, sites_of_function, sites_of_param, sites_of_var_declarator}
 use Rattle.es_dress.specs.Value.{Value, absent, nil, more, token, node, group, is_there}
 use Rattle.es_cuts.proofs.Cuts.{Opt}
 use Rattle.es_derived_site_order.proofs.Given.{map_fine, if_fine}

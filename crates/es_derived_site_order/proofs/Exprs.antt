@@ -17,7 +17,7 @@ use Rattle.es_tree.specs.Key.{same_kind}
 use Rattle.es_dress.specs.Texts.{span_of, regex_of, token_of, token_at, kind_at, ident_at, private_at, str_at, numeric_of, numeric_at, piece_there, property_of, property_at}
 use Rattle.es_dress.specs.Operators.{listed, unary_ops, update_ops, binary_between, assign_between}
 use Rattle.es_dress.specs.Expressions.{name, word_of, word, number, str, regexp, template, template_parts, element_of, behind_element, elements, array_literal, object_literal, parenthesized, spread, argument_of, argument, arguments, member_of, index_of, call_of, tagged_of, Post, member_post, index_post, call_post, template_post, optional_inner, optional_of, optional_post, chained, chain, import_call, new_of, new_, prefix, await_, update_prefix, update_postfix, binary, private_in, conditional, assignment, pattern_assignment, yield_of, yield_, sequence}
-use Rattle.es_walk.specs.Sites.{if_some, Found, sites_of_expr, sites_of_pat, sites_of_prop}
+use Rattle.es_site.specs.Sites.{if_some, Found, sites_of_expr, sites_of_pat, sites_of_prop}
 use Rattle.es_dress.specs.Value.{Typed, Value, absent, nil, more, token, node, given, part, typed, as_group, group, first_of, behind, optional, option_list, is_there, turns, expr_at, pat_at, prop_at, post_at, args_at}
 use Rattle.es_cuts.proofs.Cuts.{Opt}
 use Rattle.es_derived_site_order.proofs.Given.{given_fine, given_any, map_fine, map_any, if_fine}

@@ -40,9 +40,9 @@ use Rattle.es_ast.specs.declared.ast.SwitchCase.{SwitchCase}
 use Rattle.es_ast.specs.declared.ast.TsEnumMember.{TsEnumMember}
 use Rattle.es_ast.specs.declared.ast.VarDeclarator.{VarDeclarator}
 use Rattle.es_ast.specs.declared.ast.ClassMember.TheOpen.{Expr-F}
-use Rattle.es_walk.specs.Sites.{if_some}
-use Rattle.es_walk.specs.Sites.{sites_of_class_member, sites_of_decl, sites_of_expr, sites_of_module_decl, sites_of_module_item, sites_of_object_pat_prop, sites_of_pat, sites_of_prop, sites_of_stmt, sites_of_class, sites_of_function, sites_of_switch_case, sites_of_ts_enum_member, sites_of_var_declarator}
-use Rattle.es_walk.proofs.Equations.{class_member_Empty, class_member_StaticBlock, class_member_Method, class_member_Prop, class_member_TsIndexSignature, decl_Class, decl_Fn, decl_Var, decl_TsInterface, decl_TsTypeAlias, decl_TsEnum, decl_TsNamespace, decl_TsModule, decl_TsGlobal, expr_This, expr_Super, expr_Ident, expr_PrivateName, expr_Hole, expr_Array, expr_Spread, expr_Object, expr_Fn, expr_Class, expr_Arrow, expr_Paren, expr_Unary, expr_Update, expr_Await, expr_Yield, expr_Bin, expr_Assign, expr_Cond, expr_Seq, expr_Member, expr_Index, expr_Call, expr_New, expr_ImportMeta, expr_NewTarget, expr_Tpl, expr_TaggedTpl, expr_TsNonNull, expr_TsAs, expr_TsConstAssertion, expr_TsSatisfies, module_decl_ExportDecl, module_decl_ExportDefaultDecl, module_decl_ExportDefaultExpr, module_decl_TsExportAssignment, module_decl_TsNamespaceExport, module_item_ModuleDecl, module_item_Stmt, object_pat_prop_KeyValue, object_pat_prop_Assign, object_pat_prop_Rest, pat_Ident, pat_This, pat_Hole, pat_Array, pat_Object, pat_Rest, pat_Assign, pat_Expr, prop_Spread, prop_Shorthand, prop_KeyValue, prop_Method, stmt_Block, stmt_Empty, stmt_Debugger, stmt_With, stmt_Return, stmt_Labeled, stmt_Break, stmt_Continue, stmt_If, stmt_Switch, stmt_Throw, stmt_Try, stmt_While, stmt_DoWhile, stmt_For, stmt_ForIn, stmt_ForOf, stmt_Decl, stmt_Expr}
+use Rattle.es_site.specs.Sites.{if_some}
+use Rattle.es_site.specs.Sites.{sites_of_class_member, sites_of_decl, sites_of_expr, sites_of_module_decl, sites_of_module_item, sites_of_object_pat_prop, sites_of_pat, sites_of_prop, sites_of_stmt, sites_of_class, sites_of_function, sites_of_switch_case, sites_of_ts_enum_member, sites_of_var_declarator}
+use Rattle.es_site.proofs.Equations.{class_member_Empty, class_member_StaticBlock, class_member_Method, class_member_Prop, class_member_TsIndexSignature, decl_Class, decl_Fn, decl_Var, decl_TsInterface, decl_TsTypeAlias, decl_TsEnum, decl_TsNamespace, decl_TsModule, decl_TsGlobal, expr_This, expr_Super, expr_Ident, expr_PrivateName, expr_Hole, expr_Array, expr_Spread, expr_Object, expr_Fn, expr_Class, expr_Arrow, expr_Paren, expr_Unary, expr_Update, expr_Await, expr_Yield, expr_Bin, expr_Assign, expr_Cond, expr_Seq, expr_Member, expr_Index, expr_Call, expr_New, expr_ImportMeta, expr_NewTarget, expr_Tpl, expr_TaggedTpl, expr_TsNonNull, expr_TsAs, expr_TsConstAssertion, expr_TsSatisfies, module_decl_ExportDecl, module_decl_ExportDefaultDecl, module_decl_ExportDefaultExpr, module_decl_TsExportAssignment, module_decl_TsNamespaceExport, module_item_ModuleDecl, module_item_Stmt, object_pat_prop_KeyValue, object_pat_prop_Assign, object_pat_prop_Rest, pat_Ident, pat_This, pat_Hole, pat_Array, pat_Object, pat_Rest, pat_Assign, pat_Expr, prop_Spread, prop_Shorthand, prop_KeyValue, prop_Method, stmt_Block, stmt_Empty, stmt_Debugger, stmt_With, stmt_Return, stmt_Labeled, stmt_Break, stmt_Continue, stmt_If, stmt_Switch, stmt_Throw, stmt_Try, stmt_While, stmt_DoWhile, stmt_For, stmt_ForIn, stmt_ForOf, stmt_Decl, stmt_Expr}
 use Rattle.es_derived_site_order.specs.Order.{StandOn}
 use Rattle.es_derived_site_order.proofs.Sites.{both, same}
 use Rattle.es_derived_site_order.proofs.Own.{ExprOn, expr_by}

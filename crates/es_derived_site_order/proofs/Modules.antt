@@ -12,7 +12,7 @@ use Rattle.es_ast.specs.declared.ast.ModuleItem.TheVariants as vItem
 use Rattle.es_dress.specs.Texts.{ident_at, str_at, name_at, shebang_at}
 use Rattle.es_dress.specs.Modules.{bare_import, from_import, require_import, entity_import, export_all, source_with, with_of, export_names, export_namespace, export_default_decl, export_default_expression, export_declaration, module_, script}
 use Rattle.es_dress.specs.Dress.{item_by}
-use Rattle.es_walk.specs.Sites.{sites_of, sites_of_decl, sites_of_expr, sites_of_module_decl, sites_of_module_item, sites_of_stmt}
+use Rattle.es_site.specs.Sites.{sites_of, sites_of_decl, sites_of_expr, sites_of_module_decl, sites_of_module_item, sites_of_stmt}
 use Rattle.es_dress.specs.Value.{Typed, Value, absent, nil, more, token, node, part, group, optional, is_there, turns, expr_at, stmt_at, decl_at, item_at, clause_at, export_specifier_at, attributes_at, entity_at}
 use Rattle.es_cuts.proofs.Cuts.{Opt}
 use Rattle.es_derived_site_order.proofs.Given.{given_fine, given_any, map_fine, map_any}

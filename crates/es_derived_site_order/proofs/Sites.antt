@@ -3,8 +3,8 @@ use Rattle.std.specs.Prelude.{List, [], ◌∷◌, ◌++◌, Option, Some, None,
 use Rattle.std.proofs.Common.{◌≡◌, ℕ, ◌+◌, ◌<◌, ◌≤◌, refl, sym, ◌∙◌, subst, arith}
 use Rattle.es_token.specs.declared.token.Token.{Token}
 use Rattle.ts_ast.specs.declared.leaf.Str.{Str}
-use Rattle.es_walk.specs.declared.site.Site.{Site}
-use Rattle.es_walk.specs.Sites.{Found, if_some}
+use Rattle.es_site.specs.declared.site.Site.{Site}
+use Rattle.es_site.specs.Sites.{Found, if_some}
 use Rattle.es_derived_site_order.specs.Order.{StandOn}
 
 -- what is there has sites on these tokens

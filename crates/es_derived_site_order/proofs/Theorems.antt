@@ -14,7 +14,7 @@ use Rattle.es_grammar.proofs.OrderLemmas.{row_stands}
 use Rattle.es_guards.proofs.TokenLemmas.{length-keys_of}
 use Rattle.es_whole_tree.specs.Slim.{tree_of}
 use Rattle.es_strs.proofs.Theorems.{strs}
-use Rattle.es_walk.specs.Sites.{sites_of}
+use Rattle.es_site.specs.Sites.{sites_of}
 use Rattle.es_dress.specs.Dress.{value_of}
 use Rattle.es_derives.specs.Derives.{Derives}
 use Rattle.es_cuts.proofs.Cuts.{Opt}

@@ -31,7 +31,7 @@ use Rattle.es_dress.specs.TypedExpressions.{typed_call_of, typed_call, typed_cal
 use Rattle.es_dress.specs.TypedStatements.{typed_declarator, typed_head, caught_in, typed_handled, typed_try, interface, alias, enum_member, enum_, items_of, namespace, module_namespace, global, declared, declared_variables, export_assignment}
 use Rattle.es_derived_site_order.proofs.Exprs.{elements_on, member_of_on, index_of_on}
 use Rattle.es_derived_site_order.proofs.Patterns.{default_on, params_both, body_of_on}
-use Rattle.es_walk.specs.Sites.{if_some, sites_of_class_member, sites_of_decl, sites_of_expr, sites_of_module_decl, sites_of_module_item, sites_of_object_pat_prop, sites_of_pat, sites_of_prop, sites_of_stmt, sites_of_class, sites_of_function, sites_of_param, sites_of_ts_enum_member, sites_of_var_declarator}
+use Rattle.es_site.specs.Sites.{if_some, sites_of_class_member, sites_of_decl, sites_of_expr, sites_of_module_decl, sites_of_module_item, sites_of_object_pat_prop, sites_of_pat, sites_of_prop, sites_of_stmt, sites_of_class, sites_of_function, sites_of_param, sites_of_ts_enum_member, sites_of_var_declarator}
 use Rattle.es_dress.specs.Value.{Signature, Typed, Value, absent, nil, more, token, node, given, part, as_group, group, first_of, behind, optional, is_there, turns, expr_at, pat_at, stmt_at, item_at, variables_at, param_at, params_at, pat_prop_at, member_at, key_at, args_at, marked_at, signature_at, declarable_at, type_at, type_member_at, entity_at}
 use Rattle.es_cuts.proofs.Cuts.{Opt}
 use Rattle.es_derived_site_order.proofs.Given.{given_fine, given_any, map_fine, map_any}

@@ -2,7 +2,7 @@
 use Rattle.std.specs.Prelude.{◌≡◌, ℕ, ◌+◌, ◌≤◌, ◌<◌, List, [], ◌∷◌, Some, slice_get}
 use Rattle.base.specs.declared.range.Range.{Range}
 use Rattle.es_token.specs.declared.token.Token.{Token}
-use Rattle.es_walk.specs.declared.site.Site.{Site}
+use Rattle.es_site.specs.declared.site.Site.{Site}
 
 -- no range is empty, and each ends where any later one starts, or before
 pub record Ascend {X : Type 0} (range_of : X → Range) (xs : List X) : Type 0 where

@@ -1,4 +1,4 @@
-//! The order of the sites (`es_walk`) of a tree that is derived by the table of programs (`es_derives`): laws, and no code.
+//! The order of the sites (`es_site`) of a tree that is derived by the table of programs (`es_derives`): laws, and no code.
 //!
 //! - `derives_stand` (`proofs/Theorems.antt`): each site of a derived tree has the range of a token of its own, in the order of
 //!   the tokens.

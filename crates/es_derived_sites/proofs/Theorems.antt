@@ -13,8 +13,8 @@ use Rattle.es_tree.specs.declared.error.Mode.{Mode}
 use Rattle.es_tree.specs.Key.{seen, keys_of, is}
 use Rattle.es_guards.proofs.TokenLemmas.{look_some}
 use Rattle.es_ast.specs.declared.ast.Program.{Program}
-use Rattle.es_walk.specs.declared.site.Site.{Site}
-use Rattle.es_walk.specs.Sites.{sites_of, CutsLiteral}
+use Rattle.es_site.specs.declared.site.Site.{Site}
+use Rattle.es_site.specs.Sites.{sites_of, CutsLiteral}
 use Rattle.es_dress.specs.Texts.{str_of}
 use Rattle.es_derives.specs.Derives.{Derives}
 use Rattle.es_cuts.proofs.Cuts.{Each, StrCuts}

@@ -8,10 +8,10 @@ use Rattle.es_token.specs.declared.token.TokenKind.TheVariants.{Shebang}
 use Rattle.es_token.specs.declared.token.Comment.{Comment}
 use Rattle.es_token.specs.declared.token.CommentKind.{CommentKind}
 use Rattle.es_token.specs.declared.token.CommentKind.TheVariants.{Line, Block}
-use Rattle.es_walk.specs.declared.site.Site.{Site}
-use Rattle.es_walk.specs.declared.site.DependencyKind.{DependencyKind}
-use Rattle.es_walk.specs.declared.site.DependencyKind.TheVariants.{ReferencePath, ReferenceTypes}
-use Rattle.es_walk.specs.declared.site.Attribute.TheVariants.{Unknown}
+use Rattle.es_site.specs.declared.site.Site.{Site}
+use Rattle.es_site.specs.declared.site.DependencyKind.{DependencyKind}
+use Rattle.es_site.specs.declared.site.DependencyKind.TheVariants.{ReferencePath, ReferenceTypes}
+use Rattle.es_site.specs.declared.site.Attribute.TheVariants.{Unknown}
 
 -- ---- parts of the text
 

@@ -5,7 +5,7 @@ ghost use Rattle.es_references.specs.References as spec;
 ghost use Rattle.es_references.specs.Steps.{reference_of_parts};
 
 use crate::parts::{begins, behind, behind_blanks, behind_gap, has_end, quoted};
-use es_walk::DependencyKind;
+use es_site::DependencyKind;
 
 /// What a comment refers to.
 #[derive(Clone, Copy)]

@@ -7,8 +7,8 @@ ghost use Rattle.es_token.specs.declared.token.CommentKind.TheVariants as commen
 
 use crate::reference::{Reference, reference_in};
 use base::{Items, Range, Text};
+use es_site::{Attribute, Site};
 use es_token::{Comment, CommentKind, Token, TokenKind};
-use es_walk::{Attribute, Site};
 use std::alloc::{AllocError, Global};
 
 /// The sites of the reference comments of a text with these tokens and comments.

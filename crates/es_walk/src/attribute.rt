@@ -4,10 +4,10 @@ ghost use Rattle.std.specs.Prelude.{◌≡◌, IfOk};
 ghost use Rattle.std.specs.Option.{option_copied};
 ghost use Rattle.es_ast.specs.declared.ast.Expr.{out-Expr};
 ghost use Rattle.es_ast.specs.declared.ast.Prop.{out-Prop};
-ghost use Rattle.es_walk.specs.Attributes.{spells, last_type, named, attribute_of, says, is_name as IsName, is_plain as IsPlain, are_plain as ArePlain, given_part, last_given as LastGiven, type_attribute, with_attribute, options_attribute};
+ghost use Rattle.es_site.specs.Attributes.{spells, last_type, named, attribute_of, says, is_name as IsName, is_plain as IsPlain, are_plain as ArePlain, given_part, last_given as LastGiven, type_attribute, with_attribute, options_attribute};
 
-use crate::site::Attribute;
 use es_ast::{Expr, ImportAttribute, ImportAttributes, Lit, ModuleExportName, Prop, Str};
+use es_site::Attribute;
 use std::alloc::AllocError;
 
 /// The attribute of a declaration with this clause.

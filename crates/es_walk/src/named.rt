@@ -1,13 +1,13 @@
 //! The nodes that name a module by themselves.
 
 ghost use Rattle.std.specs.Prelude.{◌≡◌, ◌++◌, IfOk, OnOk};
-ghost use Rattle.es_walk.specs.declared.site.DependencyKind.{DependencyKind as Kind};
-ghost use Rattle.es_walk.specs.Sites.{site_at, import_site, export_all_site, named_export_sites, import_equals_sites, call_sites};
+ghost use Rattle.es_site.specs.declared.site.DependencyKind.{DependencyKind as Kind};
+ghost use Rattle.es_site.specs.Sites.{site_at, import_site, export_all_site, named_export_sites, import_equals_sites, call_sites};
 
 use crate::attribute::{of_clause, of_options};
-use crate::site::{Attribute, DependencyKind, Site};
 use base::Items;
 use es_ast::{ExportAll, Expr, ImportDecl, Lit, NamedExport, Str, TsImportEqualsDecl, TsModuleRef};
+use es_site::{Attribute, DependencyKind, Site};
 use std::alloc::AllocError;
 
 /// The site of a string literal that names a module.

@@ -3,16 +3,16 @@
 
 ghost use Rattle.std.specs.Prelude.{◌≡◌, ◌++◌, IfOk, OnOk};
 ghost use Rattle.std.specs.List.{flat_map};
-ghost use Rattle.es_walk.specs.Sites.{sites_of, if_some};
-ghost use Rattle.es_walk.specs.Sites.{sites_of_class_member, sites_of_decl, sites_of_expr, sites_of_module_decl, sites_of_module_item, sites_of_object_pat_prop, sites_of_pat, sites_of_prop, sites_of_stmt, sites_of_class, sites_of_function, sites_of_param, sites_of_switch_case, sites_of_ts_enum_member, sites_of_var_declarator};
+ghost use Rattle.es_site.specs.Sites.{sites_of, if_some};
+ghost use Rattle.es_site.specs.Sites.{sites_of_class_member, sites_of_decl, sites_of_expr, sites_of_module_decl, sites_of_module_item, sites_of_object_pat_prop, sites_of_pat, sites_of_prop, sites_of_stmt, sites_of_class, sites_of_function, sites_of_param, sites_of_switch_case, sites_of_ts_enum_member, sites_of_var_declarator};
 
 use crate::named::{export_all, import, import_call, import_equals, named_export};
-use crate::site::Site;
 use base::{Boxed, Items};
 use es_ast::{
     Class, ClassMember, Decl, Expr, Function, ModuleDecl, ModuleItem, ObjectPatProp, Param, Pat,
     Program, Prop, Stmt, SwitchCase, TsEnumMember, VarDeclarator,
 };
+use es_site::Site;
 use std::alloc::{AllocError, Global};
 
 /// The sites of a program, in the order of the text.
@@ -27,7 +27,7 @@ pub fn sites(alloc: Global, program: &Program) -> Result<Items<Site>, AllocError
     Ok(found)
 }
 
-#[tactic(auto, using(crate::proofs::Equations::module_item_ModuleDecl, crate::proofs::Equations::module_item_Stmt))]
+#[tactic(auto, using(es_site::proofs::Equations::module_item_ModuleDecl, es_site::proofs::Equations::module_item_Stmt))]
 #[cycle(walk)]
 fn walk_module_item(found: &mut Items<Site>, it: &ModuleItem) -> Result<(), AllocError>
     ensures { OnOk result (found.new ≡ found.old ++ sites_of_module_item it.now) }
@@ -44,7 +44,7 @@ fn walk_module_item(found: &mut Items<Site>, it: &ModuleItem) -> Result<(), Allo
     }
 }
 
-#[tactic(auto, using(crate::proofs::Equations::module_decl_Import, crate::proofs::Equations::module_decl_ExportDecl, crate::proofs::Equations::module_decl_ExportNamed, crate::proofs::Equations::module_decl_ExportDefaultDecl, crate::proofs::Equations::module_decl_ExportDefaultExpr, crate::proofs::Equations::module_decl_ExportAll, crate::proofs::Equations::module_decl_TsImportEquals, crate::proofs::Equations::module_decl_TsExportAssignment, crate::proofs::Equations::module_decl_TsNamespaceExport))]
+#[tactic(auto, using(es_site::proofs::Equations::module_decl_Import, es_site::proofs::Equations::module_decl_ExportDecl, es_site::proofs::Equations::module_decl_ExportNamed, es_site::proofs::Equations::module_decl_ExportDefaultDecl, es_site::proofs::Equations::module_decl_ExportDefaultExpr, es_site::proofs::Equations::module_decl_ExportAll, es_site::proofs::Equations::module_decl_TsImportEquals, es_site::proofs::Equations::module_decl_TsExportAssignment, es_site::proofs::Equations::module_decl_TsNamespaceExport))]
 #[cycle(walk)]
 fn walk_module_decl(found: &mut Items<Site>, it: &ModuleDecl) -> Result<(), AllocError>
     ensures { OnOk result (found.new ≡ found.old ++ sites_of_module_decl it.now) }
@@ -86,7 +86,7 @@ fn walk_module_decl(found: &mut Items<Site>, it: &ModuleDecl) -> Result<(), Allo
     }
 }
 
-#[tactic(auto, using(crate::proofs::Equations::stmt_Block, crate::proofs::Equations::stmt_Empty, crate::proofs::Equations::stmt_Debugger, crate::proofs::Equations::stmt_With, crate::proofs::Equations::stmt_Return, crate::proofs::Equations::stmt_Labeled, crate::proofs::Equations::stmt_Break, crate::proofs::Equations::stmt_Continue, crate::proofs::Equations::stmt_If, crate::proofs::Equations::stmt_Switch, crate::proofs::Equations::stmt_Throw, crate::proofs::Equations::stmt_Try, crate::proofs::Equations::stmt_While, crate::proofs::Equations::stmt_DoWhile, crate::proofs::Equations::stmt_For, crate::proofs::Equations::stmt_ForIn, crate::proofs::Equations::stmt_ForOf, crate::proofs::Equations::stmt_Decl, crate::proofs::Equations::stmt_Expr))]
+#[tactic(auto, using(es_site::proofs::Equations::stmt_Block, es_site::proofs::Equations::stmt_Empty, es_site::proofs::Equations::stmt_Debugger, es_site::proofs::Equations::stmt_With, es_site::proofs::Equations::stmt_Return, es_site::proofs::Equations::stmt_Labeled, es_site::proofs::Equations::stmt_Break, es_site::proofs::Equations::stmt_Continue, es_site::proofs::Equations::stmt_If, es_site::proofs::Equations::stmt_Switch, es_site::proofs::Equations::stmt_Throw, es_site::proofs::Equations::stmt_Try, es_site::proofs::Equations::stmt_While, es_site::proofs::Equations::stmt_DoWhile, es_site::proofs::Equations::stmt_For, es_site::proofs::Equations::stmt_ForIn, es_site::proofs::Equations::stmt_ForOf, es_site::proofs::Equations::stmt_Decl, es_site::proofs::Equations::stmt_Expr))]
 #[cycle(walk)]
 fn walk_stmt(found: &mut Items<Site>, it: &Stmt) -> Result<(), AllocError>
     ensures { OnOk result (found.new ≡ found.old ++ sites_of_stmt it.now) }
@@ -221,7 +221,7 @@ fn walk_stmt(found: &mut Items<Site>, it: &Stmt) -> Result<(), AllocError>
     }
 }
 
-#[tactic(auto, using(crate::proofs::Equations::decl_Class, crate::proofs::Equations::decl_Fn, crate::proofs::Equations::decl_Var, crate::proofs::Equations::decl_TsInterface, crate::proofs::Equations::decl_TsTypeAlias, crate::proofs::Equations::decl_TsEnum, crate::proofs::Equations::decl_TsNamespace, crate::proofs::Equations::decl_TsModule, crate::proofs::Equations::decl_TsGlobal))]
+#[tactic(auto, using(es_site::proofs::Equations::decl_Class, es_site::proofs::Equations::decl_Fn, es_site::proofs::Equations::decl_Var, es_site::proofs::Equations::decl_TsInterface, es_site::proofs::Equations::decl_TsTypeAlias, es_site::proofs::Equations::decl_TsEnum, es_site::proofs::Equations::decl_TsNamespace, es_site::proofs::Equations::decl_TsModule, es_site::proofs::Equations::decl_TsGlobal))]
 #[cycle(walk)]
 fn walk_decl(found: &mut Items<Site>, it: &Decl) -> Result<(), AllocError>
     ensures { OnOk result (found.new ≡ found.old ++ sites_of_decl it.now) }
@@ -308,7 +308,7 @@ fn walk_decl(found: &mut Items<Site>, it: &Decl) -> Result<(), AllocError>
     }
 }
 
-#[tactic(auto, using(crate::proofs::Equations::expr_This, crate::proofs::Equations::expr_Super, crate::proofs::Equations::expr_Ident, crate::proofs::Equations::expr_PrivateName, crate::proofs::Equations::expr_Lit, crate::proofs::Equations::expr_Hole, crate::proofs::Equations::expr_Array, crate::proofs::Equations::expr_Spread, crate::proofs::Equations::expr_Object, crate::proofs::Equations::expr_Fn, crate::proofs::Equations::expr_Class, crate::proofs::Equations::expr_Arrow, crate::proofs::Equations::expr_Paren, crate::proofs::Equations::expr_Unary, crate::proofs::Equations::expr_Update, crate::proofs::Equations::expr_Await, crate::proofs::Equations::expr_Yield, crate::proofs::Equations::expr_Bin, crate::proofs::Equations::expr_Assign, crate::proofs::Equations::expr_Cond, crate::proofs::Equations::expr_Seq, crate::proofs::Equations::expr_Member, crate::proofs::Equations::expr_Index, crate::proofs::Equations::expr_Call, crate::proofs::Equations::expr_New, crate::proofs::Equations::expr_ImportCall, crate::proofs::Equations::expr_ImportMeta, crate::proofs::Equations::expr_NewTarget, crate::proofs::Equations::expr_Tpl, crate::proofs::Equations::expr_TaggedTpl, crate::proofs::Equations::expr_TsNonNull, crate::proofs::Equations::expr_TsAs, crate::proofs::Equations::expr_TsConstAssertion, crate::proofs::Equations::expr_TsSatisfies))]
+#[tactic(auto, using(es_site::proofs::Equations::expr_This, es_site::proofs::Equations::expr_Super, es_site::proofs::Equations::expr_Ident, es_site::proofs::Equations::expr_PrivateName, es_site::proofs::Equations::expr_Lit, es_site::proofs::Equations::expr_Hole, es_site::proofs::Equations::expr_Array, es_site::proofs::Equations::expr_Spread, es_site::proofs::Equations::expr_Object, es_site::proofs::Equations::expr_Fn, es_site::proofs::Equations::expr_Class, es_site::proofs::Equations::expr_Arrow, es_site::proofs::Equations::expr_Paren, es_site::proofs::Equations::expr_Unary, es_site::proofs::Equations::expr_Update, es_site::proofs::Equations::expr_Await, es_site::proofs::Equations::expr_Yield, es_site::proofs::Equations::expr_Bin, es_site::proofs::Equations::expr_Assign, es_site::proofs::Equations::expr_Cond, es_site::proofs::Equations::expr_Seq, es_site::proofs::Equations::expr_Member, es_site::proofs::Equations::expr_Index, es_site::proofs::Equations::expr_Call, es_site::proofs::Equations::expr_New, es_site::proofs::Equations::expr_ImportCall, es_site::proofs::Equations::expr_ImportMeta, es_site::proofs::Equations::expr_NewTarget, es_site::proofs::Equations::expr_Tpl, es_site::proofs::Equations::expr_TaggedTpl, es_site::proofs::Equations::expr_TsNonNull, es_site::proofs::Equations::expr_TsAs, es_site::proofs::Equations::expr_TsConstAssertion, es_site::proofs::Equations::expr_TsSatisfies))]
 #[cycle(walk)]
 fn walk_expr(found: &mut Items<Site>, it: &Expr) -> Result<(), AllocError>
     ensures { OnOk result (found.new ≡ found.old ++ sites_of_expr it.now) }
@@ -506,7 +506,7 @@ fn walk_expr(found: &mut Items<Site>, it: &Expr) -> Result<(), AllocError>
     }
 }
 
-#[tactic(auto, using(crate::proofs::Equations::pat_Ident, crate::proofs::Equations::pat_This, crate::proofs::Equations::pat_Hole, crate::proofs::Equations::pat_Array, crate::proofs::Equations::pat_Object, crate::proofs::Equations::pat_Rest, crate::proofs::Equations::pat_Assign, crate::proofs::Equations::pat_Expr))]
+#[tactic(auto, using(es_site::proofs::Equations::pat_Ident, es_site::proofs::Equations::pat_This, es_site::proofs::Equations::pat_Hole, es_site::proofs::Equations::pat_Array, es_site::proofs::Equations::pat_Object, es_site::proofs::Equations::pat_Rest, es_site::proofs::Equations::pat_Assign, es_site::proofs::Equations::pat_Expr))]
 #[cycle(walk)]
 fn walk_pat(found: &mut Items<Site>, it: &Pat) -> Result<(), AllocError>
     ensures { OnOk result (found.new ≡ found.old ++ sites_of_pat it.now) }
@@ -564,7 +564,7 @@ fn walk_pat(found: &mut Items<Site>, it: &Pat) -> Result<(), AllocError>
     }
 }
 
-#[tactic(auto, using(crate::proofs::Equations::object_pat_prop_KeyValue, crate::proofs::Equations::object_pat_prop_Assign, crate::proofs::Equations::object_pat_prop_Rest))]
+#[tactic(auto, using(es_site::proofs::Equations::object_pat_prop_KeyValue, es_site::proofs::Equations::object_pat_prop_Assign, es_site::proofs::Equations::object_pat_prop_Rest))]
 #[cycle(walk)]
 fn walk_object_pat_prop(found: &mut Items<Site>, it: &ObjectPatProp) -> Result<(), AllocError>
     ensures { OnOk result (found.new ≡ found.old ++ sites_of_object_pat_prop it.now) }
@@ -595,7 +595,7 @@ fn walk_object_pat_prop(found: &mut Items<Site>, it: &ObjectPatProp) -> Result<(
     }
 }
 
-#[tactic(auto, using(crate::proofs::Equations::prop_Spread, crate::proofs::Equations::prop_Shorthand, crate::proofs::Equations::prop_KeyValue, crate::proofs::Equations::prop_Method))]
+#[tactic(auto, using(es_site::proofs::Equations::prop_Spread, es_site::proofs::Equations::prop_Shorthand, es_site::proofs::Equations::prop_KeyValue, es_site::proofs::Equations::prop_Method))]
 #[cycle(walk)]
 fn walk_prop(found: &mut Items<Site>, it: &Prop) -> Result<(), AllocError>
     ensures { OnOk result (found.new ≡ found.old ++ sites_of_prop it.now) }
@@ -630,7 +630,7 @@ fn walk_prop(found: &mut Items<Site>, it: &Prop) -> Result<(), AllocError>
     }
 }
 
-#[tactic(auto, using(crate::proofs::Equations::function_parts))]
+#[tactic(auto, using(es_site::proofs::Equations::function_parts))]
 #[cycle(walk)]
 fn walk_function(found: &mut Items<Site>, it: &Function) -> Result<(), AllocError>
     ensures { OnOk result (found.new ≡ found.old ++ sites_of_function it.now) }
@@ -640,7 +640,7 @@ fn walk_function(found: &mut Items<Site>, it: &Function) -> Result<(), AllocErro
     Ok(())
 }
 
-#[tactic(auto, using(crate::proofs::Equations::param_parts))]
+#[tactic(auto, using(es_site::proofs::Equations::param_parts))]
 #[cycle(walk)]
 fn walk_param(found: &mut Items<Site>, it: &Param) -> Result<(), AllocError>
     ensures { OnOk result (found.new ≡ found.old ++ sites_of_param it.now) }
@@ -649,7 +649,7 @@ fn walk_param(found: &mut Items<Site>, it: &Param) -> Result<(), AllocError>
     Ok(())
 }
 
-#[tactic(auto, using(crate::proofs::Equations::var_declarator_parts))]
+#[tactic(auto, using(es_site::proofs::Equations::var_declarator_parts))]
 #[cycle(walk)]
 fn walk_var_declarator(found: &mut Items<Site>, it: &VarDeclarator) -> Result<(), AllocError>
     ensures { OnOk result (found.new ≡ found.old ++ sites_of_var_declarator it.now) }
@@ -659,7 +659,7 @@ fn walk_var_declarator(found: &mut Items<Site>, it: &VarDeclarator) -> Result<()
     Ok(())
 }
 
-#[tactic(auto, using(crate::proofs::Equations::switch_case_parts))]
+#[tactic(auto, using(es_site::proofs::Equations::switch_case_parts))]
 #[cycle(walk)]
 fn walk_switch_case(found: &mut Items<Site>, it: &SwitchCase) -> Result<(), AllocError>
     ensures { OnOk result (found.new ≡ found.old ++ sites_of_switch_case it.now) }
@@ -669,7 +669,7 @@ fn walk_switch_case(found: &mut Items<Site>, it: &SwitchCase) -> Result<(), Allo
     Ok(())
 }
 
-#[tactic(auto, using(crate::proofs::Equations::ts_enum_member_parts))]
+#[tactic(auto, using(es_site::proofs::Equations::ts_enum_member_parts))]
 #[cycle(walk)]
 fn walk_ts_enum_member(found: &mut Items<Site>, it: &TsEnumMember) -> Result<(), AllocError>
     ensures { OnOk result (found.new ≡ found.old ++ sites_of_ts_enum_member it.now) }
@@ -679,7 +679,7 @@ fn walk_ts_enum_member(found: &mut Items<Site>, it: &TsEnumMember) -> Result<(),
     Ok(())
 }
 
-#[tactic(auto, using(crate::proofs::Equations::class_parts))]
+#[tactic(auto, using(es_site::proofs::Equations::class_parts))]
 #[cycle(walk)]
 fn walk_class(found: &mut Items<Site>, it: &Class) -> Result<(), AllocError>
     ensures { OnOk result (found.new ≡ found.old ++ sites_of_class it.now) }
@@ -689,7 +689,7 @@ fn walk_class(found: &mut Items<Site>, it: &Class) -> Result<(), AllocError>
     Ok(())
 }
 
-#[tactic(auto, using(crate::proofs::Equations::class_member_Empty, crate::proofs::Equations::class_member_StaticBlock, crate::proofs::Equations::class_member_TsIndexSignature, crate::proofs::Equations::class_member_Method, crate::proofs::Equations::class_member_Prop))]
+#[tactic(auto, using(es_site::proofs::Equations::class_member_Empty, es_site::proofs::Equations::class_member_StaticBlock, es_site::proofs::Equations::class_member_TsIndexSignature, es_site::proofs::Equations::class_member_Method, es_site::proofs::Equations::class_member_Prop))]
 #[cycle(walk)]
 fn walk_class_member(found: &mut Items<Site>, it: &ClassMember) -> Result<(), AllocError>
     ensures { OnOk result (found.new ≡ found.old ++ sites_of_class_member it.now) }

@@ -2,7 +2,7 @@
 use Rattle.std.proofs.Common.{◌≡◌, ◌∙◌, refl, sym, ap, ℕ, ◌+◌, ◌<◌, Bool, true, false, ◌&&◌, nat_le, List, [], ◌∷◌, ◌++◌, length, take, drop, get_or, arith, length-append, append-nil}
 use Rattle.std.proofs.lemmas.List.{take_more}
 use Rattle.std.proofs.lemmas.Grind.{flat_map-append}
-use Rattle.es_walk.specs.declared.site.Site.{Site}
+use Rattle.es_site.specs.declared.site.Site.{Site}
 use Rattle.graph_c.specs.declared.answer.SourceSite.{SourceSite}
 use Rattle.graph_c.specs.declared.finding.Finding.{Finding}
 use Rattle.graph_c.specs.Answer.{record_of, records_from, values_of, found_in, fault_of, place_of, status_of, fits, after, TellsFinding}

@@ -3,9 +3,9 @@ use Rattle.std.specs.Prelude.{◌≡◌, ℕ, ◌+◌, Bool, true, false, ◌&&�
 use Rattle.std.specs.List.{flat_map}
 use Rattle.es_lexer.specs.declared.error.LexicalKind.{LexicalKind}
 use Rattle.es_lexer.specs.declared.error.LexicalKind.TheVariants.{UnterminatedString, UnterminatedComment, UnterminatedTemplate, UnterminatedRegExp, InvalidEscape, InvalidChar, Unbalanced}
-use Rattle.es_walk.specs.declared.site.Site.{Site}
-use Rattle.es_walk.specs.declared.site.DependencyKind.{DependencyKind}
-use Rattle.es_walk.specs.declared.site.DependencyKind.TheVariants.{Import, Export, ImportEquals, Dynamic, ReferencePath, ReferenceTypes, Wasm, Referrer}
+use Rattle.es_site.specs.declared.site.Site.{Site}
+use Rattle.es_site.specs.declared.site.DependencyKind.{DependencyKind}
+use Rattle.es_site.specs.declared.site.DependencyKind.TheVariants.{Import, Export, ImportEquals, Dynamic, ReferencePath, ReferenceTypes, Wasm, Referrer}
 use Rattle.graph_c.specs.declared.answer.SourceSite.{SourceSite}
 use Rattle.graph_c.specs.declared.answer.Answer.{Answer}
 use Rattle.graph_c.specs.declared.finding.Finding.{Finding}

@@ -5,9 +5,9 @@ use Rattle.es_lexer.specs.declared.error.LexicalKind.{LexicalKind}
 use Rattle.es_lexer.specs.Reads.{ReadsTokens}
 use Rattle.es_lexer.specs.Stops.{Stops}
 use Rattle.es_ast.specs.declared.ast.Program.{Program}
-use Rattle.es_walk.specs.Sites.{sites_of}
+use Rattle.es_site.specs.Sites.{sites_of}
 use Rattle.module_text.specs.ModuleText.{without_mark}
-use Rattle.deno_ast.specs.Tree.{IsTree}
+use Rattle.source_sites.specs.Tree.{IsTree}
 use Rattle.media_type.specs.declared.media_type.MediaType.{MediaType}
 use Rattle.media_type.specs.declared.media_type.ModuleKind.{ModuleKind}
 use Rattle.media_type.specs.declared.media_type.ModuleKind.TheVariants.{Source}

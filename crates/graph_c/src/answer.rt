@@ -5,7 +5,7 @@ ghost use Rattle.graph_c.specs.Answer.{AnswersSites, TellsFinding, fits, found_i
 use crate::finding::{Finding, finding_of};
 use crate::room::put;
 use es_lexer::LexicalKind;
-use es_walk::{DependencyKind, Site};
+use es_site::{DependencyKind, Site};
 use std::alloc::{AllocError, Global};
 
 /// A place where a source names another module. Places are bytes from 0, and an end is the byte behind.

@@ -6,11 +6,12 @@ ghost use Rattle.media_type.specs.MediaType.{kind_of};
 
 use crate::media_types::media_type_at;
 use base::Items;
-use deno_ast::{tree_of, without_mark};
 use es_lexer::{LexError, LexicalError, Token, lex_tokens};
+use es_site::Site;
 use es_tree::SyntaxError;
-use es_walk::{Site, sites};
 use media_type::{MediaType, ModuleKind};
+use module_text::without_mark;
+use source_sites::token_sites;
 use std::alloc::{AllocError, Global};
 use std::str;
 
@@ -95,8 +96,8 @@ fn of_tokens(
     requires { ReadsTokens text.now tokens.now }
     ensures { IfOk result (OfTokens media_type text.now tokens.now) }
 {
-    match tree_of(alloc, media_type, text, tokens) {
-        Ok(program) => Ok(Finding::Found(sites(alloc, &program)?)),
+    match token_sites(alloc, media_type, text, tokens) {
+        Ok(found) => Ok(Finding::Found(found)),
         Err(SyntaxError::Syntax { token }) => Ok(Finding::Syntax(start_of(text, tokens, token))),
         Err(SyntaxError::OutOfMemory) => Err(AllocError),
     }

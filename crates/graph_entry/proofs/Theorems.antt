@@ -1,9 +1,9 @@
 -- The laws of an analysis that other crates name.
 use Rattle.std.proofs.Common.{◌≡◌, List, ℕ, subst, sym}
 use Rattle.std.specs.Prelude.{All, Option}
-use Rattle.es_walk.specs.declared.site.Site.{Site}
-use Rattle.deno_ast.specs.Cuts.{Cuts}
-use Rattle.deno_ast.proofs.Theorems.{sites_cut}
+use Rattle.es_site.specs.declared.site.Site.{Site}
+use Rattle.source_sites.specs.Cuts.{Cuts}
+use Rattle.source_sites.proofs.Theorems.{sites_cut}
 use Rattle.graph_entry.specs.declared.answer.LoadAnswer.{LoadAnswer}
 use Rattle.graph_entry.specs.declared.entry.Entry.{Entry}
 use Rattle.graph_entry.specs.Entry.{CutsFrom, CutsName, EachEdge, EdgesCut, KeepsReasonOf, KeepsFault}

@@ -2,7 +2,7 @@
 use Rattle.std.specs.Prelude.{◌≡◌, ℕ, Bool, true, false, List, map, codes, Option, Some, None, MatchOption, Result, Ok, Err, IsUtf8}
 use Rattle.url.specs.Parts.{Parts}
 use Rattle.url.specs.Parser.{Parsed, parse_url}
-use Rattle.es_walk.specs.declared.site.Site.{Site}
+use Rattle.es_site.specs.declared.site.Site.{Site}
 use Rattle.graph_entry.specs.declared.answer.LoadAnswer.{LoadAnswer}
 use Rattle.graph_entry.specs.declared.answer.LoadAnswer.TheVariants as answer
 use Rattle.graph_entry.specs.declared.entry.Dependency.{Dependency}

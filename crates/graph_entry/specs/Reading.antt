@@ -1,12 +1,12 @@
 -- What the reading of a source is: its sites, or what is wrong with it.
 use Rattle.std.specs.Prelude.{◌≡◌, ℕ, List, All, Option, Result, Ok, Err}
 use Rattle.base.specs.declared.range.Range.{Range}
-use Rattle.es_walk.specs.declared.site.Site.{Site}
+use Rattle.es_site.specs.declared.site.Site.{Site}
 use Rattle.media_type.specs.declared.media_type.MediaType.{MediaType}
 use Rattle.parse_diagnostic.specs.declared.kind.SyntaxErrorKind.{SyntaxErrorKind}
 use Rattle.parse_diagnostic.specs.Diagnosis.{Diagnosis}
-use Rattle.deno_ast.specs.Read.{HasSites, IsFaulty}
-use Rattle.deno_ast.specs.Cuts.{Cuts}
+use Rattle.source_sites.specs.Read.{HasSites, IsFaulty}
+use Rattle.source_sites.specs.Cuts.{Cuts}
 use Rattle.graph_entry.specs.declared.analyzer.ModuleInfo.{ModuleInfo}
 use Rattle.graph_entry.specs.declared.analyzer.AnalyzeFault.{AnalyzeFault}
 use Rattle.graph_entry.specs.declared.analyzer.AnalyzeFault.TheVariants.{Parse, OutOfMemory}

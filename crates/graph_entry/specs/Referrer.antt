@@ -2,8 +2,8 @@
 use Rattle.std.specs.Prelude.{◌≡◌, ℕ, false, List, ◌++◌, map, None, option_to_list}
 use Rattle.std.specs.List.{flat_map}
 use Rattle.url.specs.Parts.{Parts}
-use Rattle.es_walk.specs.declared.site.DependencyKind.TheVariants.{Referrer}
-use Rattle.es_walk.specs.declared.site.Attribute.TheVariants.{Unknown}
+use Rattle.es_site.specs.declared.site.DependencyKind.TheVariants.{Referrer}
+use Rattle.es_site.specs.declared.site.Attribute.TheVariants.{Unknown}
 use Rattle.graph_entry.specs.declared.entry.Dependency.{Dependency}
 use Rattle.graph_entry.specs.declared.referrer.ReferrerImports.{ReferrerImports}
 use Rattle.graph_entry.specs.Specifier.{text_of}

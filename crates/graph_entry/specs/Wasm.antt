@@ -1,7 +1,7 @@
 -- What content makes that is read as a WebAssembly module (WebAssembly Core, "Modules"). The types of its exports are left unread.
 use Rattle.std.specs.Prelude.{◌≡◌, ◌≢◌, ℕ, true, false, List, map, Some, Ok, Err}
-use Rattle.es_walk.specs.declared.site.DependencyKind.TheVariants as dependency_kind
-use Rattle.es_walk.specs.declared.site.Attribute.TheVariants.{Absent}
+use Rattle.es_site.specs.declared.site.DependencyKind.TheVariants as dependency_kind
+use Rattle.es_site.specs.declared.site.Attribute.TheVariants.{Absent}
 use Rattle.wasm_dep_analyzer.specs.declared.error.ParseError.{ParseError}
 use Rattle.wasm_dep_analyzer.specs.declared.error.ParseError.TheVariants.{OutOfMemory}
 use Rattle.wasm_dep_analyzer.specs.Imports.{Imported}

@@ -18,8 +18,9 @@ use crate::resolution::{ReadAgain, read_again, resolve_from};
 use crate::resolver::{DefaultResolver, Resolver};
 use crate::wasm::analyse_wasm;
 use base::{Items, SharedBytes};
-use deno_ast::{Site, SourceText};
+use es_site::Site;
 use media_type::{MediaType, ModuleKind};
+use source_text::SourceText;
 use std::alloc::{AllocError, Global};
 use url::Url;
 

@@ -1,15 +1,17 @@
 //! What reads sources: the parser, or a caller's own.
-ghost use Rattle.std.specs.Prelude.{◌≡◌, List, ℕ, IfOk};
+ghost use Rattle.std.specs.Prelude.{List, ℕ};
 ghost use Rattle.media_type.specs.declared.media_type.MediaType.{MediaType as Media};
-ghost use Rattle.deno_ast.specs.Parsed.{parsed_sites};
 ghost use Rattle.graph_entry.specs.Specifier.{text_of};
 ghost use Rattle.graph_entry.specs.Reading.{Sites, ReadsSource, IsAnalysis, IsFunction};
 ghost use Rattle.graph_entry.specs.ReadingLaws.{reads_once};
 
 use base::Items;
-use deno_ast::{ParseDiagnostic, ParseFault, ParsedSource, Site, SourceText, read_sites};
+use es_site::Site;
 use media_type::MediaType;
-use std::alloc::{AllocError, Global};
+use parse_diagnostic::{ParseDiagnostic, ParseFault};
+use source_sites::read_sites;
+use source_text::SourceText;
+use std::alloc::Global;
 use url::Url;
 
 /// What a source names.
@@ -44,7 +46,7 @@ pub trait ModuleAnalyzer {
     ghost once: { (analyzer : Self) → IsFunction (reads analyzer) };
 }
 
-/// Reads by `read_sites` of `deno_ast`.
+/// Reads by `read_sites` of `source_sites`: no typed tree is built.
 #[derive(Clone, Copy, Drop)]
 pub struct ParserModuleAnalyzer;
 
@@ -62,20 +64,6 @@ impl ModuleAnalyzer for ParserModuleAnalyzer {
     }
 
     ghost once = { λ _. reads_once };
-}
-
-impl ParserModuleAnalyzer {
-    /// What a source that was parsed names.
-    pub fn module_info(
-        &self,
-        alloc: Global,
-        parsed: &ParsedSource,
-    ) -> Result<ModuleInfo, AllocError>
-        ensures { IfOk result (λ info. info.sites ≡ parsed_sites parsed.now) }
-    {
-        let sites = parsed.sites(alloc)?;
-        Ok(ModuleInfo { sites })
-    }
 }
 
 // By the text alone.

@@ -4,7 +4,7 @@ ghost use Rattle.graph_entry.specs.Json.{no_utf8, OfJson};
 
 use crate::entry::{Entry, JsonModule, Module, ModuleError};
 use base::SharedBytes;
-use deno_ast::SourceText;
+use source_text::SourceText;
 
 /// The module of a text of JSON, or that the bytes are no text.
 pub fn analyse_json(bytes: SharedBytes) -> Entry

@@ -31,21 +31,20 @@ mod specifier;
 mod unasked;
 mod wasm;
 
-pub use crate::analysis::{analyse, analyse_by};
+pub use crate::analysis::{analyse, analyse_by, module_at};
 pub use crate::analyzer::{AnalyzeFault, ModuleAnalyzer, ModuleInfo, ParserModuleAnalyzer};
 pub use crate::answer::LoadAnswer;
 pub use crate::entry::{Dependency, Entry, JsModule, JsonModule, Module, ModuleError, WasmModule};
 pub use crate::headers::Headers;
 pub use crate::kind::GraphKind;
-pub use crate::parse::{
-    ParseModuleFromAstOptions, ParseModuleOptions, parse_module, parse_module_from_ast,
-};
+pub use crate::parse::{ParseModuleOptions, parse_module};
 pub use crate::referrer::{ReferrerImports, referred, referred_by, starts_by, starts_of};
 pub use crate::resolution::{ResolutionError, Resolved, resolve, resolve_by};
 pub use crate::resolver::{DefaultResolver, ResolveFault, Resolver};
 pub use crate::specifier::is_loadable;
 pub use crate::unasked::{analyse_unasked, analyse_unasked_by};
 pub use data_specifier::DataError;
-pub use deno_ast::{Attribute, DependencyKind, ParseDiagnostic, SyntaxErrorKind};
+pub use es_site::{Attribute, DependencyKind};
 pub use media_type::{MediaType, ModuleKind};
 pub use package_ref::{PackageKind, PackageRef};
+pub use parse_diagnostic::{ParseDiagnostic, SyntaxErrorKind};

@@ -1,21 +1,17 @@
 //! Modules of what is at hand, without a loader.
 ghost use Rattle.std.specs.Prelude.{◌≡◌, IfOk, option_map};
-ghost use Rattle.deno_ast.specs.Parsed.{parsed_sites};
 ghost use Rattle.graph_entry.specs.Specifier.{text_of};
 ghost use Rattle.graph_entry.specs.Headers.{headers_of, headers_or_none};
 ghost use Rattle.graph_entry.specs.Resolver.{resolving_or};
-ghost use Rattle.graph_entry.specs.Resolution.{resolve_by};
 ghost use Rattle.graph_entry.specs.Ways.{ways_by};
 ghost use Rattle.graph_entry.specs.Analysed.{OfContent, IsParsed, media_type_at};
-ghost use Rattle.graph_entry.specs.Analysed as spec;
 
-use crate::analysis::{analyse_content, module_at};
-use crate::analyzer::{ModuleAnalyzer, ParserModuleAnalyzer};
-use crate::entry::{Entry, JsModule, Module, ModuleError};
+use crate::analysis::analyse_content;
+use crate::analyzer::ModuleAnalyzer;
+use crate::entry::{Entry, Module, ModuleError};
 use crate::headers::Headers;
 use crate::resolver::{DefaultResolver, Resolver};
 use base::SharedBytes;
-use deno_ast::ParsedSource;
 use std::alloc::{AllocError, Global};
 use std::collections::BTreeMap;
 use url::Url;
@@ -96,42 +92,5 @@ fn parse_by<R: Resolver, M: ModuleAnalyzer>(
         // Content makes modules and errors alone.
         Ok(Entry::Redirect(_) | Entry::Package(_) | Entry::External) => unreachable!(),
         Err(_) => Err(ModuleError::OutOfMemory),
-    }
-}
-
-/// A source that was parsed, at a specifier.
-pub struct ParseModuleFromAstOptions<'a, R: Resolver> {
-    pub specifier: Url,
-    pub parsed_source: &'a ParsedSource,
-    pub maybe_resolver: Option<&'a R>,
-}
-
-/// The module of a source that was parsed: its text, and one edge for each of its sites, in order.
-pub fn parse_module_from_ast<R: Resolver>(
-    alloc: Global,
-    options: ParseModuleFromAstOptions<'_, R>,
-) -> Result<JsModule, AllocError>
-    ensures { IfOk result (λ m. m ≡ spec.js_module
-        (resolve_by (resolving_or (λ r. R.resolving r.now) options.entry.maybe_resolver)) (text_of options.entry.specifier)
-        options.entry.parsed_source.now.media_type options.entry.parsed_source.now.text (parsed_sites options.entry.parsed_source.now)) }
-{
-    let ParseModuleFromAstOptions {
-        specifier,
-        parsed_source,
-        maybe_resolver,
-    } = options;
-    let info = ParserModuleAnalyzer.module_info(alloc, parsed_source)?;
-    let media_type = parsed_source.media_type();
-    let text = parsed_source.text().copy()?;
-    match maybe_resolver {
-        Some(resolver) => module_at(alloc, resolver, &specifier, media_type, text, info.sites),
-        None => module_at(
-            alloc,
-            &DefaultResolver,
-            &specifier,
-            media_type,
-            text,
-            info.sites,
-        ),
     }
 }

@@ -9,7 +9,7 @@ use crate::entry::Dependency;
 use crate::resolution::resolve_by;
 use crate::resolver::{DefaultResolver, Resolver};
 use base::{Items, Text};
-use es_walk::{Attribute, DependencyKind};
+use es_site::{Attribute, DependencyKind};
 use std::alloc::{AllocError, Global};
 use url::Url;
 

@@ -11,7 +11,7 @@ use crate::entry::{Dependency, Entry, Module, ModuleError, WasmModule};
 use crate::resolution::{ReadAgain, resolve_from};
 use crate::resolver::Resolver;
 use base::{Items, SharedBytes, Text};
-use es_walk::{Attribute, DependencyKind};
+use es_site::{Attribute, DependencyKind};
 use std::alloc::{AllocError, Global};
 use url::Url;
 use wasm_dep_analyzer::{Import, ParseError, ParseOptions, WasmDeps};

@@ -4,10 +4,10 @@ use Rattle.std.specs.List.{flat_map}
 use Rattle.json.specs.Print.{quoted}
 use Rattle.base.specs.declared.range.Range.{Range}
 use Rattle.url.specs.Parts.{Parts}
-use Rattle.es_walk.specs.declared.site.DependencyKind.{DependencyKind}
-use Rattle.es_walk.specs.declared.site.DependencyKind.TheVariants.{Import, Export, ImportEquals, Dynamic, ReferencePath, ReferenceTypes, Wasm, Referrer}
-use Rattle.es_walk.specs.declared.site.Attribute.{Attribute}
-use Rattle.es_walk.specs.declared.site.Attribute.TheVariants.{Absent, Named, Unknown}
+use Rattle.es_site.specs.declared.site.DependencyKind.{DependencyKind}
+use Rattle.es_site.specs.declared.site.DependencyKind.TheVariants.{Import, Export, ImportEquals, Dynamic, ReferencePath, ReferenceTypes, Wasm, Referrer}
+use Rattle.es_site.specs.declared.site.Attribute.{Attribute}
+use Rattle.es_site.specs.declared.site.Attribute.TheVariants.{Absent, Named, Unknown}
 use Rattle.package_ref.specs.declared.reference.PackageRef.{PackageRef}
 use Rattle.package_ref.specs.declared.reference.PackageKind.{PackageKind}
 use Rattle.package_ref.specs.declared.reference.PackageKind.TheVariants.{Npm, Jsr}

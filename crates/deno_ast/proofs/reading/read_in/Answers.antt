@@ -1,16 +1,20 @@
 use Rattle.std.proofs.Common.{ap, subst, List, ℕ, Err}
+use Rattle.url.specs.Parts.{serialize}
 use Rattle.es_lexer.specs.Stops.{Stops}
-use Rattle.deno_ast.specs.Steps.{modes_in}
-use Rattle.deno_ast.proofs.FaultLemmas.{Refuses-weaker, lexical_refusal}
+use Rattle.source_sites.specs.Modes.{modes_in}
+use Rattle.source_sites.proofs.FaultLemmas.{Refuses-weaker, lexical_refusal}
+use Rattle.deno_ast.specs.Source.{lang_for}
 use Rattle.deno_ast.proofs.reading.read_in.Goals as goal
 
 -- the fault that was found
 pub returns-in-Err-clause-refused : goal.returns-in-Err-clause-refused
 returns-in-Err-clause-refused c =
+    let params = c.args.params.now in
     Refuses-weaker _ _
     (λ d told.
     let fault = told.0 in
     let stops = subst (λ (t : List ℕ). Stops t fault.kind fault.at) c.as_str.ensures
     (c.in-Err.ensures.stopped fault (ap Err told.1)) in
-    lexical_refusal (modes_in c.args.modes) c.args.params.now d fault stops told.2)
+    lexical_refusal (serialize params.specifier) (lang_for params) (modes_in c.args.modes) params.text d fault stops
+    told.2)
     c.lexical_fault.result c.lexical_fault.ensures

@@ -1,12 +1,13 @@
 use Rattle.std.proofs.Common.{sym, subst, List, Err}
+use Rattle.url.specs.Parts.{serialize}
 use Rattle.es_token.specs.declared.token.Token.{Token}
 use Rattle.es_tree.specs.declared.error.SyntaxError.{SyntaxError}
 use Rattle.es_ast.specs.declared.ast.Program.{Program as Typed}
 use Rattle.es_parser.specs.Answers.{GivesTree}
-use Rattle.deno_ast.specs.Tree.{IsFirstTree}
+use Rattle.source_sites.specs.Tree.{IsFirstTree}
 use Rattle.deno_ast.specs.Source.{lang_for}
-use Rattle.deno_ast.specs.Steps.{modes_in}
-use Rattle.deno_ast.proofs.FaultLemmas.{Refuses-weaker, syntax_refusal}
+use Rattle.source_sites.specs.Modes.{modes_in}
+use Rattle.source_sites.proofs.FaultLemmas.{Refuses-weaker, syntax_refusal}
 use Rattle.deno_ast.proofs.reading.read_tokens.Goals as goal
 
 -- a refusal says that the tokens have no tree
@@ -20,6 +21,6 @@ returns-in-Err-Syntax-clause-refused c =
     (subst (λ (ts : List Token). IsFirstTree (lang_for params) params.text ts modes tree) (sym c.as_slice.ensures)
     is)) in
     Refuses-weaker _ _
-    (λ d same. syntax_refusal modes params d c.range_at-range.result c.args.lexed.tokens
-    (c.args.lexed.comments, c.requires) none same)
-    c.fault_at.result c.fault_at.ensures
+    (λ d told. syntax_refusal (serialize params.specifier) (lang_for params) modes params.text d told.0
+    c.args.lexed.tokens (c.args.lexed.comments, c.requires) none told.1)
+    c.syntax_fault.result c.syntax_fault.ensures

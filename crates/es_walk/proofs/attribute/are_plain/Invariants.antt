@@ -1,5 +1,5 @@
 use Rattle.std.proofs.Common.{◌≡◌, take}
-use Rattle.es_walk.specs.Attributes.{are_plain}
+use Rattle.es_site.specs.Attributes.{are_plain}
 use Rattle.es_walk.proofs.attribute.are_plain.Given as goal
 
 abbrev pub invariant-loop-prop : goal.invariant-loop-prop

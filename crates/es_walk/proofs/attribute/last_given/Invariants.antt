@@ -1,6 +1,6 @@
 use Rattle.std.proofs.Common.{◌≡◌, take}
 use Rattle.std.specs.Option.{option_copied}
-use Rattle.es_walk.specs.Attributes.{last_given}
+use Rattle.es_site.specs.Attributes.{last_given}
 use Rattle.es_walk.proofs.attribute.last_given.Given as goal
 
 abbrev pub invariant-loop-prop : goal.invariant-loop-prop

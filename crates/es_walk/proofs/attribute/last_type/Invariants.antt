@@ -1,6 +1,6 @@
 use Rattle.std.proofs.Common.{◌≡◌, take}
 use Rattle.std.specs.Option.{option_copied}
-use Rattle.es_walk.specs.Attributes.{last_type}
+use Rattle.es_site.specs.Attributes.{last_type}
 use Rattle.es_walk.proofs.attribute.last_type.Given as goal
 
 abbrev pub invariant-loop-item : goal.invariant-loop-item

@@ -1,4 +1,4 @@
-use Rattle.es_walk.proofs.Equations.{stmt_If, stmt_Try}
+use Rattle.es_site.proofs.Equations.{stmt_If, stmt_Try}
 use Rattle.es_walk.proofs.walk.+walk.Goals as goal
 
 pub walk_stmt-returns-in_ok-walk_stmt_if-in-If : goal.walk_stmt-returns-in_ok-walk_stmt_if-in-If

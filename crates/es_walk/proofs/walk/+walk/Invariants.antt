@@ -1,6 +1,6 @@
 use Rattle.std.proofs.Common.{◌≡◌, ◌++◌, take}
 use Rattle.std.specs.List.{flat_map}
-use Rattle.es_walk.specs.Sites.{sites_of_class_member, sites_of_expr, sites_of_module_item, sites_of_object_pat_prop, sites_of_pat, sites_of_prop, sites_of_stmt, sites_of_param, sites_of_switch_case, sites_of_ts_enum_member, sites_of_var_declarator}
+use Rattle.es_site.specs.Sites.{sites_of_class_member, sites_of_expr, sites_of_module_item, sites_of_object_pat_prop, sites_of_pat, sites_of_prop, sites_of_stmt, sites_of_param, sites_of_switch_case, sites_of_ts_enum_member, sites_of_var_declarator}
 use Rattle.es_walk.proofs.walk.+walk.Given as goal
 
 abbrev pub invariant-walk_class_members-loop-it : goal.invariant-walk_class_members-loop-it

@@ -1,6 +1,6 @@
 use Rattle.std.proofs.Common.{refl, ap, subst, List, ℕ, Err}
 use Rattle.url.specs.Parts.{serialize}
-use Rattle.deno_ast.specs.Source.{IsFaultAt, Refuses}
+use Rattle.source_sites.specs.Fault.{IsFaultAt, Refuses}
 use Rattle.graph_entry.specs.Specifier.{text_of}
 use Rattle.graph_entry.specs.Reading.{diagnosis_at, with_sites, no_program}
 use Rattle.graph_entry.proofs.analyzer.read_source.Goals as goal

@@ -1,6 +1,0 @@
-use Rattle.std.proofs.Common.{◌≡◌, ◌++◌}
-use Rattle.deno_ast.proofs.source.with_sites.Given as goal
-
--- those found, and the others so far
-abbrev pub invariant-loop-site : goal.invariant-loop-site
-invariant-loop-site l = l.all ≡ l.fn.found ++ l.yielded

@@ -1,0 +1,33 @@
+-- The sites of a derived tree are those of its plain tree.
+use Rattle.std.specs.Prelude.{List}
+use Rattle.std.proofs.Common.{◌≡◌, ℕ, ap, ◌∙◌}
+use Rattle.es_token.specs.declared.token.Token.{Token}
+use Rattle.es_tree.specs.declared.error.Lang.{Lang}
+use Rattle.es_tree.specs.declared.error.Mode.{Mode}
+use Rattle.es_tree.specs.Key.{keys_of}
+use Rattle.es_tree.specs.Plain.{Plain}
+use Rattle.es_ast.specs.declared.ast.Program.{Program}
+use Rattle.es_whole_grammar.specs.declared.rows.Label.{Label}
+use Rattle.es_whole_grammar.specs.Conditions.{IsProgram}
+use Rattle.es_whole_grammar.proofs.Theorems.{one_program}
+use Rattle.es_whole_tree.specs.Slim.{tree_of}
+use Rattle.es_site.specs.Sites.{sites_of}
+use Rattle.es_derives.specs.Derives.{Derives}
+use Rattle.es_plain_sites.specs.Own.{plain_sites}
+use Rattle.es_plain_sites.proofs.Build.{build_is}
+use Rattle.es_plain_sites.proofs.Kept.{sites_are}
+
+-- the sites of a derived tree are those of its plain tree
+pub derived_sites : (lang : Lang) (mode : Mode) (x : List ℕ) (ts : List Token) (tree : Program)
+    (derived : Derives lang mode x ts tree)
+    → sites_of tree ≡ plain_sites x ts (tree_of derived.plain)
+derived_sites lang mode x ts tree derived = sites_are x ts (build_is x ts) lang mode tree derived
+
+-- so the sites are told from the one plain tree of the tokens, whatever typed tree is derived from them
+pub program_sites : (lang : Lang) (mode : Mode) (x : List ℕ) (ts : List Token) (plain : Plain Label) (tree : Program)
+    → IsProgram lang mode (keys_of ts) plain → Derives lang mode x ts tree
+    → sites_of tree ≡ plain_sites x ts (tree_of plain)
+program_sites lang mode x ts plain tree program derived =
+    derived_sites lang mode x ts tree derived
+    ∙ ap (λ p. plain_sites x ts (tree_of p))
+    (one_program lang mode (keys_of ts) derived.plain plain derived.program program)

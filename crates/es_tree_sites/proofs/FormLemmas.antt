@@ -1,0 +1,104 @@
+-- What a walk adds for forms of their own.
+use Rattle.std.specs.Prelude.{ℕ, true, false, List, [], ◌∷◌, ◌++◌, map, if◌then◌else◌}
+use Rattle.std.proofs.Common.{◌≡◌, refl, sym, ap, ◌∙◌}
+use Rattle.std.proofs.lemmas.List.{append-nil, append_assoc}
+use Rattle.es_token.specs.declared.token.Token.{Token}
+use Rattle.es_whole_grammar.specs.declared.rows.Label.{Label}
+use Rattle.es_whole_tree.specs.declared.tree.Tree.{Tree}
+use Rattle.es_whole_tree.specs.declared.tree.Tree.TheVariants as vTree
+use Rattle.es_site.specs.Sites.{Found}
+use Rattle.es_plain_sites.specs.Part.{Part, absent, nil, more, token, node, part, group, is_there, at, packed, as_target}
+use Rattle.es_plain_sites.specs.Own.{part_of, first_of, returned, typed_args}
+use Rattle.es_plain_sites.proofs.Equations.{part_leaf, part_node, part_role, part_parts}
+use Rattle.es_tree_sites.specs.Parts.{parts_of}
+use Rattle.es_tree_sites.specs.Steps.{has_second, is_token, handlers_in}
+
+three : (old a b c : Found) → old ++ (a ++ b ++ c) ≡ ((old ++ a) ++ b) ++ c
+three old a b c = sym (append_assoc old (a ++ b) c) ∙ ap (λ s. s ++ c) (sym (append_assoc old a b))
+
+module _ (x : List ℕ) (ts : List Token) where
+  -- ---- a token
+  token_target : (v : Part) → is_token (as_target v) ≡ false
+  unfolding is_token
+  token_target absent = refl
+  token_target nil = refl
+  token_target (more v vs) = refl
+  token_target (token n) = refl
+  token_target (node label p s) = refl
+
+  token_packed : (vs : List Part) → is_token (packed vs) ≡ false
+  unfolding is_token
+  token_packed [] = refl
+  token_packed (v ∷ vs) = refl
+
+  pub token_leaf : (at : ℕ) → is_token (part_of x ts (vTree.Leaf at)) ≡ true
+  unfolding is_token
+  token_leaf at = ap is_token (part_leaf x ts at)
+
+  pub token_node : (label : Label) (from to : ℕ) (parts : List Tree)
+      → is_token (part_of x ts (vTree.Node label from to parts)) ≡ false
+  unfolding is_token
+  token_node label from to parts = ap is_token (part_node x ts label from to parts)
+
+  pub token_role : (label : Label) (tree : Tree) → is_token (part_of x ts (vTree.Role label tree)) ≡ false
+  token_role label tree = ap is_token (part_role x ts label tree) ∙ token_target (part_of x ts tree)
+
+  pub token_parts : (parts : List Tree) → is_token (part_of x ts (vTree.Parts parts)) ≡ false
+  token_parts parts = ap is_token (part_parts x ts parts) ∙ token_packed (map (part_of x ts) parts)
+
+  -- ---- what is added
+  pub args_if : (old : Found) (g : Part)
+      → old ++ typed_args x ts g ≡ (if is_token (part g 0) then old else old ++ at g 1)
+  unfolding is_token
+  args_if old absent = refl
+  args_if old nil = refl
+  args_if old (more absent vs) = refl
+  args_if old (more nil vs) = refl
+  args_if old (more (more v ws) vs) = refl
+  args_if old (more (token n) vs) = append-nil old
+  args_if old (more (node label p s) vs) = refl
+  args_if old (token n) = refl
+  args_if old (node label p s) = refl
+
+  pub head_if : (old others : Found) (a : Part)
+      → old ++ first_of x ts a others ≡ (if is_there a then old ++ at a 0 else old ++ others)
+  head_if old others absent = refl
+  head_if old others nil = refl
+  head_if old others (more v vs) = refl
+  head_if old others (token n) = refl
+  head_if old others (node label p s) = refl
+
+  -- a token first, or none
+  pub args_token : (old : Found) (g : Part) → is_token (part g 0) ≡ true → old ++ typed_args x ts g ≡ old
+  args_token old g e = args_if old g ∙ ap (λ b. if b then old else old ++ at g 1) e
+
+  pub args_other : (old : Found) (g : Part) → is_token (part g 0) ≡ false → old ++ typed_args x ts g ≡ old ++ at g 1
+  args_other old g e = args_if old g ∙ ap (λ b. if b then old else old ++ at g 1) e
+
+  -- one part, or none, or more
+  returned_if : (old : Found) (ps : List Tree)
+      → old ++ returned x ts (parts_of x ts ps) ≡ (if has_second ps then old ++ at (parts_of x ts ps) 0 else old)
+  unfolding parts_of has_second
+  returned_if old [] = append-nil old
+  returned_if old (t ∷ []) = append-nil old
+  returned_if old (t ∷ u ∷ ps) = refl
+
+  pub returned_one : (old : Found) (ps : List Tree) → has_second ps ≡ false
+      → old ++ returned x ts (parts_of x ts ps) ≡ old
+  returned_one old ps e =
+      returned_if old ps ∙ ap (λ b. if b then old ++ at (parts_of x ts ps) 0 else old) e
+
+  pub returned_more : (old : Found) (ps : List Tree) → has_second ps ≡ true
+      → old ++ returned x ts (parts_of x ts ps) ≡ old ++ at (parts_of x ts ps) 0
+  returned_more old ps e =
+      returned_if old ps ∙ ap (λ b. if b then old ++ at (parts_of x ts ps) 0 else old) e
+
+  pub handlers_if : (old : Found) (ps : List Tree)
+      → old ++ handlers_in (parts_of x ts ps)
+      ≡ (if has_second ps
+      then ((old ++ at (group (parts_of x ts ps) 0) 0) ++ at (parts_of x ts ps) 1) ++ at (group (parts_of x ts ps) 2) 0
+      else old ++ at (parts_of x ts ps) 0)
+  unfolding parts_of has_second handlers_in
+  handlers_if old [] = refl
+  handlers_if old (t ∷ []) = refl
+  handlers_if old (t ∷ u ∷ ps) = three old _ _ _

@@ -1,0 +1,17 @@
+//! The places where a program names other modules, straight from its plain tree: no typed tree is built.
+//!
+//! - `tree_sites(alloc, text, tokens, &tree)`: exactly the sites that `plain_sites` of `es_plain_sites` tells, in the order
+//!   of the text. What a reader of programs keeps of a text has a typed tree with the same sites (`es_program_sites`).
+//!
+//! Memory is the only cause of an `Err`. It goes over the parts of a node by a table of steps (`steps`), and along a list
+//! by a loop: only nodes nest.
+#![tactic(auto)]
+
+mod attribute;
+mod named;
+mod options;
+mod source;
+mod steps;
+mod walk;
+
+pub use walk::tree_sites;

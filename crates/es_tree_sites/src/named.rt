@@ -1,0 +1,89 @@
+//! The nodes that name a module by themselves.
+
+ghost use Rattle.std.specs.Prelude.{◌≡◌, false, ◌++◌, IfOk, IfSome, OnOk, option_map};
+ghost use Rattle.es_dress.specs.Texts.{str_of};
+ghost use Rattle.es_site.specs.declared.site.Attribute.TheVariants as attribute;
+ghost use Rattle.es_site.specs.declared.site.DependencyKind.TheVariants as kind;
+ghost use Rattle.es_plain_sites.specs.Part.{part, group, is_there};
+ghost use Rattle.es_plain_sites.specs.Own.{naming, str_in, src_in, options_in};
+ghost use Rattle.es_tree_sites.specs.Parts.{parts_in, Cuts, HasCut};
+ghost use Rattle.es_tree_sites.specs.Steps.{declares};
+
+use crate::source::Source;
+use base::Items;
+use es_site::{Attribute, DependencyKind, Site};
+use es_token::Token;
+use es_whole_tree::Tree;
+use std::alloc::AllocError;
+
+impl Source<'_> {
+    /// A literal that names a module, where there is one.
+    #[tactic(auto, unfolding(es_dress::specs::Texts::str_of))]
+    fn name(
+        &self,
+        found: &mut Items<Site>,
+        kind: DependencyKind,
+        type_only: bool,
+        attribute: Attribute,
+        src: Option<Token>,
+    ) -> Result<(), AllocError>
+        requires { IfSome src (Cuts self.now.text.now) }
+        ensures { OnOk result (found.new ≡ found.old
+            ++ naming self.now.text.now self.now.tokens.now kind type_only attribute (option_map (str_of self.now.text.now) src)) }
+    {
+        if let Some(token) = src {
+            let value = self.value(token)?;
+            found.push(Site {
+                kind,
+                type_only,
+                range: token.range,
+                value,
+                attribute,
+            })?;
+        }
+        Ok(())
+    }
+
+    /// The literal at a place, with the attribute that the group at another gives.
+    pub fn declare(
+        &self,
+        found: &mut Items<Site>,
+        kind: DependencyKind,
+        type_only: bool,
+        parts: &[Tree],
+        src: usize,
+        with: usize,
+    ) -> Result<(), AllocError>
+        requires { HasCut self.now }
+        ensures { OnOk result (found.new ≡ found.old
+            ++ declares self.now.text.now self.now.tokens.now kind type_only (parts_in self.now parts.now) src with) }
+    {
+        let attribute = self.attribute(self.group(parts, with))?;
+        self.name(found, kind, type_only, attribute, self.token_at(parts, src))
+    }
+
+    /// `import a = require("a")`
+    pub fn require(&self, found: &mut Items<Site>, parts: &[Tree]) -> Result<(), AllocError>
+        requires { HasCut self.now }
+        ensures { OnOk result (found.new ≡ found.old
+            ++ naming self.now.text.now self.now.tokens.now kind.ImportEquals (is_there (group (parts_in self.now parts.now) 0)) attribute.Unknown
+            (str_in self.now.text.now self.now.tokens.now (part (parts_in self.now parts.now) 2))) }
+    {
+        let kind = DependencyKind::ImportEquals;
+        let type_only = self.is_there(parts, 0);
+        let src = self.token_at(parts, 2);
+        self.name(found, kind, type_only, Attribute::Unknown, src)
+    }
+
+    /// `import("a")`, where the first argument is a string literal.
+    pub fn call(&self, found: &mut Items<Site>, parts: &[Tree]) -> Result<(), AllocError>
+        requires { HasCut self.now }
+        ensures { OnOk result (found.new ≡ found.old
+            ++ naming self.now.text.now self.now.tokens.now kind.Dynamic false (options_in self.now.text.now self.now.tokens.now (group (parts_in self.now parts.now) 1))
+            (src_in self.now.text.now self.now.tokens.now (part (parts_in self.now parts.now) 0))) }
+    {
+        let attribute = self.options(self.group(parts, 1))?;
+        let src = self.literal_at(parts, 0);
+        self.name(found, DependencyKind::Dynamic, false, attribute, src)
+    }
+}

@@ -1,0 +1,45 @@
+-- Faults of a text.
+use Rattle.std.proofs.Common.{◌≡◌, ap, ℕ, List}
+use Rattle.base.specs.declared.range.Range.{Range}
+use Rattle.es_token.specs.declared.token.Token.{Token}
+use Rattle.es_lexer.specs.declared.error.LexicalError.{LexicalError}
+use Rattle.es_lexer.specs.Reads.{ReadsTokens}
+use Rattle.es_lexer.specs.Stops.{Stops}
+use Rattle.es_tree.specs.declared.error.Lang.{Lang}
+use Rattle.es_tree.specs.declared.error.Mode.{Mode}
+use Rattle.es_ast.specs.declared.ast.Program.{Program}
+use Rattle.parse_diagnostic.specs.declared.kind.SyntaxErrorKind.TheVariants.{Lexical, Syntax}
+use Rattle.parse_diagnostic.specs.declared.diagnostic.ParseFault.{ParseFault}
+use Rattle.parse_diagnostic.specs.declared.diagnostic.ParseFault.TheVariants.{Diagnostic, OutOfMemory}
+use Rattle.parse_diagnostic.specs.Diagnosis.{Diagnosis, diagnosis}
+use Rattle.source_sites.specs.Tree.{IsFirstTree}
+use Rattle.source_sites.specs.Read.{no_tokens, no_tree, at_place}
+use Rattle.source_sites.specs.Fault.{IsFaultIn, Refuses}
+
+pub Refuses-weaker : (P Q : Diagnosis → Type 0) → ((d : Diagnosis) → P d → Q d) → (f : ParseFault) → Refuses P f
+    → Refuses Q f
+Refuses-weaker P Q step (Diagnostic d) is = step d is
+Refuses-weaker P Q step OutOfMemory is = tt
+
+-- that memory ran out
+pub refuses_memory : (P : Diagnosis → Type 0) (f : ParseFault) → f ≡ OutOfMemory → Refuses P f
+refuses_memory P (Diagnostic d) is = absurd (let bad : ⊥ = cc in bad)
+refuses_memory P OutOfMemory is = tt
+
+module _ (specifier : List ℕ) (lang : Lang) (modes : List Mode) (text : List ℕ) where
+  -- the first lexical fault
+  pub lexical_refusal : (d : Diagnosis) (fault : LexicalError) → Stops text fault.kind fault.at
+      → d ≡ diagnosis specifier (Lexical fault.kind) (at_place fault.at) → IsFaultIn specifier lang modes text d
+  lexical_refusal d fault stops same = (
+    ap (λ (x : Diagnosis). x.specifier) same,
+    no_tokens fault.kind fault.at stops (ap (λ (x : Diagnosis). x.kind) same) (ap (λ (x : Diagnosis). x.range) same),
+  )
+
+  -- tokens without a tree
+  pub syntax_refusal : (d : Diagnosis) (range : Range) (tokens : List Token) → ReadsTokens text tokens
+      → ((tree : Program) → ¬ IsFirstTree lang text tokens modes tree)
+      → d ≡ diagnosis specifier Syntax range → IsFaultIn specifier lang modes text d
+  syntax_refusal d range tokens reads none same = (
+    ap (λ (x : Diagnosis). x.specifier) same,
+    no_tree tokens reads none (ap (λ (x : Diagnosis). x.kind) same) (ap (λ (x : Diagnosis). x.range) same),
+  )

@@ -1,0 +1,97 @@
+-- The sites that are found in a plain tree are those of the typed tree of the tokens.
+use Rattle.std.specs.Prelude.{Result, Ok, Err, IfOk}
+use Rattle.std.specs.Result.{IfErr}
+use Rattle.std.proofs.Common.{◌≡◌, refl, sym, ap, subst, ◌∙◌, ℕ, List, [], ◌∷◌, ◌++◌, inl, inr}
+use Rattle.es_token.specs.declared.token.Token.{Token}
+use Rattle.es_token.specs.declared.token.Comment.{Comment}
+use Rattle.es_lexer.specs.Reads.{Reads}
+use Rattle.es_tree.specs.declared.error.Lang.{Lang}
+use Rattle.es_tree.specs.declared.error.Mode.{Mode}
+use Rattle.es_tree.specs.declared.error.SyntaxError.{SyntaxError}
+use Rattle.es_tree.specs.declared.error.SyntaxError.TheVariants.{Syntax, OutOfMemory}
+use Rattle.es_tree.specs.Key.{keys_of}
+use Rattle.es_ast.specs.declared.ast.Program.{Program}
+use Rattle.es_site.specs.declared.site.Site.{Site}
+use Rattle.es_site.specs.Sites.{sites_of}
+use Rattle.es_whole_tree.specs.declared.tree.Tree.{Tree}
+use Rattle.es_whole_tree.specs.Slim.{tree_of}
+use Rattle.es_whole_program.specs.Program.{IsKept}
+use Rattle.es_whole_program.specs.Derived.{GivesTree as GivesPlain}
+use Rattle.es_derives.specs.Derives.{Derives}
+use Rattle.es_derives.proofs.Theorems.{one_tree}
+use Rattle.es_plain_sites.specs.Own.{plain_sites}
+use Rattle.es_program_sites.proofs.Theorems.{kept_sites}
+use Rattle.media_type.specs.declared.media_type.MediaType.{MediaType}
+use Rattle.source_sites.specs.Tree.{IsFirstTree, IsTree}
+use Rattle.source_sites.specs.Read.{references_in, HasSites}
+use Rattle.source_sites.specs.Answers.{AreOf, AreSitesOf, GivesSites}
+use Rattle.source_sites.proofs.TreeLemmas.{first_once}
+
+-- what holds of the trees of these sites
+pub AreOf-weaker : (P Q : Program → Type 0) → ((tree : Program) → P tree → Q tree) → (found : List Site) → AreOf P found
+    → AreOf Q found
+AreOf-weaker P Q step found of = record { tree = of.tree; is = step of.tree of.is; sites = of.sites }
+
+module _ (l : Lang) (m : Mode) (x : List ℕ) (ts : List Token) where
+  -- a derived tree is that of a plain tree which is kept
+  pub kept_of : (p : Program) → (derived : Derives l m x ts p) → IsKept l m (keys_of ts) (tree_of derived.plain)
+  kept_of p derived = record { plain = derived.plain; program = derived.program; kept = refl }
+
+  -- what is kept has a typed tree, with these sites
+  pub derived_sites : (kept : Tree) (found : List Site) → IsKept l m (keys_of ts) kept → found ≡ plain_sites x ts kept
+      → AreOf (Derives l m x ts) found
+  derived_sites kept found is same =
+      let typed = kept_sites l m x ts is.plain kept is.program is.kept in
+      record { tree = typed.0; is = typed.1; sites = same ∙ sym typed.2 }
+
+  -- and no other
+  pub only_sites : (found : List Site) (p : Program) → AreOf (Derives l m x ts) found → Derives l m x ts p
+      → found ≡ sites_of p
+  only_sites found p of derived = of.sites ∙ ap sites_of (one_tree l m x ts of.tree p of.is derived)
+
+  pub kept_given : (kept : Tree) (r : Result (List Site) SyntaxError) (p : Program) → IsKept l m (keys_of ts) kept
+      → IfOk r (λ found. found ≡ plain_sites x ts kept) → IfErr r (λ e. e ≡ OutOfMemory) → Derives l m x ts p
+      → GivesSites r p
+  kept_given kept (Ok found) p is same memory derived =
+      only_sites found p (derived_sites kept found is same) derived
+  kept_given kept (Err (Syntax token)) p is same memory derived = let bad : ⊥ = cc in bad
+  kept_given kept (Err OutOfMemory) p is same memory derived = tt
+
+-- a refusal of the plain tree is one of the sites
+pub refused : (e : SyntaxError) (p : Program) (tree : Tree) → GivesPlain (Err e) tree → GivesSites (Err e) p
+refused (Syntax token) p tree given = absurd given
+refused OutOfMemory p tree given = tt
+
+module _ (lang : Lang) (text : List ℕ) (tokens : List Token) where
+  -- the sites of one tree at most
+  pub first_sites : (modes : List Mode) (found : List Site) (p : Program)
+      → AreOf (IsFirstTree lang text tokens modes) found
+      → IsFirstTree lang text tokens modes p → found ≡ sites_of p
+  first_sites modes found p of is = of.sites ∙ ap sites_of (first_once lang text tokens modes of.tree p of.is is)
+
+  -- the sites of a tree of two modes: what was read, or what is to be read later
+  pub first_given : (m n : Mode) (r : Result (List Site) SyntaxError) (p : Program)
+      → ((tree : Program) → Derives lang m text tokens tree → GivesSites r tree)
+      → ((tree : Program) → Derives lang n text tokens tree → GivesSites r tree)
+      → IsFirstTree lang text tokens (m ∷ n ∷ []) p → GivesSites r p
+  first_given m n r p one other (inl is) = one p is
+  first_given m n r p one other (inr (none, inl is)) = other p is
+  first_given m n r p one other (inr (none, inr is)) = absurd is.1
+
+  -- of one mode
+  pub only_given : (m : Mode) (r : Result (List Site) SyntaxError) (p : Program)
+      → ((tree : Program) → Derives lang m text tokens tree → GivesSites r tree)
+      → IsFirstTree lang text tokens (m ∷ []) p → GivesSites r p
+  only_given m r p one (inl is) = one p is
+  only_given m r p one (inr is) = absurd is.1
+
+-- reference comments come first
+pub has_sites : (media : MediaType) (text : List ℕ) (tokens : List Token) (comments : List Comment)
+    (found all : List Site) → Reads text tokens comments → AreSitesOf media text tokens found
+    → all ≡ references_in media tokens comments ++ found → HasSites media text all
+has_sites media text tokens comments found all reads of both = record {
+  tree = of.tree;
+  references = references_in media tokens comments;
+  read = record { tokens = tokens; comments = comments; reads = reads; is_tree = of.is; refers = refl };
+  both = both ∙ ap (λ (s : List Site). references_in media tokens comments ++ s) of.sites;
+}

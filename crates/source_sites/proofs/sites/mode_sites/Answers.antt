@@ -1,0 +1,25 @@
+use Rattle.std.proofs.lemmas.Result.{IfOk-weaker}
+use Rattle.es_whole_tree.specs.Slim.{tree_of}
+use Rattle.source_sites.proofs.SitesLemmas.{kept_of, derived_sites, kept_given, refused}
+use Rattle.source_sites.proofs.sites.mode_sites.Goals as goal
+
+-- what is kept has a typed tree, with these sites
+pub returns-in-Ok-clause-made : goal.returns-in-Ok-clause-made
+returns-in-Ok-clause-made c =
+    IfOk-weaker c.kept_sites.result _ _
+    (λ found same. derived_sites c.args.lang c.args.mode c.args.text.now c.args.tokens.now c.in-Ok.plain found
+    c.in-Ok.ensures.kept same)
+    c.kept_sites.ensures.found
+
+-- and no other
+pub returns-in-Ok-clause-only : goal.returns-in-Ok-clause-only
+returns-in-Ok-clause-only c = λ tree derived.
+    kept_given c.args.lang c.args.mode c.args.text.now c.args.tokens.now c.in-Ok.plain c.kept_sites.result tree
+    c.in-Ok.ensures.kept c.kept_sites.ensures.found c.kept_sites.ensures.memory derived
+
+-- where nothing is kept, nothing is derived
+pub returns-in-Err-clause-only : goal.returns-in-Err-clause-only
+returns-in-Err-clause-only c = λ tree derived.
+    refused c.in-Err.error tree (tree_of derived.plain)
+    (c.in-Err.ensures.only (tree_of derived.plain)
+    (kept_of c.args.lang c.args.mode c.args.text.now c.args.tokens.now tree derived))

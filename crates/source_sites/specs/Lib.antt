@@ -1,0 +1,12 @@
+-- ---- what the public contracts rest on
+pub use Rattle.media_type.specs.MediaType
+pub use Rattle.parse_diagnostic.specs.Diagnosis
+pub use Rattle.es_references.specs.References
+pub use Rattle.es_site.specs.Sites
+pub mod Tree
+pub mod Read
+pub mod Fault
+pub mod Cuts
+pub mod Answers
+-- ---- what the functions inside the crate promise each other
+pub mod Modes
