@@ -33,8 +33,9 @@ def place_of(specifier, state):
     """The folder and the name of a specifier."""
     if state.startswith("package ") or specifier.startswith(("npm:", "jsr:")):
         return "packages", specifier
-    if specifier.startswith("data:"):
-        return "data:", specifier[len("data:"):]
+    for scheme in ("data:", "node:"):
+        if specifier.startswith(scheme):
+            return scheme, specifier[len(scheme):]
     front, _, name = re.split(r"[?#]", specifier, maxsplit=1)[0].rpartition("/")
     folder = re.sub(r"^file:///?", "/", front + "/") if front else specifier
     return folder.replace("//", "/") if folder.startswith("/") else folder, specifier[len(front) + 1:] or name or "/"

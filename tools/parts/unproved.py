@@ -264,7 +264,18 @@ def library(told="build-library"):
         return kits.keep(made, name, ".unproved.o")
 
 
+def stop(_number, _frame):
+    """A signal ends what was started, and then this program."""
+    raise KeyboardInterrupt
+
+
+def heed_signals():
+    for number in (signal.SIGINT, signal.SIGTERM, signal.SIGHUP):
+        signal.signal(number, stop)
+
+
 def main():
+    heed_signals()
     try:
         if sys.argv[1:] == ["--library"]:
             print(library())

@@ -10,6 +10,7 @@ LOADER = importlib.machinery.SourceFileLoader("prove", TOOL)
 SPEC = importlib.util.spec_from_loader("prove", LOADER)
 prove = importlib.util.module_from_spec(SPEC)
 LOADER.exec_module(prove)
+unproved = prove.kits.tool("parts/unproved.py")
 
 FILES = {
     "crates.txt": "low:\nside: low\nhigh staticlib: low url\n",
@@ -59,6 +60,23 @@ class Prove(Folder):
             self.write(path, "other\n")
             self.assertEqual(self.sum() != first, changes, path)
             first = self.sum()
+
+    def test_an_unproved_program_is_that_of_its_sources(self):
+        kit, root = unproved.kits.kit, unproved.kits.ROOT
+        unproved.kits.kit, unproved.kits.ROOT = lambda: self.room, self.room
+        self.addCleanup(lambda: (setattr(unproved.kits, "kit", kit), setattr(unproved.kits, "ROOT", root)))
+        first = unproved.sum_of("high")
+        for path, changes in (
+            ("crates/low/README.md", False),
+            ("crates/side/src/lib.rt", False),
+            ("crates/low/proofs/a/B.antt", False),
+            ("crates/low/src/lib.rt", True),
+            ("crates/high/src/new.rt", True),
+            ("KIT-ID", True),
+        ):
+            self.write(path, "other\n")
+            self.assertEqual(unproved.sum_of("high") != first, changes, path)
+            first = unproved.sum_of("high")
 
     def test_the_latest_archives_are_kept(self):
         self.write("made.a", "archive")

@@ -1,0 +1,3 @@
+mod OrderLemmas
+mod PlacingLemmas
+mod WalkLemmas

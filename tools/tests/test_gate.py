@@ -1,0 +1,49 @@
+"""Tests of bench/gate: the longest chain, what is saved, and the tables that are made of it."""
+import importlib.machinery
+import importlib.util
+import io
+import os
+import tempfile
+import unittest
+
+TOOL = os.path.join(os.path.dirname(os.path.dirname(os.path.dirname(os.path.abspath(__file__)))), "bench", "gate")
+LOADER = importlib.machinery.SourceFileLoader("gate", TOOL)
+SPEC = importlib.util.spec_from_loader("gate", LOADER)
+gate = importlib.util.module_from_spec(SPEC)
+LOADER.exec_module(gate)
+
+BELOW = {"low": set(), "side": {"low"}, "high": {"low", "side", "url"}, "alone": set()}
+ROWS = {
+    ("low", "earlier", "kit a"): ([3, 40, 0, 0, 0, 0, 0], "one machine"),
+    ("low", "2026-11-28", "kit b"): ([3, 20, 25, 0, 2, 5, 30], "another"),
+    ("side", "2026-11-28", "kit b"): ([1, 7, 0, 0, 0, 0, 0], "another"),
+    ("high", "earlier", "kit a"): ([2, 9, 0, 4, 0, 0, 0], "one machine"),
+}
+
+
+class Gate(unittest.TestCase):
+    def test_the_latest_day_counts(self):
+        self.assertEqual(gate.latest(ROWS)["low"][1], 20)
+
+    def test_the_longest_chain_takes_the_clock_where_it_was_read(self):
+        chain = gate.longest_chain(BELOW, gate.latest(ROWS))
+        self.assertEqual(chain, (41, [("low", 25), ("side", 7), ("high", 9)]))
+
+    def test_saved_rows_are_read_again(self):
+        rows = {(crate, day, kit.replace(" ", "-")): line for (crate, day, kit), line in ROWS.items()}
+        with tempfile.TemporaryDirectory() as room:
+            gate.save_times(rows, f"{room}/times")
+            self.assertEqual(gate.read_times(f"{room}/times"), rows)
+
+    def test_a_crate_stands_in_the_latest_table_that_has_it(self):
+        out = io.StringIO()
+        gate.tables(list(BELOW), BELOW, ROWS, out)
+        first, second = out.getvalue().split("### earlier, kit a")
+        self.assertIn("| `low` | 3 | 20 | 25 |  | 2 | 5 | 30 | 50 |", first)
+        self.assertNotIn("`low` | 3", second)
+        self.assertIn("| `high` | 2 | 9 |", second)
+        self.assertIn("Not read off: `alone`.", second)
+
+
+if __name__ == "__main__":
+    unittest.main()
