@@ -132,7 +132,22 @@ pub fn token_sites(
     ensures only { (tree : Typed) → IsTree media_type text.now tokens.now tree → GivesSites result tree }
 {
     let lang = language_of(media_type);
-    match modes_of(media_type) {
+    sites_in(alloc, lang, modes_of(media_type), text, tokens)
+}
+
+// The sites of the tree in the first of these modes that derives one.
+fn sites_in(
+    alloc: Global,
+    lang: Lang,
+    modes: Modes,
+    text: &str,
+    tokens: &[Token],
+) -> Result<Items<Site>, SyntaxError>
+    requires { ReadsTokens text.now tokens.now }
+    ensures made { IfOk result (AreOf (IsFirstTree lang text.now tokens.now (modes_in modes))) }
+    ensures only { (tree : Typed) → IsFirstTree lang text.now tokens.now (modes_in modes) tree → GivesSites result tree }
+{
+    match modes {
         Modes::Only(mode) => only_sites(alloc, lang, mode, text, tokens),
         Modes::ScriptFirst => either_sites(alloc, lang, text, tokens),
     }

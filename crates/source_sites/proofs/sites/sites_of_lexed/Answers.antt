@@ -28,8 +28,8 @@ returns-in-Ok-clause-refused c =
     IfErr-weaker c.all_sites.result _ _ (λ e memory. refuses_memory _ e memory) c.all_sites.ensures.memory
 
 -- a refusal says that the tokens have no tree
-pub returns-in-Err-clause-refused : goal.returns-in-Err-clause-refused
-returns-in-Err-clause-refused c =
+pub returns-clause-refused : goal.returns-clause-refused
+returns-clause-refused c =
     let media = c.args.media_type in
     Refuses-weaker _ _
     (λ d told.
