@@ -25,16 +25,16 @@ static uint8_t *read_whole(const char *path, size_t *length)
 {
     FILE *file = fopen(path, "rb");
     uint8_t *bytes = NULL;
-    size_t room = 0;
+    size_t held = 0;
     *length = 0;
     while (file && !ferror(file)) {
-        if (*length == room) {
-            uint8_t *more = realloc(bytes, room = room ? 2 * room : 4096);
+        if (*length == held) {
+            uint8_t *more = realloc(bytes, held = held ? 2 * held : 4096);
             if (!more)
                 break;
             bytes = more;
         }
-        size_t n = fread(bytes + *length, 1, room - *length, file);
+        size_t n = fread(bytes + *length, 1, held - *length, file);
         *length += n;
         if (n == 0) {
             fclose(file);
@@ -61,23 +61,23 @@ static void find_place(const uint8_t *text, size_t place, size_t *line, size_t *
     }
 }
 
-/* Both rooms, made as large as the call says. */
+/* Both buffers, made as large as the call says. */
 static uint32_t find_sites(const uint8_t *text, size_t length, uint32_t media_type, joravelsu_site **sites,
                            uint8_t **values, joravelsu_answer *answer)
 {
-    size_t sites_room = 64, values_room = 4096;
+    size_t sites_length = 64, values_length = 4096;
     for (;;) {
-        *sites = malloc(sites_room * sizeof **sites);
-        *values = malloc(values_room);
+        *sites = malloc(sites_length * sizeof **sites);
+        *values = malloc(values_length);
         if (!*sites || !*values)
             return JORAVELSU_NO_MEMORY;
-        uint32_t status = joravelsu_sites(text, length, media_type, *sites, sites_room, *values, values_room, answer);
+        uint32_t status = joravelsu_sites(text, length, media_type, *sites, sites_length, *values, values_length, answer);
         if (status != JORAVELSU_NO_ROOM)
             return status;
         free(*sites);
         free(*values);
-        sites_room = answer->sites + 1;
-        values_room = answer->value_bytes + 1;
+        sites_length = answer->sites + 1;
+        values_length = answer->value_bytes + 1;
     }
 }
 

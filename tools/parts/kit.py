@@ -5,9 +5,22 @@ import os
 import re
 import shutil
 import subprocess
+import tempfile
 
 ROOT = os.path.dirname(os.path.dirname(os.path.dirname(os.path.abspath(__file__))))
-KEPT = os.path.join(os.environ.get("XDG_CACHE_HOME") or os.path.expanduser("~/.cache"), "joravelsu")
+
+
+def kept_folder():
+    """The user's cache folder, or one of the system's temporary folder where nothing can be written there."""
+    place = os.path.join(os.environ.get("XDG_CACHE_HOME") or os.path.expanduser("~/.cache"), "joravelsu")
+    try:
+        os.makedirs(place, mode=0o700, exist_ok=True)
+    except OSError:
+        pass
+    return place if os.access(place, os.W_OK) else os.path.join(tempfile.gettempdir(), f"joravelsu-{os.getuid()}")
+
+
+KEPT = kept_folder()
 # The version of the tools, the program and the library.
 VERSION = "0.1.0"
 # The versions of the toolchain with which the gate passes.
@@ -64,15 +77,25 @@ def sources_of(crate):
     return sorted(os.path.join(at, name) for at, _, names in os.walk(folder) for name in names)
 
 
+def kept(name):
+    """Where a file of this name is kept, if it is there and this user's."""
+    place = os.path.join(KEPT, name)
+    if not os.path.exists(place) or any(os.stat(it).st_uid != os.getuid() for it in (KEPT, place)):
+        return None
+    return place
+
+
 def keep(made, name, ending, most=6):
     """Keeps a file under its name, and of all that have the ending the latest. The answer is where it is kept."""
     os.makedirs(KEPT, mode=0o700, exist_ok=True)
+    if os.stat(KEPT).st_uid != os.getuid():
+        raise OSError(f"{KEPT} is another user's")
     place = os.path.join(KEPT, name)
     shutil.copyfile(made, f"{place}.{os.getpid()}")
     shutil.copymode(made, f"{place}.{os.getpid()}")
     os.replace(f"{place}.{os.getpid()}", place)
-    kept = sorted((it for it in os.scandir(KEPT) if it.name.endswith(ending)), key=lambda it: it.stat().st_mtime)
-    for it in kept[:-most]:
+    latest = sorted((it for it in os.scandir(KEPT) if it.name.endswith(ending)), key=lambda it: it.stat().st_mtime)
+    for it in latest[:-most]:
         os.unlink(it)
     return place
 

@@ -173,8 +173,8 @@ def linked(made, kit, room):
 def compiled(crate, is_test=False, *more):
     """The path of a crate's program, or of its tests, compiled where that wasn't done of these sources yet."""
     name = f"{crate}{'-tests' if is_test else ''}-{sum_of(crate)}.unproved"
-    place = os.path.join(kits.KEPT, name)
-    if os.path.exists(place):
+    place = kits.kept(name)
+    if place:
         os.utime(place)
         return place
     kit = kits.kit()
@@ -184,7 +184,7 @@ def compiled(crate, is_test=False, *more):
 
 
 def is_compiled(crate, is_test=False):
-    return os.path.exists(os.path.join(kits.KEPT, f"{crate}{'-tests' if is_test else ''}-{sum_of(crate)}.unproved"))
+    return kits.kept(f"{crate}{'-tests' if is_test else ''}-{sum_of(crate)}.unproved") is not None
 
 
 def program(told="unproved"):
@@ -252,8 +252,8 @@ def with_calls_visible(module, kit, room):
 def library(told="build-library"):
     """The path of the object file of the unproved library, compiled where that wasn't done of these sources yet."""
     name = f"{LIBRARY}-{sum_of(LIBRARY)}.unproved.o"
-    place = os.path.join(kits.KEPT, name)
-    if os.path.exists(place):
+    place = kits.kept(name)
+    if place:
         os.utime(place)
         return place
     kit = kits.kit()

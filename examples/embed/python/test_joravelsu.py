@@ -10,15 +10,15 @@ import joravelsu
 EXAMPLES = os.path.dirname(os.path.dirname(os.path.dirname(os.path.abspath(__file__))))
 
 
-def raw_sites(text, media_type, sites_room, values_room):
-    """The call itself: status, answer, and whether the rooms were left alone."""
-    sites, values = (joravelsu._Site * (sites_room + 1))(), ctypes.create_string_buffer(b"#" * (values_room + 1))
+def raw_sites(text, media_type, sites_length, values_length):
+    """The call itself: status, answer, and whether the buffers were left alone."""
+    sites, values = (joravelsu._Site * (sites_length + 1))(), ctypes.create_string_buffer(b"#" * (values_length + 1))
     sites[0].kind = 99
     answer = joravelsu._Answer(7, 7, 7, 7)
     status = joravelsu._library.joravelsu_sites(
-        text, len(text), media_type, sites, sites_room, values, values_room, ctypes.byref(answer)
+        text, len(text), media_type, sites, sites_length, values, values_length, ctypes.byref(answer)
     )
-    untouched = sites[0].kind == 99 and values.raw[:-1] == b"#" * (values_room + 1)
+    untouched = sites[0].kind == 99 and values.raw[:-1] == b"#" * (values_length + 1)
     return status, (answer.sites, answer.value_bytes, answer.fault, answer.place), untouched
 
 
@@ -36,7 +36,7 @@ class Sites(unittest.TestCase):
         found = joravelsu.imports_of('\ufeffimport "a";', joravelsu.MJS)
         self.assertEqual([(it.start, it.end, it.value) for it in found], [(7, 10, "a")])
 
-    def test_more_than_the_first_rooms_hold(self):
+    def test_more_than_the_first_buffers_hold(self):
         names = [f"./{'x' * 100}{i}.ts" for i in range(1000)]
         text = "".join(f'import "{name}";\n' for name in names)
         self.assertEqual([it.value for it in joravelsu.imports_of(text, joravelsu.MTS)], names)
@@ -59,10 +59,10 @@ class Sites(unittest.TestCase):
     def test_sizes_at_the_limit(self):
         self.assertEqual(joravelsu.imports_of(b" " * (1 << 24), joravelsu.JAVASCRIPT), [])
 
-    def test_rooms(self):
+    def test_buffers(self):
         text = b'import "ab"; import "c";'
-        for sites_room, values_room in ((0, 0), (1, 3), (2, 2), (0, 3)):
-            status, answer, untouched = raw_sites(text, joravelsu.MJS, sites_room, values_room)
+        for sites_length, values_length in ((0, 0), (1, 3), (2, 2), (0, 3)):
+            status, answer, untouched = raw_sites(text, joravelsu.MJS, sites_length, values_length)
             self.assertEqual((status, answer, untouched), (4, (2, 3, 0, 0), True))
         self.assertEqual(raw_sites(text, joravelsu.MJS, 2, 3)[:2], (0, (2, 3, 0, 0)))
         self.assertEqual(raw_sites(b"", joravelsu.MJS, 0, 0), (0, (0, 0, 0, 0), True))
@@ -91,10 +91,10 @@ class Graphs(unittest.TestCase):
                 joravelsu.graph(bundle)
             self.assertEqual(str(caught.exception), line)
 
-    def test_room_of_nothing(self):
-        needed, room = ctypes.c_size_t(), ctypes.create_string_buffer(b"#")
-        status = joravelsu._library.joravelsu_build(b"{", 1, room, 0, ctypes.byref(needed))
-        self.assertEqual((status, needed.value, room.raw), (4, len("error NotJson\n"), b"#\0"))
+    def test_buffer_of_nothing(self):
+        needed, buffer = ctypes.c_size_t(), ctypes.create_string_buffer(b"#")
+        status = joravelsu._library.joravelsu_build(b"{", 1, buffer, 0, ctypes.byref(needed))
+        self.assertEqual((status, needed.value, buffer.raw), (4, len("error NotJson\n"), b"#\0"))
 
 
 class Threads(unittest.TestCase):
