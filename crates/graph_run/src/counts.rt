@@ -49,7 +49,7 @@ fn counts_of(graph: &ModuleGraph) -> Result<Counts, AllocError>
     for (specifier, entry) in graph.entries()? {
         // The counts are of entries with their specifiers.
         let _ = specifier;
-        entries += 1;
+        entries = sum(entries, 1)?;
         edge_total = sum(edge_total, edges(entry).len())?;
         let own = faults_of(entry)?;
         faults = sum(faults, own)?;
@@ -61,7 +61,8 @@ fn counts_of(graph: &ModuleGraph) -> Result<Counts, AllocError>
     })
 }
 
-fn sum(a: usize, b: usize) -> Result<usize, AllocError>
+/// More than can be counted is out of memory.
+pub fn sum(a: usize, b: usize) -> Result<usize, AllocError>
     ensures { IfOk result (λ n. n ≡ a + b) }
 {
     a.checked_add(b).ok_or(AllocError)

@@ -6,6 +6,7 @@ ghost use Rattle.graph_entry.specs.Specifier.{text_of};
 ghost use Rattle.graph_run.specs.Report.{report_of, root_line, entry_lines, count_line, edge_line, edge_words, import_line, import_lines, state, package_words, registry_word, part_word, edges_of, kind_word, range_word, attribute_word, outcome, line_end};
 ghost use Rattle.graph_run.specs.Steps.{Adds};
 
+use crate::counts::sum;
 use crate::quoted::add_quoted;
 use base::{Items, Range, Text};
 use deno_graph::{
@@ -97,7 +98,7 @@ fn add_entries(alloc: Global, out: &mut String, graph: &ModuleGraph) -> Result<u
     let mut count = 0;
     for (specifier, entry) in graph.entries()? {
         add_entry(alloc, out, specifier, entry)?;
-        count += 1;
+        count = sum(count, 1)?;
     }
     Ok(count)
 }
