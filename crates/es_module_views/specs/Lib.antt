@@ -1,0 +1,6 @@
+-- imports
+pub mod Import
+-- exports
+pub mod Export
+-- programs
+pub mod Program

@@ -1,0 +1,147 @@
+//! Imports.
+
+ghost use Rattle.std.specs.Prelude.{◌≡◌, ℕ, List, IfSome, IfNone, None};
+ghost use Rattle.base.specs.declared.range.Range.{Range};
+ghost use Rattle.es_token.specs.declared.token.Token.{Token as Tok};
+ghost use Rattle.es_dress.specs.Modules.{bare_import, from_import, require_import, entity_import};
+ghost use Rattle.es_dress.specs.Dress.{item_by};
+ghost use Rattle.es_dress.specs.Texts.{span_of};
+ghost use Rattle.es_syntax.specs.Held.{held, valued};
+ghost use Rattle.es_syntax.specs.Roles.{item_in};
+ghost use Rattle.es_syntax.specs.Views.{IsNone};
+ghost use Rattle.es_module_views.specs.Import.{imports, the_import, IsBelow};
+
+use es_syntax::{Item, Row, What};
+use es_whole_grammar::Label;
+
+/// An import, with its parts where they stand. Numbers are those of tokens.
+#[derive(Clone, Copy)]
+pub enum Import<'a> {
+    /// `import "a"`: attributes may be absent.
+    Bare {
+        source: u32,
+        attributes: Row<'a>,
+    },
+    /// `import a from "b"`, behind `type` or not.
+    From {
+        type_only: bool,
+        clause: Item<'a>,
+        source: u32,
+        attributes: Row<'a>,
+    },
+    /// `import a = require("b")`, behind `export` or not.
+    Require {
+        is_export: bool,
+        type_only: bool,
+        name: u32,
+        source: Item<'a>,
+    },
+    /// `import a = b.c`, behind `export` or not.
+    Entity {
+        is_export: bool,
+        type_only: bool,
+        name: u32,
+        entity: Item<'a>,
+    },
+    /// A part is not there.
+    Broken,
+}
+
+/// `import "a"`: attributes may be absent.
+#[tactic(auto, unfolding(es_dress::specs::Modules::bare_import, crate::specs::Import::bare))]
+fn bare<'a>(parts: &Row<'a>) -> Import<'a>
+    ensures form { (x : List ℕ) (ts : List Tok) (r : Range) → bare_import x ts r (held x ts parts.now.entries.now) ≡ the_import x ts r result }
+    ensures below { IsBelow parts.now result }
+{
+    match parts.token_at(0) {
+        Some(source) => Import::Bare {
+            source,
+            attributes: parts.group_at(1),
+        },
+        None => Import::Broken,
+    }
+}
+
+/// `import a from "b"`, behind `type` or not.
+#[tactic(auto, unfolding(es_dress::specs::Modules::from_import, crate::specs::Import::from_of))]
+fn from_<'a>(parts: &Row<'a>) -> Import<'a>
+    ensures form { (x : List ℕ) (ts : List Tok) (r : Range) → from_import x ts r (held x ts parts.now.entries.now) ≡ the_import x ts r result }
+    ensures below { IsBelow parts.now result }
+{
+    match parts.part(1) {
+        Some(clause) => match parts.token_at(2) {
+            Some(source) => Import::From {
+                type_only: parts.has(0),
+                clause,
+                source,
+                attributes: parts.group_at(3),
+            },
+            None => Import::Broken,
+        },
+        None => Import::Broken,
+    }
+}
+
+/// `import a = require("b")`, behind `export` or not.
+#[tactic(auto, unfolding(es_dress::specs::Modules::require_import, crate::specs::Import::require))]
+fn require<'a>(is_export: bool, parts: &Row<'a>) -> Import<'a>
+    ensures form { (x : List ℕ) (ts : List Tok) (r : Range) → require_import x ts is_export r (held x ts parts.now.entries.now) ≡ the_import x ts r result }
+    ensures below { IsBelow parts.now result }
+{
+    match parts.token_at(1) {
+        Some(name) => match parts.part(2) {
+            Some(source) => Import::Require {
+                is_export,
+                type_only: parts.has(0),
+                name,
+                source,
+            },
+            None => Import::Broken,
+        },
+        None => Import::Broken,
+    }
+}
+
+/// `import a = b.c`, behind `export` or not.
+#[tactic(auto, unfolding(es_dress::specs::Modules::entity_import, crate::specs::Import::aliased))]
+fn entity<'a>(is_export: bool, parts: &Row<'a>) -> Import<'a>
+    ensures form { (x : List ℕ) (ts : List Tok) (r : Range) → entity_import x ts is_export r (held x ts parts.now.entries.now) ≡ the_import x ts r result }
+    ensures below { IsBelow parts.now result }
+{
+    match parts.token_at(1) {
+        Some(name) => match parts.part(2) {
+            Some(entity) => Import::Entity {
+                is_export,
+                type_only: parts.has(0),
+                name,
+                entity,
+            },
+            None => Import::Broken,
+        },
+        None => Import::Broken,
+    }
+}
+
+/// What a node is as an import; none where it is of another alternative.
+#[tactic(auto, unfolding(es_dress::specs::Dress::build, es_dress::specs::Dress::module_decl_of, es_dress::specs::Dress::stmt_of, es_dress::specs::Dress::decl_of, es_dress::specs::Dress::declarable_of))]
+pub fn import_at<'a>(node: &Item<'a>) -> Option<Import<'a>>
+    ensures form { (x : List ℕ) (ts : List Tok) → IfSome result (λ view. item_in (valued x ts node.now) ≡ item_by x ts (the_import x ts (span_of ts node.now.from node.now.to) view) None) }
+    ensures other { IfNone result (IsNone imports node.now.what) }
+    ensures below { IfSome result (λ view. IsBelow node.now.parts view) }
+{
+    match node.what {
+        What::Node(label) => match label {
+            Label::BareImport => Some(bare(&node.parts)),
+            Label::FromImport => Some(from_(&node.parts)),
+            Label::RequireImport => Some(require(false, &node.parts)),
+            Label::ExportedRequireImport => Some(require(true, &node.parts)),
+            Label::EntityImport => Some(entity(false, &node.parts)),
+            Label::ExportedEntityImport => Some(entity(true, &node.parts)),
+            _ => None,
+        },
+        What::Leaf => None,
+        What::Role(_) => None,
+        What::Parts => None,
+        What::Lean(_) => None,
+    }
+}
