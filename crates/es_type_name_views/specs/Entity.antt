@@ -1,0 +1,34 @@
+-- What a view of a name with dots tells.
+use Rattle.std.specs.Prelude.{ℕ, List, [], ◌∷◌, Option, Some, None, option_map, slice_get}
+use Rattle.base.specs.declared.range.Range.{Range}
+use Rattle.es_token.specs.declared.token.Token.{Token}
+use Rattle.es_whole_grammar.specs.declared.rows.Label.{Label}
+use Rattle.es_whole_grammar.specs.declared.rows.Label.TheVariants as l
+use Rattle.ts_ast.specs.declared.leaf.TsEntityName.{TsEntityName}
+use Rattle.es_dress.specs.Value.{Value, given, turns}
+use Rattle.es_dress.specs.Texts.{this_or_name_of, ident_at}
+use Rattle.es_syntax.specs.declared.cursor.Row.{Row}
+use Rattle.es_syntax.specs.Held.{held}
+use Rattle.es_syntax.specs.Views.{Within}
+use Rattle.es_type_name_views.specs.declared.entity.Entity.{Entity}
+use Rattle.es_type_name_views.specs.declared.entity.Entity.TheVariants as view
+
+-- the alternatives
+abbrev pub entities : List Label
+entities = l.Entity ∷ l.EntityOfType ∷ []
+
+-- ---- each form, of what its parts are
+unfoldable pub names : List ℕ → List Token → Range → Option Token → Value → Option TsEntityName
+names x ts r left rest =
+    given (option_map (this_or_name_of x) left) (λ left.
+    given (turns (λ turn. ident_at x ts turn 0) rest) (λ rest. Some (record { left = left; rest = rest; span = r })))
+
+-- what a view tells
+abbrev pub the_entity : List ℕ → List Token → Range → Entity → Option TsEntityName
+the_entity x ts r (view.Names left rest) = names x ts r (slice_get ts left) (held x ts rest.entries.now)
+the_entity x ts r view.Broken = None
+
+-- the parts take fewer entries
+abbrev pub IsBelow : Row → Entity → Type 0
+IsBelow n (view.Names left rest) = Within rest n
+IsBelow n view.Broken = Unit {0}
