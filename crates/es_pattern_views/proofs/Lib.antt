@@ -1,0 +1,2 @@
+-- targets
+pub mod Targets
