@@ -1,0 +1,4 @@
+-- keys
+pub mod Key
+-- properties of objects
+pub mod Prop
