@@ -58,15 +58,16 @@ impl ModuleAnalyzer for Blind {
     ghost once = { λ _ s media text a b is so. is ∙ sym so };
 }
 
-// The module of a text at `file:///a.ts` as a line.
+// The module of a text at a specifier, without headers, as a line.
 fn parsed<R: Resolver, M: ModuleAnalyzer>(
     rt: &impl Abort,
     alloc: Global,
+    specifier: &str,
     resolver: Option<&R>,
     analyzer: &M,
 ) -> String {
     let options = ParseModuleOptions {
-        specifier: Url::parse(alloc, "file:///a.ts").expect(rt, "a URL"),
+        specifier: Url::parse(alloc, specifier).expect(rt, "a URL"),
         maybe_headers: None,
         content: SharedBytes::from_slice(alloc, b"import \"./b.ts\";").expect(rt, "memory"),
         maybe_resolver: resolver,
@@ -83,18 +84,21 @@ fn parsed<R: Resolver, M: ModuleAnalyzer>(
 fn modules_by_callers(rt: HostRuntime) {
     let alloc = rt.alloc();
     let none: Option<&DefaultResolver> = None;
-    let line = parsed(&rt, alloc, none, &ParserModuleAnalyzer);
+    let line = parsed(&rt, alloc, "file:///a.ts", none, &ParserModuleAnalyzer);
     assert_eq!(rt;
         line.as_str(),
         "TypeScript 16; import 7-15 ./b.ts -> file:///b.ts"
     );
-    let line = parsed(&rt, alloc, Some(&Nowhere), &ParserModuleAnalyzer);
+    let line = parsed(&rt, alloc, "file:///a.ts", Some(&Nowhere), &ParserModuleAnalyzer);
     assert_eq!(rt;
         line.as_str(),
         "TypeScript 16; import 7-15 ./b.ts ! Refused"
     );
-    let line = parsed(&rt, alloc, none, &Blind);
+    let line = parsed(&rt, alloc, "file:///a.ts", none, &Blind);
     assert_eq!(rt; line.as_str(), "TypeScript 16");
+    // The path of a `data:` URL tells nothing.
+    let line = parsed(&rt, alloc, "data:,import/x.ts", none, &ParserModuleAnalyzer);
+    assert_eq!(rt; line.as_str(), "UnsupportedMediaType");
 }
 
 // The sites of a source, each by its range and its text.

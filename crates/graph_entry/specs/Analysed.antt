@@ -17,7 +17,7 @@ use Rattle.media_type.specs.declared.media_type.MediaType.{MediaType}
 use Rattle.media_type.specs.declared.media_type.MediaType.TheVariants.{Unknown}
 use Rattle.media_type.specs.declared.media_type.ModuleKind.{ModuleKind}
 use Rattle.media_type.specs.declared.media_type.ModuleKind.TheVariants as module_kind
-use Rattle.media_type.specs.Endings.{media_type_of}
+use Rattle.media_type.specs.Specifiers.{of_specifier, by_header}
 use Rattle.media_type.specs.ContentTypes.{with_content_type}
 use Rattle.media_type.specs.MediaType.{kind_of}
 use Rattle.data_specifier.specs.declared.data_module.DataModule.{DataModule}
@@ -34,9 +34,9 @@ use Rattle.graph_entry.specs.Resolution.{Resolves}
 use Rattle.graph_entry.specs.Reading.{Sites}
 use Rattle.graph_entry.specs.Ways.{Ways, default_ways}
 
--- the media type of a specifier is that of the path of the URL that its text is read as
+-- the media type of a specifier is that of the URL that its text is read as
 abbrev pub media_type_read : Parsed Parts → MediaType
-media_type_read (Ok url) = media_type_of url.path
+media_type_read (Ok url) = of_specifier url
 media_type_read (Err e) = Unknown
 
 -- content of this media type is no module
@@ -99,11 +99,6 @@ abbrev pub IsParsed : (Entry → Type 0) → Result Module ModuleError → Type 
 IsParsed makes (Ok m) = makes (entry.Module m)
 IsParsed makes (Err OutOfMemory) = Unit {0}
 IsParsed makes (Err e) = makes (entry.Error e)
-
--- the media type of content: what its header `content-type` says where it has one, over what the path tells
-abbrev pub by_header : MediaType → Option (List ℕ) → MediaType
-by_header by_path None = by_path
-by_header by_path (Some header) = with_content_type by_path header
 
 -- the media type of content with these headers, at this specifier
 abbrev pub media_type_at : List ℕ → HeaderList → MediaType

@@ -2,6 +2,7 @@
 ghost use Rattle.std.specs.Prelude.{◌≡◌, None, Some, codes, map, IfOk};
 ghost use Rattle.url.specs.Parser.{parse_url};
 ghost use Rattle.graph_entry.specs.Specifier.{text_of};
+ghost use Rattle.media_type.specs.Specifiers.{by_header};
 ghost use Rattle.graph_entry.specs.Headers.{header_value};
 ghost use Rattle.graph_entry.specs.Resolution.{resolve_by};
 ghost use Rattle.graph_entry.specs.Steps.{IsReadAgain};
@@ -85,7 +86,7 @@ fn media_type_by(
     base: &ReadAgain,
     headers: &Headers,
 ) -> Result<MediaType, AllocError>
-    ensures { IfOk result (λ m. m ≡ spec.by_header
+    ensures { IfOk result (λ m. m ≡ by_header
         (spec.media_type_read base.now) (header_value (codes "content-type") headers.now)) }
 {
     let by_path = media_type_read(alloc, base)?;
@@ -135,7 +136,7 @@ fn media_type_read(alloc: Global, base: &ReadAgain) -> Result<MediaType, AllocEr
     ensures { IfOk result (λ m. m ≡ spec.media_type_read base.now) }
 {
     match base {
-        Ok(url) => MediaType::of_path(alloc, url.path()),
+        Ok(url) => MediaType::from_specifier(alloc, url),
         Err(_) => Ok(MediaType::Unknown),
     }
 }

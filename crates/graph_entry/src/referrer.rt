@@ -20,6 +20,28 @@ pub struct ReferrerImports {
     pub imports: Items<Text>,
 }
 
+impl ReferrerImports {
+    /// The same imports of the same referrer.
+    pub fn copy(&self, alloc: Global) -> Result<ReferrerImports, AllocError>
+        ensures { IfOk result (λ copy. copy ≡ self.now) }
+    {
+        Ok(ReferrerImports {
+            referrer: self.referrer.clone()?,
+            imports: copy_texts(alloc, self.imports.as_slice())?,
+        })
+    }
+}
+
+fn copy_texts(alloc: Global, texts: &[Text]) -> Result<Items<Text>, AllocError>
+    ensures { IfOk result (λ copy. copy ≡ texts.now) }
+{
+    let mut copy = Items::new(alloc);
+    for text in texts {
+        copy.push(text.copy()?)?;
+    }
+    Ok(copy)
+}
+
 /// Each referrer with the edges of what it imports.
 pub fn referred(
     alloc: Global,
