@@ -70,5 +70,5 @@ fn compares(rt: HostRuntime) {
     let stop = fault(&rt, alloc, "ab", 0, SyntaxErrorKind::Syntax);
     assert!(rt; first != stop);
     let later = fault(&rt, alloc, "ab", 1, SyntaxErrorKind::Syntax);
-    assert!(rt; stop == later);
+    assert!(rt; stop != later);
 }

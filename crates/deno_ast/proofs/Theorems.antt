@@ -3,7 +3,7 @@ use Rattle.std.proofs.Common.{◌≡◌, ap, subst, ℕ, List, ◌++◌, None}
 use Rattle.std.specs.Prelude.{Option}
 use Rattle.es_ast.specs.declared.ast.Program.{Program}
 use Rattle.es_site.specs.Sites.{sites_of}
-use Rattle.parse_diagnostic.specs.Diagnosis.{Diagnosis}
+use Rattle.parse_diagnostic.specs.Diagnosis.{Diagnosis, told_range}
 use Rattle.source_sites.specs.Tree.{modes_of}
 use Rattle.source_sites.specs.Read.{IsRead, IsRefused, HasSites, IsFaulty}
 use Rattle.deno_ast.specs.declared.syntax.Syntax.{Syntax}
@@ -26,7 +26,8 @@ source_sites params text p plain is = record {
 
 -- and its fault is the text's
 pub source_fault : (params : ParseParams) (text : List ℕ) (d : Diagnosis) → params.maybe_syntax ≡ None
-    → IsFault (modes_of params.media_type) params text d → IsFaulty params.media_type text d.kind d.range
+    → IsFault (modes_of params.media_type) params text d
+    → IsFaulty params.media_type text d.kind (told_range d.kind d.range)
 source_fault params text d plain is =
     subst (λ (o : Option Syntax). IsRefused (lang_in o params.media_type) (modes_of params.media_type) text d.kind
-    d.range) plain is.1
+    (told_range d.kind d.range)) plain is.1

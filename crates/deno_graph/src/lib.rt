@@ -36,8 +36,8 @@ pub use file_url::{SpecifierError, resolve_import};
 pub use graph::ModuleGraph;
 pub use graph_entry::{
     AnalyzeFault, Attribute, DataError, DefaultResolver, Dependency, DependencyKind, Entry,
-    GraphKind, Headers, JsModule, JsonModule, LoadAnswer, MediaType, Module, ModuleAnalyzer,
-    ModuleError, ModuleInfo, ModuleKind, PackageKind, PackageRef, ParseDiagnostic,
+    GraphKind, Headers, JsModule, JsonModule, KeptDiagnostic, LoadAnswer, MediaType, Module,
+    ModuleAnalyzer, ModuleError, ModuleInfo, ModuleKind, PackageKind, PackageRef, ParseDiagnostic,
     ParseModuleOptions, ParserModuleAnalyzer, ReferrerImports, ResolutionError, ResolveFault,
     Resolver, SyntaxErrorKind, WasmModule, parse_module,
 };

@@ -89,7 +89,13 @@ fn modules_by_callers(rt: HostRuntime) {
         line.as_str(),
         "TypeScript 16; import 7-15 ./b.ts -> file:///b.ts"
     );
-    let line = parsed(&rt, alloc, "file:///a.ts", Some(&Nowhere), &ParserModuleAnalyzer);
+    let line = parsed(
+        &rt,
+        alloc,
+        "file:///a.ts",
+        Some(&Nowhere),
+        &ParserModuleAnalyzer,
+    );
     assert_eq!(rt;
         line.as_str(),
         "TypeScript 16; import 7-15 ./b.ts ! Refused"

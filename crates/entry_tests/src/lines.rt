@@ -19,7 +19,8 @@ pub fn line_of(alloc: Global, entry: &Entry) -> Result<String, AllocError> {
 
 fn line_of_error(alloc: Global, error: &ModuleError) -> Result<String, AllocError> {
     match error {
-        ModuleError::Parse(fault) => {
+        ModuleError::Parse(kept) => {
+            let fault = kept.diagnostic();
             let Range { start, end } = fault.range();
             format!(in alloc; "{error} {} {start}-{end}; {fault}", fault.kind())
         }

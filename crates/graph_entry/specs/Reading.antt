@@ -4,16 +4,16 @@ use Rattle.base.specs.declared.range.Range.{Range}
 use Rattle.es_site.specs.declared.site.Site.{Site}
 use Rattle.media_type.specs.declared.media_type.MediaType.{MediaType}
 use Rattle.parse_diagnostic.specs.declared.kind.SyntaxErrorKind.{SyntaxErrorKind}
-use Rattle.parse_diagnostic.specs.Diagnosis.{Diagnosis}
+use Rattle.parse_diagnostic.specs.Diagnosis.{Told, told}
 use Rattle.source_sites.specs.Read.{HasSites, IsFaulty}
 use Rattle.source_sites.specs.Cuts.{Cuts}
 use Rattle.graph_entry.specs.declared.analyzer.ModuleInfo.{ModuleInfo}
 use Rattle.graph_entry.specs.declared.analyzer.AnalyzeFault.{AnalyzeFault}
 use Rattle.graph_entry.specs.declared.analyzer.AnalyzeFault.TheVariants.{Parse, OutOfMemory}
 
--- the sites of a source, or what is wrong with it
+-- the sites of a source, or what is told of what is wrong with it
 abbrev pub Sites : Type 0
-Sites = Result (List Site) Diagnosis
+Sites = Result (List Site) Told
 
 -- what sources are read as: the sites of a source at a specifier
 abbrev pub Reading : Type 1
@@ -33,13 +33,13 @@ CutsSites reads =
 -- the answer of an analyser is what the source is read as, or that memory ran out
 abbrev pub IsAnalysis : (Sites → Type 0) → Result ModuleInfo AnalyzeFault → Type 0
 IsAnalysis means (Ok info) = means (Ok info.sites)
-IsAnalysis means (Err (Parse d)) = means (Err d)
+IsAnalysis means (Err (Parse d)) = means (Err (told d))
 IsAnalysis means (Err OutOfMemory) = Unit {0}
 
 -- ---- by the parser
 
--- the diagnosis of the source at a specifier
-abbrev pub diagnosis_at : List ℕ → SyntaxErrorKind → Option Range → Diagnosis
+-- what is told of a fault of the source at a specifier
+abbrev pub diagnosis_at : List ℕ → SyntaxErrorKind → Option Range → Told
 diagnosis_at s kind range = record { specifier = s; kind = kind; range = range }
 
 -- what a source is read as

@@ -3,6 +3,7 @@ ghost use Rattle.std.specs.Prelude.{◌≡◌, None, Some, codes, map, IfOk};
 ghost use Rattle.url.specs.Parser.{parse_url};
 ghost use Rattle.graph_entry.specs.Specifier.{text_of};
 ghost use Rattle.media_type.specs.Specifiers.{by_header};
+ghost use Rattle.parse_diagnostic.specs.Diagnosis.{told};
 ghost use Rattle.graph_entry.specs.Headers.{header_value};
 ghost use Rattle.graph_entry.specs.Resolution.{resolve_by};
 ghost use Rattle.graph_entry.specs.Steps.{IsReadAgain};
@@ -21,6 +22,7 @@ use crate::wasm::analyse_wasm;
 use base::{Items, SharedBytes};
 use es_site::Site;
 use media_type::{MediaType, ModuleKind};
+use parse_diagnostic::{KeptDiagnostic, ParseDiagnostic};
 use source_text::SourceText;
 use std::alloc::{AllocError, Global};
 use url::Url;
@@ -183,9 +185,15 @@ fn analyse_text<R: Resolver, M: ModuleAnalyzer>(
             let module = module_of(alloc, resolver, source, text, info.sites)?;
             Ok(Entry::Module(Module::Js(module)))
         }
-        Err(AnalyzeFault::Parse(diagnostic)) => Ok(Entry::Error(ModuleError::Parse(diagnostic))),
+        Err(AnalyzeFault::Parse(diagnostic)) => Ok(unparsed(diagnostic)),
         Err(AnalyzeFault::OutOfMemory) => Err(AllocError),
     }
+}
+
+fn unparsed(diagnostic: ParseDiagnostic) -> Entry
+    ensures { result ≡ Entry.Error (ModuleError.Parse (told diagnostic)) }
+{
+    Entry::Error(ModuleError::Parse(KeptDiagnostic::new(diagnostic)))
 }
 
 fn module_of<R: Resolver>(

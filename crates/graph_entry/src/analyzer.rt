@@ -29,7 +29,7 @@ pub enum AnalyzeFault {
 
 /// Reads sources.
 pub trait ModuleAnalyzer {
-    /// The sites of a source at a specifier, or what is wrong with it. The range of a `Syntax` fault is no part of it.
+    /// The sites of a source at a specifier, or what is wrong with it. The range of a `Syntax` fault is left free (`told`).
     ghost reads: { Self → List ℕ → Media → List ℕ → Sites → Type 0 };
 
     /// The meaning, or that memory ran out. The text has no byte order mark to be taken off.

@@ -8,7 +8,7 @@ use data_specifier::DataError;
 use es_site::{Attribute, DependencyKind};
 use media_type::MediaType;
 use package_ref::PackageRef;
-use parse_diagnostic::ParseDiagnostic;
+use parse_diagnostic::KeptDiagnostic;
 use source_text::SourceText;
 use std::fmt;
 use url::Url;
@@ -91,7 +91,7 @@ pub enum ModuleError {
     /// The bytes of a source or of JSON are no text.
     Decode,
     /// The source is no module.
-    Parse(ParseDiagnostic),
+    Parse(KeptDiagnostic),
     /// The bytes are no WebAssembly module. Never that memory ran out.
     WasmParse(ParseError),
     /// The `data:` URL holds nothing. Never that memory ran out.

@@ -47,4 +47,4 @@ pub use data_specifier::DataError;
 pub use es_site::{Attribute, DependencyKind};
 pub use media_type::{MediaType, ModuleKind};
 pub use package_ref::{PackageKind, PackageRef};
-pub use parse_diagnostic::{ParseDiagnostic, SyntaxErrorKind};
+pub use parse_diagnostic::{KeptDiagnostic, ParseDiagnostic, SyntaxErrorKind};

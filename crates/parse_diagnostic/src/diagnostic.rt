@@ -3,7 +3,7 @@ ghost use Rattle.std.specs.Prelude.{◌≡◌, IfOk, bytes_eq};
 ghost use Rattle.std.specs.Str.{IsCharBoundary};
 ghost use Rattle.url.specs.Parts.{serialize};
 ghost use Rattle.source_text.specs.Lines.{IsDisplay};
-ghost use Rattle.parse_diagnostic.specs.Diagnosis.{told_range, diagnosis, place_of, same};
+ghost use Rattle.parse_diagnostic.specs.Diagnosis.{IsDiagnosis, ends_of, same, told};
 ghost use Rattle.parse_diagnostic.specs.SameLaws.{same_is_symmetric_and_transitive, same_is_an_equivalence};
 ghost use Rattle.parse_diagnostic.specs.declared.diagnostic.ParseFault.TheVariants.{OutOfMemory};
 
@@ -16,7 +16,7 @@ use std::fmt;
 use std::marker::Model;
 use url::Url;
 
-/// Why the text at a specifier is no program. Places are bytes of the text, which has no byte order mark.
+/// Why the text at a specifier is no program. Ranges are in bytes of the text, which has no byte order mark.
 /// A lexical fault has the empty range at its place. The range of a `Syntax` fault is where reading came to a stop.
 #[derive(Debug, Drop)]
 pub struct ParseDiagnostic {
@@ -28,11 +28,16 @@ pub struct ParseDiagnostic {
 
 impl Model for ParseDiagnostic {
     ghost use Rattle.url.specs.Parts.{serialize};
-    ghost use Rattle.parse_diagnostic.specs.Diagnosis.{Diagnosis, diagnosis};
+    ghost use Rattle.parse_diagnostic.specs.Diagnosis.{Diagnosis};
 
     ghost Value = { Diagnosis };
 
-    ghost view = { λ d. diagnosis (serialize d.specifier) d.kind d.range };
+    ghost view = { λ d. record {
+      specifier = serialize d.specifier;
+      kind = d.kind;
+      range = d.range;
+      position = d.position;
+    } };
 }
 
 impl ParseDiagnostic {
@@ -43,7 +48,7 @@ impl ParseDiagnostic {
         kind: SyntaxErrorKind,
         info: &SourceTextInfo,
     ) -> ParseDiagnostic
-        ensures { result ≡ diagnosis (serialize specifier) kind range }
+        ensures { IsDiagnosis info.now (serialize specifier) kind range result }
     {
         ParseDiagnostic {
             specifier,
@@ -60,7 +65,7 @@ impl ParseDiagnostic {
     }
 
     pub fn range(&self) -> Range
-        ensures { told_range self.now.kind result ≡ self.now.range }
+        ensures { result ≡ self.now.range }
     {
         self.range
     }
@@ -72,18 +77,10 @@ impl ParseDiagnostic {
     }
 
     /// Line and column of the range's start, from 1: columns count characters.
-    pub fn display_position(&self) -> LineAndColumnDisplay {
-        self.position
-    }
-
-    // The range, where it is part of the meaning.
-    fn place(&self) -> Option<Range>
-        ensures { result ≡ self.now.range }
+    pub fn display_position(&self) -> LineAndColumnDisplay
+        ensures { result ≡ self.now.position }
     {
-        match self.kind {
-            SyntaxErrorKind::Lexical(_) => Some(self.range),
-            SyntaxErrorKind::Syntax => None,
-        }
+        self.position
     }
 
     /// The same diagnostic.
@@ -99,7 +96,7 @@ impl ParseDiagnostic {
     }
 }
 
-/// By the specifier, the kind and, of a lexical fault, the range.
+/// By the specifier, the kind and the range.
 impl PartialEq for ParseDiagnostic {
     ghost eq = { same };
 
@@ -108,7 +105,7 @@ impl PartialEq for ParseDiagnostic {
     fn eq(&self, other: &ParseDiagnostic) -> bool {
         self.specifier.as_str() == other.specifier.as_str()
             && self.kind.name() == other.kind.name()
-            && same_place(self.place(), other.place())
+            && same_range(self.range, other.range)
     }
 }
 
@@ -116,14 +113,10 @@ impl Eq for ParseDiagnostic {
     ghost laws = { same_is_an_equivalence };
 }
 
-fn same_place(one: Option<Range>, other: Option<Range>) -> bool
-    ensures { result ≡ bytes_eq (place_of one) (place_of other) }
+fn same_range(one: Range, other: Range) -> bool
+    ensures { result ≡ bytes_eq (ends_of one) (ends_of other) }
 {
-    match (one, other) {
-        (Some(one), Some(other)) => one.start == other.start && one.end == other.end,
-        (None, None) => true,
-        (Some(_), None) | (None, Some(_)) => false,
-    }
+    one.start == other.start && one.end == other.end
 }
 
 // The line and the column of a place. A place inside a character, which no fault has, counts as the text's front.
@@ -151,6 +144,43 @@ impl fmt::Display for ParseDiagnostic {
 }
 
 impl Error for ParseDiagnostic {}
+
+/// A diagnostic that is kept as the meaning of a text. Contracts see what is told of it: the specifier, the kind and, of a lexical
+/// fault, the range; the range of a `Syntax` fault is left free.
+#[derive(Debug, Drop)]
+pub struct KeptDiagnostic {
+    diagnostic: ParseDiagnostic,
+}
+
+impl Model for KeptDiagnostic {
+    ghost use Rattle.parse_diagnostic.specs.Diagnosis.{Told, told};
+
+    ghost Value = { Told };
+
+    ghost view = { λ kept. told kept.diagnostic };
+}
+
+impl KeptDiagnostic {
+    pub fn new(diagnostic: ParseDiagnostic) -> KeptDiagnostic
+        ensures { result ≡ told diagnostic }
+    {
+        KeptDiagnostic { diagnostic }
+    }
+
+    pub fn diagnostic(&self) -> &ParseDiagnostic
+        ensures { told result.now ≡ self.now }
+    {
+        &self.diagnostic
+    }
+}
+
+impl fmt::Display for KeptDiagnostic {
+    fn fmt<W: fmt::Write>(&self, f: &mut fmt::Formatter<W>) -> fmt::Result {
+        write!(f, "{}", self.diagnostic)
+    }
+}
+
+impl Error for KeptDiagnostic {}
 
 /// Several diagnostics.
 #[derive(Debug, Drop)]

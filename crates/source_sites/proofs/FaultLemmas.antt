@@ -1,5 +1,5 @@
 -- Faults of a text.
-use Rattle.std.proofs.Common.{◌≡◌, ap, ℕ, List}
+use Rattle.std.proofs.Common.{◌≡◌, ◌∙◌, ap, ℕ, List, Some}
 use Rattle.base.specs.declared.range.Range.{Range}
 use Rattle.es_token.specs.declared.token.Token.{Token}
 use Rattle.es_lexer.specs.declared.error.LexicalError.{LexicalError}
@@ -8,10 +8,11 @@ use Rattle.es_lexer.specs.Stops.{Stops}
 use Rattle.es_tree.specs.declared.error.Lang.{Lang}
 use Rattle.es_tree.specs.declared.error.Mode.{Mode}
 use Rattle.es_ast.specs.declared.ast.Program.{Program}
+use Rattle.parse_diagnostic.specs.declared.kind.SyntaxErrorKind.{SyntaxErrorKind}
 use Rattle.parse_diagnostic.specs.declared.kind.SyntaxErrorKind.TheVariants.{Lexical, Syntax}
 use Rattle.parse_diagnostic.specs.declared.diagnostic.ParseFault.{ParseFault}
 use Rattle.parse_diagnostic.specs.declared.diagnostic.ParseFault.TheVariants.{Diagnostic, OutOfMemory}
-use Rattle.parse_diagnostic.specs.Diagnosis.{Diagnosis, diagnosis}
+use Rattle.parse_diagnostic.specs.Diagnosis.{Diagnosis, IsDiagnosis, told_range}
 use Rattle.source_sites.specs.Tree.{IsFirstTree}
 use Rattle.source_sites.specs.Read.{no_tokens, no_tree, at_place}
 use Rattle.source_sites.specs.Fault.{IsFaultIn, Refuses}
@@ -29,17 +30,21 @@ refuses_memory P OutOfMemory is = tt
 module _ (specifier : List ℕ) (lang : Lang) (modes : List Mode) (text : List ℕ) where
   -- the first lexical fault
   pub lexical_refusal : (d : Diagnosis) (fault : LexicalError) → Stops text fault.kind fault.at
-      → d ≡ diagnosis specifier (Lexical fault.kind) (at_place fault.at) → IsFaultIn specifier lang modes text d
-  lexical_refusal d fault stops same = (
-    ap (λ (x : Diagnosis). x.specifier) same,
-    no_tokens fault.kind fault.at stops (ap (λ (x : Diagnosis). x.kind) same) (ap (λ (x : Diagnosis). x.range) same),
+      → IsDiagnosis text specifier (Lexical fault.kind) (at_place fault.at) d
+      → IsFaultIn specifier lang modes text d
+  lexical_refusal d fault stops is = (
+    is.specifier,
+    no_tokens fault.kind fault.at stops is.kind
+        (ap (λ (k : SyntaxErrorKind). told_range k d.range) is.kind ∙ ap (λ (r : Range). Some r) is.range),
+    is.shown,
   )
 
   -- tokens without a tree
   pub syntax_refusal : (d : Diagnosis) (range : Range) (tokens : List Token) → ReadsTokens text tokens
       → ((tree : Program) → ¬ IsFirstTree lang text tokens modes tree)
-      → d ≡ diagnosis specifier Syntax range → IsFaultIn specifier lang modes text d
-  syntax_refusal d range tokens reads none same = (
-    ap (λ (x : Diagnosis). x.specifier) same,
-    no_tree tokens reads none (ap (λ (x : Diagnosis). x.kind) same) (ap (λ (x : Diagnosis). x.range) same),
+      → IsDiagnosis text specifier Syntax range d → IsFaultIn specifier lang modes text d
+  syntax_refusal d range tokens reads none is = (
+    is.specifier,
+    no_tree tokens reads none is.kind (ap (λ (k : SyntaxErrorKind). told_range k d.range) is.kind),
+    is.shown,
   )

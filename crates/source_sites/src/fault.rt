@@ -3,7 +3,7 @@ ghost use Rattle.std.specs.Prelude.{◌≡◌, IfOk};
 ghost use Rattle.url.specs.Parts.{serialize};
 ghost use Rattle.base.specs.declared.range.Range.{Range as Place};
 ghost use Rattle.es_lexer.specs.declared.error.LexicalError.{LexicalError as Fault};
-ghost use Rattle.parse_diagnostic.specs.Diagnosis.{diagnosis};
+ghost use Rattle.parse_diagnostic.specs.Diagnosis.{IsDiagnosis};
 ghost use Rattle.source_sites.specs.Read.{at_place};
 ghost use Rattle.source_sites.specs.Fault.{Refuses};
 
@@ -23,7 +23,7 @@ pub fn lexical_fault(
     error: LexError,
 ) -> ParseFault
     ensures { Refuses (λ d. (fault : Fault) × (error ≡ LexError.Lexical fault)
-        × (d ≡ diagnosis (serialize specifier.now) (SyntaxErrorKind.Lexical fault.kind) (at_place fault.at))) result }
+        × IsDiagnosis text.now (serialize specifier.now) (SyntaxErrorKind.Lexical fault.kind) (at_place fault.at) d) result }
 {
     match error {
         LexError::Lexical(fault) => {
@@ -51,7 +51,8 @@ pub fn syntax_fault(
     tokens: &[Token],
     token: usize,
 ) -> ParseFault
-    ensures { Refuses (λ d. (range : Place) × (d ≡ diagnosis (serialize specifier.now) SyntaxErrorKind.Syntax range)) result }
+    ensures { Refuses (λ d. (range : Place)
+        × IsDiagnosis text.now (serialize specifier.now) SyntaxErrorKind.Syntax range d) result }
 {
     let range = range_at(text.as_str(), tokens, token);
     fault_at(alloc, specifier, text, SyntaxErrorKind::Syntax, range)
@@ -65,7 +66,7 @@ fn fault_at(
     kind: SyntaxErrorKind,
     range: Range,
 ) -> ParseFault
-    ensures { Refuses (λ d. d ≡ diagnosis (serialize specifier.now) kind range) result }
+    ensures { Refuses (IsDiagnosis text.now (serialize specifier.now) kind range) result }
 {
     match diagnostic_at(alloc, specifier, text, kind, range) {
         Ok(diagnostic) => ParseFault::Diagnostic(diagnostic),
@@ -80,7 +81,7 @@ fn diagnostic_at(
     kind: SyntaxErrorKind,
     range: Range,
 ) -> Result<ParseDiagnostic, AllocError>
-    ensures { IfOk result (λ d. d ≡ diagnosis (serialize specifier.now) kind range) }
+    ensures { IfOk result (IsDiagnosis text.now (serialize specifier.now) kind range) }
 {
     let info = SourceTextInfo::new(alloc, text.copy()?)?;
     Ok(ParseDiagnostic::new(specifier.clone()?, range, kind, &info))

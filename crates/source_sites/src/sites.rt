@@ -8,7 +8,7 @@ ghost use Rattle.es_tree.specs.declared.error.Mode.TheVariants as mode;
 ghost use Rattle.es_ast.specs.declared.ast.Program.{Program as Typed};
 ghost use Rattle.es_derives.specs.Derives.{Derives};
 ghost use Rattle.es_plain_sites.specs.Own.{plain_sites};
-ghost use Rattle.parse_diagnostic.specs.Diagnosis.{diagnosis};
+ghost use Rattle.parse_diagnostic.specs.Diagnosis.{IsDiagnosis};
 ghost use Rattle.source_sites.specs.Tree.{IsFirstTree, IsTree};
 ghost use Rattle.source_sites.specs.Read.{references_in as refers, HasSites};
 ghost use Rattle.source_sites.specs.Fault.{IsFaultAt, Refuses};
@@ -110,7 +110,7 @@ fn tokens_fault(
     error: SyntaxError,
 ) -> ParseFault
     ensures { Refuses (λ d. (token : ℕ) × (error ≡ SyntaxError.Syntax token)
-        × ((range : Place) × (d ≡ diagnosis (serialize specifier.now) SyntaxErrorKind.Syntax range))) result }
+        × ((range : Place) × IsDiagnosis text.now (serialize specifier.now) SyntaxErrorKind.Syntax range d)) result }
 {
     match error {
         SyntaxError::Syntax { token } => syntax_fault(alloc, specifier, text, tokens, token),

@@ -1,4 +1,5 @@
-use Rattle.std.proofs.Common.{refl, ap, subst, Ok, Err}
+use Rattle.std.proofs.Common.{◌∙◌, refl, ap, subst, Ok, Err}
+use Rattle.parse_diagnostic.specs.Diagnosis.{told}
 use Rattle.graph_entry.specs.declared.analyzer.AnalyzeFault.{AnalyzeFault}
 use Rattle.graph_entry.specs.declared.entry.JsModule.{JsModule}
 use Rattle.graph_entry.specs.declared.entry.Module.TheVariants.{Js}
@@ -20,10 +21,10 @@ pub returns-in-Err-Parse : goal.returns-in-Err-Parse
 returns-in-Err-Parse g c =
     let reads = g.M.ModuleAnalyzer.reads c.args.analyzer.now in
     record {
-      sites = Err c.in-Err-Parse.diagnostic;
+      sites = Err (told c.in-Err-Parse.diagnostic);
       read = subst
           (λ (e : AnalyzeFault).
           IsAnalysis (reads (text_of c.args.source.specifier.now) c.args.source.media_type c.args.text) (Err e))
           c.in-Err-Parse.field-0-is c.in-Err-Parse.ensures.analysed;
-      is = rw c.in-Err-Parse.field-0-is refl;
+      is = c.unparsed.ensures ∙ rw c.in-Err-Parse.field-0-is refl;
     }

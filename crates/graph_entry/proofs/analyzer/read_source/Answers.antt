@@ -1,5 +1,6 @@
 use Rattle.std.proofs.Common.{refl, ap, subst, List, ℕ, Err}
 use Rattle.url.specs.Parts.{serialize}
+use Rattle.parse_diagnostic.specs.Diagnosis.{told_range}
 use Rattle.source_sites.specs.Fault.{IsFaultAt, Refuses}
 use Rattle.graph_entry.specs.Specifier.{text_of}
 use Rattle.graph_entry.specs.Reading.{diagnosis_at, with_sites, no_program}
@@ -17,5 +18,5 @@ returns-in-Err-Diagnostic c =
     let is : IsFaultAt (serialize c.args.specifier.now) c.args.media_type c.args.text.now fault
     = subst (Refuses (IsFaultAt (serialize c.args.specifier.now) c.args.media_type c.args.text.now))
     c.in-Err-Diagnostic.field-0-is c.in-Err-Diagnostic.ensures.refused in
-    no_program fault.kind fault.range is.1
-    (ap (λ (s : List ℕ). Err (diagnosis_at s fault.kind fault.range)) is.0)
+    no_program fault.kind (told_range fault.kind fault.range) is.1
+    (ap (λ (s : List ℕ). Err (diagnosis_at s fault.kind (told_range fault.kind fault.range))) is.0)
