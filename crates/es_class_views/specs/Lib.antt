@@ -1,0 +1,2 @@
+-- members of classes
+pub mod Member
