@@ -4,47 +4,48 @@ use file_url::{
     PathToUrlError, ResolveUrlOrPathError, SpecifierError, UrlToFilePathError, resolve_import,
     resolve_url_or_path,
 };
-use std::alloc::Global;
-use std::fmt;
-use std::process::Abort;
+use std::alloc::{AllocError, Global};
 use url::Url;
 
-#[test]
-fn copies_of_import_errors(rt: HostRuntime) {
-    let referrer = Url::parse(rt.alloc(), "file:///a").expect(&rt, "a URL");
-    if let Err(error) = resolve_import(rt.alloc(), "foo", &referrer) {
-        let copy = error.copy().expect(&rt, "memory");
-        assert!(rt; copy == error && error != SpecifierError::OutOfMemory);
-    } else {
-        assert!(rt; false);
+/// What the call of a name answers.
+pub fn of_error(alloc: Global, call: &str) -> Result<String, AllocError> {
+    match call {
+        "copy of an import's error" => copy_of_an_import(alloc),
+        "copy of a path's error" => copy_of_a_path(alloc),
+        "no memory" => format!(in alloc;
+            "{}, {}, {}, {}",
+            SpecifierError::OutOfMemory,
+            PathToUrlError::OutOfMemory,
+            UrlToFilePathError::OutOfMemory,
+            ResolveUrlOrPathError::OutOfMemory
+        ),
+        _ => String::from_str(alloc, "no such call"),
     }
 }
 
-#[test]
-fn copies_of_path_errors(rt: HostRuntime) {
-    if let Err(ResolveUrlOrPathError::PathToUrl(error)) = resolve_url_or_path(rt.alloc(), "a", "") {
-        let copy = error.copy().expect(&rt, "memory");
-        assert!(rt; copy == error && error != PathToUrlError::OutOfMemory);
-        let whole = ResolveUrlOrPathError::PathToUrl(error);
-        assert!(rt; whole.copy().expect(&rt, "memory") == whole);
-    } else {
-        assert!(rt; false);
+fn copy_of_an_import(alloc: Global) -> Result<String, AllocError> {
+    let Ok(referrer) = Url::parse(alloc, "file:///a") else {
+        return String::from_str(alloc, "no URL");
+    };
+    match resolve_import(alloc, "foo", &referrer) {
+        Ok(_) => String::from_str(alloc, "a URL"),
+        Err(error) => {
+            let copy = error.copy()?;
+            let (same, other) = (copy == error, error == SpecifierError::OutOfMemory);
+            format!(in alloc; "same {same}, no memory {other}")
+        }
     }
 }
 
-// What the error displays.
-fn shown<E: fmt::Display>(rt: &impl Abort, alloc: Global, error: &E) -> String {
-    format!(in alloc; "{error}").expect(rt, "memory")
-}
-
-#[test]
-fn out_of_memory_is_displayed(rt: HostRuntime) {
-    for told in [
-        shown(&rt, rt.alloc(), &SpecifierError::OutOfMemory),
-        shown(&rt, rt.alloc(), &PathToUrlError::OutOfMemory),
-        shown(&rt, rt.alloc(), &UrlToFilePathError::OutOfMemory),
-        shown(&rt, rt.alloc(), &ResolveUrlOrPathError::OutOfMemory),
-    ] {
-        assert_eq!(rt; told.as_str(), "out of memory");
+fn copy_of_a_path(alloc: Global) -> Result<String, AllocError> {
+    match resolve_url_or_path(alloc, "a", "") {
+        Err(ResolveUrlOrPathError::PathToUrl(error)) => {
+            let copy = error.copy()?;
+            let (same, other) = (copy == error, error == PathToUrlError::OutOfMemory);
+            let whole = ResolveUrlOrPathError::PathToUrl(error);
+            let copies = whole.copy()? == whole;
+            format!(in alloc; "same {same}, no memory {other}, whole {copies}")
+        }
+        _ => String::from_str(alloc, "a URL"),
     }
 }
