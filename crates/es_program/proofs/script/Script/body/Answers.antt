@@ -1,0 +1,8 @@
+use Rattle.es_ast.specs.declared.ast.Program.TheVariants as vProgram
+use Rattle.es_program.proofs.script.Script.body.Goals as goal
+
+-- the parts of the node
+pub returns : goal.returns
+returns c =
+    rw (c.as_str.ensures, c.as_slice.ensures)
+    (c.body.ensures (vProgram.Script c.args.self.now) c.source-source.ensures.typed)

@@ -1,0 +1,6 @@
+use Rattle.es_ast.specs.declared.ast.Program.TheVariants as vProgram
+use Rattle.es_program.proofs.script.Script.shebang.Goals as goal
+
+-- the line of the node
+pub returns : goal.returns
+returns c = c.shebang.ensures (vProgram.Script c.args.self.now) c.source.ensures.typed

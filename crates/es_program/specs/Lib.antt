@@ -1,0 +1,8 @@
+-- what a row is as a program
+pub mod Typed
+-- what stands behind an owner
+pub mod Sources
+-- the program that an owner is
+pub mod Forms
+-- where a text is cut
+pub mod Cuts

@@ -1,0 +1,107 @@
+//! Modules.
+ghost use Rattle.std.specs.Prelude.{◌≡◌, None, Some, IfOk, MatchOption};
+ghost use Rattle.es_ast.specs.declared.ast.Program.TheVariants as program;
+ghost use Rattle.es_site.specs.Sites.{sites_of};
+ghost use Rattle.std.specs.Arc.{arc_value};
+ghost use Rattle.es_ast.specs.declared.ast.Module.{Module as Typed};
+ghost use Rattle.es_program.specs.Typed.{program_at, HasBody};
+ghost use Rattle.es_program.specs.Sources.{typed_of, Keeps};
+
+use crate::source::Source;
+use base::Range;
+use es_site::Site;
+use es_syntax::Row;
+use es_token::Token;
+use std::alloc::{AllocError, Global};
+use std::marker::Model;
+use std::sync::Arc;
+
+/// A module: its text, its tokens, what stands where, and its sites. Its copies share all of it.
+#[derive(Drop)]
+pub struct Module {
+    source: Arc<Source>,
+}
+
+impl Model for Module {
+    ghost use Rattle.std.specs.Arc.{arc_value};
+    ghost use Rattle.std.specs.Coded.{codes};
+    ghost use Rattle.es_ast.specs.declared.ast.Module.{Module as Typed};
+    ghost use Rattle.es_ast.specs.declared.ast.Program.TheVariants as program;
+    ghost use Rattle.es_ast.specs.contracts.ast.ModuleItem as items;
+    ghost use Rattle.es_program.specs.Typed.{the_module};
+    ghost use Rattle.es_program.specs.Sources.{typed_of, Keeps};
+
+    ghost Value = { Typed };
+
+    ghost coded = { Prim.hlevel (codes, items.the_row.coded) };
+
+    ghost view = { λ it. the_module (typed_of (arc_value it.source)) };
+
+    ghost invariant = { λ it. Keeps (arc_value it.source) (program.Module (the_module (typed_of (arc_value it.source)))) };
+}
+
+impl Module {
+    /// Of what holds a module.
+    #[tactic(auto, using(crate::proofs::Owners::module_keeps))]
+    pub fn new(source: Arc<Source>) -> Module
+        requires { (it : Typed) × Keeps (arc_value source) (program.Module it) }
+        ensures { typed_of (arc_value source) ≡ Some (program.Module result) }
+    {
+        Module { source }
+    }
+
+    fn source(&self) -> &Source
+        ensures { Keeps result.now (program.Module self.now) }
+    {
+        &self.source
+    }
+
+    /// Its text, its tokens and its parts.
+    pub fn parts(&self) -> (&str, &[Token], Row<'_>)
+        ensures { program_at result.0.now result.1.now result.2.entries.now ≡ Some (program.Module self.now) }
+    {
+        let source = self.source();
+        (source.text.as_str(), source.tokens.as_slice(), source.row())
+    }
+
+    /// The places where it names other modules, in the order of the text.
+    pub fn sites(&self) -> &[Site]
+        ensures { result.now ≡ sites_of (program.Module self.now) }
+    {
+        self.source().sites.as_slice()
+    }
+
+    pub fn span(&self) -> Range
+        ensures { result ≡ self.now.span }
+    {
+        self.source().span()
+    }
+
+    /// The line behind `#!`, without them.
+    pub fn shebang(&self) -> Option<&str>
+        ensures { MatchOption result (self.now.shebang ≡ None) (λ line. self.now.shebang ≡ Some line.now) }
+    {
+        self.source().shebang()
+    }
+
+    /// Its text, its tokens, and its items as turns.
+    pub fn body(&self) -> (&str, &[Token], Row<'_>)
+        ensures { HasBody result.0.now result.1.now (program.Module self.now) result.2.entries.now }
+    {
+        let source = self.source();
+        (
+            source.text.as_str(),
+            source.tokens.as_slice(),
+            source.body(),
+        )
+    }
+
+    /// One more reference to the same module.
+    pub fn copy(&self) -> Result<Module, AllocError>
+        ensures { IfOk result (λ copy. copy ≡ self.now) }
+    {
+        Ok(Module {
+            source: self.source.clone()?,
+        })
+    }
+}
