@@ -6,75 +6,38 @@ use deno_path_util::{
     atomic_write_file_with_retries, file_name, get_atomic_path,
 };
 use std::alloc::{AllocError, Global};
-use std::process::Abort;
 
-/// A path, and its temporary one where the drawn bytes are 3D.
-const TEMPORARY: &[(&str, &str)] = &[
-    ("/a/b.ts/", "/a/b.3d3d3d3d.tmp"),
-    ("/a/b/c", "/a/b/c.3d3d3d3d.tmp"),
-    ("b.tar.gz", "b.tar.3d3d3d3d.tmp"),
-    ("./.b/.", "./.b.3d3d3d3d.tmp"),
-];
+/// The calls that sleep between six tries.
+const SLEEPS: [usize; 5] = [8, 17, 26, 35, 44];
 
-/// The old content of `/a/b/c`, the call that fails, what is answered, and the calls behind those for random bytes.
-const WRITES: &[(&str, u64, &str, &str)] = &[
-    (
-        "",
-        99,
-        "ok",
-        "Open /a/b/c.3d3d3d3d.tmp 438 refused;CreateDirAll /a/b 0;Open /a/b/c.3d3d3d3d.tmp 438;\
-        WriteAll /a/b/c.3d3d3d3d.tmp 0;Rename /a/b/c.3d3d3d3d.tmp 0;",
-    ),
-    (
-        "old",
-        6,
-        "Failed: the call failed (for '/a/b/c')",
-        "Open /a/b/c.3d3d3d3d.tmp 438;WriteAll /a/b/c.3d3d3d3d.tmp 0;\
-        Rename /a/b/c.3d3d3d3d.tmp 0 refused;Remove /a/b/c.3d3d3d3d.tmp 0;",
-    ),
-    (
-        "",
-        5,
-        "Failed: the call failed (for '/a/b')\nCheck the permission of the directory.",
-        "Open /a/b/c.3d3d3d3d.tmp 438 refused;CreateDirAll /a/b 0 refused;Exists /a/b 0;",
-    ),
-    ("old", 3, "Failed: the call failed", "Random  0 refused;"),
-];
-
-/// The calls that sleep between six tries, and how long.
-const SLEEPS: &[(usize, u64)] = &[(8, 10), (17, 20), (26, 30), (35, 40), (44, 50)];
-
-fn text(rt: &impl Abort, alloc: Global, text: &str) -> Text {
-    Text::from_str(alloc, text).expect(rt, "memory")
-}
-
-fn bytes(rt: &impl Abort, alloc: Global, bytes: &[u8]) -> Items<u8> {
-    Items::from_vec(bytes.to_vec(alloc).expect(rt, "memory"))
+fn bytes(alloc: Global, bytes: &[u8]) -> Result<Items<u8>, AllocError> {
+    Ok(Items::from_vec(bytes.to_vec(alloc)?))
 }
 
 // The file `/z`, which holds `other`, and where `old` isn't empty, `/a/b/c`.
-fn files(rt: &impl Abort, alloc: Global, old: &str) -> Items<(Text, Items<u8>)> {
+fn files(alloc: Global, old: &str) -> Result<Items<(Text, Items<u8>)>, AllocError> {
     let mut files = Items::new(alloc);
     for (path, content) in [("/a/b/c", old), ("/z", "other")] {
         if !content.is_empty() {
-            let file = (text(rt, alloc, path), bytes(rt, alloc, content.as_bytes()));
-            files.push(file).expect(rt, "memory");
+            files.push((
+                Text::from_str(alloc, path)?,
+                bytes(alloc, content.as_bytes())?,
+            ))?;
         }
     }
-    files
+    Ok(files)
 }
 
 // A system with these files and the random byte 3D.
-fn system(rt: &impl Abort, alloc: Global, old: &str, failing: &[u64]) -> InMemorySys {
+fn system(alloc: Global, old: &str, failing: &[u64]) -> Result<InMemorySys, AllocError> {
     InMemorySys::new(
         alloc,
-        files(rt, alloc, old),
+        files(alloc, old)?,
         Items::new(alloc),
-        text(rt, alloc, "/"),
-        bytes(rt, alloc, &[0x3D]),
-        Items::from_vec(failing.to_vec(alloc).expect(rt, "memory")),
+        Text::from_str(alloc, "/")?,
+        bytes(alloc, &[0x3D])?,
+        Items::from_vec(failing.to_vec(alloc)?),
     )
-    .expect(rt, "memory")
 }
 
 fn reads(call: &SysCall, path: &str, expected: &str) -> bool {
@@ -145,70 +108,59 @@ fn written<S: AtomicWriteFileWithRetriesSys>(
     }
 }
 
-#[test]
-fn temporary_paths(rt: HostRuntime) {
-    for (path, expected) in TEMPORARY.iter() {
-        let mut sys = system(&rt, rt.alloc(), "", &[]);
-        assert!(rt; file_name(path).is_some());
-        match get_atomic_path(rt.alloc(), &mut sys, path) {
-            Ok(temporary) => assert_eq!(rt; temporary.as_str(), *expected),
-            Err(_) => assert!(rt; false, "{path}"),
-        }
+/// The temporary path of a path, where the drawn bytes are 3D.
+pub fn temporary(alloc: Global, path: &str) -> Result<String, AllocError> {
+    if file_name(path).is_none() {
+        return String::from_str(alloc, "no name");
+    }
+    let mut sys = system(alloc, "", &[])?;
+    match get_atomic_path(alloc, &mut sys, path) {
+        Ok(temporary) => Ok(temporary),
+        Err(error) => format!(in alloc; "{error}"),
     }
 }
 
-#[test]
-fn writes(rt: HostRuntime) {
-    for (old, failing, answer, made) in WRITES.iter() {
-        let mut sys = system(&rt, rt.alloc(), old, &[*failing]);
-        let result = written(rt.alloc(), &mut sys, false);
-        assert_eq!(rt;
-            said(rt.alloc(), &result).expect(&rt, "memory").as_str(),
-            *answer
-        );
-        assert_eq!(rt;
-            calls(rt.alloc(), sys.log()).expect(&rt, "memory").as_str(),
-            *made
-        );
-        assert!(rt; is_lawful(sys.log(), old));
-    }
+/// What a write of `/a/b/c` answers where that file holds `old`, or isn't there, and one call fails; then whether each
+/// state is lawful, and the calls.
+pub fn write(alloc: Global, old: &str, failing: u64) -> Result<String, AllocError> {
+    let mut sys = system(alloc, old, &[failing])?;
+    let result = written(alloc, &mut sys, false);
+    let (answer, made) = (said(alloc, &result)?, calls(alloc, sys.log())?);
+    format!(in alloc; "{answer}, lawful {}: {made}", is_lawful(sys.log(), old))
 }
 
-// Whether the law holds of a write where these calls fail.
-fn keeps_law(rt: &impl Abort, alloc: Global, old: &str, failing: &[u64]) -> bool {
-    let mut sys = system(rt, alloc, old, failing);
+/// Whether the law holds of a write where two calls fail: in each state, and at the end.
+pub fn law(alloc: Global, old: &str, first: u64, second: u64) -> Result<String, AllocError> {
+    let mut sys = system(alloc, old, &[first, second])?;
     let done = written(alloc, &mut sys, false).is_ok();
-    is_lawful(sys.log(), old) && ends_well(sys.log(), done, old)
+    let (log, lawful) = (sys.log(), is_lawful(sys.log(), old));
+    format!(in alloc; "lawful {lawful}, ends well {}", ends_well(log, done, old))
 }
 
-// Each call failing in turn, and each pair of calls: the law is read from the log.
-#[test]
-fn law_under_faults(rt: HostRuntime) {
-    for first in 0..11 {
-        for second in first..11 {
-            assert!(rt;
-                keeps_law(&rt, rt.alloc(), "", &[first, second]),
-                "{first} {second}"
-            );
-            assert!(rt;
-                keeps_law(&rt, rt.alloc(), "old", &[first, second]),
-                "{first} {second}"
-            );
+/// A write of which every rename fails: what it answers, how many calls it makes, how long it sleeps between the tries,
+/// whether it is lawful, and whether it leaves a temporary file.
+pub fn six_tries(alloc: Global) -> Result<String, AllocError> {
+    let mut sys = system(alloc, "old", &[6, 15, 24, 33, 42, 51])?;
+    let result = written(alloc, &mut sys, true);
+    let answer = said(alloc, &result)?;
+    let sleeps = sleeps(alloc, sys.log())?;
+    let (log, lawful) = (sys.log(), is_lawful(sys.log(), "old"));
+    let (ends, rest) = (
+        ends_well(log, false, "old"),
+        sys.file("/a/b/c.3d3d3d3d.tmp").is_some(),
+    );
+    format!(in alloc;
+        "{answer}: {} calls, sleeps {sleeps}lawful {lawful}, ends well {ends}, left {rest}",
+        log.len()
+    )
+}
+
+fn sleeps(alloc: Global, log: &[SysCall]) -> Result<String, AllocError> {
+    let mut told = String::new(alloc);
+    for at in SLEEPS {
+        if let Some(call) = log.get(at) {
+            told.push_str(format!(in alloc; "{} ", call.number)?.as_str())?;
         }
     }
-}
-
-// Every rename fails: six tries, with longer and longer sleeps between, and nothing is left behind.
-#[test]
-fn six_tries(rt: HostRuntime) {
-    let mut sys = system(&rt, rt.alloc(), "old", &[6, 15, 24, 33, 42, 51]);
-    let result = written(rt.alloc(), &mut sys, true);
-    let answer = said(rt.alloc(), &result).expect(&rt, "memory");
-    assert_eq!(rt; answer.as_str(), "Failed: the call failed (for '/a/b/c')");
-    let log = sys.log();
-    assert!(rt; log.len() == 53 && is_lawful(log, "old") && ends_well(log, false, "old"));
-    for (number, ms) in SLEEPS.iter() {
-        assert!(rt; log.get(*number).is_some_and(|call| call.number == *ms));
-    }
-    assert_eq!(rt; sys.file("/a/b/c.3d3d3d3d.tmp"), None);
+    Ok(told)
 }
