@@ -118,11 +118,11 @@ module _ (rules : Rules) (once : IsFunctional rules) (starts : List Specifier) (
   }
 
 -- the same for a log of answers that were told, where each was
-pub graph_told : (following : Following) (starts : List Specifier) (log : Log) (told : Answers)
-    (entries : List (Parts × Entry)) → IsGraph (rules_of following) starts (answer_to log) entries
-    → IsToldLog told log → ((s : Specifier) → IsSome (told s)) → IsGraph (rules_of following) starts told entries
-graph_told following starts log told entries g is all =
-    graph_agrees (rules_of following) (rules_once following) starts (answer_to log) told entries g
+pub graph_told : (rules : Rules) → IsFunctional rules → (starts : List Specifier) (log : Log) (told : Answers)
+    (entries : List (Parts × Entry)) → IsGraph rules starts (answer_to log) entries
+    → IsToldLog told log → ((s : Specifier) → IsSome (told s)) → IsGraph rules starts told entries
+graph_told rules once starts log told entries g is all =
+    graph_agrees rules once starts (answer_to log) told entries g
     (λ s p a h. by s a h (told s) refl)
   where
     by : (s : Specifier) (a : LoadAnswer) → answer_to log s ≡ Some a → (o : Option LoadAnswer) → told s ≡ o

@@ -1,7 +1,7 @@
 -- The rules of a graph with a caller's own resolver and analyser.
 use Rattle.std.specs.Prelude.{ℕ, List}
 use Rattle.url.specs.Parts.{Parts}
-use Rattle.graph_entry.specs.Resolver.{Resolving}
+use Rattle.specifier_resolver.specs.Resolver.{Resolving}
 use Rattle.graph_entry.specs.Resolution.{Resolves, resolve_by}
 use Rattle.graph_entry.specs.Reading.{Reading}
 use Rattle.graph_entry.specs.Ways.{ways_by}

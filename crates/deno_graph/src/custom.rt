@@ -55,6 +55,36 @@ impl<L: Loader + Drop, R: Resolver + Drop, M: ModuleAnalyzer + Drop> CustomBuild
         })
     }
 
+    /// The same builder with another resolver. It begins anew: the loader's lists count from now on.
+    pub fn with_resolver<S: Resolver + Drop>(
+        self,
+        resolver: S,
+    ) -> Result<CustomBuild<L, S, M>, AllocError>
+        ensures { IfOk result (λ b. b.inner ≡ new_building_by
+            (record { following = self.inner.following.following; resolver = resolver; analyzer = self.inner.following.analyzer })
+            (resolve_by (S.resolving resolver)) self.inner.roots self.inner.imports self.inner.limit
+            self.inner.loader (L.seen self.inner.loader)) }
+    {
+        let CustomBuild { inner } = self;
+        let (parts, own) = taken_apart(inner.into_parts());
+        CustomBuild::from_parts(parts, resolver, own.analyzer)
+    }
+
+    /// The same builder with another analyser. It begins anew: the loader's lists count from now on.
+    pub fn with_analyzer<N: ModuleAnalyzer + Drop>(
+        self,
+        analyzer: N,
+    ) -> Result<CustomBuild<L, R, N>, AllocError>
+        ensures { IfOk result (λ b. b.inner ≡ new_building_by
+            (record { following = self.inner.following.following; resolver = self.inner.following.resolver; analyzer = analyzer })
+            (resolve_by (R.resolving self.inner.following.resolver)) self.inner.roots self.inner.imports self.inner.limit
+            self.inner.loader (L.seen self.inner.loader)) }
+    {
+        let CustomBuild { inner } = self;
+        let (parts, own) = taken_apart(inner.into_parts());
+        CustomBuild::from_parts(parts, own.resolver, analyzer)
+    }
+
     /// Asks the loader for what is reached, takes its answers, and gives the graph once nothing is outstanding.
     /// After `NotYet` it may be polled again; after any other answer it is finished.
     pub fn poll(&mut self) -> Result<ModuleGraph, BuildError>
@@ -118,4 +148,35 @@ impl<L: Loader + Drop, R: Resolver + Drop, M: ModuleAnalyzer + Drop> CustomBuild
         let CustomBuild { inner } = self;
         inner.into_parts().loader
     }
+}
+
+/// A builder's parts with its way of following edges alone, and what resolved and read beside them.
+fn taken_apart<L: Loader + Drop, R: Resolver + Drop, M: ModuleAnalyzer + Drop>(
+    parts: Parts<L, Own<R, M>>,
+) -> (Parts<L, Following>, Own<R, M>)
+    ensures loader { result.0.loader ≡ parts.loader }
+    ensures following { result.0.following ≡ parts.following.following }
+    ensures roots { result.0.roots ≡ parts.roots }
+    ensures imports { result.0.imports ≡ parts.imports }
+    ensures limit { result.0.limit ≡ parts.limit }
+    ensures own { result.1 ≡ parts.following }
+{
+    let Parts {
+        alloc,
+        loader,
+        following: own,
+        roots,
+        imports,
+        limit,
+    } = parts;
+    let following = own.following;
+    let parts = Parts {
+        alloc,
+        loader,
+        following,
+        roots,
+        imports,
+        limit,
+    };
+    (parts, own)
 }

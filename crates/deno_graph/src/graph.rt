@@ -3,7 +3,7 @@ ghost use Rattle.std.specs.Prelude.{◌≡◌, ◌<◌, ◌↔◌, None, IsSome,
 ghost use Rattle.std.specs.Option.{option_copied};
 ghost use Rattle.numbered.specs.Numbers.{at_numbers, IsByBytes};
 ghost use Rattle.graph_entry.specs.Specifier.{text_of};
-ghost use Rattle.deno_graph.specs.Graph.{entry_of, redirected, resolved, module_at, number_in};
+ghost use Rattle.deno_graph.specs.Graph.{entry_of, redirected, resolved, module_at, number_in, IsAscending};
 ghost use Rattle.deno_graph.specs.Entries.{entries_left};
 
 use crate::by_number::{find, number};
@@ -104,7 +104,9 @@ impl ModuleGraph {
 
     /// All entries, by the bytes of their specifiers.
     pub fn entries(&self) -> Result<Entries<'_>, AllocError>
-        ensures { IfOk result (λ it. entries_left it ≡ self.now.entries) }
+        ensures left { IfOk result (λ it. entries_left it ≡ self.now.entries) }
+        // They are in that order, and no specifier has two.
+        ensures ascending { IsAscending self.now.entries }
     {
         Ok(Entries::new(&self.all, self.order.as_slice()))
     }

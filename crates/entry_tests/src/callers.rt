@@ -1,7 +1,7 @@
 //! Modules without a loader, and a caller's own resolver and analyser.
 
 ghost use Rattle.std.specs.Prelude.{◌≡◌, Err, Ok, []};
-ghost use Rattle.graph_entry.specs.declared.resolver.ResolveFault.TheVariants as fault;
+ghost use Rattle.specifier_resolver.specs.declared.resolver.ResolveFault.TheVariants as fault;
 
 use crate::lines::line_of;
 use base::{Items, Range, SharedBytes, Text};

@@ -2,7 +2,7 @@
 ghost use Rattle.std.specs.Prelude.{◌≡◌, IfOk};
 ghost use Rattle.deno_ast.specs.Parsed.{parsed_sites};
 ghost use Rattle.graph_entry.specs.Specifier.{text_of};
-ghost use Rattle.graph_entry.specs.Resolver.{resolving_or};
+ghost use Rattle.specifier_resolver.specs.Resolver.{resolving_or};
 ghost use Rattle.graph_entry.specs.Resolution.{resolve_by};
 ghost use Rattle.graph_entry.specs.Analysed as spec;
 

@@ -2,7 +2,6 @@ pub mod ResolutionLemmas
 pub mod HeadersLemmas
 pub mod RoomLemmas
 pub mod ContentLemmas
-pub mod ReadingLemmas
 pub mod AnalysedLemmas
 pub mod EdgeLemmas
 pub mod FaultLemmas

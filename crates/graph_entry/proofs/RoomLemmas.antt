@@ -13,7 +13,7 @@ use Rattle.file_url.specs.declared.errors.SpecifierError.TheVariants as specifie
 use Rattle.file_url.specs.Imports as imports
 use Rattle.file_url.specs.Imports.{refusal, resolved_as, relative_import, import_read, import_of}
 use Rattle.graph_entry.specs.declared.resolution.ResolutionError.TheVariants.{InvalidDowngrade, InvalidLocalImport}
-use Rattle.graph_entry.specs.Resolver.{as_fault, default_resolving}
+use Rattle.specifier_resolver.specs.Resolver.{as_fault, default_resolving}
 use Rattle.graph_entry.specs.Resolution.{Resolved, KeepsReason, kept_of, kept_resolving, target_by, resolve_by, resolve, is_downgrade, is_local_import, allowed, allowed_from}
 
 -- this refusal is not that room ran out

@@ -5,7 +5,7 @@ pub use Rattle.media_type.specs.Endings
 pub use Rattle.media_type.specs.ContentTypes
 pub use Rattle.module_text.specs.ModuleText
 pub use Rattle.file_url.specs.Imports
-pub mod Resolver
+pub use Rattle.specifier_resolver.specs.Resolver
 pub mod Resolution
 pub mod Headers
 pub use Rattle.parse_diagnostic.specs.Diagnosis

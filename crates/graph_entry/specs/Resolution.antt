@@ -6,8 +6,8 @@ use Rattle.url.specs.Parts.{Parts}
 use Rattle.url.specs.Parser.{Parsed, parse_url, IsOutOfRoom}
 use Rattle.file_url.specs.declared.errors.SpecifierError.TheVariants as specifier
 use Rattle.file_url.specs.Imports as imports
-use Rattle.graph_entry.specs.declared.resolver.ResolveFault.TheVariants as fault
-use Rattle.graph_entry.specs.Resolver.{Resolving, default_resolving}
+use Rattle.specifier_resolver.specs.declared.resolver.ResolveFault.TheVariants as fault
+use Rattle.specifier_resolver.specs.Resolver.{Resolving, default_resolving}
 use Rattle.graph_entry.specs.declared.resolution.ResolutionError.{ResolutionError}
 use Rattle.graph_entry.specs.declared.resolution.ResolutionError.TheVariants.{ImportPrefixMissing, InvalidUrl, InvalidDowngrade, InvalidLocalImport, InvalidTypeAssertion, Refused}
 

@@ -1,7 +1,7 @@
 -- How specifiers are resolved and sources are read: what a caller may put in the place of the URL Standard and of the parser.
 use Rattle.std.specs.Prelude.{ℕ, List}
 use Rattle.url.specs.Parts.{Parts}
-use Rattle.graph_entry.specs.Resolver.{Resolving, default_resolving}
+use Rattle.specifier_resolver.specs.Resolver.{Resolving, default_resolving}
 use Rattle.graph_entry.specs.Resolution.{Resolves, resolve_by}
 use Rattle.graph_entry.specs.Reading.{Reading, ReadsSource}
 

@@ -17,13 +17,13 @@ use crate::entry::{Dependency, Entry, JsModule, Module, ModuleError};
 use crate::headers::Headers;
 use crate::json::{analyse_json, no_text};
 use crate::resolution::{ReadAgain, read_again, resolve_from};
-use crate::resolver::{DefaultResolver, Resolver};
 use crate::wasm::analyse_wasm;
 use base::{Items, SharedBytes};
 use es_site::Site;
 use media_type::{MediaType, ModuleKind};
 use parse_diagnostic::{KeptDiagnostic, ParseDiagnostic};
 use source_text::SourceText;
+use specifier_resolver::{DefaultResolver, Resolver};
 use std::alloc::{AllocError, Global};
 use url::Url;
 

@@ -2,7 +2,7 @@
 ghost use Rattle.std.specs.Prelude.{◌≡◌, IfOk, option_map};
 ghost use Rattle.graph_entry.specs.Specifier.{text_of};
 ghost use Rattle.graph_entry.specs.Headers.{headers_of, headers_or_none};
-ghost use Rattle.graph_entry.specs.Resolver.{resolving_or};
+ghost use Rattle.specifier_resolver.specs.Resolver.{resolving_or};
 ghost use Rattle.graph_entry.specs.Ways.{ways_by};
 ghost use Rattle.graph_entry.specs.Analysed.{OfContent, IsParsed, media_type_at};
 
@@ -10,8 +10,8 @@ use crate::analysis::analyse_content;
 use crate::analyzer::ModuleAnalyzer;
 use crate::entry::{Entry, Module, ModuleError};
 use crate::headers::Headers;
-use crate::resolver::{DefaultResolver, Resolver};
 use base::SharedBytes;
+use specifier_resolver::{DefaultResolver, Resolver};
 use std::alloc::{AllocError, Global};
 use std::collections::BTreeMap;
 use url::Url;

@@ -7,9 +7,9 @@ ghost use Rattle.graph_entry.specs.Referrer as spec;
 
 use crate::entry::Dependency;
 use crate::resolution::resolve_by;
-use crate::resolver::{DefaultResolver, Resolver};
 use base::{Items, Text};
 use es_site::{Attribute, DependencyKind};
+use specifier_resolver::{DefaultResolver, Resolver};
 use std::alloc::{AllocError, Global};
 use url::Url;
 

@@ -5,9 +5,9 @@ ghost use Rattle.file_url.specs.Imports.{import_of};
 ghost use Rattle.graph_entry.specs.Specifier.{text_of};
 ghost use Rattle.graph_entry.specs.Resolution as spec;
 
-use crate::resolver::{DefaultResolver, ResolveFault, Resolver};
 use base::Text;
 use file_url::{SpecifierError, resolve_import_from};
+use specifier_resolver::{DefaultResolver, ResolveFault, Resolver};
 use std::alloc::{AllocError, Global};
 use std::fmt;
 use url::{ParseError, Url};

@@ -9,12 +9,12 @@ use crate::analysis::analyse_as;
 use crate::analyzer::{ModuleAnalyzer, ParserModuleAnalyzer};
 use crate::entry::{Entry, ModuleError};
 use crate::resolution::read_again;
-use crate::resolver::{DefaultResolver, Resolver};
 use base::SharedBytes;
 use data_specifier::{DataError, DataModule, parse_data_text};
 use lexical_path::begins;
 use media_type::MediaType;
 use package_ref::{PackageError, parse_package_ref};
+use specifier_resolver::{DefaultResolver, Resolver};
 use std::alloc::{AllocError, Global};
 use url::Url;
 

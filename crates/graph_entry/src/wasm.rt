@@ -9,9 +9,9 @@ ghost use Rattle.graph_entry.specs.Steps.{GivesEdges};
 
 use crate::entry::{Dependency, Entry, Module, ModuleError, WasmModule};
 use crate::resolution::{ReadAgain, resolve_from};
-use crate::resolver::Resolver;
 use base::{Items, SharedBytes, Text};
 use es_site::{Attribute, DependencyKind};
+use specifier_resolver::Resolver;
 use std::alloc::{AllocError, Global};
 use url::Url;
 use wasm_dep_analyzer::{Import, ParseError, ParseOptions, WasmDeps};

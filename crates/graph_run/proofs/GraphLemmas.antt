@@ -12,7 +12,7 @@ use Rattle.deno_graph.specs.Memory.{tells, module_answer}
 use Rattle.deno_graph.specs.Events.{Event, IsSettled}
 use Rattle.deno_graph.specs.Loader.{Falls, NeverRises}
 use Rattle.deno_graph.specs.Builder.{IsToldLog, IsTooMany}
-use Rattle.deno_graph.proofs.Theorems.{graph_told, reached_grows}
+use Rattle.deno_graph.proofs.Theorems.{rules_once, graph_told, reached_grows}
 use Rattle.graph_run.specs.Steps.{SaysLarge, waits_left}
 
 -- ---- a builder over a loader in memory
@@ -30,7 +30,8 @@ pub built_graph : (following : Following) (r : Result GraphData BuildError) (fro
     → IfOk r (λ g. IsGraph (rules_of following) starts (tells modules) g.entries)
 built_graph following (Ok g) from starts log now modules same_starts same_told as_told graph =
     let over_told : IsGraph (rules_of following) from (tells now) g.entries =
-    graph_told following from log (tells now) g.entries graph as_told (λ s. refl) in
+    graph_told (rules_of following) (rules_once following) from log (tells now) g.entries graph as_told
+    (λ s. refl) in
     subst (λ (ss : List Specifier). IsGraph (rules_of following) ss (tells modules) g.entries) same_starts
     (subst (λ (told : Answers). IsGraph (rules_of following) from told g.entries) same_told over_told)
 built_graph following (Err e) from starts log now modules same_starts same_told as_told graph = tt
