@@ -5,4 +5,6 @@ mod Alike
 mod Keys
 mod Places
 mod Texts
+mod Strings
+mod Applied
 pub mod Theorems

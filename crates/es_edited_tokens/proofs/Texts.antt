@@ -60,18 +60,18 @@ tokens_cut (token k s ∷ ps) before x front w e =
     (token_cut (place_of before) x front s ps w e) ∙ ap (λ ys. s ∷ ys) others
 
 -- ---- and so says the definition of the new ones
-other_start : (c r : Range) → (c.start ≡ r.start → ⊥) → is_range c r ≡ false
+pub other_start : (c r : Range) → (c.start ≡ r.start → ⊥) → is_range c r ≡ false
 other_start c r differs = ap (λ (b : Bool). b && c.end == r.end) (ne_eqb c.start r.start differs)
 
 same_range : (a b : ℕ) → is_range (record { start = a; end = b }) (record { start = a; end = b }) ≡ true
 same_range a b = ap (λ (c : Bool). c && b == b) (eq-eqb a a refl) ∙ eq-eqb b b refl
 
-passed : (c : TextChange) (cs : List TextChange) (x : List ℕ) (r : Range) → is_range c.range r ≡ false
+pub passed : (c : TextChange) (cs : List TextChange) (x : List ℕ) (r : Range) → is_range c.range r ≡ false
     → text_to (c ∷ cs) x r ≡ text_to cs x r
 unfolding text_to
 passed c cs x r other = ap (λ (b : Bool). if b then c.new_text else text_to cs x r) other
 
-met : (a b : ℕ) (t : List ℕ) (cs : List TextChange) (x : List ℕ)
+pub met : (a b : ℕ) (t : List ℕ) (cs : List TextChange) (x : List ℕ)
     → text_to (change_of a b t ∷ cs) x (record { start = a; end = b }) ≡ t
 unfolding text_to
 met a b t cs x = ap (λ (c : Bool). if c then t else text_to cs x (record { start = a; end = b })) (same_range a b)

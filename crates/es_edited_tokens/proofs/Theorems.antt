@@ -1,7 +1,9 @@
 -- String literals that are chosen among the tokens of a text, with others in their places: the new text and its reading.
-use Rattle.std.proofs.Common.{◌≡◌, ℕ, ◌+◌, List, [], ◌∷◌, ◌++◌, length, map, drop, slice_get, slice_range, Some, sym, ◌∙◌, ap, subst, arith, length-append, append_assoc, inl, inr}
+use Rattle.std.proofs.Common.{◌≡◌, ℕ, ◌+◌, ◌<◌, ◌≤◌, List, [], ◌∷◌, ◌++◌, length, map, drop, slice_get, slice_range, Some, None, sym, ◌∙◌, ap, subst, arith, length-append, append_assoc, inl, inr}
 use Rattle.std.specs.Option.{option_map}
-use Rattle.std.proofs.lemmas.Option.{slice_get-map}
+use Rattle.std.specs.Str.{IsUtf8}
+use Rattle.std.proofs.lemmas.Option.{slice_get-map, none-some}
+use Rattle.base.specs.declared.range.Range.{Range}
 use Rattle.es_literal.specs.Strings.{IsString}
 use Rattle.es_token.specs.declared.token.Token.{Token}
 use Rattle.es_token.specs.declared.token.Comment.{Comment}
@@ -12,11 +14,16 @@ use Rattle.es_lexer.specs.Pieces.{Piece, blank, line_end, comment, token, spelli
 use Rattle.es_lexer.specs.Readable.{ArePieces, IsToken}
 use Rattle.es_lexer.specs.Reads.{Reads, token_of, tokens_of}
 use Rattle.es_lexer.proofs.PlaceLemmas.{literal_of}
+use Rattle.es_lexer.proofs.Theorems.{reads_within, reads_boundary, reads_spells}
 use Rattle.text_changes.specs.declared.change.TextChange.{TextChange}
+use Rattle.text_changes.specs.declared.error.TextChangeError.{TextChangeError}
 use Rattle.text_changes.specs.Changes as text
+use Rattle.text_changes.proofs.Theorems.{one_order}
 use Rattle.es_edited_tokens.specs.Moved.{moved, range_to, token_to, comment_to, cut, text_to, Replaces, Chosen, Moved}
 use Rattle.es_edited_tokens.proofs.Places.{change_of, Changes, ends, kept, changed, drop_front, cut_kept, reads_moved, moved_keys}
 use Rattle.es_edited_tokens.proofs.Texts.{texts_moved}
+use Rattle.es_edited_tokens.proofs.Strings.{str_of}
+use Rattle.es_edited_tokens.proofs.Applied.{Runs, runs, cuts_none, faultless, in_order, told, chosen_token}
 
 -- ---- the pieces of the new text
 abbrev Other : ℕ → List Piece → List TextChange → Type 0
@@ -119,3 +126,75 @@ text_moves x ts cs changes n t r c g =
     let two : slice_get (map old ts) n ≡ Some (old t) = slice_get-map old ts n ∙ ap (option_map old) g in
     let same : Some (new t) ≡ Some (old t) = sym one ∙ (ap (λ us. slice_get us n) m.texts ∙ two) in
     cc
+
+-- the choice of a string literal is told by its text: no other token is one
+pub reads_only_str : (x : List ℕ) (ts : List Token) (cs : List Comment) (n : ℕ) (t : Token) → Reads x ts cs
+    → slice_get ts n ≡ Some t → IsString (slice_range x t.range.start t.range.end) → t.kind ≡ Str
+reads_only_str x ts cs n t r g i =
+    let spelled = reads_spells x ts cs n t r g in str_of spelled.0 t.kind _ spelled.1 i
+
+-- ---- the changes can be applied
+runs_of : (x : List ℕ) (ts : List Token) (cs : List Comment) (changes : List TextChange) → Reads x ts cs
+    → Chosen ts changes → Runs 0 changes
+runs_of x ts cs changes r c =
+    let other = choose [] r.pieces changes r.each (subst (λ (us : List Token). Chosen us changes) r.tokens_are c) in
+    runs 0 0 r.pieces other.0 changes (omega arith) other.1
+
+-- they are in order, so the text that they make is this one
+pub changes_apply : (x : List ℕ) (ts : List Token) (cs : List Comment) (changes : List TextChange) (y : List ℕ)
+    → Reads x ts cs → Chosen ts changes → text.IsChanged x changes y → y ≡ text.changed x 0 changes
+changes_apply x ts cs changes y r c i =
+    i.value ∙ ap (text.changed x 0)
+    (one_order changes i.sorted changes i.in_order (in_order 0 changes (runs_of x ts cs changes r c)))
+
+-- and of a text of characters none is faulty
+pub changes_pass : (x : List ℕ) (ts : List Token) (cs : List Comment) (changes : List TextChange)
+    (fault : TextChangeError) → IsUtf8 x → Reads x ts cs → Chosen ts changes → text.IsRefused x changes fault → ⊥
+changes_pass x ts cs changes fault u r c i =
+    let order = runs_of x ts cs changes r c in
+    let same : i.sorted ≡ changes = one_order changes i.sorted changes i.in_order (in_order 0 changes order) in
+    let none : text.first_fault x 0 0 changes ≡ None = faultless x 0 0 changes order
+    (cuts_none x ts changes (λ n t g. reads_boundary x ts cs n t u r g) c) in
+    none-some fault (sym none ∙ (ap (text.first_fault x 0 0) (sym same) ∙ i.faulty))
+
+-- ---- where each change is
+abbrev range : ℕ → ℕ → Range
+range start end = record { start = start; end = end }
+
+same_range : (a b c d : ℕ) → c ≡ a → d ≡ b → range a b ≡ range c d
+same_range a b c d s e = cc
+
+range_by : (r q : Range) → q.start ≡ r.start → q.end ≡ r.end → r ≡ q
+range_by r q s e = same_range r.start r.end q.start q.end s e
+
+at_token : (x : List ℕ) (ts : List Token) (cs : List Comment) (changes : List TextChange) (n : ℕ) (t : Token)
+    → Reads x ts cs → Chosen ts changes → slice_get ts n ≡ Some t
+    → (moved changes t.range.start < moved changes t.range.end)
+    × (moved changes t.range.end ≤ length (text.changed x 0 changes))
+at_token x ts cs changes n t r c g =
+    let m = literals_move x ts cs changes r c in
+    let there : slice_get (map (token_to (moved changes)) ts) n ≡ Some (token_to (moved changes) t) =
+    slice_get-map (token_to (moved changes)) ts n ∙ ap (option_map (token_to (moved changes))) g in
+    reads_within (text.changed x 0 changes) (map (token_to (moved changes)) ts) (map (comment_to (moved changes)) cs) n
+    (token_to (moved changes) t) m.reads there
+
+-- at its moved range, which is not empty and lies within the new text, stands its new literal
+pub change_stands : (x : List ℕ) (ts : List Token) (cs : List Comment) (changes : List TextChange) (k : ℕ)
+    (c : TextChange) → Reads x ts cs → Chosen ts changes → slice_get changes k ≡ Some c
+    → (moved changes c.range.start < moved changes c.range.end)
+    × (moved changes c.range.end ≤ length (text.changed x 0 changes))
+    × (cut (text.changed x 0 changes) (range_to (moved changes) c.range) ≡ c.new_text)
+change_stands x ts cs changes k c r h at =
+    let found = chosen_token ts changes k c h at in
+    let t : Token = found.1 in
+    let there : slice_get ts found.0 ≡ Some t = found.2 in
+    let replaces : Replaces t c = found.3 in
+    let same : t.range ≡ c.range = range_by t.range c.range replaces.starts replaces.ends in
+    let place = at_token x ts cs changes found.0 t r h there in
+    let slice : cut (text.changed x 0 changes) (range_to (moved changes) t.range) ≡ text_to changes x t.range =
+    text_moves x ts cs changes found.0 t r h there in (
+      subst (λ (q : Range). moved changes q.start < moved changes q.end) same place.0,
+      subst (λ (q : Range). moved changes q.end ≤ length (text.changed x 0 changes)) same place.1,
+      subst (λ (q : Range). cut (text.changed x 0 changes) (range_to (moved changes) q) ≡ text_to changes x q) same slice
+          ∙ told 0 changes x k c (runs_of x ts cs changes r h) at,
+    )
