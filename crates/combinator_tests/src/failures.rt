@@ -1,28 +1,55 @@
-use base::Text;
-use monch_core::{ParseErrorFailure, ParseErrorFailureError};
-use std::borrow::CowStr;
-use std::test::Fail;
+//! What failures display, and copies of them.
 
-// What failures display, and copies of them.
-#[test]
-fn failures(rt: HostRuntime) -> Result<(), Fail> {
-    let alloc = rt.alloc();
-    let failure = ParseErrorFailure::new("b", CowStr::Borrowed("No b."));
-    let copy = failure.copy()?;
-    assert_eq!(rt; copy.input, "b");
-    assert_eq!(rt; copy.message.as_str(), "No b.");
-    for (error, want) in [
-        (
-            ParseErrorFailure::new_for_trailing_input("b").into_error(alloc)?,
-            "Unexpected character.\n  b\n  ~",
-        ),
-        (
-            ParseErrorFailureError::new(Text::from_str(alloc, "No more.")?),
-            "No more.",
-        ),
-    ] {
-        assert_eq!(rt; format!(in alloc; "{error}")?.as_str(), want);
-        assert!(rt; error.copy()? == error);
+use base::Text;
+use monch::{Combinator, HandledError, ParseResult, ch, map_res, tag, with_failure_handling};
+use monch_core::{ParseErrorFailure, ParseErrorFailureError};
+use std::alloc::{AllocError, Global};
+use std::borrow::CowStr;
+
+/// What the call of a name answers of a text.
+pub fn of_failure(alloc: Global, name: &str, text: &str) -> Result<String, AllocError> {
+    match name {
+        "copy" => copy(alloc, text),
+        "trailing" => {
+            let error = ParseErrorFailure::new_for_trailing_input(text).into_error(alloc)?;
+            displayed(alloc, &error)
+        }
+        "message" => {
+            let error = ParseErrorFailureError::new(Text::from_str(alloc, text)?);
+            displayed(alloc, &error)
+        }
+        "whole a" => whole(alloc, text),
+        "reads a" => format!(in alloc; "{}", map_res(ch('a'), succeeds).parse(text)),
+        "memory" => format!(in alloc; "{}", HandledError::OutOfMemory),
+        _ => String::from_str(alloc, "no such call"),
     }
-    Ok(())
+}
+
+fn copy(alloc: Global, input: &str) -> Result<String, AllocError> {
+    let failure = ParseErrorFailure::new(input, CowStr::Borrowed("No b."));
+    let copy = failure.copy()?;
+    format!(in alloc; "{}: {}", copy.input, copy.message.as_str())
+}
+
+/// What an error displays, where its copy is equal to it.
+fn displayed(alloc: Global, error: &ParseErrorFailureError) -> Result<String, AllocError> {
+    let copy = error.copy()?;
+    if copy == *error {
+        format!(in alloc; "{error}")
+    } else {
+        format!(in alloc; "{error}, and its copy {copy}")
+    }
+}
+
+/// A text that is to be `a` and nothing else.
+fn whole(alloc: Global, text: &str) -> Result<String, AllocError> {
+    match with_failure_handling(alloc, tag("a")).parse(text) {
+        Ok(value) => String::from_str(alloc, value),
+        Err(HandledError::Failure(error)) => format!(in alloc; "{error}"),
+        Err(HandledError::OutOfMemory) => Err(AllocError),
+    }
+}
+
+fn succeeds(outcome: ParseResult<'_, char>) -> bool {
+    outcome.is_ok()
 }
