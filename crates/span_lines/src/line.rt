@@ -1,9 +1,12 @@
 //! The node that one text names, in a line.
 
-use crate::places::place;
 use es_lexer::{LexError, lex_tokens};
-use es_parser::parse_tokens;
+use es_spill::spill;
+use es_syntax::Row;
+use es_token::Token;
 use es_tree::{Lang, Mode, SyntaxError};
+use es_whole_program::read_program;
+use node_spans::place;
 use std::alloc::{AllocError, Global};
 
 /// The kind and the range of the node, or why there is none.
@@ -11,30 +14,44 @@ pub fn line_of(alloc: Global, text: &str) -> Result<String, AllocError> {
     let Some((letter, text)) = text.split_at_checked(1) else {
         return format!(in alloc; "no letter");
     };
+    match lex_tokens(alloc, text) {
+        Ok(lexed) => program_line(alloc, letter, lexed.tokens.as_slice()),
+        Err(LexError::Lexical(error)) => format!(in alloc; "{error}"),
+        Err(LexError::OutOfMemory) => Err(AllocError),
+    }
+}
+
+fn program_line(alloc: Global, letter: &str, tokens: &[Token]) -> Result<String, AllocError> {
     let mode = if letter == "j" {
         Mode::Script
     } else {
         Mode::Module
     };
-    match lex_tokens(alloc, text) {
-        Ok(lexed) => match parse_tokens(
-            alloc,
-            Lang::Typescript,
-            mode,
-            text,
-            lexed.tokens.as_slice(),
-        ) {
-            Ok(program) => match place(letter, &program) {
-                Some(seen) => format!(in alloc;
-                    "{} {}-{}",
-                    seen.kind, seen.span.start, seen.span.end
-                ),
-                None => format!(in alloc; "no node"),
-            },
-            Err(SyntaxError::Syntax { token: _ }) => format!(in alloc; "Syntax"),
-            Err(SyntaxError::OutOfMemory) => Err(AllocError),
-        },
-        Err(LexError::Lexical(error)) => format!(in alloc; "{error}"),
-        Err(LexError::OutOfMemory) => Err(AllocError),
+    match read_program(alloc, Lang::Typescript, mode, tokens) {
+        Ok(tree) => {
+            let entries = spill(alloc, &tree)?;
+            node_line(
+                alloc,
+                letter,
+                tokens,
+                &Row {
+                    entries: entries.as_slice(),
+                },
+            )
+        }
+        Err(SyntaxError::Syntax { token: _ }) => format!(in alloc; "Syntax"),
+        Err(SyntaxError::OutOfMemory) => Err(AllocError),
+    }
+}
+
+fn node_line(
+    alloc: Global,
+    letter: &str,
+    tokens: &[Token],
+    program: &Row<'_>,
+) -> Result<String, AllocError> {
+    match place(letter, tokens, program) {
+        Some(seen) => format!(in alloc; "{} {}-{}", seen.kind, seen.span.start, seen.span.end),
+        None => format!(in alloc; "no node"),
     }
 }

@@ -1,13 +1,9 @@
 //! Prints the kind and the range of one node of each text, in a line. The texts of the input stand between U+0001; the
-//! first character of each says which node of its first item is meant (`src/places.rt`): `i` the item, `j` the first
-//! statement of a script.
+//! first character of each says which node of its first item is meant (`place` of `node_spans`): `i` the item, `j` the
+//! first statement of a script.
 #![tactic(auto)]
 
-mod kinds;
 mod line;
-mod names;
-mod places;
-mod types;
 
 use crate::line::line_of;
 use std::io::Read;
