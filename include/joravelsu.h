@@ -20,16 +20,17 @@ extern "C" {
 
 /* How a call ended. */
 enum {
-    JORAVELSU_DONE = 0,            /* the report or the sites were written */
+    JORAVELSU_DONE = 0,            /* the report, the sites or the calls were written */
     JORAVELSU_TOO_MANY_MODULES = 1,/* build: more is reached than the bundle allows; a line that says so was written */
     JORAVELSU_BAD_BUNDLE = 2,      /* build: over 16 MiB, no JSON, or no bundle; a line that says which was written */
     JORAVELSU_NO_ROOM = 4,         /* a buffer is too small: nothing was written, and the call answers what is needed */
     JORAVELSU_NO_MEMORY = 5,       /* out of memory: nothing was written */
-    JORAVELSU_TOO_LONG = 6,        /* sites: the text is over 16 MiB */
-    JORAVELSU_NO_UTF8 = 7,         /* sites: the text is no UTF-8 */
+    JORAVELSU_TOO_LONG = 6,        /* sites, unread: the text is over 16 MiB */
+    JORAVELSU_NO_UTF8 = 7,         /* sites, unread: the text is no UTF-8; the answer says from which byte on, counted from
+                                      the first, that of a byte order mark too */
     JORAVELSU_NO_MEDIA_TYPE = 8,   /* sites: no media type has this number */
     JORAVELSU_NOT_READ = 9,        /* sites: modules of this media type are no sources */
-    JORAVELSU_LEXICAL_FAULT = 10,  /* sites: a part of the text is no token; the answer says which fault, and where */
+    JORAVELSU_LEXICAL_FAULT = 10,  /* sites, unread: a part of the text is no token; the answer says which fault, and where */
     JORAVELSU_SYNTAX_FAULT = 11    /* sites: the tokens are no program of the grammar; the answer says where that was
                                       noticed (the one place that no proof covers) */
 };
@@ -56,7 +57,23 @@ enum {
     JORAVELSU_IMPORT = 0,        /* import .. from "a", or import "a" */
     JORAVELSU_EXPORT = 1,        /* export .. from "a" */
     JORAVELSU_IMPORT_EQUALS = 2, /* import a = require("a") */
-    JORAVELSU_DYNAMIC = 3        /* import("a") */
+    JORAVELSU_DYNAMIC = 3,       /* import("a") */
+    JORAVELSU_REFERENCE_PATH = 4,/* the comment /// <reference path="a" />, in TypeScript */
+    JORAVELSU_REFERENCE_TYPES = 5/* the comment /// <reference types="a" />, in TypeScript */
+};
+
+/* Whether a site has an import attribute `type`, as in import a from "a" with { type: "json" }. */
+enum {
+    JORAVELSU_NO_ATTRIBUTE = 0,
+    JORAVELSU_UNKNOWN_ATTRIBUTE = 1, /* the text doesn't say: so for import-equals and comments, and for import() whose
+                                        options aren't written out */
+    JORAVELSU_ATTRIBUTE = 2          /* it has, and the record says which */
+};
+
+/* A call that may load a module and is no site. */
+enum {
+    JORAVELSU_IMPORT_CALL = 0,  /* import(..), whose first argument is no string literal */
+    JORAVELSU_REQUIRE_CALL = 1  /* require(..) */
 };
 
 /* Lexical faults. */
@@ -73,20 +90,40 @@ enum {
 /* A place where a source names another module. An end is the place behind the last byte. */
 typedef struct joravelsu_site {
     uint32_t kind;      /* JORAVELSU_IMPORT or another of its list */
-    bool type_only;     /* by `type`, so that nothing is loaded when the program runs */
-    size_t start;       /* the string literal in the text, with its quotes */
+    bool type_only;     /* by `type`, or as a comment, so that nothing is loaded when the program runs */
+    size_t start;       /* the string literal in the text, or the value in the comment, with its quotes */
     size_t end;
     size_t value_start; /* its value, in the buffer for values: UTF-8, not ended by a 0 */
     size_t value_end;
+    uint32_t attribute; /* JORAVELSU_NO_ATTRIBUTE or another of its list */
+    size_t attribute_start; /* the attribute's text, in the buffer for values; nothing but at JORAVELSU_ATTRIBUTE */
+    size_t attribute_end;
 } joravelsu_site;
 
 /* What joravelsu_sites answers beside its buffers. */
 typedef struct joravelsu_answer {
     size_t sites;       /* how many sites the text has: what the buffer for sites must hold */
-    size_t value_bytes; /* how many bytes their values have: what the buffer for values must hold */
+    size_t value_bytes; /* how many bytes their values and attributes have: what the buffer for values must hold */
     uint32_t fault;     /* the lexical fault at JORAVELSU_LEXICAL_FAULT, else 0 */
     size_t place;       /* where the fault is, else 0 */
 } joravelsu_answer;
+
+/* A call that may load a module and is no site: its bytes in the text, from the word through the closing bracket. */
+typedef struct joravelsu_call {
+    uint32_t kind;      /* JORAVELSU_IMPORT_CALL or another of its list */
+    size_t start;
+    size_t end;
+} joravelsu_call;
+
+/* What joravelsu_unread answers beside its buffer. */
+typedef struct joravelsu_unread_answer {
+    size_t calls;       /* how many calls the text has: what the buffer must hold */
+    uint32_t fault;     /* the lexical fault at JORAVELSU_LEXICAL_FAULT, else 0 */
+    size_t place;       /* where the fault is, else 0 */
+} joravelsu_unread_answer;
+
+/* The version of the library: 10,000 times its first number, 100 times its second, and its third; 100 is 0.1.0. */
+uint32_t joravelsu_version(void);
 
 /* The report of the graph of a bundle, as docs/REPORT.md describes both.
  *
@@ -99,13 +136,14 @@ typedef struct joravelsu_answer {
  */
 uint32_t joravelsu_build(const uint8_t *bundle, size_t bundle_length, uint8_t *buffer, size_t buffer_length, size_t *needed);
 
-/* The sites of a source text, in the order of the text: imports, exports with from, import-equals, and import() of a
- * literal. Reference comments of TypeScript aren't among them, though the graph has edges of them.
+/* The sites of a source text, in the order of the text: reference comments, where the media type is one of TypeScript,
+ * imports, exports with from, import-equals, and import() of a literal. They are those that the graph has edges of.
  *
  * text, text_length: the source in UTF-8. A byte order mark in front is passed over, and places count from behind it.
  * media_type: JORAVELSU_TYPESCRIPT or another of its list.
  * sites, sites_length: a record for each site is written here; the length counts records.
- * values, values_length: the values of all sites are written here, one behind the other.
+ * values, values_length: the values of all sites are written here, one behind the other, each with its attribute's text
+ *   behind it.
  * answer: always written; where a buffer is too small, it says what both must hold.
  *
  * Answers JORAVELSU_DONE, or why nothing was written into the buffers: JORAVELSU_NO_MEDIA_TYPE before _NOT_READ, _TOO_LONG,
@@ -113,6 +151,29 @@ uint32_t joravelsu_build(const uint8_t *bundle, size_t bundle_length, uint8_t *b
  */
 uint32_t joravelsu_sites(const uint8_t *text, size_t text_length, uint32_t media_type, joravelsu_site *sites,
                          size_t sites_length, uint8_t *values, size_t values_length, joravelsu_answer *answer);
+
+/* The calls of a source text that may load a module and are no sites, in the order of the text: what else a permission
+ * check has to look at. They are told by the tokens alone, whether these are a program or not.
+ *
+ * A call is the word import or require with a bracket right behind it that has something in it, other than
+ * - import("a") and import("a", b), where a string literal alone is the first argument;
+ * - import a = require("b") and import type a = require("b"), with a on the line of the word before it;
+ * - the word behind . or ?. or function;
+ * - the word with a: in front in its bracket, which is a method's parameter with its type;
+ * - the word with { behind its bracket, on the line where that closes, unless extends or new stands in front of the word:
+ *   a method.
+ * No name is looked up: a require that the text declares itself counts too. Calls of another form, as require?.("a"),
+ * (require)("a"), module.require("a") or those of another name for require, don't.
+ *
+ * text, text_length: as for joravelsu_sites.
+ * calls, calls_length: a record for each call is written here; the length counts records.
+ * answer: always written; where the buffer is too small, it says what it must hold.
+ *
+ * Answers JORAVELSU_DONE, or why nothing was written into the buffer: JORAVELSU_TOO_LONG before _NO_UTF8, _LEXICAL_FAULT,
+ * _NO_ROOM, in this order; JORAVELSU_NO_MEMORY at any time.
+ */
+uint32_t joravelsu_unread(const uint8_t *text, size_t text_length, joravelsu_call *calls, size_t calls_length,
+                          joravelsu_unread_answer *answer);
 
 #ifdef __cplusplus
 }

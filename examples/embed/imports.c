@@ -1,12 +1,13 @@
-/* Prints where a source names other modules: imports FILE
- * Each line is FILE:LINE:COLUMN: KIND "VALUE", both from 1, the column in bytes. The media type is by the file's ending. */
+/* Prints where a source names other modules, and then its calls that may load one and are no sites: imports FILE
+ * Each line is FILE:LINE:COLUMN: KIND "VALUE", both from 1, the column in bytes, with the import attribute behind it where
+ * there is one; or FILE:LINE:COLUMN: unread and the call. The media type is by the file's ending. */
 #include <joravelsu.h>
 
 #include <stdio.h>
 #include <stdlib.h>
 #include <string.h>
 
-static const char *const kinds[] = {"import", "export", "import-equals", "dynamic"};
+static const char *const kinds[] = {"import", "export", "import-equals", "dynamic", "reference-path", "reference-types"};
 
 static uint32_t media_type_of(const char *path)
 {
@@ -81,6 +82,41 @@ static uint32_t find_sites(const uint8_t *text, size_t length, uint32_t media_ty
     }
 }
 
+static void print_sites(const char *path, const uint8_t *text, const joravelsu_site *sites, size_t count, const uint8_t *values)
+{
+    for (size_t i = 0; i < count; i++) {
+        const joravelsu_site *it = &sites[i];
+        size_t line, column;
+        find_place(text, it->start, &line, &column);
+        printf("%s:%zu:%zu: %s%s \"%.*s\"", path, line, column, kinds[it->kind], it->type_only && it->kind < JORAVELSU_DYNAMIC ? "-type" : "",
+               (int)(it->value_end - it->value_start), (const char *)values + it->value_start);
+        if (it->attribute == JORAVELSU_ATTRIBUTE)
+            printf(" with \"%.*s\"", (int)(it->attribute_end - it->attribute_start), (const char *)values + it->attribute_start);
+        printf("\n");
+    }
+}
+
+/* The calls that are no sites, in a buffer that is made as large as the call says. */
+static uint32_t print_unread(const char *path, const uint8_t *text, size_t length)
+{
+    joravelsu_unread_answer answer;
+    joravelsu_call none;
+    uint32_t status = joravelsu_unread(text, length, &none, 0, &answer);
+    if (status != JORAVELSU_NO_ROOM)
+        return status;
+    joravelsu_call *calls = malloc(answer.calls * sizeof *calls);
+    if (!calls)
+        return JORAVELSU_NO_MEMORY;
+    status = joravelsu_unread(text, length, calls, answer.calls, &answer);
+    for (size_t i = 0; status == JORAVELSU_DONE && i < answer.calls; i++) {
+        size_t line, column;
+        find_place(text, calls[i].start, &line, &column);
+        printf("%s:%zu:%zu: unread %.*s\n", path, line, column, (int)(calls[i].end - calls[i].start), (const char *)text + calls[i].start);
+    }
+    free(calls);
+    return status;
+}
+
 int main(int count, char **words)
 {
     if (count != 2) {
@@ -94,23 +130,22 @@ int main(int count, char **words)
         return 1;
     }
     /* Places count from behind a byte order mark. */
-    const uint8_t *text = length >= 3 && memcmp(bytes, "\xEF\xBB\xBF", 3) == 0 ? bytes + 3 : bytes;
+    size_t mark = length >= 3 && memcmp(bytes, "\xEF\xBB\xBF", 3) == 0 ? 3 : 0;
+    const uint8_t *text = bytes + mark;
     joravelsu_site *sites;
     uint8_t *values;
     joravelsu_answer answer;
     uint32_t status = find_sites(bytes, length, media_type_of(words[1]), &sites, &values, &answer);
-    size_t line, column;
-    if (status == JORAVELSU_DONE)
-        for (size_t i = 0; i < answer.sites; i++) {
-            find_place(text, sites[i].start, &line, &column);
-            printf("%s:%zu:%zu: %s%s \"%.*s\"\n", words[1], line, column, kinds[sites[i].kind],
-                   sites[i].type_only ? "-type" : "", (int)(sites[i].value_end - sites[i].value_start),
-                   (const char *)values + sites[i].value_start);
-        }
-    else if (status == JORAVELSU_LEXICAL_FAULT || status == JORAVELSU_SYNTAX_FAULT) {
+    if (status == JORAVELSU_DONE) {
+        print_sites(words[1], text, sites, answer.sites, values);
+        status = print_unread(words[1], text, length - mark);
+    } else if (status == JORAVELSU_LEXICAL_FAULT || status == JORAVELSU_SYNTAX_FAULT) {
+        size_t line, column;
         find_place(text, answer.place, &line, &column);
         fprintf(stderr, "%s:%zu:%zu: this isn't read\n", words[1], line, column);
-    } else
+    } else if (status == JORAVELSU_NO_UTF8)
+        fprintf(stderr, "%s: byte %zu is no UTF-8\n", words[1], answer.place);
+    else
         fprintf(stderr, "%s: status %u\n", words[1], (unsigned)status);
     free(sites);
     free(values);

@@ -121,13 +121,18 @@ def tool(name):
     return module
 
 
-def proved_program():
-    """The path of the proved program, or None where it isn't built or a source is newer."""
-    place = os.path.join(ROOT, "crates", "graph_tool", "out", "graph_tool")
-    if not os.access(place, os.X_OK):
-        return None
+def is_newest(place):
+    """Whether a file is there and no source is newer."""
+    if not os.path.isfile(place):
+        return False
     made = os.stat(place).st_mtime
     files = [os.path.join(ROOT, "crates.txt")]
     for crate in os.listdir(os.path.join(ROOT, "crates")):
         files += sources_of(crate)
-    return place if all(os.stat(file).st_mtime <= made for file in files) else None
+    return all(os.stat(file).st_mtime <= made for file in files)
+
+
+def proved_program():
+    """The path of the proved program, or None where it isn't built or a source is newer."""
+    place = os.path.join(ROOT, "crates", "graph_tool", "out", "graph_tool")
+    return place if os.access(place, os.X_OK) and is_newest(place) else None

@@ -202,10 +202,13 @@ def program(told="unproved"):
 LIBRARY = "graph_c"
 CALLS = """
 fn main(rt: HostRuntime) {
+    let _ = joravelsu_version();
     let mut needed: usize = 0;
     let mut answer = Answer { sites: 0, value_bytes: 0, fault: 0, place: 0 };
     let _ = joravelsu_build(rt.alloc(), b"{}", &mut [], &mut needed);
     let _ = joravelsu_sites(rt.alloc(), b"", 3, &mut [], &mut [], &mut answer);
+    let mut told = CallsAnswer { calls: 0, fault: 0, place: 0 };
+    let _ = joravelsu_unread(rt.alloc(), b"", &mut [], &mut told);
 }
 """
 

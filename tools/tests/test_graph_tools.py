@@ -106,22 +106,46 @@ class Summary(unittest.TestCase):
 
 
 class Unread(unittest.TestCase):
-    def test_rows(self):
+    def scanned(self, text):
+        return [(kind, text.encode()[start:end].decode()) for kind, start, end in unread.calls_by_scan(bundles.Source(text.encode()))]
+
+    def test_rows_of_the_library(self):
+        """The scan has the same answers as the proved calls, over the rows of crates/unread_tests."""
+        read = 0
+        with open(os.path.join(kit.ROOT, "crates", "unread_tests", "stdin"), encoding="utf-8") as file:
+            rows = [line.rstrip("\n").split("\t") for line in file if line.startswith("calls\t")]
+        for _, text, wanted in rows:
+            text, wanted = (it.replace("\\\\", "\0").replace("\\n", "\n").replace("\0", "\\") for it in (text, wanted))
+            if " at byte " in wanted:
+                continue
+            found = "".join(f"{kind.title()} {start}-{end} {text.encode()[start:end].decode()}, " for kind, start, end in unread.calls_by_scan(bundles.Source(text.encode())))
+            self.assertEqual(found, wanted, text)
+            read += 1
+        self.assertGreater(read, 60)
+
+    def test_scan(self):
         rows = [
-            ("import('./a')", []), ("import(a)", ["import"]), ("import(`./${a}`)", ["import"]), ("import('a' + b)", ["import"]),
-            ("import('a', { with: b })", []), ("x.import(a)", []), ("import.meta.resolve(a)", []), ("'import(a)'", []), ("// import(a)", []),
-            ("require('a')", ["require"]), ("require(a)", ["require"]), ("x.require('a')", []), ("import a = require('b')", []),
-            ("function f(require) { require('a') }", []), ("const require = createRequire(a); require('b')", ["require"]),
-            ("const require = f; require('b')", []), ("class A { require(a) { } }", []), ("(require) => require('a')", []),
-            ("`${require('a')}`", ["require"]), ("a /require('b')/ c", ["require"]), ("x = /require('b')/", []), ("typeof require", []),
+            ("'import(a)'", []), ("// import(a)", []), ("`${require('a')}`", [("require", "require('a')")]),
+            ("a /require('b')/ c", [("require", "require('b')")]), ("x = /require('b')/", []),
         ]
         for text, wanted in rows:
-            self.assertEqual([word for _, word, _ in unread.unread_in(text)], wanted, text)
+            self.assertEqual(self.scanned(text), wanted, text)
+
+    def test_declared(self):
+        rows = [
+            ("function f(require) { require('a') }", True), ("const require = createRequire(a); require('b')", False),
+            ("const require = f; require('b')", True), ("(require) => require('a')", True), ("require('a')", False),
+            ("f(require, a)", False), ("function require(a) { }", True),
+        ]
+        for text, wanted in rows:
+            self.assertEqual(unread.declares_require(text), wanted, text)
 
     def test_places(self):
-        bundle = {"roots": [], "modules": [{"specifier": "file:///a.js", "text": "\ufeffé;\n  import(x)"}]}
-        status, out, _ = run("unread", "-", report=json.dumps(bundle))
-        self.assertEqual((status, out), (1, "a.js:2:3: import(x) gives no edge\n"))
+        text = "\ufeffé;\n  import(x)\nrequire(\n  'a' )\nvar require"
+        bundle = {"roots": [], "modules": [{"specifier": "file:///a.js", "text": text}]}
+        status, out, _ = run("unread", "--scan", "-", report=json.dumps(bundle))
+        wanted = "a.js:2:3: import(x) gives no edge\na.js:3:1: require('a') gives no edge, unless it is a require of the file itself\n"
+        self.assertEqual((status, out), (1, wanted))
 
 
 class Resolve(unittest.TestCase):

@@ -1,16 +1,17 @@
 -- What joravelsu_sites leaves in the caller's rooms.
-use Rattle.std.specs.Prelude.{◌≡◌, ℕ, ◌+◌, Bool, true, false, ◌&&◌, nat_le, List, [], ◌∷◌, ◌++◌, length, drop}
+use Rattle.std.specs.Prelude.{◌≡◌, ℕ, ◌+◌, Bool, ◌&&◌, nat_le, List, [], ◌∷◌, ◌++◌, length}
 use Rattle.std.specs.List.{flat_map}
-use Rattle.es_lexer.specs.declared.error.LexicalKind.{LexicalKind}
-use Rattle.es_lexer.specs.declared.error.LexicalKind.TheVariants.{UnterminatedString, UnterminatedComment, UnterminatedTemplate, UnterminatedRegExp, InvalidEscape, InvalidChar, Unbalanced}
 use Rattle.es_site.specs.declared.site.Site.{Site}
 use Rattle.es_site.specs.declared.site.DependencyKind.{DependencyKind}
 use Rattle.es_site.specs.declared.site.DependencyKind.TheVariants.{Import, Export, ImportEquals, Dynamic, ReferencePath, ReferenceTypes, Wasm, Referrer}
+use Rattle.es_site.specs.declared.site.Attribute.{Attribute}
+use Rattle.es_site.specs.declared.site.Attribute.TheVariants.{Absent, Named, Unknown}
 use Rattle.graph_c.specs.declared.answer.SourceSite.{SourceSite}
 use Rattle.graph_c.specs.declared.answer.Answer.{Answer}
 use Rattle.graph_c.specs.declared.finding.Finding.{Finding}
-use Rattle.graph_c.specs.declared.finding.Finding.TheVariants.{Found, Lexical, Syntax, NoUtf8, TooLong, NotRead, NoMediaType}
+use Rattle.graph_c.specs.declared.finding.Finding.TheVariants.{Found}
 use Rattle.graph_c.specs.Finding.{IsFinding}
+use Rattle.graph_c.specs.Told.{fault_of, place_of, status_of, after}
 
 -- ---- numbers of the header
 
@@ -24,25 +25,11 @@ kind_number ReferenceTypes = 5
 kind_number Wasm = 6
 kind_number Referrer = 7
 
-abbrev pub lexical_number : LexicalKind → ℕ
-lexical_number UnterminatedString = 1
-lexical_number UnterminatedComment = 2
-lexical_number UnterminatedTemplate = 3
-lexical_number UnterminatedRegExp = 4
-lexical_number InvalidEscape = 5
-lexical_number InvalidChar = 6
-lexical_number Unbalanced = 7
-
--- how a call ended, by whether the rooms are large enough
-abbrev pub status_of : Bool → Finding → ℕ
-status_of true (Found sites) = 0
-status_of false (Found sites) = 4
-status_of room TooLong = 6
-status_of room NoUtf8 = 7
-status_of room NoMediaType = 8
-status_of room NotRead = 9
-status_of room (Lexical fault) = 10
-status_of room (Syntax place) = 11
+-- whether a site has an import attribute `type`: no, the text doesn't say, or yes
+abbrev pub attribute_number : Attribute → ℕ
+attribute_number Absent = 0
+attribute_number Unknown = 1
+attribute_number (Named text) = 2
 
 -- ---- what is told
 
@@ -51,48 +38,45 @@ abbrev pub found_in : Finding → List Site
 found_in (Found sites) = sites
 found_in _ = []
 
--- the kind of the lexical fault, or 0
-abbrev pub fault_of : Finding → ℕ
-fault_of (Lexical fault) = lexical_number fault.kind
-fault_of _ = 0
+-- the text of its attribute, or none
+abbrev pub attribute_text : Attribute → List ℕ
+attribute_text (Named text) = text
+attribute_text _ = []
 
--- where a fault is, or 0
-abbrev pub place_of : Finding → ℕ
-place_of (Lexical fault) = fault.at
-place_of (Syntax place) = place
-place_of _ = 0
+-- its value and the text of its attribute
+abbrev pub texts_of : Site → List ℕ
+texts_of site = site.value ++ attribute_text site.attribute
 
--- a site whose value stands there among the values
-abbrev pub record_of : Site → ℕ → ℕ → SourceSite
-record_of site from to = record {
+-- a site whose value stands from one place to the next among the texts, and its attribute from there to the third
+abbrev pub record_of : Site → ℕ → ℕ → ℕ → SourceSite
+record_of site from between to = record {
   kind = kind_number site.kind;
   type_only = site.type_only;
   start = site.range.start;
   end = site.range.end;
   value_start = from;
-  value_end = to;
+  value_end = between;
+  attribute = attribute_number site.attribute;
+  attribute_start = between;
+  attribute_end = to;
 }
 
--- sites whose values stand one behind the other from there on
+-- sites whose texts stand one behind the other from there on
 abbrev pub records_from : ℕ → List Site → List SourceSite
 records_from at [] = []
 records_from at (site ∷ sites) =
-    record_of site at (at + length site.value) ∷ records_from (at + length site.value) sites
+    record_of site at (at + length site.value) (at + length (texts_of site))
+    ∷ records_from (at + length (texts_of site)) sites
 
--- the values, one behind the other
+-- the texts, one behind the other
 abbrev pub values_of : List Site → List ℕ
-values_of sites = flat_map (λ site. site.value) sites
+values_of sites = flat_map texts_of sites
 
 -- both rooms are large enough for the sites
 abbrev pub fits : List Site → List SourceSite → List ℕ → Bool
 fits found sites values = nat_le (length found) (length sites) && nat_le (length (values_of found)) (length values)
 
--- a room with the items in its front, where they fit
-abbrev pub after : {A : Type 0} → Bool → List A → List A → List A
-after true items room = items ++ drop (length items) room
-after false items room = room
-
--- what is told of an finding
+-- what is told of a finding
 pub record TellsFinding (finding : Finding) (sites new_sites : List SourceSite) (values new_values : List ℕ) (answer : Answer)
     (status : ℕ) : Type 0 where
   pub counts : answer ≡ record {

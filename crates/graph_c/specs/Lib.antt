@@ -1,5 +1,8 @@
 -- What the public contracts rest on.
 pub mod MediaTypes
+pub mod Text
 pub mod Finding
+pub mod Told
 pub mod Answer
+pub mod Calls
 pub mod Build

@@ -1,11 +1,12 @@
 //! The sites of a source, in rooms of the caller's.
-ghost use Rattle.std.specs.Prelude.{◌≡◌, ◌&&◌, nat_le, length, vec_len, IfOk, OnErr};
-ghost use Rattle.graph_c.specs.Answer.{AnswersSites, TellsFinding, fits, found_in, kind_number, lexical_number, fault_of, place_of, status_of, records_from, record_of, values_of};
+ghost use Rattle.std.specs.Prelude.{◌≡◌, ◌+◌, ◌++◌, ◌&&◌, nat_le, length, vec_len, IfOk, OnOk, OnErr};
+ghost use Rattle.graph_c.specs.Answer.{AnswersSites, TellsFinding, found_in, kind_number, attribute_number, attribute_text, records_from, record_of, texts_of, values_of};
+ghost use Rattle.graph_c.specs.Told.{fault_of, place_of, status_of};
 
 use crate::finding::{Finding, finding_of};
 use crate::room::put;
-use es_lexer::LexicalKind;
-use es_site::{DependencyKind, Site};
+use crate::told::{NO_MEMORY, fault_of, place_of, status_of};
+use es_site::{Attribute, DependencyKind, Site};
 use std::alloc::{AllocError, Global};
 
 /// A place where a source names another module. Places are bytes from 0, and an end is the byte behind.
@@ -20,21 +21,23 @@ pub struct SourceSite {
     /// Its value in the room for values.
     pub value_start: usize,
     pub value_end: usize,
+    /// Whether it has an import attribute `type`, and that one's text in the room for values.
+    pub attribute: u32,
+    pub attribute_start: usize,
+    pub attribute_end: usize,
 }
 
 /// What a call tells beside its rooms.
 #[repr(C)]
 #[derive(Clone, Copy)]
 pub struct Answer {
-    /// How many sites the source has, and how many bytes their values.
+    /// How many sites the source has, and how many bytes their values and attributes.
     pub sites: usize,
     pub value_bytes: usize,
     /// The kind of the lexical fault, or 0, and the byte of the text where a fault is.
     pub fault: u32,
     pub place: usize,
 }
-
-const NO_MEMORY: u32 = 5;
 
 /// Writes the sites of the source into the rooms, and answers how that ended.
 pub fn answer_sites(
@@ -103,7 +106,7 @@ fn are_within(sites: usize, sites_room: usize, values: usize, values_room: usize
     sites <= sites_room && values <= values_room
 }
 
-/// Records of sites, and their values, one behind the other.
+/// Records of sites, and their texts, one behind the other.
 #[derive(Drop)]
 struct Laid {
     sites: Vec<SourceSite>,
@@ -120,22 +123,56 @@ fn lay_out(alloc: Global, found: &[Site]) -> Result<Laid, AllocError>
     let mut values = Vec::new(alloc);
     for site in found {
         let start = values.len();
-        values.extend_from_slice(site.value.as_str().as_bytes())?;
-        sites.push(record_of(site, start, values.len()))?;
+        let value_end = add_texts(&mut values, site)?;
+        sites.push(record_of(site, start, value_end, values.len()))?;
     }
     Ok(Laid { sites, values })
 }
 
-fn record_of(site: &Site, value_start: usize, value_end: usize) -> SourceSite
-    ensures { result ≡ record_of site.now value_start value_end }
+// Puts the value and the attribute of a site behind the others, and answers where the value ends.
+fn add_texts(values: &mut Vec<u8>, site: &Site) -> Result<usize, AllocError>
+    ensures texts { OnOk result (values.new.items ≡ values.old.items ++ texts_of site.now) }
+    ensures counted { OnOk result (vec_len values.new ≡ vec_len values.old + length (texts_of site.now)) }
+    ensures between { IfOk result (λ end. end ≡ vec_len values.old + length site.now.value) }
+{
+    values.extend_from_slice(site.value.as_str().as_bytes())?;
+    let end = values.len();
+    values.extend_from_slice(attribute_text(&site.attribute).as_bytes())?;
+    Ok(end)
+}
+
+fn record_of(site: &Site, start: usize, value_end: usize, end: usize) -> SourceSite
+    ensures { result ≡ record_of site.now start value_end end }
 {
     SourceSite {
         kind: kind_number(site.kind),
         type_only: site.type_only,
         start: site.range.start,
         end: site.range.end,
-        value_start,
+        value_start: start,
         value_end,
+        attribute: attribute_number(&site.attribute),
+        attribute_start: value_end,
+        attribute_end: end,
+    }
+}
+
+fn attribute_number(attribute: &Attribute) -> u32
+    ensures { result ≡ attribute_number attribute.now }
+{
+    match attribute {
+        Attribute::Absent => 0,
+        Attribute::Unknown => 1,
+        Attribute::Named(_) => 2,
+    }
+}
+
+fn attribute_text(attribute: &Attribute) -> &str
+    ensures { result.now ≡ attribute_text attribute.now }
+{
+    match attribute {
+        Attribute::Named(text) => text.as_str(),
+        _ => "",
     }
 }
 
@@ -160,52 +197,5 @@ fn kind_number(kind: DependencyKind) -> u32
         DependencyKind::ReferenceTypes => 5,
         DependencyKind::Wasm => 6,
         DependencyKind::Referrer => 7,
-    }
-}
-
-fn fault_of(finding: &Finding) -> u32
-    ensures { result ≡ fault_of finding.now }
-{
-    match finding {
-        Finding::Lexical(fault) => lexical_number(fault.kind),
-        _ => 0,
-    }
-}
-
-fn lexical_number(kind: LexicalKind) -> u32
-    ensures { result ≡ lexical_number kind }
-{
-    match kind {
-        LexicalKind::UnterminatedString => 1,
-        LexicalKind::UnterminatedComment => 2,
-        LexicalKind::UnterminatedTemplate => 3,
-        LexicalKind::UnterminatedRegExp => 4,
-        LexicalKind::InvalidEscape => 5,
-        LexicalKind::InvalidChar => 6,
-        LexicalKind::Unbalanced => 7,
-    }
-}
-
-fn place_of(finding: &Finding) -> usize
-    ensures { result ≡ place_of finding.now }
-{
-    match finding {
-        Finding::Lexical(fault) => fault.at,
-        Finding::Syntax(at) => *at,
-        _ => 0,
-    }
-}
-
-fn status_of(finding: &Finding, fit: bool) -> u32
-    ensures { result ≡ status_of fit finding.now }
-{
-    match finding {
-        Finding::Found(_) => { if fit { 0 } else { 4 } }
-        Finding::TooLong => 6,
-        Finding::NoUtf8 => 7,
-        Finding::NoMediaType => 8,
-        Finding::NotRead => 9,
-        Finding::Lexical(_) => 10,
-        Finding::Syntax(_) => 11,
     }
 }

@@ -3,24 +3,43 @@
 //! - `joravelsu_build(bundle)`: the report of a bundle's graph, or the line of a refusal (`Builds`, `specs/Build.antt`).
 //! - `joravelsu_sites(text, media_type)`: where a source names other modules, or why it has no sites (`AnswersSites`,
 //!   `specs/Answer.antt`).
+//! - `joravelsu_unread(text)`: which calls may load a module and have no edge (`AnswersCalls`, `specs/Calls.antt`).
+//! - `joravelsu_version()`: the version of the library.
 //!
-//! Both write into rooms of the caller's, all or nothing, and tell what room they need. They keep no state. A
+//! The first three write into rooms of the caller's, all or nothing, and tell what room they need. They keep no state. A
 //! call fails besides only where memory runs out.
 //! Not promised: the place of a syntax error, and when memory runs out.
 #![tactic(auto)]
 
+ghost use Rattle.std.specs.Prelude.{◌≡◌};
 ghost use Rattle.graph_c.specs.Build.{Builds};
 ghost use Rattle.graph_c.specs.Answer.{AnswersSites};
+ghost use Rattle.graph_c.specs.Calls.{AnswersCalls};
 
 mod answer;
 mod build;
+mod calls;
 mod finding;
 mod media_types;
 mod room;
+mod text;
+mod told;
 
 use crate::answer::{Answer, SourceSite, answer_sites};
 use crate::build::build_report;
+use crate::calls::{CallsAnswer, SourceCall, answer_calls};
 use std::alloc::Global;
+
+/// The version, as 10,000 times its first number, 100 times its second, and its third: 100 is 0.1.0.
+const VERSION: u32 = 100;
+
+/// The version of the library.
+#[unsafe(no_mangle)]
+pub extern "C" fn joravelsu_version() -> u32
+    ensures { result ≡ 100 }
+{
+    VERSION
+}
 
 /// Builds the graph of a bundle, and writes its report into the room.
 #[unsafe(no_mangle)]
@@ -35,7 +54,7 @@ pub extern "C" fn joravelsu_build(
     build_report(alloc, bundle, room, needed)
 }
 
-/// Finds the sites of a source, and writes a record for each, and their values into the second room.
+/// Finds the sites of a source, and writes a record for each, and their values and attributes into the second room.
 #[unsafe(no_mangle)]
 pub extern "C" fn joravelsu_sites(
     alloc: Global,
@@ -48,4 +67,17 @@ pub extern "C" fn joravelsu_sites(
     ensures { AnswersSites media_type text.now sites.old sites.new values.old values.new answer.new result }
 {
     answer_sites(alloc, text, media_type, sites, values, answer)
+}
+
+/// Finds the calls of a source that may load a module and that no edge stands for, and writes a record for each.
+#[unsafe(no_mangle)]
+pub extern "C" fn joravelsu_unread(
+    alloc: Global,
+    text: &[u8],
+    calls: &mut [SourceCall],
+    answer: &mut CallsAnswer,
+) -> u32
+    ensures { AnswersCalls text.now calls.old calls.new answer.new result }
+{
+    answer_calls(alloc, text, calls, answer)
 }

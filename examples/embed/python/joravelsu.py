@@ -1,7 +1,9 @@
 """Module graphs and import sites of JavaScript and TypeScript, by the C library.
 
     >>> imports_of('import "./b.ts";', TYPESCRIPT)
-    [Site(kind='import', type_only=False, start=7, end=15, value='./b.ts')]
+    [Site(kind='import', type_only=False, start=7, end=15, value='./b.ts', attribute=None)]
+    >>> unread_in("import(a); require('b');")
+    [Call(kind='import', start=0, end=9), Call(kind='require', start=11, end=23)]
 
 The library is found by the variable JORAVELSU_LIBRARY, the path of libjoravelsu.so, or else by the system.
 """
@@ -16,7 +18,8 @@ DTS, DMTS, DCTS, TYPESCRIPT, MTS, CTS, TSX, JAVASCRIPT, MJS, CJS, JSX, JSON, WAS
 
 _DONE, _BAD_BUNDLE, _NO_ROOM, _NO_MEMORY = 0, 2, 4, 5
 _KINDS = ("import", "export", "import-equals", "dynamic", "reference-path", "reference-types", "wasm", "referrer")
-_MARK = b"\xef\xbb\xbf"
+_CALLS = ("import", "require")
+_NO_UTF8, _NAMED = 7, 2
 _REASONS = {
     6: "the text is over 16 MiB",
     7: "the text is no UTF-8",
@@ -27,23 +30,46 @@ _REASONS = {
 }
 
 
+class Unknown:
+    """The type of UNKNOWN."""
+
+    def __repr__(self) -> str:
+        return "UNKNOWN"
+
+
+UNKNOWN = Unknown()
+
+
 class Site(NamedTuple):
     """A place where a source names another module."""
 
     kind: str
-    """import, export, import-equals or dynamic."""
+    """import, export, import-equals, dynamic, reference-path or reference-types."""
     type_only: bool
     """Whether nothing is loaded when the program runs."""
     start: int
-    """The string literal, with its quotes: its first byte in the text, from 0."""
+    """The string literal, or the value in the comment, with its quotes: its first byte in the text, from 0."""
     end: int
     """The byte behind it."""
     value: str
     """The literal's value."""
+    attribute: str | Unknown | None
+    """The import attribute `type`; None where there is none, and UNKNOWN where the text doesn't say."""
+
+
+class Call(NamedTuple):
+    """A call that may load a module and is no site."""
+
+    kind: str
+    """import or require."""
+    start: int
+    """Its word: the first byte in the text, from 0."""
+    end: int
+    """The byte behind its closing bracket."""
 
 
 class SourceError(ValueError):
-    """Why a source has no sites. `status` is the library's; `place` is the byte of the text at which a fault is, or None."""
+    """Why a source isn't read. `status` is the library's; `place` is the byte of the text at which a fault is, or None."""
 
     def __init__(self, status: int, place: int | None):
         at = "" if place is None else f" at byte {place}"
@@ -64,6 +90,9 @@ class _Site(ctypes.Structure):
         ("end", ctypes.c_size_t),
         ("value_start", ctypes.c_size_t),
         ("value_end", ctypes.c_size_t),
+        ("attribute", ctypes.c_uint32),
+        ("attribute_start", ctypes.c_size_t),
+        ("attribute_end", ctypes.c_size_t),
     ]
 
 
@@ -76,22 +105,54 @@ class _Answer(ctypes.Structure):
     ]
 
 
+class _Call(ctypes.Structure):
+    _fields_ = [("kind", ctypes.c_uint32), ("start", ctypes.c_size_t), ("end", ctypes.c_size_t)]
+
+
+class _UnreadAnswer(ctypes.Structure):
+    _fields_ = [("calls", ctypes.c_size_t), ("fault", ctypes.c_uint32), ("place", ctypes.c_size_t)]
+
+
 def _load() -> ctypes.CDLL:
     path = os.environ.get("JORAVELSU_LIBRARY", "libjoravelsu.so")
     try:
         library = ctypes.CDLL(path)
     except OSError as error:
-        raise ImportError(f"{path} isn't there: tools/build-library --unproved PREFIX makes PREFIX/lib/libjoravelsu.so, which JORAVELSU_LIBRARY names") from error
+        raise ImportError(f"{error}; tools/build-library --unproved PREFIX makes PREFIX/lib/libjoravelsu.so, which JORAVELSU_LIBRARY names") from None
     size, text = ctypes.c_size_t, ctypes.c_char_p
     library.joravelsu_build.argtypes = [text, size, text, size, ctypes.POINTER(size)]
     library.joravelsu_build.restype = ctypes.c_uint32
     buffers = [ctypes.POINTER(_Site), size, text, size]
     library.joravelsu_sites.argtypes = [text, size, ctypes.c_uint32, *buffers, ctypes.POINTER(_Answer)]
     library.joravelsu_sites.restype = ctypes.c_uint32
+    library.joravelsu_unread.argtypes = [text, size, ctypes.POINTER(_Call), size, ctypes.POINTER(_UnreadAnswer)]
+    library.joravelsu_unread.restype = ctypes.c_uint32
+    library.joravelsu_version.argtypes = []
+    library.joravelsu_version.restype = ctypes.c_uint32
     return library
 
 
 _library = _load()
+
+
+def version() -> tuple[int, int, int]:
+    """The version of the library."""
+    number = _library.joravelsu_version()
+    return number // 10_000, number // 100 % 100, number % 100
+
+
+def _refused(status: int, place: int) -> SourceError:
+    return SourceError(status, place if status == _NO_UTF8 or status >= 10 else None)
+
+
+def _text_of(held: bytes, start: int, end: int) -> str:
+    return held[start:end].decode()
+
+
+def _attribute_of(it: _Site, held: bytes) -> str | Unknown | None:
+    if it.attribute == _NAMED:
+        return _text_of(held, it.attribute_start, it.attribute_end)
+    return UNKNOWN if it.attribute else None
 
 
 def imports_of(text: str | bytes, media_type: int) -> list[Site]:
@@ -112,12 +173,32 @@ def imports_of(text: str | bytes, media_type: int) -> list[Site]:
         if status == _DONE:
             held = values.raw
             return [
-                Site(_KINDS[it.kind], it.type_only, it.start, it.end, held[it.value_start : it.value_end].decode())
+                Site(_KINDS[it.kind], it.type_only, it.start, it.end, _text_of(held, it.value_start, it.value_end), _attribute_of(it, held))
                 for it in sites[: answer.sites]
             ]
         if status != _NO_ROOM:
-            raise SourceError(status, answer.place if status >= 10 else None)
+            raise _refused(status, answer.place)
         sites_length, values_length = answer.sites, answer.value_bytes
+
+
+def unread_in(text: str | bytes) -> list[Call]:
+    """The calls that may load a module and are no sites, in the order of the text. Raises SourceError where it isn't read.
+
+    Places are those of imports_of.
+    """
+    source = text.encode() if isinstance(text, str) else bytes(text)
+    answer = _UnreadAnswer()
+    length = 64
+    while True:
+        calls = (_Call * length)()
+        status = _library.joravelsu_unread(source, len(source), calls, length, ctypes.byref(answer))
+        if status == _NO_MEMORY:
+            raise MemoryError
+        if status == _DONE:
+            return [Call(_CALLS[it.kind], it.start, it.end) for it in calls[: answer.calls]]
+        if status != _NO_ROOM:
+            raise _refused(status, answer.place)
+        length = answer.calls
 
 
 def graph(bundle: str | bytes | dict) -> str:

@@ -22,6 +22,20 @@ def raw_sites(text, media_type, sites_length, values_length):
     return status, (answer.sites, answer.value_bytes, answer.fault, answer.place), untouched
 
 
+def raw_calls(text, length):
+    """The same of the calls of a text."""
+    calls = (joravelsu._Call * (length + 1))()
+    calls[0].kind = 99
+    answer = joravelsu._UnreadAnswer(7, 7, 7)
+    status = joravelsu._library.joravelsu_unread(text, len(text), calls, length, ctypes.byref(answer))
+    return status, (answer.calls, answer.fault, answer.place), calls[0].kind == 99
+
+
+class Version(unittest.TestCase):
+    def test_version(self):
+        self.assertEqual(joravelsu.version(), (0, 1, 0))
+
+
 class Sites(unittest.TestCase):
     def test_of_a_text(self):
         text = 'import "./b.ts";\n// import "./x.ts"\nimport \'ö\';'
@@ -30,7 +44,30 @@ class Sites(unittest.TestCase):
         bytes_of_text = text.encode()
         for site, literal in zip(found, ['"./b.ts"', "'ö'"]):
             self.assertEqual(bytes_of_text[site.start : site.end].decode(), literal)
-            self.assertEqual((site.kind, site.type_only), ("import", False))
+            self.assertEqual((site.kind, site.type_only, site.attribute), ("import", False, None))
+
+    def test_reference_comments(self):
+        text = '#!/bin/x\n/// <reference path="a.d.ts" />\n/// <reference types="node" />\nimport "b";\n/// <reference path="c" />'
+        wanted = [("reference-path", True, "a.d.ts", '"a.d.ts"'), ("reference-types", True, "node", '"node"'), ("import", False, "b", '"b"')]
+        for media_type, first in ((joravelsu.TYPESCRIPT, 0), (joravelsu.DTS, 0), (joravelsu.TSX, 0), (joravelsu.JAVASCRIPT, 2), (joravelsu.MJS, 2)):
+            found = joravelsu.imports_of(text, media_type)
+            self.assertEqual([(it.kind, it.type_only, it.value, text[it.start : it.end]) for it in found], wanted[first:])
+        self.assertEqual([it.attribute for it in joravelsu.imports_of(text, joravelsu.MTS)], [joravelsu.UNKNOWN] * 2 + [None])
+
+    def test_attributes(self):
+        rows = [
+            ('import a from "a" with { type: "json" };', joravelsu.MJS, "json"),
+            ("import a from 'a' with { 'type': 'ö' };", joravelsu.MJS, "ö"),
+            ('import a from "a" with { other: "json" };', joravelsu.MJS, None),
+            ('import a from "a" with { type: "" };', joravelsu.MJS, ""),
+            ('export * from "a" with { type: "css" };', joravelsu.MTS, "css"),
+            ('import("a", { with: { type: "json" } })', joravelsu.MJS, "json"),
+            ('import("a", b)', joravelsu.MJS, joravelsu.UNKNOWN),
+            ('import a = require("a");', joravelsu.MTS, joravelsu.UNKNOWN),
+        ]
+        for text, media_type, attribute in rows:
+            found = joravelsu.imports_of(text, media_type)
+            self.assertEqual([(it.value, it.attribute) for it in found], [("a", attribute)], text)
 
     def test_behind_a_byte_order_mark(self):
         found = joravelsu.imports_of('\ufeffimport "a";', joravelsu.MJS)
@@ -46,7 +83,9 @@ class Sites(unittest.TestCase):
             (b"", 99, 8, None),
             (b"", joravelsu.WASM, 9, None),
             (b"", joravelsu.JSON, 9, None),
-            (b"\xff", joravelsu.MJS, 7, None),
+            (b"\xff", joravelsu.MJS, 7, 0),
+            (b"\xef\xbb\xbfab\xc3", joravelsu.MJS, 7, 5),
+            ("ö".encode() + b"\xed\xa0\x80", joravelsu.MJS, 7, 2),
             (b" " * (1 << 24) + b" ", joravelsu.MJS, 6, None),
             (b'import "a', joravelsu.MJS, 10, 7),
             (b"import", joravelsu.MJS, 11, 6),
@@ -67,6 +106,38 @@ class Sites(unittest.TestCase):
         self.assertEqual(raw_sites(text, joravelsu.MJS, 2, 3)[:2], (0, (2, 3, 0, 0)))
         self.assertEqual(raw_sites(b"", joravelsu.MJS, 0, 0), (0, (0, 0, 0, 0), True))
         self.assertEqual(raw_sites(b'"', joravelsu.MJS, 0, 0), (10, (0, 0, 1, 0), True))
+        text = b'import "ab" with { type: "json" };'
+        self.assertEqual(raw_sites(text, joravelsu.MJS, 1, 5), (4, (1, 6, 0, 0), True))
+        self.assertEqual(raw_sites(text, joravelsu.MJS, 1, 6)[:2], (0, (1, 6, 0, 0)))
+
+
+class Calls(unittest.TestCase):
+    def test_of_a_text(self):
+        text = '\ufeffimport "a"; import("b"); import(c + "ö"); require("d"); a.require("e"); class A { require(f) { } }'
+        found = joravelsu.unread_in(text)
+        bare = text[1:].encode()
+        self.assertEqual([(it.kind, bare[it.start : it.end].decode()) for it in found], [("import", 'import(c + "ö")'), ("require", 'require("d")')])
+
+    def test_of_no_program(self):
+        self.assertEqual([it.kind for it in joravelsu.unread_in("1 = 2; require(a)")], ["require"])
+
+    def test_more_than_the_first_buffer_holds(self):
+        self.assertEqual(len(joravelsu.unread_in("require(a);" * 1000)), 1000)
+
+    def test_refusals(self):
+        rows = [(b"ab\xff", 7, 2), (b" " * ((1 << 24) + 1), 6, None), (b'require("a', 10, 8)]
+        for text, status, place in rows:
+            with self.assertRaises(joravelsu.SourceError) as caught:
+                joravelsu.unread_in(text)
+            self.assertEqual((caught.exception.status, caught.exception.place), (status, place))
+
+    def test_buffers(self):
+        text = b"require(a); import(b)"
+        for length in (0, 1):
+            self.assertEqual(raw_calls(text, length), (4, (2, 0, 0), True))
+        self.assertEqual(raw_calls(text, 2)[:2], (0, (2, 0, 0)))
+        self.assertEqual(raw_calls(b"", 0), (0, (0, 0, 0), True))
+        self.assertEqual(raw_calls(b'"', 0), (10, (0, 1, 0), True))
 
 
 class Graphs(unittest.TestCase):

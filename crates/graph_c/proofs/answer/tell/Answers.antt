@@ -1,6 +1,6 @@
 use Rattle.std.proofs.Common.{◌≡◌, ◌∙◌, ap, ℕ, List, ◌++◌, length, drop}
 use Rattle.graph_c.specs.declared.answer.SourceSite.{SourceSite}
-use Rattle.graph_c.specs.Answer.{after}
+use Rattle.graph_c.specs.Told.{after}
 use Rattle.graph_c.proofs.AnswerLemmas.{put_after, kept_after, tells_laid}
 use Rattle.graph_c.proofs.answer.tell.Goals.{then-fit, else-fit}
 use Rattle.graph_c.proofs.answer.tell.Goals as goal
