@@ -1,4 +1,4 @@
--- What joravelsu_sites leaves in the caller's rooms.
+-- What joravelsu_sites leaves in the caller's buffers.
 use Rattle.std.specs.Prelude.{◌≡◌, ℕ, ◌+◌, Bool, ◌&&◌, nat_le, List, [], ◌∷◌, ◌++◌, length}
 use Rattle.std.specs.List.{flat_map}
 use Rattle.es_site.specs.declared.site.Site.{Site}
@@ -72,7 +72,7 @@ records_from at (site ∷ sites) =
 abbrev pub values_of : List Site → List ℕ
 values_of sites = flat_map texts_of sites
 
--- both rooms are large enough for the sites
+-- both buffers are large enough for the sites
 abbrev pub fits : List Site → List SourceSite → List ℕ → Bool
 fits found sites values = nat_le (length found) (length sites) && nat_le (length (values_of found)) (length values)
 

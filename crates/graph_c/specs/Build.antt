@@ -1,4 +1,4 @@
--- What joravelsu_build leaves in the caller's room.
+-- What joravelsu_build leaves in the caller's buffer.
 use Rattle.std.specs.Prelude.{◌≡◌, ℕ, ◌<◌, ◌≤◌, List, ◌++◌, length, drop}
 use Rattle.graph_run.specs.declared.status.Status.{Status}
 use Rattle.graph_run.specs.declared.status.Status.TheVariants.{WriteFault, NoMemory}
@@ -10,7 +10,7 @@ pub data Builds (bundle : List ℕ) (old new : List ℕ) (needed status : ℕ) :
   -- it fits
   written : (due : Status) (text : List ℕ) → IsDue bundle due text → length text ≤ length old → needed ≡ length text
       → new ≡ text ++ drop (length text) old → status ≡ code_of due → Builds bundle old new needed status
-  -- the room is too small
+  -- the buffer is too small
   no_room : (due : Status) (text : List ℕ) → IsDue bundle due text → length old < length text → needed ≡ length text
       → new ≡ old → status ≡ code_of WriteFault → Builds bundle old new needed status
   -- memory ran out

@@ -1,4 +1,4 @@
--- What joravelsu_unread leaves in the caller's room.
+-- What joravelsu_unread leaves in the caller's buffer.
 use Rattle.std.specs.Prelude.{◌≡◌, ℕ, nat_le, List, [], length, map}
 use Rattle.unread_calls.specs.declared.call.Loader.{Loader}
 use Rattle.unread_calls.specs.declared.call.Loader.TheVariants.{Import, Require}

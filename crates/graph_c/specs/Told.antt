@@ -1,4 +1,4 @@
--- What the calls for sources tell beside their rooms, by the numbers of the header.
+-- What the calls for sources tell beside their buffers, by the numbers of the header.
 use Rattle.std.specs.Prelude.{ℕ, Bool, true, false, List, ◌++◌, length, drop}
 use Rattle.es_lexer.specs.declared.error.LexicalKind.{LexicalKind}
 use Rattle.es_lexer.specs.declared.error.LexicalKind.TheVariants.{UnterminatedString, UnterminatedComment, UnterminatedTemplate, UnterminatedRegExp, InvalidEscape, InvalidChar, Unbalanced}
@@ -15,7 +15,7 @@ lexical_number InvalidEscape = 5
 lexical_number InvalidChar = 6
 lexical_number Unbalanced = 7
 
--- how a call ended, by whether the rooms are large enough
+-- how a call ended, by whether the buffers are large enough
 abbrev pub status_of : Bool → Finding → ℕ
 status_of true (Found sites) = 0
 status_of false (Found sites) = 4
@@ -40,7 +40,7 @@ place_of (Syntax place) = place
 place_of (NoText (NoUtf8 place)) = place
 place_of _ = 0
 
--- a room with the items in its front, where they fit
+-- a buffer with the items in its front, where they fit
 abbrev pub after : {A : Type 0} → Bool → List A → List A → List A
 after true items room = items ++ drop (length items) room
 after false items room = room

@@ -1,4 +1,4 @@
-//! The sites of a source, in rooms of the caller's.
+//! The sites of a source, in buffers of the caller's.
 ghost use Rattle.std.specs.Prelude.{◌≡◌, ◌+◌, ◌++◌, ◌&&◌, nat_le, length, vec_len, IfOk, OnOk, OnErr};
 ghost use Rattle.graph_c.specs.Answer.{AnswersSites, TellsFinding, found_in, kind_number, attribute_number, attribute_text, records_from, record_of, texts_of, values_of};
 ghost use Rattle.graph_c.specs.Told.{fault_of, place_of, status_of};
@@ -18,16 +18,16 @@ pub struct SourceSite {
     /// The literal in the text, with its quotes.
     pub start: usize,
     pub end: usize,
-    /// Its value in the room for values.
+    /// Its value in the buffer for values.
     pub value_start: usize,
     pub value_end: usize,
-    /// Whether it has an import attribute `type`, and that one's text in the room for values.
+    /// Whether it has an import attribute `type`, and that one's text in the buffer for values.
     pub attribute: u32,
     pub attribute_start: usize,
     pub attribute_end: usize,
 }
 
-/// What a call tells beside its rooms.
+/// What a call tells beside its buffers.
 #[repr(C)]
 #[derive(Clone, Copy)]
 pub struct Answer {
@@ -39,7 +39,7 @@ pub struct Answer {
     pub place: usize,
 }
 
-/// Writes the sites of the source into the rooms, and answers how that ended.
+/// Writes the sites of the source into the buffers, and answers how that ended.
 pub fn answer_sites(
     alloc: Global,
     text: &[u8],

@@ -1,4 +1,4 @@
-//! The report of a bundle's graph, in a room of the caller's.
+//! The report of a bundle's graph, in a buffer of the caller's.
 ghost use Rattle.std.specs.Prelude.{◌≡◌, IfOk, string_bytes};
 ghost use Rattle.graph_run.specs.Run.{IsDue};
 ghost use Rattle.graph_c.specs.Build.{Builds};

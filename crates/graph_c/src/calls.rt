@@ -1,4 +1,4 @@
-//! The calls of a source that no edge stands for, in a room of the caller's.
+//! The calls of a source that no edge stands for, in a buffer of the caller's.
 ghost use Rattle.std.specs.Prelude.{◌≡◌, nat_le, length, map, vec_len, IfOk, OnErr};
 ghost use Rattle.graph_c.specs.Calls.{AnswersCalls, TellsCalls, found_calls, call_number, call_record};
 
@@ -18,7 +18,7 @@ pub struct SourceCall {
     pub end: usize,
 }
 
-/// What a call tells beside its room.
+/// What a call tells beside its buffer.
 #[repr(C)]
 #[derive(Clone, Copy)]
 pub struct CallsAnswer {
@@ -29,7 +29,7 @@ pub struct CallsAnswer {
     pub place: usize,
 }
 
-/// Writes the calls of the source into the room, and answers how that ended.
+/// Writes the calls of the source into the buffer, and answers how that ended.
 pub fn answer_calls(
     alloc: Global,
     text: &[u8],

@@ -6,7 +6,7 @@
 //! - `joravelsu_unread(text)`: which calls may load a module and have no edge (`AnswersCalls`, `specs/Calls.antt`).
 //! - `joravelsu_version()`: the version of the library.
 //!
-//! The first three write into rooms of the caller's, all or nothing, and tell what room they need. They keep no state. A
+//! The first three write into buffers of the caller's, all or nothing, and tell what they must hold. They keep no state. A
 //! call fails besides only where memory runs out.
 //! Not promised: the place of a syntax error, and when memory runs out.
 #![tactic(auto)]
@@ -41,7 +41,7 @@ pub extern "C" fn joravelsu_version() -> u32
     VERSION
 }
 
-/// Builds the graph of a bundle, and writes its report into the room.
+/// Builds the graph of a bundle, and writes its report into the buffer.
 #[unsafe(no_mangle)]
 pub extern "C" fn joravelsu_build(
     alloc: Global,
@@ -54,7 +54,7 @@ pub extern "C" fn joravelsu_build(
     build_report(alloc, bundle, room, needed)
 }
 
-/// Finds the sites of a source, and writes a record for each, and their values and attributes into the second room.
+/// Finds the sites of a source, and writes a record for each, and their values and attributes into the second buffer.
 #[unsafe(no_mangle)]
 pub extern "C" fn joravelsu_sites(
     alloc: Global,

@@ -44,7 +44,7 @@ pub fn place_of(finding: &Finding) -> usize
     }
 }
 
-/// How a call ended, by whether what there is to tell fits into the rooms.
+/// How a call ended, by whether what there is to tell fits into the buffers.
 pub fn status_of(finding: &Finding, fit: bool) -> u32
     ensures { result ≡ status_of fit finding.now }
 {
