@@ -1,40 +1,91 @@
 -- The source of what was read.
-use Rattle.std.proofs.Common.{◌≡◌, refl, sym, subst, ℕ, List}
+use Rattle.std.proofs.Common.{◌≡◌, ◌∙◌, refl, sym, ap, subst, ℕ, List}
+use Rattle.std.specs.Prelude.{Result, IfOk}
+use Rattle.std.proofs.lemmas.Result.{IfOk-weaker}
+use Rattle.es_token.specs.declared.token.Token.{Token}
+use Rattle.es_token.specs.declared.token.Comment.{Comment}
 use Rattle.es_tree.specs.declared.error.Mode.{Mode}
 use Rattle.es_ast.specs.declared.ast.Program.{Program}
 use Rattle.deno_ast.specs.declared.params.ParseParams.{ParseParams}
 use Rattle.deno_ast.specs.declared.reading.Reading.{Reading}
 use Rattle.deno_ast.specs.Parsed.{Parsed}
-use Rattle.deno_ast.specs.Source.{IsParsedWith}
+use Rattle.es_comments.specs.Standing.{ArePlaced}
+use Rattle.deno_ast.specs.Source.{IsParsed, IsParsedWith}
 use Rattle.deno_ast.specs.Steps.{with_text, parsed_of, IsReading}
 
 module _ (P : Program → Program → Type 0) (modes : List Mode) (params : ParseParams) (text : List ℕ) (r : Reading)
     (kept : Program) where
   -- a text in the place of the parameters' own
   parsed_of_text : (s : Parsed) → IsReading modes (with_text params text) r → P r.program kept
-      → s ≡ parsed_of (with_text params text) (record r { program = kept }) → IsParsedWith P modes params text s
-  parsed_of_text s read of same =
-      subst (IsParsedWith P modes params text) (sym same)
-      (record {
-        specifier = refl;
-        media_type = refl;
-        text_is = refl;
-        tree = r.program;
-        read = record {
-          tokens = r.tokens;
-          comments = r.comments;
-          reads = read.reads;
-          is_tree = read.is_tree;
-          refers = refl;
-        };
-        kept = of;
-      })
+      → s ≡ parsed_of (with_text params text) (record r { program = kept }) s.comments
+      → ArePlaced text r.tokens r.comments s.comments → IsParsedWith P modes params text s
+  parsed_of_text s read of same placed = record {
+    specifier = ap (λ (x : Parsed). x.specifier) same;
+    media_type = ap (λ (x : Parsed). x.media_type) same;
+    text_is = ap (λ (x : Parsed). x.text) same;
+    tree = r.program;
+    read = record {
+      tokens = r.tokens;
+      comments = r.comments;
+      reads = read.reads;
+      is_tree = read.is_tree;
+      refers = ap (λ (x : Parsed). x.references) same;
+    };
+    kept = subst (P r.program) (sym (ap (λ (x : Parsed). x.tree) same)) of;
+    comments_are = placed;
+    tokens_are = ap (λ (x : Parsed). x.tokens) same;
+  }
 
   -- another tree is kept than was read
   pub parsed_with : (p : ParseParams) (s : Parsed) → p ≡ with_text params text → IsReading modes p r
-      → P r.program kept → s ≡ parsed_of p (record r { program = kept }) → IsParsedWith P modes params text s
+      → P r.program kept → s ≡ parsed_of p (record r { program = kept }) s.comments
+      → ArePlaced p.text r.tokens r.comments s.comments → IsParsedWith P modes params text s
   parsed_with p s is =
       subst
       (λ (q : ParseParams). IsReading modes q r → P r.program kept
-      → s ≡ parsed_of q (record r { program = kept }) → IsParsedWith P modes params text s)
+      → s ≡ parsed_of q (record r { program = kept }) s.comments → ArePlaced q.text r.tokens r.comments s.comments
+      → IsParsedWith P modes params text s)
       (sym is) (parsed_of_text s)
+
+-- the tree that was read is kept
+pub parsed_here : (modes : List Mode) (p : ParseParams) (r : Reading) (s : Parsed) → IsReading modes p r
+    → s ≡ parsed_of p r s.comments → ArePlaced p.text r.tokens r.comments s.comments → IsParsed modes p p.text s
+parsed_here modes p r s read same placed =
+    parsed_with (λ tree kept. kept ≡ tree) modes p p.text r r.program p s refl read refl same placed
+
+-- the same of a reading whose parts were taken apart, in modes that are those given
+pub parsed_apart : (P : Program → Program → Type 0) (given modes : List Mode) (params p : ParseParams) (text : List ℕ)
+    (whole : Reading) (program made : Program) (tokens : List Token) (comments : List Comment) (s : Parsed)
+    → modes ≡ given → p ≡ with_text params text → whole.program ≡ program → whole.tokens ≡ tokens
+    → whole.comments ≡ comments → IsReading modes p whole → P program made
+    → s ≡ parsed_of p (record { program = made; tokens = tokens; comments = comments }) s.comments
+    → ArePlaced p.text tokens comments s.comments → IsParsedWith P given params text s
+parsed_apart P given modes params p text whole program made tokens comments s allowed is tree ts cs read of same placed =
+    subst (λ (ms : List Mode). IsParsedWith P ms params text s) allowed
+    (parsed_with P modes params text whole made p s is read (subst (λ (x : Program). P x made) (sym tree) of)
+    (same
+    ∙ ap (λ (l : List Token). parsed_of p (record { program = made; tokens = l; comments = comments }) s.comments)
+    (sym ts)
+    ∙ ap (λ (l : List Comment). parsed_of p (record { program = made; tokens = whole.tokens; comments = l }) s.comments)
+    (sym cs))
+    (subst (λ (l : List Comment). ArePlaced p.text whole.tokens l s.comments) (sym cs)
+    (subst (λ (l : List Token). ArePlaced p.text l comments s.comments) (sym ts) placed)))
+
+module _ (modes : List Mode) (params : ParseParams) (text : List ℕ) where
+  -- a source of the changed parameters is one of those that were given, with this text
+  with_other_text : (s : Parsed) → IsParsed modes (with_text params text) text s → IsParsed modes params text s
+  with_other_text s is = record {
+    specifier = is.specifier;
+    media_type = is.media_type;
+    text_is = is.text_is;
+    tree = is.tree;
+    read = is.read;
+    kept = is.kept;
+    comments_are = is.comments_are;
+    tokens_are = is.tokens_are;
+  }
+
+  pub other_source_if : {E : Type 0} (p : ParseParams) (r : Result Parsed E) → p ≡ with_text params text
+      → IfOk r (IsParsed modes p p.text) → IfOk r (IsParsed modes params text)
+  other_source_if p r is told =
+      IfOk-weaker r _ _ with_other_text (subst (λ (q : ParseParams). IfOk r (IsParsed modes q q.text)) is told)

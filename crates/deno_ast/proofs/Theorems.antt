@@ -1,6 +1,7 @@
 -- The laws of parsed sources that other crates name.
-use Rattle.std.proofs.Common.{◌≡◌, ap, subst, ℕ, List, ◌++◌, None}
+use Rattle.std.proofs.Common.{◌≡◌, ◌≢◌, ◌∙◌, sym, ap, subst, ℕ, Bool, true, List, ◌++◌, Some, None}
 use Rattle.std.specs.Prelude.{Option}
+use Rattle.es_tree.specs.declared.error.Mode.{Mode}
 use Rattle.es_ast.specs.declared.ast.Program.{Program}
 use Rattle.es_site.specs.Sites.{sites_of}
 use Rattle.parse_diagnostic.specs.Diagnosis.{Diagnosis, told_range}
@@ -9,7 +10,7 @@ use Rattle.source_sites.specs.Read.{IsRead, IsRefused, HasSites, IsFaulty}
 use Rattle.deno_ast.specs.declared.syntax.Syntax.{Syntax}
 use Rattle.deno_ast.specs.declared.params.ParseParams.{ParseParams}
 use Rattle.deno_ast.specs.Parsed.{Parsed, parsed_sites}
-use Rattle.deno_ast.specs.Source.{lang_in, IsParsed, IsFault}
+use Rattle.deno_ast.specs.Source.{lang_in, captured, IsParsed, IsParsedWith, IsFault}
 
 -- ---- what is parsed by the syntax of its media type
 
@@ -31,3 +32,11 @@ pub source_fault : (params : ParseParams) (text : List ℕ) (d : Diagnosis) → 
 source_fault params text d plain is =
     subst (λ (o : Option Syntax). IsRefused (lang_in o params.media_type) (modes_of params.media_type) text d.kind
     (told_range d.kind d.range)) plain is.1
+
+-- a source that was to keep its tokens has them
+pub tokens_kept : (P : Program → Program → Type 0) (modes : List Mode) (params : ParseParams) (text : List ℕ)
+    (s : Parsed) → params.capture_tokens ≡ true → IsParsedWith P modes params text s → s.tokens ≢ None
+tokens_kept P modes params text s capture is none =
+    let kept : s.tokens ≡ Some is.read.tokens =
+    is.tokens_are ∙ ap (λ (b : Bool). captured b is.read.tokens) capture in
+    let gone : Some is.read.tokens ≡ None = sym kept ∙ none in cc

@@ -10,5 +10,6 @@ parsed s = record {
   text = s.text;
   tree = arc_value s.program;
   references = s.references;
+  comments = s.comments;
   tokens = s.tokens;
 }

@@ -3,6 +3,8 @@ pub use Rattle.module_text.specs.ModuleText
 pub use Rattle.media_type.specs.MediaType
 pub use Rattle.parse_diagnostic.specs.Diagnosis
 pub use Rattle.es_references.specs.References
+pub use Rattle.es_comments.specs.Placed
+pub use Rattle.es_comments.specs.Standing
 pub use Rattle.es_site.specs.Sites
 pub use Rattle.source_sites.specs.Tree
 pub use Rattle.source_sites.specs.Read
@@ -11,6 +13,7 @@ pub use Rattle.source_sites.specs.Cuts
 pub mod Parsed
 pub mod Source
 pub mod Refs
+pub mod Bodies
 pub mod Spans
 pub mod Lexing
 -- ---- what the functions inside the crate promise each other

@@ -1,14 +1,17 @@
 -- Programs that are lent.
-use Rattle.std.specs.Prelude.{ℕ, Bool, true, false, List, [], ◌∷◌, Option, Some, None, unwrap_or}
+use Rattle.std.specs.Prelude.{ℕ, Bool, true, false, List, [], ◌∷◌, map, Option, Some, None, unwrap_or}
 use Rattle.base.specs.declared.range.Range.{Range}
 use Rattle.es_ast.specs.declared.ast.Program.{Program}
 use Rattle.es_ast.specs.declared.ast.Program.TheVariants as program
 use Rattle.es_ast.specs.declared.ast.ModuleItem.{ModuleItem, out-ModuleItem}
-use Rattle.es_ast.specs.declared.ast.ModuleDecl.{out-ModuleDecl}
+use Rattle.es_ast.specs.declared.ast.ModuleDecl.{ModuleDecl, out-ModuleDecl}
+use Rattle.es_ast.specs.declared.ast.Stmt.{Stmt}
 use Rattle.es_ast.specs.declared.ast.ClassMember.TheOpen.{ModuleDecl-F, ModuleItem-F}
 use Rattle.es_site.specs.Parts.{Whole}
 use Rattle.deno_ast.specs.declared.program_ref.ProgramRef.{ProgramRef}
 use Rattle.deno_ast.specs.declared.program_ref.ProgramRef.TheVariants.{Module, Script}
+use Rattle.deno_ast.specs.declared.program_ref.ModuleItemRef.{ModuleItemRef}
+use Rattle.deno_ast.specs.declared.program_ref.ModuleItemRef.TheVariants as item
 
 -- the program itself
 abbrev pub tree_of : ProgramRef → Program
@@ -55,3 +58,27 @@ tells_script (i ∷ items) = unwrap_or (told_by i) (tells_script items)
 abbrev pub is_script_by_items : Program → Bool
 is_script_by_items (program.Module m) = tells_script m.body
 is_script_by_items (program.Script s) = true
+
+-- ---- the items of a program
+
+-- an item of a program: a declaration that imports or exports, or a statement
+pub data LentItem : Type 0 where
+  lent_decl : ModuleDecl → LentItem
+  lent_stmt : Stmt → LentItem
+
+-- an item that is lent
+abbrev pub lent_item : ModuleItemRef → LentItem
+lent_item (item.ModuleDecl d) = lent_decl d.now
+lent_item (item.Stmt s) = lent_stmt s.now
+
+abbrev pub item_of_parts : Whole ModuleItem-F → LentItem
+item_of_parts (ModuleItem-F.ModuleDecl it) = lent_decl it
+item_of_parts (ModuleItem-F.Stmt it) = lent_stmt it
+
+abbrev pub item_of : ModuleItem → LentItem
+item_of i = item_of_parts (out-ModuleItem i)
+
+-- the items of a program, in their order
+abbrev pub items_of : Program → List LentItem
+items_of (program.Module m) = map item_of m.body
+items_of (program.Script s) = map lent_stmt s.body

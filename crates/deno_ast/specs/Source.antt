@@ -1,6 +1,8 @@
 -- Parsed sources.
-use Rattle.std.specs.Prelude.{◌≡◌, ℕ, List, Option, Some, None}
+use Rattle.std.specs.Prelude.{◌≡◌, ℕ, Bool, List, Option, Some, None, if◌then◌else◌}
 use Rattle.url.specs.Parts.{serialize}
+use Rattle.es_token.specs.declared.token.Token.{Token}
+use Rattle.es_comments.specs.Standing.{ArePlaced}
 use Rattle.es_tree.specs.declared.error.Lang.{Lang}
 use Rattle.es_tree.specs.declared.error.Lang.TheVariants as lang
 use Rattle.es_tree.specs.declared.error.Mode.{Mode}
@@ -31,7 +33,12 @@ lang_in None media = language_of media
 abbrev pub lang_for : ParseParams → Lang
 lang_for params = lang_in params.maybe_syntax params.media_type
 
--- a source of this text, read in one of these modes; P tells of the tree that was read and the tree that is kept
+-- the tokens that are kept
+abbrev pub captured : Bool → List Token → Option (List Token)
+captured capture tokens = if capture then Some tokens else None
+
+-- a source of this text, read in one of these modes; its comments stand at their places, and its tokens are kept where
+-- that was asked for; P tells of the tree that was read and the tree that is kept
 pub record IsParsedWith (P : Program → Program → Type 0) (modes : List Mode) (params : ParseParams) (text : List ℕ)
     (s : Parsed) : Type 0 where
   pub specifier : s.specifier ≡ params.specifier
@@ -40,6 +47,8 @@ pub record IsParsedWith (P : Program → Program → Type 0) (modes : List Mode)
   pub tree : Program
   pub read : IsRead (lang_for params) modes params.media_type text tree s.references
   pub kept : P tree s.tree
+  pub comments_are : ArePlaced text read.tokens read.comments s.comments
+  pub tokens_are : s.tokens ≡ captured params.capture_tokens read.tokens
 
 -- the tree that was read is kept
 abbrev pub IsParsed : List Mode → ParseParams → List ℕ → Parsed → Type 0

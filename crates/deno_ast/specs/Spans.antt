@@ -6,7 +6,7 @@ use Rattle.es_ast.specs.declared.ast.Stmt.{out-Stmt}
 use Rattle.es_ast.specs.declared.ast.ClassMember.TheOpen.{Decl-F, ModuleDecl-F, Stmt-F}
 use Rattle.es_site.specs.Parts.{Whole}
 use Rattle.deno_ast.specs.declared.program_ref.ModuleItemRef.{ModuleItemRef}
-use Rattle.deno_ast.specs.declared.program_ref.ModuleItemRef.TheVariants.{ModuleDecl, Stmt}
+use Rattle.deno_ast.specs.Refs.{LentItem, lent_decl, lent_stmt, lent_item}
 
 abbrev pub span_of_decl : Whole Decl-F → Range
 span_of_decl (Decl-F.Decl::Class declare class span) = span
@@ -51,7 +51,11 @@ span_of_module_decl (ModuleDecl-F.TsImportEquals it) = it.span
 span_of_module_decl (ModuleDecl-F.TsExportAssignment expr span) = span
 span_of_module_decl (ModuleDecl-F.TsNamespaceExport it) = it.span
 
+-- an item of a program
+abbrev pub span_of_lent : LentItem → Range
+span_of_lent (lent_decl d) = span_of_module_decl (out-ModuleDecl d)
+span_of_lent (lent_stmt s) = span_of_stmt (out-Stmt s)
+
 -- an item that is lent
 abbrev pub span_of_item : ModuleItemRef → Range
-span_of_item (ModuleDecl d) = span_of_module_decl (out-ModuleDecl d.now)
-span_of_item (Stmt s) = span_of_stmt (out-Stmt s.now)
+span_of_item item = span_of_lent (lent_item item)

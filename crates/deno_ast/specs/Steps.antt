@@ -2,13 +2,14 @@
 use Rattle.std.specs.Prelude.{ℕ, Bool, List, Option, Some, None, if◌then◌else◌}
 use Rattle.es_token.specs.declared.token.Token.{Token}
 use Rattle.es_lexer.specs.Reads.{Reads}
+use Rattle.es_comments.specs.Placed.{Placed}
 use Rattle.es_tree.specs.declared.error.Mode.{Mode}
 use Rattle.deno_ast.specs.declared.params.ParseParams.{ParseParams}
 use Rattle.deno_ast.specs.declared.reading.Reading.{Reading}
 use Rattle.source_sites.specs.Tree.{IsFirstTree}
 use Rattle.source_sites.specs.Read.{references_in}
 use Rattle.deno_ast.specs.Parsed.{Parsed}
-use Rattle.deno_ast.specs.Source.{lang_for}
+use Rattle.deno_ast.specs.Source.{lang_for, captured}
 
 -- the parameters with another text
 abbrev pub with_text : ParseParams → List ℕ → ParseParams
@@ -26,17 +27,14 @@ pub record IsReading (modes : List Mode) (params : ParseParams) (r : Reading) : 
   pub reads : Reads params.text r.tokens r.comments
   pub is_tree : IsFirstTree (lang_for params) params.text r.tokens modes r.program
 
--- the tokens that are kept
-abbrev pub captured : Bool → List Token → Option (List Token)
-captured capture tokens = if capture then Some tokens else None
-
--- the source of what was read
-abbrev pub parsed_of : ParseParams → Reading → Parsed
-parsed_of p r = record {
+-- the source of what was read, with the comments at these places
+abbrev pub parsed_of : ParseParams → Reading → Placed → Parsed
+parsed_of p r placed = record {
   specifier = p.specifier;
   media_type = p.media_type;
   text = p.text;
   tree = r.program;
   references = references_in p.media_type r.tokens r.comments;
+  comments = placed;
   tokens = captured p.capture_tokens r.tokens;
 }

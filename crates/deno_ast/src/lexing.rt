@@ -20,10 +20,37 @@ pub struct LexedItem {
     pub inner: TokenOrComment,
 }
 
+impl LexedItem {
+    /// An equal item.
+    pub fn copy(&self) -> Result<LexedItem, AllocError>
+        ensures { IfOk result (λ copy. copy ≡ self.now) }
+    {
+        Ok(LexedItem {
+            range: self.range,
+            inner: self.inner.copy()?,
+        })
+    }
+}
+
 #[derive(Debug, PartialEq, Eq, Drop)]
 pub enum TokenOrComment {
     Token(TokenKind),
     Comment { kind: CommentKind, text: Text },
+}
+
+impl TokenOrComment {
+    /// An equal token or comment.
+    pub fn copy(&self) -> Result<TokenOrComment, AllocError>
+        ensures { IfOk result (λ copy. copy ≡ self.now) }
+    {
+        match self {
+            TokenOrComment::Token(kind) => Ok(TokenOrComment::Token(*kind)),
+            TokenOrComment::Comment { kind, text } => Ok(TokenOrComment::Comment {
+                kind: *kind,
+                text: text.copy()?,
+            }),
+        }
+    }
 }
 
 /// The tokens and comments of a text by their places. A byte order mark is a blank; all media types have the same

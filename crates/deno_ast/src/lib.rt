@@ -41,7 +41,9 @@ pub use es_site::{Attribute, DependencyKind, Site};
 pub use es_token::{Comment, CommentKind, Token, TokenKind};
 pub use media_type::MediaType;
 pub use module_text::{strip_bom, without_mark};
-pub use parse_diagnostic::{ParseDiagnostic, ParseDiagnosticsError, ParseFault, SyntaxErrorKind};
+pub use parse_diagnostic::{
+    KeptDiagnostic, ParseDiagnostic, ParseDiagnosticsError, ParseFault, SyntaxErrorKind,
+};
 pub use source_sites::read_sites;
 pub use source_text::{LineAndColumnDisplay, SourceText, SourceTextInfo};
 pub use text_changes::{TextChange, TextChangeError, apply_text_changes};

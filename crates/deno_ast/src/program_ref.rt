@@ -1,9 +1,12 @@
 //! A program that is lent, and its items.
-ghost use Rattle.std.specs.Prelude.{◌≡◌, None, Some, IfOk, MatchOption};
+ghost use Rattle.std.specs.Prelude.{◌≡◌, None, Some, IfOk, MatchOption, map};
+ghost use Rattle.std.specs.Option.{option_map};
+ghost use Rattle.std.specs.List.{slice_get};
 ghost use Rattle.es_ast.specs.declared.ast.ModuleDecl.{out-ModuleDecl};
 ghost use Rattle.deno_ast.specs.Refs as spec;
 ghost use Rattle.deno_ast.specs.Spans as spans;
 ghost use Rattle.deno_ast.specs.Refs.{tree_of, IsModule, IsScript};
+ghost use Rattle.deno_ast.specs.Bodies.{items_left};
 
 use crate::spans::{module_decl_span, stmt_span};
 use base::Range;
@@ -75,7 +78,20 @@ impl<'a> ProgramRef<'a> {
         }
     }
 
-    pub fn body(self) -> Body<'a> {
+    /// The first item, where there is one.
+    pub fn first_item(self) -> Option<ModuleItemRef<'a>>
+        ensures { option_map spec.lent_item result ≡ slice_get (spec.items_of (tree_of self.entry)) 0 }
+    {
+        match self {
+            ProgramRef::Module(module) => first_of_module(module.body.as_slice()),
+            ProgramRef::Script(script) => first_of_script(script.body.as_slice()),
+        }
+    }
+
+    /// The items, one by one.
+    pub fn body(self) -> Body<'a>
+        ensures { items_left result ≡ spec.items_of (tree_of self.entry) }
+    {
         match self {
             ProgramRef::Module(module) => Body {
                 items: module.body.as_slice().iter(),
@@ -109,8 +125,28 @@ impl<'a> ProgramRef<'a> {
 }
 
 impl<'a> From<&'a Program> for ProgramRef<'a> {
+    ghost from_gives = { λ program r. tree_of r ≡ program.now };
+
     fn from(program: &'a Program) -> ProgramRef<'a> {
         ProgramRef::of(program)
+    }
+}
+
+fn first_of_module(items: &[ModuleItem]) -> Option<ModuleItemRef<'_>>
+    ensures { option_map spec.lent_item result ≡ slice_get (map spec.item_of items.now) 0 }
+{
+    match items {
+        [first, ..] => Some(ModuleItemRef::from(first)),
+        [] => None,
+    }
+}
+
+fn first_of_script(stmts: &[Stmt]) -> Option<ModuleItemRef<'_>>
+    ensures { option_map spec.lent_item result ≡ slice_get (map spec.lent_stmt stmts.now) 0 }
+{
+    match stmts {
+        [first, ..] => Some(ModuleItemRef::Stmt(first)),
+        [] => None,
     }
 }
 
@@ -165,6 +201,8 @@ impl ModuleItemRef<'_> {
 }
 
 impl<'a> From<&'a ModuleItem> for ModuleItemRef<'a> {
+    ghost from_gives = { λ i r. spec.lent_item r ≡ spec.item_of i.now };
+
     fn from(item: &'a ModuleItem) -> ModuleItemRef<'a> {
         match item {
             ModuleItem::ModuleDecl(decl) => ModuleItemRef::ModuleDecl(decl.get()),
@@ -182,6 +220,14 @@ pub struct Body<'a> {
 
 impl<'a> Iterator for Body<'a> {
     type Item = ModuleItemRef<'a>;
+
+    ghost use Rattle.std.specs.Iterator.{YieldsFirstBy, item_count};
+    ghost use Rattle.deno_ast.specs.Refs.{lent_item};
+    ghost use Rattle.deno_ast.specs.Bodies.{items_left};
+
+    ghost next_gives = { YieldsFirstBy lent_item items_left };
+
+    ghost remaining = { item_count items_left };
 
     fn next(&mut self) -> Option<ModuleItemRef<'a>> {
         match self.items.next() {

@@ -1,18 +1,21 @@
 //! Parsed sources.
 ghost use Rattle.std.specs.Prelude.{◌≡◌, ◌≢◌, ◌++◌, None, Some, false, not, length, IfOk};
 ghost use Rattle.std.specs.Arc.{arc_value};
-ghost use Rattle.deno_ast.specs.Refs.{tree_of};
+ghost use Rattle.std.specs.Option.{option_map, option_copied};
+ghost use Rattle.deno_ast.specs.Refs.{tree_of, lent_item};
 ghost use Rattle.deno_ast.specs.Parsed as spec;
-ghost use Rattle.deno_ast.specs.Steps.{parsed_of, captured as kept};
+ghost use Rattle.es_comments.specs.Standing.{ArePlaced};
+ghost use Rattle.deno_ast.specs.Source.{captured as kept};
+ghost use Rattle.deno_ast.specs.Steps.{parsed_of};
 
 use crate::params::ParseParams;
-use crate::program_ref::ProgramRef;
+use crate::program_ref::{ModuleItemRef, ProgramRef};
 use crate::reading::Reading;
 use base::{Items, Range};
 use es_ast::Program;
 use es_comments::{MultiThreadedComments, comments_of};
 use es_site::Site;
-use es_token::{Comment, Token, TokenKind};
+use es_token::{Comment, Token};
 use es_walk::sites;
 use media_type::MediaType;
 use source_sites::{references_in, with_sites};
@@ -38,17 +41,7 @@ pub struct Source {
     program: Arc<Program>,
     references: Items<Site>,
     comments: MultiThreadedComments,
-    front: Front,
     tokens: Option<Items<Token>>,
-}
-
-// Where the leading comments of the program stand.
-#[derive(Clone, Copy)]
-enum Front {
-    // Before the first item.
-    Before(usize),
-    // Behind the shebang, where no item follows.
-    Behind(usize),
 }
 
 impl Model for ParsedSource {
@@ -130,16 +123,19 @@ impl ParsedSource {
         self.inner.program.clone()
     }
 
-    pub fn comments(&self) -> &MultiThreadedComments {
+    /// The comments by the places where they stand.
+    pub fn comments(&self) -> &MultiThreadedComments
+        ensures { result.now ≡ self.now.comments }
+    {
         &self.inner.comments
     }
 
     /// The comments before the first item; with no item, those behind the shebang, or those of a text without tokens.
-    pub fn get_leading_comments(&self) -> Option<&Vec<Comment>> {
-        match self.inner.front {
-            Front::Before(place) => self.inner.comments.get_leading(place),
-            Front::Behind(place) => self.inner.comments.get_trailing(place),
-        }
+    pub fn get_leading_comments(&self) -> Option<&Vec<Comment>>
+        ensures { option_map (λ v. v.now.items) result ≡ spec.leading_comments self.now }
+    {
+        let program = self.program_ref();
+        leading_in(self.comments(), program.first_item(), program.shebang())
     }
 
     /// The tokens, where they were asked for.
@@ -201,6 +197,22 @@ impl ParsedSource {
     }
 }
 
+// The comments at the first item; with no item, those behind the shebang, or those at 0.
+fn leading_in<'a>(
+    comments: &'a MultiThreadedComments,
+    first: Option<ModuleItemRef<'_>>,
+    shebang: Option<&str>,
+) -> Option<&'a Vec<Comment>>
+    ensures { option_map (λ v. v.now.items) result
+        ≡ spec.leading_by comments.now (option_map lent_item first.entry) (option_copied shebang.entry) }
+{
+    match (first, shebang) {
+        (Some(item), _) => comments.get_leading(item.span().start),
+        (None, Some(text)) => comments.get_trailing(text.len() + 2),
+        (None, None) => comments.get_leading(0),
+    }
+}
+
 fn copy_sites(alloc: Global, found: &[Site]) -> Result<Items<Site>, AllocError>
     ensures { IfOk result (λ copy. copy ≡ found.now) }
 {
@@ -229,7 +241,8 @@ pub fn source_of(
     params: ParseParams,
     reading: Reading,
 ) -> Result<ParsedSource, AllocError>
-    ensures { IfOk result (λ s. s ≡ parsed_of params reading) }
+    ensures kept { IfOk result (λ s. s ≡ parsed_of params reading s.comments) }
+    ensures placed { IfOk result (λ s. ArePlaced params.text reading.tokens reading.comments s.comments) }
 {
     let Reading {
         program,
@@ -251,7 +264,6 @@ pub fn source_of(
         program: Arc::new(alloc, program)?,
         references,
         comments,
-        front: front_of(tokens.as_slice()),
         tokens: captured(params.capture_tokens, tokens),
     };
     Ok(ParsedSource {
@@ -264,20 +276,11 @@ fn shared_comments(
     text: &str,
     tokens: &Items<Token>,
     comments: &Items<Comment>,
-) -> Result<MultiThreadedComments, AllocError> {
+) -> Result<MultiThreadedComments, AllocError>
+    ensures { IfOk result (ArePlaced text.now tokens.now comments.now) }
+{
     let placed = comments_of(alloc, text, tokens.as_slice(), comments.as_slice())?;
     MultiThreadedComments::from_single_threaded(alloc, placed)
-}
-
-fn front_of(tokens: &[Token]) -> Front {
-    match tokens {
-        [] => Front::Before(0),
-        [first] if first.kind == TokenKind::Shebang => Front::Behind(first.range.end),
-        [first, second, ..] if first.kind == TokenKind::Shebang => {
-            Front::Before(second.range.start)
-        }
-        [first, ..] => Front::Before(first.range.start),
-    }
 }
 
 fn captured(capture: bool, tokens: Items<Token>) -> Option<Items<Token>>

@@ -1,11 +1,13 @@
 use Rattle.std.proofs.Common.{subst, List}
+use Rattle.std.specs.Prelude.{IfOk}
 use Rattle.std.specs.Result.{IfErr}
 use Rattle.es_tree.specs.declared.error.Mode.{Mode}
 use Rattle.module_text.specs.ModuleText.{without_mark}
 use Rattle.source_sites.specs.Fault.{Refuses}
-use Rattle.deno_ast.specs.Source.{IsFault}
+use Rattle.deno_ast.specs.Source.{IsParsed, IsFault}
 use Rattle.source_sites.specs.Modes.{modes_in}
 use Rattle.deno_ast.proofs.FaultLemmas.{other_text_if}
+use Rattle.deno_ast.proofs.ParsedLemmas.{other_source_if}
 use Rattle.deno_ast.proofs.parsing.parse_program.Goals as goal
 
 -- the fault of the text without its mark, in the modes of the media type
@@ -15,3 +17,11 @@ returns-clause-refused c =
     (Refuses (IsFault ms c.args.params (without_mark c.args.params.text)))) c.modes_of-modes.ensures
     (other_text_if (modes_in c.modes_of-modes.result) c.args.params c.without_bom.result
     (without_mark c.args.params.text) c.parse_in.result c.without_bom.ensures c.parse_in.ensures.refused)
+
+-- the source of the text without its mark, in the modes of the media type
+pub returns-clause-parsed : goal.returns-clause-parsed
+returns-clause-parsed c =
+    subst (λ (ms : List Mode). IfOk c.parse_in.result (IsParsed ms c.args.params (without_mark c.args.params.text)))
+    c.modes_of-modes.ensures
+    (other_source_if (modes_in c.modes_of-modes.result) c.args.params (without_mark c.args.params.text)
+    c.without_bom.result c.parse_in.result c.without_bom.ensures c.parse_in.ensures.parsed)
