@@ -1,9 +1,7 @@
 -- The source of what was read.
-use Rattle.std.proofs.Common.{◌≡◌, ◌∙◌, refl, sym, ap, subst, ℕ, List}
+use Rattle.std.proofs.Common.{◌≡◌, refl, sym, ap, subst, ℕ, List}
 use Rattle.std.specs.Prelude.{Result, IfOk}
 use Rattle.std.proofs.lemmas.Result.{IfOk-weaker}
-use Rattle.es_token.specs.declared.token.Token.{Token}
-use Rattle.es_token.specs.declared.token.Comment.{Comment}
 use Rattle.es_tree.specs.declared.error.Mode.{Mode}
 use Rattle.es_ast.specs.declared.ast.Program.{Program}
 use Rattle.deno_ast.specs.declared.params.ParseParams.{ParseParams}
@@ -53,23 +51,14 @@ pub parsed_here : (modes : List Mode) (p : ParseParams) (r : Reading) (s : Parse
 parsed_here modes p r s read same placed =
     parsed_with (λ tree kept. kept ≡ tree) modes p p.text r r.program p s refl read refl same placed
 
--- the same of a reading whose parts were taken apart, in modes that are those given
-pub parsed_apart : (P : Program → Program → Type 0) (given modes : List Mode) (params p : ParseParams) (text : List ℕ)
-    (whole : Reading) (program made : Program) (tokens : List Token) (comments : List Comment) (s : Parsed)
-    → modes ≡ given → p ≡ with_text params text → whole.program ≡ program → whole.tokens ≡ tokens
-    → whole.comments ≡ comments → IsReading modes p whole → P program made
-    → s ≡ parsed_of p (record { program = made; tokens = tokens; comments = comments }) s.comments
-    → ArePlaced p.text tokens comments s.comments → IsParsedWith P given params text s
-parsed_apart P given modes params p text whole program made tokens comments s allowed is tree ts cs read of same placed =
+-- the same in modes that are those given
+pub parsed_in : (P : Program → Program → Type 0) (given modes : List Mode) (params p : ParseParams) (text : List ℕ)
+    (r : Reading) (made : Program) (s : Parsed) → modes ≡ given → p ≡ with_text params text → IsReading modes p r
+    → P r.program made → s ≡ parsed_of p (record r { program = made }) s.comments
+    → ArePlaced p.text r.tokens r.comments s.comments → IsParsedWith P given params text s
+parsed_in P given modes params p text r made s allowed is read of same placed =
     subst (λ (ms : List Mode). IsParsedWith P ms params text s) allowed
-    (parsed_with P modes params text whole made p s is read (subst (λ (x : Program). P x made) (sym tree) of)
-    (same
-    ∙ ap (λ (l : List Token). parsed_of p (record { program = made; tokens = l; comments = comments }) s.comments)
-    (sym ts)
-    ∙ ap (λ (l : List Comment). parsed_of p (record { program = made; tokens = whole.tokens; comments = l }) s.comments)
-    (sym cs))
-    (subst (λ (l : List Comment). ArePlaced p.text whole.tokens l s.comments) (sym cs)
-    (subst (λ (l : List Token). ArePlaced p.text l comments s.comments) (sym ts) placed)))
+    (parsed_with P modes params text r made p s is read of same placed)
 
 module _ (modes : List Mode) (params : ParseParams) (text : List ℕ) where
   -- a source of the changed parameters is one of those that were given, with this text

@@ -6,7 +6,7 @@ use Rattle.source_sites.specs.Fault.{Refuses}
 use Rattle.deno_ast.specs.Source.{IsFault}
 use Rattle.source_sites.specs.Modes.{modes_in}
 use Rattle.deno_ast.proofs.FaultLemmas.{other_text}
-use Rattle.deno_ast.proofs.ParsedLemmas.{parsed_apart}
+use Rattle.deno_ast.proofs.ParsedLemmas.{parsed_in}
 use Rattle.deno_ast.proofs.parsing.parse_program_with_post_process.Goals as goal
 
 -- the fault of the text without its mark, in the modes of the media type
@@ -23,8 +23,7 @@ returns-in_err-program-clause-refused g c =
 -- the source of what was read, with what was made of it
 pub returns-clause-parsed : goal.returns-clause-parsed
 returns-clause-parsed g c =
-    parsed_apart _ _ (modes_in c.modes_of-modes.result) c.args.params c.without_bom-params.result
-    (without_mark c.args.params.text) c.in_ok-program.field-0 c.in_ok-program.program c.post_process.result
-    c.in_ok-program.tokens c.in_ok-program.comments c.in_ok-source_of.field-0 c.modes_of-modes.ensures
-    c.without_bom-params.ensures c.in_ok-program.program-is c.in_ok-program.tokens-is c.in_ok-program.comments-is
-    c.in_ok-program.ensures.read c.post_process.ensures c.in_ok-source_of.ensures.kept c.in_ok-source_of.ensures.placed
+    parsed_in _ _ (modes_in c.modes_of-modes.result) c.args.params c.without_bom-params.result
+    (without_mark c.args.params.text) c.in_ok-program.field-0 c.post_process.result c.in_ok-source_of.field-0
+    c.modes_of-modes.ensures c.without_bom-params.ensures c.in_ok-program.ensures.read c.post_process.ensures
+    c.in_ok-source_of.ensures.kept c.in_ok-source_of.ensures.placed
