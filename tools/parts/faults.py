@@ -25,6 +25,7 @@ OF_EDGE = {
     "InvalidDowngrade": "from https it would lead to http",
     "InvalidLocalImport": "from the web it would lead to a local file",
     "InvalidTypeAssertion": "the attribute type doesn't fit what the module is",
+    "Refused": "the import map refuses it: its address is none, or leads elsewhere",
 }
 
 

@@ -66,7 +66,8 @@ class CheckBundle(unittest.TestCase):
 
     def test_options(self):
         fine = ['"kind":"code"', '"limit":1000000', '"skipDynamicDeps":true', '"arrival":[null,"file:///a.ts"]',
-                '"imports":[{"referrer":"file:///a.ts","imports":["./b.ts"]}]']
+                '"imports":[{"referrer":"file:///a.ts","imports":["./b.ts"]}]',
+                '"importMap":{"base":"file:///a/","map":{"imports":{"a":null,"":7},"scopes":{"./b/":{}},"integrity":1}}']
         for key in fine:
             self.assertEqual(told('{"roots":[],"modules":[],%s}' % key)[0], 0, key)
         limit = "limit: a whole number from 1 to 1,000,000 is wanted, without point and exponent"
@@ -77,6 +78,11 @@ class CheckBundle(unittest.TestCase):
             ('"imports":[{"referrer":"file:///a.ts"}]', "imports[0]: no key 'imports'"),
             ('"imports":[{"referrer":"file:///a.ts","imports":[1]}]', "imports[0].imports[0]: a number where a text is wanted"),
             ('"arrival":[{"force":"file:///a.ts"}]', "arrival[0]: an object where a URL is wanted"),
+            ('"importMap":[]', "importMap: an array where an object is wanted"),
+            ('"importMap":{"base":"file:///"}', "importMap: no key 'map'"),
+            ('"importMap":{"base":"file:///","map":[]}', "importMap.map: an array where an object is wanted"),
+            ('"importMap":{"base":"file:///","map":{"imports":1}}', "importMap.map.imports: a number where an object is wanted"),
+            ('"importMap":{"base":"file:///","map":{"scopes":{"b":{},"a":""}}}', "importMap.map.scopes.a: a text where an object is wanted"),
         ]
         for key, line in rows:
             self.assertEqual(told('{"roots":[],"modules":[],%s}' % key), (1, [line]), key)

@@ -16,9 +16,10 @@ use Rattle.serde_json.specs.Data.{Data, Items, Members}
 use Rattle.serde_json.specs.Find.{as_array, as_object, as_null, get}
 use Rattle.serde_json.specs.View.{view, items_view}
 use Rattle.serde_json.specs.declared.value.Value.{Value}
-use Rattle.graph_bundle.specs.Reading.{Reading, and_then, said, before, under, pointer, url_of, items_list, each_from, each_of, or_default, required, optional, only}
-use Rattle.graph_bundle.proofs.ReadingLemmas.{items_list-items_of, prepend, prepend-before}
-use Rattle.graph_bundle.specs.Bundle.{modules_from, modules_of, module_after, arrival_of, options_of, knows_bundle, bundle_from, bundle_of, specifiers}
+use Rattle.json_reading.specs.Reading.{Reading, and_then, said, before, under, pointer, url_of, items_list, each_from, each_of, or_default, required, optional, only}
+use Rattle.json_reading.proofs.ReadingLemmas.{items_list-items_of, prepend, prepend-before}
+use Rattle.graph_bundle.specs.Bundle.{modules_from, modules_of, module_after, arrival_of, options_of, some_import_map, knows_bundle, bundle_from, bundle_of, specifiers}
+use Rattle.import_map.specs.ImportMap.{MapData}
 use Rattle.graph_bundle.specs.declared.bundle.Bundle.{Bundle}
 
 -- what the values of a list say
@@ -99,19 +100,23 @@ list_free (Some value) items is = array_free (as_array value) items is
 
 -- what a bundle's parts say together has the arrival that its part says
 unforced_from : (roots : Reading (List Parts)) (options : Reading BuildOptions)
-    (modules : Reading (List (Parts × LoadAnswer))) (arrival : Reading (List Arrival)) (others : Reading (Unit {0}))
+    (modules : Reading (List (Parts × LoadAnswer))) (arrival : Reading (List Arrival))
+    (mapped : Reading (Option MapData)) (others : Reading (Unit {0}))
     (bundle : Bundle) → ((xs : List Arrival) → arrival ≡ Ok xs → list_any is_forced xs ≡ false)
-    → and_then (λ given. and_then (λ wanted. and_then (λ told. and_then (λ order. and_then (λ done.
-    Ok (record { roots = given; options = wanted; modules = told; arrival = order }))
-    others) arrival) modules) options) roots ≡ Ok bundle
+    → and_then (λ given. and_then
+    (λ wanted. and_then (λ told. and_then (λ order. and_then (λ map_found. and_then (λ done.
+    Ok (record { roots = given; options = wanted; modules = told; arrival = order; import_map = map_found }))
+    others) mapped) arrival) modules) options) roots ≡ Ok bundle
     → list_any is_forced bundle.arrival ≡ false
-unforced_from (Err at) options modules arrival others bundle free is = absurd (cc)
-unforced_from (Ok given) (Err at) modules arrival others bundle free is = absurd (cc)
-unforced_from (Ok given) (Ok wanted) (Err at) arrival others bundle free is = absurd (cc)
-unforced_from (Ok given) (Ok wanted) (Ok told) (Err at) others bundle free is = absurd (cc)
-unforced_from (Ok given) (Ok wanted) (Ok told) (Ok order) (Err at) bundle free is = absurd (cc)
-unforced_from (Ok given) (Ok wanted) (Ok told) (Ok order) (Ok done) bundle free is =
-    let same : record { roots = given; options = wanted; modules = told; arrival = order } ≡ bundle = cc in
+unforced_from (Err at) options modules arrival mapped others bundle free is = absurd (cc)
+unforced_from (Ok given) (Err at) modules arrival mapped others bundle free is = absurd (cc)
+unforced_from (Ok given) (Ok wanted) (Err at) arrival mapped others bundle free is = absurd (cc)
+unforced_from (Ok given) (Ok wanted) (Ok told) (Err at) mapped others bundle free is = absurd (cc)
+unforced_from (Ok given) (Ok wanted) (Ok told) (Ok order) (Err at) others bundle free is = absurd (cc)
+unforced_from (Ok given) (Ok wanted) (Ok told) (Ok order) (Ok map_found) (Err at) bundle free is = absurd (cc)
+unforced_from (Ok given) (Ok wanted) (Ok told) (Ok order) (Ok map_found) (Ok done) bundle free is =
+    let same : record { roots = given; options = wanted; modules = told; arrival = order; import_map = map_found }
+    ≡ bundle = cc in
     subst (λ (b : Bundle). list_any is_forced b.arrival ≡ false) same (free order refl)
 
 object_free : (value : Data) (o : Option Members) (bundle : Bundle)
@@ -120,7 +125,7 @@ object_free value None bundle is = absurd (cc)
 object_free value (Some members) bundle is =
     unforced_from (required (each_of url_of) (codes "roots") value) (options_of value)
     (required modules_of (codes "modules") value) (optional (each_of arrival_of) [] (codes "arrival") value)
-    (only knows_bundle members) bundle
+    (optional some_import_map None (codes "importMap") value) (only knows_bundle members) bundle
     (λ xs e. list_free (get (codes "arrival") value) xs
     (under_ok (codes "arrival") (or_default (each_of arrival_of) [] (get (codes "arrival") value)) xs e)) is
 

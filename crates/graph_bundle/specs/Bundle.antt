@@ -7,8 +7,8 @@ use Rattle.serde_json.specs.Find.{get, as_null, as_number, as_u64, as_array, as_
 use Rattle.base64.specs.GeneralPurpose.{decode_of}
 use Rattle.base64.specs.Engines.{standard}
 use Rattle.url.specs.Parts.{Parts}
-use Rattle.graph_bundle.specs.Reading.{Reading, and_then, said, or_here, pointer, escaped, under, url_of, bool_of, object_of, items_list, before, each_of, there, required, or_default, optional, only}
-use Rattle.graph_bundle.specs.Reading as reading
+use Rattle.json_reading.specs.Reading.{Reading, and_then, said, or_here, pointer, escaped, under, url_of, bool_of, object_of, items_list, before, each_of, there, required, or_default, optional, only}
+use Rattle.json_reading.specs.Reading as reading
 use Rattle.graph_entry.specs.Specifier.{text_of}
 use Rattle.graph_entry.specs.Headers.{HeaderList, with_header}
 use Rattle.graph_entry.specs.declared.kind.GraphKind.{GraphKind}
@@ -20,6 +20,7 @@ use Rattle.deno_graph.specs.declared.memory_loader.Arrival.{Arrival}
 use Rattle.deno_graph.specs.declared.memory_loader.Arrival.TheVariants.{Answer, Pending}
 use Rattle.deno_graph.specs.declared.options.BuildOptions.{BuildOptions}
 use Rattle.deno_graph.specs.Reach.{Specifier, has}
+use Rattle.import_map.specs.ImportMap.{MapData, map_of}
 use Rattle.graph_bundle.specs.declared.bundle.Bundle.{Bundle}
 
 -- the bytes are a JSON text of this value
@@ -210,6 +211,25 @@ specifiers modules = map (λ m. text_of m.0) modules
 abbrev pub arrival_of : Data → Reading Arrival
 arrival_of value = if is_some (as_null value) then Ok Pending else and_then (λ url. Ok (Answer url)) (url_of value)
 
+-- ---- import maps
+
+-- the keys of an import map with its base
+abbrev pub knows_import_map : List ℕ → Bool
+knows_import_map key = bytes_eq key (codes "base") || bytes_eq key (codes "map")
+
+-- the import map that an object with these members says: a map whose relative URLs are read at its base
+abbrev pub import_map_from : Data → Members → Reading MapData
+import_map_from value members =
+    and_then (λ base. and_then (λ mapped. and_then (λ done. Ok mapped) (only knows_import_map members))
+    (required (map_of base) (codes "map") value))
+    (required url_of (codes "base") value)
+
+abbrev pub import_map_of : Data → Reading MapData
+import_map_of value = and_then (import_map_from value) (object_of value)
+
+abbrev pub some_import_map : Data → Reading (Option MapData)
+some_import_map value = and_then (λ mapped. Ok (Some mapped)) (import_map_of value)
+
 -- ---- bundles
 
 -- the keys of a bundle
@@ -217,20 +237,21 @@ abbrev pub knows_bundle : List ℕ → Bool
 knows_bundle key =
     bytes_eq key (codes "roots") || bytes_eq key (codes "kind") || bytes_eq key (codes "limit")
     || bytes_eq key (codes "skipDynamicDeps") || bytes_eq key (codes "imports") || bytes_eq key (codes "modules")
-    || bytes_eq key (codes "arrival")
+    || bytes_eq key (codes "arrival") || bytes_eq key (codes "importMap")
 
 -- the bundle that an object with these members says
 abbrev pub bundle_from : Data → Members → Reading Bundle
 bundle_from value members =
-    and_then (λ given. and_then (λ wanted. and_then (λ told. and_then (λ order. and_then (λ done.
-    Ok (record { roots = given; options = wanted; modules = told; arrival = order }))
+    and_then (λ given. and_then (λ wanted. and_then (λ told. and_then (λ order. and_then (λ mapped. and_then (λ done.
+    Ok (record { roots = given; options = wanted; modules = told; arrival = order; import_map = mapped }))
     (only knows_bundle members))
+    (optional some_import_map None (codes "importMap") value))
     (optional (each_of arrival_of) [] (codes "arrival") value))
     (required modules_of (codes "modules") value))
     (options_of value))
     (required (each_of url_of) (codes "roots") value)
 
--- the bundle that a JSON value says: its roots, its options, its modules, of which no two have one specifier, and the order in
--- which they come
+-- the bundle that a JSON value says: its roots, its options, its modules, of which no two have one specifier, the order in which
+-- they come, and its import map
 unfoldable pub bundle_of : Data → Reading Bundle
 bundle_of value = and_then (bundle_from value) (object_of value)

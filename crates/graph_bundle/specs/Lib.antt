@@ -1,3 +1,2 @@
 -- What the public contracts rest on.
-pub mod Reading
 pub mod Bundle

@@ -2,8 +2,8 @@
 ghost use Rattle.graph_bundle.specs.Bundle as spec;
 
 use crate::part::Part;
-use crate::reading::Reading;
 use deno_graph::Arrival;
+use json_reading::Reading;
 use serde_json::Value;
 use std::alloc::{AllocError, Global};
 use url::Url;

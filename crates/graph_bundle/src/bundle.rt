@@ -6,12 +6,14 @@ ghost use Rattle.serde_json.specs.View.{view, members_view};
 ghost use Rattle.graph_bundle.specs.Bundle.{IsJson, bundle_of, bundle_from};
 ghost use Rattle.graph_bundle.specs.Bundle as spec;
 
+use crate::mapped::import_map_at;
 use crate::members::{Keys, only, optional, required};
 use crate::modules::modules_at;
 use crate::options::options_in;
-use crate::reading::Reading;
 use base::{Items, Text};
 use deno_graph::{Arrival, BuildOptions, LoadAnswer};
+use import_map::ImportMap;
+use json_reading::Reading;
 use serde_json::{Map, Value};
 use std::alloc::{AllocError, Global};
 use url::Url;
@@ -25,6 +27,8 @@ pub struct Bundle {
     pub modules: Items<(Url, LoadAnswer)>,
     /// The order in which the modules come; after it, the order in which they are asked for.
     pub arrival: Items<Arrival>,
+    /// What resolves specifiers, in the place of the URL Standard alone.
+    pub import_map: Option<ImportMap>,
 }
 
 /// Why bytes are no bundle.
@@ -110,12 +114,17 @@ fn bundle_with(
         Ok(arrival) => arrival,
         Err(at) => return Ok(Err(at)),
     };
+    let import_map = match import_map_at(alloc, value)? {
+        Ok(import_map) => import_map,
+        Err(at) => return Ok(Err(at)),
+    };
     match only::<BundleKeys>(alloc, members)? {
         Ok(()) => Ok(Ok(Bundle {
             roots,
             options,
             modules,
             arrival,
+            import_map,
         })),
         Err(at) => Ok(Err(at)),
     }
@@ -135,5 +144,6 @@ impl Keys for BundleKeys {
             || key == "imports"
             || key == "modules"
             || key == "arrival"
+            || key == "importMap"
     }
 }

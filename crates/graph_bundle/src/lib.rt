@@ -2,19 +2,19 @@
 //!
 //! - `read_bundle`: exactly the bundle that the bytes say, or the pointer to the first thing for which they say none
 //!   (`IsJson`, `bundle_of`, `specs/Bundle.antt`).
-//! - `Bundle`: its roots, what is built of them, its modules with their answers, and the order in which they come.
+//! - `Bundle`: its roots, what is built of them, its modules with their answers, the order in which they come,
+//!   and its import map.
 //!
 //! Running out of memory is the one answer without a cause.
 #![tactic(auto)]
 
 mod arrival;
 mod bundle;
-mod escape;
+mod mapped;
 mod members;
 mod module;
 mod modules;
 mod options;
 mod part;
-mod reading;
 
 pub use bundle::{Bundle, BundleFault, read_bundle};

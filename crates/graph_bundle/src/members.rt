@@ -1,11 +1,10 @@
 //! The members of objects.
 ghost use Rattle.std.specs.Prelude.{◌≡◌, List, ℕ, Bool, IfOk, string_bytes};
 ghost use Rattle.serde_json.specs.View.{view, members_view};
-ghost use Rattle.graph_bundle.specs.Reading as spec;
+ghost use Rattle.json_reading.specs.Reading as spec;
 
-use crate::escape::escaped;
 use crate::part::Part;
-use crate::reading::{Reading, pointer, under};
+use json_reading::{Reading, escaped, pointer, under};
 use serde_json::{Map, Value};
 use std::alloc::{AllocError, Global};
 

@@ -5,14 +5,13 @@ ghost use Rattle.serde_json.specs.View.{view, members_view};
 ghost use Rattle.deno_graph.specs.Reach.{Specifier, has};
 ghost use Rattle.graph_bundle.specs.Bundle as spec;
 
-use crate::escape::escaped;
 use crate::members::{Keys, only, optional, required};
 use crate::part::Part;
-use crate::reading::{Reading, pointer, under};
 use base::{SharedBytes, Text};
 use base64::DecodeAllocError;
 use base64::engine::general_purpose::STANDARD;
 use deno_graph::{Headers, LoadAnswer};
+use json_reading::{Reading, escaped, pointer, under};
 use serde_json::{Map, Value};
 use std::alloc::{AllocError, Global};
 use std::collections::BTreeSet;

@@ -5,9 +5,9 @@ ghost use Rattle.graph_bundle.specs.Bundle as spec;
 
 use crate::members::{Keys, only, optional, required};
 use crate::part::Part;
-use crate::reading::{Reading, said, under};
 use base::{Items, Text};
 use deno_graph::{BuildOptions, GraphKind, ReferrerImports};
+use json_reading::{Reading, said, under};
 use serde_json::{Map, Value};
 use std::alloc::{AllocError, Global};
 

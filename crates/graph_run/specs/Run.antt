@@ -3,11 +3,18 @@ use Rattle.std.specs.Prelude.{◌≡◌, ℕ, ◌+◌, ◌<◌, ◌≤◌, true,
 use Rattle.std.specs.List.{IsDistinct}
 use Rattle.std.specs.Io.KnownBytes.{Appends, Keeps}
 use Rattle.serde_json.specs.Data.{Data}
-use Rattle.deno_graph.specs.Rules.{Rules, rules_of}
+use Rattle.url.specs.Parts.{Parts}
+use Rattle.deno_graph.specs.Rules.{Rules, rules_by}
 use Rattle.deno_graph.specs.Reach.{Specifier, Answers, IsReached, has}
 use Rattle.deno_graph.specs.Graph.{GraphData, IsGraph}
 use Rattle.json.specs.Print.{quoted}
-use Rattle.graph_entry.specs.Referrer.{referred, starts_of}
+use Rattle.specifier_resolver.specs.Resolver.{Resolving, resolving_or}
+use Rattle.import_map.specs.ImportMap.{map_resolve}
+use Rattle.graph_entry.specs.Resolution.{Resolves, resolve_by}
+use Rattle.graph_entry.specs.Reading.{ReadsSource}
+use Rattle.graph_entry.specs.Ways.{ways_by}
+use Rattle.graph_entry.specs.Analysed.{AnalysedBy}
+use Rattle.graph_entry.specs.Referrer.{referred_by, starts_by}
 use Rattle.deno_graph.specs.Memory.{tells}
 use Rattle.deno_graph.specs.Builder.{ReachesAtMost, following_of}
 use Rattle.graph_bundle.specs.declared.bundle.Bundle.{Bundle}
@@ -42,19 +49,27 @@ too_many_line seen = codes "error TooManyModules " ++ decimal seen ++ line_end
 
 -- ---- what is due
 
+-- where a bundle's specifiers lead: by its import map, or by the URL Standard where it has none
+abbrev pub bundle_resolving : Bundle → List ℕ → Parts → Resolving
+bundle_resolving bundle = resolving_or map_resolve bundle.import_map
+
+abbrev pub bundle_resolves : Bundle → Resolves
+bundle_resolves bundle = resolve_by (bundle_resolving bundle)
+
 -- the rules of the graph of a bundle
 abbrev pub bundle_rules : Bundle → Rules
-bundle_rules bundle = rules_of (following_of bundle.options)
+bundle_rules bundle =
+    rules_by (AnalysedBy (ways_by (bundle_resolving bundle) ReadsSource)) (following_of bundle.options)
 
 -- where its reach starts: at its roots, and where what places outside import leads
 abbrev pub bundle_starts : Bundle → List Specifier
-bundle_starts bundle = starts_of bundle.roots bundle.options.imports
+bundle_starts bundle = starts_by (bundle_resolves bundle) bundle.roots bundle.options.imports
 
 -- the graph of a bundle: of its roots and of what places outside import, over its modules, within its limit; a specifier without
 -- module is `Absent`
 pub record IsGraphOf (bundle : Bundle) (graph : GraphData) : Type 0 where
   pub roots : graph.roots ≡ bundle.roots
-  pub imports : graph.imports ≡ map referred bundle.options.imports
+  pub imports : graph.imports ≡ map (referred_by (bundle_resolves bundle)) bundle.options.imports
   pub entries : IsGraph (bundle_rules bundle) (bundle_starts bundle) (tells bundle.modules) graph.entries
   pub within : length graph.entries ≤ bundle.options.limit
 

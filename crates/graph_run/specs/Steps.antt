@@ -2,9 +2,20 @@
 use Rattle.std.specs.Prelude.{◌≡◌, ℕ, ◌+◌, true, false, List, [], ◌∷◌, ◌++◌, Option, Some, None, IsSome, ◌⊎◌, ◌<◌, String, string_bytes, ⊤}
 use Rattle.deno_graph.specs.declared.error.BuildError.{BuildError}
 use Rattle.deno_graph.specs.declared.error.BuildError.TheVariants.{NotYet, TooManyModules, UnaskedAnswer, Finished, OutOfMemory}
-use Rattle.deno_graph.specs.Reach.{Specifier, Answers, Rules}
+use Rattle.deno_graph.specs.Rules.{Rules, Specifier, rules_by}
+use Rattle.deno_graph.specs.Reach.{Answers}
+use Rattle.deno_graph.specs.declared.own.Own.{Own}
+use Rattle.graph_entry.specs.Reading.{ReadsSource}
+use Rattle.graph_entry.specs.Resolution.{Resolves, resolve_by}
+use Rattle.deno_graph.specs.declared.following.Following.{Following}
+use Rattle.graph_entry.specs.Ways.{Ways, ways_by}
+use Rattle.graph_entry.specs.Analysed.{AnalysedBy}
+use Rattle.graph_entry.specs.declared.analyzer.ParserModuleAnalyzer.{ParserModuleAnalyzer}
+use Rattle.specifier_resolver.specs.Resolver.{resolving_or}
+use Rattle.import_map.specs.ImportMap.{MapData, map_resolve}
+use Rattle.graph_run.specs.declared.resolver.BundleResolver.{BundleResolver}
 use Rattle.deno_graph.specs.Loader.{LoaderData}
-use Rattle.deno_graph.specs.Builder.{Building}
+use Rattle.deno_graph.specs.Builder.{BuildingBy, following_of}
 use Rattle.deno_graph.specs.Memory.{is_forced}
 use Rattle.graph_bundle.specs.declared.bundle.Bundle.{Bundle}
 use Rattle.std.specs.List.{list_any}
@@ -23,13 +34,50 @@ abbrev pub between_quotes : List ℕ → List ℕ
 between_quotes text = 34 ∷ (text ++ 34 ∷ [])
 
 -- nothing happened to the builder's loader yet, which tells how often it will wait and answers open requests alone; and the builder goes on
-pub record IsNew {L : Type 0} (seen : LoaderData) (b : Building L) : Type 0 where
+pub record IsNew {L W : Type 0} (seen : LoaderData) (b : BuildingBy L W) : Type 0 where
   pub events : b.events_before ≡ []
   pub asked : b.asked_before ≡ []
   pub log : b.log_before ≡ []
   pub patient : IsSome b.patience
   pub fair : seen.fair ≡ true
   pub goes_on : b.finished ≡ false
+
+-- what a builder with a bundle's resolver goes by
+abbrev pub BundleWays : Type 0
+BundleWays = Own BundleResolver ParserModuleAnalyzer
+
+-- those that follow edges so, by a map if there is one
+abbrev pub mapped_ways : Following → Option MapData → BundleWays
+mapped_ways following map = record { following = following; resolver = record { map = map }; analyzer = record {} }
+
+abbrev pub mapped_resolves : Option MapData → Resolves
+mapped_resolves map = resolve_by (resolving_or map_resolve map)
+
+-- that of a bundle
+abbrev pub bundle_ways : Bundle → BundleWays
+bundle_ways bundle = mapped_ways (following_of bundle.options) bundle.import_map
+
+-- a loader to which nothing happened yet, which tells how often it will wait and answers open requests alone
+pub record IsFresh (seen : LoaderData) : Type 0 where
+  pub events : seen.events ≡ []
+  pub patient : IsSome seen.patience
+  pub fair : seen.fair ≡ true
+
+-- where specifiers lead by it, and how sources are read
+abbrev pub ways_of : BundleWays → Ways
+ways_of own = ways_by (resolving_or map_resolve own.resolver.map) ReadsSource
+
+-- the rules of a graph by it
+abbrev pub rules_in : BundleWays → Rules
+rules_in own = rules_by (AnalysedBy (ways_of own)) own.following
+
+-- where a builder's specifiers lead
+abbrev pub built_resolves : {L : Type 0} → BuildingBy L BundleWays → Resolves
+built_resolves b = (ways_of b.following).resolves
+
+-- the rules of its graph
+abbrev pub built_rules : {L : Type 0} → BuildingBy L BundleWays → Rules
+built_rules b = rules_in b.following
 
 -- no answer comes in any case
 abbrev pub IsUnforced : Bundle → Type 0

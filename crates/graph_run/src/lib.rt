@@ -17,6 +17,7 @@ mod memory;
 mod program;
 mod quoted;
 mod reports;
+mod resolver;
 mod sink;
 mod source;
 mod status;

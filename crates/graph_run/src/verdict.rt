@@ -2,22 +2,28 @@
 ghost use Rattle.std.specs.Prelude.{◌≡◌, ◌≤◌, ◌↔◌, Err, length, map, IfOk, IfErr, IsTrue, string_bytes};
 ghost use Rattle.url.specs.Parts.{Parts};
 ghost use Rattle.deno_graph.specs.Graph.{IsGraph};
-ghost use Rattle.graph_entry.specs.Referrer.{referred};
-ghost use Rattle.deno_graph.specs.Memory.{tells, data_of};
-ghost use Rattle.deno_graph.specs.Builder.{graph_rules, following_of, starts};
+ghost use Rattle.graph_entry.specs.Referrer.{referred_by};
+ghost use Rattle.deno_graph.specs.Memory.{tells, data_of, new_memory};
+ghost use Rattle.deno_graph.specs.Builder.{new_building, new_building_by, starts};
 ghost use Rattle.graph_run.specs.Transfer.{input_limit};
 ghost use Rattle.graph_run.specs.Telling.{told_by};
 ghost use Rattle.graph_run.specs.Run.{IsDue, IsDueOf, OfBundle, IsGraphOf, bundle_rules, bundle_starts, no_bundle_line, too_many_line};
-ghost use Rattle.graph_run.specs.Steps.{IsNew, IsUnforced, SaysLarge};
+ghost use Rattle.graph_run.specs.Steps.{IsNew, IsUnforced, SaysLarge, mapped_ways, mapped_resolves, bundle_ways, built_rules, built_resolves};
 
 use crate::counts::summary;
 use crate::quoted::add_quoted;
 use crate::reports::report;
+use crate::resolver::BundleResolver;
 use crate::status::Status;
-use base::Text;
-use deno_graph::{BuildError, GraphBuild, MemoryLoader, ModuleGraph};
+use base::{Items, Text};
+use deno_graph::{
+    Arrival, BuildError, BuildOptions, CustomBuild, GraphBuild, LoadAnswer, MemoryLoader,
+    ModuleGraph, ParserModuleAnalyzer,
+};
 use graph_bundle::{Bundle, BundleFault, read_bundle};
+use import_map::ImportMap;
 use std::alloc::{AllocError, Global};
+use url::Url;
 
 /// How the run ends once the text is written.
 #[derive(Drop)]
@@ -133,11 +139,14 @@ fn build(alloc: Global, bundle: Bundle) -> Result<ModuleGraph, BuildError>
     poll_to_end(&mut build)
 }
 
-/// A builder of the graph of a bundle, over a loader in memory that has its modules.
-fn new_build(alloc: Global, bundle: Bundle) -> Result<GraphBuild<MemoryLoader>, BuildError>
+/// A builder of the graph of a bundle.
+type BundleBuild = CustomBuild<MemoryLoader, BundleResolver, ParserModuleAnalyzer>;
+
+/// A builder of the graph of a bundle, over a loader in memory that has its modules. Its import map resolves.
+fn new_build(alloc: Global, bundle: Bundle) -> Result<BundleBuild, BuildError>
     requires { IsUnforced bundle }
     ensures new { IfOk result (λ build. IsNew (data_of build.inner.loader) build.inner) }
-    ensures following { IfOk result (λ build. build.inner.following ≡ following_of bundle.options) }
+    ensures ways { IfOk result (λ build. build.inner.following ≡ bundle_ways bundle) }
     ensures roots { IfOk result (λ build. build.inner.roots ≡ bundle.roots) }
     ensures imports { IfOk result (λ build. build.inner.imports ≡ bundle.options.imports) }
     ensures starts { IfOk result (λ build. starts build.inner ≡ bundle_starts bundle) }
@@ -150,20 +159,63 @@ fn new_build(alloc: Global, bundle: Bundle) -> Result<GraphBuild<MemoryLoader>, 
         options,
         modules,
         arrival,
+        import_map,
     } = bundle;
-    let loader = MemoryLoader::new(alloc, modules, arrival).map_err(|_| BuildError::OutOfMemory)?;
+    let loader = new_loader(alloc, modules, arrival)?;
+    let build = plain_build(alloc, roots, options, loader)?;
+    mapped_build(build, import_map)
+}
+
+/// A loader in memory that has these modules.
+fn new_loader(
+    alloc: Global,
+    modules: Items<(Url, LoadAnswer)>,
+    arrival: Items<Arrival>,
+) -> Result<MemoryLoader, BuildError>
+    ensures new { IfOk result (λ loader. loader ≡ new_memory modules arrival) }
+    ensures refused { IfErr result (λ e. e ≡ BuildError.OutOfMemory) }
+{
+    MemoryLoader::new(alloc, modules, arrival).map_err(|_| BuildError::OutOfMemory)
+}
+
+/// A builder of the graph of these roots over a loader, without a map.
+fn plain_build(
+    alloc: Global,
+    roots: Items<Url>,
+    options: BuildOptions,
+    loader: MemoryLoader,
+) -> Result<GraphBuild<MemoryLoader>, BuildError>
+    ensures new { IfOk result (λ build. build.inner ≡ new_building roots options loader (data_of loader)) }
+    ensures refused { IfErr result (λ e. e ≡ BuildError.OutOfMemory) }
+{
     GraphBuild::new(alloc, roots, options, loader).map_err(|_| BuildError::OutOfMemory)
 }
 
+/// The same builder with a map, if there is one.
+fn mapped_build(
+    build: GraphBuild<MemoryLoader>,
+    map: Option<ImportMap>,
+) -> Result<BundleBuild, BuildError>
+    ensures new { IfOk result (λ b. b.inner ≡ new_building_by (mapped_ways build.inner.following map)
+        (mapped_resolves map) build.inner.roots build.inner.imports build.inner.limit build.inner.loader
+        (data_of build.inner.loader)) }
+    ensures refused { IfErr result (λ e. e ≡ BuildError.OutOfMemory) }
+{
+    build
+        .with_resolver(BundleResolver { map })
+        .map_err(|_| BuildError::OutOfMemory)
+}
+
 /// Polls until there is another answer than `NotYet`.
-fn poll_to_end(build: &mut GraphBuild<MemoryLoader>) -> Result<ModuleGraph, BuildError>
+fn poll_to_end(build: &mut BundleBuild) -> Result<ModuleGraph, BuildError>
     requires { IsNew (data_of build.old.inner.loader) build.old.inner }
-    ensures graph { IfOk result (λ graph. IsGraph (graph_rules build.old.inner) (starts build.old.inner)
+    ensures graph { IfOk result (λ graph. IsGraph (built_rules build.old.inner) (starts build.old.inner)
         (tells build.old.inner.loader.modules) graph.entries) }
     ensures roots { IfOk result (λ graph. graph.roots ≡ build.old.inner.roots) }
-    ensures imports { IfOk result (λ graph. graph.imports ≡ map referred build.old.inner.imports) }
+    ensures imports { IfOk result (λ graph.
+        graph.imports ≡ map (referred_by (built_resolves build.old.inner)) build.old.inner.imports) }
     ensures within { IfOk result (λ graph. length graph.entries ≤ build.old.inner.limit) }
-    ensures large { IfErr result (SaysLarge (graph_rules build.old.inner) (starts build.old.inner)
+    ensures large { IfErr result (SaysLarge (built_rules build.old.inner) (starts build.old.inner)
         (tells build.old.inner.loader.modules) build.old.inner.limit) }
 {
     'polls: loop {

@@ -4,7 +4,7 @@ use Rattle.std.specs.BTreeSet.{contains_text}
 use Rattle.serde_json.specs.View.{view}
 use Rattle.graph_entry.specs.Specifier.{text_of}
 use Rattle.deno_graph.specs.Reach.{has}
-use Rattle.graph_bundle.specs.Reading.{required, url_of}
+use Rattle.json_reading.specs.Reading.{required, url_of}
 use Rattle.graph_bundle.proofs.BundleLemmas.{repeated, unrepeated}
 use Rattle.graph_bundle.proofs.module.new_specifier.Goals as goal
 

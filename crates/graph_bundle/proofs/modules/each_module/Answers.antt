@@ -9,9 +9,9 @@ use Rattle.serde_json.specs.declared.value.Value.{Value}
 use Rattle.graph_entry.specs.declared.answer.LoadAnswer.{LoadAnswer}
 use Rattle.graph_entry.specs.Specifier.{text_of}
 use Rattle.deno_graph.specs.Reach.{has}
-use Rattle.graph_bundle.specs.Reading.{under}
+use Rattle.json_reading.specs.Reading.{under}
 use Rattle.graph_bundle.specs.Bundle.{module_after, modules_from, specifiers}
-use Rattle.graph_bundle.proofs.ReadingLemmas.{prepend}
+use Rattle.json_reading.proofs.ReadingLemmas.{prepend}
 use Rattle.graph_bundle.proofs.BundleLemmas.{next_module, seen_more}
 use Rattle.graph_bundle.proofs.modules.each_module.Goals as goal
 

@@ -1,7 +1,7 @@
 -- The module stands at its number.
 use Rattle.std.proofs.Common.{◌∙◌, ap, decimal}
-use Rattle.graph_bundle.specs.Reading.{under}
-use Rattle.graph_bundle.proofs.ReadingLemmas.{IfOk-map}
+use Rattle.json_reading.specs.Reading.{under}
+use Rattle.json_reading.proofs.ReadingLemmas.{IfOk-map}
 use Rattle.graph_bundle.proofs.modules.numbered.Goals as goal
 
 pub returns : goal.returns

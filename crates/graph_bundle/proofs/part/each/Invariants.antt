@@ -1,7 +1,7 @@
 use Rattle.std.proofs.Common.{◌≡◌, map, drop, length}
 use Rattle.serde_json.specs.View.{view}
-use Rattle.graph_bundle.specs.Reading.{each_from}
-use Rattle.graph_bundle.proofs.ReadingLemmas.{prepend}
+use Rattle.json_reading.specs.Reading.{each_from}
+use Rattle.json_reading.proofs.ReadingLemmas.{prepend}
 use Rattle.graph_bundle.proofs.part.each.Given as goal
 
 -- what all say is what those so far say, and then what the rest says

@@ -1,6 +1,6 @@
 -- The graph's report is due.
 use Rattle.graph_run.specs.Run.{graph}
-use Rattle.graph_bundle.proofs.ReadingLemmas.{IfOk-map}
+use Rattle.json_reading.proofs.ReadingLemmas.{IfOk-map}
 use Rattle.graph_run.proofs.verdict.due_for_bundle.Goals as goal
 
 pub returns-in-Ok : goal.returns-in-Ok

@@ -2,7 +2,7 @@
 use Rattle.std.proofs.Common.{ap, Err}
 use Rattle.graph_run.specs.Run.{bundle, no_bundle}
 use Rattle.graph_bundle.proofs.BundleLemmas.{bundle_unforced}
-use Rattle.graph_bundle.proofs.ReadingLemmas.{IfOk-map}
+use Rattle.json_reading.proofs.ReadingLemmas.{IfOk-map}
 use Rattle.graph_run.proofs.verdict.due_told.Goals as goal
 
 pub due_for_bundle-requires : goal.due_for_bundle-requires

@@ -1,12 +1,12 @@
 -- The builder's clauses, over what its loader tells.
 use Rattle.std.proofs.Common.{rules, subst, ◌∙◌}
 use Rattle.std.specs.Prelude.{IfOk, IfErr}
-use Rattle.deno_graph.specs.declared.following.Following.{Following}
-use Rattle.deno_graph.specs.Rules.{rules_of}
+use Rattle.graph_entry.proofs.Theorems.{analysed_by_once}
+use Rattle.graph_entry.specs.ReadingLaws.{reads_once}
 use Rattle.deno_graph.specs.Graph.{IsGraph}
 use Rattle.deno_graph.specs.Builder.{starts}
 use Rattle.deno_graph.specs.Memory.{tells}
-use Rattle.graph_run.specs.Steps.{SaysLarge}
+use Rattle.graph_run.specs.Steps.{BundleWays, ways_of, rules_in, SaysLarge}
 use Rattle.graph_run.proofs.GraphLemmas.{built_graph, refused_large, settled_none}
 use Rattle.graph_run.proofs.verdict.poll_to_end.Goals as goal
 
@@ -14,11 +14,12 @@ pub returns-then-not-is_not_yet-clause-graph : goal.returns-then-not-is_not_yet-
 returns-then-not-is_not_yet-clause-graph c =
     let polled = c.poll-answer in
     let new = c.poll-answer.new.self.inner in
-    subst (λ (w : Following). IfOk polled.result
-    (λ g. IsGraph (rules_of w) (starts c.args.build.now.inner) (tells c.args.build.now.inner.loader.modules)
+    subst (λ (w : BundleWays). IfOk polled.result
+    (λ g. IsGraph (rules_in w) (starts c.args.build.now.inner) (tells c.args.build.now.inner.loader.modules)
     g.entries))
     c.polls.invariant.following
-    (built_graph c.polls.build.inner.following polled.result (starts c.polls.build.inner)
+    (built_graph (rules_in c.polls.build.inner.following)
+    (analysed_by_once (ways_of c.polls.build.inner.following) reads_once) polled.result (starts c.polls.build.inner)
     (starts c.args.build.now.inner) new.log
     new.loader.modules c.args.build.now.inner.loader.modules c.polls.invariant.starting
     (polled.ensures.telling ∙ c.polls.invariant.told) polled.ensures.told polled.ensures.graph)
@@ -28,11 +29,11 @@ returns-then-not-is_not_yet-clause-large c =
     let polled = c.poll-answer in
     let new = c.poll-answer.new.self.inner in
     let old = c.polls.invariant.new in
-    subst (λ (w : Following). IfErr polled.result
-    (SaysLarge (rules_of w) (starts c.args.build.now.inner) (tells c.args.build.now.inner.loader.modules)
+    subst (λ (w : BundleWays). IfErr polled.result
+    (SaysLarge (rules_in w) (starts c.args.build.now.inner) (tells c.args.build.now.inner.loader.modules)
     c.args.build.now.inner.limit))
     c.polls.invariant.following
-    (refused_large c.polls.build.inner.following polled.result (starts c.polls.build.inner)
+    (refused_large (rules_in c.polls.build.inner.following) polled.result (starts c.polls.build.inner)
     (starts c.args.build.now.inner) new.log
     new.loader.modules c.args.build.now.inner.loader.modules c.polls.build.inner.limit c.args.build.now.inner.limit
     c.polls.invariant.starting c.polls.invariant.limit (polled.ensures.telling ∙ c.polls.invariant.told)
