@@ -1,0 +1,84 @@
+//! What becomes of the source of a row.
+
+use media_type::MediaType;
+use source_sites::read_sites;
+use source_text::SourceText;
+use specifier_edits::{name_literals, rewrite_sites};
+use std::alloc::{AllocError, Global};
+use test_rows::Row;
+use url::Url;
+
+/// The new text of a row, or where its sites stand and what they name. Behind its URL and its source stands how many
+/// changes there are, then for each the number of a site and its new specifier.
+pub fn answer(alloc: Global, row: &Row) -> Result<String, AllocError> {
+    match Url::parse(alloc, row.at(1)) {
+        Ok(specifier) => answer_at(alloc, row, &specifier),
+        Err(_) => String::from_str(alloc, "no URL"),
+    }
+}
+
+fn answer_at(alloc: Global, row: &Row, specifier: &Url) -> Result<String, AllocError> {
+    let media_type = MediaType::from_specifier(alloc, specifier)?;
+    let text = SourceText::from_string(String::from_str(alloc, row.at(2))?)?;
+    let new = match rewritten(alloc, row, specifier, media_type, &text)? {
+        Some(new) => new,
+        None => return String::from_str(alloc, "none"),
+    };
+    match row.call() {
+        "text" => Ok(new),
+        _ => told_sites(alloc, specifier, media_type, new),
+    }
+}
+
+/// The new text, where the source is a program and the numbers are those of literals.
+#[tactic(auto, using(specifier_edits::proofs::Theorems::source_sites))]
+fn rewritten(
+    alloc: Global,
+    row: &Row,
+    specifier: &Url,
+    media_type: MediaType,
+    text: &SourceText,
+) -> Result<Option<String>, AllocError> {
+    let changes = changes_of(alloc, row)?;
+    let sites = match read_sites(alloc, specifier, text, media_type) {
+        Ok(sites) => sites,
+        Err(_) => return Ok(None),
+    };
+    if !name_literals(sites.as_slice(), changes.as_slice()) {
+        return Ok(None);
+    }
+    let new = rewrite_sites(alloc, text.as_str(), sites.as_slice(), changes.as_slice())?;
+    Ok(Some(new))
+}
+
+fn changes_of(alloc: Global, row: &Row) -> Result<Vec<(usize, String)>, AllocError> {
+    let mut changes = Vec::new(alloc);
+    let mut at = 4usize;
+    for _ in 0..row.number(3) {
+        let specifier = String::from_str(alloc, row.at(at.saturating_add(1)))?;
+        changes.push((row.number(at), specifier))?;
+        at = at.saturating_add(2);
+    }
+    Ok(changes)
+}
+
+/// The range and the value of each site of a text.
+fn told_sites(
+    alloc: Global,
+    specifier: &Url,
+    media_type: MediaType,
+    text: String,
+) -> Result<String, AllocError> {
+    let text = SourceText::from_string(text)?;
+    let sites = match read_sites(alloc, specifier, &text, media_type) {
+        Ok(sites) => sites,
+        Err(_) => return String::from_str(alloc, "no program"),
+    };
+    let mut told = String::new(alloc);
+    for site in sites.as_slice() {
+        let (start, end) = (site.range.start, site.range.end);
+        let one = format!(in alloc; "{start}-{end} {};", site.value.as_str())?;
+        told.push_str(one.as_str())?;
+    }
+    Ok(told)
+}

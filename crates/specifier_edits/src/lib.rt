@@ -1,0 +1,15 @@
+//! Other specifiers at some of the sites of a text.
+//!
+//! - `rewrite_sites(text, sites, changes)`: the text with new string literals at these of its sites (`edits`,
+//!   `specs/Edits.antt`), each change the number of a site, from 0, and its new specifier. It is read as the old tokens and
+//!   comments, moved (`ReadsMoved`); where a site moved to, a literal of its new specifier stands (`CutsSpecifiers`).
+//! - `name_literals(sites, changes)`: whether the numbers ascend, each that of a literal (`NamesLiterals`).
+//!
+//! Not promised: that the sites of the new text are the old ones, moved, and when memory runs out.
+#![tactic(auto)]
+
+mod numbers;
+mod rewrite;
+
+pub use crate::numbers::name_literals;
+pub use crate::rewrite::rewrite_sites;
