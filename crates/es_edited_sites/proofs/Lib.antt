@@ -1,0 +1,3 @@
+mod Parts
+mod Trees
+pub mod Theorems
