@@ -24,7 +24,9 @@ use Rattle.es_derives.specs.Derives.{Derives}
 use Rattle.media_type.specs.declared.media_type.MediaType.{MediaType}
 use Rattle.media_type.specs.MediaType.{is_typed}
 use Rattle.source_sites.specs.Tree.{language_of, modes_of, IsFirstTree}
-use Rattle.source_sites.specs.Read.{IsRead, HasSites}
+use Rattle.source_sites.specs.Read.{IsRead, references_in, HasSites}
+use Rattle.es_edited_sites.specs.Moved.{SitesMove}
+use Rattle.es_edited_sites.proofs.Theorems.{sites_move, none_derives}
 use Rattle.es_site.specs.declared.site.Site.{Site}
 use Rattle.es_site.specs.Sites.{CutsLiteral, sites_of}
 use Rattle.es_references.specs.References.{references_of}
@@ -37,7 +39,7 @@ use Rattle.text_changes.specs.Changes as text
 use Rattle.es_edited_tokens.specs.Moved.{moved, range_to, token_to, comment_to, cut, text_to, Chosen}
 use Rattle.es_edited_tokens.proofs.Theorems.{literals_move, text_moves, changes_apply, changes_pass, change_stands}
 use Rattle.specifier_edits.specs.Sites.{AreSites}
-use Rattle.specifier_edits.specs.Edits.{NamesLiterals, range_of, edit, edits, ReadsMoved, KeepsTexts, CutsSpecifiers}
+use Rattle.specifier_edits.specs.Edits.{NamesLiterals, range_of, edit, edits, ReadsMoved, KeepsTexts, CutsSpecifiers, ReadsMovedTree, KeepsSites}
 use Rattle.specifier_edits.proofs.ReferenceLemmas.{AreReferences, references_are, literal_in, literal_behind}
 use Rattle.specifier_edits.proofs.EditLemmas.{AreStrings, EditsOn, edits_on, on_chosen}
 
@@ -207,3 +209,34 @@ read_sites lang modes media x tree references read =
 pub source_sites : (media : MediaType) (x : List ℕ) (sites : List Site) → HasSites media x sites → AreSites x sites
 source_sites media x sites h =
     subst (AreSites x) (sym h.both) (read_sites (language_of media) (modes_of media) media x h.tree h.references h.read)
+
+-- ---- the tree of the new text
+first_moves : (lang : Lang) (x : List ℕ) (ts : List Token) (cs : List Comment) (changes : List TextChange)
+    (modes : List Mode) (tree : Program) → Reads x ts cs → Chosen ts changes → IsFirstTree lang x ts modes tree
+    → (other : Program)
+    × IsFirstTree lang (text.changed x 0 changes) (map (token_to (moved changes)) ts) modes other
+    × SitesMove changes (sites_of tree) (sites_of other)
+first_moves lang x ts cs changes [] tree r c h = absurd h
+first_moves lang x ts cs changes (m ∷ modes) tree r c (inl d) =
+    let still = sites_move lang m x ts cs changes tree r c d in (still.new, inl still.derived, still.sites)
+first_moves lang x ts cs changes (m ∷ modes) tree r c (inr h) =
+    let rest = first_moves lang x ts cs changes modes tree r c h.1 in
+    (rest.0, inr (λ other d. none_derives lang m x ts cs changes other r c h.0 d, rest.1), rest.2)
+
+-- it is read in the same language and by the same modes, and its sites are the old ones, moved
+pub keeps_sites : {A : Type 0} (x : List ℕ) (sites : List Site) (changes : List (ℕ × String A)) (y : List ℕ)
+    → AreSites x sites → NamesLiterals sites 0 changes → y ≡ text.changed x 0 (edits sites changes)
+    → KeepsSites x (edits sites changes) y
+keeps_sites x sites changes y a names same lang modes media tree references read =
+    let made : List TextChange = edits sites changes in
+    let c : Chosen read.tokens made = chosen_among x sites changes read.tokens read.comments a names read.reads in
+    let m = literals_move x read.tokens read.comments made read.reads c in
+    let first = first_moves lang x read.tokens read.comments made modes tree read.reads c read.is_tree in
+    let ts : List Token = map (token_to (moved made)) read.tokens in
+    let cs : List Comment = map (comment_to (moved made)) read.comments in
+    subst (λ (z : List ℕ). ReadsMovedTree lang modes media made z tree) (sym same) (record {
+      other = first.0;
+      references = references_in media ts cs;
+      read = record { tokens = ts; comments = cs; reads = m.reads; is_tree = first.1; refers = refl };
+      sites = first.2;
+    })

@@ -6,7 +6,13 @@ use Rattle.es_token.specs.declared.token.Token.{Token}
 use Rattle.es_token.specs.declared.token.Comment.{Comment}
 use Rattle.es_lexer.specs.Reads.{Reads}
 use Rattle.es_site.specs.declared.site.Site.{Site}
-use Rattle.es_site.specs.Sites.{CutsLiteral}
+use Rattle.es_tree.specs.declared.error.Lang.{Lang}
+use Rattle.es_tree.specs.declared.error.Mode.{Mode}
+use Rattle.es_ast.specs.declared.ast.Program.{Program}
+use Rattle.es_site.specs.Sites.{CutsLiteral, sites_of}
+use Rattle.media_type.specs.declared.media_type.MediaType.{MediaType}
+use Rattle.source_sites.specs.Read.{IsRead}
+use Rattle.es_edited_sites.specs.Moved.{SitesMove}
 use Rattle.text_changes.specs.declared.change.TextChange.{TextChange}
 use Rattle.es_edited_tokens.specs.Moved.{moved, range_to, token_to, comment_to, cut, text_to}
 use Rattle.specifier_edits.specs.Sites.{is_reference, IsLiteral}
@@ -52,6 +58,20 @@ abbrev pub CutsSpecifiers : {A : Type 0} → List Site → List (ℕ × String A
 CutsSpecifiers sites changes new =
     All (λ change. CutsLiteral new (range_to (moved (edits sites changes)) (range_of (slice_get sites change.0)))
     (string_bytes change.1)) changes
+
+-- the text is read in this language and these modes, and its sites are those of this tree, moved
+pub record ReadsMovedTree (lang : Lang) (modes : List Mode) (media : MediaType) (changes : List TextChange)
+    (new : List ℕ) (tree : Program) : Type 0 where
+  pub other : Program
+  pub references : List Site
+  pub read : IsRead lang modes media new other references
+  pub sites : SitesMove changes (sites_of tree) (sites_of other)
+
+-- so it is in each language and by each modes in which the old text is read as a tree
+abbrev pub KeepsSites : List ℕ → List TextChange → List ℕ → Type 0
+KeepsSites text changes new =
+    (lang : Lang) (modes : List Mode) (media : MediaType) (tree : Program) (references : List Site)
+    → IsRead lang modes media text tree references → ReadsMovedTree lang modes media changes new tree
 
 -- ---- whether numbers name literals
 

@@ -3,7 +3,7 @@ ghost use Rattle.std.specs.Prelude.{◌≡◌, ℕ, ◌<◌, length, map, All, I
 ghost use Rattle.text_changes.specs.declared.error.TextChangeError.{TextChangeError as Fault};
 ghost use Rattle.text_changes.specs.Changes.{changed, IsChanged, IsRefused};
 ghost use Rattle.specifier_edits.specs.Sites.{AreSites};
-ghost use Rattle.specifier_edits.specs.Edits.{NamesLiterals, ReadsMoved, KeepsTexts, CutsSpecifiers};
+ghost use Rattle.specifier_edits.specs.Edits.{NamesLiterals, ReadsMoved, KeepsTexts, CutsSpecifiers, KeepsSites};
 ghost use Rattle.specifier_edits.specs.Edits as spec;
 
 use es_literal::quote;
@@ -32,6 +32,8 @@ pub fn rewrite_sites(
     ensures texts { IfOk result (λ new. KeepsTexts text.now (spec.edits sites.now changes.now) (string_bytes new)) }
     // Where a site moved to, a literal of its new specifier stands.
     ensures cuts { IfOk result (λ new. CutsSpecifiers sites.now changes.now (string_bytes new)) }
+    // It is read as a program wherever the old one is, and the sites of its tree are the old ones, moved.
+    ensures sites { IfOk result (λ new. KeepsSites text.now (spec.edits sites.now changes.now) (string_bytes new)) }
 {
     let edits = edits(alloc, sites, changes)?;
     applied(alloc, text, edits)
