@@ -1,5 +1,5 @@
 //! Parsed sources: their sites, their modes and their faults.
-ghost use Rattle.std.specs.Prelude.{◌≡◌, false, IfOk};
+ghost use Rattle.std.specs.Prelude.{◌≡◌, true, false, IfOk};
 
 use deno_ast::{
     Attribute, MediaType, ModuleSpecifier, ParseFault, ParseParams, ParsedSource, Site, SourceText,
@@ -67,7 +67,8 @@ pub fn params(
     text: &str,
     maybe_syntax: Option<Syntax>,
 ) -> Result<ParseParams, AllocError>
-    ensures { IfOk result (λ p. p.scope_analysis ≡ false) }
+    ensures unscoped { IfOk result (λ p. p.scope_analysis ≡ false) }
+    ensures capturing { IfOk result (λ p. p.capture_tokens ≡ true) }
 {
     Ok(ParseParams {
         specifier: specifier(alloc)?,
@@ -188,6 +189,24 @@ fn calls(rt: HostRuntime) {
         let got = told(alloc, parsed_by(alloc, *call, params)).expect(&rt, "memory");
         assert_eq!(rt; got.as_str(), *want, "{call:?}");
     }
+}
+
+// How many tokens a source keeps that was to keep them.
+fn count_of(alloc: Global, params: ParseParams) -> Result<usize, ParseFault>
+    requires unscoped { params.scope_analysis ≡ false }
+    requires capturing { params.capture_tokens ≡ true }
+{
+    match parse_program(alloc, params) {
+        Ok(parsed) => Ok(parsed.tokens().len()),
+        Err(fault) => Err(fault),
+    }
+}
+
+#[test]
+fn tokens_are_kept(rt: HostRuntime) {
+    let params = params(rt.alloc(), MediaType::TypeScript, "let a = 1;", None);
+    let count = count_of(rt.alloc(), params.expect(&rt, "memory")).expect(&rt, "a program");
+    assert_eq!(rt; count, 5);
 }
 
 /// A media type, a text, and its sites, or its fault.
