@@ -142,7 +142,7 @@ fn copy_of_a_program_has_its_items(rt: HostRuntime) {
     );
     let parsed = parse_text(alloc, params).expect(&rt, "a program");
     assert_eq!(rt; parsed.text_info_lazy().text_str(), "// 1\nt;/* 2 */");
-    let copy = parsed.program_ref().to_owned(alloc).expect(&rt, "memory");
+    let copy = parsed.program_ref().to_owned().expect(&rt, "memory");
     let program = ProgramRef::of(&copy);
     let mut line = String::new(alloc);
     add_items(&mut line, program).expect(&rt, "memory");

@@ -13,8 +13,9 @@ pub use Rattle.source_sites.specs.Cuts
 pub mod Parsed
 pub mod Source
 pub mod Refs
-pub mod Bodies
-pub mod Spans
+pub use Rattle.es_items.specs.Told
+pub use Rattle.es_items.specs.Spans
+pub use Rattle.es_items.specs.Lent
 pub mod Lexing
 -- ---- what the functions inside the crate promise each other
 pub mod Kept

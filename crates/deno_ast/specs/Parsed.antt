@@ -11,8 +11,9 @@ use Rattle.es_site.specs.Sites.{sites_of}
 use Rattle.es_comments.specs.Placed.{Placed, comments_at}
 use Rattle.media_type.specs.declared.media_type.MediaType.{MediaType}
 use Rattle.media_type.specs.MediaType.{is_typed}
-use Rattle.deno_ast.specs.Refs.{is_script_by_items, shebang_of, LentItem, items_of}
-use Rattle.deno_ast.specs.Spans.{span_of_lent}
+use Rattle.es_ast.specs.declared.ast.ModuleItem.{ModuleItem}
+use Rattle.es_items.specs.Spans.{span_of_lent}
+use Rattle.deno_ast.specs.Refs.{is_script_by_items, shebang_of, items_of}
 
 -- the tokens are kept where that was asked for; the comments stand at their places
 pub record Parsed : Type 0 where
@@ -37,7 +38,7 @@ abbrev pub computed_is_script : Parsed → Bool
 computed_is_script s = if is_typed s.media_type then is_script_by_items s.tree else is_script s.tree
 
 -- the comments at the first item; with no item, those behind the shebang, whose text stands behind `#!`, or those at 0
-abbrev pub leading_by : Placed → Option LentItem → Option (List ℕ) → Option (List Comment)
+abbrev pub leading_by : Placed → Option ModuleItem → Option (List ℕ) → Option (List Comment)
 leading_by placed (Some item) shebang = comments_at placed.leading (span_of_lent item).start
 leading_by placed None (Some text) = comments_at placed.trailing (length text + 2)
 leading_by placed None None = comments_at placed.leading 0

@@ -18,7 +18,6 @@ mod parsing;
 mod program_ref;
 mod reading;
 mod source;
-mod spans;
 mod syntax;
 mod tree;
 
@@ -29,14 +28,16 @@ pub use crate::parsing::{
     parse_module, parse_module_with_post_process, parse_program, parse_program_with_post_process,
     parse_script, parse_script_with_post_process, parse_text,
 };
-pub use crate::program_ref::{Body, ModuleItemRef, ProgramRef};
+pub use crate::program_ref::ProgramRef;
 pub use crate::source::ParsedSource;
 pub use crate::syntax::{Syntax, get_syntax};
 pub use crate::tree::tree_of;
 pub use base::{Items, Range, Text};
 pub use es_comments::{CommentMap, CommentsIter, MultiThreadedComments, SingleThreadedComments};
+pub use es_items::{Body, ModuleDeclRef, ModuleItemRef, StmtRef};
 pub use es_lexer::{LexError, LexicalError, LexicalKind};
 pub use es_literal::quote;
+pub use es_program::{Form, Module, Program, Script, SharedTokens};
 pub use es_site::{Attribute, DependencyKind, Site};
 pub use es_token::{Comment, CommentKind, Token, TokenKind};
 pub use media_type::MediaType;

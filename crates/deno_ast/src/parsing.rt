@@ -11,13 +11,11 @@ ghost use Rattle.deno_ast.specs.Source.{IsParsed, IsParsedWith, IsFault, OfModul
 use crate::params::{ParseParams, without_bom};
 use crate::reading::{Reading, read_in};
 use crate::source::{ParsedSource, source_of};
-use base::{Items, Range};
-use es_ast::{Module, Program, Script};
+use es_program::{Form, Module, Program, Script};
 use es_tree::Mode;
 use parse_diagnostic::ParseFault;
 use source_sites::{Modes, modes_of};
 use std::alloc::Global;
-use std::mem;
 
 /// The source of a text, less one byte order mark at its front, read in the first of the modes of its media type in
 /// which it is a program: as a script alone for `Cjs`, as a module alone for `Cts`, `Mjs` and `Mts`, else as a script
@@ -111,8 +109,16 @@ pub fn parse_module_with_post_process<F: FnOnce(Module) -> Module>(
     ensures refused { IfErr result (Refuses (IsFault (mode.Module ∷ []) params (without_mark params.text))) }
 {
     let params = without_bom(params);
-    let mut reading = read_in(alloc, &params, Modes::Only(Mode::Module))?;
-    change_module(alloc, &mut reading.program, post_process);
+    let Reading {
+        program,
+        tokens,
+        comments,
+    } = read_in(alloc, &params, Modes::Only(Mode::Module))?;
+    let reading = Reading {
+        program: change_module(program, post_process),
+        tokens,
+        comments,
+    };
     Ok(source_of(alloc, params, reading)?)
 }
 
@@ -129,45 +135,37 @@ pub fn parse_script_with_post_process<F: FnOnce(Script) -> Script>(
     ensures refused { IfErr result (Refuses (IsFault (mode.Script ∷ []) params (without_mark params.text))) }
 {
     let params = without_bom(params);
-    let mut reading = read_in(alloc, &params, Modes::Only(Mode::Script))?;
-    change_script(alloc, &mut reading.program, post_process);
+    let Reading {
+        program,
+        tokens,
+        comments,
+    } = read_in(alloc, &params, Modes::Only(Mode::Script))?;
+    let reading = Reading {
+        program: change_script(program, post_process),
+        tokens,
+        comments,
+    };
     Ok(source_of(alloc, params, reading)?)
 }
 
-// Replaces the module by what is made of it.
-fn change_module<F: FnOnce(Module) -> Module>(alloc: Global, program: &mut Program, post_process: F)
+// The program with what is made of its module.
+fn change_module<F: FnOnce(Module) -> Module>(program: Program, post_process: F) -> Program
     requires { F.IsAlwaysCallable post_process }
-    ensures { OfModule (F.post post_process) program.old program.new }
+    ensures { OfModule (F.post post_process) program result }
 {
-    if let Program::Module(module) = program {
-        let taken = mem::replace(module, no_module(alloc));
-        *module = post_process(taken);
+    match program.into_form() {
+        Form::Module(module) => Program::from_form(Form::Module(post_process(module))),
+        Form::Script(script) => Program::from_form(Form::Script(script)),
     }
 }
 
-fn no_module(alloc: Global) -> Module {
-    Module {
-        shebang: None,
-        body: Items::new(alloc),
-        span: Range { start: 0, end: 0 },
-    }
-}
-
-// Replaces the script by what is made of it.
-fn change_script<F: FnOnce(Script) -> Script>(alloc: Global, program: &mut Program, post_process: F)
+// The program with what is made of its script.
+fn change_script<F: FnOnce(Script) -> Script>(program: Program, post_process: F) -> Program
     requires { F.IsAlwaysCallable post_process }
-    ensures { OfScript (F.post post_process) program.old program.new }
+    ensures { OfScript (F.post post_process) program result }
 {
-    if let Program::Script(script) = program {
-        let taken = mem::replace(script, no_script(alloc));
-        *script = post_process(taken);
-    }
-}
-
-fn no_script(alloc: Global) -> Script {
-    Script {
-        shebang: None,
-        body: Items::new(alloc),
-        span: Range { start: 0, end: 0 },
+    match program.into_form() {
+        Form::Module(module) => Program::from_form(Form::Module(module)),
+        Form::Script(script) => Program::from_form(Form::Script(post_process(script))),
     }
 }

@@ -14,9 +14,9 @@ use crate::params::ParseParams;
 use crate::syntax::lang_in;
 use crate::tree::tree_in;
 use base::Items;
-use es_ast::Program;
 use es_lexer::lex_tokens;
-use es_token::{Comment, Lexed, Token};
+use es_program::{Program, SharedTokens};
+use es_token::{Comment, Lexed};
 use es_tree::SyntaxError;
 use parse_diagnostic::ParseFault;
 use source_sites::{Modes, lexical_fault, syntax_fault};
@@ -26,7 +26,7 @@ use std::alloc::Global;
 #[derive(Drop)]
 pub struct Reading {
     pub program: Program,
-    pub tokens: Items<Token>,
+    pub tokens: SharedTokens,
     pub comments: Items<Comment>,
 }
 
@@ -36,12 +36,12 @@ pub fn read_in(alloc: Global, params: &ParseParams, modes: Modes) -> Result<Read
     ensures refused { IfErr result (Refuses (IsFault (modes_in modes) params.now params.now.text)) }
 {
     match lex_tokens(alloc, params.text.as_str()) {
-        Ok(lexed) => read_tokens(alloc, params, modes, lexed),
+        Ok(lexed) => read_lexed(alloc, params, modes, lexed),
         Err(error) => Err(lexical_fault(alloc, &params.specifier, &params.text, error)),
     }
 }
 
-fn read_tokens(
+fn read_lexed(
     alloc: Global,
     params: &ParseParams,
     modes: Modes,
@@ -52,7 +52,24 @@ fn read_tokens(
     ensures refused { IfErr result (Refuses (IsFault (modes_in modes) params.now params.now.text)) }
 {
     let Lexed { tokens, comments } = lexed;
-    match tree_of(alloc, params, modes, tokens.as_slice()) {
+    match SharedTokens::new(alloc, tokens) {
+        Ok(tokens) => read_tokens(alloc, params, modes, tokens, comments),
+        Err(_) => Err(ParseFault::OutOfMemory),
+    }
+}
+
+fn read_tokens(
+    alloc: Global,
+    params: &ParseParams,
+    modes: Modes,
+    tokens: SharedTokens,
+    comments: Items<Comment>,
+) -> Result<Reading, ParseFault>
+    requires { Reads params.now.text tokens comments }
+    ensures read { IfOk result (IsReading (modes_in modes) params.now) }
+    ensures refused { IfErr result (Refuses (IsFault (modes_in modes) params.now params.now.text)) }
+{
+    match tree_of(alloc, params, modes, &tokens) {
         Ok(program) => Ok(Reading {
             program,
             tokens,
@@ -74,7 +91,7 @@ fn tree_of(
     alloc: Global,
     params: &ParseParams,
     modes: Modes,
-    tokens: &[Token],
+    tokens: &SharedTokens,
 ) -> Result<Program, SyntaxError>
     requires { ReadsTokens params.now.text tokens.now }
     ensures made { IfOk result (IsFirstTree (lang_for params.now) params.now.text tokens.now (modes_in modes)) }
@@ -82,5 +99,5 @@ fn tree_of(
         → GivesTree result tree }
 {
     let lang = lang_in(params.maybe_syntax, params.media_type);
-    tree_in(alloc, lang, modes, params.text.as_str(), tokens)
+    tree_in(alloc, lang, modes, &params.text, tokens)
 }

@@ -2,21 +2,22 @@
 ghost use Rattle.std.specs.Prelude.{◌≡◌, ◌≢◌, ◌++◌, None, Some, false, not, length, IfOk};
 ghost use Rattle.std.specs.Arc.{arc_value};
 ghost use Rattle.std.specs.Option.{option_map, option_copied};
-ghost use Rattle.deno_ast.specs.Refs.{tree_of, lent_item};
+ghost use Rattle.deno_ast.specs.Refs.{tree_of};
+ghost use Rattle.es_items.specs.Lent.{lent_item};
 ghost use Rattle.deno_ast.specs.Parsed as spec;
 ghost use Rattle.es_comments.specs.Standing.{ArePlaced};
 ghost use Rattle.deno_ast.specs.Source.{captured as kept};
 ghost use Rattle.deno_ast.specs.Steps.{parsed_of};
 
 use crate::params::ParseParams;
-use crate::program_ref::{ModuleItemRef, ProgramRef};
+use crate::program_ref::ProgramRef;
 use crate::reading::Reading;
 use base::{Items, Range};
-use es_ast::Program;
 use es_comments::{MultiThreadedComments, comments_of};
+use es_items::ModuleItemRef;
+use es_program::{Form, Program, SharedTokens};
 use es_site::Site;
 use es_token::{Comment, Token};
-use es_walk::sites;
 use media_type::MediaType;
 use source_sites::{references_in, with_sites};
 use source_text::{SourceText, SourceTextInfo};
@@ -41,7 +42,7 @@ pub struct Source {
     program: Arc<Program>,
     references: Items<Site>,
     comments: MultiThreadedComments,
-    tokens: Option<Items<Token>>,
+    tokens: Option<SharedTokens>,
 }
 
 impl Model for ParsedSource {
@@ -165,7 +166,7 @@ impl ParsedSource {
     pub fn is_script(&self) -> bool
         ensures { result ≡ spec.is_script self.now.tree }
     {
-        matches!(&*self.inner.program, Program::Script(_))
+        matches!(self.inner.program.form(), Form::Script(_))
     }
 
     /// Whether the source is one of CommonJS: `is_script`, but for typed sources what their items say.
@@ -184,7 +185,7 @@ impl ParsedSource {
         ensures { IfOk result (λ found. found ≡ spec.parsed_sites self.now) }
     {
         let found = copy_sites(alloc, self.inner.references.as_slice())?;
-        with_sites(found, sites(alloc, &self.inner.program)?)
+        with_sites(found, copy_sites(alloc, self.inner.program.sites())?)
     }
 
     /// One more reference to the same source.
@@ -255,7 +256,7 @@ pub fn source_of(
         tokens.as_slice(),
         comments.as_slice(),
     )?;
-    let comments = shared_comments(alloc, params.text.as_str(), &tokens, &comments)?;
+    let comments = shared_comments(alloc, params.text.as_str(), tokens.as_slice(), &comments)?;
     let source = Source {
         info: SourceTextInfo::new(alloc, params.text.copy()?)?,
         specifier: params.specifier,
@@ -274,16 +275,16 @@ pub fn source_of(
 fn shared_comments(
     alloc: Global,
     text: &str,
-    tokens: &Items<Token>,
+    tokens: &[Token],
     comments: &Items<Comment>,
 ) -> Result<MultiThreadedComments, AllocError>
     ensures { IfOk result (ArePlaced text.now tokens.now comments.now) }
 {
-    let placed = comments_of(alloc, text, tokens.as_slice(), comments.as_slice())?;
+    let placed = comments_of(alloc, text, tokens, comments.as_slice())?;
     MultiThreadedComments::from_single_threaded(alloc, placed)
 }
 
-fn captured(capture: bool, tokens: Items<Token>) -> Option<Items<Token>>
+fn captured(capture: bool, tokens: SharedTokens) -> Option<SharedTokens>
     ensures { result ≡ kept capture tokens }
 {
     if capture { Some(tokens) } else { None }

@@ -7,20 +7,20 @@ ghost use Rattle.es_parser.specs.Answers.{GivesTree};
 ghost use Rattle.source_sites.specs.Tree.{IsFirstTree, IsTree};
 ghost use Rattle.source_sites.specs.Modes.{modes_in};
 
-use es_ast::Program;
 use es_parser::parse_tokens;
-use es_token::Token;
+use es_program::{Program, SharedTokens};
 use es_tree::{Lang, Mode, SyntaxError};
 use media_type::MediaType;
 use source_sites::{Modes, language_of, modes_of};
+use source_text::SourceText;
 use std::alloc::Global;
 
 /// The tree of a source of this media type with these tokens.
 pub fn tree_of(
     alloc: Global,
     media_type: MediaType,
-    text: &str,
-    tokens: &[Token],
+    text: &SourceText,
+    tokens: &SharedTokens,
 ) -> Result<Program, SyntaxError>
     requires { ReadsTokens text.now tokens.now }
     ensures made { IfOk result (IsTree media_type text.now tokens.now) }
@@ -35,8 +35,8 @@ pub fn tree_in(
     alloc: Global,
     lang: Lang,
     modes: Modes,
-    text: &str,
-    tokens: &[Token],
+    text: &SourceText,
+    tokens: &SharedTokens,
 ) -> Result<Program, SyntaxError>
     requires { ReadsTokens text.now tokens.now }
     // What is answered is the tree.
@@ -54,8 +54,8 @@ fn parse_only(
     alloc: Global,
     lang: Lang,
     mode: Mode,
-    text: &str,
-    tokens: &[Token],
+    text: &SourceText,
+    tokens: &SharedTokens,
 ) -> Result<Program, SyntaxError>
     requires { ReadsTokens text.now tokens.now }
     ensures made { IfOk result (IsFirstTree lang text.now tokens.now (mode ∷ [])) }
@@ -68,8 +68,8 @@ fn parse_only(
 fn parse_either(
     alloc: Global,
     lang: Lang,
-    text: &str,
-    tokens: &[Token],
+    text: &SourceText,
+    tokens: &SharedTokens,
 ) -> Result<Program, SyntaxError>
     requires { ReadsTokens text.now tokens.now }
     ensures made { IfOk result (IsFirstTree lang text.now tokens.now (mode.Script ∷ mode.Module ∷ [])) }

@@ -1,6 +1,6 @@
 -- What the plain tree that is read and the typed tree that is made of it tell of the trees that are derived.
-use Rattle.std.specs.Prelude.{List, Option, Some, None, Result, Err}
-use Rattle.std.proofs.Common.{◌≡◌, ◌≢◌, ℕ, refl, sym, ap, ◌∙◌, subst}
+use Rattle.std.specs.Prelude.{List, Some, Result, Err}
+use Rattle.std.proofs.Common.{◌≡◌, ℕ, refl, sym, ap, ◌∙◌, subst}
 use Rattle.std.proofs.lemmas.Option.{same_Some}
 use Rattle.es_token.specs.declared.token.Token.{Token}
 use Rattle.es_tree.specs.declared.error.Lang.{Lang}
@@ -9,18 +9,16 @@ use Rattle.es_tree.specs.Key.{keys_of}
 use Rattle.es_tree.specs.declared.error.SyntaxError.{SyntaxError}
 use Rattle.es_tree.specs.declared.error.SyntaxError.TheVariants.{Syntax, OutOfMemory}
 use Rattle.es_ast.specs.declared.ast.Program.{Program}
+use Rattle.es_whole_grammar.proofs.Theorems.{one_program}
 use Rattle.es_whole_tree.specs.declared.tree.Tree.{Tree}
 use Rattle.es_whole_tree.specs.Slim.{tree_of}
 use Rattle.es_whole_program.specs.Program.{IsKept}
 use Rattle.es_whole_program.specs.Derived.{GivesTree as GivesPlain}
 use Rattle.es_dress.specs.Dress.{value_of}
-use Rattle.es_dresser.specs.declared.error.DressError.{DressError}
-use Rattle.es_dresser.specs.declared.error.DressError.TheVariants as dress
 use Rattle.es_derives.specs.Derives.{program_in, Derives}
+use Rattle.es_program_sites.proofs.Theorems.{kept_sites}
 use Rattle.es_parser.specs.Answers.{GivesTree}
-
-none_made : (p : Program) (o : Option Program) → o ≡ None → o ≡ Some p → ⊥
-none_made p o none made = cc
+use Rattle.es_parser.specs.Made.{IsTyped}
 
 module _ (l : Lang) (m : Mode) (x : List ℕ) (ts : List Token) where
   -- a derived tree is that of a plain tree which is kept
@@ -45,11 +43,16 @@ module _ (l : Lang) (m : Mode) (x : List ℕ) (ts : List Token) where
       → program_in (value_of x ts tree) ≡ Some q → q ≡ p
   one_made tree q p derived same made = same_Some q p (sym made ∙ made_of tree p derived same)
 
-  -- where nothing is made, nothing is derived
-  pub none_derived : (tree : Tree) (p : Program) → (derived : Derives l m x ts p) → tree ≡ tree_of derived.plain
-      → program_in (value_of x ts tree) ≡ None → ⊥
-  none_derived tree p derived same none =
-      none_made p (program_in (value_of x ts tree)) none (made_of tree p derived same)
+  -- what is kept has a typed tree, whose sites are its own
+  pub typed_of : (tree : Tree) → IsKept l m (keys_of ts) tree → IsTyped x ts tree
+  typed_of tree kept =
+      let typed = kept_sites l m x ts kept.plain tree kept.program kept.kept in
+      let one = one_program l m (keys_of ts) kept.plain typed.1.plain kept.program typed.1.program in
+      record {
+        program = typed.0;
+        typed = ap (λ t. program_in (value_of x ts t)) (sym kept.kept ∙ ap tree_of one) ∙ typed.1.dressed;
+        sites = typed.2;
+      }
 
 -- a refusal of the plain tree is one of the typed tree
 pub refused : (r : Result Program SyntaxError) (y e : SyntaxError) (p : Program) (tree : Tree) → r ≡ Err y → y ≡ e
@@ -61,6 +64,3 @@ refused r y e p tree is_err same given =
     at_error : (e : SyntaxError) → GivesPlain (Err e) tree → GivesTree (Err e) p
     at_error (Syntax token) given = absurd given
     at_error OutOfMemory given = tt
-
-pub other_form : (e : DressError) → e ≡ dress.OtherForm → e ≢ dress.OutOfMemory
-other_form e is = λ room. let bad : ⊥ = cc in bad

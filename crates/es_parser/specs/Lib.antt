@@ -2,3 +2,5 @@
 pub mod Answers
 -- when an arrow or a pattern opens at a token
 pub mod Heads
+-- ---- what the functions inside the crate promise each other
+pub mod Made

@@ -1,25 +1,29 @@
 //! Whole programs.
 
-ghost use Rattle.std.specs.Prelude.{IfOk};
+ghost use Rattle.std.specs.Prelude.{◌≡◌, Some, IfOk};
 ghost use Rattle.es_lexer.specs.Reads.{ReadsTokens};
 ghost use Rattle.es_ast.specs.declared.ast.Program.{Program as Typed};
-ghost use Rattle.es_derives.specs.Derives.{Derives};
+ghost use Rattle.es_dress.specs.Dress.{value_of};
+ghost use Rattle.es_derives.specs.Derives.{program_in, Derives};
 ghost use Rattle.es_parser.specs.Answers.{GivesTree};
+ghost use Rattle.es_parser.specs.Made.{IsTyped};
 
-use es_ast::Program;
-use es_dressed::{DressError, dress_program};
-use es_token::Token;
+use es_program::{Program, SharedTokens};
+use es_spill::spill;
 use es_tree::{Lang, Mode, SyntaxError};
+use es_tree_sites::tree_sites;
 use es_whole_program::read_program;
-use std::alloc::Global;
+use es_whole_tree::Tree;
+use source_text::SourceText;
+use std::alloc::{AllocError, Global};
 
-/// The tree of a text whose tokens are these.
+/// The tree of a text whose tokens are these. The program shares both.
 pub fn parse_tokens(
     alloc: Global,
     lang: Lang,
     mode: Mode,
-    text: &str,
-    tokens: &[Token],
+    text: &SourceText,
+    tokens: &SharedTokens,
 ) -> Result<Program, SyntaxError>
     requires { ReadsTokens text.now tokens.now }
     // What is answered is derived.
@@ -27,10 +31,26 @@ pub fn parse_tokens(
     // What is derived is answered, unless memory runs out: so `Syntax` comes only where nothing is derived.
     ensures only { (tree : Typed) → Derives lang mode text.now tokens.now tree → GivesTree result tree }
 {
-    let plain = read_program(alloc, lang, mode, tokens)?;
-    match dress_program(alloc, text, tokens, &plain) {
+    let plain = read_program(alloc, lang, mode, tokens.as_slice())?;
+    match program_of(alloc, text, tokens, &plain) {
         Ok(program) => Ok(program),
-        Err(DressError::OtherForm) => Err(SyntaxError::Syntax { token: 0 }),
-        Err(DressError::OutOfMemory) => Err(SyntaxError::OutOfMemory),
+        Err(_) => Err(SyntaxError::OutOfMemory),
     }
+}
+
+/// The program of a plain tree: its sites, and the tree as a row.
+#[tactic(auto, using(crate::proofs::RowLemmas::row_typed))]
+fn program_of(
+    alloc: Global,
+    text: &SourceText,
+    tokens: &SharedTokens,
+    plain: &Tree,
+) -> Result<Program, AllocError>
+    requires reads { ReadsTokens text.now tokens.now }
+    requires typed { IsTyped text.now tokens.now plain.now }
+    ensures { IfOk result (λ program. program_in (value_of text.now tokens.now plain.now) ≡ Some program) }
+{
+    let sites = tree_sites(alloc, text.as_str(), tokens.as_slice(), plain)?;
+    let row = spill(alloc, plain)?;
+    Program::new(alloc, text.copy()?, tokens.copy()?, row, sites)
 }

@@ -1,6 +1,5 @@
-use Rattle.std.proofs.Common.{sym, subst, List, Err}
+use Rattle.std.proofs.Common.{subst, Err}
 use Rattle.url.specs.Parts.{serialize}
-use Rattle.es_token.specs.declared.token.Token.{Token}
 use Rattle.es_tree.specs.declared.error.SyntaxError.{SyntaxError}
 use Rattle.es_ast.specs.declared.ast.Program.{Program as Typed}
 use Rattle.es_parser.specs.Answers.{GivesTree}
@@ -15,12 +14,10 @@ pub returns-in-Err-Syntax-clause-refused : goal.returns-in-Err-Syntax-clause-ref
 returns-in-Err-Syntax-clause-refused c =
     let params = c.args.params.now in
     let modes = modes_in c.args.modes in
-    let none = λ (tree : Typed) (is : IsFirstTree (lang_for params) params.text c.args.lexed.tokens modes tree).
+    let none = λ (tree : Typed) (is : IsFirstTree (lang_for params) params.text c.args.tokens modes tree).
     subst (λ (e : SyntaxError). GivesTree (Err e) tree) c.in-Err-Syntax.field-0-is
-    (c.in-Err-Syntax.ensures.only tree
-    (subst (λ (ts : List Token). IsFirstTree (lang_for params) params.text ts modes tree) (sym c.as_slice.ensures)
-    is)) in
+    (c.in-Err-Syntax.ensures.only tree is) in
     Refuses-weaker _ _
     (λ d told. syntax_refusal (serialize params.specifier) (lang_for params) modes params.text d told.0
-    c.args.lexed.tokens (c.args.lexed.comments, c.requires) none told.1)
+    c.args.tokens (c.args.comments, c.requires) none told.1)
     c.syntax_fault.result c.syntax_fault.ensures

@@ -2,11 +2,10 @@
 use Rattle.base.specs.declared.range.Range.{Range}
 use Rattle.es_ast.specs.declared.ast.Decl.{out-Decl}
 use Rattle.es_ast.specs.declared.ast.ModuleDecl.{out-ModuleDecl}
+use Rattle.es_ast.specs.declared.ast.ModuleItem.{ModuleItem, out-ModuleItem}
 use Rattle.es_ast.specs.declared.ast.Stmt.{out-Stmt}
-use Rattle.es_ast.specs.declared.ast.ClassMember.TheOpen.{Decl-F, ModuleDecl-F, Stmt-F}
+use Rattle.es_ast.specs.declared.ast.ClassMember.TheOpen.{Decl-F, ModuleDecl-F, ModuleItem-F, Stmt-F}
 use Rattle.es_site.specs.Parts.{Whole}
-use Rattle.deno_ast.specs.declared.program_ref.ModuleItemRef.{ModuleItemRef}
-use Rattle.deno_ast.specs.Refs.{LentItem, lent_decl, lent_stmt, lent_item}
 
 abbrev pub span_of_decl : Whole Decl-F → Range
 span_of_decl (Decl-F.Decl::Class declare class span) = span
@@ -52,10 +51,9 @@ span_of_module_decl (ModuleDecl-F.TsExportAssignment expr span) = span
 span_of_module_decl (ModuleDecl-F.TsNamespaceExport it) = it.span
 
 -- an item of a program
-abbrev pub span_of_lent : LentItem → Range
-span_of_lent (lent_decl d) = span_of_module_decl (out-ModuleDecl d)
-span_of_lent (lent_stmt s) = span_of_stmt (out-Stmt s)
+abbrev pub span_by : Whole ModuleItem-F → Range
+span_by (ModuleItem-F.ModuleDecl it) = span_of_module_decl (out-ModuleDecl it)
+span_by (ModuleItem-F.Stmt it) = span_of_stmt (out-Stmt it)
 
--- an item that is lent
-abbrev pub span_of_item : ModuleItemRef → Range
-span_of_item item = span_of_lent (lent_item item)
+abbrev pub span_of_lent : ModuleItem → Range
+span_of_lent item = span_by (out-ModuleItem item)

@@ -1,0 +1,28 @@
+-- A row that is a plain tree is the typed program of that tree.
+use Rattle.std.specs.Prelude.{List, [], ◌∷◌, map, Some}
+use Rattle.std.proofs.Common.{◌≡◌, ℕ, sym, ap, ◌∙◌}
+use Rattle.es_token.specs.declared.token.Token.{Token}
+use Rattle.es_lexer.specs.Reads.{ReadsTokens}
+use Rattle.es_site.specs.declared.site.Site.{Site}
+use Rattle.es_whole_tree.specs.declared.tree.Tree.{Tree}
+use Rattle.es_dress.specs.Value.{Value, part}
+use Rattle.es_dress.specs.Dress.{packed, value_of}
+use Rattle.es_derives.specs.Derives.{program_in}
+use Rattle.es_plain_sites.specs.Own.{plain_sites}
+use Rattle.es_syntax.specs.declared.entry.Entry.{Entry}
+use Rattle.es_syntax.specs.Trees.{trees}
+use Rattle.es_syntax.proofs.Rows.{held_trees}
+use Rattle.es_program.specs.Typed.{program_at, HoldsSome}
+use Rattle.es_parser.specs.Made.{IsTyped}
+
+module _ (x : List ℕ) (ts : List Token) (es : List Entry) (tree : Tree) where
+  pub row_typed : trees es ≡ tree ∷ [] → program_at x ts es ≡ program_in (value_of x ts tree)
+  unfolding program_at
+  row_typed is =
+      ap (λ (v : Value). program_in (part v 0)) (sym (held_trees x ts es))
+      ∙ ap (λ (us : List Tree). program_in (part (packed (map (value_of x ts) us)) 0)) is
+
+  pub row_holds : (sites : List Site) → ReadsTokens x ts → IsTyped x ts tree → trees es ≡ tree ∷ []
+      → sites ≡ plain_sites x ts tree → HoldsSome x ts es sites
+  row_holds sites reads made is found =
+      (made.program, record { reads = reads; typed = row_typed is ∙ made.typed; are_sites = found ∙ sym made.sites })

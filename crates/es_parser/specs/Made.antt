@@ -1,0 +1,15 @@
+-- What a plain tree is made to.
+use Rattle.std.specs.Prelude.{◌≡◌, ℕ, List, Some}
+use Rattle.es_token.specs.declared.token.Token.{Token}
+use Rattle.es_ast.specs.declared.ast.Program.{Program}
+use Rattle.es_whole_tree.specs.declared.tree.Tree.{Tree}
+use Rattle.es_site.specs.Sites.{sites_of}
+use Rattle.es_dress.specs.Dress.{value_of}
+use Rattle.es_derives.specs.Derives.{program_in}
+use Rattle.es_plain_sites.specs.Own.{plain_sites}
+
+-- a plain tree has a typed one, whose sites are its own
+pub record IsTyped (x : List ℕ) (ts : List Token) (tree : Tree) : Type 0 where
+  pub program : Program
+  pub typed : program_in (value_of x ts tree) ≡ Some program
+  pub sites : sites_of program ≡ plain_sites x ts tree
