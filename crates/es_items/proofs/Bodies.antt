@@ -105,7 +105,8 @@ module _ (x : List ℕ) (ts : List Token) where
 
   pub first_typed : (b : Bool) (es rest : List Entry) (v : Value) → held x ts es ≡ more v (held x ts rest)
       → is_some (items_in b x ts es) ≡ true → is_some (item_of b (part (as_group v) 0)) ≡ true
-  first_typed b es rest v e is = listed_first _ (items_in b x ts rest) (sym (ap is_some (items_some b es rest v e)) ∙ is)
+  first_typed b es rest v e is =
+      listed_first _ (items_in b x ts rest) (sym (ap is_some (items_some b es rest v e)) ∙ is)
 
   pub rest_typed : (b : Bool) (es rest : List Entry) (v : Value) → held x ts es ≡ more v (held x ts rest)
       → is_some (items_in b x ts es) ≡ true → is_some (items_in b x ts rest) ≡ true

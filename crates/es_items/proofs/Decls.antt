@@ -36,63 +36,79 @@ module _ (x : List ℕ) (ts : List Token) (r : Range) (p : Value) where
   bare_is : Opt (DeclIs r (Some false)) (d.bare_import x ts r p)
   unfolding d.bare_import
   bare_is =
-      given_any (DeclIs r (Some false)) (texts.str_at x ts p 0) _ (λ src. given_any (DeclIs r (Some false)) (v.optional v.attributes_at (group p 1)) _ (λ with.
+      given_any (DeclIs r (Some false)) (texts.str_at x ts p 0) _
+      (λ src. given_any (DeclIs r (Some false)) (v.optional v.attributes_at (group p 1)) _ (λ with.
       decl_is r _ _ (ModuleDecl-F.Import _) (vModuleDecl.rolls-Import _) refl refl))
 
   from_is : Opt (DeclIs r (Some false)) (d.from_import x ts r p)
   unfolding d.from_import
   from_is =
-      given_any (DeclIs r (Some false)) (v.clause_at p 1) _ (λ clause. given_any (DeclIs r (Some false)) (texts.str_at x ts p 2) _ (λ src.
-      given_any (DeclIs r (Some false)) (v.optional v.attributes_at (group p 3)) _ (λ with. decl_is r _ _ (ModuleDecl-F.Import _) (vModuleDecl.rolls-Import _) refl refl)))
+      given_any (DeclIs r (Some false)) (v.clause_at p 1) _
+      (λ clause. given_any (DeclIs r (Some false)) (texts.str_at x ts p 2) _ (λ src.
+      given_any (DeclIs r (Some false)) (v.optional v.attributes_at (group p 3)) _
+      (λ with. decl_is r _ _ (ModuleDecl-F.Import _) (vModuleDecl.rolls-Import _) refl refl)))
 
   require_is : (is_export : Bool) → Opt (DeclIs r (Some true)) (d.require_import x ts is_export r p)
   unfolding d.require_import
   require_is is_export =
-      given_any (DeclIs r (Some true)) (texts.ident_at x ts p 1) _ (λ id. given_any (DeclIs r (Some true)) (texts.str_at x ts p 2) _ (λ src.
+      given_any (DeclIs r (Some true)) (texts.ident_at x ts p 1) _
+      (λ id. given_any (DeclIs r (Some true)) (texts.str_at x ts p 2) _ (λ src.
       decl_is r _ _ (ModuleDecl-F.TsImportEquals _) (vModuleDecl.rolls-TsImportEquals _) refl refl))
 
   entity_is : (is_export : Bool) → Opt (DeclIs r (Some true)) (d.entity_import x ts is_export r p)
   unfolding d.entity_import
   entity_is is_export =
-      given_any (DeclIs r (Some true)) (texts.ident_at x ts p 1) _ (λ id. given_any (DeclIs r (Some true)) (v.entity_at p 2) _ (λ name.
+      given_any (DeclIs r (Some true)) (texts.ident_at x ts p 1) _
+      (λ id. given_any (DeclIs r (Some true)) (v.entity_at p 2) _ (λ name.
       decl_is r _ _ (ModuleDecl-F.TsImportEquals _) (vModuleDecl.rolls-TsImportEquals _) refl refl))
 
   all_is : Opt (DeclIs r (Some false)) (d.export_all x ts r p)
   unfolding d.export_all
   all_is =
-      given_any (DeclIs r (Some false)) (v.optional (λ g n. texts.name_at x ts (group g n) 0) (group p 1)) _ (λ exported. given_any (DeclIs r (Some false)) (texts.str_at x ts p 2) _ (λ src.
-      given_any (DeclIs r (Some false)) (v.optional v.attributes_at (group p 3)) _ (λ with. decl_is r _ _ (ModuleDecl-F.ExportAll _) (vModuleDecl.rolls-ExportAll _) refl refl)))
+      given_any (DeclIs r (Some false)) (v.optional (λ g n. texts.name_at x ts (group g n) 0) (group p 1)) _
+      (λ exported. given_any (DeclIs r (Some false)) (texts.str_at x ts p 2) _ (λ src.
+      given_any (DeclIs r (Some false)) (v.optional v.attributes_at (group p 3)) _
+      (λ with. decl_is r _ _ (ModuleDecl-F.ExportAll _) (vModuleDecl.rolls-ExportAll _) refl refl)))
 
   names_is : Opt (DeclIs r (Some false)) (d.export_names x ts r p)
   unfolding d.export_names
   names_is =
-      given_any (DeclIs r (Some false)) (v.turns (λ turn. v.export_specifier_at turn 0) (group p 1)) _ (λ specifiers. given_any (DeclIs r (Some false)) (v.optional (d.source_with x ts) (group p 2)) _ (λ source.
+      given_any (DeclIs r (Some false)) (v.turns (λ turn. v.export_specifier_at turn 0) (group p 1)) _
+      (λ specifiers. given_any (DeclIs r (Some false)) (v.optional (d.source_with x ts) (group p 2)) _ (λ source.
       decl_is r _ _ (ModuleDecl-F.ExportNamed _) (vModuleDecl.rolls-ExportNamed _) refl refl))
 
   namespace_is : Opt (DeclIs r (None)) (d.export_namespace x ts r p)
   unfolding d.export_namespace
   namespace_is =
-      map_any (DeclIs r (None)) _ _ (λ id. decl_is r _ _ (ModuleDecl-F.TsNamespaceExport _) (vModuleDecl.rolls-TsNamespaceExport _) refl refl)
+      map_any (DeclIs r (None)) _ _
+      (λ id. decl_is r _ _ (ModuleDecl-F.TsNamespaceExport _) (vModuleDecl.rolls-TsNamespaceExport _) refl refl)
 
   default_decl_is : Opt (DeclIs r (Some false)) (d.export_default_decl r p)
   unfolding d.export_default_decl
   default_decl_is =
-      map_any (DeclIs r (Some false)) _ _ (λ it. decl_is r _ _ (ModuleDecl-F.ExportDefaultDecl it r) (vModuleDecl.rolls-ExportDefaultDecl it r) refl refl)
+      map_any (DeclIs r (Some false)) _ _
+      (λ it. decl_is r _ _ (ModuleDecl-F.ExportDefaultDecl it r) (vModuleDecl.rolls-ExportDefaultDecl it r) refl
+      refl)
 
   default_expression_is : Opt (DeclIs r (Some false)) (d.export_default_expression r p)
   unfolding d.export_default_expression
   default_expression_is =
-      map_any (DeclIs r (Some false)) _ _ (λ it. decl_is r _ _ (ModuleDecl-F.ExportDefaultExpr it r) (vModuleDecl.rolls-ExportDefaultExpr it r) refl refl)
+      map_any (DeclIs r (Some false)) _ _
+      (λ it. decl_is r _ _ (ModuleDecl-F.ExportDefaultExpr it r) (vModuleDecl.rolls-ExportDefaultExpr it r) refl
+      refl)
 
   declaration_is : Opt (DeclIs r (Some false)) (d.export_declaration r p)
   unfolding d.export_declaration
   declaration_is =
-      map_any (DeclIs r (Some false)) _ _ (λ it. decl_is r _ _ (ModuleDecl-F.ExportDecl it r) (vModuleDecl.rolls-ExportDecl it r) refl refl)
+      map_any (DeclIs r (Some false)) _ _
+      (λ it. decl_is r _ _ (ModuleDecl-F.ExportDecl it r) (vModuleDecl.rolls-ExportDecl it r) refl refl)
 
   assignment_is : Opt (DeclIs r (Some true)) (t.export_assignment r p)
   unfolding t.export_assignment
   assignment_is =
-      map_any (DeclIs r (Some true)) _ _ (λ it. decl_is r _ _ (ModuleDecl-F.TsExportAssignment it r) (vModuleDecl.rolls-TsExportAssignment it r) refl refl)
+      map_any (DeclIs r (Some true)) _ _
+      (λ it. decl_is r _ _ (ModuleDecl-F.TsExportAssignment it r) (vModuleDecl.rolls-TsExportAssignment it r) refl
+      refl)
 
   abbrev At : Label → ModuleDecl → Type 0
   At label it = DeclIs r (told_of label) it

@@ -14,7 +14,8 @@ use Rattle.es_syntax.specs.Held.{Held, label_of, leaning, leaned, leant, made, r
 
 module _ (x : List ℕ) (ts : List Token) {A : Type 0} (f : Typed → Option A)
     (no_target : (e : Option Expr) → f (target_of x ts e) ≡ None)
-    (no_lean : (lean : Lean) (from to : ℕ) (v : Value) → f (build x ts (label_of lean) from (span_of ts from to) v) ≡ None) where
+    (no_lean : (lean : Lean) (from to : ℕ) (v : Value)
+    → f (build x ts (label_of lean) from (span_of ts from to) v) ≡ None) where
   abbrev role : Value → Option A
   role v = given (typed v) f
 

@@ -84,7 +84,8 @@ module _ (x : List ℕ) (ts : List Token) where
   stmt_by_node (vWhat.Lean lean) from to p = refl
 
   item_by_node : (w : What) (from to : ℕ) (p : Value)
-      → by_node x ts of_item item_target item_lean w from to p ≡ item_by x ts (decl_node w from to p) (stmt_node w from to p)
+      → by_node x ts of_item item_target item_lean w from to p
+      ≡ item_by x ts (decl_node w from to p) (stmt_node w from to p)
   unfolding build
   item_by_node vWhat.Leaf from to p = refl
   item_by_node (vWhat.Node label) from to p = refl

@@ -64,37 +64,47 @@ module _ (x : List ℕ) (ts : List Token) where
   interface_at : (p : Value) → Opt Declares (t.interface x ts p)
   unfolding t.interface
   interface_at p =
-      given_any Declares (texts.ident_at x ts p 0) _ (λ id. given_any Declares (parts.params_part_at p 1) _ (λ type_params. given_any Declares (parts.heritage_in ts (group p 2)) _ (λ extends.
-      given_any Declares (option_map vPart.Members (v.turns (λ turn. v.type_member_at turn 0) (group p 3))) _ (λ body declare r.
+      given_any Declares (texts.ident_at x ts p 0) _
+      (λ id. given_any Declares (parts.params_part_at p 1) _
+      (λ type_params. given_any Declares (parts.heritage_in ts (group p 2)) _ (λ extends.
+      given_any Declares (option_map vPart.Members (v.turns (λ turn. v.type_member_at turn 0) (group p 3))) _
+      (λ body declare r.
       decl_is r _ (Decl-F.TsInterface declare id type_params extends (Some body) r)
       (vDecl.rolls-TsInterface declare id type_params extends (Some body) r) refl))))
 
   alias_at : (p : Value) → Opt Declares (t.alias x ts p)
   unfolding t.alias
   alias_at p =
-      given_any Declares (texts.ident_at x ts p 0) _ (λ id. given_any Declares (parts.params_part_at p 1) _ (λ type_params. given_any Declares (option_map vPart.TypeAnn (v.type_at p 2)) _ (λ ty declare r.
+      given_any Declares (texts.ident_at x ts p 0) _
+      (λ id. given_any Declares (parts.params_part_at p 1) _
+      (λ type_params. given_any Declares (option_map vPart.TypeAnn (v.type_at p 2)) _ (λ ty declare r.
       decl_is r _ (Decl-F.TsTypeAlias declare id type_params (Some ty) r)
       (vDecl.rolls-TsTypeAlias declare id type_params (Some ty) r) refl)))
 
   enum_at : (p : Value) → Opt Declares (t.enum_ x ts p)
   unfolding t.enum_
   enum_at p =
-      given_any Declares (texts.ident_at x ts p 1) _ (λ id. given_any Declares (v.turns (t.enum_member ts) (group p 2)) _ (λ members declare r.
+      given_any Declares (texts.ident_at x ts p 1) _
+      (λ id. given_any Declares (v.turns (t.enum_member ts) (group p 2)) _ (λ members declare r.
       decl_is r _ (Decl-F.TsEnum declare (v.is_there (group p 0)) id members r)
       (vDecl.rolls-TsEnum declare (v.is_there (group p 0)) id members r) refl))
 
   namespace_at : (p : Value) → Opt Declares (t.namespace ts p)
   unfolding t.namespace
   namespace_at p =
-      given_any Declares (texts.kind_at ts p 0) _ (λ kind. given_any Declares (v.entity_at p 1) _ (λ id. given_any Declares (t.items_of (group p 2)) _ (λ body declare r.
+      given_any Declares (texts.kind_at ts p 0) _
+      (λ kind. given_any Declares (v.entity_at p 1) _
+      (λ id. given_any Declares (t.items_of (group p 2)) _ (λ body declare r.
       decl_is r _ (Decl-F.TsNamespace declare (same_kind kind k.ModuleWord) id body r)
       (vDecl.rolls-TsNamespace declare (same_kind kind k.ModuleWord) id body r) refl)))
 
   module_at : (p : Value) → Opt Declares (t.module_namespace x ts p)
   unfolding t.module_namespace
   module_at p =
-      given_any Declares (texts.str_at x ts p 0) _ (λ id. given_any Declares (t.items_of (group (group p 1) 0)) _ (λ body declare r.
-      decl_is r _ (Decl-F.TsModule declare id (ops.is_kind_at ts k.OpenBrace (v.behind (part p 0))) body r) (vDecl.rolls-TsModule declare id (ops.is_kind_at ts k.OpenBrace (v.behind (part p 0))) body r) refl))
+      given_any Declares (texts.str_at x ts p 0) _
+      (λ id. given_any Declares (t.items_of (group (group p 1) 0)) _ (λ body declare r.
+      decl_is r _ (Decl-F.TsModule declare id (ops.is_kind_at ts k.OpenBrace (v.behind (part p 0))) body r)
+      (vDecl.rolls-TsModule declare id (ops.is_kind_at ts k.OpenBrace (v.behind (part p 0))) body r) refl))
 
   global_at : (p : Value) → Opt Declares (t.global p)
   unfolding t.global
@@ -143,7 +153,8 @@ module _ (x : List ℕ) (ts : List Token) where
   part_at (e ∷ es) =
       let inner = take (min e.size (length es)) es in
       subst (λ (w : Value). Opt Declares (v.declarable_at w 0)) (sym (held_some x ts e es))
-      (subst (Opt Declares) (sym (made_role x ts (λ (m : Typed). m.declarable) no_target no_lean e.what e.from e.to inner))
+      (subst (Opt Declares)
+      (sym (made_role x ts (λ (m : Typed). m.declarable) no_target no_lean e.what e.from e.to inner))
       (by_node_at e.what e.from e.to (held x ts inner)))
 
   -- ---- declarations
@@ -170,7 +181,9 @@ module _ (x : List ℕ) (ts : List Token) where
       given (v.stmt_at g 1) (λ handler.
       given (optional v.stmt_at (group g 2)) (λ last. Some (vStmt.Try block param (Some handler) last r)))))
   caught r block g =
-      given_any (StmtAt r) (optional v.pat_at (group g 0)) _ (λ param. given_any (StmtAt r) (v.stmt_at g 1) _ (λ handler. given_any (StmtAt r) (optional v.stmt_at (group g 2)) _ (λ last.
+      given_any (StmtAt r) (optional v.pat_at (group g 0)) _
+      (λ param. given_any (StmtAt r) (v.stmt_at g 1) _
+      (λ handler. given_any (StmtAt r) (optional v.stmt_at (group g 2)) _ (λ last.
       stmt_is r _ (Stmt-F.Try block param (Some handler) last r) (vStmt.rolls-Try block param (Some handler) last r)
       refl)))
 
@@ -179,7 +192,9 @@ module _ (x : List ℕ) (ts : List Token) where
       given (v.stmt_at g 1) (λ handler.
       given (optional v.stmt_at (group g 2)) (λ last. Some (vStmt.Try block param (Some handler) last r)))))
   typed_caught r block g =
-      given_any (StmtAt r) (t.caught_in ts (group g 0)) _ (λ param. given_any (StmtAt r) (v.stmt_at g 1) _ (λ handler. given_any (StmtAt r) (optional v.stmt_at (group g 2)) _ (λ last.
+      given_any (StmtAt r) (t.caught_in ts (group g 0)) _
+      (λ param. given_any (StmtAt r) (v.stmt_at g 1) _
+      (λ handler. given_any (StmtAt r) (optional v.stmt_at (group g 2)) _ (λ last.
       stmt_is r _ (Stmt-F.Try block param (Some handler) last r) (vStmt.rolls-Try block param (Some handler) last r)
       refl)))
 
@@ -207,11 +222,13 @@ module _ (x : List ℕ) (ts : List Token) where
   typed_handled_at r block (more body (node from to m)) = typed_caught r block (more body (node from to m))
   typed_handled_at r block (more body (more a b)) = typed_caught r block (more body (more a b))
 
-  each_at : (b : Bool) (r : Range) (head : d.Head) (right : Expr) (body : Stmt) → StmtAt r (d.each_of b r head right body)
+  each_at : (b : Bool) (r : Range) (head : d.Head) (right : Expr) (body : Stmt)
+      → StmtAt r (d.each_of b r head right body)
   each_at true r head right body =
       stmt_is r _ (Stmt-F.ForIn head.0 head.1 right body r) (vStmt.rolls-ForIn head.0 head.1 right body r) refl
   each_at false r head right body =
-      stmt_is r _ (Stmt-F.ForOf false head.0 head.1 right body r) (vStmt.rolls-ForOf false head.0 head.1 right body r) refl
+      stmt_is r _ (Stmt-F.ForOf false head.0 head.1 right body r) (vStmt.rolls-ForOf false head.0 head.1 right body r)
+      refl
 
   expression_at : (r : Range) (p : Value) → Opt (StmtAt r) (d.expression_statement r p)
   unfolding d.expression_statement
@@ -227,26 +244,33 @@ module _ (x : List ℕ) (ts : List Token) where
   if_at : (r : Range) (p : Value) → Opt (StmtAt r) (d.if_ r p)
   unfolding d.if_
   if_at r p =
-      given_any (StmtAt r) (v.expr_at p 0) _ (λ test. given_any (StmtAt r) (v.stmt_at p 1) _ (λ yes. given_any (StmtAt r) (optional v.stmt_at (group p 2)) _ (λ no.
+      given_any (StmtAt r) (v.expr_at p 0) _
+      (λ test. given_any (StmtAt r) (v.stmt_at p 1) _
+      (λ yes. given_any (StmtAt r) (optional v.stmt_at (group p 2)) _ (λ no.
       stmt_is r _ (Stmt-F.If test yes no r) (vStmt.rolls-If test yes no r) refl)))
 
   for_at : (r : Range) (p : Value) → Opt (StmtAt r) (d.for_ ts r p)
   unfolding d.for_
   for_at r p =
-      given_any (StmtAt r) (d.start_of_for ts p) _ (λ init. given_any (StmtAt r) (optional v.expr_at (group p 3)) _ (λ test. given_any (StmtAt r) (optional v.expr_at (group p 4)) _ (λ update.
+      given_any (StmtAt r) (d.start_of_for ts p) _
+      (λ init. given_any (StmtAt r) (optional v.expr_at (group p 3)) _
+      (λ test. given_any (StmtAt r) (optional v.expr_at (group p 4)) _ (λ update.
       given_any (StmtAt r) (v.stmt_at p 5) _ (λ body.
       stmt_is r _ (Stmt-F.For init test update body r) (vStmt.rolls-For init test update body r) refl))))
 
   for_each_at : (r : Range) (p : Value) → Opt (StmtAt r) (d.for_each ts r p)
   unfolding d.for_each
   for_each_at r p =
-      given_any (StmtAt r) (v.head_at p 0) _ (λ head. given_any (StmtAt r) (texts.kind_at ts (group p 1) 0) _ (λ kind. given_any (StmtAt r) (v.expr_at (group p 1) 1) _ (λ right.
+      given_any (StmtAt r) (v.head_at p 0) _
+      (λ head. given_any (StmtAt r) (texts.kind_at ts (group p 1) 0) _
+      (λ kind. given_any (StmtAt r) (v.expr_at (group p 1) 1) _ (λ right.
       given_any (StmtAt r) (v.stmt_at p 2) _ (λ body. each_at (same_kind kind k.InWord) r head right body))))
 
   for_await_at : (r : Range) (p : Value) → Opt (StmtAt r) (d.for_await r p)
   unfolding d.for_await
   for_await_at r p =
-      given_any (StmtAt r) (v.head_at p 0) _ (λ head. given_any (StmtAt r) (v.expr_at p 1) _ (λ right. given_any (StmtAt r) (v.stmt_at p 2) _ (λ body.
+      given_any (StmtAt r) (v.head_at p 0) _
+      (λ head. given_any (StmtAt r) (v.expr_at p 1) _ (λ right. given_any (StmtAt r) (v.stmt_at p 2) _ (λ body.
       stmt_is r _ (Stmt-F.ForOf true head.0 head.1 right body r)
       (vStmt.rolls-ForOf true head.0 head.1 right body r) refl)))
 
@@ -285,7 +309,8 @@ module _ (x : List ℕ) (ts : List Token) where
   switch_at : (r : Range) (p : Value) → Opt (StmtAt r) (d.switch_ ts r p)
   unfolding d.switch_
   switch_at r p =
-      given_any (StmtAt r) (v.expr_at p 0) _ (λ tested. given_any (StmtAt r) (d.clauses ts (v.behind (part p 0) + 2) (group p 1)) _ (λ cases.
+      given_any (StmtAt r) (v.expr_at p 0) _
+      (λ tested. given_any (StmtAt r) (d.clauses ts (v.behind (part p 0) + 2) (group p 1)) _ (λ cases.
       stmt_is r _ (Stmt-F.Switch tested cases r) (vStmt.rolls-Switch tested cases r) refl))
 
   try_at : (r : Range) (p : Value) → Opt (StmtAt r) (d.try_ r p)
@@ -308,8 +333,10 @@ module _ (x : List ℕ) (ts : List Token) where
   unfolding stmt_of
   stmt_at label r es =
       let p = held x ts es in
-      if_any (StmtAt r) (same_label label l.Block) _ _ (map_any (StmtAt r) _ _ (λ stmts. stmt_is r _ (Stmt-F.Block stmts r) (vStmt.rolls-Block stmts r) refl))
-      (if_any (StmtAt r) (same_label label l.EmptyStatement) _ _ (stmt_is r _ (Stmt-F.Stmt::Empty r) (vStmt.rolls-Empty r) refl)
+      if_any (StmtAt r) (same_label label l.Block) _ _
+      (map_any (StmtAt r) _ _ (λ stmts. stmt_is r _ (Stmt-F.Block stmts r) (vStmt.rolls-Block stmts r) refl))
+      (if_any (StmtAt r) (same_label label l.EmptyStatement) _ _
+      (stmt_is r _ (Stmt-F.Stmt::Empty r) (vStmt.rolls-Empty r) refl)
       (if_any (StmtAt r) (same_label label l.ExpressionStatement) _ _ (expression_at r p)
       (if_any (StmtAt r) (same_label label l.LabelledStatement) _ _ (labelled_at r p)
       (if_any (StmtAt r) (same_label label l.IfStatement) _ _ (if_at r p)
@@ -324,7 +351,8 @@ module _ (x : List ℕ) (ts : List Token) where
       (if_any (StmtAt r) (same_label label l.ThrowStatement) _ _ (throw_at r p)
       (if_any (StmtAt r) (same_label label l.SwitchStatement) _ _ (switch_at r p)
       (if_any (StmtAt r) (same_label label l.TryStatement) _ _ (try_at r p)
-      (if_any (StmtAt r) (same_label label l.DebuggerStatement) _ _ (stmt_is r _ (Stmt-F.Debugger r) (vStmt.rolls-Debugger r) refl)
+      (if_any (StmtAt r) (same_label label l.DebuggerStatement) _ _
+      (stmt_is r _ (Stmt-F.Debugger r) (vStmt.rolls-Debugger r) refl)
       (if_any (StmtAt r) (same_label label l.WithStatement) _ _ (with_at r p)
       (if_any (StmtAt r) (same_label label l.TypedTryStatement) _ _ (typed_try_at r p)
       (map_fine (DeclAt r) (StmtAt r) _ _ (decl_at label r es) (λ it is.

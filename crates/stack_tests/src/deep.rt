@@ -1,10 +1,10 @@
 //! Texts whose forms stand in each other as deep as they are read.
 
-use es_copy::ProgramCopy;
 use es_lexer::lex_tokens;
 use es_parser::parse_tokens;
+use es_program::SharedTokens;
 use es_tree::{Lang, Mode, SyntaxError};
-use es_walk::sites;
+use source_text::SourceText;
 use std::alloc::{AllocError, Global};
 use std::test::Fail;
 use std::thread::Builder;
@@ -69,15 +69,13 @@ fn nested(alloc: Global, form: Form, levels: usize) -> Result<String, AllocError
     Ok(text)
 }
 
-/// Whether the text has a tree, which is read, walked, copied and dropped. None where memory runs out.
+/// Whether the text has a tree, which is read with its sites, shared and dropped. None where memory runs out.
 fn has_tree(alloc: Global, lang: Lang, text: &str) -> Option<bool> {
-    let lexed = lex_tokens(alloc, text).ok()?;
-    match parse_tokens(alloc, lang, Mode::Module, text, lexed.tokens.as_slice()) {
-        Ok(program) => {
-            let found = sites(alloc, &program).ok()?;
-            let copy = program.copy(alloc).ok()?;
-            Some(sites(alloc, &copy).ok()?.len() == found.len())
-        }
+    let source = SourceText::from_str(alloc, text).ok()?;
+    let lexed = lex_tokens(alloc, source.as_str()).ok()?;
+    let tokens = SharedTokens::new(alloc, lexed.tokens).ok()?;
+    match parse_tokens(alloc, lang, Mode::Module, &source, &tokens) {
+        Ok(program) => Some(program.copy().ok()?.sites().len() == program.sites().len()),
         Err(SyntaxError::Syntax { token: _ }) => Some(false),
         Err(SyntaxError::OutOfMemory) => None,
     }
@@ -129,12 +127,15 @@ fn deepest_typed_trees_go_on_the_stack(rt: HostRuntime) -> Result<(), Fail> {
     Ok(())
 }
 
-/// How many parts a chain of the tests has: it is one node of the plain tree, and nests in the typed one.
+/// How many parts a chain of the tests has: it is one node of the row, however long.
 const PARTS: usize = 1_000;
 
+/// How many parts the longest chain has.
+const MANY: usize = 1_000_000;
+
 /// Whether a chain of so many of these parts has a tree.
-fn has_chain(alloc: Global, part: &str) -> Option<bool> {
-    let parts = part.repeat(alloc, PARTS).ok()?;
+fn has_chain(alloc: Global, part: &str, count: usize) -> Option<bool> {
+    let parts = part.repeat(alloc, count).ok()?;
     let text = format!(in alloc; "a{}", parts.as_str()).ok()?;
     has_tree(alloc, Lang::Es, text.as_str())
 }
@@ -142,11 +143,18 @@ fn has_chain(alloc: Global, part: &str) -> Option<bool> {
 #[test]
 fn long_chains_go_on_the_stack(rt: HostRuntime) -> Result<(), Fail> {
     let alloc = rt.alloc();
-    for part in [".b", "[0]", "()", "?.b", "`c`"] {
+    for (part, count) in [
+        (".b", PARTS),
+        ("[0]", PARTS),
+        ("()", PARTS),
+        ("?.b", PARTS),
+        ("`c`", PARTS),
+        (".b", MANY),
+    ] {
         let thread = Builder::new()
             .stack_size(STACK)
-            .spawn(&rt, move || has_chain(alloc, part))?;
-        assert_eq!(rt; thread.join(&rt), Some(true), "{part:?}");
+            .spawn(&rt, move || has_chain(alloc, part, count))?;
+        assert_eq!(rt; thread.join(&rt), Some(true), "{part:?} {count}");
     }
     Ok(())
 }

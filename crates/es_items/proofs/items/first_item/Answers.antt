@@ -13,7 +13,8 @@ unreachable-requires c =
     let ts = b.tokens.now in
     nothing_typed x ts b.is_script
     (subst (λ v. is_some (item_of b.is_script v) ≡ true) (c.in_default-node_in.ensures x ts)
-    (first_typed x ts b.is_script b.turns.entries.now c.in-Some.turns.entries.now _ (c.in-Some.ensures.value x ts) b.typed))
+    (first_typed x ts b.is_script b.turns.entries.now c.in-Some.turns.entries.now _ (c.in-Some.ensures.value x ts)
+    b.typed))
 
 -- the item of the first turn, before those of the others
 pub returns-clause-value : goal.returns-clause-value

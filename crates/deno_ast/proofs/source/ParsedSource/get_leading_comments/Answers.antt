@@ -17,7 +17,8 @@ returns c =
     let tree = c.args.self.now.tree in
     let text = c.shebang.result in
     c.leading_in.ensures
-    ∙ ap (λ (p : Placed). leading_by p (option_map lent_item c.first_item.result) (option_copied text)) c.comments.ensures
+    ∙ ap (λ (p : Placed). leading_by p (option_map lent_item c.first_item.result) (option_copied text))
+    c.comments.ensures
     ∙ ap (λ (f : Option ModuleItem). leading_by placed f (option_copied text))
     (c.first_item.ensures ∙ ap (λ (t : Program). slice_get (items_of t) 0) c.program_ref-program.ensures)
     ∙ ap (λ (s : Option (List ℕ)). leading_by placed (slice_get (items_of tree) 0) s)

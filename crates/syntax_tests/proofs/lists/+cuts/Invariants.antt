@@ -1,5 +1,5 @@
 use Rattle.std.proofs.Common.{length}
-use Rattle.syntax_tests.proofs.trees.+cuts.Given as goal
+use Rattle.syntax_tests.proofs.lists.+cuts.Given as goal
 
 -- the tokens that are left
 abbrev pub decreases-cuts : goal.decreases-cuts
