@@ -1,4 +1,0 @@
--- labels that differ
-pub mod LabelLemmas
--- tokens past all tokens
-mod PlaceLemmas

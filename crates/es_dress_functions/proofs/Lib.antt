@@ -1,4 +1,0 @@
--- bodies of arrows
-mod BodyLemmas
--- bodies of functions, which may be absent
-mod BlockLemmas

@@ -1,4 +1,0 @@
--- items of modules
-pub mod ItemLemmas
--- labels that differ
-mod LabelLemmas

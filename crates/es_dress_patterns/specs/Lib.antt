@@ -1,2 +1,0 @@
--- commas between the elements of an array
-pub mod Elements

@@ -1,4 +1,0 @@
--- places past all tokens
-pub mod Places
--- heads of `for`
-pub mod Heads

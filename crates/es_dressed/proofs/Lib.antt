@@ -1,4 +1,0 @@
--- which trees are patterns
-pub mod PatternLemmas
--- labels that differ
-pub mod LabelLemmas

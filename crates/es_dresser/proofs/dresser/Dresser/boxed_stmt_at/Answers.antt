@@ -1,6 +1,0 @@
-use Rattle.es_dress.specs.Value.{stmt_at}
-use Rattle.es_dresser.specs.Ring.{parts_in}
-use Rattle.es_dresser.proofs.dresser.Dresser.boxed_stmt_at.Goals as goal
-
-pub returns : goal.returns
-returns g c = c.boxed.ensures (stmt_at (parts_in c.args.self.now.source c.args.parts.now) c.args.n) c.stmt_at.ensures
