@@ -172,7 +172,7 @@ def linked(made, kit, room):
 
 def compiled(crate, is_test=False, *more):
     """The path of a crate's program, or of its tests, compiled where that wasn't done of these sources yet."""
-    name = f"{crate}{'-tests' if is_test else ''}-{sum_of(crate)}.unproved"
+    name = f"{crate}{'-tests' if is_test else ''}{''.join(more)}-{sum_of(crate)}.unproved"
     place = kits.kept(name)
     if place:
         os.utime(place)
