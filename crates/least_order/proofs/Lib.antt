@@ -1,3 +1,3 @@
-mod OrderLemmas
+pub mod OrderLemmas
 mod PlacingLemmas
 mod WalkLemmas

@@ -1,0 +1,6 @@
+-- What the public contracts rest on.
+pub use Rattle.deno_graph.specs.Graph
+pub mod Edges
+pub mod Order
+-- What the crate's functions promise each other.
+pub mod Names
