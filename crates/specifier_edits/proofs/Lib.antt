@@ -3,4 +3,5 @@ mod NumberLemmas
 mod ListLemmas
 mod ReferenceLemmas
 mod EditLemmas
+mod StayLemmas
 pub mod Theorems

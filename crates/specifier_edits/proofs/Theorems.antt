@@ -41,6 +41,7 @@ use Rattle.es_edited_tokens.proofs.Theorems.{literals_move, text_moves, changes_
 use Rattle.specifier_edits.specs.Sites.{AreSites}
 use Rattle.specifier_edits.specs.Edits.{NamesLiterals, range_of, edit, edits, ReadsMoved, KeepsTexts, CutsSpecifiers, ReadsMovedTree, KeepsSites}
 use Rattle.specifier_edits.proofs.ReferenceLemmas.{AreReferences, references_are, literal_in, literal_behind}
+use Rattle.specifier_edits.proofs.StayLemmas.{references_stay}
 use Rattle.specifier_edits.proofs.EditLemmas.{AreStrings, EditsOn, edits_on, on_chosen}
 
 refer_by : (references : List Site) (ts : List Token) (cs : List Comment)
@@ -223,6 +224,10 @@ first_moves lang x ts cs changes (m ∷ modes) tree r c (inr h) =
     let rest = first_moves lang x ts cs changes modes tree r c h.1 in
     (rest.0, inr (λ other d. none_derives lang m x ts cs changes other r c h.0 d, rest.1), rest.2)
 
+refer_same : (typed : Bool) {found other : List Site} → found ≡ other
+    → (if typed then found else []) ≡ (if typed then other else [])
+refer_same typed e = ap (λ (ss : List Site). if typed then ss else []) e
+
 -- it is read in the same language and by the same modes, and its sites are the old ones, moved
 pub keeps_sites : {A : Type 0} (x : List ℕ) (sites : List Site) (changes : List (ℕ × String A)) (y : List ℕ)
     → AreSites x sites → NamesLiterals sites 0 changes → y ≡ text.changed x 0 (edits sites changes)
@@ -234,9 +239,10 @@ keeps_sites x sites changes y a names same lang modes media tree references read
     let first = first_moves lang x read.tokens read.comments made modes tree read.reads c read.is_tree in
     let ts : List Token = map (token_to (moved made)) read.tokens in
     let cs : List Comment = map (comment_to (moved made)) read.comments in
-    subst (λ (z : List ℕ). ReadsMovedTree lang modes media made z tree) (sym same) (record {
+    let stay : references ≡ references_in media ts cs =
+    read.refers ∙ refer_same (is_typed media) (sym (references_stay x read.tokens read.comments made read.reads c)) in
+    subst (λ (z : List ℕ). ReadsMovedTree lang modes media made z tree references) (sym same) (record {
       other = first.0;
-      references = references_in media ts cs;
-      read = record { tokens = ts; comments = cs; reads = m.reads; is_tree = first.1; refers = refl };
+      read = record { tokens = ts; comments = cs; reads = m.reads; is_tree = first.1; refers = stay };
       sites = first.2;
     })

@@ -59,11 +59,11 @@ CutsSpecifiers sites changes new =
     All (λ change. CutsLiteral new (range_to (moved (edits sites changes)) (range_of (slice_get sites change.0)))
     (string_bytes change.1)) changes
 
--- the text is read in this language and these modes, and its sites are those of this tree, moved
+-- the text is read in this language and these modes as a tree whose sites are those of this tree, moved; its comments
+-- refer as these do
 pub record ReadsMovedTree (lang : Lang) (modes : List Mode) (media : MediaType) (changes : List TextChange)
-    (new : List ℕ) (tree : Program) : Type 0 where
+    (new : List ℕ) (tree : Program) (references : List Site) : Type 0 where
   pub other : Program
-  pub references : List Site
   pub read : IsRead lang modes media new other references
   pub sites : SitesMove changes (sites_of tree) (sites_of other)
 
@@ -71,7 +71,7 @@ pub record ReadsMovedTree (lang : Lang) (modes : List Mode) (media : MediaType) 
 abbrev pub KeepsSites : List ℕ → List TextChange → List ℕ → Type 0
 KeepsSites text changes new =
     (lang : Lang) (modes : List Mode) (media : MediaType) (tree : Program) (references : List Site)
-    → IsRead lang modes media text tree references → ReadsMovedTree lang modes media changes new tree
+    → IsRead lang modes media text tree references → ReadsMovedTree lang modes media changes new tree references
 
 -- ---- whether numbers name literals
 

@@ -3,7 +3,7 @@
 //! - `rewrite_sites(text, sites, changes)`: the text with new string literals at these of its sites (`edits`,
 //!   `specs/Edits.antt`), each change the number of a site, from 0, and its new specifier. It is read as the old tokens and
 //!   comments, moved (`ReadsMoved`); where a site moved to, a literal of its new specifier stands (`CutsSpecifiers`); and
-//!   the sites of its tree are the old ones, moved (`KeepsSites`).
+//!   the sites of its tree are the old ones, moved, and those in comments stay (`KeepsSites`).
 //! - `name_literals(sites, changes)`: whether the numbers ascend, each that of a literal (`NamesLiterals`).
 //!
 //! Not promised: attributes of the new sites, and when memory runs out.

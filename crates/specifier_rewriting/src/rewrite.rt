@@ -32,7 +32,8 @@ pub fn rewrite_specifiers(
         KeepsTexts source.now.text (edits (parsed_sites source.now) changes.now) (string_bytes new)) }
     // Where a site moved to, a literal of its new specifier stands.
     ensures cuts { IfOk result (λ new. CutsSpecifiers (parsed_sites source.now) changes.now (string_bytes new)) }
-    // It is read as a program wherever the old one is, and the sites of its tree are the old ones, moved.
+    // It is read as a program wherever the old one is; the sites of its tree are the old ones, moved, and those in comments
+    // stay.
     ensures sites { IfOk result (λ new.
         KeepsSites source.now.text (edits (parsed_sites source.now) changes.now) (string_bytes new)) }
 {
