@@ -10,12 +10,12 @@ use Rattle.graph_bundle.specs.declared.bundle.Bundle.{Bundle}
 use Rattle.graph_bundle.specs.Bundle.{bundle_of, IsJson}
 use Rattle.graph_run.specs.declared.status.Status.{Status}
 use Rattle.graph_run.specs.declared.status.Status.TheVariants.{Done, BuildRefused, BadInput, ReadFault, WriteFault, NoMemory, Usage}
-use Rattle.graph_run.specs.Report.{report_of}
+use Rattle.graph_run.specs.declared.verdict.Telling.TheVariants as telling
+use Rattle.graph_run.specs.Telling.{told_by}
 use Rattle.graph_run.specs.Run.{IsDueOf, long, no_json, no_bundle, bundle, OfBundle, graph, large, IsInput, IsGraphOf, IsTooLarge, IsWithinLimit, IsRefused, IsLargeInput, IsSmallInput, Always, IsDueFor, IsDueForm, usage, Wrote, usage_line}
-use Rattle.graph_run.specs.Summary.{summary_of}
 use Rattle.graph_words.specs.declared.words.Form.{Form}
-use Rattle.graph_words.specs.declared.words.Form.TheVariants.{Build, Make, Sum}
-use Rattle.graph_words.specs.Words.{IsForm, IsNoForm}
+use Rattle.graph_words.specs.declared.words.Form.TheVariants.{Build, Order, Make, Sum}
+use Rattle.graph_words.specs.Words.{IsForm, IsReading, IsNoForm}
 use Rattle.graph_words.proofs.Theorems.{one_form}
 use Rattle.made_bundle.specs.Made.{made_text}
 use Rattle.graph_run.specs.Steps.{IsWritten, IsVerdict}
@@ -51,9 +51,9 @@ one_bundle input b c h k =
     let same : h.value ≡ k.value = one_value input h.value k.value h.json k.json in
     let both : ◌≡◌ {A = Result Bundle (List ℕ)} (Ok b) (Ok c) = sym h.says ∙ ap bundle_of same ∙ k.says in cc
 
-module _ (told : GraphData → List ℕ) (input : List ℕ) (status : Status) (text : List ℕ) where
+module _ (tells : GraphData → List ℕ → Type 0) (input : List ℕ) (status : Status) (text : List ℕ) where
   -- for an input that is a bundle what is due is that of the bundle
-  due_of : (b : Bundle) → IsInput input b → IsDueOf told input status text → OfBundle told b status text
+  due_of : (b : Bundle) → IsInput input b → IsDueOf tells input status text → OfBundle tells b status text
   due_of b says (long lt _ _) = absurd (omega (arith, lt, says.within))
   due_of b says (no_json _ never _ _) = absurd (never says.value says.json)
   due_of b says (no_bundle _ value json at none _ _) =
@@ -61,28 +61,28 @@ module _ (told : GraphData → List ℕ) (input : List ℕ) (status : Status) (t
       let both : ◌≡◌ {A = Result Bundle (List ℕ)} (Ok b) (Err at) = sym says.says ∙ ap bundle_of same ∙ none in
       absurd cc
   due_of b says (bundle c also of) =
-      subst (λ (d : Bundle). OfBundle told d status text) (one_bundle input c b also says) of
+      subst (λ (d : Bundle). OfBundle tells d status text) (one_bundle input c b also says) of
 
   -- the line of a bad input, for a refused one
-  refused_due : IsRefused input → IsDueOf told input status text → status ≡ BadInput
+  refused_due : IsRefused input → IsDueOf tells input status text → status ≡ BadInput
   refused_due refused (long _ is _) = is
   refused_due refused (no_json _ _ is _) = is
   refused_due refused (no_bundle _ _ _ _ _ is _) = is
   refused_due refused (bundle b has _) = absurd (refused b has)
 
   -- the refusal, where it is too large
-  large_due : IsLargeInput input → IsDueOf told input status text → status ≡ BuildRefused
+  large_due : IsLargeInput input → IsDueOf tells input status text → status ≡ BuildRefused
   large_due l due = by (due_of l.bundle l.says due)
     where
-      by : OfBundle told l.bundle status text → status ≡ BuildRefused
+      by : OfBundle tells l.bundle status text → status ≡ BuildRefused
       by (graph g of is _) = absurd (too_large_none l.bundle g l.large of)
       by (large _ is _) = is
 
   -- and else what is told of the graph
-  pub small_due : IsSmallInput input → IsDueOf told input status text → status ≡ Done
+  pub small_due : IsSmallInput input → IsDueOf tells input status text → status ≡ Done
   small_due s due = by (due_of s.bundle s.says due)
     where
-      by : OfBundle told s.bundle status text → status ≡ Done
+      by : OfBundle tells s.bundle status text → status ≡ Done
       by (graph g of is _) = is
       by (large t is _) = absurd (not_both s.bundle t s.small)
 
@@ -98,35 +98,38 @@ answered due old new status written failed fails result is (inr w) form_is reads
     absurd (omega (arith, w.2, same))
 
 -- for an input that has a fact
-as_due : (fact : List ℕ → Type 0) (due_status : Status) (input : Option (List ℕ)) (old new : Option (List ℕ))
+as_due : (tells : GraphData → List ℕ → Type 0) (fact : List ℕ → Type 0) (due_status : Status) (input : Option (List ℕ))
+    (old new : Option (List ℕ))
     (status : Status) (text written : List ℕ)
     (failed fails : ℕ) (result : Status)
-    → ((bytes : List ℕ) → fact bytes → IsDueOf report_of bytes status text → status ≡ due_status)
-    → IfSome input (λ bytes. IsDueOf report_of bytes status text) → IsWritten status written old new failed fails result
+    → ((bytes : List ℕ) → fact bytes → IsDueOf tells bytes status text → status ≡ due_status)
+    → IfSome input (λ bytes. IsDueOf tells bytes status text) → IsWritten status written old new failed fails result
     → (form_is : Type 0) (reads read : ℕ)
     → IfSome input (λ bytes. fact bytes → Always form_is reads read failed fails result due_status)
-as_due fact due_status None old new status text written failed fails result says due w form_is reads read = tt
-as_due fact due_status (Some bytes) old new status text written failed fails result says due w form_is reads read =
+as_due tells fact due_status None old new status text written failed fails result says due w form_is reads read = tt
+as_due tells fact due_status (Some bytes) old new status text written failed fails result says due w form_is reads
+    read =
     λ holds. answered due_status old new status written failed fails result (says bytes holds due) w form_is reads read
 
-module _ (input : Option (List ℕ)) (old new : Option (List ℕ)) (status : Status) (text written : List ℕ)
-    (failed fails : ℕ) (result : Status) (due : IfSome input (λ bytes. IsDueOf report_of bytes status text))
+module _ (tells : GraphData → List ℕ → Type 0) (input : Option (List ℕ)) (old new : Option (List ℕ)) (status : Status)
+    (text written : List ℕ) (failed fails : ℕ) (result : Status)
+    (due : IfSome input (λ bytes. IsDueOf tells bytes status text))
     (w : IsWritten status written old new failed fails result) (form_is : Type 0) (reads read : ℕ) where
   pub refused_written : IfSome input (λ bytes. IsRefused bytes → Always form_is reads read failed fails result BadInput)
   refused_written =
-      as_due IsRefused BadInput input old new status text written failed fails result
-      (λ bytes. refused_due report_of bytes status text) due w form_is reads read
+      as_due tells IsRefused BadInput input old new status text written failed fails result
+      (λ bytes. refused_due tells bytes status text) due w form_is reads read
 
   pub large_written : IfSome input
       (λ bytes. IsLargeInput bytes → Always form_is reads read failed fails result BuildRefused)
   large_written =
-      as_due IsLargeInput BuildRefused input old new status text written failed fails result
-      (λ bytes. large_due report_of bytes status text) due w form_is reads read
+      as_due tells IsLargeInput BuildRefused input old new status text written failed fails result
+      (λ bytes. large_due tells bytes status text) due w form_is reads read
 
   pub small_written : IfSome input (λ bytes. IsSmallInput bytes → Always form_is reads read failed fails result Done)
   small_written =
-      as_due IsSmallInput Done input old new status text written failed fails result
-      (λ bytes. small_due report_of bytes status text) due w form_is reads read
+      as_due tells IsSmallInput Done input old new status text written failed fails result
+      (λ bytes. small_due tells bytes status text) due w form_is reads read
 
 -- where the words are another form than these ones, nothing is claimed
 never_always : (fact : List ℕ → Type 0) (input : Option (List ℕ)) (form_is : Type 0) (reads read failed fails : ℕ)
@@ -170,55 +173,73 @@ wrote_usage words input old new failed fails result none (inr w) =
 other_form : (words : List (List ℕ)) (f g : Form) → IsForm f words → (f ≡ g → ⊥) → IsForm g words → ⊥
 other_form words f g is apart also = apart (one_form f g words is also)
 
+-- so its input isn't read
+unread_form : (words : List (List ℕ)) (f : Form) → IsForm f words → (f ≡ Build → ⊥) → (f ≡ Order → ⊥)
+    → IsReading words → ⊥
+unread_form words f is build order (inl also) = other_form words f Build is build also
+unread_form words f is build order (inr also) = other_form words f Order is order also
+
 module _ (words : List (List ℕ)) (f : Form) (is : IsForm f words) (input old new : Option (List ℕ)) (status : Status)
     (text written : List ℕ) (failed fails : ℕ) (result : Status) (due : IsDueForm f input status text)
     (w : IsWritten status written old new failed fails result) (reads read : ℕ) where
   pub refused_for : IfSome input
-      (λ bytes. IsRefused bytes → Always (IsForm Build words) reads read failed fails result BadInput)
+      (λ bytes. IsRefused bytes → Always (IsReading words) reads read failed fails result BadInput)
   refused_for = by f is due
     where
       by : (g : Form) → IsForm g words → IsDueForm g input status text
           → IfSome input (λ bytes. IsRefused bytes
-          → Always (IsForm Build words) reads read failed fails result BadInput)
-      by Build i d = refused_written input old new status text written failed fails result d w (IsForm Build words)
-          reads read
+          → Always (IsReading words) reads read failed fails result BadInput)
+      by Build i d =
+          refused_written (told_by telling.Report) input old new status text written failed fails result d w
+          (IsReading words) reads read
+      by Order i d =
+          refused_written (told_by telling.Order) input old new status text written failed fails result d w
+          (IsReading words) reads read
       by (Make n) i d =
-          never_always IsRefused input (IsForm Build words) reads read failed fails result BadInput
-          (other_form words (Make n) Build i (λ e. cc))
+          never_always IsRefused input (IsReading words) reads read failed fails result BadInput
+          (unread_form words (Make n) i (λ e. cc) (λ e. cc))
       by (Sum n) i d =
-          never_always IsRefused input (IsForm Build words) reads read failed fails result BadInput
-          (other_form words (Sum n) Build i (λ e. cc))
+          never_always IsRefused input (IsReading words) reads read failed fails result BadInput
+          (unread_form words (Sum n) i (λ e. cc) (λ e. cc))
 
   pub large_for : IfSome input
-      (λ bytes. IsLargeInput bytes → Always (IsForm Build words) reads read failed fails result BuildRefused)
+      (λ bytes. IsLargeInput bytes → Always (IsReading words) reads read failed fails result BuildRefused)
   large_for = by f is due
     where
       by : (g : Form) → IsForm g words → IsDueForm g input status text
           → IfSome input (λ bytes. IsLargeInput bytes
-          → Always (IsForm Build words) reads read failed fails result BuildRefused)
-      by Build i d = large_written input old new status text written failed fails result d w (IsForm Build words) reads
-          read
+          → Always (IsReading words) reads read failed fails result BuildRefused)
+      by Build i d =
+          large_written (told_by telling.Report) input old new status text written failed fails result d w
+          (IsReading words) reads read
+      by Order i d =
+          large_written (told_by telling.Order) input old new status text written failed fails result d w
+          (IsReading words) reads read
       by (Make n) i d =
-          never_always IsLargeInput input (IsForm Build words) reads read failed fails result BuildRefused
-          (other_form words (Make n) Build i (λ e. cc))
+          never_always IsLargeInput input (IsReading words) reads read failed fails result BuildRefused
+          (unread_form words (Make n) i (λ e. cc) (λ e. cc))
       by (Sum n) i d =
-          never_always IsLargeInput input (IsForm Build words) reads read failed fails result BuildRefused
-          (other_form words (Sum n) Build i (λ e. cc))
+          never_always IsLargeInput input (IsReading words) reads read failed fails result BuildRefused
+          (unread_form words (Sum n) i (λ e. cc) (λ e. cc))
 
   pub small_for : IfSome input
-      (λ bytes. IsSmallInput bytes → Always (IsForm Build words) reads read failed fails result Done)
+      (λ bytes. IsSmallInput bytes → Always (IsReading words) reads read failed fails result Done)
   small_for = by f is due
     where
       by : (g : Form) → IsForm g words → IsDueForm g input status text
-          → IfSome input (λ bytes. IsSmallInput bytes → Always (IsForm Build words) reads read failed fails result Done)
-      by Build i d = small_written input old new status text written failed fails result d w (IsForm Build words) reads
-          read
+          → IfSome input (λ bytes. IsSmallInput bytes → Always (IsReading words) reads read failed fails result Done)
+      by Build i d =
+          small_written (told_by telling.Report) input old new status text written failed fails result d w
+          (IsReading words) reads read
+      by Order i d =
+          small_written (told_by telling.Order) input old new status text written failed fails result d w
+          (IsReading words) reads read
       by (Make n) i d =
-          never_always IsSmallInput input (IsForm Build words) reads read failed fails result Done
-          (other_form words (Make n) Build i (λ e. cc))
+          never_always IsSmallInput input (IsReading words) reads read failed fails result Done
+          (unread_form words (Make n) i (λ e. cc) (λ e. cc))
       by (Sum n) i d =
-          never_always IsSmallInput input (IsForm Build words) reads read failed fails result Done
-          (other_form words (Sum n) Build i (λ e. cc))
+          never_always IsSmallInput input (IsReading words) reads read failed fails result Done
+          (unread_form words (Sum n) i (λ e. cc) (λ e. cc))
 
   pub made_for : (n : ℕ) → Always (IsForm (Make n) words) reads read failed fails result Done
   made_for n = by f is due
@@ -226,6 +247,7 @@ module _ (words : List (List ℕ)) (f : Form) (is : IsForm f words) (input old n
       by : (g : Form) → IsForm g words → IsDueForm g input status text
           → Always (IsForm (Make n) words) reads read failed fails result Done
       by Build i d = λ also. absurd (other_form words Build (Make n) i (λ e. cc) also)
+      by Order i d = λ also. absurd (other_form words Order (Make n) i (λ e. cc) also)
       by (Make m) i d = answered Done old new status written failed fails result d.0 w (IsForm (Make n) words) reads
           read
       by (Sum m) i d = λ also. absurd (other_form words (Sum m) (Make n) i (λ e. cc) also)
@@ -237,22 +259,28 @@ module _ (words : List (List ℕ)) (f : Form) (is : IsForm f words) (input old n
       by : (g : Form) → IsForm g words → IsDueForm g input status text
           → Always (IsForm (Sum n) words) reads read failed fails result Done
       by Build i d = λ also. absurd (other_form words Build (Sum n) i (λ e. cc) also)
+      by Order i d = λ also. absurd (other_form words Order (Sum n) i (λ e. cc) also)
       by (Make m) i d = λ also. absurd (other_form words (Make m) (Sum n) i (λ e. cc) also)
       by (Sum m) i d = λ also.
           let same : Sum n ≡ Sum m = one_form (Sum n) (Sum m) words also i in
           let one : n ≡ m = cc in
           answered Done old new status written failed fails result
-          (small_due summary_of (made_text m) status text (subst (λ (k : ℕ). IsSmallInput (made_text k)) one small) d) w
+          (small_due (told_by telling.Counts) (made_text m) status text
+          (subst (λ (k : ℕ). IsSmallInput (made_text k)) one small) d) w
           (IsForm (Sum n) words) reads read also
 
 -- where words are no form nothing is claimed of one
+pub none_reading : (fact : List ℕ → Type 0) (words : List (List ℕ)) (input : Option (List ℕ))
+    (reads read failed fails : ℕ) (result due : Status) → IsNoForm words
+    → IfSome input (λ bytes. fact bytes → Always (IsReading words) reads read failed fails result due)
+none_reading fact words input reads read failed fails result due none =
+    never_always fact input (IsReading words) reads read failed fails result due by
+  where
+    by : IsReading words → ⊥
+    by (inl is) = none Build is
+    by (inr is) = none Order is
+
 pub none_always : (words : List (List ℕ)) (g : Form) (reads read failed fails : ℕ) (result due : Status)
     → IsNoForm words
     → Always (IsForm g words) reads read failed fails result due
 none_always words g reads read failed fails result due none is = absurd (none g is)
-
-pub none_always_of : (fact : List ℕ → Type 0) (words : List (List ℕ)) (g : Form) (input : Option (List ℕ))
-    (reads read failed fails : ℕ) (result due : Status) → IsNoForm words
-    → IfSome input (λ bytes. fact bytes → Always (IsForm g words) reads read failed fails result due)
-none_always_of fact words g input reads read failed fails result due none =
-    never_always fact input (IsForm g words) reads read failed fails result due (none g)

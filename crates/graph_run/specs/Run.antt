@@ -22,17 +22,18 @@ use Rattle.graph_run.specs.declared.status.Status.{Status}
 use Rattle.graph_run.specs.declared.status.Status.TheVariants.{Done, BuildRefused, BadInput, ReadFault, WriteFault, NoMemory, Usage}
 use Rattle.graph_run.specs.Transfer.{input_limit, TookPart}
 use Rattle.graph_bundle.specs.Bundle.{IsJson, bundle_of}
-use Rattle.graph_run.specs.Report.{report_of, line_end}
-use Rattle.graph_run.specs.Summary.{summary_of}
+use Rattle.graph_run.specs.Report.{line_end}
+use Rattle.graph_run.specs.declared.verdict.Telling.TheVariants as telling
+use Rattle.graph_run.specs.Telling.{told_by}
 use Rattle.graph_words.specs.Words.{IsForm, IsNoForm}
 use Rattle.graph_words.specs.declared.words.Form.{Form}
-use Rattle.graph_words.specs.declared.words.Form.TheVariants.{Build, Make, Sum}
+use Rattle.graph_words.specs.declared.words.Form.TheVariants.{Build, Order, Make, Sum}
 use Rattle.made_bundle.specs.Made.{made_text}
 
 -- ---- the lines of the refusals
 
 abbrev pub usage_line : List ℕ
-usage_line = codes "usage: graph_tool build | make N | sum N" ++ line_end
+usage_line = codes "usage: graph_tool build | make N | sum N | order" ++ line_end
 
 abbrev pub too_long_line : List ℕ
 too_long_line = codes "error InputTooLong" ++ line_end
@@ -88,12 +89,14 @@ IsTooLarge bundle = HasMoreThan (bundle_rules bundle) (bundle_starts bundle) (te
 abbrev pub IsWithinLimit : Bundle → Type 0
 IsWithinLimit bundle = ReachesAtMost (bundle_rules bundle) (bundle_starts bundle) (tells bundle.modules) bundle.options.limit
 
--- what is due for a bundle, where `told` is what is told of a graph
-pub data OfBundle (told : GraphData → List ℕ) (bundle : Bundle) (status : Status) (text : List ℕ) : Type 0 where
+-- what is due for a bundle, where `tells` says what may be told of a graph
+pub data OfBundle (tells : GraphData → List ℕ → Type 0) (bundle : Bundle) (status : Status) (text : List ℕ) : Type 0 where
   -- that of its graph
-  graph : (graph : GraphData) → IsGraphOf bundle graph → status ≡ Done → text ≡ told graph → OfBundle told bundle status text
+  graph : (graph : GraphData) → IsGraphOf bundle graph → status ≡ Done → tells graph text
+      → OfBundle tells bundle status text
   -- it is too large
-  large : IsTooLarge bundle → status ≡ BuildRefused → text ≡ too_many_line (bundle.options.limit + 1) → OfBundle told bundle status text
+  large : IsTooLarge bundle → status ≡ BuildRefused → text ≡ too_many_line (bundle.options.limit + 1)
+      → OfBundle tells bundle status text
 
 -- the input is a JSON text of this bundle, and not too long
 pub record IsInput (input : List ℕ) (bundle : Bundle) : Type 0 where
@@ -103,28 +106,29 @@ pub record IsInput (input : List ℕ) (bundle : Bundle) : Type 0 where
   pub says : bundle_of value ≡ Ok bundle
 
 -- what is due for an input
-pub data IsDueOf (told : GraphData → List ℕ) (input : List ℕ) (status : Status) (text : List ℕ) : Type 0 where
+pub data IsDueOf (tells : GraphData → List ℕ → Type 0) (input : List ℕ) (status : Status) (text : List ℕ) : Type 0 where
   -- it is too long
-  long : input_limit < length input → status ≡ BadInput → text ≡ too_long_line → IsDueOf told input status text
+  long : input_limit < length input → status ≡ BadInput → text ≡ too_long_line → IsDueOf tells input status text
   -- else it is no JSON text
   no_json : length input ≤ input_limit → ((value : Data) → ¬ IsJson input value) → status ≡ BadInput → text ≡ not_json_line
-      → IsDueOf told input status text
+      → IsDueOf tells input status text
   -- else its value is no bundle: the pointer to the first thing for which it is none
   no_bundle : length input ≤ input_limit → (value : Data) → IsJson input value → (at : List ℕ) → bundle_of value ≡ Err at
-      → status ≡ BadInput → text ≡ no_bundle_line at → IsDueOf told input status text
+      → status ≡ BadInput → text ≡ no_bundle_line at → IsDueOf tells input status text
   -- what is due for its bundle
-  bundle : (bundle : Bundle) → IsInput input bundle → OfBundle told bundle status text → IsDueOf told input status text
+  bundle : (bundle : Bundle) → IsInput input bundle → OfBundle tells bundle status text → IsDueOf tells input status text
 
 -- the same where the report of a graph is told
 abbrev pub IsDue : List ℕ → Status → List ℕ → Type 0
-IsDue = IsDueOf report_of
+IsDue = IsDueOf (told_by telling.Report)
 
--- what is due for a form and an input: of `build` the report of the input's graph, where the input is told; of `make N` the bundle
--- of N modules; of `sum N` the counts of that bundle's graph
+-- what is due for a form and an input: of `build` the report of the input's graph, where the input is told; of `order`
+-- that of its modules; of `make N` the bundle of N modules; of `sum N` the counts of that bundle's graph
 abbrev pub IsDueForm : Form → Option (List ℕ) → Status → List ℕ → Type 0
 IsDueForm Build input status text = IfSome input (λ bytes. IsDue bytes status text)
+IsDueForm Order input status text = IfSome input (λ bytes. IsDueOf (told_by telling.Order) bytes status text)
 IsDueForm (Make n) input status text = (status ≡ Done) × (text ≡ made_text n)
-IsDueForm (Sum n) input status text = IsDueOf summary_of (made_text n) status text
+IsDueForm (Sum n) input status text = IsDueOf (told_by telling.Counts) (made_text n) status text
 
 -- what is due for words
 pub data IsDueFor (words : List (List ℕ)) (input : Option (List ℕ)) (status : Status) (text : List ℕ) : Type 0 where

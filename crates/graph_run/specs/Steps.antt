@@ -1,5 +1,5 @@
 -- What the crate's functions promise each other.
-use Rattle.std.specs.Prelude.{◌≡◌, ℕ, ◌+◌, true, false, List, [], ◌∷◌, ◌++◌, Option, Some, None, IsSome, ◌⊎◌, ◌<◌, String, string_bytes, ⊤}
+use Rattle.std.specs.Prelude.{◌≡◌, ℕ, ◌+◌, Bool, true, false, List, [], ◌∷◌, ◌++◌, Option, Some, None, IsSome, ◌⊎◌, ◌<◌, String, string_bytes, ⊤}
 use Rattle.deno_graph.specs.declared.error.BuildError.{BuildError}
 use Rattle.deno_graph.specs.declared.error.BuildError.TheVariants.{NotYet, TooManyModules, UnaskedAnswer, Finished, OutOfMemory}
 use Rattle.deno_graph.specs.Rules.{Rules, Specifier, rules_by}
@@ -20,6 +20,8 @@ use Rattle.deno_graph.specs.Memory.{is_forced}
 use Rattle.graph_bundle.specs.declared.bundle.Bundle.{Bundle}
 use Rattle.std.specs.List.{list_any}
 use Rattle.std.specs.Io.KnownBytes.{Appends}
+use Rattle.graph_words.specs.declared.words.Form.{Form}
+use Rattle.graph_words.specs.declared.words.Form.TheVariants.{Build, Order, Make, Sum}
 use Rattle.graph_run.specs.declared.status.Status.{Status}
 use Rattle.graph_run.specs.declared.status.Status.TheVariants.{Done, BuildRefused, BadInput, ReadFault, WriteFault, NoMemory, Usage}
 use Rattle.graph_run.specs.Transfer.{TookPart}
@@ -95,6 +97,13 @@ SaysLarge rules starts answers limit (TooManyModules seen) = HasMoreThan rules s
 SaysLarge rules starts answers limit (UnaskedAnswer url) = ⊥
 SaysLarge rules starts answers limit Finished = ⊥
 SaysLarge rules starts answers limit OutOfMemory = ⊤
+
+-- the form's input is read
+abbrev pub reads : Form → Bool
+reads Build = true
+reads Order = true
+reads (Make n) = false
+reads (Sum n) = false
 
 -- a status that a text is due for
 abbrev pub IsVerdict : Status → Type 0

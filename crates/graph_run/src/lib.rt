@@ -14,6 +14,7 @@
 mod counts;
 mod faults;
 mod memory;
+mod orders;
 mod program;
 mod quoted;
 mod reports;

@@ -1,26 +1,27 @@
 //! All that the program does, over a source and a sink.
-ghost use Rattle.std.specs.Prelude.{◌≡◌, ◌+◌, ◌≤◌, ◌⊎◌, ◌↔◌, ℕ, map, IfSome, IfOk, IfErr, string_bytes, MatchResult};
+ghost use Rattle.std.specs.Prelude.{◌≡◌, ◌+◌, ◌≤◌, ◌⊎◌, ◌↔◌, ℕ, true, false, map, IfSome, IfOk, IfErr, string_bytes, MatchResult};
 ghost use Rattle.std.specs.Io.KnownBytes.{IsAtEnd};
-ghost use Rattle.graph_words.specs.Words.{IsForm, IsNoForm, IsWithin};
-ghost use Rattle.graph_words.specs.declared.words.Form.TheVariants.{Build, Make, Sum};
+ghost use Rattle.graph_words.specs.Words.{IsForm, IsReading, IsNoForm, IsWithin};
+ghost use Rattle.graph_words.specs.declared.words.Form.TheVariants.{Build, Order, Make, Sum};
 ghost use Rattle.made_bundle.specs.Made.{made_text};
-ghost use Rattle.graph_run.specs.Run.{Wrote, ReadsCounted, WritesCounted, IsRefused, IsLargeInput, IsSmallInput, Always, IsDue, IsDueOf, IsDueForm};
-ghost use Rattle.graph_run.specs.Summary.{summary_of};
+ghost use Rattle.graph_run.specs.Run.{Wrote, ReadsCounted, WritesCounted, IsRefused, IsLargeInput, IsSmallInput, Always, IsDueOf, IsDueForm};
+ghost use Rattle.graph_run.specs.Telling.{told_by};
+ghost use Rattle.graph_run.specs.declared.verdict.Telling.TheVariants as telling;
 ghost use Rattle.graph_run.specs.Transfer.{input_limit, ReadAtMost};
-ghost use Rattle.graph_run.specs.Steps.{IsVerdict, IsStop, IsWritten};
+ghost use Rattle.graph_run.specs.Steps.{reads, IsVerdict, IsStop, IsWritten};
 
 use crate::sink::Sink;
 use crate::source::Source;
 use crate::status::Status;
 use crate::transfer::{INPUT_LIMIT, ReadError, read_all, write_all};
-use crate::verdict::{Due, Telling, due_for, due_told, refusal};
+use crate::verdict::{Due, Telling, due_told, refusal};
 use graph_words::{Form, form_of};
 use made_bundle::make_bundle;
 use std::alloc::Global;
 
 /// Runs the program with the words behind its name. With `build` it reads a bundle from the source
-/// and writes the report of its graph, or the line of a refusal. With `make N` it writes the bundle of N modules, with
-/// `sum N` the counts of its graph. Other words get the usage line.
+/// and writes the report of its graph, or the line of a refusal; with `order` the order of its modules, or a cycle of them.
+/// With `make N` it writes the bundle of N modules, with `sum N` the counts of its graph. Other words get the usage line.
 pub fn run<S: Source, K: Sink>(
     alloc: Global,
     words: &[String],
@@ -29,19 +30,19 @@ pub fn run<S: Source, K: Sink>(
 ) -> Status
     // What was written; with `Done` it is the text that is due for the words and the input, whole and nothing else.
     ensures written { Wrote (map string_bytes words.now) (S.left source.old) (K.taken sink.old) (K.taken sink.new) result }
-    ensures ended { IsForm Build (map string_bytes words.now) → result ≡ Status.Done → IsAtEnd (S.left source.new) }
+    ensures ended { IsReading (map string_bytes words.now) → result ≡ Status.Done → IsAtEnd (S.left source.new) }
     // Why there is no report.
     ensures usage { (result ≡ Status.Usage) ↔
         (IsNoForm (map string_bytes words.now) × (K.faults sink.new ≡ K.faults sink.old)) }
-    ensures unread { ¬ IsForm Build (map string_bytes words.now) → source.new ≡ source.old }
+    ensures unread { ¬ IsReading (map string_bytes words.now) → source.new ≡ source.old }
     ensures reads { ReadsCounted (S.faults source.old) (S.faults source.new) result }
     ensures writes { WritesCounted (K.faults sink.old) (K.faults sink.new) result }
-    ensures refused { IfSome (S.left source.old) (λ input. IsRefused input → Always (IsForm Build (map string_bytes words.now))
+    ensures refused { IfSome (S.left source.old) (λ input. IsRefused input → Always (IsReading (map string_bytes words.now))
         (S.faults source.old) (S.faults source.new) (K.faults sink.old) (K.faults sink.new) result Status.BadInput) }
-    ensures large { IfSome (S.left source.old) (λ input. IsLargeInput input → Always (IsForm Build (map string_bytes words.now))
+    ensures large { IfSome (S.left source.old) (λ input. IsLargeInput input → Always (IsReading (map string_bytes words.now))
         (S.faults source.old) (S.faults source.new) (K.faults sink.old) (K.faults sink.new) result Status.BuildRefused) }
     // And when there is one.
-    ensures complete { IfSome (S.left source.old) (λ input. IsSmallInput input → Always (IsForm Build (map string_bytes words.now))
+    ensures complete { IfSome (S.left source.old) (λ input. IsSmallInput input → Always (IsReading (map string_bytes words.now))
         (S.faults source.old) (S.faults source.new) (K.faults sink.old) (K.faults sink.new) result Status.Done) }
     ensures made { (n : ℕ) → Always (IsForm (Make n) (map string_bytes words.now))
         (S.faults source.old) (S.faults source.new) (K.faults sink.old) (K.faults sink.new) result Status.Done }
@@ -54,7 +55,7 @@ pub fn run<S: Source, K: Sink>(
         return finish(
             sink,
             Status::Usage,
-            "usage: graph_tool build | make N | sum N\n",
+            "usage: graph_tool build | make N | sum N | order\n",
         );
     };
     match find_due(alloc, form, source) {
@@ -68,15 +69,16 @@ fn find_due<S: Source>(alloc: Global, form: Form, source: &mut S) -> Result<Due,
     requires { IsWithin form }
     ensures due { IfOk result (λ due. IsDueForm form (S.left source.old) due.status (string_bytes due.text)) }
     ensures verdict { IfOk result (λ due. IsVerdict due.status) }
-    ensures ended { form ≡ Build → IfOk result (λ due. due.status ≡ Status.Done → IsAtEnd (S.left source.new)) }
-    ensures unread { (form ≡ Build → ⊥) → source.new ≡ source.old }
+    ensures ended { reads form ≡ true → IfOk result (λ due. due.status ≡ Status.Done → IsAtEnd (S.left source.new)) }
+    ensures unread { reads form ≡ false → source.new ≡ source.old }
     ensures stopped { IfErr result IsStop }
     ensures stops { ReadAtMost (input_limit + 1) (S.left source.old) (S.left source.new) }
     ensures count { MatchResult result (λ _. S.faults source.new ≡ S.faults source.old)
         (ReadsCounted (S.faults source.old) (S.faults source.new)) }
 {
     match form {
-        Form::Build => read_due(alloc, source),
+        Form::Build => read_due(alloc, source, Telling::Report),
+        Form::Order => read_due(alloc, source, Telling::Order),
         Form::Make(count) => made_due(alloc, count),
         Form::Sum(count) => summed_due(alloc, count),
     }
@@ -100,7 +102,7 @@ fn made_due(alloc: Global, count: u32) -> Result<Due, Status>
 /// The counts of that bundle's graph.
 fn summed_due(alloc: Global, count: u32) -> Result<Due, Status>
     requires { count ≤ 100000 }
-    ensures due { IfOk result (λ due. IsDueOf summary_of (made_text count) due.status (string_bytes due.text)) }
+    ensures due { IfOk result (λ due. IsDueOf (told_by telling.Counts) (made_text count) due.status (string_bytes due.text)) }
     ensures verdict { IfOk result (λ due. IsVerdict due.status) }
     ensures stopped { IfErr result (λ status. status ≡ Status.NoMemory) }
 {
@@ -115,9 +117,9 @@ fn summed_due(alloc: Global, count: u32) -> Result<Due, Status>
 }
 
 /// Reads the source, and finds what is due for its bytes.
-fn read_due<S: Source>(alloc: Global, source: &mut S) -> Result<Due, Status>
+fn read_due<S: Source>(alloc: Global, source: &mut S, telling: Telling) -> Result<Due, Status>
     ensures due { IfOk result (λ due. IfSome (S.left source.old)
-        (λ input. IsDue input due.status (string_bytes due.text))) }
+        (λ input. IsDueOf (told_by telling) input due.status (string_bytes due.text))) }
     ensures verdict { IfOk result (λ due. IsVerdict due.status) }
     ensures ended { IfOk result (λ due. due.status ≡ Status.Done → IsAtEnd (S.left source.new)) }
     ensures stopped { IfErr result IsStop }
@@ -126,7 +128,7 @@ fn read_due<S: Source>(alloc: Global, source: &mut S) -> Result<Due, Status>
         (ReadsCounted (S.faults source.old) (S.faults source.new)) }
 {
     match read_all(alloc, source) {
-        Ok(bytes) => due_for(alloc, bytes.as_slice()).map_err(|_| Status::NoMemory),
+        Ok(bytes) => due_told(alloc, bytes.as_slice(), telling).map_err(|_| Status::NoMemory),
         Err(ReadError::TooLong) => {
             refusal(alloc, "error InputTooLong\n").map_err(|_| Status::NoMemory)
         }

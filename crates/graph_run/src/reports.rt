@@ -253,7 +253,8 @@ fn kind_name(kind: DependencyKind, type_only: bool) -> &'static str
     }
 }
 
-fn add_range(out: &mut String, range: Option<Range>) -> Result<(), AllocError>
+/// Writes where a literal stands.
+pub fn add_range(out: &mut String, range: Option<Range>) -> Result<(), AllocError>
     ensures { OnOk result (Adds out.old out.new (range_word range)) }
 {
     let Some(range) = range else {

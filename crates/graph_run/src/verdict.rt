@@ -11,6 +11,7 @@ ghost use Rattle.graph_run.specs.Run.{IsDue, IsDueOf, OfBundle, IsGraphOf, bundl
 ghost use Rattle.graph_run.specs.Steps.{IsNew, IsUnforced, SaysLarge, mapped_ways, mapped_resolves, bundle_ways, built_rules, built_resolves};
 
 use crate::counts::summary;
+use crate::orders::order_lines;
 use crate::quoted::add_quoted;
 use crate::reports::report;
 use crate::resolver::BundleResolver;
@@ -39,6 +40,8 @@ pub enum Telling {
     Report,
     /// How many entries, edges and faults it has.
     Counts,
+    /// The order of its modules, or a cycle of them.
+    Order,
 }
 
 /// What is due for an input that is not too long: the report of its graph.
@@ -101,7 +104,7 @@ fn due_for_bundle(alloc: Global, bundle: Bundle, telling: Telling) -> Result<Due
 }
 
 fn done(alloc: Global, graph: &ModuleGraph, telling: Telling) -> Result<Due, AllocError>
-    ensures { IfOk result (λ due. (due.status ≡ Status.Done) × (string_bytes due.text ≡ told_by telling graph.now)) }
+    ensures { IfOk result (λ due. (due.status ≡ Status.Done) × told_by telling graph.now (string_bytes due.text)) }
 {
     Ok(Due {
         status: Status::Done,
@@ -110,11 +113,12 @@ fn done(alloc: Global, graph: &ModuleGraph, telling: Telling) -> Result<Due, All
 }
 
 fn told_text(alloc: Global, graph: &ModuleGraph, telling: Telling) -> Result<String, AllocError>
-    ensures { IfOk result (λ text. string_bytes text ≡ told_by telling graph.now) }
+    ensures { IfOk result (λ text. told_by telling graph.now (string_bytes text)) }
 {
     match telling {
         Telling::Report => report(alloc, graph),
         Telling::Counts => summary(alloc, graph),
+        Telling::Order => order_lines(alloc, graph),
     }
 }
 

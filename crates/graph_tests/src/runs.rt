@@ -115,7 +115,7 @@ const MADE: &str =
     r#"0 {"limit":2,"modules":[{"specifier":"file:///m/0.ts","text":"import \"./1.ts\";\nexport const v0 = 0;\n"},{"specifier":"file:///m/1.ts","text":"import(\"./0.ts\");\nexport const v1 = 1;\n"}],"roots":["file:///m/0.ts"]}
 "#;
 
-const USAGE: &str = "64 usage: graph_tool build | make N | sum N\n";
+const USAGE: &str = "64 usage: graph_tool build | make N | sum N | order\n";
 
 /// A word, the number behind it, and the status with what is written.
 const FORMS: &[(&str, &str, &str)] = &[
@@ -211,7 +211,7 @@ fn runs_with_other_words_or_no_room(rt: HostRuntime) {
     let (got, left) = refused(&rt, alloc, &["build", "x"], 100);
     assert_eq!(rt;
         got.as_str(),
-        "64 usage: graph_tool build | make N | sum N\n"
+        "64 usage: graph_tool build | make N | sum N | order\n"
     );
     assert_eq!(rt; left, ROW.len());
     let (got, left) = refused(&rt, alloc, &["run", "x"], 5);

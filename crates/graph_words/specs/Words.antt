@@ -1,7 +1,7 @@
 -- The words that the program is started with, and the forms that they have (this project's profile).
-use Rattle.std.specs.Prelude.{◌≡◌, ℕ, ◌≤◌, ◌==◌, ◌||◌, not, Bool, true, List, [], ◌∷◌, codes, decimal}
+use Rattle.std.specs.Prelude.{◌≡◌, ◌⊎◌, ℕ, ◌≤◌, ◌==◌, ◌||◌, not, Bool, true, List, [], ◌∷◌, codes, decimal}
 use Rattle.graph_words.specs.declared.words.Form.{Form}
-use Rattle.graph_words.specs.declared.words.Form.TheVariants.{Build, Make, Sum}
+use Rattle.graph_words.specs.declared.words.Form.TheVariants.{Build, Order, Make, Sum}
 
 -- a word is this number in decimal digits, from 1 to 100,000
 abbrev pub IsCount : ℕ → List ℕ → Type 0
@@ -14,12 +14,18 @@ IsCounted name n words = (word : List ℕ) × (words ≡ name ∷ word ∷ []) �
 -- the words are this form
 abbrev pub IsForm : Form → List (List ℕ) → Type 0
 IsForm Build words = words ≡ codes "build" ∷ []
+IsForm Order words = words ≡ codes "order" ∷ []
 IsForm (Make n) words = IsCounted (codes "make") n words
 IsForm (Sum n) words = IsCounted (codes "sum") n words
+
+-- the words are a form whose input is read
+abbrev pub IsReading : List (List ℕ) → Type 0
+IsReading words = IsForm Build words ⊎ IsForm Order words
 
 -- a form names no more modules than that
 abbrev pub IsWithin : Form → Type 0
 IsWithin Build = Unit {0}
+IsWithin Order = Unit {0}
 IsWithin (Make n) = n ≤ 100000
 IsWithin (Sum n) = n ≤ 100000
 

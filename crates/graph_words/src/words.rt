@@ -10,6 +10,8 @@ pub const MOST_MODULES: u32 = 100_000;
 pub enum Form {
     /// `build`: the report of the bundle that is read.
     Build,
+    /// `order`: the order of the modules of the bundle that is read, or a cycle of them.
+    Order,
     /// `make N`: the bundle of so many modules.
     Make(u32),
     /// `sum N`: the counts of that bundle's graph.
@@ -34,6 +36,7 @@ fn plain_form(word: &str) -> Option<Form>
 {
     match word {
         "build" => Some(Form::Build),
+        "order" => Some(Form::Order),
         _ => None,
     }
 }

@@ -3,7 +3,7 @@ use Rattle.std.proofs.Common.{string_bytes}
 use Rattle.graph_words.specs.declared.words.Form.TheVariants.{Build, Make, Sum}
 use Rattle.graph_run.specs.declared.status.Status.TheVariants.{Done, BuildRefused, BadInput}
 use Rattle.graph_run.specs.Run.{form, IsRefused, IsLargeInput, IsSmallInput}
-use Rattle.graph_run.proofs.RunLemmas.{wrote_due, wrote_usage, refused_for, large_for, small_for, made_for, summed_for, none_always, none_always_of}
+use Rattle.graph_run.proofs.RunLemmas.{wrote_due, wrote_usage, refused_for, large_for, small_for, made_for, summed_for, none_always, none_reading}
 use Rattle.graph_run.proofs.program.run.Goals as goal
 
 -- ---- the words are no form
@@ -12,14 +12,14 @@ pub returns-in_default-clause-written : goal.returns-in_default-clause-written
 returns-in_default-clause-written g c = wrote_usage _ _ _ _ _ _ _ c.in_default.ensures.form c.finish.ensures
 
 pub returns-in_default-clause-refused : goal.returns-in_default-clause-refused
-returns-in_default-clause-refused g c = none_always_of IsRefused _ Build _ _ _ _ _ _ BadInput c.in_default.ensures.form
+returns-in_default-clause-refused g c = none_reading IsRefused _ _ _ _ _ _ _ BadInput c.in_default.ensures.form
 
 pub returns-in_default-clause-large : goal.returns-in_default-clause-large
 returns-in_default-clause-large g c =
-    none_always_of IsLargeInput _ Build _ _ _ _ _ _ BuildRefused c.in_default.ensures.form
+    none_reading IsLargeInput _ _ _ _ _ _ _ BuildRefused c.in_default.ensures.form
 
 pub returns-in_default-clause-complete : goal.returns-in_default-clause-complete
-returns-in_default-clause-complete g c = none_always_of IsSmallInput _ Build _ _ _ _ _ _ Done c.in_default.ensures.form
+returns-in_default-clause-complete g c = none_reading IsSmallInput _ _ _ _ _ _ _ Done c.in_default.ensures.form
 
 pub returns-in_default-clause-made : goal.returns-in_default-clause-made
 returns-in_default-clause-made g c n = none_always _ (Make n) _ _ _ _ _ Done c.in_default.ensures.form
