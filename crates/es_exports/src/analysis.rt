@@ -17,6 +17,28 @@ pub struct ModuleExportsAndReExports {
     pub reexports: Items<Text>,
 }
 
+impl ModuleExportsAndReExports {
+    /// A copy of both lists.
+    pub fn copy(&self) -> Result<ModuleExportsAndReExports, AllocError>
+        ensures { IfOk result (λ copy. copy ≡ self.now) }
+    {
+        Ok(ModuleExportsAndReExports {
+            exports: copy_names(self.exports.allocator(), self.exports.as_slice())?,
+            reexports: copy_names(self.reexports.allocator(), self.reexports.as_slice())?,
+        })
+    }
+}
+
+fn copy_names(alloc: Global, names: &[Text]) -> Result<Items<Text>, AllocError>
+    ensures { IfOk result (λ copy. copy ≡ names.now) }
+{
+    let mut copy = Items::new(alloc);
+    for name in names {
+        copy.push(name.copy()?)?;
+    }
+    Ok(copy)
+}
+
 /// The names that a program exports at run time; a script has none. Only want of memory is refused.
 #[tactic(auto, unfolding(crate::specs::Exports::exports_of, crate::specs::Exports::reexports_of))]
 pub fn analyze_es_runtime_exports(
