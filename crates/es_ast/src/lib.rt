@@ -6,8 +6,7 @@
 //! - `ImportDecl`, `NamedExport`, `ExportAll`, `TsImportEqualsDecl`, literals and operators: what holds none of these.
 //! - Types of TypeScript come from the crate below: `TsPart` is what this tree holds of them.
 //!
-//! Every drop is written by hand: a derived one would be proved again in each crate that drops a tree. A drop goes as
-//! deep as the tree; the parser's trees have at most 500 nodes on a path.
+//! Contracts speak of these types and compare their values. No code builds one: a program is a row of entries.
 #![tactic(auto)]
 
 mod ast;

@@ -7,7 +7,7 @@
 //! - `CutsLiteral` (`specs/Sites.antt`): the range cuts from the text a string literal whose value is the value. It
 //!   holds of each site of a tree that was read from a text.
 //!
-//! `es_walk` walks a typed tree to its sites; `es_tree_sites` finds the same sites in the plain tree.
+//! `es_tree_sites` finds the same sites in the plain tree.
 //! Not promised: what `Debug` writes.
 #![tactic(auto)]
 

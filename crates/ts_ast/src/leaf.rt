@@ -1,7 +1,6 @@
 use base::{Items, Range, Text};
 
 /// A name: a binding, a reference, a label or a property's name.
-#[derive(Debug)]
 pub struct Ident {
     pub sym: Text,
     /// The number of the scope that declares the name, or 0.
@@ -11,20 +10,7 @@ pub struct Ident {
     pub span: Range,
 }
 
-impl Drop for Ident {
-    fn drop(self) {
-        let Ident {
-            sym,
-            ctxt: _,
-            optional: _,
-            span: _,
-        } = self;
-        let _ = sym;
-    }
-}
-
 /// A string literal (ECMA-262, "StringLiteral").
-#[derive(Debug)]
 pub struct Str {
     /// The text that the literal stands for, with U+FFFD for each lone surrogate.
     pub value: Text,
@@ -34,79 +20,31 @@ pub struct Str {
     pub span: Range,
 }
 
-impl Drop for Str {
-    fn drop(self) {
-        let Str {
-            value,
-            lone: _,
-            span: _,
-        } = self;
-        let _ = value;
-    }
-}
-
 /// A number literal, as it is spelled.
-#[derive(Debug)]
 pub struct Number {
     pub raw: Text,
     pub span: Range,
 }
 
-impl Drop for Number {
-    fn drop(self) {
-        let Number { raw, span: _ } = self;
-        let _ = raw;
-    }
-}
-
 /// A BigInt literal, as it is spelled.
-#[derive(Debug)]
 pub struct BigInt {
     pub raw: Text,
     pub span: Range,
 }
 
-impl Drop for BigInt {
-    fn drop(self) {
-        let BigInt { raw, span: _ } = self;
-        let _ = raw;
-    }
-}
-
 /// A piece of a template between its backticks and substitutions, as it is spelled.
-#[derive(Debug)]
 pub struct TplElement {
     pub raw: Text,
     pub span: Range,
 }
 
-impl Drop for TplElement {
-    fn drop(self) {
-        let TplElement { raw, span: _ } = self;
-        let _ = raw;
-    }
-}
-
 /// `this` or a name.
-#[derive(Debug)]
 pub enum TsThisTypeOrIdent {
     This(Range),
     Ident(Ident),
 }
 
-impl Drop for TsThisTypeOrIdent {
-    fn drop(self) {
-        match self {
-            TsThisTypeOrIdent::This(_) => {}
-            TsThisTypeOrIdent::Ident(ident) => {
-                let _ = ident;
-            }
-        }
-    }
-}
-
 /// `a`, `this` or `a.b.c`.
-#[derive(Debug)]
 pub struct TsEntityName {
     pub left: TsThisTypeOrIdent,
     /// The names behind the dots.
@@ -114,20 +52,7 @@ pub struct TsEntityName {
     pub span: Range,
 }
 
-impl Drop for TsEntityName {
-    fn drop(self) {
-        let TsEntityName {
-            left,
-            rest,
-            span: _,
-        } = self;
-        let _ = left;
-        let _ = rest;
-    }
-}
-
 /// The name of a property of an object type.
-#[derive(Debug)]
 pub enum TsKey {
     Ident(Ident),
     Str(Str),
@@ -142,36 +67,7 @@ pub enum TsKey {
     ComputedBigInt { big: BigInt, span: Range },
 }
 
-impl Drop for TsKey {
-    fn drop(self) {
-        match self {
-            TsKey::Ident(ident) => {
-                let _ = ident;
-            }
-            TsKey::Str(str) => {
-                let _ = str;
-            }
-            TsKey::Num(num) => {
-                let _ = num;
-            }
-            TsKey::Entity { name, span: _ } => {
-                let _ = name;
-            }
-            TsKey::ComputedStr { str, span: _ } => {
-                let _ = str;
-            }
-            TsKey::ComputedNum { num, span: _ } => {
-                let _ = num;
-            }
-            TsKey::ComputedBigInt { big, span: _ } => {
-                let _ = big;
-            }
-        }
-    }
-}
-
 /// A literal that is a type.
-#[derive(Debug)]
 pub enum TsLit {
     Bool {
         value: bool,
@@ -192,33 +88,7 @@ pub enum TsLit {
     },
 }
 
-impl Drop for TsLit {
-    fn drop(self) {
-        match self {
-            TsLit::Bool { value: _, span: _ } => {}
-            TsLit::Str(str) => {
-                let _ = str;
-            }
-            TsLit::Number {
-                minus: _,
-                num,
-                span: _,
-            } => {
-                let _ = num;
-            }
-            TsLit::BigInt {
-                minus: _,
-                big,
-                span: _,
-            } => {
-                let _ = big;
-            }
-        }
-    }
-}
-
 /// The types that are keywords.
-#[derive(Clone, Copy, Debug, PartialEq, Eq)]
 pub enum TsKeywordTypeKind {
     Any,
     Unknown,
@@ -234,7 +104,6 @@ pub enum TsKeywordTypeKind {
     Void,
 }
 
-#[derive(Clone, Copy, Debug, PartialEq, Eq)]
 pub enum TsTypeOperatorOp {
     KeyOf,
     Unique,
@@ -242,7 +111,6 @@ pub enum TsTypeOperatorOp {
 }
 
 /// How `readonly` or `?` stands in a mapped type.
-#[derive(Clone, Copy, Debug, PartialEq, Eq)]
 pub enum TruePlusMinus {
     Absent,
     True,
@@ -251,7 +119,6 @@ pub enum TruePlusMinus {
 }
 
 /// What a method of an object or a class is.
-#[derive(Clone, Copy, Debug, PartialEq, Eq)]
 pub enum MethodKind {
     Method,
     Getter,

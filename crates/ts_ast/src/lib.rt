@@ -6,8 +6,8 @@
 //! - `TsPart`: what the tree of expressions and statements holds of types.
 //! - `Ident`, `Str`, `Number`, `BigInt`, `TplElement`: the leaves.
 //!
-//! A `span` is the range of bytes of the text that a part was read from. Every drop is written by hand: a derived one
-//! would be proved again in each crate that drops a tree. Not promised: what `Debug` writes.
+//! A `span` is the range of bytes of the text that a part was read from. Contracts speak of these types and compare
+//! their values. No code builds one: a program is a row of entries.
 #![tactic(auto)]
 
 mod leaf;

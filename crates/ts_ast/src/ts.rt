@@ -10,13 +10,6 @@ pub struct Nodes<T> {
     pub span: Range,
 }
 
-impl<T: Drop> Drop for Nodes<T> {
-    fn drop(self) {
-        let Nodes { items, span: _ } = self;
-        let _ = items;
-    }
-}
-
 /// The pattern of a parameter in a type, which holds no default and no computed key.
 #[cycle(patterns)]
 pub enum TsParamPat {
@@ -41,28 +34,6 @@ pub enum TsParamPat {
     Hole(Range),
 }
 
-impl Drop for TsParamPat {
-    #[cycle(patterns)]
-    fn drop(self) {
-        match self {
-            TsParamPat::Ident(ident) => {
-                let _ = ident;
-            }
-            TsParamPat::This(_) => {}
-            TsParamPat::Array { elems, span: _ } => {
-                let _ = elems;
-            }
-            TsParamPat::Object { props, span: _ } => {
-                let _ = props;
-            }
-            TsParamPat::Rest { arg, span: _ } => {
-                let _ = arg;
-            }
-            TsParamPat::Hole(_) => {}
-        }
-    }
-}
-
 /// A property of an object pattern in a type.
 #[cycle(patterns)]
 pub enum TsPatProp {
@@ -79,28 +50,6 @@ pub enum TsPatProp {
     },
     /// `a`
     Shorthand(Ident),
-}
-
-impl Drop for TsPatProp {
-    #[cycle(patterns)]
-    fn drop(self) {
-        match self {
-            TsPatProp::Rest { arg, span: _ } => {
-                let _ = arg;
-            }
-            TsPatProp::KeyValue {
-                key,
-                value,
-                span: _,
-            } => {
-                let _ = key;
-                let _ = value;
-            }
-            TsPatProp::Shorthand(ident) => {
-                let _ = ident;
-            }
-        }
-    }
 }
 
 /// A type of TypeScript.
@@ -225,154 +174,6 @@ pub enum TsType {
     },
 }
 
-impl Drop for TsType {
-    #[cycle(types)]
-    fn drop(self) {
-        match self {
-            TsType::Keyword { kind: _, span: _ } => {}
-            TsType::This(_) => {}
-            TsType::Lit(lit) => {
-                let _ = lit;
-            }
-            TsType::Tpl {
-                quasis,
-                types,
-                span: _,
-            } => {
-                let _ = quasis;
-                let _ = types;
-            }
-            TsType::Ref {
-                name,
-                type_params,
-                span: _,
-            } => {
-                let _ = name;
-                if let Some(type_params) = type_params {
-                    let _ = type_params;
-                }
-            }
-            TsType::Query { expr_name, span: _ } => {
-                let _ = expr_name;
-            }
-            TsType::Import {
-                arg,
-                qualifier,
-                type_args,
-                span: _,
-            } => {
-                let _ = arg;
-                let _ = qualifier;
-                if let Some(type_args) = type_args {
-                    let _ = type_args;
-                }
-            }
-            TsType::Paren { type_ann, span: _ } => {
-                let _ = type_ann;
-            }
-            TsType::TypeLit { members, span: _ } => {
-                let _ = members;
-            }
-            TsType::Tuple { elems, span: _ } => {
-                let _ = elems;
-            }
-            TsType::Mapped {
-                readonly: _,
-                name,
-                constraint,
-                name_type,
-                optional: _,
-                type_ann,
-                span: _,
-            } => {
-                let _ = name;
-                let _ = constraint;
-                if let Some(name_type) = name_type {
-                    let _ = name_type;
-                }
-                if let Some(type_ann) = type_ann {
-                    let _ = type_ann;
-                }
-            }
-            TsType::Fn {
-                type_params,
-                params,
-                type_ann,
-                span: _,
-            } => {
-                if let Some(type_params) = type_params {
-                    let _ = type_params;
-                }
-                let _ = params;
-                let _ = type_ann;
-            }
-            TsType::Constructor {
-                is_abstract: _,
-                type_params,
-                params,
-                type_ann,
-                span: _,
-            } => {
-                if let Some(type_params) = type_params {
-                    let _ = type_params;
-                }
-                let _ = params;
-                let _ = type_ann;
-            }
-            TsType::Conditional {
-                check,
-                extends,
-                yes,
-                no,
-                span: _,
-            } => {
-                let _ = check;
-                let _ = extends;
-                let _ = yes;
-                let _ = no;
-            }
-            TsType::Union { types, span: _ } => {
-                let _ = types;
-            }
-            TsType::Intersection { types, span: _ } => {
-                let _ = types;
-            }
-            TsType::Operator {
-                op: _,
-                type_ann,
-                span: _,
-            } => {
-                let _ = type_ann;
-            }
-            TsType::Infer { name, span: _ } => {
-                let _ = name;
-            }
-            TsType::Array { elem, span: _ } => {
-                let _ = elem;
-            }
-            TsType::IndexedAccess {
-                obj,
-                index,
-                span: _,
-            } => {
-                let _ = obj;
-                let _ = index;
-            }
-            TsType::Predicate {
-                asserts: _,
-                name,
-                type_ann,
-                span: _,
-            } => {
-                let _ = name;
-                if let Some(type_ann) = type_ann {
-                    let _ = type_ann;
-                }
-            }
-        }
-    }
-}
-
 /// A member of an object type or an interface.
 #[cycle(types)]
 pub enum TsTypeElement {
@@ -418,85 +219,6 @@ pub enum TsTypeElement {
     },
 }
 
-impl Drop for TsTypeElement {
-    #[cycle(types)]
-    fn drop(self) {
-        match self {
-            TsTypeElement::CallSignature {
-                type_params,
-                params,
-                type_ann,
-                span: _,
-            } => {
-                if let Some(type_params) = type_params {
-                    let _ = type_params;
-                }
-                let _ = params;
-                if let Some(type_ann) = type_ann {
-                    let _ = type_ann;
-                }
-            }
-            TsTypeElement::ConstructSignature {
-                type_params,
-                params,
-                type_ann,
-                span: _,
-            } => {
-                if let Some(type_params) = type_params {
-                    let _ = type_params;
-                }
-                let _ = params;
-                if let Some(type_ann) = type_ann {
-                    let _ = type_ann;
-                }
-            }
-            TsTypeElement::IndexSignature {
-                readonly: _,
-                name,
-                of,
-                type_ann,
-                span: _,
-            } => {
-                let _ = name;
-                let _ = of;
-                if let Some(type_ann) = type_ann {
-                    let _ = type_ann;
-                }
-            }
-            TsTypeElement::MethodSignature {
-                kind: _,
-                key,
-                optional: _,
-                type_params,
-                params,
-                type_ann,
-                span: _,
-            } => {
-                let _ = key;
-                if let Some(type_params) = type_params {
-                    let _ = type_params;
-                }
-                let _ = params;
-                if let Some(type_ann) = type_ann {
-                    let _ = type_ann;
-                }
-            }
-            TsTypeElement::PropertySignature {
-                readonly: _,
-                key,
-                optional: _,
-                type_ann,
-                span: _,
-            } => {
-                let _ = key;
-                if let Some(type_ann) = type_ann {
-                    let _ = type_ann;
-                }
-            }
-        }
-    }
-}
-
 /// `const in out a extends b = c`
 #[cycle(types)]
 pub struct TsTypeParam {
@@ -509,28 +231,6 @@ pub struct TsTypeParam {
     pub span: Range,
 }
 
-impl Drop for TsTypeParam {
-    #[cycle(types)]
-    fn drop(self) {
-        let TsTypeParam {
-            is_const: _,
-            is_in: _,
-            is_out: _,
-            name,
-            constraint,
-            default,
-            span: _,
-        } = self;
-        let _ = name;
-        if let Some(constraint) = constraint {
-            let _ = constraint;
-        }
-        if let Some(default) = default {
-            let _ = default;
-        }
-    }
-}
-
 /// A parameter of a function in a type.
 #[cycle(types)]
 pub struct TsFnParam {
@@ -539,23 +239,6 @@ pub struct TsFnParam {
     pub optional: bool,
     pub type_ann: Option<Boxed<TsType>>,
     pub span: Range,
-}
-
-impl Drop for TsFnParam {
-    #[cycle(types)]
-    fn drop(self) {
-        let TsFnParam {
-            rest: _,
-            pat,
-            optional: _,
-            type_ann,
-            span: _,
-        } = self;
-        let _ = pat;
-        if let Some(type_ann) = type_ann {
-            let _ = type_ann;
-        }
-    }
 }
 
 /// `...a?: b` or `b?`
@@ -568,38 +251,11 @@ pub struct TsTupleElement {
     pub span: Range,
 }
 
-impl Drop for TsTupleElement {
-    #[cycle(types)]
-    fn drop(self) {
-        let TsTupleElement {
-            rest: _,
-            label,
-            ty,
-            optional: _,
-            span: _,
-        } = self;
-        let _ = label;
-        let _ = ty;
-    }
-}
-
 /// `a.b<c>` behind `extends` or `implements`.
 pub struct TsExprWithTypeArgs {
     pub expr: TsEntityName,
     pub type_args: Option<Nodes<TsType>>,
     pub span: Range,
-}
-
-impl Drop for TsExprWithTypeArgs {
-    fn drop(self) {
-        let TsExprWithTypeArgs {
-            expr,
-            type_args,
-            span: _,
-        } = self;
-        let _ = expr;
-        let _ = type_args;
-    }
 }
 
 /// What the side of values holds of types. The field that holds it tells which variant it is.
@@ -614,26 +270,4 @@ pub enum TsPart {
     Heritage(Items<TsExprWithTypeArgs>),
     /// The body of an interface.
     Members(Items<TsTypeElement>),
-}
-
-impl Drop for TsPart {
-    fn drop(self) {
-        match self {
-            TsPart::TypeAnn(type_ann) => {
-                let _ = type_ann;
-            }
-            TsPart::TypeParams(params) => {
-                let _ = params;
-            }
-            TsPart::TypeArgs(args) => {
-                let _ = args;
-            }
-            TsPart::Heritage(heritage) => {
-                let _ = heritage;
-            }
-            TsPart::Members(members) => {
-                let _ = members;
-            }
-        }
-    }
 }
