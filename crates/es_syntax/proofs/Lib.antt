@@ -4,6 +4,8 @@ pub mod Rows
 pub mod Labels
 -- laws of writing one
 pub mod Written
+-- trees side by side
+pub mod Forests
 -- where a node stands
 pub mod Places
 -- what stands in no role

@@ -8,5 +8,7 @@ pub mod Roles
 pub mod Views
 -- what a writer leaves
 pub mod Written
+-- trees side by side
+pub mod Forest
 -- where a node stands
 pub mod Places

@@ -3,7 +3,8 @@
 //!
 //! - `Entry`, `What`, `Lean`: what is kept.
 //! - `Row`, `Item`: the parts that stand in a row, and one of them; copies of a slice.
-//! - `Writer`: makes a row, as text is written: a node is opened, its parts are written, it is closed.
+//! - `Writer`: makes a row, as text is written: a node is opened, its parts are written, it is closed. A node may be opened
+//!   before what stands there already, as one that leans left is.
 #![tactic(auto)]
 
 mod cursor;
