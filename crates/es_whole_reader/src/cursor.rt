@@ -1,19 +1,21 @@
-//! What readers share: the tokens of a text, a place in them, and what was read.
+//! What readers share: the tokens of a text, a place in them, and what is written.
 
-ghost use Rattle.std.specs.Prelude.{◌≡◌, ◌≢◌, ◌+◌, [], ◌∷◌, ◌++◌, max, suc, true, false, IfOk, OnOk, OnErr, IfErr};
+ghost use Rattle.std.specs.Prelude.{◌≡◌, ◌≢◌, ◌+◌, ◌≤◌, ◌<◌, [], ◌++◌, length, take, suc, true, false, IfOk, OnOk, OnErr, IfErr};
 ghost use Rattle.es_tree.specs.Key.{keys_of, seen, is, has_kind};
+ghost use Rattle.es_tree.specs.Fits.{most_nodes};
 ghost use Rattle.es_tree.specs.declared.error.SyntaxError.TheVariants.{OutOfMemory};
 ghost use Rattle.es_whole_guards.specs.Named.{kinds_of};
-ghost use Rattle.es_whole_reader.specs.Bounded.{row_at, node_at};
-ghost use Rattle.es_whole_reader.specs.Steps.{IsRead, IsRing, group};
+ghost use Rattle.es_syntax.specs.declared.entry.What.TheVariants as vWhat;
+ghost use Rattle.es_syntax.specs.Written.{headed};
+ghost use Rattle.es_whole_reader.specs.Bounded.{row_at};
+ghost use Rattle.es_whole_reader.specs.Steps.{IsRead, IsRing, higher_of};
 
-use base::Items;
 use es_guards::Tokens;
+use es_syntax::{What, Writer};
 use es_token::TokenKind;
 use es_tree::{Lang, SyntaxError};
-use es_whole_grammar::{Label, Row};
+use es_whole_grammar::Row;
 use es_whole_guards::{Kinds, is_kind};
-use es_whole_tree::Tree;
 use std::alloc::{AllocError, Global};
 
 /// The most nodes on a path of a tree: the program's own, and 500 below it.
@@ -27,48 +29,39 @@ pub struct Input<'a> {
     pub tokens: Tokens<'a>,
 }
 
-/// The number of the next token.
+/// The number of the next token, and what was written so far.
 #[derive(Drop)]
 pub struct Cursor {
     pub at: usize,
+    pub row: Writer,
 }
 
-/// A tree, and the most nodes on a path of it.
-#[derive(Drop)]
-pub struct Measured {
-    pub tree: Tree,
-    pub height: usize,
+/// Where an operand begins: the number of its first token, and how many entries stand before its own.
+#[derive(Clone, Copy)]
+pub struct Place {
+    pub token: usize,
+    pub entry: usize,
 }
 
-/// Parts of a node, and the most nodes on a path of one of them.
-#[derive(Drop)]
-pub struct Parts {
-    pub trees: Items<Tree>,
-    pub height: usize,
-}
-
-impl Parts {
-    /// No parts.
-    pub fn new(alloc: Global) -> Parts
-        ensures trees { result.trees ≡ [] }
-        ensures height { result.height ≡ 0 }
+impl Cursor {
+    /// Where the next node begins.
+    pub fn here(&self) -> Place
+        ensures token { result.token ≡ self.now.at }
+        ensures entry { result.entry ≡ length self.now.row }
     {
-        Parts {
-            trees: Items::new(alloc),
-            height: 0,
+        Place {
+            token: self.at,
+            entry: self.row.len(),
         }
     }
 
-    /// Puts a part at the end.
-    pub fn push(&mut self, part: Measured) -> Result<(), AllocError>
-        ensures trees { OnOk result (self.new.trees ≡ self.old.trees ++ part.tree ∷ []) }
-        ensures height { OnOk result (self.new.height ≡ max self.old.height part.height) }
+    /// Goes back to a place: what was written from there on is taken away.
+    pub fn back_to(&mut self, place: Place)
+        ensures token { self.new.at ≡ place.token }
+        ensures row { self.new.row ≡ take place.entry self.old.row }
     {
-        self.trees.push(part.tree)?;
-        if part.height > self.height {
-            self.height = part.height;
-        }
-        Ok(())
+        self.at = place.token;
+        self.row.back_to(place.entry);
     }
 }
 
@@ -80,11 +73,11 @@ pub struct Grammar<'a, F> {
     pub read: F,
 }
 
-impl<F: Fn(Input<'_>, usize, Row, &mut Cursor) -> Result<Measured, SyntaxError>> Grammar<'_, F> {
+impl<F: Fn(Input<'_>, usize, Row, &mut Cursor) -> Result<usize, SyntaxError>> Grammar<'_, F> {
     /// A row.
-    pub fn row(&self, row: Row, cursor: &mut Cursor) -> Result<Measured, SyntaxError>
+    pub fn row(&self, row: Row, cursor: &mut Cursor) -> Result<usize, SyntaxError>
         requires { IsRing self.now.input self.now.room (F.pre self.now.read) (F.post self.now.read) }
-        ensures { IsRead (row_at self.now.input.lang (keys_of self.now.input.tokens.tokens.now) self.now.room row cursor.old.at) result cursor.new.at }
+        ensures { IsRead (row_at self.now.input.lang (keys_of self.now.input.tokens.tokens.now) self.now.room row cursor.old.at) cursor.old.row cursor.new result }
     {
         (self.read)(self.input, self.room, row, cursor)
     }
@@ -95,6 +88,7 @@ pub fn expect(tokens: &Tokens<'_>, kind: TokenKind, cursor: &mut Cursor) -> Resu
     ensures seen { OnOk result (is kind (seen (keys_of tokens.now.tokens.now) cursor.old.at) ≡ true) }
     ensures taken { OnOk result (cursor.new.at ≡ cursor.old.at + 1) }
     ensures other { OnErr result (is kind (seen (keys_of tokens.now.tokens.now) cursor.old.at) ≡ false) }
+    ensures row { cursor.new.row ≡ cursor.old.row }
 {
     if !tokens.stands(kind, cursor.at) {
         return Err(SyntaxError::Syntax { token: cursor.at });
@@ -109,6 +103,7 @@ pub fn take(tokens: &Tokens<'_>, kinds: Kinds, cursor: &mut Cursor) -> Result<()
     ensures seen { OnOk result (has_kind (kinds_of kinds) (seen (keys_of tokens.now.tokens.now) cursor.old.at) ≡ true) }
     ensures taken { OnOk result (cursor.new.at ≡ cursor.old.at + 1) }
     ensures other { IfErr result (λ e. e ≢ OutOfMemory → has_kind (kinds_of kinds) (seen (keys_of tokens.now.tokens.now) cursor.old.at) ≡ false) }
+    ensures row { cursor.new.row ≡ cursor.old.row }
 {
     if cursor.at >= tokens.tokens.len() {
         return Err(SyntaxError::Syntax { token: cursor.at });
@@ -120,25 +115,46 @@ pub fn take(tokens: &Tokens<'_>, kinds: Kinds, cursor: &mut Cursor) -> Result<()
     Ok(())
 }
 
-/// A node of these parts, where no path of it has too many.
-#[tactic(auto, unfolding(crate::specs::Bounded::node_at, es_tree::specs::Fits::most_nodes))]
-pub fn node(
-    label: Label,
-    from: usize,
-    parts: Parts,
-    cursor: &Cursor,
-) -> Result<Measured, SyntaxError>
-    ensures { IsRead (node_at label from cursor.now.at (group parts.trees parts.height)) result cursor.now.at }
+/// The number of a token in 32 bits; a greater one is answered as want of memory.
+pub fn number(at: usize) -> Result<u32, AllocError>
+    ensures { IfOk result (λ n. n ≡ at) }
 {
-    if parts.height >= MOST_NODES {
+    match u32::try_from(at) {
+        Ok(n) => Ok(n),
+        Err(_) => Err(AllocError),
+    }
+}
+
+/// Writes a token that is kept.
+pub fn leaf(row: &mut Writer, at: usize) -> Result<(), AllocError>
+    ensures written { OnOk result (row.new ≡ row.old ++ headed vWhat.Leaf at (at + 1) []) }
+    ensures kept { OnErr result (row.new ≡ row.old) }
+{
+    let from = number(at)?;
+    if from == u32::MAX {
+        return Err(AllocError);
+    }
+    row.leaf(What::Leaf, from, from + 1)
+}
+
+/// The most nodes on a path of a part, and of those behind it.
+pub fn higher(part: usize, rest: Result<usize, SyntaxError>) -> Result<usize, SyntaxError>
+    ensures { result ≡ higher_of part rest }
+{
+    match rest {
+        Ok(rest) => Ok(part.max(rest)),
+        Err(error) => Err(error),
+    }
+}
+
+/// The most nodes on a path of a node, by that of its parts, where no path of it has too many.
+#[tactic(auto, unfolding(es_tree::specs::Fits::most_nodes))]
+pub fn counted(parts: usize, cursor: &Cursor) -> Result<usize, SyntaxError>
+    ensures counted { IfOk result (λ n. (n ≡ suc parts) × (n ≤ most_nodes)) }
+    ensures many { OnErr result (most_nodes < suc parts) }
+{
+    if parts >= MOST_NODES {
         return Err(SyntaxError::Syntax { token: cursor.at });
     }
-    let height = parts.height + 1;
-    let tree = Tree::Node {
-        label,
-        from,
-        to: cursor.at,
-        parts: parts.trees,
-    };
-    Ok(Measured { tree, height })
+    Ok(parts + 1)
 }

@@ -10,14 +10,13 @@ ghost use Rattle.es_whole_reader.specs.Told.{sort_of, told_of};
 ghost use Rattle.es_whole_reader.specs.Bounded.{makes, form_at, row_at};
 ghost use Rattle.es_whole_reader.specs.Steps.{IsRing, IsPart, Adds};
 
-use crate::cursor::{Cursor, Grammar, Input, Measured, Parts, expect, take};
+use crate::cursor::{Cursor, Grammar, Input, expect, higher, leaf, take};
 use crate::told::{Sort, Told};
-use base::Items;
+use es_syntax::What;
 use es_token::TokenKind;
 use es_tree::SyntaxError;
 use es_whole_grammar::Row;
 use es_whole_guards::{Ahead, Guard, Kinds, holds, sees_ahead};
-use es_whole_tree::Tree;
 
 /// What reads parts of a node.
 pub trait ReadsForm {
@@ -25,73 +24,64 @@ pub trait ReadsForm {
     ghost form: { Self → Form Row };
 
     /// Puts the parts that stand here behind those that were read.
-    fn read<F: Fn(Input<'_>, usize, Row, &mut Cursor) -> Result<Measured, SyntaxError>>(
+    fn read<F: Fn(Input<'_>, usize, Row, &mut Cursor) -> Result<usize, SyntaxError>>(
         &self,
         grammar: &Grammar<'_, F>,
         cursor: &mut Cursor,
-        parts: &mut Parts,
-    ) -> Result<(), SyntaxError>
+    ) -> Result<usize, SyntaxError>
         requires { IsRing grammar.now.input grammar.now.room (F.pre grammar.now.read) (F.post grammar.now.read) }
-        ensures { Adds (form_at (keys_of grammar.now.input.tokens.tokens.now) (row_at grammar.now.input.lang (keys_of grammar.now.input.tokens.tokens.now) grammar.now.room) (form self.now) cursor.old.at)
-            parts.old parts.new result cursor.new.at };
+        ensures { Adds (form_at (keys_of grammar.now.input.tokens.tokens.now) (row_at grammar.now.input.lang (keys_of grammar.now.input.tokens.tokens.now) grammar.now.room) (form self.now) cursor.old.at) cursor.old.row cursor.new result };
 }
 
 /// The parts of a form, as one part.
-fn group<P: ReadsForm, F: Fn(Input<'_>, usize, Row, &mut Cursor) -> Result<Measured, SyntaxError>>(
+fn group<P: ReadsForm, F: Fn(Input<'_>, usize, Row, &mut Cursor) -> Result<usize, SyntaxError>>(
     part: &P,
     grammar: &Grammar<'_, F>,
     cursor: &mut Cursor,
-) -> Result<Measured, SyntaxError>
+) -> Result<usize, SyntaxError>
     requires { IsRing grammar.now.input grammar.now.room (F.pre grammar.now.read) (F.post grammar.now.read) }
-    ensures { IsPart (form_at (keys_of grammar.now.input.tokens.tokens.now) (row_at grammar.now.input.lang (keys_of grammar.now.input.tokens.tokens.now) grammar.now.room) (P.form part.now) cursor.old.at) result cursor.new.at }
+    ensures { IsPart (form_at (keys_of grammar.now.input.tokens.tokens.now) (row_at grammar.now.input.lang (keys_of grammar.now.input.tokens.tokens.now) grammar.now.room) (P.form part.now) cursor.old.at) cursor.old.row cursor.new result }
 {
-    let mut parts = Parts::new(grammar.input.alloc);
-    part.read(grammar, cursor, &mut parts)?;
-    Ok(Measured {
-        tree: Tree::Parts(parts.trees),
-        height: parts.height,
-    })
+    let opened = cursor.row.open()?;
+    let height = part.read(grammar, cursor)?;
+    cursor.row.close(opened, What::Parts, 0, 0)?;
+    Ok(height)
 }
 
 /// A part that may be absent.
-fn optional<
-    P: ReadsForm,
-    F: Fn(Input<'_>, usize, Row, &mut Cursor) -> Result<Measured, SyntaxError>,
->(
+fn optional<P: ReadsForm, F: Fn(Input<'_>, usize, Row, &mut Cursor) -> Result<usize, SyntaxError>>(
     told: Told,
     part: &P,
     grammar: &Grammar<'_, F>,
     cursor: &mut Cursor,
-) -> Result<Measured, SyntaxError>
+) -> Result<usize, SyntaxError>
     requires { IsRing grammar.now.input grammar.now.room (F.pre grammar.now.read) (F.post grammar.now.read) }
     ensures { IsPart (either (test (told_of told) (keys_of grammar.now.input.tokens.tokens.now) cursor.old.at)
-        (form_at (keys_of grammar.now.input.tokens.tokens.now) (row_at grammar.now.input.lang (keys_of grammar.now.input.tokens.tokens.now) grammar.now.room) (P.form part.now) cursor.old.at) (gives makes.of_nil cursor.old.at)) result cursor.new.at }
+        (form_at (keys_of grammar.now.input.tokens.tokens.now) (row_at grammar.now.input.lang (keys_of grammar.now.input.tokens.tokens.now) grammar.now.room) (P.form part.now) cursor.old.at) (gives makes.of_nil cursor.old.at)) cursor.old.row cursor.new result }
 {
     if told.is_there(&grammar.input, cursor.at) {
         return group(part, grammar, cursor);
     }
-    Ok(Measured {
-        tree: Tree::Parts(Items::new(grammar.input.alloc)),
-        height: 0,
-    })
+    cursor.row.leaf(What::Parts, 0, 0)?;
+    Ok(0)
 }
 
 /// A part by either of two forms.
 fn alternative<
     A: ReadsForm,
     B: ReadsForm,
-    F: Fn(Input<'_>, usize, Row, &mut Cursor) -> Result<Measured, SyntaxError>,
+    F: Fn(Input<'_>, usize, Row, &mut Cursor) -> Result<usize, SyntaxError>,
 >(
     ahead: Ahead,
     one: &A,
     other: &B,
     grammar: &Grammar<'_, F>,
     cursor: &mut Cursor,
-) -> Result<Measured, SyntaxError>
+) -> Result<usize, SyntaxError>
     requires { IsRing grammar.now.input grammar.now.room (F.pre grammar.now.read) (F.post grammar.now.read) }
     ensures { IsPart (either (look_of ahead (seen (keys_of grammar.now.input.tokens.tokens.now) cursor.old.at))
         (form_at (keys_of grammar.now.input.tokens.tokens.now) (row_at grammar.now.input.lang (keys_of grammar.now.input.tokens.tokens.now) grammar.now.room) (A.form one.now) cursor.old.at)
-        (form_at (keys_of grammar.now.input.tokens.tokens.now) (row_at grammar.now.input.lang (keys_of grammar.now.input.tokens.tokens.now) grammar.now.room) (B.form other.now) cursor.old.at)) result cursor.new.at }
+        (form_at (keys_of grammar.now.input.tokens.tokens.now) (row_at grammar.now.input.lang (keys_of grammar.now.input.tokens.tokens.now) grammar.now.room) (B.form other.now) cursor.old.at)) cursor.old.row cursor.new result }
 {
     if sees_ahead(&grammar.input.tokens, ahead, cursor.at) {
         return group(one, grammar, cursor);
@@ -100,17 +90,18 @@ fn alternative<
 }
 
 /// The turns of a list: no more than there are tokens.
-fn turns<P: ReadsForm, F: Fn(Input<'_>, usize, Row, &mut Cursor) -> Result<Measured, SyntaxError>>(
+fn turns<P: ReadsForm, F: Fn(Input<'_>, usize, Row, &mut Cursor) -> Result<usize, SyntaxError>>(
     told: Told,
     turn: &P,
     grammar: &Grammar<'_, F>,
     cursor: &mut Cursor,
-) -> Result<Measured, SyntaxError>
+) -> Result<usize, SyntaxError>
     requires { IsRing grammar.now.input grammar.now.room (F.pre grammar.now.read) (F.post grammar.now.read) }
     ensures { IsPart (read_turns makes (keys_of grammar.now.input.tokens.tokens.now) (test (told_of told))
-        (form_at (keys_of grammar.now.input.tokens.tokens.now) (row_at grammar.now.input.lang (keys_of grammar.now.input.tokens.tokens.now) grammar.now.room) (P.form turn.now)) (length (keys_of grammar.now.input.tokens.tokens.now)) cursor.old.at) result cursor.new.at }
+        (form_at (keys_of grammar.now.input.tokens.tokens.now) (row_at grammar.now.input.lang (keys_of grammar.now.input.tokens.tokens.now) grammar.now.room) (P.form turn.now)) (length (keys_of grammar.now.input.tokens.tokens.now)) cursor.old.at) cursor.old.row cursor.new result }
 {
-    let mut list = Parts::new(grammar.input.alloc);
+    let opened = cursor.row.open()?;
+    let mut height = 0;
     let mut left = grammar.input.tokens.tokens.len();
     'turns: while told.is_there(&grammar.input, cursor.at) {
         if left == 0 {
@@ -118,12 +109,10 @@ fn turns<P: ReadsForm, F: Fn(Input<'_>, usize, Row, &mut Cursor) -> Result<Measu
         }
         left -= 1;
         let part = group(turn, grammar, cursor)?;
-        list.push(part)?;
+        height = height.max(part);
     }
-    Ok(Measured {
-        tree: Tree::Parts(list.trees),
-        height: list.height,
-    })
+    cursor.row.close(opened, What::Parts, 0, 0)?;
+    Ok(height)
 }
 
 /// Nothing more.
@@ -133,13 +122,12 @@ pub struct Done;
 impl ReadsForm for Done {
     ghost form = { λ _. done };
 
-    fn read<F: Fn(Input<'_>, usize, Row, &mut Cursor) -> Result<Measured, SyntaxError>>(
+    fn read<F: Fn(Input<'_>, usize, Row, &mut Cursor) -> Result<usize, SyntaxError>>(
         &self,
         _grammar: &Grammar<'_, F>,
         _cursor: &mut Cursor,
-        _parts: &mut Parts,
-    ) -> Result<(), SyntaxError> {
-        Ok(())
+    ) -> Result<usize, SyntaxError> {
+        Ok(0)
     }
 }
 
@@ -150,19 +138,15 @@ pub struct Tok<N>(pub Sort, pub Kinds, pub N);
 impl<N: ReadsForm> ReadsForm for Tok<N> {
     ghost form = { λ s. tok (sort_of s.0) (kinds_of s.1) (N.form s.2) };
 
-    fn read<F: Fn(Input<'_>, usize, Row, &mut Cursor) -> Result<Measured, SyntaxError>>(
+    fn read<F: Fn(Input<'_>, usize, Row, &mut Cursor) -> Result<usize, SyntaxError>>(
         &self,
         grammar: &Grammar<'_, F>,
         cursor: &mut Cursor,
-        parts: &mut Parts,
-    ) -> Result<(), SyntaxError> {
+    ) -> Result<usize, SyntaxError> {
         let at = cursor.at;
         take(&grammar.input.tokens, self.1, cursor)?;
-        parts.push(Measured {
-            tree: Tree::Leaf { at },
-            height: 0,
-        })?;
-        self.2.read(grammar, cursor, parts)
+        leaf(&mut cursor.row, at)?;
+        self.2.read(grammar, cursor)
     }
 }
 
@@ -173,14 +157,13 @@ pub struct Punct<N>(pub TokenKind, pub N);
 impl<N: ReadsForm> ReadsForm for Punct<N> {
     ghost form = { λ s. punct s.0 (N.form s.1) };
 
-    fn read<F: Fn(Input<'_>, usize, Row, &mut Cursor) -> Result<Measured, SyntaxError>>(
+    fn read<F: Fn(Input<'_>, usize, Row, &mut Cursor) -> Result<usize, SyntaxError>>(
         &self,
         grammar: &Grammar<'_, F>,
         cursor: &mut Cursor,
-        parts: &mut Parts,
-    ) -> Result<(), SyntaxError> {
+    ) -> Result<usize, SyntaxError> {
         expect(&grammar.input.tokens, self.0, cursor)?;
-        self.1.read(grammar, cursor, parts)
+        self.1.read(grammar, cursor)
     }
 }
 
@@ -191,15 +174,13 @@ pub struct OfRow<N>(pub Row, pub N);
 impl<N: ReadsForm> ReadsForm for OfRow<N> {
     ghost form = { λ s. row s.0 (N.form s.1) };
 
-    fn read<F: Fn(Input<'_>, usize, Row, &mut Cursor) -> Result<Measured, SyntaxError>>(
+    fn read<F: Fn(Input<'_>, usize, Row, &mut Cursor) -> Result<usize, SyntaxError>>(
         &self,
         grammar: &Grammar<'_, F>,
         cursor: &mut Cursor,
-        parts: &mut Parts,
-    ) -> Result<(), SyntaxError> {
+    ) -> Result<usize, SyntaxError> {
         let part = grammar.row(self.0, cursor)?;
-        parts.push(part)?;
-        self.1.read(grammar, cursor, parts)
+        higher(part, self.1.read(grammar, cursor))
     }
 }
 
@@ -210,15 +191,13 @@ pub struct Opt<P, N>(pub Told, pub P, pub N);
 impl<P: ReadsForm, N: ReadsForm> ReadsForm for Opt<P, N> {
     ghost form = { λ s. opt (told_of s.0) (P.form s.1) (N.form s.2) };
 
-    fn read<F: Fn(Input<'_>, usize, Row, &mut Cursor) -> Result<Measured, SyntaxError>>(
+    fn read<F: Fn(Input<'_>, usize, Row, &mut Cursor) -> Result<usize, SyntaxError>>(
         &self,
         grammar: &Grammar<'_, F>,
         cursor: &mut Cursor,
-        parts: &mut Parts,
-    ) -> Result<(), SyntaxError> {
+    ) -> Result<usize, SyntaxError> {
         let part = optional(self.0, &self.1, grammar, cursor)?;
-        parts.push(part)?;
-        self.2.read(grammar, cursor, parts)
+        higher(part, self.2.read(grammar, cursor))
     }
 }
 
@@ -229,15 +208,13 @@ pub struct Many<P, N>(pub Told, pub P, pub N);
 impl<P: ReadsForm, N: ReadsForm> ReadsForm for Many<P, N> {
     ghost form = { λ s. many (told_of s.0) (P.form s.1) (N.form s.2) };
 
-    fn read<F: Fn(Input<'_>, usize, Row, &mut Cursor) -> Result<Measured, SyntaxError>>(
+    fn read<F: Fn(Input<'_>, usize, Row, &mut Cursor) -> Result<usize, SyntaxError>>(
         &self,
         grammar: &Grammar<'_, F>,
         cursor: &mut Cursor,
-        parts: &mut Parts,
-    ) -> Result<(), SyntaxError> {
+    ) -> Result<usize, SyntaxError> {
         let part = turns(self.0, &self.1, grammar, cursor)?;
-        parts.push(part)?;
-        self.2.read(grammar, cursor, parts)
+        higher(part, self.2.read(grammar, cursor))
     }
 }
 
@@ -248,15 +225,13 @@ pub struct Alt<A, B, N>(pub Ahead, pub A, pub B, pub N);
 impl<A: ReadsForm, B: ReadsForm, N: ReadsForm> ReadsForm for Alt<A, B, N> {
     ghost form = { λ s. alt (look_of s.0) (A.form s.1) (B.form s.2) (N.form s.3) };
 
-    fn read<F: Fn(Input<'_>, usize, Row, &mut Cursor) -> Result<Measured, SyntaxError>>(
+    fn read<F: Fn(Input<'_>, usize, Row, &mut Cursor) -> Result<usize, SyntaxError>>(
         &self,
         grammar: &Grammar<'_, F>,
         cursor: &mut Cursor,
-        parts: &mut Parts,
-    ) -> Result<(), SyntaxError> {
+    ) -> Result<usize, SyntaxError> {
         let part = alternative(self.0, &self.1, &self.2, grammar, cursor)?;
-        parts.push(part)?;
-        self.3.read(grammar, cursor, parts)
+        higher(part, self.3.read(grammar, cursor))
     }
 }
 
@@ -267,14 +242,13 @@ pub struct When<N>(pub Ahead, pub N);
 impl<N: ReadsForm> ReadsForm for When<N> {
     ghost form = { λ s. when_ (look_of s.0) (N.form s.1) };
 
-    fn read<F: Fn(Input<'_>, usize, Row, &mut Cursor) -> Result<Measured, SyntaxError>>(
+    fn read<F: Fn(Input<'_>, usize, Row, &mut Cursor) -> Result<usize, SyntaxError>>(
         &self,
         grammar: &Grammar<'_, F>,
         cursor: &mut Cursor,
-        parts: &mut Parts,
-    ) -> Result<(), SyntaxError> {
+    ) -> Result<usize, SyntaxError> {
         if sees_ahead(&grammar.input.tokens, self.0, cursor.at) {
-            return self.1.read(grammar, cursor, parts);
+            return self.1.read(grammar, cursor);
         }
         Err(SyntaxError::Syntax { token: cursor.at })
     }
@@ -287,19 +261,18 @@ pub struct Where<N>(pub Guard, pub N);
 impl<N: ReadsForm> ReadsForm for Where<N> {
     ghost form = { λ s. where_ (guard_of s.0) (N.form s.1) };
 
-    fn read<F: Fn(Input<'_>, usize, Row, &mut Cursor) -> Result<Measured, SyntaxError>>(
+    fn read<F: Fn(Input<'_>, usize, Row, &mut Cursor) -> Result<usize, SyntaxError>>(
         &self,
         grammar: &Grammar<'_, F>,
         cursor: &mut Cursor,
-        parts: &mut Parts,
-    ) -> Result<(), SyntaxError> {
+    ) -> Result<usize, SyntaxError> {
         if holds(
             &grammar.input.tokens,
             grammar.input.alloc,
             self.0,
             cursor.at,
         ) {
-            return self.1.read(grammar, cursor, parts);
+            return self.1.read(grammar, cursor);
         }
         Err(SyntaxError::Syntax { token: cursor.at })
     }

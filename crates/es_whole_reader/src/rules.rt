@@ -1,25 +1,25 @@
 //! Rules: the alternatives of a row.
 
-ghost use Rattle.std.specs.Prelude.{◌≡◌, length};
+ghost use Rattle.std.specs.Prelude.{◌≡◌};
 ghost use Rattle.es_tree.specs.Key.{keys_of};
-ghost use Rattle.es_tree.specs.Form.{Rule, refuse, make, choose, as_, pick, wrap, test};
+ghost use Rattle.es_tree.specs.Form.{Rule, refuse, make, choose, as_, pick, wrap};
 ghost use Rattle.es_tree.specs.Reader.{and_then};
 ghost use Rattle.es_whole_grammar.specs.declared.rows.Row.{Row};
 ghost use Rattle.es_whole_grammar.specs.declared.rows.Label.{Label};
 ghost use Rattle.es_whole_grammar.specs.Embedding.{label_by};
 ghost use Rattle.es_whole_guards.specs.Named.{look_of, guard_of};
 ghost use Rattle.es_whole_reader.specs.Told.{told_of};
-ghost use Rattle.es_whole_reader.specs.Bounded.{makes, form_at, node_at, rule_at, row_at, wraps_at};
-ghost use Rattle.es_whole_reader.specs.Steps.{IsRing, IsRead, single};
+ghost use Rattle.es_whole_reader.specs.Bounded.{form_at, node_at, rule_at, row_at};
+ghost use Rattle.es_whole_reader.specs.Steps.{IsRing, IsRead};
 
-use crate::cursor::{Cursor, Grammar, Input, Measured, Parts, node};
+use crate::cursor::{Cursor, Grammar, Input, counted, number};
 use crate::forms::ReadsForm;
 use crate::told::Told;
-use base::Boxed;
+use crate::wraps::wraps;
+use es_syntax::What;
 use es_tree::{Lang, SyntaxError};
 use es_whole_grammar::{Label, Row};
 use es_whole_guards::{Ahead, Guard, holds, sees_ahead};
-use es_whole_tree::Tree;
 
 /// What reads a rule.
 pub trait ReadsRule {
@@ -27,65 +27,33 @@ pub trait ReadsRule {
     ghost rule: { Self → Rule Row Label };
 
     /// The tree that stands here.
-    fn read<F: Fn(Input<'_>, usize, Row, &mut Cursor) -> Result<Measured, SyntaxError>>(
+    fn read<F: Fn(Input<'_>, usize, Row, &mut Cursor) -> Result<usize, SyntaxError>>(
         &self,
         grammar: &Grammar<'_, F>,
         cursor: &mut Cursor,
-    ) -> Result<Measured, SyntaxError>
+    ) -> Result<usize, SyntaxError>
         requires { IsRing grammar.now.input grammar.now.room (F.pre grammar.now.read) (F.post grammar.now.read) }
-        ensures { IsRead (rule_at (keys_of grammar.now.input.tokens.tokens.now) (row_at grammar.now.input.lang (keys_of grammar.now.input.tokens.tokens.now) grammar.now.room) (rule self.now) cursor.old.at) result cursor.new.at };
+        ensures { IsRead (rule_at (keys_of grammar.now.input.tokens.tokens.now) (row_at grammar.now.input.lang (keys_of grammar.now.input.tokens.tokens.now) grammar.now.room) (rule self.now) cursor.old.at) cursor.old.row cursor.new result };
 }
 
-/// One turn behind an operand: a node of both.
-fn wrapped<
-    P: ReadsForm,
-    F: Fn(Input<'_>, usize, Row, &mut Cursor) -> Result<Measured, SyntaxError>,
->(
+/// A node with these parts.
+fn made<P: ReadsForm, F: Fn(Input<'_>, usize, Row, &mut Cursor) -> Result<usize, SyntaxError>>(
     label: Label,
-    turn: &P,
-    from: usize,
-    first: Measured,
+    parts: &P,
     grammar: &Grammar<'_, F>,
     cursor: &mut Cursor,
-) -> Result<Measured, SyntaxError>
+) -> Result<usize, SyntaxError>
     requires { IsRing grammar.now.input grammar.now.room (F.pre grammar.now.read) (F.post grammar.now.read) }
-    ensures { IsRead (and_then (form_at (keys_of grammar.now.input.tokens.tokens.now) (row_at grammar.now.input.lang (keys_of grammar.now.input.tokens.tokens.now) grammar.now.room) (P.form turn.now) cursor.old.at)
-        (λ ps to. node_at label from to (makes.of_cons (single first) ps))) result cursor.new.at }
+    ensures { IsRead (and_then (form_at (keys_of grammar.now.input.tokens.tokens.now) (row_at grammar.now.input.lang (keys_of grammar.now.input.tokens.tokens.now) grammar.now.room) (P.form parts.now) cursor.old.at)
+        (λ ps to. node_at label cursor.old.at to ps)) cursor.old.row cursor.new result }
 {
-    let mut parts = Parts::new(grammar.input.alloc);
-    parts.push(first)?;
-    turn.read(grammar, cursor, &mut parts)?;
-    node(label, from, parts, cursor)
-}
-
-/// The turns behind an operand that was read from a place on: no more than there are tokens.
-pub fn wraps<
-    P: ReadsForm,
-    F: Fn(Input<'_>, usize, Row, &mut Cursor) -> Result<Measured, SyntaxError>,
->(
-    label: Label,
-    told: Told,
-    turn: &P,
-    from: usize,
-    first: Measured,
-    grammar: &Grammar<'_, F>,
-    cursor: &mut Cursor,
-) -> Result<Measured, SyntaxError>
-    requires { IsRing grammar.now.input grammar.now.room (F.pre grammar.now.read) (F.post grammar.now.read) }
-    ensures { IsRead (wraps_at (keys_of grammar.now.input.tokens.tokens.now) label (test (told_of told))
-        (form_at (keys_of grammar.now.input.tokens.tokens.now) (row_at grammar.now.input.lang (keys_of grammar.now.input.tokens.tokens.now) grammar.now.room) (P.form turn.now)) from (length (keys_of grammar.now.input.tokens.tokens.now)) (single first) cursor.old.at) result cursor.new.at }
-{
-    let mut whole = first;
-    let mut left = grammar.input.tokens.tokens.len();
-    'turns: while told.is_there(&grammar.input, cursor.at) {
-        if left == 0 {
-            return Err(SyntaxError::Syntax { token: cursor.at });
-        }
-        left -= 1;
-        let next = wrapped(label, turn, from, whole, grammar, cursor)?;
-        whole = next;
-    }
-    Ok(whole)
+    let from = number(cursor.at)?;
+    let opened = cursor.row.open()?;
+    let parts = parts.read(grammar, cursor)?;
+    let height = counted(parts, cursor)?;
+    let to = number(cursor.at)?;
+    cursor.row.close(opened, What::Node(label), from, to)?;
+    Ok(height)
 }
 
 /// Nothing.
@@ -95,11 +63,11 @@ pub struct Refuse;
 impl ReadsRule for Refuse {
     ghost rule = { λ _. refuse };
 
-    fn read<F: Fn(Input<'_>, usize, Row, &mut Cursor) -> Result<Measured, SyntaxError>>(
+    fn read<F: Fn(Input<'_>, usize, Row, &mut Cursor) -> Result<usize, SyntaxError>>(
         &self,
         _grammar: &Grammar<'_, F>,
         cursor: &mut Cursor,
-    ) -> Result<Measured, SyntaxError> {
+    ) -> Result<usize, SyntaxError> {
         Err(SyntaxError::Syntax { token: cursor.at })
     }
 }
@@ -111,15 +79,12 @@ pub struct Make<P>(pub Label, pub P);
 impl<P: ReadsForm> ReadsRule for Make<P> {
     ghost rule = { λ s. make s.0 (P.form s.1) };
 
-    fn read<F: Fn(Input<'_>, usize, Row, &mut Cursor) -> Result<Measured, SyntaxError>>(
+    fn read<F: Fn(Input<'_>, usize, Row, &mut Cursor) -> Result<usize, SyntaxError>>(
         &self,
         grammar: &Grammar<'_, F>,
         cursor: &mut Cursor,
-    ) -> Result<Measured, SyntaxError> {
-        let from = cursor.at;
-        let mut parts = Parts::new(grammar.input.alloc);
-        self.1.read(grammar, cursor, &mut parts)?;
-        node(self.0, from, parts, cursor)
+    ) -> Result<usize, SyntaxError> {
+        made(self.0, &self.1, grammar, cursor)
     }
 }
 
@@ -140,15 +105,12 @@ pub struct MakeBy<P>(pub Lang, pub Label, pub Label, pub P);
 impl<P: ReadsForm> ReadsRule for MakeBy<P> {
     ghost rule = { λ s. make (label_by s.0 s.1 s.2) (P.form s.3) };
 
-    fn read<F: Fn(Input<'_>, usize, Row, &mut Cursor) -> Result<Measured, SyntaxError>>(
+    fn read<F: Fn(Input<'_>, usize, Row, &mut Cursor) -> Result<usize, SyntaxError>>(
         &self,
         grammar: &Grammar<'_, F>,
         cursor: &mut Cursor,
-    ) -> Result<Measured, SyntaxError> {
-        let from = cursor.at;
-        let mut parts = Parts::new(grammar.input.alloc);
-        self.3.read(grammar, cursor, &mut parts)?;
-        node(label_by(self.0, self.1, self.2), from, parts, cursor)
+    ) -> Result<usize, SyntaxError> {
+        made(label_by(self.0, self.1, self.2), &self.3, grammar, cursor)
     }
 }
 
@@ -159,11 +121,11 @@ pub struct Choose<A, B>(pub Ahead, pub A, pub B);
 impl<A: ReadsRule, B: ReadsRule> ReadsRule for Choose<A, B> {
     ghost rule = { λ s. choose (look_of s.0) (A.rule s.1) (B.rule s.2) };
 
-    fn read<F: Fn(Input<'_>, usize, Row, &mut Cursor) -> Result<Measured, SyntaxError>>(
+    fn read<F: Fn(Input<'_>, usize, Row, &mut Cursor) -> Result<usize, SyntaxError>>(
         &self,
         grammar: &Grammar<'_, F>,
         cursor: &mut Cursor,
-    ) -> Result<Measured, SyntaxError> {
+    ) -> Result<usize, SyntaxError> {
         if sees_ahead(&grammar.input.tokens, self.0, cursor.at) {
             return self.1.read(grammar, cursor);
         }
@@ -178,11 +140,11 @@ pub struct Pick<A, B>(pub Guard, pub A, pub B);
 impl<A: ReadsRule, B: ReadsRule> ReadsRule for Pick<A, B> {
     ghost rule = { λ s. pick (guard_of s.0) (A.rule s.1) (B.rule s.2) };
 
-    fn read<F: Fn(Input<'_>, usize, Row, &mut Cursor) -> Result<Measured, SyntaxError>>(
+    fn read<F: Fn(Input<'_>, usize, Row, &mut Cursor) -> Result<usize, SyntaxError>>(
         &self,
         grammar: &Grammar<'_, F>,
         cursor: &mut Cursor,
-    ) -> Result<Measured, SyntaxError> {
+    ) -> Result<usize, SyntaxError> {
         if holds(
             &grammar.input.tokens,
             grammar.input.alloc,
@@ -202,20 +164,15 @@ pub struct As<A>(pub Label, pub A);
 impl<A: ReadsRule> ReadsRule for As<A> {
     ghost rule = { λ s. as_ s.0 (A.rule s.1) };
 
-    fn read<F: Fn(Input<'_>, usize, Row, &mut Cursor) -> Result<Measured, SyntaxError>>(
+    fn read<F: Fn(Input<'_>, usize, Row, &mut Cursor) -> Result<usize, SyntaxError>>(
         &self,
         grammar: &Grammar<'_, F>,
         cursor: &mut Cursor,
-    ) -> Result<Measured, SyntaxError> {
-        let inner = self.1.read(grammar, cursor)?;
-        let tree = Boxed::new(grammar.input.alloc, inner.tree)?;
-        Ok(Measured {
-            tree: Tree::Role {
-                label: self.0,
-                tree,
-            },
-            height: inner.height,
-        })
+    ) -> Result<usize, SyntaxError> {
+        let opened = cursor.row.open()?;
+        let height = self.1.read(grammar, cursor)?;
+        cursor.row.close(opened, What::Role(self.0), 0, 0)?;
+        Ok(height)
     }
 }
 
@@ -226,12 +183,12 @@ pub struct Wrap<A, P>(pub Label, pub A, pub Told, pub P);
 impl<A: ReadsRule, P: ReadsForm> ReadsRule for Wrap<A, P> {
     ghost rule = { λ s. wrap s.0 (A.rule s.1) (told_of s.2) (P.form s.3) };
 
-    fn read<F: Fn(Input<'_>, usize, Row, &mut Cursor) -> Result<Measured, SyntaxError>>(
+    fn read<F: Fn(Input<'_>, usize, Row, &mut Cursor) -> Result<usize, SyntaxError>>(
         &self,
         grammar: &Grammar<'_, F>,
         cursor: &mut Cursor,
-    ) -> Result<Measured, SyntaxError> {
-        let from = cursor.at;
+    ) -> Result<usize, SyntaxError> {
+        let from = cursor.here();
         let first = self.1.read(grammar, cursor)?;
         wraps(self.0, self.2, &self.3, from, first, grammar, cursor)
     }
