@@ -6,12 +6,16 @@ use Rattle.es_token.specs.declared.token.Token.{Token}
 use Rattle.es_whole_grammar.specs.declared.rows.Label.{Label}
 use Rattle.es_whole_tree.specs.declared.tree.Tree.{Tree}
 use Rattle.es_whole_tree.specs.declared.tree.Tree.TheVariants as vTree
+use Rattle.es_syntax.specs.declared.entry.Entry.{Entry}
+use Rattle.es_syntax.specs.declared.entry.Lean.{Lean}
+use Rattle.es_syntax.specs.Trees.{Kept, leant_tree, trees}
 use Rattle.es_site.specs.Sites.{Found}
 use Rattle.es_plain_sites.specs.Part.{Part, absent, nil, more, token, node, part, group, is_there, at, packed, as_target}
 use Rattle.es_plain_sites.specs.Own.{part_of, first_of, returned, typed_args}
 use Rattle.es_plain_sites.proofs.Equations.{part_leaf, part_node, part_role, part_parts}
 use Rattle.es_tree_sites.specs.Parts.{parts_of}
 use Rattle.es_tree_sites.specs.Steps.{has_second, is_token, handlers_in}
+use Rattle.es_tree_sites.proofs.LeanLemmas.{on_lean}
 
 three : (old a b c : Found) → old ++ (a ++ b ++ c) ≡ ((old ++ a) ++ b) ++ c
 three old a b c = sym (append_assoc old (a ++ b) c) ∙ ap (λ s. s ++ c) (sym (append_assoc old a b))
@@ -43,8 +47,12 @@ module _ (x : List ℕ) (ts : List Token) where
   pub token_role : (label : Label) (tree : Tree) → is_token (part_of x ts (vTree.Role label tree)) ≡ false
   token_role label tree = ap is_token (part_role x ts label tree) ∙ token_target (part_of x ts tree)
 
-  pub token_parts : (parts : List Tree) → is_token (part_of x ts (vTree.Parts parts)) ≡ false
-  token_parts parts = ap is_token (part_parts x ts parts) ∙ token_packed (map (part_of x ts) parts)
+  pub token_parts : (us : List Tree) → is_token (part_of x ts (vTree.Parts us)) ≡ false
+  token_parts us = ap is_token (part_parts x ts us) ∙ token_packed (map (part_of x ts) us)
+
+  pub token_lean : (lean : Lean) (from : ℕ) (us : List Kept) → is_token (part_of x ts (leant_tree lean from us)) ≡ false
+  unfolding is_token
+  token_lean lean from us = on_lean x ts is_token false lean refl (λ p s. refl) from us
 
   -- ---- what is added
   pub args_if : (old : Found) (g : Part)
@@ -76,29 +84,43 @@ module _ (x : List ℕ) (ts : List Token) where
   args_other old g e = args_if old g ∙ ap (λ b. if b then old else old ++ at g 1) e
 
   -- one part, or none, or more
-  returned_if : (old : Found) (ps : List Tree)
-      → old ++ returned x ts (parts_of x ts ps) ≡ (if has_second ps then old ++ at (parts_of x ts ps) 0 else old)
-  unfolding parts_of has_second
+  returned_if : (old : Found) (vs : List Part)
+      → old ++ returned x ts (packed vs) ≡ (if has_second (packed vs) then old ++ at (packed vs) 0 else old)
+  unfolding has_second
   returned_if old [] = append-nil old
-  returned_if old (t ∷ []) = append-nil old
-  returned_if old (t ∷ u ∷ ps) = refl
+  returned_if old (v ∷ []) = append-nil old
+  returned_if old (v ∷ w ∷ vs) = refl
 
-  pub returned_one : (old : Found) (ps : List Tree) → has_second ps ≡ false
-      → old ++ returned x ts (parts_of x ts ps) ≡ old
-  returned_one old ps e =
-      returned_if old ps ∙ ap (λ b. if b then old ++ at (parts_of x ts ps) 0 else old) e
+  returned_parts : (old : Found) (es : List Entry)
+      → old ++ returned x ts (parts_of x ts es)
+      ≡ (if has_second (parts_of x ts es) then old ++ at (parts_of x ts es) 0 else old)
+  unfolding parts_of
+  returned_parts old es = returned_if old (map (part_of x ts) (trees es))
 
-  pub returned_more : (old : Found) (ps : List Tree) → has_second ps ≡ true
-      → old ++ returned x ts (parts_of x ts ps) ≡ old ++ at (parts_of x ts ps) 0
-  returned_more old ps e =
-      returned_if old ps ∙ ap (λ b. if b then old ++ at (parts_of x ts ps) 0 else old) e
+  pub returned_one : (old : Found) (es : List Entry) → has_second (parts_of x ts es) ≡ false
+      → old ++ returned x ts (parts_of x ts es) ≡ old
+  returned_one old es e =
+      returned_parts old es ∙ ap (λ b. if b then old ++ at (parts_of x ts es) 0 else old) e
 
-  pub handlers_if : (old : Found) (ps : List Tree)
-      → old ++ handlers_in (parts_of x ts ps)
-      ≡ (if has_second ps
-      then ((old ++ at (group (parts_of x ts ps) 0) 0) ++ at (parts_of x ts ps) 1) ++ at (group (parts_of x ts ps) 2) 0
-      else old ++ at (parts_of x ts ps) 0)
-  unfolding parts_of has_second handlers_in
-  handlers_if old [] = refl
-  handlers_if old (t ∷ []) = refl
-  handlers_if old (t ∷ u ∷ ps) = three old _ _ _
+  pub returned_more : (old : Found) (es : List Entry) → has_second (parts_of x ts es) ≡ true
+      → old ++ returned x ts (parts_of x ts es) ≡ old ++ at (parts_of x ts es) 0
+  returned_more old es e =
+      returned_parts old es ∙ ap (λ b. if b then old ++ at (parts_of x ts es) 0 else old) e
+
+  handlers_of : (old : Found) (vs : List Part)
+      → old ++ handlers_in (packed vs)
+      ≡ (if has_second (packed vs)
+      then ((old ++ at (group (packed vs) 0) 0) ++ at (packed vs) 1) ++ at (group (packed vs) 2) 0
+      else old ++ at (packed vs) 0)
+  unfolding has_second handlers_in
+  handlers_of old [] = refl
+  handlers_of old (v ∷ []) = refl
+  handlers_of old (v ∷ w ∷ vs) = three old _ _ _
+
+  pub handlers_if : (old : Found) (es : List Entry)
+      → old ++ handlers_in (parts_of x ts es)
+      ≡ (if has_second (parts_of x ts es)
+      then ((old ++ at (group (parts_of x ts es) 0) 0) ++ at (parts_of x ts es) 1) ++ at (group (parts_of x ts es) 2) 0
+      else old ++ at (parts_of x ts es) 0)
+  unfolding parts_of
+  handlers_if old es = handlers_of old (map (part_of x ts) (trees es))

@@ -1,8 +1,9 @@
+pub mod RowLemmas
+pub mod LeanLemmas
 pub mod PartLemmas
 pub mod Looks
-pub mod Folds
+pub mod Turns
 pub mod StepLemmas
-pub mod TurnLemmas
 pub mod WalkLemmas
 pub mod FormLemmas
 mod CutLemmas

@@ -6,11 +6,17 @@ use Rattle.es_token.specs.declared.token.Token.{Token}
 use Rattle.es_whole_grammar.specs.declared.rows.Label.{Label}
 use Rattle.es_whole_tree.specs.declared.tree.Tree.{Tree}
 use Rattle.es_whole_tree.specs.declared.tree.Tree.TheVariants as vTree
+use Rattle.es_syntax.specs.declared.entry.Entry.{Entry}
+use Rattle.es_syntax.specs.declared.entry.Lean.{Lean}
+use Rattle.es_syntax.specs.Trees.{first_tree, leant_tree, trees_in}
 use Rattle.es_site.specs.Sites.{Found}
-use Rattle.es_plain_sites.specs.Part.{Part, absent, nil, more, token, node, found, packed, as_target}
-use Rattle.es_plain_sites.specs.Own.{own, made, part_of, plain_sites}
-use Rattle.es_plain_sites.proofs.Equations.{part_leaf, part_node, part_role, part_parts}
-use Rattle.es_tree_sites.specs.Parts.{parts_of}
+use Rattle.es_plain_sites.specs.Part.{Part, absent, nil, more, token, node, found, at, packed, as_target}
+use Rattle.es_plain_sites.specs.Own.{own, part_of, plain_sites}
+use Rattle.es_plain_sites.proofs.Equations.{part_leaf, part_role, part_parts}
+use Rattle.es_tree_sites.specs.Parts.{kept, parts_of}
+use Rattle.es_tree_sites.specs.Steps.{leaning_in}
+use Rattle.es_tree_sites.proofs.PartLemmas.{parts_kept, seen_node}
+use Rattle.es_tree_sites.proofs.LeanLemmas.{leant_sites}
 
 found_target : (v : Part) → found (as_target v) ≡ found v
 found_target absent = refl
@@ -24,20 +30,33 @@ found_packed [] = refl
 found_packed (v ∷ vs) = refl
 
 module _ (x : List ℕ) (ts : List Token) where
+  first_part : (us : List Tree) → found (part_of x ts (first_tree us)) ≡ at (packed (map (part_of x ts) us)) 0
+  first_part [] = ap found (part_parts x ts [])
+  first_part (u ∷ us) = refl
+
   pub walk_leaf : (old : Found) (at : ℕ) → old ++ plain_sites x ts (vTree.Leaf at) ≡ old
   walk_leaf old at = ap (λ v. old ++ found v) (part_leaf x ts at) ∙ append-nil old
 
-  pub walk_parts : (old : Found) (parts : List Tree) → old ++ plain_sites x ts (vTree.Parts parts) ≡ old
-  walk_parts old parts =
-      ap (λ v. old ++ found v) (part_parts x ts parts)
-      ∙ ap (λ s. old ++ s) (found_packed (map (part_of x ts) parts)) ∙ append-nil old
+  pub walk_parts : (old : Found) (us : List Tree) → old ++ plain_sites x ts (vTree.Parts us) ≡ old
+  walk_parts old us =
+      ap (λ v. old ++ found v) (part_parts x ts us)
+      ∙ ap (λ s. old ++ s) (found_packed (map (part_of x ts) us)) ∙ append-nil old
 
-  pub walk_role : (old : Found) (label : Label) (tree : Tree)
-      → old ++ plain_sites x ts (vTree.Role label tree) ≡ old ++ plain_sites x ts tree
-  walk_role old label tree =
-      ap (λ v. old ++ found v) (part_role x ts label tree) ∙ ap (λ s. old ++ s) (found_target (part_of x ts tree))
+  pub walk_role : (old : Found) (label : Label) (es : List Entry)
+      → old ++ plain_sites x ts (vTree.Role label (first_tree (trees_in (kept es)))) ≡ old ++ at (parts_of x ts es) 0
+  walk_role old label es =
+      let first = first_tree (trees_in (kept es)) in
+      ap (λ v. old ++ found v) (part_role x ts label first)
+      ∙ ap (λ s. old ++ s) (found_target (part_of x ts first) ∙ first_part (trees_in (kept es)))
+      ∙ ap (λ p. old ++ at p 0) (sym (parts_kept x ts es))
 
-  pub walk_node : (old : Found) (label : Label) (from to : ℕ) (parts : List Tree)
-      → old ++ plain_sites x ts (vTree.Node label from to parts) ≡ old ++ own x ts label (parts_of x ts parts)
-  unfolding parts_of
-  walk_node old label from to parts = ap (λ v. old ++ found v) (part_node x ts label from to parts)
+  pub walk_node : (old : Found) (label : Label) (from to : ℕ) (es : List Entry)
+      → old ++ plain_sites x ts (vTree.Node label from to (trees_in (kept es)))
+      ≡ old ++ own x ts label (parts_of x ts es)
+  walk_node old label from to es = ap (λ v. old ++ found v) (seen_node x ts label from to es)
+
+  pub walk_lean : (old : Found) (lean : Lean) (from : ℕ) (es : List Entry)
+      → old ++ plain_sites x ts (leant_tree lean from (kept es)) ≡ old ++ leaning_in lean (parts_of x ts es)
+  walk_lean old lean from es =
+      ap (λ s. old ++ s) (leant_sites x ts lean from (kept es))
+      ∙ ap (λ p. old ++ leaning_in lean p) (sym (parts_kept x ts es))

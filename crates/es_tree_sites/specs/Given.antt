@@ -1,15 +1,14 @@
--- Attributes by the alternative of a node, and over the turns of a list.
-use Rattle.std.specs.Prelude.{ℕ, Bool, true, false, ◌&&◌, List, Option, Some, None, fold, codes, if◌then◌else◌}
+-- Attributes, by the alternative of a node and over the turns of a list.
+use Rattle.std.specs.Prelude.{ℕ, Bool, true, false, List, Option, Some, None, codes, if◌then◌else◌}
 use Rattle.es_token.specs.declared.token.Token.{Token}
 use Rattle.ts_ast.specs.declared.leaf.Str.{Str}
 use Rattle.es_whole_grammar.specs.declared.rows.Label.{Label}
 use Rattle.es_whole_grammar.specs.declared.rows.Label.TheVariants as l
-use Rattle.es_whole_tree.specs.declared.tree.Tree.{Tree}
 use Rattle.es_site.specs.declared.site.Attribute.{Attribute}
 use Rattle.es_site.specs.declared.site.Attribute.TheVariants.{Absent}
 use Rattle.es_site.specs.Attributes.{named}
 use Rattle.es_plain_sites.specs.Part.{Part, part, as_group, group}
-use Rattle.es_plain_sites.specs.Own.{part_of, token_in, str_in, spelt, last_type, is_word_key, same_word, same_str, key_says, is_plain, given_in}
+use Rattle.es_plain_sites.specs.Own.{token_in, str_in, spelt, last_type, is_word_key, same_word, same_str, key_says, is_plain, given_in}
 
 -- a word or a string as a key
 abbrev pub is_word_label : Label → Bool
@@ -36,25 +35,15 @@ module _ (x : List ℕ) (ts : List Token) where
   given_by word l.KeyValue p last = if key_says x ts word (part p 0) then Some (part p 1) else last
   given_by word _ p last = last
 
-  -- ---- a turn of a list
-  unfoldable pub type_turn : Option Str → Tree → Option Str
-  type_turn last t =
-      if spelt x ts (codes "type") (token_in x ts (part (group (as_group (part_of x ts t)) 0) 0))
-      then str_in x ts (part (as_group (part_of x ts t)) 1)
+  -- ---- a turn of a list, by what stands there
+  unfoldable pub type_turn : Option Str → Part → Option Str
+  type_turn last turn =
+      if spelt x ts (codes "type") (token_in x ts (part (group (as_group turn) 0) 0))
+      then str_in x ts (part (as_group turn) 1)
       else last
 
-  unfoldable pub plain_turn : Tree → Bool
-  plain_turn t = is_plain x ts (part (as_group (part_of x ts t)) 0)
+  unfoldable pub plain_turn : Part → Bool
+  plain_turn turn = is_plain x ts (part (as_group turn) 0)
 
-  unfoldable pub given_turn : List ℕ → Option Part → Tree → Option Part
-  given_turn word last t = given_in x ts word (part (as_group (part_of x ts t)) 0) last
-
-  -- ---- all turns
-  abbrev pub last_type_of : List Tree → Option Str
-  last_type_of items = fold (λ last t. type_turn last t) None items
-
-  abbrev pub all_plain : List Tree → Bool
-  all_plain props = fold (λ so t. so && plain_turn t) true props
-
-  abbrev pub last_given_of : List ℕ → List Tree → Option Part
-  last_given_of word props = fold (λ last t. given_turn word last t) None props
+  unfoldable pub given_turn : List ℕ → Option Part → Part → Option Part
+  given_turn word last turn = given_in x ts word (part (as_group turn) 0) last

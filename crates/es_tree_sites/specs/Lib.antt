@@ -1,8 +1,6 @@
--- how many trees stand in a tree: what a walk goes down by
-pub mod Nodes
--- the parts of a node, of a group and of a list
+-- the parts of a node, of a group and of a list, as a row has them
 pub mod Parts
 -- where sites stand among the parts of a node
 pub mod Steps
--- attributes, over lists of trees
+-- attributes, by the alternative of a node and over turns
 pub mod Given

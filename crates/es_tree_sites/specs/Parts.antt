@@ -1,26 +1,66 @@
--- The parts of a node, of a group and of a list, as the code has them.
-use Rattle.std.specs.Prelude.{◌≡◌, ℕ, ◌≤◌, List, Option, Some, None, map, slice_get, IsCharBoundary}
-use Rattle.std.specs.Borrow.{Bor}
+-- The parts of a node, of a group and of a list, as a row has them.
+use Rattle.std.specs.Prelude.{◌≡◌, ℕ, ◌≤◌, Bool, true, false, List, [], ◌∷◌, length, Option, Some, None, map, slice_get, IsCharBoundary}
 use Rattle.es_token.specs.declared.token.Token.{Token}
+use Rattle.es_whole_grammar.specs.declared.rows.Label.{Label}
+use Rattle.es_whole_grammar.specs.declared.rows.Label.TheVariants as l
 use Rattle.es_whole_tree.specs.declared.tree.Tree.{Tree}
-use Rattle.es_plain_sites.specs.Part.{Part, absent, packed}
-use Rattle.es_plain_sites.specs.Own.{part_of}
+use Rattle.es_syntax.specs.declared.entry.Entry.{Entry}
+use Rattle.es_syntax.specs.declared.cursor.Row.{Row}
+use Rattle.es_syntax.specs.declared.cursor.Item.{Item}
+use Rattle.es_syntax.specs.Trees.{Kept, kept_by, tree_by, trees}
+use Rattle.es_plain_sites.specs.Part.{Part, absent, nil, more, node, packed}
+use Rattle.es_plain_sites.specs.Own.{part_of, made}
 use Rattle.es_tree_sites.specs.declared.source.Source.{Source}
 
--- what the parts of a node are
-unfoldable pub parts_of : List ℕ → List Token → List Tree → Part
-parts_of x ts parts = packed (map (part_of x ts) parts)
+-- the trees that the entries are, each with the token behind it
+unfoldable pub kept : List Entry → List Kept
+kept es = kept_by (length es) es
 
-abbrev pub parts_in : Source → List Tree → Part
-parts_in source parts = parts_of source.text.now source.tokens.now parts
+-- the tree that stands at a place
+abbrev pub tree_at : Item → Tree
+tree_at i = tree_by i.what i.from i.to (kept i.parts.entries.now)
 
-abbrev pub part_in : Source → Tree → Part
-part_in source tree = part_of source.text.now source.tokens.now tree
+-- the first tree, and those behind it
+abbrev pub first_trees : Option (Item × Row) → List Tree
+first_trees (Some p) = tree_at p.0 ∷ trees p.1.entries.now
+first_trees None = []
+
+-- what the parts in a row are
+unfoldable pub parts_of : List ℕ → List Token → List Entry → Part
+parts_of x ts es = packed (map (part_of x ts) (trees es))
+
+abbrev pub parts_in : Source → Row → Part
+parts_in source parts = parts_of source.text.now source.tokens.now parts.entries.now
+
+abbrev pub part_in : Source → Item → Part
+part_in source item = part_of source.text.now source.tokens.now (tree_at item)
+
+-- the first part, and those behind it
+abbrev pub first_in : Source → Option (Item × Row) → Part
+first_in source (Some p) = more (part_in source p.0) (parts_in source p.1)
+first_in source None = nil
 
 -- what a part is, where it is there
-abbrev pub there : Source → Option (Bor Tree) → Part
-there source (Some t) = part_in source t.now
+abbrev pub there : Source → Option Item → Part
+there source (Some item) = part_in source item
 there source None = absent
+
+-- a node in another role, and nodes that lean left
+abbrev pub is_other : Label → Bool
+is_other l.Target = true
+is_other l.Binary = true
+is_other l.TypedBinary = true
+is_other _ = false
+
+-- no node but one of these
+abbrev pub IsOther : Part → Type 0
+IsOther (node label p sites) = is_other label ≡ true
+IsOther _ = Unit {0}
+
+-- the node that a part is, by its alternative and its parts
+abbrev pub Seen : Source → Option (Label × Row) → Part → Type 0
+Seen source (Some q) v = v ≡ made source.text.now source.tokens.now q.0 (parts_in source q.1)
+Seen source None v = IsOther v
 
 -- the range of a token cuts the text between characters
 pub record Cuts (x : List ℕ) (t : Token) : Type 0 where

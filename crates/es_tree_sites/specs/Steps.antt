@@ -1,15 +1,16 @@
 -- Where the sites stand among the parts of a node, as data.
 use Rattle.std.specs.Prelude.{ℕ, Bool, true, false, List, [], ◌∷◌, ◌++◌}
 use Rattle.es_token.specs.declared.token.Token.{Token}
-use Rattle.es_whole_tree.specs.declared.tree.Tree.{Tree}
 use Rattle.es_whole_grammar.specs.declared.rows.Label.{Label}
 use Rattle.es_whole_grammar.specs.declared.rows.Label.TheVariants as l
+use Rattle.es_syntax.specs.declared.entry.Lean.{Lean}
+use Rattle.es_syntax.specs.declared.entry.Lean.TheVariants as vLean
 use Rattle.es_site.specs.declared.site.Attribute.TheVariants.{Unknown}
 use Rattle.es_site.specs.declared.site.DependencyKind.{DependencyKind}
 use Rattle.es_site.specs.declared.site.DependencyKind.TheVariants as kind
 use Rattle.es_site.specs.Sites.{Found}
-use Rattle.es_plain_sites.specs.Part.{Part, nil, more, token, part, as_group, group, is_there, at, each}
-use Rattle.es_plain_sites.specs.Own.{part_of, attribute_in, str_in, options_in, src_in, naming, first_of, returned, typed_args}
+use Rattle.es_plain_sites.specs.Part.{Part, nil, more, token, part, group, is_there, found, at, each}
+use Rattle.es_plain_sites.specs.Own.{attribute_in, str_in, options_in, src_in, naming, first_of, returned, typed_args}
 use Rattle.es_tree_sites.specs.declared.steps.Step.{Step}
 use Rattle.es_tree_sites.specs.declared.steps.Step.TheVariants.{At, In, Deep, Turns, Holes, Bare, From, Require, Names, Call, TypedArgs, Head, Returned, Cases, Handlers, Members, Body}
 
@@ -158,23 +159,24 @@ cases_in list = each (λ turn. at (group turn 0) 0 ++ turns_in 0 (group turn 1))
 unfoldable pub members_in : Part → Found
 members_in list = each (λ turn. at turn 0 ++ at (group turn 1) 0) list
 
--- the same of one turn
-unfoldable pub turn_at : List ℕ → List Token → ℕ → Tree → Found
-turn_at x ts m t = at (as_group (part_of x ts t)) m
+-- ---- nodes that lean left
+-- the operand in a turn, which has the parts of the node behind the first
+unfoldable pub operand_at : Lean → Part → Found
+operand_at vLean.Binary turn = at turn 1
+operand_at vLean.TypedBinary turn = at (group turn 0) 1
 
-unfoldable pub hole_at : List ℕ → List Token → Tree → Found
-hole_at x ts t = at (group (as_group (part_of x ts t)) 0) 0
+unfoldable pub operands_in : Lean → Part → Found
+operands_in lean turns = each (operand_at lean) turns
 
-unfoldable pub case_at : List ℕ → List Token → Tree → Found
-case_at x ts t = at (group (as_group (part_of x ts t)) 0) 0 ++ turns_in 0 (group (as_group (part_of x ts t)) 1)
-
-unfoldable pub member_at : List ℕ → List Token → Tree → Found
-member_at x ts t = at (as_group (part_of x ts t)) 0 ++ at (group (as_group (part_of x ts t)) 1) 0
+-- a first operand, and turns; fewer are no node
+unfoldable pub leaning_in : Lean → Part → Found
+leaning_in lean (more first (more turn turns)) = found first ++ operands_in lean (more turn turns)
+leaning_in lean _ = []
 
 -- ---- forms of their own
 -- more than one part
-unfoldable pub has_second : List Tree → Bool
-has_second (t ∷ u ∷ rest) = true
+unfoldable pub has_second : Part → Bool
+has_second (more v (more w vs)) = true
 has_second _ = false
 
 unfoldable pub is_token : Part → Bool

@@ -5,57 +5,50 @@ ghost use Rattle.es_dress.specs.Texts.{str_of};
 ghost use Rattle.es_site.specs.Attributes.{named};
 ghost use Rattle.es_plain_sites.specs.Own.{spelt, last_type, clause_attribute, attribute_in};
 ghost use Rattle.es_tree_sites.specs.Parts.{parts_in, part_in, Cuts, HasCut};
-ghost use Rattle.es_tree_sites.specs.Given.{clause_by, type_turn, last_type_of};
+ghost use Rattle.es_tree_sites.specs.Given.{clause_by, type_turn};
 
-use crate::source::{Source, got};
+use crate::source::Source;
 use es_site::Attribute;
+use es_syntax::{Item, Row};
 use es_token::Token;
 use es_whole_grammar::Label;
-use es_whole_tree::Tree;
 use std::alloc::AllocError;
 
 impl Source<'_> {
     /// The attribute of a declaration with this clause, or with none.
-    pub fn attribute(&self, clauses: &[Tree]) -> Result<Attribute, AllocError>
+    pub fn attribute(&self, clauses: &Row<'_>) -> Result<Attribute, AllocError>
         requires { HasCut self.now }
         ensures { IfOk result (λ a. a ≡ attribute_in self.now.text.now self.now.tokens.now (parts_in self.now clauses.now)) }
     {
-        match got(clauses, 0) {
+        match self.split(clauses) {
             None => Ok(Attribute::Absent),
-            Some(clause) => self.of_clause(clause),
+            Some((clause, _)) => self.of_clause(&clause),
         }
     }
 
-    #[tactic(auto, using(crate::proofs::Looks::clause_leaf, crate::proofs::Looks::clause_node, crate::proofs::Looks::clause_role, crate::proofs::Looks::clause_parts))]
-    fn of_clause(&self, clause: &Tree) -> Result<Attribute, AllocError>
+    #[tactic(auto, using(crate::proofs::Looks::clause_node, crate::proofs::Looks::clause_other))]
+    fn of_clause(&self, clause: &Item<'_>) -> Result<Attribute, AllocError>
         requires { HasCut self.now }
         ensures { IfOk result (λ a. a ≡ clause_attribute self.now.text.now self.now.tokens.now (part_in self.now clause.now)) }
     {
-        match clause {
-            Tree::Leaf { at: _ } => Ok(Attribute::Absent),
-            Tree::Node {
-                label,
-                from: _,
-                to: _,
-                parts,
-            } => self.of_clause_parts(*label, parts.as_slice()),
-            Tree::Role { label: _, tree: _ } => Ok(Attribute::Absent),
-            Tree::Parts(_) => Ok(Attribute::Absent),
+        match self.as_node(clause) {
+            Some((label, parts)) => self.of_clause_parts(label, &parts),
+            None => Ok(Attribute::Absent),
         }
     }
 
-    fn of_clause_parts(&self, label: Label, parts: &[Tree]) -> Result<Attribute, AllocError>
+    fn of_clause_parts(&self, label: Label, parts: &Row<'_>) -> Result<Attribute, AllocError>
         requires { HasCut self.now }
         ensures { IfOk result (λ a. a ≡ clause_by self.now.text.now self.now.tokens.now label (parts_in self.now parts.now)) }
     {
         match label {
-            Label::Attributes => self.of_items(self.group(parts, 0)),
+            Label::Attributes => self.of_items(&self.group(parts, 0)),
             _ => Ok(Attribute::Absent),
         }
     }
 
     /// The attribute by the last value that `type` is given.
-    fn of_items(&self, items: &[Tree]) -> Result<Attribute, AllocError>
+    fn of_items(&self, items: &Row<'_>) -> Result<Attribute, AllocError>
         requires { HasCut self.now }
         ensures { IfOk result (λ a. a ≡ named (last_type self.now.text.now self.now.tokens.now None (parts_in self.now items.now))) }
     {
@@ -66,38 +59,33 @@ impl Source<'_> {
     }
 
     /// The last value that `type` is given.
-    fn last_type(&self, items: &[Tree]) -> Result<Option<Token>, AllocError>
+    #[tactic(auto, using(crate::proofs::Turns::type_none, crate::proofs::Turns::type_more))]
+    fn last_type(&self, items: &Row<'_>) -> Result<Option<Token>, AllocError>
         requires { HasCut self.now }
         ensures is { IfOk result (λ last. option_map (str_of self.now.text.now) last ≡ last_type self.now.text.now self.now.tokens.now None (parts_in self.now items.now)) }
         ensures cut { IfOk result (λ last. IfSome last (Cuts self.now.text.now)) }
     {
-        self.last_type_of(items)
-    }
-
-    fn last_type_of(&self, items: &[Tree]) -> Result<Option<Token>, AllocError>
-        requires { HasCut self.now }
-        ensures is { IfOk result (λ last. option_map (str_of self.now.text.now) last ≡ last_type_of self.now.text.now self.now.tokens.now items.now) }
-        ensures cut { IfOk result (λ last. IfSome last (Cuts self.now.text.now)) }
-    {
         let mut last = None;
-        for item in items {
-            last = self.type_or(last, item)?;
+        let mut row = *items;
+        while let Some((item, rest)) = self.split(&row) {
+            last = self.type_or(last, &item)?;
+            row = rest;
         }
         Ok(last)
     }
 
     /// The value that this item gives `type`, or what was given before.
     #[tactic(auto, unfolding(crate::specs::Given::type_turn))]
-    fn type_or(&self, last: Option<Token>, item: &Tree) -> Result<Option<Token>, AllocError>
+    fn type_or(&self, last: Option<Token>, item: &Item<'_>) -> Result<Option<Token>, AllocError>
         requires has { HasCut self.now }
         requires cut { IfSome last (Cuts self.now.text.now) }
         ensures is { IfOk result (λ given. option_map (str_of self.now.text.now) given
-            ≡ type_turn self.now.text.now self.now.tokens.now (option_map (str_of self.now.text.now) last) item.now) }
+            ≡ type_turn self.now.text.now self.now.tokens.now (option_map (str_of self.now.text.now) last) (part_in self.now item.now)) }
         ensures cut { IfOk result (λ given. IfSome given (Cuts self.now.text.now)) }
     {
         let turn = self.group_in(item);
-        if self.is_type(self.token_at(self.group(turn, 0), 0))? {
-            return Ok(self.token_at(turn, 1));
+        if self.is_type(self.token_at(&self.group(&turn, 0), 0))? {
+            return Ok(self.token_at(&turn, 1));
         }
         Ok(last)
     }

@@ -12,8 +12,8 @@ ghost use Rattle.es_tree_sites.specs.Steps.{declares};
 use crate::source::Source;
 use base::Items;
 use es_site::{Attribute, DependencyKind, Site};
+use es_syntax::Row;
 use es_token::Token;
-use es_whole_tree::Tree;
 use std::alloc::AllocError;
 
 impl Source<'_> {
@@ -50,7 +50,7 @@ impl Source<'_> {
         found: &mut Items<Site>,
         kind: DependencyKind,
         type_only: bool,
-        parts: &[Tree],
+        parts: &Row<'_>,
         src: usize,
         with: usize,
     ) -> Result<(), AllocError>
@@ -58,12 +58,12 @@ impl Source<'_> {
         ensures { OnOk result (found.new ≡ found.old
             ++ declares self.now.text.now self.now.tokens.now kind type_only (parts_in self.now parts.now) src with) }
     {
-        let attribute = self.attribute(self.group(parts, with))?;
+        let attribute = self.attribute(&self.group(parts, with))?;
         self.name(found, kind, type_only, attribute, self.token_at(parts, src))
     }
 
     /// `import a = require("a")`
-    pub fn require(&self, found: &mut Items<Site>, parts: &[Tree]) -> Result<(), AllocError>
+    pub fn require(&self, found: &mut Items<Site>, parts: &Row<'_>) -> Result<(), AllocError>
         requires { HasCut self.now }
         ensures { OnOk result (found.new ≡ found.old
             ++ naming self.now.text.now self.now.tokens.now kind.ImportEquals (is_there (group (parts_in self.now parts.now) 0)) attribute.Unknown
@@ -76,13 +76,13 @@ impl Source<'_> {
     }
 
     /// `import("a")`, where the first argument is a string literal.
-    pub fn call(&self, found: &mut Items<Site>, parts: &[Tree]) -> Result<(), AllocError>
+    pub fn call(&self, found: &mut Items<Site>, parts: &Row<'_>) -> Result<(), AllocError>
         requires { HasCut self.now }
         ensures { OnOk result (found.new ≡ found.old
             ++ naming self.now.text.now self.now.tokens.now kind.Dynamic false (options_in self.now.text.now self.now.tokens.now (group (parts_in self.now parts.now) 1))
             (src_in self.now.text.now self.now.tokens.now (part (parts_in self.now parts.now) 0))) }
     {
-        let attribute = self.options(self.group(parts, 1))?;
+        let attribute = self.options(&self.group(parts, 1))?;
         let src = self.literal_at(parts, 0);
         self.name(found, DependencyKind::Dynamic, false, attribute, src)
     }

@@ -6,13 +6,13 @@ ghost use Rattle.es_dress.specs.Texts.{str_of};
 ghost use Rattle.es_plain_sites.specs.Part.{part};
 ghost use Rattle.es_plain_sites.specs.Own.{src_by, src_in, is_word_key, key_says, is_plain, given_in, are_plain, last_given, type_by, type_in, with_by, with_in, options_by, options_of, options_in};
 ghost use Rattle.es_tree_sites.specs.Parts.{parts_in, part_in, there, Cuts, HasCut};
-ghost use Rattle.es_tree_sites.specs.Given.{is_word_label, key_by, plain_by, given_by, all_plain, plain_turn, given_turn, last_given_of};
+ghost use Rattle.es_tree_sites.specs.Given.{is_word_label, key_by, plain_by, given_by, plain_turn, given_turn};
 
-use crate::source::{Source, got};
+use crate::source::Source;
 use es_site::Attribute;
+use es_syntax::{Item, Row};
 use es_token::Token;
 use es_whole_grammar::Label;
-use es_whole_tree::Tree;
 use std::alloc::AllocError;
 
 /// A word or a string as a key.
@@ -23,27 +23,20 @@ fn is_word_label(label: Label) -> bool
 }
 
 impl Source<'_> {
-    /// The token of the string literal that a tree is.
-    #[tactic(auto, using(crate::proofs::Looks::src_leaf, crate::proofs::Looks::src_node, crate::proofs::Looks::src_role, crate::proofs::Looks::src_parts))]
-    fn literal(&self, tree: &Tree) -> Option<Token>
+    /// The token of the string literal that stands there.
+    #[tactic(auto, using(crate::proofs::Looks::src_node, crate::proofs::Looks::src_other))]
+    fn literal(&self, item: &Item<'_>) -> Option<Token>
         requires { HasCut self.now }
-        ensures is { option_map (str_of self.now.text.now) result ≡ src_in self.now.text.now self.now.tokens.now (part_in self.now tree.now) }
+        ensures is { option_map (str_of self.now.text.now) result ≡ src_in self.now.text.now self.now.tokens.now (part_in self.now item.now) }
         ensures cut { IfSome result (Cuts self.now.text.now) }
     {
-        match tree {
-            Tree::Leaf { at: _ } => None,
-            Tree::Node {
-                label,
-                from: _,
-                to: _,
-                parts,
-            } => self.literal_by(*label, parts.as_slice()),
-            Tree::Role { label: _, tree: _ } => None,
-            Tree::Parts(_) => None,
+        match self.as_node(item) {
+            Some((label, parts)) => self.literal_by(label, &parts),
+            None => None,
         }
     }
 
-    fn literal_by(&self, label: Label, parts: &[Tree]) -> Option<Token>
+    fn literal_by(&self, label: Label, parts: &Row<'_>) -> Option<Token>
         requires { HasCut self.now }
         ensures is { option_map (str_of self.now.text.now) result ≡ src_by self.now.text.now self.now.tokens.now label (parts_in self.now parts.now) }
         ensures cut { IfSome result (Cuts self.now.text.now) }
@@ -55,46 +48,39 @@ impl Source<'_> {
     }
 
     /// The token of the string literal at a place among the parts.
-    pub fn literal_at(&self, parts: &[Tree], n: usize) -> Option<Token>
+    pub fn literal_at(&self, parts: &Row<'_>, n: usize) -> Option<Token>
         requires { HasCut self.now }
         ensures is { option_map (str_of self.now.text.now) result ≡ src_in self.now.text.now self.now.tokens.now (part (parts_in self.now parts.now) n) }
         ensures cut { IfSome result (Cuts self.now.text.now) }
     {
         match self.part(parts, n) {
-            Some(tree) => self.literal(tree),
+            Some(item) => self.literal(&item),
             None => None,
         }
     }
 
     // ---- plain properties
 
-    #[tactic(auto, using(crate::proofs::Looks::word_key_leaf, crate::proofs::Looks::word_key_node, crate::proofs::Looks::word_key_role, crate::proofs::Looks::word_key_parts))]
-    fn is_word_key(&self, key: &Tree) -> bool
+    #[tactic(auto, using(crate::proofs::Looks::word_key_node, crate::proofs::Looks::word_key_other))]
+    fn is_word_key(&self, key: &Item<'_>) -> bool
         ensures { result ≡ is_word_key self.now.text.now self.now.tokens.now (part_in self.now key.now) }
     {
-        match key {
-            Tree::Leaf { at: _ } => false,
-            Tree::Node {
-                label,
-                from: _,
-                to: _,
-                parts: _,
-            } => is_word_label(*label),
-            Tree::Role { label: _, tree: _ } => false,
-            Tree::Parts(_) => false,
-        }
-    }
-
-    fn has_word_key(&self, parts: &[Tree]) -> bool
-        ensures { result ≡ is_word_key self.now.text.now self.now.tokens.now (part (parts_in self.now parts.now) 0) }
-    {
-        match self.part(parts, 0) {
-            Some(key) => self.is_word_key(key),
+        match self.as_node(key) {
+            Some((label, _)) => is_word_label(label),
             None => false,
         }
     }
 
-    fn is_plain_by(&self, label: Label, parts: &[Tree]) -> bool
+    fn has_word_key(&self, parts: &Row<'_>) -> bool
+        ensures { result ≡ is_word_key self.now.text.now self.now.tokens.now (part (parts_in self.now parts.now) 0) }
+    {
+        match self.part(parts, 0) {
+            Some(key) => self.is_word_key(&key),
+            None => false,
+        }
+    }
+
+    fn is_plain_by(&self, label: Label, parts: &Row<'_>) -> bool
         ensures { result ≡ plain_by self.now.text.now self.now.tokens.now label (parts_in self.now parts.now) }
     {
         match label {
@@ -104,52 +90,42 @@ impl Source<'_> {
     }
 
     /// A plain `key: value`, whose key is a word or a string.
-    #[tactic(auto, using(crate::proofs::Looks::plain_leaf, crate::proofs::Looks::plain_node, crate::proofs::Looks::plain_role, crate::proofs::Looks::plain_parts))]
-    fn is_plain(&self, prop: &Tree) -> bool
+    #[tactic(auto, using(crate::proofs::Looks::plain_node, crate::proofs::Looks::plain_other))]
+    fn is_plain(&self, prop: &Item<'_>) -> bool
         ensures { result ≡ is_plain self.now.text.now self.now.tokens.now (part_in self.now prop.now) }
     {
-        match prop {
-            Tree::Leaf { at: _ } => false,
-            Tree::Node {
-                label,
-                from: _,
-                to: _,
-                parts,
-            } => self.is_plain_by(*label, parts.as_slice()),
-            Tree::Role { label: _, tree: _ } => false,
-            Tree::Parts(_) => false,
-        }
-    }
-
-    #[tactic(auto, unfolding(crate::specs::Given::plain_turn))]
-    fn is_plain_turn(&self, turn: &Tree) -> bool
-        ensures { result ≡ plain_turn self.now.text.now self.now.tokens.now turn.now }
-    {
-        match self.part(self.group_in(turn), 0) {
-            Some(prop) => self.is_plain(prop),
+        match self.as_node(prop) {
+            Some((label, parts)) => self.is_plain_by(label, &parts),
             None => false,
         }
     }
 
-    fn are_plain(&self, props: &[Tree]) -> bool
-        ensures { result ≡ are_plain self.now.text.now self.now.tokens.now true (parts_in self.now props.now) }
+    #[tactic(auto, unfolding(crate::specs::Given::plain_turn))]
+    fn is_plain_turn(&self, turn: &Item<'_>) -> bool
+        ensures { result ≡ plain_turn self.now.text.now self.now.tokens.now (part_in self.now turn.now) }
     {
-        self.all_plain(props)
+        match self.part(&self.group_in(turn), 0) {
+            Some(prop) => self.is_plain(&prop),
+            None => false,
+        }
     }
 
-    fn all_plain(&self, props: &[Tree]) -> bool
-        ensures { result ≡ all_plain self.now.text.now self.now.tokens.now props.now }
+    #[tactic(auto, using(crate::proofs::Turns::plain_none, crate::proofs::Turns::plain_more))]
+    fn are_plain(&self, props: &Row<'_>) -> bool
+        ensures { result ≡ are_plain self.now.text.now self.now.tokens.now true (parts_in self.now props.now) }
     {
         let mut plain = true;
-        for turn in props {
-            plain = plain && self.is_plain_turn(turn);
+        let mut row = *props;
+        while let Some((turn, rest)) = self.split(&row) {
+            plain = plain && self.is_plain_turn(&turn);
+            row = rest;
         }
         plain
     }
 
     // ---- what the last property with this key gives it
 
-    fn key_by(&self, word: &str, label: Label, parts: &[Tree]) -> Result<bool, AllocError>
+    fn key_by(&self, word: &str, label: Label, parts: &Row<'_>) -> Result<bool, AllocError>
         requires { HasCut self.now }
         ensures { IfOk result (λ yes. yes ≡ key_by self.now.text.now self.now.tokens.now word.now label (parts_in self.now parts.now)) }
     {
@@ -160,30 +136,23 @@ impl Source<'_> {
         }
     }
 
-    #[tactic(auto, using(crate::proofs::Looks::key_leaf, crate::proofs::Looks::key_node, crate::proofs::Looks::key_role, crate::proofs::Looks::key_parts))]
-    fn key_says(&self, word: &str, key: &Tree) -> Result<bool, AllocError>
+    #[tactic(auto, using(crate::proofs::Looks::key_node, crate::proofs::Looks::key_other))]
+    fn key_says(&self, word: &str, key: &Item<'_>) -> Result<bool, AllocError>
         requires { HasCut self.now }
         ensures { IfOk result (λ yes. yes ≡ key_says self.now.text.now self.now.tokens.now word.now (part_in self.now key.now)) }
     {
-        match key {
-            Tree::Leaf { at: _ } => Ok(false),
-            Tree::Node {
-                label,
-                from: _,
-                to: _,
-                parts,
-            } => self.key_by(word, *label, parts.as_slice()),
-            Tree::Role { label: _, tree: _ } => Ok(false),
-            Tree::Parts(_) => Ok(false),
+        match self.as_node(key) {
+            Some((label, parts)) => self.key_by(word, label, &parts),
+            None => Ok(false),
         }
     }
 
-    fn has_key(&self, word: &str, parts: &[Tree]) -> Result<bool, AllocError>
+    fn has_key(&self, word: &str, parts: &Row<'_>) -> Result<bool, AllocError>
         requires { HasCut self.now }
         ensures { IfOk result (λ yes. yes ≡ key_says self.now.text.now self.now.tokens.now word.now (part (parts_in self.now parts.now) 0)) }
     {
         match self.part(parts, 0) {
-            Some(key) => self.key_says(word, key),
+            Some(key) => self.key_says(word, &key),
             None => Ok(false),
         }
     }
@@ -191,10 +160,10 @@ impl Source<'_> {
     fn given_by<'t>(
         &self,
         word: &str,
-        last: Option<Option<&'t Tree>>,
+        last: Option<Option<Item<'t>>>,
         label: Label,
-        parts: &'t [Tree],
-    ) -> Result<Option<Option<&'t Tree>>, AllocError>
+        parts: &Row<'t>,
+    ) -> Result<Option<Option<Item<'t>>>, AllocError>
         requires { HasCut self.now }
         ensures { IfOk result (λ given. option_map (there self.now) given
             ≡ given_by self.now.text.now self.now.tokens.now word.now label (parts_in self.now parts.now) (option_map (there self.now) last.entry)) }
@@ -211,27 +180,20 @@ impl Source<'_> {
         }
     }
 
-    #[tactic(auto, using(crate::proofs::Looks::given_leaf, crate::proofs::Looks::given_node, crate::proofs::Looks::given_role, crate::proofs::Looks::given_parts))]
+    #[tactic(auto, using(crate::proofs::Looks::given_node, crate::proofs::Looks::given_other))]
     fn given_in<'t>(
         &self,
         word: &str,
-        last: Option<Option<&'t Tree>>,
-        prop: &'t Tree,
-    ) -> Result<Option<Option<&'t Tree>>, AllocError>
+        last: Option<Option<Item<'t>>>,
+        prop: &Item<'t>,
+    ) -> Result<Option<Option<Item<'t>>>, AllocError>
         requires { HasCut self.now }
         ensures { IfOk result (λ given. option_map (there self.now) given
             ≡ given_in self.now.text.now self.now.tokens.now word.now (part_in self.now prop.now) (option_map (there self.now) last.entry)) }
     {
-        match prop {
-            Tree::Leaf { at: _ } => Ok(last),
-            Tree::Node {
-                label,
-                from: _,
-                to: _,
-                parts,
-            } => self.given_by(word, last, *label, parts.as_slice()),
-            Tree::Role { label: _, tree: _ } => Ok(last),
-            Tree::Parts(_) => Ok(last),
+        match self.as_node(prop) {
+            Some((label, parts)) => self.given_by(word, last, label, &parts),
+            None => Ok(last),
         }
     }
 
@@ -239,44 +201,35 @@ impl Source<'_> {
     fn given_or<'t>(
         &self,
         word: &str,
-        last: Option<Option<&'t Tree>>,
-        turn: &'t Tree,
-    ) -> Result<Option<Option<&'t Tree>>, AllocError>
+        last: Option<Option<Item<'t>>>,
+        turn: &Item<'t>,
+    ) -> Result<Option<Option<Item<'t>>>, AllocError>
         requires { HasCut self.now }
         ensures { IfOk result (λ given. option_map (there self.now) given
-            ≡ given_turn self.now.text.now self.now.tokens.now word.now (option_map (there self.now) last.entry) turn.now) }
+            ≡ given_turn self.now.text.now self.now.tokens.now word.now (option_map (there self.now) last.entry) (part_in self.now turn.now)) }
     {
-        match self.part(self.group_in(turn), 0) {
-            Some(prop) => self.given_in(word, last, prop),
+        match self.part(&self.group_in(turn), 0) {
+            Some(prop) => self.given_in(word, last, &prop),
             None => Ok(last),
         }
     }
 
     /// What the last property that gives this word something gives it: a part, or none where the property has none.
+    #[tactic(auto, using(crate::proofs::Turns::given_none, crate::proofs::Turns::given_more))]
     fn last_given<'t>(
         &self,
         word: &str,
-        props: &'t [Tree],
-    ) -> Result<Option<Option<&'t Tree>>, AllocError>
+        props: &Row<'t>,
+    ) -> Result<Option<Option<Item<'t>>>, AllocError>
         requires { HasCut self.now }
         ensures { IfOk result (λ given. option_map (there self.now) given
             ≡ last_given self.now.text.now self.now.tokens.now word.now None (parts_in self.now props.now)) }
     {
-        self.last_given_of(word, props)
-    }
-
-    fn last_given_of<'t>(
-        &self,
-        word: &str,
-        props: &'t [Tree],
-    ) -> Result<Option<Option<&'t Tree>>, AllocError>
-        requires { HasCut self.now }
-        ensures { IfOk result (λ given. option_map (there self.now) given
-            ≡ last_given_of self.now.text.now self.now.tokens.now word.now props.now) }
-    {
         let mut last = None;
-        for turn in props {
-            last = self.given_or(word, last, turn)?;
+        let mut row = *props;
+        while let Some((turn, rest)) = self.split(&row) {
+            last = self.given_or(word, last, &turn)?;
+            row = rest;
         }
         Ok(last)
     }
@@ -284,12 +237,12 @@ impl Source<'_> {
     // ---- attributes
 
     /// The value of `type`: a string tells, and nothing else.
-    fn of_type(&self, given: Option<Option<&Tree>>) -> Result<Attribute, AllocError>
+    fn of_type(&self, given: Option<Option<Item<'_>>>) -> Result<Attribute, AllocError>
         requires { HasCut self.now }
         ensures { IfOk result (λ a. a ≡ type_in self.now.text.now self.now.tokens.now (option_map (there self.now) given.entry)) }
     {
         match given {
-            Some(Some(value)) => self.of_type_value(self.literal(value)),
+            Some(Some(value)) => self.of_type_value(self.literal(&value)),
             Some(None) => Ok(Attribute::Unknown),
             None => Ok(Attribute::Absent),
         }
@@ -305,17 +258,17 @@ impl Source<'_> {
         }
     }
 
-    fn of_with_by(&self, label: Label, parts: &[Tree]) -> Result<Attribute, AllocError>
+    fn of_with_by(&self, label: Label, parts: &Row<'_>) -> Result<Attribute, AllocError>
         requires { HasCut self.now }
         ensures { IfOk result (λ a. a ≡ with_by self.now.text.now self.now.tokens.now label (parts_in self.now parts.now)) }
     {
         match label {
-            Label::ObjectLiteral => self.of_with_props(self.group(parts, 0)),
+            Label::ObjectLiteral => self.of_with_props(&self.group(parts, 0)),
             _ => Ok(Attribute::Unknown),
         }
     }
 
-    fn of_with_props(&self, props: &[Tree]) -> Result<Attribute, AllocError>
+    fn of_with_props(&self, props: &Row<'_>) -> Result<Attribute, AllocError>
         requires { HasCut self.now }
         ensures { IfOk result (λ a. a ≡ (if are_plain self.now.text.now self.now.tokens.now true (parts_in self.now props.now)
             then type_in self.now.text.now self.now.tokens.now (last_given self.now.text.now self.now.tokens.now (codes "type") None (parts_in self.now props.now))
@@ -328,37 +281,30 @@ impl Source<'_> {
         self.of_type(given)
     }
 
-    #[tactic(auto, using(crate::proofs::Looks::with_leaf, crate::proofs::Looks::with_node, crate::proofs::Looks::with_role, crate::proofs::Looks::with_parts))]
-    fn of_with_value(&self, value: &Tree) -> Result<Attribute, AllocError>
+    #[tactic(auto, using(crate::proofs::Looks::with_node, crate::proofs::Looks::with_other))]
+    fn of_with_value(&self, value: &Item<'_>) -> Result<Attribute, AllocError>
         requires { HasCut self.now }
         ensures { IfOk result (λ a. a ≡ with_in self.now.text.now self.now.tokens.now (Some (part_in self.now value.now))) }
     {
-        match value {
-            Tree::Leaf { at: _ } => Ok(Attribute::Unknown),
-            Tree::Node {
-                label,
-                from: _,
-                to: _,
-                parts,
-            } => self.of_with_by(*label, parts.as_slice()),
-            Tree::Role { label: _, tree: _ } => Ok(Attribute::Unknown),
-            Tree::Parts(_) => Ok(Attribute::Unknown),
+        match self.as_node(value) {
+            Some((label, parts)) => self.of_with_by(label, &parts),
+            None => Ok(Attribute::Unknown),
         }
     }
 
     /// The value of `with`: an object of plain properties tells.
-    fn of_with(&self, given: Option<Option<&Tree>>) -> Result<Attribute, AllocError>
+    fn of_with(&self, given: Option<Option<Item<'_>>>) -> Result<Attribute, AllocError>
         requires { HasCut self.now }
         ensures { IfOk result (λ a. a ≡ with_in self.now.text.now self.now.tokens.now (option_map (there self.now) given.entry)) }
     {
         match given {
-            Some(Some(value)) => self.of_with_value(value),
+            Some(Some(value)) => self.of_with_value(&value),
             Some(None) => Ok(Attribute::Unknown),
             None => Ok(Attribute::Absent),
         }
     }
 
-    fn of_options_props(&self, props: &[Tree]) -> Result<Attribute, AllocError>
+    fn of_options_props(&self, props: &Row<'_>) -> Result<Attribute, AllocError>
         requires { HasCut self.now }
         ensures { IfOk result (λ a. a ≡ (if are_plain self.now.text.now self.now.tokens.now true (parts_in self.now props.now)
             then with_in self.now.text.now self.now.tokens.now (last_given self.now.text.now self.now.tokens.now (codes "with") None (parts_in self.now props.now))
@@ -371,42 +317,35 @@ impl Source<'_> {
         self.of_with(given)
     }
 
-    fn of_options_by(&self, label: Label, parts: &[Tree]) -> Result<Attribute, AllocError>
+    fn of_options_by(&self, label: Label, parts: &Row<'_>) -> Result<Attribute, AllocError>
         requires { HasCut self.now }
         ensures { IfOk result (λ a. a ≡ options_by self.now.text.now self.now.tokens.now label (parts_in self.now parts.now)) }
     {
         match label {
-            Label::ObjectLiteral => self.of_options_props(self.group(parts, 0)),
+            Label::ObjectLiteral => self.of_options_props(&self.group(parts, 0)),
             _ => Ok(Attribute::Unknown),
         }
     }
 
-    #[tactic(auto, using(crate::proofs::Looks::options_leaf, crate::proofs::Looks::options_node, crate::proofs::Looks::options_role, crate::proofs::Looks::options_parts))]
-    fn of_options(&self, options: &Tree) -> Result<Attribute, AllocError>
+    #[tactic(auto, using(crate::proofs::Looks::options_node, crate::proofs::Looks::options_other))]
+    fn of_options(&self, options: &Item<'_>) -> Result<Attribute, AllocError>
         requires { HasCut self.now }
         ensures { IfOk result (λ a. a ≡ options_of self.now.text.now self.now.tokens.now (part_in self.now options.now)) }
     {
-        match options {
-            Tree::Leaf { at: _ } => Ok(Attribute::Unknown),
-            Tree::Node {
-                label,
-                from: _,
-                to: _,
-                parts,
-            } => self.of_options_by(*label, parts.as_slice()),
-            Tree::Role { label: _, tree: _ } => Ok(Attribute::Unknown),
-            Tree::Parts(_) => Ok(Attribute::Unknown),
+        match self.as_node(options) {
+            Some((label, parts)) => self.of_options_by(label, &parts),
+            None => Ok(Attribute::Unknown),
         }
     }
 
     /// The attribute of an `import()` with these arguments behind the first: an object of plain properties tells.
-    pub fn options(&self, args: &[Tree]) -> Result<Attribute, AllocError>
+    pub fn options(&self, args: &Row<'_>) -> Result<Attribute, AllocError>
         requires { HasCut self.now }
         ensures { IfOk result (λ a. a ≡ options_in self.now.text.now self.now.tokens.now (parts_in self.now args.now)) }
     {
-        match got(args, 0) {
+        match self.split(args) {
             None => Ok(Attribute::Absent),
-            Some(options) => self.of_options(options),
+            Some((options, _)) => self.of_options(&options),
         }
     }
 }

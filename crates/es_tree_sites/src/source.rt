@@ -1,19 +1,19 @@
 //! A text with its tokens, and the parts of its plain tree.
 
-ghost use Rattle.std.specs.Prelude.{◌≡◌, ◌≤◌, ◌<◌, Some, slice_get, slice_range, IfOk, IfSome, bytes_eq};
-ghost use Rattle.std.specs.Option.{option_copied};
+ghost use Rattle.std.specs.Prelude.{◌≡◌, ◌+◌, ◌≤◌, ◌<◌, length, Some, slice_get, slice_range, IfOk, IfSome, bytes_eq};
 ghost use Rattle.es_dress.specs.Texts.{str_of, name_of};
 ghost use Rattle.es_site.specs.Attributes.{spells};
 ghost use Rattle.es_plain_sites.specs.Part.{part, as_group, group, is_there};
 ghost use Rattle.es_plain_sites.specs.Own.{token_in, str_in, same_word, same_str};
-ghost use Rattle.es_tree_sites.specs.Nodes.{nodes, nodes_in};
+ghost use Rattle.es_syntax.specs.Trees.{trees};
 ghost use Rattle.es_tree_sites.specs.Steps.{has_second, is_token};
-ghost use Rattle.es_tree_sites.specs.Parts.{parts_in, part_in, there, Cuts, HasCut};
+ghost use Rattle.es_tree_sites.specs.Parts.{first_trees, parts_in, part_in, first_in, there, Seen, Cuts, HasCut};
 
 use base::Text;
 use es_literal::literal_value;
+use es_syntax::{Item, Row, What};
 use es_token::{Token, TokenKind};
-use es_whole_tree::Tree;
+use es_whole_grammar::Label;
 use std::alloc::{AllocError, Global};
 
 /// A text and its tokens.
@@ -24,132 +24,171 @@ pub struct Source<'a> {
     pub tokens: &'a [Token],
 }
 
-/// The tree at a place.
-pub fn got(trees: &[Tree], n: usize) -> Option<&Tree>
-    ensures { option_copied result ≡ slice_get trees.now n }
+/// The first part in a row, and those behind it.
+#[tactic(auto, using(crate::proofs::RowLemmas::trees_none, crate::proofs::RowLemmas::trees_some))]
+pub fn split<'t>(row: &Row<'t>) -> Option<(Item<'t>, Row<'t>)>
+    ensures trees { trees row.now.entries.now ≡ first_trees result }
+    ensures below { IfSome result (λ p. length p.0.parts.entries.now + length p.1.entries.now < length row.now.entries.now) }
 {
-    trees.get(n)
-}
-
-/// Whether there is more than one part.
-pub fn has_second(parts: &[Tree]) -> bool
-    ensures { result ≡ has_second parts.now }
-{
-    match got(parts, 1) {
-        Some(_) => true,
-        None => false,
+    match row.entries.split_first() {
+        None => None,
+        Some((head, behind)) => {
+            let cut = (head.size as usize).min(behind.len());
+            let (parts, rest) = behind.split_at(cut);
+            let item = Item {
+                what: head.what,
+                from: head.from,
+                to: head.to,
+                parts: Row { entries: parts },
+            };
+            Some((item, Row { entries: rest }))
+        }
     }
 }
 
 impl Source<'_> {
-    /// The part at a place.
-    pub fn part<'t>(&self, parts: &'t [Tree], n: usize) -> Option<&'t Tree>
-        ensures value { part (parts_in self.now parts.now) n ≡ there self.now result }
-        ensures below { IfSome result (λ t. nodes t.now ≤ nodes_in parts.now) }
+    /// The first of these parts, and those behind it.
+    pub fn split<'t>(&self, parts: &Row<'t>) -> Option<(Item<'t>, Row<'t>)>
+        ensures value { parts_in self.now parts.now ≡ first_in self.now result }
+        ensures below { IfSome result (λ p. length p.0.parts.entries.now + length p.1.entries.now < length parts.now.entries.now) }
     {
-        got(parts, n)
+        split(parts)
     }
 
-    /// The parts in a tree, where it is a group.
-    #[tactic(auto, using(crate::proofs::PartLemmas::group_leaf, crate::proofs::PartLemmas::group_node, crate::proofs::PartLemmas::group_role, crate::proofs::PartLemmas::group_parts, crate::proofs::PartLemmas::none_leaf, crate::proofs::PartLemmas::none_node, crate::proofs::PartLemmas::none_role, crate::proofs::PartLemmas::some_parts))]
-    pub fn group_in<'t>(&self, tree: &'t Tree) -> &'t [Tree]
-        ensures value { parts_in self.now result.now ≡ as_group (part_in self.now tree.now) }
-        ensures below { nodes_in result.now < nodes tree.now }
+    /// The part at a place.
+    pub fn part<'t>(&self, parts: &Row<'t>, n: usize) -> Option<Item<'t>>
+        ensures value { part (parts_in self.now parts.now) n ≡ there self.now result }
+        ensures below { IfSome result (λ item. length item.parts.entries.now < length parts.now.entries.now) }
     {
-        match tree {
-            Tree::Leaf { at: _ } => &[],
-            Tree::Node {
-                label: _,
-                from: _,
-                to: _,
-                parts: _,
-            } => &[],
-            Tree::Role { label: _, tree: _ } => &[],
-            Tree::Parts(parts) => parts.as_slice(),
+        match self.split(parts) {
+            None => None,
+            Some((first, rest)) => {
+                if n == 0 {
+                    return Some(first);
+                }
+                self.part(&rest, n - 1)
+            }
+        }
+    }
+
+    /// Whether there is more than one part.
+    #[tactic(auto, unfolding(crate::specs::Steps::has_second))]
+    pub fn has_second(&self, parts: &Row<'_>) -> bool
+        ensures { result ≡ has_second (parts_in self.now parts.now) }
+    {
+        match self.split(parts) {
+            None => false,
+            Some((_, rest)) => match self.split(&rest) {
+                None => false,
+                Some(_) => true,
+            },
+        }
+    }
+
+    /// The parts of what stands there, where it is a group.
+    #[tactic(auto, using(crate::proofs::PartLemmas::group_leaf, crate::proofs::PartLemmas::group_node, crate::proofs::PartLemmas::group_role, crate::proofs::PartLemmas::group_parts, crate::proofs::PartLemmas::group_lean))]
+    pub fn group_in<'t>(&self, item: &Item<'t>) -> Row<'t>
+        ensures value { parts_in self.now result ≡ as_group (part_in self.now item.now) }
+        ensures below { length result.entries.now ≤ length item.now.parts.entries.now }
+    {
+        match item.what {
+            What::Parts => item.parts,
+            What::Leaf => Row { entries: &[] },
+            What::Node(_) => Row { entries: &[] },
+            What::Role(_) => Row { entries: &[] },
+            What::Lean(_) => Row { entries: &[] },
         }
     }
 
     /// The parts of a group at a place; none where no group is there.
-    #[tactic(auto, using(crate::proofs::PartLemmas::parts_none, crate::proofs::PartLemmas::none_le))]
-    pub fn group<'t>(&self, parts: &'t [Tree], n: usize) -> &'t [Tree]
-        ensures value { parts_in self.now result.now ≡ group (parts_in self.now parts.now) n }
-        ensures below { nodes_in result.now ≤ nodes_in parts.now }
+    #[tactic(auto, using(crate::proofs::PartLemmas::parts_none))]
+    pub fn group<'t>(&self, parts: &Row<'t>, n: usize) -> Row<'t>
+        ensures value { parts_in self.now result ≡ group (parts_in self.now parts.now) n }
+        ensures below { length result.entries.now ≤ length parts.now.entries.now }
     {
         match self.part(parts, n) {
-            Some(tree) => self.group_in(tree),
-            None => &[],
+            Some(item) => self.group_in(&item),
+            None => Row { entries: &[] },
         }
     }
 
     /// Whether a part that may be absent is there.
-    pub fn is_there(&self, parts: &[Tree], n: usize) -> bool
+    pub fn is_there(&self, parts: &Row<'_>, n: usize) -> bool
         ensures { result ≡ is_there (group (parts_in self.now parts.now) n) }
     {
-        let group = self.group(parts, n);
-        !group.is_empty()
+        match self.split(&self.group(parts, n)) {
+            Some(_) => true,
+            None => false,
+        }
     }
 
-    #[tactic(auto, using(crate::proofs::FormLemmas::token_leaf, crate::proofs::FormLemmas::token_node, crate::proofs::FormLemmas::token_role, crate::proofs::FormLemmas::token_parts))]
-    fn is_token(&self, tree: &Tree) -> bool
-        ensures { result ≡ is_token (part_in self.now tree.now) }
+    /// The node that stands there, by its alternative, and its parts: no node in another role, and none that leans left.
+    #[tactic(auto, using(crate::proofs::PartLemmas::seen_leaf, crate::proofs::PartLemmas::seen_node, crate::proofs::PartLemmas::seen_role, crate::proofs::PartLemmas::seen_parts, crate::proofs::PartLemmas::seen_lean))]
+    pub fn as_node<'t>(&self, item: &Item<'t>) -> Option<(Label, Row<'t>)>
+        ensures { Seen self.now result (part_in self.now item.now) }
     {
-        match tree {
-            Tree::Leaf { at: _ } => true,
-            Tree::Node {
-                label: _,
-                from: _,
-                to: _,
-                parts: _,
-            } => false,
-            Tree::Role { label: _, tree: _ } => false,
-            Tree::Parts(_) => false,
+        match item.what {
+            What::Node(label) => Some((label, item.parts)),
+            What::Leaf => None,
+            What::Role(_) => None,
+            What::Parts => None,
+            What::Lean(_) => None,
+        }
+    }
+
+    #[tactic(auto, using(crate::proofs::FormLemmas::token_leaf, crate::proofs::FormLemmas::token_node, crate::proofs::FormLemmas::token_role, crate::proofs::FormLemmas::token_parts, crate::proofs::FormLemmas::token_lean))]
+    fn is_token(&self, item: &Item<'_>) -> bool
+        ensures { result ≡ is_token (part_in self.now item.now) }
+    {
+        match item.what {
+            What::Leaf => true,
+            What::Node(_) => false,
+            What::Role(_) => false,
+            What::Parts => false,
+            What::Lean(_) => false,
         }
     }
 
     /// Whether the part at a place is a token.
     #[tactic(auto, unfolding(crate::specs::Steps::is_token))]
-    pub fn is_token_at(&self, parts: &[Tree], n: usize) -> bool
+    pub fn is_token_at(&self, parts: &Row<'_>, n: usize) -> bool
         ensures { result ≡ is_token (part (parts_in self.now parts.now) n) }
     {
         match self.part(parts, n) {
-            Some(tree) => self.is_token(tree),
+            Some(item) => self.is_token(&item),
             None => false,
         }
     }
 
     /// The token of this number.
-    fn numbered(&self, at: usize) -> Option<Token>
+    fn numbered(&self, at: u32) -> Option<Token>
         ensures { result ≡ slice_get self.now.tokens.now at }
     {
-        self.tokens.get(at).copied()
+        self.tokens.get(at as usize).copied()
     }
 
-    /// The token that a tree is.
-    #[tactic(auto, using(crate::proofs::Looks::token_leaf, crate::proofs::Looks::token_node, crate::proofs::Looks::token_role, crate::proofs::Looks::token_parts))]
-    fn token(&self, tree: &Tree) -> Option<Token>
-        ensures { result ≡ token_in self.now.text.now self.now.tokens.now (part_in self.now tree.now) }
+    /// The token that stands there.
+    #[tactic(auto, using(crate::proofs::Looks::token_leaf, crate::proofs::Looks::token_node, crate::proofs::Looks::token_role, crate::proofs::Looks::token_parts, crate::proofs::Looks::token_lean))]
+    fn token(&self, item: &Item<'_>) -> Option<Token>
+        ensures { result ≡ token_in self.now.text.now self.now.tokens.now (part_in self.now item.now) }
     {
-        match tree {
-            Tree::Leaf { at } => self.numbered(*at),
-            Tree::Node {
-                label: _,
-                from: _,
-                to: _,
-                parts: _,
-            } => None,
-            Tree::Role { label: _, tree: _ } => None,
-            Tree::Parts(_) => None,
+        match item.what {
+            What::Leaf => self.numbered(item.from),
+            What::Node(_) => None,
+            What::Role(_) => None,
+            What::Parts => None,
+            What::Lean(_) => None,
         }
     }
 
     /// The token at a place among the parts.
-    pub fn token_at(&self, parts: &[Tree], n: usize) -> Option<Token>
+    pub fn token_at(&self, parts: &Row<'_>, n: usize) -> Option<Token>
         requires { HasCut self.now }
         ensures is { result ≡ token_in self.now.text.now self.now.tokens.now (part (parts_in self.now parts.now) n) }
         ensures cut { IfSome result (Cuts self.now.text.now) }
     {
         match self.part(parts, n) {
-            Some(tree) => self.token(tree),
+            Some(item) => self.token(&item),
             None => None,
         }
     }
@@ -182,7 +221,7 @@ impl Source<'_> {
     }
 
     /// Whether the first of these parts is this word.
-    pub fn is_word_at(&self, word: &str, parts: &[Tree]) -> bool
+    pub fn is_word_at(&self, word: &str, parts: &Row<'_>) -> bool
         requires { HasCut self.now }
         ensures { result ≡ same_word self.now.text.now self.now.tokens.now word.now (token_in self.now.text.now self.now.tokens.now (part (parts_in self.now parts.now) 0)) }
     {
@@ -193,7 +232,7 @@ impl Source<'_> {
     }
 
     /// Whether the first of these parts is a string literal of this word.
-    pub fn is_literal_at(&self, word: &str, parts: &[Tree]) -> Result<bool, AllocError>
+    pub fn is_literal_at(&self, word: &str, parts: &Row<'_>) -> Result<bool, AllocError>
         requires { HasCut self.now }
         ensures { IfOk result (λ yes. yes ≡ same_str self.now.text.now self.now.tokens.now word.now (str_in self.now.text.now self.now.tokens.now (part (parts_in self.now parts.now) 0))) }
     {

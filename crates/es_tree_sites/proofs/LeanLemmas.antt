@@ -1,0 +1,146 @@
+-- Nodes that lean left, over a first operand and turns.
+use Rattle.std.specs.Prelude.{ℕ, true, false, List, [], ◌∷◌, ◌++◌, map}
+use Rattle.std.proofs.Common.{◌≡◌, refl, sym, ap, ◌∙◌}
+use Rattle.std.proofs.lemmas.List.{append-nil, append_assoc}
+use Rattle.es_token.specs.declared.token.Token.{Token}
+use Rattle.es_whole_tree.specs.declared.tree.Tree.{Tree, roll-Tree, out-Tree, roll-out-Tree}
+use Rattle.es_whole_tree.specs.declared.tree.Tree.TheVariants as vTree
+use Rattle.es_whole_tree.specs.declared.tree.Tree.TheOpen.{Tree-F}
+use Rattle.es_whole_tree.specs.declared.tree.Tree.TheFolds.{fold-roll-Tree}
+use Rattle.es_syntax.specs.declared.entry.Lean.{Lean}
+use Rattle.es_syntax.specs.declared.entry.Lean.TheVariants as vLean
+use Rattle.es_syntax.specs.Held.{label_of}
+use Rattle.es_syntax.specs.Trees.{Kept, turn_parts, leaning_tree, leaned_tree, leant_tree, trees_in}
+use Rattle.es_site.specs.Sites.{Found}
+use Rattle.es_plain_sites.specs.Part.{Part, absent, nil, more, token, node, part, as_group, group, found, at, each, packed, as_target}
+use Rattle.es_plain_sites.specs.Own.{own, operand, part_step, part_of}
+use Rattle.es_plain_sites.proofs.Equations.{part_node, part_parts}
+use Rattle.es_tree_sites.specs.Steps.{has_second, operand_at, operands_in, leaning_in}
+
+operand_is : (x : List ℕ) (ts : List Token) (g v : Part) → part g 1 ≡ v → operand x ts g v ≡ at g 1
+operand_is x ts g absent is = refl
+operand_is x ts g nil is = refl
+operand_is x ts g (more v vs) is = sym (ap found is)
+operand_is x ts g (token n) is = refl
+operand_is x ts g (node label p s) is = refl
+
+same_group : (vs : List Part) → packed vs ≡ as_group (packed vs)
+same_group [] = refl
+same_group (v ∷ vs) = refl
+
+target_group : (v : Part) → nil ≡ as_group (as_target v)
+target_group absent = refl
+target_group nil = refl
+target_group (more v vs) = refl
+target_group (token n) = refl
+target_group (node label p s) = refl
+
+module _ (x : List ℕ) (ts : List Token) where
+  -- what is told of a node that leans left, is told of all of these
+  on_leaned : {A : Type 0} (f : Part → A) (a : A) (lean : Lean)
+      → ((p : Part) (s : Found) → f (node (label_of lean) p s) ≡ a)
+      → (from : ℕ) (t : Tree) (us : List Kept) → f (part_of x ts t) ≡ a
+      → f (part_of x ts (leaned_tree lean from t us)) ≡ a
+  unfolding leaned_tree
+  on_leaned f a lean one from t [] e = e
+  on_leaned f a lean one from t (u ∷ us) e =
+      on_leaned f a lean one from (leaning_tree lean from t u) us
+      (ap f (part_node x ts (label_of lean) from u.0 (t ∷ turn_parts (out-Tree u.1))) ∙ one _ _)
+
+  pub on_lean : {A : Type 0} (f : Part → A) (a : A) (lean : Lean) → f nil ≡ a
+      → ((p : Part) (s : Found) → f (node (label_of lean) p s) ≡ a)
+      → (from : ℕ) (us : List Kept) → f (part_of x ts (leant_tree lean from us)) ≡ a
+  on_lean f a lean none one from [] = ap f (part_parts x ts []) ∙ none
+  on_lean f a lean none one from (u ∷ []) = ap f (part_parts x ts []) ∙ none
+  on_lean f a lean none one from (t ∷ u ∷ us) =
+      on_leaned f a lean one from (leaning_tree lean from t.1 u) us
+      (ap f (part_node x ts (label_of lean) from u.0 (t.1 ∷ turn_parts (out-Tree u.1))) ∙ one _ _)
+
+  -- the parts of a turn
+  turn_part_of : (f : Tree-F Tree)
+      → packed (map (part_of x ts) (turn_parts f)) ≡ as_group (part_of x ts (roll-Tree f))
+  unfolding part_of
+  turn_part_of (Tree-F.Leaf at) = rw (fold-roll-Tree Part (part_step x ts) (Tree-F.Leaf at)) refl
+  turn_part_of (Tree-F.Node label from to us) =
+      rw (fold-roll-Tree Part (part_step x ts) (Tree-F.Node label from to us)) refl
+  turn_part_of (Tree-F.Role label u) =
+      rw (fold-roll-Tree Part (part_step x ts) (Tree-F.Role label u)) (target_group (part_of x ts u))
+  turn_part_of (Tree-F.Parts us) =
+      rw (fold-roll-Tree Part (part_step x ts) (Tree-F.Parts us)) (same_group (map (part_of x ts) us))
+
+  turn_part : (u : Tree) → packed (map (part_of x ts) (turn_parts (out-Tree u))) ≡ as_group (part_of x ts u)
+  turn_part u = turn_part_of (out-Tree u) ∙ ap (λ (t : Tree). as_group (part_of x ts t)) (roll-out-Tree u)
+
+  -- the sites of a node over what stands before a turn
+  own_lean : (lean : Lean) (v g : Part) → own x ts (label_of lean) (more v g) ≡ found v ++ operand_at lean g
+  unfolding operand_at
+  own_lean vLean.Binary v g = refl
+  own_lean vLean.TypedBinary v g =
+      ap (λ s. found v ++ s) (operand_is x ts (group g 0) (part (group g 0) 1) refl)
+
+  leaning_sites : (lean : Lean) (from : ℕ) (t : Tree) (u : Kept)
+      → found (part_of x ts (leaning_tree lean from t u))
+      ≡ found (part_of x ts t) ++ operand_at lean (as_group (part_of x ts u.1))
+  leaning_sites lean from t u =
+      ap found (part_node x ts (label_of lean) from u.0 (t ∷ turn_parts (out-Tree u.1)))
+      ∙ own_lean lean (part_of x ts t) (packed (map (part_of x ts) (turn_parts (out-Tree u.1))))
+      ∙ ap (λ g. found (part_of x ts t) ++ operand_at lean g) (turn_part u.1)
+
+  leaned_sites : (lean : Lean) (from : ℕ) (t : Tree) (us : List Kept)
+      → found (part_of x ts (leaned_tree lean from t us))
+      ≡ found (part_of x ts t) ++ operands_in lean (packed (map (part_of x ts) (trees_in us)))
+  unfolding leaned_tree operands_in
+  leaned_sites lean from t [] = sym (append-nil (found (part_of x ts t)))
+  leaned_sites lean from t (u ∷ us) =
+      let rest = operands_in lean (packed (map (part_of x ts) (trees_in us))) in
+      leaned_sites lean from (leaning_tree lean from t u) us
+      ∙ ap (λ s. s ++ rest) (leaning_sites lean from t u)
+      ∙ append_assoc (found (part_of x ts t)) (operand_at lean (as_group (part_of x ts u.1))) rest
+
+  -- the sites of nodes that lean left are those of the first operand, and of that in each turn
+  pub leant_sites : (lean : Lean) (from : ℕ) (us : List Kept)
+      → found (part_of x ts (leant_tree lean from us)) ≡ leaning_in lean (packed (map (part_of x ts) (trees_in us)))
+  unfolding leaning_in operands_in
+  leant_sites lean from [] = ap found (part_parts x ts [])
+  leant_sites lean from (u ∷ []) = ap found (part_parts x ts [])
+  leant_sites lean from (t ∷ u ∷ us) =
+      let rest = operands_in lean (packed (map (part_of x ts) (trees_in us))) in
+      leaned_sites lean from (leaning_tree lean from t.1 u) us
+      ∙ ap (λ s. s ++ rest) (leaning_sites lean from t.1 u)
+      ∙ append_assoc (found (part_of x ts t.1)) (operand_at lean (as_group (part_of x ts u.1))) rest
+
+-- ---- a first operand, and turns
+less : (lean : Lean) (p : Part) → has_second p ≡ false → leaning_in lean p ≡ []
+unfolding has_second leaning_in
+less lean absent e = refl
+less lean nil e = refl
+less lean (more v absent) e = refl
+less lean (more v nil) e = refl
+less lean (more v (more w vs)) e = absurd (let bad : ⊥ = cc in bad)
+less lean (more v (token n)) e = refl
+less lean (more v (node label p s)) e = refl
+less lean (token n) e = refl
+less lean (node label p s) e = refl
+
+pub leaning_less : (old : Found) (lean : Lean) (p : Part) → has_second p ≡ false → old ++ leaning_in lean p ≡ old
+leaning_less old lean p e = ap (λ s. old ++ s) (less lean p e) ∙ append-nil old
+
+pub leaning_none : (old : Found) (lean : Lean) (p : Part) → p ≡ nil → old ++ leaning_in lean p ≡ old
+unfolding leaning_in
+leaning_none old lean p e = ap (λ q. old ++ leaning_in lean q) e ∙ append-nil old
+
+leaning_is : (lean : Lean) (v vs : Part) → has_second (more v vs) ≡ true
+    → leaning_in lean (more v vs) ≡ found v ++ operands_in lean vs
+unfolding has_second leaning_in
+leaning_is lean v absent e = absurd (let bad : ⊥ = cc in bad)
+leaning_is lean v nil e = absurd (let bad : ⊥ = cc in bad)
+leaning_is lean v (more w vs) e = refl
+leaning_is lean v (token n) e = absurd (let bad : ⊥ = cc in bad)
+leaning_is lean v (node label p s) e = absurd (let bad : ⊥ = cc in bad)
+
+pub leaning_more : (old mid : Found) (lean : Lean) (p v vs : Part) → has_second p ≡ true → p ≡ more v vs
+    → mid ≡ old ++ found v → mid ++ operands_in lean vs ≡ old ++ leaning_in lean p
+leaning_more old mid lean p v vs e is first =
+    ap (λ s. s ++ operands_in lean vs) first ∙ append_assoc old (found v) (operands_in lean vs)
+    ∙ ap (λ s. old ++ s) (sym (leaning_is lean v vs (sym (ap has_second is) ∙ e)))
+    ∙ ap (λ q. old ++ leaning_in lean q) (sym is)
