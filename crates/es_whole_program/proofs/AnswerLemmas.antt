@@ -1,5 +1,6 @@
 -- What the reader's answer tells of the plain trees of a program, and the other way round.
-use Rattle.std.specs.Prelude.{List, Result, Err, true}
+use Rattle.std.specs.Prelude.{List, [], ◌∷◌, ◌++◌, Result, Err, true}
+use Rattle.std.specs.Global.{Vec}
 use Rattle.std.proofs.Common.{◌≡◌, ◌≢◌, ℕ, length, refl, sym, ap, ◌∙◌, subst, arith, leb-true, le-leb}
 use Rattle.es_token.specs.declared.token.Token.{Token}
 use Rattle.es_tree.specs.declared.error.Lang.{Lang}
@@ -21,11 +22,14 @@ use Rattle.es_whole_grammar.specs.Conditions.{program_row}
 use Rattle.es_whole_grammar.proofs.Sets.{sets}
 use Rattle.es_whole_grammar.proofs.Theorems.{programs, free_is_chosen}
 use Rattle.es_whole_tree.specs.declared.tree.Tree.{Tree}
-use Rattle.es_whole_reader.specs.declared.cursor.Measured.{Measured}
 use Rattle.es_whole_tree.specs.Slim.{slim, one, tree_in}
 use Rattle.es_whole_reader.specs.Bounded.{Read, makes, row_at}
-use Rattle.es_whole_reader.specs.Steps.{single}
-use Rattle.es_whole_program.specs.Derived.{IsShaped, GivesTree}
+use Rattle.es_whole_reader.specs.Steps.{single, Writes}
+use Rattle.es_syntax.specs.declared.entry.Entry.{Entry}
+use Rattle.es_syntax.specs.Trees.{trees}
+use Rattle.es_syntax.specs.Forest.{entries_of}
+use Rattle.es_syntax.proofs.Forests.{trees_forest}
+use Rattle.es_whole_program.specs.Derived.{IsRowOf, IsShaped, HoldsShaped, GivesTree}
 use Rattle.es_whole_program.proofs.LowLemmas.{low, is_low, row_low}
 
 low-gives : (o : Out (Plain Label)) (v : Read) (to : ℕ) → low o ≡ gives v to
@@ -36,21 +40,26 @@ low-gives (gives p at) v to e =
     let same = gives_same (made makes p) v at to held.1 in
     (p, ap (gives p) same.1, held.0, same.0)
 
+-- a tree that was written behind nothing is all that was written
+pub alone : (old new es : List Entry) (t : Tree) → old ≡ [] → es ≡ new → Writes old new (t ∷ []) → IsRowOf t es
+alone old new es t none same w =
+    ap trees (same ∙ (w.1 ∙ ap (λ us. us ++ entries_of w.0) none)) ∙ (trees_forest w.0 ∙ w.2)
+
 module _ (l : Lang) (m : Mode) (ts : List Token) where
   -- what is read up to the end is shaped
-  pub read_shaped : (room : ℕ) (x : Measured) (to : ℕ) → room ≡ most_nodes
-      → row_at l (keys_of ts) room (program_row m) 0 ≡ gives (single x) to → to ≡ length ts
-      → IsShaped l m (keys_of ts) x.tree
+  read_shaped : (room : ℕ) (t : Tree) (h to : ℕ) → room ≡ most_nodes
+      → row_at l (keys_of ts) room (program_row m) 0 ≡ gives (single t h) to → to ≡ length ts
+      → IsShaped l m (keys_of ts) t
   unfolding Shape
-  read_shaped room x to most read ends =
+  read_shaped room t h to most read ends =
       let K : List Key = keys_of ts in
-      let answer : low (read_row plain K (rule l) most_nodes (program_row m) 0) ≡ gives (single x) (length K) =
+      let answer : low (read_row plain K (rule l) most_nodes (program_row m) 0) ≡ gives (single t h) (length K) =
       sym (row_low l K most_nodes (program_row m) 0) ∙ ap (λ n. row_at l K n (program_row m) 0) (sym most) ∙ read
-      ∙ ap (gives (single x)) (ends ∙ sym (length-keys_of ts)) in
-      let found = low-gives (read_row plain K (rule l) most_nodes (program_row m) 0) (single x) (length K) answer in
+      ∙ ap (gives (single t h)) (ends ∙ sym (length-keys_of ts)) in
+      let found = low-gives (read_row plain K (rule l) most_nodes (program_row m) 0) (single t h) (length K) answer in
       let under = Free.chosen_is_free K (rule l) most_nodes (program_row m) found.0 0 (length K)
       (row_fits K (rule l) most_nodes (program_row m) 0 found.0 (length K) found.1) in
-      let value : made slim found.0 ≡ one x.tree = ap (λ v. v.value) (sym (made_tallied slim found.0) ∙ found.3) in
+      let value : made slim found.0 ≡ one t = ap (λ v. v.value) (sym (made_tallied slim found.0) ∙ found.3) in
       record {
         plain = found.0;
         shaped = (under, leb-true (tall found.0) most_nodes found.2);
@@ -75,21 +84,31 @@ module _ (l : Lang) (m : Mode) (ts : List Token) where
         ap (λ v. tree_in v.value) (made_tallied slim p) ∙ shaped.kept,
       )
 
-  -- an answer is the tree of what is shaped
-  pub answer_only : (room : ℕ) (x : Measured) (tree : Tree) (to : ℕ) → room ≡ most_nodes
-      → row_at l (keys_of ts) room (program_row m) 0 ≡ gives (single x) to → IsShaped l m (keys_of ts) tree
-      → (x.tree ≡ tree) × (to ≡ length ts)
-  answer_only room x tree to most read shaped =
+  pub row_shaped : (room : ℕ) (es : List Entry) (t : Tree) (h to : ℕ) → room ≡ most_nodes → IsRowOf t es
+      → row_at l (keys_of ts) room (program_row m) 0 ≡ gives (single t h) to → to ≡ length ts
+      → HoldsShaped l m (keys_of ts) es
+  row_shaped room es t h to most written read ends = record {
+    tree = t;
+    row = written;
+    shaped = read_shaped room t h to most read ends;
+  }
+
+  -- an answer is the row of what is shaped
+  pub answer_only : (room : ℕ) (es : List Entry) (t tree : Tree) (h to : ℕ) → room ≡ most_nodes → IsRowOf t es
+      → row_at l (keys_of ts) room (program_row m) 0 ≡ gives (single t h) to → IsShaped l m (keys_of ts) tree
+      → IsRowOf tree es × (to ≡ length ts)
+  answer_only room es t tree h to most written read shaped =
       let other = shaped_read room tree most shaped in
-      let same = gives_same (single x) other.0 to (length ts) (sym read ∙ other.1) in
-      (ap (λ v. tree_in v.value) same.0 ∙ other.2, same.1)
+      let same = gives_same (single t h) other.0 to (length ts) (sym read ∙ other.1) in
+      (written ∙ ap (λ u. u ∷ []) (ap (λ v. tree_in v.value) same.0 ∙ other.2), same.1)
 
   -- where something is shaped, only "out of memory" refuses
-  pub refused_only : (room : ℕ) (r : Result Tree SyntaxError) (y e : SyntaxError) (tree : Tree) → room ≡ most_nodes
+  pub refused_only : (room : ℕ) (r : Result (Vec Entry) SyntaxError) (y e : SyntaxError) (tree : Tree)
+      → room ≡ most_nodes
       → r ≡ Err y → y ≡ e → (e ≢ OutOfMemory → row_at l (keys_of ts) room (program_row m) 0 ≡ nothing)
       → IsShaped l m (keys_of ts) tree → GivesTree r tree
   refused_only room r y e tree most is_err same told shaped =
-      let P : Result Tree SyntaxError → Type 0 = λ r. GivesTree r tree in
+      let P : Result (Vec Entry) SyntaxError → Type 0 = λ r. GivesTree r tree in
       subst P (sym (is_err ∙ ap Err same)) (at_error e told)
     where
       at_error : (e : SyntaxError) → (e ≢ OutOfMemory → row_at l (keys_of ts) room (program_row m) 0 ≡ nothing)

@@ -5,6 +5,6 @@ mod Shapes
 mod TypeShapes
 mod RowShapes
 mod Equations
-mod ListLemmas
+mod RowLemmas
 pub mod SoundTheorems
 mod KeptLemmas

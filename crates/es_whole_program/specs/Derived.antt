@@ -1,5 +1,6 @@
--- When a tree is kept of a plain tree of a whole program.
-use Rattle.std.specs.Prelude.{◌≡◌, List, Result, Ok, Err}
+-- When a tree has the shape of a whole program, and when a row of entries is such a tree.
+use Rattle.std.specs.Prelude.{◌≡◌, List, [], ◌∷◌, Result, Ok, Err}
+use Rattle.std.specs.Global.{Vec}
 use Rattle.es_tree.specs.declared.error.Lang.{Lang}
 use Rattle.es_tree.specs.declared.error.Mode.{Mode}
 use Rattle.es_tree.specs.declared.error.SyntaxError.{SyntaxError}
@@ -12,6 +13,8 @@ use Rattle.es_whole_grammar.specs.Table.{rule}
 use Rattle.es_whole_grammar.specs.Conditions.{program_row}
 use Rattle.es_whole_tree.specs.declared.tree.Tree.{Tree}
 use Rattle.es_whole_tree.specs.Slim.{tree_of}
+use Rattle.es_syntax.specs.declared.entry.Entry.{Entry}
+use Rattle.es_syntax.specs.Trees.{trees}
 
 -- the tree is that of a plain tree which has the shape of a program over the keys of all tokens
 pub record IsShaped (l : Lang) (m : Mode) (K : List Key) (tree : Tree) : Type 0 where
@@ -19,8 +22,18 @@ pub record IsShaped (l : Lang) (m : Mode) (K : List Key) (tree : Tree) : Type 0 
   pub shaped : Shape free (rule l) (program_row m) K plain
   pub kept : tree_of plain ≡ tree
 
--- this tree, or out of memory
-abbrev pub GivesTree : Result Tree SyntaxError → Tree → Type 0
-GivesTree (Ok answer) tree = answer ≡ tree
+-- the row is this tree, and no other
+abbrev pub IsRowOf : Tree → List Entry → Type 0
+IsRowOf tree es = trees es ≡ tree ∷ []
+
+-- the row is a tree of this shape
+pub record HoldsShaped (l : Lang) (m : Mode) (K : List Key) (es : List Entry) : Type 0 where
+  pub tree : Tree
+  pub row : IsRowOf tree es
+  pub shaped : IsShaped l m K tree
+
+-- the row of this tree, or out of memory
+abbrev pub GivesTree : Result (Vec Entry) SyntaxError → Tree → Type 0
+GivesTree (Ok row) tree = IsRowOf tree row.items
 GivesTree (Err (Syntax token)) tree = ⊥
 GivesTree (Err OutOfMemory) tree = Unit {0}

@@ -4,3 +4,5 @@ pub mod Derived
 pub mod Sound
 -- when a tree is kept of a plain tree of a program
 pub mod Program
+-- the trees that a cursor over a row stands at
+pub mod Rows

@@ -1,4 +1,4 @@
--- When a tree is kept of a plain tree of a program.
+-- When a tree is kept of a plain tree of a program, and when a row of entries is such a tree.
 use Rattle.std.specs.Prelude.{◌≡◌, List}
 use Rattle.es_tree.specs.declared.error.Lang.{Lang}
 use Rattle.es_tree.specs.declared.error.Mode.{Mode}
@@ -8,9 +8,17 @@ use Rattle.es_whole_grammar.specs.declared.rows.Label.{Label}
 use Rattle.es_whole_grammar.specs.Conditions.{IsProgram}
 use Rattle.es_whole_tree.specs.declared.tree.Tree.{Tree}
 use Rattle.es_whole_tree.specs.Slim.{tree_of}
+use Rattle.es_syntax.specs.declared.entry.Entry.{Entry}
+use Rattle.es_whole_program.specs.Derived.{IsRowOf}
 
 -- the tree is kept of a plain tree of a program over these keys
 pub record IsKept (l : Lang) (m : Mode) (K : List Key) (tree : Tree) : Type 0 where
   pub plain : Plain Label
   pub program : IsProgram l m K plain
   pub kept : tree_of plain ≡ tree
+
+-- the row is a tree that is kept of a plain tree of a program
+pub record HoldsKept (l : Lang) (m : Mode) (K : List Key) (es : List Entry) : Type 0 where
+  pub tree : Tree
+  pub row : IsRowOf tree es
+  pub kept : IsKept l m K tree

@@ -5,43 +5,39 @@ ghost use Rattle.es_whole_reader.specs.Bounded.{row_at};
 ghost use Rattle.es_whole_reader.specs.Steps.{IsRead};
 ghost use Rattle.es_tree.specs.Key.{keys_of};
 ghost use Rattle.es_whole_tree.specs.declared.tree.Tree.{Tree as Kept};
-ghost use Rattle.es_whole_program.specs.Derived.{IsShaped, GivesTree};
-ghost use Rattle.es_whole_program.specs.Program.{IsKept};
+ghost use Rattle.es_whole_program.specs.Derived.{HoldsShaped, IsShaped, GivesTree};
+ghost use Rattle.es_whole_program.specs.Program.{HoldsKept, IsKept};
 
 use crate::program::whole;
-use crate::sound::is_sound;
+use crate::sound::first_unsound;
+use es_syntax::{Entry, Row as Entries};
 use es_token::Token;
 use es_tree::{Lang, Mode, SyntaxError};
 use es_whole_grammar::Row;
-use es_whole_reader::{Cursor, Grammar, Input, Measured, Tokens, Tree};
+use es_whole_reader::{Cursor, Grammar, Input, Tokens};
 use es_whole_rows::read_row;
 use std::alloc::Global;
 
 /// The most nodes on a path of a tree: the program's own, and 500 below it.
 const MOST_NODES: usize = 501;
 
-/// A row, where so many rows may stand on a path.
-fn row(
-    input: Input<'_>,
-    room: usize,
-    row: Row,
-    cursor: &mut Cursor,
-) -> Result<Measured, SyntaxError>
-    ensures { IsRead (row_at input.entry.lang (keys_of input.entry.tokens.tokens.now) room row cursor.old.at) result cursor.new.at }
+/// A row of the table, where so many rows may stand on a path.
+fn row(input: Input<'_>, room: usize, row: Row, cursor: &mut Cursor) -> Result<usize, SyntaxError>
+    ensures { IsRead (row_at input.entry.lang (keys_of input.entry.tokens.tokens.now) room row cursor.old.at) cursor.old.row cursor.new result }
 {
     read_row(input, room, row, cursor)
 }
 
-/// The tree of a module or a script by the rows alone, where anything may be assigned to.
+/// The tree of a module or a script by the rows of the table alone, where anything may be assigned to.
 #[tactic(auto, using(crate::proofs::AnswerLemmas::most))]
 pub fn read_tree(
     alloc: Global,
     lang: Lang,
     mode: Mode,
     tokens: &[Token],
-) -> Result<Tree, SyntaxError>
+) -> Result<Vec<Entry>, SyntaxError>
     // What is answered is kept of a plain tree that has the shape of a program.
-    ensures shaped { IfOk result (IsShaped lang mode (keys_of tokens.now)) }
+    ensures shaped { IfOk result (λ row. HoldsShaped lang mode (keys_of tokens.now) row.items) }
     // What is kept of one is answered, unless memory runs out.
     ensures only { (tree : Kept) → IsShaped lang mode (keys_of tokens.now) tree → GivesTree result tree }
 {
@@ -57,21 +53,27 @@ pub fn read_tree(
     whole(&grammar, mode)
 }
 
-/// The tree of a module or a script.
+/// The tree of a module or a script, as one row of entries. `Syntax` names the token where reading stopped, or the first
+/// one of the first node in which no simple target is assigned to, or updated.
 pub fn read_program(
     alloc: Global,
     lang: Lang,
     mode: Mode,
     tokens: &[Token],
-) -> Result<Tree, SyntaxError>
+) -> Result<Vec<Entry>, SyntaxError>
     // What is answered is kept of a plain tree of a program.
-    ensures kept { IfOk result (IsKept lang mode (keys_of tokens.now)) }
+    ensures kept { IfOk result (λ row. HoldsKept lang mode (keys_of tokens.now) row.items) }
     // What is kept of one is answered, unless memory runs out: so `Syntax` comes only where there is none.
     ensures only { (tree : Kept) → IsKept lang mode (keys_of tokens.now) tree → GivesTree result tree }
 {
-    let tree = read_tree(alloc, lang, mode, tokens)?;
-    if !is_sound(&tree) {
-        return Err(SyntaxError::Syntax { token: 0 });
+    let row = read_tree(alloc, lang, mode, tokens)?;
+    let entries = Entries {
+        entries: row.as_slice(),
+    };
+    match first_unsound(entries) {
+        Some(token) => Err(SyntaxError::Syntax {
+            token: token as usize,
+        }),
+        None => Ok(row),
     }
-    Ok(tree)
 }

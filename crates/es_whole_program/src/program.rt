@@ -6,11 +6,12 @@ ghost use Rattle.es_tree.specs.Fits.{most_nodes};
 ghost use Rattle.es_whole_grammar.specs.Conditions.{program_row};
 ghost use Rattle.es_whole_tree.specs.declared.tree.Tree.{Tree as Kept};
 ghost use Rattle.es_whole_reader.specs.Steps.{IsRing};
-ghost use Rattle.es_whole_program.specs.Derived.{IsShaped, GivesTree};
+ghost use Rattle.es_whole_program.specs.Derived.{HoldsShaped, IsShaped, GivesTree};
 
+use es_syntax::{Entry, Writer};
 use es_tree::{Mode, SyntaxError};
 use es_whole_grammar::Row;
-use es_whole_reader::{Cursor, Grammar, Input, Measured, Tree};
+use es_whole_reader::{Cursor, Grammar, Input};
 
 /// The row of a program.
 fn program_row(mode: Mode) -> Row
@@ -22,24 +23,28 @@ fn program_row(mode: Mode) -> Row
     }
 }
 
-/// The tree of a program in the language of the input, by a function that reads each row.
-pub fn whole<F: Fn(Input<'_>, usize, Row, &mut Cursor) -> Result<Measured, SyntaxError>>(
+/// The tree of a program in the language of the input, as a row of entries, by a function that reads each row of the table.
+pub fn whole<F: Fn(Input<'_>, usize, Row, &mut Cursor) -> Result<usize, SyntaxError>>(
     grammar: &Grammar<'_, F>,
     mode: Mode,
-) -> Result<Tree, SyntaxError>
+) -> Result<Vec<Entry>, SyntaxError>
     requires ring { IsRing grammar.now.input grammar.now.room (F.pre grammar.now.read) (F.post grammar.now.read) }
     requires room { grammar.now.room ≡ most_nodes }
     // What is answered is kept of a plain tree of the program.
-    ensures shaped { IfOk result (IsShaped grammar.now.input.lang mode (keys_of grammar.now.input.tokens.tokens.now)) }
+    ensures shaped { IfOk result (λ row. HoldsShaped grammar.now.input.lang mode (keys_of grammar.now.input.tokens.tokens.now) row.items) }
     // What is kept of one is answered, unless memory runs out: so `Syntax` comes only where there is none.
     ensures only { (tree : Kept) → IsShaped grammar.now.input.lang mode (keys_of grammar.now.input.tokens.tokens.now) tree → GivesTree result tree }
 {
     let tokens = grammar.input.tokens.tokens;
     let row = program_row(mode);
-    let mut cursor = Cursor { at: 0 };
-    let program = grammar.row(row, &mut cursor)?;
+    let mut cursor = Cursor {
+        at: 0,
+        row: Writer::new(grammar.input.alloc),
+    };
+    let _height = grammar.row(row, &mut cursor)?;
     if cursor.at != tokens.len() {
         return Err(SyntaxError::Syntax { token: cursor.at });
     }
-    Ok(program.tree)
+    let Cursor { at: _, row } = cursor;
+    Ok(row.into_entries())
 }

@@ -1,20 +1,19 @@
-use Rattle.std.proofs.Common.{sym, ◌∙◌}
 use Rattle.es_tree.specs.Key.{keys_of}
-use Rattle.es_whole_program.proofs.KeptLemmas.{shaped_of, kept_of, none_kept}
+use Rattle.es_whole_program.proofs.KeptLemmas.{shaped_of, holds_kept, none_kept}
 use Rattle.es_whole_program.proofs.plain.read_program.Goals as goal
 
 -- what is read isn't sound, so nothing is kept of a program
-pub returns-then-not-is_sound-clause-only : goal.returns-then-not-is_sound-clause-only
-returns-then-not-is_sound-clause-only c = λ tree kept.
-    none_kept c.args.lang c.args.mode (keys_of c.args.tokens.now) c.in_ok-tree.tree tree
-    (c.in_ok-tree.ensures.only tree (shaped_of c.args.lang c.args.mode (keys_of c.args.tokens.now) tree kept))
-    (sym c.is_sound.ensures ∙ c.if-not-is_sound.true) kept
+pub returns-in-Some-clause-only : goal.returns-in-Some-clause-only
+returns-in-Some-clause-only c = λ tree kept.
+    none_kept c.args.lang c.args.mode (keys_of c.args.tokens.now) c.in_ok-row.row.items tree
+    (c.in_ok-row.ensures.only tree (shaped_of c.args.lang c.args.mode (keys_of c.args.tokens.now) tree kept))
+    (rw (← c.as_slice.ensures.value) c.in-Some.ensures) kept
 
-pub returns-clause-kept : goal.returns-clause-kept
-returns-clause-kept c =
-    kept_of c.args.lang c.args.mode (keys_of c.args.tokens.now) c.in_ok-tree.tree c.in_ok-tree.ensures.shaped
-    (sym c.is_sound.ensures ∙ c.if-not-is_sound.false)
+pub returns-in-None-clause-kept : goal.returns-in-None-clause-kept
+returns-in-None-clause-kept c =
+    holds_kept c.args.lang c.args.mode (keys_of c.args.tokens.now) c.in_ok-row.row.items c.in_ok-row.ensures.shaped
+    (rw (← c.as_slice.ensures.value) c.in-None.ensures)
 
-pub returns-clause-only : goal.returns-clause-only
-returns-clause-only c = λ tree kept.
-    c.in_ok-tree.ensures.only tree (shaped_of c.args.lang c.args.mode (keys_of c.args.tokens.now) tree kept)
+pub returns-in-None-clause-only : goal.returns-in-None-clause-only
+returns-in-None-clause-only c = λ tree kept.
+    c.in_ok-row.ensures.only tree (shaped_of c.args.lang c.args.mode (keys_of c.args.tokens.now) tree kept)
