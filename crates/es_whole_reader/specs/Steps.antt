@@ -1,6 +1,6 @@
 -- What readers of rows, rules and forms promise: each writes what the reader of the table answers there, and answers the
 -- most nodes on a path of it.
-use Rattle.std.specs.Prelude.{◌≡◌, ◌≢◌, ◌≤◌, ℕ, suc, max, ◌∷◌, [], ◌++◌, List, Result, Ok, Err}
+use Rattle.std.specs.Prelude.{◌≡◌, ◌≢◌, ℕ, suc, max, leb, true, ◌∷◌, [], ◌++◌, List, Result, Ok, Err}
 use denote.Ref.{MutBor}
 use Rattle.es_tree.specs.declared.error.SyntaxError.{SyntaxError}
 use Rattle.es_tree.specs.declared.error.SyntaxError.TheVariants.{OutOfMemory}
@@ -56,7 +56,7 @@ Adds out old new (Err e) = IsRefused out old new.row e
 abbrev pub IsTurn : Out Read → ℕ → List Entry → Cursor → Result ℕ SyntaxError → Type 0
 IsTurn out first old new (Ok h) =
     (parts : Forest) × (g : ℕ) × (new.row ≡ old ++ entries_of (node vWhat.Parts 0 new.at parts none))
-    × (out ≡ gives (group (trees_in (kept_of parts)) g) new.at) × (h ≡ suc (max first g)) × (h ≤ most_nodes)
+    × (out ≡ gives (group (trees_in (kept_of parts)) g) new.at) × (h ≡ suc (max first g)) × (leb h most_nodes ≡ true)
 IsTurn out first old new (Err e) =
     Keeps old new.row × (e ≢ OutOfMemory → (l : Label) (t : Tree) (from : ℕ)
     → and_then out (λ ps to. node_at l from to (makes.of_cons (single t first) ps)) ≡ nothing)

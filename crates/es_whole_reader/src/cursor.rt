@@ -1,6 +1,6 @@
 //! What readers share: the tokens of a text, a place in them, and what is written.
 
-ghost use Rattle.std.specs.Prelude.{◌≡◌, ◌≢◌, ◌+◌, ◌≤◌, ◌<◌, [], ◌++◌, length, take, suc, true, false, IfOk, OnOk, OnErr, IfErr};
+ghost use Rattle.std.specs.Prelude.{◌≡◌, ◌≢◌, ◌+◌, leb, max, [], ◌++◌, length, take, suc, true, false, IfOk, OnOk, OnErr, IfErr};
 ghost use Rattle.es_tree.specs.Key.{keys_of, seen, is, has_kind};
 ghost use Rattle.es_tree.specs.Fits.{most_nodes};
 ghost use Rattle.es_tree.specs.declared.error.SyntaxError.TheVariants.{OutOfMemory};
@@ -137,12 +137,19 @@ pub fn leaf(row: &mut Writer, at: usize) -> Result<(), AllocError>
     row.leaf(What::Leaf, from, from + 1)
 }
 
+/// The greater of two numbers of nodes.
+pub fn highest(one: usize, other: usize) -> usize
+    ensures { result ≡ max one other }
+{
+    if one < other { other } else { one }
+}
+
 /// The most nodes on a path of a part, and of those behind it.
 pub fn higher(part: usize, rest: Result<usize, SyntaxError>) -> Result<usize, SyntaxError>
     ensures { result ≡ higher_of part rest }
 {
     match rest {
-        Ok(rest) => Ok(part.max(rest)),
+        Ok(rest) => Ok(highest(part, rest)),
         Err(error) => Err(error),
     }
 }
@@ -150,8 +157,8 @@ pub fn higher(part: usize, rest: Result<usize, SyntaxError>) -> Result<usize, Sy
 /// The most nodes on a path of a node, by that of its parts, where no path of it has too many.
 #[tactic(auto, unfolding(es_tree::specs::Fits::most_nodes))]
 pub fn counted(parts: usize, cursor: &Cursor) -> Result<usize, SyntaxError>
-    ensures counted { IfOk result (λ n. (n ≡ suc parts) × (n ≤ most_nodes)) }
-    ensures many { OnErr result (most_nodes < suc parts) }
+    ensures counted { IfOk result (λ n. (n ≡ suc parts) × (leb (suc parts) most_nodes ≡ true)) }
+    ensures many { OnErr result (leb (suc parts) most_nodes ≡ false) }
 {
     if parts >= MOST_NODES {
         return Err(SyntaxError::Syntax { token: cursor.at });

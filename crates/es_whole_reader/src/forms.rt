@@ -10,7 +10,7 @@ ghost use Rattle.es_whole_reader.specs.Told.{sort_of, told_of};
 ghost use Rattle.es_whole_reader.specs.Bounded.{makes, form_at, row_at};
 ghost use Rattle.es_whole_reader.specs.Steps.{IsRing, IsPart, Adds};
 
-use crate::cursor::{Cursor, Grammar, Input, expect, higher, leaf, take};
+use crate::cursor::{Cursor, Grammar, Input, expect, higher, highest, leaf, take};
 use crate::told::{Sort, Told};
 use es_syntax::What;
 use es_token::TokenKind;
@@ -109,7 +109,7 @@ fn turns<P: ReadsForm, F: Fn(Input<'_>, usize, Row, &mut Cursor) -> Result<usize
         }
         left -= 1;
         let part = group(turn, grammar, cursor)?;
-        height = height.max(part);
+        height = highest(height, part);
     }
     cursor.row.close(opened, What::Parts, 0, 0)?;
     Ok(height)

@@ -11,7 +11,7 @@ ghost use Rattle.es_whole_reader.specs.Told.{told_of};
 ghost use Rattle.es_whole_reader.specs.Bounded.{makes, form_at, node_at, row_at, wraps_at};
 ghost use Rattle.es_whole_reader.specs.Steps.{IsRing, IsRead, IsTurn, Writes, single};
 
-use crate::cursor::{Cursor, Grammar, Input, Place, counted, number};
+use crate::cursor::{Cursor, Grammar, Input, Place, counted, highest, number};
 use crate::forms::ReadsForm;
 use crate::told::Told;
 use es_syntax::{Lean, What};
@@ -46,7 +46,7 @@ fn wrapped<P: ReadsForm, F: Fn(Input<'_>, usize, Row, &mut Cursor) -> Result<usi
     let token = number(from.token)?;
     cursor.row.open_before(from.entry)?;
     let parts = turn.read(grammar, cursor)?;
-    let height = counted(first.max(parts), cursor)?;
+    let height = counted(highest(first, parts), cursor)?;
     let to = number(cursor.at)?;
     cursor.row.close(from.entry, What::Node(label), token, to)?;
     Ok(height)
@@ -90,7 +90,7 @@ fn leaned<P: ReadsForm, F: Fn(Input<'_>, usize, Row, &mut Cursor) -> Result<usiz
 {
     let opened = cursor.row.open()?;
     let parts = turn.read(grammar, cursor)?;
-    let height = counted(first.max(parts), cursor)?;
+    let height = counted(highest(first, parts), cursor)?;
     let to = number(cursor.at)?;
     cursor.row.close(opened, What::Parts, 0, to)?;
     Ok(height)

@@ -1,0 +1,58 @@
+use Rattle.std.proofs.Common.{sym}
+use Rattle.std.proofs.lemmas.Result.{err_from_is_err_and}
+use Rattle.es_tree.specs.Key.{keys_of}
+use Rattle.es_tree.specs.Reader.{and_then}
+use Rattle.es_whole_reader.specs.Bounded.{makes, form_at, node_at, row_at}
+use Rattle.es_whole_reader.specs.Steps.{single}
+use Rattle.es_whole_reader.proofs.FormLemmas.{read_refused}
+use Rattle.es_whole_reader.proofs.WrapLemmas.{wrapped_read, wrapped_many, wrapped_refused}
+use Rattle.es_whole_reader.proofs.wraps.wrapped.Goals as goal
+
+pub returns-in_err-parts : goal.returns-in_err-parts
+returns-in_err-parts g c =
+    let p = err_from_is_err_and c.from_residual-in_err-parts.result c.from_residual-in_err-parts.ensures.1 in
+    λ base t place written.
+    read_refused (and_then
+    (form_at (keys_of c.args.grammar.now.input.tokens.tokens.now)
+    (row_at c.args.grammar.now.input.lang (keys_of c.args.grammar.now.input.tokens.tokens.now)
+    c.args.grammar.now.room) (g.P.ReadsForm.form c.args.turn.now) c.args.cursor.now.at)
+    (λ ps to. node_at c.args.label c.args.from.token to (makes.of_cons (single t c.args.first) ps)))
+    base c.read.new.cursor c.from_residual-in_err-parts.result p.0 c.in_err-parts.field-0.0 p.1 p.2
+    (wrapped_refused (form_at (keys_of c.args.grammar.now.input.tokens.tokens.now)
+    (row_at c.args.grammar.now.input.lang (keys_of c.args.grammar.now.input.tokens.tokens.now)
+    c.args.grammar.now.room) (g.P.ReadsForm.form c.args.turn.now) c.args.cursor.now.at) c.args.label
+    c.args.from.token c.args.first c.args.from.entry c.args.cursor.now.row
+    c.open_before.new.self c.read.new.cursor c.in_err-parts.field-0.0 base t c.in_ok-open_before.ensures.written
+    c.in_err-parts.ensures place written)
+
+pub returns-in_err-height : goal.returns-in_err-height
+returns-in_err-height g c =
+    let p = err_from_is_err_and c.from_residual-in_err-height.result c.from_residual-in_err-height.ensures.1 in
+    λ base t place written.
+    read_refused (and_then
+    (form_at (keys_of c.args.grammar.now.input.tokens.tokens.now)
+    (row_at c.args.grammar.now.input.lang (keys_of c.args.grammar.now.input.tokens.tokens.now)
+    c.args.grammar.now.room) (g.P.ReadsForm.form c.args.turn.now) c.args.cursor.now.at)
+    (λ ps to. node_at c.args.label c.args.from.token to (makes.of_cons (single t c.args.first) ps)))
+    base c.read.new.cursor c.from_residual-in_err-height.result p.0 c.in_err-height.field-0.0 p.1
+    p.2
+    (wrapped_many (form_at (keys_of c.args.grammar.now.input.tokens.tokens.now)
+    (row_at c.args.grammar.now.input.lang (keys_of c.args.grammar.now.input.tokens.tokens.now)
+    c.args.grammar.now.room) (g.P.ReadsForm.form c.args.turn.now) c.args.cursor.now.at) c.args.label
+    c.args.from.token c.args.first c.args.from.entry c.args.cursor.now.row
+    c.open_before.new.self c.read.new.cursor c.in_ok-parts.parts c.in_err-height.field-0.0 base t
+    c.in_ok-open_before.ensures.written c.in_ok-parts.ensures
+    (rw (← c.highest.ensures) c.in_err-height.ensures.many) place written)
+
+pub returns : goal.returns
+returns g c =
+    λ base t place written.
+    wrapped_read (form_at (keys_of c.args.grammar.now.input.tokens.tokens.now)
+    (row_at c.args.grammar.now.input.lang (keys_of c.args.grammar.now.input.tokens.tokens.now)
+    c.args.grammar.now.room) (g.P.ReadsForm.form c.args.turn.now) c.args.cursor.now.at) c.args.label
+    c.args.from.token c.args.first c.args.from.entry c.args.cursor.now.row
+    c.open_before.new.self c.read.new.cursor c.in_ok-parts.parts c.in_ok-height.height c.in_ok-token.token c.in_ok-to.to
+    c.close.new.self base t c.in_ok-open_before.ensures.written c.in_ok-parts.ensures
+    (rw (← c.highest.ensures) c.in_ok-height.ensures.counted.0)
+    (rw (← c.highest.ensures) c.in_ok-height.ensures.counted.1)
+    c.in_ok-token.ensures c.in_ok-to.ensures c.in_ok-close.ensures.written place written
