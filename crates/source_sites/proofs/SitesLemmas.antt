@@ -1,7 +1,9 @@
--- The sites that are found in a plain tree are those of the typed tree of the tokens.
+-- The sites that are found in the row of a plain tree are those of the typed tree of the tokens.
 use Rattle.std.specs.Prelude.{Result, Ok, Err, IfOk}
+use Rattle.std.specs.List.{flat_map}
 use Rattle.std.specs.Result.{IfErr}
 use Rattle.std.proofs.Common.{◌≡◌, refl, sym, ap, subst, ◌∙◌, ℕ, List, [], ◌∷◌, ◌++◌, inl, inr}
+use Rattle.std.proofs.lemmas.List.{append-nil}
 use Rattle.es_token.specs.declared.token.Token.{Token}
 use Rattle.es_token.specs.declared.token.Comment.{Comment}
 use Rattle.es_lexer.specs.Reads.{Reads}
@@ -15,8 +17,10 @@ use Rattle.es_site.specs.declared.site.Site.{Site}
 use Rattle.es_site.specs.Sites.{sites_of}
 use Rattle.es_whole_tree.specs.declared.tree.Tree.{Tree}
 use Rattle.es_whole_tree.specs.Slim.{tree_of}
-use Rattle.es_whole_program.specs.Program.{IsKept}
-use Rattle.es_whole_program.specs.Derived.{GivesTree as GivesPlain}
+use Rattle.es_syntax.specs.declared.entry.Entry.{Entry}
+use Rattle.es_syntax.specs.Trees.{trees}
+use Rattle.es_whole_program.specs.Program.{IsKept, HoldsKept}
+use Rattle.es_whole_program.specs.Derived.{IsRowOf, GivesTree as GivesPlain}
 use Rattle.es_derives.specs.Derives.{Derives}
 use Rattle.es_derives.proofs.Theorems.{one_tree}
 use Rattle.es_plain_sites.specs.Own.{plain_sites}
@@ -37,25 +41,32 @@ module _ (l : Lang) (m : Mode) (x : List ℕ) (ts : List Token) where
   pub kept_of : (p : Program) → (derived : Derives l m x ts p) → IsKept l m (keys_of ts) (tree_of derived.plain)
   kept_of p derived = record { plain = derived.plain; program = derived.program; kept = refl }
 
+  -- the sites of the one tree of a row
+  row_sites : (es : List Entry) (kept : Tree) (found : List Site) → IsRowOf kept es
+      → found ≡ flat_map (plain_sites x ts) (trees es) → found ≡ plain_sites x ts kept
+  row_sites es kept found row same =
+      same ∙ ap (λ (us : List Tree). flat_map (plain_sites x ts) us) row ∙ append-nil (plain_sites x ts kept)
+
   -- what is kept has a typed tree, with these sites
-  pub derived_sites : (kept : Tree) (found : List Site) → IsKept l m (keys_of ts) kept → found ≡ plain_sites x ts kept
-      → AreOf (Derives l m x ts) found
-  derived_sites kept found is same =
-      let typed = kept_sites l m x ts is.plain kept is.program is.kept in
-      record { tree = typed.0; is = typed.1; sites = same ∙ sym typed.2 }
+  pub derived_sites : (es : List Entry) (found : List Site) → HoldsKept l m (keys_of ts) es
+      → found ≡ flat_map (plain_sites x ts) (trees es) → AreOf (Derives l m x ts) found
+  derived_sites es found holds same =
+      let is = holds.kept in
+      let typed = kept_sites l m x ts is.plain holds.tree is.program is.kept in
+      record { tree = typed.0; is = typed.1; sites = row_sites es holds.tree found holds.row same ∙ sym typed.2 }
 
   -- and no other
   pub only_sites : (found : List Site) (p : Program) → AreOf (Derives l m x ts) found → Derives l m x ts p
       → found ≡ sites_of p
   only_sites found p of derived = of.sites ∙ ap sites_of (one_tree l m x ts of.tree p of.is derived)
 
-  pub kept_given : (kept : Tree) (r : Result (List Site) SyntaxError) (p : Program) → IsKept l m (keys_of ts) kept
-      → IfOk r (λ found. found ≡ plain_sites x ts kept) → IfErr r (λ e. e ≡ OutOfMemory) → Derives l m x ts p
-      → GivesSites r p
-  kept_given kept (Ok found) p is same memory derived =
-      only_sites found p (derived_sites kept found is same) derived
-  kept_given kept (Err (Syntax token)) p is same memory derived = let bad : ⊥ = cc in bad
-  kept_given kept (Err OutOfMemory) p is same memory derived = tt
+  pub kept_given : (es : List Entry) (r : Result (List Site) SyntaxError) (p : Program) → HoldsKept l m (keys_of ts) es
+      → IfOk r (λ found. found ≡ flat_map (plain_sites x ts) (trees es)) → IfErr r (λ e. e ≡ OutOfMemory)
+      → Derives l m x ts p → GivesSites r p
+  kept_given es (Ok found) p holds same memory derived =
+      only_sites found p (derived_sites es found holds same) derived
+  kept_given es (Err (Syntax token)) p holds same memory derived = let bad : ⊥ = cc in bad
+  kept_given es (Err OutOfMemory) p holds same memory derived = tt
 
 -- a refusal of the plain tree is one of the sites
 pub refused : (e : SyntaxError) (p : Program) (tree : Tree) → GivesPlain (Err e) tree → GivesSites (Err e) p

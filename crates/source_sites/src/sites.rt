@@ -1,5 +1,6 @@
 //! The sites of a text, or of its tokens.
 ghost use Rattle.std.specs.Prelude.{◌≡◌, ℕ, [], ◌∷◌, ◌++◌, IfOk};
+ghost use Rattle.std.specs.List.{flat_map};
 ghost use Rattle.std.specs.Result.{IfErr};
 ghost use Rattle.url.specs.Parts.{serialize};
 ghost use Rattle.base.specs.declared.range.Range.{Range as Place};
@@ -7,6 +8,7 @@ ghost use Rattle.es_lexer.specs.Reads.{Reads, ReadsTokens};
 ghost use Rattle.es_tree.specs.declared.error.Mode.TheVariants as mode;
 ghost use Rattle.es_ast.specs.declared.ast.Program.{Program as Typed};
 ghost use Rattle.es_derives.specs.Derives.{Derives};
+ghost use Rattle.es_syntax.specs.Trees.{trees};
 ghost use Rattle.es_plain_sites.specs.Own.{plain_sites};
 ghost use Rattle.parse_diagnostic.specs.Diagnosis.{IsDiagnosis};
 ghost use Rattle.source_sites.specs.Tree.{IsFirstTree, IsTree};
@@ -21,11 +23,11 @@ use crate::references::{references_in, with_sites};
 use base::Items;
 use es_lexer::lex_tokens;
 use es_site::Site;
+use es_syntax::Entry;
 use es_token::{Lexed, Token};
 use es_tree::{Lang, Mode, SyntaxError};
 use es_tree_sites::tree_sites;
 use es_whole_program::read_program;
-use es_whole_tree::Tree;
 use media_type::MediaType;
 use parse_diagnostic::{ParseFault, SyntaxErrorKind};
 use source_text::SourceText;
@@ -201,23 +203,23 @@ fn mode_sites(
     ensures only { (tree : Typed) → Derives lang mode text.now tokens.now tree → GivesSites result tree }
 {
     match read_program(alloc, lang, mode, tokens) {
-        Ok(plain) => kept_sites(alloc, text, tokens, &plain),
+        Ok(row) => kept_sites(alloc, text, tokens, row.as_slice()),
         Err(error) => Err(error),
     }
 }
 
-// The sites of what is kept of a plain tree.
+// The sites of what is kept of a plain tree, in a row of entries.
 fn kept_sites(
     alloc: Global,
     text: &str,
     tokens: &[Token],
-    plain: &Tree,
+    row: &[Entry],
 ) -> Result<Items<Site>, SyntaxError>
     requires { ReadsTokens text.now tokens.now }
-    ensures found { IfOk result (λ found. found ≡ plain_sites text.now tokens.now plain.now) }
+    ensures found { IfOk result (λ found. found ≡ flat_map (plain_sites text.now tokens.now) (trees row.now)) }
     ensures memory { IfErr result (λ e. e ≡ SyntaxError.OutOfMemory) }
 {
-    match tree_sites(alloc, text, tokens, plain) {
+    match tree_sites(alloc, text, tokens, row) {
         Ok(found) => Ok(found),
         Err(_) => Err(SyntaxError::OutOfMemory),
     }
