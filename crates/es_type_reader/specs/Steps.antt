@@ -5,7 +5,7 @@ use Rattle.es_tree.specs.declared.error.SyntaxError.{SyntaxError}
 use Rattle.es_tree.specs.declared.error.SyntaxError.TheVariants.{OutOfMemory}
 use Rattle.es_tree.specs.Key.{keys_of}
 use Rattle.es_tree.specs.Reader.{Out, nothing, gives}
-use Rattle.es_reader.specs.declared.cursor.Cursor.{Cursor}
+use Rattle.es_type_reader.specs.declared.cursor.Cursor.{Cursor}
 use Rattle.es_type_reader.specs.declared.rows.Row.{Row}
 use Rattle.es_type_reader.specs.declared.tree.Tree.{Tree}
 use Rattle.es_type_reader.specs.declared.cursor.Input.{Input}

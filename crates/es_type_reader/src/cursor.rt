@@ -12,7 +12,6 @@ use crate::rows::{Label, Row};
 use crate::tree::Tree;
 use base::Items;
 use es_guards::Tokens;
-use es_reader::Cursor;
 use es_token::TokenKind;
 use es_tree::SyntaxError;
 use es_type_guards::{Kinds, is_kind};
@@ -27,6 +26,12 @@ pub struct Input<'a> {
     pub alloc: Global,
     pub tokens: Tokens<'a>,
     pub keeps: bool,
+}
+
+/// The number of the next token.
+#[derive(Drop)]
+pub struct Cursor {
+    pub at: usize,
 }
 
 /// A tree, and the most nodes on a path of it.

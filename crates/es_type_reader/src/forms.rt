@@ -6,18 +6,16 @@ ghost use Rattle.es_tree.specs.Form.{Form, done, tok, punct, row, opt, many, alt
 ghost use Rattle.es_tree.specs.Reader.{gives, either, read_turns};
 ghost use Rattle.es_grammar.specs.TypeRows.{Row as TableRow};
 ghost use Rattle.es_type_guards.specs.Named.{kinds_of, look_of, guard_of};
-ghost use Rattle.es_reader.specs.Told.{sort_of};
 ghost use Rattle.es_type_reader.specs.Names.{row_of};
-ghost use Rattle.es_type_reader.specs.Told.{told_of};
+ghost use Rattle.es_type_reader.specs.Told.{sort_of, told_of};
 ghost use Rattle.es_type_reader.specs.Bounded.{makes, form_at, row_at};
 ghost use Rattle.es_type_reader.specs.Steps.{IsRing, IsPart, Adds};
 
-use crate::cursor::{Grammar, Input, Measured, Parts, expect, take};
+use crate::cursor::{Cursor, Grammar, Input, Measured, Parts, expect, take};
 use crate::rows::Row;
-use crate::told::Told;
+use crate::told::{Sort, Told};
 use crate::tree::Tree;
 use base::Items;
-use es_reader::{Cursor, Sort};
 use es_token::TokenKind;
 use es_tree::SyntaxError;
 use es_type_guards::{Ahead, Guard, Kinds, holds, sees_ahead};

@@ -19,12 +19,11 @@ mod rules;
 mod told;
 mod tree;
 
-pub use cursor::{Grammar, Input, Measured, Parts};
+pub use cursor::{Cursor, Grammar, Input, Measured, Parts};
 pub use es_guards::Tokens;
-pub use es_reader::{Cursor, Sort};
 pub use es_type_guards::{Ahead, Guard, Kinds};
 pub use forms::{Alt, Done, Many, OfRow, Opt, Punct, ReadsForm, Tok, When, Where};
 pub use rows::{Label, Row};
 pub use rules::{Choose, Make, Pick, ReadsRule, Wrap};
-pub use told::Told;
+pub use told::{Sort, Told};
 pub use tree::Tree;

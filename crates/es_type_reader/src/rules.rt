@@ -12,11 +12,10 @@ ghost use Rattle.es_type_reader.specs.Told.{told_of};
 ghost use Rattle.es_type_reader.specs.Bounded.{makes, form_at, node_at, rule_at, row_at, wraps_at};
 ghost use Rattle.es_type_reader.specs.Steps.{IsRing, IsRead, single};
 
-use crate::cursor::{Grammar, Input, Measured, Parts, node};
+use crate::cursor::{Cursor, Grammar, Input, Measured, Parts, node};
 use crate::forms::ReadsForm;
 use crate::rows::{Label, Row};
 use crate::told::Told;
-use es_reader::Cursor;
 use es_tree::SyntaxError;
 use es_type_guards::{Ahead, Guard, holds, sees_ahead};
 

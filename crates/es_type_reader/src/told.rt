@@ -1,4 +1,4 @@
-//! When a part is there.
+//! What is said of a token that is kept, and when a part is there.
 
 ghost use Rattle.std.specs.Prelude.{◌≡◌};
 ghost use Rattle.es_tree.specs.Key.{keys_of};
@@ -7,6 +7,21 @@ ghost use Rattle.es_type_reader.specs.Told.{told_of};
 
 use es_guards::Tokens;
 use es_type_guards::{Ahead, Guard, holds, sees_ahead};
+
+/// What the typed tree keeps of a token.
+#[derive(Clone, Copy)]
+pub enum Sort {
+    /// A string literal, with its value.
+    Str,
+    /// A name, with its text.
+    Name,
+    /// Its text as it stands.
+    Raw,
+    /// Which token it is.
+    Kind,
+    /// Only that it is there.
+    There,
+}
 
 /// When an optional part, or another turn of a list, is there.
 #[derive(Clone, Copy)]

@@ -2,8 +2,7 @@ use Rattle.std.proofs.Common.{sym}
 use Rattle.std.proofs.lemmas.Result.{err_from_is_err_and}
 use Rattle.es_tree.specs.Key.{keys_of}
 use Rattle.es_type_guards.specs.Named.{kinds_of, look_of, guard_of}
-use Rattle.es_reader.specs.Told.{sort_of}
-use Rattle.es_type_reader.specs.Told.{told_of}
+use Rattle.es_type_reader.specs.Told.{sort_of, told_of}
 use Rattle.es_type_reader.specs.Bounded.{row_at, form_at}
 use Rattle.es_tree.specs.Form.{tok, punct, row, opt, many, alt}
 use Rattle.es_type_reader.proofs.FormLemmas.{refused, adds_tok, no_tok}

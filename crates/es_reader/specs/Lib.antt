@@ -1,7 +1,0 @@
--- the tree that is kept of a plain tree, and the reader that makes it
-pub mod Slim
-pub mod Bounded
--- what the values of the code stand for
-pub mod Told
--- what the functions of the crate promise each other
-pub mod Steps
