@@ -1,23 +1,29 @@
 -- The rows of operators are their levels over `power`.
-use Rattle.std.specs.Prelude.{List, Result}
-use Rattle.std.proofs.Common.{◌≡◌, ℕ, refl, ap, subst}
+use Rattle.std.specs.Prelude.{List, length, take, Result, Ok, Err}
+use Rattle.std.proofs.Common.{◌≡◌, ℕ, refl, sym, ap, subst}
 use Rattle.es_token.specs.declared.token.TokenKind.TheVariants as k
 use Rattle.es_tree.specs.declared.error.SyntaxError.{SyntaxError}
 use Rattle.es_tree.specs.declared.error.Lang.{Lang}
 use Rattle.es_tree.specs.declared.error.Lang.TheVariants as lang
 use Rattle.es_tree.specs.Key.{Key}
-use Rattle.es_tree.specs.Form.{Rule}
+use Rattle.es_tree.specs.Form.{Rule, guarded, wrap}
+use Rattle.es_tree.specs.Reader.{Out}
 use Rattle.es_grammar.specs.Words.{only}
 use Rattle.es_grammar.specs.Expressions.{is_equality}
 use Rattle.es_whole_grammar.specs.declared.rows.Context.{Context}
 use Rattle.es_whole_grammar.specs.declared.rows.Row.{Row}
 use Rattle.es_whole_grammar.specs.declared.rows.Label.{Label}
 use Rattle.es_whole_grammar.specs.declared.rows.Row.TheVariants.{AndRow, BitOrRow, BitXorRow, BitAndRow, EqualityRow, RelationRow}
-use Rattle.es_whole_grammar.specs.Expressions.{level, power, product, sum, shift, relation, equality, bit_and, bit_xor, bit_or, and_, coalesce, binary, conditional}
-use Rattle.es_whole_reader.specs.declared.cursor.Measured.{Measured}
-use Rattle.es_whole_reader.specs.Bounded.{Below, rule_at}
+use Rattle.es_whole_grammar.specs.declared.rows.Label.TheVariants.{Binary, TypedBinary}
+use Rattle.es_whole_grammar.specs.Expressions.{level, power, product, sum, shift, relation, equality, bit_and, bit_xor, bit_or, and_, coalesce, binary, conditional, comparison_in, asserted_or, opens_comparison}
+use Rattle.es_syntax.specs.declared.entry.Entry.{Entry}
+use Rattle.es_syntax.specs.Forest.{entries_of, Keeps}
+use Rattle.es_syntax.proofs.Forests.{keeps_before}
+use Rattle.es_whole_reader.specs.declared.cursor.Cursor.{Cursor}
+use Rattle.es_whole_reader.specs.declared.cursor.Place.{Place}
+use Rattle.es_whole_reader.specs.Bounded.{Read, Below, rule_at}
 use Rattle.es_whole_reader.specs.Steps.{IsRead}
-use Rattle.es_whole_expressions.specs.Levels.{arithmetic_over, shift_over, relation_over, comparing_over, bitwise_over, coalesce_over, logical_over, conditional_over, assignment_over, operators_over}
+use Rattle.es_whole_expressions.specs.Levels.{arithmetic_over, shift_over, related, relation_over, comparing_over, bitwise_over, coalesce_over, logical_over, conditional_over, assignment_over, operators_over}
 
 module _ (l : Lang) (c : Context) where
   pub sum_same : arithmetic_over c (power l c) ≡ sum l c
@@ -60,10 +66,45 @@ module _ (l : Lang) (c : Context) where
   unfolding conditional binary and_ coalesce
   conditional_same = ap (λ a. assignment_over c (conditional_over l c (logical_over c a))) bit_or_same
 
--- the same rule reads the same
-pub read_as : (K : List Key) (below : Below) (from to : ℕ) (r : Result Measured SyntaxError) (a b : Rule Row Label)
-    → a ≡ b
-    → IsRead (rule_at K below a from) r to → IsRead (rule_at K below b from) r to
-read_as K below from to r a b same read =
-    let P : Rule Row Label → Type 0 = λ a. IsRead (rule_at K below a from) r to in
-    subst P same read
+-- a comparison, in a language that is known
+module _ (c : Context) (a : Rule Row Label) where
+  pub related_plain : (l : Lang) → l ≡ lang.Es
+      → wrap Binary a (guarded (opens_comparison l c)) (comparison_in c) ≡ related l c a
+  related_plain lang.Es e = refl
+  related_plain lang.Typescript e = absurd (let bad : ⊥ = cc in bad)
+
+  pub related_typed : (l : Lang) → l ≡ lang.Typescript
+      → wrap TypedBinary a (guarded (opens_comparison l c)) (asserted_or (comparison_in c)) ≡ related l c a
+  related_typed lang.Es e = absurd (let bad : ⊥ = cc in bad)
+  related_typed lang.Typescript e = refl
+
+module _ (K : List Key) (below : Below) where
+  -- the same rule reads the same, from the same place on, behind the same entries
+  pub read_as : (from to : ℕ) (base back : List Entry) (new : Cursor) (r : Result ℕ SyntaxError) (a b : Rule Row Label)
+      → from ≡ to → base ≡ back → a ≡ b
+      → IsRead (rule_at K below a from) base new r → IsRead (rule_at K below b to) back new r
+  read_as from to base back new r a b place there same read =
+      let P : Rule Row Label → Type 0 = λ a. IsRead (rule_at K below a to) back new r in
+      let Q : List Entry → Type 0 = λ es. IsRead (rule_at K below a to) es new r in
+      let S : ℕ → Type 0 = λ n. IsRead (rule_at K below a n) base new r in
+      subst P same (subst Q there (subst S place read))
+
+  -- an operand, and what stands behind it
+  pub read_behind : (place : Place) (at : ℕ) (base : List Entry) (mid new : Cursor) (operand r : Result ℕ SyntaxError)
+      (p a b : Rule Row Label) → place.token ≡ at → place.entry ≡ length base → a ≡ b
+      → ((es : List Entry) → length es ≡ place.entry → IsRead (rule_at K below p place.token) es mid operand
+      → IsRead (rule_at K below a place.token) es new r)
+      → IsRead (rule_at K below p at) base mid operand → IsRead (rule_at K below b at) base new r
+  read_behind place at base mid new operand r p a b token entry same behind read =
+      read_as place.token at base base new r a b token refl same
+      (behind base (sym entry) (read_as at place.token base base mid operand p p (sym token) refl refl read))
+
+-- what stood there before stands there still
+pub read_keeps : (out : Out Read) (base : List Entry) (new : Cursor) (r : Result ℕ SyntaxError)
+    → IsRead out base new r → Keeps base new.row
+read_keeps out base new (Ok h) read =
+    subst (λ (es : List Entry). Keeps base es) (sym read.1.1) (keeps_before base (entries_of read.1.0))
+read_keeps out base new (Err e) read = read.0
+
+pub back_there : (n : ℕ) (base es : List Entry) → length base ≡ n → Keeps base es → take n es ≡ base
+back_there n base es e kept = subst (λ n. take n es ≡ base) e kept

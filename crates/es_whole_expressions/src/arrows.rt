@@ -8,8 +8,8 @@ use es_tree::{Lang, SyntaxError};
 use es_whole_grammar::{Context, Label, Row};
 use es_whole_reader::Ahead::{Is, Other};
 use es_whole_reader::{
-    Ahead, Alt, Choose, Cursor, Done, Grammar, Guard, Input, Kinds, Make, MakeBy, Measured, OfRow,
-    Parts, Pick, Punct, ReadsForm, ReadsRule, Sort, Tok, When,
+    Ahead, Alt, Choose, Cursor, Done, Grammar, Guard, Input, Kinds, Make, MakeBy, OfRow, Pick,
+    Punct, ReadsForm, ReadsRule, Sort, Tok, When,
 };
 
 /// ~ '=>' (Block | Assign)
@@ -20,12 +20,11 @@ impl ReadsForm for ArrowIn {
     ghost form = { λ s. arrow_in s.0 s.1 };
 
     #[tactic(auto, unfolding(es_whole_grammar::specs::Expressions::arrow_in))]
-    fn read<F: Fn(Input<'_>, usize, Row, &mut Cursor) -> Result<Measured, SyntaxError>>(
+    fn read<F: Fn(Input<'_>, usize, Row, &mut Cursor) -> Result<usize, SyntaxError>>(
         &self,
         grammar: &Grammar<'_, F>,
         cursor: &mut Cursor,
-        parts: &mut Parts,
-    ) -> Result<(), SyntaxError> {
+    ) -> Result<usize, SyntaxError> {
         let outside = Context {
             no_in: false,
             no_colon: false,
@@ -47,7 +46,7 @@ impl ReadsForm for ArrowIn {
                 ),
             ),
         )
-        .read(grammar, cursor, parts)
+        .read(grammar, cursor)
     }
 }
 
@@ -59,12 +58,11 @@ impl ReadsForm for ParametersArrowIn {
     ghost form = { λ s. parameters_arrow_in s.0 s.1 s.2 s.3 };
 
     #[tactic(auto, unfolding(es_whole_grammar::specs::Expressions::parameters_arrow_in))]
-    fn read<F: Fn(Input<'_>, usize, Row, &mut Cursor) -> Result<Measured, SyntaxError>>(
+    fn read<F: Fn(Input<'_>, usize, Row, &mut Cursor) -> Result<usize, SyntaxError>>(
         &self,
         grammar: &Grammar<'_, F>,
         cursor: &mut Cursor,
-        parts: &mut Parts,
-    ) -> Result<(), SyntaxError> {
+    ) -> Result<usize, SyntaxError> {
         TypeParametersIn(
             self.0,
             Punct(
@@ -78,7 +76,7 @@ impl ReadsForm for ParametersArrowIn {
                 ),
             ),
         )
-        .read(grammar, cursor, parts)
+        .read(grammar, cursor)
     }
 }
 
@@ -90,11 +88,11 @@ impl ReadsRule for PlainArrow {
     ghost rule = { λ s. plain_arrow s.0 s.1 };
 
     #[tactic(auto, unfolding(es_whole_grammar::specs::Expressions::plain_arrow))]
-    fn read<F: Fn(Input<'_>, usize, Row, &mut Cursor) -> Result<Measured, SyntaxError>>(
+    fn read<F: Fn(Input<'_>, usize, Row, &mut Cursor) -> Result<usize, SyntaxError>>(
         &self,
         grammar: &Grammar<'_, F>,
         cursor: &mut Cursor,
-    ) -> Result<Measured, SyntaxError> {
+    ) -> Result<usize, SyntaxError> {
         let outside = Context {
             no_in: false,
             no_colon: false,
@@ -126,11 +124,11 @@ impl ReadsRule for AsyncArrow {
     ghost rule = { λ s. async_arrow s.0 s.1 };
 
     #[tactic(auto, unfolding(es_whole_grammar::specs::Expressions::async_arrow))]
-    fn read<F: Fn(Input<'_>, usize, Row, &mut Cursor) -> Result<Measured, SyntaxError>>(
+    fn read<F: Fn(Input<'_>, usize, Row, &mut Cursor) -> Result<usize, SyntaxError>>(
         &self,
         grammar: &Grammar<'_, F>,
         cursor: &mut Cursor,
-    ) -> Result<Measured, SyntaxError> {
+    ) -> Result<usize, SyntaxError> {
         let async_in = Context {
             no_in: false,
             no_colon: false,

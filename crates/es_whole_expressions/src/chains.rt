@@ -11,8 +11,8 @@ use es_whole_grammar::{Context, Label, Row};
 use es_whole_reader::Ahead::{Is, Other};
 use es_whole_reader::Told::{Guarded, Hint, Taken};
 use es_whole_reader::{
-    Ahead, Alt, Choose, Cursor, Done, Grammar, Guard, Input, Kinds, Make, MakeBy, Many, Measured,
-    OfRow, Opt, Pick, Punct, ReadsRule, Sort, Tok, When, Where, Wrap,
+    Ahead, Alt, Choose, Cursor, Done, Grammar, Guard, Input, Kinds, Make, MakeBy, Many, OfRow, Opt,
+    Pick, Punct, ReadsRule, Sort, Tok, When, Where, Wrap,
 };
 
 /// 'import' '(' Assign (',' Assign)? ','? ')'
@@ -23,11 +23,11 @@ impl ReadsRule for ImportCall {
     ghost rule = { λ s. import_call s.0 };
 
     #[tactic(auto, unfolding(es_whole_grammar::specs::Expressions::import_call))]
-    fn read<F: Fn(Input<'_>, usize, Row, &mut Cursor) -> Result<Measured, SyntaxError>>(
+    fn read<F: Fn(Input<'_>, usize, Row, &mut Cursor) -> Result<usize, SyntaxError>>(
         &self,
         grammar: &Grammar<'_, F>,
         cursor: &mut Cursor,
-    ) -> Result<Measured, SyntaxError> {
+    ) -> Result<usize, SyntaxError> {
         let outside = Context {
             no_in: false,
             no_colon: false,
@@ -67,11 +67,11 @@ impl ReadsRule for ImportMeta {
     ghost rule = { λ s. import_meta s.0 };
 
     #[tactic(auto, unfolding(es_whole_grammar::specs::Expressions::import_meta))]
-    fn read<F: Fn(Input<'_>, usize, Row, &mut Cursor) -> Result<Measured, SyntaxError>>(
+    fn read<F: Fn(Input<'_>, usize, Row, &mut Cursor) -> Result<usize, SyntaxError>>(
         &self,
         grammar: &Grammar<'_, F>,
         cursor: &mut Cursor,
-    ) -> Result<Measured, SyntaxError> {
+    ) -> Result<usize, SyntaxError> {
         Make(
             Label::ImportMeta,
             Where(
@@ -94,11 +94,11 @@ impl ReadsRule for Base {
     ghost rule = { λ s. base s.0 s.1 };
 
     #[tactic(auto, unfolding(es_whole_grammar::specs::Expressions::base))]
-    fn read<F: Fn(Input<'_>, usize, Row, &mut Cursor) -> Result<Measured, SyntaxError>>(
+    fn read<F: Fn(Input<'_>, usize, Row, &mut Cursor) -> Result<usize, SyntaxError>>(
         &self,
         grammar: &Grammar<'_, F>,
         cursor: &mut Cursor,
-    ) -> Result<Measured, SyntaxError> {
+    ) -> Result<usize, SyntaxError> {
         Choose(
             Is(TokenKind::SuperWord),
             Make(
@@ -159,11 +159,11 @@ impl ReadsRule for Arguments {
     ghost rule = { λ s. arguments s.0 };
 
     #[tactic(auto, unfolding(es_whole_grammar::specs::Expressions::arguments))]
-    fn read<F: Fn(Input<'_>, usize, Row, &mut Cursor) -> Result<Measured, SyntaxError>>(
+    fn read<F: Fn(Input<'_>, usize, Row, &mut Cursor) -> Result<usize, SyntaxError>>(
         &self,
         grammar: &Grammar<'_, F>,
         cursor: &mut Cursor,
-    ) -> Result<Measured, SyntaxError> {
+    ) -> Result<usize, SyntaxError> {
         let outside = Context {
             no_in: false,
             no_colon: false,
@@ -204,11 +204,11 @@ impl ReadsRule for NonNullPost {
     ghost rule = { λ s. non_null_post };
 
     #[tactic(auto, unfolding(es_whole_grammar::specs::Expressions::non_null_post))]
-    fn read<F: Fn(Input<'_>, usize, Row, &mut Cursor) -> Result<Measured, SyntaxError>>(
+    fn read<F: Fn(Input<'_>, usize, Row, &mut Cursor) -> Result<usize, SyntaxError>>(
         &self,
         grammar: &Grammar<'_, F>,
         cursor: &mut Cursor,
-    ) -> Result<Measured, SyntaxError> {
+    ) -> Result<usize, SyntaxError> {
         Make(
             Label::NonNullPost,
             When(Ahead::Near, Punct(TokenKind::Exclamation, Done)),
@@ -225,11 +225,11 @@ impl ReadsRule for MemberPost {
     ghost rule = { λ s. member_post s.0 s.1 };
 
     #[tactic(auto, unfolding(es_whole_grammar::specs::Expressions::member_post))]
-    fn read<F: Fn(Input<'_>, usize, Row, &mut Cursor) -> Result<Measured, SyntaxError>>(
+    fn read<F: Fn(Input<'_>, usize, Row, &mut Cursor) -> Result<usize, SyntaxError>>(
         &self,
         grammar: &Grammar<'_, F>,
         cursor: &mut Cursor,
-    ) -> Result<Measured, SyntaxError> {
+    ) -> Result<usize, SyntaxError> {
         match self.0 {
             Lang::Es => PlainMemberPost(self.1).read(grammar, cursor),
             Lang::Typescript => Choose(
@@ -250,11 +250,11 @@ impl ReadsRule for PlainMemberPost {
     ghost rule = { λ s. plain_member_post s.0 };
 
     #[tactic(auto, unfolding(es_whole_grammar::specs::Expressions::plain_member_post))]
-    fn read<F: Fn(Input<'_>, usize, Row, &mut Cursor) -> Result<Measured, SyntaxError>>(
+    fn read<F: Fn(Input<'_>, usize, Row, &mut Cursor) -> Result<usize, SyntaxError>>(
         &self,
         grammar: &Grammar<'_, F>,
         cursor: &mut Cursor,
-    ) -> Result<Measured, SyntaxError> {
+    ) -> Result<usize, SyntaxError> {
         let outside = Context {
             no_in: false,
             no_colon: false,
@@ -294,11 +294,11 @@ impl ReadsRule for OptionalPost {
     ghost rule = { λ s. optional_post s.0 s.1 };
 
     #[tactic(auto, unfolding(es_whole_grammar::specs::Expressions::optional_post))]
-    fn read<F: Fn(Input<'_>, usize, Row, &mut Cursor) -> Result<Measured, SyntaxError>>(
+    fn read<F: Fn(Input<'_>, usize, Row, &mut Cursor) -> Result<usize, SyntaxError>>(
         &self,
         grammar: &Grammar<'_, F>,
         cursor: &mut Cursor,
-    ) -> Result<Measured, SyntaxError> {
+    ) -> Result<usize, SyntaxError> {
         let outside = Context {
             no_in: false,
             no_colon: false,
@@ -342,11 +342,11 @@ impl ReadsRule for Post {
     ghost rule = { λ s. post s.0 s.1 };
 
     #[tactic(auto, unfolding(es_whole_grammar::specs::Expressions::post))]
-    fn read<F: Fn(Input<'_>, usize, Row, &mut Cursor) -> Result<Measured, SyntaxError>>(
+    fn read<F: Fn(Input<'_>, usize, Row, &mut Cursor) -> Result<usize, SyntaxError>>(
         &self,
         grammar: &Grammar<'_, F>,
         cursor: &mut Cursor,
-    ) -> Result<Measured, SyntaxError> {
+    ) -> Result<usize, SyntaxError> {
         match self.0 {
             Lang::Es => Choose(
                 Is(TokenKind::OpenParen),
@@ -371,11 +371,11 @@ impl ReadsRule for TypedPost {
     ghost rule = { λ s. post lang.Typescript s.0 };
 
     #[tactic(auto, unfolding(es_whole_grammar::specs::Expressions::post))]
-    fn read<F: Fn(Input<'_>, usize, Row, &mut Cursor) -> Result<Measured, SyntaxError>>(
+    fn read<F: Fn(Input<'_>, usize, Row, &mut Cursor) -> Result<usize, SyntaxError>>(
         &self,
         grammar: &Grammar<'_, F>,
         cursor: &mut Cursor,
-    ) -> Result<Measured, SyntaxError> {
+    ) -> Result<usize, SyntaxError> {
         let lang = Lang::Typescript;
         Pick(
             Guard::OpensCall,
@@ -408,11 +408,11 @@ impl ReadsRule for Chain {
     ghost rule = { λ s. chain s.0 s.1 };
 
     #[tactic(auto, unfolding(es_whole_grammar::specs::Expressions::chain))]
-    fn read<F: Fn(Input<'_>, usize, Row, &mut Cursor) -> Result<Measured, SyntaxError>>(
+    fn read<F: Fn(Input<'_>, usize, Row, &mut Cursor) -> Result<usize, SyntaxError>>(
         &self,
         grammar: &Grammar<'_, F>,
         cursor: &mut Cursor,
-    ) -> Result<Measured, SyntaxError> {
+    ) -> Result<usize, SyntaxError> {
         let told = match self.0 {
             Lang::Es => Taken(Ahead::BeginsPost),
             Lang::Typescript => Guarded(Guard::OpensPost),
@@ -438,11 +438,11 @@ impl ReadsRule for Callee {
     ghost rule = { λ s. callee s.0 s.1 };
 
     #[tactic(auto, unfolding(es_whole_grammar::specs::Expressions::callee))]
-    fn read<F: Fn(Input<'_>, usize, Row, &mut Cursor) -> Result<Measured, SyntaxError>>(
+    fn read<F: Fn(Input<'_>, usize, Row, &mut Cursor) -> Result<usize, SyntaxError>>(
         &self,
         grammar: &Grammar<'_, F>,
         cursor: &mut Cursor,
-    ) -> Result<Measured, SyntaxError> {
+    ) -> Result<usize, SyntaxError> {
         Wrap(
             Label::Chain,
             Base(self.0, self.1),

@@ -14,8 +14,8 @@ use es_whole_guards::opens_operator;
 use es_whole_reader::Ahead::Is;
 use es_whole_reader::Told::Taken;
 use es_whole_reader::{
-    Ahead, Choose, Cursor, Done, Grammar, Guard, Input, Kinds, Make, Many, Measured, OfRow, Opt,
-    Pick, Punct, ReadsBehind, ReadsRule, Sort, Tok, When, Wrap,
+    Ahead, Choose, Cursor, Done, Grammar, Guard, Input, Kinds, Make, Many, OfRow, Opt, Pick, Punct,
+    ReadsBehind, ReadsRule, Sort, Tok, When, Wrap,
 };
 
 /// 'yield' (~ '*'? Assign)?
@@ -26,11 +26,11 @@ impl ReadsRule for Yield {
     ghost rule = { λ s. yield_ s.0 s.1 };
 
     #[tactic(auto, unfolding(es_whole_grammar::specs::Expressions::yield_))]
-    fn read<F: Fn(Input<'_>, usize, Row, &mut Cursor) -> Result<Measured, SyntaxError>>(
+    fn read<F: Fn(Input<'_>, usize, Row, &mut Cursor) -> Result<usize, SyntaxError>>(
         &self,
         grammar: &Grammar<'_, F>,
         cursor: &mut Cursor,
-    ) -> Result<Measured, SyntaxError> {
+    ) -> Result<usize, SyntaxError> {
         Make(
             Label::Yield,
             Punct(
@@ -60,15 +60,15 @@ pub struct Operated(pub Lang, pub Context);
 impl ReadsRule for Operated {
     ghost rule = { λ s. assignment_over s.1 (conditional s.0 s.1) };
 
-    fn read<F: Fn(Input<'_>, usize, Row, &mut Cursor) -> Result<Measured, SyntaxError>>(
+    fn read<F: Fn(Input<'_>, usize, Row, &mut Cursor) -> Result<usize, SyntaxError>>(
         &self,
         grammar: &Grammar<'_, F>,
         cursor: &mut Cursor,
-    ) -> Result<Measured, SyntaxError> {
-        let from = cursor.at;
+    ) -> Result<usize, SyntaxError> {
+        let from = cursor.here();
         let operand = Power(self.0, self.1).read(grammar, cursor);
         let tokens = grammar.input.tokens;
-        if !opens_operator(&tokens, cursor.at) && !tokens.sees(TokenKind::PrivateName, from) {
+        if !opens_operator(&tokens, cursor.at) && !tokens.sees(TokenKind::PrivateName, from.token) {
             return operand;
         }
         Operators(self.0, self.1).read(from, operand, grammar, cursor)
@@ -83,11 +83,11 @@ impl ReadsRule for Assignment {
     ghost rule = { λ s. assignment s.0 s.1 };
 
     #[tactic(auto, unfolding(es_whole_grammar::specs::Expressions::assignment))]
-    fn read<F: Fn(Input<'_>, usize, Row, &mut Cursor) -> Result<Measured, SyntaxError>>(
+    fn read<F: Fn(Input<'_>, usize, Row, &mut Cursor) -> Result<usize, SyntaxError>>(
         &self,
         grammar: &Grammar<'_, F>,
         cursor: &mut Cursor,
-    ) -> Result<Measured, SyntaxError> {
+    ) -> Result<usize, SyntaxError> {
         let outside = Context {
             no_in: false,
             no_colon: false,
@@ -129,11 +129,11 @@ impl ReadsRule for Expression {
     ghost rule = { λ s. expression s.0 s.1 };
 
     #[tactic(auto, unfolding(es_whole_grammar::specs::Expressions::expression))]
-    fn read<F: Fn(Input<'_>, usize, Row, &mut Cursor) -> Result<Measured, SyntaxError>>(
+    fn read<F: Fn(Input<'_>, usize, Row, &mut Cursor) -> Result<usize, SyntaxError>>(
         &self,
         grammar: &Grammar<'_, F>,
         cursor: &mut Cursor,
-    ) -> Result<Measured, SyntaxError> {
+    ) -> Result<usize, SyntaxError> {
         Wrap(
             Label::Sequence,
             Assignment(self.0, self.1),
@@ -162,11 +162,11 @@ impl ReadsRule for Element {
     ghost rule = { λ s. element s.0 s.1 };
 
     #[tactic(auto, unfolding(es_whole_grammar::specs::Expressions::element))]
-    fn read<F: Fn(Input<'_>, usize, Row, &mut Cursor) -> Result<Measured, SyntaxError>>(
+    fn read<F: Fn(Input<'_>, usize, Row, &mut Cursor) -> Result<usize, SyntaxError>>(
         &self,
         grammar: &Grammar<'_, F>,
         cursor: &mut Cursor,
-    ) -> Result<Measured, SyntaxError> {
+    ) -> Result<usize, SyntaxError> {
         let outside = Context {
             no_in: false,
             no_colon: false,

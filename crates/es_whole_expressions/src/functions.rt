@@ -11,8 +11,8 @@ use es_whole_grammar::{Context, Label, Row};
 use es_whole_reader::Ahead::{Has, Is, Other};
 use es_whole_reader::Told::{Hint, Taken};
 use es_whole_reader::{
-    Ahead, Alt, Choose, Cursor, Done, Grammar, Input, Kinds, Make, MakeBy, Many, Measured, OfRow,
-    Opt, Parts, Punct, ReadsForm, ReadsRule, Sort, Tok, When,
+    Ahead, Alt, Choose, Cursor, Done, Grammar, Input, Kinds, Make, MakeBy, Many, OfRow, Opt, Punct,
+    ReadsForm, ReadsRule, Sort, Tok, When,
 };
 
 /// '*'?, and what stands behind it
@@ -23,18 +23,17 @@ impl<N: ReadsForm + Copy> ReadsForm for StarIn<N> {
     ghost form = { λ s. star_in (N.form s.0) };
 
     #[tactic(auto, unfolding(es_whole_grammar::specs::Expressions::star_in))]
-    fn read<F: Fn(Input<'_>, usize, Row, &mut Cursor) -> Result<Measured, SyntaxError>>(
+    fn read<F: Fn(Input<'_>, usize, Row, &mut Cursor) -> Result<usize, SyntaxError>>(
         &self,
         grammar: &Grammar<'_, F>,
         cursor: &mut Cursor,
-        parts: &mut Parts,
-    ) -> Result<(), SyntaxError> {
+    ) -> Result<usize, SyntaxError> {
         Opt(
             Taken(Is(TokenKind::Star)),
             Tok(Sort::There, Kinds::Only(TokenKind::Star), Done),
             self.0,
         )
-        .read(grammar, cursor, parts)
+        .read(grammar, cursor)
     }
 }
 
@@ -46,21 +45,20 @@ impl<N: ReadsForm + Copy> ReadsForm for NameIn<N> {
     ghost form = { λ s. name_in s.0 (N.form s.1) };
 
     #[tactic(auto, unfolding(es_whole_grammar::specs::Expressions::name_in))]
-    fn read<F: Fn(Input<'_>, usize, Row, &mut Cursor) -> Result<Measured, SyntaxError>>(
+    fn read<F: Fn(Input<'_>, usize, Row, &mut Cursor) -> Result<usize, SyntaxError>>(
         &self,
         grammar: &Grammar<'_, F>,
         cursor: &mut Cursor,
-        parts: &mut Parts,
-    ) -> Result<(), SyntaxError> {
+    ) -> Result<usize, SyntaxError> {
         if self.0 {
-            Tok(Sort::Name, Kinds::Name, self.1).read(grammar, cursor, parts)
+            Tok(Sort::Name, Kinds::Name, self.1).read(grammar, cursor)
         } else {
             Opt(
                 Taken(Has(Kinds::Name)),
                 Tok(Sort::Name, Kinds::Name, Done),
                 self.1,
             )
-            .read(grammar, cursor, parts)
+            .read(grammar, cursor)
         }
     }
 }
@@ -73,21 +71,20 @@ impl ReadsForm for BodyIn {
     ghost form = { λ s. body_in s.0 s.1 };
 
     #[tactic(auto, unfolding(es_whole_grammar::specs::Expressions::body_in))]
-    fn read<F: Fn(Input<'_>, usize, Row, &mut Cursor) -> Result<Measured, SyntaxError>>(
+    fn read<F: Fn(Input<'_>, usize, Row, &mut Cursor) -> Result<usize, SyntaxError>>(
         &self,
         grammar: &Grammar<'_, F>,
         cursor: &mut Cursor,
-        parts: &mut Parts,
-    ) -> Result<(), SyntaxError> {
+    ) -> Result<usize, SyntaxError> {
         match self.0 {
-            Lang::Es => OfRow(Row::BlockRow(self.1), Done).read(grammar, cursor, parts),
+            Lang::Es => OfRow(Row::BlockRow(self.1), Done).read(grammar, cursor),
             Lang::Typescript => Alt(
                 Is(TokenKind::OpenBrace),
                 OfRow(Row::BlockRow(self.1), Done),
                 When(Other(TokenKind::OpenBrace), Ended),
                 Done,
             )
-            .read(grammar, cursor, parts),
+            .read(grammar, cursor),
         }
     }
 }
@@ -100,12 +97,11 @@ impl ReadsForm for Ended {
     ghost form = { λ s. plain_form ended };
 
     #[tactic(auto, unfolding(es_grammar::specs::Modules::ended))]
-    fn read<F: Fn(Input<'_>, usize, Row, &mut Cursor) -> Result<Measured, SyntaxError>>(
+    fn read<F: Fn(Input<'_>, usize, Row, &mut Cursor) -> Result<usize, SyntaxError>>(
         &self,
         grammar: &Grammar<'_, F>,
         cursor: &mut Cursor,
-        parts: &mut Parts,
-    ) -> Result<(), SyntaxError> {
+    ) -> Result<usize, SyntaxError> {
         When(
             Ahead::MayEnd,
             Opt(
@@ -114,7 +110,7 @@ impl ReadsForm for Ended {
                 Done,
             ),
         )
-        .read(grammar, cursor, parts)
+        .read(grammar, cursor)
     }
 }
 
@@ -126,11 +122,11 @@ impl ReadsRule for Function {
     ghost rule = { λ s. function s.0 s.1 s.2 };
 
     #[tactic(auto, unfolding(es_whole_grammar::specs::Expressions::function))]
-    fn read<F: Fn(Input<'_>, usize, Row, &mut Cursor) -> Result<Measured, SyntaxError>>(
+    fn read<F: Fn(Input<'_>, usize, Row, &mut Cursor) -> Result<usize, SyntaxError>>(
         &self,
         grammar: &Grammar<'_, F>,
         cursor: &mut Cursor,
-    ) -> Result<Measured, SyntaxError> {
+    ) -> Result<usize, SyntaxError> {
         let outside = Context {
             no_in: false,
             no_colon: false,
@@ -161,11 +157,11 @@ impl ReadsRule for AsyncFunction {
     ghost rule = { λ s. async_function s.0 s.1 s.2 };
 
     #[tactic(auto, unfolding(es_whole_grammar::specs::Expressions::async_function))]
-    fn read<F: Fn(Input<'_>, usize, Row, &mut Cursor) -> Result<Measured, SyntaxError>>(
+    fn read<F: Fn(Input<'_>, usize, Row, &mut Cursor) -> Result<usize, SyntaxError>>(
         &self,
         grammar: &Grammar<'_, F>,
         cursor: &mut Cursor,
-    ) -> Result<Measured, SyntaxError> {
+    ) -> Result<usize, SyntaxError> {
         let async_in = Context {
             no_in: false,
             no_colon: false,
@@ -203,11 +199,11 @@ impl ReadsRule for AnyFunction {
     ghost rule = { λ s. any_function s.0 s.1 s.2 };
 
     #[tactic(auto, unfolding(es_whole_grammar::specs::Expressions::any_function))]
-    fn read<F: Fn(Input<'_>, usize, Row, &mut Cursor) -> Result<Measured, SyntaxError>>(
+    fn read<F: Fn(Input<'_>, usize, Row, &mut Cursor) -> Result<usize, SyntaxError>>(
         &self,
         grammar: &Grammar<'_, F>,
         cursor: &mut Cursor,
-    ) -> Result<Measured, SyntaxError> {
+    ) -> Result<usize, SyntaxError> {
         Choose(
             Is(TokenKind::AsyncWord),
             AsyncFunction(self.0, self.1, self.2),
@@ -225,12 +221,11 @@ impl ReadsForm for ClassForm {
     ghost form = { λ s. class_form s.0 s.1 s.2 };
 
     #[tactic(auto, unfolding(es_whole_grammar::specs::Expressions::class_form))]
-    fn read<F: Fn(Input<'_>, usize, Row, &mut Cursor) -> Result<Measured, SyntaxError>>(
+    fn read<F: Fn(Input<'_>, usize, Row, &mut Cursor) -> Result<usize, SyntaxError>>(
         &self,
         grammar: &Grammar<'_, F>,
         cursor: &mut Cursor,
-        parts: &mut Parts,
-    ) -> Result<(), SyntaxError> {
+    ) -> Result<usize, SyntaxError> {
         let outside = Context {
             no_in: false,
             no_colon: false,
@@ -260,7 +255,7 @@ impl ReadsForm for ClassForm {
                 ),
             ),
         )
-        .read(grammar, cursor, parts)
+        .read(grammar, cursor)
     }
 }
 
@@ -272,11 +267,11 @@ impl ReadsRule for Class {
     ghost rule = { λ s. class_ s.0 s.1 s.2 };
 
     #[tactic(auto, unfolding(es_whole_grammar::specs::Expressions::class_))]
-    fn read<F: Fn(Input<'_>, usize, Row, &mut Cursor) -> Result<Measured, SyntaxError>>(
+    fn read<F: Fn(Input<'_>, usize, Row, &mut Cursor) -> Result<usize, SyntaxError>>(
         &self,
         grammar: &Grammar<'_, F>,
         cursor: &mut Cursor,
-    ) -> Result<Measured, SyntaxError> {
+    ) -> Result<usize, SyntaxError> {
         MakeBy(
             self.0,
             Label::Class,
@@ -295,11 +290,11 @@ impl ReadsRule for AbstractClass {
     ghost rule = { λ s. abstract_class s.0 s.1 };
 
     #[tactic(auto, unfolding(es_whole_grammar::specs::Expressions::abstract_class))]
-    fn read<F: Fn(Input<'_>, usize, Row, &mut Cursor) -> Result<Measured, SyntaxError>>(
+    fn read<F: Fn(Input<'_>, usize, Row, &mut Cursor) -> Result<usize, SyntaxError>>(
         &self,
         grammar: &Grammar<'_, F>,
         cursor: &mut Cursor,
-    ) -> Result<Measured, SyntaxError> {
+    ) -> Result<usize, SyntaxError> {
         Make(
             Label::AbstractClass,
             Punct(
@@ -319,11 +314,11 @@ impl ReadsRule for AnyClass {
     ghost rule = { λ s. any_class s.0 s.1 s.2 };
 
     #[tactic(auto, unfolding(es_whole_grammar::specs::Expressions::any_class))]
-    fn read<F: Fn(Input<'_>, usize, Row, &mut Cursor) -> Result<Measured, SyntaxError>>(
+    fn read<F: Fn(Input<'_>, usize, Row, &mut Cursor) -> Result<usize, SyntaxError>>(
         &self,
         grammar: &Grammar<'_, F>,
         cursor: &mut Cursor,
-    ) -> Result<Measured, SyntaxError> {
+    ) -> Result<usize, SyntaxError> {
         match self.0 {
             Lang::Es => Class(Lang::Es, self.1, self.2).read(grammar, cursor),
             Lang::Typescript => Choose(

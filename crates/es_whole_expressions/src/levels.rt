@@ -15,7 +15,7 @@ use es_whole_guards::{opens_arithmetic, opens_bitwise, opens_comparing, opens_lo
 use es_whole_reader::Ahead::{Has, Is, Other};
 use es_whole_reader::Told::{Guarded, Taken};
 use es_whole_reader::{
-    Ahead, Alt, Both, Cursor, Done, Grammar, Guard, Input, Kinds, Measured, OfRow, Opt, Punct,
+    Ahead, Alt, Both, Cursor, Done, Grammar, Guard, Input, Kinds, OfRow, Opt, Place, Punct,
     ReadsBehind, ReadsRule, Sort, Tok, Turns, When,
 };
 
@@ -27,13 +27,13 @@ impl ReadsBehind for LevelBehind {
     ghost over = { λ s a. level (kinds_of s.0) s.1 a };
 
     #[tactic(auto, unfolding(es_whole_grammar::specs::Expressions::level))]
-    fn read<F: Fn(Input<'_>, usize, Row, &mut Cursor) -> Result<Measured, SyntaxError>>(
+    fn read<F: Fn(Input<'_>, usize, Row, &mut Cursor) -> Result<usize, SyntaxError>>(
         &self,
-        from: usize,
-        operand: Result<Measured, SyntaxError>,
+        from: Place,
+        operand: Result<usize, SyntaxError>,
         grammar: &Grammar<'_, F>,
         cursor: &mut Cursor,
-    ) -> Result<Measured, SyntaxError> {
+    ) -> Result<usize, SyntaxError> {
         Turns(
             Label::Binary,
             Taken(Has(self.0)),
@@ -50,13 +50,13 @@ pub struct Arithmetic(pub Context);
 impl ReadsBehind for Arithmetic {
     ghost over = { λ s a. arithmetic_over s.0 a };
 
-    fn read<F: Fn(Input<'_>, usize, Row, &mut Cursor) -> Result<Measured, SyntaxError>>(
+    fn read<F: Fn(Input<'_>, usize, Row, &mut Cursor) -> Result<usize, SyntaxError>>(
         &self,
-        from: usize,
-        operand: Result<Measured, SyntaxError>,
+        from: Place,
+        operand: Result<usize, SyntaxError>,
         grammar: &Grammar<'_, F>,
         cursor: &mut Cursor,
-    ) -> Result<Measured, SyntaxError> {
+    ) -> Result<usize, SyntaxError> {
         if !opens_arithmetic(&grammar.input.tokens, cursor.at) {
             return operand;
         }
@@ -75,13 +75,13 @@ pub struct Shifted(pub Context);
 impl ReadsBehind for Shifted {
     ghost over = { λ s a. shift_over s.0 a };
 
-    fn read<F: Fn(Input<'_>, usize, Row, &mut Cursor) -> Result<Measured, SyntaxError>>(
+    fn read<F: Fn(Input<'_>, usize, Row, &mut Cursor) -> Result<usize, SyntaxError>>(
         &self,
-        from: usize,
-        operand: Result<Measured, SyntaxError>,
+        from: Place,
+        operand: Result<usize, SyntaxError>,
         grammar: &Grammar<'_, F>,
         cursor: &mut Cursor,
-    ) -> Result<Measured, SyntaxError> {
+    ) -> Result<usize, SyntaxError> {
         Turns(
             Label::Binary,
             Guarded(Guard::OpensShift),
@@ -115,13 +115,13 @@ pub struct Compared(pub Lang, pub Context);
 impl ReadsBehind for Compared {
     ghost over = { λ s a. related s.0 s.1 a };
 
-    fn read<F: Fn(Input<'_>, usize, Row, &mut Cursor) -> Result<Measured, SyntaxError>>(
+    fn read<F: Fn(Input<'_>, usize, Row, &mut Cursor) -> Result<usize, SyntaxError>>(
         &self,
-        from: usize,
-        operand: Result<Measured, SyntaxError>,
+        from: Place,
+        operand: Result<usize, SyntaxError>,
         grammar: &Grammar<'_, F>,
         cursor: &mut Cursor,
-    ) -> Result<Measured, SyntaxError> {
+    ) -> Result<usize, SyntaxError> {
         let told = Guarded(Guard::OpensComparison(self.0, self.1));
         match self.0 {
             Lang::Es => Turns(Label::Binary, told, ComparisonIn(self.1)).read(
@@ -143,33 +143,38 @@ pub struct PrivateCompared(pub Lang, pub Context);
 impl ReadsRule for PrivateCompared {
     ghost rule = { λ s. related s.0 s.1 (private_in s.1) };
 
-    fn read<F: Fn(Input<'_>, usize, Row, &mut Cursor) -> Result<Measured, SyntaxError>>(
+    fn read<F: Fn(Input<'_>, usize, Row, &mut Cursor) -> Result<usize, SyntaxError>>(
         &self,
         grammar: &Grammar<'_, F>,
         cursor: &mut Cursor,
-    ) -> Result<Measured, SyntaxError> {
-        let from = cursor.at;
+    ) -> Result<usize, SyntaxError> {
+        let from = cursor.here();
         let operand = PrivateIn(self.1).read(grammar, cursor);
         Compared(self.0, self.1).read(from, operand, grammar, cursor)
     }
 }
 
-/// Relations: where a private name stands first, it is read anew, since it is no operand.
+/// Relations: where a private name stands first, it is read anew, since it is no operand. What was written of it is taken
+/// away.
 #[derive(Clone, Copy)]
 pub struct Related(pub Lang, pub Context);
 
 impl ReadsBehind for Related {
     ghost over = { λ s a. relation_over s.0 s.1 a };
 
-    fn read<F: Fn(Input<'_>, usize, Row, &mut Cursor) -> Result<Measured, SyntaxError>>(
+    fn read<F: Fn(Input<'_>, usize, Row, &mut Cursor) -> Result<usize, SyntaxError>>(
         &self,
-        from: usize,
-        operand: Result<Measured, SyntaxError>,
+        from: Place,
+        operand: Result<usize, SyntaxError>,
         grammar: &Grammar<'_, F>,
         cursor: &mut Cursor,
-    ) -> Result<Measured, SyntaxError> {
-        if grammar.input.tokens.sees(TokenKind::PrivateName, from) {
-            cursor.at = from;
+    ) -> Result<usize, SyntaxError> {
+        if grammar
+            .input
+            .tokens
+            .sees(TokenKind::PrivateName, from.token)
+        {
+            cursor.back_to(from);
             return PrivateCompared(self.0, self.1).read(grammar, cursor);
         }
         Compared(self.0, self.1).read(from, operand, grammar, cursor)
@@ -183,15 +188,17 @@ pub struct Comparing(pub Lang, pub Context);
 impl ReadsBehind for Comparing {
     ghost over = { λ s a. comparing_over s.0 s.1 a };
 
-    fn read<F: Fn(Input<'_>, usize, Row, &mut Cursor) -> Result<Measured, SyntaxError>>(
+    fn read<F: Fn(Input<'_>, usize, Row, &mut Cursor) -> Result<usize, SyntaxError>>(
         &self,
-        from: usize,
-        operand: Result<Measured, SyntaxError>,
+        from: Place,
+        operand: Result<usize, SyntaxError>,
         grammar: &Grammar<'_, F>,
         cursor: &mut Cursor,
-    ) -> Result<Measured, SyntaxError> {
+    ) -> Result<usize, SyntaxError> {
         let tokens = grammar.input.tokens;
-        if !opens_comparing(&tokens, cursor.at) && !tokens.sees(TokenKind::PrivateName, from) {
+        if !opens_comparing(&tokens, cursor.at)
+            && !tokens.sees(TokenKind::PrivateName, from.token)
+        {
             return operand;
         }
         Both(
@@ -209,13 +216,13 @@ pub struct Bitwise(pub Context);
 impl ReadsBehind for Bitwise {
     ghost over = { λ s a. bitwise_over s.0 a };
 
-    fn read<F: Fn(Input<'_>, usize, Row, &mut Cursor) -> Result<Measured, SyntaxError>>(
+    fn read<F: Fn(Input<'_>, usize, Row, &mut Cursor) -> Result<usize, SyntaxError>>(
         &self,
-        from: usize,
-        operand: Result<Measured, SyntaxError>,
+        from: Place,
+        operand: Result<usize, SyntaxError>,
         grammar: &Grammar<'_, F>,
         cursor: &mut Cursor,
-    ) -> Result<Measured, SyntaxError> {
+    ) -> Result<usize, SyntaxError> {
         if !opens_bitwise(&grammar.input.tokens, cursor.at) {
             return operand;
         }
@@ -237,13 +244,13 @@ pub struct Coalesced(pub Context);
 impl ReadsBehind for Coalesced {
     ghost over = { λ s a. coalesce_over s.0 a };
 
-    fn read<F: Fn(Input<'_>, usize, Row, &mut Cursor) -> Result<Measured, SyntaxError>>(
+    fn read<F: Fn(Input<'_>, usize, Row, &mut Cursor) -> Result<usize, SyntaxError>>(
         &self,
-        from: usize,
-        operand: Result<Measured, SyntaxError>,
+        from: Place,
+        operand: Result<usize, SyntaxError>,
         grammar: &Grammar<'_, F>,
         cursor: &mut Cursor,
-    ) -> Result<Measured, SyntaxError> {
+    ) -> Result<usize, SyntaxError> {
         Turns(
             Label::Binary,
             Taken(Is(TokenKind::QuestionQuestion)),
@@ -264,13 +271,13 @@ pub struct Logical(pub Context);
 impl ReadsBehind for Logical {
     ghost over = { λ s a. logical_over s.0 a };
 
-    fn read<F: Fn(Input<'_>, usize, Row, &mut Cursor) -> Result<Measured, SyntaxError>>(
+    fn read<F: Fn(Input<'_>, usize, Row, &mut Cursor) -> Result<usize, SyntaxError>>(
         &self,
-        from: usize,
-        operand: Result<Measured, SyntaxError>,
+        from: Place,
+        operand: Result<usize, SyntaxError>,
         grammar: &Grammar<'_, F>,
         cursor: &mut Cursor,
-    ) -> Result<Measured, SyntaxError> {
+    ) -> Result<usize, SyntaxError> {
         if !opens_logical(&grammar.input.tokens, cursor.at) {
             return operand;
         }
@@ -295,13 +302,13 @@ pub struct Questioned(pub Lang, pub Context);
 impl ReadsBehind for Questioned {
     ghost over = { λ s a. conditional_over s.0 s.1 a };
 
-    fn read<F: Fn(Input<'_>, usize, Row, &mut Cursor) -> Result<Measured, SyntaxError>>(
+    fn read<F: Fn(Input<'_>, usize, Row, &mut Cursor) -> Result<usize, SyntaxError>>(
         &self,
-        from: usize,
-        operand: Result<Measured, SyntaxError>,
+        from: Place,
+        operand: Result<usize, SyntaxError>,
         grammar: &Grammar<'_, F>,
         cursor: &mut Cursor,
-    ) -> Result<Measured, SyntaxError> {
+    ) -> Result<usize, SyntaxError> {
         let first = without_colon(self.0, self.1);
         Turns(
             Label::Conditional,
@@ -331,13 +338,13 @@ pub struct Assigned(pub Context);
 impl ReadsBehind for Assigned {
     ghost over = { λ s a. assignment_over s.0 a };
 
-    fn read<F: Fn(Input<'_>, usize, Row, &mut Cursor) -> Result<Measured, SyntaxError>>(
+    fn read<F: Fn(Input<'_>, usize, Row, &mut Cursor) -> Result<usize, SyntaxError>>(
         &self,
-        from: usize,
-        operand: Result<Measured, SyntaxError>,
+        from: Place,
+        operand: Result<usize, SyntaxError>,
         grammar: &Grammar<'_, F>,
         cursor: &mut Cursor,
-    ) -> Result<Measured, SyntaxError> {
+    ) -> Result<usize, SyntaxError> {
         Turns(
             Label::Assignment,
             Guarded(Guard::OpensAssignment),
@@ -371,13 +378,13 @@ pub struct Operators(pub Lang, pub Context);
 impl ReadsBehind for Operators {
     ghost over = { λ s a. operators_over s.0 s.1 a };
 
-    fn read<F: Fn(Input<'_>, usize, Row, &mut Cursor) -> Result<Measured, SyntaxError>>(
+    fn read<F: Fn(Input<'_>, usize, Row, &mut Cursor) -> Result<usize, SyntaxError>>(
         &self,
-        from: usize,
-        operand: Result<Measured, SyntaxError>,
+        from: Place,
+        operand: Result<usize, SyntaxError>,
         grammar: &Grammar<'_, F>,
         cursor: &mut Cursor,
-    ) -> Result<Measured, SyntaxError> {
+    ) -> Result<usize, SyntaxError> {
         Both(
             Both(
                 Both(

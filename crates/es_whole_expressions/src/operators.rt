@@ -11,8 +11,8 @@ use es_whole_grammar::{Context, Label, Row};
 use es_whole_reader::Ahead::{Has, Is, Other};
 use es_whole_reader::Told::{Guarded, Taken};
 use es_whole_reader::{
-    Ahead, Alt, Both, Choose, Cursor, Done, Grammar, Guard, Input, Kinds, Make, Measured, OfRow,
-    Opt, Parts, Punct, ReadsBehind, ReadsForm, ReadsRule, Sort, Tok, When, Where, Wrap,
+    Ahead, Alt, Both, Choose, Cursor, Done, Grammar, Guard, Input, Kinds, Make, OfRow, Opt, Punct,
+    ReadsBehind, ReadsForm, ReadsRule, Sort, Tok, When, Where, Wrap,
 };
 
 /// ('++' | '--') Unary | Chain (~ ('++' | '--'))?
@@ -23,11 +23,11 @@ impl ReadsRule for Update {
     ghost rule = { λ s. update s.0 s.1 };
 
     #[tactic(auto, unfolding(es_whole_grammar::specs::Expressions::update))]
-    fn read<F: Fn(Input<'_>, usize, Row, &mut Cursor) -> Result<Measured, SyntaxError>>(
+    fn read<F: Fn(Input<'_>, usize, Row, &mut Cursor) -> Result<usize, SyntaxError>>(
         &self,
         grammar: &Grammar<'_, F>,
         cursor: &mut Cursor,
-    ) -> Result<Measured, SyntaxError> {
+    ) -> Result<usize, SyntaxError> {
         Choose(
             Has(Kinds::Update),
             Make(
@@ -60,11 +60,11 @@ impl ReadsRule for Prefix {
     ghost rule = { λ s. prefix s.0 };
 
     #[tactic(auto, unfolding(es_whole_grammar::specs::Expressions::prefix))]
-    fn read<F: Fn(Input<'_>, usize, Row, &mut Cursor) -> Result<Measured, SyntaxError>>(
+    fn read<F: Fn(Input<'_>, usize, Row, &mut Cursor) -> Result<usize, SyntaxError>>(
         &self,
         grammar: &Grammar<'_, F>,
         cursor: &mut Cursor,
-    ) -> Result<Measured, SyntaxError> {
+    ) -> Result<usize, SyntaxError> {
         Make(
             Label::UnaryExpression,
             Tok(
@@ -85,11 +85,11 @@ impl ReadsRule for Await {
     ghost rule = { λ s. await_ s.0 };
 
     #[tactic(auto, unfolding(es_whole_grammar::specs::Expressions::await_))]
-    fn read<F: Fn(Input<'_>, usize, Row, &mut Cursor) -> Result<Measured, SyntaxError>>(
+    fn read<F: Fn(Input<'_>, usize, Row, &mut Cursor) -> Result<usize, SyntaxError>>(
         &self,
         grammar: &Grammar<'_, F>,
         cursor: &mut Cursor,
-    ) -> Result<Measured, SyntaxError> {
+    ) -> Result<usize, SyntaxError> {
         Make(
             Label::AwaitExpression,
             Where(
@@ -109,11 +109,11 @@ impl ReadsRule for Unary {
     ghost rule = { λ s. unary s.0 s.1 };
 
     #[tactic(auto, unfolding(es_whole_grammar::specs::Expressions::unary))]
-    fn read<F: Fn(Input<'_>, usize, Row, &mut Cursor) -> Result<Measured, SyntaxError>>(
+    fn read<F: Fn(Input<'_>, usize, Row, &mut Cursor) -> Result<usize, SyntaxError>>(
         &self,
         grammar: &Grammar<'_, F>,
         cursor: &mut Cursor,
-    ) -> Result<Measured, SyntaxError> {
+    ) -> Result<usize, SyntaxError> {
         Choose(
             Has(Kinds::Prefix),
             Prefix(self.1),
@@ -135,11 +135,11 @@ impl ReadsRule for Power {
     ghost rule = { λ s. power s.0 s.1 };
 
     #[tactic(auto, unfolding(es_whole_grammar::specs::Expressions::power))]
-    fn read<F: Fn(Input<'_>, usize, Row, &mut Cursor) -> Result<Measured, SyntaxError>>(
+    fn read<F: Fn(Input<'_>, usize, Row, &mut Cursor) -> Result<usize, SyntaxError>>(
         &self,
         grammar: &Grammar<'_, F>,
         cursor: &mut Cursor,
-    ) -> Result<Measured, SyntaxError> {
+    ) -> Result<usize, SyntaxError> {
         Choose(
             Has(Kinds::Prefix),
             Prefix(self.1),
@@ -173,11 +173,11 @@ impl<A: ReadsRule + Copy> ReadsRule for Level<A> {
     ghost rule = { λ s. level (kinds_of s.0) s.1 (A.rule s.2) };
 
     #[tactic(auto, unfolding(es_whole_grammar::specs::Expressions::level))]
-    fn read<F: Fn(Input<'_>, usize, Row, &mut Cursor) -> Result<Measured, SyntaxError>>(
+    fn read<F: Fn(Input<'_>, usize, Row, &mut Cursor) -> Result<usize, SyntaxError>>(
         &self,
         grammar: &Grammar<'_, F>,
         cursor: &mut Cursor,
-    ) -> Result<Measured, SyntaxError> {
+    ) -> Result<usize, SyntaxError> {
         Wrap(
             Label::Binary,
             self.2,
@@ -196,11 +196,11 @@ impl ReadsRule for Product {
     ghost rule = { λ s. product s.0 s.1 };
 
     #[tactic(auto, unfolding(es_whole_grammar::specs::Expressions::product))]
-    fn read<F: Fn(Input<'_>, usize, Row, &mut Cursor) -> Result<Measured, SyntaxError>>(
+    fn read<F: Fn(Input<'_>, usize, Row, &mut Cursor) -> Result<usize, SyntaxError>>(
         &self,
         grammar: &Grammar<'_, F>,
         cursor: &mut Cursor,
-    ) -> Result<Measured, SyntaxError> {
+    ) -> Result<usize, SyntaxError> {
         Level(Kinds::Product, Row::PowerRow(self.1), Power(self.0, self.1)).read(grammar, cursor)
     }
 }
@@ -213,12 +213,12 @@ impl ReadsRule for Sum {
     ghost rule = { λ s. sum s.0 s.1 };
 
     #[tactic(auto, unfolding(es_whole_grammar::specs::Expressions::sum))]
-    fn read<F: Fn(Input<'_>, usize, Row, &mut Cursor) -> Result<Measured, SyntaxError>>(
+    fn read<F: Fn(Input<'_>, usize, Row, &mut Cursor) -> Result<usize, SyntaxError>>(
         &self,
         grammar: &Grammar<'_, F>,
         cursor: &mut Cursor,
-    ) -> Result<Measured, SyntaxError> {
-        let from = cursor.at;
+    ) -> Result<usize, SyntaxError> {
+        let from = cursor.here();
         let operand = Power(self.0, self.1).read(grammar, cursor);
         Arithmetic(self.1).read(from, operand, grammar, cursor)
     }
@@ -232,12 +232,12 @@ impl ReadsRule for Shift {
     ghost rule = { λ s. shift s.0 s.1 };
 
     #[tactic(auto, unfolding(es_whole_grammar::specs::Expressions::shift))]
-    fn read<F: Fn(Input<'_>, usize, Row, &mut Cursor) -> Result<Measured, SyntaxError>>(
+    fn read<F: Fn(Input<'_>, usize, Row, &mut Cursor) -> Result<usize, SyntaxError>>(
         &self,
         grammar: &Grammar<'_, F>,
         cursor: &mut Cursor,
-    ) -> Result<Measured, SyntaxError> {
-        let from = cursor.at;
+    ) -> Result<usize, SyntaxError> {
+        let from = cursor.here();
         let operand = Power(self.0, self.1).read(grammar, cursor);
         Both(Arithmetic(self.1), Shifted(self.1)).read(from, operand, grammar, cursor)
     }
@@ -251,11 +251,11 @@ impl ReadsRule for PrivateIn {
     ghost rule = { λ s. private_in s.0 };
 
     #[tactic(auto, unfolding(es_whole_grammar::specs::Expressions::private_in))]
-    fn read<F: Fn(Input<'_>, usize, Row, &mut Cursor) -> Result<Measured, SyntaxError>>(
+    fn read<F: Fn(Input<'_>, usize, Row, &mut Cursor) -> Result<usize, SyntaxError>>(
         &self,
         grammar: &Grammar<'_, F>,
         cursor: &mut Cursor,
-    ) -> Result<Measured, SyntaxError> {
+    ) -> Result<usize, SyntaxError> {
         Make(
             Label::PrivateIn,
             Where(
@@ -279,12 +279,12 @@ impl ReadsRule for Relation {
     ghost rule = { λ s. relation s.0 s.1 };
 
     #[tactic(auto, unfolding(es_whole_grammar::specs::Expressions::relation))]
-    fn read<F: Fn(Input<'_>, usize, Row, &mut Cursor) -> Result<Measured, SyntaxError>>(
+    fn read<F: Fn(Input<'_>, usize, Row, &mut Cursor) -> Result<usize, SyntaxError>>(
         &self,
         grammar: &Grammar<'_, F>,
         cursor: &mut Cursor,
-    ) -> Result<Measured, SyntaxError> {
-        let from = cursor.at;
+    ) -> Result<usize, SyntaxError> {
+        let from = cursor.here();
         let operand = Power(self.0, self.1).read(grammar, cursor);
         Both(
             Both(Arithmetic(self.1), Shifted(self.1)),
@@ -302,12 +302,11 @@ impl ReadsForm for ComparisonIn {
     ghost form = { λ s. comparison_in s.0 };
 
     #[tactic(auto, unfolding(es_whole_grammar::specs::Expressions::comparison_in))]
-    fn read<F: Fn(Input<'_>, usize, Row, &mut Cursor) -> Result<Measured, SyntaxError>>(
+    fn read<F: Fn(Input<'_>, usize, Row, &mut Cursor) -> Result<usize, SyntaxError>>(
         &self,
         grammar: &Grammar<'_, F>,
         cursor: &mut Cursor,
-        parts: &mut Parts,
-    ) -> Result<(), SyntaxError> {
+    ) -> Result<usize, SyntaxError> {
         Alt(
             Is(TokenKind::Greater),
             Tok(
@@ -322,7 +321,7 @@ impl ReadsForm for ComparisonIn {
             Tok(Sort::Kind, Kinds::Relation, Done),
             OfRow(Row::ShiftRow(self.0), Done),
         )
-        .read(grammar, cursor, parts)
+        .read(grammar, cursor)
     }
 }
 
@@ -334,12 +333,12 @@ impl ReadsRule for Equality {
     ghost rule = { λ s. equality s.0 s.1 };
 
     #[tactic(auto, unfolding(es_whole_grammar::specs::Expressions::equality))]
-    fn read<F: Fn(Input<'_>, usize, Row, &mut Cursor) -> Result<Measured, SyntaxError>>(
+    fn read<F: Fn(Input<'_>, usize, Row, &mut Cursor) -> Result<usize, SyntaxError>>(
         &self,
         grammar: &Grammar<'_, F>,
         cursor: &mut Cursor,
-    ) -> Result<Measured, SyntaxError> {
-        let from = cursor.at;
+    ) -> Result<usize, SyntaxError> {
+        let from = cursor.here();
         let operand = Power(self.0, self.1).read(grammar, cursor);
         Both(Arithmetic(self.1), Comparing(self.0, self.1)).read(from, operand, grammar, cursor)
     }
@@ -353,12 +352,12 @@ impl ReadsRule for BitAnd {
     ghost rule = { λ s. bit_and s.0 s.1 };
 
     #[tactic(auto, unfolding(es_whole_grammar::specs::Expressions::bit_and))]
-    fn read<F: Fn(Input<'_>, usize, Row, &mut Cursor) -> Result<Measured, SyntaxError>>(
+    fn read<F: Fn(Input<'_>, usize, Row, &mut Cursor) -> Result<usize, SyntaxError>>(
         &self,
         grammar: &Grammar<'_, F>,
         cursor: &mut Cursor,
-    ) -> Result<Measured, SyntaxError> {
-        let from = cursor.at;
+    ) -> Result<usize, SyntaxError> {
+        let from = cursor.here();
         let operand = Power(self.0, self.1).read(grammar, cursor);
         Both(
             Both(Arithmetic(self.1), Comparing(self.0, self.1)),
@@ -376,12 +375,12 @@ impl ReadsRule for BitXor {
     ghost rule = { λ s. bit_xor s.0 s.1 };
 
     #[tactic(auto, unfolding(es_whole_grammar::specs::Expressions::bit_xor))]
-    fn read<F: Fn(Input<'_>, usize, Row, &mut Cursor) -> Result<Measured, SyntaxError>>(
+    fn read<F: Fn(Input<'_>, usize, Row, &mut Cursor) -> Result<usize, SyntaxError>>(
         &self,
         grammar: &Grammar<'_, F>,
         cursor: &mut Cursor,
-    ) -> Result<Measured, SyntaxError> {
-        let from = cursor.at;
+    ) -> Result<usize, SyntaxError> {
+        let from = cursor.here();
         let operand = Power(self.0, self.1).read(grammar, cursor);
         Both(
             Both(Arithmetic(self.1), Comparing(self.0, self.1)),
@@ -402,12 +401,12 @@ impl ReadsRule for BitOr {
     ghost rule = { λ s. bit_or s.0 s.1 };
 
     #[tactic(auto, unfolding(es_whole_grammar::specs::Expressions::bit_or))]
-    fn read<F: Fn(Input<'_>, usize, Row, &mut Cursor) -> Result<Measured, SyntaxError>>(
+    fn read<F: Fn(Input<'_>, usize, Row, &mut Cursor) -> Result<usize, SyntaxError>>(
         &self,
         grammar: &Grammar<'_, F>,
         cursor: &mut Cursor,
-    ) -> Result<Measured, SyntaxError> {
-        let from = cursor.at;
+    ) -> Result<usize, SyntaxError> {
+        let from = cursor.here();
         let operand = Power(self.0, self.1).read(grammar, cursor);
         Both(
             Both(Arithmetic(self.1), Comparing(self.0, self.1)),
@@ -425,11 +424,11 @@ impl<A: ReadsRule + Copy> ReadsRule for And<A> {
     ghost rule = { λ s. and_ s.0 (A.rule s.1) };
 
     #[tactic(auto, unfolding(es_whole_grammar::specs::Expressions::and_))]
-    fn read<F: Fn(Input<'_>, usize, Row, &mut Cursor) -> Result<Measured, SyntaxError>>(
+    fn read<F: Fn(Input<'_>, usize, Row, &mut Cursor) -> Result<usize, SyntaxError>>(
         &self,
         grammar: &Grammar<'_, F>,
         cursor: &mut Cursor,
-    ) -> Result<Measured, SyntaxError> {
+    ) -> Result<usize, SyntaxError> {
         Level(
             Kinds::Only(TokenKind::AmpersandAmpersand),
             Row::BitOrRow(self.0),

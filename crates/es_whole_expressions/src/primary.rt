@@ -9,8 +9,8 @@ use es_whole_grammar::{Context, Label, Row};
 use es_whole_reader::Ahead::{Has, Is, Other};
 use es_whole_reader::Told::{Hint, Taken};
 use es_whole_reader::{
-    Ahead, Alt, Choose, Cursor, Done, Grammar, Guard, Input, Kinds, Make, Many, Measured, OfRow,
-    Opt, Pick, Punct, ReadsRule, Sort, Tok, When, Where,
+    Ahead, Alt, Choose, Cursor, Done, Grammar, Guard, Input, Kinds, Make, Many, OfRow, Opt, Pick,
+    Punct, ReadsRule, Sort, Tok, When, Where,
 };
 
 /// Tpl: whole | head Expr (middle Expr)* tail
@@ -21,11 +21,11 @@ impl ReadsRule for Template {
     ghost rule = { λ s. template s.0 };
 
     #[tactic(auto, unfolding(es_whole_grammar::specs::Expressions::template))]
-    fn read<F: Fn(Input<'_>, usize, Row, &mut Cursor) -> Result<Measured, SyntaxError>>(
+    fn read<F: Fn(Input<'_>, usize, Row, &mut Cursor) -> Result<usize, SyntaxError>>(
         &self,
         grammar: &Grammar<'_, F>,
         cursor: &mut Cursor,
-    ) -> Result<Measured, SyntaxError> {
+    ) -> Result<usize, SyntaxError> {
         let outside = Context {
             no_in: false,
             no_colon: false,
@@ -70,11 +70,11 @@ impl ReadsRule for Spread {
     ghost rule = { λ s. spread s.0 };
 
     #[tactic(auto, unfolding(es_whole_grammar::specs::Expressions::spread))]
-    fn read<F: Fn(Input<'_>, usize, Row, &mut Cursor) -> Result<Measured, SyntaxError>>(
+    fn read<F: Fn(Input<'_>, usize, Row, &mut Cursor) -> Result<usize, SyntaxError>>(
         &self,
         grammar: &Grammar<'_, F>,
         cursor: &mut Cursor,
-    ) -> Result<Measured, SyntaxError> {
+    ) -> Result<usize, SyntaxError> {
         let outside = Context {
             no_in: false,
             no_colon: false,
@@ -100,11 +100,11 @@ impl ReadsRule for ArrayLiteral {
     ghost rule = { λ s. array_literal s.0 };
 
     #[tactic(auto, unfolding(es_whole_grammar::specs::Expressions::array_literal))]
-    fn read<F: Fn(Input<'_>, usize, Row, &mut Cursor) -> Result<Measured, SyntaxError>>(
+    fn read<F: Fn(Input<'_>, usize, Row, &mut Cursor) -> Result<usize, SyntaxError>>(
         &self,
         grammar: &Grammar<'_, F>,
         cursor: &mut Cursor,
-    ) -> Result<Measured, SyntaxError> {
+    ) -> Result<usize, SyntaxError> {
         Make(
             Label::ArrayLiteral,
             Punct(
@@ -140,11 +140,11 @@ impl ReadsRule for ObjectLiteral {
     ghost rule = { λ s. object_literal s.0 };
 
     #[tactic(auto, unfolding(es_whole_grammar::specs::Expressions::object_literal))]
-    fn read<F: Fn(Input<'_>, usize, Row, &mut Cursor) -> Result<Measured, SyntaxError>>(
+    fn read<F: Fn(Input<'_>, usize, Row, &mut Cursor) -> Result<usize, SyntaxError>>(
         &self,
         grammar: &Grammar<'_, F>,
         cursor: &mut Cursor,
-    ) -> Result<Measured, SyntaxError> {
+    ) -> Result<usize, SyntaxError> {
         Make(
             Label::ObjectLiteral,
             Punct(
@@ -175,11 +175,11 @@ impl ReadsRule for NameExpression {
     ghost rule = { λ s. name_expression };
 
     #[tactic(auto, unfolding(es_whole_grammar::specs::Expressions::name_expression))]
-    fn read<F: Fn(Input<'_>, usize, Row, &mut Cursor) -> Result<Measured, SyntaxError>>(
+    fn read<F: Fn(Input<'_>, usize, Row, &mut Cursor) -> Result<usize, SyntaxError>>(
         &self,
         grammar: &Grammar<'_, F>,
         cursor: &mut Cursor,
-    ) -> Result<Measured, SyntaxError> {
+    ) -> Result<usize, SyntaxError> {
         Make(
             Label::Name,
             Tok(Sort::Name, Kinds::Name, When(Ahead::NoArrow, Done)),
@@ -196,11 +196,11 @@ impl ReadsRule for NamedPrimary {
     ghost rule = { λ s. named_primary s.0 s.1 };
 
     #[tactic(auto, unfolding(es_whole_grammar::specs::Expressions::named_primary))]
-    fn read<F: Fn(Input<'_>, usize, Row, &mut Cursor) -> Result<Measured, SyntaxError>>(
+    fn read<F: Fn(Input<'_>, usize, Row, &mut Cursor) -> Result<usize, SyntaxError>>(
         &self,
         grammar: &Grammar<'_, F>,
         cursor: &mut Cursor,
-    ) -> Result<Measured, SyntaxError> {
+    ) -> Result<usize, SyntaxError> {
         match self.0 {
             Lang::Es => Pick(
                 Guard::OpensAsyncFunction,
@@ -230,11 +230,11 @@ impl ReadsRule for Primary {
     ghost rule = { λ s. primary s.0 s.1 };
 
     #[tactic(auto, unfolding(es_whole_grammar::specs::Expressions::primary))]
-    fn read<F: Fn(Input<'_>, usize, Row, &mut Cursor) -> Result<Measured, SyntaxError>>(
+    fn read<F: Fn(Input<'_>, usize, Row, &mut Cursor) -> Result<usize, SyntaxError>>(
         &self,
         grammar: &Grammar<'_, F>,
         cursor: &mut Cursor,
-    ) -> Result<Measured, SyntaxError> {
+    ) -> Result<usize, SyntaxError> {
         let outside = Context {
             no_in: false,
             no_colon: false,

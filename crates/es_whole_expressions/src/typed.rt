@@ -11,8 +11,8 @@ use es_whole_grammar::{Context, Row, TypeRow};
 use es_whole_reader::Ahead::{Has, Is};
 use es_whole_reader::Told::{Guarded, Taken};
 use es_whole_reader::{
-    Ahead, Alt, Cursor, Done, Grammar, Guard, Input, Kinds, Many, Measured, OfRow, Opt, Parts,
-    Punct, ReadsForm, Sort, Tok, When, Where,
+    Ahead, Alt, Cursor, Done, Grammar, Guard, Input, Kinds, Many, OfRow, Opt, Punct, ReadsForm,
+    Sort, Tok, When, Where,
 };
 
 /// The place where no `:` opens an arrow's result.
@@ -36,12 +36,11 @@ impl<N: ReadsForm + Copy> ReadsForm for ReferencesIn<N> {
     ghost form = { λ s. references_in (N.form s.0) };
 
     #[tactic(auto, unfolding(es_whole_grammar::specs::Expressions::references_in))]
-    fn read<F: Fn(Input<'_>, usize, Row, &mut Cursor) -> Result<Measured, SyntaxError>>(
+    fn read<F: Fn(Input<'_>, usize, Row, &mut Cursor) -> Result<usize, SyntaxError>>(
         &self,
         grammar: &Grammar<'_, F>,
         cursor: &mut Cursor,
-        parts: &mut Parts,
-    ) -> Result<(), SyntaxError> {
+    ) -> Result<usize, SyntaxError> {
         OfRow(
             Row::TypesRow(TypeRow::ReferenceRow),
             Many(
@@ -53,7 +52,7 @@ impl<N: ReadsForm + Copy> ReadsForm for ReferencesIn<N> {
                 self.0,
             ),
         )
-        .read(grammar, cursor, parts)
+        .read(grammar, cursor)
     }
 }
 
@@ -65,20 +64,19 @@ impl<N: ReadsForm + Copy> ReadsForm for TypeParametersIn<N> {
     ghost form = { λ s. typed_in s.0 type_parameters_in (N.form s.1) };
 
     #[tactic(auto, unfolding(es_whole_grammar::specs::Embedding::type_parameters_in))]
-    fn read<F: Fn(Input<'_>, usize, Row, &mut Cursor) -> Result<Measured, SyntaxError>>(
+    fn read<F: Fn(Input<'_>, usize, Row, &mut Cursor) -> Result<usize, SyntaxError>>(
         &self,
         grammar: &Grammar<'_, F>,
         cursor: &mut Cursor,
-        parts: &mut Parts,
-    ) -> Result<(), SyntaxError> {
+    ) -> Result<usize, SyntaxError> {
         match self.0 {
-            Lang::Es => self.1.read(grammar, cursor, parts),
+            Lang::Es => self.1.read(grammar, cursor),
             Lang::Typescript => Opt(
                 Taken(Is(TokenKind::Less)),
                 OfRow(Row::TypesRow(TypeRow::TypeParametersRow), Done),
                 self.1,
             )
-            .read(grammar, cursor, parts),
+            .read(grammar, cursor),
         }
     }
 }
@@ -91,20 +89,19 @@ impl<N: ReadsForm + Copy> ReadsForm for TypeArgumentsIn<N> {
     ghost form = { λ s. typed_in s.0 type_arguments_in (N.form s.1) };
 
     #[tactic(auto, unfolding(es_whole_grammar::specs::Embedding::type_arguments_in))]
-    fn read<F: Fn(Input<'_>, usize, Row, &mut Cursor) -> Result<Measured, SyntaxError>>(
+    fn read<F: Fn(Input<'_>, usize, Row, &mut Cursor) -> Result<usize, SyntaxError>>(
         &self,
         grammar: &Grammar<'_, F>,
         cursor: &mut Cursor,
-        parts: &mut Parts,
-    ) -> Result<(), SyntaxError> {
+    ) -> Result<usize, SyntaxError> {
         match self.0 {
-            Lang::Es => self.1.read(grammar, cursor, parts),
+            Lang::Es => self.1.read(grammar, cursor),
             Lang::Typescript => Opt(
                 Taken(Is(TokenKind::Less)),
                 OfRow(Row::TypesRow(TypeRow::ArgumentsRow), Done),
                 self.1,
             )
-            .read(grammar, cursor, parts),
+            .read(grammar, cursor),
         }
     }
 }
@@ -117,14 +114,13 @@ impl<N: ReadsForm + Copy> ReadsForm for AnnotationIn<N> {
     ghost form = { λ s. typed_in s.0 annotation_in (N.form s.1) };
 
     #[tactic(auto, unfolding(es_whole_grammar::specs::Embedding::annotation_in))]
-    fn read<F: Fn(Input<'_>, usize, Row, &mut Cursor) -> Result<Measured, SyntaxError>>(
+    fn read<F: Fn(Input<'_>, usize, Row, &mut Cursor) -> Result<usize, SyntaxError>>(
         &self,
         grammar: &Grammar<'_, F>,
         cursor: &mut Cursor,
-        parts: &mut Parts,
-    ) -> Result<(), SyntaxError> {
+    ) -> Result<usize, SyntaxError> {
         match self.0 {
-            Lang::Es => self.1.read(grammar, cursor, parts),
+            Lang::Es => self.1.read(grammar, cursor),
             Lang::Typescript => Opt(
                 Taken(Is(TokenKind::Colon)),
                 Punct(
@@ -133,7 +129,7 @@ impl<N: ReadsForm + Copy> ReadsForm for AnnotationIn<N> {
                 ),
                 self.1,
             )
-            .read(grammar, cursor, parts),
+            .read(grammar, cursor),
         }
     }
 }
@@ -146,14 +142,13 @@ impl<N: ReadsForm + Copy> ReadsForm for ResultIn<N> {
     ghost form = { λ s. typed_in s.0 result_in (N.form s.1) };
 
     #[tactic(auto, unfolding(es_whole_grammar::specs::Embedding::result_in))]
-    fn read<F: Fn(Input<'_>, usize, Row, &mut Cursor) -> Result<Measured, SyntaxError>>(
+    fn read<F: Fn(Input<'_>, usize, Row, &mut Cursor) -> Result<usize, SyntaxError>>(
         &self,
         grammar: &Grammar<'_, F>,
         cursor: &mut Cursor,
-        parts: &mut Parts,
-    ) -> Result<(), SyntaxError> {
+    ) -> Result<usize, SyntaxError> {
         match self.0 {
-            Lang::Es => self.1.read(grammar, cursor, parts),
+            Lang::Es => self.1.read(grammar, cursor),
             Lang::Typescript => Opt(
                 Taken(Is(TokenKind::Colon)),
                 Punct(
@@ -162,7 +157,7 @@ impl<N: ReadsForm + Copy> ReadsForm for ResultIn<N> {
                 ),
                 self.1,
             )
-            .read(grammar, cursor, parts),
+            .read(grammar, cursor),
         }
     }
 }
@@ -175,20 +170,19 @@ impl<N: ReadsForm + Copy> ReadsForm for CallArgumentsIn<N> {
     ghost form = { λ s. typed_in s.0 call_arguments_in (N.form s.1) };
 
     #[tactic(auto, unfolding(es_whole_grammar::specs::Expressions::call_arguments_in))]
-    fn read<F: Fn(Input<'_>, usize, Row, &mut Cursor) -> Result<Measured, SyntaxError>>(
+    fn read<F: Fn(Input<'_>, usize, Row, &mut Cursor) -> Result<usize, SyntaxError>>(
         &self,
         grammar: &Grammar<'_, F>,
         cursor: &mut Cursor,
-        parts: &mut Parts,
-    ) -> Result<(), SyntaxError> {
+    ) -> Result<usize, SyntaxError> {
         match self.0 {
-            Lang::Es => self.1.read(grammar, cursor, parts),
+            Lang::Es => self.1.read(grammar, cursor),
             Lang::Typescript => Opt(
                 Guarded(Guard::OpensCallArguments),
                 OfRow(Row::TypesRow(TypeRow::ArgumentsRow), Done),
                 self.1,
             )
-            .read(grammar, cursor, parts),
+            .read(grammar, cursor),
         }
     }
 }
@@ -201,20 +195,19 @@ impl<N: ReadsForm + Copy> ReadsForm for HeritageIn<N> {
     ghost form = { λ s. typed_in s.0 heritage_in (N.form s.1) };
 
     #[tactic(auto, unfolding(es_whole_grammar::specs::Expressions::heritage_in))]
-    fn read<F: Fn(Input<'_>, usize, Row, &mut Cursor) -> Result<Measured, SyntaxError>>(
+    fn read<F: Fn(Input<'_>, usize, Row, &mut Cursor) -> Result<usize, SyntaxError>>(
         &self,
         grammar: &Grammar<'_, F>,
         cursor: &mut Cursor,
-        parts: &mut Parts,
-    ) -> Result<(), SyntaxError> {
+    ) -> Result<usize, SyntaxError> {
         match self.0 {
-            Lang::Es => self.1.read(grammar, cursor, parts),
+            Lang::Es => self.1.read(grammar, cursor),
             Lang::Typescript => Opt(
                 Guarded(Guard::OpensHeritageArguments),
                 OfRow(Row::TypesRow(TypeRow::ArgumentsRow), Done),
                 self.1,
             )
-            .read(grammar, cursor, parts),
+            .read(grammar, cursor),
         }
     }
 }
@@ -227,20 +220,19 @@ impl<N: ReadsForm + Copy> ReadsForm for ImplementsIn<N> {
     ghost form = { λ s. typed_in s.0 implements_in (N.form s.1) };
 
     #[tactic(auto, unfolding(es_whole_grammar::specs::Expressions::implements_in))]
-    fn read<F: Fn(Input<'_>, usize, Row, &mut Cursor) -> Result<Measured, SyntaxError>>(
+    fn read<F: Fn(Input<'_>, usize, Row, &mut Cursor) -> Result<usize, SyntaxError>>(
         &self,
         grammar: &Grammar<'_, F>,
         cursor: &mut Cursor,
-        parts: &mut Parts,
-    ) -> Result<(), SyntaxError> {
+    ) -> Result<usize, SyntaxError> {
         match self.0 {
-            Lang::Es => self.1.read(grammar, cursor, parts),
+            Lang::Es => self.1.read(grammar, cursor),
             Lang::Typescript => Opt(
                 Taken(Is(TokenKind::ImplementsWord)),
                 Punct(TokenKind::ImplementsWord, ReferencesIn(Done)),
                 self.1,
             )
-            .read(grammar, cursor, parts),
+            .read(grammar, cursor),
         }
     }
 }
@@ -253,14 +245,13 @@ impl<N: ReadsForm + Copy> ReadsForm for ArrowResultIn<N> {
     ghost form = { λ s. typed_in s.0 (arrow_result_in s.1) (N.form s.2) };
 
     #[tactic(auto, unfolding(es_whole_grammar::specs::Expressions::arrow_result_in))]
-    fn read<F: Fn(Input<'_>, usize, Row, &mut Cursor) -> Result<Measured, SyntaxError>>(
+    fn read<F: Fn(Input<'_>, usize, Row, &mut Cursor) -> Result<usize, SyntaxError>>(
         &self,
         grammar: &Grammar<'_, F>,
         cursor: &mut Cursor,
-        parts: &mut Parts,
-    ) -> Result<(), SyntaxError> {
+    ) -> Result<usize, SyntaxError> {
         match self.0 {
-            Lang::Es => self.2.read(grammar, cursor, parts),
+            Lang::Es => self.2.read(grammar, cursor),
             Lang::Typescript => Opt(
                 Guarded(Guard::OpensArrowResult(self.1)),
                 Punct(
@@ -269,7 +260,7 @@ impl<N: ReadsForm + Copy> ReadsForm for ArrowResultIn<N> {
                 ),
                 self.2,
             )
-            .read(grammar, cursor, parts),
+            .read(grammar, cursor),
         }
     }
 }
@@ -282,12 +273,11 @@ impl ReadsForm for Asserted {
     ghost form = { λ s. asserted };
 
     #[tactic(auto, unfolding(es_whole_grammar::specs::Expressions::asserted))]
-    fn read<F: Fn(Input<'_>, usize, Row, &mut Cursor) -> Result<Measured, SyntaxError>>(
+    fn read<F: Fn(Input<'_>, usize, Row, &mut Cursor) -> Result<usize, SyntaxError>>(
         &self,
         grammar: &Grammar<'_, F>,
         cursor: &mut Cursor,
-        parts: &mut Parts,
-    ) -> Result<(), SyntaxError> {
+    ) -> Result<usize, SyntaxError> {
         When(
             Ahead::Near,
             Tok(
@@ -304,7 +294,7 @@ impl ReadsForm for Asserted {
                 ),
             ),
         )
-        .read(grammar, cursor, parts)
+        .read(grammar, cursor)
     }
 }
 
@@ -316,12 +306,11 @@ impl<N: ReadsForm + Copy> ReadsForm for AssertedOr<N> {
     ghost form = { λ s. asserted_or (N.form s.0) };
 
     #[tactic(auto, unfolding(es_whole_grammar::specs::Expressions::asserted_or))]
-    fn read<F: Fn(Input<'_>, usize, Row, &mut Cursor) -> Result<Measured, SyntaxError>>(
+    fn read<F: Fn(Input<'_>, usize, Row, &mut Cursor) -> Result<usize, SyntaxError>>(
         &self,
         grammar: &Grammar<'_, F>,
         cursor: &mut Cursor,
-        parts: &mut Parts,
-    ) -> Result<(), SyntaxError> {
-        Alt(Has(Kinds::AssertionWord), Asserted, self.0, Done).read(grammar, cursor, parts)
+    ) -> Result<usize, SyntaxError> {
+        Alt(Has(Kinds::AssertionWord), Asserted, self.0, Done).read(grammar, cursor)
     }
 }

@@ -14,8 +14,8 @@ use es_whole_grammar::{Context, Label, Row, TypeRow};
 use es_whole_reader::Ahead::{Has, Is};
 use es_whole_reader::Told::{Guarded, Taken};
 use es_whole_reader::{
-    Choose, Cursor, Done, Grammar, Guard, Input, Kinds, Make, MakeBy, Many, Measured, OfRow, Opt,
-    Parts, Pick, Punct, ReadsForm, ReadsRule, Sort, Tok, Where,
+    Choose, Cursor, Done, Grammar, Guard, Input, Kinds, Make, MakeBy, Many, OfRow, Opt, Pick,
+    Punct, ReadsForm, ReadsRule, Sort, Tok, Where,
 };
 
 /// 'static'?, which stands once, and what stands behind it
@@ -26,18 +26,17 @@ impl<N: ReadsForm + Copy> ReadsForm for StaticIn<N> {
     ghost form = { λ s. static_in (N.form s.0) };
 
     #[tactic(auto, unfolding(es_whole_grammar::specs::Classes::static_in))]
-    fn read<F: Fn(Input<'_>, usize, Row, &mut Cursor) -> Result<Measured, SyntaxError>>(
+    fn read<F: Fn(Input<'_>, usize, Row, &mut Cursor) -> Result<usize, SyntaxError>>(
         &self,
         grammar: &Grammar<'_, F>,
         cursor: &mut Cursor,
-        parts: &mut Parts,
-    ) -> Result<(), SyntaxError> {
+    ) -> Result<usize, SyntaxError> {
         Opt(
             Guarded(Guard::OpensStatic),
             Tok(Sort::There, Kinds::Only(TokenKind::StaticWord), Done),
             self.0,
         )
-        .read(grammar, cursor, parts)
+        .read(grammar, cursor)
     }
 }
 
@@ -49,12 +48,11 @@ impl<N: ReadsForm + Copy> ReadsForm for ModifiersIn<N> {
     ghost form = { λ s. modifiers_in opens_modifier (N.form s.0) };
 
     #[tactic(auto, unfolding(es_whole_grammar::specs::Functions::modifiers_in))]
-    fn read<F: Fn(Input<'_>, usize, Row, &mut Cursor) -> Result<Measured, SyntaxError>>(
+    fn read<F: Fn(Input<'_>, usize, Row, &mut Cursor) -> Result<usize, SyntaxError>>(
         &self,
         grammar: &Grammar<'_, F>,
         cursor: &mut Cursor,
-        parts: &mut Parts,
-    ) -> Result<(), SyntaxError> {
+    ) -> Result<usize, SyntaxError> {
         Where(
             Guard::ModifiersOnce,
             Many(
@@ -63,7 +61,7 @@ impl<N: ReadsForm + Copy> ReadsForm for ModifiersIn<N> {
                 self.0,
             ),
         )
-        .read(grammar, cursor, parts)
+        .read(grammar, cursor)
     }
 }
 
@@ -75,16 +73,15 @@ impl<N: ReadsForm + Copy> ReadsForm for MemberHead<N> {
     ghost form = { λ s. head_in s.0 (N.form s.1) };
 
     #[tactic(auto, unfolding(es_whole_grammar::specs::Classes::head_in))]
-    fn read<F: Fn(Input<'_>, usize, Row, &mut Cursor) -> Result<Measured, SyntaxError>>(
+    fn read<F: Fn(Input<'_>, usize, Row, &mut Cursor) -> Result<usize, SyntaxError>>(
         &self,
         grammar: &Grammar<'_, F>,
         cursor: &mut Cursor,
-        parts: &mut Parts,
-    ) -> Result<(), SyntaxError> {
+    ) -> Result<usize, SyntaxError> {
         match self.0 {
-            Lang::Es => StaticIn(Where(Guard::IsPlainMember, self.1)).read(grammar, cursor, parts),
+            Lang::Es => StaticIn(Where(Guard::IsPlainMember, self.1)).read(grammar, cursor),
             Lang::Typescript => {
-                ModifiersIn(Where(Guard::IsMemberKey, self.1)).read(grammar, cursor, parts)
+                ModifiersIn(Where(Guard::IsMemberKey, self.1)).read(grammar, cursor)
             }
         }
     }
@@ -98,25 +95,24 @@ impl<N: ReadsForm + Copy> ReadsForm for AccessorHead<N> {
     ghost form = { λ s. marked_in s.0 accessor_word_in (N.form s.1) };
 
     #[tactic(auto, unfolding(es_whole_grammar::specs::Classes::marked_in))]
-    fn read<F: Fn(Input<'_>, usize, Row, &mut Cursor) -> Result<Measured, SyntaxError>>(
+    fn read<F: Fn(Input<'_>, usize, Row, &mut Cursor) -> Result<usize, SyntaxError>>(
         &self,
         grammar: &Grammar<'_, F>,
         cursor: &mut Cursor,
-        parts: &mut Parts,
-    ) -> Result<(), SyntaxError> {
+    ) -> Result<usize, SyntaxError> {
         match self.0 {
             Lang::Es => StaticIn(Tok(
                 Sort::Kind,
                 Kinds::AccessorWord,
                 Where(Guard::IsPlainMember, self.1),
             ))
-            .read(grammar, cursor, parts),
+            .read(grammar, cursor),
             Lang::Typescript => ModifiersIn(Tok(
                 Sort::Kind,
                 Kinds::AccessorWord,
                 Where(Guard::IsMemberKey, self.1),
             ))
-            .read(grammar, cursor, parts),
+            .read(grammar, cursor),
         }
     }
 }
@@ -129,23 +125,22 @@ impl<N: ReadsForm + Copy> ReadsForm for AsyncHead<N> {
     ghost form = { λ s. marked_in s.0 async_word_in (N.form s.1) };
 
     #[tactic(auto, unfolding(es_whole_grammar::specs::Classes::marked_in))]
-    fn read<F: Fn(Input<'_>, usize, Row, &mut Cursor) -> Result<Measured, SyntaxError>>(
+    fn read<F: Fn(Input<'_>, usize, Row, &mut Cursor) -> Result<usize, SyntaxError>>(
         &self,
         grammar: &Grammar<'_, F>,
         cursor: &mut Cursor,
-        parts: &mut Parts,
-    ) -> Result<(), SyntaxError> {
+    ) -> Result<usize, SyntaxError> {
         match self.0 {
             Lang::Es => StaticIn(Punct(
                 TokenKind::AsyncWord,
                 StarIn(Where(Guard::IsPlainMember, self.1)),
             ))
-            .read(grammar, cursor, parts),
+            .read(grammar, cursor),
             Lang::Typescript => ModifiersIn(Punct(
                 TokenKind::AsyncWord,
                 StarIn(Where(Guard::IsMemberKey, self.1)),
             ))
-            .read(grammar, cursor, parts),
+            .read(grammar, cursor),
         }
     }
 }
@@ -158,20 +153,19 @@ impl<N: ReadsForm + Copy> ReadsForm for StarHead<N> {
     ghost form = { λ s. marked_in s.0 star_word_in (N.form s.1) };
 
     #[tactic(auto, unfolding(es_whole_grammar::specs::Classes::marked_in))]
-    fn read<F: Fn(Input<'_>, usize, Row, &mut Cursor) -> Result<Measured, SyntaxError>>(
+    fn read<F: Fn(Input<'_>, usize, Row, &mut Cursor) -> Result<usize, SyntaxError>>(
         &self,
         grammar: &Grammar<'_, F>,
         cursor: &mut Cursor,
-        parts: &mut Parts,
-    ) -> Result<(), SyntaxError> {
+    ) -> Result<usize, SyntaxError> {
         match self.0 {
             Lang::Es => StaticIn(Punct(TokenKind::Star, Where(Guard::IsPlainMember, self.1))).read(
-                grammar, cursor, parts,
+                grammar, cursor,
             ),
             Lang::Typescript => ModifiersIn(Punct(
                 TokenKind::Star,
                 Where(Guard::IsMemberKey, self.1),
-            )).read(grammar, cursor, parts),
+            )).read(grammar, cursor),
         }
     }
 }
@@ -184,21 +178,20 @@ impl<N: ReadsForm + Copy> ReadsForm for FieldHead<N> {
     ghost form = { λ s. marked_in s.0 field_word_in (N.form s.1) };
 
     #[tactic(auto, unfolding(es_whole_grammar::specs::Classes::marked_in))]
-    fn read<F: Fn(Input<'_>, usize, Row, &mut Cursor) -> Result<Measured, SyntaxError>>(
+    fn read<F: Fn(Input<'_>, usize, Row, &mut Cursor) -> Result<usize, SyntaxError>>(
         &self,
         grammar: &Grammar<'_, F>,
         cursor: &mut Cursor,
-        parts: &mut Parts,
-    ) -> Result<(), SyntaxError> {
+    ) -> Result<usize, SyntaxError> {
         match self.0 {
             Lang::Es => StaticIn(Punct(
                 TokenKind::AccessorWord,
                 Where(Guard::IsPlainMember, self.1),
-            )).read(grammar, cursor, parts),
+            )).read(grammar, cursor),
             Lang::Typescript => ModifiersIn(Punct(
                 TokenKind::AccessorWord,
                 Where(Guard::IsMemberKey, self.1),
-            )).read(grammar, cursor, parts),
+            )).read(grammar, cursor),
         }
     }
 }
@@ -211,12 +204,11 @@ impl ReadsForm for ValueIn {
     ghost form = { λ s. value_in s.0 };
 
     #[tactic(auto, unfolding(es_whole_grammar::specs::Classes::value_in))]
-    fn read<F: Fn(Input<'_>, usize, Row, &mut Cursor) -> Result<Measured, SyntaxError>>(
+    fn read<F: Fn(Input<'_>, usize, Row, &mut Cursor) -> Result<usize, SyntaxError>>(
         &self,
         grammar: &Grammar<'_, F>,
         cursor: &mut Cursor,
-        parts: &mut Parts,
-    ) -> Result<(), SyntaxError> {
+    ) -> Result<usize, SyntaxError> {
         Opt(
             Taken(Is(TokenKind::Equal)),
             Punct(
@@ -228,7 +220,7 @@ impl ReadsForm for ValueIn {
             ),
             Ended,
         )
-        .read(grammar, cursor, parts)
+        .read(grammar, cursor)
     }
 }
 
@@ -240,22 +232,19 @@ impl ReadsForm for ClassMethodIn {
     ghost form = { λ s. class_method_in s.0 s.1 s.2 };
 
     #[tactic(auto, unfolding(es_whole_grammar::specs::Classes::class_method_in))]
-    fn read<F: Fn(Input<'_>, usize, Row, &mut Cursor) -> Result<Measured, SyntaxError>>(
+    fn read<F: Fn(Input<'_>, usize, Row, &mut Cursor) -> Result<usize, SyntaxError>>(
         &self,
         grammar: &Grammar<'_, F>,
         cursor: &mut Cursor,
-        parts: &mut Parts,
-    ) -> Result<(), SyntaxError> {
+    ) -> Result<usize, SyntaxError> {
         let body = BodyIn(self.0, self.2);
         match self.0 {
             Lang::Es => OfRow(
                 Row::KeyRow(true, self.1),
                 OfRow(Row::SignatureRow(self.2), body),
             )
-            .read(grammar, cursor, parts),
-            Lang::Typescript => {
-                MarkedHeadIn(true, self.1, self.2, body).read(grammar, cursor, parts)
-            }
+            .read(grammar, cursor),
+            Lang::Typescript => { MarkedHeadIn(true, self.1, self.2, body).read(grammar, cursor) }
         }
     }
 }
@@ -268,16 +257,13 @@ impl ReadsForm for FieldIn {
     ghost form = { λ s. field_in s.0 s.1 };
 
     #[tactic(auto, unfolding(es_whole_grammar::specs::Classes::field_in))]
-    fn read<F: Fn(Input<'_>, usize, Row, &mut Cursor) -> Result<Measured, SyntaxError>>(
+    fn read<F: Fn(Input<'_>, usize, Row, &mut Cursor) -> Result<usize, SyntaxError>>(
         &self,
         grammar: &Grammar<'_, F>,
         cursor: &mut Cursor,
-        parts: &mut Parts,
-    ) -> Result<(), SyntaxError> {
+    ) -> Result<usize, SyntaxError> {
         match self.0 {
-            Lang::Es => {
-                OfRow(Row::KeyRow(true, self.1), ValueIn(self.1)).read(grammar, cursor, parts)
-            }
+            Lang::Es => { OfRow(Row::KeyRow(true, self.1), ValueIn(self.1)).read(grammar, cursor) }
             Lang::Typescript => OfRow(
                 Row::KeyRow(true, self.1),
                 Opt(
@@ -286,7 +272,7 @@ impl ReadsForm for FieldIn {
                     AnnotationIn(Lang::Typescript, ValueIn(self.1)),
                 ),
             )
-            .read(grammar, cursor, parts),
+            .read(grammar, cursor),
         }
     }
 }
@@ -299,11 +285,11 @@ impl ReadsRule for IndexMember {
     ghost rule = { λ _. index_member };
 
     #[tactic(auto, unfolding(es_whole_grammar::specs::Classes::index_member))]
-    fn read<F: Fn(Input<'_>, usize, Row, &mut Cursor) -> Result<Measured, SyntaxError>>(
+    fn read<F: Fn(Input<'_>, usize, Row, &mut Cursor) -> Result<usize, SyntaxError>>(
         &self,
         grammar: &Grammar<'_, F>,
         cursor: &mut Cursor,
-    ) -> Result<Measured, SyntaxError> {
+    ) -> Result<usize, SyntaxError> {
         Make(
             Label::IndexMember,
             ModifiersIn(Punct(
@@ -343,11 +329,11 @@ struct MemberBehind {
 impl ReadsRule for MemberBehind {
     ghost rule = { λ s. member_behind s.lang s.context (guard_of s.accessor) (guard_of s.asynced) (guard_of s.star) (guard_of s.field) (guard_of s.method) };
 
-    fn read<F: Fn(Input<'_>, usize, Row, &mut Cursor) -> Result<Measured, SyntaxError>>(
+    fn read<F: Fn(Input<'_>, usize, Row, &mut Cursor) -> Result<usize, SyntaxError>>(
         &self,
         grammar: &Grammar<'_, F>,
         cursor: &mut Cursor,
-    ) -> Result<Measured, SyntaxError> {
+    ) -> Result<usize, SyntaxError> {
         let async_in = Context {
             no_in: false,
             no_colon: false,
@@ -421,11 +407,11 @@ impl ReadsRule for ModifiedMember {
     ghost rule = { λ s. modified_member s.0 s.1 };
 
     #[tactic(auto, using(crate::proofs::Members::plain_member), unfolding(es_whole_grammar::specs::Classes::modified_member, es_whole_grammar::specs::Functions::opens_any_method))]
-    fn read<F: Fn(Input<'_>, usize, Row, &mut Cursor) -> Result<Measured, SyntaxError>>(
+    fn read<F: Fn(Input<'_>, usize, Row, &mut Cursor) -> Result<usize, SyntaxError>>(
         &self,
         grammar: &Grammar<'_, F>,
         cursor: &mut Cursor,
-    ) -> Result<Measured, SyntaxError> {
+    ) -> Result<usize, SyntaxError> {
         let context = self.1;
         match self.0 {
             Lang::Es => MemberBehind {
@@ -460,11 +446,11 @@ impl ReadsRule for AnyMember {
     ghost rule = { λ s. any_member s.0 s.1 };
 
     #[tactic(auto, unfolding(es_whole_grammar::specs::Classes::any_member))]
-    fn read<F: Fn(Input<'_>, usize, Row, &mut Cursor) -> Result<Measured, SyntaxError>>(
+    fn read<F: Fn(Input<'_>, usize, Row, &mut Cursor) -> Result<usize, SyntaxError>>(
         &self,
         grammar: &Grammar<'_, F>,
         cursor: &mut Cursor,
-    ) -> Result<Measured, SyntaxError> {
+    ) -> Result<usize, SyntaxError> {
         match self.0 {
             Lang::Es => ModifiedMember(Lang::Es, self.1).read(grammar, cursor),
             Lang::Typescript => Pick(
@@ -485,11 +471,11 @@ impl ReadsRule for Member {
     ghost rule = { λ s. member s.0 s.1 };
 
     #[tactic(auto, unfolding(es_whole_grammar::specs::Classes::member))]
-    fn read<F: Fn(Input<'_>, usize, Row, &mut Cursor) -> Result<Measured, SyntaxError>>(
+    fn read<F: Fn(Input<'_>, usize, Row, &mut Cursor) -> Result<usize, SyntaxError>>(
         &self,
         grammar: &Grammar<'_, F>,
         cursor: &mut Cursor,
-    ) -> Result<Measured, SyntaxError> {
+    ) -> Result<usize, SyntaxError> {
         Choose(
             Is(TokenKind::Semicolon),
             Make(Label::EmptyMember, Punct(TokenKind::Semicolon, Done)),

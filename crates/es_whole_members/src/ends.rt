@@ -10,7 +10,7 @@ use es_whole_grammar::Row;
 use es_whole_reader::Ahead::Is;
 use es_whole_reader::Told::Taken;
 use es_whole_reader::{
-    Ahead, Cursor, Done, Grammar, Guard, Input, Measured, Opt, Parts, Punct, ReadsForm, When, Where,
+    Ahead, Cursor, Done, Grammar, Guard, Input, Opt, Punct, ReadsForm, When, Where,
 };
 
 /// END: a `;`, which is taken where it is there
@@ -21,12 +21,11 @@ impl ReadsForm for Ended {
     ghost form = { λ _. plain_form ended };
 
     #[tactic(auto, unfolding(es_grammar::specs::Modules::ended))]
-    fn read<F: Fn(Input<'_>, usize, Row, &mut Cursor) -> Result<Measured, SyntaxError>>(
+    fn read<F: Fn(Input<'_>, usize, Row, &mut Cursor) -> Result<usize, SyntaxError>>(
         &self,
         grammar: &Grammar<'_, F>,
         cursor: &mut Cursor,
-        parts: &mut Parts,
-    ) -> Result<(), SyntaxError> {
+    ) -> Result<usize, SyntaxError> {
         When(
             Ahead::MayEnd,
             Opt(
@@ -35,7 +34,7 @@ impl ReadsForm for Ended {
                 Done,
             ),
         )
-        .read(grammar, cursor, parts)
+        .read(grammar, cursor)
     }
 }
 
@@ -47,12 +46,11 @@ impl ReadsForm for ExpressionEnded {
     ghost form = { λ _. expression_ended };
 
     #[tactic(auto, unfolding(es_whole_grammar::specs::Statements::expression_ended))]
-    fn read<F: Fn(Input<'_>, usize, Row, &mut Cursor) -> Result<Measured, SyntaxError>>(
+    fn read<F: Fn(Input<'_>, usize, Row, &mut Cursor) -> Result<usize, SyntaxError>>(
         &self,
         grammar: &Grammar<'_, F>,
         cursor: &mut Cursor,
-        parts: &mut Parts,
-    ) -> Result<(), SyntaxError> {
-        Where(Guard::EndsExpression, Ended).read(grammar, cursor, parts)
+    ) -> Result<usize, SyntaxError> {
+        Where(Guard::EndsExpression, Ended).read(grammar, cursor)
     }
 }

@@ -11,8 +11,8 @@ use es_whole_grammar::{Context, Label, Row};
 use es_whole_reader::Ahead::{Is, Other};
 use es_whole_reader::Told::{Guarded, Hint, Taken};
 use es_whole_reader::{
-    Ahead, Choose, Cursor, Done, Grammar, Guard, Input, Kinds, Make, MakeBy, Many, Measured, OfRow,
-    Opt, Parts, Pick, Punct, ReadsForm, ReadsRule, Sort, Tok, When, Where, Wrap,
+    Ahead, Choose, Cursor, Done, Grammar, Guard, Input, Kinds, Make, MakeBy, Many, OfRow, Opt,
+    Pick, Punct, ReadsForm, ReadsRule, Sort, Tok, When, Where, Wrap,
 };
 
 /// Params: Param% | (Param ',')* '...' Pat
@@ -23,11 +23,11 @@ impl ReadsRule for Parameters {
     ghost rule = { λ s. parameters s.0 s.1 };
 
     #[tactic(auto, unfolding(es_whole_grammar::specs::Functions::parameters, es_whole_grammar::specs::Functions::rest_in))]
-    fn read<F: Fn(Input<'_>, usize, Row, &mut Cursor) -> Result<Measured, SyntaxError>>(
+    fn read<F: Fn(Input<'_>, usize, Row, &mut Cursor) -> Result<usize, SyntaxError>>(
         &self,
         grammar: &Grammar<'_, F>,
         cursor: &mut Cursor,
-    ) -> Result<Measured, SyntaxError> {
+    ) -> Result<usize, SyntaxError> {
         MakeBy(
             self.0,
             Label::Parameters,
@@ -64,13 +64,12 @@ impl ReadsForm for ParameterTail {
     ghost form = { λ s. parameter_tail s.0 };
 
     #[tactic(auto, unfolding(es_whole_grammar::specs::Functions::parameter_tail))]
-    fn read<F: Fn(Input<'_>, usize, Row, &mut Cursor) -> Result<Measured, SyntaxError>>(
+    fn read<F: Fn(Input<'_>, usize, Row, &mut Cursor) -> Result<usize, SyntaxError>>(
         &self,
         grammar: &Grammar<'_, F>,
         cursor: &mut Cursor,
-        parts: &mut Parts,
-    ) -> Result<(), SyntaxError> {
-        MarkIn(AnnotationIn(Lang::Typescript, DefaultIn(self.0, Done))).read(grammar, cursor, parts)
+    ) -> Result<usize, SyntaxError> {
+        MarkIn(AnnotationIn(Lang::Typescript, DefaultIn(self.0, Done))).read(grammar, cursor)
     }
 }
 
@@ -82,18 +81,17 @@ impl<N: ReadsForm + Copy> ReadsForm for MarkIn<N> {
     ghost form = { λ s. mark_in (N.form s.0) };
 
     #[tactic(auto, unfolding(es_whole_grammar::specs::Functions::mark_in))]
-    fn read<F: Fn(Input<'_>, usize, Row, &mut Cursor) -> Result<Measured, SyntaxError>>(
+    fn read<F: Fn(Input<'_>, usize, Row, &mut Cursor) -> Result<usize, SyntaxError>>(
         &self,
         grammar: &Grammar<'_, F>,
         cursor: &mut Cursor,
-        parts: &mut Parts,
-    ) -> Result<(), SyntaxError> {
+    ) -> Result<usize, SyntaxError> {
         Opt(
             Taken(Is(TokenKind::Question)),
             Tok(Sort::There, Kinds::Only(TokenKind::Question), Done),
             self.0,
         )
-        .read(grammar, cursor, parts)
+        .read(grammar, cursor)
     }
 }
 
@@ -105,11 +103,11 @@ impl ReadsRule for TypedParameter {
     ghost rule = { λ s. parameter lang.Typescript s.0 };
 
     #[tactic(auto, unfolding(es_whole_grammar::specs::Functions::parameter, es_whole_grammar::specs::Functions::modifiers_in))]
-    fn read<F: Fn(Input<'_>, usize, Row, &mut Cursor) -> Result<Measured, SyntaxError>>(
+    fn read<F: Fn(Input<'_>, usize, Row, &mut Cursor) -> Result<usize, SyntaxError>>(
         &self,
         grammar: &Grammar<'_, F>,
         cursor: &mut Cursor,
-    ) -> Result<Measured, SyntaxError> {
+    ) -> Result<usize, SyntaxError> {
         let marked = OfRow(Row::PatternRow(false, self.0), ParameterTail(self.0));
         Choose(
             Is(TokenKind::ThisWord),
@@ -153,11 +151,11 @@ impl ReadsRule for Parameter {
     ghost rule = { λ s. parameter s.0 s.1 };
 
     #[tactic(auto, unfolding(es_whole_grammar::specs::Functions::parameter))]
-    fn read<F: Fn(Input<'_>, usize, Row, &mut Cursor) -> Result<Measured, SyntaxError>>(
+    fn read<F: Fn(Input<'_>, usize, Row, &mut Cursor) -> Result<usize, SyntaxError>>(
         &self,
         grammar: &Grammar<'_, F>,
         cursor: &mut Cursor,
-    ) -> Result<Measured, SyntaxError> {
+    ) -> Result<usize, SyntaxError> {
         match self.0 {
             Lang::Es => PlainParameter(self.1).read(grammar, cursor),
             Lang::Typescript => TypedParameter(self.1).read(grammar, cursor),
@@ -173,11 +171,11 @@ impl ReadsRule for PlainParameter {
     ghost rule = { λ s. parameter lang.Es s.0 };
 
     #[tactic(auto, unfolding(es_whole_grammar::specs::Functions::parameter))]
-    fn read<F: Fn(Input<'_>, usize, Row, &mut Cursor) -> Result<Measured, SyntaxError>>(
+    fn read<F: Fn(Input<'_>, usize, Row, &mut Cursor) -> Result<usize, SyntaxError>>(
         &self,
         grammar: &Grammar<'_, F>,
         cursor: &mut Cursor,
-    ) -> Result<Measured, SyntaxError> {
+    ) -> Result<usize, SyntaxError> {
         let outside = Context {
             no_in: false,
             no_colon: false,
@@ -208,11 +206,11 @@ impl ReadsRule for Signature {
     ghost rule = { λ s. signature s.0 s.1 };
 
     #[tactic(auto, unfolding(es_whole_grammar::specs::Functions::signature))]
-    fn read<F: Fn(Input<'_>, usize, Row, &mut Cursor) -> Result<Measured, SyntaxError>>(
+    fn read<F: Fn(Input<'_>, usize, Row, &mut Cursor) -> Result<usize, SyntaxError>>(
         &self,
         grammar: &Grammar<'_, F>,
         cursor: &mut Cursor,
-    ) -> Result<Measured, SyntaxError> {
+    ) -> Result<usize, SyntaxError> {
         MakeBy(
             self.0,
             Label::Signature,

@@ -10,8 +10,8 @@ use es_whole_grammar::{Context, Label, Row};
 use es_whole_reader::Ahead::{Has, Is, Other};
 use es_whole_reader::Told::{Hint, Taken};
 use es_whole_reader::{
-    Ahead, Alt, As, Choose, Cursor, Done, Grammar, Guard, Input, Kinds, Make, Many, Measured,
-    OfRow, Opt, Parts, Pick, Punct, ReadsForm, ReadsRule, Sort, Tok, When, Wrap,
+    Ahead, Alt, As, Choose, Cursor, Done, Grammar, Guard, Input, Kinds, Make, Many, OfRow, Opt,
+    Pick, Punct, ReadsForm, ReadsRule, Sort, Tok, When, Wrap,
 };
 
 /// ('=' Assign)?, and what stands behind it
@@ -22,12 +22,11 @@ impl<N: ReadsForm + Copy> ReadsForm for DefaultIn<N> {
     ghost form = { λ s. default_in s.0 (N.form s.1) };
 
     #[tactic(auto, unfolding(es_whole_grammar::specs::Functions::default_in))]
-    fn read<F: Fn(Input<'_>, usize, Row, &mut Cursor) -> Result<Measured, SyntaxError>>(
+    fn read<F: Fn(Input<'_>, usize, Row, &mut Cursor) -> Result<usize, SyntaxError>>(
         &self,
         grammar: &Grammar<'_, F>,
         cursor: &mut Cursor,
-        parts: &mut Parts,
-    ) -> Result<(), SyntaxError> {
+    ) -> Result<usize, SyntaxError> {
         let outside = Context {
             no_in: false,
             no_colon: false,
@@ -39,7 +38,7 @@ impl<N: ReadsForm + Copy> ReadsForm for DefaultIn<N> {
             Punct(TokenKind::Equal, OfRow(Row::AssignmentRow(outside), Done)),
             self.1,
         )
-        .read(grammar, cursor, parts)
+        .read(grammar, cursor)
     }
 }
 
@@ -51,11 +50,11 @@ impl ReadsRule for ArrayPattern {
     ghost rule = { λ s. array_pattern s.0 s.1 };
 
     #[tactic(auto, unfolding(es_whole_grammar::specs::Functions::array_pattern))]
-    fn read<F: Fn(Input<'_>, usize, Row, &mut Cursor) -> Result<Measured, SyntaxError>>(
+    fn read<F: Fn(Input<'_>, usize, Row, &mut Cursor) -> Result<usize, SyntaxError>>(
         &self,
         grammar: &Grammar<'_, F>,
         cursor: &mut Cursor,
-    ) -> Result<Measured, SyntaxError> {
+    ) -> Result<usize, SyntaxError> {
         Make(
             Label::ArrayPattern,
             Punct(
@@ -91,11 +90,11 @@ impl ReadsRule for ObjectPattern {
     ghost rule = { λ s. object_pattern s.0 s.1 };
 
     #[tactic(auto, unfolding(es_whole_grammar::specs::Functions::object_pattern))]
-    fn read<F: Fn(Input<'_>, usize, Row, &mut Cursor) -> Result<Measured, SyntaxError>>(
+    fn read<F: Fn(Input<'_>, usize, Row, &mut Cursor) -> Result<usize, SyntaxError>>(
         &self,
         grammar: &Grammar<'_, F>,
         cursor: &mut Cursor,
-    ) -> Result<Measured, SyntaxError> {
+    ) -> Result<usize, SyntaxError> {
         Make(
             Label::ObjectPattern,
             Punct(
@@ -126,12 +125,11 @@ impl ReadsForm for NoForm {
     ghost form = { λ _. no_form };
 
     #[tactic(auto, unfolding(es_whole_grammar::specs::Expressions::no_form, es_whole_reader::specs::Bounded::form_at))]
-    fn read<F: Fn(Input<'_>, usize, Row, &mut Cursor) -> Result<Measured, SyntaxError>>(
+    fn read<F: Fn(Input<'_>, usize, Row, &mut Cursor) -> Result<usize, SyntaxError>>(
         &self,
         grammar: &Grammar<'_, F>,
         cursor: &mut Cursor,
-        parts: &mut Parts,
-    ) -> Result<(), SyntaxError> {
+    ) -> Result<usize, SyntaxError> {
         Err(SyntaxError::Syntax { token: cursor.at })
     }
 }
@@ -144,11 +142,11 @@ impl ReadsRule for Target {
     ghost rule = { λ s. target s.0 s.1 };
 
     #[tactic(auto, unfolding(es_whole_grammar::specs::Functions::target))]
-    fn read<F: Fn(Input<'_>, usize, Row, &mut Cursor) -> Result<Measured, SyntaxError>>(
+    fn read<F: Fn(Input<'_>, usize, Row, &mut Cursor) -> Result<usize, SyntaxError>>(
         &self,
         grammar: &Grammar<'_, F>,
         cursor: &mut Cursor,
-    ) -> Result<Measured, SyntaxError> {
+    ) -> Result<usize, SyntaxError> {
         match self.0 {
             Lang::Es => As(Label::Target, Chain(Lang::Es, self.1)).read(grammar, cursor),
             Lang::Typescript => As(
@@ -173,11 +171,11 @@ impl ReadsRule for BracketPattern {
     ghost rule = { λ s. bracket_pattern s.0 s.1 };
 
     #[tactic(auto, unfolding(es_whole_grammar::specs::Functions::bracket_pattern))]
-    fn read<F: Fn(Input<'_>, usize, Row, &mut Cursor) -> Result<Measured, SyntaxError>>(
+    fn read<F: Fn(Input<'_>, usize, Row, &mut Cursor) -> Result<usize, SyntaxError>>(
         &self,
         grammar: &Grammar<'_, F>,
         cursor: &mut Cursor,
-    ) -> Result<Measured, SyntaxError> {
+    ) -> Result<usize, SyntaxError> {
         Choose(
             Is(TokenKind::OpenBracket),
             ArrayPattern(self.0, self.1),
@@ -195,11 +193,11 @@ impl ReadsRule for InnerPattern {
     ghost rule = { λ s. inner_pattern s.0 s.1 s.2 };
 
     #[tactic(auto, unfolding(es_whole_grammar::specs::Functions::inner_pattern))]
-    fn read<F: Fn(Input<'_>, usize, Row, &mut Cursor) -> Result<Measured, SyntaxError>>(
+    fn read<F: Fn(Input<'_>, usize, Row, &mut Cursor) -> Result<usize, SyntaxError>>(
         &self,
         grammar: &Grammar<'_, F>,
         cursor: &mut Cursor,
-    ) -> Result<Measured, SyntaxError> {
+    ) -> Result<usize, SyntaxError> {
         if self.1 {
             Pick(
                 Guard::OpensInnerPattern,
@@ -226,11 +224,11 @@ impl ReadsRule for Pattern {
     ghost rule = { λ s. pattern s.0 s.1 s.2 };
 
     #[tactic(auto, unfolding(es_whole_grammar::specs::Functions::pattern))]
-    fn read<F: Fn(Input<'_>, usize, Row, &mut Cursor) -> Result<Measured, SyntaxError>>(
+    fn read<F: Fn(Input<'_>, usize, Row, &mut Cursor) -> Result<usize, SyntaxError>>(
         &self,
         grammar: &Grammar<'_, F>,
         cursor: &mut Cursor,
-    ) -> Result<Measured, SyntaxError> {
+    ) -> Result<usize, SyntaxError> {
         if self.1 {
             BracketPattern(true, self.2).read(grammar, cursor)
         } else {
@@ -247,11 +245,11 @@ impl ReadsRule for PatternElement {
     ghost rule = { λ s. pattern_element s.0 s.1 s.2 };
 
     #[tactic(auto, unfolding(es_whole_grammar::specs::Functions::pattern_element))]
-    fn read<F: Fn(Input<'_>, usize, Row, &mut Cursor) -> Result<Measured, SyntaxError>>(
+    fn read<F: Fn(Input<'_>, usize, Row, &mut Cursor) -> Result<usize, SyntaxError>>(
         &self,
         grammar: &Grammar<'_, F>,
         cursor: &mut Cursor,
-    ) -> Result<Measured, SyntaxError> {
+    ) -> Result<usize, SyntaxError> {
         let outside = Context {
             no_in: false,
             no_colon: false,
@@ -292,11 +290,11 @@ impl ReadsRule for PatternProperty {
     ghost rule = { λ s. pattern_property s.0 s.1 };
 
     #[tactic(auto, unfolding(es_whole_grammar::specs::Functions::pattern_property))]
-    fn read<F: Fn(Input<'_>, usize, Row, &mut Cursor) -> Result<Measured, SyntaxError>>(
+    fn read<F: Fn(Input<'_>, usize, Row, &mut Cursor) -> Result<usize, SyntaxError>>(
         &self,
         grammar: &Grammar<'_, F>,
         cursor: &mut Cursor,
-    ) -> Result<Measured, SyntaxError> {
+    ) -> Result<usize, SyntaxError> {
         Choose(
             Is(TokenKind::Ellipsis),
             Make(

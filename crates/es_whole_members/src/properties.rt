@@ -9,8 +9,8 @@ use es_whole_expressions::StarIn;
 use es_whole_grammar::{Context, Label, Row};
 use es_whole_reader::Ahead::{Has, Is, Other};
 use es_whole_reader::{
-    Alt, Choose, Cursor, Done, Grammar, Guard, Input, Kinds, Make, MakeBy, Measured, OfRow, Parts,
-    Pick, Punct, ReadsForm, ReadsRule, Sort, Tok, When, Where,
+    Alt, Choose, Cursor, Done, Grammar, Guard, Input, Kinds, Make, MakeBy, OfRow, Pick, Punct,
+    ReadsForm, ReadsRule, Sort, Tok, When, Where,
 };
 
 /// Key: Word | Str | Number | BigInt | '[' Assign ']'
@@ -21,11 +21,11 @@ impl ReadsRule for PlainKey {
     ghost rule = { λ s. plain_key s.0 };
 
     #[tactic(auto, unfolding(es_whole_grammar::specs::Functions::plain_key))]
-    fn read<F: Fn(Input<'_>, usize, Row, &mut Cursor) -> Result<Measured, SyntaxError>>(
+    fn read<F: Fn(Input<'_>, usize, Row, &mut Cursor) -> Result<usize, SyntaxError>>(
         &self,
         grammar: &Grammar<'_, F>,
         cursor: &mut Cursor,
-    ) -> Result<Measured, SyntaxError> {
+    ) -> Result<usize, SyntaxError> {
         let outside = Context {
             no_in: false,
             no_colon: false,
@@ -69,11 +69,11 @@ impl ReadsRule for Key {
     ghost rule = { λ s. key s.0 s.1 };
 
     #[tactic(auto, unfolding(es_whole_grammar::specs::Functions::key))]
-    fn read<F: Fn(Input<'_>, usize, Row, &mut Cursor) -> Result<Measured, SyntaxError>>(
+    fn read<F: Fn(Input<'_>, usize, Row, &mut Cursor) -> Result<usize, SyntaxError>>(
         &self,
         grammar: &Grammar<'_, F>,
         cursor: &mut Cursor,
-    ) -> Result<Measured, SyntaxError> {
+    ) -> Result<usize, SyntaxError> {
         if self.0 {
             Choose(
                 Is(TokenKind::PrivateName),
@@ -98,12 +98,11 @@ impl<N: ReadsForm + Copy> ReadsForm for HeadIn<N> {
     ghost form = { λ s. typed_head_in s.0 s.1 s.2 unmarked (N.form s.3) };
 
     #[tactic(auto, unfolding(es_whole_grammar::specs::Functions::typed_head_in))]
-    fn read<F: Fn(Input<'_>, usize, Row, &mut Cursor) -> Result<Measured, SyntaxError>>(
+    fn read<F: Fn(Input<'_>, usize, Row, &mut Cursor) -> Result<usize, SyntaxError>>(
         &self,
         grammar: &Grammar<'_, F>,
         cursor: &mut Cursor,
-        parts: &mut Parts,
-    ) -> Result<(), SyntaxError> {
+    ) -> Result<usize, SyntaxError> {
         let constructing = Context {
             no_in: false,
             no_colon: false,
@@ -128,7 +127,7 @@ impl<N: ReadsForm + Copy> ReadsForm for HeadIn<N> {
             ),
             self.3,
         )
-        .read(grammar, cursor, parts)
+        .read(grammar, cursor)
     }
 }
 
@@ -140,12 +139,11 @@ impl<N: ReadsForm + Copy> ReadsForm for MarkedHeadIn<N> {
     ghost form = { λ s. typed_head_in s.0 s.1 s.2 mark_in (N.form s.3) };
 
     #[tactic(auto, unfolding(es_whole_grammar::specs::Functions::typed_head_in))]
-    fn read<F: Fn(Input<'_>, usize, Row, &mut Cursor) -> Result<Measured, SyntaxError>>(
+    fn read<F: Fn(Input<'_>, usize, Row, &mut Cursor) -> Result<usize, SyntaxError>>(
         &self,
         grammar: &Grammar<'_, F>,
         cursor: &mut Cursor,
-        parts: &mut Parts,
-    ) -> Result<(), SyntaxError> {
+    ) -> Result<usize, SyntaxError> {
         let constructing = Context {
             no_in: false,
             no_colon: false,
@@ -170,7 +168,7 @@ impl<N: ReadsForm + Copy> ReadsForm for MarkedHeadIn<N> {
             ),
             self.3,
         )
-        .read(grammar, cursor, parts)
+        .read(grammar, cursor)
     }
 }
 
@@ -182,20 +180,19 @@ impl ReadsForm for MethodIn {
     ghost form = { λ s. method_in s.0 s.1 s.2 };
 
     #[tactic(auto, unfolding(es_whole_grammar::specs::Functions::method_in))]
-    fn read<F: Fn(Input<'_>, usize, Row, &mut Cursor) -> Result<Measured, SyntaxError>>(
+    fn read<F: Fn(Input<'_>, usize, Row, &mut Cursor) -> Result<usize, SyntaxError>>(
         &self,
         grammar: &Grammar<'_, F>,
         cursor: &mut Cursor,
-        parts: &mut Parts,
-    ) -> Result<(), SyntaxError> {
+    ) -> Result<usize, SyntaxError> {
         let body = OfRow(Row::BlockRow(self.2), Done);
         match self.0 {
             Lang::Es => OfRow(
                 Row::KeyRow(false, self.1),
                 OfRow(Row::SignatureRow(self.2), body),
             )
-            .read(grammar, cursor, parts),
-            Lang::Typescript => { HeadIn(false, self.1, self.2, body).read(grammar, cursor, parts) }
+            .read(grammar, cursor),
+            Lang::Typescript => { HeadIn(false, self.1, self.2, body).read(grammar, cursor) }
         }
     }
 }
@@ -208,11 +205,11 @@ impl ReadsRule for Property {
     ghost rule = { λ s. property s.0 s.1 };
 
     #[tactic(auto, unfolding(es_whole_grammar::specs::Functions::property))]
-    fn read<F: Fn(Input<'_>, usize, Row, &mut Cursor) -> Result<Measured, SyntaxError>>(
+    fn read<F: Fn(Input<'_>, usize, Row, &mut Cursor) -> Result<usize, SyntaxError>>(
         &self,
         grammar: &Grammar<'_, F>,
         cursor: &mut Cursor,
-    ) -> Result<Measured, SyntaxError> {
+    ) -> Result<usize, SyntaxError> {
         let outside = Context {
             no_in: false,
             no_colon: false,

@@ -13,8 +13,8 @@ use es_whole_members::{Ended, Pattern};
 use es_whole_reader::Ahead::{Has, Is, Other};
 use es_whole_reader::Told::{Hint, Taken};
 use es_whole_reader::{
-    Ahead, Choose, Cursor, Done, Grammar, Guard, Input, Kinds, Make, Many, Measured, OfRow, Opt,
-    Parts, Pick, Punct, ReadsForm, ReadsRule, Sort, Tok, When, Where, Wrap,
+    Ahead, Choose, Cursor, Done, Grammar, Guard, Input, Kinds, Make, Many, OfRow, Opt, Pick, Punct,
+    ReadsForm, ReadsRule, Sort, Tok, When, Where, Wrap,
 };
 
 /// '(' Expr ')', and what stands behind it
@@ -25,12 +25,11 @@ impl<N: ReadsForm + Copy> ReadsForm for ConditionIn<N> {
     ghost form = { λ s. condition_in s.0 (N.form s.1) };
 
     #[tactic(auto, unfolding(es_whole_grammar::specs::Statements::condition_in))]
-    fn read<F: Fn(Input<'_>, usize, Row, &mut Cursor) -> Result<Measured, SyntaxError>>(
+    fn read<F: Fn(Input<'_>, usize, Row, &mut Cursor) -> Result<usize, SyntaxError>>(
         &self,
         grammar: &Grammar<'_, F>,
         cursor: &mut Cursor,
-        parts: &mut Parts,
-    ) -> Result<(), SyntaxError> {
+    ) -> Result<usize, SyntaxError> {
         Punct(
             TokenKind::OpenParen,
             OfRow(
@@ -38,7 +37,7 @@ impl<N: ReadsForm + Copy> ReadsForm for ConditionIn<N> {
                 Punct(TokenKind::CloseParen, self.1),
             ),
         )
-        .read(grammar, cursor, parts)
+        .read(grammar, cursor)
     }
 }
 
@@ -50,11 +49,11 @@ impl ReadsRule for Block {
     ghost rule = { λ s. block s.0 };
 
     #[tactic(auto, unfolding(es_whole_grammar::specs::Statements::block))]
-    fn read<F: Fn(Input<'_>, usize, Row, &mut Cursor) -> Result<Measured, SyntaxError>>(
+    fn read<F: Fn(Input<'_>, usize, Row, &mut Cursor) -> Result<usize, SyntaxError>>(
         &self,
         grammar: &Grammar<'_, F>,
         cursor: &mut Cursor,
-    ) -> Result<Measured, SyntaxError> {
+    ) -> Result<usize, SyntaxError> {
         Make(
             Label::Block,
             Punct(
@@ -78,11 +77,11 @@ impl ReadsRule for Declarator {
     ghost rule = { λ s. declarator s.0 s.1 };
 
     #[tactic(auto, unfolding(es_whole_grammar::specs::Statements::declarator))]
-    fn read<F: Fn(Input<'_>, usize, Row, &mut Cursor) -> Result<Measured, SyntaxError>>(
+    fn read<F: Fn(Input<'_>, usize, Row, &mut Cursor) -> Result<usize, SyntaxError>>(
         &self,
         grammar: &Grammar<'_, F>,
         cursor: &mut Cursor,
-    ) -> Result<Measured, SyntaxError> {
+    ) -> Result<usize, SyntaxError> {
         let outside = Context {
             no_in: false,
             no_colon: false,
@@ -116,11 +115,11 @@ impl ReadsRule for TypedDeclarator {
     ghost rule = { λ s. declarator lang.Typescript s.0 };
 
     #[tactic(auto, unfolding(es_whole_grammar::specs::Statements::declarator))]
-    fn read<F: Fn(Input<'_>, usize, Row, &mut Cursor) -> Result<Measured, SyntaxError>>(
+    fn read<F: Fn(Input<'_>, usize, Row, &mut Cursor) -> Result<usize, SyntaxError>>(
         &self,
         grammar: &Grammar<'_, F>,
         cursor: &mut Cursor,
-    ) -> Result<Measured, SyntaxError> {
+    ) -> Result<usize, SyntaxError> {
         let outside = Context {
             no_in: false,
             no_colon: false,
@@ -162,12 +161,11 @@ impl ReadsForm for Declarators {
     ghost form = { λ s. declarators s.0 };
 
     #[tactic(auto, unfolding(es_whole_grammar::specs::Statements::declarators))]
-    fn read<F: Fn(Input<'_>, usize, Row, &mut Cursor) -> Result<Measured, SyntaxError>>(
+    fn read<F: Fn(Input<'_>, usize, Row, &mut Cursor) -> Result<usize, SyntaxError>>(
         &self,
         grammar: &Grammar<'_, F>,
         cursor: &mut Cursor,
-        parts: &mut Parts,
-    ) -> Result<(), SyntaxError> {
+    ) -> Result<usize, SyntaxError> {
         OfRow(
             Row::DeclaratorRow(self.0),
             Many(
@@ -176,7 +174,7 @@ impl ReadsForm for Declarators {
                 Done,
             ),
         )
-        .read(grammar, cursor, parts)
+        .read(grammar, cursor)
     }
 }
 
@@ -188,11 +186,11 @@ impl ReadsRule for Variables {
     ghost rule = { λ s. variables s.0 };
 
     #[tactic(auto, unfolding(es_whole_grammar::specs::Statements::variables))]
-    fn read<F: Fn(Input<'_>, usize, Row, &mut Cursor) -> Result<Measured, SyntaxError>>(
+    fn read<F: Fn(Input<'_>, usize, Row, &mut Cursor) -> Result<usize, SyntaxError>>(
         &self,
         grammar: &Grammar<'_, F>,
         cursor: &mut Cursor,
-    ) -> Result<Measured, SyntaxError> {
+    ) -> Result<usize, SyntaxError> {
         Make(
             Label::Variables,
             Tok(Sort::Kind, Kinds::VariableWord, Declarators(self.0)),
@@ -209,12 +207,11 @@ impl<N: ReadsForm + Copy> ReadsForm for UsingIn<N> {
     ghost form = { λ s. using_in s.0 (N.form s.1) };
 
     #[tactic(auto, unfolding(es_whole_grammar::specs::Statements::using_in))]
-    fn read<F: Fn(Input<'_>, usize, Row, &mut Cursor) -> Result<Measured, SyntaxError>>(
+    fn read<F: Fn(Input<'_>, usize, Row, &mut Cursor) -> Result<usize, SyntaxError>>(
         &self,
         grammar: &Grammar<'_, F>,
         cursor: &mut Cursor,
-        parts: &mut Parts,
-    ) -> Result<(), SyntaxError> {
+    ) -> Result<usize, SyntaxError> {
         Opt(
             Taken(Is(TokenKind::AwaitWord)),
             Where(
@@ -227,7 +224,7 @@ impl<N: ReadsForm + Copy> ReadsForm for UsingIn<N> {
             ),
             Punct(TokenKind::UsingWord, When(Ahead::Near, self.1)),
         )
-        .read(grammar, cursor, parts)
+        .read(grammar, cursor)
     }
 }
 
@@ -239,11 +236,11 @@ impl ReadsRule for Using {
     ghost rule = { λ s. using_ s.0 };
 
     #[tactic(auto, unfolding(es_whole_grammar::specs::Statements::using_))]
-    fn read<F: Fn(Input<'_>, usize, Row, &mut Cursor) -> Result<Measured, SyntaxError>>(
+    fn read<F: Fn(Input<'_>, usize, Row, &mut Cursor) -> Result<usize, SyntaxError>>(
         &self,
         grammar: &Grammar<'_, F>,
         cursor: &mut Cursor,
-    ) -> Result<Measured, SyntaxError> {
+    ) -> Result<usize, SyntaxError> {
         Make(Label::Using, UsingIn(self.0, Declarators(self.0))).read(grammar, cursor)
     }
 }
@@ -256,11 +253,11 @@ impl<A: ReadsRule + Copy> ReadsRule for Declaration<A> {
     ghost rule = { λ s. declaration s.0 s.1 (A.rule s.2) };
 
     #[tactic(auto, unfolding(es_whole_grammar::specs::Declarations::declaration))]
-    fn read<F: Fn(Input<'_>, usize, Row, &mut Cursor) -> Result<Measured, SyntaxError>>(
+    fn read<F: Fn(Input<'_>, usize, Row, &mut Cursor) -> Result<usize, SyntaxError>>(
         &self,
         grammar: &Grammar<'_, F>,
         cursor: &mut Cursor,
-    ) -> Result<Measured, SyntaxError> {
+    ) -> Result<usize, SyntaxError> {
         match self.0 {
             Lang::Es => PlainDeclaration(Lang::Es, self.1, self.2).read(grammar, cursor),
             Lang::Typescript => Pick(
@@ -292,11 +289,11 @@ impl<A: ReadsRule + Copy> ReadsRule for PlainDeclaration<A> {
     ghost rule = { λ s. plain_declaration s.0 s.1 (A.rule s.2) };
 
     #[tactic(auto, unfolding(es_whole_grammar::specs::Declarations::plain_declaration))]
-    fn read<F: Fn(Input<'_>, usize, Row, &mut Cursor) -> Result<Measured, SyntaxError>>(
+    fn read<F: Fn(Input<'_>, usize, Row, &mut Cursor) -> Result<usize, SyntaxError>>(
         &self,
         grammar: &Grammar<'_, F>,
         cursor: &mut Cursor,
-    ) -> Result<Measured, SyntaxError> {
+    ) -> Result<usize, SyntaxError> {
         Choose(
             Has(Kinds::VariableWord),
             Make(

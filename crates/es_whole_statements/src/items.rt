@@ -11,8 +11,8 @@ use es_whole_members::ExpressionEnded;
 use es_whole_reader::Ahead::Is;
 use es_whole_reader::Told::{Hint, Taken};
 use es_whole_reader::{
-    Ahead, Choose, Cursor, Done, Grammar, Guard, Input, Kinds, Make, Many, Measured, OfRow, Opt,
-    Parts, Pick, Punct, ReadsForm, ReadsRule, Sort, Tok,
+    Ahead, Choose, Cursor, Done, Grammar, Guard, Input, Kinds, Make, Many, OfRow, Opt, Pick, Punct,
+    ReadsForm, ReadsRule, Sort, Tok,
 };
 
 /// 'export' 'default' Assign END
@@ -23,11 +23,11 @@ impl ReadsRule for DefaultExpression {
     ghost rule = { λ s. default_expression s.0 };
 
     #[tactic(auto, unfolding(es_whole_grammar::specs::Items::default_expression))]
-    fn read<F: Fn(Input<'_>, usize, Row, &mut Cursor) -> Result<Measured, SyntaxError>>(
+    fn read<F: Fn(Input<'_>, usize, Row, &mut Cursor) -> Result<usize, SyntaxError>>(
         &self,
         grammar: &Grammar<'_, F>,
         cursor: &mut Cursor,
-    ) -> Result<Measured, SyntaxError> {
+    ) -> Result<usize, SyntaxError> {
         Make(
             Label::ExportDefaultExpression,
             Punct(
@@ -50,11 +50,11 @@ impl ReadsRule for DefaultInterface {
     ghost rule = { λ s. default_interface s.0 };
 
     #[tactic(auto, unfolding(es_whole_grammar::specs::Items::default_interface))]
-    fn read<F: Fn(Input<'_>, usize, Row, &mut Cursor) -> Result<Measured, SyntaxError>>(
+    fn read<F: Fn(Input<'_>, usize, Row, &mut Cursor) -> Result<usize, SyntaxError>>(
         &self,
         grammar: &Grammar<'_, F>,
         cursor: &mut Cursor,
-    ) -> Result<Measured, SyntaxError> {
+    ) -> Result<usize, SyntaxError> {
         Make(
             Label::ExportDefaultInterface,
             Punct(
@@ -77,11 +77,11 @@ impl ReadsRule for OtherDefault {
     ghost rule = { λ s. other_default s.0 s.1 };
 
     #[tactic(auto, unfolding(es_whole_grammar::specs::Items::other_default))]
-    fn read<F: Fn(Input<'_>, usize, Row, &mut Cursor) -> Result<Measured, SyntaxError>>(
+    fn read<F: Fn(Input<'_>, usize, Row, &mut Cursor) -> Result<usize, SyntaxError>>(
         &self,
         grammar: &Grammar<'_, F>,
         cursor: &mut Cursor,
-    ) -> Result<Measured, SyntaxError> {
+    ) -> Result<usize, SyntaxError> {
         match self.0 {
             Lang::Es => DefaultExpression(self.1).read(grammar, cursor),
             Lang::Typescript => Pick(
@@ -102,11 +102,11 @@ impl ReadsRule for ExportDefault {
     ghost rule = { λ s. export_default s.0 s.1 };
 
     #[tactic(auto, unfolding(es_whole_grammar::specs::Items::export_default))]
-    fn read<F: Fn(Input<'_>, usize, Row, &mut Cursor) -> Result<Measured, SyntaxError>>(
+    fn read<F: Fn(Input<'_>, usize, Row, &mut Cursor) -> Result<usize, SyntaxError>>(
         &self,
         grammar: &Grammar<'_, F>,
         cursor: &mut Cursor,
-    ) -> Result<Measured, SyntaxError> {
+    ) -> Result<usize, SyntaxError> {
         Pick(
             Guard::OpensDefaultFunction,
             Make(
@@ -146,11 +146,11 @@ impl ReadsRule for ExportNames {
     ghost rule = { λ s. export_names s.0 s.1 };
 
     #[tactic(auto, unfolding(es_whole_grammar::specs::Items::export_names))]
-    fn read<F: Fn(Input<'_>, usize, Row, &mut Cursor) -> Result<Measured, SyntaxError>>(
+    fn read<F: Fn(Input<'_>, usize, Row, &mut Cursor) -> Result<usize, SyntaxError>>(
         &self,
         grammar: &Grammar<'_, F>,
         cursor: &mut Cursor,
-    ) -> Result<Measured, SyntaxError> {
+    ) -> Result<usize, SyntaxError> {
         match self.0 {
             Lang::Es => Export(Lang::Es).read(grammar, cursor),
             Lang::Typescript => Pick(
@@ -180,11 +180,11 @@ impl ReadsRule for ExportItem {
     ghost rule = { λ s. export_item s.0 s.1 };
 
     #[tactic(auto, unfolding(es_whole_grammar::specs::Items::export_item))]
-    fn read<F: Fn(Input<'_>, usize, Row, &mut Cursor) -> Result<Measured, SyntaxError>>(
+    fn read<F: Fn(Input<'_>, usize, Row, &mut Cursor) -> Result<usize, SyntaxError>>(
         &self,
         grammar: &Grammar<'_, F>,
         cursor: &mut Cursor,
-    ) -> Result<Measured, SyntaxError> {
+    ) -> Result<usize, SyntaxError> {
         Pick(
             Guard::OpensDefault,
             ExportDefault(self.0, self.1),
@@ -212,11 +212,11 @@ impl ReadsRule for Item {
     ghost rule = { λ s. item s.0 s.1 };
 
     #[tactic(auto, unfolding(es_whole_grammar::specs::Items::item))]
-    fn read<F: Fn(Input<'_>, usize, Row, &mut Cursor) -> Result<Measured, SyntaxError>>(
+    fn read<F: Fn(Input<'_>, usize, Row, &mut Cursor) -> Result<usize, SyntaxError>>(
         &self,
         grammar: &Grammar<'_, F>,
         cursor: &mut Cursor,
-    ) -> Result<Measured, SyntaxError> {
+    ) -> Result<usize, SyntaxError> {
         Pick(
             Guard::OpensImport,
             Import(self.0),
@@ -238,18 +238,17 @@ impl<N: ReadsForm + Copy> ReadsForm for ShebangIn<N> {
     ghost form = { λ s. shebang_in (N.form s.0) };
 
     #[tactic(auto, unfolding(es_whole_grammar::specs::Items::shebang_in))]
-    fn read<F: Fn(Input<'_>, usize, Row, &mut Cursor) -> Result<Measured, SyntaxError>>(
+    fn read<F: Fn(Input<'_>, usize, Row, &mut Cursor) -> Result<usize, SyntaxError>>(
         &self,
         grammar: &Grammar<'_, F>,
         cursor: &mut Cursor,
-        parts: &mut Parts,
-    ) -> Result<(), SyntaxError> {
+    ) -> Result<usize, SyntaxError> {
         Opt(
             Taken(Is(TokenKind::Shebang)),
             Tok(Sort::Raw, Kinds::Only(TokenKind::Shebang), Done),
             self.0,
         )
-        .read(grammar, cursor, parts)
+        .read(grammar, cursor)
     }
 }
 
@@ -261,11 +260,11 @@ impl ReadsRule for Module {
     ghost rule = { λ _. module_ };
 
     #[tactic(auto, unfolding(es_whole_grammar::specs::Items::module_))]
-    fn read<F: Fn(Input<'_>, usize, Row, &mut Cursor) -> Result<Measured, SyntaxError>>(
+    fn read<F: Fn(Input<'_>, usize, Row, &mut Cursor) -> Result<usize, SyntaxError>>(
         &self,
         grammar: &Grammar<'_, F>,
         cursor: &mut Cursor,
-    ) -> Result<Measured, SyntaxError> {
+    ) -> Result<usize, SyntaxError> {
         let in_module = Context {
             script: false,
             no_in: false,
@@ -293,11 +292,11 @@ impl ReadsRule for Script {
     ghost rule = { λ _. script };
 
     #[tactic(auto, unfolding(es_whole_grammar::specs::Items::script))]
-    fn read<F: Fn(Input<'_>, usize, Row, &mut Cursor) -> Result<Measured, SyntaxError>>(
+    fn read<F: Fn(Input<'_>, usize, Row, &mut Cursor) -> Result<usize, SyntaxError>>(
         &self,
         grammar: &Grammar<'_, F>,
         cursor: &mut Cursor,
-    ) -> Result<Measured, SyntaxError> {
+    ) -> Result<usize, SyntaxError> {
         let in_script = Context {
             script: true,
             no_in: false,

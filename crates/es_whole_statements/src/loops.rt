@@ -11,8 +11,8 @@ use es_whole_members::{Pattern, Target};
 use es_whole_reader::Ahead::{Has, Is, Other};
 use es_whole_reader::Told::{Guarded, Taken};
 use es_whole_reader::{
-    Alt, Choose, Cursor, Done, Grammar, Guard, Input, Kinds, Make, MakeBy, Measured, OfRow, Opt,
-    Parts, Pick, Punct, ReadsForm, ReadsRule, Sort, Tok, Where,
+    Alt, Choose, Cursor, Done, Grammar, Guard, Input, Kinds, Make, MakeBy, OfRow, Opt, Pick, Punct,
+    ReadsForm, ReadsRule, Sort, Tok, Where,
 };
 
 /// Head: ('var' | 'let' | 'const') Pat | ('await' ~)? 'using' ~ Name | Target
@@ -23,11 +23,11 @@ impl ReadsRule for Head {
     ghost rule = { λ s. head s.0 s.1 };
 
     #[tactic(auto, unfolding(es_whole_grammar::specs::Statements::head))]
-    fn read<F: Fn(Input<'_>, usize, Row, &mut Cursor) -> Result<Measured, SyntaxError>>(
+    fn read<F: Fn(Input<'_>, usize, Row, &mut Cursor) -> Result<usize, SyntaxError>>(
         &self,
         grammar: &Grammar<'_, F>,
         cursor: &mut Cursor,
-    ) -> Result<Measured, SyntaxError> {
+    ) -> Result<usize, SyntaxError> {
         let in_head = Context {
             no_in: true,
             in_constructor: false,
@@ -70,12 +70,11 @@ impl<N: ReadsForm + Copy> ReadsForm for StartIn<N> {
     ghost form = { λ s. start_in s.0 (N.form s.1) };
 
     #[tactic(auto, unfolding(es_whole_grammar::specs::Statements::start_in))]
-    fn read<F: Fn(Input<'_>, usize, Row, &mut Cursor) -> Result<Measured, SyntaxError>>(
+    fn read<F: Fn(Input<'_>, usize, Row, &mut Cursor) -> Result<usize, SyntaxError>>(
         &self,
         grammar: &Grammar<'_, F>,
         cursor: &mut Cursor,
-        parts: &mut Parts,
-    ) -> Result<(), SyntaxError> {
+    ) -> Result<usize, SyntaxError> {
         let in_head = Context {
             no_in: true,
             in_constructor: false,
@@ -94,7 +93,7 @@ impl<N: ReadsForm + Copy> ReadsForm for StartIn<N> {
                 ),
             ),
         )
-        .read(grammar, cursor, parts)
+        .read(grammar, cursor)
     }
 }
 
@@ -106,11 +105,11 @@ impl ReadsRule for For {
     ghost rule = { λ s. for_ s.0 };
 
     #[tactic(auto, unfolding(es_whole_grammar::specs::Statements::for_))]
-    fn read<F: Fn(Input<'_>, usize, Row, &mut Cursor) -> Result<Measured, SyntaxError>>(
+    fn read<F: Fn(Input<'_>, usize, Row, &mut Cursor) -> Result<usize, SyntaxError>>(
         &self,
         grammar: &Grammar<'_, F>,
         cursor: &mut Cursor,
-    ) -> Result<Measured, SyntaxError> {
+    ) -> Result<usize, SyntaxError> {
         Make(
             Label::ForStatement,
             Punct(
@@ -153,11 +152,11 @@ impl ReadsRule for ForEach {
     ghost rule = { λ s. for_each s.0 };
 
     #[tactic(auto, unfolding(es_whole_grammar::specs::Statements::for_each))]
-    fn read<F: Fn(Input<'_>, usize, Row, &mut Cursor) -> Result<Measured, SyntaxError>>(
+    fn read<F: Fn(Input<'_>, usize, Row, &mut Cursor) -> Result<usize, SyntaxError>>(
         &self,
         grammar: &Grammar<'_, F>,
         cursor: &mut Cursor,
-    ) -> Result<Measured, SyntaxError> {
+    ) -> Result<usize, SyntaxError> {
         Make(
             Label::ForEachStatement,
             Punct(
@@ -199,11 +198,11 @@ impl ReadsRule for ForAwait {
     ghost rule = { λ s. for_await s.0 };
 
     #[tactic(auto, unfolding(es_whole_grammar::specs::Statements::for_await))]
-    fn read<F: Fn(Input<'_>, usize, Row, &mut Cursor) -> Result<Measured, SyntaxError>>(
+    fn read<F: Fn(Input<'_>, usize, Row, &mut Cursor) -> Result<usize, SyntaxError>>(
         &self,
         grammar: &Grammar<'_, F>,
         cursor: &mut Cursor,
-    ) -> Result<Measured, SyntaxError> {
+    ) -> Result<usize, SyntaxError> {
         Make(
             Label::ForAwaitStatement,
             Punct(

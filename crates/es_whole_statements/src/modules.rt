@@ -11,8 +11,8 @@ use es_whole_members::Ended;
 use es_whole_reader::Ahead::{Has, Is, Other};
 use es_whole_reader::Told::{Guarded, Hint, Taken};
 use es_whole_reader::{
-    Alt, Choose, Cursor, Done, Grammar, Guard, Input, Kinds, Make, Many, Measured, OfRow, Opt,
-    Parts, Pick, Punct, ReadsForm, ReadsRule, Sort, Tok, Where,
+    Alt, Choose, Cursor, Done, Grammar, Guard, Input, Kinds, Make, Many, OfRow, Opt, Pick, Punct,
+    ReadsForm, ReadsRule, Sort, Tok, Where,
 };
 
 /// A word or a string literal, and what stands behind it.
@@ -23,19 +23,18 @@ impl<N: ReadsForm + Copy> ReadsForm for WordOrStrIn<N> {
     ghost form = { λ s. word_or_str_in (N.form s.0) };
 
     #[tactic(auto, unfolding(es_whole_grammar::specs::Embedding::word_or_str_in))]
-    fn read<F: Fn(Input<'_>, usize, Row, &mut Cursor) -> Result<Measured, SyntaxError>>(
+    fn read<F: Fn(Input<'_>, usize, Row, &mut Cursor) -> Result<usize, SyntaxError>>(
         &self,
         grammar: &Grammar<'_, F>,
         cursor: &mut Cursor,
-        parts: &mut Parts,
-    ) -> Result<(), SyntaxError> {
+    ) -> Result<usize, SyntaxError> {
         Alt(
             Is(TokenKind::Str),
             Tok(Sort::Str, Kinds::Only(TokenKind::Str), Done),
             Tok(Sort::Name, Kinds::Word, Done),
             self.0,
         )
-        .read(grammar, cursor, parts)
+        .read(grammar, cursor)
     }
 }
 
@@ -47,12 +46,11 @@ impl<N: ReadsForm + Copy> ReadsForm for NamesIn<N> {
     ghost form = { λ s. names_in s.0 (N.form s.1) };
 
     #[tactic(auto, unfolding(es_whole_grammar::specs::Embedding::names_in))]
-    fn read<F: Fn(Input<'_>, usize, Row, &mut Cursor) -> Result<Measured, SyntaxError>>(
+    fn read<F: Fn(Input<'_>, usize, Row, &mut Cursor) -> Result<usize, SyntaxError>>(
         &self,
         grammar: &Grammar<'_, F>,
         cursor: &mut Cursor,
-        parts: &mut Parts,
-    ) -> Result<(), SyntaxError> {
+    ) -> Result<usize, SyntaxError> {
         Many(
             Hint(Other(TokenKind::CloseBrace)),
             OfRow(
@@ -65,7 +63,7 @@ impl<N: ReadsForm + Copy> ReadsForm for NamesIn<N> {
             ),
             self.1,
         )
-        .read(grammar, cursor, parts)
+        .read(grammar, cursor)
     }
 }
 
@@ -77,11 +75,11 @@ impl ReadsRule for Attributes {
     ghost rule = { λ _. plain_rule attributes };
 
     #[tactic(auto, unfolding(es_grammar::specs::Modules::attributes, es_grammar::specs::Modules::word_or_str_in, es_whole_grammar::specs::Embedding::word_or_str_in))]
-    fn read<F: Fn(Input<'_>, usize, Row, &mut Cursor) -> Result<Measured, SyntaxError>>(
+    fn read<F: Fn(Input<'_>, usize, Row, &mut Cursor) -> Result<usize, SyntaxError>>(
         &self,
         grammar: &Grammar<'_, F>,
         cursor: &mut Cursor,
-    ) -> Result<Measured, SyntaxError> {
+    ) -> Result<usize, SyntaxError> {
         Make(
             Label::Attributes,
             Punct(
@@ -119,18 +117,17 @@ impl ReadsForm for AttributesEnded {
     ghost form = { λ _. plain_form attributes_ended };
 
     #[tactic(auto, unfolding(es_grammar::specs::Modules::attributes_ended))]
-    fn read<F: Fn(Input<'_>, usize, Row, &mut Cursor) -> Result<Measured, SyntaxError>>(
+    fn read<F: Fn(Input<'_>, usize, Row, &mut Cursor) -> Result<usize, SyntaxError>>(
         &self,
         grammar: &Grammar<'_, F>,
         cursor: &mut Cursor,
-        parts: &mut Parts,
-    ) -> Result<(), SyntaxError> {
+    ) -> Result<usize, SyntaxError> {
         Opt(
             Taken(Is(TokenKind::WithWord)),
             OfRow(Row::AttributesRow, Done),
             Ended,
         )
-        .read(grammar, cursor, parts)
+        .read(grammar, cursor)
     }
 }
 
@@ -142,17 +139,16 @@ impl ReadsForm for FromEnded {
     ghost form = { λ _. plain_form from_ended };
 
     #[tactic(auto, unfolding(es_grammar::specs::Modules::from_ended))]
-    fn read<F: Fn(Input<'_>, usize, Row, &mut Cursor) -> Result<Measured, SyntaxError>>(
+    fn read<F: Fn(Input<'_>, usize, Row, &mut Cursor) -> Result<usize, SyntaxError>>(
         &self,
         grammar: &Grammar<'_, F>,
         cursor: &mut Cursor,
-        parts: &mut Parts,
-    ) -> Result<(), SyntaxError> {
+    ) -> Result<usize, SyntaxError> {
         Punct(
             TokenKind::FromWord,
             Tok(Sort::Str, Kinds::Only(TokenKind::Str), AttributesEnded),
         )
-        .read(grammar, cursor, parts)
+        .read(grammar, cursor)
     }
 }
 
@@ -164,18 +160,17 @@ impl<N: ReadsForm + Copy> ReadsForm for TypeWordIn<N> {
     ghost form = { λ s. type_word_in (guard_of s.0) (N.form s.1) };
 
     #[tactic(auto, unfolding(es_whole_grammar::specs::Embedding::type_word_in))]
-    fn read<F: Fn(Input<'_>, usize, Row, &mut Cursor) -> Result<Measured, SyntaxError>>(
+    fn read<F: Fn(Input<'_>, usize, Row, &mut Cursor) -> Result<usize, SyntaxError>>(
         &self,
         grammar: &Grammar<'_, F>,
         cursor: &mut Cursor,
-        parts: &mut Parts,
-    ) -> Result<(), SyntaxError> {
+    ) -> Result<usize, SyntaxError> {
         Opt(
             Guarded(self.0),
             Tok(Sort::There, Kinds::Only(TokenKind::TypeWord), Done),
             self.1,
         )
-        .read(grammar, cursor, parts)
+        .read(grammar, cursor)
     }
 }
 
@@ -187,11 +182,11 @@ impl ReadsRule for ImportSpecifier {
     ghost rule = { λ s. plain_rule (import_specifier s.0) };
 
     #[tactic(auto, unfolding(es_grammar::specs::Modules::import_specifier, es_grammar::specs::Modules::type_word_in, es_whole_grammar::specs::Embedding::type_word_in, es_grammar::specs::Modules::word_or_str_in, es_whole_grammar::specs::Embedding::word_or_str_in))]
-    fn read<F: Fn(Input<'_>, usize, Row, &mut Cursor) -> Result<Measured, SyntaxError>>(
+    fn read<F: Fn(Input<'_>, usize, Row, &mut Cursor) -> Result<usize, SyntaxError>>(
         &self,
         grammar: &Grammar<'_, F>,
         cursor: &mut Cursor,
-    ) -> Result<Measured, SyntaxError> {
+    ) -> Result<usize, SyntaxError> {
         Pick(
             Guard::IsRenamed(self.0),
             Make(
@@ -224,11 +219,11 @@ impl ReadsRule for Named {
     ghost rule = { λ s. plain_rule (named s.0) };
 
     #[tactic(auto, unfolding(es_grammar::specs::Modules::named, es_grammar::specs::Modules::names_in, es_whole_grammar::specs::Embedding::names_in))]
-    fn read<F: Fn(Input<'_>, usize, Row, &mut Cursor) -> Result<Measured, SyntaxError>>(
+    fn read<F: Fn(Input<'_>, usize, Row, &mut Cursor) -> Result<usize, SyntaxError>>(
         &self,
         grammar: &Grammar<'_, F>,
         cursor: &mut Cursor,
-    ) -> Result<Measured, SyntaxError> {
+    ) -> Result<usize, SyntaxError> {
         Choose(
             Is(TokenKind::Star),
             Make(
@@ -258,11 +253,11 @@ impl ReadsRule for Clause {
     ghost rule = { λ s. plain_rule (clause s.0) };
 
     #[tactic(auto, unfolding(es_grammar::specs::Modules::clause))]
-    fn read<F: Fn(Input<'_>, usize, Row, &mut Cursor) -> Result<Measured, SyntaxError>>(
+    fn read<F: Fn(Input<'_>, usize, Row, &mut Cursor) -> Result<usize, SyntaxError>>(
         &self,
         grammar: &Grammar<'_, F>,
         cursor: &mut Cursor,
-    ) -> Result<Measured, SyntaxError> {
+    ) -> Result<usize, SyntaxError> {
         Choose(
             Has(Kinds::Name),
             Pick(
@@ -291,11 +286,11 @@ impl ReadsRule for Entity {
     ghost rule = { λ _. plain_rule entity };
 
     #[tactic(auto, unfolding(es_grammar::specs::Modules::entity))]
-    fn read<F: Fn(Input<'_>, usize, Row, &mut Cursor) -> Result<Measured, SyntaxError>>(
+    fn read<F: Fn(Input<'_>, usize, Row, &mut Cursor) -> Result<usize, SyntaxError>>(
         &self,
         grammar: &Grammar<'_, F>,
         cursor: &mut Cursor,
-    ) -> Result<Measured, SyntaxError> {
+    ) -> Result<usize, SyntaxError> {
         Make(
             Label::Entity,
             Tok(
@@ -320,12 +315,11 @@ impl<N: ReadsForm + Copy> ReadsForm for EqualsIn<N> {
     ghost form = { λ s. equals_in s.0 (N.form s.1) };
 
     #[tactic(auto, unfolding(es_whole_grammar::specs::Embedding::equals_in))]
-    fn read<F: Fn(Input<'_>, usize, Row, &mut Cursor) -> Result<Measured, SyntaxError>>(
+    fn read<F: Fn(Input<'_>, usize, Row, &mut Cursor) -> Result<usize, SyntaxError>>(
         &self,
         grammar: &Grammar<'_, F>,
         cursor: &mut Cursor,
-        parts: &mut Parts,
-    ) -> Result<(), SyntaxError> {
+    ) -> Result<usize, SyntaxError> {
         Punct(
             TokenKind::ImportWord,
             TypeWordIn(
@@ -333,7 +327,7 @@ impl<N: ReadsForm + Copy> ReadsForm for EqualsIn<N> {
                 Tok(Sort::Name, Kinds::Name, Punct(TokenKind::Equal, self.1)),
             ),
         )
-        .read(grammar, cursor, parts)
+        .read(grammar, cursor)
     }
 }
 
@@ -345,12 +339,11 @@ impl ReadsForm for Required {
     ghost form = { λ _. plain_form required };
 
     #[tactic(auto, unfolding(es_grammar::specs::Modules::required))]
-    fn read<F: Fn(Input<'_>, usize, Row, &mut Cursor) -> Result<Measured, SyntaxError>>(
+    fn read<F: Fn(Input<'_>, usize, Row, &mut Cursor) -> Result<usize, SyntaxError>>(
         &self,
         grammar: &Grammar<'_, F>,
         cursor: &mut Cursor,
-        parts: &mut Parts,
-    ) -> Result<(), SyntaxError> {
+    ) -> Result<usize, SyntaxError> {
         Punct(
             TokenKind::RequireWord,
             Punct(
@@ -362,7 +355,7 @@ impl ReadsForm for Required {
                 ),
             ),
         )
-        .read(grammar, cursor, parts)
+        .read(grammar, cursor)
     }
 }
 
@@ -374,11 +367,11 @@ impl ReadsRule for Import {
     ghost rule = { λ s. plain_rule (import_ s.0) };
 
     #[tactic(auto, unfolding(es_grammar::specs::Modules::import_, es_grammar::specs::Modules::equals_in, es_whole_grammar::specs::Embedding::equals_in, es_grammar::specs::Modules::type_word_in, es_whole_grammar::specs::Embedding::type_word_in))]
-    fn read<F: Fn(Input<'_>, usize, Row, &mut Cursor) -> Result<Measured, SyntaxError>>(
+    fn read<F: Fn(Input<'_>, usize, Row, &mut Cursor) -> Result<usize, SyntaxError>>(
         &self,
         grammar: &Grammar<'_, F>,
         cursor: &mut Cursor,
-    ) -> Result<Measured, SyntaxError> {
+    ) -> Result<usize, SyntaxError> {
         Pick(
             Guard::OpensEquals(self.0),
             Pick(
@@ -422,11 +415,11 @@ impl ReadsRule for ExportSpecifier {
     ghost rule = { λ s. plain_rule (export_specifier s.0) };
 
     #[tactic(auto, unfolding(es_grammar::specs::Modules::export_specifier, es_grammar::specs::Modules::type_word_in, es_whole_grammar::specs::Embedding::type_word_in, es_grammar::specs::Modules::word_or_str_in, es_whole_grammar::specs::Embedding::word_or_str_in))]
-    fn read<F: Fn(Input<'_>, usize, Row, &mut Cursor) -> Result<Measured, SyntaxError>>(
+    fn read<F: Fn(Input<'_>, usize, Row, &mut Cursor) -> Result<usize, SyntaxError>>(
         &self,
         grammar: &Grammar<'_, F>,
         cursor: &mut Cursor,
-    ) -> Result<Measured, SyntaxError> {
+    ) -> Result<usize, SyntaxError> {
         Make(
             Label::ExportedName,
             Where(
@@ -453,11 +446,11 @@ impl ReadsRule for Export {
     ghost rule = { λ s. plain_rule (export_ s.0) };
 
     #[tactic(auto, unfolding(es_grammar::specs::Modules::export_, es_grammar::specs::Modules::equals_in, es_whole_grammar::specs::Embedding::equals_in, es_grammar::specs::Modules::type_word_in, es_whole_grammar::specs::Embedding::type_word_in, es_grammar::specs::Modules::word_or_str_in, es_whole_grammar::specs::Embedding::word_or_str_in, es_grammar::specs::Modules::names_in, es_whole_grammar::specs::Embedding::names_in))]
-    fn read<F: Fn(Input<'_>, usize, Row, &mut Cursor) -> Result<Measured, SyntaxError>>(
+    fn read<F: Fn(Input<'_>, usize, Row, &mut Cursor) -> Result<usize, SyntaxError>>(
         &self,
         grammar: &Grammar<'_, F>,
         cursor: &mut Cursor,
-    ) -> Result<Measured, SyntaxError> {
+    ) -> Result<usize, SyntaxError> {
         Pick(
             Guard::OpensExportedEquals(self.0),
             Pick(

@@ -15,8 +15,8 @@ use es_whole_members::{Ended, ExpressionEnded};
 use es_whole_reader::Ahead::Is;
 use es_whole_reader::Told::{Hint, Taken};
 use es_whole_reader::{
-    Ahead, Alt, Choose, Cursor, Done, Grammar, Guard, Input, Kinds, Make, MakeBy, Many, Measured,
-    OfRow, Opt, Parts, Pick, Punct, ReadsForm, ReadsRule, Sort, Tok, When, Where,
+    Ahead, Alt, Choose, Cursor, Done, Grammar, Guard, Input, Kinds, Make, MakeBy, Many, OfRow, Opt,
+    Pick, Punct, ReadsForm, ReadsRule, Sort, Tok, When, Where,
 };
 
 /// (~ Name)? END
@@ -27,18 +27,17 @@ impl ReadsForm for LabelEnded {
     ghost form = { λ _. plain_form label_ended };
 
     #[tactic(auto, unfolding(es_grammar::specs::Statements::label_ended))]
-    fn read<F: Fn(Input<'_>, usize, Row, &mut Cursor) -> Result<Measured, SyntaxError>>(
+    fn read<F: Fn(Input<'_>, usize, Row, &mut Cursor) -> Result<usize, SyntaxError>>(
         &self,
         grammar: &Grammar<'_, F>,
         cursor: &mut Cursor,
-        parts: &mut Parts,
-    ) -> Result<(), SyntaxError> {
+    ) -> Result<usize, SyntaxError> {
         Opt(
             Taken(Ahead::LabelHere),
             When(Ahead::Near, Tok(Sort::Name, Kinds::Name, Done)),
             Ended,
         )
-        .read(grammar, cursor, parts)
+        .read(grammar, cursor)
     }
 }
 
@@ -50,11 +49,11 @@ impl ReadsRule for Return {
     ghost rule = { λ s. return_ s.0 s.1 };
 
     #[tactic(auto, unfolding(es_whole_grammar::specs::Statements::return_))]
-    fn read<F: Fn(Input<'_>, usize, Row, &mut Cursor) -> Result<Measured, SyntaxError>>(
+    fn read<F: Fn(Input<'_>, usize, Row, &mut Cursor) -> Result<usize, SyntaxError>>(
         &self,
         grammar: &Grammar<'_, F>,
         cursor: &mut Cursor,
-    ) -> Result<Measured, SyntaxError> {
+    ) -> Result<usize, SyntaxError> {
         Make(
             Label::ReturnStatement,
             Punct(
@@ -82,12 +81,11 @@ impl ReadsForm for CaseIn {
     ghost form = { λ s. case_in s.0 s.1 };
 
     #[tactic(auto, unfolding(es_whole_grammar::specs::Statements::case_in))]
-    fn read<F: Fn(Input<'_>, usize, Row, &mut Cursor) -> Result<Measured, SyntaxError>>(
+    fn read<F: Fn(Input<'_>, usize, Row, &mut Cursor) -> Result<usize, SyntaxError>>(
         &self,
         grammar: &Grammar<'_, F>,
         cursor: &mut Cursor,
-        parts: &mut Parts,
-    ) -> Result<(), SyntaxError> {
+    ) -> Result<usize, SyntaxError> {
         Alt(
             Is(TokenKind::CaseWord),
             Punct(
@@ -104,7 +102,7 @@ impl ReadsForm for CaseIn {
                 ),
             ),
         )
-        .read(grammar, cursor, parts)
+        .read(grammar, cursor)
     }
 }
 
@@ -116,11 +114,11 @@ impl ReadsRule for Switch {
     ghost rule = { λ s. switch_ s.0 s.1 };
 
     #[tactic(auto, unfolding(es_whole_grammar::specs::Statements::switch_))]
-    fn read<F: Fn(Input<'_>, usize, Row, &mut Cursor) -> Result<Measured, SyntaxError>>(
+    fn read<F: Fn(Input<'_>, usize, Row, &mut Cursor) -> Result<usize, SyntaxError>>(
         &self,
         grammar: &Grammar<'_, F>,
         cursor: &mut Cursor,
-    ) -> Result<Measured, SyntaxError> {
+    ) -> Result<usize, SyntaxError> {
         Make(
             Label::SwitchStatement,
             Punct(
@@ -150,15 +148,12 @@ impl ReadsForm for FinallyIn {
     ghost form = { λ s. finally_in s.0 };
 
     #[tactic(auto, unfolding(es_whole_grammar::specs::Statements::finally_in))]
-    fn read<F: Fn(Input<'_>, usize, Row, &mut Cursor) -> Result<Measured, SyntaxError>>(
+    fn read<F: Fn(Input<'_>, usize, Row, &mut Cursor) -> Result<usize, SyntaxError>>(
         &self,
         grammar: &Grammar<'_, F>,
         cursor: &mut Cursor,
-        parts: &mut Parts,
-    ) -> Result<(), SyntaxError> {
-        Punct(TokenKind::FinallyWord, OfRow(Row::BlockRow(self.0), Done)).read(
-            grammar, cursor, parts,
-        )
+    ) -> Result<usize, SyntaxError> {
+        Punct(TokenKind::FinallyWord, OfRow(Row::BlockRow(self.0), Done)).read(grammar, cursor)
     }
 }
 
@@ -170,11 +165,11 @@ impl ReadsRule for Try {
     ghost rule = { λ s. try_ s.0 s.1 };
 
     #[tactic(auto, unfolding(es_whole_grammar::specs::Statements::try_))]
-    fn read<F: Fn(Input<'_>, usize, Row, &mut Cursor) -> Result<Measured, SyntaxError>>(
+    fn read<F: Fn(Input<'_>, usize, Row, &mut Cursor) -> Result<usize, SyntaxError>>(
         &self,
         grammar: &Grammar<'_, F>,
         cursor: &mut Cursor,
-    ) -> Result<Measured, SyntaxError> {
+    ) -> Result<usize, SyntaxError> {
         MakeBy(
             self.0,
             Label::TryStatement,
@@ -220,11 +215,11 @@ impl ReadsRule for ExpressionStatement {
     ghost rule = { λ s. expression_statement s.0 };
 
     #[tactic(auto, unfolding(es_whole_grammar::specs::Statements::expression_statement))]
-    fn read<F: Fn(Input<'_>, usize, Row, &mut Cursor) -> Result<Measured, SyntaxError>>(
+    fn read<F: Fn(Input<'_>, usize, Row, &mut Cursor) -> Result<usize, SyntaxError>>(
         &self,
         grammar: &Grammar<'_, F>,
         cursor: &mut Cursor,
-    ) -> Result<Measured, SyntaxError> {
+    ) -> Result<usize, SyntaxError> {
         Make(
             Label::ExpressionStatement,
             When(
@@ -244,11 +239,11 @@ impl<A: ReadsRule + Copy> ReadsRule for KeywordStatement<A> {
     ghost rule = { λ s. keyword_statement s.0 s.1 (A.rule s.2) };
 
     #[tactic(auto, unfolding(es_whole_grammar::specs::Statements::keyword_statement))]
-    fn read<F: Fn(Input<'_>, usize, Row, &mut Cursor) -> Result<Measured, SyntaxError>>(
+    fn read<F: Fn(Input<'_>, usize, Row, &mut Cursor) -> Result<usize, SyntaxError>>(
         &self,
         grammar: &Grammar<'_, F>,
         cursor: &mut Cursor,
-    ) -> Result<Measured, SyntaxError> {
+    ) -> Result<usize, SyntaxError> {
         Choose(
             Is(TokenKind::IfWord),
             Make(
@@ -393,11 +388,11 @@ impl ReadsRule for Statement {
     ghost rule = { λ s. statement s.0 s.1 };
 
     #[tactic(auto, unfolding(es_whole_grammar::specs::Declarations::statement, es_whole_grammar::specs::Statements::other_statement))]
-    fn read<F: Fn(Input<'_>, usize, Row, &mut Cursor) -> Result<Measured, SyntaxError>>(
+    fn read<F: Fn(Input<'_>, usize, Row, &mut Cursor) -> Result<usize, SyntaxError>>(
         &self,
         grammar: &Grammar<'_, F>,
         cursor: &mut Cursor,
-    ) -> Result<Measured, SyntaxError> {
+    ) -> Result<usize, SyntaxError> {
         Choose(
             Is(TokenKind::OpenBrace),
             Block(self.1),

@@ -12,8 +12,8 @@ use es_whole_members::{DefaultIn, Ended};
 use es_whole_reader::Ahead::{Is, Other};
 use es_whole_reader::Told::{Hint, Taken};
 use es_whole_reader::{
-    Ahead, Alt, Choose, Cursor, Done, Grammar, Guard, Input, Kinds, Make, Many, Measured, OfRow,
-    Opt, Parts, Pick, Punct, ReadsForm, ReadsRule, Sort, Tok, When,
+    Ahead, Alt, Choose, Cursor, Done, Grammar, Guard, Input, Kinds, Make, Many, OfRow, Opt, Pick,
+    Punct, ReadsForm, ReadsRule, Sort, Tok, When,
 };
 
 /// '{' TMember* '}'
@@ -24,12 +24,11 @@ impl ReadsForm for TypeMembers {
     ghost form = { λ _. type_members };
 
     #[tactic(auto, unfolding(es_whole_grammar::specs::Declarations::type_members))]
-    fn read<F: Fn(Input<'_>, usize, Row, &mut Cursor) -> Result<Measured, SyntaxError>>(
+    fn read<F: Fn(Input<'_>, usize, Row, &mut Cursor) -> Result<usize, SyntaxError>>(
         &self,
         grammar: &Grammar<'_, F>,
         cursor: &mut Cursor,
-        parts: &mut Parts,
-    ) -> Result<(), SyntaxError> {
+    ) -> Result<usize, SyntaxError> {
         Punct(
             TokenKind::OpenBrace,
             Many(
@@ -38,7 +37,7 @@ impl ReadsForm for TypeMembers {
                 Punct(TokenKind::CloseBrace, Done),
             ),
         )
-        .read(grammar, cursor, parts)
+        .read(grammar, cursor)
     }
 }
 
@@ -50,12 +49,11 @@ impl ReadsForm for ItemsIn {
     ghost form = { λ s. items_in s.0 };
 
     #[tactic(auto, unfolding(es_whole_grammar::specs::Declarations::items_in))]
-    fn read<F: Fn(Input<'_>, usize, Row, &mut Cursor) -> Result<Measured, SyntaxError>>(
+    fn read<F: Fn(Input<'_>, usize, Row, &mut Cursor) -> Result<usize, SyntaxError>>(
         &self,
         grammar: &Grammar<'_, F>,
         cursor: &mut Cursor,
-        parts: &mut Parts,
-    ) -> Result<(), SyntaxError> {
+    ) -> Result<usize, SyntaxError> {
         Punct(
             TokenKind::OpenBrace,
             Many(
@@ -64,7 +62,7 @@ impl ReadsForm for ItemsIn {
                 Punct(TokenKind::CloseBrace, Done),
             ),
         )
-        .read(grammar, cursor, parts)
+        .read(grammar, cursor)
     }
 }
 
@@ -76,11 +74,11 @@ impl ReadsRule for Interface {
     ghost rule = { λ s. interface };
 
     #[tactic(auto, unfolding(es_whole_grammar::specs::Declarations::interface))]
-    fn read<F: Fn(Input<'_>, usize, Row, &mut Cursor) -> Result<Measured, SyntaxError>>(
+    fn read<F: Fn(Input<'_>, usize, Row, &mut Cursor) -> Result<usize, SyntaxError>>(
         &self,
         grammar: &Grammar<'_, F>,
         cursor: &mut Cursor,
-    ) -> Result<Measured, SyntaxError> {
+    ) -> Result<usize, SyntaxError> {
         Make(
             Label::InterfaceDeclaration,
             Punct(
@@ -111,11 +109,11 @@ impl ReadsRule for Alias {
     ghost rule = { λ s. alias };
 
     #[tactic(auto, unfolding(es_whole_grammar::specs::Declarations::alias))]
-    fn read<F: Fn(Input<'_>, usize, Row, &mut Cursor) -> Result<Measured, SyntaxError>>(
+    fn read<F: Fn(Input<'_>, usize, Row, &mut Cursor) -> Result<usize, SyntaxError>>(
         &self,
         grammar: &Grammar<'_, F>,
         cursor: &mut Cursor,
-    ) -> Result<Measured, SyntaxError> {
+    ) -> Result<usize, SyntaxError> {
         Make(
             Label::AliasDeclaration,
             Punct(
@@ -145,11 +143,11 @@ impl ReadsRule for Enum {
     ghost rule = { λ s. enum_ s.0 };
 
     #[tactic(auto, unfolding(es_whole_grammar::specs::Declarations::enum_))]
-    fn read<F: Fn(Input<'_>, usize, Row, &mut Cursor) -> Result<Measured, SyntaxError>>(
+    fn read<F: Fn(Input<'_>, usize, Row, &mut Cursor) -> Result<usize, SyntaxError>>(
         &self,
         grammar: &Grammar<'_, F>,
         cursor: &mut Cursor,
-    ) -> Result<Measured, SyntaxError> {
+    ) -> Result<usize, SyntaxError> {
         let outside = Context {
             no_in: false,
             no_colon: false,
@@ -195,11 +193,11 @@ impl ReadsRule for Namespace {
     ghost rule = { λ s. namespace s.0 };
 
     #[tactic(auto, unfolding(es_whole_grammar::specs::Declarations::namespace))]
-    fn read<F: Fn(Input<'_>, usize, Row, &mut Cursor) -> Result<Measured, SyntaxError>>(
+    fn read<F: Fn(Input<'_>, usize, Row, &mut Cursor) -> Result<usize, SyntaxError>>(
         &self,
         grammar: &Grammar<'_, F>,
         cursor: &mut Cursor,
-    ) -> Result<Measured, SyntaxError> {
+    ) -> Result<usize, SyntaxError> {
         Make(
             Label::NamespaceDeclaration,
             Tok(
@@ -220,11 +218,11 @@ impl ReadsRule for ModuleNamespace {
     ghost rule = { λ s. module_namespace s.0 };
 
     #[tactic(auto, unfolding(es_whole_grammar::specs::Declarations::module_namespace))]
-    fn read<F: Fn(Input<'_>, usize, Row, &mut Cursor) -> Result<Measured, SyntaxError>>(
+    fn read<F: Fn(Input<'_>, usize, Row, &mut Cursor) -> Result<usize, SyntaxError>>(
         &self,
         grammar: &Grammar<'_, F>,
         cursor: &mut Cursor,
-    ) -> Result<Measured, SyntaxError> {
+    ) -> Result<usize, SyntaxError> {
         Make(
             Label::ModuleDeclaration,
             Punct(
@@ -253,11 +251,11 @@ impl ReadsRule for Global {
     ghost rule = { λ s. global s.0 };
 
     #[tactic(auto, unfolding(es_whole_grammar::specs::Declarations::global))]
-    fn read<F: Fn(Input<'_>, usize, Row, &mut Cursor) -> Result<Measured, SyntaxError>>(
+    fn read<F: Fn(Input<'_>, usize, Row, &mut Cursor) -> Result<usize, SyntaxError>>(
         &self,
         grammar: &Grammar<'_, F>,
         cursor: &mut Cursor,
-    ) -> Result<Measured, SyntaxError> {
+    ) -> Result<usize, SyntaxError> {
         Make(
             Label::GlobalDeclaration,
             Punct(TokenKind::GlobalWord, ItemsIn(self.0)),
@@ -274,11 +272,11 @@ impl<A: ReadsRule + Copy> ReadsRule for TypedDeclaration<A> {
     ghost rule = { λ s. typed_declaration s.0 (A.rule s.1) };
 
     #[tactic(auto, unfolding(es_whole_grammar::specs::Declarations::typed_declaration))]
-    fn read<F: Fn(Input<'_>, usize, Row, &mut Cursor) -> Result<Measured, SyntaxError>>(
+    fn read<F: Fn(Input<'_>, usize, Row, &mut Cursor) -> Result<usize, SyntaxError>>(
         &self,
         grammar: &Grammar<'_, F>,
         cursor: &mut Cursor,
-    ) -> Result<Measured, SyntaxError> {
+    ) -> Result<usize, SyntaxError> {
         Pick(
             Guard::OpensInterface,
             Interface,
@@ -308,11 +306,11 @@ impl ReadsRule for Declared {
     ghost rule = { λ s. declared s.0 };
 
     #[tactic(auto, unfolding(es_whole_grammar::specs::Declarations::declared))]
-    fn read<F: Fn(Input<'_>, usize, Row, &mut Cursor) -> Result<Measured, SyntaxError>>(
+    fn read<F: Fn(Input<'_>, usize, Row, &mut Cursor) -> Result<usize, SyntaxError>>(
         &self,
         grammar: &Grammar<'_, F>,
         cursor: &mut Cursor,
-    ) -> Result<Measured, SyntaxError> {
+    ) -> Result<usize, SyntaxError> {
         let lang = Lang::Typescript;
         Pick(
             Guard::OpensEnum,
@@ -343,11 +341,11 @@ impl ReadsRule for Declare {
     ghost rule = { λ s. declare s.0 };
 
     #[tactic(auto, unfolding(es_whole_grammar::specs::Declarations::declare))]
-    fn read<F: Fn(Input<'_>, usize, Row, &mut Cursor) -> Result<Measured, SyntaxError>>(
+    fn read<F: Fn(Input<'_>, usize, Row, &mut Cursor) -> Result<usize, SyntaxError>>(
         &self,
         grammar: &Grammar<'_, F>,
         cursor: &mut Cursor,
-    ) -> Result<Measured, SyntaxError> {
+    ) -> Result<usize, SyntaxError> {
         Pick(
             Guard::DeclaresVariables,
             Make(

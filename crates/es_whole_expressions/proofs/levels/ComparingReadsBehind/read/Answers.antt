@@ -7,7 +7,7 @@ use Rattle.es_whole_expressions.proofs.levels.ComparingReadsBehind.read.Goals as
 -- no operator of these levels stands here, and no private name first
 pub returns-then-not-sees : goal.returns-then-not-sees
 returns-then-not-sees g c =
-    λ a read. comparing_absent (keys_of c.args.grammar.now.input.tokens.tokens.now)
+    λ a base there read. comparing_absent (keys_of c.args.grammar.now.input.tokens.tokens.now)
     (row_at c.args.grammar.now.input.lang (keys_of c.args.grammar.now.input.tokens.tokens.now) c.args.grammar.now.room)
-    c.args.from c.args.cursor.now.at c.args.operand c.args.self.now.0 c.args.self.now.1 a
+    c.args.from.token base c.args.cursor.now c.args.operand c.args.self.now.0 c.args.self.now.1 a
     (sym c.if-not-opens_comparing.ensures) (sym c.if-not-sees.ensures) read

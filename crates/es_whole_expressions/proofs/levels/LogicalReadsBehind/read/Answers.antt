@@ -7,6 +7,7 @@ use Rattle.es_whole_expressions.proofs.levels.LogicalReadsBehind.read.Goals as g
 -- no operator of these levels stands here
 pub returns-then-not-opens_logical : goal.returns-then-not-opens_logical
 returns-then-not-opens_logical g c =
-    λ a read. logical_absent (keys_of c.args.grammar.now.input.tokens.tokens.now)
+    λ a base there read. logical_absent (keys_of c.args.grammar.now.input.tokens.tokens.now)
     (row_at c.args.grammar.now.input.lang (keys_of c.args.grammar.now.input.tokens.tokens.now) c.args.grammar.now.room)
-    c.args.from c.args.cursor.now.at c.args.operand c.args.self.now.0 a (sym c.if-not-opens_logical.ensures) read
+    c.args.from.token base c.args.cursor.now c.args.operand c.args.self.now.0 a (sym c.if-not-opens_logical.ensures)
+    read

@@ -1,25 +1,37 @@
-use Rattle.std.proofs.Common.{sym}
+use Rattle.std.proofs.Common.{refl, sym, ◌∙◌}
 use Rattle.es_tree.specs.Key.{keys_of}
-use Rattle.es_whole_reader.specs.Bounded.{row_at}
+use Rattle.es_whole_reader.specs.Bounded.{rule_at, row_at}
 use Rattle.es_token.specs.declared.token.TokenKind.TheVariants as k
 use Rattle.es_tree.specs.Key.{is}
 use Rattle.es_tree.specs.Form.{choose}
 use Rattle.es_whole_grammar.specs.Expressions.{private_in}
+use Rattle.es_whole_expressions.specs.Levels.{related}
 use Rattle.es_whole_expressions.proofs.Absent.{other_chosen, private_chosen}
+use Rattle.es_whole_expressions.proofs.Same.{read_as, read_keeps, back_there}
 use Rattle.es_whole_expressions.proofs.levels.RelatedReadsBehind.read.Goals as goal
 
--- a private name stands first
+-- a private name stands first: what was read of it is taken away
 pub returns-then-sees : goal.returns-then-sees
 returns-then-sees g c =
-    λ a read. private_chosen (keys_of c.args.grammar.now.input.tokens.tokens.now)
+    λ a base there read. private_chosen (keys_of c.args.grammar.now.input.tokens.tokens.now)
     (row_at c.args.grammar.now.input.lang (keys_of c.args.grammar.now.input.tokens.tokens.now) c.args.grammar.now.room)
-    c.args.from c.read.new.cursor.at c.read.result c.args.self.now.0 c.args.self.now.1
-    (private_in c.args.self.now.1) a (sym c.if-sees.ensures) c.read.ensures
+    c.args.from.token base c.read.new.cursor c.read.result c.args.self.now.0 c.args.self.now.1
+    (private_in c.args.self.now.1) a (sym c.if-sees.ensures)
+    (read_as (keys_of c.args.grammar.now.input.tokens.tokens.now)
+    (row_at c.args.grammar.now.input.lang (keys_of c.args.grammar.now.input.tokens.tokens.now) c.args.grammar.now.room)
+    c.back_to.new.self.at c.args.from.token c.back_to.new.self.row base c.read.new.cursor c.read.result
+    (related c.args.self.now.0 c.args.self.now.1 (private_in c.args.self.now.1))
+    (related c.args.self.now.0 c.args.self.now.1 (private_in c.args.self.now.1)) c.back_to.ensures.token
+    (c.back_to.ensures.row ∙ back_there c.args.from.entry base c.args.cursor.now.row there
+    (read_keeps (rule_at (keys_of c.args.grammar.now.input.tokens.tokens.now)
+    (row_at c.args.grammar.now.input.lang (keys_of c.args.grammar.now.input.tokens.tokens.now) c.args.grammar.now.room)
+    a c.args.from.token) base c.args.cursor.now c.args.operand read)) refl c.read.ensures)
 
 -- another operand does
 pub returns : goal.returns
 returns g c =
-    λ a read. c.read-2.ensures (choose (is k.PrivateName) (private_in c.args.self.now.1) a)
+    λ a base there read. c.read-2.ensures (choose (is k.PrivateName) (private_in c.args.self.now.1) a) base there
     (other_chosen (keys_of c.args.grammar.now.input.tokens.tokens.now)
     (row_at c.args.grammar.now.input.lang (keys_of c.args.grammar.now.input.tokens.tokens.now) c.args.grammar.now.room)
-    c.args.from c.args.cursor.now.at c.args.operand (private_in c.args.self.now.1) a (sym c.if-sees.ensures) read)
+    c.args.from.token base c.args.cursor.now c.args.operand (private_in c.args.self.now.1) a (sym c.if-sees.ensures)
+    read)

@@ -2,14 +2,16 @@ use Rattle.es_tree.specs.Key.{keys_of}
 use Rattle.es_whole_reader.specs.Bounded.{row_at}
 use Rattle.es_whole_grammar.specs.Expressions.{power, shift}
 use Rattle.es_whole_expressions.specs.Levels.{arithmetic_over, shift_over}
-use Rattle.es_whole_expressions.proofs.Same.{shift_same, read_as}
+use Rattle.es_whole_expressions.proofs.Same.{shift_same, read_behind}
 use Rattle.es_whole_expressions.proofs.operators.ShiftReadsRule.read.Goals as goal
 
 pub returns : goal.returns
 returns g c =
-    read_as (keys_of c.args.grammar.now.input.tokens.tokens.now)
+    read_behind (keys_of c.args.grammar.now.input.tokens.tokens.now)
     (row_at c.args.grammar.now.input.lang (keys_of c.args.grammar.now.input.tokens.tokens.now) c.args.grammar.now.room)
-    c.args.cursor.now.at c.read.new.cursor.at c.read.result
+    c.here-from.result c.args.cursor.now.at c.args.cursor.now.row c.read-operand.new.cursor c.read.new.cursor
+    c.read-operand.result c.read.result (power c.args.self.now.0 c.args.self.now.1)
     (shift_over c.args.self.now.1 (arithmetic_over c.args.self.now.1 (power c.args.self.now.0 c.args.self.now.1)))
-    (shift c.args.self.now.0 c.args.self.now.1) (shift_same c.args.self.now.0 c.args.self.now.1)
-    (c.read.ensures (power c.args.self.now.0 c.args.self.now.1) c.read-operand.ensures)
+    (shift c.args.self.now.0 c.args.self.now.1) c.here-from.ensures.token c.here-from.ensures.entry
+    (shift_same c.args.self.now.0 c.args.self.now.1)
+    (c.read.ensures (power c.args.self.now.0 c.args.self.now.1)) c.read-operand.ensures
