@@ -1,10 +1,11 @@
 //! What the plain tree of one text is, in a line.
 
 use es_lexer::{LexError, lex_tokens};
+use es_syntax::{Item, Lean, Row, What};
 use es_token::Token;
 use es_tree::{Lang, Mode, SyntaxError};
+use es_whole_grammar::Label;
 use es_whole_program::read_program;
-use es_whole_tree::Tree;
 use std::alloc::{AllocError, Global};
 
 /// The tree of a text behind its mode, or why it has none.
@@ -29,41 +30,107 @@ fn program_line(alloc: Global, mode: Mode, text: &str) -> Result<String, AllocEr
 fn tokens_line(alloc: Global, mode: Mode, tokens: &[Token]) -> Result<String, AllocError> {
     let mut line = String::new(alloc);
     match read_program(alloc, Lang::Es, mode, tokens) {
-        Ok(tree) => push_tree(alloc, &mut line, &tree)?,
+        Ok(row) => push_trees(
+            alloc,
+            &mut line,
+            &Row {
+                entries: row.as_slice(),
+            },
+        )?,
         Err(SyntaxError::Syntax { token: _ }) => line.push_str("Syntax")?,
         Err(SyntaxError::OutOfMemory) => return Err(AllocError),
     }
     Ok(line)
 }
 
+/// The trees of a row, one after another.
+#[cycle(lines)]
+fn push_trees(alloc: Global, line: &mut String, trees: &Row<'_>) -> Result<(), AllocError> {
+    let mut row = *trees;
+    while let Some((tree, rest)) = row.split() {
+        push_tree(alloc, line, &tree)?;
+        row = rest;
+    }
+    Ok(())
+}
+
 /// A node: the alternative that was read, its first token and the one behind its last, its nodes. A role around a node.
 #[cycle(lines)]
-fn push_tree(alloc: Global, line: &mut String, tree: &Tree) -> Result<(), AllocError> {
-    match tree {
-        Tree::Leaf { at: _ } => Ok(()),
-        Tree::Node {
-            label,
-            from,
-            to,
-            parts,
-        } => {
-            line.push_str(format!(in alloc; "({label:?} {from}-{to}")?.as_str())?;
-            push_trees(alloc, line, parts.as_slice())?;
+fn push_tree(alloc: Global, line: &mut String, tree: &Item<'_>) -> Result<(), AllocError> {
+    match tree.what {
+        What::Leaf => Ok(()),
+        What::Node(label) => {
+            push_head(alloc, line, label, tree.from, tree.to)?;
+            push_trees(alloc, line, &tree.parts)?;
             line.push_str(")")
         }
-        Tree::Role { label, tree } => {
+        What::Role(label) => {
             line.push_str(format!(in alloc; "({label:?} ")?.as_str())?;
-            push_tree(alloc, line, tree.get())?;
+            push_trees(alloc, line, &tree.parts)?;
             line.push_str(")")
         }
-        Tree::Parts(parts) => push_trees(alloc, line, parts.as_slice()),
+        What::Parts => push_trees(alloc, line, &tree.parts),
+        What::Lean(lean) => push_leaning(alloc, line, label_of(lean), tree.from, &tree.parts),
     }
 }
 
+/// Nodes that lean left: the heads of all of them, the first operand, and the parts of each turn with the end of its node.
 #[cycle(lines)]
-fn push_trees(alloc: Global, line: &mut String, trees: &[Tree]) -> Result<(), AllocError> {
-    for tree in trees {
-        push_tree(alloc, line, tree)?;
+fn push_leaning(
+    alloc: Global,
+    line: &mut String,
+    label: Label,
+    from: u32,
+    parts: &Row<'_>,
+) -> Result<(), AllocError> {
+    let Some((first, turns)) = parts.split() else {
+        return Ok(());
+    };
+    push_heads(alloc, line, label, from, &turns)?;
+    push_tree(alloc, line, &first)?;
+    let mut row = turns;
+    while let Some((turn, rest)) = row.split() {
+        push_trees(alloc, line, &turn.parts)?;
+        line.push_str(")")?;
+        row = rest;
     }
     Ok(())
+}
+
+/// The heads of the nodes that lean left over these turns: the outermost, which ends with the last turn, comes first.
+fn push_heads(
+    alloc: Global,
+    line: &mut String,
+    label: Label,
+    from: u32,
+    turns: &Row<'_>,
+) -> Result<(), AllocError> {
+    let mut ends: Vec<u32> = Vec::new(alloc);
+    let mut row = *turns;
+    while let Some((turn, rest)) = row.split() {
+        ends.push(turn.to)?;
+        row = rest;
+    }
+    ends.reverse();
+    for end in ends {
+        push_head(alloc, line, label, from, end)?;
+    }
+    Ok(())
+}
+
+fn push_head(
+    alloc: Global,
+    line: &mut String,
+    label: Label,
+    from: u32,
+    to: u32,
+) -> Result<(), AllocError> {
+    line.push_str(format!(in alloc; "({label:?} {from}-{to}")?.as_str())
+}
+
+fn label_of(lean: Lean) -> Label {
+    match lean {
+        Lean::Binary => Label::Binary,
+        Lean::TypedBinary => Label::TypedBinary,
+    }
 }

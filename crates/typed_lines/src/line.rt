@@ -1,10 +1,10 @@
 //! Where the nodes of one text stand, in a line.
 
 use es_lexer::{LexError, lex_tokens};
+use es_syntax::{Item, Row, What};
 use es_token::Token;
 use es_tree::{Lang, Mode, SyntaxError};
 use es_whole_program::read_program;
-use es_whole_tree::Tree;
 use std::alloc::{AllocError, Global};
 
 /// The nodes of the text behind its mode, or why it has no tree.
@@ -42,44 +42,71 @@ fn program_line(alloc: Global, mode: Mode, text: &str) -> Result<String, AllocEr
 fn nodes_of(alloc: Global, mode: Mode, tokens: &[Token]) -> Result<Option<String>, AllocError> {
     let mut line = String::new(alloc);
     match read_program(alloc, Lang::Typescript, mode, tokens) {
-        Ok(tree) => push_tree(alloc, &mut line, &tree)?,
+        Ok(row) => push_trees(
+            alloc,
+            &mut line,
+            &Row {
+                entries: row.as_slice(),
+            },
+        )?,
         Err(SyntaxError::Syntax { token: _ }) => return Ok(None),
         Err(SyntaxError::OutOfMemory) => return Err(AllocError),
     }
     Ok(Some(line))
 }
 
-/// A node that takes a token: its first one and the one behind its last, before the nodes in it.
+/// The nodes of the trees of a row.
 #[cycle(lines)]
-fn push_tree(alloc: Global, line: &mut String, tree: &Tree) -> Result<(), AllocError> {
-    match tree {
-        Tree::Leaf { at: _ } => Ok(()),
-        Tree::Node {
-            label: _,
-            from,
-            to,
-            parts,
-        } => {
-            if from < to {
-                push_range(alloc, line, *from, *to)?;
-            }
-            push_trees(alloc, line, parts.as_slice())
-        }
-        Tree::Role { label: _, tree } => push_tree(alloc, line, tree.get()),
-        Tree::Parts(parts) => push_trees(alloc, line, parts.as_slice()),
-    }
-}
-
-#[cycle(lines)]
-fn push_trees(alloc: Global, line: &mut String, trees: &[Tree]) -> Result<(), AllocError> {
-    for tree in trees {
-        push_tree(alloc, line, tree)?;
+fn push_trees(alloc: Global, line: &mut String, trees: &Row<'_>) -> Result<(), AllocError> {
+    let mut row = *trees;
+    while let Some((tree, rest)) = row.split() {
+        push_tree(alloc, line, &tree)?;
+        row = rest;
     }
     Ok(())
 }
 
-/// A range, behind a blank where one stands before it.
-fn push_range(alloc: Global, line: &mut String, from: usize, to: usize) -> Result<(), AllocError> {
+/// A node that takes a token: its first one and the one behind its last, before the nodes in it.
+#[cycle(lines)]
+fn push_tree(alloc: Global, line: &mut String, tree: &Item<'_>) -> Result<(), AllocError> {
+    match tree.what {
+        What::Node(_) => push_range(alloc, line, tree.from, tree.to)?,
+        What::Lean(_) => push_leaning(alloc, line, tree.from, &tree.parts)?,
+        What::Leaf => {}
+        What::Role(_) => {}
+        What::Parts => {}
+    }
+    push_trees(alloc, line, &tree.parts)
+}
+
+/// Nodes that lean left over a first operand and turns: the outermost, which ends with the last turn, comes first.
+fn push_leaning(
+    alloc: Global,
+    line: &mut String,
+    from: u32,
+    parts: &Row<'_>,
+) -> Result<(), AllocError> {
+    let Some((_, turns)) = parts.split() else {
+        return Ok(());
+    };
+    let mut ends: Vec<u32> = Vec::new(alloc);
+    let mut row = turns;
+    while let Some((turn, rest)) = row.split() {
+        ends.push(turn.to)?;
+        row = rest;
+    }
+    ends.reverse();
+    for end in ends {
+        push_range(alloc, line, from, end)?;
+    }
+    Ok(())
+}
+
+/// A range that has a token, behind a blank where one stands before it.
+fn push_range(alloc: Global, line: &mut String, from: u32, to: u32) -> Result<(), AllocError> {
+    if to <= from {
+        return Ok(());
+    }
     if !line.is_empty() {
         line.push_str(" ")?;
     }
