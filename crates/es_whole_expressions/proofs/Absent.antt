@@ -50,10 +50,13 @@ module _ (K : List Key) (below : Below) (from : ℕ) (base : List Entry) (new : 
 
       alone : (r : Result ℕ SyntaxError) → IsRead (rule_at K below a from) base new r
           → IsRead (rule_at K below (wrap l a c f) from) base new r
-      alone (Ok h) read =
-          (read.0, read.1, then_gives (rule_at K below a from) behind_at (single read.0 h) new.at
-          (gives (single read.0 h) new.at) read.2
-          (no_turns K l (test c) (form_at K below f) from (length K) (single read.0 h) new.at none))
+      alone (Ok h) read = (
+        read.0,
+        read.1,
+        then_gives (rule_at K below a from) behind_at (single read.0 h) new.at
+            (gives (single read.0 h) new.at) read.2
+            (no_turns K l (test c) (form_at K below f) from (length K) (single read.0 h) new.at none),
+      )
       alone (Err e) read = (read.0, λ memory. ap (λ o. and_then o behind_at) (read.1 memory))
 
   level_absent : (may : TokenKind → Bool) (q : Row) (a : Rule Row Label) → has_kind may (seen K new.at) ≡ false
@@ -95,7 +98,7 @@ module _ (K : List Key) (below : Below) (from : ℕ) (base : List Entry) (new : 
   related_absent : (l : Lang) (c : Context) (a : Rule Row Label) → has_kind is_comparing (seen K new.at) ≡ false
       → IsReadBy a → IsReadBy (related l c a)
   related_absent lang.Es c a none read =
-      wrap_absent Binary a (guarded (opens_comparison lang.Es c)) (comparison_in c) 
+      wrap_absent Binary a (guarded (opens_comparison lang.Es c)) (comparison_in c)
       (no_comparison K new.at lang.Es c none) read
   related_absent lang.Typescript c a none read =
       wrap_absent TypedBinary a (guarded (opens_comparison lang.Typescript c)) (asserted_or (comparison_in c))

@@ -12,6 +12,7 @@ use es_token::TokenKind;
 use std::alloc::Global;
 
 /// Whether the token at this place is of one of these kinds.
+#[inline(always)]
 pub fn is_kind(tokens: &Tokens<'_>, named: Kinds, at: usize) -> bool
     ensures { result ≡ has_kind (kinds_of named) (seen (keys_of tokens.now.tokens.now) at) }
 {
@@ -19,6 +20,7 @@ pub fn is_kind(tokens: &Tokens<'_>, named: Kinds, at: usize) -> bool
 }
 
 /// Whether the test holds at this place: those that are asked most first.
+#[inline(always)]
 pub fn sees_ahead(tokens: &Tokens<'_>, ahead: Ahead, at: usize) -> bool
     ensures { result ≡ look_of ahead (seen (keys_of tokens.now.tokens.now) at) }
 {
@@ -30,6 +32,7 @@ pub fn sees_ahead(tokens: &Tokens<'_>, ahead: Ahead, at: usize) -> bool
 }
 
 /// Whether the test holds at this place.
+#[inline(always)]
 fn sees_other(tokens: &Tokens<'_>, ahead: Ahead, at: usize) -> bool
     ensures { result ≡ look_of ahead (seen (keys_of tokens.now.tokens.now) at) }
 {
@@ -63,6 +66,7 @@ fn sees_other(tokens: &Tokens<'_>, ahead: Ahead, at: usize) -> bool
 
 /// Whether the guard holds at this place.
 #[tactic(auto, unfolding(es_whole_grammar::specs::Expressions::opens_typed_template, es_whole_grammar::specs::Expressions::may_await, es_whole_grammar::specs::Expressions::may_test, es_whole_grammar::specs::Expressions::is_module, es_whole_grammar::specs::Statements::is_script))]
+#[inline(always)]
 pub fn holds(tokens: &Tokens<'_>, alloc: Global, guard: Guard, at: usize) -> bool
     ensures { result ≡ guard_of guard (keys_of tokens.now.tokens.now) at }
 {

@@ -31,6 +31,7 @@ pub fn is(kind: TokenKind, next: Option<Seen>) -> bool
 
 /// The next token is of one of these kinds.
 #[tactic(auto, unfolding(es_guards::specs::Sight::sight))]
+#[inline(always)]
 pub fn has(kinds: Kinds, next: Option<Seen>) -> bool
     ensures { result ≡ has_kind (kinds_of kinds) (sight next) }
 {

@@ -43,6 +43,7 @@ pub struct Turns<P>(pub Label, pub Told, pub P);
 impl<P: ReadsForm> ReadsBehind for Turns<P> {
     ghost over = { λ s a. wrap s.0 a (told_of s.1) (P.form s.2) };
 
+    #[inline(always)]
     fn read<F: Fn(Input<'_>, usize, Row, &mut Cursor) -> Result<usize, SyntaxError>>(
         &self,
         from: Place,
@@ -62,6 +63,7 @@ pub struct Both<A, B>(pub A, pub B);
 impl<A: ReadsBehind, B: ReadsBehind> ReadsBehind for Both<A, B> {
     ghost over = { λ s a. B.over s.1 (A.over s.0 a) };
 
+    #[inline(always)]
     fn read<F: Fn(Input<'_>, usize, Row, &mut Cursor) -> Result<usize, SyntaxError>>(
         &self,
         from: Place,

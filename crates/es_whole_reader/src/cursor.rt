@@ -45,6 +45,7 @@ pub struct Place {
 
 impl Cursor {
     /// Where the next node begins.
+    #[inline(always)]
     pub fn here(&self) -> Place
         ensures token { result.token ≡ self.now.at }
         ensures entry { result.entry ≡ length self.now.row }
@@ -75,6 +76,7 @@ pub struct Grammar<'a, F> {
 
 impl<F: Fn(Input<'_>, usize, Row, &mut Cursor) -> Result<usize, SyntaxError>> Grammar<'_, F> {
     /// A row.
+    #[inline(always)]
     pub fn row(&self, row: Row, cursor: &mut Cursor) -> Result<usize, SyntaxError>
         requires { IsRing self.now.input self.now.room (F.pre self.now.read) (F.post self.now.read) }
         ensures { IsRead (row_at self.now.input.lang (keys_of self.now.input.tokens.tokens.now) self.now.room row cursor.old.at) cursor.old.row cursor.new result }
@@ -84,6 +86,7 @@ impl<F: Fn(Input<'_>, usize, Row, &mut Cursor) -> Result<usize, SyntaxError>> Gr
 }
 
 /// Takes the next token, which is of this kind.
+#[inline(always)]
 pub fn expect(tokens: &Tokens<'_>, kind: TokenKind, cursor: &mut Cursor) -> Result<(), SyntaxError>
     ensures seen { OnOk result (is kind (seen (keys_of tokens.now.tokens.now) cursor.old.at) ≡ true) }
     ensures taken { OnOk result (cursor.new.at ≡ cursor.old.at + 1) }
@@ -99,6 +102,7 @@ pub fn expect(tokens: &Tokens<'_>, kind: TokenKind, cursor: &mut Cursor) -> Resu
 }
 
 /// Takes the next token, which is of one of these kinds.
+#[inline(always)]
 pub fn take(tokens: &Tokens<'_>, kinds: Kinds, cursor: &mut Cursor) -> Result<(), SyntaxError>
     ensures seen { OnOk result (has_kind (kinds_of kinds) (seen (keys_of tokens.now.tokens.now) cursor.old.at) ≡ true) }
     ensures taken { OnOk result (cursor.new.at ≡ cursor.old.at + 1) }
@@ -116,6 +120,7 @@ pub fn take(tokens: &Tokens<'_>, kinds: Kinds, cursor: &mut Cursor) -> Result<()
 }
 
 /// The number of a token in 32 bits; a greater one is answered as want of memory.
+#[inline(always)]
 pub fn number(at: usize) -> Result<u32, AllocError>
     ensures { IfOk result (λ n. n ≡ at) }
 {
@@ -126,6 +131,7 @@ pub fn number(at: usize) -> Result<u32, AllocError>
 }
 
 /// Writes a token that is kept.
+#[inline(always)]
 pub fn leaf(row: &mut Writer, at: usize) -> Result<(), AllocError>
     ensures written { OnOk result (row.new ≡ row.old ++ headed vWhat.Leaf at (at + 1) []) }
     ensures kept { OnErr result (row.new ≡ row.old) }
@@ -138,6 +144,7 @@ pub fn leaf(row: &mut Writer, at: usize) -> Result<(), AllocError>
 }
 
 /// The greater of two numbers of nodes.
+#[inline(always)]
 pub fn highest(one: usize, other: usize) -> usize
     ensures { result ≡ max one other }
 {
@@ -145,6 +152,7 @@ pub fn highest(one: usize, other: usize) -> usize
 }
 
 /// The most nodes on a path of a part, and of those behind it.
+#[inline(always)]
 pub fn higher(part: usize, rest: Result<usize, SyntaxError>) -> Result<usize, SyntaxError>
     ensures { result ≡ higher_of part rest }
 {
@@ -156,6 +164,7 @@ pub fn higher(part: usize, rest: Result<usize, SyntaxError>) -> Result<usize, Sy
 
 /// The most nodes on a path of a node, by that of its parts, where no path of it has too many.
 #[tactic(auto, unfolding(es_tree::specs::Fits::most_nodes))]
+#[inline(always)]
 pub fn counted(parts: usize, cursor: &Cursor) -> Result<usize, SyntaxError>
     ensures counted { IfOk result (λ n. (n ≡ suc parts) × (leb (suc parts) most_nodes ≡ true)) }
     ensures many { OnErr result (leb (suc parts) most_nodes ≡ false) }

@@ -34,6 +34,7 @@ pub trait ReadsForm {
 }
 
 /// The parts of a form, as one part.
+#[inline(always)]
 fn group<P: ReadsForm, F: Fn(Input<'_>, usize, Row, &mut Cursor) -> Result<usize, SyntaxError>>(
     part: &P,
     grammar: &Grammar<'_, F>,
@@ -49,6 +50,7 @@ fn group<P: ReadsForm, F: Fn(Input<'_>, usize, Row, &mut Cursor) -> Result<usize
 }
 
 /// A part that may be absent.
+#[inline(always)]
 fn optional<P: ReadsForm, F: Fn(Input<'_>, usize, Row, &mut Cursor) -> Result<usize, SyntaxError>>(
     told: Told,
     part: &P,
@@ -67,6 +69,7 @@ fn optional<P: ReadsForm, F: Fn(Input<'_>, usize, Row, &mut Cursor) -> Result<us
 }
 
 /// A part by either of two forms.
+#[inline(always)]
 fn alternative<
     A: ReadsForm,
     B: ReadsForm,
@@ -122,6 +125,7 @@ pub struct Done;
 impl ReadsForm for Done {
     ghost form = { λ _. done };
 
+    #[inline(always)]
     fn read<F: Fn(Input<'_>, usize, Row, &mut Cursor) -> Result<usize, SyntaxError>>(
         &self,
         _grammar: &Grammar<'_, F>,
@@ -138,6 +142,7 @@ pub struct Tok<N>(pub Sort, pub Kinds, pub N);
 impl<N: ReadsForm> ReadsForm for Tok<N> {
     ghost form = { λ s. tok (sort_of s.0) (kinds_of s.1) (N.form s.2) };
 
+    #[inline(always)]
     fn read<F: Fn(Input<'_>, usize, Row, &mut Cursor) -> Result<usize, SyntaxError>>(
         &self,
         grammar: &Grammar<'_, F>,
@@ -157,6 +162,7 @@ pub struct Punct<N>(pub TokenKind, pub N);
 impl<N: ReadsForm> ReadsForm for Punct<N> {
     ghost form = { λ s. punct s.0 (N.form s.1) };
 
+    #[inline(always)]
     fn read<F: Fn(Input<'_>, usize, Row, &mut Cursor) -> Result<usize, SyntaxError>>(
         &self,
         grammar: &Grammar<'_, F>,
@@ -174,6 +180,7 @@ pub struct OfRow<N>(pub Row, pub N);
 impl<N: ReadsForm> ReadsForm for OfRow<N> {
     ghost form = { λ s. row s.0 (N.form s.1) };
 
+    #[inline(always)]
     fn read<F: Fn(Input<'_>, usize, Row, &mut Cursor) -> Result<usize, SyntaxError>>(
         &self,
         grammar: &Grammar<'_, F>,
@@ -191,6 +198,7 @@ pub struct Opt<P, N>(pub Told, pub P, pub N);
 impl<P: ReadsForm, N: ReadsForm> ReadsForm for Opt<P, N> {
     ghost form = { λ s. opt (told_of s.0) (P.form s.1) (N.form s.2) };
 
+    #[inline(always)]
     fn read<F: Fn(Input<'_>, usize, Row, &mut Cursor) -> Result<usize, SyntaxError>>(
         &self,
         grammar: &Grammar<'_, F>,
@@ -208,6 +216,7 @@ pub struct Many<P, N>(pub Told, pub P, pub N);
 impl<P: ReadsForm, N: ReadsForm> ReadsForm for Many<P, N> {
     ghost form = { λ s. many (told_of s.0) (P.form s.1) (N.form s.2) };
 
+    #[inline(always)]
     fn read<F: Fn(Input<'_>, usize, Row, &mut Cursor) -> Result<usize, SyntaxError>>(
         &self,
         grammar: &Grammar<'_, F>,
@@ -225,6 +234,7 @@ pub struct Alt<A, B, N>(pub Ahead, pub A, pub B, pub N);
 impl<A: ReadsForm, B: ReadsForm, N: ReadsForm> ReadsForm for Alt<A, B, N> {
     ghost form = { λ s. alt (look_of s.0) (A.form s.1) (B.form s.2) (N.form s.3) };
 
+    #[inline(always)]
     fn read<F: Fn(Input<'_>, usize, Row, &mut Cursor) -> Result<usize, SyntaxError>>(
         &self,
         grammar: &Grammar<'_, F>,
@@ -242,6 +252,7 @@ pub struct When<N>(pub Ahead, pub N);
 impl<N: ReadsForm> ReadsForm for When<N> {
     ghost form = { λ s. when_ (look_of s.0) (N.form s.1) };
 
+    #[inline(always)]
     fn read<F: Fn(Input<'_>, usize, Row, &mut Cursor) -> Result<usize, SyntaxError>>(
         &self,
         grammar: &Grammar<'_, F>,
@@ -261,6 +272,7 @@ pub struct Where<N>(pub Guard, pub N);
 impl<N: ReadsForm> ReadsForm for Where<N> {
     ghost form = { λ s. where_ (guard_of s.0) (N.form s.1) };
 
+    #[inline(always)]
     fn read<F: Fn(Input<'_>, usize, Row, &mut Cursor) -> Result<usize, SyntaxError>>(
         &self,
         grammar: &Grammar<'_, F>,

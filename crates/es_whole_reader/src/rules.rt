@@ -37,6 +37,7 @@ pub trait ReadsRule {
 }
 
 /// A node with these parts.
+#[inline(always)]
 fn made<P: ReadsForm, F: Fn(Input<'_>, usize, Row, &mut Cursor) -> Result<usize, SyntaxError>>(
     label: Label,
     parts: &P,
@@ -63,6 +64,7 @@ pub struct Refuse;
 impl ReadsRule for Refuse {
     ghost rule = { λ _. refuse };
 
+    #[inline(always)]
     fn read<F: Fn(Input<'_>, usize, Row, &mut Cursor) -> Result<usize, SyntaxError>>(
         &self,
         _grammar: &Grammar<'_, F>,
@@ -79,6 +81,7 @@ pub struct Make<P>(pub Label, pub P);
 impl<P: ReadsForm> ReadsRule for Make<P> {
     ghost rule = { λ s. make s.0 (P.form s.1) };
 
+    #[inline(always)]
     fn read<F: Fn(Input<'_>, usize, Row, &mut Cursor) -> Result<usize, SyntaxError>>(
         &self,
         grammar: &Grammar<'_, F>,
@@ -89,6 +92,7 @@ impl<P: ReadsForm> ReadsRule for Make<P> {
 }
 
 /// The label of a node by the language.
+#[inline(always)]
 fn label_by(lang: Lang, plain: Label, typed: Label) -> Label
     ensures { result ≡ label_by lang plain typed }
 {
@@ -105,6 +109,7 @@ pub struct MakeBy<P>(pub Lang, pub Label, pub Label, pub P);
 impl<P: ReadsForm> ReadsRule for MakeBy<P> {
     ghost rule = { λ s. make (label_by s.0 s.1 s.2) (P.form s.3) };
 
+    #[inline(always)]
     fn read<F: Fn(Input<'_>, usize, Row, &mut Cursor) -> Result<usize, SyntaxError>>(
         &self,
         grammar: &Grammar<'_, F>,
@@ -121,6 +126,7 @@ pub struct Choose<A, B>(pub Ahead, pub A, pub B);
 impl<A: ReadsRule, B: ReadsRule> ReadsRule for Choose<A, B> {
     ghost rule = { λ s. choose (look_of s.0) (A.rule s.1) (B.rule s.2) };
 
+    #[inline(always)]
     fn read<F: Fn(Input<'_>, usize, Row, &mut Cursor) -> Result<usize, SyntaxError>>(
         &self,
         grammar: &Grammar<'_, F>,
@@ -140,6 +146,7 @@ pub struct Pick<A, B>(pub Guard, pub A, pub B);
 impl<A: ReadsRule, B: ReadsRule> ReadsRule for Pick<A, B> {
     ghost rule = { λ s. pick (guard_of s.0) (A.rule s.1) (B.rule s.2) };
 
+    #[inline(always)]
     fn read<F: Fn(Input<'_>, usize, Row, &mut Cursor) -> Result<usize, SyntaxError>>(
         &self,
         grammar: &Grammar<'_, F>,
@@ -164,6 +171,7 @@ pub struct As<A>(pub Label, pub A);
 impl<A: ReadsRule> ReadsRule for As<A> {
     ghost rule = { λ s. as_ s.0 (A.rule s.1) };
 
+    #[inline(always)]
     fn read<F: Fn(Input<'_>, usize, Row, &mut Cursor) -> Result<usize, SyntaxError>>(
         &self,
         grammar: &Grammar<'_, F>,
@@ -183,6 +191,7 @@ pub struct Wrap<A, P>(pub Label, pub A, pub Told, pub P);
 impl<A: ReadsRule, P: ReadsForm> ReadsRule for Wrap<A, P> {
     ghost rule = { λ s. wrap s.0 (A.rule s.1) (told_of s.2) (P.form s.3) };
 
+    #[inline(always)]
     fn read<F: Fn(Input<'_>, usize, Row, &mut Cursor) -> Result<usize, SyntaxError>>(
         &self,
         grammar: &Grammar<'_, F>,

@@ -36,6 +36,7 @@ pub enum Told {
 
 impl Told {
     /// Whether the part is there.
+    #[inline(always)]
     pub fn is_there(self, input: &Input<'_>, at: usize) -> bool
         ensures { result ≡ test (told_of self) (keys_of input.now.tokens.tokens.now) at }
     {

@@ -19,6 +19,7 @@ use es_tree::SyntaxError;
 use es_whole_grammar::{Label, Row};
 
 /// The alternatives that lean left: a chain of them is one entry.
+#[inline(always)]
 fn lean_of(label: Label) -> Option<Lean>
     ensures { IfSome result (λ lean. label_of lean ≡ label) }
 {
@@ -128,6 +129,7 @@ fn leans<P: ReadsForm, F: Fn(Input<'_>, usize, Row, &mut Cursor) -> Result<usize
 }
 
 /// The turns behind an operand that was read from a place on: no more than there are tokens.
+#[inline(always)]
 pub fn wraps<P: ReadsForm, F: Fn(Input<'_>, usize, Row, &mut Cursor) -> Result<usize, SyntaxError>>(
     label: Label,
     told: Told,
