@@ -1,7 +1,6 @@
 -- What each form of a tree of types is as one of programs, from what its parts are.
-use Rattle.std.specs.Prelude.{List, [], ◌∷◌, ◌++◌, map}
-use Rattle.std.proofs.Common.{◌≡◌, ℕ, ◌+◌, ◌<◌, length, take, get_or, refl, sym, ap, ◌∙◌}
-use Rattle.std.proofs.lemmas.List.{take_more}
+use Rattle.std.specs.Prelude.{List, [], ◌∷◌, map}
+use Rattle.std.proofs.Common.{◌≡◌, ℕ, refl, sym, ap, ◌∙◌}
 use Rattle.es_type_reader.specs.declared.rows.Label.{Label as TypeName}
 use Rattle.es_type_reader.specs.declared.tree.Tree.{Tree as TypeTree, roll-Tree, map-Tree}
 use Rattle.es_type_reader.specs.declared.tree.Tree.TheVariants as vTree
@@ -32,13 +31,3 @@ named_node label from to parts =
 pub named_parts : (parts : List TypeTree) → named (vTree.Parts parts) ≡ tree.Parts (map named parts)
 named_parts parts =
     ap named (sym (vTree.rolls-Parts parts)) ∙ named_at (Tree-F.Parts parts) ∙ ap tree.Parts (seconds_of parts)
-
--- ---- lists of trees, tree by tree
-map_push : (ts : List TypeTree) (t : TypeTree) → map named (ts ++ t ∷ []) ≡ map named ts ++ named t ∷ []
-map_push [] t = refl
-map_push (s ∷ ts) t = ap (λ rest. named s ∷ rest) (map_push ts t)
-
--- one more
-pub named_more : (ts : List TypeTree) (i : ℕ) (d : TypeTree) → i < length ts
-    → map named (take (i + 1) ts) ≡ map named (take i ts) ++ named (get_or ts i d) ∷ []
-named_more ts i d within = ap (map named) (take_more ts i d within) ∙ map_push (take i ts) (get_or ts i d)

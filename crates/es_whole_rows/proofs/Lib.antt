@@ -1,3 +1,5 @@
 mod Equations
+mod Forests
+mod Refused
 mod Roles
 pub mod NamedLemmas

@@ -26,10 +26,9 @@ use Rattle.es_whole_grammar.specs.Embedding.{mapped_form, types_rule}
 use Rattle.es_whole_grammar.specs.Table.{rule}
 use Rattle.es_whole_tree.specs.declared.tree.Tree.{Tree}
 use Rattle.es_whole_tree.specs.declared.tree.Tree.TheVariants.{Node}
-use Rattle.es_whole_reader.specs.declared.cursor.Measured.{Measured}
 use Rattle.es_whole_tree.specs.Slim.{Kept, one, several, tree_in, parts_in}
 use Rattle.es_whole_reader.specs.Bounded.{Read, makes, node_at, form_at, wraps_at, rule_at, row_at}
-use Rattle.es_whole_reader.specs.Steps.{IsRead}
+use Rattle.es_whole_reader.specs.Steps.{single}
 use Rattle.es_whole_rows.specs.Named.{named}
 use Rattle.es_whole_rows.proofs.Equations.{named_leaf, named_node, named_parts}
 use Rattle.es_whole_rows.proofs.Roles.{has_no_role, no_roles}
@@ -361,13 +360,11 @@ module _ (l : Lang) (K : List Key) (room : ℕ) (r : TypeRow) (at to : ℕ) wher
       (no_roles (row_of_types r)) at
 
   -- a tree
-  pub types_ok : (x : TypeMeasured) (tree : Tree) (y : Measured)
+  pub types_ok : (x : TypeMeasured)
       → IsTypeRead true (type_rule_at true K (type_row_at true K room) (type_rule (row_of_types r)) at) (Ok x) to
-      → tree ≡ named x.tree → y.tree ≡ tree → y.height ≡ x.height
-      → IsRead (rule_at K (row_at l K room) (types_rule (type_rule (row_of_types r))) at) (Ok y) to
-  types_ok x tree y read same is height =
-      rule_here ∙ ap named_out read ∙ ap (λ t. gives (single_read t x.height) to) (sym (is ∙ same))
-      ∙ ap (λ h. gives (single_read y.tree h) to) (sym height)
+      → rule_at K (row_at l K room) (types_rule (type_rule (row_of_types r))) at
+      ≡ gives (single (named x.tree) x.height) to
+  types_ok x read = rule_here ∙ ap named_out read
 
   -- none
   pub types_err : (e : SyntaxError)

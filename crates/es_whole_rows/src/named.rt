@@ -1,15 +1,17 @@
-//! Trees of types, as trees of the table of programs.
+//! Trees of types, written as trees of the table of programs.
 
-ghost use Rattle.std.specs.Prelude.{◌≡◌, map, IfOk};
+ghost use Rattle.std.specs.Prelude.{◌≡◌, ◌+◌, [], ◌++◌, IfOk, OnOk, OnErr};
 ghost use Rattle.es_type_reader.specs.Names.{label_of};
+ghost use Rattle.es_syntax.specs.declared.entry.What.TheVariants as vWhat;
+ghost use Rattle.es_syntax.specs.Forest.{entries_of, Keeps};
+ghost use Rattle.es_syntax.specs.Written.{headed};
 ghost use Rattle.es_whole_grammar.specs.TypeNames.{label_name};
-ghost use Rattle.es_whole_rows.specs.Named.{named};
+ghost use Rattle.es_whole_rows.specs.Named.{forest_of, forests_of};
 
-use base::Items;
+use es_syntax::{What, Writer};
 use es_type_reader as types;
 use es_whole_grammar::Label;
-use es_whole_tree::Tree;
-use std::alloc::{AllocError, Global};
+use std::alloc::AllocError;
 
 /// The alternative of types, by the name that the table of programs gives it.
 fn label_of_types(label: types::Label) -> Label
@@ -75,44 +77,68 @@ fn label_of_types(label: types::Label) -> Label
     }
 }
 
-/// The tree, with its alternatives named as in the table of programs.
-#[tactic(auto, using(crate::proofs::Equations::named_leaf, crate::proofs::Equations::named_node, crate::proofs::Equations::named_parts))]
+/// The number of a token in 32 bits; a greater one is answered as want of memory.
+fn number(at: usize) -> Result<u32, AllocError>
+    ensures { IfOk result (λ n. n ≡ at) }
+{
+    match u32::try_from(at) {
+        Ok(n) => Ok(n),
+        Err(_) => Err(AllocError),
+    }
+}
+
+/// Writes a token that is kept.
+fn write_leaf(row: &mut Writer, at: usize) -> Result<(), AllocError>
+    ensures written { OnOk result (row.new ≡ row.old ++ headed vWhat.Leaf at (at + 1) []) }
+    ensures kept { OnErr result (row.new ≡ row.old) }
+{
+    let from = number(at)?;
+    let to = match from.checked_add(1) {
+        Some(to) => to,
+        None => return Err(AllocError),
+    };
+    row.leaf(What::Leaf, from, to)
+}
+
+/// Writes the tree, with its alternatives named as in the table of programs. It goes down as deep as nodes stand in one
+/// another.
 #[cycle(named)]
-pub fn named(alloc: Global, tree: &types::Tree) -> Result<Tree, AllocError>
-    ensures { IfOk result (λ it. it ≡ named tree.now) }
+#[tactic(auto, using(crate::proofs::Forests::entries_leaf, crate::proofs::Forests::entries_node, crate::proofs::Forests::entries_parts, crate::proofs::Forests::keeps_same, crate::proofs::Forests::keeps_opened, es_syntax::proofs::Written::closed_at))]
+pub fn write_named(row: &mut Writer, tree: &types::Tree) -> Result<(), AllocError>
+    ensures written { OnOk result (row.new ≡ row.old ++ entries_of (forest_of tree.now)) }
+    ensures kept { OnErr result (Keeps row.old row.new) }
 {
     match tree {
-        types::Tree::Leaf { at } => Ok(Tree::Leaf { at: *at }),
+        types::Tree::Leaf { at } => write_leaf(row, *at),
         types::Tree::Node {
             label,
             from,
             to,
             parts,
         } => {
-            let parts = named_all(alloc, parts.as_slice())?;
-            Ok(Tree::Node {
-                label: label_of_types(*label),
-                from: *from,
-                to: *to,
-                parts,
-            })
+            let from = number(*from)?;
+            let to = number(*to)?;
+            let at = row.open()?;
+            write_all(row, parts.as_slice())?;
+            row.close(at, What::Node(label_of_types(*label)), from, to)
         }
         types::Tree::Parts(parts) => {
-            let parts = named_all(alloc, parts.as_slice())?;
-            Ok(Tree::Parts(parts))
+            let at = row.open()?;
+            write_all(row, parts.as_slice())?;
+            row.close(at, What::Parts, 0, 0)
         }
     }
 }
 
-/// All these trees.
+/// Writes all these trees, one behind the other.
 #[cycle(named)]
-fn named_all(alloc: Global, trees: &[types::Tree]) -> Result<Items<Tree>, AllocError>
-    ensures { IfOk result (λ all. all ≡ map named trees.now) }
+#[tactic(auto, using(crate::proofs::Forests::entries_none, crate::proofs::Forests::entries_more, crate::proofs::Forests::entries_all, crate::proofs::Forests::keeps_same, crate::proofs::Forests::keeps_more))]
+fn write_all(row: &mut Writer, trees: &[types::Tree]) -> Result<(), AllocError>
+    ensures written { OnOk result (row.new ≡ row.old ++ entries_of (forests_of trees.now)) }
+    ensures kept { OnErr result (Keeps row.old row.new) }
 {
-    let mut all = Items::new(alloc);
     for tree in trees {
-        let one = named(alloc, tree)?;
-        all.push(one)?;
+        write_named(row, tree)?;
     }
-    Ok(all)
+    Ok(())
 }

@@ -8,7 +8,7 @@ ghost use Rattle.es_whole_grammar.specs.Table.{rule};
 ghost use Rattle.es_whole_reader.specs.Bounded.{row_at};
 ghost use Rattle.es_whole_reader.specs.Steps.{IsRead};
 
-use crate::named::named;
+use crate::named::write_named;
 use crate::types::{read_rule, row_of_types};
 use es_tree::{Lang, SyntaxError};
 use es_type_reader as types;
@@ -22,7 +22,7 @@ use es_whole_members::{
     InnerPattern, Key, Member, Parameter, Parameters, Pattern, PatternElement, PatternProperty,
     Property, Signature,
 };
-use es_whole_reader::{Cursor, Grammar, Input, Measured, ReadsRule, Refuse};
+use es_whole_reader::{Cursor, Grammar, Input, ReadsRule, Refuse};
 use es_whole_statements::{
     Attributes, Block, Clause, Declaration, Declarator, Declared, Entity, ExportSpecifier, Head,
     ImportSpecifier, Item, Module, Named, Script, Statement, Using, Variables,
@@ -35,11 +35,11 @@ pub struct OfTypes(pub TypeRow);
 impl ReadsRule for OfTypes {
     ghost rule = { λ s. types_rule (type_rule (row_of_types s.0)) };
 
-    fn read<F: Fn(Input<'_>, usize, Row, &mut Cursor) -> Result<Measured, SyntaxError>>(
+    fn read<F: Fn(Input<'_>, usize, Row, &mut Cursor) -> Result<usize, SyntaxError>>(
         &self,
         grammar: &Grammar<'_, F>,
         cursor: &mut Cursor,
-    ) -> Result<Measured, SyntaxError> {
+    ) -> Result<usize, SyntaxError> {
         let input = types::Input {
             alloc: grammar.input.alloc,
             tokens: grammar.input.tokens,
@@ -47,12 +47,9 @@ impl ReadsRule for OfTypes {
         };
         let mut place = types::Cursor { at: cursor.at };
         let part = read_rule(input, grammar.room, row_of_types(self.0), &mut place)?;
+        write_named(&mut cursor.row, &part.tree)?;
         cursor.at = place.at;
-        let tree = named(grammar.input.alloc, &part.tree)?;
-        Ok(Measured {
-            tree,
-            height: part.height,
-        })
+        Ok(part.height)
     }
 }
 
@@ -64,11 +61,11 @@ impl ReadsRule for RuleOf {
     ghost rule = { λ s. rule s.0 s.1 };
 
     #[tactic(auto, unfolding(es_whole_grammar::specs::Table::rule))]
-    fn read<F: Fn(Input<'_>, usize, Row, &mut Cursor) -> Result<Measured, SyntaxError>>(
+    fn read<F: Fn(Input<'_>, usize, Row, &mut Cursor) -> Result<usize, SyntaxError>>(
         &self,
         grammar: &Grammar<'_, F>,
         cursor: &mut Cursor,
-    ) -> Result<Measured, SyntaxError> {
+    ) -> Result<usize, SyntaxError> {
         match self.1 {
             Row::ModuleRow => Module.read(grammar, cursor),
             Row::ScriptRow => Script.read(grammar, cursor),
@@ -143,8 +140,8 @@ pub fn read_row(
     room: usize,
     row: Row,
     cursor: &mut Cursor,
-) -> Result<Measured, SyntaxError>
-    ensures { IsRead (row_at input.entry.lang (keys_of input.entry.tokens.tokens.now) room row cursor.old.at) result cursor.new.at }
+) -> Result<usize, SyntaxError>
+    ensures { IsRead (row_at input.entry.lang (keys_of input.entry.tokens.tokens.now) room row cursor.old.at) cursor.old.row cursor.new result }
 {
     if room == 0 {
         return Err(SyntaxError::Syntax { token: cursor.at });

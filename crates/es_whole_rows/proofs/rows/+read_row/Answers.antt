@@ -5,23 +5,24 @@ use Rattle.es_tree.specs.declared.error.SyntaxError.{SyntaxError}
 use Rattle.es_tree.specs.Key.{Key, keys_of}
 use Rattle.es_whole_grammar.specs.declared.rows.Row.{Row}
 use Rattle.es_whole_grammar.specs.Table.{rule}
-use Rattle.es_whole_reader.specs.declared.cursor.Measured.{Measured}
+use Rattle.es_syntax.specs.declared.entry.Entry.{Entry}
+use Rattle.es_whole_reader.specs.declared.cursor.Cursor.{Cursor}
 use Rattle.es_whole_reader.specs.Bounded.{rule_at, row_at}
 use Rattle.es_whole_reader.specs.Steps.{IsRead}
 use Rattle.es_whole_rows.proofs.rows.+read_row.Goals as goal
 
 -- a row is read by its rule, with room for one row less below it
-row_below : (l : Lang) (K : List Key) (room : ℕ) (r : Row) (at : ℕ) (answer : Result Measured SyntaxError) (to : ℕ)
-    → (room ≡ 0 → ⊥)
-    → IsRead (rule_at K (row_at l K (room - 1)) (rule l r) at) answer to → IsRead (row_at l K room r at) answer to
+row_below : (l : Lang) (K : List Key) (room : ℕ) (r : Row) (at : ℕ) (base : List Entry) (new : Cursor)
+    (answer : Result ℕ SyntaxError) → (room ≡ 0 → ⊥)
+    → IsRead (rule_at K (row_at l K (room - 1)) (rule l r) at) base new answer
+    → IsRead (row_at l K room r at) base new answer
 unfolding row_at
-row_below l K zero r at answer to ne read = absurd (ne refl)
-row_below l K (suc n) r at answer to ne read =
+row_below l K zero r at base new answer ne read = absurd (ne refl)
+row_below l K (suc n) r at base new answer ne read =
     let e : suc n - 1 ≡ n = omega arith in
-    subst (λ room. IsRead (rule_at K (row_at l K room) (rule l r) at) answer to) e read
+    subst (λ room. IsRead (rule_at K (row_at l K room) (rule l r) at) base new answer) e read
 
 pub returns : goal.returns
 returns t c =
     row_below c.args.input.lang (keys_of c.args.input.tokens.tokens.now) c.args.room c.args.row c.args.cursor.now.at
-    c.read.result
-    c.read.new.cursor.at c.if-room-eq0.false c.read.ensures
+    c.args.cursor.now.row c.read.new.cursor c.read.result c.if-room-eq0.false c.read.ensures
