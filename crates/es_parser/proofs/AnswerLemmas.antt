@@ -12,39 +12,39 @@ use Rattle.es_ast.specs.declared.ast.Program.{Program}
 use Rattle.es_whole_grammar.proofs.Theorems.{one_program}
 use Rattle.es_whole_tree.specs.declared.tree.Tree.{Tree}
 use Rattle.es_whole_tree.specs.Slim.{tree_of}
-use Rattle.es_whole_program.specs.Program.{IsKept}
-use Rattle.es_whole_program.specs.Derived.{GivesTree as GivesPlain}
+use Rattle.es_syntax.specs.declared.entry.Entry.{Entry}
+use Rattle.es_whole_program.specs.Program.{IsKept, HoldsKept}
+use Rattle.es_whole_program.specs.Derived.{IsRowOf, GivesTree as GivesPlain}
+use Rattle.es_program.specs.Typed.{program_at}
 use Rattle.es_dress.specs.Dress.{value_of}
 use Rattle.es_derives.specs.Derives.{program_in, Derives}
 use Rattle.es_program_sites.proofs.Theorems.{kept_sites}
 use Rattle.es_parser.specs.Answers.{GivesTree}
-use Rattle.es_parser.specs.Made.{IsTyped}
+use Rattle.es_parser.specs.Made.{IsTyped, HoldsTyped}
+use Rattle.es_parser.proofs.RowLemmas.{row_typed}
 
 module _ (l : Lang) (m : Mode) (x : List ℕ) (ts : List Token) where
   -- a derived tree is that of a plain tree which is kept
   pub kept_of : (p : Program) → (derived : Derives l m x ts p) → IsKept l m (keys_of ts) (tree_of derived.plain)
   kept_of p derived = record { plain = derived.plain; program = derived.program; kept = refl }
 
-  -- what is made of a tree that is kept is derived
-  pub derived_of : (tree : Tree) (p : Program) → IsKept l m (keys_of ts) tree
-      → program_in (value_of x ts tree) ≡ Some p → Derives l m x ts p
-  derived_of tree p kept made = record {
-    plain = kept.plain;
-    program = kept.program;
-    dressed = ap (λ t. program_in (value_of x ts t)) kept.kept ∙ made;
+  -- what is made of a row that is kept is derived
+  pub derived_of : (es : List Entry) (p : Program) → HoldsKept l m (keys_of ts) es → program_at x ts es ≡ Some p
+      → Derives l m x ts p
+  derived_of es p held made = record {
+    plain = held.kept.plain;
+    program = held.kept.program;
+    dressed = ap (λ t. program_in (value_of x ts t)) held.kept.kept ∙ (sym (row_typed x ts es held.tree held.row) ∙ made);
   }
 
-  -- what is derived is made of the tree that was read
-  made_of : (tree : Tree) (p : Program) → (derived : Derives l m x ts p) → tree ≡ tree_of derived.plain
-      → program_in (value_of x ts tree) ≡ Some p
-  made_of tree p derived same = ap (λ t. program_in (value_of x ts t)) same ∙ derived.dressed
-
-  pub one_made : (tree : Tree) (q p : Program) → (derived : Derives l m x ts p) → tree ≡ tree_of derived.plain
-      → program_in (value_of x ts tree) ≡ Some q → q ≡ p
-  one_made tree q p derived same made = same_Some q p (sym made ∙ made_of tree p derived same)
+  -- what is derived is made of the row that was read
+  pub one_made : (es : List Entry) (q p : Program) → (derived : Derives l m x ts p) → IsRowOf (tree_of derived.plain) es
+      → program_at x ts es ≡ Some q → q ≡ p
+  one_made es q p derived row made =
+      same_Some q p (sym made ∙ (row_typed x ts es (tree_of derived.plain) row ∙ derived.dressed))
 
   -- what is kept has a typed tree, whose sites are its own
-  pub typed_of : (tree : Tree) → IsKept l m (keys_of ts) tree → IsTyped x ts tree
+  typed_of : (tree : Tree) → IsKept l m (keys_of ts) tree → IsTyped x ts tree
   typed_of tree kept =
       let typed = kept_sites l m x ts kept.plain tree kept.program kept.kept in
       let one = one_program l m (keys_of ts) kept.plain typed.1.plain kept.program typed.1.program in
@@ -53,6 +53,10 @@ module _ (l : Lang) (m : Mode) (x : List ℕ) (ts : List Token) where
         typed = ap (λ t. program_in (value_of x ts t)) (sym kept.kept ∙ ap tree_of one) ∙ typed.1.dressed;
         sites = typed.2;
       }
+
+  -- so has the row of it
+  pub held_of : (es : List Entry) → HoldsKept l m (keys_of ts) es → HoldsTyped x ts es
+  held_of es held = record { tree = held.tree; row = held.row; made = typed_of held.tree held.kept }
 
 -- a refusal of the plain tree is one of the typed tree
 pub refused : (r : Result Program SyntaxError) (y e : SyntaxError) (p : Program) (tree : Tree) → r ≡ Err y → y ≡ e

@@ -1,8 +1,10 @@
--- What a plain tree is made to.
+-- What the row of a plain tree is made to.
 use Rattle.std.specs.Prelude.{◌≡◌, ℕ, List, Some}
 use Rattle.es_token.specs.declared.token.Token.{Token}
 use Rattle.es_ast.specs.declared.ast.Program.{Program}
 use Rattle.es_whole_tree.specs.declared.tree.Tree.{Tree}
+use Rattle.es_syntax.specs.declared.entry.Entry.{Entry}
+use Rattle.es_whole_program.specs.Derived.{IsRowOf}
 use Rattle.es_site.specs.Sites.{sites_of}
 use Rattle.es_dress.specs.Dress.{value_of}
 use Rattle.es_derives.specs.Derives.{program_in}
@@ -13,3 +15,9 @@ pub record IsTyped (x : List ℕ) (ts : List Token) (tree : Tree) : Type 0 where
   pub program : Program
   pub typed : program_in (value_of x ts tree) ≡ Some program
   pub sites : sites_of program ≡ plain_sites x ts tree
+
+-- the row is such a tree
+pub record HoldsTyped (x : List ℕ) (ts : List Token) (es : List Entry) : Type 0 where
+  pub tree : Tree
+  pub row : IsRowOf tree es
+  pub made : IsTyped x ts tree

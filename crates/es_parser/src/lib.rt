@@ -5,8 +5,9 @@
 //!   memory" may come.
 //! - `is_arrow_head`, `is_pattern_head`: whether an arrow, or a pattern that is assigned to, opens at a token; they take no memory.
 //!
-//! It reads the tokens as a plain tree (`es_whole_program`), finds its sites (`es_tree_sites`), and writes it as a row of
-//! entries (`es_spill`), which the program owns (`es_program`). No typed tree is built: it is what the program means.
+//! It reads the tokens as a row of entries, which is a plain tree (`es_whole_program`), finds the sites in it
+//! (`es_tree_sites`), and hands the row to the program that owns it (`es_program`). No tree is built: it is what the
+//! program means.
 //! Tokens have at most one tree (`es_derives`). `es_derived_sites` says that each site of a tree cuts its literal.
 //! Not promised: which token `Syntax` names, and when memory runs out. `docs/GRAMMAR.md` tells the rows in words.
 #![tactic(auto)]

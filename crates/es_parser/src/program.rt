@@ -3,17 +3,16 @@
 ghost use Rattle.std.specs.Prelude.{◌≡◌, Some, IfOk};
 ghost use Rattle.es_lexer.specs.Reads.{ReadsTokens};
 ghost use Rattle.es_ast.specs.declared.ast.Program.{Program as Typed};
-ghost use Rattle.es_dress.specs.Dress.{value_of};
-ghost use Rattle.es_derives.specs.Derives.{program_in, Derives};
+ghost use Rattle.es_derives.specs.Derives.{Derives};
+ghost use Rattle.es_program.specs.Typed.{program_at};
 ghost use Rattle.es_parser.specs.Answers.{GivesTree};
-ghost use Rattle.es_parser.specs.Made.{IsTyped};
+ghost use Rattle.es_parser.specs.Made.{HoldsTyped};
 
 use es_program::{Program, SharedTokens};
-use es_spill::spill;
+use es_syntax::Entry;
 use es_tree::{Lang, Mode, SyntaxError};
 use es_tree_sites::tree_sites;
 use es_whole_program::read_program;
-use es_whole_tree::Tree;
 use source_text::SourceText;
 use std::alloc::{AllocError, Global};
 
@@ -31,26 +30,24 @@ pub fn parse_tokens(
     // What is derived is answered, unless memory runs out: so `Syntax` comes only where nothing is derived.
     ensures only { (tree : Typed) → Derives lang mode text.now tokens.now tree → GivesTree result tree }
 {
-    let plain = read_program(alloc, lang, mode, tokens.as_slice())?;
-    match program_of(alloc, text, tokens, &plain) {
+    let row = read_program(alloc, lang, mode, tokens.as_slice())?;
+    match program_of(alloc, text, tokens, row) {
         Ok(program) => Ok(program),
         Err(_) => Err(SyntaxError::OutOfMemory),
     }
 }
 
-/// The program of a plain tree: its sites, and the tree as a row.
-#[tactic(auto, using(crate::proofs::RowLemmas::row_typed))]
+/// The program of a row that is a plain tree, with its sites.
 fn program_of(
     alloc: Global,
     text: &SourceText,
     tokens: &SharedTokens,
-    plain: &Tree,
+    row: Vec<Entry>,
 ) -> Result<Program, AllocError>
     requires reads { ReadsTokens text.now tokens.now }
-    requires typed { IsTyped text.now tokens.now plain.now }
-    ensures { IfOk result (λ program. program_in (value_of text.now tokens.now plain.now) ≡ Some program) }
+    requires typed { HoldsTyped text.now tokens.now row.items }
+    ensures { IfOk result (λ program. program_at text.now tokens.now row.items ≡ Some program) }
 {
-    let sites = tree_sites(alloc, text.as_str(), tokens.as_slice(), plain)?;
-    let row = spill(alloc, plain)?;
+    let sites = tree_sites(alloc, text.as_str(), tokens.as_slice(), row.as_slice())?;
     Program::new(alloc, text.copy()?, tokens.copy()?, row, sites)
 }
