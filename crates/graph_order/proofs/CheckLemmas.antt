@@ -1,7 +1,7 @@
 -- Lists and edges that are checked.
 use Rattle.std.proofs.Common.{zero, suc, ◌≡◌, ℕ, ◌+◌, ◌<◌, Bool, true, false, List, [], ◌∷◌, ◌++◌, length, take, drop, get_or, map, refl, sym, ◌∙◌, ap, subst, Option, Some, None, Result, Ok, Err, IfOk, append_assoc, append-nil, arith}
 use Rattle.std.specs.Prelude.{◌||◌, ◌&&◌, bytes_eq, is_some, slice_get, slice_index_or, option_map, option_and_then}
-use Rattle.std.specs.List.{AllByRecursion, IsDistinct, cons_option}
+use Rattle.std.specs.List.{AllByRecursion, cons_option}
 use Rattle.std.specs.Cmp.Lexicographic.{nat_list_eq_equiv, same_text}
 use Rattle.std.proofs.lemmas.List.{map-append, take_more, take-append-drop}
 use Rattle.url.specs.Parts.{Parts}
@@ -19,9 +19,8 @@ use Rattle.deno_graph.proofs.NumberLemmas.{absent, present}
 use Rattle.graph_order.specs.Edges.{Entries, IsModule, Edge, IsStaticEdge, static_target}
 use Rattle.graph_order.specs.declared.found.CycleEdge.{CycleEdge}
 use Rattle.graph_order.specs.Order.{IsFree, EachBehind, IsChain, modules, AreApart, edge_of}
-use Rattle.graph_order.specs.Names.{Held, Names, modules_of, named, LeadsTo, LeadsSo, GoesOn, HoldsEach}
+use Rattle.graph_order.specs.Names.{Held, Names, modules_of, LeadsTo, LeadsSo, GoesOn, HoldsEach}
 use Rattle.graph_order.proofs.ModuleLemmas.{keys, held_at, held_of, of_module}
-use Rattle.graph_order.proofs.NamingLemmas.{names_once}
 
 -- ---- what has a number
 
@@ -192,34 +191,6 @@ number_none names s h = by (number_of names s) (sym (has_number names s) ∙ h)
 
 pub none_number : (names : Names) (s : Specifier) → number_of names s ≡ None → has (keys_at names) s ≡ false
 none_number names s h = has_number names s ∙ ap is_some h
-
-all_in : (P : Specifier → Type 0) (xs : List Specifier) (y : Specifier) (ys : List Specifier)
-    → AllByRecursion P (xs ++ y ∷ ys) → P y
-all_in P [] y ys h = h.0
-all_in P (x ∷ xs) y ys h = all_in P xs y ys h.1
-
-distinct_front : (ks : List Specifier) (k : Specifier) (more : List Specifier) → IsDistinct bytes_eq (ks ++ k ∷ more)
-    → has ks k ≡ false
-unfolding IsDistinct
-distinct_front [] k more h = refl
-distinct_front (x ∷ ks) k more h =
-    or_both (bytes_eq k x) (has ks k) (turned k x (all_in (λ y. bytes_eq x y ≡ false) ks k more h.0))
-    (distinct_front ks k more h.1)
-
--- a module's specifier that comes next has no number yet
-pub names_fresh : (entries : Entries) → IsAscending entries
-    → (old : Names) (left rest : Entries) (u : Parts) (e : Entry)
-    (m : Module) → named entries ≡ old ++ named left → left ≡ (u, e) ∷ rest → e ≡ entry.Module m
-    → number_of old (text_of u) ≡ None
-names_fresh entries ascending old left rest u e m all next is =
-    let whole : named entries ≡ old ++ (u, tt) ∷ named rest
-    = all ∙ ap (λ (es : Entries). old ++ named es) next
-    ∙ ap (λ (x : Entry). old ++ named ((u, x) ∷ rest)) is in
-    let keys : keys_at (named entries) ≡ keys_at old ++ text_of u ∷ keys_at (named rest)
-    = ap keys_at whole ∙ map-append (λ (x : Parts × Unit {0}). text_of x.0) old ((u, tt) ∷ named rest) in
-    number_none old (text_of u)
-    (distinct_front (keys_at old) (text_of u) (keys_at (named rest))
-    (subst (IsDistinct bytes_eq) keys (names_once entries ascending)))
 
 -- ---- edges that lead to some
 

@@ -97,13 +97,6 @@ module _ (entries : Entries) (ascending : IsAscending entries) where
                 (ap (option_and_then (static_target entries)) e.at ∙ e.leads);
           }
 
-  -- a module of names is one
-  pub link_name : (names : Names) → names ≡ named entries → (v k : ℕ) → IsLink (links_in names entries) (v, k)
-      → v < length names
-  link_name names is v k l =
-      subst (λ (ns : Names). IsLink (links_in ns entries) (v, k) → v < length ns) (sym is)
-      (λ l. (link_of entries ascending v k l).within) l
-
 pub some_one : {A : Type 0} (x y : A) → Some x ≡ Some y → x ≡ y
 some_one x y h = cc
 

@@ -73,7 +73,7 @@ module _ (entries : Entries) (ascending : IsAscending entries) where
   abbrev pub f : Dependency → Option ℕ
   f = sees names entries
 
-  same_keys : keys_at names ≡ keys ms
+  pub same_keys : keys_at names ≡ keys ms
   same_keys = keys-named ms
 
   members_once : IsDistinct bytes_eq (members_of entries)
@@ -121,13 +121,13 @@ module _ (entries : Entries) (ascending : IsAscending entries) where
   at_place (k ∷ ks) zero t h = (omega arith, some_one k t h)
   at_place (k ∷ ks) (suc n) t h = let (l, same) = at_place ks n t h in (omega (arith, l), same)
 
-  seen_name : (t : Specifier) (n : ℕ) → number_of names t ≡ Some n → (n < length ms) × (name_of names n ≡ t)
+  pub seen_name : (t : Specifier) (n : ℕ) → number_of names t ≡ Some n → (n < length ms) × (name_of names n ≡ t)
   seen_name t n h =
       let (l, same) = at_place (keys_at names) n t (key_of_number names t n h) in
       (subst (λ (k : ℕ). n < k) (ap length same_keys ∙ length-keys) l, same)
 
   -- each module's number is found
-  number_there : (s : Specifier) (v : ℕ) → v < length ms → name_of names v ≡ s → number_of names s ≡ Some v
+  pub number_there : (s : Specifier) (v : ℕ) → v < length ms → name_of names v ≡ s → number_of names s ≡ Some v
   number_there s v l is =
       ap (number_of names) (sym is)
       ∙ ap (λ (x : Specifier). number_of names x) (name-key v)

@@ -4,3 +4,4 @@ pub mod Edges
 pub mod Order
 -- What the crate's functions promise each other.
 pub mod Names
+pub mod Nodes

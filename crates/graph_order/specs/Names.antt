@@ -1,6 +1,7 @@
 -- What the crate's functions promise each other: the numbers of modules, and the links between them.
 use Rattle.std.specs.Prelude.{◌≡◌, ℕ, zero, suc, true, List, [], ◌∷◌, map, Option, Some, None, option_map, option_and_then, slice_get, slice_index, slice_index_or}
 use Rattle.std.specs.List.{filter_map, AllByRecursion}
+use Rattle.std.specs.Borrow.{Bor}
 use Rattle.url.specs.Parts.{Parts}
 use Rattle.graph_entry.specs.declared.entry.Dependency.{Dependency}
 use Rattle.graph_entry.specs.declared.entry.Module.{Module}
@@ -40,6 +41,10 @@ bare m = (m.0, tt)
 -- their specifiers, whose numbers are their places
 abbrev pub named : Entries → Names
 named entries = map bare (modules_of entries)
+
+-- specifiers behind references
+abbrev pub named_at : List (Bor Parts) → Names
+named_at urls = map (λ url. (url.now, tt)) urls
 
 -- the number of the module that an edge leads to
 abbrev pub sees : Names → Entries → Dependency → Option ℕ

@@ -95,6 +95,14 @@ pub record IsFirstCycle (entries : Entries) (cycle : List Edge) : Type 0 where
   pub first : AllByRecursion (IsFirstStuck entries) (front ++ cycle)
   pub is : IsCycle entries cycle
 
+-- ---- which of both there is
+
+abbrev pub HasOrder : Entries → Type 0
+HasOrder entries = (list : List Specifier) × IsOrder entries list
+
+abbrev pub HasCycle : Entries → Type 0
+HasCycle entries = (cycle : List Edge) × IsCycle entries cycle
+
 -- ---- what is answered
 
 -- an edge of a cycle as it is handed out, by its texts

@@ -49,13 +49,20 @@ pub fn is_same(a: &Url, b: &Url) -> bool
 pub fn static_target<'a>(graph: &'a ModuleGraph, edge: &'a Dependency) -> Option<&'a Url>
     ensures { option_map text_of (option_copied result) ≡ spec.static_target graph.now.entries edge.now }
 {
-    if edge.type_only || !is_static_kind(edge.kind) {
+    if !is_static(edge) {
         return None;
     }
     match &edge.resolution {
         Ok(target) => module_there(graph, target),
         Err(_) => None,
     }
+}
+
+/// Whether an edge leads to what runs first.
+pub fn is_static(edge: &Dependency) -> bool
+    ensures { result ≡ spec.is_static edge.now }
+{
+    is_static_kind(edge.kind) && !edge.type_only
 }
 
 fn is_static_kind(kind: DependencyKind) -> bool

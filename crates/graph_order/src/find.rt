@@ -8,15 +8,16 @@ ghost use Rattle.least_order.specs.Order as least;
 ghost use Rattle.least_order.specs.Order.{IsLink};
 ghost use Rattle.graph_order.specs.Edges as spec;
 ghost use Rattle.graph_order.specs.Order.{IsFound, edge_of};
-ghost use Rattle.graph_order.specs.Names.{name_of, named, sees, links_in, place_of, edges_there, edge_at, IsSorted, IsRound};
+ghost use Rattle.graph_order.specs.Nodes.{AreLed};
+ghost use Rattle.graph_order.specs.Names.{name_of, named, named_at, sees, links_in, place_of, edges_there, edge_at, IsSorted, IsRound};
 
 use crate::edges::{edges, static_target};
 use crate::found::{CycleEdge, Order};
-use crate::names::{links_of, names_of, node_of};
+use crate::names::{links_of, names_of};
+use crate::nodes::{led_of, node_of};
 use base::Items;
 use deno_graph::{Dependency, Entry, ModuleGraph};
 use least_order::Found;
-use numbered::Numbered;
 use std::alloc::{AllocError, Global};
 use url::Url;
 
@@ -27,67 +28,70 @@ pub fn order(alloc: Global, graph: &ModuleGraph) -> Result<Order, AllocError>
     ensures { IfOk result (IsFound graph.now.entries) }
 {
     let names = names_of(alloc, graph)?;
-    let links = links_of(alloc, graph, &names)?;
-    let found = least_order::order(alloc, links.as_slice())?;
-    told(alloc, graph, &names, found)
+    let led = led_of(alloc, graph, names.as_slice())?;
+    let links = links_of(alloc, graph, led.as_slice())?;
+    let targets = links.as_slice();
+    let found = least_order::order(alloc, targets)?;
+    told(alloc, graph, names.as_slice(), led.as_slice(), found)
 }
 
 // What was found of the numbers, told of the modules.
 fn told(
     alloc: Global,
     graph: &ModuleGraph,
-    names: &Numbered<()>,
+    names: &[&Url],
+    led: &[Option<usize>],
     found: Found,
 ) -> Result<Order, AllocError>
-    requires named { names.now ≡ named graph.now.entries }
+    requires named { named_at names.now ≡ named graph.now.entries }
+    requires led { AreLed graph.now led.now }
     requires ascending { IsAscending graph.now.entries }
     requires found { least.IsFound (links_in (named graph.now.entries) graph.now.entries) found }
     ensures { IfOk result (IsFound graph.now.entries) }
 {
     match found {
         Found::Order(nodes) => sorted(alloc, names, nodes.as_slice()),
-        Found::Cycle(links) => cycle(alloc, graph, names, links.as_slice()),
+        Found::Cycle(links) => cycle(alloc, graph, names, led, links.as_slice()),
     }
 }
 
 // The order of these modules.
-fn sorted(alloc: Global, names: &Numbered<()>, nodes: &[usize]) -> Result<Order, AllocError>
+fn sorted(alloc: Global, names: &[&Url], nodes: &[usize]) -> Result<Order, AllocError>
     requires { AllByRecursion (λ v. v < length names.now) nodes.now }
-    ensures { IfOk result (IsSorted (map (name_of names.now) nodes.now)) }
+    ensures { IfOk result (IsSorted (map (name_of (named_at names.now)) nodes.now)) }
 {
     let mut urls = Items::new(alloc);
     for node in nodes {
-        urls.push(url_of(names, *node)?)?;
+        urls.push(url_of(names, *node).clone()?)?;
     }
     Ok(Order::Sorted(urls))
 }
 
 // The specifier of a module.
-fn url_of(names: &Numbered<()>, node: usize) -> Result<Url, AllocError>
+fn url_of<'a>(names: &[&'a Url], node: usize) -> &'a Url
     requires { node < length names.now }
-    ensures { IfOk result (λ url. text_of url ≡ name_of names.now node) }
+    ensures { text_of result.now ≡ name_of (named_at names.now) node }
 {
-    match names.numbered(node) {
-        Some(url) => url.clone(),
-        None => unreachable!(),
-    }
+    names[node]
 }
 
 // The cycle of these links.
 fn cycle(
     alloc: Global,
     graph: &ModuleGraph,
-    names: &Numbered<()>,
+    names: &[&Url],
+    led: &[Option<usize>],
     links: &[(usize, usize)],
 ) -> Result<Order, AllocError>
-    requires named { names.now ≡ named graph.now.entries }
+    requires named { named_at names.now ≡ named graph.now.entries }
+    requires led { AreLed graph.now led.now }
     requires ascending { IsAscending graph.now.entries }
-    requires links { AllByRecursion (IsLink (links_in names.now graph.now.entries)) links.now }
+    requires links { AllByRecursion (IsLink (links_in (named graph.now.entries) graph.now.entries)) links.now }
     ensures { IfOk result (IsRound (map (edge_at graph.now.entries) links.now)) }
 {
     let mut cycle = Items::new(alloc);
     for link in links {
-        cycle.push(cycle_edge(graph, names, link.0, link.1)?)?;
+        cycle.push(cycle_edge(graph, names, led, link.0, link.1)?)?;
     }
     Ok(Order::Cycle(cycle))
 }
@@ -95,18 +99,20 @@ fn cycle(
 // The edge that is a module's link with this number.
 fn cycle_edge(
     graph: &ModuleGraph,
-    names: &Numbered<()>,
+    names: &[&Url],
+    led: &[Option<usize>],
     node: usize,
     link: usize,
 ) -> Result<CycleEdge, AllocError>
-    requires named { names.now ≡ named graph.now.entries }
+    requires named { named_at names.now ≡ named graph.now.entries }
+    requires led { AreLed graph.now led.now }
     requires ascending { IsAscending graph.now.entries }
-    requires link { IsLink (links_in names.now graph.now.entries) (node, link) }
+    requires link { IsLink (links_in (named graph.now.entries) graph.now.entries) (node, link) }
     ensures { IfOk result (λ e. edge_of e ≡ edge_at graph.now.entries (node, link)) }
 {
-    let module = url_of(names, node)?;
+    let module = url_of(names, node).clone()?;
     let all = edges_at(graph, &module);
-    let dependency = nth_static(graph, names, all, link);
+    let dependency = nth_static(graph, led, all, link);
     match target_of(graph, all, dependency) {
         Some(target) => Ok(CycleEdge {
             target: target.clone()?,
@@ -136,13 +142,14 @@ fn target_of<'a>(graph: &'a ModuleGraph, all: &'a [Dependency], place: usize) ->
 }
 
 // The place of a static edge among all edges, by its place among the static ones.
-fn nth_static(graph: &ModuleGraph, names: &Numbered<()>, edges: &[Dependency], nth: usize) -> usize
-    requires { nth < length (filter_map (sees names.now graph.now.entries) edges.now) }
-    ensures { result ≡ place_of (sees names.now graph.now.entries) edges.now nth }
+fn nth_static(graph: &ModuleGraph, led: &[Option<usize>], edges: &[Dependency], nth: usize) -> usize
+    requires led { AreLed graph.now led.now }
+    requires nth { nth < length (filter_map (sees (named graph.now.entries) graph.now.entries) edges.now) }
+    ensures { result ≡ place_of (sees (named graph.now.entries) graph.now.entries) edges.now nth }
 {
     let mut left = nth;
     for place in 0..edges.len() {
-        if node_of(graph, names, &edges[place]).is_some() {
+        if node_of(graph, led, &edges[place]).is_some() {
             if left == 0 {
                 return place;
             }

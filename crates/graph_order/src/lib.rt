@@ -7,7 +7,7 @@
 //! - Static edges (`IsStaticEdge`, `specs/Edges.antt`) are those of imports, exports, `import a = require()` and WebAssembly,
 //!   unless they are for types alone.
 //!
-//! Of an order and a cycle a graph has exactly one kind (`proofs/Theorems.antt`). Running out of memory is the one answer
+//! A graph has an order or a cycle, and never both (`exactly_one`, `proofs/Theorems.antt`). Running out of memory is the one answer
 //! without a cause.
 #![tactic(auto)]
 
@@ -16,6 +16,7 @@ mod edges;
 mod find;
 mod found;
 mod names;
+mod nodes;
 
 pub use check::{check_cycle, check_order};
 pub use find::order;

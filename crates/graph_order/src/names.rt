@@ -1,28 +1,30 @@
-//! The numbers of a graph's modules, by the bytes of their specifiers, and their links.
+//! The modules of a graph, by the bytes of their specifiers, and their links.
 ghost use Rattle.std.specs.Prelude.{◌≡◌, ◌<◌, ◌∷◌, [], ◌++◌, None, length, IfOk, OnOk, IfSome};
 ghost use Rattle.std.specs.List.{filter_map};
 ghost use Rattle.graph_entry.specs.Specifier.{text_of};
 ghost use Rattle.deno_graph.specs.ByText.{number_of};
 ghost use Rattle.deno_graph.specs.Rules.{edges_of};
 ghost use Rattle.deno_graph.specs.Graph.{IsAscending};
-ghost use Rattle.graph_order.specs.Names.{Names, named, sees, links_in, modules_of};
+ghost use Rattle.graph_order.specs.Names.{Names, named, named_at, sees, links_in, modules_of};
+ghost use Rattle.graph_order.specs.Nodes.{AreLed};
 
-use crate::edges::{edges, static_target};
+use crate::edges::edges;
+use crate::nodes::node_of;
 use base::Items;
-use deno_graph::{Dependency, Entry, Module, ModuleGraph};
+use deno_graph::{Entry, Module, ModuleGraph};
 use numbered::Numbered;
 use std::alloc::{AllocError, Global};
 use url::Url;
 
 /// The specifiers of the modules, in the order of their bytes.
-pub fn names_of(alloc: Global, graph: &ModuleGraph) -> Result<Numbered<()>, AllocError>
-    ensures named { IfOk result (λ names. names ≡ named graph.now.entries) }
+pub fn names_of<'a>(alloc: Global, graph: &'a ModuleGraph) -> Result<Vec<&'a Url>, AllocError>
+    ensures named { IfOk result (λ names. named_at names.items ≡ named graph.now.entries) }
     ensures ascending { IsAscending graph.now.entries }
 {
-    let mut names = Numbered::new(alloc);
+    let mut names = Vec::new(alloc);
     for (specifier, entry) in graph.entries()? {
         if let Entry::Module(_) = entry {
-            add_name(&mut names, specifier)?;
+            names.push(specifier)?;
         }
     }
     Ok(names)
@@ -50,14 +52,15 @@ pub fn number(names: &Numbered<()>, specifier: &Url) -> Option<usize>
 pub fn links_of(
     alloc: Global,
     graph: &ModuleGraph,
-    names: &Numbered<()>,
+    led: &[Option<usize>],
 ) -> Result<Items<Items<usize>>, AllocError>
-    ensures { IfOk result (λ links. links ≡ links_in names.now graph.now.entries) }
+    requires { AreLed graph.now led.now }
+    ensures { IfOk result (λ links. links ≡ links_in (named graph.now.entries) graph.now.entries) }
 {
     let mut links = Items::new(alloc);
     for (_, entry) in graph.entries()? {
         if let Entry::Module(held) = entry {
-            links.push(module_links(alloc, graph, names, held)?)?;
+            links.push(module_links(alloc, graph, led, held)?)?;
         }
     }
     Ok(links)
@@ -66,24 +69,19 @@ pub fn links_of(
 fn module_links(
     alloc: Global,
     graph: &ModuleGraph,
-    names: &Numbered<()>,
+    led: &[Option<usize>],
     held: &Module,
 ) -> Result<Items<usize>, AllocError>
-    ensures { IfOk result (λ links. links ≡ filter_map (sees names.now graph.now.entries) (edges_of held.now)) }
+    requires { AreLed graph.now led.now }
+    ensures { IfOk result (λ links. links
+        ≡ filter_map (sees (named graph.now.entries) graph.now.entries) (edges_of held.now)) }
 {
     let all = edges(held);
     let mut links = Items::new(alloc);
     for edge in all {
-        if let Some(node) = node_of(graph, names, edge) {
+        if let Some(node) = node_of(graph, led, edge) {
             links.push(node)?;
         }
     }
     Ok(links)
-}
-
-/// The number of the module that an edge leads to, if it is static and leads to one.
-pub fn node_of(graph: &ModuleGraph, names: &Numbered<()>, edge: &Dependency) -> Option<usize>
-    ensures { result ≡ sees names.now graph.now.entries edge.now }
-{
-    number(names, static_target(graph, edge)?)
 }

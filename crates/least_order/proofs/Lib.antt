@@ -1,3 +1,4 @@
 pub mod OrderLemmas
 mod PlacingLemmas
 mod WalkLemmas
+pub mod Theorems

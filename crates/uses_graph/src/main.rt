@@ -1,18 +1,31 @@
 //! How a program builds a module graph from modules of its own: a loader (`src/loader.rt`), options, and the loop over
-//! `poll` (`src/polls.rt`). It prints each module of the graph and where its edges lead.
+//! `poll` (`src/polls.rt`). It prints each module of the graph and where its edges lead (`src/told.rt`).
 #![tactic(auto)]
 
 mod loader;
 mod polls;
+mod told;
 
 use crate::loader::CountingLoader;
 use crate::polls::poll_for;
+use crate::told::lines;
 use base::Items;
-use deno_graph::{BuildOptions, Dependency, Entry, GraphBuild, GraphKind, Module};
+use deno_graph::{BuildOptions, GraphBuild, GraphKind};
+use std::alloc::Global;
 use url::Url;
 
 fn main(rt: HostRuntime) -> anyhow::Result<()> {
     let alloc = rt.alloc();
+    let mut build = begin(alloc)?;
+    let graph = poll_for(&mut build, 1_000)?;
+    let told = lines(alloc, &graph)?;
+    let requests = build.loader().requests();
+    print!(rt; "{}{requests} modules were asked for\n", told.as_str())?;
+    Ok(())
+}
+
+/// A build of the graph of one root.
+fn begin(alloc: Global) -> anyhow::Result<GraphBuild<CountingLoader>> {
     let mut roots = Items::new(alloc);
     roots.push(Url::parse(alloc, "file:///app/main.ts")?)?;
     let options = BuildOptions {
@@ -21,25 +34,6 @@ fn main(rt: HostRuntime) -> anyhow::Result<()> {
         skip_dynamic_deps: false,
         imports: Items::new(alloc),
     };
-    let mut build = GraphBuild::new(alloc, roots, options, CountingLoader::new(alloc)?)?;
-    let graph = poll_for(&mut build, 1_000)?;
-    for (specifier, entry) in graph.entries()? {
-        println!(rt; "{specifier}")?;
-        for edge in edges(entry) {
-            match &edge.resolution {
-                Ok(target) => println!(rt; "  -> {target}")?,
-                Err(error) => println!(rt; "  ! {error}")?,
-            }
-        }
-    }
-    println!(rt; "{} modules were asked for", build.loader().requests())?;
-    Ok(())
-}
-
-fn edges(entry: &Entry) -> &[Dependency] {
-    match entry {
-        Entry::Module(Module::Js(module)) => module.dependencies.as_slice(),
-        Entry::Module(Module::Wasm(module)) => module.dependencies.as_slice(),
-        _ => &[],
-    }
+    let loader = CountingLoader::new(alloc)?;
+    Ok(GraphBuild::new(alloc, roots, options, loader)?)
 }

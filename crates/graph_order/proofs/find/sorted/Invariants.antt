@@ -1,7 +1,7 @@
 use Rattle.std.proofs.Common.{◌≡◌, map, take}
 use Rattle.deno_graph.specs.Graph.{texts}
-use Rattle.graph_order.specs.Names.{name_of}
+use Rattle.graph_order.specs.Names.{named_at, name_of}
 use Rattle.graph_order.proofs.find.sorted.Given as goal
 
 abbrev pub invariant-loop-node : goal.invariant-loop-node
-invariant-loop-node l = texts l.urls ≡ map (name_of l.names) (take l.node-index l.nodes)
+invariant-loop-node l = texts l.urls ≡ map (name_of (named_at l.names)) (take l.node-index l.nodes)

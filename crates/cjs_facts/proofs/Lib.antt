@@ -1,0 +1,4 @@
+-- lists
+pub mod ListLemmas
+-- the facts of each form
+pub mod Equations

@@ -1,0 +1,16 @@
+pub mod Digits
+pub mod Text
+pub mod Newline
+pub mod Read
+pub mod Urls
+pub mod Joined
+pub mod Scan
+pub mod Lines
+pub mod Bytes
+pub mod Slices
+pub mod Values
+pub mod Lengths
+pub mod Texts
+pub mod Apart
+pub mod Unread
+pub mod Theorems
