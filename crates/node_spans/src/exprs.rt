@@ -1,11 +1,11 @@
 //! The kinds of expressions.
 
-use crate::spans::{Last, Seen, last_in, told_at};
+use crate::spans::{Last, Seen, last_in, span, told, told_at};
 use es_call_views::{Call, Post, call_at, post_at};
 use es_expr_views::{Primary, primary_at};
 use es_function_views::{Function, function_at};
-use es_operator_views::{Operator, operator_at};
-use es_syntax::{Item, Row};
+use es_operator_views::{Chain, Operator, Turn, chain_at, operator_at, turn_at};
+use es_syntax::{Item, Lean, Row};
 use es_token::{Token, TokenKind};
 
 /// An expression, or the literal that it is.
@@ -19,6 +19,9 @@ fn expression_kind(tokens: &[Token], it: &Item<'_>) -> Option<&'static str> {
     }
     if let Some(view) = operator_at(it) {
         return operator_kind(tokens, &view);
+    }
+    if let Some(chain) = chain_at(it) {
+        return joined_kind(tokens, chain.lean, &last_turn(&chain));
     }
     if let Some(view) = call_at(it) {
         return call_kind(&view);
@@ -90,6 +93,32 @@ fn turn_kind(tokens: &[Token], turn: &Row<'_>) -> Option<&'static str> {
             None => assertion_kind(tokens.get(turn.token_at(0)? as usize)?.kind),
         },
         None => Some("Bin"),
+    }
+}
+
+/// What stands behind all else in a chain of operators.
+fn last_turn<'a>(chain: &Chain<'a>) -> Item<'a> {
+    last_in(&chain.others).last.unwrap_or(chain.turn)
+}
+
+/// The node of a turn of a chain of operators.
+fn joined_kind(tokens: &[Token], lean: Lean, turn: &Item<'_>) -> Option<&'static str> {
+    match turn_at(lean, &turn.group()) {
+        Turn::Operand(_) => Some("Bin"),
+        Turn::Typed(group) => turn_kind(tokens, &group),
+        Turn::Broken => None,
+    }
+}
+
+/// What the last operator of a chain stands behind: the nodes before it, or the first operand.
+pub fn before_last(tokens: &[Token], chain: &Chain<'_>) -> Option<Seen> {
+    match last_in(&chain.others) {
+        Last { last: None, .. } => expression(tokens, &chain.first),
+        Last { before, .. } => {
+            let turn = before.unwrap_or(chain.turn);
+            let kind = joined_kind(tokens, chain.lean, &turn)?;
+            Some(told(kind, span(tokens, chain.from, turn.to)?))
+        }
     }
 }
 

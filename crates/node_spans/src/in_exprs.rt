@@ -1,13 +1,13 @@
 //! The parts of expressions that letters name.
 
-use crate::exprs::{expression, last_post, post_before, post_kind};
+use crate::exprs::{before_last, expression, last_post, post_before, post_kind};
 use crate::pats::pattern;
 use crate::spans::{Seen, ends, first_in, span, token_span, told, told_at};
 use base::Range;
 use es_call_views::{Args, Call, Post, args_at, call_at, post_at};
 use es_expr_views::{Primary, primary_at};
 use es_member_views::{Prop, prop_at};
-use es_operator_views::{Operator, operator_at};
+use es_operator_views::{Operator, chain_at, operator_at};
 use es_syntax::{Item, Row};
 use es_token::{Token, TokenKind};
 
@@ -21,6 +21,9 @@ pub fn in_expression(letter: &str, tokens: &[Token], it: &Item<'_>) -> Option<Se
     }
     if let Some(view) = operator_at(it) {
         return in_operator(letter, tokens, &view);
+    }
+    if let Some(chain) = chain_at(it) {
+        return before_last(tokens, &chain);
     }
     match call_at(it) {
         Some(

@@ -1,7 +1,6 @@
 //! The node that one text names, in a line.
 
 use es_lexer::{LexError, lex_tokens};
-use es_spill::spill;
 use es_syntax::Row;
 use es_token::Token;
 use es_tree::{Lang, Mode, SyntaxError};
@@ -9,7 +8,7 @@ use es_whole_program::read_program;
 use node_spans::place;
 use std::alloc::{AllocError, Global};
 
-/// The kind and the range of the node, or why there is none.
+/// The kind and the range of the node, or why there is none: where a text has no tree, the range of the token at fault.
 pub fn line_of(alloc: Global, text: &str) -> Result<String, AllocError> {
     let Some((letter, text)) = text.split_at_checked(1) else {
         return format!(in alloc; "no letter");
@@ -28,18 +27,15 @@ fn program_line(alloc: Global, letter: &str, tokens: &[Token]) -> Result<String,
         Mode::Module
     };
     match read_program(alloc, Lang::Typescript, mode, tokens) {
-        Ok(tree) => {
-            let entries = spill(alloc, &tree)?;
-            node_line(
-                alloc,
-                letter,
-                tokens,
-                &Row {
-                    entries: entries.as_slice(),
-                },
-            )
-        }
-        Err(SyntaxError::Syntax { token: _ }) => format!(in alloc; "Syntax"),
+        Ok(row) => node_line(
+            alloc,
+            letter,
+            tokens,
+            &Row {
+                entries: row.as_slice(),
+            },
+        ),
+        Err(SyntaxError::Syntax { token }) => fault_line(alloc, tokens.get(token)),
         Err(SyntaxError::OutOfMemory) => Err(AllocError),
     }
 }
@@ -53,5 +49,13 @@ fn node_line(
     match place(letter, tokens, program) {
         Some(seen) => format!(in alloc; "{} {}-{}", seen.kind, seen.span.start, seen.span.end),
         None => format!(in alloc; "no node"),
+    }
+}
+
+/// Where the token stands that a fault names.
+fn fault_line(alloc: Global, token: Option<&Token>) -> Result<String, AllocError> {
+    match token {
+        Some(token) => format!(in alloc; "Syntax {}-{}", token.range.start, token.range.end),
+        None => format!(in alloc; "Syntax at the end"),
     }
 }

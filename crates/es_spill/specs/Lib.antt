@@ -1,2 +1,0 @@
--- the entries of a tree
-pub mod Spilled
