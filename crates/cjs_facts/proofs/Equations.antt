@@ -725,9 +725,11 @@ expr_TsSatisfies found expr type_ann span =
     adds_one found (ap facts_of_expr (sym (vExpr.rolls-TsSatisfies expr type_ann span)) ∙
     at_expr (Expr-F.TsSatisfies expr type_ann span))
 
-pub module_decl_Import : (found : Facts) (it : ImportDecl) → found ++ facts_of_module_decl (vModuleDecl.Import it) ≡ found
+pub module_decl_Import : (found : Facts) (it : ImportDecl)
+    → found ++ facts_of_module_decl (vModuleDecl.Import it) ≡ found
 module_decl_Import found it =
-    adds_none found (ap facts_of_module_decl (sym (vModuleDecl.rolls-Import it)) ∙ at_module_decl (ModuleDecl-F.Import it))
+    adds_none found (ap facts_of_module_decl (sym (vModuleDecl.rolls-Import it))
+    ∙ at_module_decl (ModuleDecl-F.Import it))
 
 pub module_decl_ExportDecl : (found : Facts) (decl : Decl) (span : Range)
     → found ++ facts_of_module_decl (vModuleDecl.ExportDecl
@@ -736,9 +738,11 @@ module_decl_ExportDecl found decl span =
     adds_one found (ap facts_of_module_decl (sym (vModuleDecl.rolls-ExportDecl decl span)) ∙
     at_module_decl (ModuleDecl-F.ExportDecl decl span))
 
-pub module_decl_ExportNamed : (found : Facts) (it : NamedExport) → found ++ facts_of_module_decl (vModuleDecl.ExportNamed it) ≡ found
+pub module_decl_ExportNamed : (found : Facts) (it : NamedExport)
+    → found ++ facts_of_module_decl (vModuleDecl.ExportNamed it) ≡ found
 module_decl_ExportNamed found it =
-    adds_none found (ap facts_of_module_decl (sym (vModuleDecl.rolls-ExportNamed it)) ∙ at_module_decl (ModuleDecl-F.ExportNamed it))
+    adds_none found (ap facts_of_module_decl (sym (vModuleDecl.rolls-ExportNamed it))
+    ∙ at_module_decl (ModuleDecl-F.ExportNamed it))
 
 pub module_decl_ExportDefaultDecl : (found : Facts) (decl : Decl) (span : Range) → found ++ facts_of_module_decl
     (vModuleDecl.ExportDefaultDecl decl span) ≡ found ++ facts_of_decl decl
@@ -752,13 +756,17 @@ module_decl_ExportDefaultExpr found expr span =
     adds_one found (ap facts_of_module_decl (sym (vModuleDecl.rolls-ExportDefaultExpr
     expr span)) ∙ at_module_decl (ModuleDecl-F.ExportDefaultExpr expr span))
 
-pub module_decl_ExportAll : (found : Facts) (it : ExportAll) → found ++ facts_of_module_decl (vModuleDecl.ExportAll it) ≡ found
+pub module_decl_ExportAll : (found : Facts) (it : ExportAll)
+    → found ++ facts_of_module_decl (vModuleDecl.ExportAll it) ≡ found
 module_decl_ExportAll found it =
-    adds_none found (ap facts_of_module_decl (sym (vModuleDecl.rolls-ExportAll it)) ∙ at_module_decl (ModuleDecl-F.ExportAll it))
+    adds_none found (ap facts_of_module_decl (sym (vModuleDecl.rolls-ExportAll it))
+    ∙ at_module_decl (ModuleDecl-F.ExportAll it))
 
-pub module_decl_TsImportEquals : (found : Facts) (it : TsImportEqualsDecl) → found ++ facts_of_module_decl (vModuleDecl.TsImportEquals it) ≡ found
+pub module_decl_TsImportEquals : (found : Facts) (it : TsImportEqualsDecl)
+    → found ++ facts_of_module_decl (vModuleDecl.TsImportEquals it) ≡ found
 module_decl_TsImportEquals found it =
-    adds_none found (ap facts_of_module_decl (sym (vModuleDecl.rolls-TsImportEquals it)) ∙ at_module_decl (ModuleDecl-F.TsImportEquals it))
+    adds_none found (ap facts_of_module_decl (sym (vModuleDecl.rolls-TsImportEquals it))
+    ∙ at_module_decl (ModuleDecl-F.TsImportEquals it))
 
 pub module_decl_TsExportAssignment : (found : Facts) (expr : Expr) (span : Range) → found ++ facts_of_module_decl
     (vModuleDecl.TsExportAssignment expr span) ≡ found ++ facts_of_expr expr
@@ -1108,7 +1116,8 @@ class_parts found it =
 
 function_rolled : (ident : Option Ident) (is_async : Bool) (is_generator : Bool) (type_params : Option TsPart)
     (params : List
-    Param) (return_type : Option TsPart) (body : Option Stmt) (span : Range) → facts_of_function (roll-Function (record {
+    Param) (return_type : Option TsPart) (body : Option Stmt) (span : Range)
+    → facts_of_function (roll-Function (record {
       ident = ident;
       is_async = is_async;
       is_generator = is_generator;

@@ -82,7 +82,7 @@ in_look (Expr-F.Index obj false prop span) = member (object_of obj) (bracket pro
 in_look (Expr-F.Call callee false type_args args span) = call_of callee args
 in_look _ = other
 
-abbrev no_look : {A : Type 0} → A → Look
+abbrev pub no_look : {A : Type 0} → A → Look
 no_look part = other
 
 unfoldable pub look : Expr → Look
@@ -99,7 +99,7 @@ in_harmless (Expr-F.Member obj false is_private prop span) = obj
 in_harmless (Expr-F.Index obj false prop span) = obj && prop
 in_harmless _ = false
 
-abbrev not_harmless : {A : Type 0} → A → Bool
+abbrev pub not_harmless : {A : Type 0} → A → Bool
 not_harmless part = false
 
 unfoldable pub is_harmless : Expr → Bool
@@ -213,7 +213,7 @@ abbrev pub in_assigned : Beside (Option Expr) Expr-F → Option Expr
 in_assigned (Expr-F.Expr::Assign vAssign.Assign left right span) = Some (unwrap_or right.1 right.0)
 in_assigned _ = None
 
-abbrev none_assigned : {A : Type 0} → A → Option Expr
+abbrev pub none_assigned : {A : Type 0} → A → Option Expr
 none_assigned part = None
 
 unfoldable pub assigned_last : Expr → Option Expr

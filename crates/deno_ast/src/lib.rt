@@ -8,7 +8,8 @@
 //!   without a tree.
 //!
 //! It hands on `read_sites` of `source_sites`, `media_type`, `source_text`, `text_changes`, `es_comments`,
-//! `parse_diagnostic`, `module_text`, and the sites of `es_site`. Not promised: where comments stand, the range of a `Syntax` fault, and when memory runs out.
+//! `parse_diagnostic`, `module_text`, and the sites of `es_site`. Not promised: the range of a `Syntax` fault, and when
+//! memory runs out.
 #![tactic(auto)]
 
 mod lexing;

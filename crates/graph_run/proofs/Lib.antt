@@ -2,4 +2,5 @@ pub mod SummaryLemmas
 pub mod MemoryLemmas
 pub mod TransferLemmas
 pub mod GraphLemmas
+pub mod SumLemmas
 pub mod RunLemmas

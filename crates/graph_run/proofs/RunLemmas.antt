@@ -12,7 +12,7 @@ use Rattle.graph_run.specs.declared.status.Status.{Status}
 use Rattle.graph_run.specs.declared.status.Status.TheVariants.{Done, BuildRefused, BadInput, ReadFault, WriteFault, NoMemory, Usage}
 use Rattle.graph_run.specs.declared.verdict.Telling.TheVariants as telling
 use Rattle.graph_run.specs.Telling.{told_by}
-use Rattle.graph_run.specs.Run.{IsDueOf, long, no_json, no_bundle, bundle, OfBundle, graph, large, IsInput, IsGraphOf, IsTooLarge, IsWithinLimit, IsRefused, IsLargeInput, IsSmallInput, Always, IsDueFor, IsDueForm, usage, Wrote, usage_line}
+use Rattle.graph_run.specs.Run.{IsDueOf, long, no_json, no_bundle, bundle, OfBundle, graph, large, IsInput, IsGraphOf, IsTooLarge, IsRefused, IsLargeInput, IsSmallInput, Always, IsDueFor, IsDueForm, usage, Wrote, usage_line}
 use Rattle.graph_words.specs.declared.words.Form.{Form}
 use Rattle.graph_words.specs.declared.words.Form.TheVariants.{Build, Order, Make, Sum}
 use Rattle.graph_words.specs.Words.{IsForm, IsReading, IsNoForm}
@@ -20,8 +20,9 @@ use Rattle.graph_words.proofs.Theorems.{one_form}
 use Rattle.made_bundle.specs.Made.{made_text}
 use Rattle.graph_run.specs.Steps.{IsWritten, IsVerdict}
 use Rattle.std.specs.Io.KnownBytes.{Appends}
+use Rattle.graph_run.proofs.SumLemmas.{made_small}
 
--- ---- a bundle is too large or within its limit
+-- ---- a bundle that is too large
 
 -- no graph of it is within its limit where it is too large
 pub too_large_none : (b : Bundle) (g : GraphData) → IsTooLarge b → IsGraphOf b g → ⊥
@@ -31,13 +32,6 @@ too_large_none b g t of =
     (λ s h. of.entries.members.all s (t.reached s h)) in
     let same : length (members_of g.entries) ≡ length g.entries = length-map g.entries (λ e. text_of e.0) in
     omega (arith, bound, same, of.within, t.counted)
-
--- it isn't both
-pub not_both : (b : Bundle) → IsTooLarge b → IsWithinLimit b → ⊥
-not_both b t w =
-    let bound : length t.members ≤ length w.0 =
-    length-le_from_is_member nat_list_eq_equiv t.members w.0 t.once (λ s h. w.1.all s (t.reached s h)) in
-    omega (arith, bound, w.2, t.counted)
 
 -- ---- what is due for an input
 
@@ -84,7 +78,7 @@ module _ (tells : GraphData → List ℕ → Type 0) (input : List ℕ) (status 
     where
       by : OfBundle tells s.bundle status text → status ≡ Done
       by (graph g of is _) = is
-      by (large t is _) = absurd (not_both s.bundle t s.small)
+      by (large t is _) = absurd (s.small t)
 
 -- ---- what is answered
 
@@ -252,22 +246,19 @@ module _ (words : List (List ℕ)) (f : Form) (is : IsForm f words) (input old n
           read
       by (Sum m) i d = λ also. absurd (other_form words (Sum m) (Make n) i (λ e. cc) also)
 
-  pub summed_for : (n : ℕ) → IsSmallInput (made_text n)
-      → Always (IsForm (Sum n) words) reads read failed fails result Done
-  summed_for n small = by f is due
+  pub summed_for : (n : ℕ) → Always (IsForm (Sum n) words) reads read failed fails result Done
+  summed_for n = by f is due
     where
       by : (g : Form) → IsForm g words → IsDueForm g input status text
           → Always (IsForm (Sum n) words) reads read failed fails result Done
       by Build i d = λ also. absurd (other_form words Build (Sum n) i (λ e. cc) also)
       by Order i d = λ also. absurd (other_form words Order (Sum n) i (λ e. cc) also)
       by (Make m) i d = λ also. absurd (other_form words (Make m) (Sum n) i (λ e. cc) also)
-      by (Sum m) i d = λ also.
-          let same : Sum n ≡ Sum m = one_form (Sum n) (Sum m) words also i in
-          let one : n ≡ m = cc in
+      by (Sum m) i d =
+          let small = made_small m i.2.1 i.2.2 in
           answered Done old new status written failed fails result
-          (small_due (told_by telling.Counts) (made_text m) status text
-          (subst (λ (k : ℕ). IsSmallInput (made_text k)) one small) d) w
-          (IsForm (Sum n) words) reads read also
+          (small_due (told_by telling.Counts) (made_text m) status text small d) w
+          (IsForm (Sum n) words) reads read
 
 -- where words are no form nothing is claimed of one
 pub none_reading : (fact : List ℕ → Type 0) (words : List (List ℕ)) (input : Option (List ℕ))

@@ -16,7 +16,7 @@ use Rattle.graph_entry.specs.Ways.{ways_by}
 use Rattle.graph_entry.specs.Analysed.{AnalysedBy}
 use Rattle.graph_entry.specs.Referrer.{referred_by, starts_by}
 use Rattle.deno_graph.specs.Memory.{tells}
-use Rattle.deno_graph.specs.Builder.{ReachesAtMost, following_of}
+use Rattle.deno_graph.specs.Builder.{following_of}
 use Rattle.graph_bundle.specs.declared.bundle.Bundle.{Bundle}
 use Rattle.graph_run.specs.declared.status.Status.{Status}
 use Rattle.graph_run.specs.declared.status.Status.TheVariants.{Done, BuildRefused, BadInput, ReadFault, WriteFault, NoMemory, Usage}
@@ -84,10 +84,6 @@ pub record HasMoreThan (rules : Rules) (starts : List Specifier) (answers : Answ
 -- more is reached than the bundle allows
 abbrev pub IsTooLarge : Bundle → Type 0
 IsTooLarge bundle = HasMoreThan (bundle_rules bundle) (bundle_starts bundle) (tells bundle.modules) bundle.options.limit
-
--- no more is reached than the bundle allows
-abbrev pub IsWithinLimit : Bundle → Type 0
-IsWithinLimit bundle = ReachesAtMost (bundle_rules bundle) (bundle_starts bundle) (tells bundle.modules) bundle.options.limit
 
 -- what is due for a bundle, where `tells` says what may be told of a graph
 pub data OfBundle (tells : GraphData → List ℕ → Type 0) (bundle : Bundle) (status : Status) (text : List ℕ) : Type 0 where
@@ -177,11 +173,11 @@ pub record IsLargeInput (input : List ℕ) : Type 0 where
   pub says : IsInput input bundle
   pub large : IsTooLarge bundle
 
--- the input is a bundle whose graph is within its limit
+-- the input is a bundle whose graph is not too large
 pub record IsSmallInput (input : List ℕ) : Type 0 where
   pub bundle : Bundle
   pub says : IsInput input bundle
-  pub small : IsWithinLimit bundle
+  pub small : ¬ IsTooLarge bundle
 
 -- with this form as words, where no count of faults rose and memory sufficed, this is the status
 abbrev pub Always : Type 0 → ℕ → ℕ → ℕ → ℕ → Status → Status → Type 0

@@ -46,7 +46,7 @@ pub fn run<S: Source, K: Sink>(
         (S.faults source.old) (S.faults source.new) (K.faults sink.old) (K.faults sink.new) result Status.Done) }
     ensures made { (n : ℕ) → Always (IsForm (Make n) (map string_bytes words.now))
         (S.faults source.old) (S.faults source.new) (K.faults sink.old) (K.faults sink.new) result Status.Done }
-    ensures summed { (n : ℕ) → IsSmallInput (made_text n) → Always (IsForm (Sum n) (map string_bytes words.now))
+    ensures summed { (n : ℕ) → Always (IsForm (Sum n) (map string_bytes words.now))
         (S.faults source.old) (S.faults source.new) (K.faults sink.old) (K.faults sink.new) result Status.Done }
     // Reading stops at the first byte too many.
     ensures stops { ReadAtMost (input_limit + 1) (S.left source.old) (S.left source.new) }

@@ -25,7 +25,7 @@ pub returns-in_default-clause-made : goal.returns-in_default-clause-made
 returns-in_default-clause-made g c n = none_always _ (Make n) _ _ _ _ _ Done c.in_default.ensures.form
 
 pub returns-in_default-clause-summed : goal.returns-in_default-clause-summed
-returns-in_default-clause-summed g c n small = none_always _ (Sum n) _ _ _ _ _ Done c.in_default.ensures.form
+returns-in_default-clause-summed g c n = none_always _ (Sum n) _ _ _ _ _ Done c.in_default.ensures.form
 
 -- ---- what is due for a form was found
 

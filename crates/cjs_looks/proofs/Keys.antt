@@ -1,0 +1,60 @@
+-- The looks of members and calls, by numbers of tokens.
+use Rattle.std.specs.Prelude.{ℕ, Bool, true, false, List, [], ◌∷◌, Option, Some, None, option_map, slice_get, map, bytes_eq, codes, if◌then◌else◌}
+use Rattle.std.proofs.Common.{◌≡◌, refl, sym, ap, subst, ◌∙◌}
+use Rattle.base.specs.declared.range.Range.{Range}
+use Rattle.es_token.specs.declared.token.Token.{Token}
+use Rattle.es_ast.specs.declared.ast.Expr.{Expr}
+use Rattle.es_ast.specs.declared.ast.Expr.TheVariants as vExpr
+use Rattle.es_ast.specs.declared.ast.ClassMember.TheOpen.{Expr-F}
+use Rattle.es_dress.specs.Value.{Value, nil, more, given, as_group, group, part, first_of, behind, turns, is_there, expr_at}
+use Rattle.es_dress.specs.Texts.{span_of, str_of}
+use Rattle.es_dress.specs.Expressions.{argument, argument_of}
+use Rattle.es_call_views.specs.Args.{arguments}
+use Rattle.cjs_facts.specs.Looks.{Name, Look, named, text, member, requires, other, required_by, passed, call_by, call_of, bracket, odd_key, odd_object, object_of, look}
+use Rattle.cjs_facts.proofs.Rolls.{look_parts, look_roll}
+use Rattle.cjs_looks.specs.Seen.{Tells, text_of, text_at}
+use Rattle.cjs_looks.proofs.Given.{tells_given}
+
+-- a literal by itself is required once, and passed on after that
+pub required_twice : (x : List ℕ) (o : Option Token) → required_by (required_by (text_of x o)) ≡ other
+required_twice x None = refl
+required_twice x (Some t) = go (str_of x t).lone
+  where
+    go : (b : Bool) → required_by (if b then other else requires (str_of x t).value) ≡ other
+    go true = refl
+    go false = refl
+
+pub passed_text : (x : List ℕ) (o : Option Token) → passed (text_of x o) ≡ other
+passed_text x None = refl
+passed_text x (Some t) = refl
+
+pub passed_required : (x : List ℕ) (o : Option Token) → passed (required_by (text_of x o)) ≡ required_by (text_of x o)
+passed_required x None = refl
+passed_required x (Some t) = go (str_of x t).lone
+  where
+    go : (b : Bool) → passed (if b then other else requires (str_of x t).value)
+        ≡ (if b then other else requires (str_of x t).value)
+    go true = refl
+    go false = refl
+
+-- what is required names no member
+pub bracket_required : (x : List ℕ) (o : Option Token) → bracket (required_by (text_of x o)) ≡ odd_key
+bracket_required x None = refl
+bracket_required x (Some t) = go (str_of x t).lone
+  where
+    go : (b : Bool) → bracket (if b then other else requires (str_of x t).value) ≡ odd_key
+    go true = refl
+    go false = refl
+
+-- neither is a string or a call taken as an object
+pub object_text : (x : List ℕ) (o : Option Token) → object_of (text_of x o) ≡ odd_object
+object_text x None = refl
+object_text x (Some t) = refl
+
+pub object_required : (x : List ℕ) (o : Option Token) → object_of (required_by (text_of x o)) ≡ odd_object
+object_required x None = refl
+object_required x (Some t) = go (str_of x t).lone
+  where
+    go : (b : Bool) → object_of (if b then other else requires (str_of x t).value) ≡ odd_object
+    go true = refl
+    go false = refl

@@ -1,0 +1,74 @@
+-- What the kinds of expressions mean.
+use Rattle.std.specs.Prelude.{◌≡◌, ℕ, false, List, Option, Some, None, option_map}
+use Rattle.es_token.specs.declared.token.Token.{Token}
+use Rattle.es_ast.specs.declared.ast.Expr.{Expr, out-Expr}
+use Rattle.es_ast.specs.declared.ast.Prop.{Prop}
+use Rattle.es_ast.specs.declared.ast.Stmt.{Stmt}
+use Rattle.es_ast.specs.declared.ast.Function.{Function, out-Function}
+use Rattle.es_dress.specs.Value.{Value, turns, prop_at}
+use Rattle.es_dress.specs.Functions as functions
+use Rattle.es_dress.specs.TypedParts.{body_in}
+use Rattle.es_syntax.specs.Held.{held, valued}
+use Rattle.es_syntax.specs.Roles.{expr_in, stmt_in}
+use Rattle.cjs_facts.specs.Looks.{other, look, props_of, behind_zero, second_in, function_in, assigned_last, right_of}
+use Rattle.cjs_looks.specs.declared.kind.Kind.{Kind}
+use Rattle.cjs_looks.specs.declared.kind.Kind.TheVariants as kind
+use Rattle.cjs_looks.specs.declared.kind.Body.{Body}
+use Rattle.cjs_looks.specs.declared.kind.Body.TheVariants as vBody
+use Rattle.cjs_looks.specs.Odd.{All, Linked}
+use Rattle.cjs_looks.specs.Seen.{look_of}
+
+-- an object with these properties
+pub record IsObject (props : Option (List Prop)) (e : Expr) : Type 0 where
+  pub holds : props_of e ≡ props
+  pub looks : look e ≡ other
+  pub follows : behind_zero (out-Expr e) ≡ None
+  pub runs : function_in (out-Expr e) ≡ None
+  pub ends : assigned_last e ≡ None
+
+-- what stands behind the zero in brackets
+abbrev pub second_of : Option Expr → Option Expr
+second_of (Some e) = second_in (out-Expr e)
+second_of None = None
+
+-- brackets around this
+pub record IsParen (inner : Option Expr) (e : Expr) : Type 0 where
+  pub holds : props_of e ≡ None
+  pub looks : look e ≡ other
+  pub follows : behind_zero (out-Expr e) ≡ second_of inner
+  pub runs : function_in (out-Expr e) ≡ None
+  pub ends : assigned_last e ≡ None
+
+-- the body of a function
+abbrev pub body_by : Option Function → Option (Option Stmt)
+body_by f = option_map (λ f. (out-Function f).body) f
+
+-- a function with this body
+pub record IsFunction (body : Option (Option Stmt)) (e : Expr) : Type 0 where
+  pub holds : props_of e ≡ None
+  pub looks : look e ≡ other
+  pub follows : behind_zero (out-Expr e) ≡ None
+  pub runs : body_by (function_in (out-Expr e)) ≡ body
+  pub ends : assigned_last e ≡ None
+
+-- an assignment of this by `=`
+pub record IsAssignment (right : Option Expr) (e : Expr) : Type 0 where
+  pub holds : props_of e ≡ None
+  pub looks : look e ≡ other
+  pub follows : behind_zero (out-Expr e) ≡ None
+  pub runs : function_in (out-Expr e) ≡ None
+  pub ends : assigned_last e ≡ option_map right_of right
+
+module _ (x : List ℕ) (ts : List Token) where
+  abbrev pub body_of : Body → Option (Option Stmt)
+  body_of (vBody.Block block) = option_map Some (stmt_in (valued x ts block))
+  body_of (vBody.May block) = body_in (held x ts block.entries.now)
+  body_of (vBody.Arrow body) = option_map Some (functions.body_of ts (valued x ts body))
+
+  -- where the expression is there, it is of this kind
+  abbrev pub IsKind : Kind → Option Expr → Type 0
+  IsKind (kind.Plain l) e = All (Linked (look_of x ts l)) e
+  IsKind (kind.Object props) e = All (IsObject (turns (λ turn. prop_at turn 0) (held x ts props.entries.now))) e
+  IsKind (kind.Paren inner) e = All (IsParen (expr_in (valued x ts inner))) e
+  IsKind (kind.Function body) e = All (IsFunction (body_of body)) e
+  IsKind (kind.Assigned right) e = All (IsAssignment (expr_in (valued x ts right))) e
