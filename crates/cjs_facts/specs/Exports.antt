@@ -64,7 +64,7 @@ maybe with None f = f
 
 -- the module that a name stands for: the last that it was bound to
 abbrev pub var_in : List Var → Name → Option Name
-var_in vars name = fold (λ last (v : Var). if bytes_eq v.name name then Some v.module_name else last) None vars
+var_in vars name = fold (λ last (v : Var). if bytes_eq name v.name then Some v.module_name else last) None vars
 
 -- ---- words
 abbrev pub is_word : Name → Name → Bool

@@ -34,3 +34,22 @@ pub fn spells(text: &str, tokens: &[Token], at: u32, word: &str) -> bool
         None => word.is_empty(),
     }
 }
+
+/// Whether the tokens of these numbers spell the same. One that isn't there spells nothing.
+#[tactic(auto, unfolding(es_dress::specs::Texts::ident_of))]
+pub fn same_name(text: &str, tokens: &[Token], a: u32, b: u32) -> bool
+    ensures { result ≡ bytes_eq (name_at text.now tokens.now a) (name_at text.now tokens.now b) }
+{
+    name_bytes(text, tokens, a) == name_bytes(text, tokens, b)
+}
+
+/// The bytes of the token of this number; none where it isn't there.
+#[tactic(auto, unfolding(es_dress::specs::Texts::ident_of))]
+fn name_bytes<'a>(text: &'a str, tokens: &[Token], at: u32) -> &'a [u8]
+    ensures { result.now ≡ name_at text.now tokens.now at }
+{
+    match token_at(tokens, at) {
+        Some(token) => bytes_of(text, token),
+        None => &[],
+    }
+}

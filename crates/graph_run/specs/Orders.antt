@@ -1,5 +1,5 @@
 -- The order of a graph's modules, or a cycle of their static edges, line by line (this project's profile).
-use Rattle.std.specs.Prelude.{◌≡◌, ℕ, List, [], ◌++◌, codes, Option, Some, None, option_and_then, option_map, slice_get}
+use Rattle.std.specs.Prelude.{◌≡◌, ℕ, List, [], ◌++◌, codes, Option, Some, None, option_and_then, slice_get}
 use Rattle.std.specs.List.{flat_map}
 use Rattle.json.specs.Print.{quoted}
 use Rattle.url.specs.Parts.{Parts}

@@ -13,19 +13,50 @@ pub fn back_of(alloc: Global, links: &[Items<usize>]) -> Result<Vec<Items<usize>
     ensures len { IfOk result (λ back. length back.items ≡ length links.now) }
     ensures back { IfOk result (λ back. AreBack links.now back.items) }
 {
-    let mut back = empty_lists(alloc, links.len())?;
+    let mut back = empty_lists(alloc, links)?;
     for node in 0..links.len() {
         add_links(&mut back, node, links[node].as_slice())?;
     }
     Ok(back)
 }
 
-fn empty_lists(alloc: Global, count: usize) -> Result<Vec<Items<usize>>, AllocError>
-    ensures { IfOk result (λ lists. length lists.items ≡ count) }
+// How many links lead to each node.
+fn counts_of(alloc: Global, links: &[Items<usize>]) -> Result<Vec<usize>, AllocError>
+    requires { AreWithin links.now }
+    ensures { IfOk result (λ counts. length counts.items ≡ length links.now) }
 {
-    let mut lists = Vec::with_capacity(alloc, count)?;
-    for _ in 0..count {
-        lists.push(Items::new(alloc))?;
+    let mut counts = vec![in alloc; 0; links.len()]?;
+    for node in 0..links.len() {
+        count_links(&mut counts, links[node].as_slice());
+    }
+    Ok(counts)
+}
+
+fn count_links(counts: &mut Vec<usize>, targets: &[usize])
+    requires { AllByRecursion (λ t. t < length counts.old.items) targets.now }
+    ensures { length counts.new.items ≡ length counts.old.items }
+{
+    for target in targets {
+        count_link(counts, *target);
+    }
+}
+
+fn count_link(counts: &mut Vec<usize>, target: usize)
+    requires { target < length counts.old.items }
+    ensures { length counts.new.items ≡ length counts.old.items }
+{
+    counts[target] = counts[target].saturating_add(1);
+}
+
+// For each node an empty list with room for those that have a link to it.
+fn empty_lists(alloc: Global, links: &[Items<usize>]) -> Result<Vec<Items<usize>>, AllocError>
+    requires { AreWithin links.now }
+    ensures { IfOk result (λ lists. length lists.items ≡ length links.now) }
+{
+    let counts = counts_of(alloc, links)?;
+    let mut lists = Vec::with_capacity(alloc, links.len())?;
+    for count in counts.as_slice() {
+        lists.push(Items::from_vec(Vec::with_capacity(alloc, *count)?))?;
     }
     Ok(lists)
 }

@@ -1,0 +1,2 @@
+-- what strings and names say
+pub mod Strings

@@ -1,0 +1,2 @@
+-- what looks say of modules and names
+pub mod Values
