@@ -2,8 +2,9 @@
 import base64
 import binascii
 import json
+import re
 from bisect import bisect_right
-from urllib.parse import unquote
+from urllib.parse import unquote, unquote_to_bytes
 
 from parts import urls
 
@@ -29,6 +30,8 @@ class Bundle:
 
     def bytes_of(self, specifier):
         """The bytes that a module has, or None."""
+        if specifier.startswith("data:"):
+            return held_by(specifier)
         module = self.modules.get(specifier, {})
         if "text" in module:
             return module["text"].encode("utf-8", "surrogatepass")
@@ -45,6 +48,21 @@ class Bundle:
             data = self.bytes_of(specifier)
             self.sources[specifier] = None if data is None else Source(data)
         return self.sources[specifier]
+
+
+def held_by(url):
+    """The bytes that a data: URL holds, or None, by the rules of crates/data_specifier."""
+    front, comma, body = url[len("data:"):].partition("#")[0].partition(",")
+    data = unquote_to_bytes(body)
+    if not re.search(r"; *base64 *$", front, re.IGNORECASE):
+        return data if comma else None
+    digits = re.sub(rb"[\t\n\f\r ]", b"", data)
+    if len(digits) % 4 == 0:
+        digits = re.sub(rb"={1,2}$", b"", digits)
+    try:
+        return base64.b64decode(digits + b"=" * (-len(digits) % 4), validate=True)
+    except binascii.Error:
+        return None
 
 
 def url_of(text):
@@ -64,6 +82,14 @@ class Source:
 
     def text(self):
         return self.data.decode("utf-8", "replace")
+
+    def no_utf8(self):
+        """The first byte that is no UTF-8, or None; the mark isn't counted."""
+        try:
+            self.data.decode("utf-8")
+        except UnicodeDecodeError as error:
+            return error.start
+        return None
 
     def lines(self):
         if self.starts is None:

@@ -1,6 +1,7 @@
 """The faults of a graph, each with its places in the sources and one sentence."""
 import collections
 import json
+import re
 
 from parts import places, report
 from parts.bundles import shown
@@ -14,6 +15,7 @@ WORDS = {"Missing": "missing", "Parse": "parse", "Decode": "parse", "WasmParse":
 OF_ENTRY = {
     "Missing": "there is no such module in the bundle",
     "Loading": "the module couldn't be loaded",
+    "WasmParse": "its bytes are no WebAssembly module, as far as its imports and exports go",
     "TooManyRedirects": "more than ten redirects, or some that never end",
     "UnsupportedMediaType": "no module is read from content of this media type",
     "DataUrl": "the data: URL holds nothing",
@@ -56,8 +58,13 @@ def of_graph(graph, bundle, are_read, reasons=None):
 
 
 def is_in_itself(entry):
-    """Whether the fault is in the module's own bytes."""
-    return entry.fault().split(" ")[0] in ("Parse", "Decode", "WasmParse")
+    """Whether the fault has a place in the module's own text."""
+    return entry.fault().split(" ")[0] in ("Parse", "Decode")
+
+
+def is_unread(entry):
+    """Whether an entry's bytes are refused, with or without a place."""
+    return entry.is_faulty() and word_of(entry) == "parse"
 
 
 def said_of_entry(entry):
@@ -99,28 +106,34 @@ def of_edge(graph, entry, edge, reasons):
 
 
 def in_itself(entry, bundle, are_read):
-    """The fault of a module whose own bytes are refused, with its place."""
+    """The fault of a module whose own text is refused, with its place."""
     name = entry.fault().split(" ")[0]
     source = bundle.source(entry.specifier)
     if source is None:
         return Fault(name, entry.specifier, None, None, f"its content isn't in the bundle, and it is in error: {entry.fault()}")
     if name == "Decode":
         return at_byte_no_utf8(entry, source)
-    if name == "WasmParse":
-        return Fault(name, entry.specifier, None, None, "these bytes are no WebAssembly module, as far as its imports and exports go")
-    text = source.text()
-    start, length, what = places.fault_of(text, entry.specifier, lambda texts: are_read(entry.specifier, texts))
+    text, named = source.text(), named_as(entry.specifier)
+    start, length, what = places.fault_of(text, named, lambda texts: are_read(named, texts))
     first = places.scan.bytes_before(text, start)
     return Fault(name, entry.specifier, first, first + places.scan.bytes_before(text[start:], length), what)
 
 
+def named_as(specifier):
+    """A specifier whose ending tells the language: of a data: URL by its media type."""
+    if not specifier.startswith("data:"):
+        return specifier
+    essence = re.split("[;,]", specifier[len("data:"):])[0].strip().lower()
+    kind = essence.rpartition("/")[2].removeprefix("x-")
+    return "file:///data." + {"typescript": "ts", "mp2t": "ts", "jsx": "jsx", "tsx": "tsx"}.get(kind, "js")
+
+
 def at_byte_no_utf8(entry, source):
-    try:
-        source.data.decode("utf-8")
-    except UnicodeDecodeError as error:
-        at = error.start
-        return Fault("Decode", entry.specifier, at, at + 1, f"byte {at:,} (0x{source.data[at]:02x}) is no UTF-8")
-    return Fault("Decode", entry.specifier, None, None, "these bytes are no UTF-8")
+    """Bytes count from 0 and from the front of the file, a byte order mark too."""
+    at = source.no_utf8()
+    if at is None:
+        return Fault("Decode", entry.specifier, None, None, "these bytes are no UTF-8")
+    return Fault("Decode", entry.specifier, at, at + 1, f"byte {source.mark + at:,} (0x{source.data[at]:02x}) is no UTF-8")
 
 
 def lines_of(fault, bundle, front=""):

@@ -263,4 +263,32 @@ def fault_of(text, specifier, are_read):
     reason = reason_at(search, number, specifier)
     if token is None:
         return len(text), 1, reason
+    if reason.endswith("can't stand here"):
+        reason = reason_by_asking(search, number) or reason
     return token.start, max(1, token.end - token.start), reason
+
+
+def reason_by_asking(search, number):
+    """A sentence on a token that the language has here and this project leaves out, as shown by what is read in its place."""
+    text, token = search.text, search.tokens[number]
+    if token.line_before and (token.is_sign("(", "[", "+", "-", "/") or token.kind in ("template", "head")):
+        if search.ask([text[:token.start] + ";" + text[token.start:]]) == [True]:
+            return f"'{shortened(token.text)}' can't go on with the line above: put a ; in front, as the language does and this project doesn't"
+    if token.is_sign("+", "-", "*", "/", "%", "**", "<<", ">"):
+        cast = before_at_level(search.tokens, number, ("as", "satisfies"))
+        if cast is not None and search.ask([text[:search.tokens[cast].start] + text[token.start:]]) == [True]:
+            return f"an operator right behind {search.tokens[cast].text} and its type, {LEFT_OUT}: put what stands before it in brackets"
+    return None
+
+
+def before_at_level(tokens, number, words):
+    """The number of the last of these words before a token, in the same brackets and the same statement, or None."""
+    at = number - 1
+    while at >= 0 and not tokens[at].is_sign(";", ",", "="):
+        token = tokens[at]
+        if token.is_word(*words):
+            return at
+        if token.mate is not None and token.mate > at:
+            return None
+        at = token.mate - 1 if token.mate is not None else at - 1
+    return None

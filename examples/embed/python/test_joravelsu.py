@@ -89,6 +89,15 @@ class Sites(unittest.TestCase):
             (b" " * (1 << 24) + b" ", joravelsu.MJS, 6, None),
             (b'import "a', joravelsu.MJS, 10, 7),
             (b"import", joravelsu.MJS, 11, 6),
+            (b"let a = 1;\n" * 900 + b"1 = 2\nlet b;\n", joravelsu.MJS, 11, 9900),
+            (b"b; a++ = 1", joravelsu.MJS, 11, 3),
+            (b"for (1 of b);", joravelsu.MJS, 11, 5),
+            (b"if (a) for (f() in b);", joravelsu.MJS, 11, 12),
+            (b"a = b = f() += 1", joravelsu.MJS, 11, 8),
+            (b"a; ++f()", joravelsu.MJS, 11, 3),
+            (b"({ a, b: [c, 1] } = d)", joravelsu.MJS, 11, 13),
+            (b"a;\n(b + c as d) = e", joravelsu.TYPESCRIPT, 11, 3),
+            (b"a b", joravelsu.MJS, 11, 2),
         ]
         for text, media_type, status, place in rows:
             with self.assertRaises(joravelsu.SourceError) as caught:
