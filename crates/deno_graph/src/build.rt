@@ -1,5 +1,5 @@
 //! The builder: asks a loader for all that is reached, and makes the graph of its answers.
-ghost use Rattle.std.specs.Prelude.{◌≡◌, ◌≤◌, ℕ, true, false, ◌↔◌, length, map, IfOk, OnOk, Err};
+ghost use Rattle.std.specs.Prelude.{◌≡◌, ◌≤◌, ℕ, true, false, ◌↔◌, length, map, IfOk, IfErr, OnOk, Err};
 ghost use Rattle.url.specs.Parts.{Parts};
 ghost use Rattle.graph_entry.specs.Specifier.{text_of};
 ghost use Rattle.graph_entry.specs.Resolution.{resolve, resolve_by};
@@ -17,7 +17,7 @@ use crate::loader::Loader;
 use crate::options::BuildOptions;
 use base::Items;
 use graph_entry::{DefaultResolver, ModuleAnalyzer, ParserModuleAnalyzer, Resolver};
-use std::alloc::{AllocError, Global};
+use std::alloc::{AllocError, AllocFailed, Global};
 use url::Url;
 
 /// A graph under construction, over a loader. It keeps an inner part, which contracts see as plain data.
@@ -27,14 +27,16 @@ pub struct GraphBuild<L: Loader + Drop> {
 }
 
 impl<L: Loader + Drop> GraphBuild<L> {
-    /// A builder of the graph of these roots. The loader's lists count from now on.
+    /// A builder of the graph of these roots. The loader's lists count from now on. Where memory runs out, the loader comes
+    /// back as it was: it was asked nothing.
     pub fn new(
         alloc: Global,
         roots: Items<Url>,
         options: BuildOptions,
         loader: L,
-    ) -> Result<GraphBuild<L>, AllocError>
-        ensures { IfOk result (λ b. b.inner ≡ new_building roots options loader (L.seen loader)) }
+    ) -> Result<GraphBuild<L>, AllocFailed<L>>
+        ensures built { IfOk result (λ b. b.inner ≡ new_building roots options loader (L.seen loader)) }
+        ensures returned { IfErr result (λ e. e.value ≡ loader) }
     {
         let BuildOptions {
             kind,
@@ -46,9 +48,8 @@ impl<L: Loader + Drop> GraphBuild<L> {
             kind,
             skip_dynamic_deps,
         };
-        Ok(GraphBuild {
-            inner: Inner::new(alloc, following, roots, imports, limit, loader)?,
-        })
+        let inner = Inner::new(alloc, following, roots, imports, limit, loader)?;
+        Ok(GraphBuild { inner })
     }
 
     /// The same builder with a resolver of the caller's. It begins anew: the loader's lists count from now on.

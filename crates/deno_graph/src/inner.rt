@@ -1,5 +1,5 @@
 //! The inner part of a builder: asks a loader for all that is reached, and makes the graph of its answers.
-ghost use Rattle.std.specs.Prelude.{◌≡◌, ◌≤◌, ℕ, true, false, ◌↔◌, length, map, IfOk, OnOk, Err};
+ghost use Rattle.std.specs.Prelude.{◌≡◌, ◌≤◌, ℕ, true, false, ◌↔◌, length, map, IfOk, IfErr, OnOk, Err};
 ghost use Rattle.url.specs.Parts.{Parts as UrlParts};
 ghost use Rattle.graph_entry.specs.Specifier.{text_of};
 ghost use Rattle.graph_entry.specs.Referrer.{referred_by, starts_by};
@@ -18,7 +18,7 @@ use crate::reaching::Reaching;
 use crate::ways::Ways;
 use base::Items;
 use graph_entry::ReferrerImports;
-use std::alloc::{AllocError, Global};
+use std::alloc::{AllocFailed, Global};
 use std::marker::Model;
 use url::Url;
 
@@ -68,11 +68,14 @@ impl<L: Loader + Drop, W: Ways + Drop> Inner<L, W> {
         imports: Items<ReferrerImports>,
         limit: usize,
         loader: L,
-    ) -> Result<Inner<L, W>, AllocError>
-        ensures { IfOk result (λ b. b
+    ) -> Result<Inner<L, W>, AllocFailed<L>>
+        ensures built { IfOk result (λ b. b
             ≡ new_building_by following (W.resolves following) roots imports limit loader (L.seen loader)) }
+        ensures returned { IfErr result (λ e. e.value ≡ loader) }
     {
-        let starts = following.starts(alloc, roots.as_slice(), imports.as_slice())?;
+        let Ok(starts) = following.starts(alloc, roots.as_slice(), imports.as_slice()) else {
+            return Err(AllocFailed { value: loader });
+        };
         Ok(Inner {
             alloc,
             loader,

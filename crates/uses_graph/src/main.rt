@@ -11,7 +11,7 @@ use crate::polls::poll_for;
 use crate::told::lines;
 use base::Items;
 use deno_graph::{BuildOptions, GraphBuild, GraphKind};
-use std::alloc::Global;
+use std::alloc::{AllocError, Global};
 use url::Url;
 
 fn main(rt: HostRuntime) -> anyhow::Result<()> {
@@ -35,5 +35,6 @@ fn begin(alloc: Global) -> anyhow::Result<GraphBuild<CountingLoader>> {
         imports: Items::new(alloc),
     };
     let loader = CountingLoader::new(alloc)?;
-    Ok(GraphBuild::new(alloc, roots, options, loader)?)
+    let build = GraphBuild::new(alloc, roots, options, loader);
+    Ok(build.map_err(AllocError::from)?)
 }

@@ -11,6 +11,6 @@ invariant_of-result g c =
     let by = g.W.Ways.resolves c.args.following in
     inside_new (rules_by (g.W.Ways.means c.args.following) (g.W.Ways.follows c.args.following)) by c.args.roots
     c.args.imports _
-    (c.in_ok-starts.ensures ∙ ap (λ (rs : List Parts). starts_by by rs c.as_slice-2.result.now) c.as_slice.ensures
+    (c.in-Ok.ensures ∙ ap (λ (rs : List Parts). starts_by by rs c.as_slice-2.result.now) c.as_slice.ensures
     ∙ ap (starts_by by c.args.roots) c.as_slice-2.ensures)
     refl refl refl c.new.ensures.reached c.new.ensures.next
