@@ -18,3 +18,5 @@ pub mod Assignments
 pub mod Plain
 -- arguments
 pub mod Args
+-- which forms are harmless
+pub mod Harms

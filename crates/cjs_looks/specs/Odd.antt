@@ -1,5 +1,5 @@
 -- Expressions that are none of those that are looked at.
-use Rattle.std.specs.Prelude.{◌≡◌, false, Option, None, IfSome}
+use Rattle.std.specs.Prelude.{◌≡◌, Bool, false, Option, None, IfSome}
 use Rattle.es_ast.specs.declared.ast.Expr.{Expr, out-Expr}
 use Rattle.cjs_facts.specs.Looks.{Look, other, look, is_harmless, props_of, behind_zero, function_in, assigned_last}
 
@@ -40,3 +40,7 @@ pub record IsAssigning (e : Expr) : Type 0 where
   pub holds : props_of e ≡ None
   pub follows : behind_zero (out-Expr e) ≡ None
   pub runs : function_in (out-Expr e) ≡ None
+
+-- it is harmless, or not
+abbrev pub Harms : Bool → Expr → Type 0
+Harms is e = is_harmless e ≡ is
