@@ -1,9 +1,8 @@
 -- What arguments look like.
 use Rattle.std.specs.Prelude.{ℕ, Bool, true, false, List, [], ◌∷◌, Option, Some, None, option_map, map, bytes_eq, codes, if◌then◌else◌}
 use Rattle.std.proofs.Common.{◌≡◌, refl, sym, ap, subst, ◌∙◌}
-use Rattle.base.specs.declared.range.Range.{Range}
 use Rattle.es_token.specs.declared.token.Token.{Token}
-use Rattle.es_ast.specs.declared.ast.Expr.{Expr, roll-Expr}
+use Rattle.es_ast.specs.declared.ast.Expr.{Expr}
 use Rattle.es_ast.specs.declared.ast.Expr.TheVariants as vExpr
 use Rattle.es_ast.specs.declared.ast.ClassMember.TheOpen.{Expr-F}
 use Rattle.es_dress.specs.Value.{Value, nil, more, given, as_group, group, part, first_of, behind, turns, is_there, expr_at}

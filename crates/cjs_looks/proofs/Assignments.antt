@@ -1,5 +1,5 @@
 -- Assignments, by `=` and by other signs.
-use Rattle.std.specs.Prelude.{ℕ, ◌+◌, ◌-◌, ◌==◌, Bool, true, false, List, [], ◌∷◌, Option, Some, None, option_map, unwrap_or, slice_get, IfSome, if◌then◌else◌}
+use Rattle.std.specs.Prelude.{ℕ, ◌-◌, ◌==◌, Bool, true, false, List, [], ◌∷◌, Option, Some, None, option_map, slice_get, IfSome, if◌then◌else◌}
 use Rattle.std.proofs.Common.{◌≡◌, refl, sym, ap, subst, ◌∙◌}
 use Rattle.base.specs.declared.range.Range.{Range}
 use Rattle.es_token.specs.declared.token.Token.{Token}
@@ -16,16 +16,15 @@ use Rattle.es_ast.specs.declared.ast.Pat.{Pat}
 use Rattle.es_ast.specs.declared.ast.Pat.TheVariants as vPat
 use Rattle.es_ast.specs.declared.ast.ClassMember.TheOpen.{Expr-F}
 use Rattle.es_site.specs.Parts.{ExprParts}
-use Rattle.es_dress.specs.Value.{Value, absent, nil, more, token, node, given, typed, behind}
-use Rattle.es_dress.specs.Operators.{listed, assign_ops, greater_assign, assign_of, assign_between, kind_there}
+use Rattle.es_dress.specs.Value.{Value, absent, nil, more, token, node, given, behind}
+use Rattle.es_dress.specs.Operators.{listed, assign_ops, greater_assign, assign_of, assign_between}
 use Rattle.es_syntax.specs.Places.{place_of}
 use Rattle.es_syntax.specs.Roles.{expr_in}
 use Rattle.es_operator_views.specs.Operator as operator
-use Rattle.cjs_facts.specs.Looks.{Look, other, look, in_look, props_in, props_of, behind_zero, function_in, in_assigned, assigned_last, right_of}
+use Rattle.cjs_facts.specs.Looks.{other, look, props_in, props_of, behind_zero, function_in, in_assigned, assigned_last, right_of}
 use Rattle.cjs_facts.proofs.Rolls.{look_roll, assigned_parts, assigned_roll}
 use Rattle.cjs_looks.specs.Odd.{All, Linked}
 use Rattle.cjs_looks.specs.Kinds.{IsAssignment}
-use Rattle.cjs_looks.proofs.Given.{all_given, all_one}
 use Rattle.cjs_looks.proofs.Odd.{plain}
 
 assignment_at : (left : Pat) (right : Expr) (r : Range)

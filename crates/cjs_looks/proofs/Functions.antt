@@ -1,6 +1,6 @@
 -- Functions by their bodies.
 use Rattle.std.specs.Prelude.{ℕ, Bool, false, List, [], ◌∷◌, Option, Some, None, option_map}
-use Rattle.std.proofs.Common.{◌≡◌, refl, sym, ap, ◌∙◌}
+use Rattle.std.proofs.Common.{◌≡◌, sym, ap, ◌∙◌}
 use Rattle.base.specs.declared.range.Range.{Range}
 use Rattle.es_token.specs.declared.token.Token.{Token}
 use Rattle.ts_ast.specs.declared.leaf.Ident.{Ident}
@@ -10,7 +10,7 @@ use Rattle.es_ast.specs.declared.ast.Expr.{Expr, roll-Expr, out-Expr, out-roll-E
 use Rattle.es_ast.specs.declared.ast.Expr.TheVariants as vExpr
 use Rattle.es_ast.specs.declared.ast.Param.{Param}
 use Rattle.es_ast.specs.declared.ast.Stmt.{Stmt}
-use Rattle.es_ast.specs.declared.ast.Function.{Function as AFunction, roll-Function, out-Function, out-roll-Function}
+use Rattle.es_ast.specs.declared.ast.Function.{Function as AFunction, roll-Function, out-roll-Function}
 use Rattle.es_ast.specs.declared.ast.ClassMember.TheOpen.{Expr-F, Function-F}
 use Rattle.es_site.specs.Parts.{Whole, ExprParts}
 use Rattle.es_dress.specs.Value.{Value, Signature, given, optional, type_at, type_params_at}
@@ -20,11 +20,11 @@ use Rattle.es_dress.specs.TypedFunctions.{typed_function_of}
 use Rattle.es_dress.specs.TypedParts.{body_in}
 use Rattle.es_function_views.specs.Function as fn
 use Rattle.es_function_views.specs.Head as head
-use Rattle.cjs_facts.specs.Looks.{Look, other, look, in_look, props_in, props_of, behind_zero, function_in, assigned_last}
+use Rattle.cjs_facts.specs.Looks.{look, props_in, props_of, behind_zero, function_in, assigned_last}
 use Rattle.cjs_facts.proofs.Rolls.{look_roll, assigned_roll}
 use Rattle.cjs_looks.specs.Odd.{All}
 use Rattle.cjs_looks.specs.Kinds.{IsFunction, body_by}
-use Rattle.cjs_looks.proofs.Given.{all_given, all_one}
+use Rattle.cjs_looks.proofs.Given.{all_given}
 
 fn_at : (w : Whole Function-F) → IsFunction (Some w.body) (vExpr.Fn (roll-Function w))
 unfolding props_of

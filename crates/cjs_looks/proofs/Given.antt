@@ -1,5 +1,5 @@
 -- What holds of what is made of parts that may not be there.
-use Rattle.std.specs.Prelude.{Option, Some, None, option_map, IfSome}
+use Rattle.std.specs.Prelude.{Option, Some, None, option_map}
 use Rattle.std.proofs.Common.{◌≡◌}
 use Rattle.es_dress.specs.Value.{given}
 use Rattle.es_ast.specs.declared.ast.Expr.{Expr}

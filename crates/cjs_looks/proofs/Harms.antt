@@ -1,5 +1,5 @@
 -- Which forms are harmless.
-use Rattle.std.specs.Prelude.{ℕ, ◌+◌, Bool, true, false, ◌&&◌, List, [], ◌∷◌, ◌++◌, Option, Some, None, option_map, slice_range, if◌then◌else◌}
+use Rattle.std.specs.Prelude.{ℕ, ◌+◌, Bool, true, false, ◌&&◌, List, [], ◌∷◌, ◌++◌, Option, Some, None, option_map, if◌then◌else◌}
 use Rattle.std.proofs.Common.{◌≡◌, refl, sym, ap, subst, ◌∙◌}
 use Rattle.base.specs.declared.range.Range.{Range}
 use Rattle.es_token.specs.declared.token.Token.{Token}
@@ -14,12 +14,12 @@ use Rattle.es_ast.specs.declared.ast.Expr.{Expr, roll-Expr}
 use Rattle.es_ast.specs.declared.ast.Expr.TheVariants as vExpr
 use Rattle.es_ast.specs.declared.ast.ClassMember.TheOpen.{Expr-F}
 use Rattle.es_site.specs.Parts.{ExprParts}
-use Rattle.es_dress.specs.Value.{Value, absent, nil, more, token, node, given, as_group, part, turns, optional}
+use Rattle.es_dress.specs.Value.{Value, absent, nil, more, token, node, given, as_group, turns, optional}
 use Rattle.es_dress.specs.Value.{arguments_at, args_at, post_at, expr_at, prop_at}
 use Rattle.es_dress.specs.Texts.{ident_of, str_of, regex_of, numeric_of, piece_of, piece_there, property_of, token_of}
 use Rattle.es_dress.specs.Expressions.{Post, chained, from_byte, member_of, index_of, call_of, tagged_of, word_of}
-use Rattle.es_dress.specs.Expressions.{elements, optional_of, optional_inner}
-use Rattle.es_dress.specs.TypedExpressions.{typed_call_of, typed_tagged_of, typed_optional_of, typed_optional_inner}
+use Rattle.es_dress.specs.Expressions.{elements, optional_inner}
+use Rattle.es_dress.specs.TypedExpressions.{typed_call_of, typed_tagged_of}
 use Rattle.es_dress.specs.TypedExpressions.{typed_call, non_null_of}
 use Rattle.es_dress.specs.TypedParts.{args_part_at}
 use Rattle.es_syntax.specs.Roles.{expr_in}

@@ -1,19 +1,10 @@
 -- The looks of members and calls, by numbers of tokens.
-use Rattle.std.specs.Prelude.{ℕ, Bool, true, false, List, [], ◌∷◌, Option, Some, None, option_map, slice_get, map, bytes_eq, codes, if◌then◌else◌}
-use Rattle.std.proofs.Common.{◌≡◌, refl, sym, ap, subst, ◌∙◌}
-use Rattle.base.specs.declared.range.Range.{Range}
+use Rattle.std.specs.Prelude.{ℕ, Bool, true, false, List, Option, Some, None, if◌then◌else◌}
+use Rattle.std.proofs.Common.{◌≡◌, refl}
 use Rattle.es_token.specs.declared.token.Token.{Token}
-use Rattle.es_ast.specs.declared.ast.Expr.{Expr}
-use Rattle.es_ast.specs.declared.ast.Expr.TheVariants as vExpr
-use Rattle.es_ast.specs.declared.ast.ClassMember.TheOpen.{Expr-F}
-use Rattle.es_dress.specs.Value.{Value, nil, more, given, as_group, group, part, first_of, behind, turns, is_there, expr_at}
-use Rattle.es_dress.specs.Texts.{span_of, str_of}
-use Rattle.es_dress.specs.Expressions.{argument, argument_of}
-use Rattle.es_call_views.specs.Args.{arguments}
-use Rattle.cjs_facts.specs.Looks.{Name, Look, named, text, member, requires, other, required_by, passed, call_by, call_of, bracket, odd_key, odd_object, object_of, look}
-use Rattle.cjs_facts.proofs.Rolls.{look_parts, look_roll}
-use Rattle.cjs_looks.specs.Seen.{Tells, text_of, text_at}
-use Rattle.cjs_looks.proofs.Given.{tells_given}
+use Rattle.es_dress.specs.Texts.{str_of}
+use Rattle.cjs_facts.specs.Looks.{requires, other, required_by, passed, bracket, odd_key, odd_object, object_of}
+use Rattle.cjs_looks.specs.Seen.{text_of}
 
 -- a literal by itself is required once, and passed on after that
 pub required_twice : (x : List ℕ) (o : Option Token) → required_by (required_by (text_of x o)) ≡ other

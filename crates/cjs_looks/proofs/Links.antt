@@ -1,5 +1,5 @@
 -- What each further part of a chain makes.
-use Rattle.std.specs.Prelude.{ℕ, Bool, true, false, List, [], ◌∷◌, Option, Some, None, option_map, slice_get, map, IfSome, if◌then◌else◌}
+use Rattle.std.specs.Prelude.{ℕ, Bool, true, false, List, [], ◌∷◌, Option, Some, None, option_map, map, if◌then◌else◌}
 use Rattle.std.proofs.Common.{◌≡◌, refl, sym, ap, subst, ◌∙◌}
 use Rattle.base.specs.declared.range.Range.{Range}
 use Rattle.es_token.specs.declared.token.Token.{Token}
@@ -8,20 +8,18 @@ use Rattle.es_tree.specs.Key.{same_kind}
 use Rattle.ts_ast.specs.declared.leaf.Ident.{Ident}
 use Rattle.ts_ast.specs.declared.ts.TsPart.{TsPart}
 use Rattle.ts_ast.specs.declared.ts.TsPart.TheVariants as vPart
-use Rattle.es_ast.specs.declared.ast.Expr.{Expr, roll-Expr, out-Expr, out-roll-Expr}
+use Rattle.es_ast.specs.declared.ast.Expr.{Expr}
 use Rattle.es_ast.specs.declared.ast.Expr.TheVariants as vExpr
 use Rattle.es_ast.specs.declared.ast.ClassMember.TheOpen.{Expr-F}
-use Rattle.es_site.specs.Parts.{ExprParts}
-use Rattle.es_dress.specs.Value.{Value, absent, nil, more, token, node, given, as_group, part, turns, typed, optional, arguments_at, args_at, post_at}
+use Rattle.es_dress.specs.Value.{Value, absent, nil, more, token, node, given, as_group, turns, optional, arguments_at, args_at, post_at}
 use Rattle.es_dress.specs.Texts.{ident_of, private_of, property_of, token_of}
-use Rattle.es_dress.specs.Expressions.{Post, chained, from_byte, member_of, index_of, call_of, tagged_of, optional_of, optional_inner}
-use Rattle.es_dress.specs.TypedExpressions.{typed_call_of, typed_tagged_of, typed_optional_of, typed_optional_inner, typed_call, non_null_of}
+use Rattle.es_dress.specs.Expressions.{Post, chained, from_byte, member_of, index_of, call_of, tagged_of, optional_inner}
+use Rattle.es_dress.specs.TypedExpressions.{typed_call_of, typed_tagged_of, typed_call, non_null_of}
 use Rattle.es_dress.specs.TypedParts.{args_part_at}
 use Rattle.es_call_views.specs.Post as post
 use Rattle.es_call_views.specs.Call.{chained_of}
-use Rattle.cjs_facts.specs.Looks.{Name, Look, named, text, member, requires, other, object_of, dot, dotted, bracket, call_of as called, look, in_look, props_in, props_of, behind_zero, function_in, in_assigned, assigned_last}
-use Rattle.cjs_facts.proofs.Rolls.{look_parts, look_roll, assigned_parts, assigned_roll}
-use Rattle.cjs_looks.specs.Odd.{All, IsPlain, Looks, Linked}
+use Rattle.cjs_facts.specs.Looks.{Look, member, other, object_of, dot, dotted, bracket, call_of as called, look}
+use Rattle.cjs_looks.specs.Odd.{All, Looks, Linked}
 use Rattle.cjs_looks.specs.Posts.{Makes, AllMake}
 use Rattle.cjs_looks.specs.Seen.{Tells, name_of}
 use Rattle.cjs_looks.proofs.Odd.{plain}

@@ -1,5 +1,5 @@
 -- The forms that are none of those that are looked at.
-use Rattle.std.specs.Prelude.{ℕ, Bool, true, false, List, [], ◌∷◌, Option, Some, None, option_map, slice_get, if◌then◌else◌}
+use Rattle.std.specs.Prelude.{ℕ, Bool, true, false, List, ◌∷◌, Option, Some, None, option_map, if◌then◌else◌}
 use Rattle.std.proofs.Common.{◌≡◌, refl, sym, ap, ◌∙◌}
 use Rattle.base.specs.declared.range.Range.{Range}
 use Rattle.es_token.specs.declared.token.Token.{Token}
@@ -11,29 +11,17 @@ use Rattle.es_ast.specs.declared.ast.Expr.{Expr, roll-Expr, out-Expr, out-roll-E
 use Rattle.es_ast.specs.declared.ast.Expr.TheVariants as vExpr
 use Rattle.es_ast.specs.declared.ast.Pat.{Pat}
 use Rattle.es_ast.specs.declared.ast.Pat.TheVariants as vPat
-use Rattle.es_ast.specs.declared.leaf.BinaryOp.TheVariants as vBinary
 use Rattle.es_ast.specs.declared.ast.ClassMember.TheOpen.{Expr-F}
 use Rattle.es_site.specs.Parts.{ExprParts}
-use Rattle.es_whole_grammar.specs.declared.rows.Label.TheVariants as l
-use Rattle.es_dress.specs.Value.{Value, absent, nil, more, token, node, given, first_of, behind, part, group, optional, turns, expr_at, args_at, arguments_at, as_group}
+use Rattle.es_dress.specs.Value.{Value, absent, nil, more, token, node, given, part, turns, expr_at}
 use Rattle.es_dress.specs.Texts.{kind_at, private_of}
 use Rattle.es_dress.specs.Operators.{listed, unary_ops, update_ops, binary_between, assign_between}
-use Rattle.es_dress.specs.Expressions.{binary, yield_of, new_of}
-use Rattle.es_dress.specs.TypedExpressions.{typed_binary, typed_new_of, turned_by, asserted_by}
-use Rattle.es_dress.specs.Dress.{build, expr_of}
-use Rattle.es_syntax.specs.declared.entry.Lean.{Lean}
-use Rattle.es_syntax.specs.declared.entry.Lean.TheVariants as vLean
-use Rattle.es_syntax.specs.declared.entry.What.{What}
-use Rattle.es_syntax.specs.Held.{Held, held, valued, parts_of, label_of, node_of, leaning, leaned}
-use Rattle.es_syntax.specs.Roles.{expr_in}
+use Rattle.es_dress.specs.Expressions.{yield_of}
+use Rattle.es_dress.specs.TypedExpressions.{turned_by, asserted_by}
 use Rattle.es_operator_views.specs.Operator as operator
-use Rattle.es_operator_views.specs.Lean as lean
-use Rattle.es_operator_views.specs.declared.lean.Chain.{Chain}
-use Rattle.es_operator_views.specs.declared.operator.Operator.{Operator}
-use Rattle.es_operator_views.specs.declared.operator.Operator.TheVariants as o
 use Rattle.cjs_facts.specs.Looks.{Look, other, look, in_look, is_harmless, in_harmless, props_in, props_of, behind_zero, function_in, in_assigned, assigned_last}
 use Rattle.cjs_facts.proofs.Rolls.{look_parts, look_roll, harmless_parts, harmless_roll, assigned_parts, assigned_roll}
-use Rattle.cjs_looks.specs.Odd.{All, IsPlain, Linked, IsNothing, IsRunning, IsAssigning}
+use Rattle.cjs_looks.specs.Odd.{All, Linked, IsNothing, IsRunning, IsAssigning}
 use Rattle.cjs_looks.proofs.Given.{all_given, all_map, all_one}
 
 -- ---- by what an expression is

@@ -1,39 +1,29 @@
 -- Calls, functions and chains of operators that are none of those that are looked at.
 use Rattle.std.specs.Prelude.{ℕ, Bool, true, false, List, [], ◌∷◌, Option, Some, None, option_map}
-use Rattle.std.proofs.Common.{◌≡◌, refl, sym, ap, ◌∙◌}
+use Rattle.std.proofs.Common.{refl}
 use Rattle.base.specs.declared.range.Range.{Range}
 use Rattle.es_token.specs.declared.token.Token.{Token}
 use Rattle.ts_ast.specs.declared.ts.TsPart.TheVariants as vPart
 use Rattle.es_ast.specs.declared.ast.Expr.{Expr}
 use Rattle.es_ast.specs.declared.ast.Expr.TheVariants as vExpr
-use Rattle.es_ast.specs.declared.ast.Pat.{Pat}
-use Rattle.es_ast.specs.declared.ast.Pat.TheVariants as vPat
 use Rattle.es_ast.specs.declared.ast.Param.{Param}
 use Rattle.es_ast.specs.declared.ast.Function.{Function as AFunction}
 use Rattle.es_ast.specs.declared.ast.ClassMember.TheOpen.{Expr-F}
-use Rattle.es_whole_grammar.specs.declared.rows.Label.TheVariants as l
-use Rattle.es_dress.specs.Value.{Value, more, given, typed, first_of, behind, part, group, as_group, optional, option_list, turns, expr_at, args_at, arguments_at, type_at, type_params_at}
+use Rattle.es_dress.specs.Value.{Value, more, first_of, behind, part, group, as_group, optional, option_list, turns, expr_at, args_at, arguments_at, type_at, type_params_at}
 use Rattle.es_dress.specs.Texts.{span_of}
-use Rattle.es_dress.specs.Operators.{binary_between, assign_between}
+use Rattle.es_dress.specs.Operators.{binary_between}
 use Rattle.es_dress.specs.Expressions.{binary, new_of}
 use Rattle.es_dress.specs.TypedExpressions.{typed_binary, typed_new_of}
-use Rattle.es_dress.specs.Functions.{function, arrow_of, name_param, body_of}
-use Rattle.es_dress.specs.Classes.{class_}
-use Rattle.es_dress.specs.TypedFunctions.{typed_function, typed_class, typed_function_of}
+use Rattle.es_dress.specs.Functions.{body_of}
 use Rattle.es_dress.specs.Dress.{build, expr_of}
 use Rattle.es_syntax.specs.declared.entry.Lean.{Lean}
 use Rattle.es_syntax.specs.declared.entry.Lean.TheVariants as vLean
-use Rattle.es_syntax.specs.Held.{Held, held, valued, parts_of, label_of, node_of, leaning, leaned}
-use Rattle.es_syntax.specs.Roles.{expr_in, params_in}
-use Rattle.es_operator_views.specs.Operator as operator
+use Rattle.es_syntax.specs.Held.{Held, valued, parts_of, label_of, node_of, leaning, leaned}
+use Rattle.es_syntax.specs.Roles.{expr_in}
 use Rattle.es_operator_views.specs.Lean as lean
 use Rattle.es_operator_views.specs.declared.lean.Chain.{Chain}
-use Rattle.es_operator_views.specs.declared.operator.Operator.{Operator}
-use Rattle.es_operator_views.specs.declared.operator.Operator.TheVariants as o
 use Rattle.es_call_views.specs.Call as call
 use Rattle.es_function_views.specs.Function as fn
-use Rattle.es_function_views.specs.declared.function.Function.{Function}
-use Rattle.es_function_views.specs.declared.function.Function.TheVariants as f
 use Rattle.cjs_looks.specs.Odd.{All, Linked, IsNothing, IsRunning}
 use Rattle.cjs_facts.specs.Looks.{other}
 use Rattle.cjs_looks.proofs.Given.{all_given, all_map, all_one}

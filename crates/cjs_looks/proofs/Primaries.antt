@@ -3,7 +3,6 @@ use Rattle.std.specs.Prelude.{ℕ, ◌+◌, Bool, true, false, List, [], ◌∷�
 use Rattle.std.proofs.Common.{◌≡◌, refl, sym, ap, ◌∙◌}
 use Rattle.base.specs.declared.range.Range.{Range}
 use Rattle.es_token.specs.declared.token.Token.{Token}
-use Rattle.es_token.specs.declared.token.TokenKind.{TokenKind}
 use Rattle.es_token.specs.declared.token.TokenKind.TheVariants as k
 use Rattle.es_tree.specs.Key.{same_kind}
 use Rattle.es_ast.specs.declared.leaf.Lit.{Lit}
@@ -17,7 +16,7 @@ use Rattle.es_dress.specs.Value.{Value, given, turns, expr_at, prop_at}
 use Rattle.es_dress.specs.Texts.{ident_of, str_of, regex_of, numeric_of, piece_of, piece_there}
 use Rattle.es_dress.specs.Expressions.{word_of, elements}
 use Rattle.es_expr_views.specs.Primary as primary
-use Rattle.cjs_facts.specs.Looks.{Look, named, text, other, look, in_look, props_in, props_of, behind_zero, function_in, assigned_last}
+use Rattle.cjs_facts.specs.Looks.{named, other, look, in_look, props_in, props_of, behind_zero, function_in, assigned_last}
 use Rattle.cjs_facts.proofs.Rolls.{look_parts, look_roll, assigned_roll}
 use Rattle.cjs_looks.specs.Odd.{All, Linked}
 use Rattle.cjs_looks.specs.Kinds.{IsObject, IsParen}

@@ -1,11 +1,11 @@
 -- What the kinds of expressions mean.
-use Rattle.std.specs.Prelude.{◌≡◌, ℕ, false, List, Option, Some, None, option_map}
+use Rattle.std.specs.Prelude.{◌≡◌, ℕ, List, Option, Some, None, option_map}
 use Rattle.es_token.specs.declared.token.Token.{Token}
 use Rattle.es_ast.specs.declared.ast.Expr.{Expr, out-Expr}
 use Rattle.es_ast.specs.declared.ast.Prop.{Prop}
 use Rattle.es_ast.specs.declared.ast.Stmt.{Stmt}
 use Rattle.es_ast.specs.declared.ast.Function.{Function, out-Function}
-use Rattle.es_dress.specs.Value.{Value, turns, prop_at}
+use Rattle.es_dress.specs.Value.{turns, prop_at}
 use Rattle.es_dress.specs.Functions as functions
 use Rattle.es_dress.specs.TypedParts.{body_in}
 use Rattle.es_syntax.specs.Held.{held, valued}
