@@ -23,8 +23,8 @@ def kept_folder():
 KEPT = kept_folder()
 # The version of the tools, the program and the library.
 VERSION = "0.1.0"
-# The versions of the toolchain with which the gate passes.
-TRIED = ("rattle-kit-13b", "rattle-kit-13f")
+# The versions of the toolchain with which the gate was run.
+TRIED = ("rattle-kit-13f",)
 
 
 class NoKit(Exception):
