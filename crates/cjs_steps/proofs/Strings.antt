@@ -1,12 +1,12 @@
 -- What strings and names say.
-use Rattle.std.specs.Prelude.{ℕ, Bool, true, false, ◌&&◌, List, Option, Some, None, bytes_eq, codes, if◌then◌else◌}
-use Rattle.std.proofs.Common.{◌≡◌, refl, sym, ap, subst, ◌∙◌}
+use Rattle.std.specs.Prelude.{ℕ, Bool, true, false, List, Option, Some, None, bytes_eq, if◌then◌else◌}
+use Rattle.std.proofs.Common.{◌≡◌, refl, sym, ap, ◌∙◌}
 use Rattle.es_token.specs.declared.token.Token.{Token}
 use Rattle.es_dress.specs.Texts.{str_of}
 use Rattle.cjs_facts.specs.declared.found.Found.{Found}
 use Rattle.cjs_facts.specs.declared.found.Var.{Var}
-use Rattle.cjs_facts.specs.Looks.{Name, Key, dotted, quoted, keyed, odd_key, Object, one, within, odd_object}
-use Rattle.cjs_facts.specs.Looks.{Look, named, text, member, requires, other, bracket, required_by}
+use Rattle.cjs_facts.specs.Looks.{Name, Key, quoted, odd_key, one}
+use Rattle.cjs_facts.specs.Looks.{Look, text, member, requires, other, bracket, required_by}
 use Rattle.cjs_facts.specs.Exports.{says, exports_like, is_define, is_star, is_exports, starred, bind, module_at}
 use Rattle.cjs_facts.specs.Exports.{key_found, with_var, with_export, with_reexport, with_one_reexport, required_found}
 use Rattle.cjs_looks.specs.Seen.{text_of}

@@ -1,0 +1,4 @@
+-- what statements return
+pub mod Statements
+-- what functions return
+pub mod Bodies

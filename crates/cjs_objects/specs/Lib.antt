@@ -1,0 +1,2 @@
+-- what functions only return
+pub mod Returns
