@@ -272,13 +272,19 @@ def reason_by_asking(search, number):
     """A sentence on a token that the language has here and this project leaves out, as shown by what is read in its place."""
     text, token = search.text, search.tokens[number]
     if token.line_before and (token.is_sign("(", "[", "+", "-", "/") or token.kind in ("template", "head")):
-        if search.ask([text[:token.start] + ";" + text[token.start:]]) == [True]:
+        if reads_beyond(search, text[:token.start] + ";" + text[token.start:], token.start + 1):
             return f"'{shortened(token.text)}' can't go on with the line above: put a ; in front, as the language does and this project doesn't"
     if token.is_sign("+", "-", "*", "/", "%", "**", "<<", ">"):
         cast = before_at_level(search.tokens, number, ("as", "satisfies"))
-        if cast is not None and search.ask([text[:search.tokens[cast].start] + text[token.start:]]) == [True]:
+        if cast is not None and reads_beyond(search, text[:search.tokens[cast].start] + text[token.start:], search.tokens[cast].start):
             return f"an operator right behind {search.tokens[cast].text} and its type, {LEFT_OUT}: put what stands before it in brackets"
     return None
+
+
+def reads_beyond(search, text, at):
+    """Whether another text is read beyond a place."""
+    other = Search(text, search.are_read)
+    return not other.scan.fault and other.start_of(other.place()) > at
 
 
 def before_at_level(tokens, number, words):
