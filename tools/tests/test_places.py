@@ -107,7 +107,11 @@ class Places(unittest.TestCase):
     def test_forms_that_are_left_out(self):
         """No example of docs/DIFFERENCES.md is read, as whatever source; what stands behind 'instead of' is."""
         with open(os.path.join(kit.ROOT, "docs", "DIFFERENCES.md"), encoding="utf-8") as file:
-            rows = re.findall(r"(?m)^\| (.*?) \| (.*?) \| .*? \|$", file.read().partition("## Forms of the languages")[2])[2:]
+            part = file.read().partition("## Forms of the languages")[2]
+        rows = re.findall(r"(?m)^\| (.*?) \| (.*?) \| .*? \|$", part)[2:]
+        for text in spans_in(part.partition("Early errors")[2]):
+            with self.subTest(text=text):
+                self.assertEqual(self.program.which_are_read("file:///a.ts", [text]), [True])
         asked = 0
         for _, cell in rows:
             left_out, _, instead = cell.replace("`, line end, `", "\n").partition(", instead of ")
