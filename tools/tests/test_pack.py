@@ -179,6 +179,11 @@ class Pack(unittest.TestCase):
             "pack: pipe.ts: left out: no file"])
         self.assertEqual([module["specifier"] for module in json.loads(out)["modules"]], ["file:///link.ts", "file:///main.ts"])
 
+    def test_bare_specifiers_that_lead_nowhere_are_told(self):
+        self.put("main.ts", b"import 'react'; throw 'away from ' + a + 'b';")
+        errors = run(self.folder, "main.ts")[2]
+        self.assertEqual(errors, 'pack: "react" in main.ts isn\'t put in: packages are read by --packages\n')
+
     def test_words(self):
         for words in ((), (self.folder,), ("--none", self.folder, "main.ts")):
             status, out, errors = run(*words)
