@@ -218,6 +218,9 @@ def reason_at(search, number, specifier):
     typed = specifier.split("?")[0].lower().endswith((".ts", ".mts", ".cts", ".tsx"))
     if token.is_sign("@"):
         return f"a decorator, {LEFT_OUT}"
+    form = form_left_out(tokens, number, typed)
+    if form:
+        return form
     if token.is_sign("<") and not token.was_operand:
         if typed and not specifier.lower().endswith(".tsx"):
             return f"<T>x, a type in front of an expression, {LEFT_OUT}: write x as T"
@@ -234,6 +237,34 @@ def reason_at(search, number, specifier):
     if behind is None:
         return f"'{shortened(token.text)}' can't stand here, at the end of the text"
     return f"'{shortened(token.text)}' can't stand here"
+
+
+def form_left_out(tokens, number, typed):
+    """A sentence on a rarer form that this project leaves out, as its tokens show it, or None."""
+    def text_at(at):
+        return tokens[at].text if 0 <= at < len(tokens) else ""
+
+    around = [text_at(number + step) for step in range(-2, 4)]
+    two, one, here, next1, next2, next3 = around
+    if here == "<" and next1 == "!" and next2 == "--" and tokens[number].end == tokens[number + 1].start:
+        return f"a comment of HTML, {LEFT_OUT}"
+    if here == ">" and one == "--" and tokens[number - 1].line_before:
+        return f"a comment of HTML, {LEFT_OUT}"
+    if here == "assert" and number and tokens[number - 1].kind == "string":
+        return f"attributes with assert, {LEFT_OUT}: write with"
+    if (one in ("defer", "source") and two == "import") or (one == "import" and here == "." and next1 in ("defer", "source")):
+        return "imports by phase aren't read: the standard doesn't have them yet"
+    if typed and here == "extends" and (two == "infer" or any(text_at(at) == "infer" and text_at(at + 2) == "extends" for at in range(number, number + 60))):
+        return f"a condition of infer, {LEFT_OUT}"
+    if typed and here == "import" and next1 == "(" and next3 == ",":
+        return f"attributes of an import type, {LEFT_OUT}"
+    if typed and one == "implements" and two == "class":
+        return f"a class without a name that implements something, {LEFT_OUT}: give it a name"
+    if typed and one == "as" and two == "type":
+        return f"'as' behind type in braces, {LEFT_OUT}"
+    if typed and one == ">" and here in (";", ",", ")", "]", "}", "?.") and sign_in_statement(tokens, number, "<"):
+        return f"type arguments of an expression that isn't called at once, {LEFT_OUT}"
+    return None
 
 
 def is_of_types(token, before):
@@ -263,8 +294,7 @@ def fault_of(text, specifier, are_read):
     reason = reason_at(search, number, specifier)
     if token is None:
         return len(text), 1, reason
-    if reason.endswith("can't stand here"):
-        reason = reason_by_asking(search, number) or reason
+    reason = reason_by_asking(search, number) or reason
     return token.start, max(1, token.end - token.start), reason
 
 
@@ -285,6 +315,16 @@ def reads_beyond(search, text, at):
     """Whether another text is read beyond a place."""
     other = Search(text, search.are_read)
     return not other.scan.fault and other.start_of(other.place()) > at
+
+
+def sign_in_statement(tokens, number, sign):
+    """Whether a sign stands before a token, in the same statement or list."""
+    at = number - 1
+    while at >= 0 and not tokens[at].is_sign(";", "{", "}"):
+        if tokens[at].is_sign(sign):
+            return True
+        at -= 1
+    return False
 
 
 def before_at_level(tokens, number, words):

@@ -61,6 +61,12 @@ SENTENCES = [
     ("a.js", "a = " + "[" * 600 + "]" * 600, "500 nodes"),
     ("a.js", "a++\n(b)", "a ; in front"), ("a.ts", "{ a = b as c\n[d] }", "a ; in front"), ("a.ts", "f(a as b\n(c))", "'(' can't stand here"),
     ("a.ts", "a = b as c.d<e>[] - 1; a b", "behind as"), ("a.ts", "a++\n[b];\nlet c c", "a ; in front"), ("a.js", "a = 1 - * 2", "can't stand here"),
+    ("a.js", "function* f() { yield\n(a) }", "a ; in front"), ("a.ts", "a = b > ;", "can't stand here"), ("a.ts", "a = b < c > ;", "isn't called"),
+    ("a.ts", "let a = f<T>;", "isn't called"), ("a.ts", "type A = B extends infer C extends D ? C : E", "a condition of infer"),
+    ("a.ts", "type A = B extends [infer C extends D] ? C : E", "a condition of infer"), ("a.ts", "import { type as } from 'a'", "behind type"),
+    ("a.ts", "let a: import('a', { with: { b: 'c' } }).d", "attributes of an import type"), ("a.ts", "f(class implements A {})", "without a name"),
+    ("a.js", "<!-- b", "a comment of HTML"), ("a.js", "a\n--> b", "a comment of HTML"), ("a.js", "import a from 'b' assert { type: 'json' }", "write with"),
+    ("a.js", "import defer * as a from 'b'", "by phase"), ("a.js", "import.source('a')", "by phase"),
 ]
 # The bytes of a source, and the byte and the line and column of the first that is no UTF-8.
 NO_UTF8 = [
@@ -108,7 +114,7 @@ class Places(unittest.TestCase):
         """No example of docs/DIFFERENCES.md is read, as whatever source; what stands behind 'instead of' is."""
         with open(os.path.join(kit.ROOT, "docs", "DIFFERENCES.md"), encoding="utf-8") as file:
             part = file.read().partition("## Forms of the languages")[2]
-        rows = re.findall(r"(?m)^\| (.*?) \| (.*?) \| .*? \|$", part)[2:]
+        rows = re.findall(r"(?m)^\| (.*?) \| (.*?) \| .*? \|$", part)[1:]
         for text in spans_in(part.partition("Early errors")[2]):
             with self.subTest(text=text):
                 self.assertEqual(self.program.which_are_read("file:///a.ts", [text]), [True])
