@@ -1,7 +1,9 @@
 """The faults of a graph, each with its places in the sources and one sentence."""
 import collections
+import contextlib
 import json
 import re
+import sys
 
 from parts import places, report
 from parts.bundles import shown
@@ -10,6 +12,8 @@ Fault = collections.namedtuple("Fault", "kind specifier start end what")
 Fault.__doc__ = """kind: missing, parse, decode, wasm, loading, redirects, unsupported, data, package, edge, or root.
 specifier: of the module in which it is told. start, end: bytes of its text, or None. what: one sentence."""
 
+# From so many characters on it takes seconds to find a fault's place.
+LONG = 500_000
 # Which of the words of --fail-on a fault counts for, beside any.
 WORDS = {"Missing": "missing", "Parse": "parse", "Decode": "parse", "WasmParse": "parse"}
 OF_ENTRY = {
@@ -114,9 +118,25 @@ def in_itself(entry, bundle, are_read):
     if name == "Decode":
         return at_byte_no_utf8(entry, source)
     text, named = source.text(), named_as(entry.specifier)
-    start, length, what = places.fault_of(text, named, lambda texts: are_read(named, texts))
+    with told_on_a_terminal(f"looking for the place of the fault in {shown(entry.specifier)}" if len(text) >= LONG else None):
+        start, length, what = places.fault_of(text, named, lambda texts: are_read(named, texts))
     first = places.scan.bytes_before(text, start)
     return Fault(name, entry.specifier, first, first + places.scan.bytes_before(text[start:], length), what)
+
+
+@contextlib.contextmanager
+def told_on_a_terminal(what):
+    """Shows a line while something goes on."""
+    is_shown = what is not None and sys.stderr is not None and sys.stderr.isatty()
+    if is_shown:
+        sys.stderr.write(f"\r\033[K{what}")
+        sys.stderr.flush()
+    try:
+        yield
+    finally:
+        if is_shown:
+            sys.stderr.write("\r\033[K")
+            sys.stderr.flush()
 
 
 def named_as(specifier):

@@ -232,6 +232,8 @@ def reason_at(search, number, specifier):
             return f"'{one.text}' isn't read as a name here, though in some places the language has it as one"
     if depth_of(tokens) > DEEP:
         return f"it may be nested too deep: more than 500 nodes on a path, {LEFT_OUT}"
+    if token.is_word("import", "export") and specifier.split("?")[0].lower().endswith(".cjs"):
+        return f"'{token.text}' can't stand here: a .cjs file is read as a script"
     if not typed and is_of_types(token, before):
         return f"'{shortened(token.text)}' can't stand here; types are read in files of TypeScript alone"
     if behind is None:

@@ -56,6 +56,9 @@ def main():
     except NoProgram as error:
         print(f"graph_tool: {error}", file=sys.stderr)
         return 70
+    except KeyboardInterrupt:
+        print("graph_tool: stopped", file=sys.stderr)
+        return 130
     return 0
 
 

@@ -232,6 +232,32 @@ def above(folder):
 # ---- tsconfig
 
 
+KINDS = {dict: "object", list: "list", str: "text"}
+
+
+def of_shape(file, value, kind, name):
+    """A value of a file, where it is of this kind."""
+    if not isinstance(value, kind):
+        raise BadFile(f"{file}: {name} is no {KINDS[kind]}")
+    return value
+
+
+def extended(file, name):
+    """The file that a tsconfig extends by this name; None for one of a package that isn't installed."""
+    if name.startswith((".", "/")):
+        path = os.path.normpath(os.path.join(os.path.dirname(file), name))
+        return path if path.endswith(".json") or os.path.isfile(path) else path + ".json"
+    folder = os.path.dirname(os.path.abspath(file))
+    while True:
+        place = os.path.join(folder, "node_modules", name)
+        for path in (place, place + ".json", os.path.join(place, "tsconfig.json")):
+            if os.path.isfile(path):
+                return path
+        if folder == os.path.dirname(folder):
+            return None
+        folder = os.path.dirname(folder)
+
+
 class Paths:
     """The paths and the baseUrl of a tsconfig, as places in the folder."""
 
@@ -247,18 +273,20 @@ class Paths:
             return
         seen.add(real)
         value = json_of(file, has_comments=True)
-        extends = value.get("extends", []) if isinstance(value, dict) else []
-        for other in [extends] if isinstance(extends, str) else extends:
-            if other.startswith("."):
-                other = os.path.join(os.path.dirname(file), other)
-                self.take(other if os.path.isfile(other) else other + ".json", seen)
-        options = value.get("compilerOptions", {}) if isinstance(value, dict) else {}
+        extends = of_shape(file, value, dict, "the file").get("extends", [])
+        for other in [extends] if isinstance(extends, str) else of_shape(file, extends, list, "extends"):
+            found = extended(file, of_shape(file, other, str, "extends"))
+            if found:
+                self.take(found, seen)
+        options = of_shape(file, value.get("compilerOptions", {}), dict, "compilerOptions")
         where = os.path.relpath(os.path.realpath(os.path.dirname(file) or "."), os.path.realpath(self.folder.root)).replace(os.sep, "/")
+        base = of_shape(file, options.get("baseUrl", "."), str, "baseUrl")
         if "baseUrl" in options:
-            self.base = joined(where, options["baseUrl"])
+            self.base = joined(where, base)
         if "paths" in options:
-            at = joined(where, options.get("baseUrl", "."))
-            self.rows = [(pattern, [joined(at or "", target) for target in targets]) for pattern, targets in options["paths"].items()]
+            at, rows = joined(where, base) or "", of_shape(file, options["paths"], dict, "paths")
+            self.rows = [(pattern, [joined(at, of_shape(file, target, str, "paths")) for target in of_shape(file, targets, list, "paths")])
+                         for pattern, targets in rows.items()]
 
     def file_of(self, specifier):
         """The file to which a bare specifier leads, or None."""

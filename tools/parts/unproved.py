@@ -2,8 +2,11 @@
 
 The toolchain's `rt try` compiles a program without its proofs, runs it once and keeps nothing. Here it is run with a
 folder of links in the toolchain's place, whose compiler hands out what it is given; that is compiled and linked as
-`rt run` does, with the checks of `rt try` left in: a program that goes wrong stops there.
+`rt run` does, with the checks of `rt try` left in: a program that goes wrong stops there. Beside it `rt try` has the
+prover look for reserved names, which takes as long as all the rest, and which the gate tells as well: in the folder of
+links the prover is a command that does nothing.
 """
+import contextlib
 import hashlib
 import os
 import re
@@ -36,6 +39,14 @@ HOW = ("--target=x86_64-unknown-linux-gnu", "-march=x86-64", "-Wno-everything", 
 
 class Failed(Exception):
     """Why nothing was compiled, in a line or more."""
+
+
+class Unable(Failed):
+    """The same, where no fault of the sources is told: a compiler was ended, or memory or the disk is full."""
+
+
+# What the compiler says of a fault of the sources.
+FAULT = re.compile(r"^\S+\.rt:\d+:\d+: error", re.M)
 
 
 class Clock:
@@ -101,7 +112,11 @@ def kit_of_links(kit, room):
     compiler = os.path.join(made, "toolchain", "bin", "clang")
     with open(compiler, "w", encoding="utf-8") as file:
         file.write(COMPILER.format(small=SMALL, room=room, kit=kit))
-    os.chmod(compiler, 0o755)
+    prover = os.path.join(made, "bin", "rattle")
+    with open(prover, "w", encoding="utf-8") as file:
+        file.write("#!/bin/sh\n")
+    for name in (compiler, prover):
+        os.chmod(name, 0o755)
     for name in ("rt", "rtlib.py"):
         shutil.copy(os.path.join(kit, "bin", name), os.path.join(made, "bin", name))
     for folder in ("toolchain/bin", "toolchain", "bin", ""):
@@ -109,16 +124,30 @@ def kit_of_links(kit, room):
     return made
 
 
-RUNNING = set()
+# What runs, and the folders that it writes into.
+RUNNING, ROOMS = set(), set()
+
+
+@contextlib.contextmanager
+def a_room():
+    """A folder for what is made on the way."""
+    with tempfile.TemporaryDirectory(prefix="joravelsu-") as room:
+        ROOMS.add(room)
+        try:
+            yield room
+        finally:
+            ROOMS.discard(room)
 
 
 def end_all():
-    """Ends all that was started and runs."""
+    """Ends all that was started and runs, and removes what it made on the way."""
     for started in list(RUNNING):
         try:
             os.killpg(started.pid, signal.SIGTERM)
         except ProcessLookupError:
             pass
+    for room in list(ROOMS):
+        shutil.rmtree(room, ignore_errors=True)
 
 
 def ran(words, **how):
@@ -147,7 +176,7 @@ def module_of(crate, kit, room, root, is_test=False):
         _, said = ran(words, cwd=os.path.join(root, "crates", crate), stdin=file, env={**os.environ, "TMPDIR": room, "PYTHONDONTWRITEBYTECODE": "1"})
     made = os.path.join(room, "module.bc")
     if not os.path.exists(made):
-        raise Failed("\n".join(said.splitlines()[-20:]))
+        raise (Failed if FAULT.search(said) else Unable)("\n".join(said.splitlines()[-20:]))
     return made
 
 
@@ -156,7 +185,7 @@ def object_of(module, kit, room, *more):
     made = os.path.join(room, "module.o")
     status, said = ran([os.path.join(kit, "toolchain", "bin", "clang"), *HOW, *more, module, "-o", made], stdin=subprocess.DEVNULL)
     if status:
-        raise Failed("\n".join(said.splitlines()[-20:]))
+        raise Unable("\n".join(said.splitlines()[-20:]))
     return made
 
 
@@ -166,7 +195,7 @@ def linked(made, kit, room):
     words = [os.path.join(kit, "bin", "rattle-link"), "--target", "x86_64-unknown-linux-gnu", "--toolchain", f"{kit}/toolchain"]
     status, said = ran([*words, "-o", program, made, f"{kit}/c/libos_c.a", f"{kit}/c/liblibc_c.a"], stdin=subprocess.DEVNULL)
     if status:
-        raise Failed("\n".join(said.splitlines()[-20:]))
+        raise Unable("\n".join(said.splitlines()[-20:]))
     return program
 
 
@@ -178,7 +207,7 @@ def compiled(crate, is_test=False, *more):
         os.utime(place)
         return place
     kit = kits.kit()
-    with tempfile.TemporaryDirectory(prefix="joravelsu-") as room:
+    with a_room() as room:
         made = linked(object_of(module_of(crate, kit, room, kits.ROOT, is_test), kit, room, *more), kit, room)
         return kits.keep(made, name, ".unproved", MOST_KEPT)
 
@@ -187,13 +216,19 @@ def is_compiled(crate, is_test=False):
     return kits.kept(f"{crate}{'-tests' if is_test else ''}-{sum_of(crate)}.unproved") is not None
 
 
+def begin(told):
+    """Before something is compiled: a line where the toolchain's version is one that wasn't tried; a signal ends what is started."""
+    heed_signals()
+    other = kits.other_version()
+    if other:
+        print(f"{told}: {other}", file=sys.stderr)
+
+
 def program(told="unproved"):
     """The path of the unproved program, compiled where that wasn't done of these sources yet."""
     if is_compiled(PROGRAM):
         return compiled(PROGRAM)
-    other = kits.other_version()
-    if other:
-        print(f"{told}: {other}", file=sys.stderr)
+    begin(told)
     with Clock(f"{told}: the program is compiled without its proofs, once, in some two minutes"):
         return compiled(PROGRAM)
 
@@ -239,7 +274,7 @@ def with_calls_visible(module, kit, room):
     words = [os.path.join(kit, "toolchain", "bin", "clang"), *HOW[:3], "-S", "-emit-llvm", "-O0", "-Xclang", "-disable-llvm-passes", "-x", "ir"]
     status, said = ran([*words, module, "-o", text], stdin=subprocess.DEVNULL)
     if status:
-        raise Failed(said[-2000:])
+        raise Unable(said[-2000:])
     made = os.path.join(room, "calls.ll")
     named = re.compile(rf'@"{LIBRARY}::(joravelsu_[a-z]+)"')
     with open(text, encoding="latin-1") as given, open(made, "w", encoding="latin-1") as file:
@@ -259,8 +294,9 @@ def library(told="build-library"):
     if place:
         os.utime(place)
         return place
+    begin(told)
     kit = kits.kit()
-    with tempfile.TemporaryDirectory(prefix="joravelsu-") as room:
+    with a_room() as room:
         with Clock(f"{told}: the library is compiled without its proofs, once, in some two minutes"):
             module = module_of(LIBRARY, kit, room, program_of_library(room))
             made = object_of(with_calls_visible(module, kit, room), kit, room, "-fPIC")
@@ -273,8 +309,11 @@ def stop(_number, _frame):
 
 
 def heed_signals():
-    for number in (signal.SIGINT, signal.SIGTERM, signal.SIGHUP):
-        signal.signal(number, stop)
+    """Has a signal end what was started, but for one that is ignored, as nohup has it."""
+    if threading.current_thread() is threading.main_thread():
+        for number in (signal.SIGINT, signal.SIGTERM, signal.SIGHUP):
+            if signal.getsignal(number) != signal.SIG_IGN:
+                signal.signal(number, stop)
 
 
 def main():

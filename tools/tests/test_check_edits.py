@@ -1,6 +1,8 @@
-"""Tests of tools/check-edits: what a line of its table stands on, which edits can be applied, and what a copy holds."""
+"""Tests of tools/check-edits: what a line of its table stands on, which edits can be applied, what a copy holds, and when it ends."""
+import contextlib
 import importlib.machinery
 import importlib.util
+import io
 import os
 import tempfile
 import unittest
@@ -82,6 +84,78 @@ class Edits(unittest.TestCase):
         os.mkdir(os.path.join(self.room, "tools"))
         check_edits.write_table(self.room, {EDIT: ("12ab", "kit")})
         self.assertEqual(check_edits.read_table(self.room), {EDIT: ("12ab", "kit")})
+
+
+# The toolchain as far as edits go: it refuses those whose new text isn't `right`, and takes a tenth of a second for each crate.
+TOOLCHAIN = """#!/bin/sh
+[ "$1" = version ] && { echo rattle-kit-0; exit; }
+[ "$1" = help ] && { echo 'What a run passed is kept'; exit; }
+sleep 0.1
+for edit in crates/*/must-fail/*.edit; do
+  crate=${edit#crates/}
+  case "$(cat "$edit")" in
+    *right*) said='NOT REFUSED: the crate is still proved with this edit' ;;
+    *) said='refused, as it must be: src/lib.rt:1:1: error' ;;
+  esac
+  echo "rt: must-fail ${crate%%/*}/${edit##*/}: $said"
+done
+"""
+EDITS = {f"crates/{crate}/edits/{name}.edit": f"file: src/lib.rt\nold: {old}\nnew: six\n" for crate, old in (("low", "one"), ("side", "three")) for name in "ab"}
+
+
+class Runs(unittest.TestCase):
+    """Whole runs, over a toolchain that is a stand-in."""
+
+    def setUp(self):
+        room = tempfile.TemporaryDirectory()
+        self.addCleanup(room.cleanup)
+        self.room, old = room.name, (check_edits.ROOT, check_edits.MOST_AT_ONCE, os.environ["PATH"])
+        check_edits.ROOT, check_edits.MOST_AT_ONCE = self.room, 2
+        os.environ["PATH"] = f"{self.room}/bin:{old[2]}"
+        self.addCleanup(lambda: (setattr(check_edits, "ROOT", old[0]), setattr(check_edits, "MOST_AT_ONCE", old[1]), os.environ.update(PATH=old[2])))
+        for path, text in {**FILES, **EDITS, "bin/rt": TOOLCHAIN, check_edits.TABLE: ""}.items():
+            Edits.write(self, path, text)
+        os.chmod(f"{self.room}/bin/rt", 0o755)
+
+    def run_of(self, *words):
+        said = io.StringIO()
+        with contextlib.redirect_stdout(said):
+            status = check_edits.main(list(words))
+        return said.getvalue().splitlines(), status
+
+    def table(self):
+        return sorted("/".join(edit) for edit in check_edits.read_table(self.room))
+
+    def test_crates_are_tried_a_few_at_a_time(self):
+        lines, status = self.run_of("--write")
+        self.assertEqual((lines[:3], status), (["edits: 2 are tried, of low", "edits: 1 are tried, of high", "edits: 2 are tried, of side"], 0))
+        self.assertEqual(self.table(), ["high/a.edit", "low/a.edit", "low/b.edit", "side/a.edit", "side/b.edit"])
+        lines, status = self.run_of()
+        self.assertEqual((lines[0], status), ("edits: tried in this run: 0, 0 of them refused, as they must be", 0))
+
+    def test_no_crate_is_begun_when_the_seconds_are_gone(self):
+        lines, status = self.run_of("--seconds", "0", "--write")
+        self.assertEqual((lines, status), (["edits: tried in this run: 0, 0 of them refused, as they must be",
+                                            "edits: not tried in this run, since its 0 seconds are gone, and so neither passed nor failed: 5, of high, low, side"], 0))
+        self.assertEqual(self.table(), [])
+
+    def test_verdicts_of_crates_before_that_stand(self):
+        tries, calls = check_edits.try_edits, []
+        check_edits.try_edits = lambda repository, group: (calls.append(group), setattr(self, "now", 9.0), tries(repository, group))[2]
+        clock, self.now = check_edits.time.monotonic, 0.0
+        check_edits.time.monotonic = lambda: self.now
+        self.addCleanup(lambda: (setattr(check_edits, "try_edits", tries), setattr(check_edits.time, "monotonic", clock)))
+        lines, status = self.run_of("--seconds", "5", "--write")
+        self.assertEqual((len(calls), status), (1, 0))
+        self.assertEqual(self.table(), ["low/a.edit", "low/b.edit"])
+        self.assertIn("3, of high, side", lines[-1])
+
+    def test_an_edit_that_is_not_refused_fails(self):
+        Edits.write(self, "crates/low/edits/b.edit", "file: src/lib.rt\nold: one\nnew: right\n")
+        lines, status = self.run_of("--write")
+        self.assertEqual(status, 1)
+        self.assertIn("edits: low/b.edit: NOT REFUSED: the crate is still proved with this edit", lines)
+        self.assertNotIn("low/b.edit", self.table())
 
 
 if __name__ == "__main__":

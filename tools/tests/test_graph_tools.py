@@ -184,6 +184,30 @@ class Resolve(unittest.TestCase):
         for specifier, place in (("@/q", "src/q.ts"), ("exact", "src/q.ts"), ("q", "src/q.ts"), ("@/none", None), ("other", None)):
             self.assertEqual(paths.file_of(specifier), place, specifier)
 
+    def put(self, path, text):
+        place = self.folder.path(path)
+        os.makedirs(os.path.dirname(place), exist_ok=True)
+        with open(place, "w", encoding="utf-8") as file:
+            file.write(text)
+        return place
+
+    def test_tsconfig_of_a_package(self):
+        self.put("node_modules/@t/one/tsconfig.json", '{"compilerOptions": {"paths": {"p": ["../../../src/q.ts"]}}}')
+        self.put("node_modules/two/strict.json", '{"extends": "@t/one"}')
+        for extends, place in (('"@t/one"', "src/q.ts"), ('"two/strict.json"', "src/q.ts"), ('["none", "two/strict"]', "src/q.ts"), ('"none"', None)):
+            paths = resolve.Paths(self.folder, self.put("other.json", f'{{"extends": {extends}}}'))
+            self.assertEqual(paths.file_of("p"), place, extends)
+
+    def test_tsconfig_of_another_shape(self):
+        for text, said in (
+            ("[]", "the file is no object"), ('{"extends": 1}', "extends is no list"), ('{"extends": [1]}', "extends is no text"),
+            ('{"extends": "./gone.json"}', "gone.json: No such file"), ('{"compilerOptions": null}', "compilerOptions is no object"),
+            ('{"compilerOptions": {"paths": {"a": "b"}}}', "paths is no list"), ('{"compilerOptions": {"baseUrl": 1}}', "baseUrl is no text"),
+            ('{"compilerOptions": {"paths": []}}', "paths is no object"), ("{", "no JSON"),
+        ):
+            with self.assertRaisesRegex(resolve.BadFile, said):
+                resolve.Paths(self.folder, self.put("other.json", text))
+
 
 class Parts(unittest.TestCase):
     def test_joined(self):

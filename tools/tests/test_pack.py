@@ -124,6 +124,16 @@ class Pack(unittest.TestCase):
         self.assertEqual([module["specifier"] for module in json.loads(out)["modules"]], ["file:///a.ts", "file:///main.ts"])
         self.assertEqual(errors.splitlines(), ["pack: dist/b.ts: left out: excluded", "pack: src/c.test.ts: left out: excluded"])
 
+    def test_of_very_many_the_commonest_are_told(self):
+        names = [f"p{number:02}" for number in range(50)]
+        self.put("main.ts", "".join(f"import '{name}'; " for name in names).encode() + b"a from ' + b + '; import '!==a&&'; import './b.ts'")
+        self.put("b.ts", b"import 'p49'; import 'p48'")
+        errors = run(self.folder, "main.ts")[2].splitlines()
+        self.assertEqual(errors[-1], "pack: 10 more lead nowhere")
+        told = [line.split('"')[1] for line in errors[:-1]]
+        self.assertEqual(told, sorted(names[:38] + ["p48", "p49"]))
+        self.assertIn('pack: "p49" in main.ts and 1 more leads nowhere: packages are read by --packages', errors)
+
     def test_output_file(self):
         place = os.path.join(self.room, "out.json")
         self.assertEqual(run("-o", place, self.folder, "main.ts")[:2], (0, b""))
@@ -182,7 +192,7 @@ class Pack(unittest.TestCase):
     def test_bare_specifiers_that_lead_nowhere_are_told(self):
         self.put("main.ts", b"import 'react'; throw 'away from ' + a + 'b';")
         errors = run(self.folder, "main.ts")[2]
-        self.assertEqual(errors, 'pack: "react" in main.ts isn\'t put in: packages are read by --packages\n')
+        self.assertEqual(errors, 'pack: "react" in main.ts leads nowhere: packages are read by --packages\n')
 
     def test_words(self):
         for words in ((), (self.folder,), ("--none", self.folder, "main.ts")):

@@ -58,6 +58,7 @@ ROWS = [
 SENTENCES = [
     ("a.ts", "@d class A {}", "a decorator"), ("a.jsx", "let a = <b/>", "JSX"), ("a.ts", "let a = <b>c", "<T>x"),
     ("a.js", "var await = 1; export {}", "'await'"), ("a.js", "a = {} /b/.c", "can't stand"), ("a.js", "interface A { b: c }", "types are read in files of TypeScript"),
+    ("a.cjs", "let a;\nexport { a };", "a .cjs file is read as a script"),
     ("a.js", "a = " + "[" * 600 + "]" * 600, "500 nodes"),
     ("a.js", "a++\n(b)", "a ; in front"), ("a.ts", "{ a = b as c\n[d] }", "a ; in front"), ("a.ts", "f(a as b\n(c))", "'(' can't stand here"),
     ("a.ts", "a = b as c.d<e>[] - 1; a b", "behind as"), ("a.ts", "a++\n[b];\nlet c c", "a ; in front"), ("a.js", "a = 1 - * 2", "can't stand here"),

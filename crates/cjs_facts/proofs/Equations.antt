@@ -11,6 +11,7 @@ use Rattle.ts_ast.specs.declared.leaf.TsEntityName.{TsEntityName}
 use Rattle.ts_ast.specs.declared.ts.TsPart.{TsPart}
 use Rattle.es_ast.specs.declared.leaf.ExportAll.{ExportAll}
 use Rattle.es_ast.specs.declared.leaf.ImportDecl.{ImportDecl}
+use Rattle.es_ast.specs.declared.leaf.ImportPhase.{ImportPhase}
 use Rattle.es_ast.specs.declared.leaf.Lit.{Lit}
 use Rattle.es_ast.specs.declared.leaf.Modifiers.{Modifiers}
 use Rattle.es_ast.specs.declared.leaf.NamedExport.{NamedExport}
@@ -671,11 +672,11 @@ expr_New found callee type_args has_args args span =
     ∙ ap (λ x. facts_of_expr callee ++ x) (each_of
     facts_of_expr args))
 
-pub expr_ImportCall : (found : Facts) (args : List Expr) (span : Range)
-    → found ++ facts_of_expr (vExpr.ImportCall args span) ≡ found ++ flat_map facts_of_expr args
-expr_ImportCall found args span =
-    adds_one found (ap facts_of_expr (sym (vExpr.rolls-ImportCall args span)) ∙ at_expr (Expr-F.ImportCall args span)
-    ∙ each_of facts_of_expr args)
+pub expr_ImportCall : (found : Facts) (phase : ImportPhase) (args : List Expr) (span : Range)
+    → found ++ facts_of_expr (vExpr.ImportCall phase args span) ≡ found ++ flat_map facts_of_expr args
+expr_ImportCall found phase args span =
+    adds_one found (ap facts_of_expr (sym (vExpr.rolls-ImportCall phase args span))
+    ∙ at_expr (Expr-F.ImportCall phase args span) ∙ each_of facts_of_expr args)
 
 pub expr_ImportMeta : (found : Facts) (it : Range) → found ++ facts_of_expr (vExpr.ImportMeta it) ≡ found
 expr_ImportMeta found it =

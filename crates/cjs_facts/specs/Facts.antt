@@ -117,7 +117,7 @@ in_expr (Expr-F.Index obj _ prop _) = obj.1 ++ prop.1
 in_expr (Expr-F.Call callee optional _ args _) =
     called_facts optional callee.0 (firsts args) ++ callee.1 ++ each args
 in_expr (Expr-F.New callee _ _ args _) = callee.1 ++ each args
-in_expr (Expr-F.ImportCall args _) = each args
+in_expr (Expr-F.ImportCall _ args _) = each args
 in_expr (Expr-F.ImportMeta _) = []
 in_expr (Expr-F.NewTarget _) = []
 in_expr (Expr-F.Tpl _ exprs _) = each exprs

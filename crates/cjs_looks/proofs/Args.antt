@@ -5,9 +5,9 @@ use Rattle.es_token.specs.declared.token.Token.{Token}
 use Rattle.es_ast.specs.declared.ast.Expr.{Expr}
 use Rattle.es_ast.specs.declared.ast.Expr.TheVariants as vExpr
 use Rattle.es_ast.specs.declared.ast.ClassMember.TheOpen.{Expr-F}
-use Rattle.es_dress.specs.Value.{Value, nil, more, given, as_group, group, part, first_of, behind, turns, is_there, expr_at}
-use Rattle.es_dress.specs.Texts.{span_of, str_of}
-use Rattle.es_dress.specs.Expressions.{argument, argument_of}
+use Rattle.es_lowering.specs.Value.{Value, nil, more, given, as_group, group, part, first_of, behind, turns, is_there, expr_at}
+use Rattle.es_lowering.specs.Texts.{span_of, str_of}
+use Rattle.es_lowering.specs.Expressions.{argument, argument_of}
 use Rattle.es_call_views.specs.Args.{arguments}
 use Rattle.cjs_facts.specs.Looks.{Name, Key, Object, Look, named, member, requires, other, required_by, passed, call_by, call_of, look}
 use Rattle.cjs_facts.proofs.Rolls.{look_roll}

@@ -16,12 +16,13 @@ use Rattle.es_ast.specs.declared.ast.Pat.{Pat}
 use Rattle.es_ast.specs.declared.ast.Pat.TheVariants as vPat
 use Rattle.es_ast.specs.declared.ast.ClassMember.TheOpen.{Expr-F}
 use Rattle.es_site.specs.Parts.{ExprParts}
-use Rattle.es_dress.specs.Value.{Value, absent, nil, more, token, node, given, behind}
-use Rattle.es_dress.specs.Operators.{listed, assign_ops, greater_assign, assign_of, assign_between}
+use Rattle.es_lowering.specs.Value.{Value, absent, nil, more, token, node, given, behind}
+use Rattle.es_lowering.specs.Operators.{listed, assign_ops, greater_assign, assign_of, assign_between}
 use Rattle.es_syntax.specs.Places.{place_of}
 use Rattle.es_syntax.specs.Roles.{expr_in}
 use Rattle.es_operator_views.specs.Operator as operator
-use Rattle.cjs_facts.specs.Looks.{other, look, props_in, props_of, behind_zero, function_in, in_assigned, assigned_last, right_of}
+use Rattle.cjs_facts.specs.Exports.{is_spread_in}
+use Rattle.cjs_facts.specs.Looks.{other, look, props_in, props_of, behind_zero, is_zero, second_in, function_in, in_assigned, assigned_last, right_of}
 use Rattle.cjs_facts.proofs.Rolls.{look_roll, assigned_parts, assigned_roll}
 use Rattle.cjs_looks.specs.Odd.{All, Linked}
 use Rattle.cjs_looks.specs.Kinds.{IsAssignment}
@@ -41,6 +42,10 @@ assignment_at left right r =
       follows = ap behind_zero is;
       runs = ap function_in is;
       ends = ap assigned_last (sym rolls) ∙ assigned_roll p;
+      zero = ap is_zero is;
+      pairs = ap second_in is;
+      spreads = ap is_spread_in is;
+      there = refl;
     }
 
 -- by another sign nothing is looked at

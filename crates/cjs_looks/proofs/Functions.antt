@@ -1,6 +1,6 @@
 -- Functions by their bodies.
 use Rattle.std.specs.Prelude.{ℕ, Bool, false, List, [], ◌∷◌, Option, Some, None, option_map}
-use Rattle.std.proofs.Common.{◌≡◌, sym, ap, ◌∙◌}
+use Rattle.std.proofs.Common.{◌≡◌, refl, sym, ap, ◌∙◌}
 use Rattle.base.specs.declared.range.Range.{Range}
 use Rattle.es_token.specs.declared.token.Token.{Token}
 use Rattle.ts_ast.specs.declared.leaf.Ident.{Ident}
@@ -13,14 +13,15 @@ use Rattle.es_ast.specs.declared.ast.Stmt.{Stmt}
 use Rattle.es_ast.specs.declared.ast.Function.{Function as AFunction, roll-Function, out-roll-Function}
 use Rattle.es_ast.specs.declared.ast.ClassMember.TheOpen.{Expr-F, Function-F}
 use Rattle.es_site.specs.Parts.{Whole, ExprParts}
-use Rattle.es_dress.specs.Value.{Value, Signature, given, optional, type_at, type_params_at}
-use Rattle.es_dress.specs.Texts.{own_name_of}
-use Rattle.es_dress.specs.Functions.{function_of, arrow_of, name_param, body_of}
-use Rattle.es_dress.specs.TypedFunctions.{typed_function_of}
-use Rattle.es_dress.specs.TypedParts.{body_in}
+use Rattle.es_lowering.specs.Value.{Value, Signature, given, optional, type_at, type_params_at}
+use Rattle.es_lowering.specs.Texts.{own_name_of}
+use Rattle.es_lowering.specs.Functions.{function_of, arrow_of, name_param, body_of}
+use Rattle.es_lowering.specs.TypedFunctions.{typed_function_of}
+use Rattle.es_lowering.specs.TypedParts.{body_in}
 use Rattle.es_function_views.specs.Function as fn
 use Rattle.es_function_views.specs.Head as head
-use Rattle.cjs_facts.specs.Looks.{look, props_in, props_of, behind_zero, function_in, assigned_last}
+use Rattle.cjs_facts.specs.Exports.{is_spread_in}
+use Rattle.cjs_facts.specs.Looks.{look, props_in, props_of, behind_zero, is_zero, second_in, function_in, assigned_last}
 use Rattle.cjs_facts.proofs.Rolls.{look_roll, assigned_roll}
 use Rattle.cjs_looks.specs.Odd.{All}
 use Rattle.cjs_looks.specs.Kinds.{IsFunction, body_by}
@@ -40,6 +41,10 @@ fn_at w =
       follows = ap behind_zero is;
       runs = ap (λ q. body_by (function_in q)) is ∙ ap (λ (m : Whole Function-F). Some m.body) (out-roll-Function w);
       ends = ap assigned_last (sym rolls) ∙ assigned_roll p;
+      zero = ap is_zero is;
+      pairs = ap second_in is;
+      spreads = ap is_spread_in is;
+      there = refl;
     }
 
 arrow_at : (w : Whole Function-F) → IsFunction (Some w.body) (vExpr.Arrow (roll-Function w))
@@ -56,6 +61,10 @@ arrow_at w =
       follows = ap behind_zero is;
       runs = ap (λ q. body_by (function_in q)) is ∙ ap (λ (m : Whole Function-F). Some m.body) (out-roll-Function w);
       ends = ap assigned_last (sym rolls) ∙ assigned_roll p;
+      zero = ap is_zero is;
+      pairs = ap second_in is;
+      spreads = ap is_spread_in is;
+      there = refl;
     }
 
 fn_given : {A : Type 0} (P : Expr → Type 0) (o : Option A) (make : A → Option AFunction)

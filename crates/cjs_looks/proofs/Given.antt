@@ -1,7 +1,7 @@
 -- What holds of what is made of parts that may not be there.
 use Rattle.std.specs.Prelude.{Option, Some, None, option_map}
 use Rattle.std.proofs.Common.{◌≡◌}
-use Rattle.es_dress.specs.Value.{given}
+use Rattle.es_lowering.specs.Value.{given}
 use Rattle.es_ast.specs.declared.ast.Expr.{Expr}
 use Rattle.cjs_looks.specs.Odd.{All}
 use Rattle.cjs_looks.specs.Seen.{Tells}

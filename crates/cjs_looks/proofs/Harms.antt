@@ -14,14 +14,14 @@ use Rattle.es_ast.specs.declared.ast.Expr.{Expr, roll-Expr}
 use Rattle.es_ast.specs.declared.ast.Expr.TheVariants as vExpr
 use Rattle.es_ast.specs.declared.ast.ClassMember.TheOpen.{Expr-F}
 use Rattle.es_site.specs.Parts.{ExprParts}
-use Rattle.es_dress.specs.Value.{Value, absent, nil, more, token, node, given, as_group, turns, optional}
-use Rattle.es_dress.specs.Value.{arguments_at, args_at, post_at, expr_at, prop_at}
-use Rattle.es_dress.specs.Texts.{ident_of, str_of, regex_of, numeric_of, piece_of, piece_there, property_of, token_of}
-use Rattle.es_dress.specs.Expressions.{Post, chained, from_byte, member_of, index_of, call_of, tagged_of, word_of}
-use Rattle.es_dress.specs.Expressions.{elements, optional_inner}
-use Rattle.es_dress.specs.TypedExpressions.{typed_call_of, typed_tagged_of}
-use Rattle.es_dress.specs.TypedExpressions.{typed_call, non_null_of}
-use Rattle.es_dress.specs.TypedParts.{args_part_at}
+use Rattle.es_lowering.specs.Value.{Value, absent, nil, more, token, node, given, as_group, turns, optional}
+use Rattle.es_lowering.specs.Value.{arguments_at, args_at, post_at, expr_at, prop_at}
+use Rattle.es_lowering.specs.Texts.{ident_of, str_of, regex_of, numeric_of, piece_of, piece_there, property_of, token_of}
+use Rattle.es_lowering.specs.Expressions.{Post, chained, from_byte, member_of, index_of, call_of, tagged_of, word_of}
+use Rattle.es_lowering.specs.Expressions.{elements, optional_inner}
+use Rattle.es_lowering.specs.TypedExpressions.{typed_call_of, typed_tagged_of}
+use Rattle.es_lowering.specs.TypedExpressions.{typed_call, non_null_of}
+use Rattle.es_lowering.specs.TypedParts.{args_part_at}
 use Rattle.es_syntax.specs.Roles.{expr_in}
 use Rattle.es_expr_views.specs.Primary as primary
 use Rattle.es_operator_views.specs.Operator as operator
@@ -174,6 +174,16 @@ by_assigning None a = record { told = tt }
 by_assigning (Some e) a = record { told = a.all.harms }
 
 module _ (x : List ℕ) (ts : List Token) (r : Range) where
+  sequence_harms : (a b : Option Expr) (v : Value) → Tells is_harmless (operator.sequence r a b v) false
+  unfolding operator.sequence
+  sequence_harms a b v =
+      tells_given is_harmless false a (λ a.
+      tells_given is_harmless false b (λ b.
+      tells_given is_harmless false (turns (λ turn. expr_at turn 0) v) (λ others.
+      record {
+        told = harms (Expr-F.Seq (a ∷ b ∷ others) r) _ false (vExpr.rolls-Seq (a ∷ b ∷ others) r) refl;
+      })))
+
   pub operator_harms : (op : Operator) → Tells is_harmless (operator.the_operator x ts r op) false
   operator_harms (o.Prefix sign arg) = by_nothing _ (odd.is_prefix x ts r _ _)
   operator_harms (o.Postfix arg sign) = by_nothing _ (odd.is_postfix x ts r _ _)
@@ -186,7 +196,7 @@ module _ (x : List ℕ) (ts : List Token) (r : Range) where
   operator_harms (o.PatternAssignment left right) = by_assigning _ (odd.is_pattern_assigned x ts r _ _)
   operator_harms (o.Yield arg) = by_nothing _ (odd.is_yield x ts r _)
   operator_harms (o.TypedBinary left turn) = by_nothing _ (odd.is_turned x ts r _ _ _)
-  operator_harms (o.Sequence first second others) = by_nothing _ (odd.is_sequence x ts r _ _ _)
+  operator_harms (o.Sequence first second others) = sequence_harms _ _ _
   operator_harms o.Broken = record { told = tt }
 
   pub function_harms : (it : Function) → Tells is_harmless (fn.the_function x ts r it) false

@@ -2,7 +2,7 @@
 use Rattle.std.specs.Prelude.{ℕ, Bool, true, false, List, Option, Some, None, if◌then◌else◌}
 use Rattle.std.proofs.Common.{◌≡◌, refl}
 use Rattle.es_token.specs.declared.token.Token.{Token}
-use Rattle.es_dress.specs.Texts.{str_of}
+use Rattle.es_lowering.specs.Texts.{str_of}
 use Rattle.cjs_facts.specs.Looks.{requires, other, required_by, passed, bracket, odd_key, odd_object, object_of}
 use Rattle.cjs_looks.specs.Seen.{text_of}
 

@@ -11,11 +11,11 @@ use Rattle.ts_ast.specs.declared.ts.TsPart.TheVariants as vPart
 use Rattle.es_ast.specs.declared.ast.Expr.{Expr}
 use Rattle.es_ast.specs.declared.ast.Expr.TheVariants as vExpr
 use Rattle.es_ast.specs.declared.ast.ClassMember.TheOpen.{Expr-F}
-use Rattle.es_dress.specs.Value.{Value, absent, nil, more, token, node, given, as_group, turns, optional, arguments_at, args_at, post_at}
-use Rattle.es_dress.specs.Texts.{ident_of, private_of, property_of, token_of}
-use Rattle.es_dress.specs.Expressions.{Post, chained, from_byte, member_of, index_of, call_of, tagged_of, optional_inner}
-use Rattle.es_dress.specs.TypedExpressions.{typed_call_of, typed_tagged_of, typed_call, non_null_of}
-use Rattle.es_dress.specs.TypedParts.{args_part_at}
+use Rattle.es_lowering.specs.Value.{Value, absent, nil, more, token, node, given, as_group, turns, optional, arguments_at, args_at, post_at}
+use Rattle.es_lowering.specs.Texts.{ident_of, private_of, property_of, token_of}
+use Rattle.es_lowering.specs.Expressions.{Post, chained, from_byte, member_of, index_of, call_of, tagged_of, optional_inner}
+use Rattle.es_lowering.specs.TypedExpressions.{typed_call_of, typed_tagged_of, typed_call, non_null_of}
+use Rattle.es_lowering.specs.TypedParts.{args_part_at}
 use Rattle.es_call_views.specs.Post as post
 use Rattle.es_call_views.specs.Call.{chained_of}
 use Rattle.cjs_facts.specs.Looks.{Look, member, other, object_of, dot, dotted, bracket, call_of as called, look}

@@ -1,5 +1,5 @@
 -- The forms that are none of those that are looked at.
-use Rattle.std.specs.Prelude.{ℕ, Bool, true, false, List, ◌∷◌, Option, Some, None, option_map, if◌then◌else◌}
+use Rattle.std.specs.Prelude.{ℕ, Bool, true, false, List, [], ◌∷◌, Option, Some, None, option_map, if◌then◌else◌}
 use Rattle.std.proofs.Common.{◌≡◌, refl, sym, ap, ◌∙◌}
 use Rattle.base.specs.declared.range.Range.{Range}
 use Rattle.es_token.specs.declared.token.Token.{Token}
@@ -9,24 +9,40 @@ use Rattle.es_tree.specs.Key.{same_kind}
 use Rattle.ts_ast.specs.declared.ts.TsPart.TheVariants as vPart
 use Rattle.es_ast.specs.declared.ast.Expr.{Expr, roll-Expr, out-Expr, out-roll-Expr}
 use Rattle.es_ast.specs.declared.ast.Expr.TheVariants as vExpr
+use Rattle.es_ast.specs.declared.ast.Function.{Function}
 use Rattle.es_ast.specs.declared.ast.Pat.{Pat}
 use Rattle.es_ast.specs.declared.ast.Pat.TheVariants as vPat
 use Rattle.es_ast.specs.declared.ast.ClassMember.TheOpen.{Expr-F}
 use Rattle.es_site.specs.Parts.{ExprParts}
-use Rattle.es_dress.specs.Value.{Value, absent, nil, more, token, node, given, part, turns, expr_at}
-use Rattle.es_dress.specs.Texts.{kind_at, private_of}
-use Rattle.es_dress.specs.Operators.{listed, unary_ops, update_ops, binary_between, assign_between}
-use Rattle.es_dress.specs.Expressions.{yield_of}
-use Rattle.es_dress.specs.TypedExpressions.{turned_by, asserted_by}
+use Rattle.es_lowering.specs.Value.{Value, absent, nil, more, token, node, given, part, turns, expr_at}
+use Rattle.es_lowering.specs.Texts.{kind_at, private_of}
+use Rattle.es_lowering.specs.Operators.{listed, unary_ops, update_ops, binary_between, assign_between}
+use Rattle.es_lowering.specs.Expressions.{yield_of}
+use Rattle.es_lowering.specs.TypedExpressions.{turned_by, asserted_by}
 use Rattle.es_operator_views.specs.Operator as operator
-use Rattle.cjs_facts.specs.Looks.{Look, other, look, in_look, is_harmless, in_harmless, props_in, props_of, behind_zero, function_in, in_assigned, assigned_last}
+use Rattle.cjs_facts.specs.Exports.{is_spread_in}
+use Rattle.cjs_facts.specs.Looks.{Look, other, look, in_look, is_harmless, in_harmless, props_in, props_of, behind_zero, is_zero, second_in, function_in, in_assigned, assigned_last}
 use Rattle.cjs_facts.proofs.Rolls.{look_parts, look_roll, harmless_parts, harmless_roll, assigned_parts, assigned_roll}
 use Rattle.cjs_looks.specs.Odd.{All, Linked, IsNothing, IsRunning, IsAssigning}
 use Rattle.cjs_looks.proofs.Given.{all_given, all_map, all_one}
 
 -- ---- by what an expression is
+-- the function that it is, whether it is zero, what stands behind a zero, and whether it stands behind `...`
+abbrev Odd : Type 0
+Odd = Option Function × (Bool × (Option Expr × Bool))
+
+abbrev odd_in : ExprParts → Odd
+odd_in w = (function_in w, (is_zero w, (second_in w, is_spread_in w)))
+
+-- nothing of these, but a zero perhaps
+abbrev pub zero_odd : Bool → Odd
+zero_odd is = (None, (is, (None, false)))
+
+abbrev none_odd : Odd
+none_odd = zero_odd false
+
 pub plain : (w : ExprParts) (e : Expr) (l : Look) → roll-Expr w ≡ e → in_look (look_parts w) ≡ l → props_in w ≡ None
-    → behind_zero w ≡ None → function_in w ≡ None → in_assigned (assigned_parts w) ≡ None → Linked l e
+    → behind_zero w ≡ None → odd_in w ≡ none_odd → in_assigned (assigned_parts w) ≡ None → Linked l e
 unfolding props_of
 plain w e l rolls a b c d f =
     let is : out-Expr e ≡ w = sym (ap out-Expr rolls) ∙ out-roll-Expr w in (
@@ -34,13 +50,16 @@ plain w e l rolls a b c d f =
       record {
         holds = ap props_in is ∙ b;
         follows = ap behind_zero is ∙ c;
-        runs = ap function_in is ∙ d;
+        runs = ap function_in is ∙ ap (λ (o : Odd). o.0) d;
         ends = ap assigned_last (sym rolls) ∙ (assigned_roll w ∙ f);
+        zero = ap is_zero is ∙ ap (λ (o : Odd). o.1.0) d;
+        pairs = ap second_in is ∙ ap (λ (o : Odd). o.1.1.0) d;
+        spreads = ap is_spread_in is ∙ ap (λ (o : Odd). o.1.1.1) d;
       },
     )
 
 pub nothing : (w : ExprParts) (e : Expr) → roll-Expr w ≡ e → in_look (look_parts w) ≡ other → props_in w ≡ None
-    → behind_zero w ≡ None → function_in w ≡ None → in_assigned (assigned_parts w) ≡ None
+    → behind_zero w ≡ None → odd_in w ≡ none_odd → in_assigned (assigned_parts w) ≡ None
     → in_harmless (harmless_parts w) ≡ false → IsNothing e
 nothing w e rolls a b c d f g =
     (plain w e other rolls a b c d f, ap is_harmless (sym rolls) ∙ (harmless_roll w ∙ g))
@@ -183,13 +202,6 @@ module _ (x : List ℕ) (ts : List Token) (r : Range) where
   pub is_turned : (from : ℕ) (a : Option Expr) (v : Value) → All N (operator.turned ts r from a v)
   unfolding operator.turned
   is_turned from a v = all_given N a (λ a. turned ts r a from v (part v 1))
-
-  pub is_sequence : (a b : Option Expr) (v : Value) → All N (operator.sequence r a b v)
-  unfolding operator.sequence
-  is_sequence a b v =
-      all_given N a (λ a. all_given N b (λ b. all_given N (turns (λ turn. expr_at turn 0) v) (λ others.
-      all_one N _
-      (nothing (Expr-F.Seq (a ∷ b ∷ others) r) _ (vExpr.rolls-Seq (a ∷ b ∷ others) r) refl refl refl refl refl refl))))
 
   -- an assignment, by whatever operator
   pub is_assigned : (from to : ℕ) (a b : Option Expr) → All IsAssigning (operator.assigned ts r from to a b)

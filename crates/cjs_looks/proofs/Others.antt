@@ -4,18 +4,19 @@ use Rattle.std.proofs.Common.{refl}
 use Rattle.base.specs.declared.range.Range.{Range}
 use Rattle.es_token.specs.declared.token.Token.{Token}
 use Rattle.ts_ast.specs.declared.ts.TsPart.TheVariants as vPart
+use Rattle.es_ast.specs.declared.leaf.ImportPhase.TheVariants as vPhase
 use Rattle.es_ast.specs.declared.ast.Expr.{Expr}
 use Rattle.es_ast.specs.declared.ast.Expr.TheVariants as vExpr
 use Rattle.es_ast.specs.declared.ast.Param.{Param}
 use Rattle.es_ast.specs.declared.ast.Function.{Function as AFunction}
 use Rattle.es_ast.specs.declared.ast.ClassMember.TheOpen.{Expr-F}
-use Rattle.es_dress.specs.Value.{Value, more, first_of, behind, part, group, as_group, optional, option_list, turns, expr_at, args_at, arguments_at, type_at, type_params_at}
-use Rattle.es_dress.specs.Texts.{span_of}
-use Rattle.es_dress.specs.Operators.{binary_between}
-use Rattle.es_dress.specs.Expressions.{binary, new_of}
-use Rattle.es_dress.specs.TypedExpressions.{typed_binary, typed_new_of}
-use Rattle.es_dress.specs.Functions.{body_of}
-use Rattle.es_dress.specs.Dress.{build, expr_of}
+use Rattle.es_lowering.specs.Value.{Value, more, first_of, behind, part, group, as_group, optional, option_list, turns, expr_at, args_at, arguments_at, type_at, type_params_at}
+use Rattle.es_lowering.specs.Texts.{span_of}
+use Rattle.es_lowering.specs.Operators.{binary_between}
+use Rattle.es_lowering.specs.Expressions.{binary, new_of}
+use Rattle.es_lowering.specs.TypedExpressions.{typed_binary, typed_new_of}
+use Rattle.es_lowering.specs.Functions.{body_of}
+use Rattle.es_lowering.specs.Lowering.{build, expr_of}
 use Rattle.es_syntax.specs.declared.entry.Lean.{Lean}
 use Rattle.es_syntax.specs.declared.entry.Lean.TheVariants as vLean
 use Rattle.es_syntax.specs.Held.{Held, valued, parts_of, label_of, node_of, leaning, leaned}
@@ -54,8 +55,8 @@ module _ (r : Range) where
   is_imported first second =
       all_given N first (λ first. all_given N (optional expr_at second) (λ second.
       all_one N _
-      (nothing (Expr-F.ImportCall (first ∷ option_list second) r) _
-      (vExpr.rolls-ImportCall (first ∷ option_list second) r) refl refl refl refl refl refl)))
+      (nothing (Expr-F.ImportCall vPhase.Evaluation (first ∷ option_list second) r) _
+      (vExpr.rolls-ImportCall vPhase.Evaluation (first ∷ option_list second) r) refl refl refl refl refl refl)))
 
   pub is_newed : (callee : Option Expr) (args : Value) → All N (call.newed r callee args)
   unfolding call.newed

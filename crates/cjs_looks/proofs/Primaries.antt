@@ -1,5 +1,5 @@
 -- What primary expressions look like.
-use Rattle.std.specs.Prelude.{ℕ, ◌+◌, Bool, true, false, List, [], ◌∷◌, ◌++◌, Option, Some, None, option_map, slice_range, if◌then◌else◌}
+use Rattle.std.specs.Prelude.{ℕ, ◌+◌, Bool, true, false, List, [], ◌∷◌, ◌++◌, Option, Some, None, option_map, slice_range, bytes_eq, codes, if◌then◌else◌}
 use Rattle.std.proofs.Common.{◌≡◌, refl, sym, ap, ◌∙◌}
 use Rattle.base.specs.declared.range.Range.{Range}
 use Rattle.es_token.specs.declared.token.Token.{Token}
@@ -12,17 +12,18 @@ use Rattle.es_ast.specs.declared.ast.Expr.TheVariants as vExpr
 use Rattle.es_ast.specs.declared.ast.Prop.{Prop}
 use Rattle.es_ast.specs.declared.ast.ClassMember.TheOpen.{Expr-F}
 use Rattle.es_site.specs.Parts.{ExprParts}
-use Rattle.es_dress.specs.Value.{Value, given, turns, expr_at, prop_at}
-use Rattle.es_dress.specs.Texts.{ident_of, str_of, regex_of, numeric_of, piece_of, piece_there}
-use Rattle.es_dress.specs.Expressions.{word_of, elements}
+use Rattle.es_lowering.specs.Value.{Value, given, turns, expr_at, prop_at}
+use Rattle.es_lowering.specs.Texts.{ident_of, str_of, regex_of, numeric_of, piece_of, piece_there}
+use Rattle.es_lowering.specs.Expressions.{word_of, elements}
 use Rattle.es_expr_views.specs.Primary as primary
-use Rattle.cjs_facts.specs.Looks.{named, other, look, in_look, props_in, props_of, behind_zero, function_in, assigned_last}
+use Rattle.cjs_facts.specs.Exports.{is_spread_in}
+use Rattle.cjs_facts.specs.Looks.{named, other, look, in_look, props_in, props_of, behind_zero, is_zero, second_in, function_in, assigned_last}
 use Rattle.cjs_facts.proofs.Rolls.{look_parts, look_roll, assigned_roll}
 use Rattle.cjs_looks.specs.Odd.{All, Linked}
-use Rattle.cjs_looks.specs.Kinds.{IsObject, IsParen}
+use Rattle.cjs_looks.specs.Kinds.{IsObject, IsParen, IsNumber, IsSpread, number_zero}
 use Rattle.cjs_looks.specs.Seen.{name_of, text_of}
 use Rattle.cjs_looks.proofs.Given.{all_given, all_map, all_one}
-use Rattle.cjs_looks.proofs.Odd.{plain}
+use Rattle.cjs_looks.proofs.Odd.{plain, zero_odd}
 
 object_at : (props : List Prop) (r : Range) → IsObject (Some props) (vExpr.Object props r)
 unfolding props_of
@@ -37,6 +38,10 @@ object_at props r =
       follows = ap behind_zero is;
       runs = ap function_in is;
       ends = ap assigned_last (sym rolls) ∙ assigned_roll w;
+      zero = ap is_zero is;
+      pairs = ap second_in is;
+      spreads = ap is_spread_in is;
+      there = refl;
     }
 
 paren_at : (inner : Expr) (r : Range) → IsParen (Some inner) (vExpr.Paren inner r)
@@ -52,13 +57,57 @@ paren_at inner r =
       follows = ap behind_zero is;
       runs = ap function_in is;
       ends = ap assigned_last (sym rolls) ∙ assigned_roll w;
+      zero = ap is_zero is;
+      pairs = ap second_in is;
+      spreads = ap is_spread_in is;
+      there = refl;
+    }
+
+number_at : (it : Lit) → in_look (look_parts (Expr-F.Lit it)) ≡ other
+    → IsNumber (is_zero (Expr-F.Lit it)) (vExpr.Lit it)
+unfolding props_of
+number_at it looks =
+    let w : ExprParts = Expr-F.Lit it in
+    let e : Expr = vExpr.Lit it in
+    let rolls : roll-Expr w ≡ e = vExpr.rolls-Lit it in
+    let is : out-Expr e ≡ w = sym (ap out-Expr rolls) ∙ out-roll-Expr w in
+    record {
+      holds = ap props_in is;
+      looks = ap look (sym rolls) ∙ (look_roll w ∙ looks);
+      follows = ap behind_zero is;
+      runs = ap function_in is;
+      ends = ap assigned_last (sym rolls) ∙ assigned_roll w;
+      zero = ap is_zero is;
+      pairs = ap second_in is;
+      spreads = ap is_spread_in is;
+    }
+
+spread_at : (inner : Expr) (r : Range) → IsSpread (vExpr.Spread inner r)
+unfolding props_of
+spread_at inner r =
+    let w : ExprParts = Expr-F.Expr::Spread inner r in
+    let e : Expr = vExpr.Spread inner r in
+    let rolls : roll-Expr w ≡ e = vExpr.rolls-Spread inner r in
+    let is : out-Expr e ≡ w = sym (ap out-Expr rolls) ∙ out-roll-Expr w in
+    record {
+      holds = ap props_in is;
+      looks = ap look (sym rolls) ∙ look_roll w;
+      follows = ap behind_zero is;
+      runs = ap function_in is;
+      ends = ap assigned_last (sym rolls) ∙ assigned_roll w;
+      zero = ap is_zero is;
+      pairs = ap second_in is;
+      spreads = ap is_spread_in is;
     }
 
 abbrev P : Expr → Type 0
 P = Linked other
 
-lit : (it : Lit) → in_look (look_parts (Expr-F.Lit it)) ≡ other → Linked other (vExpr.Lit it)
-lit it a = plain (Expr-F.Lit it) _ other (vExpr.rolls-Lit it) a refl refl refl refl
+lit : (it : Lit) → in_look (look_parts (Expr-F.Lit it)) ≡ other → is_zero (Expr-F.Lit it) ≡ false
+    → Linked other (vExpr.Lit it)
+lit it a z =
+    plain (Expr-F.Lit it) _ other (vExpr.rolls-Lit it) a refl refl
+    (ap zero_odd z) refl
 
 module _ (x : List ℕ) (ts : List Token) (r : Range) where
   pub is_ident : (o : Option Token) → All (Linked (named (name_of x o))) (primary.ident x o)
@@ -91,34 +140,37 @@ module _ (x : List ℕ) (ts : List Token) (r : Range) where
       go true b c d = record {
         all = plain (Expr-F.Expr::This r) _ _ (vExpr.rolls-This r) refl refl refl refl refl;
       }
-      go false true c d = record { all = lit (vLit.Null r) refl }
-      go false false true d = record { all = lit (vLit.Bool true r) refl }
-      go false false false true = record { all = lit (vLit.Bool false r) refl }
+      go false true c d = record { all = lit (vLit.Null r) refl refl }
+      go false false true d = record { all = lit (vLit.Bool true r) refl refl }
+      go false false false true = record { all = lit (vLit.Bool false r) refl refl }
       go false false false false = record { all = tt }
 
-  pub is_number : (o : Option Token) → All P (primary.number x o)
-  unfolding primary.number numeric_of
+  pub is_number : (o : Option Token) → All (IsNumber (number_zero x o)) (primary.number x o)
+  unfolding primary.number numeric_of ident_of
   is_number None = record { all = tt }
   is_number (Some t) = go (same_kind t.kind k.Number) (same_kind t.kind k.BigInt)
     where
       go : (a b : Bool)
-          → All P (option_map vExpr.Lit
+          → All (IsNumber (if a then bytes_eq (slice_range x t.range.start t.range.end) (codes "0") else false))
+          (option_map vExpr.Lit
           (if a then Some (vLit.Num (record { raw = slice_range x t.range.start t.range.end; span = t.range }))
           else (if b then Some
           (vLit.BigInt (record { raw = slice_range x t.range.start t.range.end; span = t.range })) else
           None)))
       go true b = record {
         all =
-            lit (vLit.Num (record { raw = slice_range x t.range.start t.range.end; span = t.range })) refl;
+            number_at (vLit.Num (record { raw = slice_range x t.range.start t.range.end; span = t.range })) refl;
       }
-      go false true = record
-          { all = lit (vLit.BigInt (record { raw = slice_range x t.range.start t.range.end; span = t.range })) refl }
+      go false true = record {
+        all =
+            number_at (vLit.BigInt (record { raw = slice_range x t.range.start t.range.end; span = t.range })) refl;
+      }
       go false false = record { all = tt }
 
   pub is_regexp : (o : Option Token) → All P (primary.regexp x o)
   unfolding primary.regexp
   is_regexp None = record { all = tt }
-  is_regexp (Some t) = record { all = lit (vLit.Regex (regex_of x t)) refl }
+  is_regexp (Some t) = record { all = lit (vLit.Regex (regex_of x t)) refl refl }
 
   pub is_template : (o : Option Token) → All P (primary.template x r o)
   unfolding primary.template
@@ -145,11 +197,9 @@ module _ (x : List ℕ) (ts : List Token) (r : Range) where
       all_map P (elements vExpr.Hole expr_at ts (from + 1) v) (λ elems. vExpr.Array elems r) (λ elems.
       plain (Expr-F.Expr::Array elems r) _ _ (vExpr.rolls-Array elems r) refl refl refl refl refl)
 
-  pub is_spread : (o : Option Expr) → All P (primary.spread r o)
+  pub is_spread : (o : Option Expr) → All IsSpread (primary.spread r o)
   unfolding primary.spread
-  is_spread o =
-      all_map P o (λ e. vExpr.Spread e r) (λ e.
-      plain (Expr-F.Expr::Spread e r) _ _ (vExpr.rolls-Spread e r) refl refl refl refl refl)
+  is_spread o = all_map IsSpread o (λ e. vExpr.Spread e r) (λ e. spread_at e r)
 
   -- ---- objects and brackets
   pub is_object : (v : Value) → All (IsObject (turns (λ turn. prop_at turn 0) v)) (primary.object r v)

@@ -1,7 +1,7 @@
 -- What further parts of a chain make of what stands before them.
 use Rattle.std.specs.Prelude.{ℕ, List, Option, IfSome}
 use Rattle.es_ast.specs.declared.ast.Expr.{Expr}
-use Rattle.es_dress.specs.Expressions.{Post, chained}
+use Rattle.es_lowering.specs.Expressions.{Post, chained}
 
 -- where the part is there, it makes of what has one property what has the other
 pub record Makes (before after : Expr → Type 0) (part : Option Post) : Type 0 where

@@ -1,7 +1,7 @@
 -- What the looks of expressions mean, whose tokens are told by their numbers.
 use Rattle.std.specs.Prelude.{◌≡◌, ℕ, List, [], Option, Some, None, slice_get, IfSome}
 use Rattle.es_token.specs.declared.token.Token.{Token}
-use Rattle.es_dress.specs.Texts.{ident_of, str_of}
+use Rattle.es_lowering.specs.Texts.{ident_of, str_of}
 use Rattle.cjs_looks.specs.declared.looks.Key.{Key as Seen}
 use Rattle.cjs_looks.specs.declared.looks.Key.TheVariants as key
 use Rattle.cjs_looks.specs.declared.looks.Object.{Object as SeenObject}

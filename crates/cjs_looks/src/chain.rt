@@ -2,9 +2,9 @@
 
 ghost use Rattle.std.specs.Prelude.{◌≡◌, ℕ, List, Option, IfSome, map, slice_get};
 ghost use Rattle.base.specs.declared.range.Range.{Range};
-ghost use Rattle.es_dress.specs.Expressions.{argument};
+ghost use Rattle.es_lowering.specs.Expressions.{argument};
 ghost use Rattle.es_call_views.specs.Post.{member};
-ghost use Rattle.es_dress.specs.Value.{as_group, turns, post_at as post_there};
+ghost use Rattle.es_lowering.specs.Value.{as_group, turns, post_at as post_there};
 ghost use Rattle.es_syntax.specs.Held.{held, valued};
 ghost use Rattle.es_syntax.specs.Roles.{expr_in, post_in, args_in};
 ghost use Rattle.cjs_facts.specs.Looks.{look, named, call_of};
@@ -20,7 +20,7 @@ use crate::words::{spells, token_at};
 use es_call_views::{Args, Call, Post, args_at, call_at, post_at};
 use es_expr_views::primary_at;
 use es_operator_views::{Operator, operator_at};
-use es_syntax::{Item, Row};
+use es_syntax::{Item, Siblings};
 use es_token::{Token, TokenKind};
 
 /// What kind of expression an expression is; none where no view knows it.
@@ -51,7 +51,17 @@ fn operator_kind<'a>(text: &str, tokens: &[Token], it: &Item<'a>) -> Option<Kind
         Some(Operator::PatternAssignment { left: _, right }) => Some(Kind::Assigned(right)),
         Some(Operator::Yield(_)) => Some(Kind::Plain(Look::Other)),
         Some(Operator::TypedBinary { .. }) => Some(Kind::Plain(Look::Other)),
-        Some(Operator::Sequence { .. }) => Some(Kind::Plain(Look::Other)),
+        Some(
+            Operator::Sequence {
+                first,
+                second,
+                others,
+            },
+        ) => Some(Kind::Sequence {
+            first,
+            second,
+            others,
+        }),
         Some(Operator::Broken) => Some(Kind::Plain(Look::Other)),
         None => call_kind(text, tokens, it),
     }
@@ -79,7 +89,7 @@ fn call_kind<'a>(text: &str, tokens: &[Token], it: &Item<'a>) -> Option<Kind<'a>
 }
 
 /// What an expression looks like; none where no view knows it.
-#[tactic(auto, using(crate::proofs::Plain::look_plain, crate::proofs::Plain::look_object, crate::proofs::Plain::look_paren, crate::proofs::Plain::look_function, crate::proofs::Plain::look_assigned))]
+#[tactic(auto, using(crate::proofs::Plain::look_plain, crate::proofs::Plain::look_object, crate::proofs::Plain::look_paren, crate::proofs::Plain::look_number, crate::proofs::Plain::look_sequence, crate::proofs::Plain::look_spread, crate::proofs::Plain::look_function, crate::proofs::Plain::look_assigned))]
 #[cycle(looks)]
 pub fn look_at(text: &str, tokens: &[Token], it: &Item<'_>) -> Option<Look>
     ensures { IfSome result (λ told. Tells look (expr_in (valued text.now tokens.now it.now)) (look_of text.now tokens.now told)) }
@@ -88,6 +98,9 @@ pub fn look_at(text: &str, tokens: &[Token], it: &Item<'_>) -> Option<Look>
         Some(Kind::Plain(look)) => Some(look),
         Some(Kind::Object(_)) => Some(Look::Other),
         Some(Kind::Paren(_)) => Some(Look::Other),
+        Some(Kind::Number(_)) => Some(Look::Other),
+        Some(Kind::Spread) => Some(Look::Other),
+        Some(Kind::Sequence { .. }) => Some(Look::Other),
         Some(Kind::Function(_)) => Some(Look::Other),
         Some(Kind::Assigned(_)) => Some(Look::Other),
         None => None,
@@ -120,7 +133,7 @@ fn chain_look(text: &str, tokens: &[Token], it: &Item<'_>) -> Option<Look>
 /// What a chain looks like with all of these parts behind it.
 #[tactic(auto, using(crate::proofs::Links::posts_all, crate::proofs::Links::posts_next, crate::proofs::Links::posts_done))]
 #[cycle(looks)]
-fn posts_look(text: &str, tokens: &[Token], before: Look, posts: &Row<'_>) -> Option<Look>
+fn posts_look(text: &str, tokens: &[Token], before: Look, posts: &Siblings<'_>) -> Option<Look>
     ensures { IfSome result (λ told. AllMake (Linked (look_of text.now tokens.now before)) (Linked (look_of text.now tokens.now told)) (turns (λ turn. post_there turn 0) (held text.now tokens.now posts.now.entries.now))) }
 {
     let mut row = *posts;

@@ -5,7 +5,7 @@ ghost use Rattle.std.specs.Prelude.{◌≡◌, ◌&&◌, ℕ, List, IfSome, slic
 ghost use Rattle.es_token.specs.declared.token.Token.{Token as Tok};
 ghost use Rattle.es_expr_views.specs.Primary.{word};
 ghost use Rattle.base.specs.declared.range.Range.{Range};
-ghost use Rattle.es_dress.specs.Value.{as_group, turns, post_at as post_there};
+ghost use Rattle.es_lowering.specs.Value.{as_group, turns, post_at as post_there};
 ghost use Rattle.es_syntax.specs.Held.{held, valued};
 ghost use Rattle.es_syntax.specs.Roles.{expr_in, post_in};
 ghost use Rattle.es_expr_views.specs.Primary.{the_primary};
@@ -19,7 +19,7 @@ use es_call_views::{Call, Post, call_at, post_at};
 use es_expr_views::{Primary, primary_at};
 use es_function_views::function_at;
 use es_operator_views::{chain_at, operator_at};
-use es_syntax::{Item, Row};
+use es_syntax::{Item, Siblings};
 use es_token::{Token, TokenKind};
 
 /// `this` is not harmless, the other words are.
@@ -119,7 +119,7 @@ fn function_harmless(it: &Item<'_>) -> Option<bool>
 /// Whether a chain is harmless with all of these parts behind it.
 #[tactic(auto, using(crate::proofs::Harms::posts_all, crate::proofs::Harms::posts_next, crate::proofs::Harms::posts_done))]
 #[cycle(harmless)]
-fn posts_harmless(text: &str, tokens: &[Token], before: bool, posts: &Row<'_>) -> Option<bool>
+fn posts_harmless(text: &str, tokens: &[Token], before: bool, posts: &Siblings<'_>) -> Option<bool>
     ensures { IfSome result (λ is. AllMake (Harms before) (Harms is) (turns (λ turn. post_there turn 0) (held text.now tokens.now posts.now.entries.now))) }
 {
     let mut row = *posts;

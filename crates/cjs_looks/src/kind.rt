@@ -4,7 +4,7 @@ ghost use Rattle.std.specs.Prelude.{◌≡◌, ℕ, List, Option, Some, option_m
 ghost use Rattle.base.specs.declared.range.Range.{Range};
 ghost use Rattle.es_token.specs.declared.token.Token.{Token as Tok};
 ghost use Rattle.es_ast.specs.declared.ast.Expr.TheVariants as vExpr;
-ghost use Rattle.es_dress.specs.Value.{as_group, turns, behind, first_of as start_of, post_at as post_there};
+ghost use Rattle.es_lowering.specs.Value.{as_group, turns, behind, first_of as start_of, post_at as post_there};
 ghost use Rattle.es_operator_views.specs.Operator.{assigned};
 ghost use Rattle.es_syntax.specs.Held.{held, valued};
 ghost use Rattle.es_syntax.specs.Roles.{expr_in, post_in, args_in};
@@ -21,7 +21,7 @@ use crate::words::token_at;
 use es_expr_views::Primary;
 use es_function_views::{Function, FunctionHead, function_at, plain_function, typed_function};
 use es_operator_views::chain_at;
-use es_syntax::{Item, Row};
+use es_syntax::{Item, Siblings};
 use es_token::{Token, TokenKind};
 
 /// The body of a function.
@@ -29,7 +29,7 @@ use es_token::{Token, TokenKind};
 pub enum Body<'a> {
     Block(Item<'a>),
     /// A block, which may be absent.
-    May(Row<'a>),
+    May(Siblings<'a>),
     /// What stands behind `=>`.
     Arrow(Item<'a>),
 }
@@ -40,9 +40,19 @@ pub enum Kind<'a> {
     /// None of those below, which looks so.
     Plain(Look),
     /// An object, with its properties as turns.
-    Object(Row<'a>),
+    Object(Siblings<'a>),
     /// Brackets around an expression.
     Paren(Item<'a>),
+    /// A number, by its token.
+    Number(u32),
+    /// Expressions between commas: the first two, and the others as turns.
+    Sequence {
+        first: Item<'a>,
+        second: Item<'a>,
+        others: Siblings<'a>,
+    },
+    /// What stands behind `...`.
+    Spread,
     Function(Body<'a>),
     /// An assignment by `=`, of this.
     Assigned(Item<'a>),
@@ -55,7 +65,7 @@ pub fn primary_kind<'a>(it: &Primary<'a>) -> Kind<'a>
     match *it {
         Primary::Ident(token) => Kind::Plain(Look::Named(token)),
         Primary::Word(_) => Kind::Plain(Look::Other),
-        Primary::Number(_) => Kind::Plain(Look::Other),
+        Primary::Number(token) => Kind::Number(token),
         Primary::Str(token) => Kind::Plain(Look::Text(token)),
         Primary::RegExp(_) => Kind::Plain(Look::Other),
         Primary::Template(_) => Kind::Plain(Look::Other),
@@ -63,7 +73,7 @@ pub fn primary_kind<'a>(it: &Primary<'a>) -> Kind<'a>
         Primary::Paren(inner) => Kind::Paren(inner),
         Primary::Array { .. } => Kind::Plain(Look::Other),
         Primary::Object(props) => Kind::Object(props),
-        Primary::Spread(_) => Kind::Plain(Look::Other),
+        Primary::Spread(_) => Kind::Spread,
         Primary::Broken => Kind::Plain(Look::Other),
     }
 }

@@ -25,7 +25,7 @@ fn bytes_of(text: &str, token: Token) -> &[u8]
 }
 
 /// Whether the token of this number spells this word. One that isn't there spells the empty one.
-#[tactic(auto, unfolding(es_dress::specs::Texts::ident_of))]
+#[tactic(auto, unfolding(es_lowering::specs::Texts::ident_of))]
 pub fn spells(text: &str, tokens: &[Token], at: u32, word: &str) -> bool
     ensures { result ≡ bytes_eq (name_at text.now tokens.now at) word.now }
 {
@@ -36,7 +36,7 @@ pub fn spells(text: &str, tokens: &[Token], at: u32, word: &str) -> bool
 }
 
 /// Whether the tokens of these numbers spell the same. One that isn't there spells nothing.
-#[tactic(auto, unfolding(es_dress::specs::Texts::ident_of))]
+#[tactic(auto, unfolding(es_lowering::specs::Texts::ident_of))]
 pub fn same_name(text: &str, tokens: &[Token], a: u32, b: u32) -> bool
     ensures { result ≡ bytes_eq (name_at text.now tokens.now a) (name_at text.now tokens.now b) }
 {
@@ -44,7 +44,7 @@ pub fn same_name(text: &str, tokens: &[Token], a: u32, b: u32) -> bool
 }
 
 /// The bytes of the token of this number; none where it isn't there.
-#[tactic(auto, unfolding(es_dress::specs::Texts::ident_of))]
+#[tactic(auto, unfolding(es_lowering::specs::Texts::ident_of))]
 fn name_bytes<'a>(text: &'a str, tokens: &[Token], at: u32) -> &'a [u8]
     ensures { result.now ≡ name_at text.now tokens.now at }
 {

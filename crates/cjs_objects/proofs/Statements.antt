@@ -12,14 +12,14 @@ use Rattle.es_ast.specs.declared.ast.Stmt.{Stmt, roll-Stmt, out-Stmt, out-roll-S
 use Rattle.es_ast.specs.declared.ast.Stmt.TheVariants as vStmt
 use Rattle.es_ast.specs.declared.ast.ClassMember.TheOpen.{Stmt-F}
 use Rattle.es_site.specs.Parts.{Whole}
-use Rattle.es_whole_grammar.specs.declared.rows.Label.{Label}
-use Rattle.es_whole_grammar.specs.declared.rows.Label.TheVariants as l
-use Rattle.es_dress.specs.Value.{Value, absent, nil, more, token, node, given, part, as_group, group, optional}
-use Rattle.es_dress.specs.Value.{behind, expr_at, stmt_at, pat_at, head_at}
-use Rattle.es_dress.specs.Texts.{ident_of, ident_at, kind_at, span_of}
-use Rattle.es_dress.specs.Statements as stmts
-use Rattle.es_dress.specs.TypedStatements as typed_stmts
-use Rattle.es_dress.specs.Dress.{same_label, build, stmt_of, decl_of, declarable_of}
+use Rattle.es_grammar.specs.declared.rows.NodeKind.{NodeKind}
+use Rattle.es_grammar.specs.declared.rows.NodeKind.TheVariants as l
+use Rattle.es_lowering.specs.Value.{Value, absent, nil, more, token, node, given, part, as_group, group, optional}
+use Rattle.es_lowering.specs.Value.{behind, expr_at, stmt_at, pat_at, head_at}
+use Rattle.es_lowering.specs.Texts.{ident_of, ident_at, kind_at, span_of}
+use Rattle.es_lowering.specs.Statements as stmts
+use Rattle.es_lowering.specs.TypedStatements as typed_stmts
+use Rattle.es_lowering.specs.Lowering.{same_label, build, stmt_of, decl_of, declarable_of}
 use Rattle.es_syntax.specs.declared.entry.Lean.{Lean}
 use Rattle.es_syntax.specs.declared.entry.Lean.TheVariants as vLean
 use Rattle.es_syntax.specs.declared.entry.What.{What}
@@ -32,8 +32,7 @@ use Rattle.es_syntax.specs.Views.{is_one_of, IsNone}
 use Rattle.es_syntax.proofs.Others.{in_held, in_role, in_leant}
 use Rattle.es_stmt_views.specs.Stmt as view
 use Rattle.cjs_facts.specs.Looks.{returned_in, returned_last}
-use Rattle.cjs_looks.specs.Seen.{Tells}
-use Rattle.cjs_objects.specs.Returns.{body_returns, last_returns}
+use Rattle.cjs_objects.specs.Returns.{Meets, Gives, body_returns, last_returns}
 
 -- ---- statements that return nothing, wherever they stand
 record IsQuiet (s : Stmt) : Type 0 where
@@ -233,7 +232,7 @@ skip true o e no_one other = let bad : ⊥ = cc in absurd bad
 skip false o e no_one other = other
 
 module _ (x : List ℕ) (ts : List Token) where
-  label_quiet : (r : Range) (p : Value) (label : Label) → is_one_of view.statements label ≡ false
+  label_quiet : (r : Range) (p : Value) (label : NodeKind) → is_one_of view.statements label ≡ false
       → AreQuiet (stmt_of x ts label r p)
   unfolding stmt_of
   label_quiet r p label e =
@@ -286,20 +285,20 @@ module _ (x : List ℕ) (ts : List Token) where
       none_there _ (in_leant x ts (λ m. m.stmt) lean_none lean from (parts_of x ts es))
 
 -- ---- as answers
-to_last : (o : Option Stmt) → AreQuiet o → Tells last_returns o None
-to_last None a = record { told = tt }
-to_last (Some s) a = record { told = a.quiet.last }
+to_last : (o : Option Stmt) → AreQuiet o → Gives last_returns o None
+to_last None a = record { gives = tt }
+to_last (Some s) a = record { gives = a.quiet.last }
 
-to_body : (o : Option Stmt) → AreQuiet o → Tells body_returns o None
-to_body None a = record { told = tt }
-to_body (Some s) a = record { told = a.quiet.body }
+to_body : (o : Option Stmt) → AreQuiet o → Gives body_returns o None
+to_body None a = record { gives = tt }
+to_body (Some s) a = record { gives = a.quiet.body }
 
 pub last_other : (x : List ℕ) (ts : List Token) (i : Item) → IsNone view.statements i.what
-    → Tells last_returns (stmt_in (valued x ts i)) None
+    → Gives last_returns (stmt_in (valued x ts i)) None
 last_other x ts i e = to_last _ (other_here x ts i.what i.from i.to i.parts.entries.now e)
 
 pub body_other : (x : List ℕ) (ts : List Token) (i : Item) → IsNone view.statements i.what
-    → Tells body_returns (stmt_in (valued x ts i)) None
+    → Gives body_returns (stmt_in (valued x ts i)) None
 body_other x ts i e = to_body _ (other_here x ts i.what i.from i.to i.parts.entries.now e)
 
 -- ---- the forms of views
@@ -335,170 +334,164 @@ module _ (x : List ℕ) (ts : List Token) (r : Range) where
   unfolding view.with_of
   v_with e s = all_given e (λ e. all_given s (λ s. one _ (q_with r e s)))
 
-  pub last_labelled : (t : Option Token) (body : Option Stmt) → Tells last_returns (view.labelled x r t body) None
+  pub last_labelled : (t : Option Token) (body : Option Stmt) → Gives last_returns (view.labelled x r t body) None
   last_labelled t body = to_last _ (v_labelled t body)
 
-  pub body_labelled : (t : Option Token) (body : Option Stmt) → Tells body_returns (view.labelled x r t body) None
+  pub body_labelled : (t : Option Token) (body : Option Stmt) → Gives body_returns (view.labelled x r t body) None
   body_labelled t body = to_body _ (v_labelled t body)
 
-  pub last_if : (test : Option Expr) (s : Option Stmt) (v : Value) → Tells last_returns (view.if_of r test s v) None
+  pub last_if : (test : Option Expr) (s : Option Stmt) (v : Value) → Gives last_returns (view.if_of r test s v) None
   last_if test s v = to_last _ (v_if test s v)
 
-  pub body_if : (test : Option Expr) (s : Option Stmt) (v : Value) → Tells body_returns (view.if_of r test s v) None
+  pub body_if : (test : Option Expr) (s : Option Stmt) (v : Value) → Gives body_returns (view.if_of r test s v) None
   body_if test s v = to_body _ (v_if test s v)
 
-  pub last_continue : (v : Value) → Tells last_returns (view.continued x ts r v) None
+  pub last_continue : (v : Value) → Gives last_returns (view.continued x ts r v) None
   last_continue v = to_last _ (v_continue v)
 
-  pub body_continue : (v : Value) → Tells body_returns (view.continued x ts r v) None
+  pub body_continue : (v : Value) → Gives body_returns (view.continued x ts r v) None
   body_continue v = to_body _ (v_continue v)
 
-  pub last_break : (v : Value) → Tells last_returns (view.broken x ts r v) None
+  pub last_break : (v : Value) → Gives last_returns (view.broken x ts r v) None
   last_break v = to_last _ (v_break v)
 
-  pub body_break : (v : Value) → Tells body_returns (view.broken x ts r v) None
+  pub body_break : (v : Value) → Gives body_returns (view.broken x ts r v) None
   body_break v = to_body _ (v_break v)
 
-  pub last_throw : (e : Option Expr) → Tells last_returns (view.thrown r e) None
+  pub last_throw : (e : Option Expr) → Gives last_returns (view.thrown r e) None
   last_throw e = to_last _ (v_throw e)
 
-  pub body_throw : (e : Option Expr) → Tells body_returns (view.thrown r e) None
+  pub body_throw : (e : Option Expr) → Gives body_returns (view.thrown r e) None
   body_throw e = to_body _ (v_throw e)
 
-  pub last_with : (e : Option Expr) (s : Option Stmt) → Tells last_returns (view.with_of r e s) None
+  pub last_with : (e : Option Expr) (s : Option Stmt) → Gives last_returns (view.with_of r e s) None
   last_with e s = to_last _ (v_with e s)
 
-  pub body_with : (e : Option Expr) (s : Option Stmt) → Tells body_returns (view.with_of r e s) None
+  pub body_with : (e : Option Expr) (s : Option Stmt) → Gives body_returns (view.with_of r e s) None
   body_with e s = to_body _ (v_with e s)
 
 module _ (r : Range) where
-  pub last_empty : Tells last_returns (Some (vStmt.Empty r)) None
+  pub last_empty : Gives last_returns (Some (vStmt.Empty r)) None
   last_empty = to_last _ (one _ (q_empty r))
 
-  pub body_empty : Tells body_returns (Some (vStmt.Empty r)) None
+  pub body_empty : Gives body_returns (Some (vStmt.Empty r)) None
   body_empty = to_body _ (one _ (q_empty r))
 
-  pub last_debugger : Tells last_returns (Some (vStmt.Debugger r)) None
+  pub last_debugger : Gives last_returns (Some (vStmt.Debugger r)) None
   last_debugger = to_last _ (one _ (q_debugger r))
 
-  pub body_debugger : Tells body_returns (Some (vStmt.Debugger r)) None
+  pub body_debugger : Gives body_returns (Some (vStmt.Debugger r)) None
   body_debugger = to_body _ (one _ (q_debugger r))
 
   -- ---- a block, a `return`, an expression
   stmt_is : (w : Whole Stmt-F) (s : Stmt) → roll-Stmt w ≡ s → out-Stmt s ≡ w
   stmt_is w s rolls = sym (ap out-Stmt rolls) ∙ out-roll-Stmt w
 
-  pub last_block : (v : Value) → Tells last_returns (view.block r v) None
+  pub last_block : (v : Value) → Gives last_returns (view.block r v) None
   unfolding view.block
   last_block v = go (stmts.stmts_of v)
     where
-      go : (o : Option (List Stmt)) → Tells last_returns (option_map (λ stmts. vStmt.Block stmts r) o) None
-      go None = record { told = tt }
+      go : (o : Option (List Stmt)) → Gives last_returns (option_map (λ stmts. vStmt.Block stmts r) o) None
+      go None = record { gives = tt }
       go (Some all) =
-          record { told = ap (returned_last []) (stmt_is (Stmt-F.Block all r) _ (vStmt.rolls-Block all r)) }
+          record { gives = ap (returned_last []) (stmt_is (Stmt-F.Block all r) _ (vStmt.rolls-Block all r)) }
 
-  pub last_expression : (e : Option Expr) → Tells last_returns (view.expression r e) None
+  pub last_expression : (e : Option Expr) → Gives last_returns (view.expression r e) None
   unfolding view.expression
-  last_expression None = record { told = tt }
+  last_expression None = record { gives = tt }
   last_expression (Some e) =
-      record { told = ap (returned_last []) (stmt_is (Stmt-F.Stmt::Expr e r) _ (vStmt.rolls-Expr e r)) }
+      record { gives = ap (returned_last []) (stmt_is (Stmt-F.Stmt::Expr e r) _ (vStmt.rolls-Expr e r)) }
 
-  pub body_expression : (e : Option Expr) → Tells body_returns (view.expression r e) e
+  pub body_expression : (e : Option Expr) → Gives body_returns (view.expression r e) (Some e)
   unfolding view.expression
-  body_expression None = record { told = tt }
+  body_expression None = record { gives = tt }
   body_expression (Some e) =
-      record { told = ap returned_in (stmt_is (Stmt-F.Stmt::Expr e r) _ (vStmt.rolls-Expr e r)) }
+      record { gives = (ap returned_in (stmt_is (Stmt-F.Stmt::Expr e r) _ (vStmt.rolls-Expr e r)), refl) }
 
-  pub body_return : (v : Value) → Tells body_returns (view.returned_of r v) None
+  pub body_return : (v : Value) → Gives body_returns (view.returned_of r v) None
   unfolding view.returned_of
   body_return v = go (stmts.returned v)
     where
-      go : (o : Option (Option Expr)) → Tells body_returns (option_map (λ arg. vStmt.Return arg r) o) None
-      go None = record { told = tt }
+      go : (o : Option (Option Expr)) → Gives body_returns (option_map (λ arg. vStmt.Return arg r) o) None
+      go None = record { gives = tt }
       go (Some arg) =
-          record { told = ap returned_in (stmt_is (Stmt-F.Return arg r) _ (vStmt.rolls-Return arg r)) }
+          record { gives = ap returned_in (stmt_is (Stmt-F.Return arg r) _ (vStmt.rolls-Return arg r)) }
 
   -- what a `return` gives
-  last_return : (o : Option (Option Expr)) (e : Option Expr) → ((arg : Option Expr) → o ≡ Some arg → arg ≡ e)
-      → Tells last_returns (option_map (λ arg. vStmt.Return arg r) o) e
-  last_return None e is = record { told = tt }
-  last_return (Some arg) e is = record {
-    told = ap (returned_last []) (stmt_is (Stmt-F.Return arg r) _ (vStmt.rolls-Return arg r)) ∙ is arg refl;
-  }
-
-  pub returns_end : (v u us : Value) → v ≡ more u us → us ≡ nil
-      → Tells last_returns (view.returned_of r v) None
+  pub returns_end : (v u us : Value) → v ≡ more u us → us ≡ nil → Gives last_returns (view.returned_of r v) None
   unfolding view.returned_of
   returns_end v u us e f =
-      subst (λ (w : Value). Tells last_returns (option_map (λ arg. vStmt.Return arg r) (stmts.returned w)) None) (sym e)
-      (subst (λ (w : Value). Tells last_returns (option_map (λ arg. vStmt.Return arg r) (stmts.returned (more u w)))
-      None) (sym f) (last_return (Some None) None (λ arg g. ap (λ (o : Option (Option Expr)). the o) (sym g))))
-    where
-      the : Option (Option Expr) → Option Expr
-      the (Some arg) = arg
-      the None = None
+      subst (λ (w : Value). Gives last_returns (option_map (λ arg. vStmt.Return arg r) (stmts.returned w)) None) (sym e)
+      (subst (λ (w : Value). Gives last_returns (option_map (λ arg. vStmt.Return arg r) (stmts.returned (more u w)))
+      None) (sym f) (record {
+        gives = ap (returned_last []) (stmt_is (Stmt-F.Return None r) _ (vStmt.rolls-Return None r));
+      }))
 
-  pub returns_nothing : (v : Value) → v ≡ nil → Tells last_returns (view.returned_of r v) None
+  pub returns_nothing : (v : Value) → v ≡ nil → Gives last_returns (view.returned_of r v) None
   unfolding view.returned_of
   returns_nothing v e =
-      subst (λ (w : Value). Tells last_returns (option_map (λ arg. vStmt.Return arg r) (stmts.returned w)) None) (sym e)
-      (record { told = tt })
+      subst (λ (w : Value). Gives last_returns (option_map (λ arg. vStmt.Return arg r) (stmts.returned w)) None) (sym e)
+      (record { gives = tt })
 
   pub returns_value : (v u us w ws : Value) → v ≡ more u us → us ≡ more w ws
-      → Tells last_returns (view.returned_of r v) (expr_in u)
+      → Gives last_returns (view.returned_of r v) (Some (expr_in u))
   unfolding view.returned_of
   returns_value v u us w ws e f =
-      subst (λ (y : Value). Tells last_returns (option_map (λ arg. vStmt.Return arg r) (stmts.returned y)) (expr_in u))
-      (sym e)
-      (subst (λ (y : Value). Tells last_returns (option_map (λ arg. vStmt.Return arg r) (stmts.returned (more u y)))
-      (expr_in u)) (sym f) (go (expr_in u)))
+      subst (λ (y : Value). Gives last_returns (option_map (λ arg. vStmt.Return arg r) (stmts.returned y))
+      (Some (expr_in u))) (sym e)
+      (subst (λ (y : Value). Gives last_returns (option_map (λ arg. vStmt.Return arg r) (stmts.returned (more u y)))
+      (Some (expr_in u))) (sym f) (go (expr_in u)))
     where
       go : (o : Option Expr)
-          → Tells last_returns (option_map (λ arg. vStmt.Return arg r) (option_map Some o)) o
-      go None = record { told = tt }
+          → Gives last_returns (option_map (λ arg. vStmt.Return arg r) (option_map Some o)) (Some o)
+      go None = record { gives = tt }
       go (Some a) = record {
-        told = ap (returned_last []) (stmt_is (Stmt-F.Return (Some a) r) _ (vStmt.rolls-Return (Some a) r));
+        gives = (
+          ap (returned_last []) (stmt_is (Stmt-F.Return (Some a) r) _ (vStmt.rolls-Return (Some a) r)),
+          refl,
+        );
       }
 
-  pub block_none : (v : Value) → v ≡ nil → Tells body_returns (view.block r v) None
+  pub block_none : (v : Value) → v ≡ nil → Gives body_returns (view.block r v) None
   unfolding view.block
   block_none v e =
-      subst (λ (w : Value). Tells body_returns (option_map (λ all. vStmt.Block all r) (stmts.stmts_of w)) None) (sym e)
-      (record { told = ap returned_in (stmt_is (Stmt-F.Block [] r) _ (vStmt.rolls-Block [] r)) })
+      subst (λ (w : Value). Gives body_returns (option_map (λ all. vStmt.Block all r) (stmts.stmts_of w)) None) (sym e)
+      (record { gives = ap returned_in (stmt_is (Stmt-F.Block [] r) _ (vStmt.rolls-Block [] r)) })
 
-  pub block_one : (v u us : Value) (answer : Option Expr) → v ≡ more u us → us ≡ nil
-      → Tells last_returns (stmt_at (as_group u) 0) answer → Tells body_returns (view.block r v) answer
+  pub block_one : (v u us : Value) (answer : Option (Option Expr)) → v ≡ more u us → us ≡ nil
+      → Gives last_returns (stmt_at (as_group u) 0) answer → Gives body_returns (view.block r v) answer
   unfolding view.block
   block_one v u us answer e f told =
-      subst (λ (w : Value). Tells body_returns (option_map (λ all. vStmt.Block all r) (stmts.stmts_of w)) answer)
+      subst (λ (w : Value). Gives body_returns (option_map (λ all. vStmt.Block all r) (stmts.stmts_of w)) answer)
       (sym e)
-      (subst (λ (w : Value). Tells body_returns (option_map (λ all. vStmt.Block all r) (stmts.stmts_of (more u w)))
+      (subst (λ (w : Value). Gives body_returns (option_map (λ all. vStmt.Block all r) (stmts.stmts_of (more u w)))
       answer) (sym f) (go (stmt_at (as_group u) 0) told))
     where
-      go : (o : Option Stmt) → Tells last_returns o answer
-          → Tells body_returns
+      go : (o : Option Stmt) → Gives last_returns o answer
+          → Gives body_returns
           (option_map (λ all. vStmt.Block all r) (given o (λ s. given (Some []) (λ rest. Some (s ∷ rest))))) answer
-      go None told = record { told = tt }
+      go None told = record { gives = tt }
       go (Some s) told = record {
-        told = ap returned_in (stmt_is (Stmt-F.Block (s ∷ []) r) _ (vStmt.rolls-Block (s ∷ []) r)) ∙ told.told;
+        gives = subst (Meets answer)
+            (sym (ap returned_in (stmt_is (Stmt-F.Block (s ∷ []) r) _ (vStmt.rolls-Block (s ∷ []) r)))) told.gives;
       }
 
   pub block_more : (v u us w ws : Value) → v ≡ more u us → us ≡ more w ws
-      → Tells body_returns (view.block r v) None
+      → Gives body_returns (view.block r v) None
   unfolding view.block
   block_more v u us w ws e f =
-      subst (λ (y : Value). Tells body_returns (option_map (λ all. vStmt.Block all r) (stmts.stmts_of y)) None) (sym e)
-      (subst (λ (y : Value). Tells body_returns (option_map (λ all. vStmt.Block all r) (stmts.stmts_of (more u y)))
+      subst (λ (y : Value). Gives body_returns (option_map (λ all. vStmt.Block all r) (stmts.stmts_of y)) None) (sym e)
+      (subst (λ (y : Value). Gives body_returns (option_map (λ all. vStmt.Block all r) (stmts.stmts_of (more u y)))
       None) (sym f) (go (stmt_at (as_group u) 0) (stmt_at (as_group w) 0) (stmts.stmts_of ws)))
     where
       go : (o p : Option Stmt) (os : Option (List Stmt))
-          → Tells body_returns
+          → Gives body_returns
           (option_map (λ all. vStmt.Block all r)
           (given o (λ s. given (given p (λ t. given os (λ rest. Some (t ∷ rest)))) (λ rest. Some (s ∷ rest)))))
           None
-      go None p os = record { told = tt }
-      go (Some s) None os = record { told = tt }
-      go (Some s) (Some t) None = record { told = tt }
+      go None p os = record { gives = tt }
+      go (Some s) None os = record { gives = tt }
+      go (Some s) (Some t) None = record { gives = tt }
       go (Some s) (Some t) (Some rest) = record {
-        told = ap returned_in (stmt_is (Stmt-F.Block (s ∷ t ∷ rest) r) _ (vStmt.rolls-Block (s ∷ t ∷ rest) r));
+        gives = ap returned_in (stmt_is (Stmt-F.Block (s ∷ t ∷ rest) r) _ (vStmt.rolls-Block (s ∷ t ∷ rest) r));
       }

@@ -3,25 +3,24 @@
 ghost use Rattle.std.specs.Prelude.{◌≡◌, ℕ, List, Some, option_map};
 ghost use Rattle.es_token.specs.declared.token.Token.{Token as Tok};
 ghost use Rattle.base.specs.declared.range.Range.{Range};
-ghost use Rattle.es_dress.specs.Value.{as_group, stmt_at as stmt_there};
-ghost use Rattle.es_dress.specs.Functions.{body_of as arrow_body};
+ghost use Rattle.es_lowering.specs.Value.{as_group, stmt_at as stmt_there};
+ghost use Rattle.es_lowering.specs.Functions.{body_of as arrow_body};
 ghost use Rattle.es_stmt_views.specs.Stmt.{block, returned_of};
 ghost use Rattle.es_syntax.specs.Held.{held, valued};
 ghost use Rattle.es_syntax.specs.Roles.{stmt_in};
 ghost use Rattle.cjs_facts.specs.Looks.{returned_by as returned};
-ghost use Rattle.cjs_looks.specs.Seen.{Tells};
 ghost use Rattle.cjs_looks.specs.Kinds.{body_of};
-ghost use Rattle.cjs_objects.specs.Returns.{expr_of, body_returns, last_returns};
+ghost use Rattle.cjs_objects.specs.Returns.{Gives, handed, body_returns, last_returns};
 
 use cjs_looks::Body;
+use es_grammar::NodeKind;
 use es_stmt_views::{Stmt, stmt_at};
-use es_syntax::{Item, Row, What};
-use es_whole_grammar::Label;
+use es_syntax::{Item, Siblings, What};
 
 /// What stands behind `return`, if there is anything.
 #[tactic(auto, using(crate::proofs::Statements::returns_nothing, crate::proofs::Statements::returns_end, crate::proofs::Statements::returns_value))]
-fn return_value<'a>(arg: &Row<'a>) -> Option<Item<'a>>
-    ensures { (x : List ℕ) (ts : List Tok) (r : Range) → Tells last_returns (returned_of r (held x ts arg.now.entries.now)) (expr_of x ts result) }
+fn return_value<'a>(arg: &Siblings<'a>) -> Option<Item<'a>>
+    ensures { (x : List ℕ) (ts : List Tok) (r : Range) → Gives last_returns (returned_of r (held x ts arg.now.entries.now)) (handed x ts result) }
 {
     match arg.split() {
         Some((value, rest)) => match rest.split() {
@@ -35,7 +34,7 @@ fn return_value<'a>(arg: &Row<'a>) -> Option<Item<'a>>
 /// What the only statement of a block returns.
 #[tactic(auto, using(crate::proofs::Statements::last_block, crate::proofs::Statements::last_empty, crate::proofs::Statements::last_debugger, crate::proofs::Statements::last_expression, crate::proofs::Statements::last_labelled, crate::proofs::Statements::last_if, crate::proofs::Statements::last_continue, crate::proofs::Statements::last_break, crate::proofs::Statements::last_throw, crate::proofs::Statements::last_with, crate::proofs::Statements::last_other))]
 fn last_returned<'a>(it: &Item<'a>) -> Option<Item<'a>>
-    ensures { (x : List ℕ) (ts : List Tok) → Tells last_returns (stmt_in (valued x ts it.now)) (expr_of x ts result) }
+    ensures { (x : List ℕ) (ts : List Tok) → Gives last_returns (stmt_in (valued x ts it.now)) (handed x ts result) }
 {
     match stmt_at(it) {
         Some(Stmt::Return(arg)) => return_value(&arg),
@@ -56,7 +55,7 @@ fn last_returned<'a>(it: &Item<'a>) -> Option<Item<'a>>
 
 /// What the statement in a turn returns, where it is the only one.
 fn turn_returned<'a>(turn: &Item<'a>) -> Option<Item<'a>>
-    ensures { (x : List ℕ) (ts : List Tok) → Tells last_returns (stmt_there (as_group (valued x ts turn.now)) 0) (expr_of x ts result) }
+    ensures { (x : List ℕ) (ts : List Tok) → Gives last_returns (stmt_there (as_group (valued x ts turn.now)) 0) (handed x ts result) }
 {
     match turn.group().part(0) {
         Some(stmt) => last_returned(&stmt),
@@ -66,8 +65,8 @@ fn turn_returned<'a>(turn: &Item<'a>) -> Option<Item<'a>>
 
 /// What a block only returns.
 #[tactic(auto, using(crate::proofs::Statements::block_none, crate::proofs::Statements::block_one, crate::proofs::Statements::block_more))]
-fn block_returned<'a>(stmts: &Row<'a>) -> Option<Item<'a>>
-    ensures { (x : List ℕ) (ts : List Tok) (r : Range) → Tells body_returns (block r (held x ts stmts.now.entries.now)) (expr_of x ts result) }
+fn block_returned<'a>(stmts: &Siblings<'a>) -> Option<Item<'a>>
+    ensures { (x : List ℕ) (ts : List Tok) (r : Range) → Gives body_returns (block r (held x ts stmts.now.entries.now)) (handed x ts result) }
 {
     match stmts.split() {
         Some((turn, rest)) => match rest.split() {
@@ -81,7 +80,7 @@ fn block_returned<'a>(stmts: &Row<'a>) -> Option<Item<'a>>
 /// What a statement that is the body of a function returns.
 #[tactic(auto, using(crate::proofs::Statements::body_empty, crate::proofs::Statements::body_debugger, crate::proofs::Statements::body_expression, crate::proofs::Statements::body_labelled, crate::proofs::Statements::body_if, crate::proofs::Statements::body_continue, crate::proofs::Statements::body_break, crate::proofs::Statements::body_return, crate::proofs::Statements::body_throw, crate::proofs::Statements::body_with, crate::proofs::Statements::body_other))]
 fn stmt_returned<'a>(it: &Item<'a>) -> Option<Item<'a>>
-    ensures { (x : List ℕ) (ts : List Tok) → Tells body_returns (stmt_in (valued x ts it.now)) (expr_of x ts result) }
+    ensures { (x : List ℕ) (ts : List Tok) → Gives body_returns (stmt_in (valued x ts it.now)) (handed x ts result) }
 {
     match stmt_at(it) {
         Some(Stmt::Block(stmts)) => block_returned(&stmts),
@@ -103,7 +102,7 @@ fn stmt_returned<'a>(it: &Item<'a>) -> Option<Item<'a>>
 /// What a function only returns, by its body.
 #[tactic(auto, using(crate::proofs::Bodies::by_block, crate::proofs::Bodies::by_none, crate::proofs::Bodies::by_some, crate::proofs::Bodies::by_no_node))]
 pub fn returned_by<'a>(body: &Body<'a>) -> Option<Item<'a>>
-    ensures { (x : List ℕ) (ts : List Tok) → Tells returned (body_of x ts body.now) (expr_of x ts result) }
+    ensures { (x : List ℕ) (ts : List Tok) → Gives returned (body_of x ts body.now) (handed x ts result) }
 {
     match *body {
         Body::Block(block) => stmt_returned(&block),
@@ -121,11 +120,11 @@ pub fn returned_by<'a>(body: &Body<'a>) -> Option<Item<'a>>
 /// What an arrow only returns.
 #[tactic(auto, using(crate::proofs::Bodies::arrow_block, crate::proofs::Bodies::arrow_expr, crate::proofs::Bodies::arrow_leaf, crate::proofs::Bodies::arrow_role, crate::proofs::Bodies::arrow_parts, crate::proofs::Bodies::arrow_lean))]
 fn arrow_returned<'a>(it: &Item<'a>) -> Option<Item<'a>>
-    ensures { (x : List ℕ) (ts : List Tok) → Tells returned (option_map Some (arrow_body ts (valued x ts it.now))) (expr_of x ts result) }
+    ensures { (x : List ℕ) (ts : List Tok) → Gives returned (option_map Some (arrow_body ts (valued x ts it.now))) (handed x ts result) }
 {
     match it.what {
         What::Node(label) => {
-            if label == Label::Block {
+            if label == NodeKind::Block {
                 block_returned(&it.parts.group_at(0))
             } else {
                 Some(*it)

@@ -2,7 +2,7 @@
 use Rattle.std.specs.Prelude.{ℕ, Bool, true, false, List, Option, Some, None, bytes_eq, if◌then◌else◌}
 use Rattle.std.proofs.Common.{◌≡◌, refl, sym, ap, ◌∙◌}
 use Rattle.es_token.specs.declared.token.Token.{Token}
-use Rattle.es_dress.specs.Texts.{str_of}
+use Rattle.es_lowering.specs.Texts.{str_of}
 use Rattle.cjs_facts.specs.declared.found.Found.{Found}
 use Rattle.cjs_facts.specs.declared.found.Var.{Var}
 use Rattle.cjs_facts.specs.Looks.{Name, Key, quoted, odd_key, one}

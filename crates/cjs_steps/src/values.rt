@@ -24,7 +24,7 @@ fn cut(text: &str, token: Token) -> Result<&str, AllocError>
 }
 
 /// The name that the token of this number is.
-#[tactic(auto, unfolding(es_dress::specs::Texts::ident_of))]
+#[tactic(auto, unfolding(es_lowering::specs::Texts::ident_of))]
 pub fn name_value(alloc: Global, text: &str, tokens: &[Token], at: u32) -> Result<Text, AllocError>
     ensures { IfOk result (λ name. name ≡ name_at text.now tokens.now at) }
 {
@@ -35,7 +35,7 @@ pub fn name_value(alloc: Global, text: &str, tokens: &[Token], at: u32) -> Resul
 }
 
 /// The value of the string literal that the token of this number is.
-#[tactic(auto, unfolding(es_dress::specs::Texts::str_of))]
+#[tactic(auto, unfolding(es_lowering::specs::Texts::str_of))]
 pub fn string_value(
     alloc: Global,
     source: &str,

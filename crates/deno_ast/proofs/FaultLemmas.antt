@@ -4,7 +4,7 @@ use Rattle.std.specs.Result.{IfErr}
 use Rattle.std.proofs.Common.{◌≡◌, subst, ℕ, List}
 use Rattle.es_tree.specs.declared.error.Mode.{Mode}
 use Rattle.parse_diagnostic.specs.declared.diagnostic.ParseFault.{ParseFault}
-use Rattle.source_sites.specs.Fault.{Refuses}
+use Rattle.source_reading.specs.Fault.{Refuses}
 use Rattle.deno_ast.specs.declared.params.ParseParams.{ParseParams}
 use Rattle.deno_ast.specs.Source.{IsFault}
 use Rattle.deno_ast.specs.Steps.{with_text}

@@ -5,8 +5,8 @@ use Rattle.es_tree.specs.declared.error.Mode.{Mode}
 use Rattle.es_ast.specs.declared.ast.Program.{Program}
 use Rattle.es_site.specs.Sites.{sites_of}
 use Rattle.parse_diagnostic.specs.Diagnosis.{Diagnosis, told_range}
-use Rattle.source_sites.specs.Tree.{modes_of}
-use Rattle.source_sites.specs.Read.{IsRead, IsRefused, HasSites, IsFaulty}
+use Rattle.source_reading.specs.Tree.{modes_of}
+use Rattle.source_reading.specs.Read.{IsRead, IsRefused, HasSites, IsFaulty}
 use Rattle.deno_ast.specs.declared.syntax.Syntax.{Syntax}
 use Rattle.deno_ast.specs.declared.params.ParseParams.{ParseParams}
 use Rattle.deno_ast.specs.Parsed.{Parsed, parsed_sites}

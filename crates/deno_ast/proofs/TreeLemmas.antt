@@ -8,7 +8,7 @@ use Rattle.es_tree.specs.declared.error.SyntaxError.{SyntaxError}
 use Rattle.es_ast.specs.declared.ast.Program.{Program}
 use Rattle.es_derives.specs.Derives.{Derives}
 use Rattle.es_parser.specs.Answers.{GivesTree}
-use Rattle.source_sites.specs.Tree.{IsFirstTree}
+use Rattle.source_reading.specs.Tree.{IsFirstTree}
 
 module _ (lang : Lang) (text : List ℕ) (tokens : List Token) where
   -- a tree of two modes: the one that was read, or what is to be read later

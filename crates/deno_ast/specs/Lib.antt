@@ -6,10 +6,10 @@ pub use Rattle.es_references.specs.References
 pub use Rattle.es_comments.specs.Placed
 pub use Rattle.es_comments.specs.Standing
 pub use Rattle.es_site.specs.Sites
-pub use Rattle.source_sites.specs.Tree
-pub use Rattle.source_sites.specs.Read
-pub use Rattle.source_sites.specs.Fault
-pub use Rattle.source_sites.specs.Cuts
+pub use Rattle.source_reading.specs.Tree
+pub use Rattle.source_reading.specs.Read
+pub use Rattle.source_reading.specs.Fault
+pub use Rattle.source_reading.specs.Cuts
 pub mod Parsed
 pub mod Source
 pub mod Refs

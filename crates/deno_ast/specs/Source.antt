@@ -15,9 +15,9 @@ use Rattle.parse_diagnostic.specs.Diagnosis.{Diagnosis}
 use Rattle.deno_ast.specs.declared.syntax.Syntax.{Syntax}
 use Rattle.deno_ast.specs.declared.syntax.Syntax.TheVariants.{Es, Typescript}
 use Rattle.deno_ast.specs.declared.params.ParseParams.{ParseParams}
-use Rattle.source_sites.specs.Tree.{language_of}
-use Rattle.source_sites.specs.Read.{IsRead}
-use Rattle.source_sites.specs.Fault.{IsFaultIn}
+use Rattle.source_reading.specs.Tree.{language_of}
+use Rattle.source_reading.specs.Read.{IsRead}
+use Rattle.source_reading.specs.Fault.{IsFaultIn}
 use Rattle.deno_ast.specs.Parsed.{Parsed}
 
 -- the syntax that a language has

@@ -6,8 +6,8 @@ use Rattle.es_comments.specs.Placed.{Placed}
 use Rattle.es_tree.specs.declared.error.Mode.{Mode}
 use Rattle.deno_ast.specs.declared.params.ParseParams.{ParseParams}
 use Rattle.deno_ast.specs.declared.reading.Reading.{Reading}
-use Rattle.source_sites.specs.Tree.{IsFirstTree}
-use Rattle.source_sites.specs.Read.{references_in}
+use Rattle.source_reading.specs.Tree.{IsFirstTree}
+use Rattle.source_reading.specs.Read.{references_in}
 use Rattle.deno_ast.specs.Parsed.{Parsed}
 use Rattle.deno_ast.specs.Source.{lang_for, captured}
 

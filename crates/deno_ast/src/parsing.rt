@@ -3,8 +3,8 @@ ghost use Rattle.std.specs.Prelude.{◌≡◌, false, [], ◌∷◌, IfOk};
 ghost use Rattle.std.specs.Result.{IfErr};
 ghost use Rattle.es_tree.specs.declared.error.Mode.TheVariants as mode;
 ghost use Rattle.module_text.specs.ModuleText.{without_mark};
-ghost use Rattle.source_sites.specs.Tree as tree;
-ghost use Rattle.source_sites.specs.Fault.{Refuses};
+ghost use Rattle.source_reading.specs.Tree as tree;
+ghost use Rattle.source_reading.specs.Fault.{Refuses};
 ghost use Rattle.source_sites.specs.Modes.{modes_in};
 ghost use Rattle.deno_ast.specs.Source.{IsParsed, IsParsedWith, IsFault, OfModule, OfScript};
 

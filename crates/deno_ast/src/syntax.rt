@@ -1,7 +1,7 @@
 //! The syntax of a source.
 ghost use Rattle.std.specs.Prelude.{◌≡◌};
 ghost use Rattle.deno_ast.specs.Source as spec;
-ghost use Rattle.source_sites.specs.Tree.{language_of};
+ghost use Rattle.source_reading.specs.Tree.{language_of};
 
 use es_tree::Lang;
 use media_type::MediaType;

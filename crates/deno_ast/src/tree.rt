@@ -4,7 +4,7 @@ ghost use Rattle.es_tree.specs.declared.error.Mode.TheVariants as mode;
 ghost use Rattle.es_lexer.specs.Reads.{ReadsTokens};
 ghost use Rattle.es_ast.specs.declared.ast.Program.{Program as Typed};
 ghost use Rattle.es_parser.specs.Answers.{GivesTree};
-ghost use Rattle.source_sites.specs.Tree.{IsFirstTree, IsTree};
+ghost use Rattle.source_reading.specs.Tree.{IsFirstTree, IsTree};
 ghost use Rattle.source_sites.specs.Modes.{modes_in};
 
 use es_parser::parse_tokens;

@@ -1,22 +1,14 @@
 -- ---- what the public contracts rest on
-pub mod Rules
-pub mod Reach
-pub mod Final
-pub mod Graph
-pub mod Entries
-pub mod Events
-pub mod Loader
-pub mod Memory
-pub mod Builder
-pub mod Own
+pub use Rattle.graph_builder.specs.Rules
+pub use Rattle.graph_builder.specs.Reach
+pub use Rattle.graph_builder.specs.Final
+pub use Rattle.graph_builder.specs.Graph
+pub use Rattle.graph_builder.specs.Entries
+pub use Rattle.graph_builder.specs.Events
+pub use Rattle.graph_builder.specs.Loader
+pub use Rattle.graph_builder.specs.Memory
+pub use Rattle.graph_builder.specs.Builder
+pub use Rattle.graph_builder.specs.Own
 pub use Rattle.graph_entry.specs.Specifier
 pub use Rattle.graph_entry.specs.Analysed
 pub use Rattle.graph_entry.specs.Entry
--- ---- what the crate's functions promise each other
-pub mod ByText
-pub mod Slots
-pub mod Building
-pub mod Reaching
-pub mod Progress
-pub mod Inside
-pub mod Settling

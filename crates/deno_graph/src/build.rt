@@ -4,26 +4,22 @@ ghost use Rattle.url.specs.Parts.{Parts};
 ghost use Rattle.graph_entry.specs.Specifier.{text_of};
 ghost use Rattle.graph_entry.specs.Resolution.{resolve, resolve_by};
 ghost use Rattle.graph_entry.specs.Referrer.{referred, starts_of};
-ghost use Rattle.deno_graph.specs.Reach.{answer_to};
-ghost use Rattle.deno_graph.specs.Graph.{texts, different, IsGraph, EachEdgeCuts};
-ghost use Rattle.deno_graph.specs.Builder.{graph_rules, starts, GoesOn, new_building, new_building_by, IsOrderly, IsAsking, IsAskedFor, EachAnswered, IsToldLog, HasHistory, IsNotYet, IsUnawaited, IsTooMany, IsComplete, IsFairly, CameInTime};
+ghost use Rattle.graph_builder.specs.Reach.{answer_to};
+ghost use Rattle.graph_builder.specs.Graph.{texts, different, IsGraph, EachEdgeCuts};
+ghost use Rattle.graph_builder.specs.Builder.{graph_rules, starts, GoesOn, new_building, new_building_by, IsOrderly, IsAsking, IsAskedFor, EachAnswered, IsToldLog, HasHistory, IsNotYet, IsUnawaited, IsTooMany, IsComplete, IsFairly, CameInTime};
 
-use crate::custom::CustomBuild;
-use crate::error::BuildError;
-use crate::following::Following;
-use crate::graph::ModuleGraph;
-use crate::inner::Inner;
-use crate::loader::Loader;
-use crate::options::BuildOptions;
+use crate::ways::{DefaultWays, following_parts};
 use base::Items;
-use graph_entry::{DefaultResolver, ModuleAnalyzer, ParserModuleAnalyzer, Resolver};
+use graph_analyzer::ParserModuleAnalyzer;
+use graph_builder::{BuildError, BuildOptions, CustomBuild, Following, Inner, Loader, ModuleGraph};
+use graph_entry::{DefaultResolver, ModuleAnalyzer, Resolver};
 use std::alloc::{AllocError, AllocFailed, Global};
 use url::Url;
 
 /// A graph under construction, over a loader. It keeps an inner part, which contracts see as plain data.
 #[derive(Drop)]
 pub struct GraphBuild<L: Loader + Drop> {
-    inner: Inner<L, Following>,
+    inner: Inner<L, DefaultWays>,
 }
 
 impl<L: Loader + Drop> GraphBuild<L> {
@@ -44,11 +40,11 @@ impl<L: Loader + Drop> GraphBuild<L> {
             skip_dynamic_deps,
             imports,
         } = options;
-        let following = Following {
+        let ways = DefaultWays::new(Following {
             kind,
             skip_dynamic_deps,
-        };
-        let inner = Inner::new(alloc, following, roots, imports, limit, loader)?;
+        });
+        let inner = Inner::new(alloc, ways, roots, imports, limit, loader)?;
         Ok(GraphBuild { inner })
     }
 
@@ -63,7 +59,11 @@ impl<L: Loader + Drop> GraphBuild<L> {
             self.inner.loader (L.seen self.inner.loader)) }
     {
         let GraphBuild { inner } = self;
-        CustomBuild::from_parts(inner.into_parts(), resolver, ParserModuleAnalyzer)
+        CustomBuild::from_parts(
+            following_parts(inner.into_parts()),
+            resolver,
+            ParserModuleAnalyzer,
+        )
     }
 
     /// The same builder with an analyser of the caller's. It begins anew: the loader's lists count from now on.
@@ -76,7 +76,11 @@ impl<L: Loader + Drop> GraphBuild<L> {
             resolve self.inner.roots self.inner.imports self.inner.limit self.inner.loader (L.seen self.inner.loader)) }
     {
         let GraphBuild { inner } = self;
-        CustomBuild::from_parts(inner.into_parts(), DefaultResolver, analyzer)
+        CustomBuild::from_parts(
+            following_parts(inner.into_parts()),
+            DefaultResolver,
+            analyzer,
+        )
     }
 
     /// Asks the loader for what is reached, takes its answers, and gives the graph once nothing is outstanding.

@@ -1,67 +1,47 @@
-//! What a builder is over: what answers mean, which edges are followed, and where specifiers lead.
-ghost use Rattle.std.specs.Prelude.{◌≡◌, Some, None, map, IfOk};
-ghost use Rattle.graph_entry.specs.Specifier.{text_of};
-ghost use Rattle.graph_entry.specs.Resolution.{Resolves, resolve};
-ghost use Rattle.graph_entry.specs.Referrer as spec;
+//! The ways of this project: specifiers lead where the URL Standard says, and the parser reads sources.
+ghost use Rattle.std.specs.Prelude.{◌≡◌};
+ghost use Rattle.graph_entry.specs.Resolution.{resolve};
 ghost use Rattle.graph_entry.specs.Analysed.{Analysed};
 ghost use Rattle.graph_entry.proofs.Theorems.{analysed_once};
-ghost use Rattle.deno_graph.specs.declared.following.Following.{Following as Followed};
-ghost use Rattle.deno_graph.specs.Rules.{Means, rules_by};
-ghost use Rattle.deno_graph.specs.Reach.{IsFunctional};
 
-use crate::following::Following;
 use base::Items;
-use graph_entry::{
-    Dependency, Entry, LoadAnswer, ReferrerImports, analyse, analyse_unasked, referred, starts_of,
-};
+use graph_analyzer::{analyse, analyse_unasked};
+use graph_builder::{Following, Loader, Parts, Ways};
+use graph_entry::{Dependency, Entry, LoadAnswer, ReferrerImports, referred, starts_of};
 use std::alloc::{AllocError, Global};
+use std::marker::Model;
 use url::Url;
 
-/// What a builder is over.
-pub trait Ways {
-    /// Which entries an answer for a specifier can have.
-    ghost means: { Self → Means };
-    /// Which edges are followed.
-    ghost follows: { Self → Followed };
-    /// What a text leads to from a specifier.
-    ghost resolves: { Self → Resolves };
+/// Which edges are followed; contracts see no more of it.
+#[derive(Drop)]
+pub struct DefaultWays {
+    following: Following,
+}
 
-    fn following(&self) -> Following
-        ensures { result ≡ follows self.now };
+impl Model for DefaultWays {
+    ghost use Rattle.graph_builder.specs.declared.following.Following.{Following as Followed};
 
-    fn analyse(
-        &self,
-        alloc: Global,
-        specifier: &Url,
-        answer: LoadAnswer,
-    ) -> Result<Entry, AllocError>
-        ensures { IfOk result (λ made. means self.now (text_of specifier.now) (Some answer) made) };
+    ghost Value = { Followed };
 
-    fn analyse_unasked(&self, alloc: Global, specifier: &Url) -> Result<Entry, AllocError>
-        ensures { IfOk result (λ made. means self.now (text_of specifier.now) None made) };
+    ghost view = { λ ways. ways.following };
+}
 
-    fn referred(
-        &self,
-        alloc: Global,
-        places: &[ReferrerImports],
-    ) -> Result<Items<(Url, Items<Dependency>)>, AllocError>
-        ensures { IfOk result (λ made. made ≡ map (spec.referred_by (resolves self.now)) places.now) };
+impl DefaultWays {
+    pub fn new(following: Following) -> DefaultWays
+        ensures { result ≡ following }
+    {
+        DefaultWays { following }
+    }
 
-    fn starts(
-        &self,
-        alloc: Global,
-        roots: &[Url],
-        places: &[ReferrerImports],
-    ) -> Result<Items<Url>, AllocError>
-        ensures { IfOk result (λ starts. map text_of starts
-            ≡ spec.starts_by (resolves self.now) roots.now places.now) };
-
-    // An answer has at most one entry.
-    ghost once: { (ways : Self) → IsFunctional (rules_by (means ways) (follows ways)) };
+    pub fn into_following(self) -> Following
+        ensures { result ≡ self }
+    {
+        self.following
+    }
 }
 
 /// By the URL Standard and the parser.
-impl Ways for Following {
+impl Ways for DefaultWays {
     ghost means = { λ _. Analysed };
 
     ghost follows = { λ following. following };
@@ -69,7 +49,7 @@ impl Ways for Following {
     ghost resolves = { λ _. resolve };
 
     fn following(&self) -> Following {
-        *self
+        self.following
     }
 
     fn analyse(
@@ -103,4 +83,30 @@ impl Ways for Following {
     }
 
     ghost once = { λ _. analysed_once };
+}
+
+/// A builder's parts with its way of following edges alone.
+pub fn following_parts<L: Loader + Drop>(parts: Parts<L, DefaultWays>) -> Parts<L, Following>
+    ensures loader { result.loader ≡ parts.loader }
+    ensures following { result.following ≡ parts.following }
+    ensures roots { result.roots ≡ parts.roots }
+    ensures imports { result.imports ≡ parts.imports }
+    ensures limit { result.limit ≡ parts.limit }
+{
+    let Parts {
+        alloc,
+        loader,
+        following,
+        roots,
+        imports,
+        limit,
+    } = parts;
+    Parts {
+        alloc,
+        loader,
+        following: following.into_following(),
+        roots,
+        imports,
+        limit,
+    }
 }

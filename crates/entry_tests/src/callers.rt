@@ -6,10 +6,11 @@ ghost use Rattle.specifier_resolver.specs.declared.resolver.ResolveFault.TheVari
 use crate::lines::line_of;
 use base::{Items, Range, SharedBytes, Text};
 use deno_ast::{ParseParams, SourceText, parse_program};
+use graph_analyzer::ParserModuleAnalyzer;
 use graph_ast::{ParseModuleFromAstOptions, module_info, parse_module_from_ast};
 use graph_entry::{
     AnalyzeFault, DefaultResolver, Entry, MediaType, Module, ModuleAnalyzer, ModuleInfo,
-    ParseModuleOptions, ParserModuleAnalyzer, ResolveFault, Resolver, parse_module,
+    ParseModuleOptions, ResolveFault, Resolver, parse_module,
 };
 use std::alloc::{AllocError, Global};
 use std::process::Abort;

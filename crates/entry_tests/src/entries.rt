@@ -1,8 +1,10 @@
-//! The entries of answers, and those of specifiers that no loader is asked for.
+//! The entries of answers, and those of specifiers that no loader is asked for. Those of sources are rows of
+//! examples/entries.rows.
 
 use crate::lines::line_of;
 use base::SharedBytes;
-use graph_entry::{Headers, LoadAnswer, ModuleError, analyse, analyse_unasked};
+use graph_analyzer::{analyse, analyse_unasked};
+use graph_entry::{Headers, LoadAnswer, ModuleError};
 use std::alloc::Global;
 use std::collections::BTreeMap;
 use std::process::Abort;
@@ -144,110 +146,6 @@ fn entries_of_content(rt: HostRuntime) {
         let answer = content(&rt, alloc, bytes, "", "");
         let line = answered(&rt, alloc, specifier, answer);
         assert_eq!(rt; line.as_str(), want, "{specifier} {bytes:?}");
-    }
-}
-
-/// A source, by its name and its text, and the front of its entry.
-const SOURCES: &[(&str, &str, &str)] = &[
-    ("a.cjs", "with (a) b;", "Cjs 11"),
-    ("a.mjs", "with (a) b;", "Parse Syntax"),
-    ("a.js", "with (a) b;", "JavaScript 11"),
-    ("a.js", "await a;", "JavaScript 8"),
-    ("a.cjs", "await a;", "Parse Syntax"),
-    ("a.cjs", "import './b.js'", "Parse Syntax"),
-    ("a.cts", "with (a) b;", "Parse Syntax"),
-    ("a.d.ts", "export {}", "Dts 9"),
-    ("a.jsx", "a < b", "Jsx 5"),
-    ("a.tsx", "a < b", "Tsx 5"),
-    ("a.js", "import(x);import('./a' + x)", "JavaScript 27"),
-    ("a.js", "f('./a.js'); './b.js'", "JavaScript 21"),
-    (
-        "a.ts",
-        "/// <reference path=\"./b.d.ts\" />\nimport \"./c.ts\";",
-        "TypeScript 50; reference-path 20-30 ./b.d.ts with ? -> file:///b.d.ts; import 41-49 ./c.ts -> file:///c.ts",
-    ),
-    (
-        "a.js",
-        "/// <reference path=\"./b.d.ts\" />\nimport \"./c.ts\";",
-        "JavaScript 50; import 41-49 ./c.ts -> file:///c.ts",
-    ),
-    (
-        "a.d.mts",
-        "/// <reference types='./t.d.ts' />",
-        "Dmts 34; reference-types 21-31 ./t.d.ts with ? -> file:///t.d.ts",
-    ),
-    (
-        "a.ts",
-        "a; /// <reference types='./t.d.ts' />",
-        "TypeScript 37",
-    ),
-];
-
-/// The text of a module `/a.js`, and its edges.
-const EDGES: &[(&str, &str)] = &[
-    (
-        "import a, {b as c} from './d.js' with {type: 'json'}",
-        "; import 24-32 ./d.js with json -> file:///d.js",
-    ),
-    (
-        "import * as a from './b.js'\nexport * from './c.js'",
-        "; import 19-27 ./b.js -> file:///b.js; export 42-50 ./c.js -> file:///c.js",
-    ),
-    (
-        "export * as a from './b.js'; export {a as default} from './c.js'; export {a}",
-        "; export 19-27 ./b.js -> file:///b.js; export 56-64 ./c.js -> file:///c.js",
-    ),
-    (
-        "import(\"./b.ts\", { with: { type: \"json\" } });",
-        "; dynamic 7-15 ./b.ts with json -> file:///b.ts",
-    ),
-    (
-        "import('./b.js', o);",
-        "; dynamic 7-15 ./b.js with ? -> file:///b.js",
-    ),
-    (
-        "let m = async () => ({...await import('./b.js')})",
-        "; dynamic 38-46 ./b.js -> file:///b.js",
-    ),
-    (
-        "class A { [import('./b.js')] = `${import('./c.js')}`; static { import('./d.js') } }",
-        "; dynamic 18-26 ./b.js -> file:///b.js; dynamic 41-49 ./c.js -> file:///c.js; dynamic 70-78 ./d.js -> file:///d.js",
-    ),
-    (
-        "export default import('./\\x62.js', import('./c.js'))",
-        "; dynamic 22-33 ./b.js with ? -> file:///b.js; dynamic 42-50 ./c.js -> file:///c.js",
-    ),
-    (
-        "import 'npm:a@1/b'; import('jsr:@c/d')",
-        "; import 7-18 npm:a@1/b -> npm:a@1/b; dynamic 27-37 jsr:@c/d -> jsr:@c/d",
-    ),
-];
-
-// The entry of a source whose name is this one.
-pub fn source(rt: &impl Abort, alloc: Global, name: &str, text: &str) -> String {
-    let specifier = format!(in alloc; "file:///{name}").expect(rt, "memory");
-    let answer = content(rt, alloc, text.as_bytes(), "", "");
-    answered(rt, alloc, specifier.as_str(), answer)
-}
-
-#[test]
-fn sources_by_media_type(rt: HostRuntime) {
-    let alloc = rt.alloc();
-    for (name, text, want) in SOURCES {
-        let line = source(&rt, alloc, name, text);
-        let is_whole = line.as_str() == *want;
-        let is_fault = *want == "Parse Syntax" && line.as_str().starts_with(*want);
-        assert!(rt; is_whole || is_fault, "{name} {text}: {}", line);
-    }
-}
-
-#[test]
-fn edges_of_sources(rt: HostRuntime) {
-    let alloc = rt.alloc();
-    for (text, edges) in EDGES {
-        let line = source(&rt, alloc, "a.js", text);
-        let want = format!(in alloc; "JavaScript {}{edges}", text.len()).expect(&rt, "memory");
-        assert_eq!(rt; line.as_str(), want.as_str());
     }
 }
 

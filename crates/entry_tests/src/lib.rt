@@ -9,5 +9,3 @@ mod entries;
 mod lines;
 #[cfg(test)]
 mod resolution;
-#[cfg(test)]
-mod typed;

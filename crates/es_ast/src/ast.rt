@@ -1,6 +1,6 @@
 use crate::leaf::{
-    AssignOp, BinaryOp, ExportAll, ImportDecl, Lit, Modifiers, NamedExport, TsImportEqualsDecl,
-    TsNamespaceExportDecl, UnaryOp, UpdateOp, VarDeclKind,
+    AssignOp, BinaryOp, ExportAll, ImportDecl, ImportPhase, Lit, Modifiers, NamedExport,
+    TsImportEqualsDecl, TsNamespaceExportDecl, UnaryOp, UpdateOp, VarDeclKind,
 };
 use base::{Boxed, Items, Range, Text};
 use ts_ast::{Ident, MethodKind, Str, TplElement, TsEntityName, TsPart};
@@ -330,8 +330,9 @@ pub enum Expr {
         args: Items<Expr>,
         span: Range,
     },
-    /// `import(a, b)`
+    /// `import(a, b)`: the phase is always `Evaluation`, as others aren't read.
     ImportCall {
+        phase: ImportPhase,
         args: Items<Expr>,
         span: Range,
     },

@@ -71,10 +71,22 @@ pub enum ImportClause {
     Names(ImportNames),
 }
 
+/// How far an import takes a module (the standard, and TC39's proposals of `import source` and `import defer`).
+pub enum ImportPhase {
+    /// The module is linked and evaluated.
+    Evaluation,
+    /// Its source is loaded: `import source a from "b";`
+    Source,
+    /// It is linked, and evaluated when a name of it is first read: `import defer * as a from "b";`
+    Defer,
+}
+
 /// `import type a from "b" with { c: "d" };` (ECMA-262, "ImportDeclaration").
 pub struct ImportDecl {
     /// Whether `type` follows `import` as a modifier.
     pub type_only: bool,
+    /// Always `Evaluation`: other phases aren't read.
+    pub phase: ImportPhase,
     /// Absent in `import "a";`.
     pub clause: Option<ImportClause>,
     pub src: Str,

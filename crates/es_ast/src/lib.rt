@@ -18,9 +18,9 @@ pub use ast::{
 };
 pub use leaf::{
     Accessibility, AssignOp, BinaryOp, ExportAll, ExportSpecifier, ImportAttribute,
-    ImportAttributes, ImportClause, ImportDecl, ImportNames, ImportSpecifier, Lit, Modifiers,
-    ModuleExportName, NamedExport, Regex, TsImportEqualsDecl, TsModuleRef, TsNamespaceExportDecl,
-    UnaryOp, UpdateOp, VarDeclKind,
+    ImportAttributes, ImportClause, ImportDecl, ImportNames, ImportPhase, ImportSpecifier, Lit,
+    Modifiers, ModuleExportName, NamedExport, Regex, TsImportEqualsDecl, TsModuleRef,
+    TsNamespaceExportDecl, UnaryOp, UpdateOp, VarDeclKind,
 };
 pub use ts_ast::{
     BigInt, Ident, MethodKind, Nodes, Number, Str, TplElement, TruePlusMinus, TsEntityName,

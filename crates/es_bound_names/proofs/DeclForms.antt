@@ -23,15 +23,15 @@ use Rattle.ts_ast.specs.declared.ts.TsPart.TheVariants as vPart
 use Rattle.es_ast.specs.declared.ast.VarDeclarator.{VarDeclarator, roll-VarDeclarator, out-VarDeclarator, out-roll-VarDeclarator}
 use Rattle.es_ast.specs.declared.ast.ClassMember.TheOpen.{Decl-F, VarDeclarator-F}
 use Rattle.es_site.specs.Parts.{Whole}
-use Rattle.es_dress.specs.Value.{Value, given, behind, turns, optional, declarator_at, expr_at, type_at, type_params_at, type_member_at}
-use Rattle.es_dress.specs.Texts.{ident_of, str_of, token_of}
-use Rattle.es_dress.specs.Functions.{function}
-use Rattle.es_dress.specs.Classes.{class_}
-use Rattle.es_dress.specs.Statements.{Variables, decl_of, declarator_of, using_kind}
-use Rattle.es_dress.specs.TypedFunctions.{typed_function, typed_class}
-use Rattle.es_dress.specs.TypedParts.{heritage_in, marked_by}
-use Rattle.es_dress.specs.TypedStatements.{Declarable, enum_member, items_of}
-use Rattle.es_dress.specs.Operators.{listed, variable_kinds, is_kind_at}
+use Rattle.es_lowering.specs.Value.{Value, given, behind, turns, optional, declarator_at, expr_at, type_at, type_params_at, type_member_at}
+use Rattle.es_lowering.specs.Texts.{ident_of, str_of, token_of}
+use Rattle.es_lowering.specs.Functions.{function}
+use Rattle.es_lowering.specs.Classes.{class_}
+use Rattle.es_lowering.specs.Statements.{Variables, decl_of, declarator_of, using_kind}
+use Rattle.es_lowering.specs.TypedFunctions.{typed_function, typed_class}
+use Rattle.es_lowering.specs.TypedParts.{heritage_in, marked_by}
+use Rattle.es_lowering.specs.TypedStatements.{Declarable, enum_member, items_of}
+use Rattle.es_lowering.specs.Operators.{listed, variable_kinds, is_kind_at}
 use Rattle.es_decl_views.specs.Decl as decl
 use Rattle.es_decl_views.specs.Declarable as d
 use Rattle.es_decl_views.specs.Declarator as declarator

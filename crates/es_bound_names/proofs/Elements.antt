@@ -6,9 +6,9 @@ use Rattle.std.proofs.lemmas.List.{append-nil}
 use Rattle.es_token.specs.declared.token.Token.{Token}
 use Rattle.es_ast.specs.declared.ast.Pat.{Pat}
 use Rattle.es_ast.specs.declared.ast.Pat.TheVariants as vPat
-use Rattle.es_dress.specs.Value.{Value, absent, nil, more, token, node, as_group, group, pat_at}
-use Rattle.es_dress.specs.Texts.{span_of}
-use Rattle.es_dress.specs.Expressions.{element_of, elements, behind_element}
+use Rattle.es_lowering.specs.Value.{Value, absent, nil, more, token, node, as_group, group, pat_at}
+use Rattle.es_lowering.specs.Texts.{span_of}
+use Rattle.es_lowering.specs.Expressions.{element_of, elements, behind_element}
 use Rattle.es_syntax.specs.Roles.{pat_in}
 use Rattle.es_bound_names.specs.Names.{Names, bound_names}
 use Rattle.es_bound_names.specs.Adds.{Adds}

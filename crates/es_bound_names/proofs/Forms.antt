@@ -13,12 +13,12 @@ use Rattle.es_ast.specs.declared.ast.ObjectPatProp.{ObjectPatProp}
 use Rattle.es_ast.specs.declared.ast.Pat.{Pat}
 use Rattle.es_ast.specs.declared.ast.Pat.TheVariants as vPat
 use Rattle.es_ast.specs.declared.ast.ObjectPatProp.TheVariants as vProp
-use Rattle.es_dress.specs.Value.{Value, given, turns, optional, pat_at, pat_prop_at, expr_at}
-use Rattle.es_dress.specs.Texts.{ident_of}
-use Rattle.es_dress.specs.Expressions.{elements}
-use Rattle.es_dress.specs.Functions.{Key}
-use Rattle.es_dress.specs.Patterns.{ident_pat, with_default}
-use Rattle.es_dress.specs.TypeTexts.{marked}
+use Rattle.es_lowering.specs.Value.{Value, given, turns, optional, pat_at, pat_prop_at, expr_at}
+use Rattle.es_lowering.specs.Texts.{ident_of}
+use Rattle.es_lowering.specs.Expressions.{elements}
+use Rattle.es_lowering.specs.Functions.{Key}
+use Rattle.es_lowering.specs.Patterns.{ident_pat, with_default}
+use Rattle.es_lowering.specs.TypeTexts.{marked}
 use Rattle.es_pattern_views.specs.Pat as pat
 use Rattle.es_pattern_views.specs.Marked as m
 use Rattle.es_pattern_views.specs.PatProp as prop

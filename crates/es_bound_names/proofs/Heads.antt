@@ -20,9 +20,9 @@ use Rattle.es_ast.specs.declared.ast.ClassMember.TheOpen.{Class-F, Function-F}
 use Rattle.es_site.specs.Parts.{Whole}
 use Rattle.es_ast.specs.declared.ast.Param.{Param}
 use Rattle.es_ast.specs.declared.ast.Stmt.{Stmt}
-use Rattle.es_dress.specs.Value.{Value, Signature, absent, nil, more, token, node, given, group, turns, optional, expr_at, member_at, type_params_at, arguments_at}
-use Rattle.es_dress.specs.TypedParts.{heritage_in, body_in}
-use Rattle.es_dress.specs.Texts.{ident_of, token_of, own_name_of, this_or_name_of, ident_at}
+use Rattle.es_lowering.specs.Value.{Value, Signature, absent, nil, more, token, node, given, group, turns, optional, expr_at, member_at, type_params_at, arguments_at}
+use Rattle.es_lowering.specs.TypedParts.{heritage_in, body_in}
+use Rattle.es_lowering.specs.Texts.{ident_of, token_of, own_name_of, this_or_name_of, ident_at}
 use Rattle.es_function_views.specs.Class as class
 use Rattle.es_function_views.specs.Head as head
 use Rattle.es_type_name_views.specs.Entity as entity

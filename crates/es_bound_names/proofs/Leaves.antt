@@ -3,7 +3,7 @@ use Rattle.std.specs.Prelude.{List, [], ◌∷◌, ◌++◌, slice_range, Option
 use Rattle.std.proofs.Common.{◌≡◌, ℕ, refl}
 use Rattle.es_token.specs.declared.token.Token.{Token}
 use Rattle.std.specs.Option.{option_map}
-use Rattle.es_dress.specs.Texts.{ident_of}
+use Rattle.es_lowering.specs.Texts.{ident_of}
 use Rattle.es_bound_names.specs.Names.{Names, ident_names}
 use Rattle.es_bound_names.specs.Adds.{Adds}
 

@@ -3,7 +3,7 @@ use Rattle.std.specs.Prelude.{ℕ, List, [], ◌∷◌, ◌++◌, Option, Some, 
 use Rattle.std.specs.List.{flat_map}
 use Rattle.std.proofs.Common.{◌≡◌, refl, sym, ap, subst, ◌∙◌}
 use Rattle.std.proofs.lemmas.List.{append-nil, append_assoc}
-use Rattle.es_dress.specs.Value.{Value, nil, more, given, as_group, turns}
+use Rattle.es_lowering.specs.Value.{Value, nil, more, given, as_group, turns}
 use Rattle.es_bound_names.specs.Names.{Names}
 use Rattle.es_bound_names.specs.Adds.{Adds}
 

@@ -1,7 +1,7 @@
 -- What a walk adds to the names found before.
 use Rattle.std.specs.Prelude.{◌≡◌, ◌++◌, List, ◌∷◌, Option, Some, IfSome}
 use Rattle.es_ast.specs.declared.ast.VarDeclarator.{VarDeclarator}
-use Rattle.es_dress.specs.Value.{given}
+use Rattle.es_lowering.specs.Value.{given}
 use Rattle.es_bound_names.specs.Names.{Names}
 
 -- where the part is there, its names stand behind those found before

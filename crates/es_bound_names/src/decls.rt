@@ -4,8 +4,8 @@ ghost use Rattle.std.specs.Prelude.{◌≡◌, Bool, false, slice_get};
 ghost use Rattle.std.specs.List.{flat_map};
 ghost use Rattle.std.specs.Option.{option_map};
 ghost use Rattle.base.specs.declared.range.Range.{Range};
-ghost use Rattle.es_dress.specs.Value.{as_group, turns, declarator_at};
-ghost use Rattle.es_dress.specs.Texts.{own_name_of, this_or_name_of};
+ghost use Rattle.es_lowering.specs.Value.{as_group, turns, declarator_at};
+ghost use Rattle.es_lowering.specs.Texts.{own_name_of, this_or_name_of};
 ghost use Rattle.es_function_views.specs.Class.{the_class};
 ghost use Rattle.es_function_views.specs.Head.{the_head};
 ghost use Rattle.es_syntax.specs.Held.{held, valued, there};
@@ -21,13 +21,13 @@ use es_decl_views::{
 use es_function_views::{
     ClassHead, FunctionHead, plain_class, plain_function, typed_class, typed_function,
 };
-use es_syntax::{Item, Row, What};
+use es_syntax::{Item, Siblings, What};
 use es_token::{Token, TokenKind};
 use es_type_name_views::{Entity, entity_at};
 
 /// A name that stands first in a group, which may be empty.
 #[tactic(auto, using(crate::proofs::Heads::adds_own_first, crate::proofs::Heads::adds_own_empty))]
-fn first_token(out: &mut Names, text: &str, tokens: &[Token], row: &Row<'_>)
+fn first_token(out: &mut Names, text: &str, tokens: &[Token], row: &Siblings<'_>)
     ensures before { out.new.failed ≡ false → out.old.failed ≡ false }
     ensures adds { out.new.failed ≡ false → Adds own_names out.old.found out.new.found (own_name_of text.now tokens.now (held text.now tokens.now row.now.entries.now)) }
 {
@@ -153,7 +153,7 @@ fn declarator_turn(out: &mut Names, text: &str, tokens: &[Token], turn: &Item<'_
 
 /// The names that the declarators in turns bind.
 #[tactic(auto, using(crate::proofs::Lists::turns_all, crate::proofs::Lists::turns_next, crate::proofs::Lists::turns_done))]
-fn other_names(out: &mut Names, text: &str, tokens: &[Token], others: &Row<'_>)
+fn other_names(out: &mut Names, text: &str, tokens: &[Token], others: &Siblings<'_>)
     ensures before { out.new.failed ≡ false → out.old.failed ≡ false }
     ensures adds { out.new.failed ≡ false → Adds (flat_map declarator_names) out.old.found out.new.found (turns (λ turn. declarator_at turn 0) (held text.now tokens.now others.now.entries.now)) }
 {
@@ -166,7 +166,7 @@ fn other_names(out: &mut Names, text: &str, tokens: &[Token], others: &Row<'_>)
 
 /// The names that variables bind: the first declarator, and turns of the others.
 #[tactic(auto, using(crate::proofs::DeclForms::adds_decls))]
-fn all_names(out: &mut Names, text: &str, tokens: &[Token], first: &Item<'_>, others: &Row<'_>)
+fn all_names(out: &mut Names, text: &str, tokens: &[Token], first: &Item<'_>, others: &Siblings<'_>)
     ensures before { out.new.failed ≡ false → out.old.failed ≡ false }
     ensures adds { out.new.failed ≡ false → Adds (flat_map declarator_names) out.old.found out.new.found
         (decls_of (declarator_in (valued text.now tokens.now first.now)) (turns (λ turn. declarator_at turn 0) (held text.now tokens.now others.now.entries.now))) }

@@ -1,7 +1,7 @@
 //! Names that are found, and how a name is read from its token.
 
 ghost use Rattle.std.specs.Prelude.{◌≡◌, ◌++◌, ◌∷◌, [], true, false, slice_get, slice_range, IfSome, IfOk};
-ghost use Rattle.es_dress.specs.Texts.{ident_of};
+ghost use Rattle.es_lowering.specs.Texts.{ident_of};
 ghost use Rattle.es_bound_names.specs.Names.{ident_names};
 ghost use Rattle.es_bound_names.specs.Adds.{Adds};
 ghost use Rattle.std.specs.Option.{option_map};

@@ -7,8 +7,8 @@ ghost use Rattle.ts_ast.specs.declared.ts.TsPart.{TsPart};
 ghost use Rattle.std.specs.Prelude.{Bool, Option};
 ghost use Rattle.es_token.specs.declared.token.Token.{Token as Tok};
 ghost use Rattle.es_ast.specs.declared.ast.Pat.TheVariants as vPat;
-ghost use Rattle.es_dress.specs.Value.{part, group, as_group, turns, pat_at, pat_prop_at};
-ghost use Rattle.es_dress.specs.Expressions.{element_of, elements};
+ghost use Rattle.es_lowering.specs.Value.{part, group, as_group, turns, pat_at, pat_prop_at};
+ghost use Rattle.es_lowering.specs.Expressions.{element_of, elements};
 ghost use Rattle.es_syntax.specs.Held.{held, valued, there, first_in};
 ghost use Rattle.es_syntax.specs.Roles.{pat_in, marked_in, pat_prop_in};
 ghost use Rattle.es_bound_names.specs.Names.{bound_names, prop_names};
@@ -16,11 +16,11 @@ ghost use Rattle.es_bound_names.specs.Adds.{Adds};
 
 use crate::names::Names;
 use es_pattern_views::{Marked, Pat, PatProp, marked_at, pat_at, pat_prop_at};
-use es_syntax::{Item, Row};
+use es_syntax::{Item, Siblings};
 use es_token::Token;
 
 /// What stands first in the group that stands first in a turn, and what is behind it.
-fn element_in<'a>(turn: &Item<'a>) -> Option<(Item<'a>, Row<'a>)>
+fn element_in<'a>(turn: &Item<'a>) -> Option<(Item<'a>, Siblings<'a>)>
     ensures value { (x : List ℕ) (ts : List Tok) → group (as_group (valued x ts turn.now)) 0 ≡ first_in x ts result }
     ensures below { IfSome result (λ p. length p.0.parts.entries.now < length turn.now.parts.entries.now) }
 {
@@ -57,7 +57,7 @@ pub fn pat_names(out: &mut Names, text: &str, tokens: &[Token], it: &Item<'_>)
 /// The names that the elements of an array bind.
 #[cycle(walk)]
 #[tactic(auto, using(crate::proofs::Elements::elements_all, crate::proofs::Elements::elements_next, crate::proofs::Elements::elements_done))]
-fn element_names(out: &mut Names, text: &str, tokens: &[Token], elems: &Row<'_>)
+fn element_names(out: &mut Names, text: &str, tokens: &[Token], elems: &Siblings<'_>)
     ensures before { out.new.failed ≡ false → out.old.failed ≡ false }
     ensures adds { out.new.failed ≡ false → (at : ℕ) → Adds (flat_map bound_names) out.old.found out.new.found (elements vPat.Hole pat_at tokens.now at (held text.now tokens.now elems.now.entries.now)) }
 {
@@ -84,7 +84,7 @@ fn element_name(out: &mut Names, text: &str, tokens: &[Token], turn: &Item<'_>)
 /// The names that the properties of an object pattern bind.
 #[cycle(walk)]
 #[tactic(auto, using(crate::proofs::Lists::turns_all, crate::proofs::Lists::turns_next, crate::proofs::Lists::turns_done))]
-fn props_names(out: &mut Names, text: &str, tokens: &[Token], props: &Row<'_>)
+fn props_names(out: &mut Names, text: &str, tokens: &[Token], props: &Siblings<'_>)
     ensures before { out.new.failed ≡ false → out.old.failed ≡ false }
     ensures adds { out.new.failed ≡ false → Adds (flat_map prop_names) out.old.found out.new.found (turns (λ turn. pat_prop_at turn 0) (held text.now tokens.now props.now.entries.now)) }
 {

@@ -2,15 +2,16 @@
 use Rattle.std.specs.Prelude.{ℕ, List, [], ◌∷◌, Option, Some, None, option_map}
 use Rattle.base.specs.declared.range.Range.{Range}
 use Rattle.es_token.specs.declared.token.Token.{Token}
-use Rattle.es_whole_grammar.specs.declared.rows.Label.{Label}
-use Rattle.es_whole_grammar.specs.declared.rows.Label.TheVariants as l
+use Rattle.es_grammar.specs.declared.rows.NodeKind.{NodeKind}
+use Rattle.es_grammar.specs.declared.rows.NodeKind.TheVariants as l
 use Rattle.es_ast.specs.declared.ast.Expr.{Expr}
+use Rattle.es_ast.specs.declared.leaf.ImportPhase.TheVariants as vPhase
 use Rattle.es_ast.specs.declared.ast.Expr.TheVariants as vExpr
-use Rattle.es_dress.specs.Value.{Value, given, optional, option_list, turns, expr_at, args_at, post_at, arguments_at}
-use Rattle.es_dress.specs.Expressions.{Post, chained, new_of}
-use Rattle.es_dress.specs.TypedExpressions.{typed_new_of}
+use Rattle.es_lowering.specs.Value.{Value, given, optional, option_list, turns, expr_at, args_at, post_at, arguments_at}
+use Rattle.es_lowering.specs.Expressions.{Post, chained, new_of}
+use Rattle.es_lowering.specs.TypedExpressions.{typed_new_of}
 use Rattle.ts_ast.specs.declared.ts.TsPart.TheVariants as vPart
-use Rattle.es_syntax.specs.declared.cursor.Row.{Row}
+use Rattle.es_syntax.specs.declared.cursor.Siblings.{Siblings}
 use Rattle.es_syntax.specs.Held.{held, valued}
 use Rattle.es_syntax.specs.Roles.{expr_in, post_in}
 use Rattle.es_syntax.specs.Views.{Under, Within}
@@ -18,14 +19,15 @@ use Rattle.es_call_views.specs.declared.call.Call.{Call}
 use Rattle.es_call_views.specs.declared.call.Call.TheVariants as view
 
 -- the alternatives
-abbrev pub calls : List Label
+abbrev pub calls : List NodeKind
 calls = l.Super ∷ l.ImportMeta ∷ l.NewTarget ∷ l.ImportCall ∷ l.New ∷ l.Chain ∷ l.TypedNew ∷ []
 
 -- ---- each form, of what its parts are
 unfoldable pub imported : Range → Option Expr → Value → Option Expr
 imported r first second =
     given first (λ first.
-    given (optional expr_at second) (λ second. Some (vExpr.ImportCall (first ∷ option_list second) r)))
+    given (optional expr_at second) (λ second.
+    Some (vExpr.ImportCall vPhase.Evaluation (first ∷ option_list second) r)))
 
 unfoldable pub newed : Range → Option Expr → Value → Option Expr
 newed r callee args = given callee (λ callee. given (optional args_at args) (λ args. Some (new_of r callee args)))
@@ -56,7 +58,7 @@ the_call x ts r (view.TypedNew callee type_args args) =
 the_call x ts r view.Broken = None
 
 -- the parts take fewer entries
-abbrev pub IsBelow : Row → Call → Type 0
+abbrev pub IsBelow : Siblings → Call → Type 0
 IsBelow n view.Super = Unit {0}
 IsBelow n view.ImportMeta = Unit {0}
 IsBelow n view.NewTarget = Unit {0}

@@ -2,15 +2,15 @@
 use Rattle.std.specs.Prelude.{ℕ, false, List, [], ◌∷◌, Option, Some, None, option_map, slice_get}
 use Rattle.base.specs.declared.range.Range.{Range}
 use Rattle.es_token.specs.declared.token.Token.{Token}
-use Rattle.es_whole_grammar.specs.declared.rows.Label.{Label}
-use Rattle.es_whole_grammar.specs.declared.rows.Label.TheVariants as l
+use Rattle.es_grammar.specs.declared.rows.NodeKind.{NodeKind}
+use Rattle.es_grammar.specs.declared.rows.NodeKind.TheVariants as l
 use Rattle.ts_ast.specs.declared.ts.TsPart.TheVariants as vPart
 use Rattle.es_ast.specs.declared.ast.Expr.{Expr}
-use Rattle.es_dress.specs.Value.{Value, given, optional, arguments_at}
-use Rattle.es_dress.specs.Texts.{property_of}
-use Rattle.es_dress.specs.Expressions.{Post as APost, member_of, index_of, call_of, tagged_of, optional_of}
-use Rattle.es_dress.specs.TypedExpressions.{typed_call_of, typed_tagged_of, typed_optional_of, non_null_of}
-use Rattle.es_syntax.specs.declared.cursor.Row.{Row}
+use Rattle.es_lowering.specs.Value.{Value, given, optional, arguments_at}
+use Rattle.es_lowering.specs.Texts.{property_of}
+use Rattle.es_lowering.specs.Expressions.{Post as APost, member_of, index_of, call_of, tagged_of, optional_of}
+use Rattle.es_lowering.specs.TypedExpressions.{typed_call_of, typed_tagged_of, typed_optional_of, non_null_of}
+use Rattle.es_syntax.specs.declared.cursor.Siblings.{Siblings}
 use Rattle.es_syntax.specs.Held.{held, valued}
 use Rattle.es_syntax.specs.Roles.{args_in, expr_in}
 use Rattle.es_syntax.specs.Views.{Under, Within}
@@ -18,7 +18,7 @@ use Rattle.es_call_views.specs.declared.post.Post.{Post}
 use Rattle.es_call_views.specs.declared.post.Post.TheVariants as view
 
 -- the alternatives
-abbrev pub posts : List Label
+abbrev pub posts : List NodeKind
 posts =
     l.MemberPost ∷ l.IndexPost ∷ l.CallPost ∷ l.TemplatePost ∷ l.OptionalPost ∷ l.TypedCallPost ∷ l.TypedTemplatePost
     ∷ l.TypedOptionalPost ∷ l.NonNullPost ∷ []
@@ -68,7 +68,7 @@ the_post x ts r view.NonNull = Some (non_null_of r)
 the_post x ts r view.Broken = None
 
 -- the parts take fewer entries
-abbrev pub IsBelow : Row → Post → Type 0
+abbrev pub IsBelow : Siblings → Post → Type 0
 IsBelow n (view.Member name) = Unit {0}
 IsBelow n (view.Index expr) = Under expr n
 IsBelow n (view.Call args) = Under args n

@@ -2,27 +2,27 @@
 
 ghost use Rattle.std.specs.Prelude.{◌≡◌, ℕ, List, IfSome, IfNone};
 ghost use Rattle.es_token.specs.declared.token.Token.{Token as Tok};
-ghost use Rattle.es_dress.specs.Expressions.{arguments};
+ghost use Rattle.es_lowering.specs.Expressions.{arguments};
 ghost use Rattle.es_syntax.specs.Held.{held, valued};
 ghost use Rattle.es_syntax.specs.Roles.{args_in};
 ghost use Rattle.es_syntax.specs.Views.{IsNone};
 ghost use Rattle.es_call_views.specs.Args.{argument_labels, the_args, IsBelow};
 
-use es_syntax::{Item, Row, What};
-use es_whole_grammar::Label;
+use es_grammar::NodeKind;
+use es_syntax::{Item, Siblings, What};
 
 /// Arguments: turns of a sign `...` or none, and an expression.
 #[derive(Clone, Copy)]
 pub enum Args<'a> {
     /// `(a, ...b)`
-    Arguments(Row<'a>),
+    Arguments(Siblings<'a>),
     /// A part is not there.
     Broken,
 }
 
 /// `(a, ...b)`
-#[tactic(auto, unfolding(es_dress::specs::Expressions::arguments, crate::specs::Args::arguments))]
-fn arguments<'a>(parts: &Row<'a>) -> Args<'a>
+#[tactic(auto, unfolding(es_lowering::specs::Expressions::arguments, crate::specs::Args::arguments))]
+fn arguments<'a>(parts: &Siblings<'a>) -> Args<'a>
     ensures form { (x : List ℕ) (ts : List Tok) → arguments ts (held x ts parts.now.entries.now) ≡ the_args x ts result }
     ensures below { IsBelow parts.now result }
 {
@@ -30,7 +30,7 @@ fn arguments<'a>(parts: &Row<'a>) -> Args<'a>
 }
 
 /// What a node is as arguments; none where it is of another alternative.
-#[tactic(auto, unfolding(es_dress::specs::Dress::build, es_dress::specs::Dress::args_of))]
+#[tactic(auto, unfolding(es_lowering::specs::Lowering::build, es_lowering::specs::Lowering::args_of))]
 pub fn args_at<'a>(node: &Item<'a>) -> Option<Args<'a>>
     ensures form { (x : List ℕ) (ts : List Tok) → IfSome result (λ view. args_in (valued x ts node.now) ≡ the_args x ts view) }
     ensures other { IfNone result (IsNone argument_labels node.now.what) }
@@ -38,7 +38,7 @@ pub fn args_at<'a>(node: &Item<'a>) -> Option<Args<'a>>
 {
     match node.what {
         What::Node(label) => match label {
-            Label::Arguments => Some(arguments(&node.parts)),
+            NodeKind::Arguments => Some(arguments(&node.parts)),
             _ => None,
         },
         What::Leaf => None,

@@ -3,16 +3,16 @@
 ghost use Rattle.std.specs.Prelude.{◌≡◌, ℕ, List, IfSome, IfNone};
 ghost use Rattle.base.specs.declared.range.Range.{Range};
 ghost use Rattle.es_token.specs.declared.token.Token.{Token as Tok};
-ghost use Rattle.es_dress.specs.Expressions.{import_call, new_, chain};
-ghost use Rattle.es_dress.specs.TypedExpressions.{typed_new};
-ghost use Rattle.es_dress.specs.Texts.{span_of};
+ghost use Rattle.es_lowering.specs.Expressions.{import_call, new_, chain};
+ghost use Rattle.es_lowering.specs.TypedExpressions.{typed_new};
+ghost use Rattle.es_lowering.specs.Texts.{span_of};
 ghost use Rattle.es_syntax.specs.Held.{held, valued};
 ghost use Rattle.es_syntax.specs.Roles.{expr_in};
 ghost use Rattle.es_syntax.specs.Views.{IsNone};
 ghost use Rattle.es_call_views.specs.Call.{calls, the_call, IsBelow};
 
-use es_syntax::{Item, Row, What};
-use es_whole_grammar::Label;
+use es_grammar::NodeKind;
+use es_syntax::{Item, Siblings, What};
 
 /// What stands along a chain. Numbers are those of tokens.
 #[derive(Clone, Copy)]
@@ -26,32 +26,32 @@ pub enum Call<'a> {
     /// `import(a, b)`: the second one may be absent.
     Import {
         first: Item<'a>,
-        second: Row<'a>,
+        second: Siblings<'a>,
     },
     /// `new a(b)`: the arguments may be absent.
     New {
         callee: Item<'a>,
-        args: Row<'a>,
+        args: Siblings<'a>,
     },
     /// `a.b(c)[d]`: what it begins with, what is behind that, and turns of what is behind these.
     Chain {
         base: Item<'a>,
         first: Item<'a>,
-        others: Row<'a>,
+        others: Siblings<'a>,
     },
     /// `new a<b>(c)`
     TypedNew {
         callee: Item<'a>,
-        type_args: Row<'a>,
-        args: Row<'a>,
+        type_args: Siblings<'a>,
+        args: Siblings<'a>,
     },
     /// A part is not there.
     Broken,
 }
 
 /// `import(a, b)`: the second one may be absent.
-#[tactic(auto, unfolding(es_dress::specs::Expressions::import_call, crate::specs::Call::imported))]
-fn import_call<'a>(parts: &Row<'a>) -> Call<'a>
+#[tactic(auto, unfolding(es_lowering::specs::Expressions::import_call, crate::specs::Call::imported))]
+fn import_call<'a>(parts: &Siblings<'a>) -> Call<'a>
     ensures form { (x : List ℕ) (ts : List Tok) (r : Range) → import_call r (held x ts parts.now.entries.now) ≡ the_call x ts r result }
     ensures below { IsBelow parts.now result }
 {
@@ -65,8 +65,8 @@ fn import_call<'a>(parts: &Row<'a>) -> Call<'a>
 }
 
 /// `new a(b)`: the arguments may be absent.
-#[tactic(auto, unfolding(es_dress::specs::Expressions::new_, crate::specs::Call::newed))]
-fn new_<'a>(parts: &Row<'a>) -> Call<'a>
+#[tactic(auto, unfolding(es_lowering::specs::Expressions::new_, crate::specs::Call::newed))]
+fn new_<'a>(parts: &Siblings<'a>) -> Call<'a>
     ensures form { (x : List ℕ) (ts : List Tok) (r : Range) → new_ r (held x ts parts.now.entries.now) ≡ the_call x ts r result }
     ensures below { IsBelow parts.now result }
 {
@@ -80,8 +80,8 @@ fn new_<'a>(parts: &Row<'a>) -> Call<'a>
 }
 
 /// `a.b(c)[d]`: what it begins with, what is behind that, and turns of what is behind these.
-#[tactic(auto, unfolding(es_dress::specs::Expressions::chain, crate::specs::Call::chained_of))]
-fn chain<'a>(parts: &Row<'a>) -> Call<'a>
+#[tactic(auto, unfolding(es_lowering::specs::Expressions::chain, crate::specs::Call::chained_of))]
+fn chain<'a>(parts: &Siblings<'a>) -> Call<'a>
     ensures form { (x : List ℕ) (ts : List Tok) (r : Range) → chain r (held x ts parts.now.entries.now) ≡ the_call x ts r result }
     ensures below { IsBelow parts.now result }
 {
@@ -99,8 +99,8 @@ fn chain<'a>(parts: &Row<'a>) -> Call<'a>
 }
 
 /// `new a<b>(c)`
-#[tactic(auto, unfolding(es_dress::specs::TypedExpressions::typed_new, crate::specs::Call::typed_newed))]
-fn typed_new<'a>(parts: &Row<'a>) -> Call<'a>
+#[tactic(auto, unfolding(es_lowering::specs::TypedExpressions::typed_new, crate::specs::Call::typed_newed))]
+fn typed_new<'a>(parts: &Siblings<'a>) -> Call<'a>
     ensures form { (x : List ℕ) (ts : List Tok) (r : Range) → typed_new r (held x ts parts.now.entries.now) ≡ the_call x ts r result }
     ensures below { IsBelow parts.now result }
 {
@@ -115,7 +115,7 @@ fn typed_new<'a>(parts: &Row<'a>) -> Call<'a>
 }
 
 /// What a node is as a chain of calls and members; none where it is of another alternative.
-#[tactic(auto, unfolding(es_dress::specs::Dress::build, es_dress::specs::Dress::expr_of))]
+#[tactic(auto, unfolding(es_lowering::specs::Lowering::build, es_lowering::specs::Lowering::expr_of))]
 pub fn call_at<'a>(node: &Item<'a>) -> Option<Call<'a>>
     ensures form { (x : List ℕ) (ts : List Tok) → IfSome result (λ view. expr_in (valued x ts node.now) ≡ the_call x ts (span_of ts node.now.from node.now.to) view) }
     ensures other { IfNone result (IsNone calls node.now.what) }
@@ -123,13 +123,13 @@ pub fn call_at<'a>(node: &Item<'a>) -> Option<Call<'a>>
 {
     match node.what {
         What::Node(label) => match label {
-            Label::Super => Some(Call::Super),
-            Label::ImportMeta => Some(Call::ImportMeta),
-            Label::NewTarget => Some(Call::NewTarget),
-            Label::ImportCall => Some(import_call(&node.parts)),
-            Label::New => Some(new_(&node.parts)),
-            Label::Chain => Some(chain(&node.parts)),
-            Label::TypedNew => Some(typed_new(&node.parts)),
+            NodeKind::Super => Some(Call::Super),
+            NodeKind::ImportMeta => Some(Call::ImportMeta),
+            NodeKind::NewTarget => Some(Call::NewTarget),
+            NodeKind::ImportCall => Some(import_call(&node.parts)),
+            NodeKind::New => Some(new_(&node.parts)),
+            NodeKind::Chain => Some(chain(&node.parts)),
+            NodeKind::TypedNew => Some(typed_new(&node.parts)),
             _ => None,
         },
         What::Leaf => None,

@@ -3,16 +3,16 @@
 ghost use Rattle.std.specs.Prelude.{◌≡◌, ℕ, List, IfSome, IfNone};
 ghost use Rattle.base.specs.declared.range.Range.{Range};
 ghost use Rattle.es_token.specs.declared.token.Token.{Token as Tok};
-ghost use Rattle.es_dress.specs.Expressions.{member_post, index_post, call_post, template_post, optional_post};
-ghost use Rattle.es_dress.specs.TypedExpressions.{typed_call_post, typed_template_post, typed_optional_post};
-ghost use Rattle.es_dress.specs.Texts.{span_of};
+ghost use Rattle.es_lowering.specs.Expressions.{member_post, index_post, call_post, template_post, optional_post};
+ghost use Rattle.es_lowering.specs.TypedExpressions.{typed_call_post, typed_template_post, typed_optional_post};
+ghost use Rattle.es_lowering.specs.Texts.{span_of};
 ghost use Rattle.es_syntax.specs.Held.{held, valued};
 ghost use Rattle.es_syntax.specs.Roles.{post_in};
 ghost use Rattle.es_syntax.specs.Views.{IsNone};
 ghost use Rattle.es_call_views.specs.Post.{posts, the_post, IsBelow};
 
-use es_syntax::{Item, Row, What};
-use es_whole_grammar::Label;
+use es_grammar::NodeKind;
+use es_syntax::{Item, Siblings, What};
 
 /// A further part of a chain, with its parts where they stand. Numbers are those of tokens.
 #[derive(Clone, Copy)]
@@ -28,9 +28,15 @@ pub enum Post<'a> {
     /// `?.a`, `?.[a]`, `?.(a)`: what stands behind the sign.
     Optional(Item<'a>),
     /// `<T>(a)`: the node of the arguments.
-    TypedCall { type_args: Row<'a>, args: Item<'a> },
+    TypedCall {
+        type_args: Siblings<'a>,
+        args: Item<'a>,
+    },
     /// A template behind a tag with types.
-    TypedTemplate { type_args: Row<'a>, tpl: Item<'a> },
+    TypedTemplate {
+        type_args: Siblings<'a>,
+        tpl: Item<'a>,
+    },
     /// `?.a`, `?.[a]`, `?.<T>(a)`: what stands behind the sign.
     TypedOptional(Item<'a>),
     /// `!`
@@ -40,8 +46,8 @@ pub enum Post<'a> {
 }
 
 /// `.a`
-#[tactic(auto, unfolding(es_dress::specs::Expressions::member_post, crate::specs::Post::member))]
-fn member<'a>(parts: &Row<'a>) -> Post<'a>
+#[tactic(auto, unfolding(es_lowering::specs::Expressions::member_post, crate::specs::Post::member))]
+fn member<'a>(parts: &Siblings<'a>) -> Post<'a>
     ensures form { (x : List ℕ) (ts : List Tok) (r : Range) → member_post x ts r (held x ts parts.now.entries.now) ≡ the_post x ts r result }
     ensures below { IsBelow parts.now result }
 {
@@ -52,8 +58,8 @@ fn member<'a>(parts: &Row<'a>) -> Post<'a>
 }
 
 /// `[a]`
-#[tactic(auto, unfolding(es_dress::specs::Expressions::index_post, crate::specs::Post::index))]
-fn index<'a>(parts: &Row<'a>) -> Post<'a>
+#[tactic(auto, unfolding(es_lowering::specs::Expressions::index_post, crate::specs::Post::index))]
+fn index<'a>(parts: &Siblings<'a>) -> Post<'a>
     ensures form { (x : List ℕ) (ts : List Tok) (r : Range) → index_post r (held x ts parts.now.entries.now) ≡ the_post x ts r result }
     ensures below { IsBelow parts.now result }
 {
@@ -64,8 +70,8 @@ fn index<'a>(parts: &Row<'a>) -> Post<'a>
 }
 
 /// `(a)`: the node of the arguments.
-#[tactic(auto, unfolding(es_dress::specs::Expressions::call_post, crate::specs::Post::call))]
-fn call<'a>(parts: &Row<'a>) -> Post<'a>
+#[tactic(auto, unfolding(es_lowering::specs::Expressions::call_post, crate::specs::Post::call))]
+fn call<'a>(parts: &Siblings<'a>) -> Post<'a>
     ensures form { (x : List ℕ) (ts : List Tok) (r : Range) → call_post r (held x ts parts.now.entries.now) ≡ the_post x ts r result }
     ensures below { IsBelow parts.now result }
 {
@@ -76,8 +82,8 @@ fn call<'a>(parts: &Row<'a>) -> Post<'a>
 }
 
 /// A template behind a tag.
-#[tactic(auto, unfolding(es_dress::specs::Expressions::template_post, crate::specs::Post::tagged))]
-fn template<'a>(parts: &Row<'a>) -> Post<'a>
+#[tactic(auto, unfolding(es_lowering::specs::Expressions::template_post, crate::specs::Post::tagged))]
+fn template<'a>(parts: &Siblings<'a>) -> Post<'a>
     ensures form { (x : List ℕ) (ts : List Tok) (r : Range) → template_post r (held x ts parts.now.entries.now) ≡ the_post x ts r result }
     ensures below { IsBelow parts.now result }
 {
@@ -88,8 +94,8 @@ fn template<'a>(parts: &Row<'a>) -> Post<'a>
 }
 
 /// `?.a`, `?.[a]`, `?.(a)`: what stands behind the sign.
-#[tactic(auto, unfolding(es_dress::specs::Expressions::optional_post, crate::specs::Post::optioned))]
-fn optional<'a>(parts: &Row<'a>) -> Post<'a>
+#[tactic(auto, unfolding(es_lowering::specs::Expressions::optional_post, crate::specs::Post::optioned))]
+fn optional<'a>(parts: &Siblings<'a>) -> Post<'a>
     ensures form { (x : List ℕ) (ts : List Tok) (r : Range) → optional_post x ts r (held x ts parts.now.entries.now) ≡ the_post x ts r result }
     ensures below { IsBelow parts.now result }
 {
@@ -100,8 +106,8 @@ fn optional<'a>(parts: &Row<'a>) -> Post<'a>
 }
 
 /// `<T>(a)`: the node of the arguments.
-#[tactic(auto, unfolding(es_dress::specs::TypedExpressions::typed_call_post, crate::specs::Post::typed_call))]
-fn typed_call<'a>(parts: &Row<'a>) -> Post<'a>
+#[tactic(auto, unfolding(es_lowering::specs::TypedExpressions::typed_call_post, crate::specs::Post::typed_call))]
+fn typed_call<'a>(parts: &Siblings<'a>) -> Post<'a>
     ensures form { (x : List ℕ) (ts : List Tok) (r : Range) → typed_call_post r (held x ts parts.now.entries.now) ≡ the_post x ts r result }
     ensures below { IsBelow parts.now result }
 {
@@ -115,8 +121,8 @@ fn typed_call<'a>(parts: &Row<'a>) -> Post<'a>
 }
 
 /// A template behind a tag with types.
-#[tactic(auto, unfolding(es_dress::specs::TypedExpressions::typed_template_post, crate::specs::Post::typed_tagged))]
-fn typed_template<'a>(parts: &Row<'a>) -> Post<'a>
+#[tactic(auto, unfolding(es_lowering::specs::TypedExpressions::typed_template_post, crate::specs::Post::typed_tagged))]
+fn typed_template<'a>(parts: &Siblings<'a>) -> Post<'a>
     ensures form { (x : List ℕ) (ts : List Tok) (r : Range) → typed_template_post r (held x ts parts.now.entries.now) ≡ the_post x ts r result }
     ensures below { IsBelow parts.now result }
 {
@@ -130,8 +136,8 @@ fn typed_template<'a>(parts: &Row<'a>) -> Post<'a>
 }
 
 /// `?.a`, `?.[a]`, `?.<T>(a)`: what stands behind the sign.
-#[tactic(auto, unfolding(es_dress::specs::TypedExpressions::typed_optional_post, crate::specs::Post::typed_optioned))]
-fn typed_optional<'a>(parts: &Row<'a>) -> Post<'a>
+#[tactic(auto, unfolding(es_lowering::specs::TypedExpressions::typed_optional_post, crate::specs::Post::typed_optioned))]
+fn typed_optional<'a>(parts: &Siblings<'a>) -> Post<'a>
     ensures form { (x : List ℕ) (ts : List Tok) (r : Range) → typed_optional_post x ts r (held x ts parts.now.entries.now) ≡ the_post x ts r result }
     ensures below { IsBelow parts.now result }
 {
@@ -142,7 +148,7 @@ fn typed_optional<'a>(parts: &Row<'a>) -> Post<'a>
 }
 
 /// What a node is as a further part of a chain; none where it is of another alternative.
-#[tactic(auto, unfolding(es_dress::specs::Dress::build, es_dress::specs::Dress::post_of, es_dress::specs::TypedExpressions::non_null_post))]
+#[tactic(auto, unfolding(es_lowering::specs::Lowering::build, es_lowering::specs::Lowering::post_of, es_lowering::specs::TypedExpressions::non_null_post))]
 pub fn post_at<'a>(node: &Item<'a>) -> Option<Post<'a>>
     ensures form { (x : List ℕ) (ts : List Tok) → IfSome result (λ view. post_in (valued x ts node.now) ≡ the_post x ts (span_of ts node.now.from node.now.to) view) }
     ensures other { IfNone result (IsNone posts node.now.what) }
@@ -150,15 +156,15 @@ pub fn post_at<'a>(node: &Item<'a>) -> Option<Post<'a>>
 {
     match node.what {
         What::Node(label) => match label {
-            Label::MemberPost => Some(member(&node.parts)),
-            Label::IndexPost => Some(index(&node.parts)),
-            Label::CallPost => Some(call(&node.parts)),
-            Label::TemplatePost => Some(template(&node.parts)),
-            Label::OptionalPost => Some(optional(&node.parts)),
-            Label::TypedCallPost => Some(typed_call(&node.parts)),
-            Label::TypedTemplatePost => Some(typed_template(&node.parts)),
-            Label::TypedOptionalPost => Some(typed_optional(&node.parts)),
-            Label::NonNullPost => Some(Post::NonNull),
+            NodeKind::MemberPost => Some(member(&node.parts)),
+            NodeKind::IndexPost => Some(index(&node.parts)),
+            NodeKind::CallPost => Some(call(&node.parts)),
+            NodeKind::TemplatePost => Some(template(&node.parts)),
+            NodeKind::OptionalPost => Some(optional(&node.parts)),
+            NodeKind::TypedCallPost => Some(typed_call(&node.parts)),
+            NodeKind::TypedTemplatePost => Some(typed_template(&node.parts)),
+            NodeKind::TypedOptionalPost => Some(typed_optional(&node.parts)),
+            NodeKind::NonNullPost => Some(Post::NonNull),
             _ => None,
         },
         What::Leaf => None,

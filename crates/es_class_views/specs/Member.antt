@@ -3,8 +3,8 @@ use Rattle.std.specs.Prelude.{ℕ, Bool, false, List, [], ◌∷◌, Option, Som
 use Rattle.base.specs.declared.range.Range.{Range}
 use Rattle.es_token.specs.declared.token.Token.{Token}
 use Rattle.es_token.specs.declared.token.TokenKind.TheVariants as k
-use Rattle.es_whole_grammar.specs.declared.rows.Label.{Label}
-use Rattle.es_whole_grammar.specs.declared.rows.Label.TheVariants as l
+use Rattle.es_grammar.specs.declared.rows.NodeKind.{NodeKind}
+use Rattle.es_grammar.specs.declared.rows.NodeKind.TheVariants as l
 use Rattle.ts_ast.specs.declared.leaf.MethodKind.{MethodKind}
 use Rattle.ts_ast.specs.declared.leaf.MethodKind.TheVariants as vMethod
 use Rattle.ts_ast.specs.declared.ts.TsPart.TheVariants as vPart
@@ -13,14 +13,14 @@ use Rattle.es_ast.specs.declared.ast.Stmt.{Stmt}
 use Rattle.es_ast.specs.declared.ast.Param.{Param}
 use Rattle.es_ast.specs.declared.ast.ClassMember.{ClassMember}
 use Rattle.es_ast.specs.declared.ast.ClassMember.TheVariants as vMember
-use Rattle.es_dress.specs.Value.{Value, Signature, given, optional, first_of, behind, expr_at, type_at}
-use Rattle.es_dress.specs.Texts.{ident_of, span_of, kind_at}
-use Rattle.es_dress.specs.Operators.{listed, accessor_kinds}
-use Rattle.es_dress.specs.Functions.{Key, plain, function_of}
-use Rattle.es_dress.specs.Classes.{modified}
-use Rattle.es_dress.specs.TypedParts.{modifiers_in, body_in, behind_body}
-use Rattle.es_dress.specs.TypedFunctions.{typed_function_of, with_accessor, is_mark}
-use Rattle.es_syntax.specs.declared.cursor.Row.{Row}
+use Rattle.es_lowering.specs.Value.{Value, Signature, given, optional, first_of, behind, expr_at, type_at}
+use Rattle.es_lowering.specs.Texts.{ident_of, span_of, kind_at}
+use Rattle.es_lowering.specs.Operators.{listed, accessor_kinds}
+use Rattle.es_lowering.specs.Functions.{Key, plain, function_of}
+use Rattle.es_lowering.specs.Classes.{modified}
+use Rattle.es_lowering.specs.TypedParts.{modifiers_in, body_in, behind_body}
+use Rattle.es_lowering.specs.TypedFunctions.{typed_function_of, with_accessor, is_mark}
+use Rattle.es_syntax.specs.declared.cursor.Siblings.{Siblings}
 use Rattle.es_syntax.specs.Held.{held, valued}
 use Rattle.es_syntax.specs.Roles.{block_in, key_in, params_in, signature_in, stmt_in, ts_type_in}
 use Rattle.es_syntax.specs.Views.{Under, Within}
@@ -28,7 +28,7 @@ use Rattle.es_class_views.specs.declared.member.Member.{Member}
 use Rattle.es_class_views.specs.declared.member.Member.TheVariants as view
 
 -- the alternatives
-abbrev pub members : List Label
+abbrev pub members : List NodeKind
 members =
     l.EmptyMember ∷ l.StaticBlock ∷ l.GeneratorMember ∷ l.MethodMember ∷ l.AsyncMember ∷ l.AccessorMember ∷
     l.FieldMember ∷ l.AccessorField ∷ l.TypedGeneratorMember ∷ l.TypedMethodMember ∷ l.TypedAsyncMember ∷
@@ -129,7 +129,7 @@ the_member x ts r (view.Index modifiers name of ty) =
 the_member x ts r view.Broken = None
 
 -- the parts take fewer entries
-abbrev pub IsBelow : Row → Member → Type 0
+abbrev pub IsBelow : Siblings → Member → Type 0
 IsBelow n view.Empty = Unit {0}
 IsBelow n (view.StaticBlock block) = Under block n
 IsBelow n (view.Method is_static is_async is_generator key params body) = Under key n × Under params n × Under body n

@@ -4,17 +4,17 @@ ghost use Rattle.std.specs.Prelude.{◌≡◌, ℕ, true, false, List, IfSome, I
 ghost use Rattle.base.specs.declared.range.Range.{Range};
 ghost use Rattle.es_token.specs.declared.token.Token.{Token as Tok};
 ghost use Rattle.ts_ast.specs.declared.leaf.MethodKind.TheVariants as vMethod;
-ghost use Rattle.es_dress.specs.Classes.{static_block, method_member, accessor_member, field_member};
-ghost use Rattle.es_dress.specs.TypedFunctions.{typed_method_member, typed_accessor_member, typed_field, index_member};
-ghost use Rattle.es_dress.specs.Value.{is_there, group};
-ghost use Rattle.es_dress.specs.Texts.{span_of};
+ghost use Rattle.es_lowering.specs.Classes.{static_block, method_member, accessor_member, field_member};
+ghost use Rattle.es_lowering.specs.TypedFunctions.{typed_method_member, typed_accessor_member, typed_field, index_member};
+ghost use Rattle.es_lowering.specs.Value.{is_there, group};
+ghost use Rattle.es_lowering.specs.Texts.{span_of};
 ghost use Rattle.es_syntax.specs.Held.{held, valued};
 ghost use Rattle.es_syntax.specs.Roles.{member_in};
 ghost use Rattle.es_syntax.specs.Views.{IsNone};
 ghost use Rattle.es_class_views.specs.Member.{members, the_member, IsBelow};
 
-use es_syntax::{Item, Row, What};
-use es_whole_grammar::Label;
+use es_grammar::NodeKind;
+use es_syntax::{Item, Siblings, What};
 
 /// A member of a class, with its parts where they stand. Numbers are those of tokens.
 #[derive(Clone, Copy)]
@@ -45,51 +45,51 @@ pub enum Member<'a> {
         is_static: bool,
         is_accessor: bool,
         key: Item<'a>,
-        value: Row<'a>,
+        value: Siblings<'a>,
     },
     /// A method of TypeScript: its modifiers as turns, its key, whether a mark stands behind that, its signature, a body or
     /// none.
     TypedMethod {
-        modifiers: Row<'a>,
+        modifiers: Siblings<'a>,
         is_async: bool,
         is_generator: bool,
         key: Item<'a>,
         mark: bool,
         signature: Item<'a>,
-        body: Row<'a>,
+        body: Siblings<'a>,
     },
     /// The same behind `get` or `set`.
     TypedAccessor {
-        modifiers: Row<'a>,
+        modifiers: Siblings<'a>,
         word: u32,
         key: Item<'a>,
         mark: bool,
         signature: Item<'a>,
-        body: Row<'a>,
+        body: Siblings<'a>,
     },
     /// `a?: T = b`: its modifiers as turns; the mark, which is `?` or `!`, the type and the value may be absent.
     TypedField {
-        modifiers: Row<'a>,
+        modifiers: Siblings<'a>,
         is_accessor: bool,
         key: Item<'a>,
-        mark: Row<'a>,
-        ty: Row<'a>,
-        value: Row<'a>,
+        mark: Siblings<'a>,
+        ty: Siblings<'a>,
+        value: Siblings<'a>,
     },
     /// `[a: b]: c`: its modifiers as turns; the last type may be absent.
     Index {
-        modifiers: Row<'a>,
+        modifiers: Siblings<'a>,
         name: u32,
         of: Item<'a>,
-        ty: Row<'a>,
+        ty: Siblings<'a>,
     },
     /// A part is not there.
     Broken,
 }
 
 /// `static { a }`: the node of the block.
-#[tactic(auto, unfolding(es_dress::specs::Classes::static_block, crate::specs::Member::static_of))]
-fn static_block<'a>(parts: &Row<'a>) -> Member<'a>
+#[tactic(auto, unfolding(es_lowering::specs::Classes::static_block, crate::specs::Member::static_of))]
+fn static_block<'a>(parts: &Siblings<'a>) -> Member<'a>
     ensures form { (x : List ℕ) (ts : List Tok) (r : Range) → static_block r (held x ts parts.now.entries.now) ≡ the_member x ts r result }
     ensures below { IsBelow parts.now result }
 {
@@ -100,8 +100,8 @@ fn static_block<'a>(parts: &Row<'a>) -> Member<'a>
 }
 
 /// `*a() {}`, `a() {}`
-#[tactic(auto, unfolding(es_dress::specs::Classes::method_member, es_dress::specs::Functions::method_at, crate::specs::Member::method))]
-fn method<'a>(is_generator: bool, parts: &Row<'a>) -> Member<'a>
+#[tactic(auto, unfolding(es_lowering::specs::Classes::method_member, es_lowering::specs::Functions::method_at, crate::specs::Member::method))]
+fn method<'a>(is_generator: bool, parts: &Siblings<'a>) -> Member<'a>
     ensures form { (x : List ℕ) (ts : List Tok) (r : Range) → method_member ts vMethod.Method false is_generator r (held x ts parts.now.entries.now) 1 ≡ the_member x ts r result }
     ensures below { IsBelow parts.now result }
 {
@@ -125,8 +125,8 @@ fn method<'a>(is_generator: bool, parts: &Row<'a>) -> Member<'a>
 }
 
 /// `async *a() {}`
-#[tactic(auto, unfolding(es_dress::specs::Classes::method_member, es_dress::specs::Functions::method_at, crate::specs::Member::method))]
-fn async_method<'a>(parts: &Row<'a>) -> Member<'a>
+#[tactic(auto, unfolding(es_lowering::specs::Classes::method_member, es_lowering::specs::Functions::method_at, crate::specs::Member::method))]
+fn async_method<'a>(parts: &Siblings<'a>) -> Member<'a>
     ensures form { (x : List ℕ) (ts : List Tok) (r : Range) → method_member ts vMethod.Method true (is_there (group (held x ts parts.now.entries.now) 1)) r (held x ts parts.now.entries.now) 2 ≡ the_member x ts r result }
     ensures below { IsBelow parts.now result }
 {
@@ -150,8 +150,8 @@ fn async_method<'a>(parts: &Row<'a>) -> Member<'a>
 }
 
 /// `get a() {}`
-#[tactic(auto, unfolding(es_dress::specs::Classes::accessor_member, es_dress::specs::Classes::method_member, es_dress::specs::Functions::method_at, crate::specs::Member::accessor, crate::specs::Member::method))]
-fn accessor<'a>(parts: &Row<'a>) -> Member<'a>
+#[tactic(auto, unfolding(es_lowering::specs::Classes::accessor_member, es_lowering::specs::Classes::method_member, es_lowering::specs::Functions::method_at, crate::specs::Member::accessor, crate::specs::Member::method))]
+fn accessor<'a>(parts: &Siblings<'a>) -> Member<'a>
     ensures form { (x : List ℕ) (ts : List Tok) (r : Range) → accessor_member ts r (held x ts parts.now.entries.now) ≡ the_member x ts r result }
     ensures below { IsBelow parts.now result }
 {
@@ -177,8 +177,8 @@ fn accessor<'a>(parts: &Row<'a>) -> Member<'a>
 }
 
 /// `a = b`: the value may be absent.
-#[tactic(auto, unfolding(es_dress::specs::Classes::field_member, crate::specs::Member::field))]
-fn field<'a>(is_accessor: bool, parts: &Row<'a>) -> Member<'a>
+#[tactic(auto, unfolding(es_lowering::specs::Classes::field_member, crate::specs::Member::field))]
+fn field<'a>(is_accessor: bool, parts: &Siblings<'a>) -> Member<'a>
     ensures form { (x : List ℕ) (ts : List Tok) (r : Range) → field_member is_accessor r (held x ts parts.now.entries.now) ≡ the_member x ts r result }
     ensures below { IsBelow parts.now result }
 {
@@ -194,8 +194,8 @@ fn field<'a>(is_accessor: bool, parts: &Row<'a>) -> Member<'a>
 }
 
 /// A method with types: its key, its mark and its signature stand in a group.
-#[tactic(auto, unfolding(es_dress::specs::TypedFunctions::typed_method_member, crate::specs::Member::typed_method))]
-fn typed_method<'a>(is_generator: bool, parts: &Row<'a>) -> Member<'a>
+#[tactic(auto, unfolding(es_lowering::specs::TypedFunctions::typed_method_member, crate::specs::Member::typed_method))]
+fn typed_method<'a>(is_generator: bool, parts: &Siblings<'a>) -> Member<'a>
     ensures form { (x : List ℕ) (ts : List Tok) (r : Range) → typed_method_member ts vMethod.Method false is_generator r (held x ts parts.now.entries.now) 1 ≡ the_member x ts r result }
     ensures below { IsBelow parts.now result }
 {
@@ -218,8 +218,8 @@ fn typed_method<'a>(is_generator: bool, parts: &Row<'a>) -> Member<'a>
 }
 
 /// The same behind `async`.
-#[tactic(auto, unfolding(es_dress::specs::TypedFunctions::typed_method_member, crate::specs::Member::typed_method))]
-fn typed_async_method<'a>(parts: &Row<'a>) -> Member<'a>
+#[tactic(auto, unfolding(es_lowering::specs::TypedFunctions::typed_method_member, crate::specs::Member::typed_method))]
+fn typed_async_method<'a>(parts: &Siblings<'a>) -> Member<'a>
     ensures form { (x : List ℕ) (ts : List Tok) (r : Range) → typed_method_member ts vMethod.Method true (is_there (group (held x ts parts.now.entries.now) 1)) r (held x ts parts.now.entries.now) 2 ≡ the_member x ts r result }
     ensures below { IsBelow parts.now result }
 {
@@ -242,8 +242,8 @@ fn typed_async_method<'a>(parts: &Row<'a>) -> Member<'a>
 }
 
 /// The same behind `get` or `set`.
-#[tactic(auto, unfolding(es_dress::specs::TypedFunctions::typed_accessor_member, es_dress::specs::TypedFunctions::typed_method_member, crate::specs::Member::typed_accessor, crate::specs::Member::typed_method))]
-fn typed_accessor<'a>(parts: &Row<'a>) -> Member<'a>
+#[tactic(auto, unfolding(es_lowering::specs::TypedFunctions::typed_accessor_member, es_lowering::specs::TypedFunctions::typed_method_member, crate::specs::Member::typed_accessor, crate::specs::Member::typed_method))]
+fn typed_accessor<'a>(parts: &Siblings<'a>) -> Member<'a>
     ensures form { (x : List ℕ) (ts : List Tok) (r : Range) → typed_accessor_member ts r (held x ts parts.now.entries.now) ≡ the_member x ts r result }
     ensures below { IsBelow parts.now result }
 {
@@ -268,8 +268,8 @@ fn typed_accessor<'a>(parts: &Row<'a>) -> Member<'a>
 }
 
 /// `a?: T = b`: the mark, the type and the value may be absent.
-#[tactic(auto, unfolding(es_dress::specs::TypedFunctions::typed_field, crate::specs::Member::typed_field_of))]
-fn typed_field<'a>(is_accessor: bool, parts: &Row<'a>) -> Member<'a>
+#[tactic(auto, unfolding(es_lowering::specs::TypedFunctions::typed_field, crate::specs::Member::typed_field_of))]
+fn typed_field<'a>(is_accessor: bool, parts: &Siblings<'a>) -> Member<'a>
     ensures form { (x : List ℕ) (ts : List Tok) (r : Range) → typed_field ts is_accessor r (held x ts parts.now.entries.now) ≡ the_member x ts r result }
     ensures below { IsBelow parts.now result }
 {
@@ -287,8 +287,8 @@ fn typed_field<'a>(is_accessor: bool, parts: &Row<'a>) -> Member<'a>
 }
 
 /// `[a: b]: c`: the last type may be absent.
-#[tactic(auto, unfolding(es_dress::specs::TypedFunctions::index_member, crate::specs::Member::index))]
-fn index<'a>(parts: &Row<'a>) -> Member<'a>
+#[tactic(auto, unfolding(es_lowering::specs::TypedFunctions::index_member, crate::specs::Member::index))]
+fn index<'a>(parts: &Siblings<'a>) -> Member<'a>
     ensures form { (x : List ℕ) (ts : List Tok) (r : Range) → index_member x ts r (held x ts parts.now.entries.now) ≡ the_member x ts r result }
     ensures below { IsBelow parts.now result }
 {
@@ -307,7 +307,7 @@ fn index<'a>(parts: &Row<'a>) -> Member<'a>
 }
 
 /// What a node is as a member of a class; none where it is of another alternative.
-#[tactic(auto, unfolding(es_dress::specs::Dress::build, es_dress::specs::Dress::member_of))]
+#[tactic(auto, unfolding(es_lowering::specs::Lowering::build, es_lowering::specs::Lowering::member_of))]
 pub fn member_at<'a>(node: &Item<'a>) -> Option<Member<'a>>
     ensures form { (x : List ℕ) (ts : List Tok) → IfSome result (λ view. member_in (valued x ts node.now) ≡ the_member x ts (span_of ts node.now.from node.now.to) view) }
     ensures other { IfNone result (IsNone members node.now.what) }
@@ -315,21 +315,21 @@ pub fn member_at<'a>(node: &Item<'a>) -> Option<Member<'a>>
 {
     match node.what {
         What::Node(label) => match label {
-            Label::EmptyMember => Some(Member::Empty),
-            Label::StaticBlock => Some(static_block(&node.parts)),
-            Label::GeneratorMember => Some(method(true, &node.parts)),
-            Label::MethodMember => Some(method(false, &node.parts)),
-            Label::AsyncMember => Some(async_method(&node.parts)),
-            Label::AccessorMember => Some(accessor(&node.parts)),
-            Label::FieldMember => Some(field(false, &node.parts)),
-            Label::AccessorField => Some(field(true, &node.parts)),
-            Label::TypedGeneratorMember => Some(typed_method(true, &node.parts)),
-            Label::TypedMethodMember => Some(typed_method(false, &node.parts)),
-            Label::TypedAsyncMember => Some(typed_async_method(&node.parts)),
-            Label::TypedAccessorMember => Some(typed_accessor(&node.parts)),
-            Label::TypedFieldMember => Some(typed_field(false, &node.parts)),
-            Label::TypedAccessorField => Some(typed_field(true, &node.parts)),
-            Label::IndexMember => Some(index(&node.parts)),
+            NodeKind::EmptyMember => Some(Member::Empty),
+            NodeKind::StaticBlock => Some(static_block(&node.parts)),
+            NodeKind::GeneratorMember => Some(method(true, &node.parts)),
+            NodeKind::MethodMember => Some(method(false, &node.parts)),
+            NodeKind::AsyncMember => Some(async_method(&node.parts)),
+            NodeKind::AccessorMember => Some(accessor(&node.parts)),
+            NodeKind::FieldMember => Some(field(false, &node.parts)),
+            NodeKind::AccessorField => Some(field(true, &node.parts)),
+            NodeKind::TypedGeneratorMember => Some(typed_method(true, &node.parts)),
+            NodeKind::TypedMethodMember => Some(typed_method(false, &node.parts)),
+            NodeKind::TypedAsyncMember => Some(typed_async_method(&node.parts)),
+            NodeKind::TypedAccessorMember => Some(typed_accessor(&node.parts)),
+            NodeKind::TypedFieldMember => Some(typed_field(false, &node.parts)),
+            NodeKind::TypedAccessorField => Some(typed_field(true, &node.parts)),
+            NodeKind::IndexMember => Some(index(&node.parts)),
             _ => None,
         },
         What::Leaf => None,

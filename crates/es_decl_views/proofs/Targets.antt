@@ -4,8 +4,8 @@ use Rattle.std.proofs.Common.{◌≡◌, ℕ, refl}
 use Rattle.es_token.specs.declared.token.Token.{Token}
 use Rattle.es_ast.specs.declared.ast.Expr.{Expr}
 use Rattle.es_ast.specs.declared.ast.Pat.TheVariants as vPat
-use Rattle.es_dress.specs.Value.{Value, absent, nil, more, token, node}
-use Rattle.es_dress.specs.Dress.{as_target}
+use Rattle.es_lowering.specs.Value.{Value, absent, nil, more, token, node}
+use Rattle.es_lowering.specs.Lowering.{as_target}
 use Rattle.es_syntax.specs.Roles.{expr_in, head_in}
 
 pub head_target : (x : List ℕ) (ts : List Token) (v : Value)

@@ -2,18 +2,18 @@
 use Rattle.std.specs.Prelude.{ℕ, Bool, true, false, List, [], ◌∷◌, Option, Some, None, option_map, slice_get}
 use Rattle.base.specs.declared.range.Range.{Range}
 use Rattle.es_token.specs.declared.token.Token.{Token}
-use Rattle.es_whole_grammar.specs.declared.rows.Label.{Label}
-use Rattle.es_whole_grammar.specs.declared.rows.Label.TheVariants as l
+use Rattle.es_grammar.specs.declared.rows.NodeKind.{NodeKind}
+use Rattle.es_grammar.specs.declared.rows.NodeKind.TheVariants as l
 use Rattle.es_ast.specs.declared.ast.Decl.{Decl as ADecl}
 use Rattle.es_ast.specs.declared.ast.Decl.TheVariants as vDecl
 use Rattle.es_ast.specs.declared.ast.VarDeclarator.{VarDeclarator}
-use Rattle.es_dress.specs.Value.{Value, given, turns, declarator_at}
-use Rattle.es_dress.specs.Operators.{listed, variable_kinds}
-use Rattle.es_dress.specs.Functions.{function}
-use Rattle.es_dress.specs.Classes.{class_}
-use Rattle.es_dress.specs.Statements.{Variables, decl_of, using_kind}
-use Rattle.es_dress.specs.TypedStatements.{Declarable}
-use Rattle.es_syntax.specs.declared.cursor.Row.{Row}
+use Rattle.es_lowering.specs.Value.{Value, given, turns, declarator_at}
+use Rattle.es_lowering.specs.Operators.{listed, variable_kinds}
+use Rattle.es_lowering.specs.Functions.{function}
+use Rattle.es_lowering.specs.Classes.{class_}
+use Rattle.es_lowering.specs.Statements.{Variables, decl_of, using_kind}
+use Rattle.es_lowering.specs.TypedStatements.{Declarable}
+use Rattle.es_syntax.specs.declared.cursor.Siblings.{Siblings}
 use Rattle.es_syntax.specs.Held.{held, valued}
 use Rattle.es_syntax.specs.Roles.{declarable_in, declarator_in, variables_in}
 use Rattle.es_syntax.specs.Views.{Under, Within}
@@ -21,7 +21,7 @@ use Rattle.es_decl_views.specs.declared.decl.Decl.{Decl}
 use Rattle.es_decl_views.specs.declared.decl.Decl.TheVariants as view
 
 -- the alternatives
-abbrev pub declarations : List Label
+abbrev pub declarations : List NodeKind
 declarations =
     l.Function ∷ l.AsyncFunction ∷ l.Class ∷ l.VariableDeclaration ∷ l.UsingDeclaration ∷ l.Variables ∷ l.Using ∷
     l.Declared ∷ l.DeclaredVariables ∷ l.TypedFunction ∷ l.TypedAsyncFunction ∷ l.TypedClass ∷ l.AbstractClass ∷
@@ -68,7 +68,7 @@ the_decl x ts r (view.Declarable node) = option_map (λ decl. decl false r) (dec
 the_decl x ts r view.Broken = None
 
 -- the parts take fewer entries
-abbrev pub IsBelow : Row → Decl → Type 0
+abbrev pub IsBelow : Siblings → Decl → Type 0
 IsBelow n (view.Function is_async parts) = Within parts n
 IsBelow n (view.Class parts) = Within parts n
 IsBelow n (view.Variables variables) = Under variables n

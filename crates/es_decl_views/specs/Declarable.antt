@@ -2,21 +2,21 @@
 use Rattle.std.specs.Prelude.{ℕ, Bool, List, [], ◌∷◌, Option, Some, None, option_map, slice_get}
 use Rattle.base.specs.declared.range.Range.{Range}
 use Rattle.es_token.specs.declared.token.Token.{Token}
-use Rattle.es_whole_grammar.specs.declared.rows.Label.{Label}
-use Rattle.es_whole_grammar.specs.declared.rows.Label.TheVariants as l
+use Rattle.es_grammar.specs.declared.rows.NodeKind.{NodeKind}
+use Rattle.es_grammar.specs.declared.rows.NodeKind.TheVariants as l
 use Rattle.ts_ast.specs.declared.ts.TsPart.TheVariants as vPart
 use Rattle.ts_ast.specs.declared.ts.TsType.{TsType}
 use Rattle.ts_ast.specs.declared.leaf.TsEntityName.{TsEntityName}
 use Rattle.es_ast.specs.declared.ast.Decl.TheVariants as vDecl
 use Rattle.es_token.specs.declared.token.TokenKind.TheVariants as k
 use Rattle.es_tree.specs.Key.{same_kind}
-use Rattle.es_dress.specs.Value.{Value, given, optional, turns, behind, type_params_at, type_member_at}
-use Rattle.es_dress.specs.Texts.{ident_of, str_of, token_of}
-use Rattle.es_dress.specs.Operators.{is_kind_at}
-use Rattle.es_dress.specs.TypedParts.{heritage_in}
-use Rattle.es_dress.specs.TypedFunctions.{typed_function, typed_class}
-use Rattle.es_dress.specs.TypedStatements.{Declarable as ADeclarable, enum_member, items_of}
-use Rattle.es_syntax.specs.declared.cursor.Row.{Row}
+use Rattle.es_lowering.specs.Value.{Value, given, optional, turns, behind, type_params_at, type_member_at}
+use Rattle.es_lowering.specs.Texts.{ident_of, str_of, token_of}
+use Rattle.es_lowering.specs.Operators.{is_kind_at}
+use Rattle.es_lowering.specs.TypedParts.{heritage_in}
+use Rattle.es_lowering.specs.TypedFunctions.{typed_function, typed_class}
+use Rattle.es_lowering.specs.TypedStatements.{Declarable as ADeclarable, enum_member, items_of}
+use Rattle.es_syntax.specs.declared.cursor.Siblings.{Siblings}
 use Rattle.es_syntax.specs.Held.{held, valued}
 use Rattle.es_syntax.specs.Roles.{entity_in, ts_type_in}
 use Rattle.es_syntax.specs.Views.{Under, Within}
@@ -24,7 +24,7 @@ use Rattle.es_decl_views.specs.declared.declarable.Declarable.{Declarable}
 use Rattle.es_decl_views.specs.declared.declarable.Declarable.TheVariants as view
 
 -- the alternatives
-abbrev pub declarables : List Label
+abbrev pub declarables : List NodeKind
 declarables =
     l.TypedFunction ∷ l.TypedAsyncFunction ∷ l.TypedClass ∷ l.AbstractClass ∷ l.InterfaceDeclaration ∷
     l.AliasDeclaration ∷ l.EnumDeclaration ∷ l.NamespaceDeclaration ∷ l.ModuleDeclaration ∷ l.GlobalDeclaration ∷ []
@@ -89,7 +89,7 @@ the_declarable x ts r (view.Global items) = global_of (held x ts items.entries.n
 the_declarable x ts r view.Broken = None
 
 -- the parts take fewer entries
-abbrev pub IsBelow : Row → Declarable → Type 0
+abbrev pub IsBelow : Siblings → Declarable → Type 0
 IsBelow n (view.Function is_async parts) = Within parts n
 IsBelow n (view.Class is_abstract parts) = Within parts n
 IsBelow n (view.Interface name type_params extends members) =

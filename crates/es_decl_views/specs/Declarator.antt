@@ -2,19 +2,19 @@
 use Rattle.std.specs.Prelude.{ℕ, Bool, false, List, [], ◌∷◌, Option, Some, None, option_map}
 use Rattle.base.specs.declared.range.Range.{Range}
 use Rattle.es_token.specs.declared.token.Token.{Token}
-use Rattle.es_whole_grammar.specs.declared.rows.Label.{Label}
-use Rattle.es_whole_grammar.specs.declared.rows.Label.TheVariants as l
+use Rattle.es_grammar.specs.declared.rows.NodeKind.{NodeKind}
+use Rattle.es_grammar.specs.declared.rows.NodeKind.TheVariants as l
 use Rattle.ts_ast.specs.declared.ts.TsPart.TheVariants as vPart
 use Rattle.es_ast.specs.declared.ast.Expr.{Expr}
 use Rattle.es_ast.specs.declared.ast.Pat.{Pat}
 use Rattle.es_ast.specs.declared.ast.VarDeclarator.{VarDeclarator, roll-VarDeclarator}
-use Rattle.es_dress.specs.Value.{Value, given, optional, expr_at, type_at, first_of, behind}
-use Rattle.es_dress.specs.Statements.{declarator_of}
-use Rattle.es_dress.specs.TypedParts.{marked_by}
-use Rattle.es_dress.specs.Texts.{span_of}
-use Rattle.es_dress.specs.TypeNames.{behind_in}
+use Rattle.es_lowering.specs.Value.{Value, given, optional, expr_at, type_at, first_of, behind}
+use Rattle.es_lowering.specs.Statements.{declarator_of}
+use Rattle.es_lowering.specs.TypedParts.{marked_by}
+use Rattle.es_lowering.specs.Texts.{span_of}
+use Rattle.es_lowering.specs.TypeNames.{behind_in}
 use Rattle.ts_ast.specs.declared.ts.TsPart.{TsPart}
-use Rattle.es_syntax.specs.declared.cursor.Row.{Row}
+use Rattle.es_syntax.specs.declared.cursor.Siblings.{Siblings}
 use Rattle.es_syntax.specs.Held.{held, valued}
 use Rattle.es_syntax.specs.Roles.{expr_in, marked_in, pat_in}
 use Rattle.es_syntax.specs.Views.{Under, Within}
@@ -22,7 +22,7 @@ use Rattle.es_decl_views.specs.declared.declarator.Declarator.{Declarator}
 use Rattle.es_decl_views.specs.declared.declarator.Declarator.TheVariants as view
 
 -- the alternatives
-abbrev pub declarators : List Label
+abbrev pub declarators : List NodeKind
 declarators =
     l.Declarator ∷ l.TypedDeclarator ∷ l.NamePattern ∷ l.ArrayPattern ∷ l.ObjectPattern ∷ l.RestPattern ∷
     l.DefaultPattern ∷ []
@@ -55,7 +55,7 @@ the_declarator x ts r (view.Pattern node) = option_map (declarator_of r None) (p
 the_declarator x ts r view.Broken = None
 
 -- the parts take fewer entries
-abbrev pub IsBelow : Row → Declarator → Type 0
+abbrev pub IsBelow : Siblings → Declarator → Type 0
 IsBelow n (view.Assigned name value) = Under name n × Under value n
 IsBelow n (view.Typed name definite ty value) = Under name n × Within ty n × Within value n
 IsBelow n (view.Pattern node) = Within node.parts n

@@ -2,21 +2,21 @@
 use Rattle.std.specs.Prelude.{ℕ, Bool, false, List, [], ◌∷◌, Option, Some, None, option_map, slice_get}
 use Rattle.base.specs.declared.range.Range.{Range}
 use Rattle.es_token.specs.declared.token.Token.{Token}
-use Rattle.es_whole_grammar.specs.declared.rows.Label.{Label}
-use Rattle.es_whole_grammar.specs.declared.rows.Label.TheVariants as l
+use Rattle.es_grammar.specs.declared.rows.NodeKind.{NodeKind}
+use Rattle.es_grammar.specs.declared.rows.NodeKind.TheVariants as l
 use Rattle.ts_ast.specs.declared.ts.TsPart.TheVariants as vPart
 use Rattle.ts_ast.specs.declared.ts.TsPart.{TsPart}
 use Rattle.es_ast.specs.declared.ast.Pat.{Pat}
 use Rattle.es_ast.specs.declared.ast.Expr.{Expr}
-use Rattle.es_dress.specs.Value.{Value, given, optional, first_of, behind, type_at}
-use Rattle.es_dress.specs.Texts.{span_of}
-use Rattle.es_dress.specs.Operators.{listed, variable_kinds}
-use Rattle.es_dress.specs.Patterns.{ident_pat}
-use Rattle.es_dress.specs.Statements.{Head as AHead, using_kind}
-use Rattle.es_dress.specs.TypedParts.{marked_by}
-use Rattle.es_dress.specs.TypeNames.{behind_in}
+use Rattle.es_lowering.specs.Value.{Value, given, optional, first_of, behind, type_at}
+use Rattle.es_lowering.specs.Texts.{span_of}
+use Rattle.es_lowering.specs.Operators.{listed, variable_kinds}
+use Rattle.es_lowering.specs.Patterns.{ident_pat}
+use Rattle.es_lowering.specs.Statements.{Head as AHead, using_kind}
+use Rattle.es_lowering.specs.TypedParts.{marked_by}
+use Rattle.es_lowering.specs.TypeNames.{behind_in}
 use Rattle.es_ast.specs.declared.ast.Pat.TheVariants as vPat
-use Rattle.es_syntax.specs.declared.cursor.Row.{Row}
+use Rattle.es_syntax.specs.declared.cursor.Siblings.{Siblings}
 use Rattle.es_syntax.specs.Held.{held, valued}
 use Rattle.es_syntax.specs.Roles.{expr_in, marked_in, pat_in}
 use Rattle.es_syntax.specs.Views.{Under, Within}
@@ -24,7 +24,7 @@ use Rattle.es_decl_views.specs.declared.head.Head.{Head}
 use Rattle.es_decl_views.specs.declared.head.Head.TheVariants as view
 
 -- the alternatives
-abbrev pub heads : List Label
+abbrev pub heads : List NodeKind
 heads =
     l.VariableHead ∷ l.UsingHead ∷ l.TypedVariableHead ∷ l.NamePattern ∷ l.ArrayPattern ∷ l.ObjectPattern ∷
     l.RestPattern ∷ l.DefaultPattern ∷ []
@@ -66,7 +66,7 @@ the_head x ts (view.Pattern node) = option_map (λ target. (None, target)) (pat_
 the_head x ts view.Broken = None
 
 -- the parts take fewer entries
-abbrev pub IsBelow : Row → Head → Type 0
+abbrev pub IsBelow : Siblings → Head → Type 0
 IsBelow n (view.Variable word name) = Under name n
 IsBelow n (view.Using is_await name) = Unit {0}
 IsBelow n (view.Typed word name ty) = Under name n × Within ty n

@@ -1,13 +1,13 @@
 -- What a view of variables tells.
 use Rattle.std.specs.Prelude.{ℕ, Bool, List, [], ◌∷◌, Option, Some, None, option_map, slice_get}
 use Rattle.es_token.specs.declared.token.Token.{Token}
-use Rattle.es_whole_grammar.specs.declared.rows.Label.{Label}
-use Rattle.es_whole_grammar.specs.declared.rows.Label.TheVariants as l
+use Rattle.es_grammar.specs.declared.rows.NodeKind.{NodeKind}
+use Rattle.es_grammar.specs.declared.rows.NodeKind.TheVariants as l
 use Rattle.es_ast.specs.declared.ast.VarDeclarator.{VarDeclarator}
-use Rattle.es_dress.specs.Value.{Value, given, turns, declarator_at}
-use Rattle.es_dress.specs.Operators.{listed, variable_kinds}
-use Rattle.es_dress.specs.Statements.{Variables as AVariables, using_kind}
-use Rattle.es_syntax.specs.declared.cursor.Row.{Row}
+use Rattle.es_lowering.specs.Value.{Value, given, turns, declarator_at}
+use Rattle.es_lowering.specs.Operators.{listed, variable_kinds}
+use Rattle.es_lowering.specs.Statements.{Variables as AVariables, using_kind}
+use Rattle.es_syntax.specs.declared.cursor.Siblings.{Siblings}
 use Rattle.es_syntax.specs.Held.{held, valued}
 use Rattle.es_syntax.specs.Roles.{declarator_in}
 use Rattle.es_syntax.specs.Views.{Under, Within}
@@ -15,7 +15,7 @@ use Rattle.es_decl_views.specs.declared.variables.Variables.{Variables}
 use Rattle.es_decl_views.specs.declared.variables.Variables.TheVariants as view
 
 -- the alternatives
-abbrev pub variable_labels : List Label
+abbrev pub variable_labels : List NodeKind
 variable_labels = l.Variables ∷ l.Using ∷ []
 
 -- ---- each form, of what its parts are
@@ -41,7 +41,7 @@ the_variables x ts (view.Using is_await first others) =
 the_variables x ts view.Broken = None
 
 -- the parts take fewer entries
-abbrev pub IsBelow : Row → Variables → Type 0
+abbrev pub IsBelow : Siblings → Variables → Type 0
 IsBelow n (view.Var word first others) = Under first n × Within others n
 IsBelow n (view.Using is_await first others) = Under first n × Within others n
 IsBelow n view.Broken = Unit {0}

@@ -3,17 +3,17 @@
 ghost use Rattle.std.specs.Prelude.{◌≡◌, ℕ, List, option_map, IfSome, IfNone};
 ghost use Rattle.base.specs.declared.range.Range.{Range};
 ghost use Rattle.es_token.specs.declared.token.Token.{Token as Tok};
-ghost use Rattle.es_dress.specs.Statements.{variable_declaration, variables, using_};
-ghost use Rattle.es_dress.specs.TypedStatements.{declared, declared_variables};
-ghost use Rattle.es_dress.specs.Statements.{decl_of};
-ghost use Rattle.es_dress.specs.Texts.{span_of};
+ghost use Rattle.es_lowering.specs.Statements.{variable_declaration, variables, using_};
+ghost use Rattle.es_lowering.specs.TypedStatements.{declared, declared_variables};
+ghost use Rattle.es_lowering.specs.Statements.{decl_of};
+ghost use Rattle.es_lowering.specs.Texts.{span_of};
 ghost use Rattle.es_syntax.specs.Held.{held, valued};
 ghost use Rattle.es_syntax.specs.Roles.{decl_in};
 ghost use Rattle.es_syntax.specs.Views.{IsNone};
 ghost use Rattle.es_decl_views.specs.Decl.{declarations, the_decl, IsBelow};
 
-use es_syntax::{Item, Row, What};
-use es_whole_grammar::Label;
+use es_grammar::NodeKind;
+use es_syntax::{Item, Siblings, What};
 
 /// A declaration, with its parts where they stand. Numbers are those of tokens.
 #[derive(Clone, Copy)]
@@ -21,23 +21,23 @@ pub enum Decl<'a> {
     /// `function a(b) {}`, behind `async` or not: its parts.
     Function {
         is_async: bool,
-        parts: Row<'a>,
+        parts: Siblings<'a>,
     },
     /// `class a {}`: its parts.
-    Class(Row<'a>),
+    Class(Siblings<'a>),
     /// `var a;`: the variables before the end.
     Variables(Item<'a>),
     /// `var a = b, c`: the first declarator, and turns of the others.
     Var {
         word: u32,
         first: Item<'a>,
-        others: Row<'a>,
+        others: Siblings<'a>,
     },
     /// `using a = b`, behind `await` or not.
     Using {
         is_await: bool,
         first: Item<'a>,
-        others: Row<'a>,
+        others: Siblings<'a>,
     },
     /// `declare` before a declaration.
     Declared(Item<'a>),
@@ -50,8 +50,8 @@ pub enum Decl<'a> {
 }
 
 /// `var a;`: the variables before the end.
-#[tactic(auto, unfolding(es_dress::specs::Statements::variable_declaration, crate::specs::Decl::var_decl))]
-fn variable_declaration<'a>(parts: &Row<'a>) -> Decl<'a>
+#[tactic(auto, unfolding(es_lowering::specs::Statements::variable_declaration, crate::specs::Decl::var_decl))]
+fn variable_declaration<'a>(parts: &Siblings<'a>) -> Decl<'a>
     ensures form { (x : List ℕ) (ts : List Tok) (r : Range) → variable_declaration r (held x ts parts.now.entries.now) ≡ the_decl x ts r result }
     ensures below { IsBelow parts.now result }
 {
@@ -62,8 +62,8 @@ fn variable_declaration<'a>(parts: &Row<'a>) -> Decl<'a>
 }
 
 /// `var a = b, c`: the first declarator, and turns of the others.
-#[tactic(auto, unfolding(es_dress::specs::Statements::variables, crate::specs::Decl::var_of))]
-fn variables<'a>(parts: &Row<'a>) -> Decl<'a>
+#[tactic(auto, unfolding(es_lowering::specs::Statements::variables, crate::specs::Decl::var_of))]
+fn variables<'a>(parts: &Siblings<'a>) -> Decl<'a>
     ensures form { (x : List ℕ) (ts : List Tok) (r : Range) → option_map (decl_of r) (variables ts (held x ts parts.now.entries.now)) ≡ the_decl x ts r result }
     ensures below { IsBelow parts.now result }
 {
@@ -81,8 +81,8 @@ fn variables<'a>(parts: &Row<'a>) -> Decl<'a>
 }
 
 /// `using a = b`, behind `await` or not.
-#[tactic(auto, unfolding(es_dress::specs::Statements::using_, crate::specs::Decl::using_of))]
-fn using_<'a>(parts: &Row<'a>) -> Decl<'a>
+#[tactic(auto, unfolding(es_lowering::specs::Statements::using_, crate::specs::Decl::using_of))]
+fn using_<'a>(parts: &Siblings<'a>) -> Decl<'a>
     ensures form { (x : List ℕ) (ts : List Tok) (r : Range) → option_map (decl_of r) (using_ (held x ts parts.now.entries.now)) ≡ the_decl x ts r result }
     ensures below { IsBelow parts.now result }
 {
@@ -97,8 +97,8 @@ fn using_<'a>(parts: &Row<'a>) -> Decl<'a>
 }
 
 /// `declare` before a declaration.
-#[tactic(auto, unfolding(es_dress::specs::TypedStatements::declared, crate::specs::Decl::declared))]
-fn declared<'a>(parts: &Row<'a>) -> Decl<'a>
+#[tactic(auto, unfolding(es_lowering::specs::TypedStatements::declared, crate::specs::Decl::declared))]
+fn declared<'a>(parts: &Siblings<'a>) -> Decl<'a>
     ensures form { (x : List ℕ) (ts : List Tok) (r : Range) → declared r (held x ts parts.now.entries.now) ≡ the_decl x ts r result }
     ensures below { IsBelow parts.now result }
 {
@@ -109,8 +109,8 @@ fn declared<'a>(parts: &Row<'a>) -> Decl<'a>
 }
 
 /// `declare` before variables.
-#[tactic(auto, unfolding(es_dress::specs::TypedStatements::declared_variables, crate::specs::Decl::declared_variables))]
-fn declared_variables<'a>(parts: &Row<'a>) -> Decl<'a>
+#[tactic(auto, unfolding(es_lowering::specs::TypedStatements::declared_variables, crate::specs::Decl::declared_variables))]
+fn declared_variables<'a>(parts: &Siblings<'a>) -> Decl<'a>
     ensures form { (x : List ℕ) (ts : List Tok) (r : Range) → declared_variables r (held x ts parts.now.entries.now) ≡ the_decl x ts r result }
     ensures below { IsBelow parts.now result }
 {
@@ -121,7 +121,7 @@ fn declared_variables<'a>(parts: &Row<'a>) -> Decl<'a>
 }
 
 /// What a node is as a declaration; none where it is of another alternative.
-#[tactic(auto, unfolding(es_dress::specs::Dress::build, es_dress::specs::Dress::decl_of))]
+#[tactic(auto, unfolding(es_lowering::specs::Lowering::build, es_lowering::specs::Lowering::decl_of))]
 pub fn decl_at<'a>(node: &Item<'a>) -> Option<Decl<'a>>
     ensures form { (x : List ℕ) (ts : List Tok) → IfSome result (λ view. decl_in (valued x ts node.now) ≡ the_decl x ts (span_of ts node.now.from node.now.to) view) }
     ensures other { IfNone result (IsNone declarations node.now.what) }
@@ -129,31 +129,31 @@ pub fn decl_at<'a>(node: &Item<'a>) -> Option<Decl<'a>>
 {
     match node.what {
         What::Node(label) => match label {
-            Label::Function => Some(Decl::Function {
+            NodeKind::Function => Some(Decl::Function {
                 is_async: false,
                 parts: node.parts,
             }),
-            Label::AsyncFunction => Some(Decl::Function {
+            NodeKind::AsyncFunction => Some(Decl::Function {
                 is_async: true,
                 parts: node.parts,
             }),
-            Label::Class => Some(Decl::Class(node.parts)),
-            Label::VariableDeclaration => Some(variable_declaration(&node.parts)),
-            Label::UsingDeclaration => Some(variable_declaration(&node.parts)),
-            Label::Variables => Some(variables(&node.parts)),
-            Label::Using => Some(using_(&node.parts)),
-            Label::Declared => Some(declared(&node.parts)),
-            Label::DeclaredVariables => Some(declared_variables(&node.parts)),
-            Label::TypedFunction => Some(Decl::Declarable(*node)),
-            Label::TypedAsyncFunction => Some(Decl::Declarable(*node)),
-            Label::TypedClass => Some(Decl::Declarable(*node)),
-            Label::AbstractClass => Some(Decl::Declarable(*node)),
-            Label::InterfaceDeclaration => Some(Decl::Declarable(*node)),
-            Label::AliasDeclaration => Some(Decl::Declarable(*node)),
-            Label::EnumDeclaration => Some(Decl::Declarable(*node)),
-            Label::NamespaceDeclaration => Some(Decl::Declarable(*node)),
-            Label::ModuleDeclaration => Some(Decl::Declarable(*node)),
-            Label::GlobalDeclaration => Some(Decl::Declarable(*node)),
+            NodeKind::Class => Some(Decl::Class(node.parts)),
+            NodeKind::VariableDeclaration => Some(variable_declaration(&node.parts)),
+            NodeKind::UsingDeclaration => Some(variable_declaration(&node.parts)),
+            NodeKind::Variables => Some(variables(&node.parts)),
+            NodeKind::Using => Some(using_(&node.parts)),
+            NodeKind::Declared => Some(declared(&node.parts)),
+            NodeKind::DeclaredVariables => Some(declared_variables(&node.parts)),
+            NodeKind::TypedFunction => Some(Decl::Declarable(*node)),
+            NodeKind::TypedAsyncFunction => Some(Decl::Declarable(*node)),
+            NodeKind::TypedClass => Some(Decl::Declarable(*node)),
+            NodeKind::AbstractClass => Some(Decl::Declarable(*node)),
+            NodeKind::InterfaceDeclaration => Some(Decl::Declarable(*node)),
+            NodeKind::AliasDeclaration => Some(Decl::Declarable(*node)),
+            NodeKind::EnumDeclaration => Some(Decl::Declarable(*node)),
+            NodeKind::NamespaceDeclaration => Some(Decl::Declarable(*node)),
+            NodeKind::ModuleDeclaration => Some(Decl::Declarable(*node)),
+            NodeKind::GlobalDeclaration => Some(Decl::Declarable(*node)),
             _ => None,
         },
         What::Leaf => None,

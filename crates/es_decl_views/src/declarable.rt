@@ -3,15 +3,15 @@
 ghost use Rattle.std.specs.Prelude.{◌≡◌, ℕ, List, IfSome, IfNone};
 ghost use Rattle.base.specs.declared.range.Range.{Range};
 ghost use Rattle.es_token.specs.declared.token.Token.{Token as Tok};
-ghost use Rattle.es_dress.specs.TypedStatements.{interface, alias, enum_, namespace, module_namespace, global};
-ghost use Rattle.es_dress.specs.Texts.{span_of};
+ghost use Rattle.es_lowering.specs.TypedStatements.{interface, alias, enum_, namespace, module_namespace, global};
+ghost use Rattle.es_lowering.specs.Texts.{span_of};
 ghost use Rattle.es_syntax.specs.Held.{held, valued};
 ghost use Rattle.es_syntax.specs.Roles.{declarable_in};
 ghost use Rattle.es_syntax.specs.Views.{IsNone};
 ghost use Rattle.es_decl_views.specs.Declarable.{declarables, the_declarable, IsBelow};
 
-use es_syntax::{Item, Row, What};
-use es_whole_grammar::Label;
+use es_grammar::NodeKind;
+use es_syntax::{Item, Siblings, What};
 
 /// A declaration that may stand behind `declare`, with its parts where they stand. Numbers are those of tokens.
 #[derive(Clone, Copy)]
@@ -19,52 +19,52 @@ pub enum Declarable<'a> {
     /// A function of TypeScript, behind `async` or not: its parts.
     Function {
         is_async: bool,
-        parts: Row<'a>,
+        parts: Siblings<'a>,
     },
     /// A class of TypeScript, behind `abstract` or not: its parts.
     Class {
         is_abstract: bool,
-        parts: Row<'a>,
+        parts: Siblings<'a>,
     },
     /// `interface a<T> extends b {}`: its members as turns.
     Interface {
         name: u32,
-        type_params: Row<'a>,
-        extends: Row<'a>,
-        members: Row<'a>,
+        type_params: Siblings<'a>,
+        extends: Siblings<'a>,
+        members: Siblings<'a>,
     },
     /// `type a<T> = b`
     Alias {
         name: u32,
-        type_params: Row<'a>,
+        type_params: Siblings<'a>,
         ty: Item<'a>,
     },
     /// `enum a {}`, behind `const` or not: its members as turns.
     Enum {
         is_const: bool,
         name: u32,
-        members: Row<'a>,
+        members: Siblings<'a>,
     },
     /// `namespace a.b {}`, `module a {}`: the word, the name, its items as turns.
     Namespace {
         word: u32,
         name: Item<'a>,
-        items: Row<'a>,
+        items: Siblings<'a>,
     },
     /// `module "a" {}`: its items as turns; without braces it has none.
     Module {
         name: Item<'a>,
-        items: Row<'a>,
+        items: Siblings<'a>,
     },
     /// `global {}`: its items as turns.
-    Global(Row<'a>),
+    Global(Siblings<'a>),
     /// A part is not there.
     Broken,
 }
 
 /// `interface a<T> extends b {}`: its members as turns.
-#[tactic(auto, unfolding(es_dress::specs::TypedStatements::interface, crate::specs::Declarable::interface_of))]
-fn interface<'a>(parts: &Row<'a>) -> Declarable<'a>
+#[tactic(auto, unfolding(es_lowering::specs::TypedStatements::interface, crate::specs::Declarable::interface_of))]
+fn interface<'a>(parts: &Siblings<'a>) -> Declarable<'a>
     ensures form { (x : List ℕ) (ts : List Tok) (r : Range) → interface x ts (held x ts parts.now.entries.now) ≡ the_declarable x ts r result }
     ensures below { IsBelow parts.now result }
 {
@@ -80,8 +80,8 @@ fn interface<'a>(parts: &Row<'a>) -> Declarable<'a>
 }
 
 /// `type a<T> = b`
-#[tactic(auto, unfolding(es_dress::specs::TypedStatements::alias, crate::specs::Declarable::alias_of))]
-fn alias<'a>(parts: &Row<'a>) -> Declarable<'a>
+#[tactic(auto, unfolding(es_lowering::specs::TypedStatements::alias, crate::specs::Declarable::alias_of))]
+fn alias<'a>(parts: &Siblings<'a>) -> Declarable<'a>
     ensures form { (x : List ℕ) (ts : List Tok) (r : Range) → alias x ts (held x ts parts.now.entries.now) ≡ the_declarable x ts r result }
     ensures below { IsBelow parts.now result }
 {
@@ -99,8 +99,8 @@ fn alias<'a>(parts: &Row<'a>) -> Declarable<'a>
 }
 
 /// `enum a {}`, behind `const` or not: its members as turns.
-#[tactic(auto, unfolding(es_dress::specs::TypedStatements::enum_, crate::specs::Declarable::enum_of))]
-fn enum_<'a>(parts: &Row<'a>) -> Declarable<'a>
+#[tactic(auto, unfolding(es_lowering::specs::TypedStatements::enum_, crate::specs::Declarable::enum_of))]
+fn enum_<'a>(parts: &Siblings<'a>) -> Declarable<'a>
     ensures form { (x : List ℕ) (ts : List Tok) (r : Range) → enum_ x ts (held x ts parts.now.entries.now) ≡ the_declarable x ts r result }
     ensures below { IsBelow parts.now result }
 {
@@ -115,8 +115,8 @@ fn enum_<'a>(parts: &Row<'a>) -> Declarable<'a>
 }
 
 /// `namespace a.b {}`, `module a {}`: the word, the name, its items as turns.
-#[tactic(auto, unfolding(es_dress::specs::TypedStatements::namespace, crate::specs::Declarable::namespace_of))]
-fn namespace<'a>(parts: &Row<'a>) -> Declarable<'a>
+#[tactic(auto, unfolding(es_lowering::specs::TypedStatements::namespace, crate::specs::Declarable::namespace_of))]
+fn namespace<'a>(parts: &Siblings<'a>) -> Declarable<'a>
     ensures form { (x : List ℕ) (ts : List Tok) (r : Range) → namespace ts (held x ts parts.now.entries.now) ≡ the_declarable x ts r result }
     ensures below { IsBelow parts.now result }
 {
@@ -134,8 +134,8 @@ fn namespace<'a>(parts: &Row<'a>) -> Declarable<'a>
 }
 
 /// `module "a" {}`: its items as turns; without braces it has none.
-#[tactic(auto, unfolding(es_dress::specs::TypedStatements::module_namespace, crate::specs::Declarable::module_of))]
-fn module_namespace<'a>(parts: &Row<'a>) -> Declarable<'a>
+#[tactic(auto, unfolding(es_lowering::specs::TypedStatements::module_namespace, crate::specs::Declarable::module_of))]
+fn module_namespace<'a>(parts: &Siblings<'a>) -> Declarable<'a>
     ensures form { (x : List ℕ) (ts : List Tok) (r : Range) → module_namespace x ts (held x ts parts.now.entries.now) ≡ the_declarable x ts r result }
     ensures below { IsBelow parts.now result }
 {
@@ -149,8 +149,8 @@ fn module_namespace<'a>(parts: &Row<'a>) -> Declarable<'a>
 }
 
 /// `global {}`: its items as turns.
-#[tactic(auto, unfolding(es_dress::specs::TypedStatements::global, crate::specs::Declarable::global_of))]
-fn global<'a>(parts: &Row<'a>) -> Declarable<'a>
+#[tactic(auto, unfolding(es_lowering::specs::TypedStatements::global, crate::specs::Declarable::global_of))]
+fn global<'a>(parts: &Siblings<'a>) -> Declarable<'a>
     ensures form { (x : List ℕ) (ts : List Tok) (r : Range) → global (held x ts parts.now.entries.now) ≡ the_declarable x ts r result }
     ensures below { IsBelow parts.now result }
 {
@@ -158,7 +158,7 @@ fn global<'a>(parts: &Row<'a>) -> Declarable<'a>
 }
 
 /// What a node is as a declaration that may stand behind `declare`; none where it is of another alternative.
-#[tactic(auto, unfolding(es_dress::specs::Dress::build, es_dress::specs::Dress::declarable_of))]
+#[tactic(auto, unfolding(es_lowering::specs::Lowering::build, es_lowering::specs::Lowering::declarable_of))]
 pub fn declarable_at<'a>(node: &Item<'a>) -> Option<Declarable<'a>>
     ensures form { (x : List ℕ) (ts : List Tok) → IfSome result (λ view. declarable_in (valued x ts node.now) ≡ the_declarable x ts (span_of ts node.now.from node.now.to) view) }
     ensures other { IfNone result (IsNone declarables node.now.what) }
@@ -166,28 +166,28 @@ pub fn declarable_at<'a>(node: &Item<'a>) -> Option<Declarable<'a>>
 {
     match node.what {
         What::Node(label) => match label {
-            Label::TypedFunction => Some(Declarable::Function {
+            NodeKind::TypedFunction => Some(Declarable::Function {
                 is_async: false,
                 parts: node.parts,
             }),
-            Label::TypedAsyncFunction => Some(Declarable::Function {
+            NodeKind::TypedAsyncFunction => Some(Declarable::Function {
                 is_async: true,
                 parts: node.parts,
             }),
-            Label::TypedClass => Some(Declarable::Class {
+            NodeKind::TypedClass => Some(Declarable::Class {
                 is_abstract: false,
                 parts: node.parts,
             }),
-            Label::AbstractClass => Some(Declarable::Class {
+            NodeKind::AbstractClass => Some(Declarable::Class {
                 is_abstract: true,
                 parts: node.parts,
             }),
-            Label::InterfaceDeclaration => Some(interface(&node.parts)),
-            Label::AliasDeclaration => Some(alias(&node.parts)),
-            Label::EnumDeclaration => Some(enum_(&node.parts)),
-            Label::NamespaceDeclaration => Some(namespace(&node.parts)),
-            Label::ModuleDeclaration => Some(module_namespace(&node.parts)),
-            Label::GlobalDeclaration => Some(global(&node.parts)),
+            NodeKind::InterfaceDeclaration => Some(interface(&node.parts)),
+            NodeKind::AliasDeclaration => Some(alias(&node.parts)),
+            NodeKind::EnumDeclaration => Some(enum_(&node.parts)),
+            NodeKind::NamespaceDeclaration => Some(namespace(&node.parts)),
+            NodeKind::ModuleDeclaration => Some(module_namespace(&node.parts)),
+            NodeKind::GlobalDeclaration => Some(global(&node.parts)),
             _ => None,
         },
         What::Leaf => None,

@@ -3,16 +3,16 @@
 ghost use Rattle.std.specs.Prelude.{◌≡◌, ℕ, List, IfSome, IfNone};
 ghost use Rattle.base.specs.declared.range.Range.{Range};
 ghost use Rattle.es_token.specs.declared.token.Token.{Token as Tok};
-ghost use Rattle.es_dress.specs.Statements.{declarator};
-ghost use Rattle.es_dress.specs.TypedStatements.{typed_declarator};
-ghost use Rattle.es_dress.specs.Texts.{span_of};
+ghost use Rattle.es_lowering.specs.Statements.{declarator};
+ghost use Rattle.es_lowering.specs.TypedStatements.{typed_declarator};
+ghost use Rattle.es_lowering.specs.Texts.{span_of};
 ghost use Rattle.es_syntax.specs.Held.{held, valued};
 ghost use Rattle.es_syntax.specs.Roles.{declarator_in};
 ghost use Rattle.es_syntax.specs.Views.{IsNone};
 ghost use Rattle.es_decl_views.specs.Declarator.{declarators, the_declarator, IsBelow};
 
-use es_syntax::{Item, Row, What};
-use es_whole_grammar::Label;
+use es_grammar::NodeKind;
+use es_syntax::{Item, Siblings, What};
 
 /// A declarator, with its parts where they stand.
 #[derive(Clone, Copy)]
@@ -26,8 +26,8 @@ pub enum Declarator<'a> {
     Typed {
         name: Item<'a>,
         definite: bool,
-        ty: Row<'a>,
-        value: Row<'a>,
+        ty: Siblings<'a>,
+        value: Siblings<'a>,
     },
     /// A pattern alone: the node itself.
     Pattern(Item<'a>),
@@ -36,8 +36,8 @@ pub enum Declarator<'a> {
 }
 
 /// `a = b`
-#[tactic(auto, unfolding(es_dress::specs::Statements::declarator, crate::specs::Declarator::assigned))]
-fn assigned<'a>(parts: &Row<'a>) -> Declarator<'a>
+#[tactic(auto, unfolding(es_lowering::specs::Statements::declarator, crate::specs::Declarator::assigned))]
+fn assigned<'a>(parts: &Siblings<'a>) -> Declarator<'a>
     ensures form { (x : List ℕ) (ts : List Tok) (r : Range) → declarator r (held x ts parts.now.entries.now) ≡ the_declarator x ts r result }
     ensures below { IsBelow parts.now result }
 {
@@ -51,8 +51,8 @@ fn assigned<'a>(parts: &Row<'a>) -> Declarator<'a>
 }
 
 /// `a!: T = b`: whether `!` stands there; the type and the value may be absent.
-#[tactic(auto, unfolding(es_dress::specs::TypedStatements::typed_declarator, crate::specs::Declarator::typed))]
-fn typed_declarator<'a>(parts: &Row<'a>) -> Declarator<'a>
+#[tactic(auto, unfolding(es_lowering::specs::TypedStatements::typed_declarator, crate::specs::Declarator::typed))]
+fn typed_declarator<'a>(parts: &Siblings<'a>) -> Declarator<'a>
     ensures form { (x : List ℕ) (ts : List Tok) (r : Range) → typed_declarator ts r (held x ts parts.now.entries.now) ≡ the_declarator x ts r result }
     ensures below { IsBelow parts.now result }
 {
@@ -68,7 +68,7 @@ fn typed_declarator<'a>(parts: &Row<'a>) -> Declarator<'a>
 }
 
 /// What a node is as a declarator; none where it is of another alternative.
-#[tactic(auto, unfolding(es_dress::specs::Dress::build, es_dress::specs::Dress::declarator_of, es_dress::specs::Dress::pat_of))]
+#[tactic(auto, unfolding(es_lowering::specs::Lowering::build, es_lowering::specs::Lowering::declarator_of, es_lowering::specs::Lowering::pat_of))]
 pub fn declarator_at<'a>(node: &Item<'a>) -> Option<Declarator<'a>>
     ensures form { (x : List ℕ) (ts : List Tok) → IfSome result (λ view. declarator_in (valued x ts node.now) ≡ the_declarator x ts (span_of ts node.now.from node.now.to) view) }
     ensures other { IfNone result (IsNone declarators node.now.what) }
@@ -76,13 +76,13 @@ pub fn declarator_at<'a>(node: &Item<'a>) -> Option<Declarator<'a>>
 {
     match node.what {
         What::Node(label) => match label {
-            Label::Declarator => Some(assigned(&node.parts)),
-            Label::TypedDeclarator => Some(typed_declarator(&node.parts)),
-            Label::NamePattern => Some(Declarator::Pattern(*node)),
-            Label::ArrayPattern => Some(Declarator::Pattern(*node)),
-            Label::ObjectPattern => Some(Declarator::Pattern(*node)),
-            Label::RestPattern => Some(Declarator::Pattern(*node)),
-            Label::DefaultPattern => Some(Declarator::Pattern(*node)),
+            NodeKind::Declarator => Some(assigned(&node.parts)),
+            NodeKind::TypedDeclarator => Some(typed_declarator(&node.parts)),
+            NodeKind::NamePattern => Some(Declarator::Pattern(*node)),
+            NodeKind::ArrayPattern => Some(Declarator::Pattern(*node)),
+            NodeKind::ObjectPattern => Some(Declarator::Pattern(*node)),
+            NodeKind::RestPattern => Some(Declarator::Pattern(*node)),
+            NodeKind::DefaultPattern => Some(Declarator::Pattern(*node)),
             _ => None,
         },
         What::Leaf => None,

@@ -2,17 +2,17 @@
 
 ghost use Rattle.std.specs.Prelude.{◌≡◌, ℕ, List, IfSome, IfNone};
 ghost use Rattle.es_token.specs.declared.token.Token.{Token as Tok};
-ghost use Rattle.es_dress.specs.Statements.{variable_head, using_head};
-ghost use Rattle.es_dress.specs.TypedStatements.{typed_head};
-ghost use Rattle.es_dress.specs.Value.{part};
-ghost use Rattle.es_dress.specs.Dress.{as_target};
+ghost use Rattle.es_lowering.specs.Statements.{variable_head, using_head};
+ghost use Rattle.es_lowering.specs.TypedStatements.{typed_head};
+ghost use Rattle.es_lowering.specs.Value.{part};
+ghost use Rattle.es_lowering.specs.Lowering.{as_target};
 ghost use Rattle.es_syntax.specs.Held.{held, valued};
 ghost use Rattle.es_syntax.specs.Roles.{head_in};
 ghost use Rattle.es_syntax.specs.Views.{IsNone};
 ghost use Rattle.es_decl_views.specs.Head.{heads, the_head, IsBelow};
 
-use es_syntax::{Item, Row, What};
-use es_whole_grammar::Label;
+use es_grammar::NodeKind;
+use es_syntax::{Item, Siblings, What};
 
 /// What stands in a `for` before `in` or `of`. Numbers are those of tokens.
 #[derive(Clone, Copy)]
@@ -31,7 +31,7 @@ pub enum Head<'a> {
     Typed {
         word: u32,
         name: Item<'a>,
-        ty: Row<'a>,
+        ty: Siblings<'a>,
     },
     /// An expression that is assigned to.
     Target(Item<'a>),
@@ -42,8 +42,8 @@ pub enum Head<'a> {
 }
 
 /// `var a`
-#[tactic(auto, unfolding(es_dress::specs::Statements::variable_head, crate::specs::Head::variable))]
-fn variable_head<'a>(parts: &Row<'a>) -> Head<'a>
+#[tactic(auto, unfolding(es_lowering::specs::Statements::variable_head, crate::specs::Head::variable))]
+fn variable_head<'a>(parts: &Siblings<'a>) -> Head<'a>
     ensures form { (x : List ℕ) (ts : List Tok) → variable_head ts (held x ts parts.now.entries.now) ≡ the_head x ts result }
     ensures below { IsBelow parts.now result }
 {
@@ -57,8 +57,8 @@ fn variable_head<'a>(parts: &Row<'a>) -> Head<'a>
 }
 
 /// `using a`, behind `await` or not.
-#[tactic(auto, unfolding(es_dress::specs::Statements::using_head, crate::specs::Head::using_of))]
-fn using_head<'a>(parts: &Row<'a>) -> Head<'a>
+#[tactic(auto, unfolding(es_lowering::specs::Statements::using_head, crate::specs::Head::using_of))]
+fn using_head<'a>(parts: &Siblings<'a>) -> Head<'a>
     ensures form { (x : List ℕ) (ts : List Tok) → using_head x ts (held x ts parts.now.entries.now) ≡ the_head x ts result }
     ensures below { IsBelow parts.now result }
 {
@@ -72,8 +72,8 @@ fn using_head<'a>(parts: &Row<'a>) -> Head<'a>
 }
 
 /// `var a: T`: the type may be absent.
-#[tactic(auto, unfolding(es_dress::specs::TypedStatements::typed_head, crate::specs::Head::typed))]
-fn typed_head<'a>(parts: &Row<'a>) -> Head<'a>
+#[tactic(auto, unfolding(es_lowering::specs::TypedStatements::typed_head, crate::specs::Head::typed))]
+fn typed_head<'a>(parts: &Siblings<'a>) -> Head<'a>
     ensures form { (x : List ℕ) (ts : List Tok) → typed_head ts (held x ts parts.now.entries.now) ≡ the_head x ts result }
     ensures below { IsBelow parts.now result }
 {
@@ -92,7 +92,7 @@ fn typed_head<'a>(parts: &Row<'a>) -> Head<'a>
 
 /// An expression that is assigned to.
 #[tactic(auto, using(crate::proofs::Targets::head_target), unfolding(crate::specs::Head::target))]
-fn target<'a>(parts: &Row<'a>) -> Head<'a>
+fn target<'a>(parts: &Siblings<'a>) -> Head<'a>
     ensures form { (x : List ℕ) (ts : List Tok) → head_in (as_target x ts (part (held x ts parts.now.entries.now) 0)) ≡ the_head x ts result }
     ensures below { IsBelow parts.now result }
 {
@@ -103,7 +103,7 @@ fn target<'a>(parts: &Row<'a>) -> Head<'a>
 }
 
 /// What a node is as the head of a `for` before `in` or `of`; a target that is no pattern stands in another role; none where it is of another alternative.
-#[tactic(auto, unfolding(es_dress::specs::Dress::build, es_dress::specs::Dress::head_of, es_dress::specs::Dress::pat_of))]
+#[tactic(auto, unfolding(es_lowering::specs::Lowering::build, es_lowering::specs::Lowering::head_of, es_lowering::specs::Lowering::pat_of))]
 pub fn head_at<'a>(node: &Item<'a>) -> Option<Head<'a>>
     ensures form { (x : List ℕ) (ts : List Tok) → IfSome result (λ view. head_in (valued x ts node.now) ≡ the_head x ts view) }
     ensures other { IfNone result (IsNone heads node.now.what) }
@@ -111,14 +111,14 @@ pub fn head_at<'a>(node: &Item<'a>) -> Option<Head<'a>>
 {
     match node.what {
         What::Node(label) => match label {
-            Label::VariableHead => Some(variable_head(&node.parts)),
-            Label::UsingHead => Some(using_head(&node.parts)),
-            Label::TypedVariableHead => Some(typed_head(&node.parts)),
-            Label::NamePattern => Some(Head::Pattern(*node)),
-            Label::ArrayPattern => Some(Head::Pattern(*node)),
-            Label::ObjectPattern => Some(Head::Pattern(*node)),
-            Label::RestPattern => Some(Head::Pattern(*node)),
-            Label::DefaultPattern => Some(Head::Pattern(*node)),
+            NodeKind::VariableHead => Some(variable_head(&node.parts)),
+            NodeKind::UsingHead => Some(using_head(&node.parts)),
+            NodeKind::TypedVariableHead => Some(typed_head(&node.parts)),
+            NodeKind::NamePattern => Some(Head::Pattern(*node)),
+            NodeKind::ArrayPattern => Some(Head::Pattern(*node)),
+            NodeKind::ObjectPattern => Some(Head::Pattern(*node)),
+            NodeKind::RestPattern => Some(Head::Pattern(*node)),
+            NodeKind::DefaultPattern => Some(Head::Pattern(*node)),
             _ => None,
         },
         What::Leaf => None,

@@ -2,14 +2,14 @@
 
 ghost use Rattle.std.specs.Prelude.{◌≡◌, ℕ, List, IfSome, IfNone};
 ghost use Rattle.es_token.specs.declared.token.Token.{Token as Tok};
-ghost use Rattle.es_dress.specs.Statements.{variables, using_};
+ghost use Rattle.es_lowering.specs.Statements.{variables, using_};
 ghost use Rattle.es_syntax.specs.Held.{held, valued};
 ghost use Rattle.es_syntax.specs.Roles.{variables_in};
 ghost use Rattle.es_syntax.specs.Views.{IsNone};
 ghost use Rattle.es_decl_views.specs.Variables.{variable_labels, the_variables, IsBelow};
 
-use es_syntax::{Item, Row, What};
-use es_whole_grammar::Label;
+use es_grammar::NodeKind;
+use es_syntax::{Item, Siblings, What};
 
 /// Variables: the first declarator, and turns of the others. Numbers are those of tokens.
 #[derive(Clone, Copy)]
@@ -18,21 +18,21 @@ pub enum Variables<'a> {
     Var {
         word: u32,
         first: Item<'a>,
-        others: Row<'a>,
+        others: Siblings<'a>,
     },
     /// `using a = b`, behind `await` or not.
     Using {
         is_await: bool,
         first: Item<'a>,
-        others: Row<'a>,
+        others: Siblings<'a>,
     },
     /// A part is not there.
     Broken,
 }
 
 /// `var a = b, c`
-#[tactic(auto, unfolding(es_dress::specs::Statements::variables, crate::specs::Variables::var_of))]
-fn var<'a>(parts: &Row<'a>) -> Variables<'a>
+#[tactic(auto, unfolding(es_lowering::specs::Statements::variables, crate::specs::Variables::var_of))]
+fn var<'a>(parts: &Siblings<'a>) -> Variables<'a>
     ensures form { (x : List ℕ) (ts : List Tok) → variables ts (held x ts parts.now.entries.now) ≡ the_variables x ts result }
     ensures below { IsBelow parts.now result }
 {
@@ -50,8 +50,8 @@ fn var<'a>(parts: &Row<'a>) -> Variables<'a>
 }
 
 /// `using a = b`, behind `await` or not.
-#[tactic(auto, unfolding(es_dress::specs::Statements::using_, crate::specs::Variables::using_of))]
-fn using_<'a>(parts: &Row<'a>) -> Variables<'a>
+#[tactic(auto, unfolding(es_lowering::specs::Statements::using_, crate::specs::Variables::using_of))]
+fn using_<'a>(parts: &Siblings<'a>) -> Variables<'a>
     ensures form { (x : List ℕ) (ts : List Tok) → using_ (held x ts parts.now.entries.now) ≡ the_variables x ts result }
     ensures below { IsBelow parts.now result }
 {
@@ -66,7 +66,7 @@ fn using_<'a>(parts: &Row<'a>) -> Variables<'a>
 }
 
 /// What a node is as variables; none where it is of another alternative.
-#[tactic(auto, unfolding(es_dress::specs::Dress::build, es_dress::specs::Dress::variables_of))]
+#[tactic(auto, unfolding(es_lowering::specs::Lowering::build, es_lowering::specs::Lowering::variables_of))]
 pub fn variables_at<'a>(node: &Item<'a>) -> Option<Variables<'a>>
     ensures form { (x : List ℕ) (ts : List Tok) → IfSome result (λ view. variables_in (valued x ts node.now) ≡ the_variables x ts view) }
     ensures other { IfNone result (IsNone variable_labels node.now.what) }
@@ -74,8 +74,8 @@ pub fn variables_at<'a>(node: &Item<'a>) -> Option<Variables<'a>>
 {
     match node.what {
         What::Node(label) => match label {
-            Label::Variables => Some(var(&node.parts)),
-            Label::Using => Some(using_(&node.parts)),
+            NodeKind::Variables => Some(var(&node.parts)),
+            NodeKind::Using => Some(using_(&node.parts)),
             _ => None,
         },
         What::Leaf => None,

@@ -9,21 +9,21 @@ use Rattle.es_ast.specs.declared.ast.Expr.{Expr}
 use Rattle.es_ast.specs.declared.ast.Expr.TheVariants as vExpr
 use Rattle.es_ast.specs.declared.ast.Pat.TheVariants as vPat
 use Rattle.es_ast.specs.declared.ast.Stmt.TheVariants as vStmt
-use Rattle.es_whole_grammar.specs.declared.rows.Label.{Label}
-use Rattle.es_whole_grammar.specs.declared.rows.Label.TheVariants as l
-use Rattle.es_dress.specs.Functions as functions
-use Rattle.es_dress.specs.Classes as classes
-use Rattle.es_dress.specs.Statements as stmts
-use Rattle.es_dress.specs.TypedFunctions as typed
-use Rattle.es_dress.specs.Dress.{same_label, expr_of, pat_of, marked_of, variables_of, declarable_of, decl_of, block_of, stmt_of, declarator_of, param_of, head_of, params_of, signature_of, pat_prop_of, key_of, prop_of, member_of, post_of, args_of, module_decl_of, program_of, build, target_of, as_target}
+use Rattle.es_grammar.specs.declared.rows.NodeKind.{NodeKind}
+use Rattle.es_grammar.specs.declared.rows.NodeKind.TheVariants as l
+use Rattle.es_lowering.specs.Functions as functions
+use Rattle.es_lowering.specs.Classes as classes
+use Rattle.es_lowering.specs.Statements as stmts
+use Rattle.es_lowering.specs.TypedFunctions as typed
+use Rattle.es_lowering.specs.Lowering.{same_label, expr_of, pat_of, marked_of, variables_of, declarable_of, decl_of, block_of, stmt_of, declarator_of, param_of, head_of, params_of, signature_of, pat_prop_of, key_of, prop_of, member_of, post_of, args_of, module_decl_of, program_of, build, target_of, as_target}
 use Rattle.es_derived_site_order.proofs.Exprs.{name_on, word_on, number_on, str_on, regexp_on, template_on, template_parts_on, object_literal_on, parenthesized_on, spread_on, await_on, conditional_on, prefix_on, update_prefix_on, update_postfix_on, binary_on, private_in_on, assignment_on, pattern_assignment_on, yield_on, sequence_on, import_call_on, new_on, arguments_on, member_post_on, index_post_on, call_post_on, template_post_on, optional_post_on, chain_on, array_literal_on}
 use Rattle.es_derived_site_order.proofs.Patterns.{param_of_on, name_pattern_on, array_pattern_on, object_pattern_on, rest_pattern_on, default_pattern_on, rest_property_on, key_pattern_on, name_property_on, default_parameter_on, parameters_on, signature_on, function_made_on, name_arrow_on, parenthesized_arrow_on, word_key_on, str_key_on, number_key_on, computed_key_on, private_key_on, spread_property_on, shorthand_on, key_value_on, method_property_on, accessor_property_on, class_made_on, static_block_on, method_member_on, accessor_member_on, field_member_on}
 use Rattle.es_derived_site_order.proofs.Stmts.{bare_declarator_on, decl_made_on, block_on, declarator_on, variables_on, using_on, variable_declaration_on, variable_head_on, using_head_on, for_on, for_each_on, for_await_on, while_on, do_on, expression_statement_on, labelled_on, if_on, continue_on, break_on, return_on, throw_on, switch_on, try_on, with_on}
 use Rattle.es_derived_site_order.proofs.Modules.{item_by_on, bare_import_on, from_import_on, require_import_on, entity_import_on, export_all_on, export_names_on, export_namespace_on, export_default_decl_on, export_default_expression_on, export_declaration_on, module_on, script_on}
 use Rattle.es_derived_site_order.proofs.Typed.{alias_on, declared_on, declared_variables_on, enum_on, export_assignment_on, global_on, index_member_on, interface_on, marked_array_on, marked_name_on, marked_object_on, marked_parameter_on, module_namespace_on, namespace_on, non_null_post_on, property_parameter_on, this_parameter_on, typed_accessor_member_on, typed_accessor_property_on, typed_arrow_on, typed_binary_on, typed_call_post_on, typed_class_on, typed_declarator_on, typed_field_on, typed_function_on, typed_head_on, typed_method_member_on, typed_method_property_on, typed_new_on, typed_optional_post_on, typed_parameters_on, typed_signature_on, typed_template_post_on, typed_try_on}
 use Rattle.es_site.specs.Sites.{sites_of, sites_of_class_member, sites_of_decl, sites_of_expr, sites_of_module_decl, sites_of_object_pat_prop, sites_of_pat, sites_of_prop, sites_of_stmt, sites_of_class, sites_of_function, sites_of_param, sites_of_var_declarator}
-use Rattle.es_dress.specs.Value.{Value, absent, nil, more, token, node, group, is_there}
-use Rattle.es_cuts.proofs.Cuts.{Opt}
+use Rattle.es_lowering.specs.Value.{Value, absent, nil, more, token, node, group, is_there}
+use Rattle.es_site_ranges.proofs.Cuts.{Opt}
 use Rattle.es_derived_site_order.proofs.Given.{map_fine, if_fine}
 use Rattle.es_derived_site_order.proofs.Sites.{Of}
 use Rattle.es_derived_site_order.proofs.Own.{ExprOn}
@@ -35,7 +35,7 @@ none : Range
 none = record { start = 0; end = 0 }
 
 module _ (x : List ℕ) (ts : List Token) (a b : ℕ) where
-  expr_of_law : (label : Label) (from : ℕ) (r : Range) (p : Value) → Stands ts a b p
+  expr_of_law : (label : NodeKind) (from : ℕ) (r : Range) (p : Value) → Stands ts a b p
       → Opt (ExprOn ts a b) (expr_of x ts label from r p)
   unfolding expr_of
   expr_of_law label from r p h =
@@ -102,7 +102,7 @@ module _ (x : List ℕ) (ts : List Token) (a b : ℕ) where
       (λ e. typed_arrow_on x ts a b r p h true)
       (tt)))))))))))))))))))))))))))))))))))))))))))
 
-  pat_of_law : (label : Label) (from : ℕ) (r : Range) (p : Value) → Stands ts a b p
+  pat_of_law : (label : NodeKind) (from : ℕ) (r : Range) (p : Value) → Stands ts a b p
       → Opt (Of sites_of_pat ts a b) (pat_of x ts label from r p)
   unfolding pat_of
   pat_of_law label from r p h =
@@ -114,7 +114,7 @@ module _ (x : List ℕ) (ts : List Token) (a b : ℕ) where
       (if_fine (Of sites_of_pat ts a b) (same_label label l.DefaultPattern) _ _ (λ e. default_pattern_on x ts a b r p h)
       (tt)))))
 
-  variables_of_law : (label : Label) (p : Value) → Stands ts a b p
+  variables_of_law : (label : NodeKind) (p : Value) → Stands ts a b p
       → Opt (Of variables_sites ts a b) (variables_of x ts label p)
   unfolding variables_of
   variables_of_law label p h =
@@ -122,7 +122,7 @@ module _ (x : List ℕ) (ts : List Token) (a b : ℕ) where
       (if_fine (Of variables_sites ts a b) (same_label label l.Using) _ _ (λ e. using_on x ts a b none p h)
       (tt))
 
-  marked_of_law : (label : Label) (from : ℕ) (p : Value) → Stands ts a b p
+  marked_of_law : (label : NodeKind) (from : ℕ) (p : Value) → Stands ts a b p
       → Opt (MarkedOn ts a b) (marked_of x ts label from p)
   unfolding marked_of
   marked_of_law label from p h =
@@ -131,7 +131,7 @@ module _ (x : List ℕ) (ts : List Token) (a b : ℕ) where
       (if_fine (MarkedOn ts a b) (same_label label l.ObjectPattern) _ _ (λ e. marked_object_on x ts a b none p h)
       (tt)))
 
-  signature_of_law : (label : Label) (p : Value) → Stands ts a b p
+  signature_of_law : (label : NodeKind) (p : Value) → Stands ts a b p
       → Opt (Of signature_sites ts a b) (signature_of x ts label p)
   unfolding signature_of
   signature_of_law label p h =
@@ -139,7 +139,7 @@ module _ (x : List ℕ) (ts : List Token) (a b : ℕ) where
       (λ e. typed_signature_on x ts a b none p h)
       (tt)
 
-  declarable_of_law : (label : Label) (r : Range) (p : Value) → Stands ts a b p
+  declarable_of_law : (label : NodeKind) (r : Range) (p : Value) → Stands ts a b p
       → Opt (DeclarableOn ts a b) (declarable_of x ts label r p)
   unfolding declarable_of
   declarable_of_law label r p h =
@@ -164,7 +164,7 @@ module _ (x : List ℕ) (ts : List Token) (a b : ℕ) where
       (if_fine (DeclarableOn ts a b) (same_label label l.GlobalDeclaration) _ _ (λ e. global_on x ts a b r p h)
       (tt))))))))))
 
-  decl_of_law : (label : Label) (r : Range) (p : Value) → Stands ts a b p
+  decl_of_law : (label : NodeKind) (r : Range) (p : Value) → Stands ts a b p
       → Opt (Of sites_of_decl ts a b) (decl_of x ts label r p)
   unfolding decl_of
   decl_of_law label r p h =
@@ -195,14 +195,14 @@ module _ (x : List ℕ) (ts : List Token) (a b : ℕ) where
       (map_fine (DeclarableOn ts a b) (Of sites_of_decl ts a b) (declarable_of x ts label r p) _
       (declarable_of_law label r p h) (λ decl f. f false r))))))))))
 
-  block_of_law : (label : Label) (p : Value) → Stands ts a b p
+  block_of_law : (label : NodeKind) (p : Value) → Stands ts a b p
       → Opt (Of (flat_map sites_of_stmt) ts a b) (block_of x ts label p)
   unfolding block_of
   block_of_law label p h =
       if_fine (Of (flat_map sites_of_stmt) ts a b) (same_label label l.Block) _ _ (λ e. block_on x ts a b none p h)
       (tt)
 
-  stmt_of_law : (label : Label) (r : Range) (p : Value) → Stands ts a b p
+  stmt_of_law : (label : NodeKind) (r : Range) (p : Value) → Stands ts a b p
       → Opt (Of sites_of_stmt ts a b) (stmt_of x ts label r p)
   unfolding stmt_of
   stmt_of_law label r p h =
@@ -235,7 +235,7 @@ module _ (x : List ℕ) (ts : List Token) (a b : ℕ) where
       (decl_of_law label r p h)
       (stmt_Decl_on ts a b))))))))))))))))))))
 
-  declarator_of_law : (label : Label) (from : ℕ) (r : Range) (p : Value) → Stands ts a b p
+  declarator_of_law : (label : NodeKind) (from : ℕ) (r : Range) (p : Value) → Stands ts a b p
       → Opt (Of sites_of_var_declarator ts a b) (declarator_of x ts label from r p)
   unfolding declarator_of
   declarator_of_law label from r p h =
@@ -247,7 +247,7 @@ module _ (x : List ℕ) (ts : List Token) (a b : ℕ) where
       (stmts.declarator_of r None)
       (pat_of_law label from r p h) (bare_declarator_on x ts a b r)))
 
-  param_of_law : (label : Label) (from : ℕ) (r : Range) (p : Value) → Stands ts a b p
+  param_of_law : (label : NodeKind) (from : ℕ) (r : Range) (p : Value) → Stands ts a b p
       → Opt (Of sites_of_param ts a b) (param_of x ts label from r p)
   unfolding param_of
   param_of_law label from r p h =
@@ -261,7 +261,7 @@ module _ (x : List ℕ) (ts : List Token) (a b : ℕ) where
       (map_fine (Of sites_of_pat ts a b) (Of sites_of_param ts a b) (pat_of x ts label from r p) (functions.param_of r)
       (pat_of_law label from r p h) (param_of_on x ts a b r)))))
 
-  head_of_law : (label : Label) (from : ℕ) (r : Range) (p : Value) → Stands ts a b p
+  head_of_law : (label : NodeKind) (from : ℕ) (r : Range) (p : Value) → Stands ts a b p
       → Opt (Of head_sites ts a b) (head_of x ts label from r p)
   unfolding head_of
   head_of_law label from r p h =
@@ -272,7 +272,7 @@ module _ (x : List ℕ) (ts : List Token) (a b : ℕ) where
       (pat_of_law label from r p h)
       (λ target f. f))))
 
-  params_of_law : (label : Label) (p : Value) → Stands ts a b p
+  params_of_law : (label : NodeKind) (p : Value) → Stands ts a b p
       → Opt (Of (flat_map sites_of_param) ts a b) (params_of x ts label p)
   unfolding params_of
   params_of_law label p h =
@@ -284,7 +284,7 @@ module _ (x : List ℕ) (ts : List Token) (a b : ℕ) where
       (λ e. typed_parameters_on x ts a b none p h)
       (tt)))
 
-  pat_prop_of_law : (label : Label) (r : Range) (p : Value) → Stands ts a b p
+  pat_prop_of_law : (label : NodeKind) (r : Range) (p : Value) → Stands ts a b p
       → Opt (Of sites_of_object_pat_prop ts a b) (pat_prop_of x ts label r p)
   unfolding pat_prop_of
   pat_prop_of_law label r p h =
@@ -296,7 +296,7 @@ module _ (x : List ℕ) (ts : List Token) (a b : ℕ) where
       (λ e. name_property_on x ts a b r p h)
       (tt)))
 
-  key_of_law : (label : Label) (p : Value) → Stands ts a b p → Opt (Of key_sites ts a b) (key_of x ts label p)
+  key_of_law : (label : NodeKind) (p : Value) → Stands ts a b p → Opt (Of key_sites ts a b) (key_of x ts label p)
   unfolding key_of
   key_of_law label p h =
       if_fine (Of key_sites ts a b) (same_label label l.WordKey) _ _ (λ e. word_key_on x ts a b none p h)
@@ -306,7 +306,7 @@ module _ (x : List ℕ) (ts : List Token) (a b : ℕ) where
       (if_fine (Of key_sites ts a b) (same_label label l.PrivateKey) _ _ (λ e. private_key_on x ts a b none p h)
       (tt)))))
 
-  prop_of_law : (label : Label) (r : Range) (p : Value) → Stands ts a b p
+  prop_of_law : (label : NodeKind) (r : Range) (p : Value) → Stands ts a b p
       → Opt (Of sites_of_prop ts a b) (prop_of x ts label r p)
   unfolding prop_of
   prop_of_law label r p h =
@@ -331,7 +331,7 @@ module _ (x : List ℕ) (ts : List Token) (a b : ℕ) where
       (λ e. typed_method_property_on x ts a b r p h vMethod.Method false false 0)
       (tt)))))))))))
 
-  member_of_law : (label : Label) (r : Range) (p : Value) → Stands ts a b p
+  member_of_law : (label : NodeKind) (r : Range) (p : Value) → Stands ts a b p
       → Opt (Of sites_of_class_member ts a b) (member_of x ts label r p)
   unfolding member_of
   member_of_law label r p h =
@@ -367,7 +367,8 @@ module _ (x : List ℕ) (ts : List Token) (a b : ℕ) where
       (λ e. index_member_on x ts a b r p h)
       (tt)))))))))))))))
 
-  post_of_law : (label : Label) (r : Range) (p : Value) → Stands ts a b p → Opt (PostOn ts a b) (post_of x ts label r p)
+  post_of_law : (label : NodeKind) (r : Range) (p : Value) → Stands ts a b p
+      → Opt (PostOn ts a b) (post_of x ts label r p)
   unfolding post_of
   post_of_law label r p h =
       if_fine (PostOn ts a b) (same_label label l.MemberPost) _ _ (λ e. member_post_on x ts a b r p h)
@@ -381,7 +382,7 @@ module _ (x : List ℕ) (ts : List Token) (a b : ℕ) where
       (if_fine (PostOn ts a b) (same_label label l.NonNullPost) _ _ (λ e. non_null_post_on x ts a b r p h)
       (tt)))))))))
 
-  args_of_law : (label : Label) (p : Value) → Stands ts a b p
+  args_of_law : (label : NodeKind) (p : Value) → Stands ts a b p
       → Opt (Of (flat_map sites_of_expr) ts a b) (args_of x ts label p)
   unfolding args_of
   args_of_law label p h =
@@ -389,7 +390,7 @@ module _ (x : List ℕ) (ts : List Token) (a b : ℕ) where
       (λ e. arguments_on x ts a b none p h)
       (tt)
 
-  module_decl_of_law : (label : Label) (r : Range) (p : Value) → Stands ts a b p
+  module_decl_of_law : (label : NodeKind) (r : Range) (p : Value) → Stands ts a b p
       → Opt (Of sites_of_module_decl ts a b) (module_decl_of x ts label r p)
   unfolding module_decl_of
   module_decl_of_law label r p h =
@@ -425,7 +426,7 @@ module _ (x : List ℕ) (ts : List Token) (a b : ℕ) where
       (λ e. export_assignment_on x ts a b r p h)
       (tt)))))))))))))))
 
-  program_of_law : (label : Label) (r : Range) (p : Value) → Stands ts a b p
+  program_of_law : (label : NodeKind) (r : Range) (p : Value) → Stands ts a b p
       → Opt (Of sites_of ts a b) (program_of x ts label r p)
   unfolding program_of
   program_of_law label r p h =
@@ -433,7 +434,7 @@ module _ (x : List ℕ) (ts : List Token) (a b : ℕ) where
       (if_fine (Of sites_of ts a b) (same_label label l.Script) _ _ (λ e. script_on x ts a b r p h)
       (tt))
 
-  pub build_on : (label : Label) (from : ℕ) (r : Range) (p : Value) → Stands ts a b p
+  pub build_on : (label : NodeKind) (from : ℕ) (r : Range) (p : Value) → Stands ts a b p
       → TypedOn ts a b (build x ts label from r p)
   unfolding build
   build_on label from r p h = record {

@@ -7,6 +7,7 @@ use Rattle.es_token.specs.declared.token.Token.{Token}
 use Rattle.es_token.specs.declared.token.TokenKind.{TokenKind}
 use Rattle.ts_ast.specs.declared.leaf.Ident.{Ident}
 use Rattle.es_ast.specs.declared.leaf.Lit.TheVariants as vLit
+use Rattle.es_ast.specs.declared.leaf.ImportPhase.TheVariants as vPhase
 use Rattle.es_ast.specs.declared.leaf.AssignOp.TheVariants as vAssign
 use Rattle.es_ast.specs.declared.leaf.BinaryOp.TheVariants as vBinary
 use Rattle.es_ast.specs.declared.ast.Expr.{Expr}
@@ -14,12 +15,12 @@ use Rattle.es_ast.specs.declared.ast.Expr.TheVariants as vExpr
 use Rattle.es_ast.specs.declared.ast.Pat.TheVariants as vPat
 use Rattle.es_token.specs.declared.token.TokenKind.TheVariants as k
 use Rattle.es_tree.specs.Key.{same_kind}
-use Rattle.es_dress.specs.Texts.{span_of, regex_of, token_of, token_at, kind_at, ident_at, private_at, str_at, numeric_of, numeric_at, piece_there, property_of, property_at}
-use Rattle.es_dress.specs.Operators.{listed, unary_ops, update_ops, binary_between, assign_between}
-use Rattle.es_dress.specs.Expressions.{name, word_of, word, number, str, regexp, template, template_parts, element_of, behind_element, elements, array_literal, object_literal, parenthesized, spread, argument_of, argument, arguments, member_of, index_of, call_of, tagged_of, Post, member_post, index_post, call_post, template_post, optional_inner, optional_of, optional_post, chained, chain, import_call, new_of, new_, prefix, await_, update_prefix, update_postfix, binary, private_in, conditional, assignment, pattern_assignment, yield_of, yield_, sequence}
+use Rattle.es_lowering.specs.Texts.{span_of, regex_of, token_of, token_at, kind_at, ident_at, private_at, str_at, numeric_of, numeric_at, piece_there, property_of, property_at}
+use Rattle.es_lowering.specs.Operators.{listed, unary_ops, update_ops, binary_between, assign_between}
+use Rattle.es_lowering.specs.Expressions.{name, word_of, word, number, str, regexp, template, template_parts, element_of, behind_element, elements, array_literal, object_literal, parenthesized, spread, argument_of, argument, arguments, member_of, index_of, call_of, tagged_of, Post, member_post, index_post, call_post, template_post, optional_inner, optional_of, optional_post, chained, chain, import_call, new_of, new_, prefix, await_, update_prefix, update_postfix, binary, private_in, conditional, assignment, pattern_assignment, yield_of, yield_, sequence}
 use Rattle.es_site.specs.Sites.{if_some, Found, sites_of_expr, sites_of_pat, sites_of_prop}
-use Rattle.es_dress.specs.Value.{Typed, Value, absent, nil, more, token, node, given, part, typed, as_group, group, first_of, behind, optional, option_list, is_there, turns, expr_at, pat_at, prop_at, post_at, args_at}
-use Rattle.es_cuts.proofs.Cuts.{Opt}
+use Rattle.es_lowering.specs.Value.{Typed, Value, absent, nil, more, token, node, given, part, typed, as_group, group, first_of, behind, optional, option_list, is_there, turns, expr_at, pat_at, prop_at, post_at, args_at}
+use Rattle.es_site_ranges.proofs.Cuts.{Opt}
 use Rattle.es_derived_site_order.proofs.Given.{given_fine, given_any, map_fine, map_any, if_fine}
 use Rattle.es_derived_site_order.specs.Order.{StandOn}
 use Rattle.es_derived_site_order.proofs.Sites.{Of, StrOn, widen, forward, both}
@@ -382,7 +383,8 @@ module _ (x : List ℕ) (ts : List Token) (a b : ℕ) (r : Range) (p : Value) (h
       (λ c d v on. turn_on ts sites_of_expr (λ (m : Typed). m.expr) (sites_in ts) 0 c d v on) (pl 1) b
       (group p 1) (as_group_on ts (pl 1) b (part p 1) (behind_all ts 1 1 a b p h (omega arith))))
       (λ second g.
-      expr_ImportCall_on ts a (pl 1) b first (option_list second) r f (listed_on x ts (pl 1) b second g)))
+      expr_ImportCall_on ts a (pl 1) b vPhase.Evaluation first (option_list second) r f
+      (listed_on x ts (pl 1) b second g)))
 
   pub new_on : Opt (ExprOn ts a b) (new_ r p)
   unfolding new_

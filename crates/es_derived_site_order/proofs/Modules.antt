@@ -6,15 +6,16 @@ use Rattle.base.specs.declared.range.Range.{Range}
 use Rattle.es_token.specs.declared.token.Token.{Token}
 use Rattle.ts_ast.specs.declared.leaf.Str.{Str}
 use Rattle.es_ast.specs.declared.leaf.ImportAttributes.{ImportAttributes}
+use Rattle.es_ast.specs.declared.leaf.ImportPhase.TheVariants as vPhase
 use Rattle.es_ast.specs.declared.ast.Stmt.{Stmt}
 use Rattle.es_ast.specs.declared.ast.ModuleDecl.{ModuleDecl}
 use Rattle.es_ast.specs.declared.ast.ModuleItem.TheVariants as vItem
-use Rattle.es_dress.specs.Texts.{ident_at, str_at, name_at, shebang_at}
-use Rattle.es_dress.specs.Modules.{bare_import, from_import, require_import, entity_import, export_all, source_with, with_of, export_names, export_namespace, export_default_decl, export_default_expression, export_declaration, module_, script}
-use Rattle.es_dress.specs.Dress.{item_by}
+use Rattle.es_lowering.specs.Texts.{ident_at, str_at, name_at, shebang_at}
+use Rattle.es_lowering.specs.Modules.{bare_import, from_import, require_import, entity_import, export_all, source_with, with_of, export_names, export_namespace, export_default_decl, export_default_expression, export_declaration, module_, script}
+use Rattle.es_lowering.specs.Lowering.{item_by}
 use Rattle.es_site.specs.Sites.{sites_of, sites_of_decl, sites_of_expr, sites_of_module_decl, sites_of_module_item, sites_of_stmt}
-use Rattle.es_dress.specs.Value.{Typed, Value, absent, nil, more, token, node, part, group, optional, is_there, turns, expr_at, stmt_at, decl_at, item_at, clause_at, export_specifier_at, attributes_at, entity_at}
-use Rattle.es_cuts.proofs.Cuts.{Opt}
+use Rattle.es_lowering.specs.Value.{Typed, Value, absent, nil, more, token, node, part, group, optional, is_there, turns, expr_at, stmt_at, decl_at, item_at, clause_at, export_specifier_at, attributes_at, entity_at}
+use Rattle.es_site_ranges.proofs.Cuts.{Opt}
 use Rattle.es_derived_site_order.proofs.Given.{given_fine, given_any, map_fine, map_any}
 use Rattle.es_derived_site_order.proofs.Sites.{Of, StrOn}
 use Rattle.es_derived_site_order.proofs.Own.{module_decl_Import_on, module_decl_ExportAll_on, module_decl_ExportNamed_on, module_decl_TsImportEquals_on}
@@ -61,7 +62,8 @@ module _ (x : List ℕ) (ts : List Token) (a b : ℕ) (r : Range) (p : Value) (h
       given_fine (StrOn ts a b) (Of sites_of_module_decl ts a b) (str_at x ts p 0) _
       (str_in ts x a b (part p 0) (behind_all ts 0 0 a b p h (omega arith))) (λ src f.
       given_any (Of sites_of_module_decl ts a b) (optional attributes_at (group p 1)) _ (λ with.
-      module_decl_Import_on ts a b (record { type_only = false; clause = None; src = src; with = with; span = r }) f))
+      module_decl_Import_on ts a b (record
+      { type_only = false; phase = vPhase.Evaluation; clause = None; src = src; with = with; span = r }) f))
 
   pub from_import_on : Opt (Of sites_of_module_decl ts a b) (from_import x ts r p)
   unfolding from_import
@@ -72,6 +74,7 @@ module _ (x : List ℕ) (ts : List Token) (a b : ℕ) (r : Range) (p : Value) (h
       given_any (Of sites_of_module_decl ts a b) (optional attributes_at (group p 3)) _ (λ with.
       module_decl_Import_on ts a b (record {
         type_only = is_there (group p 0);
+        phase = vPhase.Evaluation;
         clause = Some clause;
         src = src;
         with = with;

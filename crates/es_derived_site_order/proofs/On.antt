@@ -12,9 +12,9 @@ use Rattle.es_ast.specs.declared.ast.Pat.{Pat}
 use Rattle.es_ast.specs.declared.ast.VarDeclarator.{VarDeclarator}
 use Rattle.es_site.specs.Sites.{Found, if_some, sites_of}
 use Rattle.es_site.specs.Sites.{sites_of_class_member, sites_of_decl, sites_of_expr, sites_of_module_item, sites_of_object_pat_prop, sites_of_pat, sites_of_prop, sites_of_stmt, sites_of_param, sites_of_var_declarator}
-use Rattle.es_dress.specs.Value.{Signature, Typed, Value, absent, nil, more, token, node, given, part, typed, as_group, optional, turns}
-use Rattle.es_dress.specs.Texts.{str_of, token_of}
-use Rattle.es_cuts.proofs.Cuts.{Opt}
+use Rattle.es_lowering.specs.Value.{Signature, Typed, Value, absent, nil, more, token, node, given, part, typed, as_group, optional, turns}
+use Rattle.es_lowering.specs.Texts.{str_of, token_of}
+use Rattle.es_site_ranges.proofs.Cuts.{Opt}
 use Rattle.es_derived_site_order.proofs.Given.{given_fine, map_fine}
 use Rattle.es_derived_site_order.specs.Order.{StandOn}
 use Rattle.es_derived_site_order.proofs.Sites.{Of, StrOn, widen, both}

@@ -8,6 +8,7 @@ use Rattle.ts_ast.specs.declared.leaf.Str.{Str}
 use Rattle.es_ast.specs.declared.leaf.Lit.{Lit}
 use Rattle.es_ast.specs.declared.leaf.Lit.TheVariants as vLit
 use Rattle.es_ast.specs.declared.leaf.ImportDecl.{ImportDecl}
+use Rattle.es_ast.specs.declared.leaf.ImportPhase.{ImportPhase}
 use Rattle.es_ast.specs.declared.leaf.NamedExport.{NamedExport}
 use Rattle.es_ast.specs.declared.leaf.ExportAll.{ExportAll}
 use Rattle.es_ast.specs.declared.leaf.TsImportEqualsDecl.{TsImportEqualsDecl}
@@ -32,7 +33,7 @@ use Rattle.es_site.specs.Attributes.{attribute_of, options_attribute}
 use Rattle.es_site.specs.Sites.{if_some, site_at, export_site, module_ref_sites, first_argument}
 use Rattle.es_site.specs.Sites.{sites_of_class_member, sites_of_expr, sites_of_module_decl, sites_of_pat, sites_of_stmt, sites_of_class, sites_of_function, sites_of_param, sites_of_switch_case, sites_of_ts_enum_member, sites_of_var_declarator}
 use Rattle.es_site.proofs.Equations.{expr_Lit, expr_ImportCall, module_decl_Import, module_decl_ExportNamed, module_decl_ExportAll, module_decl_TsImportEquals, class_parts, function_parts, param_parts, switch_case_parts, ts_enum_member_parts, var_declarator_parts}
-use Rattle.es_cuts.proofs.Cuts.{Opt}
+use Rattle.es_site_ranges.proofs.Cuts.{Opt}
 use Rattle.es_derived_site_order.specs.Order.{StandOn}
 use Rattle.es_derived_site_order.proofs.Sites.{StrOn, widen, both, same, one_on, str_widen, str_forward}
 
@@ -94,11 +95,12 @@ module _ (ts : List Token) where
       (ap (λ s. s ++ flat_map sites_of_expr rest) layer.1) g)
   first_on a m b e _ rest f layer g = both ts a m b (sites_of_expr e) (flat_map sites_of_expr rest) f g
 
-  pub expr_ImportCall_on : (a m b : ℕ) (first : Expr) (rest : List Expr) (span : Range) → ExprOn ts a m first
-      → StandOn ts m b (flat_map sites_of_expr rest) → ExprOn ts a b (vExpr.ImportCall (first ∷ rest) span)
-  expr_ImportCall_on a m b first rest span f g =
-      expr_by a b (vExpr.ImportCall (first ∷ rest) span) (Expr-F.ImportCall (first ∷ rest) span) _
-      (vExpr.rolls-ImportCall (first ∷ rest) span) (expr_ImportCall [] (first ∷ rest) span)
+  pub expr_ImportCall_on : (a m b : ℕ) (phase : ImportPhase) (first : Expr) (rest : List Expr) (span : Range)
+      → ExprOn ts a m first → StandOn ts m b (flat_map sites_of_expr rest)
+      → ExprOn ts a b (vExpr.ImportCall phase (first ∷ rest) span)
+  expr_ImportCall_on a m b phase first rest span f g =
+      expr_by a b (vExpr.ImportCall phase (first ∷ rest) span) (Expr-F.ImportCall phase (first ∷ rest) span) _
+      (vExpr.rolls-ImportCall phase (first ∷ rest) span) (expr_ImportCall [] phase (first ∷ rest) span)
       (first_on a m b first (out-Expr first) rest f.0 f.1 g) tt
 
   pub module_decl_Import_on : (a b : ℕ) (it : ImportDecl) → StrOn ts a b it.src

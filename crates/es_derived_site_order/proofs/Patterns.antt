@@ -13,16 +13,16 @@ use Rattle.es_ast.specs.declared.ast.Pat.TheVariants as vPat
 use Rattle.es_ast.specs.declared.ast.Prop.TheVariants as vProp
 use Rattle.es_ast.specs.declared.ast.Stmt.{Stmt}
 use Rattle.es_ast.specs.declared.ast.Param.{Param}
-use Rattle.es_dress.specs.Texts.{span_of, ident_of, token_at, kind_at, ident_at, private_at, str_at, numeric_of, numeric_at, own_name_at}
-use Rattle.es_dress.specs.Operators.{listed, accessor_kinds}
-use Rattle.es_dress.specs.Expressions.{elements}
-use Rattle.es_dress.specs.Patterns.{ident_pat, name_pattern, array_pattern, object_pattern, rest_pattern, default_pattern, rest_property, with_default, key_pattern, name_property}
-use Rattle.es_dress.specs.Functions.{plain, param_of, default_parameter, rest_at, parameters, signature, function_of, function, method_at, block_or, body_of, arrow_of, name_param, name_arrow, parenthesized_arrow, word_key, str_key, number_key, computed_key, private_key, spread_property, shorthand, key_value, method_property, accessor_property}
-use Rattle.es_dress.specs.Classes.{class_, modified, static_block, method_member, accessor_member, field_member}
+use Rattle.es_lowering.specs.Texts.{span_of, ident_of, token_at, kind_at, ident_at, private_at, str_at, numeric_of, numeric_at, own_name_at}
+use Rattle.es_lowering.specs.Operators.{listed, accessor_kinds}
+use Rattle.es_lowering.specs.Expressions.{elements}
+use Rattle.es_lowering.specs.Patterns.{ident_pat, name_pattern, array_pattern, object_pattern, rest_pattern, default_pattern, rest_property, with_default, key_pattern, name_property}
+use Rattle.es_lowering.specs.Functions.{plain, param_of, default_parameter, rest_at, parameters, signature, function_of, function, method_at, block_or, body_of, arrow_of, name_param, name_arrow, parenthesized_arrow, word_key, str_key, number_key, computed_key, private_key, spread_property, shorthand, key_value, method_property, accessor_property}
+use Rattle.es_lowering.specs.Classes.{class_, modified, static_block, method_member, accessor_member, field_member}
 use Rattle.es_derived_site_order.proofs.Exprs.{elements_on, numeric_on}
 use Rattle.es_site.specs.Sites.{if_some, sites_of_class_member, sites_of_expr, sites_of_object_pat_prop, sites_of_pat, sites_of_prop, sites_of_stmt, sites_of_class, sites_of_function, sites_of_param}
-use Rattle.es_dress.specs.Value.{Typed, Value, absent, nil, more, token, node, given, part, group, first_of, behind, optional, option_list, is_there, turns, expr_at, pat_at, stmt_at, block_at, param_at, params_at, pat_prop_at, member_at, key_at}
-use Rattle.es_cuts.proofs.Cuts.{Opt}
+use Rattle.es_lowering.specs.Value.{Typed, Value, absent, nil, more, token, node, given, part, group, first_of, behind, optional, option_list, is_there, turns, expr_at, pat_at, stmt_at, block_at, param_at, params_at, pat_prop_at, member_at, key_at}
+use Rattle.es_site_ranges.proofs.Cuts.{Opt}
 use Rattle.es_derived_site_order.proofs.Given.{given_fine, given_any, map_fine, map_any}
 use Rattle.es_derived_site_order.specs.Order.{StandOn}
 use Rattle.es_derived_site_order.proofs.Sites.{Of, split, StrOn, widen, both}

@@ -10,12 +10,12 @@ use Rattle.es_ast.specs.declared.ast.Expr.{Expr}
 use Rattle.es_ast.specs.declared.ast.Stmt.{Stmt}
 use Rattle.es_ast.specs.declared.ast.Stmt.TheVariants as vStmt
 use Rattle.es_ast.specs.declared.ast.Pat.{Pat}
-use Rattle.es_dress.specs.Texts.{span_of, ident_of, token_at, kind_at, ident_at}
-use Rattle.es_dress.specs.Operators.{listed, variable_kinds, or_else}
-use Rattle.es_dress.specs.Statements.{stmts_of, block, declarator_of, declarator, declarators_at, Variables, variables, using_, decl_of, variable_declaration, Head, variable_head, using_head, expression_at, start_of_for, for_, each_of, for_each, for_await, while_, do_, expression_statement, labelled, if_, continue_, break_, returned, return_, throw_, behind_clause, clause_of, clauses, switch_, handled, try_, with_}
+use Rattle.es_lowering.specs.Texts.{span_of, ident_of, token_at, kind_at, ident_at}
+use Rattle.es_lowering.specs.Operators.{listed, variable_kinds, or_else}
+use Rattle.es_lowering.specs.Statements.{stmts_of, block, declarator_of, declarator, declarators_at, Variables, variables, using_, decl_of, variable_declaration, Head, variable_head, using_head, expression_at, start_of_for, for_, each_of, for_each, for_await, while_, do_, expression_statement, labelled, if_, continue_, break_, returned, return_, throw_, behind_clause, clause_of, clauses, switch_, handled, try_, with_}
 use Rattle.es_site.specs.Sites.{if_some, sites_of_decl, sites_of_expr, sites_of_pat, sites_of_stmt, sites_of_switch_case, sites_of_var_declarator}
-use Rattle.es_dress.specs.Value.{Typed, Value, absent, nil, more, token, node, given, part, as_group, group, behind, optional, turns, expr_at, pat_at, stmt_at, variables_at, declarator_at, head_at}
-use Rattle.es_cuts.proofs.Cuts.{Opt}
+use Rattle.es_lowering.specs.Value.{Typed, Value, absent, nil, more, token, node, given, part, as_group, group, behind, optional, turns, expr_at, pat_at, stmt_at, variables_at, declarator_at, head_at}
+use Rattle.es_site_ranges.proofs.Cuts.{Opt}
 use Rattle.es_derived_site_order.proofs.Given.{given_fine, given_any, map_fine, map_any}
 use Rattle.es_derived_site_order.specs.Order.{StandOn}
 use Rattle.es_derived_site_order.proofs.Sites.{Of, widen, forward, both}

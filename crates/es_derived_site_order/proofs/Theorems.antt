@@ -8,16 +8,16 @@ use Rattle.es_tree.specs.declared.error.Mode.{Mode}
 use Rattle.es_ast.specs.declared.ast.Program.{Program}
 use Rattle.es_tree.specs.Key.{keys_of}
 use Rattle.es_tree.specs.Fits.{free, Shape, most_nodes}
-use Rattle.es_whole_grammar.specs.Table.{rule}
-use Rattle.es_whole_grammar.specs.Conditions.{program_row}
-use Rattle.es_grammar.proofs.OrderLemmas.{row_stands}
-use Rattle.es_guards.proofs.TokenLemmas.{length-keys_of}
-use Rattle.es_whole_tree.specs.Slim.{tree_of}
-use Rattle.es_strs.proofs.Theorems.{strs}
+use Rattle.es_grammar.specs.Table.{rule}
+use Rattle.es_grammar.specs.Conditions.{program_row}
+use Rattle.es_type_grammar.proofs.OrderLemmas.{row_stands}
+use Rattle.es_lookahead.proofs.TokenLemmas.{length-keys_of}
+use Rattle.es_cst.specs.Slim.{tree_of}
+use Rattle.es_literal_places.proofs.Theorems.{strs}
 use Rattle.es_site.specs.Sites.{sites_of}
-use Rattle.es_dress.specs.Dress.{value_of}
+use Rattle.es_lowering.specs.Lowering.{value_of}
 use Rattle.es_derives.specs.Derives.{Derives}
-use Rattle.es_cuts.proofs.Cuts.{Opt}
+use Rattle.es_site_ranges.proofs.Cuts.{Opt}
 use Rattle.es_derived_site_order.specs.Order.{Ascend, token_range, site_range, StandOn}
 use Rattle.es_derived_site_order.proofs.Sites.{Of}
 use Rattle.es_derived_site_order.proofs.On.{read_program}
@@ -30,7 +30,7 @@ pub derives_stand : (l : Lang) (m : Mode) (x : List ℕ) (ts : List Token) (p : 
 unfolding Shape
 derives_stand l m x ts p derived =
     let P : Option Program → Type 0 = λ o. Opt (Of sites_of ts 0 (length (keys_of ts))) o in
-    let stand : StandOn ts 0 (length (keys_of ts)) (sites_of p) = subst P derived.dressed
+    let stand : StandOn ts 0 (length (keys_of ts)) (sites_of p) = subst P derived.lowered
     (read_program ts 0 (length (keys_of ts)) (value_of x ts (tree_of derived.plain))
     (tree_on x ts 0 (length (keys_of ts)) derived.plain (strs l m (keys_of ts) derived.plain derived.program.shaped)
     (row_stands free (keys_of ts) (rule l) most_nodes (program_row m) derived.plain 0 (length (keys_of ts))

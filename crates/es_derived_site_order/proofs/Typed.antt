@@ -18,22 +18,22 @@ use Rattle.es_ast.specs.declared.ast.Pat.{Pat}
 use Rattle.es_ast.specs.declared.ast.Pat.TheVariants as vPat
 use Rattle.es_ast.specs.declared.ast.Stmt.{Stmt}
 use Rattle.es_ast.specs.declared.ast.Stmt.TheVariants as vStmt
-use Rattle.es_dress.specs.Texts.{span_of, token_of, token_at, kind_at, ident_at, str_at, own_name_at, property_of}
-use Rattle.es_dress.specs.Operators.{listed, variable_kinds, accessor_kinds, binary_between, is_kind_at}
-use Rattle.es_dress.specs.Expressions.{elements, from_byte, member_of, index_of}
-use Rattle.es_dress.specs.Patterns.{with_default}
-use Rattle.es_dress.specs.Functions.{plain, body_of}
-use Rattle.es_dress.specs.TypeTexts.{marked}
-use Rattle.es_dress.specs.TypeNames.{behind_in}
-use Rattle.es_dress.specs.TypedParts.{annotation_at, params_part_at, args_part_at, heritage_in, marked_name, marked_array, marked_object, marked_by, annotated_span, annotated_at, modifiers_in, param_by, typed_span, tailed_span, tailed_at, marked_parameter, property_parameter, this_parameter, typed_rest_at, typed_parameters, typed_signature, body_in, behind_body}
-use Rattle.es_dress.specs.TypedFunctions.{typed_function_of, typed_function, typed_arrow, typed_method_property, typed_accessor_property, typed_class, typed_method_member, typed_accessor_member, with_accessor, is_mark, typed_field, index_member}
-use Rattle.es_dress.specs.TypedExpressions.{typed_call_of, typed_call, typed_call_post, typed_tagged_of, typed_template_post, non_null_post, typed_optional_inner, typed_optional_of, typed_optional_post, typed_new_of, typed_new, asserted_by, turned_by, typed_binary}
-use Rattle.es_dress.specs.TypedStatements.{typed_declarator, typed_head, caught_in, typed_handled, typed_try, interface, alias, enum_member, enum_, items_of, namespace, module_namespace, global, declared, declared_variables, export_assignment}
+use Rattle.es_lowering.specs.Texts.{span_of, token_of, token_at, kind_at, ident_at, str_at, own_name_at, property_of}
+use Rattle.es_lowering.specs.Operators.{listed, variable_kinds, accessor_kinds, binary_between, is_kind_at}
+use Rattle.es_lowering.specs.Expressions.{elements, from_byte, member_of, index_of}
+use Rattle.es_lowering.specs.Patterns.{with_default}
+use Rattle.es_lowering.specs.Functions.{plain, body_of}
+use Rattle.es_lowering.specs.TypeTexts.{marked}
+use Rattle.es_lowering.specs.TypeNames.{behind_in}
+use Rattle.es_lowering.specs.TypedParts.{annotation_at, params_part_at, args_part_at, heritage_in, marked_name, marked_array, marked_object, marked_by, annotated_span, annotated_at, modifiers_in, param_by, typed_span, tailed_span, tailed_at, marked_parameter, property_parameter, this_parameter, typed_rest_at, typed_parameters, typed_signature, body_in, behind_body}
+use Rattle.es_lowering.specs.TypedFunctions.{typed_function_of, typed_function, typed_arrow, typed_method_property, typed_accessor_property, typed_class, typed_method_member, typed_accessor_member, with_accessor, is_mark, typed_field, index_member}
+use Rattle.es_lowering.specs.TypedExpressions.{typed_call_of, typed_call, typed_call_post, typed_tagged_of, typed_template_post, non_null_post, typed_optional_inner, typed_optional_of, typed_optional_post, typed_new_of, typed_new, asserted_by, turned_by, typed_binary}
+use Rattle.es_lowering.specs.TypedStatements.{typed_declarator, typed_head, caught_in, typed_handled, typed_try, interface, alias, enum_member, enum_, items_of, namespace, module_namespace, global, declared, declared_variables, export_assignment}
 use Rattle.es_derived_site_order.proofs.Exprs.{elements_on, member_of_on, index_of_on}
 use Rattle.es_derived_site_order.proofs.Patterns.{default_on, params_both, body_of_on}
 use Rattle.es_site.specs.Sites.{if_some, sites_of_class_member, sites_of_decl, sites_of_expr, sites_of_module_decl, sites_of_module_item, sites_of_object_pat_prop, sites_of_pat, sites_of_prop, sites_of_stmt, sites_of_class, sites_of_function, sites_of_param, sites_of_ts_enum_member, sites_of_var_declarator}
-use Rattle.es_dress.specs.Value.{Signature, Typed, Value, absent, nil, more, token, node, given, part, as_group, group, first_of, behind, optional, is_there, turns, expr_at, pat_at, stmt_at, item_at, variables_at, param_at, params_at, pat_prop_at, member_at, key_at, args_at, marked_at, signature_at, declarable_at, type_at, type_member_at, entity_at}
-use Rattle.es_cuts.proofs.Cuts.{Opt}
+use Rattle.es_lowering.specs.Value.{Signature, Typed, Value, absent, nil, more, token, node, given, part, as_group, group, first_of, behind, optional, is_there, turns, expr_at, pat_at, stmt_at, item_at, variables_at, param_at, params_at, pat_prop_at, member_at, key_at, args_at, marked_at, signature_at, declarable_at, type_at, type_member_at, entity_at}
+use Rattle.es_site_ranges.proofs.Cuts.{Opt}
 use Rattle.es_derived_site_order.proofs.Given.{given_fine, given_any, map_fine, map_any}
 use Rattle.es_derived_site_order.specs.Order.{StandOn}
 use Rattle.es_derived_site_order.proofs.Sites.{Of, widen, forward}

@@ -11,14 +11,14 @@ use Rattle.es_lexer.proofs.Theorems.{reads_within, reads_str}
 use Rattle.es_tree.specs.declared.error.Lang.{Lang}
 use Rattle.es_tree.specs.declared.error.Mode.{Mode}
 use Rattle.es_tree.specs.Key.{seen, keys_of, is}
-use Rattle.es_guards.proofs.TokenLemmas.{look_some}
+use Rattle.es_lookahead.proofs.TokenLemmas.{look_some}
 use Rattle.es_ast.specs.declared.ast.Program.{Program}
 use Rattle.es_site.specs.declared.site.Site.{Site}
 use Rattle.es_site.specs.Sites.{sites_of, CutsLiteral}
-use Rattle.es_dress.specs.Texts.{str_of}
+use Rattle.es_lowering.specs.Texts.{str_of}
 use Rattle.es_derives.specs.Derives.{Derives}
-use Rattle.es_cuts.proofs.Cuts.{Each, StrCuts}
-use Rattle.es_cuts.proofs.Theorems.{sites_cut}
+use Rattle.es_site_ranges.proofs.Cuts.{Each, StrCuts}
+use Rattle.es_site_ranges.proofs.Theorems.{sites_cut}
 
 none_of : {A : Type 0} (P : A → Type 0) → All P []
 none_of P k a within = absurd (let bad : ⊥ = omega (arith, within) in bad)

@@ -6,9 +6,9 @@ use Rattle.es_tree.specs.declared.error.Lang.{Lang}
 use Rattle.es_tree.specs.declared.error.Mode.{Mode}
 use Rattle.es_ast.specs.declared.ast.Program.{Program}
 use Rattle.es_tree.specs.Key.{keys_of}
-use Rattle.es_whole_grammar.proofs.Theorems.{one_program}
-use Rattle.es_whole_tree.specs.Slim.{tree_of}
-use Rattle.es_dress.specs.Dress.{value_of}
+use Rattle.es_grammar.proofs.Theorems.{one_program}
+use Rattle.es_cst.specs.Slim.{tree_of}
+use Rattle.es_lowering.specs.Lowering.{value_of}
 use Rattle.es_derives.specs.Derives.{program_in, Derives}
 
 same_some : (p q : Program) → Some p ≡ Some q → p ≡ q
@@ -18,7 +18,7 @@ same_some p q e = cc
 pub one_tree : (l : Lang) (m : Mode) (x : List ℕ) (ts : List Token) (p q : Program) → Derives l m x ts p
     → Derives l m x ts q → p ≡ q
 one_tree l m x ts p q one other =
-    same_some p q (sym one.dressed
+    same_some p q (sym one.lowered
     ∙ ap (λ plain. program_in (value_of x ts (tree_of plain)))
     (one_program l m (keys_of ts) one.plain other.plain one.program other.program)
-    ∙ other.dressed)
+    ∙ other.lowered)

@@ -6,11 +6,11 @@ use Rattle.es_tree.specs.declared.error.Mode.{Mode}
 use Rattle.es_ast.specs.declared.ast.Program.{Program}
 use Rattle.es_tree.specs.Key.{keys_of}
 use Rattle.es_tree.specs.Plain.{Plain}
-use Rattle.es_whole_grammar.specs.declared.rows.Label.{Label}
-use Rattle.es_whole_grammar.specs.Conditions.{IsProgram}
-use Rattle.es_whole_tree.specs.Slim.{tree_of}
-use Rattle.es_dress.specs.Value.{Value, given, typed}
-use Rattle.es_dress.specs.Dress.{value_of}
+use Rattle.es_grammar.specs.declared.rows.NodeKind.{NodeKind}
+use Rattle.es_grammar.specs.Conditions.{IsProgram}
+use Rattle.es_cst.specs.Slim.{tree_of}
+use Rattle.es_lowering.specs.Value.{Value, given, typed}
+use Rattle.es_lowering.specs.Lowering.{value_of}
 
 -- what it is as a program
 abbrev pub program_in : Value → Option Program
@@ -18,6 +18,6 @@ program_in v = given (typed v) (λ m. m.program)
 
 -- the tree is the typed tree of a plain tree of a program over the keys of all tokens
 pub record Derives (lang : Lang) (mode : Mode) (text : List ℕ) (tokens : List Token) (tree : Program) : Type 0 where
-  pub plain : Plain Label
+  pub plain : Plain NodeKind
   pub program : IsProgram lang mode (keys_of tokens) plain
-  pub dressed : program_in (value_of text tokens (tree_of plain)) ≡ Some tree
+  pub lowered : program_in (value_of text tokens (tree_of plain)) ≡ Some tree

@@ -1,3 +1,7 @@
+mod Stands
 mod Parts
+mod Attributes
+mod Own
+mod Texts
 mod Trees
 pub mod Theorems

@@ -1,433 +1,275 @@
--- The sites of the parts of a plain tree move, form by form: over two texts of which the string literals have moved.
-use Rattle.std.specs.Prelude.{ℕ, zero, suc, Bool, false, List, [], ◌++◌, Option, Some, None, option_map, slice_get}
-use Rattle.std.proofs.Common.{◌≡◌, refl, sym}
+-- Parts of plain trees over two texts, the same but for the sites in them, and between which tokens they stand.
+use Rattle.std.specs.Prelude.{ℕ, zero, suc, nat_le, true, List, [], ◌∷◌, ◌++◌}
+use Rattle.std.proofs.Common.{◌≡◌, ◌≤◌, ◌<◌, refl, sym, ap, ◌∙◌, arith, leb-true}
 use Rattle.es_token.specs.declared.token.Token.{Token}
-use Rattle.ts_ast.specs.declared.leaf.Str.{Str}
-use Rattle.es_whole_grammar.specs.declared.rows.Label.{Label}
-use Rattle.es_whole_grammar.specs.declared.rows.Label.TheVariants as l
+use Rattle.es_grammar.specs.declared.rows.NodeKind.{NodeKind}
+use Rattle.es_grammar.specs.declared.rows.NodeKind.TheVariants as l
 use Rattle.es_site.specs.declared.site.Attribute.{Attribute}
-use Rattle.es_site.specs.declared.site.DependencyKind.{DependencyKind}
-use Rattle.es_site.specs.declared.site.DependencyKind.TheVariants as kind
 use Rattle.es_site.specs.Sites.{Found}
-use Rattle.es_dress.specs.Texts.{str_of}
 use Rattle.es_plain_sites.specs.Part.{Part, absent, nil, more, token, node, part, as_group, group, is_there, found, at, inside, may, each, turns, as_target}
-use Rattle.es_plain_sites.specs.Own.{str_in, src_by, src_in, naming, declared, first_of, returned, handled, optional_inner, typed_args, typed_inner, operand, own}
+use Rattle.es_plain_sites.specs.Own.{own}
+use Rattle.es_derived_site_order.specs.Order.{StandOn}
 use Rattle.text_changes.specs.declared.change.TextChange.{TextChange}
-use Rattle.es_edited_tokens.specs.Moved.{moved, range_to}
-use Rattle.es_edited_sites.specs.Moved.{value_to, SitesMove, none, one}
+use Rattle.es_edited_sites.specs.Moved.{SitesMove, none, one, attributes_of}
+use Rattle.es_edited_sites.proofs.Stands.{Apart, Safe, widen, both_stand, safe_left, safe_right, narrower}
 
--- a string literal has moved
-pub record StrMoves (changes : List TextChange) (old new : Str) : Type 0 where
-  pub span : new.span ≡ range_to (moved changes) old.span
-  pub value : new.value ≡ value_to changes old.span old.value
+-- ---- sites and what became of them
 
--- neither is there, or both are
-pub data BothMove (changes : List TextChange) : Option Str → Option Str → Type 0 where
-  neither : BothMove changes None None
-  both : (old new : Str) → StrMoves changes old new → BothMove changes (Some old) (Some new)
+-- the old ones stand on these tokens and have moved; their attributes stay where all changes among these tokens are
+-- theirs
+pub record Moves (changes : List TextChange) (ts : List Token) (a b : ℕ) (old new : Found) : Type 0 where
+  pub stand : StandOn ts a b old
+  pub move : SitesMove changes old new
+  pub attributes : Apart ts → Safe changes ts a b old → attributes_of new ≡ attributes_of old
 
--- parts of the same form, whose sites have moved
-pub data Alike (changes : List TextChange) : Part → Part → Type 0 where
-  gone : Alike changes absent absent
-  end : Alike changes nil nil
-  pair : (a b p q : Part) → Alike changes a b → Alike changes p q → Alike changes (more a p) (more b q)
-  same : (n : ℕ) → Alike changes (token n) (token n)
-  made : (label : Label) (p q : Part) (s t : Found) → Alike changes p q → SitesMove changes s t
-      → Alike changes (node label p s) (node label q t)
+-- the sites of a node are those of its alternative, but of a target, which has none
+abbrev pub Linked : List ℕ → List Token → NodeKind → Part → Found → Type 0
+Linked x ts label p sites = (label ≡ l.Target → ⊥) → sites ≡ own x ts label p
 
--- the string literals among these tokens have moved
-abbrev pub StrsMove : List TextChange → List ℕ → List Token → List ℕ → List Token → Type 0
-StrsMove changes x ts y us =
-    (n : ℕ) → BothMove changes (option_map (str_of x) (slice_get ts n)) (option_map (str_of y) (slice_get us n))
+-- parts of the same form between these tokens
+pub data Alike (changes : List TextChange) (x : List ℕ) (ts : List Token) : ℕ → ℕ → Part → Part → Type 0 where
+  gone : {a b : ℕ} → a ≤ b → Alike changes x ts a b absent absent
+  end : {a b : ℕ} → a ≤ b → Alike changes x ts a b nil nil
+  pair : {a m b : ℕ} {v w p q : Part} → Alike changes x ts a m v w → Alike changes x ts m b p q
+      → Alike changes x ts a b (more v p) (more w q)
+  leaf : {a b : ℕ} (n : ℕ) → a ≤ n → n < b → Alike changes x ts a b (token n) (token n)
+  made : {a b from to : ℕ} (label : NodeKind) {p q : Part} {s t : Found} → a ≤ from → to ≤ b → from ≤ to
+      → Linked x ts label p s → Alike changes x ts from to p q → Moves changes ts from to s t
+      → Alike changes x ts a b (node label p s) (node label q t)
 
-module _ (changes : List TextChange) (x : List ℕ) (ts : List Token) (y : List ℕ) (us : List Token)
-    (strs : StrsMove changes x ts y us) where
-  abbrev Same : Part → Part → Type 0
-  Same p q = Alike changes p q
+-- ---- lists of sites
+pub nothing : {changes : List TextChange} {ts : List Token} {a b : ℕ} → a ≤ b → Moves changes ts a b [] []
+nothing le = record { stand = le; move = none; attributes = λ apart safe. refl }
 
-  abbrev Move : Found → Found → Type 0
-  Move s t = SitesMove changes s t
+pub moves_wider : {changes : List TextChange} {ts : List Token} {a b c d : ℕ} {s t : Found} → a ≤ b → c ≤ d
+    → Moves changes ts b c s t → Moves changes ts a d s t
+moves_wider {changes = changes} {ts = ts} {a = a} {b = b} {c = c} {d = d} {s = s} low high m = record {
+  stand = widen ts a b c d s low high m.stand;
+  move = m.move;
+  attributes = λ apart safe. m.attributes apart (narrower changes ts apart a b c d s low high safe);
+}
 
-  -- ---- parts
-  pub part_moves : (p q : Part) (n : ℕ) → Same p q → Same (part p n) (part q n)
-  part_moves p q n gone = gone
-  part_moves p q n end = gone
-  part_moves p q zero (pair a b r s h i) = h
-  part_moves p q (suc n) (pair a b r s h i) = part_moves r s n i
-  part_moves p q n (same k) = gone
-  part_moves p q n (made label r s t u h i) = gone
+append : {changes : List TextChange} {s t u v : Found} → SitesMove changes s t → SitesMove changes u v
+    → SitesMove changes (s ++ u) (t ++ v)
+append none k = k
+append (one old new olds news h i) k = one old new (olds ++ _) (news ++ _) h (append i k)
 
-  grouped : (p q : Part) → Same p q → Same (as_group p) (as_group q)
-  grouped p q gone = end
-  grouped p q end = end
-  grouped p q (pair a b r s h i) = pair a b r s h i
-  grouped p q (same k) = end
-  grouped p q (made label r s t u h i) = end
+attributes_append : (s t : Found) → attributes_of (s ++ t) ≡ attributes_of s ++ attributes_of t
+attributes_append [] t = refl
+attributes_append (site ∷ s) t = ap (λ (rest : List Attribute). site.attribute ∷ rest) (attributes_append s t)
 
-  group_moves : (p q : Part) (n : ℕ) → Same p q → Same (group p n) (group q n)
-  group_moves p q n h = grouped (part p n) (part q n) (part_moves p q n h)
+same_append : (s t u v : Found) → attributes_of t ≡ attributes_of s → attributes_of v ≡ attributes_of u
+    → attributes_of (t ++ v) ≡ attributes_of (s ++ u)
+same_append s t u v e f =
+    attributes_append t v
+    ∙ (ap (λ (front : List Attribute). front ++ attributes_of v) e
+    ∙ (ap (λ (back : List Attribute). attributes_of s ++ back) f ∙ sym (attributes_append s u)))
 
-  there : (p q : Part) → Same p q → is_there p ≡ is_there q
-  there p q gone = refl
-  there p q end = refl
-  there p q (pair a b r s h i) = refl
-  there p q (same k) = refl
-  there p q (made label r s t u h i) = refl
+-- those of parts that stand behind each other
+pub both_move : {changes : List TextChange} {ts : List Token} {a b c d : ℕ} {s t u v : Found} → b ≤ c
+    → Moves changes ts a b s t → Moves changes ts c d u v → Moves changes ts a d (s ++ u) (t ++ v)
+both_move {changes = changes} {ts = ts} {a = a} {b = b} {c = c} {d = d} {s = s} {t = t} {u = u} {v = v} le m n =
+    record {
+      stand = both_stand ts a b d s u m.stand (widen ts b c d d u le (omega arith) n.stand);
+      move = append m.move n.move;
+      attributes = λ apart safe.
+          same_append s t u v (m.attributes apart (safe_left changes ts apart a b c d s u le n.stand safe))
+          (n.attributes apart (safe_right changes ts apart a b c d s u le m.stand safe));
+    }
 
-  pub as_target_moves : (p q : Part) → Same p q → Same (as_target p) (as_target q)
-  as_target_moves p q gone = gone
-  as_target_moves p q end = gone
-  as_target_moves p q (pair a b r s h i) = gone
-  as_target_moves p q (same k) = gone
-  as_target_moves p q (made label r s t u h i) = made l.Target r s t u h i
+-- ---- places
+pub ahead : {changes : List TextChange} {x : List ℕ} {ts : List Token} {a b : ℕ} {p q : Part}
+    → Alike changes x ts a b p q → a ≤ b
+ahead (gone le) = le
+ahead (end le) = le
+ahead {a = a} {b = b} (pair {m = m} h i) =
+    let low : a ≤ m = ahead h in
+    let high : m ≤ b = ahead i in
+    omega (arith, low, high)
+ahead {a = a} {b = b} (leaf n low high) = omega (arith, low, high)
+ahead {a = a} {b = b} (made {from = from} {to = to} label low high mid link h m) = omega (arith, low, mid, high)
 
-  -- ---- sites
-  pub found_moves : (p q : Part) → Same p q → Move (found p) (found q)
-  found_moves p q gone = none
-  found_moves p q end = none
-  found_moves p q (pair a b r s h i) = none
-  found_moves p q (same k) = none
-  found_moves p q (made label r s t u h i) = i
+pub wider : {changes : List TextChange} {x : List ℕ} {ts : List Token} {a b c d : ℕ} {p q : Part} → a ≤ b → c ≤ d
+    → Alike changes x ts b c p q → Alike changes x ts a d p q
+wider low high (gone le) = gone (omega (arith, low, le, high))
+wider low high (end le) = end (omega (arith, low, le, high))
+wider low high (pair {m = m} h i) = pair {m = m} (wider low (omega arith) h) (wider (omega arith) high i)
+wider low high (leaf n from to) = leaf n (omega (arith, low, from)) (omega (arith, to, high))
+wider low high (made label from to mid link h m) =
+    made label (omega (arith, low, from)) (omega (arith, to, high)) mid link h m
 
-  app : (s t u v : Found) → Move s t → Move u v → Move (s ++ u) (t ++ v)
-  app s t u v none k = k
-  app s t u v (one old new olds news h i) k =
-      one old new (olds ++ u) (news ++ v) h (app olds news u v i k)
+-- where a part begins
+abbrev pub place : {changes : List TextChange} {x : List ℕ} {ts : List Token} {a b : ℕ} {p q : Part} → ℕ
+    → Alike changes x ts a b p q → ℕ
+place {a = a} zero h = a
+place (suc n) (pair h i) = place n i
+place {b = b} (suc n) (gone le) = b
+place {b = b} (suc n) (end le) = b
+place {b = b} (suc n) (leaf k low high) = b
+place {b = b} (suc n) (made label low high mid link h m) = b
 
-  at_moves : (p q : Part) (n : ℕ) → Same p q → Move (at p n) (at q n)
-  at_moves p q n h = found_moves (part p n) (part q n) (part_moves p q n h)
+pub up : {changes : List TextChange} {x : List ℕ} {ts : List Token} {a b : ℕ} {p q : Part} (i j : ℕ)
+    (h : Alike changes x ts a b p q) → i ≤ j → place i h ≤ place j h
+up zero zero h le = omega arith
+up {a = a} zero (suc j) (pair {m = m} h i) le =
+    let low : a ≤ m = ahead h in
+    let high : m ≤ place j i = up zero j i (omega arith) in
+    omega (arith, low, high)
+up zero (suc j) (gone it) le = it
+up zero (suc j) (end it) le = it
+up zero (suc j) (leaf n low high) le = omega (arith, low, high)
+up zero (suc j) (made label low high mid link h m) le = omega (arith, low, high, mid)
+up (suc i) zero h le = absurd (let bad : ⊥ = omega (arith, le) in bad)
+up (suc i) (suc j) (pair h k) le = up i j k (omega (arith, le))
+up (suc i) (suc j) (gone it) le = omega arith
+up (suc i) (suc j) (end it) le = omega arith
+up (suc i) (suc j) (leaf n low high) le = omega arith
+up (suc i) (suc j) (made label low high mid link h m) le = omega arith
 
-  inside_moves : (f g : Part → Found) → ((p q : Part) → Same p q → Move (f p) (g q)) → (p q : Part) → Same p q
-      → Move (inside f p) (inside g q)
-  inside_moves f g k p q gone = none
-  inside_moves f g k p q end = none
-  inside_moves f g k p q (pair a b r s h i) = k (more a r) (more b s) (pair a b r s h i)
-  inside_moves f g k p q (same n) = none
-  inside_moves f g k p q (made label r s t u h i) = none
+pub last : {changes : List TextChange} {x : List ℕ} {ts : List Token} {a b : ℕ} {p q : Part} (n : ℕ)
+    (h : Alike changes x ts a b p q) → place n h ≤ b
+last zero h = ahead h
+last (suc n) (pair h i) = last n i
+last (suc n) (gone it) = omega arith
+last (suc n) (end it) = omega arith
+last (suc n) (leaf k low high) = omega arith
+last (suc n) (made label low high mid link h m) = omega arith
 
-  may_moves : (p q : Part) (n : ℕ) → Same p q → Move (may p n) (may q n)
-  may_moves p q n h =
-      inside_moves (λ g. at g 0) (λ g. at g 0) (λ a b i. at_moves a b 0 i) (group p n) (group q n) (group_moves p q n h)
+pub part_alike : {changes : List TextChange} {x : List ℕ} {ts : List Token} {a b : ℕ} {p q : Part} (n : ℕ)
+    (h : Alike changes x ts a b p q) → Alike changes x ts (place n h) (place (suc n) h) (part p n) (part q n)
+part_alike zero (pair h i) = h
+part_alike (suc n) (pair h i) = part_alike n i
+part_alike zero (gone le) = gone le
+part_alike zero (end le) = gone le
+part_alike zero (leaf k low high) = gone (omega (arith, low, high))
+part_alike zero (made label low high mid link h m) =
+    gone (omega (arith, low, high, mid))
+part_alike (suc n) (gone le) = gone (omega arith)
+part_alike (suc n) (end le) = gone (omega arith)
+part_alike (suc n) (leaf k low high) = gone (omega arith)
+part_alike (suc n) (made label low high mid link h m) = gone (omega arith)
 
-  each_moves : (f g : Part → Found) → ((p q : Part) → Same p q → Move (f p) (g q)) → (p q : Part) → Same p q
-      → Move (each f p) (each g q)
-  each_moves f g k p q gone = none
-  each_moves f g k p q end = none
-  each_moves f g k p q (pair a b r s h i) =
-      app (f (as_group a)) (g (as_group b)) (each f r) (each g s) (k (as_group a) (as_group b) (grouped a b h))
-      (each_moves f g k r s i)
-  each_moves f g k p q (same n) = none
-  each_moves f g k p q (made label r s t u h i) = none
+pub grouped : {changes : List TextChange} {x : List ℕ} {ts : List Token} {a b : ℕ} {p q : Part}
+    → Alike changes x ts a b p q → Alike changes x ts a b (as_group p) (as_group q)
+grouped (gone le) = end le
+grouped (end le) = end le
+grouped (pair h i) = pair h i
+grouped (leaf n low high) = end (omega (arith, low, high))
+grouped (made label low high mid link h m) =
+    end (omega (arith, low, high, mid))
 
-  turns_moves : (p q : Part) (n m : ℕ) → Same p q → Move (turns p n m) (turns q n m)
-  turns_moves p q n m h =
-      each_moves (λ turn. at turn m) (λ turn. at turn m) (λ a b i. at_moves a b m i) (group p n) (group q n)
-      (group_moves p q n h)
+pub group_alike : {changes : List TextChange} {x : List ℕ} {ts : List Token} {a b : ℕ} {p q : Part} (n : ℕ)
+    (h : Alike changes x ts a b p q) → Alike changes x ts (place n h) (place (suc n) h) (group p n) (group q n)
+group_alike n h = grouped (part_alike n h)
 
-  -- ---- literals
-  str_moves : (p q : Part) → Same p q → BothMove changes (str_in x ts p) (str_in y us q)
-  str_moves p q gone = neither
-  str_moves p q end = neither
-  str_moves p q (pair a b r s h i) = neither
-  str_moves p q (same n) = strs n
-  str_moves p q (made label r s t u h i) = neither
+pub there : {changes : List TextChange} {x : List ℕ} {ts : List Token} {a b : ℕ} {p q : Part}
+    → Alike changes x ts a b p q → is_there p ≡ is_there q
+there (gone le) = refl
+there (end le) = refl
+there (pair h i) = refl
+there (leaf n low high) = refl
+there (made label low high mid link h m) = refl
 
-  src_by_moves : (label : Label) (p q : Part) → Same p q → BothMove changes (src_by x ts label p) (src_by y us label q)
-  src_by_moves l.Str p q h = str_moves (part p 0) (part q 0) (part_moves p q 0 h)
-  src_by_moves _ p q h = neither
+pub as_target_alike : {changes : List TextChange} {x : List ℕ} {ts : List Token} {a b : ℕ} {p q : Part}
+    → Alike changes x ts a b p q → Alike changes x ts a b (as_target p) (as_target q)
+as_target_alike (gone le) = gone le
+as_target_alike (end le) = gone le
+as_target_alike (pair h i) = gone (ahead (pair h i))
+as_target_alike (leaf n low high) = gone (omega (arith, low, high))
+as_target_alike (made label low high mid link h m) = made l.Target low high mid (λ never. absurd (never refl)) h m
 
-  src_moves : (p q : Part) → Same p q → BothMove changes (src_in x ts p) (src_in y us q)
-  src_moves p q gone = neither
-  src_moves p q end = neither
-  src_moves p q (pair a b r s h i) = neither
-  src_moves p q (same n) = neither
-  src_moves p q (made label r s t u h i) = src_by_moves label r s h
+-- ---- the sites in parts
 
-  naming_moves : (kind : DependencyKind) (b c : Bool) → b ≡ c → (a d : Attribute) (o p : Option Str)
-      → BothMove changes o p
-      → Move (naming x ts kind b a o) (naming y us kind c d p)
-  naming_moves kind b c e a d o p neither = none
-  naming_moves kind b c e a d o p (both old new h) =
-      one _ _ [] [] (record { kind = refl; type_only = sym e; range = h.span; value = h.value }) none
+-- those of some parts of a node, from one up to another
+pub record Run {changes : List TextChange} {x : List ℕ} {ts : List Token} {a b : ℕ} {p q : Part}
+    (h : Alike changes x ts a b p q) (i j : ℕ) (s t : Found) : Type 0 where
+  pub moves : Moves changes ts (place i h) (place j h) s t
 
-  declared_moves : (kind : DependencyKind) (b c : Bool) → b ≡ c → (p q : Part) (n : ℕ) → Same p q
-      → Move (declared x ts kind b p n) (declared y us kind c q n)
-  declared_moves kind b c e p q n h =
-      naming_moves kind b c e _ _ (str_in x ts (part p n)) (str_in y us (part q n))
-      (str_moves (part p n) (part q n) (part_moves p q n h))
+pub all : {changes : List TextChange} {x : List ℕ} {ts : List Token} {a b : ℕ} {p q : Part}
+    {h : Alike changes x ts a b p q} {i j : ℕ} {s t : Found} → Run h i j s t → Moves changes ts a b s t
+all {h = h} {i = i} {j = j} run = moves_wider (up zero i h (omega arith)) (last j h) run.moves
 
-  -- ---- forms of their own
-  first_moves : (p q : Part) (s t : Found) → Same p q → Move s t → Move (first_of x ts p s) (first_of y us q t)
-  first_moves p q s t gone k = k
-  first_moves p q s t end k = k
-  first_moves p q s t (pair a b r u h i) k = found_moves a b h
-  first_moves p q s t (same n) k = k
-  first_moves p q s t (made label r u v w h i) k = k
+pub two : {changes : List TextChange} {x : List ℕ} {ts : List Token} {a b : ℕ} {p q : Part}
+    {h : Alike changes x ts a b p q} {i j k n : ℕ} {s t u v : Found} → Run h i j s t → Run h k n u v
+    → nat_le j k ≡ true → Run h i n (s ++ u) (t ++ v)
+two {h = h} {j = j} {k = k} first other le =
+    record { moves = both_move (up j k h (leb-true j k le)) first.moves other.moves }
 
-  returned_moves : (p q : Part) → Same p q → Move (returned x ts p) (returned y us q)
-  returned_moves p q gone = none
-  returned_moves p q end = none
-  returned_moves p q (pair a b r s h end) = none
-  returned_moves p q (pair a b r s h gone) = found_moves a b h
-  returned_moves p q (pair a b r s h (pair c d t u i k)) = found_moves a b h
-  returned_moves p q (pair a b r s h (same n)) = found_moves a b h
-  returned_moves p q (pair a b r s h (made label t u v w i k)) = found_moves a b h
-  returned_moves p q (same n) = none
-  returned_moves p q (made label r s t u h i) = none
+pub found_moves : {changes : List TextChange} {x : List ℕ} {ts : List Token} {a b : ℕ} {p q : Part}
+    → Alike changes x ts a b p q → Moves changes ts a b (found p) (found q)
+found_moves (gone le) = nothing le
+found_moves (end le) = nothing le
+found_moves (pair h i) = nothing (ahead (pair h i))
+found_moves (leaf n low high) = nothing (omega (arith, low, high))
+found_moves (made label low high mid link h m) = moves_wider low high m
 
-  caught_moves : (p q : Part) → Same p q
-      → Move (inside (λ g. at g 0) (group p 0) ++ at p 1 ++ may p 2)
-      (inside (λ g. at g 0) (group q 0) ++ at q 1 ++ may q 2)
-  caught_moves p q h = app _ _ _ _ (app _ _ _ _ (may_moves p q 0 h) (at_moves p q 1 h)) (may_moves p q 2 h)
+pub at_run : {changes : List TextChange} {x : List ℕ} {ts : List Token} {a b : ℕ} {p q : Part}
+    (h : Alike changes x ts a b p q) (n : ℕ) → Run h n (suc n) (at p n) (at q n)
+at_run h n = record { moves = found_moves (part_alike n h) }
 
-  handled_moves : (p q : Part) → Same p q
-      → Move (handled x ts (inside (λ g. at g 0)) p) (handled y us (inside (λ g. at g 0)) q)
-  handled_moves p q gone = caught_moves p q gone
-  handled_moves p q end = caught_moves p q end
-  handled_moves p q (pair a b r s h end) = found_moves a b h
-  handled_moves p q (pair a b r s h gone) = caught_moves p q (pair a b r s h gone)
-  handled_moves p q (pair a b r s h (pair c d t u i k)) = caught_moves p q (pair a b r s h (pair c d t u i k))
-  handled_moves p q (pair a b r s h (same n)) = caught_moves p q (pair a b r s h (same n))
-  handled_moves p q (pair a b r s h (made label t u v w i k)) =
-      caught_moves p q (pair a b r s h (made label t u v w i k))
-  handled_moves p q (same n) = caught_moves p q (same n)
-  handled_moves p q (made label r s t u h i) = caught_moves p q (made label r s t u h i)
+-- sites that move in all parts alike
+abbrev pub MoveAll : List TextChange → List ℕ → List Token → (Part → Found) → (Part → Found) → Type 0
+MoveAll changes x ts f g =
+    (a b : ℕ) (p q : Part) → Alike changes x ts a b p q → Moves changes ts a b (f p) (g q)
 
-  optional_inner_moves : (p q : Part) → Same p q → Move (optional_inner x ts p) (optional_inner y us q)
-  optional_inner_moves p q gone = none
-  optional_inner_moves p q end = none
-  optional_inner_moves p q (pair a b r s h i) = found_moves a b h
-  optional_inner_moves p q (same n) = none
-  optional_inner_moves p q (made label r s t u h i) = i
+pub inside_moves : {changes : List TextChange} {x : List ℕ} {ts : List Token} {a b : ℕ} {p q : Part}
+    (f g : Part → Found) → MoveAll changes x ts f g → Alike changes x ts a b p q
+    → Moves changes ts a b (inside f p) (inside g q)
+inside_moves f g k (gone le) = nothing le
+inside_moves f g k (end le) = nothing le
+inside_moves f g k (pair h i) = k _ _ _ _ (pair h i)
+inside_moves f g k (leaf n low high) = nothing (omega (arith, low, high))
+inside_moves f g k (made label low high mid link h m) =
+    nothing (omega (arith, low, high, mid))
 
-  typed_args_moves : (p q : Part) → Same p q → Move (typed_args x ts p) (typed_args y us q)
-  typed_args_moves p q gone = none
-  typed_args_moves p q end = none
-  typed_args_moves p q (pair a b r s (same n) i) = none
-  typed_args_moves p q (pair a b r s gone i) = at_moves p q 1 (pair a b r s gone i)
-  typed_args_moves p q (pair a b r s end i) = at_moves p q 1 (pair a b r s end i)
-  typed_args_moves p q (pair a b r s (pair c d t u h k) i) = at_moves p q 1 (pair a b r s (pair c d t u h k) i)
-  typed_args_moves p q (pair a b r s (made label t u v w h k) i) =
-      at_moves p q 1 (pair a b r s (made label t u v w h k) i)
-  typed_args_moves p q (same n) = none
-  typed_args_moves p q (made label r s t u h i) = none
+pub each_moves : {changes : List TextChange} {x : List ℕ} {ts : List Token} {a b : ℕ} {p q : Part}
+    (f g : Part → Found) → MoveAll changes x ts f g → Alike changes x ts a b p q
+    → Moves changes ts a b (each f p) (each g q)
+each_moves f g k (gone le) = nothing le
+each_moves f g k (end le) = nothing le
+each_moves f g k (pair h i) = both_move (omega arith) (k _ _ _ _ (grouped h)) (each_moves f g k i)
+each_moves f g k (leaf n low high) = nothing (omega (arith, low, high))
+each_moves f g k (made label low high mid link h m) =
+    nothing (omega (arith, low, high, mid))
 
-  typed_inner_moves : (p q : Part) → Same p q → Move (typed_inner x ts p) (typed_inner y us q)
-  typed_inner_moves p q gone = none
-  typed_inner_moves p q end = none
-  typed_inner_moves p q (pair a b r s h i) = typed_args_moves (more a r) (more b s) (pair a b r s h i)
-  typed_inner_moves p q (same n) = none
-  typed_inner_moves p q (made label r s t u h i) = i
+-- of a part that holds parts
+pub inside_run : {changes : List TextChange} {x : List ℕ} {ts : List Token} {a b : ℕ} {p q : Part}
+    (h : Alike changes x ts a b p q) (n : ℕ) (f g : Part → Found) → MoveAll changes x ts f g
+    → Run h n (suc n) (inside f (group p n)) (inside g (group q n))
+inside_run h n f g k = record { moves = inside_moves f g k (group_alike n h) }
 
-  operand_moves : (g k : Part) → Same g k → (p q : Part) → Same p q → Move (operand x ts g p) (operand y us k q)
-  operand_moves g k h p q gone = at_moves g k 1 h
-  operand_moves g k h p q end = at_moves g k 1 h
-  operand_moves g k h p q (pair a b r s i j) = none
-  operand_moves g k h p q (same n) = at_moves g k 1 h
-  operand_moves g k h p q (made label r s t u i j) = at_moves g k 1 h
+pub each_run : {changes : List TextChange} {x : List ℕ} {ts : List Token} {a b : ℕ} {p q : Part}
+    (h : Alike changes x ts a b p q) (n : ℕ) (f g : Part → Found) → MoveAll changes x ts f g
+    → Run h n (suc n) (each f (group p n)) (each g (group q n))
+each_run h n f g k = record { moves = each_moves f g k (group_alike n h) }
 
-  -- ---- by the alternative, a line for each that has sites
-  pub own_moves : (label : Label) (p q : Part) → Same p q → Move (own x ts label p) (own y us label q)
-  -- modules
-  own_moves l.BareImport p q h = declared_moves kind.Import false false refl p q 0 h
-  own_moves l.FromImport p q h =
-      declared_moves kind.Import (is_there (group p 0)) (is_there (group q 0))
-      (there (group p 0) (group q 0) (group_moves p q 0 h)) p q 2 h
-  own_moves l.RequireImport p q h =
-      naming_moves kind.ImportEquals (is_there (group p 0)) (is_there (group q 0))
-      (there (group p 0) (group q 0) (group_moves p q 0 h)) _ _ (str_in x ts (part p 2)) (str_in y us (part q 2))
-      (str_moves (part p 2) (part q 2) (part_moves p q 2 h))
-  own_moves l.ExportedRequireImport p q h =
-      naming_moves kind.ImportEquals (is_there (group p 0)) (is_there (group q 0))
-      (there (group p 0) (group q 0) (group_moves p q 0 h)) _ _ (str_in x ts (part p 2)) (str_in y us (part q 2))
-      (str_moves (part p 2) (part q 2) (part_moves p q 2 h))
-  own_moves l.ExportAll p q h =
-      declared_moves kind.Export (is_there (group p 0)) (is_there (group q 0))
-      (there (group p 0) (group q 0) (group_moves p q 0 h)) p q 2 h
-  own_moves l.ExportNames p q h =
-      inside_moves (λ g. declared x ts kind.Export (is_there (group p 0)) g 0)
-      (λ g. declared y us kind.Export (is_there (group q 0)) g 0)
-      (λ a b i. (declared_moves kind.Export (is_there (group p 0)) (is_there (group q 0))
-      (there (group p 0) (group q 0) (group_moves p q 0 h)) a b 0 i)) (group p 2) (group q 2)
-      (group_moves p q 2 h)
-  own_moves l.ExportDefaultFunction p q h = at_moves p q 0 h
-  own_moves l.ExportDefaultClass p q h = at_moves p q 0 h
-  own_moves l.ExportDefaultExpression p q h = at_moves p q 0 h
-  own_moves l.ExportDeclaration p q h = at_moves p q 0 h
-  own_moves l.ExportDefaultInterface p q h = at_moves p q 0 h
-  own_moves l.ExportAssignment p q h = at_moves p q 0 h
-  own_moves l.Module p q h = turns_moves p q 1 0 h
-  own_moves l.Script p q h = turns_moves p q 1 0 h
-  -- expressions
-  own_moves l.ImportCall p q h =
-      app _ _ _ _ (naming_moves kind.Dynamic false false refl _ _ (src_in x ts (part p 0)) (src_in y us (part q 0))
-      (src_moves (part p 0) (part q 0) (part_moves p q 0 h))) (app _ _ _ _ (at_moves p q 0 h) (may_moves p q 1 h))
-  own_moves l.TemplateParts p q h = app _ _ _ _ (at_moves p q 1 h) (turns_moves p q 2 1 h)
-  own_moves l.Parenthesized p q h = at_moves p q 0 h
-  own_moves l.ArrayLiteral p q h =
-      each_moves (λ turn. may turn 0) (λ turn. may turn 0) (λ a b i. (may_moves a b 0 i)) (group p 0) (group q 0)
-      (group_moves p q 0 h)
-  own_moves l.ObjectLiteral p q h = turns_moves p q 0 0 h
-  own_moves l.Spread p q h = at_moves p q 0 h
-  own_moves l.Function p q h = app _ _ _ _ (at_moves p q 2 h) (at_moves p q 3 h)
-  own_moves l.AsyncFunction p q h = app _ _ _ _ (at_moves p q 2 h) (at_moves p q 3 h)
-  own_moves l.Class p q h = app _ _ _ _ (may_moves p q 1 h) (turns_moves p q 2 0 h)
-  own_moves l.New p q h = app _ _ _ _ (at_moves p q 0 h) (may_moves p q 1 h)
-  own_moves l.Chain p q h = app _ _ _ _ (at_moves p q 0 h) (app _ _ _ _ (at_moves p q 1 h) (turns_moves p q 2 0 h))
-  own_moves l.UpdatePrefix p q h = at_moves p q 1 h
-  own_moves l.UpdatePostfix p q h = at_moves p q 0 h
-  own_moves l.UnaryExpression p q h = at_moves p q 1 h
-  own_moves l.AwaitExpression p q h = at_moves p q 0 h
-  own_moves l.Binary p q h = app _ _ _ _ (at_moves p q 0 h) (at_moves p q 2 h)
-  own_moves l.PrivateIn p q h = at_moves p q 1 h
-  own_moves l.Conditional p q h = app _ _ _ _ (app _ _ _ _ (at_moves p q 0 h) (at_moves p q 1 h)) (at_moves p q 2 h)
-  own_moves l.Assignment p q h = app _ _ _ _ (at_moves p q 0 h) (at_moves p q 2 h)
-  own_moves l.PatternAssignment p q h = app _ _ _ _ (at_moves p q 0 h) (at_moves p q 1 h)
-  own_moves l.Yield p q h =
-      inside_moves (λ g. at g 1) (λ g. at g 1) (λ a b i. (at_moves a b 1 i)) (group p 0) (group q 0)
-      (group_moves p q 0 h)
-  own_moves l.NameArrow p q h = at_moves (group p 1) (group q 1) 0 (group_moves p q 1 h)
-  own_moves l.AsyncNameArrow p q h = at_moves (group p 1) (group q 1) 0 (group_moves p q 1 h)
-  own_moves l.ParenthesizedArrow p q h =
-      app _ _ _ _ (at_moves p q 0 h) (at_moves (group p 1) (group q 1) 0 (group_moves p q 1 h))
-  own_moves l.AsyncParenthesizedArrow p q h =
-      app _ _ _ _ (at_moves p q 0 h) (at_moves (group p 1) (group q 1) 0 (group_moves p q 1 h))
-  own_moves l.Sequence p q h = app _ _ _ _ (at_moves p q 0 h) (app _ _ _ _ (at_moves p q 1 h) (turns_moves p q 2 0 h))
-  own_moves l.Arguments p q h = turns_moves p q 0 1 h
-  own_moves l.IndexPost p q h = at_moves p q 0 h
-  own_moves l.CallPost p q h = at_moves p q 0 h
-  own_moves l.TemplatePost p q h = at_moves p q 0 h
-  own_moves l.OptionalPost p q h =
-      optional_inner_moves (part (group p 0) 0) (part (group q 0) 0)
-      (part_moves (group p 0) (group q 0) 0 (group_moves p q 0 h))
-  own_moves l.TypedFunction p q h =
-      app _ _ _ _ (at_moves p q 2 h) (at_moves (group p 3) (group q 3) 0 (group_moves p q 3 h))
-  own_moves l.TypedAsyncFunction p q h =
-      app _ _ _ _ (at_moves p q 2 h) (at_moves (group p 3) (group q 3) 0 (group_moves p q 3 h))
-  own_moves l.TypedClass p q h = app _ _ _ _ (may_moves p q 2 h) (turns_moves p q 4 0 h)
-  own_moves l.AbstractClass p q h = app _ _ _ _ (may_moves p q 2 h) (turns_moves p q 4 0 h)
-  own_moves l.TypedNew p q h = app _ _ _ _ (at_moves p q 0 h) (may_moves p q 2 h)
-  own_moves l.TypedBinary p q h =
-      app _ _ _ _ (at_moves p q 0 h)
-      (operand_moves (group p 1) (group q 1) (group_moves p q 1 h) (part (group p 1) 1) (part (group q 1) 1)
-      (part_moves (group p 1) (group q 1) 1 (group_moves p q 1 h)))
-  own_moves l.TypedParenthesizedArrow p q h =
-      app _ _ _ _ (at_moves p q 1 h) (at_moves (group p 3) (group q 3) 0 (group_moves p q 3 h))
-  own_moves l.TypedAsyncParenthesizedArrow p q h =
-      app _ _ _ _ (at_moves p q 1 h) (at_moves (group p 3) (group q 3) 0 (group_moves p q 3 h))
-  own_moves l.TypedCallPost p q h = at_moves p q 1 h
-  own_moves l.TypedTemplatePost p q h = at_moves p q 1 h
-  own_moves l.TypedOptionalPost p q h =
-      typed_inner_moves (part (group p 0) 0) (part (group q 0) 0)
-      (part_moves (group p 0) (group q 0) 0 (group_moves p q 0 h))
-  -- properties, keys and members
-  own_moves l.ComputedKey p q h = at_moves p q 0 h
-  own_moves l.SpreadProperty p q h = at_moves p q 0 h
-  own_moves l.KeyValue p q h = app _ _ _ _ (at_moves p q 0 h) (at_moves p q 1 h)
-  own_moves l.MethodProperty p q h = app _ _ _ _ (at_moves p q 0 h) (app _ _ _ _ (at_moves p q 1 h) (at_moves p q 2 h))
-  own_moves l.GeneratorProperty p q h =
-      app _ _ _ _ (at_moves p q 0 h) (app _ _ _ _ (at_moves p q 1 h) (at_moves p q 2 h))
-  own_moves l.AsyncProperty p q h = app _ _ _ _ (at_moves p q 1 h) (app _ _ _ _ (at_moves p q 2 h) (at_moves p q 3 h))
-  own_moves l.AccessorProperty p q h =
-      app _ _ _ _ (at_moves p q 1 h) (app _ _ _ _ (at_moves p q 2 h) (at_moves p q 3 h))
-  own_moves l.TypedMethodProperty p q h =
-      app _ _ _ _ (at_moves (group p 0) (group q 0) 0 (group_moves p q 0 h))
-      (app _ _ _ _ (at_moves (group p 0) (group q 0) 1 (group_moves p q 0 h)) (at_moves p q 1 h))
-  own_moves l.TypedGeneratorProperty p q h =
-      app _ _ _ _ (at_moves (group p 0) (group q 0) 0 (group_moves p q 0 h))
-      (app _ _ _ _ (at_moves (group p 0) (group q 0) 1 (group_moves p q 0 h)) (at_moves p q 1 h))
-  own_moves l.TypedAsyncProperty p q h =
-      app _ _ _ _ (at_moves (group p 1) (group q 1) 0 (group_moves p q 1 h))
-      (app _ _ _ _ (at_moves (group p 1) (group q 1) 1 (group_moves p q 1 h)) (at_moves p q 2 h))
-  own_moves l.TypedAccessorProperty p q h =
-      app _ _ _ _ (at_moves (group p 1) (group q 1) 0 (group_moves p q 1 h))
-      (app _ _ _ _ (at_moves (group p 1) (group q 1) 1 (group_moves p q 1 h)) (at_moves p q 2 h))
-  own_moves l.StaticBlock p q h = at_moves p q 0 h
-  own_moves l.MethodMember p q h = app _ _ _ _ (at_moves p q 1 h) (app _ _ _ _ (at_moves p q 2 h) (at_moves p q 3 h))
-  own_moves l.GeneratorMember p q h = app _ _ _ _ (at_moves p q 1 h) (app _ _ _ _ (at_moves p q 2 h) (at_moves p q 3 h))
-  own_moves l.AsyncMember p q h = app _ _ _ _ (at_moves p q 2 h) (app _ _ _ _ (at_moves p q 3 h) (at_moves p q 4 h))
-  own_moves l.AccessorMember p q h = app _ _ _ _ (at_moves p q 2 h) (app _ _ _ _ (at_moves p q 3 h) (at_moves p q 4 h))
-  own_moves l.FieldMember p q h = app _ _ _ _ (at_moves p q 1 h) (may_moves p q 2 h)
-  own_moves l.AccessorField p q h = app _ _ _ _ (at_moves p q 1 h) (may_moves p q 2 h)
-  own_moves l.TypedMethodMember p q h =
-      app _ _ _ _ (at_moves (group p 1) (group q 1) 0 (group_moves p q 1 h))
-      (app _ _ _ _ (at_moves (group p 1) (group q 1) 2 (group_moves p q 1 h))
-      (at_moves (group p 2) (group q 2) 0 (group_moves p q 2 h)))
-  own_moves l.TypedGeneratorMember p q h =
-      app _ _ _ _ (at_moves (group p 1) (group q 1) 0 (group_moves p q 1 h))
-      (app _ _ _ _ (at_moves (group p 1) (group q 1) 2 (group_moves p q 1 h))
-      (at_moves (group p 2) (group q 2) 0 (group_moves p q 2 h)))
-  own_moves l.TypedAsyncMember p q h =
-      app _ _ _ _ (at_moves (group p 2) (group q 2) 0 (group_moves p q 2 h))
-      (app _ _ _ _ (at_moves (group p 2) (group q 2) 2 (group_moves p q 2 h))
-      (at_moves (group p 3) (group q 3) 0 (group_moves p q 3 h)))
-  own_moves l.TypedAccessorMember p q h =
-      app _ _ _ _ (at_moves (group p 2) (group q 2) 0 (group_moves p q 2 h))
-      (app _ _ _ _ (at_moves (group p 2) (group q 2) 2 (group_moves p q 2 h))
-      (at_moves (group p 3) (group q 3) 0 (group_moves p q 3 h)))
-  own_moves l.TypedFieldMember p q h = app _ _ _ _ (at_moves p q 1 h) (may_moves p q 4 h)
-  own_moves l.TypedAccessorField p q h = app _ _ _ _ (at_moves p q 1 h) (may_moves p q 4 h)
-  -- patterns and parameters
-  own_moves l.ArrayPattern p q h =
-      each_moves (λ turn. may turn 0) (λ turn. may turn 0) (λ a b i. (may_moves a b 0 i)) (group p 0) (group q 0)
-      (group_moves p q 0 h)
-  own_moves l.ObjectPattern p q h = turns_moves p q 0 0 h
-  own_moves l.RestPattern p q h = at_moves p q 0 h
-  own_moves l.DefaultPattern p q h = app _ _ _ _ (at_moves p q 0 h) (at_moves p q 1 h)
-  own_moves l.RestProperty p q h = at_moves p q 0 h
-  own_moves l.KeyPattern p q h = app _ _ _ _ (at_moves p q 0 h) (app _ _ _ _ (at_moves p q 1 h) (may_moves p q 2 h))
-  own_moves l.NameProperty p q h = may_moves p q 1 h
-  own_moves l.DefaultParameter p q h = app _ _ _ _ (at_moves p q 0 h) (at_moves p q 1 h)
-  own_moves l.MarkedParameter p q h = app _ _ _ _ (at_moves p q 0 h) (may_moves p q 3 h)
-  own_moves l.PropertyParameter p q h = app _ _ _ _ (at_moves p q 1 h) (may_moves p q 4 h)
-  own_moves l.ThisParameter p q h = may_moves p q 3 h
-  own_moves l.Parameters p q h = app _ _ _ _ (turns_moves p q 0 0 h) (may_moves p q 1 h)
-  own_moves l.TypedParameters p q h = app _ _ _ _ (turns_moves p q 0 0 h) (may_moves p q 1 h)
-  own_moves l.Signature p q h = at_moves p q 0 h
-  own_moves l.TypedSignature p q h = at_moves p q 1 h
-  -- statements and declarations
-  own_moves l.Block p q h = turns_moves p q 0 0 h
-  own_moves l.ExpressionStatement p q h = at_moves p q 0 h
-  own_moves l.LabelledStatement p q h = at_moves p q 1 h
-  own_moves l.IfStatement p q h = app _ _ _ _ (app _ _ _ _ (at_moves p q 0 h) (at_moves p q 1 h)) (may_moves p q 2 h)
-  own_moves l.ForStatement p q h =
-      app _ _ _ _ (app _ _ _ _
-      (app _ _ _ _ (first_moves (group p 0) (group q 0) _ _ (group_moves p q 0 h)
-      (first_moves (group p 1) (group q 1) _ _ (group_moves p q 1 h) (may_moves p q 2 h))) (may_moves p q 3 h))
-      (may_moves p q 4 h)) (at_moves p q 5 h)
-  own_moves l.ForEachStatement p q h =
-      app _ _ _ _ (app _ _ _ _ (at_moves p q 0 h) (at_moves (group p 1) (group q 1) 1 (group_moves p q 1 h)))
-      (at_moves p q 2 h)
-  own_moves l.ForAwaitStatement p q h =
-      app _ _ _ _ (app _ _ _ _ (at_moves p q 0 h) (at_moves p q 1 h)) (at_moves p q 2 h)
-  own_moves l.WhileStatement p q h = app _ _ _ _ (at_moves p q 0 h) (at_moves p q 1 h)
-  own_moves l.DoStatement p q h = app _ _ _ _ (at_moves p q 0 h) (at_moves p q 1 h)
-  own_moves l.ReturnStatement p q h = returned_moves (group p 0) (group q 0) (group_moves p q 0 h)
-  own_moves l.ThrowStatement p q h = at_moves p q 0 h
-  own_moves l.SwitchStatement p q h =
-      app _ _ _ _ (at_moves p q 0 h)
-      (each_moves (λ turn. may turn 0 ++ turns turn 1 0) (λ turn. may turn 0 ++ turns turn 1 0)
-      (λ a b i. (app _ _ _ _ (may_moves a b 0 i) (turns_moves a b 1 0 i))) (group p 1) (group q 1)
-      (group_moves p q 1 h))
-  own_moves l.TryStatement p q h =
-      app _ _ _ _ (at_moves p q 0 h) (handled_moves (group p 1) (group q 1) (group_moves p q 1 h))
-  own_moves l.TypedTryStatement p q h =
-      app _ _ _ _ (at_moves p q 0 h) (handled_moves (group p 1) (group q 1) (group_moves p q 1 h))
-  own_moves l.WithStatement p q h = app _ _ _ _ (at_moves p q 0 h) (at_moves p q 1 h)
-  own_moves l.VariableDeclaration p q h = at_moves p q 0 h
-  own_moves l.UsingDeclaration p q h = at_moves p q 0 h
-  own_moves l.Variables p q h = app _ _ _ _ (at_moves p q 1 h) (turns_moves p q 2 0 h)
-  own_moves l.Using p q h = app _ _ _ _ (at_moves p q 1 h) (turns_moves p q 2 0 h)
-  own_moves l.Declarator p q h = app _ _ _ _ (at_moves p q 0 h) (at_moves p q 1 h)
-  own_moves l.TypedDeclarator p q h = app _ _ _ _ (at_moves p q 0 h) (may_moves p q 3 h)
-  own_moves l.VariableHead p q h = at_moves p q 1 h
-  own_moves l.TypedVariableHead p q h = at_moves p q 1 h
-  own_moves l.Declared p q h = at_moves p q 0 h
-  own_moves l.DeclaredVariables p q h = at_moves p q 0 h
-  own_moves l.EnumDeclaration p q h =
-      each_moves (λ turn. at turn 0 ++ may turn 1) (λ turn. at turn 0 ++ may turn 1)
-      (λ a b i. (app _ _ _ _ (at_moves a b 0 i) (may_moves a b 1 i))) (group p 2) (group q 2) (group_moves p q 2 h)
-  own_moves l.NamespaceDeclaration p q h = turns_moves p q 2 0 h
-  own_moves l.ModuleDeclaration p q h = turns_moves (group p 1) (group q 1) 0 0 (group_moves p q 1 h)
-  own_moves l.GlobalDeclaration p q h = turns_moves p q 0 0 h
-  own_moves _ p q h = none
+pub may_run : {changes : List TextChange} {x : List ℕ} {ts : List Token} {a b : ℕ} {p q : Part}
+    (h : Alike changes x ts a b p q) (n : ℕ) → Run h n (suc n) (may p n) (may q n)
+may_run h n = inside_run h n (λ g. at g 0) (λ g. at g 0) (λ a b p q i. all (at_run i 0))
+
+pub turns_run : {changes : List TextChange} {x : List ℕ} {ts : List Token} {a b : ℕ} {p q : Part}
+    (h : Alike changes x ts a b p q) (n m : ℕ) → Run h n (suc n) (turns p n m) (turns q n m)
+turns_run h n m = each_run h n (λ turn. at turn m) (λ turn. at turn m) (λ a b p q i. all (at_run i m))
+
+pub at_in : {changes : List TextChange} {x : List ℕ} {ts : List Token} {a b : ℕ} {p q : Part}
+    (h : Alike changes x ts a b p q) (n m : ℕ) → Run h n (suc n) (at (group p n) m) (at (group q n) m)
+at_in h n m = record { moves = all (at_run (group_alike n h) m) }
+
+pub turns_in : {changes : List TextChange} {x : List ℕ} {ts : List Token} {a b : ℕ} {p q : Part}
+    (h : Alike changes x ts a b p q) (n m k : ℕ)
+    → Run h n (suc n) (turns (group p n) m k) (turns (group q n) m k)
+turns_in h n m k = record { moves = all (turns_run (group_alike n h) m k) }
+
+-- of two parts of one that holds parts, and of parts behind it
+pub two_in : {changes : List TextChange} {x : List ℕ} {ts : List Token} {a b : ℕ} {p q : Part}
+    {h : Alike changes x ts a b p q} {k n : ℕ} {u v : Found} (m i j : ℕ) → nat_le (suc i) j ≡ true
+    → Run h k n u v → nat_le (suc m) k ≡ true
+    → Run h m n (at (group p m) i ++ (at (group p m) j ++ u)) (at (group q m) i ++ (at (group q m) j ++ v))
+two_in {h = h} {k = k} m i j le rest behind =
+    let g = group_alike m h in
+    let first = moves_wider (up zero i g (omega arith)) (omega arith) (at_run g i).moves in
+    let second = moves_wider (omega arith) (last (suc j) g) (at_run g j).moves in
+    record {
+      moves = both_move (up (suc i) j g (leb-true (suc i) j le)) first
+          (both_move (up (suc m) k h (leb-true (suc m) k behind)) second rest.moves);
+    }

@@ -1,63 +1,90 @@
 -- The sites of a plain tree over two texts of which the string literals have moved.
-use Rattle.std.specs.Prelude.{ℕ, List, [], ◌∷◌, map}
-use Rattle.std.proofs.Common.{◌≡◌, sym, subst}
+use Rattle.std.specs.Prelude.{ℕ, ◌+◌, ◌≤◌, List, [], ◌∷◌, map}
+use Rattle.std.proofs.Common.{◌≡◌, refl, sym, subst, arith}
 use Rattle.es_token.specs.declared.token.Token.{Token}
 use Rattle.es_tree.specs.Plain.{Plain, node, leaf, nil, cons, mark, turn, via, made}
-use Rattle.es_whole_grammar.specs.declared.rows.Label.{Label}
-use Rattle.es_whole_tree.specs.declared.tree.Tree.{Tree}
-use Rattle.es_whole_tree.specs.declared.tree.Tree.TheVariants as vTree
-use Rattle.es_whole_tree.specs.Slim.{parts_in, slim, tree_of}
-use Rattle.es_plain_sites.specs.Part.{Part, packed}
+use Rattle.es_type_grammar.specs.Order.{StandsBetween}
+use Rattle.es_grammar.specs.declared.rows.NodeKind.{NodeKind}
+use Rattle.es_cst.specs.declared.tree.Cst.{Cst}
+use Rattle.es_cst.specs.declared.tree.Cst.TheVariants as vCst
+use Rattle.es_cst.specs.Slim.{parts_in, slim, tree_of}
+use Rattle.es_plain_sites.specs.Part.{Part, token, packed}
 use Rattle.es_plain_sites.specs.Own.{part_of, plain_sites}
 use Rattle.es_plain_sites.proofs.Equations.{part_leaf, part_node, part_role, part_parts}
 use Rattle.text_changes.specs.declared.change.TextChange.{TextChange}
-use Rattle.es_edited_sites.specs.Moved.{SitesMove}
-use Rattle.es_edited_sites.proofs.Parts.{Alike, StrsMove, as_target_moves, found_moves, own_moves}
+use Rattle.es_edited_sites.proofs.Attributes.{Keeps}
+use Rattle.es_edited_sites.proofs.Parts.{Moves, Alike, ahead, wider, as_target_alike, found_moves}
 use Rattle.es_edited_sites.proofs.Parts as a
+use Rattle.es_edited_sites.proofs.Own.{StrsMove, own_moves}
 
 module _ (changes : List TextChange) (x : List ℕ) (ts : List Token) (y : List ℕ) (us : List Token)
-    (strs : StrsMove changes x ts y us) where
-  abbrev parts : Plain Label → List Tree
+    (strs : StrsMove changes x ts y us) (keeps : Keeps changes x ts y us) where
+  abbrev Same : ℕ → ℕ → Part → Part → Type 0
+  Same f to p q = Alike changes x ts f to p q
+
+  abbrev parts : Plain NodeKind → List Cst
   parts p = parts_in (made slim p)
 
-  TreeMoves : Plain Label → Type 0
-  TreeMoves p =
-      Alike changes (part_of x ts (tree_of p)) (part_of y us (tree_of p))
-      × Alike changes (packed (map (part_of x ts) (parts p))) (packed (map (part_of y us) (parts p)))
+  abbrev old_parts : List Cst → Part
+  old_parts trees = packed (map (part_of x ts) trees)
 
-  by_forms : (p q r s : Part) → p ≡ q → r ≡ s → Alike changes q s → Alike changes p r
-  by_forms p q r s e f h =
-      let P : Part → Type 0 = λ k. Alike changes k r in
-      let Q : Part → Type 0 = λ k. Alike changes q k in
-      subst P (sym e) (subst Q (sym f) h)
+  abbrev new_parts : List Cst → Part
+  new_parts trees = packed (map (part_of y us) trees)
 
-  listed : (all : List Tree) → Alike changes (packed (map (part_of x ts) all)) (packed (map (part_of y us) all))
-      → Alike changes (part_of x ts (vTree.Parts all)) (part_of y us (vTree.Parts all))
-  listed all h = by_forms _ _ _ _ (part_parts x ts all) (part_parts y us all) h
+  TreeMoves : ℕ → ℕ → Plain NodeKind → Type 0
+  TreeMoves f to p =
+      Same f to (part_of x ts (tree_of p)) (part_of y us (tree_of p))
+      × Same f to (old_parts (parts p)) (new_parts (parts p))
 
-  tree_moves : (p : Plain Label) → TreeMoves p
+  by_forms : (f to : ℕ) (p q r s : Part) → p ≡ q → r ≡ s → Same f to q s → Same f to p r
+  by_forms f to p q r s e g h =
+      let P : Part → Type 0 = λ k. Same f to k r in
+      let Q : Part → Type 0 = λ k. Same f to q k in
+      subst P (sym e) (subst Q (sym g) h)
+
+  listed : (f to : ℕ) (all : List Cst) → Same f to (old_parts all) (new_parts all)
+      → Same f to (part_of x ts (vCst.Parts all)) (part_of y us (vCst.Parts all))
+  listed f to all h = by_forms f to _ _ _ _ (part_parts x ts all) (part_parts y us all) h
+
+  node_moves : (f to first next : ℕ) (label : NodeKind) (all : List Cst) → f ≤ first → next ≤ to
+      → Same first next (old_parts all) (new_parts all)
+      → Same f to (part_of x ts (vCst.Node label first next all)) (part_of y us (vCst.Node label first next all))
+  node_moves f to first next label all low high h =
+      by_forms f to _ _ _ _ (part_node x ts label first next all) (part_node y us label first next all)
+      (a.made label low high (ahead h) (λ never. refl) h
+      (own_moves changes x ts y us strs keeps label first next (old_parts all) (new_parts all) h))
+
+  tree_moves : (f to : ℕ) (p : Plain NodeKind) → StandsBetween f to p → TreeMoves f to p
   unfolding made TreeMoves
-  tree_moves (node label from to ps) = (
-    by_forms _ _ _ _ (part_node x ts label from to (parts ps)) (part_node y us label from to (parts ps))
-        (a.made label (packed (map (part_of x ts) (parts ps))) (packed (map (part_of y us) (parts ps))) _ _
-        (tree_moves ps).1
-        (own_moves changes x ts y us strs label (packed (map (part_of x ts) (parts ps)))
-        (packed (map (part_of y us) (parts ps))) (tree_moves ps).1)),
-    a.end,
-  )
-  tree_moves (leaf s n) = (by_forms _ _ _ _ (part_leaf x ts n) (part_leaf y us n) (a.same n), a.end)
-  tree_moves nil = (listed [] a.end, a.end)
-  tree_moves (cons p ps) =
-      let all = a.pair _ _ _ _ (tree_moves p).0 (tree_moves ps).1 in (listed (tree_of p ∷ parts ps) all, all)
-  tree_moves (mark n ps) = tree_moves ps
-  tree_moves (turn p ps) =
-      let all = a.pair _ _ _ _ (tree_moves p).0 (tree_moves ps).1 in (listed (tree_of p ∷ parts ps) all, all)
-  tree_moves (via label p) = (
-    by_forms _ _ _ _ (part_role x ts label (tree_of p)) (part_role y us label (tree_of p))
-        (as_target_moves changes x ts y us strs _ _ (tree_moves p).0),
-    a.end,
-  )
+  tree_moves f to (node label first next ps) h =
+      let inner = (tree_moves first next ps h.2).1 in
+      let low : f ≤ first = h.0 in
+      let mid : first ≤ next = ahead inner in
+      let high : next ≤ to = h.1 in
+      (node_moves f to first next label (parts ps) low high inner, a.end (omega (arith, low, mid, high)))
+  tree_moves f to (leaf s n) h =
+      let whole : Same f to (token n) (token n) = a.leaf n h.0 h.1 in
+      (by_forms f to _ _ _ _ (part_leaf x ts n) (part_leaf y us n) whole, a.end (ahead whole))
+  tree_moves f to nil h = (listed f to [] (a.end h), a.end h)
+  tree_moves f to (cons p ps) h =
+      let all = a.pair (tree_moves f h.0 p h.1).0 (tree_moves h.0 to ps h.2).1 in
+      (listed f to (tree_of p ∷ parts ps) all, all)
+  tree_moves f to (mark n ps) h =
+      let low : f ≤ n = h.0 in
+      let rest = tree_moves (n + 1) to ps h.1 in
+      let start : f ≤ n + 1 = omega (arith, low) in
+      (wider start (omega arith) rest.0, wider start (omega arith) rest.1)
+  tree_moves f to (turn p ps) h =
+      let all = a.pair (tree_moves f h.0 p h.1).0 (tree_moves h.0 to ps h.2).1 in
+      (listed f to (tree_of p ∷ parts ps) all, all)
+  tree_moves f to (via label p) h =
+      let whole = tree_moves f to p h in (
+        by_forms f to _ _ _ _ (part_role x ts label (tree_of p)) (part_role y us label (tree_of p))
+            (as_target_alike whole.0),
+        a.end (ahead whole.0),
+      )
 
-  pub plain_moves : (p : Plain Label) → SitesMove changes (plain_sites x ts (tree_of p)) (plain_sites y us (tree_of p))
+  pub plain_moves : (f to : ℕ) (p : Plain NodeKind) → StandsBetween f to p
+      → Moves changes ts f to (plain_sites x ts (tree_of p)) (plain_sites y us (tree_of p))
   unfolding TreeMoves
-  plain_moves p = found_moves changes x ts y us strs _ _ (tree_moves p).0
+  plain_moves f to p h = found_moves (tree_moves f to p h).0

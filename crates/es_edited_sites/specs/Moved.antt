@@ -1,8 +1,9 @@
 -- Where the sites of a text stand after other string literals were put in the places of some of its own, and what they
--- name. Attributes are left free.
-use Rattle.std.specs.Prelude.{◌≡◌, ℕ, List, [], ◌∷◌, if◌then◌else◌}
+-- name.
+use Rattle.std.specs.Prelude.{◌≡◌, ℕ, List, [], ◌∷◌, map, ◌⊎◌, if◌then◌else◌}
 use Rattle.base.specs.declared.range.Range.{Range}
 use Rattle.es_literal.specs.Values.{value_of}
+use Rattle.es_site.specs.declared.site.Attribute.{Attribute}
 use Rattle.es_site.specs.declared.site.Site.{Site}
 use Rattle.text_changes.specs.declared.change.TextChange.{TextChange}
 use Rattle.es_edited_tokens.specs.Moved.{is_range, moved, range_to}
@@ -23,3 +24,18 @@ pub data SitesMove (changes : List TextChange) : List Site → List Site → Typ
   none : SitesMove changes [] []
   one : (old new : Site) (olds news : List Site) → SiteMoves changes old new → SitesMove changes olds news
       → SitesMove changes (old ∷ olds) (new ∷ news)
+
+-- ---- attributes, where the changes are those of sites
+
+-- one of the sites has this range
+abbrev pub HasRange : List Site → Range → Type 0
+HasRange [] r = ⊥
+HasRange (site ∷ sites) r = (site.range ≡ r) ⊎ HasRange sites r
+
+-- each change has the range of a site
+abbrev pub AtSites : List Site → List TextChange → Type 0
+AtSites sites [] = Unit {0}
+AtSites sites (c ∷ cs) = HasRange sites c.range × AtSites sites cs
+
+abbrev pub attributes_of : List Site → List Attribute
+attributes_of sites = map (λ (site : Site). site.attribute) sites

@@ -5,8 +5,8 @@ use Rattle.std.proofs.Common.{◌≡◌, refl, sym, ap, subst, ◌∙◌}
 use Rattle.std.proofs.lemmas.List.{append-nil}
 use Rattle.base.specs.declared.range.Range.{Range}
 use Rattle.es_token.specs.declared.token.Token.{Token}
-use Rattle.es_whole_grammar.specs.declared.rows.Label.{Label}
-use Rattle.es_whole_grammar.specs.declared.rows.Label.TheVariants as l
+use Rattle.es_grammar.specs.declared.rows.NodeKind.{NodeKind}
+use Rattle.es_grammar.specs.declared.rows.NodeKind.TheVariants as l
 use Rattle.es_ast.specs.declared.leaf.ImportDecl.{ImportDecl}
 use Rattle.es_ast.specs.declared.leaf.TsImportEqualsDecl.{TsImportEqualsDecl}
 use Rattle.es_ast.specs.declared.ast.Expr.{Expr}
@@ -18,12 +18,12 @@ use Rattle.es_ast.specs.declared.ast.ModuleItem.TheVariants as vItem
 use Rattle.es_ast.specs.declared.ast.Stmt.{Stmt}
 use Rattle.es_ast.specs.declared.ast.ClassMember.TheOpen.{ModuleDecl-F, ModuleItem-F}
 use Rattle.es_site.specs.Parts.{Whole}
-use Rattle.es_dress.specs.Value as v
-use Rattle.es_dress.specs.Value.{Value, given, group}
-use Rattle.es_dress.specs.Texts as texts
-use Rattle.es_dress.specs.Texts.{span_of}
-use Rattle.es_dress.specs.Modules as d
-use Rattle.es_dress.specs.Dress.{build, item_by, module_decl_of, stmt_of, decl_of, declarable_of, same_label}
+use Rattle.es_lowering.specs.Value as v
+use Rattle.es_lowering.specs.Value.{Value, given, group}
+use Rattle.es_lowering.specs.Texts as texts
+use Rattle.es_lowering.specs.Texts.{span_of}
+use Rattle.es_lowering.specs.Modules as d
+use Rattle.es_lowering.specs.Lowering.{build, item_by, module_decl_of, stmt_of, decl_of, declarable_of, same_label}
 use Rattle.es_syntax.specs.declared.entry.Entry.{Entry}
 use Rattle.es_syntax.specs.declared.entry.Lean.{Lean}
 use Rattle.es_syntax.specs.declared.entry.Lean.TheVariants as vLean
@@ -138,7 +138,7 @@ module _ (names : Whole ModuleDecl-F → Names) (imports : (it : ImportDecl) →
           given_quiet (v.entity_at p 2) _ (λ name.
           decl_is _ (ModuleDecl-F.TsImportEquals _) (equals _) (vModuleDecl.rolls-TsImportEquals _)))
 
-      label_quiet : (label : Label) → is_one_of exports label ≡ false → Quiet (module_decl_of x ts label r p)
+      label_quiet : (label : NodeKind) → is_one_of exports label ≡ false → Quiet (module_decl_of x ts label r p)
       unfolding module_decl_of
       label_quiet label e =
           let e1 = not_rest (same_label label l.ExportAll) _ e in

@@ -14,9 +14,9 @@ use Rattle.es_ast.specs.declared.ast.ModuleDecl.{ModuleDecl, roll-ModuleDecl, ou
 use Rattle.es_ast.specs.declared.ast.ModuleDecl.TheVariants as vModuleDecl
 use Rattle.es_ast.specs.declared.ast.ClassMember.TheOpen.{ModuleDecl-F}
 use Rattle.es_site.specs.Parts.{Whole}
-use Rattle.es_dress.specs.Value.{Value, nil, more, as_group, given, group, optional, turns, attributes_at, export_specifier_at}
-use Rattle.es_dress.specs.Texts.{ident_of, str_of, name_of, name_at, token_at}
-use Rattle.es_dress.specs.Modules.{source_with, with_of}
+use Rattle.es_lowering.specs.Value.{Value, nil, more, as_group, given, group, optional, turns, attributes_at, export_specifier_at}
+use Rattle.es_lowering.specs.Texts.{ident_of, str_of, name_of, name_at, token_at}
+use Rattle.es_lowering.specs.Modules.{source_with, with_of}
 use Rattle.es_module_views.specs.Export as export
 use Rattle.es_bound_names.specs.Names.{Names}
 use Rattle.es_bound_names.specs.Adds.{Adds}

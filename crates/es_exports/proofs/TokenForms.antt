@@ -9,8 +9,8 @@ use Rattle.es_tree.specs.Key.{same_kind}
 use Rattle.es_literal.specs.Values.{value_of}
 use Rattle.es_ast.specs.declared.leaf.ModuleExportName.{ModuleExportName}
 use Rattle.es_ast.specs.declared.leaf.ModuleExportName.TheVariants as vName
-use Rattle.es_dress.specs.Value.{Value, nil, more, as_group}
-use Rattle.es_dress.specs.Texts.{ident_of, str_of, name_of, name_at}
+use Rattle.es_lowering.specs.Value.{Value, nil, more, as_group}
+use Rattle.es_lowering.specs.Texts.{ident_of, str_of, name_of, name_at}
 use Rattle.es_bound_names.specs.Names.{Names, ident_names}
 use Rattle.es_bound_names.specs.Adds.{Adds}
 use Rattle.es_exports.specs.Exports.{export_name, all_as}

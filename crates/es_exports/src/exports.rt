@@ -3,7 +3,7 @@
 ghost use Rattle.std.specs.Prelude.{◌≡◌, false, IfOk};
 ghost use Rattle.std.specs.List.{flat_map};
 ghost use Rattle.base.specs.declared.range.Range.{Range};
-ghost use Rattle.es_dress.specs.Value.{as_group, turns, item_at, export_specifier_at};
+ghost use Rattle.es_lowering.specs.Value.{as_group, turns, item_at, export_specifier_at};
 ghost use Rattle.es_module_views.specs.Export.{the_export};
 ghost use Rattle.es_module_name_views.specs.ExportSpecifier.{the_export_specifier};
 ghost use Rattle.es_syntax.specs.Held.{held, valued};
@@ -19,7 +19,7 @@ use es_bound_names::{Names, decl_names, part_in};
 use es_module_name_views::{ExportName, export_specifier_at};
 use es_module_views::{Export, export_at};
 use es_program::Module;
-use es_syntax::{Item, Row};
+use es_syntax::{Item, Siblings};
 use es_token::Token;
 use std::alloc::{AllocError, Global};
 
@@ -36,7 +36,7 @@ pub fn module_exports(alloc: Global, it: &Module) -> Result<Items<Text>, AllocEr
 
 /// The names that the items in turns export.
 #[tactic(auto, using(es_bound_names::proofs::Lists::turns_all, es_bound_names::proofs::Lists::turns_done))]
-fn items_names(out: &mut Names, text: &str, tokens: &[Token], items: &Row<'_>)
+fn items_names(out: &mut Names, text: &str, tokens: &[Token], items: &Siblings<'_>)
     ensures before { out.new.failed ≡ false → out.old.failed ≡ false }
     ensures adds { out.new.failed ≡ false → Adds (flat_map exported_by) out.old.found out.new.found (turns (λ turn. item_at turn 0) (held text.now tokens.now items.now.entries.now)) }
 {
@@ -90,7 +90,7 @@ fn export_names(out: &mut Names, text: &str, tokens: &[Token], it: &Export<'_>)
 
 /// The name behind `as`, which may be absent.
 #[tactic(auto, using(crate::proofs::TokenForms::adds_no_as, crate::proofs::TokenForms::adds_as))]
-fn as_name(out: &mut Names, text: &str, tokens: &[Token], exported: &Row<'_>)
+fn as_name(out: &mut Names, text: &str, tokens: &[Token], exported: &Siblings<'_>)
     ensures before { out.new.failed ≡ false → out.old.failed ≡ false }
     ensures adds { out.new.failed ≡ false → Adds all_as out.old.found out.new.found (named_as text.now tokens.now (held text.now tokens.now exported.now.entries.now)) }
 {
@@ -102,7 +102,7 @@ fn as_name(out: &mut Names, text: &str, tokens: &[Token], exported: &Row<'_>)
 
 /// The outer names in turns in braces.
 #[tactic(auto, using(es_bound_names::proofs::Lists::turns_all, es_bound_names::proofs::Lists::turns_done))]
-fn specifiers_names(out: &mut Names, text: &str, tokens: &[Token], specifiers: &Row<'_>)
+fn specifiers_names(out: &mut Names, text: &str, tokens: &[Token], specifiers: &Siblings<'_>)
     ensures before { out.new.failed ≡ false → out.old.failed ≡ false }
     ensures adds { out.new.failed ≡ false → Adds (flat_map outer_name) out.old.found out.new.found (turns (λ turn. export_specifier_at turn 0) (held text.now tokens.now specifiers.now.entries.now)) }
 {

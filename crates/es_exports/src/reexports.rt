@@ -3,7 +3,7 @@
 ghost use Rattle.std.specs.Prelude.{◌≡◌, false, IfOk};
 ghost use Rattle.std.specs.List.{flat_map};
 ghost use Rattle.base.specs.declared.range.Range.{Range};
-ghost use Rattle.es_dress.specs.Value.{as_group, turns, item_at};
+ghost use Rattle.es_lowering.specs.Value.{as_group, turns, item_at};
 ghost use Rattle.es_module_views.specs.Export.{the_export};
 ghost use Rattle.es_syntax.specs.Held.{held, valued};
 ghost use Rattle.es_syntax.specs.Roles.{item_in};
@@ -16,7 +16,7 @@ use base::{Items, Text};
 use es_bound_names::{Names, part_in};
 use es_module_views::{Export, export_at};
 use es_program::Module;
-use es_syntax::{Item, Row};
+use es_syntax::{Item, Siblings};
 use es_token::Token;
 use std::alloc::{AllocError, Global};
 
@@ -33,7 +33,7 @@ pub fn module_reexports(alloc: Global, it: &Module) -> Result<Items<Text>, Alloc
 
 /// Those of the items in turns.
 #[tactic(auto, using(es_bound_names::proofs::Lists::turns_all, es_bound_names::proofs::Lists::turns_done))]
-fn items_names(out: &mut Names, text: &str, tokens: &[Token], items: &Row<'_>)
+fn items_names(out: &mut Names, text: &str, tokens: &[Token], items: &Siblings<'_>)
     ensures before { out.new.failed ≡ false → out.old.failed ≡ false }
     ensures adds { out.new.failed ≡ false → Adds (flat_map reexported_by) out.old.found out.new.found (turns (λ turn. item_at turn 0) (held text.now tokens.now items.now.entries.now)) }
 {

@@ -2,8 +2,8 @@
 
 ghost use Rattle.std.specs.Prelude.{◌≡◌, ◌++◌, ◌∷◌, [], false, slice_get};
 ghost use Rattle.std.specs.Option.{option_map};
-ghost use Rattle.es_dress.specs.Value.{as_group};
-ghost use Rattle.es_dress.specs.Texts.{name_of, str_of, name_at};
+ghost use Rattle.es_lowering.specs.Value.{as_group};
+ghost use Rattle.es_lowering.specs.Texts.{name_of, str_of, name_at};
 ghost use Rattle.es_literal.specs.Values.{value_of};
 ghost use Rattle.es_syntax.specs.Held.{valued};
 ghost use Rattle.es_exports.specs.Exports.{export_name};

@@ -2,15 +2,15 @@
 use Rattle.std.specs.Prelude.{◌+◌, ◌++◌, ℕ, List, [], ◌∷◌, Option, Some, None, option_map, slice_get}
 use Rattle.base.specs.declared.range.Range.{Range}
 use Rattle.es_token.specs.declared.token.Token.{Token}
-use Rattle.es_whole_grammar.specs.declared.rows.Label.{Label}
-use Rattle.es_whole_grammar.specs.declared.rows.Label.TheVariants as l
+use Rattle.es_grammar.specs.declared.rows.NodeKind.{NodeKind}
+use Rattle.es_grammar.specs.declared.rows.NodeKind.TheVariants as l
 use Rattle.es_ast.specs.declared.leaf.Lit.TheVariants as vLit
 use Rattle.es_ast.specs.declared.ast.Expr.{Expr}
 use Rattle.es_ast.specs.declared.ast.Expr.TheVariants as vExpr
-use Rattle.es_dress.specs.Value.{Value, given, turns, expr_at, prop_at}
-use Rattle.es_dress.specs.Texts.{ident_of, numeric_of, str_of, regex_of, piece_of, piece_there}
-use Rattle.es_dress.specs.Expressions.{word_of, elements}
-use Rattle.es_syntax.specs.declared.cursor.Row.{Row}
+use Rattle.es_lowering.specs.Value.{Value, given, turns, expr_at, prop_at}
+use Rattle.es_lowering.specs.Texts.{ident_of, numeric_of, str_of, regex_of, piece_of, piece_there}
+use Rattle.es_lowering.specs.Expressions.{word_of, elements}
+use Rattle.es_syntax.specs.declared.cursor.Siblings.{Siblings}
 use Rattle.es_syntax.specs.Held.{held, valued}
 use Rattle.es_syntax.specs.Roles.{expr_in}
 use Rattle.es_syntax.specs.Views.{Under, Within}
@@ -18,7 +18,7 @@ use Rattle.es_expr_views.specs.declared.primary.Primary.{Primary}
 use Rattle.es_expr_views.specs.declared.primary.Primary.TheVariants as view
 
 -- the alternatives
-abbrev pub primaries : List Label
+abbrev pub primaries : List NodeKind
 primaries =
     l.Name ∷ l.Word ∷ l.Number ∷ l.Str ∷ l.RegExp ∷ l.Template ∷ l.TemplateParts ∷ l.Parenthesized ∷ l.ArrayLiteral ∷
     l.ObjectLiteral ∷ l.Spread ∷ []
@@ -83,7 +83,7 @@ the_primary x ts r (view.Spread expr) = spread r (expr_in (valued x ts expr))
 the_primary x ts r view.Broken = None
 
 -- the parts take fewer entries
-abbrev pub IsBelow : Row → Primary → Type 0
+abbrev pub IsBelow : Siblings → Primary → Type 0
 IsBelow n (view.Ident token) = Unit {0}
 IsBelow n (view.Word token) = Unit {0}
 IsBelow n (view.Number token) = Unit {0}

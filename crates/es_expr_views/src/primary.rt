@@ -3,15 +3,15 @@
 ghost use Rattle.std.specs.Prelude.{◌≡◌, ℕ, List, IfSome, IfNone};
 ghost use Rattle.base.specs.declared.range.Range.{Range};
 ghost use Rattle.es_token.specs.declared.token.Token.{Token as Tok};
-ghost use Rattle.es_dress.specs.Expressions.{name, word, number, str, regexp, template, template_parts, parenthesized, array_literal, object_literal, spread};
-ghost use Rattle.es_dress.specs.Texts.{span_of};
+ghost use Rattle.es_lowering.specs.Expressions.{name, word, number, str, regexp, template, template_parts, parenthesized, array_literal, object_literal, spread};
+ghost use Rattle.es_lowering.specs.Texts.{span_of};
 ghost use Rattle.es_syntax.specs.Held.{held, valued};
 ghost use Rattle.es_syntax.specs.Roles.{expr_in};
 ghost use Rattle.es_syntax.specs.Views.{IsNone};
 ghost use Rattle.es_expr_views.specs.Primary.{primaries, the_primary, IsBelow};
 
-use es_syntax::{Item, Row, What};
-use es_whole_grammar::Label;
+use es_grammar::NodeKind;
+use es_syntax::{Item, Siblings, What};
 
 /// A primary expression, with its parts where they stand. Numbers are those of tokens.
 #[derive(Clone, Copy)]
@@ -29,7 +29,7 @@ pub enum Primary<'a> {
     TemplateParts {
         head: u32,
         first: Item<'a>,
-        others: Row<'a>,
+        others: Siblings<'a>,
         tail: u32,
     },
     /// `(a)`
@@ -37,10 +37,10 @@ pub enum Primary<'a> {
     /// Its first token, and its elements as turns.
     Array {
         from: u32,
-        elems: Row<'a>,
+        elems: Siblings<'a>,
     },
     /// Its properties as turns.
-    Object(Row<'a>),
+    Object(Siblings<'a>),
     /// `...a`
     Spread(Item<'a>),
     /// A part is not there: no expression.
@@ -48,8 +48,8 @@ pub enum Primary<'a> {
 }
 
 /// A name.
-#[tactic(auto, unfolding(es_dress::specs::Expressions::name, crate::specs::Primary::ident))]
-fn name<'a>(parts: &Row<'a>) -> Primary<'a>
+#[tactic(auto, unfolding(es_lowering::specs::Expressions::name, crate::specs::Primary::ident))]
+fn name<'a>(parts: &Siblings<'a>) -> Primary<'a>
     ensures form { (x : List ℕ) (ts : List Tok) (r : Range) → name x ts (held x ts parts.now.entries.now) ≡ the_primary x ts r result }
     ensures below { IsBelow parts.now result }
 {
@@ -60,8 +60,8 @@ fn name<'a>(parts: &Row<'a>) -> Primary<'a>
 }
 
 /// `this`, `null`, `true`, `false`
-#[tactic(auto, unfolding(es_dress::specs::Expressions::word, crate::specs::Primary::word))]
-fn word<'a>(parts: &Row<'a>) -> Primary<'a>
+#[tactic(auto, unfolding(es_lowering::specs::Expressions::word, crate::specs::Primary::word))]
+fn word<'a>(parts: &Siblings<'a>) -> Primary<'a>
     ensures form { (x : List ℕ) (ts : List Tok) (r : Range) → word ts r (held x ts parts.now.entries.now) ≡ the_primary x ts r result }
     ensures below { IsBelow parts.now result }
 {
@@ -72,8 +72,8 @@ fn word<'a>(parts: &Row<'a>) -> Primary<'a>
 }
 
 /// A number or a BigInt.
-#[tactic(auto, unfolding(es_dress::specs::Expressions::number, crate::specs::Primary::number))]
-fn number<'a>(parts: &Row<'a>) -> Primary<'a>
+#[tactic(auto, unfolding(es_lowering::specs::Expressions::number, crate::specs::Primary::number))]
+fn number<'a>(parts: &Siblings<'a>) -> Primary<'a>
     ensures form { (x : List ℕ) (ts : List Tok) (r : Range) → number x ts (held x ts parts.now.entries.now) ≡ the_primary x ts r result }
     ensures below { IsBelow parts.now result }
 {
@@ -84,8 +84,8 @@ fn number<'a>(parts: &Row<'a>) -> Primary<'a>
 }
 
 /// A string literal.
-#[tactic(auto, unfolding(es_dress::specs::Expressions::str, crate::specs::Primary::str))]
-fn str<'a>(parts: &Row<'a>) -> Primary<'a>
+#[tactic(auto, unfolding(es_lowering::specs::Expressions::str, crate::specs::Primary::str))]
+fn str<'a>(parts: &Siblings<'a>) -> Primary<'a>
     ensures form { (x : List ℕ) (ts : List Tok) (r : Range) → str x ts (held x ts parts.now.entries.now) ≡ the_primary x ts r result }
     ensures below { IsBelow parts.now result }
 {
@@ -96,8 +96,8 @@ fn str<'a>(parts: &Row<'a>) -> Primary<'a>
 }
 
 /// A regular expression.
-#[tactic(auto, unfolding(es_dress::specs::Expressions::regexp, crate::specs::Primary::regexp))]
-fn regexp<'a>(parts: &Row<'a>) -> Primary<'a>
+#[tactic(auto, unfolding(es_lowering::specs::Expressions::regexp, crate::specs::Primary::regexp))]
+fn regexp<'a>(parts: &Siblings<'a>) -> Primary<'a>
     ensures form { (x : List ℕ) (ts : List Tok) (r : Range) → regexp x ts (held x ts parts.now.entries.now) ≡ the_primary x ts r result }
     ensures below { IsBelow parts.now result }
 {
@@ -108,8 +108,8 @@ fn regexp<'a>(parts: &Row<'a>) -> Primary<'a>
 }
 
 /// A template without holes.
-#[tactic(auto, unfolding(es_dress::specs::Expressions::template, crate::specs::Primary::template))]
-fn template<'a>(parts: &Row<'a>) -> Primary<'a>
+#[tactic(auto, unfolding(es_lowering::specs::Expressions::template, crate::specs::Primary::template))]
+fn template<'a>(parts: &Siblings<'a>) -> Primary<'a>
     ensures form { (x : List ℕ) (ts : List Tok) (r : Range) → template x ts r (held x ts parts.now.entries.now) ≡ the_primary x ts r result }
     ensures below { IsBelow parts.now result }
 {
@@ -120,8 +120,8 @@ fn template<'a>(parts: &Row<'a>) -> Primary<'a>
 }
 
 /// A template with holes.
-#[tactic(auto, unfolding(es_dress::specs::Expressions::template_parts, crate::specs::Primary::template_parts))]
-fn template_parts<'a>(parts: &Row<'a>) -> Primary<'a>
+#[tactic(auto, unfolding(es_lowering::specs::Expressions::template_parts, crate::specs::Primary::template_parts))]
+fn template_parts<'a>(parts: &Siblings<'a>) -> Primary<'a>
     ensures form { (x : List ℕ) (ts : List Tok) (r : Range) → template_parts x ts r (held x ts parts.now.entries.now) ≡ the_primary x ts r result }
     ensures below { IsBelow parts.now result }
 {
@@ -143,8 +143,8 @@ fn template_parts<'a>(parts: &Row<'a>) -> Primary<'a>
 }
 
 /// `(a)`
-#[tactic(auto, unfolding(es_dress::specs::Expressions::parenthesized, crate::specs::Primary::paren))]
-fn parenthesized<'a>(parts: &Row<'a>) -> Primary<'a>
+#[tactic(auto, unfolding(es_lowering::specs::Expressions::parenthesized, crate::specs::Primary::paren))]
+fn parenthesized<'a>(parts: &Siblings<'a>) -> Primary<'a>
     ensures form { (x : List ℕ) (ts : List Tok) (r : Range) → parenthesized r (held x ts parts.now.entries.now) ≡ the_primary x ts r result }
     ensures below { IsBelow parts.now result }
 {
@@ -155,8 +155,8 @@ fn parenthesized<'a>(parts: &Row<'a>) -> Primary<'a>
 }
 
 /// `[a, , b]`
-#[tactic(auto, unfolding(es_dress::specs::Expressions::array_literal, crate::specs::Primary::array))]
-fn array_literal<'a>(from: u32, parts: &Row<'a>) -> Primary<'a>
+#[tactic(auto, unfolding(es_lowering::specs::Expressions::array_literal, crate::specs::Primary::array))]
+fn array_literal<'a>(from: u32, parts: &Siblings<'a>) -> Primary<'a>
     ensures form { (x : List ℕ) (ts : List Tok) (r : Range) → array_literal ts from r (held x ts parts.now.entries.now) ≡ the_primary x ts r result }
     ensures below { IsBelow parts.now result }
 {
@@ -167,8 +167,8 @@ fn array_literal<'a>(from: u32, parts: &Row<'a>) -> Primary<'a>
 }
 
 /// `{ a: b }`
-#[tactic(auto, unfolding(es_dress::specs::Expressions::object_literal, crate::specs::Primary::object))]
-fn object_literal<'a>(parts: &Row<'a>) -> Primary<'a>
+#[tactic(auto, unfolding(es_lowering::specs::Expressions::object_literal, crate::specs::Primary::object))]
+fn object_literal<'a>(parts: &Siblings<'a>) -> Primary<'a>
     ensures form { (x : List ℕ) (ts : List Tok) (r : Range) → object_literal r (held x ts parts.now.entries.now) ≡ the_primary x ts r result }
     ensures below { IsBelow parts.now result }
 {
@@ -176,8 +176,8 @@ fn object_literal<'a>(parts: &Row<'a>) -> Primary<'a>
 }
 
 /// `...a`
-#[tactic(auto, unfolding(es_dress::specs::Expressions::spread, crate::specs::Primary::spread))]
-fn spread<'a>(parts: &Row<'a>) -> Primary<'a>
+#[tactic(auto, unfolding(es_lowering::specs::Expressions::spread, crate::specs::Primary::spread))]
+fn spread<'a>(parts: &Siblings<'a>) -> Primary<'a>
     ensures form { (x : List ℕ) (ts : List Tok) (r : Range) → spread r (held x ts parts.now.entries.now) ≡ the_primary x ts r result }
     ensures below { IsBelow parts.now result }
 {
@@ -188,7 +188,7 @@ fn spread<'a>(parts: &Row<'a>) -> Primary<'a>
 }
 
 /// What a node is as a primary expression; none where it is of another alternative.
-#[tactic(auto, unfolding(es_dress::specs::Dress::build, es_dress::specs::Dress::expr_of))]
+#[tactic(auto, unfolding(es_lowering::specs::Lowering::build, es_lowering::specs::Lowering::expr_of))]
 pub fn primary_at<'a>(node: &Item<'a>) -> Option<Primary<'a>>
     ensures form { (x : List ℕ) (ts : List Tok) → IfSome result (λ view. expr_in (valued x ts node.now) ≡ the_primary x ts (span_of ts node.now.from node.now.to) view) }
     ensures other { IfNone result (IsNone primaries node.now.what) }
@@ -196,17 +196,17 @@ pub fn primary_at<'a>(node: &Item<'a>) -> Option<Primary<'a>>
 {
     match node.what {
         What::Node(label) => match label {
-            Label::Name => Some(name(&node.parts)),
-            Label::Word => Some(word(&node.parts)),
-            Label::Number => Some(number(&node.parts)),
-            Label::Str => Some(str(&node.parts)),
-            Label::RegExp => Some(regexp(&node.parts)),
-            Label::Template => Some(template(&node.parts)),
-            Label::TemplateParts => Some(template_parts(&node.parts)),
-            Label::Parenthesized => Some(parenthesized(&node.parts)),
-            Label::ArrayLiteral => Some(array_literal(node.from, &node.parts)),
-            Label::ObjectLiteral => Some(object_literal(&node.parts)),
-            Label::Spread => Some(spread(&node.parts)),
+            NodeKind::Name => Some(name(&node.parts)),
+            NodeKind::Word => Some(word(&node.parts)),
+            NodeKind::Number => Some(number(&node.parts)),
+            NodeKind::Str => Some(str(&node.parts)),
+            NodeKind::RegExp => Some(regexp(&node.parts)),
+            NodeKind::Template => Some(template(&node.parts)),
+            NodeKind::TemplateParts => Some(template_parts(&node.parts)),
+            NodeKind::Parenthesized => Some(parenthesized(&node.parts)),
+            NodeKind::ArrayLiteral => Some(array_literal(node.from, &node.parts)),
+            NodeKind::ObjectLiteral => Some(object_literal(&node.parts)),
+            NodeKind::Spread => Some(spread(&node.parts)),
             _ => None,
         },
         What::Leaf => None,

@@ -4,10 +4,10 @@ use Rattle.base.specs.declared.range.Range.{Range}
 use Rattle.es_token.specs.declared.token.Token.{Token}
 use Rattle.ts_ast.specs.declared.ts.TsPart.TheVariants as vPart
 use Rattle.es_ast.specs.declared.ast.Class.{Class as AClass, roll-Class}
-use Rattle.es_dress.specs.Value.{Value, given, group, optional, turns, expr_at, member_at, type_params_at, arguments_at}
-use Rattle.es_dress.specs.Texts.{own_name_of}
-use Rattle.es_dress.specs.TypedParts.{heritage_in}
-use Rattle.es_syntax.specs.declared.cursor.Row.{Row}
+use Rattle.es_lowering.specs.Value.{Value, given, group, optional, turns, expr_at, member_at, type_params_at, arguments_at}
+use Rattle.es_lowering.specs.Texts.{own_name_of}
+use Rattle.es_lowering.specs.TypedParts.{heritage_in}
+use Rattle.es_syntax.specs.declared.cursor.Siblings.{Siblings}
 use Rattle.es_syntax.specs.Held.{held, there}
 use Rattle.es_syntax.specs.Views.{Within, MaybeUnder}
 use Rattle.es_function_views.specs.declared.class.ClassHead.{ClassHead}
@@ -61,7 +61,7 @@ the_class x ts r (view.Typed is_abstract name type_params extends implements mem
 the_class x ts r view.Broken = None
 
 -- the parts take fewer entries
-abbrev pub IsBelow : Row → ClassHead → Type 0
+abbrev pub IsBelow : Siblings → ClassHead → Type 0
 IsBelow n (view.Plain name super_class members) = MaybeUnder name n × Within super_class n × Within members n
 IsBelow n (view.Typed is_abstract name type_params extends implements members) =
     MaybeUnder name n × Within type_params n × Within extends n × Within implements n × Within members n

@@ -2,17 +2,17 @@
 use Rattle.std.specs.Prelude.{ℕ, Bool, false, List, [], ◌∷◌, Option, Some, None, option_map, slice_get}
 use Rattle.base.specs.declared.range.Range.{Range}
 use Rattle.es_token.specs.declared.token.Token.{Token}
-use Rattle.es_whole_grammar.specs.declared.rows.Label.{Label}
-use Rattle.es_whole_grammar.specs.declared.rows.Label.TheVariants as l
+use Rattle.es_grammar.specs.declared.rows.NodeKind.{NodeKind}
+use Rattle.es_grammar.specs.declared.rows.NodeKind.TheVariants as l
 use Rattle.es_ast.specs.declared.ast.Expr.{Expr}
 use Rattle.es_ast.specs.declared.ast.Expr.TheVariants as vExpr
 use Rattle.es_ast.specs.declared.ast.Param.{Param}
 use Rattle.ts_ast.specs.declared.ts.TsPart.TheVariants as vPart
-use Rattle.es_dress.specs.Value.{Value, given, optional, type_at, type_params_at}
-use Rattle.es_dress.specs.Functions.{function, arrow_of, name_param, body_of}
-use Rattle.es_dress.specs.Classes.{class_}
-use Rattle.es_dress.specs.TypedFunctions.{typed_function, typed_class, typed_function_of}
-use Rattle.es_syntax.specs.declared.cursor.Row.{Row}
+use Rattle.es_lowering.specs.Value.{Value, given, optional, type_at, type_params_at}
+use Rattle.es_lowering.specs.Functions.{function, arrow_of, name_param, body_of}
+use Rattle.es_lowering.specs.Classes.{class_}
+use Rattle.es_lowering.specs.TypedFunctions.{typed_function, typed_class, typed_function_of}
+use Rattle.es_syntax.specs.declared.cursor.Siblings.{Siblings}
 use Rattle.es_syntax.specs.Held.{held, valued}
 use Rattle.es_syntax.specs.Roles.{params_in}
 use Rattle.es_syntax.specs.Views.{Under, Within}
@@ -20,7 +20,7 @@ use Rattle.es_function_views.specs.declared.function.Function.{Function}
 use Rattle.es_function_views.specs.declared.function.Function.TheVariants as view
 
 -- the alternatives
-abbrev pub functions : List Label
+abbrev pub functions : List NodeKind
 functions =
     l.Function ∷ l.AsyncFunction ∷ l.TypedFunction ∷ l.TypedAsyncFunction ∷ l.Class ∷ l.TypedClass ∷ l.AbstractClass
     ∷ l.NameArrow ∷ l.AsyncNameArrow ∷ l.ParenthesizedArrow ∷ l.AsyncParenthesizedArrow ∷ l.TypedParenthesizedArrow ∷
@@ -64,7 +64,7 @@ the_function x ts r (view.TypedArrow is_async type_params params return_type bod
 the_function x ts r view.Broken = None
 
 -- the parts take fewer entries
-abbrev pub IsBelow : Row → Function → Type 0
+abbrev pub IsBelow : Siblings → Function → Type 0
 IsBelow n (view.Plain is_async parts) = Within parts n
 IsBelow n (view.Typed is_async parts) = Within parts n
 IsBelow n (view.Class parts) = Within parts n

@@ -5,12 +5,12 @@ use Rattle.es_token.specs.declared.token.Token.{Token}
 use Rattle.es_ast.specs.declared.ast.Stmt.{Stmt}
 use Rattle.es_ast.specs.declared.ast.Param.{Param}
 use Rattle.es_ast.specs.declared.ast.Function.{Function as AFunction}
-use Rattle.es_dress.specs.Value.{Value, Signature, given}
-use Rattle.es_dress.specs.Texts.{own_name_of}
-use Rattle.es_dress.specs.Functions.{function_of}
-use Rattle.es_dress.specs.TypedFunctions.{typed_function_of}
-use Rattle.es_dress.specs.TypedParts.{body_in}
-use Rattle.es_syntax.specs.declared.cursor.Row.{Row}
+use Rattle.es_lowering.specs.Value.{Value, Signature, given}
+use Rattle.es_lowering.specs.Texts.{own_name_of}
+use Rattle.es_lowering.specs.Functions.{function_of}
+use Rattle.es_lowering.specs.TypedFunctions.{typed_function_of}
+use Rattle.es_lowering.specs.TypedParts.{body_in}
+use Rattle.es_syntax.specs.declared.cursor.Siblings.{Siblings}
 use Rattle.es_syntax.specs.Held.{held, valued, there}
 use Rattle.es_syntax.specs.Roles.{params_in, signature_in, stmt_in}
 use Rattle.es_syntax.specs.Views.{Under, Within, MaybeUnder}
@@ -43,7 +43,7 @@ the_head x ts r (view.Typed is_async is_generator name signature body) =
 the_head x ts r view.Broken = None
 
 -- the parts take fewer entries
-abbrev pub IsBelow : Row → FunctionHead → Type 0
+abbrev pub IsBelow : Siblings → FunctionHead → Type 0
 IsBelow n (view.Plain is_async is_generator name params body) = MaybeUnder name n × Under params n × Under body n
 IsBelow n (view.Typed is_async is_generator name signature body) =
     MaybeUnder name n × Under signature n × Within body n

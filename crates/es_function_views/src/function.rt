@@ -3,16 +3,16 @@
 ghost use Rattle.std.specs.Prelude.{◌≡◌, ℕ, List, IfSome, IfNone};
 ghost use Rattle.base.specs.declared.range.Range.{Range};
 ghost use Rattle.es_token.specs.declared.token.Token.{Token as Tok};
-ghost use Rattle.es_dress.specs.Functions.{name_arrow, parenthesized_arrow};
-ghost use Rattle.es_dress.specs.TypedFunctions.{typed_arrow};
-ghost use Rattle.es_dress.specs.Texts.{span_of};
+ghost use Rattle.es_lowering.specs.Functions.{name_arrow, parenthesized_arrow};
+ghost use Rattle.es_lowering.specs.TypedFunctions.{typed_arrow};
+ghost use Rattle.es_lowering.specs.Texts.{span_of};
 ghost use Rattle.es_syntax.specs.Held.{held, valued};
 ghost use Rattle.es_syntax.specs.Roles.{expr_in};
 ghost use Rattle.es_syntax.specs.Views.{IsNone};
 ghost use Rattle.es_function_views.specs.Function.{functions, the_function, IsBelow};
 
-use es_syntax::{Item, Row, What};
-use es_whole_grammar::Label;
+use es_grammar::NodeKind;
+use es_syntax::{Item, Siblings, What};
 
 /// A function or a class as an expression. Numbers are those of tokens.
 #[derive(Clone, Copy)]
@@ -20,19 +20,19 @@ pub enum Function<'a> {
     /// `function a(b) {}`, behind `async` or not: its parts, which `plain_function` tells.
     Plain {
         is_async: bool,
-        parts: Row<'a>,
+        parts: Siblings<'a>,
     },
     /// The same of TypeScript, which `typed_function` tells.
     Typed {
         is_async: bool,
-        parts: Row<'a>,
+        parts: Siblings<'a>,
     },
     /// `class a {}`: its parts, which `plain_class` tells.
-    Class(Row<'a>),
+    Class(Siblings<'a>),
     /// The same of TypeScript, behind `abstract` or not, which `typed_class` tells.
     TypedClass {
         is_abstract: bool,
-        parts: Row<'a>,
+        parts: Siblings<'a>,
     },
     /// `a => b`: its parameter, and a block or an expression.
     NameArrow {
@@ -49,9 +49,9 @@ pub enum Function<'a> {
     /// `<T>(a, b): R => c`: its type parameters and its result may be absent.
     TypedArrow {
         is_async: bool,
-        type_params: Row<'a>,
+        type_params: Siblings<'a>,
         params: Item<'a>,
-        return_type: Row<'a>,
+        return_type: Siblings<'a>,
         body: Item<'a>,
     },
     /// A part is not there.
@@ -59,8 +59,8 @@ pub enum Function<'a> {
 }
 
 /// `a => b`: its parameter, and a block or an expression.
-#[tactic(auto, unfolding(es_dress::specs::Functions::name_arrow, crate::specs::Function::named_arrow))]
-fn name_arrow<'a>(is_async: bool, parts: &Row<'a>) -> Function<'a>
+#[tactic(auto, unfolding(es_lowering::specs::Functions::name_arrow, crate::specs::Function::named_arrow))]
+fn name_arrow<'a>(is_async: bool, parts: &Siblings<'a>) -> Function<'a>
     ensures form { (x : List ℕ) (ts : List Tok) (r : Range) → name_arrow x ts is_async r (held x ts parts.now.entries.now) ≡ the_function x ts r result }
     ensures below { IsBelow parts.now result }
 {
@@ -78,8 +78,8 @@ fn name_arrow<'a>(is_async: bool, parts: &Row<'a>) -> Function<'a>
 }
 
 /// `(a, b) => c`
-#[tactic(auto, unfolding(es_dress::specs::Functions::parenthesized_arrow, crate::specs::Function::arrow))]
-fn arrow<'a>(is_async: bool, parts: &Row<'a>) -> Function<'a>
+#[tactic(auto, unfolding(es_lowering::specs::Functions::parenthesized_arrow, crate::specs::Function::arrow))]
+fn arrow<'a>(is_async: bool, parts: &Siblings<'a>) -> Function<'a>
     ensures form { (x : List ℕ) (ts : List Tok) (r : Range) → parenthesized_arrow ts is_async r (held x ts parts.now.entries.now) ≡ the_function x ts r result }
     ensures below { IsBelow parts.now result }
 {
@@ -97,8 +97,8 @@ fn arrow<'a>(is_async: bool, parts: &Row<'a>) -> Function<'a>
 }
 
 /// `<T>(a, b): R => c`: its type parameters and its result may be absent.
-#[tactic(auto, unfolding(es_dress::specs::TypedFunctions::typed_arrow, crate::specs::Function::typed_arrow_of))]
-fn typed_arrow<'a>(is_async: bool, parts: &Row<'a>) -> Function<'a>
+#[tactic(auto, unfolding(es_lowering::specs::TypedFunctions::typed_arrow, crate::specs::Function::typed_arrow_of))]
+fn typed_arrow<'a>(is_async: bool, parts: &Siblings<'a>) -> Function<'a>
     ensures form { (x : List ℕ) (ts : List Tok) (r : Range) → typed_arrow ts is_async r (held x ts parts.now.entries.now) ≡ the_function x ts r result }
     ensures below { IsBelow parts.now result }
 {
@@ -118,7 +118,7 @@ fn typed_arrow<'a>(is_async: bool, parts: &Row<'a>) -> Function<'a>
 }
 
 /// What a node is as a function or a class that is an expression; none where it is of another alternative.
-#[tactic(auto, unfolding(es_dress::specs::Dress::build, es_dress::specs::Dress::expr_of))]
+#[tactic(auto, unfolding(es_lowering::specs::Lowering::build, es_lowering::specs::Lowering::expr_of))]
 pub fn function_at<'a>(node: &Item<'a>) -> Option<Function<'a>>
     ensures form { (x : List ℕ) (ts : List Tok) → IfSome result (λ view. expr_in (valued x ts node.now) ≡ the_function x ts (span_of ts node.now.from node.now.to) view) }
     ensures other { IfNone result (IsNone functions node.now.what) }
@@ -126,37 +126,37 @@ pub fn function_at<'a>(node: &Item<'a>) -> Option<Function<'a>>
 {
     match node.what {
         What::Node(label) => match label {
-            Label::Function => Some(Function::Plain {
+            NodeKind::Function => Some(Function::Plain {
                 is_async: false,
                 parts: node.parts,
             }),
-            Label::AsyncFunction => Some(Function::Plain {
+            NodeKind::AsyncFunction => Some(Function::Plain {
                 is_async: true,
                 parts: node.parts,
             }),
-            Label::TypedFunction => Some(Function::Typed {
+            NodeKind::TypedFunction => Some(Function::Typed {
                 is_async: false,
                 parts: node.parts,
             }),
-            Label::TypedAsyncFunction => Some(Function::Typed {
+            NodeKind::TypedAsyncFunction => Some(Function::Typed {
                 is_async: true,
                 parts: node.parts,
             }),
-            Label::Class => Some(Function::Class(node.parts)),
-            Label::TypedClass => Some(Function::TypedClass {
+            NodeKind::Class => Some(Function::Class(node.parts)),
+            NodeKind::TypedClass => Some(Function::TypedClass {
                 is_abstract: false,
                 parts: node.parts,
             }),
-            Label::AbstractClass => Some(Function::TypedClass {
+            NodeKind::AbstractClass => Some(Function::TypedClass {
                 is_abstract: true,
                 parts: node.parts,
             }),
-            Label::NameArrow => Some(name_arrow(false, &node.parts)),
-            Label::AsyncNameArrow => Some(name_arrow(true, &node.parts)),
-            Label::ParenthesizedArrow => Some(arrow(false, &node.parts)),
-            Label::AsyncParenthesizedArrow => Some(arrow(true, &node.parts)),
-            Label::TypedParenthesizedArrow => Some(typed_arrow(false, &node.parts)),
-            Label::TypedAsyncParenthesizedArrow => Some(typed_arrow(true, &node.parts)),
+            NodeKind::NameArrow => Some(name_arrow(false, &node.parts)),
+            NodeKind::AsyncNameArrow => Some(name_arrow(true, &node.parts)),
+            NodeKind::ParenthesizedArrow => Some(arrow(false, &node.parts)),
+            NodeKind::AsyncParenthesizedArrow => Some(arrow(true, &node.parts)),
+            NodeKind::TypedParenthesizedArrow => Some(typed_arrow(false, &node.parts)),
+            NodeKind::TypedAsyncParenthesizedArrow => Some(typed_arrow(true, &node.parts)),
             _ => None,
         },
         What::Leaf => None,

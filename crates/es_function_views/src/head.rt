@@ -3,12 +3,12 @@
 ghost use Rattle.std.specs.Prelude.{◌≡◌, ℕ, List};
 ghost use Rattle.base.specs.declared.range.Range.{Range};
 ghost use Rattle.es_token.specs.declared.token.Token.{Token as Tok};
-ghost use Rattle.es_dress.specs.Functions.{function};
-ghost use Rattle.es_dress.specs.TypedFunctions.{typed_function};
+ghost use Rattle.es_lowering.specs.Functions.{function};
+ghost use Rattle.es_lowering.specs.TypedFunctions.{typed_function};
 ghost use Rattle.es_syntax.specs.Held.{held};
 ghost use Rattle.es_function_views.specs.Head.{the_head, IsBelow};
 
-use es_syntax::{Item, Row};
+use es_syntax::{Item, Siblings};
 
 /// What stands in a function, where it stands.
 #[derive(Clone, Copy)]
@@ -27,15 +27,15 @@ pub enum FunctionHead<'a> {
         is_generator: bool,
         name: Option<Item<'a>>,
         signature: Item<'a>,
-        body: Row<'a>,
+        body: Siblings<'a>,
     },
     /// A part is not there.
     Broken,
 }
 
 /// A star or none, a name or none, the parameters, the body.
-#[tactic(auto, unfolding(es_dress::specs::Functions::function, crate::specs::Head::plain_function))]
-pub fn plain_function<'a>(is_async: bool, parts: &Row<'a>) -> FunctionHead<'a>
+#[tactic(auto, unfolding(es_lowering::specs::Functions::function, crate::specs::Head::plain_function))]
+pub fn plain_function<'a>(is_async: bool, parts: &Siblings<'a>) -> FunctionHead<'a>
     ensures form { (x : List ℕ) (ts : List Tok) (r : Range) → function x ts is_async r (held x ts parts.now.entries.now) ≡ the_head x ts r result }
     ensures below { IsBelow parts.now result }
 {
@@ -55,8 +55,8 @@ pub fn plain_function<'a>(is_async: bool, parts: &Row<'a>) -> FunctionHead<'a>
 }
 
 /// The same of TypeScript: its signature, and a body or none.
-#[tactic(auto, unfolding(es_dress::specs::TypedFunctions::typed_function, crate::specs::Head::typed_function))]
-pub fn typed_function<'a>(is_async: bool, parts: &Row<'a>) -> FunctionHead<'a>
+#[tactic(auto, unfolding(es_lowering::specs::TypedFunctions::typed_function, crate::specs::Head::typed_function))]
+pub fn typed_function<'a>(is_async: bool, parts: &Siblings<'a>) -> FunctionHead<'a>
     ensures form { (x : List ℕ) (ts : List Tok) (r : Range) → typed_function x ts is_async r (held x ts parts.now.entries.now) ≡ the_head x ts r result }
     ensures below { IsBelow parts.now result }
 {

@@ -1,8 +1,11 @@
-mod TypeClaims
+pub mod Sets
+mod TypesClaims
+mod EsClaims
+mod TypescriptClaims
 mod Claims
-pub mod OrderLemmas
+pub mod MappedLemmas
+pub mod Agreement
 pub mod Theorems
-mod WorkedTypes
+mod WorkedDeclarations
+mod WorkedExpressions
 mod WorkedRefusals
-mod WorkedPrograms
-mod WorkedErrors

@@ -1,115 +1,254 @@
--- Keys that are no type: nothing is read, or less than all: each is what the table's reader answers, by computing it. A
--- line end is written ⏎.
+-- What is no program of TypeScript: the reader of the table answers so, by computing it. A line end is written ⏎.
 use Rattle.std.specs.Prelude.{[], ◌∷◌}
 use Rattle.std.proofs.Common.{◌≡◌, refl}
 use Rattle.es_token.specs.declared.token.TokenKind.TheVariants as k
-use Rattle.es_tree.specs.Form.{as_kind, as_name}
-use Rattle.es_tree.specs.Plain.{node, leaf, nil, cons, mark}
+use Rattle.es_tree.specs.declared.error.Lang.TheVariants as lang
+use Rattle.es_tree.specs.declared.error.Mode.TheVariants as mode
 use Rattle.es_tree.specs.Fits.{most_nodes}
-use Rattle.es_tree.specs.Reader.{nothing, gives, read_turns, read_wraps, read_row}
-use Rattle.es_grammar.specs.TypeRows.{Entity, InferType, KeywordType}
-use Rattle.es_grammar.specs.TypeReader.{one, paired, read_type}
-use Rattle.es_grammar.specs.Words.{is_name, is_word, is_name_or_this, is_numeric, is_sign, is_accessor_word, is_near, begins_key}
-use Rattle.es_grammar.specs.TypeNames.{further_names, entity, opens_arguments, no_arguments, reference, import_type, arguments, is_modifier, opens_modifier, type_parameter, type_parameters}
-use Rattle.es_grammar.specs.Parameters.{parameters_in, mark_in, type_in, list_before, is_parameter, parameters, has_mark, no_mark, name_pattern, array_pattern, object_pattern, pattern, parameter, pattern_element, pattern_key, opens_value, pattern_property}
-use Rattle.es_grammar.specs.Members.{result_in, is_separator, may_separate, separator, opens_parameters, call_signature, opens_construct, construct_signature, opens_readonly, shows_index, opens_index, index_signature, opens_accessor, accessor_signature, opens_method, method_signature, property_signature, is_property_key, readonly_property, member, computed_key, key}
-use Rattle.es_grammar.specs.Types.{is_literal_word, begins_type, parenthesized_type, members_type, shows_mapped, opens_mapped, sign_in, begins_signed, mapped_type, tuple_type, type_query, opens_this_reference, is_type_word, is_keyword_type, template_types, number_type, primary_type, opens_brackets, brackets_in, array_types, is_type_operator, opens_operator, opens_infer, operand_type, operands_in, intersection_type, union_type, opens_condition, no_condition, conditional_type, opens_function, function_type, opens_constructor, constructor_type, any_type, is_label, label_in, element, is_asserted_name, opens_asserts, opens_predicate, result}
-use Rattle.es_grammar.specs.TypeTable.{type_rule}
+use Rattle.es_tree.specs.Reader.{nothing, read_turns, read_wraps, read_row}
+use Rattle.es_type_grammar.specs.TypeReader.{joined, line, one, paired}
+use Rattle.es_grammar.specs.ProgramReader.{read_program}
+use Rattle.es_type_grammar.specs.Words.{is_name, is_word, is_name_or_this, is_numeric, is_sign, is_accessor_word, is_near, begins_key}
+use Rattle.es_type_grammar.specs.Modules.{may_end, ended, word_or_str_in, names_in, attributes, attributes_ended, from_ended, opens_type_import, opens_type_name, type_word_in, is_renamed, is_no_type_as_as, import_specifier, named, has_comma, clause, entity, opens_equals, shows_require, opens_require, equals_in, required, opens_bare, import_, export_specifier, opens_type_export, opens_all, opens_exported_equals, opens_exported_require, opens_namespace as programs_opens_namespace, export_}
+use Rattle.es_type_grammar.specs.Expressions.{is_prefix, is_update, is_product, is_sum, is_equality, is_relation, is_assignment, is_property_name, joins, opens_greater, opens_right_shift, opens_right_assignment, begins_expression, continues_expression, follows_arrow_body, ends_expression, is_arrow, no_arrow, opens_plain_arrow, opens_async_arrow, opens_arrow, opens_async_parenthesis, is_no_arrow_head, opens_async_function, is_literal_word, opens_property, has_argument, follows_super, begins_member, begins_post, is_update_here, no_update_here, opens_shift, opens_relation, no_mix, opens_pattern, opens_assignment, is_operand}
+use Rattle.es_type_grammar.specs.Functions.{follows_pattern, opens_inner_pattern, opens_value, is_parameter, opens_accessor, opens_async, is_plain_key, opens_star, opens_method, async_method_in}
+use Rattle.es_type_grammar.specs.Classes.{opens_static, opens_field_accessor, behind_static, is_plain_member, opens_static_block}
+use Rattle.es_type_grammar.specs.Statements.{is_variable_word, ends_value, opens_using, opens_for, opens_for_await, is_each, opens_head_pattern, starts_using, starts_expression, is_label_here, label_ended, is_value_here, is_case, is_in_case, opens_label, begins_no_other}
+use Rattle.es_type_grammar.specs.Items.{opens_import, opens_default, opens_default_function, opens_default_class, opens_declaration}
+use Rattle.es_type_grammar.specs.TypeNames.{further_names, entity as types_entity, opens_arguments, no_arguments, reference, import_type, arguments as types_arguments, is_modifier as types_is_modifier, opens_modifier as types_opens_modifier, type_parameter, type_parameters}
+use Rattle.es_type_grammar.specs.Parameters.{parameters_in, mark_in as types_mark_in, type_in, list_before, is_parameter as types_is_parameter, parameters as types_parameters, has_mark, no_mark, name_pattern, array_pattern as types_array_pattern, object_pattern as types_object_pattern, pattern as types_pattern, parameter as types_parameter, pattern_element as types_pattern_element, pattern_key, opens_value as types_opens_value, pattern_property as types_pattern_property}
+use Rattle.es_type_grammar.specs.Members.{result_in as types_result_in, is_separator, may_separate, separator, opens_parameters, call_signature, opens_construct, construct_signature, opens_readonly, shows_index, opens_index, index_signature, opens_accessor as types_opens_accessor, accessor_signature, opens_method as types_opens_method, method_signature, property_signature, is_property_key, readonly_property, member as types_member, computed_key, key as types_key}
+use Rattle.es_type_grammar.specs.Types.{is_literal_word as types_is_literal_word, begins_type, parenthesized_type, members_type, shows_mapped, opens_mapped, sign_in, begins_signed, mapped_type, tuple_type, type_query, opens_this_reference, is_type_word, is_keyword_type, template_types, number_type, primary_type, opens_brackets, brackets_in, array_types, is_type_operator, opens_operator, opens_infer, operand_type, operands_in, intersection_type, union_type, opens_condition, no_condition, conditional_type, opens_function, function_type, opens_constructor, constructor_type, any_type, is_label, label_in, element as types_element, is_asserted_name, opens_asserts, opens_predicate, result}
+use Rattle.es_type_grammar.specs.TypeTable.{type_rule}
+use Rattle.es_grammar.specs.Embedding.{annotation_in, result_in, type_parameters_in, type_arguments_in, begins_call, stands_call, opens_call_arguments, stands_heritage, opens_heritage_arguments}
+use Rattle.es_grammar.specs.Expressions.{opens_parameters_of_arrow, opens_arrow_here, opens_generic_async, opens_async_here, opens_any_arrow, arrow_in, opens_arrow_result, arrow_result_in, parameters_arrow_in, plain_arrow, opens_async_list, async_arrow, template, star_in, name_in, body_in, function, async_function, any_function, references_in, heritage_in, implements_in, class_form, class_, abstract_class, opens_abstract_class, any_class, spread, array_literal, object_literal, opens_no_arrow, name_expression, named_primary, primary, import_call, is_module, import_meta, call_arguments_in, base, arguments, opens_non_null, opens_post, plain_member_post, non_null_post, member_post, optional_post, is_at, opens_call, opens_typed_template, post, chain, callee, may_await, update, prefix, await_, unary, power, level, product, sum, shift, is_assertion_word, opens_assertion, opens_comparison, may_test, private_in, comparison_in, is_behind_as, asserted, asserted_or, no_form, relation, equality, bit_and, bit_xor, bit_or, and_, coalesce, binary, conditional, opens_operand, yield_, assignment, expression, element}
+use Rattle.es_grammar.specs.Functions.{default_in, array_pattern, object_pattern, target, bracket_pattern, inner_pattern, pattern, pattern_element, pattern_property, rest_in, parameters, is_typed_modifier, is_modifier, opens_parameter_modifier, each_once, modifiers_in, mark_in, parameter_tail, is_parameter_mark, opens_marked, parameter, signature, plain_key, key, opens_any_method, typed_head_in, method_in, property}
+use Rattle.es_grammar.specs.Classes.{opens_modifier, behind_all, is_member_key, static_in, value_in, head_in, marked_in, class_method_in, is_field_mark, field_in, modified_member, index_member, any_member, member}
+use Rattle.es_grammar.specs.Statements.{expression_ended, condition_in, block, is_declarator_mark, opens_declarator, declarator, declarators, variables, using_in, using_, head, start_in, for_, for_each, for_await, return_, case_in, switch_, finally_in, try_, is_script, expression_statement, keyword_statement, other_statement}
+use Rattle.es_grammar.specs.Declarations.{opens_interface, opens_alias, opens_enum, opens_namespace, opens_module, opens_global, is_declaration_word, opens_declare, type_members, interface, alias, enum_, items_in, is_namespace_word, namespace, module_namespace, global, typed_declaration, declared, declares_variables, declare, plain_declaration, declaration, statement}
+use Rattle.es_grammar.specs.Items.{opens_any_default_class, opens_default_interface, default_expression, default_interface, other_default, export_default, opens_any_declaration, opens_export_assignment, export_names, export_item, item, shebang_in, module_, script}
+use Rattle.es_grammar.specs.Table.{rule}
 
--- cut short or with too much
-refused :
-    -- nothing
-    (read_type ([]) ≡ nothing)
-    -- a extends b ? c : () => asserts d extends e ? f : g
-    × (read_type (one k.Name ∷ one k.ExtendsWord ∷ one k.Name ∷ one k.Question ∷ one k.Name ∷ one k.Colon ∷ paired
-    k.OpenParen 7 ∷ paired k.CloseParen 6 ∷ one k.Arrow ∷ one k.AssertsWord ∷ one k.Name ∷ one k.ExtendsWord ∷
-    one k.Name ∷ one k.Question ∷ one k.Name ∷ one k.Colon ∷ one k.Name ∷ []) ≡ nothing)
-    -- a b
-    × (read_type (one k.Name ∷ one k.Name ∷ []) ≡ gives (node Entity 0 1 (cons (leaf as_name 0) (cons nil nil))) 1)
-    -- a |
-    × (read_type (one k.Name ∷ one k.Bar ∷ []) ≡ nothing)
-    -- a extends b
-    × (read_type (one k.Name ∷ one k.ExtendsWord ∷ one k.Name ∷ []) ≡ nothing)
-    -- a extends b ? c
-    × (read_type (one k.Name ∷ one k.ExtendsWord ∷ one k.Name ∷ one k.Question ∷ one k.Name ∷ []) ≡ nothing)
-    -- (a, b)
-    × (read_type (paired k.OpenParen 4 ∷ one k.Name ∷ one k.Comma ∷ one k.Name ∷ paired k.CloseParen 0 ∷ []) ≡
+-- expressions
+expressions_refused :
+    -- f<a>
+    (read_program lang.Typescript mode.Module (one k.Name ∷ one k.Less ∷ one k.Name ∷ joined k.Greater ∷ []) ≡
     nothing)
-    -- (a?) =>
-    × (read_type (paired k.OpenParen 3 ∷ one k.Name ∷ one k.Question ∷ paired k.CloseParen 0 ∷ one k.Arrow ∷ []) ≡
-    nothing)
-    -- a.
-    × (read_type (one k.Name ∷ one k.Dot ∷ []) ≡ nothing)
-    -- a<>
-    × (read_type (one k.Name ∷ one k.Less ∷ one k.Greater ∷ []) ≡ nothing)
-    -- a<b,>
-    × (read_type (one k.Name ∷ one k.Less ∷ one k.Name ∷ one k.Comma ∷ one k.Greater ∷ []) ≡ nothing)
-    -- infer a b
-    × (read_type (one k.InferWord ∷ one k.Name ∷ one k.Name ∷ []) ≡ gives (node InferType 0 2 (mark 0 (cons (leaf
-    as_name 1) nil))) 2)
-unfolding read_type read_row read_turns read_wraps most_nodes
-    is_name is_word is_name_or_this is_numeric is_sign is_accessor_word is_near begins_key further_names entity
-    opens_arguments no_arguments reference import_type arguments is_modifier opens_modifier type_parameter
-    type_parameters parameters_in mark_in type_in list_before is_parameter parameters has_mark no_mark name_pattern
-    array_pattern object_pattern pattern parameter pattern_element pattern_key opens_value pattern_property
-    result_in is_separator may_separate separator opens_parameters call_signature opens_construct
-    construct_signature opens_readonly shows_index opens_index index_signature opens_accessor accessor_signature
-    opens_method method_signature property_signature is_property_key readonly_property member computed_key key
-    is_literal_word begins_type parenthesized_type members_type shows_mapped opens_mapped sign_in begins_signed
-    mapped_type tuple_type type_query opens_this_reference is_type_word is_keyword_type template_types number_type
-    primary_type opens_brackets brackets_in array_types is_type_operator opens_operator opens_infer operand_type
-    operands_in intersection_type union_type opens_condition no_condition conditional_type opens_function
-    function_type opens_constructor constructor_type any_type is_label label_in element is_asserted_name
-    opens_asserts opens_predicate result type_rule
-refused =
-    (refl, refl, refl, refl, refl, refl, refl, refl, refl, refl, refl, refl)
+    -- a++ < b > (c)
+    × (read_program lang.Typescript mode.Module (one k.Name ∷ one k.PlusPlus ∷ one k.Less ∷ one k.Name ∷ one k.Greater
+    ∷ paired k.OpenParen 7 ∷ one k.Name ∷ paired k.CloseParen 5 ∷ []) ≡ nothing)
+    -- a satisfies const
+    × (read_program lang.Typescript mode.Module (one k.Name ∷ one k.SatisfiesWord ∷ one k.ConstWord ∷ []) ≡ nothing)
+    -- a as T + b
+    × (read_program lang.Typescript mode.Module (one k.Name ∷ one k.AsWord ∷ one k.Name ∷ one k.Plus ∷ one k.Name ∷
+    []) ≡ nothing)
+    -- a⏎=> b
+    × (read_program lang.Typescript mode.Module (one k.Name ∷ line k.Arrow ∷ one k.Name ∷ []) ≡ nothing)
+    -- (a: b)
+    × (read_program lang.Typescript mode.Module (paired k.OpenParen 4 ∷ one k.Name ∷ one k.Colon ∷ one k.Name ∷ paired
+    k.CloseParen 0 ∷ []) ≡ nothing)
+    -- (a): b
+    × (read_program lang.Typescript mode.Module (paired k.OpenParen 2 ∷ one k.Name ∷ paired k.CloseParen 0 ∷ one
+    k.Colon ∷ one k.Name ∷ []) ≡ nothing)
+    -- async (a): b
+    × (read_program lang.Typescript mode.Module (one k.AsyncWord ∷ paired k.OpenParen 3 ∷ one k.Name ∷ paired
+    k.CloseParen 1 ∷ one k.Colon ∷ one k.Name ∷ []) ≡ nothing)
+    -- x = a as
+    × (read_program lang.Typescript mode.Module (one k.Name ∷ one k.Equal ∷ one k.Name ∷ one k.AsWord ∷ []) ≡ nothing)
+    -- new A<b>
+    × (read_program lang.Typescript mode.Module (one k.NewWord ∷ one k.Name ∷ one k.Less ∷ one k.Name ∷ joined
+    k.Greater ∷ []) ≡ nothing)
+unfolding read_program read_row read_turns read_wraps most_nodes is_name is_word is_name_or_this is_numeric
+    is_sign is_accessor_word is_near begins_key may_end ended word_or_str_in names_in attributes attributes_ended
+    from_ended opens_type_import opens_type_name type_word_in is_renamed is_no_type_as_as import_specifier named
+    has_comma clause entity opens_equals shows_require opens_require equals_in required opens_bare import_
+    export_specifier opens_type_export opens_all opens_exported_equals opens_exported_require programs_opens_namespace
+    export_ is_prefix is_update is_product is_sum is_equality is_relation is_assignment is_property_name joins
+    opens_greater opens_right_shift opens_right_assignment begins_expression continues_expression follows_arrow_body
+    ends_expression is_arrow no_arrow opens_plain_arrow opens_async_arrow opens_arrow opens_async_parenthesis
+    is_no_arrow_head opens_async_function is_literal_word opens_property has_argument follows_super begins_member
+    begins_post is_update_here no_update_here opens_shift opens_relation no_mix opens_pattern opens_assignment
+    is_operand follows_pattern opens_inner_pattern opens_value is_parameter opens_accessor opens_async is_plain_key
+    opens_star opens_method async_method_in opens_static opens_field_accessor behind_static is_plain_member
+    opens_static_block is_variable_word ends_value opens_using opens_for opens_for_await is_each opens_head_pattern
+    starts_using starts_expression is_label_here label_ended is_value_here is_case is_in_case opens_label
+    begins_no_other opens_import opens_default opens_default_function opens_default_class opens_declaration
+    further_names types_entity opens_arguments no_arguments reference import_type types_arguments types_is_modifier
+    types_opens_modifier type_parameter type_parameters parameters_in types_mark_in type_in list_before
+    types_is_parameter types_parameters has_mark no_mark name_pattern types_array_pattern types_object_pattern
+    types_pattern types_parameter types_pattern_element pattern_key types_opens_value types_pattern_property
+    types_result_in is_separator may_separate separator opens_parameters call_signature opens_construct
+    construct_signature opens_readonly shows_index opens_index index_signature types_opens_accessor accessor_signature
+    types_opens_method method_signature property_signature is_property_key readonly_property types_member computed_key
+    types_key types_is_literal_word begins_type parenthesized_type members_type shows_mapped opens_mapped sign_in
+    begins_signed mapped_type tuple_type type_query opens_this_reference is_type_word is_keyword_type template_types
+    number_type primary_type opens_brackets brackets_in array_types is_type_operator opens_operator opens_infer
+    operand_type operands_in intersection_type union_type opens_condition no_condition conditional_type opens_function
+    function_type opens_constructor constructor_type any_type is_label label_in types_element is_asserted_name
+    opens_asserts opens_predicate result type_rule annotation_in result_in type_parameters_in type_arguments_in
+    begins_call stands_call opens_call_arguments stands_heritage opens_heritage_arguments opens_parameters_of_arrow
+    opens_arrow_here opens_generic_async opens_async_here opens_any_arrow arrow_in opens_arrow_result arrow_result_in
+    parameters_arrow_in plain_arrow opens_async_list async_arrow template star_in name_in body_in function
+    async_function any_function references_in heritage_in implements_in class_form class_ abstract_class
+    opens_abstract_class any_class spread array_literal object_literal opens_no_arrow name_expression named_primary
+    primary import_call is_module import_meta call_arguments_in base arguments opens_non_null opens_post
+    plain_member_post non_null_post member_post optional_post is_at opens_call opens_typed_template post chain callee
+    may_await update prefix await_ unary power level product sum shift is_assertion_word opens_assertion
+    opens_comparison may_test private_in comparison_in is_behind_as asserted asserted_or no_form relation equality
+    bit_and bit_xor bit_or and_ coalesce binary conditional opens_operand yield_ assignment expression element
+    default_in array_pattern object_pattern target bracket_pattern inner_pattern pattern pattern_element
+    pattern_property rest_in parameters is_typed_modifier is_modifier opens_parameter_modifier each_once modifiers_in
+    mark_in parameter_tail is_parameter_mark opens_marked parameter signature plain_key key opens_any_method
+    typed_head_in method_in property opens_modifier behind_all is_member_key static_in value_in head_in marked_in
+    class_method_in is_field_mark field_in modified_member index_member any_member member expression_ended
+    condition_in block is_declarator_mark opens_declarator declarator declarators variables using_in using_ head
+    start_in for_ for_each for_await return_ case_in switch_ finally_in try_ is_script expression_statement
+    keyword_statement other_statement opens_interface opens_alias opens_enum opens_namespace opens_module opens_global
+    is_declaration_word opens_declare type_members interface alias enum_ items_in is_namespace_word namespace
+    module_namespace global typed_declaration declared declares_variables declare plain_declaration declaration
+    statement opens_any_default_class opens_default_interface default_expression default_interface other_default
+    export_default opens_any_declaration opens_export_assignment export_names export_item item shebang_in module_
+    script rule
+expressions_refused =
+    (refl, refl, refl, refl, refl, refl, refl, refl, refl, refl)
 
--- guards and wrong parts
-refused_more :
-    -- { a b }
-    (read_type (paired k.OpenBrace 3 ∷ one k.Name ∷ one k.Name ∷ paired k.CloseBrace 0 ∷ []) ≡ nothing)
-    -- { readonly get a: b }
-    × (read_type (paired k.OpenBrace 6 ∷ one k.ReadonlyWord ∷ one k.GetWord ∷ one k.Name ∷ one k.Colon ∷ one k.Name
-    ∷ paired k.CloseBrace 0 ∷ []) ≡ nothing)
-    -- [a b]
-    × (read_type (paired k.OpenBracket 3 ∷ one k.Name ∷ one k.Name ∷ paired k.CloseBracket 0 ∷ []) ≡ nothing)
-    -- [...]
-    × (read_type (paired k.OpenBracket 2 ∷ one k.Ellipsis ∷ paired k.CloseBracket 0 ∷ []) ≡ nothing)
-    -- (...a,) => b
-    × (read_type (paired k.OpenParen 4 ∷ one k.Ellipsis ∷ one k.Name ∷ one k.Comma ∷ paired k.CloseParen 0 ∷ one
-    k.Arrow ∷ one k.Name ∷ []) ≡ nothing)
-    -- typeof (a)
-    × (read_type (one k.TypeofWord ∷ paired k.OpenParen 3 ∷ one k.Name ∷ paired k.CloseParen 1 ∷ []) ≡ nothing)
-    -- import(a)
-    × (read_type (one k.ImportWord ∷ paired k.OpenParen 3 ∷ one k.Name ∷ paired k.CloseParen 1 ∷ []) ≡ nothing)
-    -- new a
-    × (read_type (one k.NewWord ∷ one k.Name ∷ []) ≡ nothing)
-    -- abstract new a
-    × (read_type (one k.AbstractWord ∷ one k.NewWord ∷ one k.Name ∷ []) ≡ gives (node Entity 0 1 (cons (leaf as_name
-    0) (cons nil nil))) 1)
-    -- a extends b extends c ? d : e ? f : g
-    × (read_type (one k.Name ∷ one k.ExtendsWord ∷ one k.Name ∷ one k.ExtendsWord ∷ one k.Name ∷ one k.Question ∷
-    one k.Name ∷ one k.Colon ∷ one k.Name ∷ one k.Question ∷ one k.Name ∷ one k.Colon ∷ one k.Name ∷ []) ≡
+-- declarations
+declarations_refused :
+    -- let a⏎!b
+    (read_program lang.Typescript mode.Module (one k.LetWord ∷ one k.Name ∷ line k.Exclamation ∷ one k.Name ∷ []) ≡
     nothing)
-    -- any<a>
-    × (read_type (one k.AnyWord ∷ one k.Less ∷ one k.Name ∷ one k.Greater ∷ []) ≡ gives (node KeywordType 0 1 (cons
-    (leaf as_kind 0) nil)) 1)
-    -- { new () => a }
-    × (read_type (paired k.OpenBrace 6 ∷ one k.NewWord ∷ paired k.OpenParen 3 ∷ paired k.CloseParen 2 ∷ one k.Arrow
-    ∷ one k.Name ∷ paired k.CloseBrace 0 ∷ []) ≡ nothing)
-unfolding read_type read_row read_turns read_wraps most_nodes
-    is_name is_word is_name_or_this is_numeric is_sign is_accessor_word is_near begins_key further_names entity
-    opens_arguments no_arguments reference import_type arguments is_modifier opens_modifier type_parameter
-    type_parameters parameters_in mark_in type_in list_before is_parameter parameters has_mark no_mark name_pattern
-    array_pattern object_pattern pattern parameter pattern_element pattern_key opens_value pattern_property
-    result_in is_separator may_separate separator opens_parameters call_signature opens_construct
-    construct_signature opens_readonly shows_index opens_index index_signature opens_accessor accessor_signature
-    opens_method method_signature property_signature is_property_key readonly_property member computed_key key
-    is_literal_word begins_type parenthesized_type members_type shows_mapped opens_mapped sign_in begins_signed
-    mapped_type tuple_type type_query opens_this_reference is_type_word is_keyword_type template_types number_type
-    primary_type opens_brackets brackets_in array_types is_type_operator opens_operator opens_infer operand_type
-    operands_in intersection_type union_type opens_condition no_condition conditional_type opens_function
-    function_type opens_constructor constructor_type any_type is_label label_in element is_asserted_name
-    opens_asserts opens_predicate result type_rule
-refused_more =
-    (refl, refl, refl, refl, refl, refl, refl, refl, refl, refl, refl, refl)
+    -- class A { static static a }
+    × (read_program lang.Typescript mode.Module (one k.ClassWord ∷ one k.Name ∷ paired k.OpenBrace 6 ∷ one
+    k.StaticWord ∷ one k.StaticWord ∷ one k.Name ∷ paired k.CloseBrace 2 ∷ []) ≡ nothing)
+    -- class A { public public a }
+    × (read_program lang.Typescript mode.Module (one k.ClassWord ∷ one k.Name ∷ paired k.OpenBrace 6 ∷ one
+    k.PublicWord ∷ one k.PublicWord ∷ one k.Name ∷ paired k.CloseBrace 2 ∷ []) ≡ nothing)
+    -- class A { public static { } }
+    × (read_program lang.Typescript mode.Module (one k.ClassWord ∷ one k.Name ∷ paired k.OpenBrace 7 ∷ one
+    k.PublicWord ∷ one k.StaticWord ∷ paired k.OpenBrace 6 ∷ paired k.CloseBrace 5 ∷ paired k.CloseBrace 2 ∷ []) ≡
+    nothing)
+    -- interface A
+    × (read_program lang.Typescript mode.Module (one k.InterfaceWord ∷ one k.Name ∷ []) ≡ nothing)
+    -- interface⏎A { }
+    × (read_program lang.Typescript mode.Module (one k.InterfaceWord ∷ line k.Name ∷ paired k.OpenBrace 3 ∷ paired
+    k.CloseBrace 2 ∷ []) ≡ nothing)
+    -- type A =
+    × (read_program lang.Typescript mode.Module (one k.TypeWord ∷ one k.Name ∷ one k.Equal ∷ []) ≡ nothing)
+    -- enum { }
+    × (read_program lang.Typescript mode.Module (one k.EnumWord ∷ paired k.OpenBrace 2 ∷ paired k.CloseBrace 1 ∷ []) ≡
+    nothing)
+    -- namespace a.b
+    × (read_program lang.Typescript mode.Module (one k.NamespaceWord ∷ one k.Name ∷ one k.Dot ∷ one k.Name ∷ []) ≡
+    nothing)
+    -- module "a" b
+    × (read_program lang.Typescript mode.Module (one k.ModuleWord ∷ one k.Str ∷ one k.Name ∷ []) ≡ nothing)
+    -- declare a
+    × (read_program lang.Typescript mode.Module (one k.DeclareWord ∷ one k.Name ∷ []) ≡ nothing)
+    -- abstract class { }
+    × (read_program lang.Typescript mode.Module (one k.AbstractWord ∷ one k.ClassWord ∷ paired k.OpenBrace 3 ∷ paired
+    k.CloseBrace 2 ∷ []) ≡ nothing)
+    -- function f(public a) { }
+    × (read_program lang.Typescript mode.Module (one k.FunctionWord ∷ one k.Name ∷ paired k.OpenParen 5 ∷ one
+    k.PublicWord ∷ one k.Name ∷ paired k.CloseParen 2 ∷ paired k.OpenBrace 7 ∷ paired k.CloseBrace 6 ∷ []) ≡ nothing)
+    -- function f(this?.a) { }
+    × (read_program lang.Typescript mode.Module (one k.FunctionWord ∷ one k.Name ∷ paired k.OpenParen 6 ∷ one
+    k.ThisWord ∷ one k.QuestionDot ∷ one k.Name ∷ paired k.CloseParen 2 ∷ paired k.OpenBrace 8 ∷ paired k.CloseBrace 7
+    ∷ []) ≡ nothing)
+    -- class A { a! ( ) { } }
+    × (read_program lang.Typescript mode.Module (one k.ClassWord ∷ one k.Name ∷ paired k.OpenBrace 9 ∷ one k.Name ∷
+    one k.Exclamation ∷ paired k.OpenParen 6 ∷ paired k.CloseParen 5 ∷ paired k.OpenBrace 8 ∷ paired k.CloseBrace 7 ∷
+    paired k.CloseBrace 2 ∷ []) ≡ nothing)
+    -- class A { a?: b c }
+    × (read_program lang.Typescript mode.Module (one k.ClassWord ∷ one k.Name ∷ paired k.OpenBrace 8 ∷ one k.Name ∷
+    one k.Question ∷ one k.Colon ∷ one k.Name ∷ one k.Name ∷ paired k.CloseBrace 2 ∷ []) ≡ nothing)
+    -- export default interface { }
+    × (read_program lang.Typescript mode.Module (one k.ExportWord ∷ one k.DefaultWord ∷ one k.InterfaceWord ∷ paired
+    k.OpenBrace 4 ∷ paired k.CloseBrace 3 ∷ []) ≡ nothing)
+    -- export declare a
+    × (read_program lang.Typescript mode.Module (one k.ExportWord ∷ one k.DeclareWord ∷ one k.Name ∷ []) ≡ nothing)
+    -- x = { a?: b }
+    × (read_program lang.Typescript mode.Module (one k.Name ∷ one k.Equal ∷ paired k.OpenBrace 7 ∷ one k.Name ∷ one
+    k.Question ∷ one k.Colon ∷ one k.Name ∷ paired k.CloseBrace 2 ∷ []) ≡ nothing)
+    -- x = { a(); }
+    × (read_program lang.Typescript mode.Module (one k.Name ∷ one k.Equal ∷ paired k.OpenBrace 7 ∷ one k.Name ∷ paired
+    k.OpenParen 5 ∷ paired k.CloseParen 4 ∷ one k.Semicolon ∷ paired k.CloseBrace 2 ∷ []) ≡ nothing)
+    -- export = a (a script)
+    × (read_program lang.Typescript mode.Script (one k.ExportWord ∷ one k.Equal ∷ one k.Name ∷ []) ≡ nothing)
+    -- await a as b (a script)
+    × (read_program lang.Typescript mode.Script (one k.AwaitWord ∷ one k.Name ∷ one k.AsWord ∷ one k.Name ∷ []) ≡
+    nothing)
+unfolding read_program read_row read_turns read_wraps most_nodes is_name is_word is_name_or_this is_numeric
+    is_sign is_accessor_word is_near begins_key may_end ended word_or_str_in names_in attributes attributes_ended
+    from_ended opens_type_import opens_type_name type_word_in is_renamed is_no_type_as_as import_specifier named
+    has_comma clause entity opens_equals shows_require opens_require equals_in required opens_bare import_
+    export_specifier opens_type_export opens_all opens_exported_equals opens_exported_require programs_opens_namespace
+    export_ is_prefix is_update is_product is_sum is_equality is_relation is_assignment is_property_name joins
+    opens_greater opens_right_shift opens_right_assignment begins_expression continues_expression follows_arrow_body
+    ends_expression is_arrow no_arrow opens_plain_arrow opens_async_arrow opens_arrow opens_async_parenthesis
+    is_no_arrow_head opens_async_function is_literal_word opens_property has_argument follows_super begins_member
+    begins_post is_update_here no_update_here opens_shift opens_relation no_mix opens_pattern opens_assignment
+    is_operand follows_pattern opens_inner_pattern opens_value is_parameter opens_accessor opens_async is_plain_key
+    opens_star opens_method async_method_in opens_static opens_field_accessor behind_static is_plain_member
+    opens_static_block is_variable_word ends_value opens_using opens_for opens_for_await is_each opens_head_pattern
+    starts_using starts_expression is_label_here label_ended is_value_here is_case is_in_case opens_label
+    begins_no_other opens_import opens_default opens_default_function opens_default_class opens_declaration
+    further_names types_entity opens_arguments no_arguments reference import_type types_arguments types_is_modifier
+    types_opens_modifier type_parameter type_parameters parameters_in types_mark_in type_in list_before
+    types_is_parameter types_parameters has_mark no_mark name_pattern types_array_pattern types_object_pattern
+    types_pattern types_parameter types_pattern_element pattern_key types_opens_value types_pattern_property
+    types_result_in is_separator may_separate separator opens_parameters call_signature opens_construct
+    construct_signature opens_readonly shows_index opens_index index_signature types_opens_accessor accessor_signature
+    types_opens_method method_signature property_signature is_property_key readonly_property types_member computed_key
+    types_key types_is_literal_word begins_type parenthesized_type members_type shows_mapped opens_mapped sign_in
+    begins_signed mapped_type tuple_type type_query opens_this_reference is_type_word is_keyword_type template_types
+    number_type primary_type opens_brackets brackets_in array_types is_type_operator opens_operator opens_infer
+    operand_type operands_in intersection_type union_type opens_condition no_condition conditional_type opens_function
+    function_type opens_constructor constructor_type any_type is_label label_in types_element is_asserted_name
+    opens_asserts opens_predicate result type_rule annotation_in result_in type_parameters_in type_arguments_in
+    begins_call stands_call opens_call_arguments stands_heritage opens_heritage_arguments opens_parameters_of_arrow
+    opens_arrow_here opens_generic_async opens_async_here opens_any_arrow arrow_in opens_arrow_result arrow_result_in
+    parameters_arrow_in plain_arrow opens_async_list async_arrow template star_in name_in body_in function
+    async_function any_function references_in heritage_in implements_in class_form class_ abstract_class
+    opens_abstract_class any_class spread array_literal object_literal opens_no_arrow name_expression named_primary
+    primary import_call is_module import_meta call_arguments_in base arguments opens_non_null opens_post
+    plain_member_post non_null_post member_post optional_post is_at opens_call opens_typed_template post chain callee
+    may_await update prefix await_ unary power level product sum shift is_assertion_word opens_assertion
+    opens_comparison may_test private_in comparison_in is_behind_as asserted asserted_or no_form relation equality
+    bit_and bit_xor bit_or and_ coalesce binary conditional opens_operand yield_ assignment expression element
+    default_in array_pattern object_pattern target bracket_pattern inner_pattern pattern pattern_element
+    pattern_property rest_in parameters is_typed_modifier is_modifier opens_parameter_modifier each_once modifiers_in
+    mark_in parameter_tail is_parameter_mark opens_marked parameter signature plain_key key opens_any_method
+    typed_head_in method_in property opens_modifier behind_all is_member_key static_in value_in head_in marked_in
+    class_method_in is_field_mark field_in modified_member index_member any_member member expression_ended
+    condition_in block is_declarator_mark opens_declarator declarator declarators variables using_in using_ head
+    start_in for_ for_each for_await return_ case_in switch_ finally_in try_ is_script expression_statement
+    keyword_statement other_statement opens_interface opens_alias opens_enum opens_namespace opens_module opens_global
+    is_declaration_word opens_declare type_members interface alias enum_ items_in is_namespace_word namespace
+    module_namespace global typed_declaration declared declares_variables declare plain_declaration declaration
+    statement opens_any_default_class opens_default_interface default_expression default_interface other_default
+    export_default opens_any_declaration opens_export_assignment export_names export_item item shebang_in module_
+    script rule
+declarations_refused = (
+  refl,
+  refl,
+  refl,
+  refl,
+  refl,
+  refl,
+  refl,
+  refl,
+  refl,
+  refl,
+  refl,
+  refl,
+  refl,
+  refl,
+  refl,
+  refl,
+  refl,
+  refl,
+  refl,
+  refl,
+  refl,
+  refl,
+)

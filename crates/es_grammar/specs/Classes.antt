@@ -1,66 +1,132 @@
--- Members of classes (ECMA-262, "Class Definitions").
-use Rattle.std.specs.Prelude.{◌+◌, true, not, ◌&&◌, ◌||◌}
+-- Members of classes in both languages (ECMA-262, "Class Definitions"; the handbook of TypeScript, "Classes").
+use Rattle.std.specs.Prelude.{ℕ, zero, suc, ◌+◌, Bool, true, not, ◌&&◌, ◌||◌, if◌then◌else◌, List, length}
+use Rattle.es_token.specs.declared.token.TokenKind.{TokenKind}
 use Rattle.es_token.specs.declared.token.TokenKind.TheVariants as k
-use Rattle.es_tree.specs.Key.{seen, is}
-use Rattle.es_tree.specs.Form.{as_kind, as_there, guarded, taken, Guard, Form, done, tok, punct, row, opt, where_, Rule, make, choose, pick}
-use Rattle.es_grammar.specs.Words.{only, is_accessor_word, is_near}
+use Rattle.es_tree.specs.declared.error.Lang.{Lang}
+use Rattle.es_tree.specs.declared.error.Lang.TheVariants as lang
+use Rattle.es_tree.specs.Key.{Key, seen, same_kind, has_kind, is}
+use Rattle.es_tree.specs.Productions.{as_name, as_kind, as_there, greedy, by_predicate, Predicate, Rhs, done, tok, punct, row, opt, where_, Production, make, choose, pick}
+use Rattle.es_type_grammar.specs.Words.{only, is_name, is_accessor_word, is_near}
+use Rattle.es_type_grammar.specs.Modules.{ended}
+use Rattle.es_type_grammar.specs.Expressions.{ends_expression}
+use Rattle.es_type_grammar.specs.Functions.{starts_key, opens_accessor, opens_async, opens_star}
+use Rattle.es_type_grammar.specs.Classes.{opens_static, opens_field_accessor, behind_static, is_plain_member, opens_static_block}
+use Rattle.es_type_grammar.specs.Members.{shows_index}
+use Rattle.es_grammar.specs.declared.rows.NodeKind.TheVariants.{AccessorField, AccessorMember, AsyncMember, EmptyMember, FieldMember, GeneratorMember, IndexMember, MethodMember, StaticBlock, TypedAccessorField, TypedAccessorMember, TypedAsyncMember, TypedFieldMember, TypedGeneratorMember, TypedMethodMember}
 use Rattle.es_grammar.specs.declared.rows.Context.{Context}
 use Rattle.es_grammar.specs.declared.rows.Row.{Row}
-use Rattle.es_grammar.specs.declared.rows.Row.TheVariants.{BlockRow, KeyRow, AssignmentRow}
-use Rattle.es_grammar.specs.declared.rows.Label.{Label}
-use Rattle.es_grammar.specs.declared.rows.Label.TheVariants.{EmptyMember, StaticBlock, AccessorMember, AsyncMember, GeneratorMember, MethodMember, FieldMember, AccessorField}
-use Rattle.es_grammar.specs.Modules.{ended}
-use Rattle.es_grammar.specs.Expressions.{star_in, ends_expression}
-use Rattle.es_grammar.specs.Functions.{starts_key, opens_accessor, opens_async, opens_star, opens_method, method_in, async_method_in}
+use Rattle.es_grammar.specs.declared.rows.NodeKind.{NodeKind}
+use Rattle.es_grammar.specs.declared.rows.Row.TheVariants.{BlockRow, SignatureRow, KeyRow, AssignmentRow}
+use Rattle.es_grammar.specs.Rows.{async_in}
+use Rattle.es_grammar.specs.Embedding.{label_by, type_then, annotation_in, plain_form}
+use Rattle.es_grammar.specs.Expressions.{star_in, body_in}
+use Rattle.es_grammar.specs.Functions.{is_typed_modifier, modifiers_in, mark_in, opens_any_method, typed_head_in}
 
--- `static` is a modifier before a key, `*` or `{`
-unfoldable pub opens_static : Guard
-opens_static K at =
-    is k.StaticWord (seen K at)
-    && (starts_key true (seen K (at + 1)) || (is k.Star (seen K (at + 1)) || is k.OpenBrace (seen K (at + 1))))
+-- in TypeScript a modifier of a member: `static` before a key, `*` or `{`, another before a key or `*` on its line
+unfoldable pub opens_modifier : Predicate
+opens_modifier K at =
+    opens_static K at
+    || (has_kind is_typed_modifier (seen K at) && (is_near (seen K (at + 1)) && (starts_key true (seen K (at + 1))
+    || is k.Star (seen K (at + 1)))))
 
--- `accessor` is one before a key or `*` on its line
-unfoldable pub opens_field_accessor : Guard
-opens_field_accessor K at =
-    is k.AccessorWord (seen K at)
-    && (is_near (seen K (at + 1)) && (starts_key true (seen K (at + 1)) || is k.Star (seen K (at + 1))))
+-- the place behind the modifiers
+abbrev pub behind_modifiers : List Key → ℕ → ℕ → ℕ
+behind_modifiers K zero at = at
+behind_modifiers K (suc n) at = if opens_modifier K at then behind_modifiers K n (at + 1) else at
 
--- the guard at this place, or behind the modifier `static`
-unfoldable pub behind_static : Guard → Guard
-behind_static g K at = (opens_static K at && g K (at + 1)) || (not (opens_static K at) && g K at)
+-- the predicate behind the modifiers
+unfoldable pub behind_all : Predicate → Predicate
+behind_all g K at = g K (behind_modifiers K (length K) at)
 
 -- behind the modifiers stands a key that is none
-unfoldable pub is_plain_member : Guard
-is_plain_member K at =
-    not (opens_static K at) && (not (opens_accessor true K at) && (not (opens_async true K at)
+unfoldable pub is_member_key : Predicate
+is_member_key K at =
+    not (opens_modifier K at) && (not (opens_accessor true K at) && (not (opens_async true K at)
     && not (opens_field_accessor K at)))
 
-unfoldable pub opens_static_block : Guard
-opens_static_block K at = is k.StaticWord (seen K at) && is k.OpenBrace (seen K (at + 1))
+-- ---- members of both languages
 
 -- 'static'?, which stands once, and what stands behind it
-unfoldable pub static_in : Form Row → Form Row
-static_in f = opt (guarded opens_static) (tok as_there (only k.StaticWord) done) f
+unfoldable pub static_in : Rhs Row → Rhs Row
+static_in f = opt (by_predicate opens_static) (tok as_there (only k.StaticWord) done) f
 
 -- '=' Assign before END
-unfoldable pub value_in : Context → Form Row → Form Row
-value_in c f = opt (taken (is k.Equal)) (punct k.Equal (row (AssignmentRow c) (where_ ends_expression done))) f
+unfoldable pub value_in : Context → Rhs Row
+value_in c =
+    opt (greedy (is k.Equal)) (punct k.Equal (row (AssignmentRow c) (where_ ends_expression done))) (plain_form ended)
 
--- Member: ';' | 'static' Block | 'static'? ('get' | 'set' | 'async'? '*'?) Key Sig Block | 'static'? 'accessor'? Key
--- ('=' Assign)? END
-unfoldable pub member : Context → Rule Row Label
-member c =
+-- Mod*, or 'static'?, and what stands behind them
+unfoldable pub head_in : Lang → Rhs Row → Rhs Row
+head_in lang.Es f = static_in (where_ is_plain_member f)
+head_in lang.Typescript f = modifiers_in opens_modifier (where_ is_member_key f)
+
+-- Mod*, or 'static'?, and a word or sign before the key
+unfoldable pub marked_in : Lang → (Rhs Row → Rhs Row) → Rhs Row → Rhs Row
+marked_in lang.Es word_in f = static_in (word_in (where_ is_plain_member f))
+marked_in lang.Typescript word_in f = modifiers_in opens_modifier (word_in (where_ is_member_key f))
+
+abbrev pub accessor_word_in : Rhs Row → Rhs Row
+accessor_word_in f = tok as_kind is_accessor_word f
+
+abbrev pub async_word_in : Rhs Row → Rhs Row
+async_word_in f = punct k.AsyncWord (star_in f)
+
+abbrev pub star_word_in : Rhs Row → Rhs Row
+star_word_in f = punct k.Star f
+
+abbrev pub field_word_in : Rhs Row → Rhs Row
+field_word_in f = punct k.AccessorWord f
+
+-- the predicate behind the modifiers
+abbrev pub behind : Lang → Predicate → Predicate
+behind lang.Es g = behind_static g
+behind lang.Typescript g = behind_all g
+
+-- Key (TS '?')? Sig (Block | TS END), the key in one place, signature and body in another
+unfoldable pub class_method_in : Lang → Context → Context → Rhs Row
+class_method_in lang.Es c d = row (KeyRow true c) (row (SignatureRow d) (body_in lang.Es d))
+class_method_in lang.Typescript c d = typed_head_in true c d mark_in (body_in lang.Typescript d)
+
+-- `?` or `!` behind the key of a field
+unfoldable pub is_field_mark : TokenKind → Bool
+is_field_mark kind = same_kind kind k.Question || same_kind kind k.Exclamation
+
+-- Key (TS '?' | TS '!')? (TS ':' Type)? ('=' Assign)? END
+unfoldable pub field_in : Lang → Context → Rhs Row
+field_in lang.Es c = row (KeyRow true c) (value_in c)
+field_in lang.Typescript c =
+    row (KeyRow true c) (opt (greedy (has_kind is_field_mark)) (tok as_kind is_field_mark done) (annotation_in
+    (value_in c)))
+
+-- Member, with its modifiers: ('get' | 'set' | 'async'? '*'?) Key (TS '?')? Sig (Block | TS END)
+--         | 'accessor'? Key (TS '?' | TS '!')? (TS ':' Type)? ('=' Assign)? END
+unfoldable pub modified_member : Lang → Context → Production Row NodeKind
+modified_member l c =
+    pick (behind l (opens_accessor true))
+    (make (label_by l AccessorMember TypedAccessorMember) (marked_in l accessor_word_in (class_method_in l c c)))
+    (pick (behind l (opens_async true))
+    (make (label_by l AsyncMember TypedAsyncMember) (marked_in l async_word_in (class_method_in l c (async_in c))))
+    (pick (behind l opens_star)
+    (make (label_by l GeneratorMember TypedGeneratorMember) (marked_in l star_word_in (class_method_in l c c)))
+    (pick (behind l opens_field_accessor)
+    (make (label_by l AccessorField TypedAccessorField) (marked_in l field_word_in (field_in l c)))
+    (pick (behind l (opens_any_method l))
+    (make (label_by l MethodMember TypedMethodMember) (head_in l (class_method_in l c c)))
+    (make (label_by l FieldMember TypedFieldMember) (head_in l (field_in l c)))))))
+
+-- TS Mod* '[' Name ':' Type ']' (':' Type)? END
+unfoldable pub index_member : Production Row NodeKind
+index_member =
+    make IndexMember (modifiers_in opens_modifier (punct k.OpenBracket (tok as_name is_name (punct k.Colon
+    (type_then (punct k.CloseBracket (annotation_in (plain_form ended))))))))
+
+unfoldable pub any_member : Lang → Context → Production Row NodeKind
+any_member lang.Es c = modified_member lang.Es c
+any_member lang.Typescript c = pick (behind_all shows_index) index_member (modified_member lang.Typescript c)
+
+-- Member: ';' | 'static' Block | and those with modifiers
+unfoldable pub member : Lang → Context → Production Row NodeKind
+member l c =
     choose (is k.Semicolon) (make EmptyMember (punct k.Semicolon done))
     (pick opens_static_block (make StaticBlock (punct k.StaticWord (row (BlockRow c) done)))
-    (pick (behind_static (opens_accessor true))
-    (make AccessorMember (static_in (tok as_kind is_accessor_word (where_ is_plain_member (method_in true c)))))
-    (pick (behind_static (opens_async true))
-    (make AsyncMember (static_in (punct k.AsyncWord (star_in (where_ is_plain_member (async_method_in true c))))))
-    (pick (behind_static opens_star)
-    (make GeneratorMember (static_in (punct k.Star (where_ is_plain_member (method_in true c)))))
-    (pick (behind_static opens_field_accessor)
-    (make AccessorField (static_in (punct k.AccessorWord (where_ is_plain_member (row (KeyRow true c)
-    (value_in c ended))))))
-    (pick (behind_static opens_method)
-    (make MethodMember (static_in (where_ is_plain_member (method_in true c))))
-    (make FieldMember (static_in (where_ is_plain_member (row (KeyRow true c) (value_in c ended)))))))))))
+    (any_member l c))

@@ -5,41 +5,54 @@ use Rattle.es_tree.specs.declared.error.Lang.{Lang}
 use Rattle.es_tree.specs.declared.error.Mode.{Mode}
 use Rattle.es_tree.specs.declared.error.Mode.TheVariants as mode
 use Rattle.es_tree.specs.Key.{Key}
-use Rattle.es_tree.specs.Plain.{Plain, node, cons, mark, turn, via}
+use Rattle.es_tree.specs.Plain.{Plain, node, nil, cons, mark, turn, via}
 use Rattle.es_tree.specs.Fits.{free, Shape}
+use Rattle.es_grammar.specs.declared.rows.NodeKind.TheVariants.{Assignment, Chain, IndexPost, MemberPost, Name, NonNullPost, Parenthesized, TypedBinary, UpdatePostfix, UpdatePrefix}
 use Rattle.es_grammar.specs.declared.rows.Row.{Row}
+use Rattle.es_grammar.specs.declared.rows.NodeKind.{NodeKind}
 use Rattle.es_grammar.specs.declared.rows.Row.TheVariants.{ModuleRow, ScriptRow}
-use Rattle.es_grammar.specs.declared.rows.Label.{Label}
-use Rattle.es_grammar.specs.declared.rows.Label.TheVariants.{Name, Parenthesized, Chain, MemberPost, IndexPost, Assignment, UpdatePostfix, UpdatePrefix}
 use Rattle.es_grammar.specs.Table.{rule}
 
 -- `.a` or `[a]`
-abbrev pub is_member : Plain Label → Bool
+abbrev pub is_member : Plain NodeKind → Bool
 is_member (node MemberPost from to ps) = true
 is_member (node IndexPost from to ps) = true
 is_member _ = false
 
--- the last part of a chain is `.a` or `[a]`
-abbrev pub ends_in_member : Plain Label → Plain Label → Bool
-ends_in_member p (turn (cons q ps) rest) = ends_in_member q rest
-ends_in_member p _ = is_member p
+-- what a `!` behind a part leaves of the answer: that of the parts before it
+abbrev pub unless_non_null : Plain NodeKind → Bool → Bool
+unless_non_null (node NonNullPost from to ps) before = before
+unless_non_null p before = is_member p
 
--- a simple target: a name, a chain that ends in a member, or one of them in parentheses
-abbrev pub is_simple : Plain Label → Bool
+-- the parts of a chain, behind any `!`, end in `.a` or `[a]`; with none but `!`, the answer is that of its base
+abbrev pub ends_in_member : Bool → Plain NodeKind → Plain NodeKind → Bool
+ends_in_member before p (turn (cons q ps) rest) = ends_in_member (unless_non_null p before) q rest
+ends_in_member before p _ = unless_non_null p before
+
+-- the parts of a turn are `as const`, or `as` or `satisfies` with a type: a group of its own stands behind the word,
+-- and behind any other operator an operand
+abbrev pub is_assertion : Plain NodeKind → Bool
+is_assertion (cons operator (cons (cons q ps) rest)) = true
+is_assertion _ = false
+
+-- a simple target: a name, a chain that ends in a member, or such a one in brackets, or before `!`, `as` or
+-- `satisfies`
+abbrev pub is_simple : Plain NodeKind → Bool
 is_simple (node Name from to ps) = true
 is_simple (node Parenthesized from to (mark n (cons q ps))) = is_simple q
-is_simple (node Chain from to (cons q (cons p (cons more ps)))) = ends_in_member p more
+is_simple (node Chain from to (cons q (cons p (cons more ps)))) = ends_in_member (is_simple q) p more
+is_simple (node TypedBinary from to (cons q (cons assertion nil))) = is_assertion assertion && is_simple q
 is_simple _ = false
 
 -- the parts of a node are those that its alternative may have
-abbrev pub may_hold : Label → Plain Label → Bool
+abbrev pub may_hold : NodeKind → Plain NodeKind → Bool
 may_hold Assignment (cons q ps) = is_simple q
 may_hold UpdatePostfix (cons q ps) = is_simple q
 may_hold UpdatePrefix (cons operator (cons q ps)) = is_simple q
 may_hold _ ps = true
 
 -- each node of the tree holds what it may, and each target is simple
-abbrev pub is_sound : Plain Label → Bool
+abbrev pub is_sound : Plain NodeKind → Bool
 is_sound (node l from to ps) = may_hold l ps && is_sound ps
 is_sound (via w p) = is_simple p && is_sound p
 is_sound (cons p ps) = is_sound p && is_sound ps
@@ -48,11 +61,11 @@ is_sound (mark n ps) = is_sound ps
 is_sound _ = true
 
 -- the row of a program
-abbrev pub program_row : Lang → Mode → Row
-program_row l mode.Module = ModuleRow l
-program_row l mode.Script = ScriptRow
+abbrev pub program_row : Mode → Row
+program_row mode.Module = ModuleRow
+program_row mode.Script = ScriptRow
 
 -- a plain tree of a program, by its keys
-pub record IsProgram (l : Lang) (m : Mode) (K : List Key) (p : Plain Label) : Type 0 where
-  pub shaped : Shape free rule (program_row l m) K p
+pub record IsProgram (l : Lang) (m : Mode) (K : List Key) (p : Plain NodeKind) : Type 0 where
+  pub shaped : Shape free (rule l) (program_row m) K p
   pub sound : is_sound p ≡ true

@@ -1,259 +1,237 @@
--- Expressions (ECMA-262, "ECMAScript Language: Expressions"), templates, and what may stand behind them.
-use Rattle.std.specs.Prelude.{ℕ, ◌+◌, ◌-◌, Bool, true, false, not, ◌&&◌, ◌||◌, List, Option, Some, None, slice_get}
+-- Expressions in both languages (ECMA-262, "ECMAScript Language: Expressions"; the handbook of TypeScript), templates,
+-- functions and classes.
+use Rattle.std.specs.Prelude.{◌+◌, ◌-◌, Bool, true, false, not, ◌&&◌, ◌||◌}
 use Rattle.es_token.specs.declared.token.TokenKind.{TokenKind}
 use Rattle.es_token.specs.declared.token.TokenKind.TheVariants as k
-use Rattle.es_tree.specs.Key.{Key, TokenTest, seen, same_kind, has_kind, is, is_end}
-use Rattle.es_tree.specs.Form.{as_str, as_name, as_raw, as_kind, as_there, hint, taken, guarded, Guard, Form, done, tok, punct, row, opt, many, alt, when_, where_, Rule, make, choose, pick, wrap}
-use Rattle.es_grammar.specs.Words.{only, is_between, is_name, is_numeric, is_near, is_other, partner_of, closes_before}
+use Rattle.es_tree.specs.declared.error.Lang.{Lang}
+use Rattle.es_tree.specs.declared.error.Lang.TheVariants as lang
+use Rattle.es_tree.specs.Key.{TokenTest, seen, same_kind, has_kind, is}
+use Rattle.es_tree.specs.Productions.{as_str, as_name, as_raw, as_kind, as_there, by_lookahead, greedy, by_predicate, Predicate, Rhs, done, tok, punct, row, opt, many, alt, when_, where_, Production, make, choose, pick, wrap}
+use Rattle.es_tree.specs.Tells.{none}
+use Rattle.es_type_grammar.specs.Words.{only, is_name, is_numeric, is_near, is_other, closes_before}
+use Rattle.es_grammar.specs.declared.rows.NodeKind.TheVariants.{AbstractClass, Arguments, ArrayLiteral, Assignment, AsyncFunction, AsyncNameArrow, AsyncParenthesizedArrow, AwaitExpression, Binary, CallPost, Chain, Class, Conditional, Function, ImportCall, ImportMeta, IndexPost, MemberPost, Name, NameArrow, New, NewTarget, NonNullPost, Number, ObjectLiteral, OptionalPost, Parenthesized, ParenthesizedArrow, PatternAssignment, PrivateIn, RegExp, Sequence, Spread, Str, Super, Template, TemplateParts, TemplatePost, TypedAsyncFunction, TypedAsyncParenthesizedArrow, TypedBinary, TypedCallPost, TypedClass, TypedFunction, TypedNew, TypedOptionalPost, TypedParenthesizedArrow, TypedTemplatePost, UnaryExpression, UpdatePostfix, UpdatePrefix, Word, Yield}
+use Rattle.es_type_grammar.specs.declared.rows.TypeRow.TheVariants as types
+use Rattle.es_type_grammar.specs.Modules.{ended}
+use Rattle.es_type_grammar.specs.Expressions.{is_prefix, is_update, is_product, is_sum, is_equality, is_relation, is_assignment, is_property_name, joins, opens_greater, begins_expression, is_arrow, no_arrow, opens_plain_arrow, opens_async_arrow, opens_async_parenthesis, is_no_arrow_head, opens_async_function, is_literal_word, opens_property, has_argument, follows_super, begins_member, begins_post, is_update_here, no_update_here, opens_shift, no_mix, opens_pattern, opens_assignment}
 use Rattle.es_grammar.specs.declared.rows.Context.{Context}
 use Rattle.es_grammar.specs.declared.rows.Row.{Row}
-use Rattle.es_grammar.specs.declared.rows.Row.TheVariants.{BlockRow, SignatureRow, ParametersRow, PatternRow, PropertyRow, ExpressionRow, AssignmentRow, AndRow, BitOrRow, BitXorRow, BitAndRow, EqualityRow, RelationRow, ShiftRow, SumRow, ProductRow, PowerRow, UnaryRow, ChainRow, CalleeRow, PostRow, MemberPostRow, ArgumentsRow, ElementRow, TemplateRow, MemberRow}
-use Rattle.es_grammar.specs.declared.rows.Label.{Label}
-use Rattle.es_grammar.specs.declared.rows.Label.TheVariants.{AsyncFunction, Function, Class, Sequence, Yield, PatternAssignment, Assignment, NameArrow, ParenthesizedArrow, AsyncNameArrow, AsyncParenthesizedArrow, Conditional, Binary, PrivateIn, UnaryExpression, AwaitExpression, UpdatePrefix, UpdatePostfix, Chain, MemberPost, IndexPost, CallPost, TemplatePost, OptionalPost, Super, ImportCall, ImportMeta, NewTarget, New, Arguments, Name, Word, Number, Str, RegExp, Template, TemplateParts, Parenthesized, ArrayLiteral, ObjectLiteral, Spread}
+use Rattle.es_grammar.specs.declared.rows.NodeKind.{NodeKind}
+use Rattle.es_grammar.specs.declared.rows.Row.TheVariants.{BlockRow, SignatureRow, ParametersRow, PatternRow, PropertyRow, ExpressionRow, AssignmentRow, AndRow, BitOrRow, BitXorRow, BitAndRow, EqualityRow, RelationRow, ShiftRow, SumRow, ProductRow, PowerRow, UnaryRow, ChainRow, CalleeRow, PostRow, MemberPostRow, ArgumentsRow, ElementRow, TemplateRow, MemberRow, TypesRow}
+use Rattle.es_grammar.specs.Rows.{outside, async_in, async_here, without_colon}
+use Rattle.es_grammar.specs.Embedding.{label_by, typed_in, type_then, plain_form, type_parameters_in, type_arguments_in, reads_before, opens_call_arguments, opens_heritage_arguments}
 
--- the same place, outside the head of a `for`, and inside one, and in an async function
-abbrev pub outside : Context → Context
-outside c = record { script = c.script; no_in = false; in_async = c.in_async }
-
-abbrev pub in_head : Context → Context
-in_head c = record { script = c.script; no_in = true; in_async = c.in_async }
-
-abbrev pub async_in : Context → Context
-async_in c = record { script = c.script; no_in = false; in_async = true }
-
--- ---- kinds of operators
-
-unfoldable pub is_prefix : TokenKind → Bool
-is_prefix kind =
-    same_kind kind k.DeleteWord || (same_kind kind k.VoidWord || (same_kind kind k.TypeofWord || (same_kind kind k.Plus
-    || (same_kind kind k.Minus || (same_kind kind k.Tilde || same_kind kind k.Exclamation)))))
-
-unfoldable pub is_update : TokenKind → Bool
-is_update kind = same_kind kind k.PlusPlus || same_kind kind k.MinusMinus
-
-unfoldable pub is_product : TokenKind → Bool
-is_product kind = same_kind kind k.Star || (same_kind kind k.Slash || same_kind kind k.Percent)
-
-unfoldable pub is_sum : TokenKind → Bool
-is_sum kind = same_kind kind k.Plus || same_kind kind k.Minus
-
-unfoldable pub is_equality : TokenKind → Bool
-is_equality kind = is_between k.EqualEqual k.NotEqualEqual kind
-
-unfoldable pub is_relation : TokenKind → Bool
-is_relation kind =
-    same_kind kind k.Less || (same_kind kind k.LessEqual || (same_kind kind k.InstanceofWord
-    || same_kind kind k.InWord))
-
--- an assignment operator of one token
-unfoldable pub is_assignment : TokenKind → Bool
-is_assignment kind = same_kind kind k.Equal || is_between k.PlusEqual k.QuestionQuestionEqual kind
-
--- a name, or a private one
-unfoldable pub is_property_name : TokenKind → Bool
-is_property_name kind = is_name kind || same_kind kind k.PrivateName
-
--- ---- runs of `>`
-
--- a token of this kind that starts where the one before it ends
-abbrev pub is_joined : TokenKind → Option Key → Bool
-is_joined kind (Some key) = same_kind key.kind kind && key.adjacent
-is_joined kind None = false
-
-unfoldable pub joins : TokenKind → Guard
-joins kind K at = is_joined kind (slice_get K at)
-
--- `>` or `>=`
-unfoldable pub opens_greater : Guard
-opens_greater K at = is k.Greater (seen K at) && not (joins k.Greater K (at + 1))
-
--- `>>` or `>>>` without `=`
-unfoldable pub opens_right_shift : Guard
-opens_right_shift K at =
-    is k.Greater (seen K at) && (joins k.Greater K (at + 1)
-    && not (joins k.Equal K (at + 2) || (joins k.Greater K (at + 2) && joins k.Equal K (at + 3))))
-
--- `>>=` or `>>>=`
-unfoldable pub opens_right_assignment : Guard
-opens_right_assignment K at =
-    is k.Greater (seen K at) && (joins k.Greater K (at + 1)
-    && (joins k.Equal K (at + 2) || (joins k.Greater K (at + 2) && joins k.Equal K (at + 3))))
-
--- ---- what begins and what ends an expression
-
-unfoldable pub begins_expression : TokenTest
-begins_expression x =
-    has_kind is_name x || (has_kind is_numeric x || (is k.Str x || (is k.RegExp x || (is k.TemplateWhole x
-    || (is k.TemplateHead x || (is k.OpenParen x || (is k.OpenBracket x || (is k.OpenBrace x || (is k.ThisWord x
-    || (is k.NullWord x || (is k.TrueWord x || (is k.FalseWord x || (is k.FunctionWord x || (is k.ClassWord x
-    || (is k.SuperWord x || (is k.ImportWord x || (is k.NewWord x || (has_kind is_prefix x || (has_kind is_update x
-    || (is k.AwaitWord x || (is k.YieldWord x || is k.PrivateName x)))))))))))))))))))))
-
--- a token that would go on with the expression before it
-unfoldable pub continues_expression : TokenTest
-continues_expression x =
-    is k.OpenParen x || (is k.OpenBracket x || (is k.Dot x || (is k.QuestionDot x || (is k.Comma x || (is k.Question x
-    || (is k.Arrow x || (is k.TemplateWhole x || (is k.TemplateHead x || (is k.StarStar x || (is k.Greater x
-    || (has_kind is_assignment x || (has_kind is_relation x || (has_kind is_equality x || (has_kind is_sum x
-    || (has_kind is_product x || (is k.LessLess x || (is k.Ampersand x || (is k.Bar x || (is k.Caret x
-    || (is k.AmpersandAmpersand x || (is k.BarBar x || is k.QuestionQuestion x)))))))))))))))))))))
-
--- the token before is the `}` of a body whose `{` directly follows `=>`
-abbrev pub is_body : List Key → Option ℕ → Bool
-is_body K (Some opener) = is k.Arrow (seen K (opener - 1))
-is_body K None = false
-
-unfoldable pub follows_arrow_body : Guard
-follows_arrow_body K at = is k.CloseBrace (seen K (at - 1)) && is_body K (partner_of (slice_get K (at - 1)))
-
--- behind an expression a statement may end here, where the next token doesn't go on with it; behind a body of an arrow
--- only `,` would
-unfoldable pub ends_expression : Guard
-ends_expression K at =
-    (is k.Semicolon (seen K at) || (is k.CloseBrace (seen K at) || is_end (seen K at)))
-    || ((follows_arrow_body K at && is_other k.Comma (seen K at))
-    || (not (follows_arrow_body K at) && not (continues_expression (seen K at))))
+-- in TypeScript an expression may also begin with `<`: an arrow's type parameters
+abbrev pub begins_value : Lang → TokenTest
+begins_value lang.Es x = begins_expression x
+begins_value lang.Typescript x = is k.Less x || begins_expression x
 
 -- ---- arrows
 
-unfoldable pub is_arrow : TokenTest
-is_arrow x = is_near x && is k.Arrow x
+-- in TypeScript `(` opens an arrow also where its `)` is followed by `:`, unless no `:` opens a result here
+abbrev pub follows_parameters : Lang → Context → TokenTest
+follows_parameters lang.Es c x = is_arrow x
+follows_parameters lang.Typescript c x = is_arrow x || (not c.no_colon && is k.Colon x)
 
-unfoldable pub no_arrow : TokenTest
-no_arrow x = not (is_arrow x)
+unfoldable pub opens_parameters_of_arrow : Lang → Context → Predicate
+opens_parameters_of_arrow l c K at = is k.OpenParen (seen K at) && closes_before (follows_parameters l c) K at
 
--- a name before `=>` on its line, or `(` whose `)` stands there
-unfoldable pub opens_plain_arrow : Guard
-opens_plain_arrow K at =
+-- a name before `=>` on its line, such a `(`; in TypeScript also `<`
+unfoldable pub opens_arrow_here : Lang → Context → Predicate
+opens_arrow_here lang.Es c K at = opens_plain_arrow K at
+opens_arrow_here lang.Typescript c K at =
     (has_kind is_name (seen K at) && is_arrow (seen K (at + 1)))
-    || (is k.OpenParen (seen K at) && closes_before is_arrow K at)
+    || (opens_parameters_of_arrow lang.Typescript c K at || is k.Less (seen K at))
+
+-- `<` behind `async` on its line opens one exactly where type parameters can be read there and such a `(` follows
+unfoldable pub opens_generic_async : Context → Predicate
+opens_generic_async c K at =
+    is k.Less (seen K at) && reads_before types.TypeParametersRow (opens_parameters_of_arrow lang.Typescript c) K at
 
 -- `async` before such a name or `(` on its line
-unfoldable pub opens_async_arrow : Guard
-opens_async_arrow K at =
-    is k.AsyncWord (seen K at) && (not (is_arrow (seen K (at + 1)))
-    && (is_near (seen K (at + 1)) && opens_plain_arrow K (at + 1)))
+unfoldable pub opens_async_here : Lang → Context → Predicate
+opens_async_here lang.Es c K at = opens_async_arrow K at
+opens_async_here lang.Typescript c K at =
+    is k.AsyncWord (seen K at) && (not (is_arrow (seen K (at + 1))) && (is_near (seen K (at + 1))
+    && ((has_kind is_name (seen K (at + 1)) && is_arrow (seen K (at + 2)))
+    || (opens_parameters_of_arrow lang.Typescript c K (at + 1) || opens_generic_async c K (at + 1)))))
 
-unfoldable pub opens_arrow : Guard
-opens_arrow K at = opens_plain_arrow K at || opens_async_arrow K at
+unfoldable pub opens_any_arrow : Lang → Context → Predicate
+opens_any_arrow l c K at = opens_arrow_here l c K at || opens_async_here l c K at
 
 -- ~ '=>' (Block | Assign)
-unfoldable pub arrow_in : Context → Context → Form Row
+unfoldable pub arrow_in : Context → Context → Rhs Row
 arrow_in c d =
     when_ is_near (punct k.Arrow (alt (is k.OpenBrace) (row (BlockRow (outside d)) done)
     (when_ (is_other k.OpenBrace) (row (AssignmentRow d) done)) done))
 
--- Name ~ '=>' .. | '(' Params ')' ~ '=>' ..
-unfoldable pub plain_arrow : Context → Rule Row Label
-plain_arrow c =
-    choose (is k.OpenParen)
-    (make ParenthesizedArrow (punct k.OpenParen (row (ParametersRow (outside c)) (punct k.CloseParen (arrow_in c c)))))
+-- the `:` of an arrow's result, where one may stand
+unfoldable pub opens_arrow_result : Context → Predicate
+opens_arrow_result c K at = not c.no_colon && is k.Colon (seen K at)
+
+-- (TS ':' Ret)? ~ '=>' .., behind the parameters, in the place of the arrow and in that of its body
+unfoldable pub arrow_result_in : Context → Rhs Row → Rhs Row
+arrow_result_in c f =
+    opt (by_predicate (opens_arrow_result c)) (punct k.Colon (row (TypesRow (types.ResultRow true)) done)) f
+
+-- (TS TParams)? '(' Params ')' (TS ':' Ret)? ~ '=>' (Block | Assign), the parameters in a place of their own
+unfoldable pub parameters_arrow_in : Lang → Context → Context → Context → Rhs Row
+parameters_arrow_in l parameters c d =
+    typed_in l type_parameters_in (punct k.OpenParen (row (ParametersRow parameters) (punct k.CloseParen
+    (typed_in l (arrow_result_in c) (arrow_in c d)))))
+
+-- a token that begins an arrow's parameters in brackets
+abbrev pub begins_parameters : Lang → TokenTest
+begins_parameters lang.Es x = is k.OpenParen x
+begins_parameters lang.Typescript x = is k.OpenParen x || is k.Less x
+
+-- Name ~ '=>' .. | (TS TParams)? '(' Params ')' (TS ':' Ret)? ~ '=>' ..
+unfoldable pub plain_arrow : Lang → Context → Production Row NodeKind
+plain_arrow l c =
+    choose (begins_parameters l)
+    (make (label_by l ParenthesizedArrow TypedParenthesizedArrow) (parameters_arrow_in l (outside c) c c))
     (make NameArrow (tok as_name is_name (arrow_in c c)))
 
--- the same place in an async function, still in the head of a `for`
-abbrev pub async_here : Context → Context
-async_here c = record { script = c.script; no_in = c.no_in; in_async = true }
+unfoldable pub opens_async_list : Lang → Predicate
+opens_async_list lang.Es K at = opens_async_parenthesis K at
+opens_async_list lang.Typescript K at = is k.OpenParen (seen K (at + 1)) || is k.Less (seen K (at + 1))
 
--- 'async' ~ Name ~ '=>' .. | 'async' ~ '(' Params ')' ~ '=>' ..
-unfoldable pub opens_async_parenthesis : Guard
-opens_async_parenthesis K at = is k.OpenParen (seen K (at + 1))
-
-unfoldable pub async_arrow : Context → Rule Row Label
-async_arrow c =
-    pick opens_async_parenthesis
-    (make AsyncParenthesizedArrow (punct k.AsyncWord (when_ is_near (punct k.OpenParen
-    (row (ParametersRow (async_in c)) (punct k.CloseParen (arrow_in c (async_here c))))))))
+-- 'async' ~ Name ~ '=>' .. | 'async' ~ (TS TParams)? '(' Params ')' (TS ':' Ret)? ~ '=>' ..
+unfoldable pub async_arrow : Lang → Context → Production Row NodeKind
+async_arrow l c =
+    pick (opens_async_list l)
+    (make (label_by l AsyncParenthesizedArrow TypedAsyncParenthesizedArrow)
+    (punct k.AsyncWord (when_ is_near (parameters_arrow_in l (async_in c) c (async_here c)))))
     (make AsyncNameArrow (punct k.AsyncWord (when_ is_near (tok as_name is_name (arrow_in c (async_here c))))))
 
 -- ---- templates
 
 -- Tpl: whole | head Expr (middle Expr)* tail
-unfoldable pub template : Context → Rule Row Label
+unfoldable pub template : Context → Production Row NodeKind
 template c =
     choose (is k.TemplateWhole) (make Template (tok as_raw (only k.TemplateWhole) done))
     (make TemplateParts (tok as_raw (only k.TemplateHead) (row (ExpressionRow (outside c))
-    (many (taken (is k.TemplateMiddle)) (tok as_raw (only k.TemplateMiddle) (row (ExpressionRow (outside c)) done))
+    (many (greedy (is k.TemplateMiddle)) (tok as_raw (only k.TemplateMiddle) (row (ExpressionRow (outside c)) done))
     (tok as_raw (only k.TemplateTail) done)))))
+
+-- ---- functions and classes
+
+-- '*'?, and what stands behind it
+unfoldable pub star_in : Rhs Row → Rhs Row
+star_in f = opt (greedy (is k.Star)) (tok as_there (only k.Star) done) f
+
+-- a name, which may lack where it isn't asked for, and what stands behind it
+unfoldable pub name_in : Bool → Rhs Row → Rhs Row
+name_in true f = tok as_name is_name f
+name_in false f = opt (greedy (has_kind is_name)) (tok as_name is_name done) f
+
+-- Block | TS END: a function's block is taken where its `{` is there
+unfoldable pub body_in : Lang → Context → Rhs Row
+body_in lang.Es c = row (BlockRow c) done
+body_in lang.Typescript c =
+    alt (is k.OpenBrace) (row (BlockRow c) done) (when_ (is_other k.OpenBrace) (plain_form ended)) done
+
+-- 'function' '*'? Name? Sig (Block | TS END)
+unfoldable pub function : Lang → Bool → Context → Production Row NodeKind
+function l named c =
+    make (label_by l Function TypedFunction) (punct k.FunctionWord (star_in (name_in named
+    (row (SignatureRow (outside c)) (body_in l (outside c))))))
+
+-- 'async' ~ 'function' '*'? Name? Sig (Block | TS END)
+unfoldable pub async_function : Lang → Bool → Context → Production Row NodeKind
+async_function l named c =
+    make (label_by l AsyncFunction TypedAsyncFunction)
+    (punct k.AsyncWord (when_ is_near (punct k.FunctionWord (star_in (name_in named
+    (row (SignatureRow (async_in c)) (body_in l (async_in c))))))))
+
+-- Fn: 'function' .. | 'async' ~ 'function' ..
+unfoldable pub any_function : Lang → Bool → Context → Production Row NodeKind
+any_function l named c = choose (is k.AsyncWord) (async_function l named c) (function l named c)
+
+-- X (',' X)*, of types, and what stands behind it
+unfoldable pub references_in : Rhs Row → Rhs Row
+references_in f =
+    row (TypesRow types.ReferenceRow) (many (greedy (is k.Comma)) (punct k.Comma (row
+    (TypesRow types.ReferenceRow) done)) f)
+
+-- (TS TArgs)?, behind the operand of `extends`
+unfoldable pub heritage_in : Rhs Row → Rhs Row
+heritage_in f = opt (by_predicate opens_heritage_arguments) (row (TypesRow types.ArgumentsRow) done) f
+
+-- (TS 'implements' Ref%+)?
+unfoldable pub implements_in : Rhs Row → Rhs Row
+implements_in f = opt (greedy (is k.ImplementsWord)) (punct k.ImplementsWord (references_in done)) f
+
+-- 'class' Name? (TS TParams)? ('extends' Chain (TS TArgs)?)? (TS 'implements' Ref%+)? '{' Member* '}'
+unfoldable pub class_form : Lang → Bool → Context → Rhs Row
+class_form l named c =
+    punct k.ClassWord (name_in named (typed_in l type_parameters_in
+    (opt (greedy (is k.ExtendsWord)) (punct k.ExtendsWord (row (ChainRow (outside c)) (typed_in l heritage_in done)))
+    (typed_in l implements_in
+    (punct k.OpenBrace (many (by_lookahead (is_other k.CloseBrace)) (row (MemberRow (outside c)) done)
+    (punct k.CloseBrace done)))))))
+
+unfoldable pub class_ : Lang → Bool → Context → Production Row NodeKind
+class_ l named c = make (label_by l Class TypedClass) (class_form l named c)
+
+-- TS 'abstract' 'class' ..
+unfoldable pub abstract_class : Bool → Context → Production Row NodeKind
+abstract_class named c = make AbstractClass (punct k.AbstractWord (class_form lang.Typescript named c))
+
+-- `abstract` before `class`, on a new line too
+unfoldable pub opens_abstract_class : Predicate
+opens_abstract_class K at = is k.AbstractWord (seen K at) && is k.ClassWord (seen K (at + 1))
+
+-- Class
+unfoldable pub any_class : Lang → Bool → Context → Production Row NodeKind
+any_class lang.Es named c = class_ lang.Es named c
+any_class lang.Typescript named c = choose (is k.AbstractWord) (abstract_class named c) (class_ lang.Typescript named c)
 
 -- ---- primary expressions
 
 -- AElem: '...'? Assign, without a node of its own where it is an expression alone; the expression is told by its rule
-unfoldable pub spread : Context → Rule Row Label
+unfoldable pub spread : Context → Production Row NodeKind
 spread c = make Spread (punct k.Ellipsis (row (AssignmentRow (outside c)) done))
 
 -- '[' (AElem? ',')* AElem? ']'
-unfoldable pub array_literal : Context → Rule Row Label
+unfoldable pub array_literal : Context → Production Row NodeKind
 array_literal c =
-    make ArrayLiteral (punct k.OpenBracket (many (hint (is_other k.CloseBracket))
+    make ArrayLiteral (punct k.OpenBracket (many (by_lookahead (is_other k.CloseBracket))
     (alt (is k.Comma) (punct k.Comma done)
-    (row (ElementRow c) (opt (taken (is_other k.CloseBracket)) (punct k.Comma done) done)) done)
+    (row (ElementRow c) (opt (greedy (is_other k.CloseBracket)) (punct k.Comma done) done)) done)
     (punct k.CloseBracket done)))
 
 -- '{' Prop% '}'
-unfoldable pub object_literal : Context → Rule Row Label
+unfoldable pub object_literal : Context → Production Row NodeKind
 object_literal c =
-    make ObjectLiteral (punct k.OpenBrace (many (hint (is_other k.CloseBrace))
-    (row (PropertyRow c) (opt (taken (is_other k.CloseBrace)) (punct k.Comma done) done)) (punct k.CloseBrace done)))
+    make ObjectLiteral (punct k.OpenBrace (many (by_lookahead (is_other k.CloseBrace))
+    (row (PropertyRow c) (opt (greedy (is_other k.CloseBrace)) (punct k.Comma done) done)) (punct k.CloseBrace done)))
 
 -- `(` that opens no arrow
-unfoldable pub is_no_arrow_head : Guard
-is_no_arrow_head K at = not (closes_before is_arrow K at)
+unfoldable pub opens_no_arrow : Lang → Context → Predicate
+opens_no_arrow lang.Es c K at = is_no_arrow_head K at
+opens_no_arrow lang.Typescript c K at = not (closes_before (follows_parameters lang.Typescript c) K at)
 
--- `async` before `function` on its line
-unfoldable pub opens_async_function : Guard
-opens_async_function K at =
-    is k.AsyncWord (seen K at) && (is_near (seen K (at + 1)) && is k.FunctionWord (seen K (at + 1)))
+-- a name that is no part of an arrow, a function, or in TypeScript an abstract class
+unfoldable pub name_expression : Production Row NodeKind
+name_expression = make Name (tok as_name is_name (when_ no_arrow done))
 
--- '*'?, and what stands behind it
-unfoldable pub star_in : Form Row → Form Row
-star_in f = opt (taken (is k.Star)) (tok as_there (only k.Star) done) f
-
--- a name, which may lack where it isn't asked for, and what stands behind it
-unfoldable pub name_in : Bool → Form Row → Form Row
-name_in true f = tok as_name is_name f
-name_in false f = opt (taken (has_kind is_name)) (tok as_name is_name done) f
-
--- 'function' '*'? Name? Sig Block
-unfoldable pub function : Bool → Context → Rule Row Label
-function named c =
-    make Function (punct k.FunctionWord (star_in (name_in named (row (SignatureRow (outside c)) (row (BlockRow
-    (outside c)) done)))))
-
--- 'async' ~ 'function' '*'? Name? Sig Block
-unfoldable pub async_function : Bool → Context → Rule Row Label
-async_function named c =
-    make AsyncFunction (punct k.AsyncWord (when_ is_near (punct k.FunctionWord (star_in (name_in named
-    (row (SignatureRow (async_in c)) (row (BlockRow (async_in c)) done)))))))
-
--- Fn: 'function' .. | 'async' ~ 'function' ..
-unfoldable pub any_function : Bool → Context → Rule Row Label
-any_function named c = choose (is k.AsyncWord) (async_function named c) (function named c)
-
--- 'class' Name? ('extends' Chain)? '{' Member* '}'
-unfoldable pub class_ : Bool → Context → Rule Row Label
-class_ named c =
-    make Class (punct k.ClassWord (name_in named
-    (opt (taken (is k.ExtendsWord)) (punct k.ExtendsWord (row (ChainRow (outside c)) done))
-    (punct k.OpenBrace (many (hint (is_other k.CloseBrace)) (row (MemberRow (outside c)) done)
-    (punct k.CloseBrace done))))))
-
-unfoldable pub is_literal_word : TokenKind → Bool
-is_literal_word kind =
-    same_kind kind k.ThisWord || (same_kind kind k.NullWord || (same_kind kind k.TrueWord
-    || same_kind kind k.FalseWord))
+unfoldable pub named_primary : Lang → Context → Production Row NodeKind
+named_primary lang.Es c = pick opens_async_function (async_function lang.Es false c) name_expression
+named_primary lang.Typescript c =
+    pick opens_async_function (async_function lang.Typescript false c)
+    (pick opens_abstract_class (abstract_class false c) name_expression)
 
 -- Prim
-unfoldable pub primary : Context → Rule Row Label
-primary c =
+unfoldable pub primary : Lang → Context → Production Row NodeKind
+primary l c =
     choose (is k.OpenParen)
-    (make Parenthesized (where_ is_no_arrow_head (punct k.OpenParen (row (ExpressionRow (outside c))
+    (make Parenthesized (where_ (opens_no_arrow l c) (punct k.OpenParen (row (ExpressionRow (outside c))
     (punct k.CloseParen done)))))
     (choose (is k.OpenBracket) (array_literal (outside c))
     (choose (is k.OpenBrace) (object_literal (outside c))
-    (choose (is k.FunctionWord) (function false c)
-    (choose (is k.ClassWord) (class_ false c)
-    (choose (has_kind is_name)
-    (pick opens_async_function (async_function false c) (make Name (tok as_name is_name (when_ no_arrow done))))
+    (choose (is k.FunctionWord) (function l false c)
+    (choose (is k.ClassWord) (class_ l false c)
+    (choose (has_kind is_name) (named_primary l c)
     (choose (has_kind is_literal_word) (make Word (tok as_kind is_literal_word done))
     (choose (has_kind is_numeric) (make Number (tok as_raw is_numeric done))
     (choose (is k.Str) (make Str (tok as_str (only k.Str) done))
@@ -261,243 +239,298 @@ primary c =
 
 -- ---- chains
 
-unfoldable pub opens_property : Guard
-opens_property K at = is k.Dot (seen K (at + 1))
-
--- a further argument of `import()`: a `,` that isn't the last one
-unfoldable pub has_argument : Guard
-has_argument K at = is k.Comma (seen K at) && is_other k.CloseParen (seen K (at + 1))
-
 -- 'import' '(' Assign (',' Assign)? ','? ')'
-unfoldable pub import_call : Context → Rule Row Label
+unfoldable pub import_call : Context → Production Row NodeKind
 import_call c =
     make ImportCall (punct k.ImportWord (punct k.OpenParen (row (AssignmentRow (outside c))
-    (opt (guarded has_argument) (punct k.Comma (row (AssignmentRow (outside c)) done))
-    (opt (taken (is k.Comma)) (punct k.Comma done) (punct k.CloseParen done))))))
+    (opt (by_predicate has_argument) (punct k.Comma (row (AssignmentRow (outside c)) done))
+    (opt (greedy (is k.Comma)) (punct k.Comma done) (punct k.CloseParen done))))))
 
-unfoldable pub is_module : Context → Guard
+unfoldable pub is_module : Context → Predicate
 is_module c K at = not c.script
 
 -- 'import' '.' 'meta', in modules
-unfoldable pub import_meta : Context → Rule Row Label
-import_meta c = make ImportMeta (where_ (is_module c) (punct k.ImportWord (punct k.Dot (punct k.MetaWord done))))
+unfoldable pub import_meta : Context → Production Row NodeKind
+import_meta c =
+    make ImportMeta (where_ (is_module c) (punct k.ImportWord (punct k.Dot (punct k.MetaWord done))))
 
-unfoldable pub follows_super : TokenTest
-follows_super x = is k.Dot x || (is k.OpenBracket x || is k.OpenParen x)
+-- (TS TArgs)? Args?, behind Chain1
+unfoldable pub call_arguments_in : Rhs Row → Rhs Row
+call_arguments_in f = opt (by_predicate opens_call_arguments) (row (TypesRow types.ArgumentsRow) done) f
 
--- Base: Prim | 'super' | 'import' '(' .. ')' | 'import' '.' 'meta' | 'new' '.' 'target' | 'new' Chain1 Args?
-unfoldable pub base : Context → Rule Row Label
-base c =
+-- Base: Prim | 'super' | 'import' '(' .. ')' | 'import' '.' 'meta' | 'new' '.' 'target'
+--       | 'new' Chain1 (TS TArgs)? Args?
+unfoldable pub base : Lang → Context → Production Row NodeKind
+base l c =
     choose (is k.SuperWord) (make Super (tok as_there (only k.SuperWord) (when_ follows_super done)))
     (choose (is k.ImportWord) (pick opens_property (import_meta c) (import_call c))
     (choose (is k.NewWord)
     (pick opens_property (make NewTarget (punct k.NewWord (punct k.Dot (punct k.TargetWord done))))
-    (make New (punct k.NewWord (row (CalleeRow c) (opt (taken (is k.OpenParen)) (row (ArgumentsRow c) done) done)))))
-    (primary c)))
+    (make (label_by l New TypedNew) (punct k.NewWord (row (CalleeRow c) (typed_in l call_arguments_in
+    (opt (greedy (is k.OpenParen)) (row (ArgumentsRow c) done) done))))))
+    (primary l c)))
 
 -- Args: '(' ('...'? Assign)% ')'
-unfoldable pub arguments : Context → Rule Row Label
+unfoldable pub arguments : Context → Production Row NodeKind
 arguments c =
-    make Arguments (punct k.OpenParen (many (hint (is_other k.CloseParen))
-    (opt (taken (is k.Ellipsis)) (tok as_there (only k.Ellipsis) done)
-    (row (AssignmentRow (outside c)) (opt (taken (is_other k.CloseParen)) (punct k.Comma done) done)))
+    make Arguments (punct k.OpenParen (many (by_lookahead (is_other k.CloseParen))
+    (opt (greedy (is k.Ellipsis)) (tok as_there (only k.Ellipsis) done)
+    (row (AssignmentRow (outside c)) (opt (greedy (is_other k.CloseParen)) (punct k.Comma done) done)))
     (punct k.CloseParen done)))
 
--- a token that begins a member, and one that begins a further part of a chain
-unfoldable pub begins_member : TokenTest
-begins_member x = is k.Dot x || (is k.OpenBracket x || (is k.TemplateWhole x || is k.TemplateHead x))
+-- `!` on the line of the token before it
+unfoldable pub opens_non_null : TokenTest
+opens_non_null x = is_near x && is k.Exclamation x
 
-unfoldable pub begins_post : TokenTest
-begins_post x = begins_member x || (is k.OpenParen x || is k.QuestionDot x)
+-- a token that begins a member, or in TypeScript such a `!`
+abbrev pub begins_callee_post : Lang → TokenTest
+begins_callee_post lang.Es x = begins_member x
+begins_callee_post lang.Typescript x = begins_member x || opens_non_null x
+
+-- a token that begins a further part of a chain, or in TypeScript `<` that opens type arguments
+unfoldable pub opens_post : Predicate
+opens_post K at = begins_post (seen K at) || (opens_non_null (seen K at) || opens_call_arguments K at)
 
 -- '.' (Name | PrivateName) | '[' Expr ']' | Tpl
-unfoldable pub member_post : Context → Rule Row Label
-member_post c =
+unfoldable pub plain_member_post : Context → Production Row NodeKind
+plain_member_post c =
     choose (is k.Dot) (make MemberPost (punct k.Dot (tok as_name is_property_name done)))
     (choose (is k.OpenBracket)
     (make IndexPost (punct k.OpenBracket (row (ExpressionRow (outside c)) (punct k.CloseBracket done))))
     (make TemplatePost (row (TemplateRow c) done)))
 
--- '?.' (Name | PrivateName | '[' Expr ']' | Args)
-unfoldable pub optional_post : Context → Rule Row Label
-optional_post c =
-    make OptionalPost (punct k.QuestionDot
-    (alt (is k.OpenBracket) (punct k.OpenBracket (row (ExpressionRow (outside c)) (punct k.CloseBracket done)))
-    (alt (is k.OpenParen) (row (ArgumentsRow c) done) (tok as_name is_property_name done) done) done))
+-- TS ~ '!'
+unfoldable pub non_null_post : Production Row NodeKind
+non_null_post = make NonNullPost (when_ is_near (punct k.Exclamation done))
 
--- Post: '.' (Name | PrivateName) | '[' Expr ']' | Args | Tpl | '?.' (Name | PrivateName | '[' Expr ']' | Args)
-unfoldable pub post : Context → Rule Row Label
-post c =
+-- '.' (Name | PrivateName) | '[' Expr ']' | Tpl | TS ~ '!'
+unfoldable pub member_post : Lang → Context → Production Row NodeKind
+member_post lang.Es c = plain_member_post c
+member_post lang.Typescript c = choose (is k.Exclamation) non_null_post (plain_member_post c)
+
+-- the arguments of a call behind `?.`
+abbrev pub begins_arguments : Lang → TokenTest
+begins_arguments lang.Es x = is k.OpenParen x
+begins_arguments lang.Typescript x = is k.OpenParen x || is k.Less x
+
+-- '?.' (Name | PrivateName | '[' Expr ']' | (TS TArgs)? Args)
+unfoldable pub optional_post : Lang → Context → Production Row NodeKind
+optional_post l c =
+    make (label_by l OptionalPost TypedOptionalPost) (punct k.QuestionDot
+    (alt (is k.OpenBracket) (punct k.OpenBracket (row (ExpressionRow (outside c)) (punct k.CloseBracket done)))
+    (alt (begins_arguments l) (typed_in l type_arguments_in (row (ArgumentsRow c) done))
+    (tok as_name is_property_name done) done) done))
+
+-- behind the type arguments, or here, stands this token
+unfoldable pub is_at : TokenTest → Predicate
+is_at t K at = t (seen K at)
+
+unfoldable pub opens_call : Predicate
+opens_call K at =
+    is k.OpenParen (seen K at)
+    || (is k.Less (seen K at) && reads_before types.ArgumentsRow (is_at (is k.OpenParen)) K at)
+
+unfoldable pub opens_typed_template : Predicate
+opens_typed_template K at = is k.Less (seen K at)
+
+-- Post: '.' (Name | PrivateName) | '[' Expr ']' | (TS TArgs)? Args | (TS TArgs)? Tpl | '?.' .. | TS ~ '!'
+unfoldable pub post : Lang → Context → Production Row NodeKind
+post lang.Es c =
     choose (is k.OpenParen) (make CallPost (row (ArgumentsRow c) done))
-    (choose (is k.QuestionDot) (optional_post c) (member_post c))
+    (choose (is k.QuestionDot) (optional_post lang.Es c) (member_post lang.Es c))
+post lang.Typescript c =
+    pick opens_call (make TypedCallPost (type_arguments_in (row (ArgumentsRow c) done)))
+    (pick opens_typed_template (make TypedTemplatePost (type_arguments_in (row (TemplateRow c) done)))
+    (choose (is k.QuestionDot) (optional_post lang.Typescript c) (member_post lang.Typescript c)))
 
 -- Chain: Base Post*
-unfoldable pub chain : Context → Rule Row Label
-chain c =
-    wrap Chain (base c) (taken begins_post) (row (PostRow c) (many (taken begins_post) (row (PostRow c) done) done))
+unfoldable pub chain : Lang → Context → Production Row NodeKind
+chain lang.Es c =
+    wrap Chain (base lang.Es c) (greedy begins_post)
+    (row (PostRow c) (many (greedy begins_post) (row (PostRow c) done) done))
+chain lang.Typescript c =
+    wrap Chain (base lang.Typescript c) (by_predicate opens_post)
+    (row (PostRow c) (many (by_predicate opens_post) (row (PostRow c) done) done))
 
--- Chain1: a Chain with no Args and no `?.`
-unfoldable pub callee : Context → Rule Row Label
-callee c =
-    wrap Chain (base c) (taken begins_member)
-    (row (MemberPostRow c) (many (taken begins_member) (row (MemberPostRow c) done) done))
+-- Chain1: a Chain with no Args, no `?.` and no TArgs
+unfoldable pub callee : Lang → Context → Production Row NodeKind
+callee l c =
+    wrap Chain (base l c) (greedy (begins_callee_post l))
+    (row (MemberPostRow c) (many (greedy (begins_callee_post l)) (row (MemberPostRow c) done) done))
 
 -- ---- operators
 
-unfoldable pub may_await : Context → Guard
+unfoldable pub may_await : Context → Predicate
 may_await c K at = not c.script || c.in_async
 
-unfoldable pub is_update_here : TokenTest
-is_update_here x = is_near x && has_kind is_update x
-
-unfoldable pub no_update_here : TokenTest
-no_update_here x = not (is_update_here x)
-
 -- ('++' | '--') Unary | Chain (~ ('++' | '--'))?
-unfoldable pub update : Context → Rule Row Label
-update c =
+unfoldable pub update : Lang → Context → Production Row NodeKind
+update l c =
     choose (has_kind is_update) (make UpdatePrefix (tok as_kind is_update (row (UnaryRow c) done)))
-    (wrap UpdatePostfix (chain c) (taken is_update_here) (when_ is_near (tok as_kind is_update
+    (wrap UpdatePostfix (chain l c) (greedy is_update_here) (when_ is_near (tok as_kind is_update
     (when_ no_update_here done))))
 
 -- ('delete' | 'void' | 'typeof' | '+' | '-' | '~' | '!') Unary
-unfoldable pub prefix : Context → Rule Row Label
+unfoldable pub prefix : Context → Production Row NodeKind
 prefix c = make UnaryExpression (tok as_kind is_prefix (row (UnaryRow c) done))
 
 -- 'await' Unary, in modules and in async functions
-unfoldable pub await_ : Context → Rule Row Label
+unfoldable pub await_ : Context → Production Row NodeKind
 await_ c = make AwaitExpression (where_ (may_await c) (punct k.AwaitWord (row (UnaryRow c) done)))
 
 -- Unary
-unfoldable pub unary : Context → Rule Row Label
-unary c = choose (has_kind is_prefix) (prefix c) (choose (is k.AwaitWord) (await_ c) (update c))
+unfoldable pub unary : Lang → Context → Production Row NodeKind
+unary l c = choose (has_kind is_prefix) (prefix c) (choose (is k.AwaitWord) (await_ c) (update l c))
 
 -- Unary | (Chain or update) '**' Power
-unfoldable pub power : Context → Rule Row Label
-power c =
+unfoldable pub power : Lang → Context → Production Row NodeKind
+power l c =
     choose (has_kind is_prefix) (prefix c) (choose (is k.AwaitWord) (await_ c)
-    (wrap Binary (update c) (taken (is k.StarStar))
+    (wrap Binary (update l c) (greedy (is k.StarStar))
     (tok as_kind (only k.StarStar) (row (PowerRow c) (when_ (is_other k.StarStar) done)))))
 
 -- a level of operators of one token, left-associative
-unfoldable pub level : (TokenKind → Bool) → Row → Rule Row Label → Rule Row Label
-level may r operand = wrap Binary operand (taken (has_kind may)) (tok as_kind may (row r done))
+unfoldable pub level : (TokenKind → Bool) → Row → Production Row NodeKind → Production Row NodeKind
+level may r operand = wrap Binary operand (greedy (has_kind may)) (tok as_kind may (row r done))
 
-unfoldable pub product : Context → Rule Row Label
-product c = level is_product (PowerRow c) (power c)
+unfoldable pub product : Lang → Context → Production Row NodeKind
+product l c = level is_product (PowerRow c) (power l c)
 
-unfoldable pub sum : Context → Rule Row Label
-sum c = level is_sum (ProductRow c) (product c)
+unfoldable pub sum : Lang → Context → Production Row NodeKind
+sum l c = level is_sum (ProductRow c) (product l c)
 
 -- '<<' | '>>' | '>>>'
-unfoldable pub opens_shift : Guard
-opens_shift K at = is k.LessLess (seen K at) || opens_right_shift K at
-
-unfoldable pub shift : Context → Rule Row Label
-shift c =
-    wrap Binary (sum c) (guarded opens_shift)
+unfoldable pub shift : Lang → Context → Production Row NodeKind
+shift l c =
+    wrap Binary (sum l c) (by_predicate opens_shift)
     (alt (is k.Greater)
     (tok as_kind (only k.Greater) (tok as_there (only k.Greater)
-    (opt (guarded (joins k.Greater)) (tok as_there (only k.Greater) done) done)))
+    (opt (by_predicate (joins k.Greater)) (tok as_there (only k.Greater) done) done)))
     (tok as_kind (only k.LessLess) done) (row (SumRow c) done))
 
--- '<' | '<=' | '>' | '>=' | 'instanceof' | 'in', this one outside the head of a `for`
-unfoldable pub opens_relation : Context → Guard
-opens_relation c K at =
-    opens_greater K at || (has_kind is_relation (seen K at) && not (c.no_in && is k.InWord (seen K at)))
+-- `as` or `satisfies`, on the line of the token before it
+unfoldable pub is_assertion_word : TokenKind → Bool
+is_assertion_word kind = same_kind kind k.AsWord || same_kind kind k.SatisfiesWord
 
-unfoldable pub may_test : Context → Guard
+unfoldable pub opens_assertion : TokenTest
+opens_assertion x = is_near x && has_kind is_assertion_word x
+
+-- '<' | '<=' | '>' | '>=' | 'instanceof' | 'in', this one outside the head of a `for`; in TypeScript also such a
+-- word, and `<` only where it opens no type arguments
+unfoldable pub opens_comparison : Lang → Context → Predicate
+opens_comparison lang.Es c K at =
+    opens_greater K at || (has_kind is_relation (seen K at) && not (c.no_in && is k.InWord (seen K at)))
+opens_comparison lang.Typescript c K at =
+    opens_greater K at || (opens_assertion (seen K at) || (has_kind is_relation (seen K at)
+    && (not (c.no_in && is k.InWord (seen K at)) && not (opens_call_arguments K at))))
+
+unfoldable pub may_test : Context → Predicate
 may_test c K at = not c.no_in
 
 -- PrivateName 'in' Shift
-unfoldable pub private_in : Context → Rule Row Label
+unfoldable pub private_in : Context → Production Row NodeKind
 private_in c =
-    make PrivateIn (where_ (may_test c) (tok as_name (only k.PrivateName) (punct k.InWord (row (ShiftRow c) done))))
+    make PrivateIn (where_ (may_test c) (tok as_name (only k.PrivateName) (punct k.InWord (row
+    (ShiftRow c) done))))
 
-unfoldable pub relation : Context → Rule Row Label
-relation c =
-    wrap Binary (choose (is k.PrivateName) (private_in c) (shift c)) (guarded (opens_relation c))
-    (alt (is k.Greater) (tok as_kind (only k.Greater) (opt (guarded (joins k.Equal)) (tok as_there
+-- an operator of the level of `<`, and its operand
+unfoldable pub comparison_in : Context → Rhs Row
+comparison_in c =
+    alt (is k.Greater) (tok as_kind (only k.Greater) (opt (by_predicate (joins k.Equal)) (tok as_there
     (only k.Equal) done) done))
-    (tok as_kind is_relation done) (row (ShiftRow c) done))
+    (tok as_kind is_relation done) (row (ShiftRow c) done)
 
-unfoldable pub equality : Context → Rule Row Label
-equality c = level is_equality (RelationRow c) (relation c)
+-- `const` stands behind `as` alone
+unfoldable pub is_behind_as : Predicate
+is_behind_as K at = is k.AsWord (seen K (at - 1))
 
-unfoldable pub bit_and : Context → Rule Row Label
-bit_and c = level (only k.Ampersand) (EqualityRow c) (equality c)
+-- ~ 'as' Type | ~ 'as' 'const' | ~ 'satisfies' Type
+unfoldable pub asserted : Rhs Row
+asserted =
+    when_ is_near (tok as_kind is_assertion_word (alt (is k.ConstWord)
+    (where_ is_behind_as (tok as_there (only k.ConstWord) done)) (type_then done) done))
 
-unfoldable pub bit_xor : Context → Rule Row Label
-bit_xor c = level (only k.Caret) (BitAndRow c) (bit_and c)
+-- one of these, or another form
+unfoldable pub asserted_or : Rhs Row → Rhs Row
+asserted_or other = alt (has_kind is_assertion_word) asserted other done
 
-unfoldable pub bit_or : Context → Rule Row Label
-bit_or c = level (only k.Bar) (BitXorRow c) (bit_xor c)
+-- no form
+unfoldable pub no_form : Rhs Row
+no_form = when_ none (punct k.Semicolon done)
+
+unfoldable pub relation : Lang → Context → Production Row NodeKind
+relation lang.Es c =
+    wrap Binary (choose (is k.PrivateName) (private_in c) (shift lang.Es c))
+    (by_predicate (opens_comparison lang.Es c)) (comparison_in c)
+relation lang.Typescript c =
+    wrap TypedBinary (choose (is k.PrivateName) (private_in c) (shift lang.Typescript c))
+    (by_predicate (opens_comparison lang.Typescript c)) (asserted_or (comparison_in c))
+
+unfoldable pub equality : Lang → Context → Production Row NodeKind
+equality l c = level is_equality (RelationRow c) (relation l c)
+
+unfoldable pub bit_and : Lang → Context → Production Row NodeKind
+bit_and l c = level (only k.Ampersand) (EqualityRow c) (equality l c)
+
+unfoldable pub bit_xor : Lang → Context → Production Row NodeKind
+bit_xor l c = level (only k.Caret) (BitAndRow c) (bit_and l c)
+
+unfoldable pub bit_or : Lang → Context → Production Row NodeKind
+bit_or l c = level (only k.Bar) (BitXorRow c) (bit_xor l c)
 
 -- '&&' behind an operand
-unfoldable pub and_ : Context → Rule Row Label → Rule Row Label
+unfoldable pub and_ : Context → Production Row NodeKind → Production Row NodeKind
 and_ c operand = level (only k.AmpersandAmpersand) (BitOrRow c) operand
 
--- neither '&&' nor '||'
-unfoldable pub no_mix : TokenTest
-no_mix x = not (is k.AmpersandAmpersand x) && not (is k.BarBar x)
-
 -- '??' mixes with '||' or '&&' only in brackets
-unfoldable pub coalesce : Context → Rule Row Label
-coalesce c =
-    wrap Binary (bit_or c) (taken (is k.QuestionQuestion))
+unfoldable pub coalesce : Lang → Context → Production Row NodeKind
+coalesce l c =
+    wrap Binary (bit_or l c) (greedy (is k.QuestionQuestion))
     (tok as_kind (only k.QuestionQuestion) (row (BitOrRow c) (when_ no_mix done)))
 
 -- Binary, from its loosest level
-unfoldable pub binary : Context → Rule Row Label
-binary c = level (only k.BarBar) (AndRow c) (and_ c (coalesce c))
+unfoldable pub binary : Lang → Context → Production Row NodeKind
+binary l c = level (only k.BarBar) (AndRow c) (and_ c (coalesce l c))
 
 -- Cond: Binary ('?' Assign ':' Assign)?
-unfoldable pub conditional : Context → Rule Row Label
-conditional c =
-    wrap Conditional (binary c) (taken (is k.Question))
-    (punct k.Question (row (AssignmentRow c) (punct k.Colon (row (AssignmentRow c) (when_
+unfoldable pub conditional : Lang → Context → Production Row NodeKind
+conditional l c =
+    wrap Conditional (binary l c) (greedy (is k.Question))
+    (punct k.Question (row (AssignmentRow (without_colon l c)) (punct k.Colon (row (AssignmentRow c) (when_
     (is_other k.Question) done)))))
 
 -- ---- assignments
 
--- `[` or `{` whose closer is followed by `=`
-unfoldable pub opens_pattern : Guard
-opens_pattern K at =
-    (is k.OpenBracket (seen K at) || is k.OpenBrace (seen K at)) && closes_before (is k.Equal) K at
-
-unfoldable pub opens_assignment : Guard
-opens_assignment K at = has_kind is_assignment (seen K at) || opens_right_assignment K at
-
 -- an operand of `yield` stands here
-unfoldable pub is_operand : TokenTest
-is_operand x = is_near x && (is k.Star x || begins_expression x)
+unfoldable pub opens_operand : Lang → TokenTest
+opens_operand l x = is_near x && (is k.Star x || begins_value l x)
 
 -- 'yield' (~ '*'? Assign)?
-unfoldable pub yield_ : Context → Rule Row Label
-yield_ c =
-    make Yield (punct k.YieldWord (opt (taken is_operand)
-    (when_ is_near (opt (taken (is k.Star)) (tok as_there (only k.Star) done) (row (AssignmentRow c) done))) done))
+unfoldable pub yield_ : Lang → Context → Production Row NodeKind
+yield_ l c =
+    make Yield (punct k.YieldWord (opt (greedy (opens_operand l))
+    (when_ is_near (opt (greedy (is k.Star)) (tok as_there (only k.Star) done) (row (AssignmentRow c) done))) done))
 
 -- Assign: Arrow | 'yield' (~ '*'? Assign)? | Target AssignOp Assign | Cond
-unfoldable pub assignment : Context → Rule Row Label
-assignment c =
-    pick opens_arrow (pick opens_async_arrow (async_arrow c) (plain_arrow c))
-    (choose (is k.YieldWord) (yield_ c)
+unfoldable pub assignment : Lang → Context → Production Row NodeKind
+assignment l c =
+    pick (opens_any_arrow l c) (pick (opens_async_here l c) (async_arrow l c) (plain_arrow l c))
+    (choose (is k.YieldWord) (yield_ l c)
     (pick opens_pattern
     (make PatternAssignment (row (PatternRow true (outside c)) (punct k.Equal (row (AssignmentRow c) done))))
-    (wrap Assignment (conditional c) (guarded opens_assignment)
+    (wrap Assignment (conditional l c) (by_predicate opens_assignment)
     (alt (is k.Greater)
     (tok as_kind (only k.Greater) (tok as_there (only k.Greater)
-    (opt (guarded (joins k.Greater)) (tok as_there (only k.Greater) done) (tok as_there (only k.Equal) done))))
+    (opt (by_predicate (joins k.Greater)) (tok as_there (only k.Greater) done) (tok as_there (only k.Equal) done))))
     (tok as_kind is_assignment done) (row (AssignmentRow c) done)))))
 
 -- Expr: Assign (',' Assign)*
-unfoldable pub expression : Context → Rule Row Label
-expression c =
-    wrap Sequence (assignment c) (taken (is k.Comma))
-    (punct k.Comma (row (AssignmentRow c) (many (taken (is k.Comma)) (punct k.Comma (row
+unfoldable pub expression : Lang → Context → Production Row NodeKind
+expression l c =
+    wrap Sequence (assignment l c) (greedy (is k.Comma))
+    (punct k.Comma (row (AssignmentRow c) (many (greedy (is k.Comma)) (punct k.Comma (row
     (AssignmentRow c) done)) done)))
 
 -- AElem
-unfoldable pub element : Context → Rule Row Label
-element c = choose (is k.Ellipsis) (spread c) (assignment (outside c))
+unfoldable pub element : Lang → Context → Production Row NodeKind
+element l c = choose (is k.Ellipsis) (spread c) (assignment l (outside c))

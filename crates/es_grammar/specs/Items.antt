@@ -1,78 +1,97 @@
--- Programs and the items of modules (ECMA-262, "Scripts and Modules").
-use Rattle.std.specs.Prelude.{◌+◌, true, false, not, ◌&&◌, ◌||◌}
+-- Programs and the items of modules in both languages (ECMA-262, "Scripts and Modules"; the handbook of TypeScript,
+-- "Modules").
+use Rattle.std.specs.Prelude.{◌+◌, false, ◌||◌}
 use Rattle.es_token.specs.declared.token.TokenKind.TheVariants as k
 use Rattle.es_tree.specs.declared.error.Lang.{Lang}
-use Rattle.es_tree.specs.Key.{seen, has_kind, is, is_token}
-use Rattle.es_tree.specs.Form.{as_raw, hint, taken, Guard, Form, done, tok, punct, row, opt, many, Rule, make, choose, pick}
-use Rattle.es_grammar.specs.Words.{only}
+use Rattle.es_tree.specs.declared.error.Lang.TheVariants as lang
+use Rattle.es_tree.specs.Key.{seen, is, is_token}
+use Rattle.es_tree.specs.Productions.{as_raw, by_lookahead, greedy, Predicate, Rhs, done, tok, punct, row, opt, many, Production, make, choose, pick}
+use Rattle.es_type_grammar.specs.Words.{only}
+use Rattle.es_type_grammar.specs.Modules as modules
+use Rattle.es_type_grammar.specs.Items as items
+use Rattle.es_grammar.specs.declared.rows.NodeKind.TheVariants.{ExportAssignment, ExportDeclaration, ExportDefaultClass, ExportDefaultExpression, ExportDefaultFunction, ExportDefaultInterface, Module, Script}
 use Rattle.es_grammar.specs.declared.rows.Context.{Context}
 use Rattle.es_grammar.specs.declared.rows.Row.{Row}
-use Rattle.es_grammar.specs.declared.rows.Row.TheVariants.{ItemRow, StatementRow, DeclarationRow, FunctionRow, ClassRow, AssignmentRow}
-use Rattle.es_grammar.specs.declared.rows.Label.{Label}
-use Rattle.es_grammar.specs.declared.rows.Label.TheVariants.{ExportDefaultFunction, ExportDefaultClass, ExportDefaultExpression, ExportDeclaration, Module, Script}
-use Rattle.es_grammar.specs.Modules.{import_, export_}
-use Rattle.es_grammar.specs.Expressions.{opens_async_function}
-use Rattle.es_grammar.specs.Statements.{is_variable_word, opens_using, statement, expression_ended}
+use Rattle.es_grammar.specs.declared.rows.NodeKind.{NodeKind}
+use Rattle.es_grammar.specs.declared.rows.Row.TheVariants.{ItemRow, StatementRow, DeclarationRow, DeclaredRow, FunctionRow, ClassRow, ExpressionRow, AssignmentRow}
+use Rattle.es_grammar.specs.Rows.{in_module, in_script}
+use Rattle.es_grammar.specs.Embedding.{plain_rule}
+use Rattle.es_grammar.specs.Expressions.{opens_abstract_class}
+use Rattle.es_grammar.specs.Statements.{expression_ended}
+use Rattle.es_grammar.specs.Declarations.{opens_interface, opens_alias, opens_enum, opens_namespace, opens_module, opens_global, opens_declare, statement}
 
--- at the outside of a module, and of a script
-abbrev pub in_module : Context
-in_module = record { script = false; no_in = false; in_async = false }
+-- behind `export default` stands a class, in TypeScript also an abstract one
+unfoldable pub opens_any_default_class : Lang → Predicate
+opens_any_default_class lang.Es K at = items.opens_default_class K at
+opens_any_default_class lang.Typescript K at = items.opens_default_class K at || opens_abstract_class K (at + 2)
 
-abbrev pub in_script : Context
-in_script = record { script = true; no_in = false; in_async = false }
+unfoldable pub opens_default_interface : Predicate
+opens_default_interface K at = opens_interface K (at + 2)
 
--- `import` heads an import but before `(` or `.`
-unfoldable pub opens_import : Guard
-opens_import K at =
-    is k.ImportWord (seen K at) && not (is k.OpenParen (seen K (at + 1)) || is k.Dot (seen K (at + 1)))
+-- 'export' 'default' Assign END
+unfoldable pub default_expression : Context → Production Row NodeKind
+default_expression c =
+    make ExportDefaultExpression (punct k.ExportWord (punct k.DefaultWord (row
+    (AssignmentRow c) expression_ended)))
 
-unfoldable pub opens_default : Guard
-opens_default K at = is k.DefaultWord (seen K (at + 1))
+-- TS 'export' 'default' Interface
+unfoldable pub default_interface : Context → Production Row NodeKind
+default_interface c = make ExportDefaultInterface (punct k.ExportWord (punct k.DefaultWord (row (DeclaredRow c) done)))
 
--- behind `export default` stands a function, a class
-unfoldable pub opens_default_function : Guard
-opens_default_function K at = is k.FunctionWord (seen K (at + 2)) || opens_async_function K (at + 2)
+unfoldable pub other_default : Lang → Context → Production Row NodeKind
+other_default lang.Es c = default_expression c
+other_default lang.Typescript c = pick opens_default_interface (default_interface c) (default_expression c)
 
-unfoldable pub opens_default_class : Guard
-opens_default_class K at = is k.ClassWord (seen K (at + 2))
-
--- 'export' 'default' (Fn | Class | Assign END)
-unfoldable pub export_default : Rule Row Label
-export_default =
-    pick opens_default_function
-    (make ExportDefaultFunction (punct k.ExportWord (punct k.DefaultWord (row (FunctionRow false in_module) done))))
-    (pick opens_default_class
-    (make ExportDefaultClass (punct k.ExportWord (punct k.DefaultWord (row (ClassRow false in_module) done))))
-    (make ExportDefaultExpression (punct k.ExportWord (punct k.DefaultWord (row
-    (AssignmentRow in_module) expression_ended)))))
+-- 'export' 'default' (Fn | Class | TS Interface | Assign END)
+unfoldable pub export_default : Lang → Context → Production Row NodeKind
+export_default l c =
+    pick items.opens_default_function
+    (make ExportDefaultFunction (punct k.ExportWord (punct k.DefaultWord (row (FunctionRow false c) done))))
+    (pick (opens_any_default_class l)
+    (make ExportDefaultClass (punct k.ExportWord (punct k.DefaultWord (row (ClassRow false c) done))))
+    (other_default l c))
 
 -- behind `export` stands a declaration
-unfoldable pub opens_declaration : Guard
-opens_declaration K at =
-    has_kind is_variable_word (seen K (at + 1)) || (is k.FunctionWord (seen K (at + 1))
-    || (is k.ClassWord (seen K (at + 1))
-    || (opens_async_function K (at + 1) || opens_using K (at + 1))))
+unfoldable pub opens_any_declaration : Lang → Predicate
+opens_any_declaration lang.Es K at = items.opens_declaration K at
+opens_any_declaration lang.Typescript K at =
+    items.opens_declaration K at || (opens_enum K (at + 1) || (opens_declare K (at + 1)
+    || (opens_abstract_class K (at + 1) || (opens_interface K (at + 1) || (opens_alias K (at + 1)
+    || (opens_namespace K (at + 1) || (opens_module K (at + 1) || opens_global K (at + 1))))))))
 
--- Export, with those of Modules.antt: 'export' Decl | 'export' 'default' (Fn | Class | Assign END)
-unfoldable pub export_item : Lang → Rule Row Label
-export_item l =
-    pick opens_default export_default
-    (pick opens_declaration (make ExportDeclaration (punct k.ExportWord (row (DeclarationRow in_module) done)))
-    (export_ l))
+unfoldable pub opens_export_assignment : Predicate
+opens_export_assignment K at = is k.Equal (seen K (at + 1))
+
+-- Export of names, with those of Modules.antt; TS 'export' '=' Expr END
+unfoldable pub export_names : Lang → Context → Production Row NodeKind
+export_names lang.Es c = plain_rule (modules.export_ lang.Es)
+export_names lang.Typescript c =
+    pick opens_export_assignment
+    (make ExportAssignment (punct k.ExportWord (punct k.Equal (row (ExpressionRow c) expression_ended))))
+    (plain_rule (modules.export_ lang.Typescript))
+
+-- Export: 'export' Decl | 'export' 'default' (Fn | Class | TS Interface | Assign END), and of names
+unfoldable pub export_item : Lang → Context → Production Row NodeKind
+export_item l c =
+    pick items.opens_default (export_default l c)
+    (pick (opens_any_declaration l)
+    (make ExportDeclaration (punct k.ExportWord (row (DeclarationRow c) done)))
+    (export_names l c))
 
 -- Item: Import | Export | Stmt
-unfoldable pub item : Lang → Rule Row Label
-item l =
-    pick opens_import (import_ l) (choose (is k.ExportWord) (export_item l) (statement in_module))
+unfoldable pub item : Lang → Context → Production Row NodeKind
+item l c =
+    pick items.opens_import (plain_rule (modules.import_ l))
+    (choose (is k.ExportWord) (export_item l c) (statement l c))
 
 -- Shebang?, and what stands behind it
-unfoldable pub shebang_in : Form Row → Form Row
-shebang_in f = opt (taken (is k.Shebang)) (tok as_raw (only k.Shebang) done) f
+unfoldable pub shebang_in : Rhs Row → Rhs Row
+shebang_in f = opt (greedy (is k.Shebang)) (tok as_raw (only k.Shebang) done) f
 
 -- Module: Shebang? Item*
-unfoldable pub module_ : Lang → Rule Row Label
-module_ l = make Module (shebang_in (many (hint is_token) (row (ItemRow l) done) done))
+unfoldable pub module_ : Production Row NodeKind
+module_ = make Module (shebang_in (many (by_lookahead is_token) (row (ItemRow in_module) done) done))
 
 -- Script: Shebang? Stmt*
-unfoldable pub script : Rule Row Label
-script = make Script (shebang_in (many (hint is_token) (row (StatementRow in_script) done) done))
+unfoldable pub script : Production Row NodeKind
+script = make Script (shebang_in (many (by_lookahead is_token) (row (StatementRow in_script) done) done))

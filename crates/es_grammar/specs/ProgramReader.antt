@@ -6,10 +6,10 @@ use Rattle.es_tree.specs.Key.{Key}
 use Rattle.es_tree.specs.Plain.{Plain, plain}
 use Rattle.es_tree.specs.Fits.{most_nodes}
 use Rattle.es_tree.specs.Reader.{Out, read_row}
-use Rattle.es_grammar.specs.declared.rows.Label.{Label}
+use Rattle.es_grammar.specs.declared.rows.NodeKind.{NodeKind}
 use Rattle.es_grammar.specs.Table.{rule}
 use Rattle.es_grammar.specs.Conditions.{program_row}
 
 -- what is read as a program, from the first key on
-unfoldable pub read_program : Lang → Mode → List Key → Out (Plain Label)
-read_program l m K = read_row plain K rule most_nodes (program_row l m) 0
+unfoldable pub read_program : Lang → Mode → List Key → Out (Plain NodeKind)
+read_program l m K = read_row plain K (rule l) most_nodes (program_row m) 0

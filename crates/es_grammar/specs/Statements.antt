@@ -1,141 +1,107 @@
--- Statements and declarations (ECMA-262, "ECMAScript Language: Statements and Declarations").
-use Rattle.std.specs.Prelude.{ℕ, zero, suc, ◌+◌, ◌-◌, ltb, Bool, true, false, not, ◌&&◌, ◌||◌, if◌then◌else◌, List, Option, Some, None, slice_get, length}
-use Rattle.es_token.specs.declared.token.TokenKind.{TokenKind}
+-- Statements and variables in both languages (ECMA-262, "ECMAScript Language: Statements and Declarations").
+use Rattle.std.specs.Prelude.{true, false, ◌&&◌, ◌||◌}
 use Rattle.es_token.specs.declared.token.TokenKind.TheVariants as k
-use Rattle.es_tree.specs.Key.{Key, TokenTest, seen, same_kind, has_kind, is}
-use Rattle.es_tree.specs.Form.{as_name, as_kind, as_there, hint, taken, Guard, Form, done, tok, punct, row, opt, many, alt, when_, where_, Rule, make, choose, pick, wrap, guarded}
-use Rattle.es_grammar.specs.Words.{only, is_name, is_near, is_other, partner_of, closes_before}
+use Rattle.es_tree.specs.declared.error.Lang.{Lang}
+use Rattle.es_tree.specs.declared.error.Lang.TheVariants as lang
+use Rattle.es_tree.specs.Key.{TokenTest, has_kind, is}
+use Rattle.es_tree.specs.Productions.{as_name, as_kind, as_there, by_lookahead, greedy, by_predicate, Predicate, Rhs, done, tok, punct, row, opt, many, alt, when_, where_, Production, make, choose, pick, wrap}
+use Rattle.es_type_grammar.specs.Words.{only, is_name, is_near, is_other}
+use Rattle.es_type_grammar.specs.Modules.{ended}
+use Rattle.es_type_grammar.specs.Expressions.{ends_expression}
+use Rattle.es_type_grammar.specs.Functions.{key_before}
+use Rattle.es_type_grammar.specs.Statements.{is_variable_word, ends_value, opens_using, opens_for, opens_for_await, opens_head_pattern, starts_using, starts_expression, label_ended, is_case, is_in_case, opens_label, begins_no_other}
+use Rattle.es_grammar.specs.declared.rows.NodeKind.TheVariants.{Block, BreakStatement, ContinueStatement, DebuggerStatement, Declarator, DoStatement, ExpressionStatement, ForAwaitStatement, ForEachStatement, ForStatement, IfStatement, LabelledStatement, ReturnStatement, SwitchStatement, ThrowStatement, TryStatement, TypedDeclarator, TypedTryStatement, TypedVariableHead, Using, UsingHead, VariableHead, Variables, WhileStatement, WithStatement}
 use Rattle.es_grammar.specs.declared.rows.Context.{Context}
 use Rattle.es_grammar.specs.declared.rows.Row.{Row}
+use Rattle.es_grammar.specs.declared.rows.NodeKind.{NodeKind}
 use Rattle.es_grammar.specs.declared.rows.Row.TheVariants.{StatementRow, BlockRow, VariablesRow, DeclaratorRow, UsingRow, HeadRow, PatternRow, ExpressionRow, AssignmentRow}
-use Rattle.es_grammar.specs.declared.rows.Label.{Label}
-use Rattle.es_grammar.specs.declared.rows.Label.TheVariants.{Block, EmptyStatement, ExpressionStatement, LabelledStatement, IfStatement, ForStatement, ForEachStatement, ForAwaitStatement, WhileStatement, DoStatement, ContinueStatement, BreakStatement, ReturnStatement, ThrowStatement, SwitchStatement, TryStatement, DebuggerStatement, WithStatement, VariableDeclaration, UsingDeclaration, Variables, Declarator, Using, VariableHead, UsingHead}
-use Rattle.es_grammar.specs.Modules.{ended}
-use Rattle.es_grammar.specs.Expressions.{outside, in_head, begins_expression, ends_expression, opens_async_function, function, async_function, class_, may_await}
+use Rattle.es_grammar.specs.Rows.{outside, in_head, without_colon}
+use Rattle.es_grammar.specs.Embedding.{label_by, typed_in, annotation_in, plain_form}
+use Rattle.es_grammar.specs.Expressions.{begins_value, may_await}
 use Rattle.es_grammar.specs.Functions.{target, pattern}
 
 -- END behind an expression
-unfoldable pub expression_ended : Form Row
-expression_ended = where_ ends_expression ended
+unfoldable pub expression_ended : Rhs Row
+expression_ended = where_ ends_expression (plain_form ended)
 
 -- '(' Expr ')', and what stands behind it
-unfoldable pub condition_in : Context → Form Row → Form Row
+unfoldable pub condition_in : Context → Rhs Row → Rhs Row
 condition_in c f = punct k.OpenParen (row (ExpressionRow c) (punct k.CloseParen f))
 
 -- Block: '{' Stmt* '}'
-unfoldable pub block : Context → Rule Row Label
+unfoldable pub block : Context → Production Row NodeKind
 block c =
-    make Block (punct k.OpenBrace (many (hint (is_other k.CloseBrace)) (row (StatementRow c) done)
+    make Block (punct k.OpenBrace (many (by_lookahead (is_other k.CloseBrace)) (row (StatementRow c) done)
     (punct k.CloseBrace done)))
 
--- ---- declarations
+-- ---- variables
 
--- `var`, `let`, `const`
-unfoldable pub is_variable_word : TokenKind → Bool
-is_variable_word kind = same_kind kind k.VarWord || (same_kind kind k.LetWord || same_kind kind k.ConstWord)
+-- a pattern before `!`, `:` or `=`
+unfoldable pub is_declarator_mark : TokenTest
+is_declarator_mark x = is k.Exclamation x || (is k.Colon x || is k.Equal x)
 
--- behind a value END may stand, or a further declarator
-unfoldable pub ends_value : Guard
-ends_value K at = is k.Comma (seen K at) || ends_expression K at
+unfoldable pub opens_declarator : Predicate
+opens_declarator K at = key_before is_declarator_mark K at
 
--- Dtor: Pat ('=' Assign)?, without a node of its own where it is a pattern alone
-unfoldable pub declarator : Context → Rule Row Label
-declarator c =
-    wrap Declarator (pattern false (outside c)) (taken (is k.Equal))
+-- Dtor: Pat (TS '!')? (TS ':' Type)? ('=' Assign)?, without a node of its own where it is a pattern alone
+unfoldable pub declarator : Lang → Context → Production Row NodeKind
+declarator lang.Es c =
+    wrap Declarator (pattern lang.Es false (outside c)) (greedy (is k.Equal))
     (punct k.Equal (row (AssignmentRow c) (when_ (is_other k.Equal) (where_ ends_value done))))
+declarator lang.Typescript c =
+    pick opens_declarator
+    (make TypedDeclarator (row (PatternRow false (outside c))
+    (opt (greedy (is k.Exclamation)) (tok as_there (only k.Exclamation) done)
+    (annotation_in (opt (greedy (is k.Equal)) (punct k.Equal (row (AssignmentRow c) (where_ ends_value done))) done)))))
+    (pattern lang.Typescript false (outside c))
 
 -- Dtor (',' Dtor)*
-unfoldable pub declarators : Context → Form Row
+unfoldable pub declarators : Context → Rhs Row
 declarators c =
-    row (DeclaratorRow c) (many (taken (is k.Comma)) (punct k.Comma (row (DeclaratorRow c) done)) done)
+    row (DeclaratorRow c) (many (greedy (is k.Comma)) (punct k.Comma (row (DeclaratorRow c) done)) done)
 
 -- Var: ('var' | 'let' | 'const') Dtor (',' Dtor)*
-unfoldable pub variables : Context → Rule Row Label
+unfoldable pub variables : Context → Production Row NodeKind
 variables c = make Variables (tok as_kind is_variable_word (declarators c))
 
--- `using` before a name on its line, but `of` where no `await` stands before it
-unfoldable pub opens_using : Guard
-opens_using K at =
-    (is k.UsingWord (seen K at) && (is_near (seen K (at + 1)) && (has_kind is_name (seen K (at + 1))
-    && is_other k.OfWord (seen K (at + 1)))))
-    || (is k.AwaitWord (seen K at) && (is_near (seen K (at + 1)) && (is k.UsingWord (seen K (at + 1))
-    && (is_near (seen K (at + 2)) && has_kind is_name (seen K (at + 2))))))
-
 -- ('await' ~)? 'using' ~, and what stands behind it
-unfoldable pub using_in : Context → Form Row → Form Row
+unfoldable pub using_in : Context → Rhs Row → Rhs Row
 using_in c f =
-    opt (taken (is k.AwaitWord)) (where_ (may_await c) (tok as_there (only k.AwaitWord) (when_ is_near done)))
+    opt (greedy (is k.AwaitWord)) (where_ (may_await c) (tok as_there (only k.AwaitWord) (when_ is_near done)))
     (punct k.UsingWord (when_ is_near f))
 
 -- Using: ('await' ~)? 'using' ~ Dtor (',' Dtor)*
-unfoldable pub using_ : Context → Rule Row Label
+unfoldable pub using_ : Context → Production Row NodeKind
 using_ c = make Using (using_in c (declarators c))
 
 -- ---- loops
 
--- the place behind a token, or behind the bracket that it opens
-abbrev pub step_over : ℕ → Option ℕ → ℕ
-step_over at (Some n) = if ltb at n then n + 1 else at + 1
-step_over at None = at + 1
-
--- a `;` stands directly between these places
-abbrev pub has_semicolon : List Key → ℕ → ℕ → ℕ → Bool
-has_semicolon K zero at to = false
-has_semicolon K (suc n) at to =
-    ltb at to && (is k.Semicolon (seen K at) || has_semicolon K n (step_over at (partner_of (slice_get K at))) to)
-
-abbrev pub has_semicolon_in : List Key → ℕ → Option ℕ → Bool
-has_semicolon_in K at (Some closer) = has_semicolon K (length K) (at + 1) closer
-has_semicolon_in K at None = false
-
--- `for` before a head with `;`
-unfoldable pub opens_for : Guard
-opens_for K at = has_semicolon_in K (at + 1) (partner_of (slice_get K (at + 1)))
-
-unfoldable pub opens_for_await : Guard
-opens_for_await K at = is k.AwaitWord (seen K (at + 1))
-
--- `of` or `in`
-unfoldable pub is_each : TokenTest
-is_each x = is k.OfWord x || is k.InWord x
-
--- `[` or `{` whose closer is followed by `of` or `in`
-unfoldable pub opens_head_pattern : Guard
-opens_head_pattern K at = (is k.OpenBracket (seen K at) || is k.OpenBrace (seen K at)) && closes_before is_each K at
-
--- Head: ('var' | 'let' | 'const') Pat | ('await' ~)? 'using' ~ Name | Target
-unfoldable pub head : Context → Rule Row Label
-head c =
-    choose (has_kind is_variable_word) (make VariableHead (tok as_kind is_variable_word (row
-    (PatternRow false c) done)))
+-- Head: ('var' | 'let' | 'const') Pat (TS ':' Type)? | ('await' ~)? 'using' ~ Name | Target
+unfoldable pub head : Lang → Context → Production Row NodeKind
+head l c =
+    choose (has_kind is_variable_word)
+    (make (label_by l VariableHead TypedVariableHead)
+    (tok as_kind is_variable_word (row (PatternRow false c) (typed_in l annotation_in done))))
     (pick opens_using (make UsingHead (using_in c (tok as_name is_name done)))
-    (pick opens_head_pattern (pattern true c) (target (in_head c))))
-
--- the head begins here with `using`, or with an expression
-unfoldable pub starts_using : Guard
-starts_using K at = is k.OpenParen (seen K (at - 1)) && opens_using K at
-
-unfoldable pub starts_expression : Guard
-starts_expression K at =
-    is k.OpenParen (seen K (at - 1)) && (is_other k.Semicolon (seen K at) && not (opens_using K at))
+    (pick opens_head_pattern (pattern l true c) (target l (in_head c))))
 
 -- (Var | Using | Expr)?, where `in` is no operator, and what stands behind it
-unfoldable pub start_in : Context → Form Row → Form Row
+unfoldable pub start_in : Context → Rhs Row → Rhs Row
 start_in c f =
-    opt (taken (has_kind is_variable_word)) (row (VariablesRow (in_head c)) done)
-    (opt (guarded starts_using) (row (UsingRow (in_head c)) done)
-    (opt (guarded starts_expression) (row (ExpressionRow (in_head c)) done) f))
+    opt (greedy (has_kind is_variable_word)) (row (VariablesRow (in_head c)) done)
+    (opt (by_predicate starts_using) (row (UsingRow (in_head c)) done)
+    (opt (by_predicate starts_expression) (row (ExpressionRow (in_head c)) done) f))
 
 -- 'for' '(' (Var | Using | Expr)? ';' Expr? ';' Expr? ')' Stmt
-unfoldable pub for_ : Context → Rule Row Label
+unfoldable pub for_ : Context → Production Row NodeKind
 for_ c =
     make ForStatement (punct k.ForWord (punct k.OpenParen (start_in c (punct k.Semicolon
-    (opt (taken (is_other k.Semicolon)) (row (ExpressionRow c) done) (punct k.Semicolon
-    (opt (taken (is_other k.CloseParen)) (row (ExpressionRow c) done) (punct k.CloseParen (row
+    (opt (greedy (is_other k.Semicolon)) (row (ExpressionRow c) done) (punct k.Semicolon
+    (opt (greedy (is_other k.CloseParen)) (row (ExpressionRow c) done) (punct k.CloseParen (row
     (StatementRow c) done)))))))))
 
 -- 'for' '(' Head ('in' Expr | 'of' Assign) ')' Stmt
-unfoldable pub for_each : Context → Rule Row Label
+unfoldable pub for_each : Context → Production Row NodeKind
 for_each c =
     make ForEachStatement (punct k.ForWord (punct k.OpenParen (row (HeadRow c)
     (alt (is k.InWord) (tok as_kind (only k.InWord) (row (ExpressionRow c) done))
@@ -143,114 +109,81 @@ for_each c =
     (punct k.CloseParen (row (StatementRow c) done))))))
 
 -- 'for' 'await' '(' Head 'of' Assign ')' Stmt
-unfoldable pub for_await : Context → Rule Row Label
+unfoldable pub for_await : Context → Production Row NodeKind
 for_await c =
-    make ForAwaitStatement (punct k.ForWord (where_ (may_await c) (punct k.AwaitWord (punct k.OpenParen (row (HeadRow c)
+    make ForAwaitStatement (punct k.ForWord (where_ (may_await c) (punct k.AwaitWord (punct k.OpenParen
+    (row (HeadRow c)
     (punct k.OfWord (row (AssignmentRow c) (punct k.CloseParen (row (StatementRow c) done)))))))))
 
 -- ---- statements
 
--- a name on the line of the token before it
-unfoldable pub is_label_here : TokenTest
-is_label_here x = is_near x && has_kind is_name x
-
--- (~ Name)? END
-unfoldable pub label_ended : Form Row
-label_ended = opt (taken is_label_here) (when_ is_near (tok as_name is_name done)) ended
-
-unfoldable pub is_value_here : TokenTest
-is_value_here x = is_near x && begins_expression x
+abbrev pub begins_value_here : Lang → TokenTest
+begins_value_here l x = is_near x && begins_value l x
 
 -- 'return' (~ Expr)? END
-unfoldable pub return_ : Context → Rule Row Label
-return_ c =
-    make ReturnStatement (punct k.ReturnWord (alt is_value_here (when_ is_near (row
-    (ExpressionRow c) expression_ended)) ended done))
-
--- a clause of `switch` begins here, and its statements end before such a clause or `}`
-unfoldable pub is_case : TokenTest
-is_case x = is k.CaseWord x || is k.DefaultWord x
-
-unfoldable pub is_in_case : TokenTest
-is_in_case x = not (is_case x) && is_other k.CloseBrace x
+unfoldable pub return_ : Lang → Context → Production Row NodeKind
+return_ l c =
+    make ReturnStatement (punct k.ReturnWord (alt (begins_value_here l) (when_ is_near (row
+    (ExpressionRow c) expression_ended)) (plain_form ended) done))
 
 -- ('case' Expr | 'default') ':' Stmt*
-unfoldable pub case_in : Context → Form Row
-case_in c =
-    alt (is k.CaseWord) (punct k.CaseWord (row (ExpressionRow c) done)) (punct k.DefaultWord done)
-    (punct k.Colon (many (hint is_in_case) (row (StatementRow c) done) done))
+unfoldable pub case_in : Lang → Context → Rhs Row
+case_in l c =
+    alt (is k.CaseWord) (punct k.CaseWord (row (ExpressionRow (without_colon l c)) done)) (punct k.DefaultWord done)
+    (punct k.Colon (many (by_lookahead is_in_case) (row (StatementRow c) done) done))
 
 -- 'switch' '(' Expr ')' '{' .. '}'
-unfoldable pub switch_ : Context → Rule Row Label
-switch_ c =
+unfoldable pub switch_ : Lang → Context → Production Row NodeKind
+switch_ l c =
     make SwitchStatement (punct k.SwitchWord (condition_in c (punct k.OpenBrace
-    (many (hint is_case) (case_in c) (punct k.CloseBrace done)))))
+    (many (by_lookahead is_case) (case_in l c) (punct k.CloseBrace done)))))
 
 -- 'finally' Block
-unfoldable pub finally_in : Context → Form Row
+unfoldable pub finally_in : Context → Rhs Row
 finally_in c = punct k.FinallyWord (row (BlockRow c) done)
 
--- 'try' Block ('catch' ('(' Pat ')')? Block)? ('finally' Block)?, with one of the two at least
-unfoldable pub try_ : Context → Rule Row Label
-try_ c =
-    make TryStatement (punct k.TryWord (row (BlockRow c) (alt (is k.CatchWord)
-    (punct k.CatchWord (opt (taken (is k.OpenParen)) (punct k.OpenParen (row (PatternRow false c)
-    (punct k.CloseParen done)))
-    (row (BlockRow c) (opt (taken (is k.FinallyWord)) (finally_in c) done)))) (finally_in c) done)))
+-- 'try' Block ('catch' ('(' Pat (TS ':' Type)? ')')? Block)? ('finally' Block)?, with one of the two at least
+unfoldable pub try_ : Lang → Context → Production Row NodeKind
+try_ l c =
+    make (label_by l TryStatement TypedTryStatement) (punct k.TryWord (row (BlockRow c) (alt (is k.CatchWord)
+    (punct k.CatchWord (opt (greedy (is k.OpenParen)) (punct k.OpenParen (row (PatternRow false c)
+    (typed_in l annotation_in (punct k.CloseParen done))))
+    (row (BlockRow c) (opt (greedy (is k.FinallyWord)) (finally_in c) done)))) (finally_in c) done)))
 
-unfoldable pub is_script : Context → Guard
+unfoldable pub is_script : Context → Predicate
 is_script c K at = c.script
 
--- a name before `:`
-unfoldable pub opens_label : Guard
-opens_label K at = has_kind is_name (seen K at) && is k.Colon (seen K (at + 1))
-
--- an expression statement begins with neither `{`, `function` nor `class`
-unfoldable pub begins_no_other : TokenTest
-begins_no_other x = not (is k.OpenBrace x || (is k.FunctionWord x || is k.ClassWord x))
-
 -- Expr END
-unfoldable pub expression_statement : Context → Rule Row Label
-expression_statement c = make ExpressionStatement (when_ begins_no_other (row (ExpressionRow c) expression_ended))
+unfoldable pub expression_statement : Context → Production Row NodeKind
+expression_statement c =
+    make ExpressionStatement (when_ begins_no_other (row (ExpressionRow c) expression_ended))
 
 -- the statements that begin with a keyword of their own
-unfoldable pub keyword_statement : Context → Rule Row Label → Rule Row Label
-keyword_statement c other =
+unfoldable pub keyword_statement : Lang → Context → Production Row NodeKind → Production Row NodeKind
+keyword_statement l c other =
     choose (is k.IfWord)
     (make IfStatement (punct k.IfWord (condition_in c (row (StatementRow c)
-    (opt (taken (is k.ElseWord)) (punct k.ElseWord (row (StatementRow c) done)) done)))))
+    (opt (greedy (is k.ElseWord)) (punct k.ElseWord (row (StatementRow c) done)) done)))))
     (choose (is k.ForWord) (pick opens_for_await (for_await c) (pick opens_for (for_ c) (for_each c)))
-    (choose (is k.WhileWord) (make WhileStatement (punct k.WhileWord (condition_in c (row (StatementRow c) done))))
+    (choose (is k.WhileWord)
+    (make WhileStatement (punct k.WhileWord (condition_in c (row (StatementRow c) done))))
     (choose (is k.DoWord)
     (make DoStatement (punct k.DoWord (row (StatementRow c) (punct k.WhileWord (condition_in c
-    (opt (taken (is k.Semicolon)) (punct k.Semicolon done) done))))))
-    (choose (is k.ContinueWord) (make ContinueStatement (punct k.ContinueWord label_ended))
-    (choose (is k.BreakWord) (make BreakStatement (punct k.BreakWord label_ended))
-    (choose (is k.ReturnWord) (return_ c)
+    (opt (greedy (is k.Semicolon)) (punct k.Semicolon done) done))))))
+    (choose (is k.ContinueWord) (make ContinueStatement (punct k.ContinueWord (plain_form label_ended)))
+    (choose (is k.BreakWord) (make BreakStatement (punct k.BreakWord (plain_form label_ended)))
+    (choose (is k.ReturnWord) (return_ l c)
     (choose (is k.ThrowWord) (make ThrowStatement (punct k.ThrowWord (when_ is_near (row
     (ExpressionRow c) expression_ended))))
-    (choose (is k.SwitchWord) (switch_ c)
-    (choose (is k.TryWord) (try_ c)
-    (choose (is k.DebuggerWord) (make DebuggerStatement (punct k.DebuggerWord ended))
+    (choose (is k.SwitchWord) (switch_ l c)
+    (choose (is k.TryWord) (try_ l c)
+    (choose (is k.DebuggerWord) (make DebuggerStatement (punct k.DebuggerWord (plain_form ended)))
     (choose (is k.WithWord)
     (make WithStatement (punct k.WithWord (where_ (is_script c) (condition_in c (row
     (StatementRow c) done))))) other)))))))))))
 
--- Decl: Var END | Using END | Fn | Class
-unfoldable pub declaration : Context → Rule Row Label → Rule Row Label
-declaration c other =
-    choose (has_kind is_variable_word) (make VariableDeclaration (row (VariablesRow c) ended))
-    (choose (is k.FunctionWord) (function true c)
-    (choose (is k.ClassWord) (class_ true c)
-    (pick opens_using (make UsingDeclaration (row (UsingRow c) ended))
-    (pick opens_async_function (async_function true c) other))))
-
--- Stmt
-unfoldable pub statement : Context → Rule Row Label
-statement c =
-    choose (is k.OpenBrace) (block c)
-    (choose (is k.Semicolon) (make EmptyStatement (punct k.Semicolon done))
-    (keyword_statement c
-    (declaration c
-    (pick opens_label (make LabelledStatement (tok as_name is_name (punct k.Colon (row (StatementRow c) done))))
-    (expression_statement c)))))
+-- what is left of Stmt: Name ':' Stmt | Expr END
+unfoldable pub other_statement : Context → Production Row NodeKind
+other_statement c =
+    pick opens_label (make LabelledStatement (tok as_name is_name (punct k.Colon (row (StatementRow c) done))))
+    (expression_statement c)

@@ -1,61 +1,67 @@
--- The table of programs: the rule of each row.
-use Rattle.es_tree.specs.Form.{Rule, refuse}
+-- The table of programs: the rule of each row, by the language.
+use Rattle.es_tree.specs.declared.error.Lang.{Lang}
+use Rattle.es_tree.specs.Productions.{Production, refuse}
+use Rattle.es_type_grammar.specs.Modules as modules
+use Rattle.es_type_grammar.specs.TypeTable.{type_rule}
 use Rattle.es_grammar.specs.declared.rows.Row.{Row}
-use Rattle.es_grammar.specs.declared.rows.Row.TheVariants.{ModuleRow, ScriptRow, ItemRow, ClauseRow, NamedRow, ImportSpecifierRow, ExportSpecifierRow, AttributesRow, EntityRow, StatementRow, BlockRow, DeclarationRow, VariablesRow, DeclaratorRow, UsingRow, HeadRow, FunctionRow, ClassRow, SignatureRow, ParametersRow, ParameterRow, PatternRow, InnerPatternRow, PatternElementRow, PatternPropertyRow, MemberRow, PropertyRow, KeyRow, ExpressionRow, AssignmentRow, AndRow, BitOrRow, BitXorRow, BitAndRow, EqualityRow, RelationRow, ShiftRow, SumRow, ProductRow, PowerRow, UnaryRow, ChainRow, CalleeRow, PostRow, MemberPostRow, ArgumentsRow, ElementRow, TemplateRow}
-use Rattle.es_grammar.specs.declared.rows.Label.{Label}
-use Rattle.es_grammar.specs.Modules.{clause, named, import_specifier, export_specifier, attributes, entity}
-use Rattle.es_grammar.specs.Expressions.{any_function, class_, template, arguments, post, member_post, chain, callee, unary, power, product, sum, shift, relation, equality, bit_and, bit_xor, bit_or, and_, assignment, expression, element}
+use Rattle.es_grammar.specs.declared.rows.NodeKind.{NodeKind}
+use Rattle.es_grammar.specs.declared.rows.Row.TheVariants.{ModuleRow, ScriptRow, ItemRow, ClauseRow, NamedRow, ImportSpecifierRow, ExportSpecifierRow, AttributesRow, EntityRow, StatementRow, BlockRow, DeclarationRow, DeclaredRow, VariablesRow, DeclaratorRow, UsingRow, HeadRow, FunctionRow, ClassRow, SignatureRow, ParametersRow, ParameterRow, PatternRow, InnerPatternRow, PatternElementRow, PatternPropertyRow, MemberRow, PropertyRow, KeyRow, ExpressionRow, AssignmentRow, AndRow, BitOrRow, BitXorRow, BitAndRow, EqualityRow, RelationRow, ShiftRow, SumRow, ProductRow, PowerRow, UnaryRow, ChainRow, CalleeRow, PostRow, MemberPostRow, ArgumentsRow, ElementRow, TemplateRow, TypesRow}
+use Rattle.es_grammar.specs.Embedding.{plain_rule, types_rule}
+use Rattle.es_grammar.specs.Expressions.{any_function, any_class, template, arguments, post, member_post, chain, callee, unary, power, product, sum, shift, relation, equality, bit_and, bit_xor, bit_or, and_, assignment, expression, element}
 use Rattle.es_grammar.specs.Functions.{pattern, inner_pattern, pattern_element, pattern_property, parameters, parameter, signature, key, property}
 use Rattle.es_grammar.specs.Classes.{member}
-use Rattle.es_grammar.specs.Statements.{block, declarator, declaration, variables, using_, head, statement}
+use Rattle.es_grammar.specs.Statements.{block, declarator, variables, using_, head}
+use Rattle.es_grammar.specs.Declarations.{declaration, declared, statement}
 use Rattle.es_grammar.specs.Items.{item, module_, script}
 
-unfoldable pub rule : Row → Rule Row Label
-rule (ModuleRow l) = module_ l
-rule ScriptRow = script
-rule (ItemRow l) = item l
-rule (ClauseRow l) = clause l
-rule (NamedRow l) = named l
-rule (ImportSpecifierRow l) = import_specifier l
-rule (ExportSpecifierRow l) = export_specifier l
-rule AttributesRow = attributes
-rule EntityRow = entity
-rule (StatementRow c) = statement c
-rule (BlockRow c) = block c
-rule (DeclarationRow c) = declaration c refuse
-rule (VariablesRow c) = variables c
-rule (DeclaratorRow c) = declarator c
-rule (UsingRow c) = using_ c
-rule (HeadRow c) = head c
-rule (FunctionRow named c) = any_function named c
-rule (ClassRow named c) = class_ named c
-rule (SignatureRow c) = signature c
-rule (ParametersRow c) = parameters c
-rule (ParameterRow c) = parameter c
-rule (PatternRow t c) = pattern t c
-rule (InnerPatternRow t c) = inner_pattern t c
-rule (PatternElementRow t c) = pattern_element t c
-rule (PatternPropertyRow t c) = pattern_property t c
-rule (MemberRow c) = member c
-rule (PropertyRow c) = property c
-rule (KeyRow p c) = key p c
-rule (ExpressionRow c) = expression c
-rule (AssignmentRow c) = assignment c
-rule (AndRow c) = and_ c (bit_or c)
-rule (BitOrRow c) = bit_or c
-rule (BitXorRow c) = bit_xor c
-rule (BitAndRow c) = bit_and c
-rule (EqualityRow c) = equality c
-rule (RelationRow c) = relation c
-rule (ShiftRow c) = shift c
-rule (SumRow c) = sum c
-rule (ProductRow c) = product c
-rule (PowerRow c) = power c
-rule (UnaryRow c) = unary c
-rule (ChainRow c) = chain c
-rule (CalleeRow c) = callee c
-rule (PostRow c) = post c
-rule (MemberPostRow c) = member_post c
-rule (ArgumentsRow c) = arguments c
-rule (ElementRow c) = element c
-rule (TemplateRow c) = template c
+unfoldable pub rule : Lang → Row → Production Row NodeKind
+rule l ModuleRow = module_
+rule l ScriptRow = script
+rule l (ItemRow c) = item l c
+rule l ClauseRow = plain_rule (modules.clause l)
+rule l NamedRow = plain_rule (modules.named l)
+rule l ImportSpecifierRow = plain_rule (modules.import_specifier l)
+rule l ExportSpecifierRow = plain_rule (modules.export_specifier l)
+rule l AttributesRow = plain_rule modules.attributes
+rule l EntityRow = plain_rule modules.entity
+rule l (StatementRow c) = statement l c
+rule l (BlockRow c) = block c
+rule l (DeclarationRow c) = declaration l c refuse
+rule l (DeclaredRow c) = declared c
+rule l (VariablesRow c) = variables c
+rule l (DeclaratorRow c) = declarator l c
+rule l (UsingRow c) = using_ c
+rule l (HeadRow c) = head l c
+rule l (FunctionRow named c) = any_function l named c
+rule l (ClassRow named c) = any_class l named c
+rule l (SignatureRow c) = signature l c
+rule l (ParametersRow c) = parameters l c
+rule l (ParameterRow c) = parameter l c
+rule l (PatternRow t c) = pattern l t c
+rule l (InnerPatternRow t c) = inner_pattern l t c
+rule l (PatternElementRow t c) = pattern_element l t c
+rule l (PatternPropertyRow t c) = pattern_property t c
+rule l (MemberRow c) = member l c
+rule l (PropertyRow c) = property l c
+rule l (KeyRow p c) = key p c
+rule l (ExpressionRow c) = expression l c
+rule l (AssignmentRow c) = assignment l c
+rule l (AndRow c) = and_ c (bit_or l c)
+rule l (BitOrRow c) = bit_or l c
+rule l (BitXorRow c) = bit_xor l c
+rule l (BitAndRow c) = bit_and l c
+rule l (EqualityRow c) = equality l c
+rule l (RelationRow c) = relation l c
+rule l (ShiftRow c) = shift l c
+rule l (SumRow c) = sum l c
+rule l (ProductRow c) = product l c
+rule l (PowerRow c) = power l c
+rule l (UnaryRow c) = unary l c
+rule l (ChainRow c) = chain l c
+rule l (CalleeRow c) = callee l c
+rule l (PostRow c) = post l c
+rule l (MemberPostRow c) = member_post l c
+rule l (ArgumentsRow c) = arguments c
+rule l (ElementRow c) = element l c
+rule l (TemplateRow c) = template c
+rule l (TypesRow r) = types_rule (type_rule r)

@@ -1,64 +1,64 @@
--- Names of types: `a.b<c>`, `import("a").b<c>`, and the lists of arguments and parameters between `<` and `>`.
-use Rattle.std.specs.Prelude.{◌+◌, Bool, true, not, ◌&&◌, ◌||◌}
-use Rattle.es_token.specs.declared.token.TokenKind.{TokenKind}
-use Rattle.es_token.specs.declared.token.TokenKind.TheVariants as k
-use Rattle.es_tree.specs.Key.{TokenTest, seen, same_kind, has_kind, is}
-use Rattle.es_tree.specs.Form.{as_str, as_name, as_kind, hint, taken, guarded, Guard, Form, done, tok, punct, row, opt, many, when_, Rule, make, wrap}
-use Rattle.es_grammar.specs.Words.{only, is_name, is_near, is_other}
-use Rattle.es_grammar.specs.TypeRows.{Row, TypeRow, EntityRow, ArgumentsRow, Label, Entity, Reference, ImportType, TypeArguments, TypeParameters}
+-- The alternatives of the types' table, by the names that the code gives them.
+use Rattle.es_type_grammar.specs.TypeRows.{NodeKind as TableNodeKind}
+use Rattle.es_type_grammar.specs.TypeRows as table
+use Rattle.es_grammar.specs.declared.rows.NodeKind.{NodeKind}
+use Rattle.es_grammar.specs.declared.rows.NodeKind.TheVariants as label
 
--- ('.' Name)*, and what stands behind it
-unfoldable pub further_names : Form Row → Form Row
-further_names f = many (taken (is k.Dot)) (punct k.Dot (tok as_name is_name done)) f
-
--- Entity: (Name | 'this') ('.' Name)*, by the kinds that its first token may have
-unfoldable pub entity : (TokenKind → Bool) → Rule Row Label
-entity may = make Entity (tok as_name may (further_names done))
-
--- `<` on the line of the token before it
-unfoldable pub opens_arguments : TokenTest
-opens_arguments x = is_near x && is k.Less x
-
-unfoldable pub no_arguments : TokenTest
-no_arguments x = not (opens_arguments x)
-
--- Ref: Entity (~ TArgs)?
-unfoldable pub reference : (TokenKind → Bool) → Rule Row Label
-reference may =
-    wrap Reference (entity may) (taken opens_arguments) (when_ is_near (row ArgumentsRow (when_ no_arguments done)))
-
--- ImportT: 'import' '(' Str ')' ('.' Entity)? TArgs?
-unfoldable pub import_type : Rule Row Label
-import_type =
-    make ImportType (punct k.ImportWord (punct k.OpenParen (tok as_str (only k.Str) (punct k.CloseParen
-    (opt (taken (is k.Dot)) (punct k.Dot (row EntityRow done))
-    (opt (taken (is k.Less)) (row ArgumentsRow done) done))))))
-
--- TArgs: '<' Type (',' Type)* '>'
-unfoldable pub arguments : Rule Row Label
-arguments =
-    make TypeArguments (punct k.Less (row (TypeRow true)
-    (many (taken (is k.Comma)) (punct k.Comma (row (TypeRow true) done)) (punct k.Greater done))))
-
--- a modifier of a type parameter: `const`, `in`, or `out` before a name or `in`
-unfoldable pub is_modifier : TokenKind → Bool
-is_modifier kind = same_kind kind k.ConstWord || (same_kind kind k.InWord || same_kind kind k.OutWord)
-
-unfoldable pub opens_modifier : Guard
-opens_modifier K at =
-    (is k.ConstWord (seen K at) || is k.InWord (seen K at))
-    || (is k.OutWord (seen K at) && (has_kind is_name (seen K (at + 1)) || is k.InWord (seen K (at + 1))))
-
--- ('const' | 'in' | 'out')* Name ('extends' Type)? ('=' Type)?, a `,` unless `>` follows, and what stands behind it
-unfoldable pub type_parameter : Form Row → Form Row
-type_parameter f =
-    many (guarded opens_modifier) (tok as_kind is_modifier done) (tok as_name is_name
-    (opt (taken (is k.ExtendsWord)) (punct k.ExtendsWord (row (TypeRow true) done))
-    (opt (taken (is k.Equal)) (punct k.Equal (row (TypeRow true) done))
-    (opt (taken (is_other k.Greater)) (punct k.Comma done) f))))
-
--- TParams: '<' one or more of them, with an optional last ',' '>'
-unfoldable pub type_parameters : Rule Row Label
-type_parameters =
-    make TypeParameters (punct k.Less (type_parameter
-    (many (hint (is_other k.Greater)) (type_parameter done) (punct k.Greater done))))
+-- the name of an alternative
+abbrev pub label_name : TableNodeKind → NodeKind
+label_name table.FunctionType = label.FunctionType
+label_name table.ConstructorType = label.ConstructorType
+label_name table.ConditionalType = label.ConditionalType
+label_name table.UnionType = label.UnionType
+label_name table.LeadingUnionType = label.LeadingUnionType
+label_name table.IntersectionType = label.IntersectionType
+label_name table.LeadingIntersectionType = label.LeadingIntersectionType
+label_name table.TypeOperator = label.TypeOperator
+label_name table.InferType = label.InferType
+label_name table.ArrayTypes = label.ArrayTypes
+label_name table.KeywordType = label.KeywordType
+label_name table.ThisType = label.ThisType
+label_name table.WordType = label.WordType
+label_name table.StrType = label.StrType
+label_name table.NumberType = label.NumberType
+label_name table.TemplateType = label.TemplateType
+label_name table.TemplateTypes = label.TemplateTypes
+label_name table.TypeQuery = label.TypeQuery
+label_name table.ParenthesizedType = label.ParenthesizedType
+label_name table.MembersType = label.MembersType
+label_name table.TupleType = label.TupleType
+label_name table.MappedType = label.MappedType
+label_name table.Entity = label.EntityOfType
+label_name table.Reference = label.Reference
+label_name table.ImportType = label.ImportType
+label_name table.TypeArguments = label.TypeArguments
+label_name table.TypeParameters = label.TypeParameters
+label_name table.RestElement = label.RestElement
+label_name table.LabelledElement = label.LabelledElement
+label_name table.OptionalElement = label.OptionalElement
+label_name table.CallSignature = label.CallSignature
+label_name table.ConstructSignature = label.ConstructSignature
+label_name table.IndexSignature = label.IndexSignature
+label_name table.AccessorSignature = label.AccessorSignature
+label_name table.MethodSignature = label.MethodSignature
+label_name table.PropertySignature = label.PropertySignature
+label_name table.ReadonlyProperty = label.ReadonlyProperty
+label_name table.WordKey = label.WordKeyOfType
+label_name table.StrKey = label.StrKeyOfType
+label_name table.NumberKey = label.NumberKeyOfType
+label_name table.ComputedKey = label.ComputedKeyOfType
+label_name table.AssertsResult = label.AssertsResult
+label_name table.PredicateResult = label.PredicateResult
+label_name table.Parameters = label.ParametersOfType
+label_name table.ThisParameter = label.ThisParameterOfType
+label_name table.MarkedParameter = label.MarkedParameterOfType
+label_name table.NamePattern = label.NamePatternOfType
+label_name table.ArrayPattern = label.ArrayPatternOfType
+label_name table.ObjectPattern = label.ObjectPatternOfType
+label_name table.RestPattern = label.RestPatternOfType
+label_name table.RestProperty = label.RestPropertyOfType
+label_name table.KeyProperty = label.KeyProperty
+label_name table.NameProperty = label.NamePropertyOfType
+label_name table.WordPatternKey = label.WordPatternKey
+label_name table.StrPatternKey = label.StrPatternKey
+label_name table.NumberPatternKey = label.NumberPatternKey

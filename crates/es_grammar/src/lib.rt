@@ -1,9 +1,9 @@
-//! The grammar of JavaScript and TypeScript programs as tables: definitions and their laws. It is written in the
-//! language of `es_tree` (`specs/Form.antt` there).
+//! The grammar of programs in both languages as one table, of which the language is a parameter: definitions and their
+//! laws. It is written in the language of `es_tree` (`specs/Rhs.antt` there).
 //!
-//! - `Row`, `Label`, `Context`: the rows of programs, the alternatives that make a node, and where a row stands.
-//! - `specs/TypeTable.antt`: the types of TypeScript, which hold no expression and so are a table by themselves; its
-//!   areas stand in `specs/Types.antt`, `Members.antt`, `Parameters.antt` and `TypeNames.antt`.
+//! - `specs/Table.antt`: the rule of each row; its areas stand in `specs/Items.antt`, `Declarations.antt`,
+//!   `Statements.antt`, `Functions.antt`, `Classes.antt` and `Expressions.antt`.
+//! - `specs/Embedding.antt`: the table of types (`es_type_grammar`) inside this one.
 //! - `proofs/Theorems.antt`: keys of tokens have at most one tree, and no test that only chooses bars a reading.
 //!
 //! `docs/GRAMMAR.md` tells the rows in words.
@@ -11,4 +11,5 @@
 
 mod rows;
 
-pub use rows::{Context, Label, Row};
+pub use es_type_grammar::TypeRow;
+pub use rows::{Context, NodeKind, Row};

@@ -1,4 +1,6 @@
-use es_tree::Lang;
+//! The rows of programs in both languages, the alternatives that make a node, and where a row stands.
+
+use es_type_grammar::TypeRow;
 
 /// Where a row stands.
 #[derive(Clone, Copy, Debug, PartialEq, Eq)]
@@ -9,24 +11,24 @@ pub struct Context {
     pub no_in: bool,
     /// In an async function.
     pub in_async: bool,
+    /// In the first branch of a conditional or in a case test of TypeScript, where no `:` opens an arrow's result.
+    pub no_colon: bool,
+    /// In the parameters of a constructor of TypeScript.
+    pub in_constructor: bool,
 }
 
-/// The rows of the table of programs.
+/// The rows of the table.
 #[derive(Clone, Copy)]
 pub enum Row {
-    // A module, a script, and an item of a module.
-    ModuleRow(Lang),
+    ModuleRow,
     ScriptRow,
-    ItemRow(Lang),
-    // What an import binds.
-    ClauseRow(Lang),
-    NamedRow(Lang),
-    // One name in braces.
-    ImportSpecifierRow(Lang),
-    ExportSpecifierRow(Lang),
+    ItemRow(Context),
+    ClauseRow,
+    NamedRow,
+    ImportSpecifierRow,
+    ExportSpecifierRow,
     AttributesRow,
     EntityRow,
-    // Statements.
     StatementRow(Context),
     BlockRow(Context),
     DeclarationRow(Context),
@@ -34,8 +36,7 @@ pub enum Row {
     DeclaratorRow(Context),
     UsingRow(Context),
     HeadRow(Context),
-    // Functions and classes, whose name may lack or not (true); parameters and patterns: in a pattern that is assigned to
-    // (true) targets stand in place of names.
+    DeclaredRow(Context),
     FunctionRow(bool, Context),
     ClassRow(bool, Context),
     SignatureRow(Context),
@@ -45,11 +46,9 @@ pub enum Row {
     InnerPatternRow(bool, Context),
     PatternElementRow(bool, Context),
     PatternPropertyRow(bool, Context),
-    // Members of classes and properties of objects; the keys of members (true) may be private.
     MemberRow(Context),
     PropertyRow(Context),
     KeyRow(bool, Context),
-    // Expressions, from the loosest to the tightest.
     ExpressionRow(Context),
     AssignmentRow(Context),
     AndRow(Context),
@@ -70,11 +69,14 @@ pub enum Row {
     ArgumentsRow(Context),
     ElementRow(Context),
     TemplateRow(Context),
+    // A row of the table of types.
+    TypesRow(TypeRow),
 }
 
 /// The alternatives of the rows that make a node.
 #[derive(Clone, Copy, Debug, PartialEq, Eq)]
-pub enum Label {
+pub enum NodeKind {
+    // Those of the plain language.
     BareImport,
     FromImport,
     RequireImport,
@@ -197,4 +199,104 @@ pub enum Label {
     MethodProperty,
     KeyValue,
     Shorthand,
+    // Those of TypeScript alone.
+    AbstractClass,
+    IndexMember,
+    ThisParameter,
+    PropertyParameter,
+    MarkedParameter,
+    NonNullPost,
+    DeclaredVariables,
+    Declared,
+    InterfaceDeclaration,
+    AliasDeclaration,
+    EnumDeclaration,
+    NamespaceDeclaration,
+    ModuleDeclaration,
+    GlobalDeclaration,
+    ExportDefaultInterface,
+    ExportAssignment,
+    // Those of the plain language that have more parts, or other ones, in TypeScript.
+    TypedDeclarator,
+    TypedVariableHead,
+    TypedTryStatement,
+    TypedFunction,
+    TypedAsyncFunction,
+    TypedSignature,
+    TypedParameters,
+    TypedClass,
+    TypedAccessorMember,
+    TypedAsyncMember,
+    TypedGeneratorMember,
+    TypedMethodMember,
+    TypedFieldMember,
+    TypedAccessorField,
+    TypedAccessorProperty,
+    TypedAsyncProperty,
+    TypedGeneratorProperty,
+    TypedMethodProperty,
+    TypedParenthesizedArrow,
+    TypedAsyncParenthesizedArrow,
+    TypedNew,
+    TypedCallPost,
+    TypedTemplatePost,
+    TypedOptionalPost,
+    TypedBinary,
+    // Those of types.
+    FunctionType,
+    ConstructorType,
+    ConditionalType,
+    UnionType,
+    LeadingUnionType,
+    IntersectionType,
+    LeadingIntersectionType,
+    TypeOperator,
+    InferType,
+    ArrayTypes,
+    KeywordType,
+    ThisType,
+    WordType,
+    StrType,
+    NumberType,
+    TemplateType,
+    TemplateTypes,
+    TypeQuery,
+    ParenthesizedType,
+    MembersType,
+    TupleType,
+    MappedType,
+    EntityOfType,
+    Reference,
+    ImportType,
+    TypeArguments,
+    TypeParameters,
+    RestElement,
+    LabelledElement,
+    OptionalElement,
+    CallSignature,
+    ConstructSignature,
+    IndexSignature,
+    AccessorSignature,
+    MethodSignature,
+    PropertySignature,
+    ReadonlyProperty,
+    WordKeyOfType,
+    StrKeyOfType,
+    NumberKeyOfType,
+    ComputedKeyOfType,
+    AssertsResult,
+    PredicateResult,
+    ParametersOfType,
+    ThisParameterOfType,
+    MarkedParameterOfType,
+    NamePatternOfType,
+    ArrayPatternOfType,
+    ObjectPatternOfType,
+    RestPatternOfType,
+    RestPropertyOfType,
+    KeyProperty,
+    NamePropertyOfType,
+    WordPatternKey,
+    StrPatternKey,
+    NumberPatternKey,
 }

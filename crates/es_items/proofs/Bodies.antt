@@ -6,9 +6,9 @@ use Rattle.es_ast.specs.declared.ast.Stmt.{Stmt}
 use Rattle.es_ast.specs.declared.ast.ModuleDecl.{ModuleDecl}
 use Rattle.es_ast.specs.declared.ast.ModuleItem.{ModuleItem}
 use Rattle.es_ast.specs.declared.ast.ModuleItem.TheVariants as vItem
-use Rattle.es_dress.specs.Value.{Value, absent, nil, more, token, node, given, part, as_group, turns, item_at, stmt_at}
-use Rattle.es_dress.specs.Texts.{span_of}
-use Rattle.es_dress.specs.Dress.{item_by}
+use Rattle.es_lowering.specs.Value.{Value, absent, nil, more, token, node, given, part, as_group, turns, item_at, stmt_at}
+use Rattle.es_lowering.specs.Texts.{span_of}
+use Rattle.es_lowering.specs.Lowering.{item_by}
 use Rattle.es_syntax.specs.declared.entry.What.{What}
 use Rattle.es_syntax.specs.declared.entry.What.TheVariants as vWhat
 use Rattle.es_syntax.specs.declared.entry.Entry.{Entry}

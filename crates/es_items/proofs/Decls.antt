@@ -7,14 +7,14 @@ use Rattle.es_ast.specs.declared.ast.ModuleDecl.{ModuleDecl, roll-ModuleDecl, ou
 use Rattle.es_ast.specs.declared.ast.ModuleDecl.TheVariants as vModuleDecl
 use Rattle.es_ast.specs.declared.ast.ClassMember.TheOpen.{ModuleDecl-F}
 use Rattle.es_site.specs.Parts.{Whole}
-use Rattle.es_whole_grammar.specs.declared.rows.Label.{Label}
-use Rattle.es_whole_grammar.specs.declared.rows.Label.TheVariants as l
-use Rattle.es_dress.specs.Value.{Value, group}
-use Rattle.es_dress.specs.Value as v
-use Rattle.es_dress.specs.Texts as texts
-use Rattle.es_dress.specs.Modules as d
-use Rattle.es_dress.specs.TypedStatements as t
-use Rattle.es_dress.specs.Dress.{module_decl_of, decl_of, declarable_of, stmt_of, same_label}
+use Rattle.es_grammar.specs.declared.rows.NodeKind.{NodeKind}
+use Rattle.es_grammar.specs.declared.rows.NodeKind.TheVariants as l
+use Rattle.es_lowering.specs.Value.{Value, group}
+use Rattle.es_lowering.specs.Value as v
+use Rattle.es_lowering.specs.Texts as texts
+use Rattle.es_lowering.specs.Modules as d
+use Rattle.es_lowering.specs.TypedStatements as t
+use Rattle.es_lowering.specs.Lowering.{module_decl_of, decl_of, declarable_of, stmt_of, same_label}
 use Rattle.es_syntax.specs.Views.{is_one_of}
 use Rattle.es_items.specs.Spans.{span_of_module_decl}
 use Rattle.es_items.specs.Told.{told_by_decl}
@@ -110,10 +110,10 @@ module _ (x : List ℕ) (ts : List Token) (r : Range) (p : Value) where
       (λ it. decl_is r _ _ (ModuleDecl-F.TsExportAssignment it r) (vModuleDecl.rolls-TsExportAssignment it r) refl
       refl)
 
-  abbrev At : Label → ModuleDecl → Type 0
+  abbrev At : NodeKind → ModuleDecl → Type 0
   At label it = DeclIs r (told_of label) it
 
-  pub decl_at : (label : Label) → Opt (At label) (module_decl_of x ts label r p)
+  pub decl_at : (label : NodeKind) → Opt (At label) (module_decl_of x ts label r p)
   unfolding module_decl_of
   decl_at label =
       if_at At label l.BareImport _ _ bare_is
@@ -133,7 +133,7 @@ module _ (x : List ℕ) (ts : List Token) (r : Range) (p : Value) where
       (if_at At label l.ExportAssignment _ _ assignment_is tt))))))))))))))
 
   -- no other alternative is an import or an export
-  pub no_decl : (label : Label) → is_one_of decl_labels label ≡ false → module_decl_of x ts label r p ≡ None
+  pub no_decl : (label : NodeKind) → is_one_of decl_labels label ≡ false → module_decl_of x ts label r p ≡ None
   unfolding module_decl_of
   no_decl label =
       if_none (same_label label l.BareImport) _ _ _
@@ -152,11 +152,11 @@ module _ (x : List ℕ) (ts : List Token) (r : Range) (p : Value) where
       (if_none (same_label label l.ExportDefaultInterface) _ _ _
       (if_none (same_label label l.ExportAssignment) _ _ _ (λ e. refl)))))))))))))))
 
-  abbrev NoStmt : Label → Type 0
+  abbrev NoStmt : NodeKind → Type 0
   NoStmt label = stmt_of x ts label r p ≡ None
 
   -- and no import or export is a statement
-  pub no_stmt : (label : Label) → is_one_of decl_labels label ≡ true → stmt_of x ts label r p ≡ None
+  pub no_stmt : (label : NodeKind) → is_one_of decl_labels label ≡ true → stmt_of x ts label r p ≡ None
   unfolding stmt_of decl_of declarable_of
   no_stmt label =
       if_one NoStmt label l.BareImport _ refl

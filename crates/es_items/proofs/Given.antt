@@ -2,10 +2,10 @@
 use Rattle.std.specs.Prelude.{Bool, true, false, Option, Some, None, option_map, if◌then◌else◌}
 use Rattle.std.proofs.Common.{◌≡◌, refl, sym, subst}
 use denote.Enum.Bare.{same_true}
-use Rattle.es_whole_grammar.specs.contracts.rows.Label.{the_type}
-use Rattle.es_whole_grammar.specs.declared.rows.Label.{Label}
-use Rattle.es_dress.specs.Value.{given}
-use Rattle.es_dress.specs.Dress.{same_label}
+use Rattle.es_grammar.specs.contracts.rows.NodeKind.{the_type}
+use Rattle.es_grammar.specs.declared.rows.NodeKind.{NodeKind}
+use Rattle.es_lowering.specs.Value.{given}
+use Rattle.es_lowering.specs.Lowering.{same_label}
 
 abbrev pub Opt : {A : Type 0} → (A → Type 0) → Option A → Type 0
 Opt P (Some a) = P a
@@ -30,17 +30,18 @@ if_any Q true o e one other = one
 if_any Q false o e one other = other
 
 -- a line of the table: what holds at an alternative, and at the others
-pub if_at : {A : Type 0} (P : Label → A → Type 0) (label m : Label) (o e : Option A) → Opt (P m) o → Opt (P label) e
+pub if_at : {A : Type 0} (P : NodeKind → A → Type 0) (label m : NodeKind) (o e : Option A) → Opt (P m) o
+    → Opt (P label) e
     → Opt (P label) (if same_label label m then o else e)
 if_at P label m o e one other = go (same_label label m) refl
   where
     go : (b : Bool) → same_label label m ≡ b → Opt (P label) (if b then o else e)
     go true e1 =
-        let Q : Label → Type 0 = λ k. Opt (P k) o in subst Q (sym (same_true the_type tt label m e1)) one
+        let Q : NodeKind → Type 0 = λ k. Opt (P k) o in subst Q (sym (same_true the_type tt label m e1)) one
     go false e1 = other
 
 -- one of some alternatives: what holds of each of them
-pub if_one : (P : Label → Type 0) (label m : Label) (b : Bool) → P m → (b ≡ true → P label)
+pub if_one : (P : NodeKind → Type 0) (label m : NodeKind) (b : Bool) → P m → (b ≡ true → P label)
     → (if same_label label m then true else b) ≡ true → P label
 if_one P label m b one other e = go (same_label label m) refl e
   where

@@ -3,9 +3,9 @@ use Rattle.std.specs.Prelude.{Option, Some, None}
 use Rattle.std.proofs.Common.{◌≡◌, ℕ, List, [], ◌∷◌, refl}
 use Rattle.es_token.specs.declared.token.Token.{Token}
 use Rattle.es_ast.specs.declared.ast.Expr.{Expr}
-use Rattle.es_dress.specs.Value.{Typed, Value, absent, nil, more, token, node, given, typed, part}
-use Rattle.es_dress.specs.Texts.{span_of}
-use Rattle.es_dress.specs.Dress.{build, as_target, target_of}
+use Rattle.es_lowering.specs.Value.{Typed, Value, absent, nil, more, token, node, given, typed, part}
+use Rattle.es_lowering.specs.Texts.{span_of}
+use Rattle.es_lowering.specs.Lowering.{build, as_target, target_of}
 use Rattle.es_syntax.specs.declared.entry.What.{What}
 use Rattle.es_syntax.specs.declared.entry.What.TheVariants as vWhat
 use Rattle.es_syntax.specs.declared.entry.Lean.{Lean}

@@ -9,9 +9,9 @@ use Rattle.es_ast.specs.declared.ast.ModuleDecl.{ModuleDecl}
 use Rattle.es_ast.specs.declared.ast.ModuleItem.{ModuleItem, roll-ModuleItem, out-ModuleItem, out-roll-ModuleItem}
 use Rattle.es_ast.specs.declared.ast.ModuleItem.TheVariants as vItem
 use Rattle.es_ast.specs.declared.ast.ClassMember.TheOpen.{ModuleItem-F}
-use Rattle.es_dress.specs.Value.{Typed, Value, given, typed}
-use Rattle.es_dress.specs.Texts.{span_of}
-use Rattle.es_dress.specs.Dress.{build, module_decl_of, declarable_of, decl_of, stmt_of, target_of, item_by}
+use Rattle.es_lowering.specs.Value.{Typed, Value, given, typed}
+use Rattle.es_lowering.specs.Texts.{span_of}
+use Rattle.es_lowering.specs.Lowering.{build, module_decl_of, declarable_of, decl_of, stmt_of, target_of, item_by}
 use Rattle.es_syntax.specs.declared.entry.What.{What}
 use Rattle.es_syntax.specs.declared.entry.What.TheVariants as vWhat
 use Rattle.es_syntax.specs.declared.entry.Lean.{Lean}

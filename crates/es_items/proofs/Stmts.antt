@@ -13,16 +13,16 @@ use Rattle.es_ast.specs.declared.ast.Stmt.{Stmt, roll-Stmt, out-Stmt, out-roll-S
 use Rattle.es_ast.specs.declared.ast.Stmt.TheVariants as vStmt
 use Rattle.es_ast.specs.declared.ast.ClassMember.TheOpen.{Decl-F, Stmt-F}
 use Rattle.es_site.specs.Parts.{Whole}
-use Rattle.es_whole_grammar.specs.declared.rows.Label.{Label}
-use Rattle.es_whole_grammar.specs.declared.rows.Label.TheVariants as l
-use Rattle.es_dress.specs.Value.{Typed, Value, absent, nil, more, token, node, given, typed, part, group, optional}
-use Rattle.es_dress.specs.Value as v
-use Rattle.es_dress.specs.Texts as texts
-use Rattle.es_dress.specs.Operators as ops
-use Rattle.es_dress.specs.TypedParts as parts
-use Rattle.es_dress.specs.Statements as d
-use Rattle.es_dress.specs.TypedStatements as t
-use Rattle.es_dress.specs.Dress.{build, declarable_of, decl_of, stmt_of, target_of, same_label}
+use Rattle.es_grammar.specs.declared.rows.NodeKind.{NodeKind}
+use Rattle.es_grammar.specs.declared.rows.NodeKind.TheVariants as l
+use Rattle.es_lowering.specs.Value.{Typed, Value, absent, nil, more, token, node, given, typed, part, group, optional}
+use Rattle.es_lowering.specs.Value as v
+use Rattle.es_lowering.specs.Texts as texts
+use Rattle.es_lowering.specs.Operators as ops
+use Rattle.es_lowering.specs.TypedParts as parts
+use Rattle.es_lowering.specs.Statements as d
+use Rattle.es_lowering.specs.TypedStatements as t
+use Rattle.es_lowering.specs.Lowering.{build, declarable_of, decl_of, stmt_of, target_of, same_label}
 use Rattle.es_syntax.specs.declared.entry.What.{What}
 use Rattle.es_syntax.specs.declared.entry.What.TheVariants as vWhat
 use Rattle.es_syntax.specs.declared.entry.Lean.{Lean}
@@ -112,7 +112,7 @@ module _ (x : List ℕ) (ts : List Token) where
       map_any Declares _ _ (λ body declare r.
       decl_is r _ (Decl-F.TsGlobal declare body r) (vDecl.rolls-TsGlobal declare body r) refl)
 
-  declarable_at : (label : Label) (r : Range) (p : Value) → Opt Declares (declarable_of x ts label r p)
+  declarable_at : (label : NodeKind) (r : Range) (p : Value) → Opt Declares (declarable_of x ts label r p)
   unfolding declarable_of
   declarable_at label r p =
       if_any Declares (same_label label l.TypedFunction) _ _
@@ -158,7 +158,7 @@ module _ (x : List ℕ) (ts : List Token) where
       (by_node_at e.what e.from e.to (held x ts inner)))
 
   -- ---- declarations
-  decl_at : (label : Label) (r : Range) (es : List Entry) → Opt (DeclAt r) (decl_of x ts label r (held x ts es))
+  decl_at : (label : NodeKind) (r : Range) (es : List Entry) → Opt (DeclAt r) (decl_of x ts label r (held x ts es))
   unfolding decl_of t.declared t.declared_variables d.variable_declaration
   decl_at label r es =
       let p = held x ts es in
@@ -329,7 +329,7 @@ module _ (x : List ℕ) (ts : List Token) where
       given_any (StmtAt r) (v.expr_at p 0) _ (λ obj. given_any (StmtAt r) (v.stmt_at p 1) _ (λ body.
       stmt_is r _ (Stmt-F.With obj body r) (vStmt.rolls-With obj body r) refl))
 
-  pub stmt_at : (label : Label) (r : Range) (es : List Entry) → Opt (StmtAt r) (stmt_of x ts label r (held x ts es))
+  pub stmt_at : (label : NodeKind) (r : Range) (es : List Entry) → Opt (StmtAt r) (stmt_of x ts label r (held x ts es))
   unfolding stmt_of
   stmt_at label r es =
       let p = held x ts es in

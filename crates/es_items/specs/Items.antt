@@ -7,10 +7,10 @@ use Rattle.es_ast.specs.declared.ast.ModuleDecl.{ModuleDecl}
 use Rattle.es_ast.specs.declared.ast.Stmt.TheVariants as vStmt
 use Rattle.es_ast.specs.declared.ast.ClassMember.TheOpen.{ModuleItem-F}
 use Rattle.es_site.specs.Parts.{Whole}
-use Rattle.es_whole_grammar.specs.declared.rows.Label.{Label}
-use Rattle.es_whole_grammar.specs.declared.rows.Label.TheVariants as l
-use Rattle.es_dress.specs.Value.{Value, given, part, turns}
-use Rattle.es_dress.specs.Dress.{same_label}
+use Rattle.es_grammar.specs.declared.rows.NodeKind.{NodeKind}
+use Rattle.es_grammar.specs.declared.rows.NodeKind.TheVariants as l
+use Rattle.es_lowering.specs.Value.{Value, given, part, turns}
+use Rattle.es_lowering.specs.Lowering.{same_label}
 use Rattle.es_syntax.specs.declared.entry.What.{What}
 use Rattle.es_syntax.specs.declared.entry.What.TheVariants as vWhat
 use Rattle.es_syntax.specs.declared.entry.Entry.{Entry}
@@ -51,7 +51,7 @@ the_items (Some items) = items
 the_items None = []
 
 -- the alternatives of imports and exports
-abbrev pub decl_labels : List Label
+abbrev pub decl_labels : List NodeKind
 decl_labels =
     l.BareImport ∷ l.FromImport ∷ l.RequireImport ∷ l.EntityImport ∷ l.ExportedRequireImport ∷ l.ExportedEntityImport ∷
     l.ExportAll ∷ l.ExportNames ∷ l.ExportNamespace ∷ l.ExportDefaultFunction ∷ l.ExportDefaultClass ∷
@@ -62,7 +62,7 @@ is_decl_node (vWhat.Node label) = is_one_of decl_labels label
 is_decl_node _ = false
 
 -- what such a node tells of its module
-abbrev pub told_of : Label → Option Bool
+abbrev pub told_of : NodeKind → Option Bool
 told_of label =
     if same_label label l.RequireImport then Some true
     else (if same_label label l.EntityImport then Some true

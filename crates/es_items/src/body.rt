@@ -2,7 +2,7 @@
 ghost use Rattle.std.specs.Prelude.{◌≡◌, true};
 ghost use Rattle.es_items.specs.Items.{is_some, items_in};
 
-use es_syntax::Row;
+use es_syntax::Siblings;
 use es_token::Token;
 
 /// The items of a program that are still to come, one by one.
@@ -10,7 +10,7 @@ use es_token::Token;
 pub struct Body<'a> {
     pub text: &'a str,
     pub tokens: &'a [Token],
-    pub turns: Row<'a>,
+    pub turns: Siblings<'a>,
     pub is_script: bool,
     pub ghost typed: { is_some (items_in is_script text.now tokens.now turns.entries.now) ≡ true },
 }

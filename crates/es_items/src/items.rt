@@ -2,7 +2,7 @@
 ghost use Rattle.std.specs.Prelude.{◌≡◌, ◌<◌, ℕ, List, true, map, length, IfSome};
 ghost use Rattle.es_token.specs.declared.token.Token.{Token as Tok};
 ghost use Rattle.es_ast.specs.declared.ast.ModuleItem.TheVariants as item;
-ghost use Rattle.es_dress.specs.Value.{part, as_group};
+ghost use Rattle.es_lowering.specs.Value.{part, as_group};
 ghost use Rattle.es_syntax.specs.Held.{valued, there};
 ghost use Rattle.es_items.specs.Items.{is_some, item_of};
 ghost use Rattle.es_items.specs.Told as told;

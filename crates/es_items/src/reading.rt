@@ -1,6 +1,6 @@
 //! What an item keeps, and what it tells.
 ghost use Rattle.std.specs.Prelude.{◌≡◌};
-ghost use Rattle.es_dress.specs.Texts.{span_of};
+ghost use Rattle.es_lowering.specs.Texts.{span_of};
 ghost use Rattle.es_items.specs.Told.{told_by};
 ghost use Rattle.es_syntax.specs.Views.{is_one_of};
 ghost use Rattle.es_items.specs.Items.{told_of, told_node, decl_labels, is_decl_node};
@@ -9,9 +9,9 @@ ghost use Rattle.es_items.specs.Lent as spec;
 use crate::item::ModuleItemRef;
 use crate::place::Place;
 use base::Range;
+use es_grammar::NodeKind;
 use es_program::span_at;
 use es_syntax::What;
-use es_whole_grammar::Label;
 
 impl ModuleItemRef<'_> {
     /// The range of bytes of the text that the item was read from.
@@ -56,16 +56,16 @@ fn told_by_node(what: What) -> Option<bool>
     }
 }
 
-fn told_by_label(label: Label) -> Option<bool>
+fn told_by_label(label: NodeKind) -> Option<bool>
     ensures { result ≡ told_of label }
 {
     match label {
-        Label::RequireImport => Some(true),
-        Label::EntityImport => Some(true),
-        Label::ExportedRequireImport => Some(true),
-        Label::ExportedEntityImport => Some(true),
-        Label::ExportAssignment => Some(true),
-        Label::ExportNamespace => None,
+        NodeKind::RequireImport => Some(true),
+        NodeKind::EntityImport => Some(true),
+        NodeKind::ExportedRequireImport => Some(true),
+        NodeKind::ExportedEntityImport => Some(true),
+        NodeKind::ExportAssignment => Some(true),
+        NodeKind::ExportNamespace => None,
         _ => Some(false),
     }
 }
@@ -83,25 +83,25 @@ pub fn is_decl(what: What) -> bool
     }
 }
 
-fn is_decl_label(label: Label) -> bool
+fn is_decl_label(label: NodeKind) -> bool
     ensures { result ≡ is_one_of decl_labels label }
 {
     match label {
-        Label::BareImport => true,
-        Label::FromImport => true,
-        Label::RequireImport => true,
-        Label::EntityImport => true,
-        Label::ExportedRequireImport => true,
-        Label::ExportedEntityImport => true,
-        Label::ExportAll => true,
-        Label::ExportNames => true,
-        Label::ExportNamespace => true,
-        Label::ExportDefaultFunction => true,
-        Label::ExportDefaultClass => true,
-        Label::ExportDefaultExpression => true,
-        Label::ExportDeclaration => true,
-        Label::ExportDefaultInterface => true,
-        Label::ExportAssignment => true,
+        NodeKind::BareImport => true,
+        NodeKind::FromImport => true,
+        NodeKind::RequireImport => true,
+        NodeKind::EntityImport => true,
+        NodeKind::ExportedRequireImport => true,
+        NodeKind::ExportedEntityImport => true,
+        NodeKind::ExportAll => true,
+        NodeKind::ExportNames => true,
+        NodeKind::ExportNamespace => true,
+        NodeKind::ExportDefaultFunction => true,
+        NodeKind::ExportDefaultClass => true,
+        NodeKind::ExportDefaultExpression => true,
+        NodeKind::ExportDeclaration => true,
+        NodeKind::ExportDefaultInterface => true,
+        NodeKind::ExportAssignment => true,
         _ => false,
     }
 }

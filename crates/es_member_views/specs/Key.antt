@@ -1,15 +1,15 @@
 -- What a view of a key tells.
 use Rattle.std.specs.Prelude.{ℕ, true, false, List, [], ◌∷◌, Option, None, option_map, slice_get}
 use Rattle.es_token.specs.declared.token.Token.{Token}
-use Rattle.es_whole_grammar.specs.declared.rows.Label.{Label}
-use Rattle.es_whole_grammar.specs.declared.rows.Label.TheVariants as l
+use Rattle.es_grammar.specs.declared.rows.NodeKind.{NodeKind}
+use Rattle.es_grammar.specs.declared.rows.NodeKind.TheVariants as l
 use Rattle.es_ast.specs.declared.leaf.Lit.TheVariants as vLit
 use Rattle.es_ast.specs.declared.ast.Expr.{Expr}
 use Rattle.es_ast.specs.declared.ast.Expr.TheVariants as vExpr
-use Rattle.es_dress.specs.Value.{given}
-use Rattle.es_dress.specs.Texts.{ident_of, str_of, numeric_of, private_of}
-use Rattle.es_dress.specs.Functions.{Key as AKey}
-use Rattle.es_syntax.specs.declared.cursor.Row.{Row}
+use Rattle.es_lowering.specs.Value.{given}
+use Rattle.es_lowering.specs.Texts.{ident_of, str_of, numeric_of, private_of}
+use Rattle.es_lowering.specs.Functions.{Key as AKey}
+use Rattle.es_syntax.specs.declared.cursor.Siblings.{Siblings}
 use Rattle.es_syntax.specs.Held.{valued}
 use Rattle.es_syntax.specs.Roles.{expr_in}
 use Rattle.es_syntax.specs.Views.{Under}
@@ -17,7 +17,7 @@ use Rattle.es_member_views.specs.declared.key.Key.{Key}
 use Rattle.es_member_views.specs.declared.key.Key.TheVariants as view
 
 -- the alternatives
-abbrev pub keys : List Label
+abbrev pub keys : List NodeKind
 keys = l.WordKey ∷ l.StrKey ∷ l.NumberKey ∷ l.ComputedKey ∷ l.PrivateKey ∷ []
 
 -- ---- each form, of what its parts are
@@ -46,7 +46,7 @@ the_key x ts (view.Private token) = private x (slice_get ts token)
 the_key x ts view.Broken = None
 
 -- the parts take fewer entries
-abbrev pub IsBelow : Row → Key → Type 0
+abbrev pub IsBelow : Siblings → Key → Type 0
 IsBelow n (view.Word token) = Unit {0}
 IsBelow n (view.Str token) = Unit {0}
 IsBelow n (view.Number token) = Unit {0}

@@ -2,21 +2,21 @@
 use Rattle.std.specs.Prelude.{ℕ, Bool, false, List, [], ◌∷◌, Option, Some, None, option_map, slice_get}
 use Rattle.base.specs.declared.range.Range.{Range}
 use Rattle.es_token.specs.declared.token.Token.{Token}
-use Rattle.es_whole_grammar.specs.declared.rows.Label.{Label}
-use Rattle.es_whole_grammar.specs.declared.rows.Label.TheVariants as l
+use Rattle.es_grammar.specs.declared.rows.NodeKind.{NodeKind}
+use Rattle.es_grammar.specs.declared.rows.NodeKind.TheVariants as l
 use Rattle.ts_ast.specs.declared.leaf.MethodKind.{MethodKind}
 use Rattle.ts_ast.specs.declared.leaf.MethodKind.TheVariants as vMethod
 use Rattle.es_ast.specs.declared.ast.Stmt.{Stmt}
 use Rattle.es_ast.specs.declared.ast.Param.{Param}
 use Rattle.es_ast.specs.declared.ast.Prop.{Prop as AProp}
 use Rattle.es_ast.specs.declared.ast.Prop.TheVariants as vProp
-use Rattle.es_dress.specs.Value.{Signature, given, first_of, behind}
-use Rattle.es_dress.specs.Texts.{ident_of, span_of}
-use Rattle.es_dress.specs.Operators.{listed, accessor_kinds}
-use Rattle.es_dress.specs.Functions.{Key, function_of}
-use Rattle.es_dress.specs.TypedFunctions.{typed_function_of}
+use Rattle.es_lowering.specs.Value.{Signature, given, first_of, behind}
+use Rattle.es_lowering.specs.Texts.{ident_of, span_of}
+use Rattle.es_lowering.specs.Operators.{listed, accessor_kinds}
+use Rattle.es_lowering.specs.Functions.{Key, function_of}
+use Rattle.es_lowering.specs.TypedFunctions.{typed_function_of}
 use Rattle.es_ast.specs.declared.ast.Expr.{Expr}
-use Rattle.es_syntax.specs.declared.cursor.Row.{Row}
+use Rattle.es_syntax.specs.declared.cursor.Siblings.{Siblings}
 use Rattle.es_syntax.specs.Held.{valued}
 use Rattle.es_syntax.specs.Roles.{expr_in, key_in, params_in, signature_in, stmt_in}
 use Rattle.es_syntax.specs.Views.{Under}
@@ -24,7 +24,7 @@ use Rattle.es_member_views.specs.declared.prop.Prop.{Prop}
 use Rattle.es_member_views.specs.declared.prop.Prop.TheVariants as view
 
 -- the alternatives
-abbrev pub props : List Label
+abbrev pub props : List NodeKind
 props =
     l.GeneratorProperty ∷ l.MethodProperty ∷ l.AsyncProperty ∷ l.AccessorProperty ∷ l.KeyValue ∷ l.Shorthand ∷
     l.SpreadProperty ∷ l.TypedGeneratorProperty ∷ l.TypedMethodProperty ∷ l.TypedAsyncProperty ∷
@@ -91,7 +91,7 @@ the_prop x ts r (view.TypedAccessor sign key signature body) =
 the_prop x ts r view.Broken = None
 
 -- the parts take fewer entries
-abbrev pub IsBelow : Row → Prop → Type 0
+abbrev pub IsBelow : Siblings → Prop → Type 0
 IsBelow n (view.Method is_async is_generator key params body) = Under key n × Under params n × Under body n
 IsBelow n (view.Accessor sign key params body) = Under key n × Under params n × Under body n
 IsBelow n (view.KeyValue key value) = Under key n × Under value n

@@ -2,14 +2,14 @@
 
 ghost use Rattle.std.specs.Prelude.{◌≡◌, ℕ, List, IfSome, IfNone};
 ghost use Rattle.es_token.specs.declared.token.Token.{Token as Tok};
-ghost use Rattle.es_dress.specs.Functions.{word_key, str_key, number_key, computed_key, private_key};
+ghost use Rattle.es_lowering.specs.Functions.{word_key, str_key, number_key, computed_key, private_key};
 ghost use Rattle.es_syntax.specs.Held.{held, valued};
 ghost use Rattle.es_syntax.specs.Roles.{key_in};
 ghost use Rattle.es_syntax.specs.Views.{IsNone};
 ghost use Rattle.es_member_views.specs.Key.{keys, the_key, IsBelow};
 
-use es_syntax::{Item, Row, What};
-use es_whole_grammar::Label;
+use es_grammar::NodeKind;
+use es_syntax::{Item, Siblings, What};
 
 /// A key. Numbers are those of tokens.
 #[derive(Clone, Copy)]
@@ -29,8 +29,8 @@ pub enum Key<'a> {
 }
 
 /// A word.
-#[tactic(auto, unfolding(es_dress::specs::Functions::word_key, crate::specs::Key::word))]
-fn word<'a>(parts: &Row<'a>) -> Key<'a>
+#[tactic(auto, unfolding(es_lowering::specs::Functions::word_key, crate::specs::Key::word))]
+fn word<'a>(parts: &Siblings<'a>) -> Key<'a>
     ensures form { (x : List ℕ) (ts : List Tok) → word_key x ts (held x ts parts.now.entries.now) ≡ the_key x ts result }
     ensures below { IsBelow parts.now result }
 {
@@ -41,8 +41,8 @@ fn word<'a>(parts: &Row<'a>) -> Key<'a>
 }
 
 /// A string literal.
-#[tactic(auto, unfolding(es_dress::specs::Functions::str_key, crate::specs::Key::str))]
-fn str<'a>(parts: &Row<'a>) -> Key<'a>
+#[tactic(auto, unfolding(es_lowering::specs::Functions::str_key, crate::specs::Key::str))]
+fn str<'a>(parts: &Siblings<'a>) -> Key<'a>
     ensures form { (x : List ℕ) (ts : List Tok) → str_key x ts (held x ts parts.now.entries.now) ≡ the_key x ts result }
     ensures below { IsBelow parts.now result }
 {
@@ -53,8 +53,8 @@ fn str<'a>(parts: &Row<'a>) -> Key<'a>
 }
 
 /// A number or a BigInt.
-#[tactic(auto, unfolding(es_dress::specs::Functions::number_key, crate::specs::Key::number))]
-fn number<'a>(parts: &Row<'a>) -> Key<'a>
+#[tactic(auto, unfolding(es_lowering::specs::Functions::number_key, crate::specs::Key::number))]
+fn number<'a>(parts: &Siblings<'a>) -> Key<'a>
     ensures form { (x : List ℕ) (ts : List Tok) → number_key x ts (held x ts parts.now.entries.now) ≡ the_key x ts result }
     ensures below { IsBelow parts.now result }
 {
@@ -65,8 +65,8 @@ fn number<'a>(parts: &Row<'a>) -> Key<'a>
 }
 
 /// `[a]`
-#[tactic(auto, unfolding(es_dress::specs::Functions::computed_key, crate::specs::Key::computed))]
-fn computed<'a>(parts: &Row<'a>) -> Key<'a>
+#[tactic(auto, unfolding(es_lowering::specs::Functions::computed_key, crate::specs::Key::computed))]
+fn computed<'a>(parts: &Siblings<'a>) -> Key<'a>
     ensures form { (x : List ℕ) (ts : List Tok) → computed_key (held x ts parts.now.entries.now) ≡ the_key x ts result }
     ensures below { IsBelow parts.now result }
 {
@@ -77,8 +77,8 @@ fn computed<'a>(parts: &Row<'a>) -> Key<'a>
 }
 
 /// `#a`
-#[tactic(auto, unfolding(es_dress::specs::Functions::private_key, crate::specs::Key::private))]
-fn private<'a>(parts: &Row<'a>) -> Key<'a>
+#[tactic(auto, unfolding(es_lowering::specs::Functions::private_key, crate::specs::Key::private))]
+fn private<'a>(parts: &Siblings<'a>) -> Key<'a>
     ensures form { (x : List ℕ) (ts : List Tok) → private_key x ts (held x ts parts.now.entries.now) ≡ the_key x ts result }
     ensures below { IsBelow parts.now result }
 {
@@ -89,7 +89,7 @@ fn private<'a>(parts: &Row<'a>) -> Key<'a>
 }
 
 /// What a node is as a key; none where it is of another alternative.
-#[tactic(auto, unfolding(es_dress::specs::Dress::build, es_dress::specs::Dress::key_of))]
+#[tactic(auto, unfolding(es_lowering::specs::Lowering::build, es_lowering::specs::Lowering::key_of))]
 pub fn key_at<'a>(node: &Item<'a>) -> Option<Key<'a>>
     ensures form { (x : List ℕ) (ts : List Tok) → IfSome result (λ view. key_in (valued x ts node.now) ≡ the_key x ts view) }
     ensures other { IfNone result (IsNone keys node.now.what) }
@@ -97,11 +97,11 @@ pub fn key_at<'a>(node: &Item<'a>) -> Option<Key<'a>>
 {
     match node.what {
         What::Node(label) => match label {
-            Label::WordKey => Some(word(&node.parts)),
-            Label::StrKey => Some(str(&node.parts)),
-            Label::NumberKey => Some(number(&node.parts)),
-            Label::ComputedKey => Some(computed(&node.parts)),
-            Label::PrivateKey => Some(private(&node.parts)),
+            NodeKind::WordKey => Some(word(&node.parts)),
+            NodeKind::StrKey => Some(str(&node.parts)),
+            NodeKind::NumberKey => Some(number(&node.parts)),
+            NodeKind::ComputedKey => Some(computed(&node.parts)),
+            NodeKind::PrivateKey => Some(private(&node.parts)),
             _ => None,
         },
         What::Leaf => None,

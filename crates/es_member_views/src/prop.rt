@@ -3,18 +3,18 @@
 ghost use Rattle.std.specs.Prelude.{◌≡◌, ℕ, true, List, IfSome, IfNone};
 ghost use Rattle.base.specs.declared.range.Range.{Range};
 ghost use Rattle.es_token.specs.declared.token.Token.{Token as Tok};
-ghost use Rattle.es_dress.specs.Functions.{spread_property, shorthand, key_value, method_property, accessor_property};
-ghost use Rattle.es_dress.specs.TypedFunctions.{typed_method_property, typed_accessor_property};
+ghost use Rattle.es_lowering.specs.Functions.{spread_property, shorthand, key_value, method_property, accessor_property};
+ghost use Rattle.es_lowering.specs.TypedFunctions.{typed_method_property, typed_accessor_property};
 ghost use Rattle.ts_ast.specs.declared.leaf.MethodKind.TheVariants as vMethod;
-ghost use Rattle.es_dress.specs.Value.{is_there, group};
-ghost use Rattle.es_dress.specs.Texts.{span_of};
+ghost use Rattle.es_lowering.specs.Value.{is_there, group};
+ghost use Rattle.es_lowering.specs.Texts.{span_of};
 ghost use Rattle.es_syntax.specs.Held.{held, valued};
 ghost use Rattle.es_syntax.specs.Roles.{prop_in};
 ghost use Rattle.es_syntax.specs.Views.{IsNone};
 ghost use Rattle.es_member_views.specs.Prop.{props, the_prop, IsBelow};
 
-use es_syntax::{Item, Row, What};
-use es_whole_grammar::Label;
+use es_grammar::NodeKind;
+use es_syntax::{Item, Siblings, What};
 
 /// A property of an object, with its parts where they stand. Numbers are those of tokens.
 #[derive(Clone, Copy)]
@@ -63,8 +63,8 @@ pub enum Prop<'a> {
 }
 
 /// `async *a() {}`, `*a() {}`, `a() {}`
-#[tactic(auto, unfolding(es_dress::specs::Functions::method_property, es_dress::specs::Functions::method_at, crate::specs::Prop::method))]
-fn method<'a>(is_async: bool, is_generator: bool, parts: &Row<'a>) -> Prop<'a>
+#[tactic(auto, unfolding(es_lowering::specs::Functions::method_property, es_lowering::specs::Functions::method_at, crate::specs::Prop::method))]
+fn method<'a>(is_async: bool, is_generator: bool, parts: &Siblings<'a>) -> Prop<'a>
     ensures form { (x : List ℕ) (ts : List Tok) (r : Range) → method_property ts vMethod.Method is_async is_generator r (held x ts parts.now.entries.now) 0 ≡ the_prop x ts r result }
     ensures below { IsBelow parts.now result }
 {
@@ -87,8 +87,8 @@ fn method<'a>(is_async: bool, is_generator: bool, parts: &Row<'a>) -> Prop<'a>
 }
 
 /// `async *a() {}`
-#[tactic(auto, unfolding(es_dress::specs::Functions::method_property, es_dress::specs::Functions::method_at, crate::specs::Prop::method))]
-fn async_method<'a>(parts: &Row<'a>) -> Prop<'a>
+#[tactic(auto, unfolding(es_lowering::specs::Functions::method_property, es_lowering::specs::Functions::method_at, crate::specs::Prop::method))]
+fn async_method<'a>(parts: &Siblings<'a>) -> Prop<'a>
     ensures form { (x : List ℕ) (ts : List Tok) (r : Range) → method_property ts vMethod.Method true (is_there (group (held x ts parts.now.entries.now) 0)) r (held x ts parts.now.entries.now) 1 ≡ the_prop x ts r result }
     ensures below { IsBelow parts.now result }
 {
@@ -111,8 +111,8 @@ fn async_method<'a>(parts: &Row<'a>) -> Prop<'a>
 }
 
 /// `get a() {}`
-#[tactic(auto, unfolding(es_dress::specs::Functions::accessor_property, es_dress::specs::Functions::method_at, es_dress::specs::Functions::method_property, crate::specs::Prop::accessor, crate::specs::Prop::method))]
-fn accessor<'a>(parts: &Row<'a>) -> Prop<'a>
+#[tactic(auto, unfolding(es_lowering::specs::Functions::accessor_property, es_lowering::specs::Functions::method_at, es_lowering::specs::Functions::method_property, crate::specs::Prop::accessor, crate::specs::Prop::method))]
+fn accessor<'a>(parts: &Siblings<'a>) -> Prop<'a>
     ensures form { (x : List ℕ) (ts : List Tok) (r : Range) → accessor_property ts r (held x ts parts.now.entries.now) ≡ the_prop x ts r result }
     ensures below { IsBelow parts.now result }
 {
@@ -137,8 +137,8 @@ fn accessor<'a>(parts: &Row<'a>) -> Prop<'a>
 }
 
 /// `a: b`
-#[tactic(auto, unfolding(es_dress::specs::Functions::key_value, crate::specs::Prop::key_value))]
-fn key_value<'a>(parts: &Row<'a>) -> Prop<'a>
+#[tactic(auto, unfolding(es_lowering::specs::Functions::key_value, crate::specs::Prop::key_value))]
+fn key_value<'a>(parts: &Siblings<'a>) -> Prop<'a>
     ensures form { (x : List ℕ) (ts : List Tok) (r : Range) → key_value r (held x ts parts.now.entries.now) ≡ the_prop x ts r result }
     ensures below { IsBelow parts.now result }
 {
@@ -152,8 +152,8 @@ fn key_value<'a>(parts: &Row<'a>) -> Prop<'a>
 }
 
 /// `a`
-#[tactic(auto, unfolding(es_dress::specs::Functions::shorthand, crate::specs::Prop::shorthand))]
-fn shorthand<'a>(parts: &Row<'a>) -> Prop<'a>
+#[tactic(auto, unfolding(es_lowering::specs::Functions::shorthand, crate::specs::Prop::shorthand))]
+fn shorthand<'a>(parts: &Siblings<'a>) -> Prop<'a>
     ensures form { (x : List ℕ) (ts : List Tok) (r : Range) → shorthand x ts (held x ts parts.now.entries.now) ≡ the_prop x ts r result }
     ensures below { IsBelow parts.now result }
 {
@@ -164,8 +164,8 @@ fn shorthand<'a>(parts: &Row<'a>) -> Prop<'a>
 }
 
 /// `...a`
-#[tactic(auto, unfolding(es_dress::specs::Functions::spread_property, crate::specs::Prop::spread))]
-fn spread<'a>(parts: &Row<'a>) -> Prop<'a>
+#[tactic(auto, unfolding(es_lowering::specs::Functions::spread_property, crate::specs::Prop::spread))]
+fn spread<'a>(parts: &Siblings<'a>) -> Prop<'a>
     ensures form { (x : List ℕ) (ts : List Tok) (r : Range) → spread_property r (held x ts parts.now.entries.now) ≡ the_prop x ts r result }
     ensures below { IsBelow parts.now result }
 {
@@ -176,8 +176,8 @@ fn spread<'a>(parts: &Row<'a>) -> Prop<'a>
 }
 
 /// A method with types: its key, its signature, its body.
-#[tactic(auto, unfolding(es_dress::specs::TypedFunctions::typed_method_property, crate::specs::Prop::typed_method))]
-fn typed_method<'a>(is_async: bool, is_generator: bool, parts: &Row<'a>) -> Prop<'a>
+#[tactic(auto, unfolding(es_lowering::specs::TypedFunctions::typed_method_property, crate::specs::Prop::typed_method))]
+fn typed_method<'a>(is_async: bool, is_generator: bool, parts: &Siblings<'a>) -> Prop<'a>
     ensures form { (x : List ℕ) (ts : List Tok) (r : Range) → typed_method_property ts vMethod.Method is_async is_generator r (held x ts parts.now.entries.now) 0 ≡ the_prop x ts r result }
     ensures below { IsBelow parts.now result }
 {
@@ -201,8 +201,8 @@ fn typed_method<'a>(is_async: bool, is_generator: bool, parts: &Row<'a>) -> Prop
 }
 
 /// The same behind `async`.
-#[tactic(auto, unfolding(es_dress::specs::TypedFunctions::typed_method_property, crate::specs::Prop::typed_method))]
-fn typed_async_method<'a>(parts: &Row<'a>) -> Prop<'a>
+#[tactic(auto, unfolding(es_lowering::specs::TypedFunctions::typed_method_property, crate::specs::Prop::typed_method))]
+fn typed_async_method<'a>(parts: &Siblings<'a>) -> Prop<'a>
     ensures form { (x : List ℕ) (ts : List Tok) (r : Range) → typed_method_property ts vMethod.Method true (is_there (group (held x ts parts.now.entries.now) 0)) r (held x ts parts.now.entries.now) 1 ≡ the_prop x ts r result }
     ensures below { IsBelow parts.now result }
 {
@@ -226,8 +226,8 @@ fn typed_async_method<'a>(parts: &Row<'a>) -> Prop<'a>
 }
 
 /// `get a(): T {}`
-#[tactic(auto, unfolding(es_dress::specs::TypedFunctions::typed_accessor_property, es_dress::specs::TypedFunctions::typed_method_property, crate::specs::Prop::typed_accessor, crate::specs::Prop::typed_method))]
-fn typed_accessor<'a>(parts: &Row<'a>) -> Prop<'a>
+#[tactic(auto, unfolding(es_lowering::specs::TypedFunctions::typed_accessor_property, es_lowering::specs::TypedFunctions::typed_method_property, crate::specs::Prop::typed_accessor, crate::specs::Prop::typed_method))]
+fn typed_accessor<'a>(parts: &Siblings<'a>) -> Prop<'a>
     ensures form { (x : List ℕ) (ts : List Tok) (r : Range) → typed_accessor_property ts r (held x ts parts.now.entries.now) ≡ the_prop x ts r result }
     ensures below { IsBelow parts.now result }
 {
@@ -253,7 +253,7 @@ fn typed_accessor<'a>(parts: &Row<'a>) -> Prop<'a>
 }
 
 /// What a node is as a property; none where it is of another alternative.
-#[tactic(auto, unfolding(es_dress::specs::Dress::build, es_dress::specs::Dress::prop_of))]
+#[tactic(auto, unfolding(es_lowering::specs::Lowering::build, es_lowering::specs::Lowering::prop_of))]
 pub fn prop_at<'a>(node: &Item<'a>) -> Option<Prop<'a>>
     ensures form { (x : List ℕ) (ts : List Tok) → IfSome result (λ view. prop_in (valued x ts node.now) ≡ the_prop x ts (span_of ts node.now.from node.now.to) view) }
     ensures other { IfNone result (IsNone props node.now.what) }
@@ -261,17 +261,17 @@ pub fn prop_at<'a>(node: &Item<'a>) -> Option<Prop<'a>>
 {
     match node.what {
         What::Node(label) => match label {
-            Label::GeneratorProperty => Some(method(false, true, &node.parts)),
-            Label::MethodProperty => Some(method(false, false, &node.parts)),
-            Label::AsyncProperty => Some(async_method(&node.parts)),
-            Label::AccessorProperty => Some(accessor(&node.parts)),
-            Label::KeyValue => Some(key_value(&node.parts)),
-            Label::Shorthand => Some(shorthand(&node.parts)),
-            Label::SpreadProperty => Some(spread(&node.parts)),
-            Label::TypedGeneratorProperty => Some(typed_method(false, true, &node.parts)),
-            Label::TypedMethodProperty => Some(typed_method(false, false, &node.parts)),
-            Label::TypedAsyncProperty => Some(typed_async_method(&node.parts)),
-            Label::TypedAccessorProperty => Some(typed_accessor(&node.parts)),
+            NodeKind::GeneratorProperty => Some(method(false, true, &node.parts)),
+            NodeKind::MethodProperty => Some(method(false, false, &node.parts)),
+            NodeKind::AsyncProperty => Some(async_method(&node.parts)),
+            NodeKind::AccessorProperty => Some(accessor(&node.parts)),
+            NodeKind::KeyValue => Some(key_value(&node.parts)),
+            NodeKind::Shorthand => Some(shorthand(&node.parts)),
+            NodeKind::SpreadProperty => Some(spread(&node.parts)),
+            NodeKind::TypedGeneratorProperty => Some(typed_method(false, true, &node.parts)),
+            NodeKind::TypedMethodProperty => Some(typed_method(false, false, &node.parts)),
+            NodeKind::TypedAsyncProperty => Some(typed_async_method(&node.parts)),
+            NodeKind::TypedAccessorProperty => Some(typed_accessor(&node.parts)),
             _ => None,
         },
         What::Leaf => None,

@@ -2,14 +2,14 @@
 use Rattle.std.specs.Prelude.{ℕ, List, [], ◌∷◌, Option, Some, None, option_map, slice_get}
 use Rattle.base.specs.declared.range.Range.{Range}
 use Rattle.es_token.specs.declared.token.Token.{Token}
-use Rattle.es_whole_grammar.specs.declared.rows.Label.{Label}
-use Rattle.es_whole_grammar.specs.declared.rows.Label.TheVariants as l
+use Rattle.es_grammar.specs.declared.rows.NodeKind.{NodeKind}
+use Rattle.es_grammar.specs.declared.rows.NodeKind.TheVariants as l
 use Rattle.es_ast.specs.declared.leaf.ImportClause.{ImportClause}
 use Rattle.es_ast.specs.declared.leaf.ImportClause.TheVariants as vClause
 use Rattle.es_ast.specs.declared.leaf.ImportNames.{ImportNames}
-use Rattle.es_dress.specs.Value.{given}
-use Rattle.es_dress.specs.Texts.{ident_of}
-use Rattle.es_syntax.specs.declared.cursor.Row.{Row}
+use Rattle.es_lowering.specs.Value.{given}
+use Rattle.es_lowering.specs.Texts.{ident_of}
+use Rattle.es_syntax.specs.declared.cursor.Siblings.{Siblings}
 use Rattle.es_syntax.specs.Held.{valued}
 use Rattle.es_syntax.specs.Roles.{names_in}
 use Rattle.es_syntax.specs.Views.{Under, Within}
@@ -17,7 +17,7 @@ use Rattle.es_module_name_views.specs.declared.clause.Clause.{Clause}
 use Rattle.es_module_name_views.specs.declared.clause.Clause.TheVariants as view
 
 -- the alternatives
-abbrev pub clauses : List Label
+abbrev pub clauses : List NodeKind
 clauses = l.DefaultClause ∷ l.DefaultAndClause ∷ l.Namespace ∷ l.NamedImports ∷ []
 
 -- ---- each form, of what its parts are
@@ -37,7 +37,7 @@ the_clause x ts r (view.Names node) = option_map vClause.Names (names_in (valued
 the_clause x ts r view.Broken = None
 
 -- the parts take fewer entries
-abbrev pub IsBelow : Row → Clause → Type 0
+abbrev pub IsBelow : Siblings → Clause → Type 0
 IsBelow n (view.Default local) = Unit {0}
 IsBelow n (view.Both local names) = Under names n
 IsBelow n (view.Names node) = Within node.parts n

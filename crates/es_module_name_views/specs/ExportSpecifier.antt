@@ -2,19 +2,19 @@
 use Rattle.std.specs.Prelude.{ℕ, Bool, List, [], ◌∷◌, Option, Some, None, option_map, slice_get}
 use Rattle.base.specs.declared.range.Range.{Range}
 use Rattle.es_token.specs.declared.token.Token.{Token}
-use Rattle.es_whole_grammar.specs.declared.rows.Label.{Label}
-use Rattle.es_whole_grammar.specs.declared.rows.Label.TheVariants as l
+use Rattle.es_grammar.specs.declared.rows.NodeKind.{NodeKind}
+use Rattle.es_grammar.specs.declared.rows.NodeKind.TheVariants as l
 use Rattle.es_ast.specs.declared.leaf.ExportSpecifier.{ExportSpecifier}
-use Rattle.es_dress.specs.Value.{Value, given, group, optional}
-use Rattle.es_dress.specs.Texts.{name_of, name_at}
-use Rattle.es_syntax.specs.declared.cursor.Row.{Row}
+use Rattle.es_lowering.specs.Value.{Value, given, group, optional}
+use Rattle.es_lowering.specs.Texts.{name_of, name_at}
+use Rattle.es_syntax.specs.declared.cursor.Siblings.{Siblings}
 use Rattle.es_syntax.specs.Held.{held}
 use Rattle.es_syntax.specs.Views.{Within}
 use Rattle.es_module_name_views.specs.declared.export_specifier.ExportName.{ExportName}
 use Rattle.es_module_name_views.specs.declared.export_specifier.ExportName.TheVariants as view
 
 -- the alternatives
-abbrev pub export_specifiers : List Label
+abbrev pub export_specifiers : List NodeKind
 export_specifiers = l.ExportedName ∷ []
 
 -- ---- each form, of what its parts are
@@ -31,6 +31,6 @@ the_export_specifier x ts r (view.Exported type_only orig exported) =
 the_export_specifier x ts r view.Broken = None
 
 -- the parts take fewer entries
-abbrev pub IsBelow : Row → ExportName → Type 0
+abbrev pub IsBelow : Siblings → ExportName → Type 0
 IsBelow n (view.Exported type_only orig exported) = Within exported n
 IsBelow n view.Broken = Unit {0}

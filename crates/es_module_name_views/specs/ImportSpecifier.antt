@@ -2,18 +2,18 @@
 use Rattle.std.specs.Prelude.{ℕ, Bool, List, [], ◌∷◌, Option, Some, None, option_map, slice_get}
 use Rattle.base.specs.declared.range.Range.{Range}
 use Rattle.es_token.specs.declared.token.Token.{Token}
-use Rattle.es_whole_grammar.specs.declared.rows.Label.{Label}
-use Rattle.es_whole_grammar.specs.declared.rows.Label.TheVariants as l
+use Rattle.es_grammar.specs.declared.rows.NodeKind.{NodeKind}
+use Rattle.es_grammar.specs.declared.rows.NodeKind.TheVariants as l
 use Rattle.es_ast.specs.declared.leaf.ImportSpecifier.{ImportSpecifier}
-use Rattle.es_dress.specs.Value.{given}
-use Rattle.es_dress.specs.Texts.{ident_of, name_of}
-use Rattle.es_dress.specs.Modules.{specifier_of}
-use Rattle.es_syntax.specs.declared.cursor.Row.{Row}
+use Rattle.es_lowering.specs.Value.{given}
+use Rattle.es_lowering.specs.Texts.{ident_of, name_of}
+use Rattle.es_lowering.specs.Modules.{specifier_of}
+use Rattle.es_syntax.specs.declared.cursor.Siblings.{Siblings}
 use Rattle.es_module_name_views.specs.declared.import_specifier.ImportName.{ImportName}
 use Rattle.es_module_name_views.specs.declared.import_specifier.ImportName.TheVariants as view
 
 -- the alternatives
-abbrev pub import_specifiers : List Label
+abbrev pub import_specifiers : List NodeKind
 import_specifiers = l.RenamedImport ∷ l.ImportedName ∷ []
 
 -- ---- each form, of what its parts are
@@ -33,7 +33,7 @@ the_import_specifier x ts r (view.Same type_only local) = same x r type_only (sl
 the_import_specifier x ts r view.Broken = None
 
 -- the parts take fewer entries
-abbrev pub IsBelow : Row → ImportName → Type 0
+abbrev pub IsBelow : Siblings → ImportName → Type 0
 IsBelow n (view.Renamed type_only imported local) = Unit {0}
 IsBelow n (view.Same type_only local) = Unit {0}
 IsBelow n view.Broken = Unit {0}

@@ -2,20 +2,20 @@
 use Rattle.std.specs.Prelude.{ℕ, List, [], ◌∷◌, Option, None, option_map, slice_get}
 use Rattle.base.specs.declared.range.Range.{Range}
 use Rattle.es_token.specs.declared.token.Token.{Token}
-use Rattle.es_whole_grammar.specs.declared.rows.Label.{Label}
-use Rattle.es_whole_grammar.specs.declared.rows.Label.TheVariants as l
+use Rattle.es_grammar.specs.declared.rows.NodeKind.{NodeKind}
+use Rattle.es_grammar.specs.declared.rows.NodeKind.TheVariants as l
 use Rattle.es_ast.specs.declared.leaf.ImportNames.{ImportNames}
 use Rattle.es_ast.specs.declared.leaf.ImportNames.TheVariants as vNames
-use Rattle.es_dress.specs.Value.{Value, turns, import_specifier_at}
-use Rattle.es_dress.specs.Texts.{ident_of}
-use Rattle.es_syntax.specs.declared.cursor.Row.{Row}
+use Rattle.es_lowering.specs.Value.{Value, turns, import_specifier_at}
+use Rattle.es_lowering.specs.Texts.{ident_of}
+use Rattle.es_syntax.specs.declared.cursor.Siblings.{Siblings}
 use Rattle.es_syntax.specs.Held.{held}
 use Rattle.es_syntax.specs.Views.{Within}
 use Rattle.es_module_name_views.specs.declared.names.Names.{Names}
 use Rattle.es_module_name_views.specs.declared.names.Names.TheVariants as view
 
 -- the alternatives
-abbrev pub name_labels : List Label
+abbrev pub name_labels : List NodeKind
 name_labels = l.Namespace ∷ l.NamedImports ∷ []
 
 -- ---- each form, of what its parts are
@@ -33,7 +33,7 @@ the_names x ts r (view.Named specifiers) = named r (held x ts specifiers.entries
 the_names x ts r view.Broken = None
 
 -- the parts take fewer entries
-abbrev pub IsBelow : Row → Names → Type 0
+abbrev pub IsBelow : Siblings → Names → Type 0
 IsBelow n (view.Namespace local) = Unit {0}
 IsBelow n (view.Named specifiers) = Within specifiers n
 IsBelow n view.Broken = Unit {0}

@@ -3,15 +3,15 @@
 ghost use Rattle.std.specs.Prelude.{◌≡◌, ℕ, List, IfSome, IfNone};
 ghost use Rattle.base.specs.declared.range.Range.{Range};
 ghost use Rattle.es_token.specs.declared.token.Token.{Token as Tok};
-ghost use Rattle.es_dress.specs.Modules.{default_clause, default_and_clause};
-ghost use Rattle.es_dress.specs.Texts.{span_of};
+ghost use Rattle.es_lowering.specs.Modules.{default_clause, default_and_clause};
+ghost use Rattle.es_lowering.specs.Texts.{span_of};
 ghost use Rattle.es_syntax.specs.Held.{held, valued};
 ghost use Rattle.es_syntax.specs.Roles.{clause_in};
 ghost use Rattle.es_syntax.specs.Views.{IsNone};
 ghost use Rattle.es_module_name_views.specs.Clause.{clauses, the_clause, IsBelow};
 
-use es_syntax::{Item, Row, What};
-use es_whole_grammar::Label;
+use es_grammar::NodeKind;
+use es_syntax::{Item, Siblings, What};
 
 /// What an import binds, where it stands. Numbers are those of tokens.
 #[derive(Clone, Copy)]
@@ -27,8 +27,8 @@ pub enum Clause<'a> {
 }
 
 /// `a`
-#[tactic(auto, unfolding(es_dress::specs::Modules::default_clause, crate::specs::Clause::default))]
-fn default<'a>(parts: &Row<'a>) -> Clause<'a>
+#[tactic(auto, unfolding(es_lowering::specs::Modules::default_clause, crate::specs::Clause::default))]
+fn default<'a>(parts: &Siblings<'a>) -> Clause<'a>
     ensures form { (x : List ℕ) (ts : List Tok) (r : Range) → default_clause x ts (held x ts parts.now.entries.now) ≡ the_clause x ts r result }
     ensures below { IsBelow parts.now result }
 {
@@ -39,8 +39,8 @@ fn default<'a>(parts: &Row<'a>) -> Clause<'a>
 }
 
 /// `a, { b }`, `a, * as b`
-#[tactic(auto, unfolding(es_dress::specs::Modules::default_and_clause, crate::specs::Clause::both))]
-fn both<'a>(parts: &Row<'a>) -> Clause<'a>
+#[tactic(auto, unfolding(es_lowering::specs::Modules::default_and_clause, crate::specs::Clause::both))]
+fn both<'a>(parts: &Siblings<'a>) -> Clause<'a>
     ensures form { (x : List ℕ) (ts : List Tok) (r : Range) → default_and_clause x ts r (held x ts parts.now.entries.now) ≡ the_clause x ts r result }
     ensures below { IsBelow parts.now result }
 {
@@ -54,7 +54,7 @@ fn both<'a>(parts: &Row<'a>) -> Clause<'a>
 }
 
 /// What a node is as what an import binds; none where it is of another alternative.
-#[tactic(auto, unfolding(es_dress::specs::Dress::build, es_dress::specs::Dress::clause_of, es_dress::specs::Dress::names_of))]
+#[tactic(auto, unfolding(es_lowering::specs::Lowering::build, es_lowering::specs::Lowering::clause_of, es_lowering::specs::Lowering::names_of))]
 pub fn clause_at<'a>(node: &Item<'a>) -> Option<Clause<'a>>
     ensures form { (x : List ℕ) (ts : List Tok) → IfSome result (λ view. clause_in (valued x ts node.now) ≡ the_clause x ts (span_of ts node.now.from node.now.to) view) }
     ensures other { IfNone result (IsNone clauses node.now.what) }
@@ -62,10 +62,10 @@ pub fn clause_at<'a>(node: &Item<'a>) -> Option<Clause<'a>>
 {
     match node.what {
         What::Node(label) => match label {
-            Label::DefaultClause => Some(default(&node.parts)),
-            Label::DefaultAndClause => Some(both(&node.parts)),
-            Label::Namespace => Some(Clause::Names(*node)),
-            Label::NamedImports => Some(Clause::Names(*node)),
+            NodeKind::DefaultClause => Some(default(&node.parts)),
+            NodeKind::DefaultAndClause => Some(both(&node.parts)),
+            NodeKind::Namespace => Some(Clause::Names(*node)),
+            NodeKind::NamedImports => Some(Clause::Names(*node)),
             _ => None,
         },
         What::Leaf => None,

@@ -3,15 +3,15 @@
 ghost use Rattle.std.specs.Prelude.{◌≡◌, ℕ, List, IfSome, IfNone};
 ghost use Rattle.base.specs.declared.range.Range.{Range};
 ghost use Rattle.es_token.specs.declared.token.Token.{Token as Tok};
-ghost use Rattle.es_dress.specs.Modules.{renamed_import, imported_name};
-ghost use Rattle.es_dress.specs.Texts.{span_of};
+ghost use Rattle.es_lowering.specs.Modules.{renamed_import, imported_name};
+ghost use Rattle.es_lowering.specs.Texts.{span_of};
 ghost use Rattle.es_syntax.specs.Held.{held, valued};
 ghost use Rattle.es_syntax.specs.Roles.{import_specifier_in};
 ghost use Rattle.es_syntax.specs.Views.{IsNone};
 ghost use Rattle.es_module_name_views.specs.ImportSpecifier.{import_specifiers, the_import_specifier, IsBelow};
 
-use es_syntax::{Item, Row, What};
-use es_whole_grammar::Label;
+use es_grammar::NodeKind;
+use es_syntax::{Item, Siblings, What};
 
 /// A name in the braces of an import. Numbers are those of tokens.
 #[derive(Clone, Copy)]
@@ -32,8 +32,8 @@ pub enum ImportName {
 }
 
 /// `a as b`, behind `type` or not.
-#[tactic(auto, unfolding(es_dress::specs::Modules::renamed_import, crate::specs::ImportSpecifier::renamed))]
-fn renamed(parts: &Row<'_>) -> ImportName
+#[tactic(auto, unfolding(es_lowering::specs::Modules::renamed_import, crate::specs::ImportSpecifier::renamed))]
+fn renamed(parts: &Siblings<'_>) -> ImportName
     ensures form { (x : List ℕ) (ts : List Tok) (r : Range) → renamed_import x ts r (held x ts parts.now.entries.now) ≡ the_import_specifier x ts r result }
     ensures below { IsBelow parts.now result }
 {
@@ -51,8 +51,8 @@ fn renamed(parts: &Row<'_>) -> ImportName
 }
 
 /// `a`, behind `type` or not.
-#[tactic(auto, unfolding(es_dress::specs::Modules::imported_name, crate::specs::ImportSpecifier::same))]
-fn same(parts: &Row<'_>) -> ImportName
+#[tactic(auto, unfolding(es_lowering::specs::Modules::imported_name, crate::specs::ImportSpecifier::same))]
+fn same(parts: &Siblings<'_>) -> ImportName
     ensures form { (x : List ℕ) (ts : List Tok) (r : Range) → imported_name x ts r (held x ts parts.now.entries.now) ≡ the_import_specifier x ts r result }
     ensures below { IsBelow parts.now result }
 {
@@ -66,7 +66,7 @@ fn same(parts: &Row<'_>) -> ImportName
 }
 
 /// What a node is as a name in the braces of an import; none where it is of another alternative.
-#[tactic(auto, unfolding(es_dress::specs::Dress::build, es_dress::specs::Dress::import_specifier_of))]
+#[tactic(auto, unfolding(es_lowering::specs::Lowering::build, es_lowering::specs::Lowering::import_specifier_of))]
 pub fn import_specifier_at(node: &Item<'_>) -> Option<ImportName>
     ensures form { (x : List ℕ) (ts : List Tok) → IfSome result (λ view. import_specifier_in (valued x ts node.now) ≡ the_import_specifier x ts (span_of ts node.now.from node.now.to) view) }
     ensures other { IfNone result (IsNone import_specifiers node.now.what) }
@@ -74,8 +74,8 @@ pub fn import_specifier_at(node: &Item<'_>) -> Option<ImportName>
 {
     match node.what {
         What::Node(label) => match label {
-            Label::RenamedImport => Some(renamed(&node.parts)),
-            Label::ImportedName => Some(same(&node.parts)),
+            NodeKind::RenamedImport => Some(renamed(&node.parts)),
+            NodeKind::ImportedName => Some(same(&node.parts)),
             _ => None,
         },
         What::Leaf => None,

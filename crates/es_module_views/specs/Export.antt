@@ -2,16 +2,16 @@
 use Rattle.std.specs.Prelude.{ℕ, Bool, List, [], ◌∷◌, Option, Some, None, option_map, slice_get}
 use Rattle.base.specs.declared.range.Range.{Range}
 use Rattle.es_token.specs.declared.token.Token.{Token}
-use Rattle.es_whole_grammar.specs.declared.rows.Label.{Label}
-use Rattle.es_whole_grammar.specs.declared.rows.Label.TheVariants as l
+use Rattle.es_grammar.specs.declared.rows.NodeKind.{NodeKind}
+use Rattle.es_grammar.specs.declared.rows.NodeKind.TheVariants as l
 use Rattle.es_ast.specs.declared.ast.ModuleDecl.{ModuleDecl}
 use Rattle.es_ast.specs.declared.ast.ModuleDecl.TheVariants as vModuleDecl
 use Rattle.es_ast.specs.declared.ast.Expr.{Expr}
 use Rattle.es_ast.specs.declared.ast.Decl.{Decl}
-use Rattle.es_dress.specs.Value.{Value, given, optional, turns, group, attributes_at, export_specifier_at}
-use Rattle.es_dress.specs.Texts.{ident_of, str_of, name_at}
-use Rattle.es_dress.specs.Modules.{source_with, with_of}
-use Rattle.es_syntax.specs.declared.cursor.Row.{Row}
+use Rattle.es_lowering.specs.Value.{Value, given, optional, turns, group, attributes_at, export_specifier_at}
+use Rattle.es_lowering.specs.Texts.{ident_of, str_of, name_at}
+use Rattle.es_lowering.specs.Modules.{source_with, with_of}
+use Rattle.es_syntax.specs.declared.cursor.Siblings.{Siblings}
 use Rattle.es_syntax.specs.Held.{held, valued}
 use Rattle.es_syntax.specs.Roles.{decl_in, expr_in}
 use Rattle.es_syntax.specs.Views.{Under, Within}
@@ -19,7 +19,7 @@ use Rattle.es_module_views.specs.declared.export.Export.{Export}
 use Rattle.es_module_views.specs.declared.export.Export.TheVariants as view
 
 -- the alternatives
-abbrev pub exports : List Label
+abbrev pub exports : List NodeKind
 exports =
     l.ExportAll ∷ l.ExportNames ∷ l.ExportNamespace ∷ l.ExportDefaultFunction ∷ l.ExportDefaultClass ∷
     l.ExportDefaultInterface ∷ l.ExportDefaultExpression ∷ l.ExportDeclaration ∷ l.ExportAssignment ∷ []
@@ -76,7 +76,7 @@ the_export x ts r (view.Assignment expr) = assignment r (expr_in (valued x ts ex
 the_export x ts r view.Broken = None
 
 -- the parts take fewer entries
-abbrev pub IsBelow : Row → Export → Type 0
+abbrev pub IsBelow : Siblings → Export → Type 0
 IsBelow n (view.All type_only exported source attributes) = Within exported n × Within attributes n
 IsBelow n (view.Names type_only specifiers source) = Within specifiers n × Within source n
 IsBelow n (view.Namespace name) = Unit {0}

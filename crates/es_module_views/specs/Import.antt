@@ -2,17 +2,18 @@
 use Rattle.std.specs.Prelude.{◌+◌, ◌-◌, ℕ, Bool, false, List, [], ◌∷◌, Option, Some, None, option_map, slice_get}
 use Rattle.base.specs.declared.range.Range.{Range}
 use Rattle.es_token.specs.declared.token.Token.{Token}
-use Rattle.es_whole_grammar.specs.declared.rows.Label.{Label}
-use Rattle.es_whole_grammar.specs.declared.rows.Label.TheVariants as l
+use Rattle.es_grammar.specs.declared.rows.NodeKind.{NodeKind}
+use Rattle.es_grammar.specs.declared.rows.NodeKind.TheVariants as l
 use Rattle.es_ast.specs.declared.ast.ModuleDecl.{ModuleDecl}
 use Rattle.es_ast.specs.declared.ast.ModuleDecl.TheVariants as vModuleDecl
 use Rattle.es_ast.specs.declared.leaf.ImportClause.{ImportClause}
+use Rattle.es_ast.specs.declared.leaf.ImportPhase.TheVariants as vPhase
 use Rattle.ts_ast.specs.declared.leaf.TsEntityName.{TsEntityName}
-use Rattle.es_dress.specs.Value.{Value, given, optional, first_of, behind, attributes_at}
-use Rattle.es_dress.specs.Texts.{span_of, ident_of, str_of, token_of}
-use Rattle.es_dress.specs.Modules.{equals_of}
+use Rattle.es_lowering.specs.Value.{Value, given, optional, first_of, behind, attributes_at}
+use Rattle.es_lowering.specs.Texts.{span_of, ident_of, str_of, token_of}
+use Rattle.es_lowering.specs.Modules.{equals_of}
 use Rattle.es_ast.specs.declared.leaf.TsModuleRef.TheVariants as vRef
-use Rattle.es_syntax.specs.declared.cursor.Row.{Row}
+use Rattle.es_syntax.specs.declared.cursor.Siblings.{Siblings}
 use Rattle.es_syntax.specs.Held.{held, valued}
 use Rattle.es_syntax.specs.Roles.{clause_in, entity_in}
 use Rattle.es_syntax.specs.Views.{Under, Within}
@@ -20,7 +21,7 @@ use Rattle.es_module_views.specs.declared.import.Import.{Import}
 use Rattle.es_module_views.specs.declared.import.Import.TheVariants as view
 
 -- the alternatives
-abbrev pub imports : List Label
+abbrev pub imports : List NodeKind
 imports =
     l.BareImport ∷ l.FromImport ∷ l.RequireImport ∷ l.ExportedRequireImport ∷ l.EntityImport ∷ l.ExportedEntityImport
     ∷ []
@@ -30,7 +31,8 @@ unfoldable pub bare : List ℕ → Range → Option Token → Value → Option M
 bare x r source attributes =
     given (option_map (str_of x) source) (λ src.
     given (optional attributes_at attributes) (λ with.
-    Some (vModuleDecl.Import (record { type_only = false; clause = None; src = src; with = with; span = r }))))
+    Some (vModuleDecl.Import (record
+    { type_only = false; phase = vPhase.Evaluation; clause = None; src = src; with = with; span = r }))))
 
 unfoldable pub from_of : List ℕ → Range → Bool → Option ImportClause → Option Token → Value → Option ModuleDecl
 from_of x r type_only clause source attributes =
@@ -38,7 +40,7 @@ from_of x r type_only clause source attributes =
     given (option_map (str_of x) source) (λ src.
     given (optional attributes_at attributes) (λ with.
     Some (vModuleDecl.Import (record
-    { type_only = type_only; clause = Some clause; src = src; with = with; span = r })))))
+    { type_only = type_only; phase = vPhase.Evaluation; clause = Some clause; src = src; with = with; span = r })))))
 
 unfoldable pub require : List ℕ → List Token → Range → Bool → Bool → Option Token → Value → Option ModuleDecl
 require x ts r is_export type_only name source =
@@ -64,7 +66,7 @@ the_import x ts r (view.Entity is_export type_only name entity) =
 the_import x ts r view.Broken = None
 
 -- the parts take fewer entries
-abbrev pub IsBelow : Row → Import → Type 0
+abbrev pub IsBelow : Siblings → Import → Type 0
 IsBelow n (view.Bare source attributes) = Within attributes n
 IsBelow n (view.From type_only clause source attributes) = Under clause n × Within attributes n
 IsBelow n (view.Require is_export type_only name source) = Under source n

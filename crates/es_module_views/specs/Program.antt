@@ -2,20 +2,20 @@
 use Rattle.std.specs.Prelude.{ℕ, List, [], ◌∷◌, Option, Some, None}
 use Rattle.base.specs.declared.range.Range.{Range}
 use Rattle.es_token.specs.declared.token.Token.{Token}
-use Rattle.es_whole_grammar.specs.declared.rows.Label.{Label}
-use Rattle.es_whole_grammar.specs.declared.rows.Label.TheVariants as l
+use Rattle.es_grammar.specs.declared.rows.NodeKind.{NodeKind}
+use Rattle.es_grammar.specs.declared.rows.NodeKind.TheVariants as l
 use Rattle.es_ast.specs.declared.ast.Program.{Program as AProgram}
 use Rattle.es_ast.specs.declared.ast.Program.TheVariants as vProgram
-use Rattle.es_dress.specs.Value.{Value, given, optional, turns, item_at, stmt_at}
-use Rattle.es_dress.specs.Texts.{shebang_at}
-use Rattle.es_syntax.specs.declared.cursor.Row.{Row}
+use Rattle.es_lowering.specs.Value.{Value, given, optional, turns, item_at, stmt_at}
+use Rattle.es_lowering.specs.Texts.{shebang_at}
+use Rattle.es_syntax.specs.declared.cursor.Siblings.{Siblings}
 use Rattle.es_syntax.specs.Held.{held}
 use Rattle.es_syntax.specs.Views.{Within}
 use Rattle.es_module_views.specs.declared.program.Program.{Program}
 use Rattle.es_module_views.specs.declared.program.Program.TheVariants as view
 
 -- the alternatives
-abbrev pub programs : List Label
+abbrev pub programs : List NodeKind
 programs = l.Module ∷ l.Script ∷ []
 
 -- ---- each form, of what its parts are
@@ -40,7 +40,7 @@ the_program x ts r (view.Script shebang body) =
 the_program x ts r view.Broken = None
 
 -- the parts take fewer entries
-abbrev pub IsBelow : Row → Program → Type 0
+abbrev pub IsBelow : Siblings → Program → Type 0
 IsBelow n (view.Module shebang body) = Within shebang n × Within body n
 IsBelow n (view.Script shebang body) = Within shebang n × Within body n
 IsBelow n view.Broken = Unit {0}

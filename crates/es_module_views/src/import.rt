@@ -3,16 +3,16 @@
 ghost use Rattle.std.specs.Prelude.{◌≡◌, ℕ, List, IfSome, IfNone, None};
 ghost use Rattle.base.specs.declared.range.Range.{Range};
 ghost use Rattle.es_token.specs.declared.token.Token.{Token as Tok};
-ghost use Rattle.es_dress.specs.Modules.{bare_import, from_import, require_import, entity_import};
-ghost use Rattle.es_dress.specs.Dress.{item_by};
-ghost use Rattle.es_dress.specs.Texts.{span_of};
+ghost use Rattle.es_lowering.specs.Modules.{bare_import, from_import, require_import, entity_import};
+ghost use Rattle.es_lowering.specs.Lowering.{item_by};
+ghost use Rattle.es_lowering.specs.Texts.{span_of};
 ghost use Rattle.es_syntax.specs.Held.{held, valued};
 ghost use Rattle.es_syntax.specs.Roles.{item_in};
 ghost use Rattle.es_syntax.specs.Views.{IsNone};
 ghost use Rattle.es_module_views.specs.Import.{imports, the_import, IsBelow};
 
-use es_syntax::{Item, Row, What};
-use es_whole_grammar::Label;
+use es_grammar::NodeKind;
+use es_syntax::{Item, Siblings, What};
 
 /// An import, with its parts where they stand. Numbers are those of tokens.
 #[derive(Clone, Copy)]
@@ -20,14 +20,14 @@ pub enum Import<'a> {
     /// `import "a"`: attributes may be absent.
     Bare {
         source: u32,
-        attributes: Row<'a>,
+        attributes: Siblings<'a>,
     },
     /// `import a from "b"`, behind `type` or not.
     From {
         type_only: bool,
         clause: Item<'a>,
         source: u32,
-        attributes: Row<'a>,
+        attributes: Siblings<'a>,
     },
     /// `import a = require("b")`, behind `export` or not.
     Require {
@@ -48,8 +48,8 @@ pub enum Import<'a> {
 }
 
 /// `import "a"`: attributes may be absent.
-#[tactic(auto, unfolding(es_dress::specs::Modules::bare_import, crate::specs::Import::bare))]
-fn bare<'a>(parts: &Row<'a>) -> Import<'a>
+#[tactic(auto, unfolding(es_lowering::specs::Modules::bare_import, crate::specs::Import::bare))]
+fn bare<'a>(parts: &Siblings<'a>) -> Import<'a>
     ensures form { (x : List ℕ) (ts : List Tok) (r : Range) → bare_import x ts r (held x ts parts.now.entries.now) ≡ the_import x ts r result }
     ensures below { IsBelow parts.now result }
 {
@@ -63,8 +63,8 @@ fn bare<'a>(parts: &Row<'a>) -> Import<'a>
 }
 
 /// `import a from "b"`, behind `type` or not.
-#[tactic(auto, unfolding(es_dress::specs::Modules::from_import, crate::specs::Import::from_of))]
-fn from_<'a>(parts: &Row<'a>) -> Import<'a>
+#[tactic(auto, unfolding(es_lowering::specs::Modules::from_import, crate::specs::Import::from_of))]
+fn from_<'a>(parts: &Siblings<'a>) -> Import<'a>
     ensures form { (x : List ℕ) (ts : List Tok) (r : Range) → from_import x ts r (held x ts parts.now.entries.now) ≡ the_import x ts r result }
     ensures below { IsBelow parts.now result }
 {
@@ -83,8 +83,8 @@ fn from_<'a>(parts: &Row<'a>) -> Import<'a>
 }
 
 /// `import a = require("b")`, behind `export` or not.
-#[tactic(auto, unfolding(es_dress::specs::Modules::require_import, crate::specs::Import::require))]
-fn require<'a>(is_export: bool, parts: &Row<'a>) -> Import<'a>
+#[tactic(auto, unfolding(es_lowering::specs::Modules::require_import, crate::specs::Import::require))]
+fn require<'a>(is_export: bool, parts: &Siblings<'a>) -> Import<'a>
     ensures form { (x : List ℕ) (ts : List Tok) (r : Range) → require_import x ts is_export r (held x ts parts.now.entries.now) ≡ the_import x ts r result }
     ensures below { IsBelow parts.now result }
 {
@@ -103,8 +103,8 @@ fn require<'a>(is_export: bool, parts: &Row<'a>) -> Import<'a>
 }
 
 /// `import a = b.c`, behind `export` or not.
-#[tactic(auto, unfolding(es_dress::specs::Modules::entity_import, crate::specs::Import::aliased))]
-fn entity<'a>(is_export: bool, parts: &Row<'a>) -> Import<'a>
+#[tactic(auto, unfolding(es_lowering::specs::Modules::entity_import, crate::specs::Import::aliased))]
+fn entity<'a>(is_export: bool, parts: &Siblings<'a>) -> Import<'a>
     ensures form { (x : List ℕ) (ts : List Tok) (r : Range) → entity_import x ts is_export r (held x ts parts.now.entries.now) ≡ the_import x ts r result }
     ensures below { IsBelow parts.now result }
 {
@@ -123,7 +123,7 @@ fn entity<'a>(is_export: bool, parts: &Row<'a>) -> Import<'a>
 }
 
 /// What a node is as an import; none where it is of another alternative.
-#[tactic(auto, unfolding(es_dress::specs::Dress::build, es_dress::specs::Dress::module_decl_of, es_dress::specs::Dress::stmt_of, es_dress::specs::Dress::decl_of, es_dress::specs::Dress::declarable_of))]
+#[tactic(auto, unfolding(es_lowering::specs::Lowering::build, es_lowering::specs::Lowering::module_decl_of, es_lowering::specs::Lowering::stmt_of, es_lowering::specs::Lowering::decl_of, es_lowering::specs::Lowering::declarable_of))]
 pub fn import_at<'a>(node: &Item<'a>) -> Option<Import<'a>>
     ensures form { (x : List ℕ) (ts : List Tok) → IfSome result (λ view. item_in (valued x ts node.now) ≡ item_by x ts (the_import x ts (span_of ts node.now.from node.now.to) view) None) }
     ensures other { IfNone result (IsNone imports node.now.what) }
@@ -131,12 +131,12 @@ pub fn import_at<'a>(node: &Item<'a>) -> Option<Import<'a>>
 {
     match node.what {
         What::Node(label) => match label {
-            Label::BareImport => Some(bare(&node.parts)),
-            Label::FromImport => Some(from_(&node.parts)),
-            Label::RequireImport => Some(require(false, &node.parts)),
-            Label::ExportedRequireImport => Some(require(true, &node.parts)),
-            Label::EntityImport => Some(entity(false, &node.parts)),
-            Label::ExportedEntityImport => Some(entity(true, &node.parts)),
+            NodeKind::BareImport => Some(bare(&node.parts)),
+            NodeKind::FromImport => Some(from_(&node.parts)),
+            NodeKind::RequireImport => Some(require(false, &node.parts)),
+            NodeKind::ExportedRequireImport => Some(require(true, &node.parts)),
+            NodeKind::EntityImport => Some(entity(false, &node.parts)),
+            NodeKind::ExportedEntityImport => Some(entity(true, &node.parts)),
             _ => None,
         },
         What::Leaf => None,

@@ -3,30 +3,36 @@
 ghost use Rattle.std.specs.Prelude.{◌≡◌, ℕ, List, IfSome, IfNone};
 ghost use Rattle.base.specs.declared.range.Range.{Range};
 ghost use Rattle.es_token.specs.declared.token.Token.{Token as Tok};
-ghost use Rattle.es_dress.specs.Modules.{module_, script};
-ghost use Rattle.es_dress.specs.Texts.{span_of};
+ghost use Rattle.es_lowering.specs.Modules.{module_, script};
+ghost use Rattle.es_lowering.specs.Texts.{span_of};
 ghost use Rattle.es_syntax.specs.Held.{held, valued};
 ghost use Rattle.es_syntax.specs.Roles.{program_in};
 ghost use Rattle.es_syntax.specs.Views.{IsNone};
 ghost use Rattle.es_module_views.specs.Program.{programs, the_program, IsBelow};
 
-use es_syntax::{Item, Row, What};
-use es_whole_grammar::Label;
+use es_grammar::NodeKind;
+use es_syntax::{Item, Siblings, What};
 
 /// A program, with its parts where they stand.
 #[derive(Clone, Copy)]
 pub enum Program<'a> {
     /// A module: a line behind `#!` or none, and its items as turns.
-    Module { shebang: Row<'a>, body: Row<'a> },
+    Module {
+        shebang: Siblings<'a>,
+        body: Siblings<'a>,
+    },
     /// A script: a line behind `#!` or none, and its statements as turns.
-    Script { shebang: Row<'a>, body: Row<'a> },
+    Script {
+        shebang: Siblings<'a>,
+        body: Siblings<'a>,
+    },
     /// A part is not there.
     Broken,
 }
 
 /// A module: a line behind `#!` or none, and its items as turns.
-#[tactic(auto, unfolding(es_dress::specs::Modules::module_, crate::specs::Program::module_of))]
-fn module<'a>(parts: &Row<'a>) -> Program<'a>
+#[tactic(auto, unfolding(es_lowering::specs::Modules::module_, crate::specs::Program::module_of))]
+fn module<'a>(parts: &Siblings<'a>) -> Program<'a>
     ensures form { (x : List ℕ) (ts : List Tok) (r : Range) → module_ x ts r (held x ts parts.now.entries.now) ≡ the_program x ts r result }
     ensures below { IsBelow parts.now result }
 {
@@ -37,8 +43,8 @@ fn module<'a>(parts: &Row<'a>) -> Program<'a>
 }
 
 /// A script: a line behind `#!` or none, and its statements as turns.
-#[tactic(auto, unfolding(es_dress::specs::Modules::script, crate::specs::Program::script_of))]
-fn script<'a>(parts: &Row<'a>) -> Program<'a>
+#[tactic(auto, unfolding(es_lowering::specs::Modules::script, crate::specs::Program::script_of))]
+fn script<'a>(parts: &Siblings<'a>) -> Program<'a>
     ensures form { (x : List ℕ) (ts : List Tok) (r : Range) → script x ts r (held x ts parts.now.entries.now) ≡ the_program x ts r result }
     ensures below { IsBelow parts.now result }
 {
@@ -49,7 +55,7 @@ fn script<'a>(parts: &Row<'a>) -> Program<'a>
 }
 
 /// What a node is as a program; none where it is of another alternative.
-#[tactic(auto, unfolding(es_dress::specs::Dress::build, es_dress::specs::Dress::program_of))]
+#[tactic(auto, unfolding(es_lowering::specs::Lowering::build, es_lowering::specs::Lowering::program_of))]
 pub fn program_at<'a>(node: &Item<'a>) -> Option<Program<'a>>
     ensures form { (x : List ℕ) (ts : List Tok) → IfSome result (λ view. program_in (valued x ts node.now) ≡ the_program x ts (span_of ts node.now.from node.now.to) view) }
     ensures other { IfNone result (IsNone programs node.now.what) }
@@ -57,8 +63,8 @@ pub fn program_at<'a>(node: &Item<'a>) -> Option<Program<'a>>
 {
     match node.what {
         What::Node(label) => match label {
-            Label::Module => Some(module(&node.parts)),
-            Label::Script => Some(script(&node.parts)),
+            NodeKind::Module => Some(module(&node.parts)),
+            NodeKind::Script => Some(script(&node.parts)),
             _ => None,
         },
         What::Leaf => None,

@@ -3,10 +3,10 @@ use Rattle.std.specs.Prelude.{◌≡◌, ℕ, List, Option, None}
 use Rattle.base.specs.declared.range.Range.{Range}
 use Rattle.es_token.specs.declared.token.Token.{Token}
 use Rattle.es_ast.specs.declared.ast.Expr.{Expr}
-use Rattle.es_dress.specs.Value.{Value, nil, first_of, behind}
+use Rattle.es_lowering.specs.Value.{Value, nil, first_of, behind}
 use Rattle.es_syntax.specs.declared.entry.What.{What}
 use Rattle.es_syntax.specs.declared.entry.What.TheVariants as vWhat
-use Rattle.es_syntax.specs.declared.cursor.Row.{Row}
+use Rattle.es_syntax.specs.declared.cursor.Siblings.{Siblings}
 use Rattle.es_syntax.specs.declared.cursor.Item.{Item}
 use Rattle.es_syntax.specs.Held.{held, valued, parts_of, leaning, leaned}
 use Rattle.es_syntax.specs.Roles.{expr_in}
@@ -38,10 +38,10 @@ abbrev pub IsNoChain : List ℕ → List Token → Item → Type 0
 IsNoChain x ts i = NoChainBy (valued x ts i) i.what
 
 -- the parts take fewer entries
-abbrev pub IsChainBelow : Row → Chain → Type 0
+abbrev pub IsChainBelow : Siblings → Chain → Type 0
 IsChainBelow n c = Under c.first n × Under c.turn n × Within c.others n
 
-abbrev pub IsTurnBelow : Row → Turn → Type 0
+abbrev pub IsTurnBelow : Siblings → Turn → Type 0
 IsTurnBelow n (view.Operand right) = Under right n
 IsTurnBelow n (view.Typed turn) = Within turn n
 IsTurnBelow n view.Broken = Unit {0}

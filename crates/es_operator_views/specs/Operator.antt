@@ -2,20 +2,20 @@
 use Rattle.std.specs.Prelude.{ℕ, true, false, List, [], ◌∷◌, Option, Some, None, option_map, slice_get}
 use Rattle.base.specs.declared.range.Range.{Range}
 use Rattle.es_token.specs.declared.token.Token.{Token}
-use Rattle.es_whole_grammar.specs.declared.rows.Label.{Label}
-use Rattle.es_whole_grammar.specs.declared.rows.Label.TheVariants as l
+use Rattle.es_grammar.specs.declared.rows.NodeKind.{NodeKind}
+use Rattle.es_grammar.specs.declared.rows.NodeKind.TheVariants as l
 use Rattle.es_ast.specs.declared.leaf.AssignOp.TheVariants as vAssign
 use Rattle.es_ast.specs.declared.leaf.BinaryOp.TheVariants as vBinary
 use Rattle.es_ast.specs.declared.ast.Expr.{Expr}
 use Rattle.es_ast.specs.declared.ast.Expr.TheVariants as vExpr
 use Rattle.es_ast.specs.declared.ast.Pat.{Pat}
 use Rattle.es_ast.specs.declared.ast.Pat.TheVariants as vPat
-use Rattle.es_dress.specs.Value.{Value, given, first_of, behind, part, turns, expr_at}
-use Rattle.es_dress.specs.Texts.{private_of}
-use Rattle.es_dress.specs.Operators.{listed, unary_ops, update_ops, binary_between, assign_between}
-use Rattle.es_dress.specs.Expressions.{yield_of}
-use Rattle.es_dress.specs.TypedExpressions.{turned_by}
-use Rattle.es_syntax.specs.declared.cursor.Row.{Row}
+use Rattle.es_lowering.specs.Value.{Value, given, first_of, behind, part, turns, expr_at}
+use Rattle.es_lowering.specs.Texts.{private_of}
+use Rattle.es_lowering.specs.Operators.{listed, unary_ops, update_ops, binary_between, assign_between}
+use Rattle.es_lowering.specs.Expressions.{yield_of}
+use Rattle.es_lowering.specs.TypedExpressions.{turned_by}
+use Rattle.es_syntax.specs.declared.cursor.Siblings.{Siblings}
 use Rattle.es_syntax.specs.Held.{held, valued}
 use Rattle.es_syntax.specs.Roles.{expr_in, pat_in}
 use Rattle.es_syntax.specs.Views.{Under, Within}
@@ -23,7 +23,7 @@ use Rattle.es_operator_views.specs.declared.operator.Operator.{Operator}
 use Rattle.es_operator_views.specs.declared.operator.Operator.TheVariants as view
 
 -- the alternatives
-abbrev pub operators : List Label
+abbrev pub operators : List NodeKind
 operators =
     l.UpdatePrefix ∷ l.UpdatePostfix ∷ l.UnaryExpression ∷ l.AwaitExpression ∷ l.Binary ∷ l.PrivateIn ∷ l.Conditional
     ∷ l.Assignment ∷ l.PatternAssignment ∷ l.Yield ∷ l.TypedBinary ∷ l.Sequence ∷ []
@@ -113,7 +113,7 @@ the_operator x ts r (view.Sequence first second others) =
 the_operator x ts r view.Broken = None
 
 -- the parts take fewer entries
-abbrev pub IsBelow : Row → Operator → Type 0
+abbrev pub IsBelow : Siblings → Operator → Type 0
 IsBelow n (view.Prefix sign arg) = Under arg n
 IsBelow n (view.Postfix arg sign) = Under arg n
 IsBelow n (view.Unary sign arg) = Under arg n

@@ -3,12 +3,12 @@
 ghost use Rattle.std.specs.Prelude.{◌≡◌, ℕ, List, IfSome, IfNone};
 ghost use Rattle.base.specs.declared.range.Range.{Range};
 ghost use Rattle.es_token.specs.declared.token.Token.{Token as Tok};
-ghost use Rattle.es_dress.specs.Value.{Value, more};
-ghost use Rattle.es_dress.specs.Dress.{expr_of};
+ghost use Rattle.es_lowering.specs.Value.{Value, more};
+ghost use Rattle.es_lowering.specs.Lowering.{expr_of};
 ghost use Rattle.es_syntax.specs.Held.{held, valued, label_of};
 ghost use Rattle.es_operator_views.specs.Lean.{the_chain, the_turn, IsChainBelow, IsTurnBelow, IsNoChain};
 
-use es_syntax::{Item, Lean, Row, What};
+use es_syntax::{Item, Lean, Siblings, What};
 
 /// `a + b - c`: where the chain begins, the first operand, and what is behind it, one turn after the other.
 #[derive(Clone, Copy)]
@@ -17,7 +17,7 @@ pub struct Chain<'a> {
     pub from: u32,
     pub first: Item<'a>,
     pub turn: Item<'a>,
-    pub others: Row<'a>,
+    pub others: Siblings<'a>,
 }
 
 /// What stands behind an operand.
@@ -26,7 +26,7 @@ pub enum Turn<'a> {
     /// An operator, which stands between the two, and its right operand.
     Operand(Item<'a>),
     /// The same of TypeScript, or `as` and `satisfies` with their types: the group that tells it.
-    Typed(Row<'a>),
+    Typed(Siblings<'a>),
     /// A part is not there.
     Broken,
 }
@@ -59,8 +59,8 @@ pub fn chain_at<'a>(node: &Item<'a>) -> Option<Chain<'a>>
 }
 
 /// What the parts of a turn are behind any operand.
-#[tactic(auto, unfolding(es_dress::specs::Dress::expr_of, es_dress::specs::Expressions::binary, es_dress::specs::TypedExpressions::typed_binary, crate::specs::Operator::joined, crate::specs::Operator::turned))]
-pub fn turn_at<'a>(lean: Lean, parts: &Row<'a>) -> Turn<'a>
+#[tactic(auto, unfolding(es_lowering::specs::Lowering::expr_of, es_lowering::specs::Expressions::binary, es_lowering::specs::TypedExpressions::typed_binary, crate::specs::Operator::joined, crate::specs::Operator::turned))]
+pub fn turn_at<'a>(lean: Lean, parts: &Siblings<'a>) -> Turn<'a>
     ensures form { (x : List ℕ) (ts : List Tok) (r : Range) (from : ℕ) (v : Value) →
         expr_of x ts (label_of lean) from r (more v (held x ts parts.now.entries.now)) ≡ the_turn x ts r v result }
     ensures below { IsTurnBelow parts.now result }

@@ -3,16 +3,16 @@
 ghost use Rattle.std.specs.Prelude.{◌≡◌, ℕ, List, IfSome, IfNone};
 ghost use Rattle.base.specs.declared.range.Range.{Range};
 ghost use Rattle.es_token.specs.declared.token.Token.{Token as Tok};
-ghost use Rattle.es_dress.specs.Expressions.{prefix, update_prefix, update_postfix, await_, binary, private_in, conditional, assignment, pattern_assignment, yield_, sequence};
-ghost use Rattle.es_dress.specs.TypedExpressions.{typed_binary};
-ghost use Rattle.es_dress.specs.Texts.{span_of};
+ghost use Rattle.es_lowering.specs.Expressions.{prefix, update_prefix, update_postfix, await_, binary, private_in, conditional, assignment, pattern_assignment, yield_, sequence};
+ghost use Rattle.es_lowering.specs.TypedExpressions.{typed_binary};
+ghost use Rattle.es_lowering.specs.Texts.{span_of};
 ghost use Rattle.es_syntax.specs.Held.{held, valued};
 ghost use Rattle.es_syntax.specs.Roles.{expr_in};
 ghost use Rattle.es_syntax.specs.Views.{IsNone};
 ghost use Rattle.es_operator_views.specs.Operator.{operators, the_operator, IsBelow};
 
-use es_syntax::{Item, Row, What};
-use es_whole_grammar::Label;
+use es_grammar::NodeKind;
+use es_syntax::{Item, Siblings, What};
 
 /// An operator with its operands where they stand. Numbers are those of tokens.
 #[derive(Clone, Copy)]
@@ -61,25 +61,25 @@ pub enum Operator<'a> {
         right: Item<'a>,
     },
     /// `yield *a`: a group of a star or none and what is yielded, or of nothing.
-    Yield(Row<'a>),
+    Yield(Siblings<'a>),
     /// `a < b`, `a as T`: the left operand, and a group of what stands behind it.
     TypedBinary {
         left: Item<'a>,
-        turn: Row<'a>,
+        turn: Siblings<'a>,
     },
     /// `a, b, c`: the first two, and turns of one each.
     Sequence {
         first: Item<'a>,
         second: Item<'a>,
-        others: Row<'a>,
+        others: Siblings<'a>,
     },
     /// A part is not there.
     Broken,
 }
 
 /// `++a`: its sign and its operand.
-#[tactic(auto, unfolding(es_dress::specs::Expressions::update_prefix, crate::specs::Operator::updated_prefix))]
-fn update_prefix<'a>(parts: &Row<'a>) -> Operator<'a>
+#[tactic(auto, unfolding(es_lowering::specs::Expressions::update_prefix, crate::specs::Operator::updated_prefix))]
+fn update_prefix<'a>(parts: &Siblings<'a>) -> Operator<'a>
     ensures form { (x : List ℕ) (ts : List Tok) (r : Range) → update_prefix ts r (held x ts parts.now.entries.now) ≡ the_operator x ts r result }
     ensures below { IsBelow parts.now result }
 {
@@ -93,8 +93,8 @@ fn update_prefix<'a>(parts: &Row<'a>) -> Operator<'a>
 }
 
 /// `a++`
-#[tactic(auto, unfolding(es_dress::specs::Expressions::update_postfix, crate::specs::Operator::updated_postfix))]
-fn update_postfix<'a>(parts: &Row<'a>) -> Operator<'a>
+#[tactic(auto, unfolding(es_lowering::specs::Expressions::update_postfix, crate::specs::Operator::updated_postfix))]
+fn update_postfix<'a>(parts: &Siblings<'a>) -> Operator<'a>
     ensures form { (x : List ℕ) (ts : List Tok) (r : Range) → update_postfix ts r (held x ts parts.now.entries.now) ≡ the_operator x ts r result }
     ensures below { IsBelow parts.now result }
 {
@@ -108,8 +108,8 @@ fn update_postfix<'a>(parts: &Row<'a>) -> Operator<'a>
 }
 
 /// `-a`
-#[tactic(auto, unfolding(es_dress::specs::Expressions::prefix, crate::specs::Operator::unary))]
-fn unary<'a>(parts: &Row<'a>) -> Operator<'a>
+#[tactic(auto, unfolding(es_lowering::specs::Expressions::prefix, crate::specs::Operator::unary))]
+fn unary<'a>(parts: &Siblings<'a>) -> Operator<'a>
     ensures form { (x : List ℕ) (ts : List Tok) (r : Range) → prefix ts r (held x ts parts.now.entries.now) ≡ the_operator x ts r result }
     ensures below { IsBelow parts.now result }
 {
@@ -123,8 +123,8 @@ fn unary<'a>(parts: &Row<'a>) -> Operator<'a>
 }
 
 /// `await a`
-#[tactic(auto, unfolding(es_dress::specs::Expressions::await_, crate::specs::Operator::awaited))]
-fn await_<'a>(parts: &Row<'a>) -> Operator<'a>
+#[tactic(auto, unfolding(es_lowering::specs::Expressions::await_, crate::specs::Operator::awaited))]
+fn await_<'a>(parts: &Siblings<'a>) -> Operator<'a>
     ensures form { (x : List ℕ) (ts : List Tok) (r : Range) → await_ r (held x ts parts.now.entries.now) ≡ the_operator x ts r result }
     ensures below { IsBelow parts.now result }
 {
@@ -135,8 +135,8 @@ fn await_<'a>(parts: &Row<'a>) -> Operator<'a>
 }
 
 /// `a + b`: the operator stands between the two.
-#[tactic(auto, unfolding(es_dress::specs::Expressions::binary, crate::specs::Operator::joined))]
-fn binary<'a>(parts: &Row<'a>) -> Operator<'a>
+#[tactic(auto, unfolding(es_lowering::specs::Expressions::binary, crate::specs::Operator::joined))]
+fn binary<'a>(parts: &Siblings<'a>) -> Operator<'a>
     ensures form { (x : List ℕ) (ts : List Tok) (r : Range) → binary ts r (held x ts parts.now.entries.now) ≡ the_operator x ts r result }
     ensures below { IsBelow parts.now result }
 {
@@ -150,8 +150,8 @@ fn binary<'a>(parts: &Row<'a>) -> Operator<'a>
 }
 
 /// `#a in b`
-#[tactic(auto, unfolding(es_dress::specs::Expressions::private_in, crate::specs::Operator::private_in))]
-fn private_in<'a>(parts: &Row<'a>) -> Operator<'a>
+#[tactic(auto, unfolding(es_lowering::specs::Expressions::private_in, crate::specs::Operator::private_in))]
+fn private_in<'a>(parts: &Siblings<'a>) -> Operator<'a>
     ensures form { (x : List ℕ) (ts : List Tok) (r : Range) → private_in x ts r (held x ts parts.now.entries.now) ≡ the_operator x ts r result }
     ensures below { IsBelow parts.now result }
 {
@@ -165,8 +165,8 @@ fn private_in<'a>(parts: &Row<'a>) -> Operator<'a>
 }
 
 /// `a ? b : c`
-#[tactic(auto, unfolding(es_dress::specs::Expressions::conditional, crate::specs::Operator::conditional))]
-fn conditional<'a>(parts: &Row<'a>) -> Operator<'a>
+#[tactic(auto, unfolding(es_lowering::specs::Expressions::conditional, crate::specs::Operator::conditional))]
+fn conditional<'a>(parts: &Siblings<'a>) -> Operator<'a>
     ensures form { (x : List ℕ) (ts : List Tok) (r : Range) → conditional r (held x ts parts.now.entries.now) ≡ the_operator x ts r result }
     ensures below { IsBelow parts.now result }
 {
@@ -183,8 +183,8 @@ fn conditional<'a>(parts: &Row<'a>) -> Operator<'a>
 }
 
 /// `a = b`: the operator stands between the two.
-#[tactic(auto, unfolding(es_dress::specs::Expressions::assignment, crate::specs::Operator::assigned))]
-fn assignment<'a>(parts: &Row<'a>) -> Operator<'a>
+#[tactic(auto, unfolding(es_lowering::specs::Expressions::assignment, crate::specs::Operator::assigned))]
+fn assignment<'a>(parts: &Siblings<'a>) -> Operator<'a>
     ensures form { (x : List ℕ) (ts : List Tok) (r : Range) → assignment ts r (held x ts parts.now.entries.now) ≡ the_operator x ts r result }
     ensures below { IsBelow parts.now result }
 {
@@ -198,8 +198,8 @@ fn assignment<'a>(parts: &Row<'a>) -> Operator<'a>
 }
 
 /// `[a] = b`
-#[tactic(auto, unfolding(es_dress::specs::Expressions::pattern_assignment, crate::specs::Operator::pattern_assigned))]
-fn pattern_assignment<'a>(parts: &Row<'a>) -> Operator<'a>
+#[tactic(auto, unfolding(es_lowering::specs::Expressions::pattern_assignment, crate::specs::Operator::pattern_assigned))]
+fn pattern_assignment<'a>(parts: &Siblings<'a>) -> Operator<'a>
     ensures form { (x : List ℕ) (ts : List Tok) (r : Range) → pattern_assignment r (held x ts parts.now.entries.now) ≡ the_operator x ts r result }
     ensures below { IsBelow parts.now result }
 {
@@ -213,8 +213,8 @@ fn pattern_assignment<'a>(parts: &Row<'a>) -> Operator<'a>
 }
 
 /// `yield *a`: a group of a star or none and what is yielded, or of nothing.
-#[tactic(auto, unfolding(es_dress::specs::Expressions::yield_, crate::specs::Operator::yielded))]
-fn yield_<'a>(parts: &Row<'a>) -> Operator<'a>
+#[tactic(auto, unfolding(es_lowering::specs::Expressions::yield_, crate::specs::Operator::yielded))]
+fn yield_<'a>(parts: &Siblings<'a>) -> Operator<'a>
     ensures form { (x : List ℕ) (ts : List Tok) (r : Range) → yield_ r (held x ts parts.now.entries.now) ≡ the_operator x ts r result }
     ensures below { IsBelow parts.now result }
 {
@@ -222,8 +222,8 @@ fn yield_<'a>(parts: &Row<'a>) -> Operator<'a>
 }
 
 /// `a < b`, `a as T`: the left operand, and a group of what stands behind it.
-#[tactic(auto, unfolding(es_dress::specs::TypedExpressions::typed_binary, crate::specs::Operator::turned))]
-fn typed_binary<'a>(parts: &Row<'a>) -> Operator<'a>
+#[tactic(auto, unfolding(es_lowering::specs::TypedExpressions::typed_binary, crate::specs::Operator::turned))]
+fn typed_binary<'a>(parts: &Siblings<'a>) -> Operator<'a>
     ensures form { (x : List ℕ) (ts : List Tok) (r : Range) → typed_binary ts r (held x ts parts.now.entries.now) ≡ the_operator x ts r result }
     ensures below { IsBelow parts.now result }
 {
@@ -237,8 +237,8 @@ fn typed_binary<'a>(parts: &Row<'a>) -> Operator<'a>
 }
 
 /// `a, b, c`: the first two, and turns of one each.
-#[tactic(auto, unfolding(es_dress::specs::Expressions::sequence, crate::specs::Operator::sequence))]
-fn sequence<'a>(parts: &Row<'a>) -> Operator<'a>
+#[tactic(auto, unfolding(es_lowering::specs::Expressions::sequence, crate::specs::Operator::sequence))]
+fn sequence<'a>(parts: &Siblings<'a>) -> Operator<'a>
     ensures form { (x : List ℕ) (ts : List Tok) (r : Range) → sequence r (held x ts parts.now.entries.now) ≡ the_operator x ts r result }
     ensures below { IsBelow parts.now result }
 {
@@ -256,7 +256,7 @@ fn sequence<'a>(parts: &Row<'a>) -> Operator<'a>
 }
 
 /// What a node is as an operator over its operands; none where it is of another alternative.
-#[tactic(auto, unfolding(es_dress::specs::Dress::build, es_dress::specs::Dress::expr_of))]
+#[tactic(auto, unfolding(es_lowering::specs::Lowering::build, es_lowering::specs::Lowering::expr_of))]
 pub fn operator_at<'a>(node: &Item<'a>) -> Option<Operator<'a>>
     ensures form { (x : List ℕ) (ts : List Tok) → IfSome result (λ view. expr_in (valued x ts node.now) ≡ the_operator x ts (span_of ts node.now.from node.now.to) view) }
     ensures other { IfNone result (IsNone operators node.now.what) }
@@ -264,18 +264,18 @@ pub fn operator_at<'a>(node: &Item<'a>) -> Option<Operator<'a>>
 {
     match node.what {
         What::Node(label) => match label {
-            Label::UpdatePrefix => Some(update_prefix(&node.parts)),
-            Label::UpdatePostfix => Some(update_postfix(&node.parts)),
-            Label::UnaryExpression => Some(unary(&node.parts)),
-            Label::AwaitExpression => Some(await_(&node.parts)),
-            Label::Binary => Some(binary(&node.parts)),
-            Label::PrivateIn => Some(private_in(&node.parts)),
-            Label::Conditional => Some(conditional(&node.parts)),
-            Label::Assignment => Some(assignment(&node.parts)),
-            Label::PatternAssignment => Some(pattern_assignment(&node.parts)),
-            Label::Yield => Some(yield_(&node.parts)),
-            Label::TypedBinary => Some(typed_binary(&node.parts)),
-            Label::Sequence => Some(sequence(&node.parts)),
+            NodeKind::UpdatePrefix => Some(update_prefix(&node.parts)),
+            NodeKind::UpdatePostfix => Some(update_postfix(&node.parts)),
+            NodeKind::UnaryExpression => Some(unary(&node.parts)),
+            NodeKind::AwaitExpression => Some(await_(&node.parts)),
+            NodeKind::Binary => Some(binary(&node.parts)),
+            NodeKind::PrivateIn => Some(private_in(&node.parts)),
+            NodeKind::Conditional => Some(conditional(&node.parts)),
+            NodeKind::Assignment => Some(assignment(&node.parts)),
+            NodeKind::PatternAssignment => Some(pattern_assignment(&node.parts)),
+            NodeKind::Yield => Some(yield_(&node.parts)),
+            NodeKind::TypedBinary => Some(typed_binary(&node.parts)),
+            NodeKind::Sequence => Some(sequence(&node.parts)),
             _ => None,
         },
         What::Leaf => None,

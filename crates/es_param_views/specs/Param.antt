@@ -2,21 +2,21 @@
 use Rattle.std.specs.Prelude.{ℕ, Bool, List, [], ◌∷◌, Option, Some, None, option_map}
 use Rattle.base.specs.declared.range.Range.{Range}
 use Rattle.es_token.specs.declared.token.Token.{Token}
-use Rattle.es_whole_grammar.specs.declared.rows.Label.{Label}
-use Rattle.es_whole_grammar.specs.declared.rows.Label.TheVariants as l
+use Rattle.es_grammar.specs.declared.rows.NodeKind.{NodeKind}
+use Rattle.es_grammar.specs.declared.rows.NodeKind.TheVariants as l
 use Rattle.ts_ast.specs.declared.ts.TsPart.TheVariants as vPart
 use Rattle.ts_ast.specs.declared.ts.TsPart.{TsPart}
 use Rattle.es_ast.specs.declared.ast.Expr.{Expr}
 use Rattle.es_ast.specs.declared.ast.Pat.{Pat}
 use Rattle.es_ast.specs.declared.ast.Pat.TheVariants as vPat
 use Rattle.es_ast.specs.declared.ast.Param.{Param as AParam}
-use Rattle.es_dress.specs.Value.{Value, given, optional, is_there, first_of, behind, expr_at, type_at}
-use Rattle.es_dress.specs.Texts.{span_of, token_of}
-use Rattle.es_dress.specs.Patterns.{with_default}
-use Rattle.es_dress.specs.Functions.{plain, param_of}
-use Rattle.es_dress.specs.TypedParts.{marked_by, modifiers_in, param_by}
-use Rattle.es_dress.specs.TypeNames.{behind_in}
-use Rattle.es_syntax.specs.declared.cursor.Row.{Row}
+use Rattle.es_lowering.specs.Value.{Value, given, optional, is_there, first_of, behind, expr_at, type_at}
+use Rattle.es_lowering.specs.Texts.{span_of, token_of}
+use Rattle.es_lowering.specs.Patterns.{with_default}
+use Rattle.es_lowering.specs.Functions.{plain, param_of}
+use Rattle.es_lowering.specs.TypedParts.{marked_by, modifiers_in, param_by}
+use Rattle.es_lowering.specs.TypeNames.{behind_in}
+use Rattle.es_syntax.specs.declared.cursor.Siblings.{Siblings}
 use Rattle.es_syntax.specs.Held.{held, valued}
 use Rattle.es_syntax.specs.Roles.{expr_in, marked_in, pat_in}
 use Rattle.es_syntax.specs.Views.{Under, Within}
@@ -24,7 +24,7 @@ use Rattle.es_param_views.specs.declared.param.Param.{Param}
 use Rattle.es_param_views.specs.declared.param.Param.TheVariants as view
 
 -- the alternatives
-abbrev pub parameters : List Label
+abbrev pub parameters : List NodeKind
 parameters =
     l.DefaultParameter ∷ l.ThisParameter ∷ l.PropertyParameter ∷ l.MarkedParameter ∷ l.NamePattern ∷ l.ArrayPattern ∷
     l.ObjectPattern ∷ l.RestPattern ∷ l.DefaultPattern ∷ []
@@ -87,7 +87,7 @@ the_param x ts r (view.Pattern node) = option_map (param_of r) (pat_in (valued x
 the_param x ts r view.Broken = None
 
 -- the parts take fewer entries
-abbrev pub IsBelow : Row → Param → Type 0
+abbrev pub IsBelow : Siblings → Param → Type 0
 IsBelow n (view.Default left right) = Under left n × Under right n
 IsBelow n (view.This word ty value) = Under word n × Within ty n × Within value n
 IsBelow n (view.Property modifiers name mark ty value) =

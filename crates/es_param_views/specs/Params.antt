@@ -1,13 +1,13 @@
 -- What a view of parameters tells.
 use Rattle.std.specs.Prelude.{◌++◌, ℕ, List, [], ◌∷◌, Option, Some, None}
 use Rattle.es_token.specs.declared.token.Token.{Token}
-use Rattle.es_whole_grammar.specs.declared.rows.Label.{Label}
-use Rattle.es_whole_grammar.specs.declared.rows.Label.TheVariants as l
+use Rattle.es_grammar.specs.declared.rows.NodeKind.{NodeKind}
+use Rattle.es_grammar.specs.declared.rows.NodeKind.TheVariants as l
 use Rattle.es_ast.specs.declared.ast.Param.{Param}
-use Rattle.es_dress.specs.Value.{Value, given, optional, option_list, turns, param_at}
-use Rattle.es_dress.specs.Functions.{rest_at}
-use Rattle.es_dress.specs.TypedParts.{typed_rest_at}
-use Rattle.es_syntax.specs.declared.cursor.Row.{Row}
+use Rattle.es_lowering.specs.Value.{Value, given, optional, option_list, turns, param_at}
+use Rattle.es_lowering.specs.Functions.{rest_at}
+use Rattle.es_lowering.specs.TypedParts.{typed_rest_at}
+use Rattle.es_syntax.specs.declared.cursor.Siblings.{Siblings}
 use Rattle.es_syntax.specs.Held.{held, valued}
 use Rattle.es_syntax.specs.Roles.{params_in}
 use Rattle.es_syntax.specs.Views.{Under, Within}
@@ -15,7 +15,7 @@ use Rattle.es_param_views.specs.declared.params.Params.{Params}
 use Rattle.es_param_views.specs.declared.params.Params.TheVariants as view
 
 -- the alternatives
-abbrev pub parameter_lists : List Label
+abbrev pub parameter_lists : List NodeKind
 parameter_lists = l.Parameters ∷ l.Signature ∷ l.TypedParameters ∷ []
 
 -- ---- each form, of what its parts are
@@ -40,7 +40,7 @@ the_params x ts (view.Typed all rest) = typed ts (held x ts all.entries.now) (he
 the_params x ts view.Broken = None
 
 -- the parts take fewer entries
-abbrev pub IsBelow : Row → Params → Type 0
+abbrev pub IsBelow : Siblings → Params → Type 0
 IsBelow n (view.Plain all rest) = Within all n × Within rest n
 IsBelow n (view.Signature params) = Under params n
 IsBelow n (view.Typed all rest) = Within all n × Within rest n

@@ -1,12 +1,12 @@
 -- What a view of a signature tells.
 use Rattle.std.specs.Prelude.{ℕ, List, [], ◌∷◌, Option, Some, None, option_map}
 use Rattle.es_token.specs.declared.token.Token.{Token}
-use Rattle.es_whole_grammar.specs.declared.rows.Label.{Label}
-use Rattle.es_whole_grammar.specs.declared.rows.Label.TheVariants as l
+use Rattle.es_grammar.specs.declared.rows.NodeKind.{NodeKind}
+use Rattle.es_grammar.specs.declared.rows.NodeKind.TheVariants as l
 use Rattle.ts_ast.specs.declared.ts.TsPart.TheVariants as vPart
 use Rattle.es_ast.specs.declared.ast.Param.{Param}
-use Rattle.es_dress.specs.Value.{Value, Signature as ASignature, given, optional, type_at, type_params_at}
-use Rattle.es_syntax.specs.declared.cursor.Row.{Row}
+use Rattle.es_lowering.specs.Value.{Value, Signature as ASignature, given, optional, type_at, type_params_at}
+use Rattle.es_syntax.specs.declared.cursor.Siblings.{Siblings}
 use Rattle.es_syntax.specs.Held.{held, valued}
 use Rattle.es_syntax.specs.Roles.{params_in}
 use Rattle.es_syntax.specs.Views.{Under, Within}
@@ -14,7 +14,7 @@ use Rattle.es_param_views.specs.declared.signature.Signature.{Signature}
 use Rattle.es_param_views.specs.declared.signature.Signature.TheVariants as view
 
 -- the alternatives
-abbrev pub signatures : List Label
+abbrev pub signatures : List NodeKind
 signatures = l.TypedSignature ∷ []
 
 -- ---- each form, of what its parts are
@@ -32,6 +32,6 @@ the_signature x ts (view.Typed type_params params return_type) =
 the_signature x ts view.Broken = None
 
 -- the parts take fewer entries
-abbrev pub IsBelow : Row → Signature → Type 0
+abbrev pub IsBelow : Siblings → Signature → Type 0
 IsBelow n (view.Typed type_params params return_type) = Within type_params n × Under params n × Within return_type n
 IsBelow n view.Broken = Unit {0}

@@ -3,16 +3,16 @@
 ghost use Rattle.std.specs.Prelude.{◌≡◌, ℕ, List, IfSome, IfNone};
 ghost use Rattle.base.specs.declared.range.Range.{Range};
 ghost use Rattle.es_token.specs.declared.token.Token.{Token as Tok};
-ghost use Rattle.es_dress.specs.Functions.{default_parameter};
-ghost use Rattle.es_dress.specs.TypedParts.{this_parameter, property_parameter, marked_parameter};
-ghost use Rattle.es_dress.specs.Texts.{span_of};
+ghost use Rattle.es_lowering.specs.Functions.{default_parameter};
+ghost use Rattle.es_lowering.specs.TypedParts.{this_parameter, property_parameter, marked_parameter};
+ghost use Rattle.es_lowering.specs.Texts.{span_of};
 ghost use Rattle.es_syntax.specs.Held.{held, valued};
 ghost use Rattle.es_syntax.specs.Roles.{param_in};
 ghost use Rattle.es_syntax.specs.Views.{IsNone};
 ghost use Rattle.es_param_views.specs.Param.{parameters, the_param, IsBelow};
 
-use es_syntax::{Item, Row, What};
-use es_whole_grammar::Label;
+use es_grammar::NodeKind;
+use es_syntax::{Item, Siblings, What};
 
 /// A parameter, with its parts where they stand.
 #[derive(Clone, Copy)]
@@ -25,23 +25,23 @@ pub enum Param<'a> {
     /// `this: T = a`: the word; its type and its default may be absent.
     This {
         word: Item<'a>,
-        ty: Row<'a>,
-        value: Row<'a>,
+        ty: Siblings<'a>,
+        value: Siblings<'a>,
     },
     /// `public a?: T = b` in a constructor: its modifiers as turns.
     Property {
-        modifiers: Row<'a>,
+        modifiers: Siblings<'a>,
         name: Item<'a>,
-        mark: Row<'a>,
-        ty: Row<'a>,
-        value: Row<'a>,
+        mark: Siblings<'a>,
+        ty: Siblings<'a>,
+        value: Siblings<'a>,
     },
     /// `a?: T = b`: the mark, the type and the default may be absent.
     Marked {
         name: Item<'a>,
-        mark: Row<'a>,
-        ty: Row<'a>,
-        value: Row<'a>,
+        mark: Siblings<'a>,
+        ty: Siblings<'a>,
+        value: Siblings<'a>,
     },
     /// A pattern alone: the node itself.
     Pattern(Item<'a>),
@@ -50,8 +50,8 @@ pub enum Param<'a> {
 }
 
 /// `a = b`
-#[tactic(auto, unfolding(es_dress::specs::Functions::default_parameter, crate::specs::Param::default))]
-fn default<'a>(parts: &Row<'a>) -> Param<'a>
+#[tactic(auto, unfolding(es_lowering::specs::Functions::default_parameter, crate::specs::Param::default))]
+fn default<'a>(parts: &Siblings<'a>) -> Param<'a>
     ensures form { (x : List ℕ) (ts : List Tok) (r : Range) → default_parameter r (held x ts parts.now.entries.now) ≡ the_param x ts r result }
     ensures below { IsBelow parts.now result }
 {
@@ -65,8 +65,8 @@ fn default<'a>(parts: &Row<'a>) -> Param<'a>
 }
 
 /// `this: T = a`: the word; its type and its default may be absent.
-#[tactic(auto, unfolding(es_dress::specs::TypedParts::this_parameter, crate::specs::Param::this))]
-fn this<'a>(parts: &Row<'a>) -> Param<'a>
+#[tactic(auto, unfolding(es_lowering::specs::TypedParts::this_parameter, crate::specs::Param::this))]
+fn this<'a>(parts: &Siblings<'a>) -> Param<'a>
     ensures form { (x : List ℕ) (ts : List Tok) (r : Range) → this_parameter ts r (held x ts parts.now.entries.now) ≡ the_param x ts r result }
     ensures below { IsBelow parts.now result }
 {
@@ -81,8 +81,8 @@ fn this<'a>(parts: &Row<'a>) -> Param<'a>
 }
 
 /// `public a?: T = b` in a constructor: its modifiers as turns.
-#[tactic(auto, unfolding(es_dress::specs::TypedParts::property_parameter, crate::specs::Param::property))]
-fn property<'a>(parts: &Row<'a>) -> Param<'a>
+#[tactic(auto, unfolding(es_lowering::specs::TypedParts::property_parameter, crate::specs::Param::property))]
+fn property<'a>(parts: &Siblings<'a>) -> Param<'a>
     ensures form { (x : List ℕ) (ts : List Tok) (r : Range) → property_parameter ts r (held x ts parts.now.entries.now) ≡ the_param x ts r result }
     ensures below { IsBelow parts.now result }
 {
@@ -99,8 +99,8 @@ fn property<'a>(parts: &Row<'a>) -> Param<'a>
 }
 
 /// `a?: T = b`: the mark, the type and the default may be absent.
-#[tactic(auto, unfolding(es_dress::specs::TypedParts::marked_parameter, crate::specs::Param::marked))]
-fn marked<'a>(parts: &Row<'a>) -> Param<'a>
+#[tactic(auto, unfolding(es_lowering::specs::TypedParts::marked_parameter, crate::specs::Param::marked))]
+fn marked<'a>(parts: &Siblings<'a>) -> Param<'a>
     ensures form { (x : List ℕ) (ts : List Tok) (r : Range) → marked_parameter ts r (held x ts parts.now.entries.now) ≡ the_param x ts r result }
     ensures below { IsBelow parts.now result }
 {
@@ -116,7 +116,7 @@ fn marked<'a>(parts: &Row<'a>) -> Param<'a>
 }
 
 /// What a node is as a parameter; none where it is of another alternative.
-#[tactic(auto, unfolding(es_dress::specs::Dress::build, es_dress::specs::Dress::param_of, es_dress::specs::Dress::pat_of))]
+#[tactic(auto, unfolding(es_lowering::specs::Lowering::build, es_lowering::specs::Lowering::param_of, es_lowering::specs::Lowering::pat_of))]
 pub fn param_at<'a>(node: &Item<'a>) -> Option<Param<'a>>
     ensures form { (x : List ℕ) (ts : List Tok) → IfSome result (λ view. param_in (valued x ts node.now) ≡ the_param x ts (span_of ts node.now.from node.now.to) view) }
     ensures other { IfNone result (IsNone parameters node.now.what) }
@@ -124,15 +124,15 @@ pub fn param_at<'a>(node: &Item<'a>) -> Option<Param<'a>>
 {
     match node.what {
         What::Node(label) => match label {
-            Label::DefaultParameter => Some(default(&node.parts)),
-            Label::ThisParameter => Some(this(&node.parts)),
-            Label::PropertyParameter => Some(property(&node.parts)),
-            Label::MarkedParameter => Some(marked(&node.parts)),
-            Label::NamePattern => Some(Param::Pattern(*node)),
-            Label::ArrayPattern => Some(Param::Pattern(*node)),
-            Label::ObjectPattern => Some(Param::Pattern(*node)),
-            Label::RestPattern => Some(Param::Pattern(*node)),
-            Label::DefaultPattern => Some(Param::Pattern(*node)),
+            NodeKind::DefaultParameter => Some(default(&node.parts)),
+            NodeKind::ThisParameter => Some(this(&node.parts)),
+            NodeKind::PropertyParameter => Some(property(&node.parts)),
+            NodeKind::MarkedParameter => Some(marked(&node.parts)),
+            NodeKind::NamePattern => Some(Param::Pattern(*node)),
+            NodeKind::ArrayPattern => Some(Param::Pattern(*node)),
+            NodeKind::ObjectPattern => Some(Param::Pattern(*node)),
+            NodeKind::RestPattern => Some(Param::Pattern(*node)),
+            NodeKind::DefaultPattern => Some(Param::Pattern(*node)),
             _ => None,
         },
         What::Leaf => None,

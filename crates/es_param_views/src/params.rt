@@ -2,32 +2,38 @@
 
 ghost use Rattle.std.specs.Prelude.{◌≡◌, ℕ, List, IfSome, IfNone};
 ghost use Rattle.es_token.specs.declared.token.Token.{Token as Tok};
-ghost use Rattle.es_dress.specs.Functions.{parameters, signature};
-ghost use Rattle.es_dress.specs.TypedParts.{typed_parameters};
+ghost use Rattle.es_lowering.specs.Functions.{parameters, signature};
+ghost use Rattle.es_lowering.specs.TypedParts.{typed_parameters};
 ghost use Rattle.es_syntax.specs.Held.{held, valued};
 ghost use Rattle.es_syntax.specs.Roles.{params_in};
 ghost use Rattle.es_syntax.specs.Views.{IsNone};
 ghost use Rattle.es_param_views.specs.Params.{parameter_lists, the_params, IsBelow};
 
-use es_syntax::{Item, Row, What};
-use es_whole_grammar::Label;
+use es_grammar::NodeKind;
+use es_syntax::{Item, Siblings, What};
 
 /// Parameters, with their parts where they stand.
 #[derive(Clone, Copy)]
 pub enum Params<'a> {
     /// `a, b, ...c`: turns of one each, and what is behind the sign or none.
-    Plain { all: Row<'a>, rest: Row<'a> },
+    Plain {
+        all: Siblings<'a>,
+        rest: Siblings<'a>,
+    },
     /// `(a)`: the parameters between the brackets.
     Signature(Item<'a>),
     /// The same of TypeScript.
-    Typed { all: Row<'a>, rest: Row<'a> },
+    Typed {
+        all: Siblings<'a>,
+        rest: Siblings<'a>,
+    },
     /// A part is not there.
     Broken,
 }
 
 /// `a, b, ...c`: turns of one each, and what is behind the sign or none.
-#[tactic(auto, unfolding(es_dress::specs::Functions::parameters, crate::specs::Params::plain))]
-fn plain<'a>(parts: &Row<'a>) -> Params<'a>
+#[tactic(auto, unfolding(es_lowering::specs::Functions::parameters, crate::specs::Params::plain))]
+fn plain<'a>(parts: &Siblings<'a>) -> Params<'a>
     ensures form { (x : List ℕ) (ts : List Tok) → parameters ts (held x ts parts.now.entries.now) ≡ the_params x ts result }
     ensures below { IsBelow parts.now result }
 {
@@ -38,8 +44,8 @@ fn plain<'a>(parts: &Row<'a>) -> Params<'a>
 }
 
 /// `(a)`: the parameters between the brackets.
-#[tactic(auto, unfolding(es_dress::specs::Functions::signature, crate::specs::Params::bracketed))]
-fn signature<'a>(parts: &Row<'a>) -> Params<'a>
+#[tactic(auto, unfolding(es_lowering::specs::Functions::signature, crate::specs::Params::bracketed))]
+fn signature<'a>(parts: &Siblings<'a>) -> Params<'a>
     ensures form { (x : List ℕ) (ts : List Tok) → signature (held x ts parts.now.entries.now) ≡ the_params x ts result }
     ensures below { IsBelow parts.now result }
 {
@@ -50,8 +56,8 @@ fn signature<'a>(parts: &Row<'a>) -> Params<'a>
 }
 
 /// The same of TypeScript.
-#[tactic(auto, unfolding(es_dress::specs::TypedParts::typed_parameters, crate::specs::Params::typed))]
-fn typed<'a>(parts: &Row<'a>) -> Params<'a>
+#[tactic(auto, unfolding(es_lowering::specs::TypedParts::typed_parameters, crate::specs::Params::typed))]
+fn typed<'a>(parts: &Siblings<'a>) -> Params<'a>
     ensures form { (x : List ℕ) (ts : List Tok) → typed_parameters ts (held x ts parts.now.entries.now) ≡ the_params x ts result }
     ensures below { IsBelow parts.now result }
 {
@@ -62,7 +68,7 @@ fn typed<'a>(parts: &Row<'a>) -> Params<'a>
 }
 
 /// What a node is as parameters; none where it is of another alternative.
-#[tactic(auto, unfolding(es_dress::specs::Dress::build, es_dress::specs::Dress::params_of))]
+#[tactic(auto, unfolding(es_lowering::specs::Lowering::build, es_lowering::specs::Lowering::params_of))]
 pub fn params_at<'a>(node: &Item<'a>) -> Option<Params<'a>>
     ensures form { (x : List ℕ) (ts : List Tok) → IfSome result (λ view. params_in (valued x ts node.now) ≡ the_params x ts view) }
     ensures other { IfNone result (IsNone parameter_lists node.now.what) }
@@ -70,9 +76,9 @@ pub fn params_at<'a>(node: &Item<'a>) -> Option<Params<'a>>
 {
     match node.what {
         What::Node(label) => match label {
-            Label::Parameters => Some(plain(&node.parts)),
-            Label::Signature => Some(signature(&node.parts)),
-            Label::TypedParameters => Some(typed(&node.parts)),
+            NodeKind::Parameters => Some(plain(&node.parts)),
+            NodeKind::Signature => Some(signature(&node.parts)),
+            NodeKind::TypedParameters => Some(typed(&node.parts)),
             _ => None,
         },
         What::Leaf => None,

@@ -2,31 +2,31 @@
 
 ghost use Rattle.std.specs.Prelude.{◌≡◌, ℕ, List, IfSome, IfNone};
 ghost use Rattle.es_token.specs.declared.token.Token.{Token as Tok};
-ghost use Rattle.es_dress.specs.TypedParts.{typed_signature};
+ghost use Rattle.es_lowering.specs.TypedParts.{typed_signature};
 ghost use Rattle.es_syntax.specs.Held.{held, valued};
 ghost use Rattle.es_syntax.specs.Roles.{signature_in};
 ghost use Rattle.es_syntax.specs.Views.{IsNone};
 ghost use Rattle.es_param_views.specs.Signature.{signatures, the_signature, IsBelow};
 
-use es_syntax::{Item, Row, What};
-use es_whole_grammar::Label;
+use es_grammar::NodeKind;
+use es_syntax::{Item, Siblings, What};
 
 /// Type parameters or none, parameters, and the type of the result or none.
 #[derive(Clone, Copy)]
 pub enum Signature<'a> {
     /// `<T>(a): R`
     Typed {
-        type_params: Row<'a>,
+        type_params: Siblings<'a>,
         params: Item<'a>,
-        return_type: Row<'a>,
+        return_type: Siblings<'a>,
     },
     /// A part is not there.
     Broken,
 }
 
 /// `<T>(a): R`
-#[tactic(auto, unfolding(es_dress::specs::TypedParts::typed_signature, crate::specs::Signature::typed))]
-fn typed<'a>(parts: &Row<'a>) -> Signature<'a>
+#[tactic(auto, unfolding(es_lowering::specs::TypedParts::typed_signature, crate::specs::Signature::typed))]
+fn typed<'a>(parts: &Siblings<'a>) -> Signature<'a>
     ensures form { (x : List ℕ) (ts : List Tok) → typed_signature (held x ts parts.now.entries.now) ≡ the_signature x ts result }
     ensures below { IsBelow parts.now result }
 {
@@ -41,7 +41,7 @@ fn typed<'a>(parts: &Row<'a>) -> Signature<'a>
 }
 
 /// What a node is as a signature of TypeScript; none where it is of another alternative.
-#[tactic(auto, unfolding(es_dress::specs::Dress::build, es_dress::specs::Dress::signature_of))]
+#[tactic(auto, unfolding(es_lowering::specs::Lowering::build, es_lowering::specs::Lowering::signature_of))]
 pub fn signature_at<'a>(node: &Item<'a>) -> Option<Signature<'a>>
     ensures form { (x : List ℕ) (ts : List Tok) → IfSome result (λ view. signature_in (valued x ts node.now) ≡ the_signature x ts view) }
     ensures other { IfNone result (IsNone signatures node.now.what) }
@@ -49,7 +49,7 @@ pub fn signature_at<'a>(node: &Item<'a>) -> Option<Signature<'a>>
 {
     match node.what {
         What::Node(label) => match label {
-            Label::TypedSignature => Some(typed(&node.parts)),
+            NodeKind::TypedSignature => Some(typed(&node.parts)),
             _ => None,
         },
         What::Leaf => None,

@@ -9,14 +9,14 @@ use Rattle.es_tree.specs.Key.{keys_of}
 use Rattle.es_tree.specs.declared.error.SyntaxError.{SyntaxError}
 use Rattle.es_tree.specs.declared.error.SyntaxError.TheVariants.{Syntax, OutOfMemory}
 use Rattle.es_ast.specs.declared.ast.Program.{Program}
-use Rattle.es_whole_grammar.proofs.Theorems.{one_program}
-use Rattle.es_whole_tree.specs.declared.tree.Tree.{Tree}
-use Rattle.es_whole_tree.specs.Slim.{tree_of}
+use Rattle.es_grammar.proofs.Theorems.{one_program}
+use Rattle.es_cst.specs.declared.tree.Cst.{Cst}
+use Rattle.es_cst.specs.Slim.{tree_of}
 use Rattle.es_syntax.specs.declared.entry.Entry.{Entry}
-use Rattle.es_whole_program.specs.Program.{IsKept, HoldsKept}
-use Rattle.es_whole_program.specs.Derived.{IsRowOf, GivesTree as GivesPlain}
+use Rattle.es_program_reader.specs.Program.{IsKept, HoldsKept}
+use Rattle.es_program_reader.specs.Derived.{IsRowOf, GivesTree as GivesPlain}
 use Rattle.es_program.specs.Typed.{program_at}
-use Rattle.es_dress.specs.Dress.{value_of}
+use Rattle.es_lowering.specs.Lowering.{value_of}
 use Rattle.es_derives.specs.Derives.{program_in, Derives}
 use Rattle.es_program_sites.proofs.Theorems.{kept_sites}
 use Rattle.es_parser.specs.Answers.{GivesTree}
@@ -34,23 +34,23 @@ module _ (l : Lang) (m : Mode) (x : List ℕ) (ts : List Token) where
   derived_of es p held made = record {
     plain = held.kept.plain;
     program = held.kept.program;
-    dressed = ap (λ t. program_in (value_of x ts t)) held.kept.kept ∙ (sym (row_typed x ts es held.tree held.row) ∙ made);
+    lowered = ap (λ t. program_in (value_of x ts t)) held.kept.kept ∙ (sym (row_typed x ts es held.tree held.row) ∙ made);
   }
 
   -- what is derived is made of the row that was read
   pub one_made : (es : List Entry) (q p : Program) → (derived : Derives l m x ts p) → IsRowOf (tree_of derived.plain) es
       → program_at x ts es ≡ Some q → q ≡ p
   one_made es q p derived row made =
-      same_Some q p (sym made ∙ (row_typed x ts es (tree_of derived.plain) row ∙ derived.dressed))
+      same_Some q p (sym made ∙ (row_typed x ts es (tree_of derived.plain) row ∙ derived.lowered))
 
   -- what is kept has a typed tree, whose sites are its own
-  typed_of : (tree : Tree) → IsKept l m (keys_of ts) tree → IsTyped x ts tree
+  typed_of : (tree : Cst) → IsKept l m (keys_of ts) tree → IsTyped x ts tree
   typed_of tree kept =
       let typed = kept_sites l m x ts kept.plain tree kept.program kept.kept in
       let one = one_program l m (keys_of ts) kept.plain typed.1.plain kept.program typed.1.program in
       record {
         program = typed.0;
-        typed = ap (λ t. program_in (value_of x ts t)) (sym kept.kept ∙ ap tree_of one) ∙ typed.1.dressed;
+        typed = ap (λ t. program_in (value_of x ts t)) (sym kept.kept ∙ ap tree_of one) ∙ typed.1.lowered;
         sites = typed.2;
       }
 
@@ -59,7 +59,7 @@ module _ (l : Lang) (m : Mode) (x : List ℕ) (ts : List Token) where
   held_of es held = record { tree = held.tree; row = held.row; made = typed_of held.tree held.kept }
 
 -- a refusal of the plain tree is one of the typed tree
-pub refused : (r : Result Program SyntaxError) (y e : SyntaxError) (p : Program) (tree : Tree) → r ≡ Err y → y ≡ e
+pub refused : (r : Result Program SyntaxError) (y e : SyntaxError) (p : Program) (tree : Cst) → r ≡ Err y → y ≡ e
     → GivesPlain (Err e) tree → GivesTree r p
 refused r y e p tree is_err same given =
     let P : Result Program SyntaxError → Type 0 = λ r. GivesTree r p in

@@ -6,9 +6,9 @@ use Rattle.std.proofs.lemmas.List.{append-nil}
 use Rattle.es_token.specs.declared.token.Token.{Token}
 use Rattle.es_lexer.specs.Reads.{ReadsTokens}
 use Rattle.es_site.specs.declared.site.Site.{Site}
-use Rattle.es_whole_tree.specs.declared.tree.Tree.{Tree}
-use Rattle.es_dress.specs.Value.{Value, part}
-use Rattle.es_dress.specs.Dress.{packed, value_of}
+use Rattle.es_cst.specs.declared.tree.Cst.{Cst}
+use Rattle.es_lowering.specs.Value.{Value, part}
+use Rattle.es_lowering.specs.Lowering.{packed, value_of}
 use Rattle.es_derives.specs.Derives.{program_in}
 use Rattle.es_plain_sites.specs.Own.{plain_sites}
 use Rattle.es_syntax.specs.declared.entry.Entry.{Entry}
@@ -17,12 +17,12 @@ use Rattle.es_syntax.proofs.Rows.{held_trees}
 use Rattle.es_program.specs.Typed.{program_at, HoldsSome}
 use Rattle.es_parser.specs.Made.{IsTyped, HoldsTyped}
 
-module _ (x : List ℕ) (ts : List Token) (es : List Entry) (tree : Tree) where
+module _ (x : List ℕ) (ts : List Token) (es : List Entry) (tree : Cst) where
   pub row_typed : trees es ≡ tree ∷ [] → program_at x ts es ≡ program_in (value_of x ts tree)
   unfolding program_at
   row_typed is =
       ap (λ (v : Value). program_in (part v 0)) (sym (held_trees x ts es))
-      ∙ ap (λ (us : List Tree). program_in (part (packed (map (value_of x ts) us)) 0)) is
+      ∙ ap (λ (us : List Cst). program_in (part (packed (map (value_of x ts) us)) 0)) is
 
   row_holds : (sites : List Site) → ReadsTokens x ts → IsTyped x ts tree → trees es ≡ tree ∷ []
       → sites ≡ flat_map (plain_sites x ts) (trees es) → HoldsSome x ts es sites

@@ -1,17 +1,17 @@
-//! Guards of expressions, over tokens.
+//! Predicates of expressions, over tokens.
 
 ghost use Rattle.std.specs.Prelude.{◌≡◌, ◌&&◌};
-ghost use Rattle.es_grammar.specs.Functions.{opens_inner_pattern};
-ghost use Rattle.es_grammar.specs.Statements.{opens_head_pattern};
+ghost use Rattle.es_type_grammar.specs.Functions.{opens_inner_pattern};
+ghost use Rattle.es_type_grammar.specs.Statements.{opens_head_pattern};
 ghost use Rattle.es_tree.specs.Key.{keys_of};
-ghost use Rattle.es_whole_grammar.specs.Expressions.{opens_any_arrow};
+ghost use Rattle.es_grammar.specs.Expressions.{opens_any_arrow};
 ghost use Rattle.es_parser.specs.Heads.{arrow_place, is_pattern_head};
 
-use es_guards::Tokens;
+use es_grammar::Context;
+use es_lookahead::Tokens;
+use es_predicates::{Predicate, holds};
 use es_token::Token;
 use es_tree::Lang;
-use es_whole_grammar::Context;
-use es_whole_guards::{Guard, holds};
 use std::alloc::Global;
 
 /// Whether an arrow function opens at a token where an expression may begin: a name, `(`, `async`, in TypeScript `<`.
@@ -30,7 +30,7 @@ pub fn is_arrow_head(alloc: Global, lang: Lang, colon: bool, tokens: &[Token], a
     holds(
         &Tokens { tokens },
         alloc,
-        Guard::OpensAnyArrow(lang, place),
+        Predicate::OpensAnyArrow(lang, place),
         at,
     )
 }

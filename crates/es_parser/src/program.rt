@@ -9,10 +9,10 @@ ghost use Rattle.es_parser.specs.Answers.{GivesTree};
 ghost use Rattle.es_parser.specs.Made.{HoldsTyped};
 
 use es_program::{Program, SharedTokens};
+use es_program_reader::read_program;
 use es_syntax::Entry;
 use es_tree::{Lang, Mode, SyntaxError};
 use es_tree_sites::tree_sites;
-use es_whole_program::read_program;
 use source_text::SourceText;
 use std::alloc::{AllocError, Global};
 

@@ -2,23 +2,23 @@
 use Rattle.std.specs.Prelude.{◌+◌, ℕ, Bool, List, [], ◌∷◌, Option, None, option_map, slice_get}
 use Rattle.base.specs.declared.range.Range.{Range}
 use Rattle.es_token.specs.declared.token.Token.{Token}
-use Rattle.es_whole_grammar.specs.declared.rows.Label.{Label}
-use Rattle.es_whole_grammar.specs.declared.rows.Label.TheVariants as l
+use Rattle.es_grammar.specs.declared.rows.NodeKind.{NodeKind}
+use Rattle.es_grammar.specs.declared.rows.NodeKind.TheVariants as l
 use Rattle.ts_ast.specs.declared.ts.TsPart.{TsPart}
 use Rattle.es_ast.specs.declared.ast.Pat.{Pat as APat}
 use Rattle.es_ast.specs.declared.ast.Pat.TheVariants as vPat
-use Rattle.es_dress.specs.Value.{Value, turns, pat_at, pat_prop_at}
-use Rattle.es_dress.specs.Texts.{ident_of}
-use Rattle.es_dress.specs.Expressions.{elements}
-use Rattle.es_dress.specs.TypeTexts.{marked}
-use Rattle.es_syntax.specs.declared.cursor.Row.{Row}
+use Rattle.es_lowering.specs.Value.{Value, turns, pat_at, pat_prop_at}
+use Rattle.es_lowering.specs.Texts.{ident_of}
+use Rattle.es_lowering.specs.Expressions.{elements}
+use Rattle.es_lowering.specs.TypeTexts.{marked}
+use Rattle.es_syntax.specs.declared.cursor.Siblings.{Siblings}
 use Rattle.es_syntax.specs.Held.{held}
 use Rattle.es_syntax.specs.Views.{Within}
 use Rattle.es_pattern_views.specs.declared.marked.Marked.{Marked}
 use Rattle.es_pattern_views.specs.declared.marked.Marked.TheVariants as view
 
 -- the alternatives
-abbrev pub marked_patterns : List Label
+abbrev pub marked_patterns : List NodeKind
 marked_patterns = l.NamePattern ∷ l.ArrayPattern ∷ l.ObjectPattern ∷ []
 
 -- ---- each form, of what its parts are
@@ -44,7 +44,7 @@ the_marked x ts (view.Object props) = object (held x ts props.entries.now)
 the_marked x ts view.Broken = None
 
 -- the parts take fewer entries
-abbrev pub IsBelow : Row → Marked → Type 0
+abbrev pub IsBelow : Siblings → Marked → Type 0
 IsBelow n (view.Ident token) = Unit {0}
 IsBelow n (view.Array from elems) = Within elems n
 IsBelow n (view.Object props) = Within props n

@@ -2,15 +2,15 @@
 use Rattle.std.specs.Prelude.{◌+◌, ℕ, false, List, [], ◌∷◌, Option, Some, None, option_map, slice_get}
 use Rattle.base.specs.declared.range.Range.{Range}
 use Rattle.es_token.specs.declared.token.Token.{Token}
-use Rattle.es_whole_grammar.specs.declared.rows.Label.{Label}
-use Rattle.es_whole_grammar.specs.declared.rows.Label.TheVariants as l
+use Rattle.es_grammar.specs.declared.rows.NodeKind.{NodeKind}
+use Rattle.es_grammar.specs.declared.rows.NodeKind.TheVariants as l
 use Rattle.es_ast.specs.declared.ast.Expr.{Expr}
 use Rattle.es_ast.specs.declared.ast.Pat.{Pat as APat}
 use Rattle.es_ast.specs.declared.ast.Pat.TheVariants as vPat
-use Rattle.es_dress.specs.Value.{Value, given, turns, pat_at, pat_prop_at}
-use Rattle.es_dress.specs.Expressions.{elements}
-use Rattle.es_dress.specs.Patterns.{ident_pat}
-use Rattle.es_syntax.specs.declared.cursor.Row.{Row}
+use Rattle.es_lowering.specs.Value.{Value, given, turns, pat_at, pat_prop_at}
+use Rattle.es_lowering.specs.Expressions.{elements}
+use Rattle.es_lowering.specs.Patterns.{ident_pat}
+use Rattle.es_syntax.specs.declared.cursor.Siblings.{Siblings}
 use Rattle.es_syntax.specs.Held.{held, valued}
 use Rattle.es_syntax.specs.Roles.{expr_in, pat_in}
 use Rattle.es_syntax.specs.Views.{Under, Within}
@@ -18,7 +18,7 @@ use Rattle.es_pattern_views.specs.declared.pat.Pat.{Pat}
 use Rattle.es_pattern_views.specs.declared.pat.Pat.TheVariants as view
 
 -- the alternatives
-abbrev pub patterns : List Label
+abbrev pub patterns : List NodeKind
 patterns = l.NamePattern ∷ l.ArrayPattern ∷ l.ObjectPattern ∷ l.RestPattern ∷ l.DefaultPattern ∷ []
 
 -- ---- each form, of what its parts are
@@ -52,7 +52,7 @@ the_pat x ts r (view.Target expr) = target (expr_in (valued x ts expr))
 the_pat x ts r view.Broken = None
 
 -- the parts take fewer entries
-abbrev pub IsBelow : Row → Pat → Type 0
+abbrev pub IsBelow : Siblings → Pat → Type 0
 IsBelow n (view.Ident token) = Unit {0}
 IsBelow n (view.Array from elems) = Within elems n
 IsBelow n (view.Object props) = Within props n

@@ -2,16 +2,16 @@
 use Rattle.std.specs.Prelude.{ℕ, List, [], ◌∷◌, Option, Some, None, option_map, slice_get}
 use Rattle.base.specs.declared.range.Range.{Range}
 use Rattle.es_token.specs.declared.token.Token.{Token}
-use Rattle.es_whole_grammar.specs.declared.rows.Label.{Label}
-use Rattle.es_whole_grammar.specs.declared.rows.Label.TheVariants as l
+use Rattle.es_grammar.specs.declared.rows.NodeKind.{NodeKind}
+use Rattle.es_grammar.specs.declared.rows.NodeKind.TheVariants as l
 use Rattle.es_ast.specs.declared.ast.Pat.{Pat}
 use Rattle.es_ast.specs.declared.ast.ObjectPatProp.{ObjectPatProp}
 use Rattle.es_ast.specs.declared.ast.ObjectPatProp.TheVariants as vPatProp
-use Rattle.es_dress.specs.Value.{Value, given, part, first_of, behind, optional, expr_at}
-use Rattle.es_dress.specs.Texts.{span_of, ident_of}
-use Rattle.es_dress.specs.Functions.{Key}
-use Rattle.es_dress.specs.Patterns.{with_default}
-use Rattle.es_syntax.specs.declared.cursor.Row.{Row}
+use Rattle.es_lowering.specs.Value.{Value, given, part, first_of, behind, optional, expr_at}
+use Rattle.es_lowering.specs.Texts.{span_of, ident_of}
+use Rattle.es_lowering.specs.Functions.{Key}
+use Rattle.es_lowering.specs.Patterns.{with_default}
+use Rattle.es_syntax.specs.declared.cursor.Siblings.{Siblings}
 use Rattle.es_syntax.specs.Held.{held, valued}
 use Rattle.es_syntax.specs.Roles.{key_in, pat_in}
 use Rattle.es_syntax.specs.Views.{Under, Within}
@@ -19,7 +19,7 @@ use Rattle.es_pattern_views.specs.declared.prop.PatProp.{PatProp}
 use Rattle.es_pattern_views.specs.declared.prop.PatProp.TheVariants as view
 
 -- the alternatives
-abbrev pub pattern_props : List Label
+abbrev pub pattern_props : List NodeKind
 pattern_props = l.RestProperty ∷ l.KeyPattern ∷ l.NameProperty ∷ []
 
 -- ---- each form, of what its parts are
@@ -48,7 +48,7 @@ the_pat_prop x ts r (view.Shorthand name value) = shorthand x r (slice_get ts na
 the_pat_prop x ts r view.Broken = None
 
 -- the parts take fewer entries
-abbrev pub IsBelow : Row → PatProp → Type 0
+abbrev pub IsBelow : Siblings → PatProp → Type 0
 IsBelow n (view.Rest arg) = Under arg n
 IsBelow n (view.KeyValue key pat value) = Under key n × Under pat n × Within value n
 IsBelow n (view.Shorthand name value) = Within value n

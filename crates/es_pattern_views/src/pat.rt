@@ -3,17 +3,17 @@
 ghost use Rattle.std.specs.Prelude.{◌≡◌, ℕ, List, IfSome, IfNone};
 ghost use Rattle.base.specs.declared.range.Range.{Range};
 ghost use Rattle.es_token.specs.declared.token.Token.{Token as Tok};
-ghost use Rattle.es_dress.specs.Patterns.{name_pattern, array_pattern, object_pattern, rest_pattern, default_pattern};
-ghost use Rattle.es_dress.specs.Value.{part};
-ghost use Rattle.es_dress.specs.Dress.{as_target};
-ghost use Rattle.es_dress.specs.Texts.{span_of};
+ghost use Rattle.es_lowering.specs.Patterns.{name_pattern, array_pattern, object_pattern, rest_pattern, default_pattern};
+ghost use Rattle.es_lowering.specs.Value.{part};
+ghost use Rattle.es_lowering.specs.Lowering.{as_target};
+ghost use Rattle.es_lowering.specs.Texts.{span_of};
 ghost use Rattle.es_syntax.specs.Held.{held, valued};
 ghost use Rattle.es_syntax.specs.Roles.{pat_in};
 ghost use Rattle.es_syntax.specs.Views.{IsNone};
 ghost use Rattle.es_pattern_views.specs.Pat.{patterns, the_pat, IsBelow};
 
-use es_syntax::{Item, Row, What};
-use es_whole_grammar::Label;
+use es_grammar::NodeKind;
+use es_syntax::{Item, Siblings, What};
 
 /// A pattern, with its parts where they stand. Numbers are those of tokens.
 #[derive(Clone, Copy)]
@@ -21,9 +21,9 @@ pub enum Pat<'a> {
     /// `a`
     Ident(u32),
     /// `[a, , b]`: its first token, and its elements as turns.
-    Array { from: u32, elems: Row<'a> },
+    Array { from: u32, elems: Siblings<'a> },
     /// `{ a: b }`: its properties as turns.
-    Object(Row<'a>),
+    Object(Siblings<'a>),
     /// `...a`
     Rest(Item<'a>),
     /// `a = b`
@@ -35,8 +35,8 @@ pub enum Pat<'a> {
 }
 
 /// `a`
-#[tactic(auto, unfolding(es_dress::specs::Patterns::name_pattern, crate::specs::Pat::ident))]
-fn name<'a>(parts: &Row<'a>) -> Pat<'a>
+#[tactic(auto, unfolding(es_lowering::specs::Patterns::name_pattern, crate::specs::Pat::ident))]
+fn name<'a>(parts: &Siblings<'a>) -> Pat<'a>
     ensures form { (x : List ℕ) (ts : List Tok) (r : Range) → name_pattern x ts (held x ts parts.now.entries.now) ≡ the_pat x ts r result }
     ensures below { IsBelow parts.now result }
 {
@@ -47,8 +47,8 @@ fn name<'a>(parts: &Row<'a>) -> Pat<'a>
 }
 
 /// `[a, , b]`: its first token, and its elements as turns.
-#[tactic(auto, unfolding(es_dress::specs::Patterns::array_pattern, crate::specs::Pat::array))]
-fn array<'a>(from: u32, parts: &Row<'a>) -> Pat<'a>
+#[tactic(auto, unfolding(es_lowering::specs::Patterns::array_pattern, crate::specs::Pat::array))]
+fn array<'a>(from: u32, parts: &Siblings<'a>) -> Pat<'a>
     ensures form { (x : List ℕ) (ts : List Tok) (r : Range) → array_pattern ts from r (held x ts parts.now.entries.now) ≡ the_pat x ts r result }
     ensures below { IsBelow parts.now result }
 {
@@ -59,8 +59,8 @@ fn array<'a>(from: u32, parts: &Row<'a>) -> Pat<'a>
 }
 
 /// `{ a: b }`: its properties as turns.
-#[tactic(auto, unfolding(es_dress::specs::Patterns::object_pattern, crate::specs::Pat::object))]
-fn object<'a>(parts: &Row<'a>) -> Pat<'a>
+#[tactic(auto, unfolding(es_lowering::specs::Patterns::object_pattern, crate::specs::Pat::object))]
+fn object<'a>(parts: &Siblings<'a>) -> Pat<'a>
     ensures form { (x : List ℕ) (ts : List Tok) (r : Range) → object_pattern r (held x ts parts.now.entries.now) ≡ the_pat x ts r result }
     ensures below { IsBelow parts.now result }
 {
@@ -68,8 +68,8 @@ fn object<'a>(parts: &Row<'a>) -> Pat<'a>
 }
 
 /// `...a`
-#[tactic(auto, unfolding(es_dress::specs::Patterns::rest_pattern, crate::specs::Pat::rest))]
-fn rest<'a>(parts: &Row<'a>) -> Pat<'a>
+#[tactic(auto, unfolding(es_lowering::specs::Patterns::rest_pattern, crate::specs::Pat::rest))]
+fn rest<'a>(parts: &Siblings<'a>) -> Pat<'a>
     ensures form { (x : List ℕ) (ts : List Tok) (r : Range) → rest_pattern r (held x ts parts.now.entries.now) ≡ the_pat x ts r result }
     ensures below { IsBelow parts.now result }
 {
@@ -80,8 +80,8 @@ fn rest<'a>(parts: &Row<'a>) -> Pat<'a>
 }
 
 /// `a = b`
-#[tactic(auto, unfolding(es_dress::specs::Patterns::default_pattern, crate::specs::Pat::default))]
-fn default<'a>(parts: &Row<'a>) -> Pat<'a>
+#[tactic(auto, unfolding(es_lowering::specs::Patterns::default_pattern, crate::specs::Pat::default))]
+fn default<'a>(parts: &Siblings<'a>) -> Pat<'a>
     ensures form { (x : List ℕ) (ts : List Tok) (r : Range) → default_pattern r (held x ts parts.now.entries.now) ≡ the_pat x ts r result }
     ensures below { IsBelow parts.now result }
 {
@@ -96,7 +96,7 @@ fn default<'a>(parts: &Row<'a>) -> Pat<'a>
 
 /// An expression that is assigned to.
 #[tactic(auto, using(crate::proofs::Targets::pat_target), unfolding(crate::specs::Pat::target))]
-fn target<'a>(parts: &Row<'a>) -> Pat<'a>
+fn target<'a>(parts: &Siblings<'a>) -> Pat<'a>
     ensures form { (x : List ℕ) (ts : List Tok) (r : Range) → pat_in (as_target x ts (part (held x ts parts.now.entries.now) 0)) ≡ the_pat x ts r result }
     ensures below { IsBelow parts.now result }
 {
@@ -107,7 +107,7 @@ fn target<'a>(parts: &Row<'a>) -> Pat<'a>
 }
 
 /// What a node is as a pattern, or as a target that is no pattern; none where it is of another alternative.
-#[tactic(auto, unfolding(es_dress::specs::Dress::build, es_dress::specs::Dress::pat_of))]
+#[tactic(auto, unfolding(es_lowering::specs::Lowering::build, es_lowering::specs::Lowering::pat_of))]
 pub fn pat_at<'a>(node: &Item<'a>) -> Option<Pat<'a>>
     ensures form { (x : List ℕ) (ts : List Tok) → IfSome result (λ view. pat_in (valued x ts node.now) ≡ the_pat x ts (span_of ts node.now.from node.now.to) view) }
     ensures other { IfNone result (IsNone patterns node.now.what) }
@@ -115,11 +115,11 @@ pub fn pat_at<'a>(node: &Item<'a>) -> Option<Pat<'a>>
 {
     match node.what {
         What::Node(label) => match label {
-            Label::NamePattern => Some(name(&node.parts)),
-            Label::ArrayPattern => Some(array(node.from, &node.parts)),
-            Label::ObjectPattern => Some(object(&node.parts)),
-            Label::RestPattern => Some(rest(&node.parts)),
-            Label::DefaultPattern => Some(default(&node.parts)),
+            NodeKind::NamePattern => Some(name(&node.parts)),
+            NodeKind::ArrayPattern => Some(array(node.from, &node.parts)),
+            NodeKind::ObjectPattern => Some(object(&node.parts)),
+            NodeKind::RestPattern => Some(rest(&node.parts)),
+            NodeKind::DefaultPattern => Some(default(&node.parts)),
             _ => None,
         },
         What::Leaf => None,

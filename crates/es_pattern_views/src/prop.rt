@@ -3,15 +3,15 @@
 ghost use Rattle.std.specs.Prelude.{◌≡◌, ℕ, List, IfSome, IfNone};
 ghost use Rattle.base.specs.declared.range.Range.{Range};
 ghost use Rattle.es_token.specs.declared.token.Token.{Token as Tok};
-ghost use Rattle.es_dress.specs.Patterns.{rest_property, key_pattern, name_property};
-ghost use Rattle.es_dress.specs.Texts.{span_of};
+ghost use Rattle.es_lowering.specs.Patterns.{rest_property, key_pattern, name_property};
+ghost use Rattle.es_lowering.specs.Texts.{span_of};
 ghost use Rattle.es_syntax.specs.Held.{held, valued};
 ghost use Rattle.es_syntax.specs.Roles.{pat_prop_in};
 ghost use Rattle.es_syntax.specs.Views.{IsNone};
 ghost use Rattle.es_pattern_views.specs.PatProp.{pattern_props, the_pat_prop, IsBelow};
 
-use es_syntax::{Item, Row, What};
-use es_whole_grammar::Label;
+use es_grammar::NodeKind;
+use es_syntax::{Item, Siblings, What};
 
 /// A property of an object pattern, with its parts where they stand. Numbers are those of tokens.
 #[derive(Clone, Copy)]
@@ -22,20 +22,20 @@ pub enum PatProp<'a> {
     KeyValue {
         key: Item<'a>,
         pat: Item<'a>,
-        value: Row<'a>,
+        value: Siblings<'a>,
     },
     /// `a = b`: the default may be absent.
     Shorthand {
         name: u32,
-        value: Row<'a>,
+        value: Siblings<'a>,
     },
     /// A part is not there.
     Broken,
 }
 
 /// `...a`
-#[tactic(auto, unfolding(es_dress::specs::Patterns::rest_property, crate::specs::PatProp::rest))]
-fn rest<'a>(parts: &Row<'a>) -> PatProp<'a>
+#[tactic(auto, unfolding(es_lowering::specs::Patterns::rest_property, crate::specs::PatProp::rest))]
+fn rest<'a>(parts: &Siblings<'a>) -> PatProp<'a>
     ensures form { (x : List ℕ) (ts : List Tok) (r : Range) → rest_property r (held x ts parts.now.entries.now) ≡ the_pat_prop x ts r result }
     ensures below { IsBelow parts.now result }
 {
@@ -46,8 +46,8 @@ fn rest<'a>(parts: &Row<'a>) -> PatProp<'a>
 }
 
 /// `a: b = c`: the default may be absent.
-#[tactic(auto, unfolding(es_dress::specs::Patterns::key_pattern, crate::specs::PatProp::key_value))]
-fn key_pattern<'a>(parts: &Row<'a>) -> PatProp<'a>
+#[tactic(auto, unfolding(es_lowering::specs::Patterns::key_pattern, crate::specs::PatProp::key_value))]
+fn key_pattern<'a>(parts: &Siblings<'a>) -> PatProp<'a>
     ensures form { (x : List ℕ) (ts : List Tok) (r : Range) → key_pattern ts r (held x ts parts.now.entries.now) ≡ the_pat_prop x ts r result }
     ensures below { IsBelow parts.now result }
 {
@@ -65,8 +65,8 @@ fn key_pattern<'a>(parts: &Row<'a>) -> PatProp<'a>
 }
 
 /// `a = b`: the default may be absent.
-#[tactic(auto, unfolding(es_dress::specs::Patterns::name_property, crate::specs::PatProp::shorthand))]
-fn name_property<'a>(parts: &Row<'a>) -> PatProp<'a>
+#[tactic(auto, unfolding(es_lowering::specs::Patterns::name_property, crate::specs::PatProp::shorthand))]
+fn name_property<'a>(parts: &Siblings<'a>) -> PatProp<'a>
     ensures form { (x : List ℕ) (ts : List Tok) (r : Range) → name_property x ts r (held x ts parts.now.entries.now) ≡ the_pat_prop x ts r result }
     ensures below { IsBelow parts.now result }
 {
@@ -80,7 +80,7 @@ fn name_property<'a>(parts: &Row<'a>) -> PatProp<'a>
 }
 
 /// What a node is as a property of an object pattern; none where it is of another alternative.
-#[tactic(auto, unfolding(es_dress::specs::Dress::build, es_dress::specs::Dress::pat_prop_of))]
+#[tactic(auto, unfolding(es_lowering::specs::Lowering::build, es_lowering::specs::Lowering::pat_prop_of))]
 pub fn pat_prop_at<'a>(node: &Item<'a>) -> Option<PatProp<'a>>
     ensures form { (x : List ℕ) (ts : List Tok) → IfSome result (λ view. pat_prop_in (valued x ts node.now) ≡ the_pat_prop x ts (span_of ts node.now.from node.now.to) view) }
     ensures other { IfNone result (IsNone pattern_props node.now.what) }
@@ -88,9 +88,9 @@ pub fn pat_prop_at<'a>(node: &Item<'a>) -> Option<PatProp<'a>>
 {
     match node.what {
         What::Node(label) => match label {
-            Label::RestProperty => Some(rest(&node.parts)),
-            Label::KeyPattern => Some(key_pattern(&node.parts)),
-            Label::NameProperty => Some(name_property(&node.parts)),
+            NodeKind::RestProperty => Some(rest(&node.parts)),
+            NodeKind::KeyPattern => Some(key_pattern(&node.parts)),
+            NodeKind::NameProperty => Some(name_property(&node.parts)),
             _ => None,
         },
         What::Leaf => None,

@@ -9,20 +9,20 @@ use Rattle.es_ast.specs.declared.leaf.ImportAttributes.{ImportAttributes}
 use Rattle.es_ast.specs.declared.ast.Expr.TheVariants as vExpr
 use Rattle.es_ast.specs.declared.ast.Prop.TheVariants as vProp
 use Rattle.es_ast.specs.declared.ast.ClassMember.TheOpen.{Expr-F, Prop-F}
-use Rattle.es_whole_grammar.specs.declared.rows.Label.{Label}
-use Rattle.es_whole_grammar.specs.declared.rows.Label.TheVariants as l
+use Rattle.es_grammar.specs.declared.rows.NodeKind.{NodeKind}
+use Rattle.es_grammar.specs.declared.rows.NodeKind.TheVariants as l
 use Rattle.es_site.specs.Attributes.{attribute_of}
 use Rattle.es_site.specs.Sites.{sites_of, sites_of_class_member, sites_of_decl, sites_of_expr, sites_of_module_decl, sites_of_object_pat_prop, sites_of_pat, sites_of_stmt, sites_of_class, sites_of_function, sites_of_param, sites_of_var_declarator}
 use Rattle.es_site.proofs.Equations.{expr_Fn, expr_Class, expr_Super, expr_ImportMeta, expr_NewTarget, expr_Arrow, decl_Fn, decl_Class, decl_Var, stmt_Block, stmt_Empty, stmt_Debugger, stmt_Decl, class_member_Empty}
-use Rattle.es_dress.specs.Value.{Value, given, group, is_there}
-use Rattle.es_dress.specs.Texts.{kind_at}
-use Rattle.es_dress.specs.Operators.{listed, accessor_kinds}
-use Rattle.es_dress.specs.Functions as functions
-use Rattle.es_dress.specs.Classes as classes
-use Rattle.es_dress.specs.Statements as stmts
-use Rattle.es_dress.specs.TypedFunctions as typed
-use Rattle.es_dress.specs.Dress.{build, expr_of, pat_of, marked_of, variables_of, declarable_of, decl_of, block_of, stmt_of, declarator_of, param_of, head_of, params_of, signature_of, pat_prop_of, key_of, prop_of, member_of, post_of, args_of, attributes_of, module_decl_of, program_of}
-use Rattle.es_cuts.proofs.Cuts.{Opt}
+use Rattle.es_lowering.specs.Value.{Value, given, group, is_there}
+use Rattle.es_lowering.specs.Texts.{kind_at}
+use Rattle.es_lowering.specs.Operators.{listed, accessor_kinds}
+use Rattle.es_lowering.specs.Functions as functions
+use Rattle.es_lowering.specs.Classes as classes
+use Rattle.es_lowering.specs.Statements as stmts
+use Rattle.es_lowering.specs.TypedFunctions as typed
+use Rattle.es_lowering.specs.Lowering.{build, expr_of, pat_of, marked_of, variables_of, declarable_of, decl_of, block_of, stmt_of, declarator_of, param_of, head_of, params_of, signature_of, pat_prop_of, key_of, prop_of, member_of, post_of, args_of, attributes_of, module_decl_of, program_of}
+use Rattle.es_site_ranges.proofs.Cuts.{Opt}
 use Rattle.es_plain_sites.specs.Part.{Part, node}
 use Rattle.es_plain_sites.specs.Own.{own, clause_attribute}
 use Rattle.es_plain_sites.proofs.Given.{given_any, map_fine}
@@ -37,11 +37,11 @@ use Rattle.es_plain_sites.proofs.Patterns.{param_is, prop_by, name_pattern_is, a
 use Rattle.es_plain_sites.proofs.Typed.{marked_name_is, marked_array_is, marked_object_is, marked_parameter_is, property_parameter_is, this_parameter_is, typed_parameters_is, typed_signature_is, typed_function_is, typed_arrow_is, typed_method_property_is, typed_class_is, typed_method_member_is, typed_accessor_member_is, typed_field_is, index_member_is, typed_call_post_is, typed_template_post_is, non_null_post_is, typed_new_is, typed_declarator_is, typed_head_is, interface_is, alias_is, enum_is, namespace_is, module_namespace_is, global_is, declared_is, declared_variables_is, typed_optional_post_is, typed_binary_is, typed_try_is}
 
 module _ (x : List ℕ) (ts : List Token) where
-  expr_law : (label : Label) (from : ℕ) (r : Range) (p : Value) (q : Part) → Is x ts p q
-      → Opt ((λ (k : Label). Ex x ts k q) label) (expr_of x ts label from r p)
+  expr_law : (label : NodeKind) (from : ℕ) (r : Range) (p : Value) (q : Part) → Is x ts p q
+      → Opt ((λ (k : NodeKind). Ex x ts k q) label) (expr_of x ts label from r p)
   unfolding expr_of
   expr_law label from r p q h =
-      let P = (λ (k : Label). Ex x ts k q) in
+      let P = (λ (k : NodeKind). Ex x ts k q) in
       if_at x ts P label l.Name _ _
       (name_is x ts r p q h) (if_at x ts P label l.Word _ _
       (word_is x ts r p q h) (if_at x ts P label l.Number _ _
@@ -124,11 +124,11 @@ module _ (x : List ℕ) (ts : List Token) where
       (vExpr.rolls-Arrow it) (expr_Arrow [] it ∙ g) refl refl refl))
       (tt)))))))))))))))))))))))))))))))))))))))))))
 
-  pat_law : (label : Label) (from : ℕ) (r : Range) (p : Value) (q : Part) → Is x ts p q
-      → Opt ((λ (k : Label). Of sites_of_pat (own x ts k q)) label) (pat_of x ts label from r p)
+  pat_law : (label : NodeKind) (from : ℕ) (r : Range) (p : Value) (q : Part) → Is x ts p q
+      → Opt ((λ (k : NodeKind). Of sites_of_pat (own x ts k q)) label) (pat_of x ts label from r p)
   unfolding pat_of
   pat_law label from r p q h =
-      let P = (λ (k : Label). Of sites_of_pat (own x ts k q)) in
+      let P = (λ (k : NodeKind). Of sites_of_pat (own x ts k q)) in
       if_at x ts P label l.NamePattern _ _
       (name_pattern_is x ts r p q h) (if_at x ts P label l.ArrayPattern _ _
       (array_pattern_is x ts r p q h from) (if_at x ts P label l.ObjectPattern _ _
@@ -136,30 +136,30 @@ module _ (x : List ℕ) (ts : List Token) where
       (rest_pattern_is x ts r p q h) (if_at x ts P label l.DefaultPattern _ _
       (default_pattern_is x ts r p q h) (tt)))))
 
-  marked_law : (label : Label) (from : ℕ) (r : Range) (p : Value) (q : Part) → Is x ts p q
-      → Opt ((λ (k : Label). MarkedIs (own x ts k q)) label) (marked_of x ts label from p)
+  marked_law : (label : NodeKind) (from : ℕ) (r : Range) (p : Value) (q : Part) → Is x ts p q
+      → Opt ((λ (k : NodeKind). MarkedIs (own x ts k q)) label) (marked_of x ts label from p)
   unfolding marked_of
   marked_law label from r p q h =
-      let P = (λ (k : Label). MarkedIs (own x ts k q)) in
+      let P = (λ (k : NodeKind). MarkedIs (own x ts k q)) in
       if_at x ts P label l.NamePattern _ _
       (marked_name_is x ts r p q h) (if_at x ts P label l.ArrayPattern _ _
       (marked_array_is x ts r p q h from) (if_at x ts P label l.ObjectPattern _ _
       (marked_object_is x ts r p q h) (tt)))
 
-  variables_law : (label : Label) (from : ℕ) (r : Range) (p : Value) (q : Part) → Is x ts p q
-      → Opt ((λ (k : Label). Of variables_sites (own x ts k q)) label) (variables_of x ts label p)
+  variables_law : (label : NodeKind) (from : ℕ) (r : Range) (p : Value) (q : Part) → Is x ts p q
+      → Opt ((λ (k : NodeKind). Of variables_sites (own x ts k q)) label) (variables_of x ts label p)
   unfolding variables_of
   variables_law label from r p q h =
-      let P = (λ (k : Label). Of variables_sites (own x ts k q)) in
+      let P = (λ (k : NodeKind). Of variables_sites (own x ts k q)) in
       if_at x ts P label l.Variables _ _
       (variables_is x ts r p q h) (if_at x ts P label l.Using _ _
       (using_is x ts r p q h) (tt))
 
-  declarable_law : (label : Label) (from : ℕ) (r : Range) (p : Value) (q : Part) → Is x ts p q
-      → Opt ((λ (k : Label). DeclarableIs (own x ts k q)) label) (declarable_of x ts label r p)
+  declarable_law : (label : NodeKind) (from : ℕ) (r : Range) (p : Value) (q : Part) → Is x ts p q
+      → Opt ((λ (k : NodeKind). DeclarableIs (own x ts k q)) label) (declarable_of x ts label r p)
   unfolding declarable_of
   declarable_law label from r p q h =
-      let P = (λ (k : Label). DeclarableIs (own x ts k q)) in
+      let P = (λ (k : NodeKind). DeclarableIs (own x ts k q)) in
       if_at x ts P label l.TypedFunction _ _
       (map_fine (Of sites_of_function (own x ts l.TypedFunction q)) (DeclarableIs (own x ts l.TypedFunction q))
       (typed.typed_function x ts false r p) _ (typed_function_is x ts r p q h false)
@@ -181,11 +181,11 @@ module _ (x : List ℕ) (ts : List Token) where
       (module_namespace_is x ts r p q h) (if_at x ts P label l.GlobalDeclaration _ _
       (global_is x ts r p q h) (tt))))))))))
 
-  decl_law : (label : Label) (from : ℕ) (r : Range) (p : Value) (q : Part) → Is x ts p q
-      → Opt ((λ (k : Label). Of sites_of_decl (own x ts k q)) label) (decl_of x ts label r p)
+  decl_law : (label : NodeKind) (from : ℕ) (r : Range) (p : Value) (q : Part) → Is x ts p q
+      → Opt ((λ (k : NodeKind). Of sites_of_decl (own x ts k q)) label) (decl_of x ts label r p)
   unfolding decl_of
   decl_law label from r p q h =
-      let P = (λ (k : Label). Of sites_of_decl (own x ts k q)) in
+      let P = (λ (k : NodeKind). Of sites_of_decl (own x ts k q)) in
       if_at x ts P label l.Function _ _
       (map_fine (Of sites_of_function (own x ts l.Function q)) (Of sites_of_decl (own x ts l.Function q))
       (functions.function x ts false r p) _ (function_made_is x ts r p q h false)
@@ -209,19 +209,19 @@ module _ (x : List ℕ) (ts : List Token) where
       (map_fine (DeclarableIs (own x ts label q)) (Of sites_of_decl (own x ts label q))
       (declarable_of x ts label r p) _ (declarable_law label from r p q h) (λ decl g. g false r))))))))))
 
-  block_law : (label : Label) (from : ℕ) (r : Range) (p : Value) (q : Part) → Is x ts p q
-      → Opt ((λ (k : Label). Of (flat_map sites_of_stmt) (own x ts k q)) label) (block_of x ts label p)
+  block_law : (label : NodeKind) (from : ℕ) (r : Range) (p : Value) (q : Part) → Is x ts p q
+      → Opt ((λ (k : NodeKind). Of (flat_map sites_of_stmt) (own x ts k q)) label) (block_of x ts label p)
   unfolding block_of
   block_law label from r p q h =
-      let P = (λ (k : Label). Of (flat_map sites_of_stmt) (own x ts k q)) in
+      let P = (λ (k : NodeKind). Of (flat_map sites_of_stmt) (own x ts k q)) in
       if_at x ts P label l.Block _ _
       (block_is x ts r p q h) (tt)
 
-  stmt_law : (label : Label) (from : ℕ) (r : Range) (p : Value) (q : Part) → Is x ts p q
-      → Opt ((λ (k : Label). Of sites_of_stmt (own x ts k q)) label) (stmt_of x ts label r p)
+  stmt_law : (label : NodeKind) (from : ℕ) (r : Range) (p : Value) (q : Part) → Is x ts p q
+      → Opt ((λ (k : NodeKind). Of sites_of_stmt (own x ts k q)) label) (stmt_of x ts label r p)
   unfolding stmt_of
   stmt_law label from r p q h =
-      let P = (λ (k : Label). Of sites_of_stmt (own x ts k q)) in
+      let P = (λ (k : NodeKind). Of sites_of_stmt (own x ts k q)) in
       if_at x ts P label l.Block _ _
       (map_fine (Of (flat_map sites_of_stmt) (own x ts l.Block q)) (Of sites_of_stmt (own x ts l.Block q))
       (stmts.block p) _ (block_is x ts r p q h) (λ all g. stmt_Block [] all r ∙ g))
@@ -248,11 +248,11 @@ module _ (x : List ℕ) (ts : List Token) where
       (decl_of x ts label r p) _ (decl_law label from r p q h)
       (λ decl g. stmt_Decl [] decl ∙ g))))))))))))))))))))
 
-  declarator_law : (label : Label) (from : ℕ) (r : Range) (p : Value) (q : Part) → Is x ts p q
-      → Opt ((λ (k : Label). Of sites_of_var_declarator (own x ts k q)) label) (declarator_of x ts label from r p)
+  declarator_law : (label : NodeKind) (from : ℕ) (r : Range) (p : Value) (q : Part) → Is x ts p q
+      → Opt ((λ (k : NodeKind). Of sites_of_var_declarator (own x ts k q)) label) (declarator_of x ts label from r p)
   unfolding declarator_of
   declarator_law label from r p q h =
-      let P = (λ (k : Label). Of sites_of_var_declarator (own x ts k q)) in
+      let P = (λ (k : NodeKind). Of sites_of_var_declarator (own x ts k q)) in
       if_at x ts P label l.Declarator _ _
       (declarator_is x ts r p q h) (if_at x ts P label l.TypedDeclarator _ _
       (typed_declarator_is x ts r p q h)
@@ -260,11 +260,11 @@ module _ (x : List ℕ) (ts : List Token) where
       (pat_of x ts label from r p) _ (pat_law label from r p q h)
       (λ pat g. bare_declarator_is x ts r p q h (own x ts label q) pat g)))
 
-  param_law : (label : Label) (from : ℕ) (r : Range) (p : Value) (q : Part) → Is x ts p q
-      → Opt ((λ (k : Label). Of sites_of_param (own x ts k q)) label) (param_of x ts label from r p)
+  param_law : (label : NodeKind) (from : ℕ) (r : Range) (p : Value) (q : Part) → Is x ts p q
+      → Opt ((λ (k : NodeKind). Of sites_of_param (own x ts k q)) label) (param_of x ts label from r p)
   unfolding param_of
   param_law label from r p q h =
-      let P = (λ (k : Label). Of sites_of_param (own x ts k q)) in
+      let P = (λ (k : NodeKind). Of sites_of_param (own x ts k q)) in
       if_at x ts P label l.DefaultParameter _ _
       (default_parameter_is x ts r p q h) (if_at x ts P label l.ThisParameter _ _
       (this_parameter_is x ts r p q h) (if_at x ts P label l.PropertyParameter _ _
@@ -273,11 +273,11 @@ module _ (x : List ℕ) (ts : List Token) where
       (map_fine (Of sites_of_pat (own x ts label q)) (Of sites_of_param (own x ts label q))
       (pat_of x ts label from r p) _ (pat_law label from r p q h) (λ pat g. param_is _ ∙ g)))))
 
-  head_law : (label : Label) (from : ℕ) (r : Range) (p : Value) (q : Part) → Is x ts p q
-      → Opt ((λ (k : Label). Of head_sites (own x ts k q)) label) (head_of x ts label from r p)
+  head_law : (label : NodeKind) (from : ℕ) (r : Range) (p : Value) (q : Part) → Is x ts p q
+      → Opt ((λ (k : NodeKind). Of head_sites (own x ts k q)) label) (head_of x ts label from r p)
   unfolding head_of
   head_law label from r p q h =
-      let P = (λ (k : Label). Of head_sites (own x ts k q)) in
+      let P = (λ (k : NodeKind). Of head_sites (own x ts k q)) in
       if_at x ts P label l.VariableHead _ _
       (variable_head_is x ts r p q h) (if_at x ts P label l.UsingHead _ _
       (using_head_is x ts r p q h) (if_at x ts P label l.TypedVariableHead _ _
@@ -285,39 +285,39 @@ module _ (x : List ℕ) (ts : List Token) where
       (map_fine (Of sites_of_pat (own x ts label q)) (Of head_sites (own x ts label q))
       (pat_of x ts label from r p) _ (pat_law label from r p q h) (λ pat g. g))))
 
-  params_law : (label : Label) (from : ℕ) (r : Range) (p : Value) (q : Part) → Is x ts p q
-      → Opt ((λ (k : Label). Of (flat_map sites_of_param) (own x ts k q)) label) (params_of x ts label p)
+  params_law : (label : NodeKind) (from : ℕ) (r : Range) (p : Value) (q : Part) → Is x ts p q
+      → Opt ((λ (k : NodeKind). Of (flat_map sites_of_param) (own x ts k q)) label) (params_of x ts label p)
   unfolding params_of
   params_law label from r p q h =
-      let P = (λ (k : Label). Of (flat_map sites_of_param) (own x ts k q)) in
+      let P = (λ (k : NodeKind). Of (flat_map sites_of_param) (own x ts k q)) in
       if_at x ts P label l.Parameters _ _
       (parameters_is x ts r p q h) (if_at x ts P label l.Signature _ _
       (signature_is x ts r p q h) (if_at x ts P label l.TypedParameters _ _
       (typed_parameters_is x ts r p q h) (tt)))
 
-  signature_law : (label : Label) (from : ℕ) (r : Range) (p : Value) (q : Part) → Is x ts p q
-      → Opt ((λ (k : Label). Of signature_sites (own x ts k q)) label) (signature_of x ts label p)
+  signature_law : (label : NodeKind) (from : ℕ) (r : Range) (p : Value) (q : Part) → Is x ts p q
+      → Opt ((λ (k : NodeKind). Of signature_sites (own x ts k q)) label) (signature_of x ts label p)
   unfolding signature_of
   signature_law label from r p q h =
-      let P = (λ (k : Label). Of signature_sites (own x ts k q)) in
+      let P = (λ (k : NodeKind). Of signature_sites (own x ts k q)) in
       if_at x ts P label l.TypedSignature _ _
       (typed_signature_is x ts r p q h) (tt)
 
-  pat_prop_law : (label : Label) (from : ℕ) (r : Range) (p : Value) (q : Part) → Is x ts p q
-      → Opt ((λ (k : Label). Of sites_of_object_pat_prop (own x ts k q)) label) (pat_prop_of x ts label r p)
+  pat_prop_law : (label : NodeKind) (from : ℕ) (r : Range) (p : Value) (q : Part) → Is x ts p q
+      → Opt ((λ (k : NodeKind). Of sites_of_object_pat_prop (own x ts k q)) label) (pat_prop_of x ts label r p)
   unfolding pat_prop_of
   pat_prop_law label from r p q h =
-      let P = (λ (k : Label). Of sites_of_object_pat_prop (own x ts k q)) in
+      let P = (λ (k : NodeKind). Of sites_of_object_pat_prop (own x ts k q)) in
       if_at x ts P label l.RestProperty _ _
       (rest_property_is x ts r p q h) (if_at x ts P label l.KeyPattern _ _
       (key_pattern_is x ts r p q h) (if_at x ts P label l.NameProperty _ _
       (name_property_is x ts r p q h) (tt)))
 
-  key_law : (label : Label) (from : ℕ) (r : Range) (p : Value) (q : Part) → Is x ts p q
-      → Opt ((λ (k : Label). KeyIs x ts k q (own x ts k q)) label) (key_of x ts label p)
+  key_law : (label : NodeKind) (from : ℕ) (r : Range) (p : Value) (q : Part) → Is x ts p q
+      → Opt ((λ (k : NodeKind). KeyIs x ts k q (own x ts k q)) label) (key_of x ts label p)
   unfolding key_of
   key_law label from r p q h =
-      let P = (λ (k : Label). KeyIs x ts k q (own x ts k q)) in
+      let P = (λ (k : NodeKind). KeyIs x ts k q (own x ts k q)) in
       if_at x ts P label l.WordKey _ _
       (word_key_is x ts r p q h) (if_at x ts P label l.StrKey _ _
       (str_key_is x ts r p q h) (if_at x ts P label l.NumberKey _ _
@@ -325,11 +325,11 @@ module _ (x : List ℕ) (ts : List Token) where
       (computed_key_is x ts r p q h) (if_at x ts P label l.PrivateKey _ _
       (private_key_is x ts r p q h) (tt)))))
 
-  prop_law : (label : Label) (from : ℕ) (r : Range) (p : Value) (q : Part) → Is x ts p q
-      → Opt ((λ (k : Label). PropIs x ts k q (own x ts k q)) label) (prop_of x ts label r p)
+  prop_law : (label : NodeKind) (from : ℕ) (r : Range) (p : Value) (q : Part) → Is x ts p q
+      → Opt ((λ (k : NodeKind). PropIs x ts k q (own x ts k q)) label) (prop_of x ts label r p)
   unfolding prop_of functions.accessor_property typed.typed_accessor_property
   prop_law label from r p q h =
-      let P = (λ (k : Label). PropIs x ts k q (own x ts k q)) in
+      let P = (λ (k : NodeKind). PropIs x ts k q (own x ts k q)) in
       if_at x ts P label l.SpreadProperty _ _
       (spread_property_is x ts r p q h) (if_at x ts P label l.AccessorProperty _ _
       (given_any _ (given (kind_at ts p 0) (listed accessor_kinds)) _
@@ -375,11 +375,11 @@ module _ (x : List ℕ) (ts : List Token) where
       (Prop-F.Prop::Method k b key it r)
       (vProp.rolls-Method k b key it r) g refl (λ word. refl) (λ word before. refl))) (tt)))))))))))
 
-  member_law : (label : Label) (from : ℕ) (r : Range) (p : Value) (q : Part) → Is x ts p q
-      → Opt ((λ (k : Label). Of sites_of_class_member (own x ts k q)) label) (member_of x ts label r p)
+  member_law : (label : NodeKind) (from : ℕ) (r : Range) (p : Value) (q : Part) → Is x ts p q
+      → Opt ((λ (k : NodeKind). Of sites_of_class_member (own x ts k q)) label) (member_of x ts label r p)
   unfolding member_of
   member_law label from r p q h =
-      let P = (λ (k : Label). Of sites_of_class_member (own x ts k q)) in
+      let P = (λ (k : NodeKind). Of sites_of_class_member (own x ts k q)) in
       if_at x ts P label l.EmptyMember _ _
       (class_member_Empty [] r) (if_at x ts P label l.StaticBlock _ _
       (static_block_is x ts r p q h) (if_at x ts P label l.AccessorMember _ _
@@ -399,11 +399,11 @@ module _ (x : List ℕ) (ts : List Token) where
       (typed_field_is x ts r p q h true) (if_at x ts P label l.IndexMember _ _
       (index_member_is x ts r p q h) (tt)))))))))))))))
 
-  post_law : (label : Label) (from : ℕ) (r : Range) (p : Value) (q : Part) → Is x ts p q
-      → Opt ((λ (k : Label). PostIs (own x ts k q)) label) (post_of x ts label r p)
+  post_law : (label : NodeKind) (from : ℕ) (r : Range) (p : Value) (q : Part) → Is x ts p q
+      → Opt ((λ (k : NodeKind). PostIs (own x ts k q)) label) (post_of x ts label r p)
   unfolding post_of
   post_law label from r p q h =
-      let P = (λ (k : Label). PostIs (own x ts k q)) in
+      let P = (λ (k : NodeKind). PostIs (own x ts k q)) in
       if_at x ts P label l.MemberPost _ _
       (member_post_is x ts r p q h) (if_at x ts P label l.IndexPost _ _
       (index_post_is x ts r p q h) (if_at x ts P label l.CallPost _ _
@@ -415,29 +415,29 @@ module _ (x : List ℕ) (ts : List Token) where
       (typed_optional_post_is x ts r p q h) (if_at x ts P label l.NonNullPost _ _
       (non_null_post_is x ts r p q h) (tt)))))))))
 
-  args_law : (label : Label) (from : ℕ) (r : Range) (p : Value) (q : Part) → Is x ts p q
-      → Opt ((λ (k : Label). Of (flat_map sites_of_expr) (own x ts k q)) label) (args_of x ts label p)
+  args_law : (label : NodeKind) (from : ℕ) (r : Range) (p : Value) (q : Part) → Is x ts p q
+      → Opt ((λ (k : NodeKind). Of (flat_map sites_of_expr) (own x ts k q)) label) (args_of x ts label p)
   unfolding args_of
   args_law label from r p q h =
-      let P = (λ (k : Label). Of (flat_map sites_of_expr) (own x ts k q)) in
+      let P = (λ (k : NodeKind). Of (flat_map sites_of_expr) (own x ts k q)) in
       if_at x ts P label l.Arguments _ _
       (arguments_is x ts r p q h) (tt)
 
-  attributes_law : (label : Label) (from : ℕ) (r : Range) (p : Value) (q : Part) → Is x ts p q
-      → Opt ((λ (k : Label) (c : ImportAttributes). attribute_of (Some c)
+  attributes_law : (label : NodeKind) (from : ℕ) (r : Range) (p : Value) (q : Part) → Is x ts p q
+      → Opt ((λ (k : NodeKind) (c : ImportAttributes). attribute_of (Some c)
       ≡ clause_attribute x ts (node k q (own x ts k q))) label) (attributes_of x ts label r p)
   unfolding attributes_of
   attributes_law label from r p q h =
-      let P = (λ (k : Label) (c : ImportAttributes). attribute_of (Some c)
+      let P = (λ (k : NodeKind) (c : ImportAttributes). attribute_of (Some c)
       ≡ clause_attribute x ts (node k q (own x ts k q))) in
       if_at x ts P label l.Attributes _ _
       (attributes_is x ts r p q h) (tt)
 
-  module_decl_law : (label : Label) (from : ℕ) (r : Range) (p : Value) (q : Part) → Is x ts p q
-      → Opt ((λ (k : Label). Of sites_of_module_decl (own x ts k q)) label) (module_decl_of x ts label r p)
+  module_decl_law : (label : NodeKind) (from : ℕ) (r : Range) (p : Value) (q : Part) → Is x ts p q
+      → Opt ((λ (k : NodeKind). Of sites_of_module_decl (own x ts k q)) label) (module_decl_of x ts label r p)
   unfolding module_decl_of
   module_decl_law label from r p q h =
-      let P = (λ (k : Label). Of sites_of_module_decl (own x ts k q)) in
+      let P = (λ (k : NodeKind). Of sites_of_module_decl (own x ts k q)) in
       if_at x ts P label l.BareImport _ _
       (bare_import_is x ts r p q h) (if_at x ts P label l.FromImport _ _
       (from_import_is x ts r p q h) (if_at x ts P label l.RequireImport _ _
@@ -455,16 +455,16 @@ module _ (x : List ℕ) (ts : List Token) where
       (export_default_decl_is x ts r p q h) (if_at x ts P label l.ExportAssignment _ _
       (export_assignment_is x ts r p q h) (tt)))))))))))))))
 
-  program_law : (label : Label) (from : ℕ) (r : Range) (p : Value) (q : Part) → Is x ts p q
-      → Opt ((λ (k : Label). Of sites_of (own x ts k q)) label) (program_of x ts label r p)
+  program_law : (label : NodeKind) (from : ℕ) (r : Range) (p : Value) (q : Part) → Is x ts p q
+      → Opt ((λ (k : NodeKind). Of sites_of (own x ts k q)) label) (program_of x ts label r p)
   unfolding program_of
   program_law label from r p q h =
-      let P = (λ (k : Label). Of sites_of (own x ts k q)) in
+      let P = (λ (k : NodeKind). Of sites_of (own x ts k q)) in
       if_at x ts P label l.Module _ _
       (module_is x ts r p q h) (if_at x ts P label l.Script _ _
       (script_is x ts r p q h) (tt))
 
-  pub build_is : (label : Label) (from : ℕ) (r : Range) (p : Value) (q : Part) → Is x ts p q
+  pub build_is : (label : NodeKind) (from : ℕ) (r : Range) (p : Value) (q : Part) → Is x ts p q
       → TypedIs x ts label q (own x ts label q) (build x ts label from r p)
   unfolding build
   build_is label from r p q h = record {

@@ -6,21 +6,22 @@ use Rattle.std.proofs.lemmas.List.{append-nil, append_assoc}
 use Rattle.base.specs.declared.range.Range.{Range}
 use Rattle.es_token.specs.declared.token.Token.{Token}
 use Rattle.es_ast.specs.declared.leaf.Lit.TheVariants as vLit
+use Rattle.es_ast.specs.declared.leaf.ImportPhase.TheVariants as vPhase
 use Rattle.es_ast.specs.declared.ast.Expr.{Expr, roll-Expr, out-Expr, out-roll-Expr}
 use Rattle.es_ast.specs.declared.ast.Expr.TheVariants as vExpr
 use Rattle.es_ast.specs.declared.ast.ClassMember.TheOpen.{Expr-F}
-use Rattle.es_whole_grammar.specs.declared.rows.Label.TheVariants as l
+use Rattle.es_grammar.specs.declared.rows.NodeKind.TheVariants as l
 use Rattle.es_site.specs.Parts.{ExprParts}
 use Rattle.es_site.specs.declared.site.Attribute.TheVariants.{Unknown}
 use Rattle.es_site.specs.declared.site.DependencyKind.TheVariants as kind
 use Rattle.es_site.specs.Attributes.{options_attribute, options_part, with_part}
 use Rattle.es_site.specs.Sites.{Found, first_argument, sites_of_expr}
 use Rattle.es_site.proofs.Equations.{expr_ImportCall, expr_Member, expr_Index, expr_Spread}
-use Rattle.es_dress.specs.Value.{Typed, Value, given, typed}
-use Rattle.es_dress.specs.Value as v
-use Rattle.es_dress.specs.Texts.{span_of, property_at}
-use Rattle.es_dress.specs.Expressions.{Post, argument_of, argument, arguments, member_of, index_of, member_post, index_post, chained, chain, import_call}
-use Rattle.es_cuts.proofs.Cuts.{Opt}
+use Rattle.es_lowering.specs.Value.{Typed, Value, given, typed}
+use Rattle.es_lowering.specs.Value as v
+use Rattle.es_lowering.specs.Texts.{span_of, property_at}
+use Rattle.es_lowering.specs.Expressions.{Post, argument_of, argument, arguments, member_of, index_of, member_post, index_post, chained, chain, import_call}
+use Rattle.es_site_ranges.proofs.Cuts.{Opt}
 use Rattle.es_plain_sites.specs.Part.{Part, absent, nil, more, token, node, part, as_group, group, found, at, inside, each, turns}
 use Rattle.es_plain_sites.specs.Own.{src_in, options_of, options_in, naming, own}
 use Rattle.es_plain_sites.proofs.Given.{given_fine, map_fine, map_any}
@@ -107,9 +108,9 @@ module _ (x : List ℕ) (ts : List Token) where
         given_fine (SecondIs (group q 1)) (Ex x ts l.ImportCall q) (v.optional v.expr_at (v.group p 1)) _
         (second_is (v.group p 1) (group q 1) (group_is x ts p q 1 h)) (λ second g.
         (let args = first ∷ v.option_list second in
-        expr_by x ts l.ImportCall q (own x ts l.ImportCall q) (vExpr.ImportCall args r)
-        (Expr-F.ImportCall args r) (vExpr.rolls-ImportCall args r)
-        (expr_ImportCall [] args r
+        expr_by x ts l.ImportCall q (own x ts l.ImportCall q) (vExpr.ImportCall vPhase.Evaluation args r)
+        (Expr-F.ImportCall vPhase.Evaluation args r) (vExpr.rolls-ImportCall vPhase.Evaluation args r)
+        (expr_ImportCall [] vPhase.Evaluation args r
         ∙ two (λ a b. a ++ b)
         (first_by (out-Expr first) (v.option_list second)
         ∙ two (naming x ts kind.Dynamic false) g.1 (value_str (part q 0) first f))

@@ -10,19 +10,19 @@ use Rattle.es_ast.specs.declared.ast.Expr.{Expr, roll-Expr, out-Expr, out-roll-E
 use Rattle.es_ast.specs.declared.ast.Expr.TheVariants as vExpr
 use Rattle.es_ast.specs.declared.ast.Pat.TheVariants as vPat
 use Rattle.es_ast.specs.declared.ast.ClassMember.TheOpen.{Expr-F}
-use Rattle.es_whole_grammar.specs.declared.rows.Label.{Label}
-use Rattle.es_whole_grammar.specs.declared.rows.Label.TheVariants as l
+use Rattle.es_grammar.specs.declared.rows.NodeKind.{NodeKind}
+use Rattle.es_grammar.specs.declared.rows.NodeKind.TheVariants as l
 use Rattle.es_site.specs.Parts.{ExprParts}
 use Rattle.es_site.specs.declared.site.Attribute.TheVariants.{Unknown}
 use Rattle.es_site.specs.Attributes.{options_part, with_part}
 use Rattle.es_site.specs.Sites.{Found, sites_of_expr, sites_of_pat}
 use Rattle.es_site.proofs.Equations.{expr_Ident, expr_Lit, expr_Bin, expr_Cond, expr_Paren, expr_Await, expr_Seq, expr_Assign, expr_Call, pat_Expr}
-use Rattle.es_dress.specs.Value.{Typed, Value, given, typed}
-use Rattle.es_dress.specs.Value as v
-use Rattle.es_dress.specs.Texts.{ident_at, str_of, token_of}
-use Rattle.es_dress.specs.Operators.{binary_between, assign_between}
-use Rattle.es_dress.specs.Expressions.{Post, name, str, parenthesized, await_, binary, conditional, assignment, pattern_assignment, sequence, call_of, call_post}
-use Rattle.es_cuts.proofs.Cuts.{Opt}
+use Rattle.es_lowering.specs.Value.{Typed, Value, given, typed}
+use Rattle.es_lowering.specs.Value as v
+use Rattle.es_lowering.specs.Texts.{ident_at, str_of, token_of}
+use Rattle.es_lowering.specs.Operators.{binary_between, assign_between}
+use Rattle.es_lowering.specs.Expressions.{Post, name, str, parenthesized, await_, binary, conditional, assignment, pattern_assignment, sequence, call_of, call_post}
+use Rattle.es_site_ranges.proofs.Cuts.{Opt}
 use Rattle.es_plain_sites.specs.Part.{Part, part, group, at, turns}
 use Rattle.es_plain_sites.specs.Own.{token_in, src_by, with_by, options_by, own}
 use Rattle.es_plain_sites.proofs.Given.{given_fine, given_any, map_fine, map_any}
@@ -33,10 +33,10 @@ two f {a} {b} {c} {d} e g = ap (λ y. f y c) e ∙ ap (f b) g
 
 module _ (x : List ℕ) (ts : List Token) where
   -- an expression as a node of this alternative
-  abbrev pub Ex : Label → Part → Expr → Type 0
+  abbrev pub Ex : NodeKind → Part → Expr → Type 0
   Ex label q e = ExprIs x ts label q (own x ts label q) e
 
-  pub expr_by : (label : Label) (q : Part) (s : Found) (e : Expr) (it : ExprParts) → roll-Expr it ≡ e
+  pub expr_by : (label : NodeKind) (q : Part) (s : Found) (e : Expr) (it : ExprParts) → roll-Expr it ≡ e
       → sites_of_expr e ≡ s
       → str_view it ≡ src_by x ts label q → options_part it ≡ options_by x ts label q
       → with_part it ≡ with_by x ts label q

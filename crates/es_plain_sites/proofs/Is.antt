@@ -16,18 +16,18 @@ use Rattle.es_ast.specs.declared.ast.Pat.{Pat}
 use Rattle.es_ast.specs.declared.ast.Prop.{Prop, out-Prop}
 use Rattle.es_ast.specs.declared.ast.VarDeclarator.{VarDeclarator}
 use Rattle.es_ast.specs.declared.ast.ClassMember.TheOpen.{Expr-F}
-use Rattle.es_whole_grammar.specs.contracts.rows.Label.{the_type}
-use Rattle.es_whole_grammar.specs.declared.rows.Label.{Label}
+use Rattle.es_grammar.specs.contracts.rows.NodeKind.{the_type}
+use Rattle.es_grammar.specs.declared.rows.NodeKind.{NodeKind}
 use Rattle.es_site.specs.Parts.{ExprParts}
 use Rattle.es_site.specs.declared.site.Attribute.TheVariants.{Unknown}
 use Rattle.es_site.specs.Attributes.{attribute_of, says, is_name, plain_part, given_part, or_before, with_part, options_part}
 use Rattle.es_site.specs.Sites.{Found, if_some, sites_of}
 use Rattle.es_site.specs.Sites.{sites_of_class_member, sites_of_decl, sites_of_expr, sites_of_module_item, sites_of_object_pat_prop, sites_of_pat, sites_of_prop, sites_of_stmt, sites_of_param, sites_of_var_declarator}
-use Rattle.es_dress.specs.Value.{Signature, Typed, Value, given, typed}
-use Rattle.es_dress.specs.Value as v
-use Rattle.es_dress.specs.Texts.{token_of}
-use Rattle.es_dress.specs.Dress.{same_label}
-use Rattle.es_cuts.proofs.Cuts.{Opt}
+use Rattle.es_lowering.specs.Value.{Signature, Typed, Value, given, typed}
+use Rattle.es_lowering.specs.Value as v
+use Rattle.es_lowering.specs.Texts.{token_of}
+use Rattle.es_lowering.specs.Lowering.{same_label}
+use Rattle.es_site_ranges.proofs.Cuts.{Opt}
 use Rattle.es_plain_sites.specs.Part.{Part, absent, nil, more, token, node, part, as_group, group, is_there, found, at, inside, may, each, turns}
 use Rattle.es_plain_sites.specs.Own.{token_in, src_by, is_word_key, key_says, is_plain, given_in, with_by, options_by, clause_attribute}
 use Rattle.es_plain_sites.proofs.Given.{given_fine, map_fine}
@@ -67,13 +67,13 @@ DeclarableIs s decl = (declare : Bool) (r : Range) → sites_of_decl (decl decla
 
 module _ (x : List ℕ) (ts : List Token) where
   -- an expression is what a node of this alternative with these parts is
-  pub record ExprIs (label : Label) (q : Part) (s : Found) (e : Expr) : Type 0 where
+  pub record ExprIs (label : NodeKind) (q : Part) (s : Found) (e : Expr) : Type 0 where
     pub sites : sites_of_expr e ≡ s
     pub str : str_view (out-Expr e) ≡ src_by x ts label q
     pub options : options_part (out-Expr e) ≡ options_by x ts label q
     pub with : with_part (out-Expr e) ≡ with_by x ts label q
 
-  pub record KeyIs (label : Label) (q : Part) (s : Found) (key : Bool × Expr) : Type 0 where
+  pub record KeyIs (label : NodeKind) (q : Part) (s : Found) (key : Bool × Expr) : Type 0 where
     pub sites : sites_of_expr key.1 ≡ s
     pub named : not key.0 && is_name (out-Expr key.1) ≡ is_word_key x ts (node label q s)
     pub says : (word : List ℕ) → not key.0 && says word (out-Expr key.1) ≡ key_says x ts word (node label q s)
@@ -88,14 +88,14 @@ module _ (x : List ℕ) (ts : List Token) where
   GivenIs None None = Unit {0}
   GivenIs _ _ = ⊥
 
-  pub record PropIs (label : Label) (q : Part) (s : Found) (prop : Prop) : Type 0 where
+  pub record PropIs (label : NodeKind) (q : Part) (s : Found) (prop : Prop) : Type 0 where
     pub sites : sites_of_prop prop ≡ s
     pub plain : plain_part (out-Prop prop) ≡ is_plain x ts (node label q s)
     pub gives : (word : List ℕ) (last : Option Expr) (before : Option Part) → GivenIs last before
         → GivenIs (or_before (given_part word (out-Prop prop)) last) (given_in x ts word (node label q s) before)
 
   -- all that a node may be read as
-  pub record TypedIs (label : Label) (q : Part) (s : Found) (m : Typed) : Type 0 where
+  pub record TypedIs (label : NodeKind) (q : Part) (s : Found) (m : Typed) : Type 0 where
     pub expr : Opt (ExprIs label q s) m.expr
     pub pat : Opt (Of sites_of_pat s) m.pat
     pub stmt : Opt (Of sites_of_stmt s) m.stmt
@@ -126,7 +126,7 @@ module _ (x : List ℕ) (ts : List Token) where
     nothing : Is v.nil nil
     both : (a : Value) (b : Part) (p : Value) (q : Part) → Is a b → Is p q → Is (v.more a p) (more b q)
     same : (n : ℕ) → Is (v.token n) (token n)
-    made : (from to : ℕ) (m : Typed) (label : Label) (q : Part) (s : Found) → TypedIs label q s m
+    made : (from to : ℕ) (m : Typed) (label : NodeKind) (q : Part) (s : Found) → TypedIs label q s m
         → Is (v.node from to m) (node label q s)
 
   pub part_is : (p : Value) (q : Part) (n : ℕ) → Is p q → Is (v.part p n) (part q n)
@@ -163,7 +163,7 @@ module _ (x : List ℕ) (ts : List Token) where
 
   -- ---- what a node is read as
   pub read : {A : Type 0} (sites : A → Found) (f : Typed → Option A)
-      → ((label : Label) (q : Part) (s : Found) (m : Typed) → TypedIs label q s m → Opt (Of sites s) (f m))
+      → ((label : NodeKind) (q : Part) (s : Found) (m : Typed) → TypedIs label q s m → Opt (Of sites s) (f m))
       → (p : Value) (q : Part) → Is p q → Opt (Of sites (found q)) (given (typed p) f)
   read sites f one p q none = tt
   read sites f one p q nothing = tt
@@ -171,7 +171,7 @@ module _ (x : List ℕ) (ts : List Token) where
   read sites f one p q (same n) = tt
   read sites f one p q (made from to m label r s h) = one label r s m h
 
-  pub expr_sites : (label : Label) (q : Part) (s : Found) (o : Option Expr) → Opt (ExprIs label q s) o
+  pub expr_sites : (label : NodeKind) (q : Part) (s : Found) (o : Option Expr) → Opt (ExprIs label q s) o
       → Opt (Of sites_of_expr s) o
   expr_sites label q s (Some e) h = h.sites
   expr_sites label q s None h = tt
@@ -264,7 +264,7 @@ module _ (x : List ℕ) (ts : List Token) where
       read sites_of_prop (λ (m : Typed). m.prop) (λ label r s m h. go label r s m.prop h.prop) (v.part p n) (part q n)
       (part_is p q n h)
     where
-      go : (label : Label) (r : Part) (s : Found) (o : Option Prop) → Opt (PropIs label r s) o
+      go : (label : NodeKind) (r : Part) (s : Found) (o : Option Prop) → Opt (PropIs label r s) o
           → Opt (Of sites_of_prop s) o
       go label r s (Some it) h = h.sites
       go label r s None h = tt
@@ -274,7 +274,7 @@ module _ (x : List ℕ) (ts : List Token) where
       read key_sites (λ (m : Typed). m.key) (λ label r s m h. go label r s m.key h.key) (v.part p n) (part q n)
       (part_is p q n h)
     where
-      go : (label : Label) (r : Part) (s : Found) (o : Option (Bool × Expr)) → Opt (KeyIs label r s) o
+      go : (label : NodeKind) (r : Part) (s : Found) (o : Option (Bool × Expr)) → Opt (KeyIs label r s) o
           → Opt (Of key_sites s) o
       go label r s (Some it) h = h.sites
       go label r s None h = tt
@@ -340,11 +340,12 @@ module _ (x : List ℕ) (ts : List Token) where
       turns_in sites (λ turn. one turn 0) (λ turn. at turn 0) each (v.group p n) (group q n) (group_is p q n h)
 
   -- ---- lines of `build`
-  pub if_at : {A : Type 0} (P : Label → A → Type 0) (label m : Label) (o e : Option A) → Opt (P m) o → Opt (P label) e
+  pub if_at : {A : Type 0} (P : NodeKind → A → Type 0) (label m : NodeKind) (o e : Option A) → Opt (P m) o
+      → Opt (P label) e
       → Opt (P label) (if same_label label m then o else e)
   if_at P label m o e one other = go (same_label label m) refl
     where
       go : (b : Bool) → same_label label m ≡ b → Opt (P label) (if b then o else e)
       go true e1 =
-          let Q : Label → Type 0 = λ k. Opt (P k) o in subst Q (sym (same_true the_type tt label m e1)) one
+          let Q : NodeKind → Type 0 = λ k. Opt (P k) o in subst Q (sym (same_true the_type tt label m e1)) one
       go false e1 = other

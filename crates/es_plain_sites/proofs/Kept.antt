@@ -9,21 +9,21 @@ use Rattle.es_tree.specs.Plain.{Plain, node, leaf, nil, cons, mark, turn, via, m
 use Rattle.es_ast.specs.declared.ast.Program.{Program}
 use Rattle.es_ast.specs.declared.ast.Expr.{Expr}
 use Rattle.es_ast.specs.declared.ast.Pat.TheVariants as vPat
-use Rattle.es_whole_grammar.specs.declared.rows.Label.{Label}
-use Rattle.es_whole_grammar.specs.declared.rows.Label.TheVariants as l
-use Rattle.es_whole_tree.specs.declared.tree.Tree.{Tree}
-use Rattle.es_whole_tree.specs.declared.tree.Tree.TheVariants as vTree
-use Rattle.es_whole_tree.specs.declared.tree.Tree.TheOpen.{Tree-F}
-use Rattle.es_whole_tree.specs.declared.tree.Tree.TheFolds.{fold-roll-Tree}
-use Rattle.es_whole_tree.specs.Slim.{parts_in, slim, tree_of}
+use Rattle.es_grammar.specs.declared.rows.NodeKind.{NodeKind}
+use Rattle.es_grammar.specs.declared.rows.NodeKind.TheVariants as l
+use Rattle.es_cst.specs.declared.tree.Cst.{Cst}
+use Rattle.es_cst.specs.declared.tree.Cst.TheVariants as vCst
+use Rattle.es_cst.specs.declared.tree.Cst.TheOpen.{Cst-F}
+use Rattle.es_cst.specs.declared.tree.Cst.TheFolds.{fold-roll-Cst}
+use Rattle.es_cst.specs.Slim.{parts_in, slim, tree_of}
 use Rattle.es_site.specs.Sites.{Found, sites_of, sites_of_pat, sites_of_expr}
 use Rattle.es_site.proofs.Equations.{pat_Expr}
-use Rattle.es_dress.specs.Value.{Typed, Value}
-use Rattle.es_dress.specs.Texts.{span_of}
-use Rattle.es_dress.specs.Dress.{packed, build, target_of, as_target, value_of}
-use Rattle.es_dress.proofs.Equations.{value_leaf, value_node, value_role, value_parts}
+use Rattle.es_lowering.specs.Value.{Typed, Value}
+use Rattle.es_lowering.specs.Texts.{span_of}
+use Rattle.es_lowering.specs.Lowering.{packed, build, target_of, as_target, value_of}
+use Rattle.es_lowering.proofs.Equations.{value_leaf, value_node, value_role, value_parts}
 use Rattle.es_derives.specs.Derives.{Derives}
-use Rattle.es_cuts.proofs.Cuts.{Opt}
+use Rattle.es_site_ranges.proofs.Cuts.{Opt}
 use Rattle.es_plain_sites.specs.Part.{Part, found}
 use Rattle.es_plain_sites.specs.Part as w
 use Rattle.es_plain_sites.specs.Own.{own, part_step, part_of, plain_sites}
@@ -34,7 +34,7 @@ use Rattle.es_plain_sites.proofs.Is as i
 
 module _ (x : List ℕ) (ts : List Token) where
   -- ---- targets
-  target_is : (label : Label) (q : Part) (s : Found) (e : Option Expr) → Opt (ExprIs x ts label q s) e
+  target_is : (label : NodeKind) (q : Part) (s : Found) (e : Option Expr) → Opt (ExprIs x ts label q s) e
       → TypedIs x ts l.Target q s (target_of x ts e)
   target_is label q s e h = record {
     expr = tt;
@@ -77,21 +77,21 @@ module _ (x : List ℕ) (ts : List Token) where
       let Q : Part → Type 0 = λ k. Is x ts b k in
       subst P (sym e) (subst Q (sym f) h)
 
-  module _ (build_is : (label : Label) (from : ℕ) (r : Range) (p : Value) (q : Part) → Is x ts p q
+  module _ (build_is : (label : NodeKind) (from : ℕ) (r : Range) (p : Value) (q : Part) → Is x ts p q
       → TypedIs x ts label q (own x ts label q) (build x ts label from r p)) where
-    abbrev parts : Plain Label → List Tree
+    abbrev parts : Plain NodeKind → List Cst
     parts p = parts_in (made slim p)
 
-    KeptIs : Plain Label → Type 0
+    KeptIs : Plain NodeKind → Type 0
     KeptIs p =
         Is x ts (value_of x ts (tree_of p)) (part_of x ts (tree_of p))
         × Is x ts (packed (map (value_of x ts) (parts p))) (w.packed (map (part_of x ts) (parts p)))
 
-    listed : (all : List Tree) → Is x ts (packed (map (value_of x ts) all)) (w.packed (map (part_of x ts) all))
-        → Is x ts (value_of x ts (vTree.Parts all)) (part_of x ts (vTree.Parts all))
+    listed : (all : List Cst) → Is x ts (packed (map (value_of x ts) all)) (w.packed (map (part_of x ts) all))
+        → Is x ts (value_of x ts (vCst.Parts all)) (part_of x ts (vCst.Parts all))
     listed all h = moved _ _ _ _ (value_parts x ts all) (part_parts x ts all) h
 
-    kept_is : (p : Plain Label) → KeptIs p
+    kept_is : (p : Plain NodeKind) → KeptIs p
     unfolding made KeptIs
     kept_is (node label from to ps) = (
       moved _ _ _ _ (value_node x ts label from to (parts ps)) (part_node x ts label from to (parts ps))
@@ -119,7 +119,7 @@ module _ (x : List ℕ) (ts : List Token) where
     unfolding KeptIs
     sites_are lang mode tree derived =
         let P : Option Program → Type 0 = λ it. Opt (Of sites_of (plain_sites x ts (tree_of derived.plain))) it in
-        subst P derived.dressed
+        subst P derived.lowered
         (read x ts sites_of (λ (m : Typed). m.program) (λ label q s m h. h.program)
         (value_of x ts (tree_of derived.plain))
         (part_of x ts (tree_of derived.plain)) (kept_is derived.plain).0)

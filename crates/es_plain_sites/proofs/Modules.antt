@@ -11,8 +11,8 @@ use Rattle.es_ast.specs.declared.leaf.ModuleExportName.{ModuleExportName}
 use Rattle.es_ast.specs.declared.ast.Stmt.{Stmt}
 use Rattle.es_ast.specs.declared.ast.ModuleDecl.{ModuleDecl}
 use Rattle.es_ast.specs.declared.ast.ModuleItem.TheVariants as vItem
-use Rattle.es_whole_grammar.specs.declared.rows.Label.{Label}
-use Rattle.es_whole_grammar.specs.declared.rows.Label.TheVariants as l
+use Rattle.es_grammar.specs.declared.rows.NodeKind.{NodeKind}
+use Rattle.es_grammar.specs.declared.rows.NodeKind.TheVariants as l
 use Rattle.es_site.specs.declared.site.Attribute.{Attribute}
 use Rattle.es_site.specs.declared.site.Attribute.TheVariants.{Unknown}
 use Rattle.es_site.specs.declared.site.DependencyKind.{DependencyKind}
@@ -20,13 +20,13 @@ use Rattle.es_site.specs.declared.site.DependencyKind.TheVariants as kind
 use Rattle.es_site.specs.Attributes.{attribute_of, named, spells}
 use Rattle.es_site.specs.Sites.{Found, site_at, export_site, sites_of, sites_of_expr, sites_of_decl, sites_of_stmt, sites_of_module_decl, sites_of_module_item}
 use Rattle.es_site.proofs.Equations.{module_decl_Import, module_decl_ExportDecl, module_decl_ExportNamed, module_decl_ExportDefaultDecl, module_decl_ExportDefaultExpr, module_decl_ExportAll, module_decl_TsImportEquals, module_decl_TsExportAssignment, module_decl_TsNamespaceExport, module_item_ModuleDecl, module_item_Stmt}
-use Rattle.es_dress.specs.Value.{Typed, Value, given, typed}
-use Rattle.es_dress.specs.Value as v
-use Rattle.es_dress.specs.Texts.{ident_at, name_of, name_at, str_of, str_at, token_of, shebang_at}
-use Rattle.es_dress.specs.Modules.{attribute, attributes, bare_import, from_import, require_import, entity_import, export_all, source_with, with_of, export_names, export_namespace, export_default_decl, export_default_expression, export_declaration, module_, script}
-use Rattle.es_dress.specs.TypedStatements.{export_assignment}
-use Rattle.es_dress.specs.Dress.{item_by}
-use Rattle.es_cuts.proofs.Cuts.{Opt}
+use Rattle.es_lowering.specs.Value.{Typed, Value, given, typed}
+use Rattle.es_lowering.specs.Value as v
+use Rattle.es_lowering.specs.Texts.{ident_at, name_of, name_at, str_of, str_at, token_of, shebang_at}
+use Rattle.es_lowering.specs.Modules.{attribute, attributes, bare_import, from_import, require_import, entity_import, export_all, source_with, with_of, export_names, export_namespace, export_default_decl, export_default_expression, export_declaration, module_, script}
+use Rattle.es_lowering.specs.TypedStatements.{export_assignment}
+use Rattle.es_lowering.specs.Lowering.{item_by}
+use Rattle.es_site_ranges.proofs.Cuts.{Opt}
 use Rattle.es_plain_sites.specs.Part.{Part, more, node, part, as_group, group, is_there, at, inside, turns}
 use Rattle.es_plain_sites.specs.Own as o
 use Rattle.es_plain_sites.specs.Own.{token_in, str_in, attribute_in, clause_attribute, naming, declared, own}
@@ -116,7 +116,7 @@ module _ (x : List ℕ) (ts : List Token) where
   names kind a b c d src w e f g =
       two (λ k m. site_at kind k src m ∷ []) e f ∙ ap (naming x ts kind b d) (sym g)
 
-  abbrev pub Md : Label → Part → ModuleDecl → Type 0
+  abbrev pub Md : NodeKind → Part → ModuleDecl → Type 0
   Md label q = Of sites_of_module_decl (own x ts label q)
 
   module _ (r : Range) (p : Value) (q : Part) (h : Is x ts p q) where

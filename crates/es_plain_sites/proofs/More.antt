@@ -14,15 +14,15 @@ use Rattle.es_ast.specs.declared.leaf.BinaryOp.TheVariants as vBinary
 use Rattle.es_ast.specs.declared.ast.Expr.{Expr}
 use Rattle.es_ast.specs.declared.ast.Expr.TheVariants as vExpr
 use Rattle.es_ast.specs.declared.ast.ClassMember.TheOpen.{Expr-F}
-use Rattle.es_whole_grammar.specs.declared.rows.Label.TheVariants as l
+use Rattle.es_grammar.specs.declared.rows.NodeKind.TheVariants as l
 use Rattle.es_site.specs.Sites.{Found, if_some, sites_of_expr}
 use Rattle.es_site.proofs.Equations.{expr_This, expr_Lit, expr_Tpl, expr_Array, expr_Hole, expr_Spread, expr_New, expr_Update, expr_Unary, expr_Bin, expr_PrivateName, expr_Yield, expr_TaggedTpl, expr_Member, expr_Index, expr_Call}
-use Rattle.es_dress.specs.Value.{Typed, Value, given, typed}
-use Rattle.es_dress.specs.Value as v
-use Rattle.es_dress.specs.Texts.{regex_of, token_of, token_at, kind_at, private_at, numeric_of, numeric_at, piece_there, property_of}
-use Rattle.es_dress.specs.Operators.{listed, unary_ops, update_ops}
-use Rattle.es_dress.specs.Expressions.{word_of, word, number, regexp, template, template_parts, element_of, behind_element, elements, array_literal, spread, member_of, index_of, call_of, tagged_of, template_post, optional_inner, optional_of, optional_post, new_of, new_, prefix, update_prefix, update_postfix, private_in, yield_of, yield_}
-use Rattle.es_cuts.proofs.Cuts.{Opt}
+use Rattle.es_lowering.specs.Value.{Typed, Value, given, typed}
+use Rattle.es_lowering.specs.Value as v
+use Rattle.es_lowering.specs.Texts.{regex_of, token_of, token_at, kind_at, private_at, numeric_of, numeric_at, piece_there, property_of}
+use Rattle.es_lowering.specs.Operators.{listed, unary_ops, update_ops}
+use Rattle.es_lowering.specs.Expressions.{word_of, word, number, regexp, template, template_parts, element_of, behind_element, elements, array_literal, spread, member_of, index_of, call_of, tagged_of, template_post, optional_inner, optional_of, optional_post, new_of, new_, prefix, update_prefix, update_postfix, private_in, yield_of, yield_}
+use Rattle.es_site_ranges.proofs.Cuts.{Opt}
 use Rattle.es_plain_sites.specs.Part.{Part, absent, more, token, node, part, as_group, group, found, at, inside, may, each, turns}
 use Rattle.es_plain_sites.specs.Own as o
 use Rattle.es_plain_sites.specs.Own.{src_by, options_by, with_by, own}

@@ -10,8 +10,8 @@ use Rattle.es_ast.specs.declared.ast.Expr.TheVariants as vExpr
 use Rattle.es_ast.specs.declared.ast.Prop.{Prop, out-Prop, out-roll-Prop}
 use Rattle.es_ast.specs.declared.ast.Prop.TheVariants as vProp
 use Rattle.es_ast.specs.declared.ast.ClassMember.TheOpen.{Expr-F, Prop-F}
-use Rattle.es_whole_grammar.specs.declared.rows.Label.{Label}
-use Rattle.es_whole_grammar.specs.declared.rows.Label.TheVariants as l
+use Rattle.es_grammar.specs.declared.rows.NodeKind.{NodeKind}
+use Rattle.es_grammar.specs.declared.rows.NodeKind.TheVariants as l
 use Rattle.es_site.specs.Parts.{ExprParts, PropParts}
 use Rattle.es_site.specs.declared.site.Attribute.{Attribute}
 use Rattle.es_site.specs.declared.site.Attribute.TheVariants.{Unknown}
@@ -19,12 +19,12 @@ use Rattle.es_site.specs.Attributes.{says, is_name, plain_part, given_part, or_b
 use Rattle.es_site.specs.Attributes as attrs
 use Rattle.es_site.specs.Sites.{Found, sites_of_expr, sites_of_prop}
 use Rattle.es_site.proofs.Equations.{expr_Ident, expr_Lit, expr_Object, prop_KeyValue, prop_Shorthand}
-use Rattle.es_dress.specs.Value.{Typed, Value, given, typed}
-use Rattle.es_dress.specs.Value as v
-use Rattle.es_dress.specs.Texts.{ident_at, ident_of, str_of, token_of}
-use Rattle.es_dress.specs.Functions.{word_key, str_key, computed_key, key_value, shorthand}
-use Rattle.es_dress.specs.Expressions.{object_literal}
-use Rattle.es_cuts.proofs.Cuts.{Opt}
+use Rattle.es_lowering.specs.Value.{Typed, Value, given, typed}
+use Rattle.es_lowering.specs.Value as v
+use Rattle.es_lowering.specs.Texts.{ident_at, ident_of, str_of, token_of}
+use Rattle.es_lowering.specs.Functions.{word_key, str_key, computed_key, key_value, shorthand}
+use Rattle.es_lowering.specs.Expressions.{object_literal}
+use Rattle.es_site_ranges.proofs.Cuts.{Opt}
 use Rattle.es_plain_sites.specs.Part.{Part, absent, nil, more, token, node, part, as_group, group, found, at, each, turns}
 use Rattle.es_plain_sites.specs.Own as o
 use Rattle.es_plain_sites.specs.Own.{token_in, own}
@@ -181,7 +181,7 @@ module _ (x : List ℕ) (ts : List Token) where
         (type_is _ _ (props_give (codes "type") (group q 0) props None None tt f))))
 
     -- ---- keys
-    pub key_by : (label : Label) (s : Found) (key : Bool × Expr) (it : ExprParts) → roll-Expr it ≡ key.1
+    pub key_by : (label : NodeKind) (s : Found) (key : Bool × Expr) (it : ExprParts) → roll-Expr it ≡ key.1
         → sites_of_expr key.1 ≡ s → (not key.0 && is_name it ≡ o.is_word_key x ts (node label q s))
         → ((word : List ℕ) → not key.0 && says word it ≡ o.key_says x ts word (node label q s))
         → KeyIs x ts label q s key

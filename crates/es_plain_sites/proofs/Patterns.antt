@@ -19,22 +19,22 @@ use Rattle.es_ast.specs.declared.ast.Class.{roll-Class, out-roll-Class}
 use Rattle.es_ast.specs.declared.ast.Function.{Function, roll-Function, out-roll-Function}
 use Rattle.es_ast.specs.declared.ast.Param.{roll-Param, out-roll-Param}
 use Rattle.es_ast.specs.declared.ast.ClassMember.TheOpen.{Expr-F, Prop-F, Class-F, Function-F, Param-F}
-use Rattle.es_whole_grammar.specs.declared.rows.Label.{Label}
-use Rattle.es_whole_grammar.specs.declared.rows.Label.TheVariants as l
+use Rattle.es_grammar.specs.declared.rows.NodeKind.{NodeKind}
+use Rattle.es_grammar.specs.declared.rows.NodeKind.TheVariants as l
 use Rattle.es_site.specs.Parts.{Whole, PropParts}
 use Rattle.es_site.specs.Attributes.{is_name, says, plain_part, given_part, or_before}
 use Rattle.es_site.specs.Sites.{Found, if_some}
 use Rattle.es_site.specs.Sites.{sites_of_class_member, sites_of_expr, sites_of_object_pat_prop, sites_of_pat, sites_of_prop, sites_of_stmt, sites_of_class, sites_of_function, sites_of_param}
 use Rattle.es_site.proofs.Equations.{class_member_StaticBlock, class_member_Method, class_member_Prop, expr_Lit, expr_PrivateName, object_pat_prop_KeyValue, object_pat_prop_Assign, object_pat_prop_Rest, pat_Ident, pat_Array, pat_Object, pat_Rest, pat_Assign, pat_Hole, prop_Spread, prop_Method, stmt_Block, stmt_Expr, class_parts, function_parts, param_parts}
-use Rattle.es_dress.specs.Value.{Typed, Value, given, typed}
-use Rattle.es_dress.specs.Value as v
-use Rattle.es_dress.specs.Texts.{span_of, token_at, kind_at, ident_at, private_at, numeric_at, own_name_at}
-use Rattle.es_dress.specs.Operators.{listed, accessor_kinds}
-use Rattle.es_dress.specs.Expressions.{elements}
-use Rattle.es_dress.specs.Patterns as d
-use Rattle.es_dress.specs.Functions as f
-use Rattle.es_dress.specs.Classes as c
-use Rattle.es_cuts.proofs.Cuts.{Opt}
+use Rattle.es_lowering.specs.Value.{Typed, Value, given, typed}
+use Rattle.es_lowering.specs.Value as v
+use Rattle.es_lowering.specs.Texts.{span_of, token_at, kind_at, ident_at, private_at, numeric_at, own_name_at}
+use Rattle.es_lowering.specs.Operators.{listed, accessor_kinds}
+use Rattle.es_lowering.specs.Expressions.{elements}
+use Rattle.es_lowering.specs.Patterns as d
+use Rattle.es_lowering.specs.Functions as f
+use Rattle.es_lowering.specs.Classes as c
+use Rattle.es_site_ranges.proofs.Cuts.{Opt}
 use Rattle.es_plain_sites.specs.Part.{Part, node, part, group, found, at, may, each, turns}
 use Rattle.es_plain_sites.specs.Own as o
 use Rattle.es_plain_sites.specs.Own.{own}
@@ -97,7 +97,7 @@ module _ (x : List ℕ) (ts : List Token) where
       block_or_is (span_of ts from to) s m.block m.expr h.block (expr_sites x ts label r s m.expr h.expr)
 
   -- a property that is no plain `key: value`
-  pub prop_by : (label : Label) (q : Part) (s : Found) (prop : Prop) (it : PropParts) → roll-Prop it ≡ prop
+  pub prop_by : (label : NodeKind) (q : Part) (s : Found) (prop : Prop) (it : PropParts) → roll-Prop it ≡ prop
       → sites_of_prop prop ≡ s
       → plain_part it ≡ o.is_plain x ts (node label q s)
       → ((word : List ℕ) → given_part word it ≡ None)
@@ -220,7 +220,8 @@ module _ (x : List ℕ) (ts : List Token) where
         given_fine (Of sites_of_stmt (at q (n + 1))) _ (v.stmt_at p (n + 1)) _ (stmt_in x ts (n + 1) p q h) (λ body g.
         function_is _ ∙ two (λ k m. k ++ m) e g))
 
-    pub name_arrow_is : (label : Label) (is_async : Bool) → ((it : Function) → sites_of_function it ≡ at (group q 1) 0
+    pub name_arrow_is : (label : NodeKind) (is_async : Bool)
+        → ((it : Function) → sites_of_function it ≡ at (group q 1) 0
         → Ex x ts label q (vExpr.Arrow it)) → Opt (Ex x ts label q) (f.name_arrow x ts is_async r p)
     unfolding f.name_arrow
     name_arrow_is label is_async by =
@@ -230,7 +231,7 @@ module _ (x : List ℕ) (ts : List Token) where
         (part_is x ts (v.group p 1) (group q 1) 0 (group_is x ts p q 1 h))) (λ body g.
         by _ (function_is _ ∙ two (λ k m. k ++ m) (append-nil _ ∙ param_is _ ∙ pat_Ident [] _ None _) g)))
 
-    pub parenthesized_arrow_is : (label : Label) (is_async : Bool)
+    pub parenthesized_arrow_is : (label : NodeKind) (is_async : Bool)
         → ((it : Function) → sites_of_function it ≡ at q 0 ++ at (group q 1) 0 → Ex x ts label q (vExpr.Arrow it))
         → Opt (Ex x ts label q) (f.parenthesized_arrow ts is_async r p)
     unfolding f.parenthesized_arrow
@@ -282,7 +283,7 @@ module _ (x : List ℕ) (ts : List Token) where
         prop_by l.SpreadProperty q (at q 0) (vProp.Spread e r) (Prop-F.Prop::Spread e r) (vProp.rolls-Spread e r)
         (prop_Spread [] e r ∙ g) refl (λ word. refl) (λ word before. refl))
 
-    pub method_property_is : (label : Label) (kind : MethodKind) (is_async is_generator : Bool) (n : ℕ)
+    pub method_property_is : (label : NodeKind) (kind : MethodKind) (is_async is_generator : Bool) (n : ℕ)
         → ((k : MethodKind) (b : Bool) (key : Expr) (it : Function)
         → sites_of_prop (vProp.Method k b key it r) ≡ at q n ++ (at q (n + 1) ++ at q (n + 1 + 1))
         → PropIs x ts label q (own x ts label q) (vProp.Method k b key it r))

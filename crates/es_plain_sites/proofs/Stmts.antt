@@ -14,16 +14,16 @@ use Rattle.es_ast.specs.declared.ast.Stmt.TheVariants as vStmt
 use Rattle.es_ast.specs.declared.ast.SwitchCase.{roll-SwitchCase, out-roll-SwitchCase}
 use Rattle.es_ast.specs.declared.ast.VarDeclarator.{roll-VarDeclarator, out-roll-VarDeclarator}
 use Rattle.es_ast.specs.declared.ast.ClassMember.TheOpen.{SwitchCase-F, VarDeclarator-F}
-use Rattle.es_whole_grammar.specs.declared.rows.Label.TheVariants as l
+use Rattle.es_grammar.specs.declared.rows.NodeKind.TheVariants as l
 use Rattle.es_site.specs.Parts.{Whole}
 use Rattle.es_site.specs.Sites.{Found, if_some, sites_of_expr, sites_of_pat, sites_of_stmt, sites_of_decl, sites_of_switch_case, sites_of_var_declarator}
 use Rattle.es_site.proofs.Equations.{stmt_With, stmt_Return, stmt_Labeled, stmt_Break, stmt_Continue, stmt_If, stmt_Switch, stmt_Throw, stmt_Try, stmt_While, stmt_DoWhile, stmt_For, stmt_ForIn, stmt_ForOf, stmt_Expr, decl_Var, pat_Ident, switch_case_parts, var_declarator_parts}
-use Rattle.es_dress.specs.Value.{Typed, Value, given, typed}
-use Rattle.es_dress.specs.Value as v
-use Rattle.es_dress.specs.Texts.{token_at, kind_at, ident_at}
-use Rattle.es_dress.specs.Operators.{listed, variable_kinds, or_else}
-use Rattle.es_dress.specs.Statements as d
-use Rattle.es_cuts.proofs.Cuts.{Opt}
+use Rattle.es_lowering.specs.Value.{Typed, Value, given, typed}
+use Rattle.es_lowering.specs.Value as v
+use Rattle.es_lowering.specs.Texts.{token_at, kind_at, ident_at}
+use Rattle.es_lowering.specs.Operators.{listed, variable_kinds, or_else}
+use Rattle.es_lowering.specs.Statements as d
+use Rattle.es_site_ranges.proofs.Cuts.{Opt}
 use Rattle.es_plain_sites.specs.Part.{Part, absent, nil, more, token, node, as_group, group, found, at, inside, may, each, turns}
 use Rattle.es_plain_sites.specs.Own as o
 use Rattle.es_plain_sites.specs.Own.{own}

@@ -7,10 +7,10 @@ use Rattle.es_tree.specs.declared.error.Mode.{Mode}
 use Rattle.es_tree.specs.Key.{keys_of}
 use Rattle.es_tree.specs.Plain.{Plain}
 use Rattle.es_ast.specs.declared.ast.Program.{Program}
-use Rattle.es_whole_grammar.specs.declared.rows.Label.{Label}
-use Rattle.es_whole_grammar.specs.Conditions.{IsProgram}
-use Rattle.es_whole_grammar.proofs.Theorems.{one_program}
-use Rattle.es_whole_tree.specs.Slim.{tree_of}
+use Rattle.es_grammar.specs.declared.rows.NodeKind.{NodeKind}
+use Rattle.es_grammar.specs.Conditions.{IsProgram}
+use Rattle.es_grammar.proofs.Theorems.{one_program}
+use Rattle.es_cst.specs.Slim.{tree_of}
 use Rattle.es_site.specs.Sites.{sites_of}
 use Rattle.es_derives.specs.Derives.{Derives}
 use Rattle.es_plain_sites.specs.Own.{plain_sites}
@@ -24,7 +24,7 @@ pub derived_sites : (lang : Lang) (mode : Mode) (x : List ℕ) (ts : List Token)
 derived_sites lang mode x ts tree derived = sites_are x ts (build_is x ts) lang mode tree derived
 
 -- so the sites are told from the one plain tree of the tokens, whatever typed tree is derived from them
-pub program_sites : (lang : Lang) (mode : Mode) (x : List ℕ) (ts : List Token) (plain : Plain Label) (tree : Program)
+pub program_sites : (lang : Lang) (mode : Mode) (x : List ℕ) (ts : List Token) (plain : Plain NodeKind) (tree : Program)
     → IsProgram lang mode (keys_of ts) plain → Derives lang mode x ts tree
     → sites_of tree ≡ plain_sites x ts (tree_of plain)
 program_sites lang mode x ts plain tree program derived =

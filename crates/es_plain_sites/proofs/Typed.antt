@@ -20,23 +20,23 @@ use Rattle.es_ast.specs.declared.ast.Stmt.TheVariants as vStmt
 use Rattle.es_ast.specs.declared.ast.Function.{Function}
 use Rattle.es_ast.specs.declared.ast.TsEnumMember.{roll-TsEnumMember, out-roll-TsEnumMember}
 use Rattle.es_ast.specs.declared.ast.ClassMember.TheOpen.{Expr-F, TsEnumMember-F}
-use Rattle.es_whole_grammar.specs.declared.rows.Label.{Label}
-use Rattle.es_whole_grammar.specs.declared.rows.Label.TheVariants as l
+use Rattle.es_grammar.specs.declared.rows.NodeKind.{NodeKind}
+use Rattle.es_grammar.specs.declared.rows.NodeKind.TheVariants as l
 use Rattle.es_site.specs.Parts.{Whole}
 use Rattle.es_site.specs.Sites.{Found, if_some}
 use Rattle.es_site.specs.Sites.{sites_of_class_member, sites_of_decl, sites_of_expr, sites_of_module_item, sites_of_object_pat_prop, sites_of_pat, sites_of_prop, sites_of_stmt, sites_of_class, sites_of_function, sites_of_param, sites_of_ts_enum_member, sites_of_var_declarator}
 use Rattle.es_site.proofs.Equations.{class_member_Method, class_member_Prop, class_member_TsIndexSignature, decl_Var, decl_TsInterface, decl_TsTypeAlias, decl_TsEnum, decl_TsNamespace, decl_TsModule, decl_TsGlobal, expr_Call, expr_TaggedTpl, expr_TsNonNull, expr_Member, expr_Index, expr_New, expr_Bin, expr_TsAs, expr_TsSatisfies, expr_TsConstAssertion, pat_Ident, pat_Array, pat_Object, pat_This, pat_Rest, prop_Method, ts_enum_member_parts}
-use Rattle.es_dress.specs.Value.{Typed, Value, Signature, given, typed}
-use Rattle.es_dress.specs.Value as v
-use Rattle.es_dress.specs.Texts.{token_of, token_at, kind_at, ident_at, str_at, property_of, own_name_at}
-use Rattle.es_dress.specs.Operators.{listed, variable_kinds, accessor_kinds, binary_between}
-use Rattle.es_dress.specs.Functions.{plain, body_of}
-use Rattle.es_dress.specs.Expressions.{member_of, index_of}
-use Rattle.es_dress.specs.TypedParts as d
-use Rattle.es_dress.specs.TypedFunctions as f
-use Rattle.es_dress.specs.TypedExpressions as e
-use Rattle.es_dress.specs.TypedStatements as s
-use Rattle.es_cuts.proofs.Cuts.{Opt}
+use Rattle.es_lowering.specs.Value.{Typed, Value, Signature, given, typed}
+use Rattle.es_lowering.specs.Value as v
+use Rattle.es_lowering.specs.Texts.{token_of, token_at, kind_at, ident_at, str_at, property_of, own_name_at}
+use Rattle.es_lowering.specs.Operators.{listed, variable_kinds, accessor_kinds, binary_between}
+use Rattle.es_lowering.specs.Functions.{plain, body_of}
+use Rattle.es_lowering.specs.Expressions.{member_of, index_of}
+use Rattle.es_lowering.specs.TypedParts as d
+use Rattle.es_lowering.specs.TypedFunctions as f
+use Rattle.es_lowering.specs.TypedExpressions as e
+use Rattle.es_lowering.specs.TypedStatements as s
+use Rattle.es_site_ranges.proofs.Cuts.{Opt}
 use Rattle.es_plain_sites.specs.Part.{Part, absent, nil, more, token, node, part, group, found, at, inside, may, turns}
 use Rattle.es_plain_sites.specs.Own as o
 use Rattle.es_plain_sites.specs.Own.{own}
@@ -316,7 +316,7 @@ module _ (x : List ℕ) (ts : List Token) where
         (body_there (v.group p 3) (group q 3) (group_is x ts p q 3 h)) (λ body k.
         function_is _ ∙ two (λ a b. a ++ b) g k)))
 
-    pub typed_arrow_is : (label : Label) (is_async : Bool)
+    pub typed_arrow_is : (label : NodeKind) (is_async : Bool)
         → ((it : Function) → sites_of_function it ≡ at q 1 ++ at (group q 3) 0 → Ex x ts label q (vExpr.Arrow it))
         → Opt (Ex x ts label q) (f.typed_arrow ts is_async r p)
     unfolding f.typed_arrow
@@ -329,7 +329,7 @@ module _ (x : List ℕ) (ts : List Token) where
         (part_is x ts (v.group p 3) (group q 3) 0 (group_is x ts p q 3 h))) (λ body k.
         by _ (function_is _ ∙ two (λ a b. a ++ b) g k)))))
 
-    pub typed_method_property_is : (label : Label) (kind : MethodKind) (is_async is_generator : Bool) (n : ℕ)
+    pub typed_method_property_is : (label : NodeKind) (kind : MethodKind) (is_async is_generator : Bool) (n : ℕ)
         → ((k : MethodKind) (b : Bool) (key : Expr) (it : Function)
         → sites_of_prop (vProp.Method k b key it r) ≡ at (group q n) 0 ++ (at (group q n) 1 ++ at q (n + 1))
         → PropIs x ts label q (own x ts label q) (vProp.Method k b key it r))

@@ -3,18 +3,18 @@
 use Rattle.std.specs.Prelude.{ℕ, ◌+◌, Bool, true, false, ◌&&◌, List, [], ◌∷◌, ◌++◌, Option, Some, None, option_map, slice_get, bytes_eq, codes, if◌then◌else◌}
 use Rattle.es_token.specs.declared.token.Token.{Token}
 use Rattle.ts_ast.specs.declared.leaf.Str.{Str}
-use Rattle.es_whole_grammar.specs.declared.rows.Label.{Label}
-use Rattle.es_whole_grammar.specs.declared.rows.Label.TheVariants as l
-use Rattle.es_whole_tree.specs.declared.tree.Tree.{Tree}
-use Rattle.es_whole_tree.specs.declared.tree.Tree.TheOpen.{Tree-F}
-use Rattle.es_whole_tree.specs.declared.tree.Tree.TheFolds.{fold-Tree}
+use Rattle.es_grammar.specs.declared.rows.NodeKind.{NodeKind}
+use Rattle.es_grammar.specs.declared.rows.NodeKind.TheVariants as l
+use Rattle.es_cst.specs.declared.tree.Cst.{Cst}
+use Rattle.es_cst.specs.declared.tree.Cst.TheOpen.{Cst-F}
+use Rattle.es_cst.specs.declared.tree.Cst.TheFolds.{fold-Cst}
 use Rattle.es_site.specs.declared.site.Attribute.{Attribute}
 use Rattle.es_site.specs.declared.site.Attribute.TheVariants.{Absent, Named, Unknown}
 use Rattle.es_site.specs.declared.site.DependencyKind.{DependencyKind}
 use Rattle.es_site.specs.declared.site.DependencyKind.TheVariants as kind
 use Rattle.es_site.specs.Attributes.{named, spells}
 use Rattle.es_site.specs.Sites.{Found, site_at}
-use Rattle.es_dress.specs.Texts.{ident_of, str_of, name_of}
+use Rattle.es_lowering.specs.Texts.{ident_of, str_of, name_of}
 use Rattle.es_plain_sites.specs.Part.{Part, absent, nil, more, token, node, part, as_group, group, is_there, found, at, inside, may, each, turns, packed, as_target}
 
 module _ (x : List ℕ) (ts : List Token) where
@@ -48,7 +48,7 @@ module _ (x : List ℕ) (ts : List Token) where
 
   -- ---- the attribute of a call
   -- the string literal that a node is
-  abbrev pub src_by : Label → Part → Option Str
+  abbrev pub src_by : NodeKind → Part → Option Str
   src_by l.Str p = str_in (part p 0)
   src_by _ p = None
 
@@ -99,7 +99,7 @@ module _ (x : List ℕ) (ts : List Token) where
   type_in (Some v) = type_by (src_in v)
   type_in None = Absent
 
-  abbrev pub with_by : Label → Part → Attribute
+  abbrev pub with_by : NodeKind → Part → Attribute
   with_by l.ObjectLiteral p =
       if are_plain true (group p 0) then type_in (last_given (codes "type") None (group p 0)) else Unknown
   with_by _ p = Unknown
@@ -109,7 +109,7 @@ module _ (x : List ℕ) (ts : List Token) where
   with_in (Some _) = Unknown
   with_in None = Absent
 
-  abbrev pub options_by : Label → Part → Attribute
+  abbrev pub options_by : NodeKind → Part → Attribute
   options_by l.ObjectLiteral p =
       if are_plain true (group p 0) then with_in (last_given (codes "with") None (group p 0)) else Unknown
   options_by _ p = Unknown
@@ -164,7 +164,7 @@ module _ (x : List ℕ) (ts : List Token) where
   operand g (more v vs) = []
   operand g v = at g 1
 
-  abbrev pub own : Label → Part → Found
+  abbrev pub own : NodeKind → Part → Found
   -- modules
   own l.BareImport p = declared kind.Import false p 0
   own l.FromImport p = declared kind.Import (is_there (group p 0)) p 2
@@ -299,18 +299,18 @@ module _ (x : List ℕ) (ts : List Token) where
   own _ p = []
 
   -- ---- the whole
-  abbrev pub made : Label → Part → Part
+  abbrev pub made : NodeKind → Part → Part
   made label p = node label p (own label p)
 
-  abbrev pub part_step : Tree-F Part → Part
-  part_step (Tree-F.Leaf at) = token at
-  part_step (Tree-F.Node label from to parts) = made label (packed parts)
-  part_step (Tree-F.Role label tree) = as_target tree
-  part_step (Tree-F.Parts parts) = packed parts
+  abbrev pub part_step : Cst-F Part → Part
+  part_step (Cst-F.Leaf at) = token at
+  part_step (Cst-F.Node label from to parts) = made label (packed parts)
+  part_step (Cst-F.Role label tree) = as_target tree
+  part_step (Cst-F.Parts parts) = packed parts
 
-  unfoldable pub part_of : Tree → Part
-  part_of = fold-Tree Part part_step
+  unfoldable pub part_of : Cst → Part
+  part_of = fold-Cst Part part_step
 
   -- the sites of a program, in the order of the text
-  abbrev pub plain_sites : Tree → Found
+  abbrev pub plain_sites : Cst → Found
   plain_sites tree = found (part_of tree)

@@ -1,7 +1,7 @@
 -- What the parts of a plain tree are on the way to its sites, and how they are read from the parts of a node.
 use Rattle.std.specs.Prelude.{ℕ, zero, suc, Bool, true, false, List, [], ◌∷◌, ◌++◌}
-use Rattle.es_whole_grammar.specs.declared.rows.Label.{Label}
-use Rattle.es_whole_grammar.specs.declared.rows.Label.TheVariants as l
+use Rattle.es_grammar.specs.declared.rows.NodeKind.{NodeKind}
+use Rattle.es_grammar.specs.declared.rows.NodeKind.TheVariants as l
 use Rattle.es_site.specs.Sites.{Found}
 
 pub data Part : Type 0 where
@@ -14,7 +14,7 @@ pub data Part : Type 0 where
   -- a token, by its number
   token : ℕ → Part
   -- a node: its alternative, its parts, and the sites in it
-  node : Label → Part → Found → Part
+  node : NodeKind → Part → Found → Part
 
 -- a part, counted from 0
 abbrev pub part : Part → ℕ → Part

@@ -5,11 +5,11 @@ use Rattle.es_ast.specs.declared.ast.Program.{Program}
 use Rattle.es_ast.specs.declared.ast.Program.TheVariants as vProgram
 use Rattle.es_ast.specs.declared.ast.Module.{Module}
 use Rattle.es_ast.specs.declared.ast.Script.{Script}
-use Rattle.es_program.specs.declared.source.Source.{Source}
+use Rattle.es_program.specs.declared.source.ProgramSource.{ProgramSource}
 use Rattle.es_program.specs.Typed.{the_module, the_script, tells_module}
 use Rattle.es_program.specs.Sources.{typed_of, Keeps}
 
-module _ (s : Source) where
+module _ (s : ProgramSource) where
   pub module_keeps : (m : Module) → Keeps s (vProgram.Module m) → Keeps s (vProgram.Module (the_module (typed_of s)))
   module_keeps m keeps =
       let P : Module → Type 0 = λ m. Keeps s (vProgram.Module m) in

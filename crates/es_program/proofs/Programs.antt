@@ -6,13 +6,13 @@ use Rattle.base.specs.declared.range.Range.{Range}
 use Rattle.es_token.specs.declared.token.Token.{Token}
 use Rattle.es_ast.specs.declared.ast.Program.{Program}
 use Rattle.es_ast.specs.declared.ast.Program.TheVariants as vProgram
-use Rattle.es_whole_grammar.specs.contracts.rows.Label.{the_type}
-use Rattle.es_whole_grammar.specs.declared.rows.Label.{Label}
-use Rattle.es_whole_grammar.specs.declared.rows.Label.TheVariants as l
-use Rattle.es_dress.specs.Value.{Value, absent, nil, more, token, node, given, optional, turns, part, group, item_at, stmt_at}
-use Rattle.es_dress.specs.Texts.{span_of, shebang_of, shebang_at, token_at}
-use Rattle.es_dress.specs.Modules.{module_, script}
-use Rattle.es_dress.specs.Dress.{build, program_of, as_target, same_label}
+use Rattle.es_grammar.specs.contracts.rows.NodeKind.{the_type}
+use Rattle.es_grammar.specs.declared.rows.NodeKind.{NodeKind}
+use Rattle.es_grammar.specs.declared.rows.NodeKind.TheVariants as l
+use Rattle.es_lowering.specs.Value.{Value, absent, nil, more, token, node, given, optional, turns, part, group, item_at, stmt_at}
+use Rattle.es_lowering.specs.Texts.{span_of, shebang_of, shebang_at, token_at}
+use Rattle.es_lowering.specs.Modules.{module_, script}
+use Rattle.es_lowering.specs.Lowering.{build, program_of, as_target, same_label}
 use Rattle.es_syntax.specs.declared.entry.What.{What}
 use Rattle.es_syntax.specs.declared.entry.What.TheVariants as vWhat
 use Rattle.es_syntax.specs.declared.entry.Lean.{Lean}
@@ -28,7 +28,7 @@ some_of : {A B : Type 0} (o : Option A) (f : A → Option B) (b : B) → given o
 some_of (Some a) f b e = (a, refl, e)
 some_of None f b e = let bad : ⊥ = cc in absurd bad
 
-abbrev label_in : Program → Label
+abbrev label_in : Program → NodeKind
 label_in (vProgram.Module m) = l.Module
 label_in (vProgram.Script s) = l.Script
 
@@ -70,7 +70,7 @@ module _ (x : List ℕ) (ts : List Token) where
       let same : vProgram.Script (record { shebang = one.0; body = two.0; span = r }) ≡ p = cc in
       subst P same (refl, refl, one.1, two.1)
 
-  program_is : (label : Label) (r : Range) (v : Value) (p : Program) → program_of x ts label r v ≡ Some p
+  program_is : (label : NodeKind) (r : Range) (v : Value) (p : Program) → program_of x ts label r v ≡ Some p
       → (label_in p ≡ label) × (span_in p ≡ r) × (optional (shebang_at x ts) (group v 0) ≡ Some (shebang_in p))
       × BodyIs p (group v 1)
   unfolding program_of

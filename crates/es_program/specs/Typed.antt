@@ -10,9 +10,9 @@ use Rattle.es_ast.specs.declared.ast.Module.{Module}
 use Rattle.es_ast.specs.declared.ast.Script.{Script}
 use Rattle.es_site.specs.declared.site.Site.{Site}
 use Rattle.es_site.specs.Sites.{sites_of}
-use Rattle.es_whole_grammar.specs.declared.rows.Label.TheVariants as l
-use Rattle.es_dress.specs.Dress.{same_label}
-use Rattle.es_dress.specs.Value.{part, turns, item_at, stmt_at}
+use Rattle.es_grammar.specs.declared.rows.NodeKind.TheVariants as l
+use Rattle.es_lowering.specs.Lowering.{same_label}
+use Rattle.es_lowering.specs.Value.{part, turns, item_at, stmt_at}
 use Rattle.es_syntax.specs.declared.entry.What.{What}
 use Rattle.es_syntax.specs.declared.entry.What.TheVariants as vWhat
 use Rattle.es_syntax.specs.declared.entry.Entry.{Entry}

@@ -1,7 +1,7 @@
 //! What is read of tokens.
 ghost use Rattle.std.specs.Prelude.{◌≡◌, ◌+◌, slice_get, slice_range};
-ghost use Rattle.es_dress.specs.Value.{given};
-ghost use Rattle.es_dress.specs.Texts as texts;
+ghost use Rattle.es_lowering.specs.Value.{given};
+ghost use Rattle.es_lowering.specs.Texts as texts;
 ghost use Rattle.es_lexer.specs.Reads.{ReadsTokens};
 ghost use Rattle.es_program.specs.Typed.{LentAs};
 ghost use Rattle.es_program.specs.Cuts.{Cuts};
@@ -37,7 +37,7 @@ fn end_of(tokens: &[Token], at: usize) -> usize
 }
 
 /// Where the token before this one ends, or 0.
-#[tactic(auto, unfolding(es_dress::specs::Texts::end_before))]
+#[tactic(auto, unfolding(es_lowering::specs::Texts::end_before))]
 fn end_before(tokens: &[Token], at: usize) -> usize
     ensures { result ≡ texts.end_before tokens.now at }
 {
@@ -48,7 +48,7 @@ fn end_before(tokens: &[Token], at: usize) -> usize
 }
 
 /// The bytes of a node, from its first token up to the token behind its last one.
-#[tactic(auto, unfolding(es_dress::specs::Texts::span_of))]
+#[tactic(auto, unfolding(es_lowering::specs::Texts::span_of))]
 pub fn span_at(tokens: &[Token], from: usize, to: usize) -> Range
     ensures { result ≡ texts.span_of tokens.now from to }
 {
@@ -70,7 +70,7 @@ fn piece(text: &str, start: usize, end: usize) -> &str
 }
 
 /// The line behind `#!` of a token that is one.
-#[tactic(auto, unfolding(es_dress::specs::Texts::shebang_of))]
+#[tactic(auto, unfolding(es_lowering::specs::Texts::shebang_of))]
 fn line_of(text: &str, token: Token) -> Option<&str>
     requires { token.kind ≡ TokenKind.Shebang → Cuts text.now (token.range.start + 2) token.range.end }
     ensures { LentAs result (texts.shebang_of text.now token) }

@@ -7,10 +7,10 @@ ghost use Rattle.es_ast.specs.declared.ast.Module.{Module as Typed};
 ghost use Rattle.es_program.specs.Typed.{program_at, HasBody};
 ghost use Rattle.es_program.specs.Sources.{typed_of, Keeps};
 
-use crate::source::Source;
+use crate::source::ProgramSource;
 use base::Range;
 use es_site::Site;
-use es_syntax::Row;
+use es_syntax::Siblings;
 use es_token::Token;
 use std::alloc::{AllocError, Global};
 use std::marker::Model;
@@ -19,7 +19,7 @@ use std::sync::Arc;
 /// A module: its text, its tokens, what stands where, and its sites. Its copies share all of it.
 #[derive(Drop)]
 pub struct Module {
-    source: Arc<Source>,
+    source: Arc<ProgramSource>,
 }
 
 impl Model for Module {
@@ -43,21 +43,21 @@ impl Model for Module {
 impl Module {
     /// Of what holds a module.
     #[tactic(auto, using(crate::proofs::Owners::module_keeps))]
-    pub fn new(source: Arc<Source>) -> Module
+    pub fn new(source: Arc<ProgramSource>) -> Module
         requires { (it : Typed) × Keeps (arc_value source) (program.Module it) }
         ensures { typed_of (arc_value source) ≡ Some (program.Module result) }
     {
         Module { source }
     }
 
-    fn source(&self) -> &Source
+    fn source(&self) -> &ProgramSource
         ensures { Keeps result.now (program.Module self.now) }
     {
         &self.source
     }
 
     /// Its text, its tokens and its parts.
-    pub fn parts(&self) -> (&str, &[Token], Row<'_>)
+    pub fn parts(&self) -> (&str, &[Token], Siblings<'_>)
         ensures { program_at result.0.now result.1.now result.2.entries.now ≡ Some (program.Module self.now) }
     {
         let source = self.source();
@@ -85,7 +85,7 @@ impl Module {
     }
 
     /// Its text, its tokens, and its items as turns.
-    pub fn body(&self) -> (&str, &[Token], Row<'_>)
+    pub fn body(&self) -> (&str, &[Token], Siblings<'_>)
         ensures { HasBody result.0.now result.1.now (program.Module self.now) result.2.entries.now }
     {
         let source = self.source();

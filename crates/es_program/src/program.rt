@@ -10,11 +10,11 @@ ghost use Rattle.es_program.specs.Forms.{program_of};
 use crate::form::Form;
 use crate::module::Module;
 use crate::script::Script;
-use crate::source::Source;
+use crate::source::ProgramSource;
 use crate::tokens::SharedTokens;
 use base::{Items, Range};
 use es_site::Site;
-use es_syntax::{Entry, Row};
+use es_syntax::{Entry, Siblings};
 use es_token::Token;
 use source_text::SourceText;
 use std::alloc::{AllocError, Global};
@@ -53,7 +53,7 @@ impl Program {
         requires { HoldsSome text tokens row.items sites }
         ensures { IfOk result (λ it. program_at text tokens row.items ≡ Some it) }
     {
-        let source = Source {
+        let source = ProgramSource {
             text,
             tokens,
             row,
@@ -95,7 +95,7 @@ impl Program {
     }
 
     /// Its text, its tokens and its parts.
-    pub fn parts(&self) -> (&str, &[Token], Row<'_>)
+    pub fn parts(&self) -> (&str, &[Token], Siblings<'_>)
         ensures { program_at result.0.now result.1.now result.2.entries.now ≡ Some self.now }
     {
         match &self.form {
@@ -145,7 +145,7 @@ impl Program {
     }
 }
 
-fn form_of(is_module: bool, source: Arc<Source>) -> Form
+fn form_of(is_module: bool, source: Arc<ProgramSource>) -> Form
     requires { (p : Typed) × Keeps (arc_value source) p × (tells_module p ≡ is_module) }
     ensures { typed_of (arc_value source) ≡ Some (program_of result) }
 {

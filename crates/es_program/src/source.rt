@@ -2,8 +2,8 @@
 ghost use Rattle.std.specs.Prelude.{◌≡◌, Some};
 ghost use Rattle.es_ast.specs.declared.ast.Program.{Program as Typed};
 ghost use Rattle.es_lexer.specs.Reads.{ReadsTokens};
-ghost use Rattle.es_dress.specs.Value.{given};
-ghost use Rattle.es_dress.specs.Texts.{shebang_of};
+ghost use Rattle.es_lowering.specs.Value.{given};
+ghost use Rattle.es_lowering.specs.Texts.{shebang_of};
 ghost use Rattle.es_syntax.specs.Held.{there, token_there};
 ghost use Rattle.es_syntax.specs.Roles.{program_in};
 ghost use Rattle.es_program.specs.Typed.{is_module_node, tells_module, span_in, shebang_in, LentAs, HasBody};
@@ -12,25 +12,25 @@ ghost use Rattle.es_program.specs.Sources.{typed_of};
 use crate::leaf::{shebang_at, span_at};
 use crate::tokens::SharedTokens;
 use base::{Items, Range};
+use es_grammar::NodeKind;
 use es_site::Site;
-use es_syntax::{Entry, Item, Row, What};
-use es_whole_grammar::Label;
+use es_syntax::{Entry, Item, Siblings, What};
 use source_text::SourceText;
 
 /// What stands behind a program: what its copies share.
 #[derive(Drop)]
-pub struct Source {
+pub struct ProgramSource {
     pub text: SourceText,
     pub tokens: SharedTokens,
     pub row: Vec<Entry>,
     pub sites: Items<Site>,
 }
 
-impl Source {
-    pub fn row(&self) -> Row<'_>
+impl ProgramSource {
+    pub fn row(&self) -> Siblings<'_>
         ensures { result.entries.now ≡ self.now.row.items }
     {
-        Row {
+        Siblings {
             entries: self.row.as_slice(),
         }
     }
@@ -90,13 +90,13 @@ impl Source {
 
     /// The items of a module, or the statements of a script, as turns.
     #[tactic(auto, using(crate::proofs::Programs::body_told))]
-    pub fn body(&self) -> Row<'_>
+    pub fn body(&self) -> Siblings<'_>
         ensures { (p : Typed) → typed_of self.now ≡ Some p
             → HasBody self.now.text self.now.tokens p result.entries.now }
     {
         match self.node() {
             Some(node) => node.parts.group_at(1),
-            None => Row { entries: &[] },
+            None => Siblings { entries: &[] },
         }
     }
 }
@@ -105,7 +105,7 @@ fn is_module_node(what: What) -> bool
     ensures { result ≡ is_module_node what }
 {
     match what {
-        What::Node(label) => label == Label::Module,
+        What::Node(label) => label == NodeKind::Module,
         What::Leaf => false,
         What::Role(_) => false,
         What::Parts => false,

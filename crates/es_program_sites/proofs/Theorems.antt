@@ -7,18 +7,18 @@ use Rattle.es_tree.specs.declared.error.Mode.{Mode}
 use Rattle.es_tree.specs.Key.{keys_of}
 use Rattle.es_tree.specs.Plain.{Plain}
 use Rattle.es_ast.specs.declared.ast.Program.{Program}
-use Rattle.es_whole_grammar.specs.declared.rows.Label.{Label}
-use Rattle.es_whole_grammar.specs.Conditions.{IsProgram}
-use Rattle.es_whole_tree.specs.declared.tree.Tree.{Tree}
-use Rattle.es_whole_tree.specs.Slim.{tree_of}
+use Rattle.es_grammar.specs.declared.rows.NodeKind.{NodeKind}
+use Rattle.es_grammar.specs.Conditions.{IsProgram}
+use Rattle.es_cst.specs.declared.tree.Cst.{Cst}
+use Rattle.es_cst.specs.Slim.{tree_of}
 use Rattle.es_site.specs.Sites.{sites_of}
 use Rattle.es_derives.specs.Derives.{Derives}
-use Rattle.es_dress_total.proofs.Theorems.{derives}
+use Rattle.es_lowering_total.proofs.Theorems.{derives}
 use Rattle.es_plain_sites.specs.Own.{plain_sites}
 use Rattle.es_plain_sites.proofs.Theorems.{program_sites}
 
 -- what `read_program` keeps (`IsKept`) has a typed tree, whose sites are those of the kept tree
-pub kept_sites : (l : Lang) (m : Mode) (x : List ℕ) (ts : List Token) (plain : Plain Label) (kept : Tree)
+pub kept_sites : (l : Lang) (m : Mode) (x : List ℕ) (ts : List Token) (plain : Plain NodeKind) (kept : Cst)
     → IsProgram l m (keys_of ts) plain → tree_of plain ≡ kept
     → (tree : Program) × Derives l m x ts tree × (sites_of tree ≡ plain_sites x ts kept)
 kept_sites l m x ts plain kept program is =

@@ -3,13 +3,13 @@
 use Rattle.std.specs.Prelude.{List, Bool, true, ◌&&◌}
 use Rattle.std.proofs.Common.{◌≡◌, ℕ, zero, suc, ◌+◌, refl, sym, subst, inl, inr}
 use Rattle.es_tree.specs.Key.{Key}
-use Rattle.es_tree.specs.Form.{Told, Form, done, tok, punct, row, opt, many, alt, when_, where_, Rule, refuse, make, choose, as_, pick, wrap}
+use Rattle.es_tree.specs.Productions.{Predict, Rhs, done, tok, punct, row, opt, many, alt, when_, where_, Production, refuse, make, choose, as_, pick, wrap}
 use Rattle.es_tree.specs.Plain.{Plain, node, leaf, nil, cons, mark, turn, via}
 use Rattle.es_tree.specs.Fits.{Reading, Turns, Wraps, Fits, IsBy, Under}
 use Rattle.es_tree.proofs.Progress.{both_hold}
 
 -- parts of a node, or of a group
-abbrev pub IsList : {Label : Type 0} → Plain Label → Type 0
+abbrev pub IsList : {NodeKind : Type 0} → Plain NodeKind → Type 0
 IsList (node l from to ps) = ⊥
 IsList (leaf s n) = ⊥
 IsList nil = Unit {0}
@@ -19,7 +19,7 @@ IsList (turn p ps) = Unit {0}
 IsList (via w p) = ⊥
 
 -- the claim holds of the parts of each node, and parts stand where parts are to stand
-abbrev pub Formed : {Label : Type 0} → (Label → Plain Label → Type 0) → Plain Label → Type 0
+abbrev pub Formed : {NodeKind : Type 0} → (NodeKind → Plain NodeKind → Type 0) → Plain NodeKind → Type 0
 Formed P (node l from to ps) = IsList ps × P l ps × Formed P ps
 Formed P (leaf s n) = Unit {0}
 Formed P nil = Unit {0}
@@ -28,11 +28,11 @@ Formed P (mark n ps) = IsList ps × Formed P ps
 Formed P (turn p ps) = Formed P p × IsList ps × Formed P ps
 Formed P (via w p) = Formed P p
 
-abbrev pub FormedParts : {Label : Type 0} → (Label → Plain Label → Type 0) → Plain Label → Type 0
+abbrev pub FormedParts : {NodeKind : Type 0} → (NodeKind → Plain NodeKind → Type 0) → Plain NodeKind → Type 0
 FormedParts P ps = IsList ps × Formed P ps
 
 -- the test holds of the form of each node that the rule makes; a turn behind an operand is one whose first part is a row's
-abbrev pub claims : {Row Label : Type 0} → Row → (Label → Form Row → Bool) → Rule Row Label → Bool
+abbrev pub claims : {Row NodeKind : Type 0} → Row → (NodeKind → Rhs Row → Bool) → Production Row NodeKind → Bool
 claims r test refuse = true
 claims r test (make l f) = test l f
 claims r test (choose t a b) = claims r test a && claims r test b
@@ -41,20 +41,21 @@ claims r test (pick g a b) = claims r test a && claims r test b
 claims r test (wrap l a c f) = claims r test a && test l (row r f)
 
 -- any tree
-abbrev pub Any : {Row Label : Type 0} → Row → Plain Label → ℕ → ℕ → Type 0
+abbrev pub Any : {Row NodeKind : Type 0} → Row → Plain NodeKind → ℕ → ℕ → Type 0
 Any r p from to = Unit {0}
 
-turns_any : {Label : Type 0} (h : Reading) (K : List Key) (c : Told) (One Other : Plain Label → ℕ → ℕ → Type 0)
-    → ((q : Plain Label) (from mid : ℕ) → One q from mid → Other q from mid)
-    → (ps : Plain Label) (from to : ℕ) → Turns h K c One ps from to → Turns h K c Other ps from to
+turns_any : {NodeKind : Type 0} (h : Reading) (K : List Key) (c : Predict) (One Other : Plain NodeKind → ℕ → ℕ → Type 0)
+    → ((q : Plain NodeKind) (from mid : ℕ) → One q from mid → Other q from mid)
+    → (ps : Plain NodeKind) (from to : ℕ) → Turns h K c One ps from to → Turns h K c Other ps from to
 turns_any h K c One Other each nil from to fit = fit
 turns_any h K c One Other each (turn q ps) from to fit =
     (fit.0, fit.1, each q from fit.0 fit.2, turns_any h K c One Other each ps fit.0 to fit.3)
 turns_any h K c One Other each _ from to fit = absurd fit
 
 -- what fits a form fits it with any trees below
-fits_any : {Row Label : Type 0} (h : Reading) (K : List Key) (Below : Row → Plain Label → ℕ → ℕ → Type 0) (f : Form Row)
-    (p : Plain Label) (from to : ℕ) → Fits h K Below f p from to → Fits h K Any f p from to
+fits_any : {Row NodeKind : Type 0} (h : Reading) (K : List Key) (Below : Row → Plain NodeKind → ℕ → ℕ → Type 0)
+    (f : Rhs Row)
+    (p : Plain NodeKind) (from to : ℕ) → Fits h K Below f p from to → Fits h K Any f p from to
 fits_any h K Below done p from to fit = fit
 fits_any h K Below (tok s may f) p from to fit = (fit.0, fit.1, fit.2, fits_any h K Below f fit.0 (from + 1) to fit.3)
 fits_any h K Below (punct k f) p from to fit = (fit.0, fit.1, fit.2, fits_any h K Below f fit.0 (from + 1) to fit.3)
@@ -93,30 +94,32 @@ fits_any h K Below (alt t a b f) p from to fit = (
 fits_any h K Below (when_ t f) p from to fit = (fit.0, fits_any h K Below f p from to fit.1)
 fits_any h K Below (where_ t f) p from to fit = (fit.0, fits_any h K Below f p from to fit.1)
 
-formed_moved : {Label : Type 0} (P : Label → Plain Label → Type 0) (p q : Plain Label) → p ≡ q → Formed P q → Formed P p
+formed_moved : {NodeKind : Type 0} (P : NodeKind → Plain NodeKind → Type 0) (p q : Plain NodeKind) → p ≡ q → Formed P q
+    → Formed P p
 formed_moved P p q e h = let Q : Plain _ → Type 0 = λ t. Formed P t in subst Q (sym e) h
 
-parts_moved : {Label : Type 0} (P : Label → Plain Label → Type 0) (p q : Plain Label) → p ≡ q → FormedParts P q
+parts_moved : {NodeKind : Type 0} (P : NodeKind → Plain NodeKind → Type 0) (p q : Plain NodeKind) → p ≡ q
+    → FormedParts P q
     → FormedParts P p
 parts_moved P p q e h = let Q : Plain _ → Type 0 = λ t. FormedParts P t in subst Q (sym e) h
 
-turns_formed : {Label : Type 0} (h : Reading) (K : List Key) (P : Label → Plain Label → Type 0) (c : Told)
-    (One : Plain Label → ℕ → ℕ → Type 0) → ((q : Plain Label) (from mid : ℕ) → One q from mid → FormedParts P q)
-    → (ps : Plain Label) (from to : ℕ) → Turns h K c One ps from to → FormedParts P ps
+turns_formed : {NodeKind : Type 0} (h : Reading) (K : List Key) (P : NodeKind → Plain NodeKind → Type 0) (c : Predict)
+    (One : Plain NodeKind → ℕ → ℕ → Type 0) → ((q : Plain NodeKind) (from mid : ℕ) → One q from mid → FormedParts P q)
+    → (ps : Plain NodeKind) (from to : ℕ) → Turns h K c One ps from to → FormedParts P ps
 turns_formed h K P c One each nil from to fit = (tt, tt)
 turns_formed h K P c One each (turn q ps) from to fit =
     let more = turns_formed h K P c One each ps fit.0 to fit.3 in
     (tt, ((each q from fit.0 fit.2).1, more.0, more.1))
 turns_formed h K P c One each _ from to fit = absurd fit
 
-module _ {Row Label : Type 0} (h : Reading) (K : List Key) (P : Label → Plain Label → Type 0)
-    (test : Label → Form Row → Bool)
-    (test_holds : (l : Label) (f : Form Row) (ps : Plain Label) (from to : ℕ) → test l f ≡ true
+module _ {Row NodeKind : Type 0} (h : Reading) (K : List Key) (P : NodeKind → Plain NodeKind → Type 0)
+    (test : NodeKind → Rhs Row → Bool)
+    (test_holds : (l : NodeKind) (f : Rhs Row) (ps : Plain NodeKind) (from to : ℕ) → test l f ≡ true
     → Fits h K Any f ps from to
     → P l ps)
-    (Below : Row → Plain Label → ℕ → ℕ → Type 0)
-    (below_formed : (r : Row) (q : Plain Label) (from mid : ℕ) → Below r q from mid → Formed P q) where
-  form_formed : (f : Form Row) (p : Plain Label) (from to : ℕ) → Fits h K Below f p from to → FormedParts P p
+    (Below : Row → Plain NodeKind → ℕ → ℕ → Type 0)
+    (below_formed : (r : Row) (q : Plain NodeKind) (from mid : ℕ) → Below r q from mid → Formed P q) where
+  form_formed : (f : Rhs Row) (p : Plain NodeKind) (from to : ℕ) → Fits h K Below f p from to → FormedParts P p
   form_formed done p from to fit = parts_moved P p nil fit.0 (tt, tt)
   form_formed (tok s may f) p from to fit =
       parts_moved P p (cons (leaf s from) fit.0) fit.1
@@ -152,9 +155,9 @@ module _ {Row Label : Type 0} (h : Reading) (K : List Key) (P : Label → Plain 
   form_formed (when_ t f) p from to fit = form_formed f p from to fit.1
   form_formed (where_ t f) p from to fit = form_formed f p from to fit.1
 
-  wraps_formed : (r : Row) (l : Label) (c : Told) (A : Plain Label → ℕ → ℕ → Type 0) (f : Form Row)
-      → ((q : Plain Label) (from mid : ℕ) → A q from mid → Formed P q) → test l (row r f) ≡ true
-      → (n : ℕ) (p : Plain Label) (from to : ℕ) → Wraps h K l c A (Fits h K Below f) n p from to → Formed P p
+  wraps_formed : (r : Row) (l : NodeKind) (c : Predict) (A : Plain NodeKind → ℕ → ℕ → Type 0) (f : Rhs Row)
+      → ((q : Plain NodeKind) (from mid : ℕ) → A q from mid → Formed P q) → test l (row r f) ≡ true
+      → (n : ℕ) (p : Plain NodeKind) (from to : ℕ) → Wraps h K l c A (Fits h K Below f) n p from to → Formed P p
   wraps_formed r l c A f one holds zero p from to fit = one p from to fit
   wraps_formed r l c A f one holds (suc n) p from to fit =
       formed_moved P p (node l from to (cons fit.0 fit.1)) fit.3
@@ -164,7 +167,7 @@ module _ {Row Label : Type 0} (h : Reading) (K : List Key) (P : Label → Plain 
       (fit.0, fit.1, fit.2, refl, tt, fits_any h K Below f fit.1 fit.2 to fit.6) in
       (tt, here, (inner, more.0, more.1)))
 
-  rule_formed : (r : Row) (a : Rule Row Label) → claims r test a ≡ true → (p : Plain Label) (from to : ℕ)
+  rule_formed : (r : Row) (a : Production Row NodeKind) → claims r test a ≡ true → (p : Plain NodeKind) (from to : ℕ)
       → IsBy h K Below a p from to → Formed P p
   rule_formed r refuse holds p from to by = absurd by
   rule_formed r (make l f) holds p from to by =
@@ -190,12 +193,12 @@ module _ {Row Label : Type 0} (h : Reading) (K : List Key) (P : Label → Plain 
       wraps_formed r l c (IsBy h K Below a) f (rule_formed r a both.0) both.1 by.0 p from to by.1
 
 -- each node of a tree of a row
-pub row_formed : {Row Label : Type 0} (h : Reading) (K : List Key) (P : Label → Plain Label → Type 0)
-    (test : Label → Form Row → Bool)
-    → ((l : Label) (f : Form Row) (ps : Plain Label) (from to : ℕ) → test l f ≡ true → Fits h K Any f ps from to
+pub row_formed : {Row NodeKind : Type 0} (h : Reading) (K : List Key) (P : NodeKind → Plain NodeKind → Type 0)
+    (test : NodeKind → Rhs Row → Bool)
+    → ((l : NodeKind) (f : Rhs Row) (ps : Plain NodeKind) (from to : ℕ) → test l f ≡ true → Fits h K Any f ps from to
     → P l ps)
-    → (rule : Row → Rule Row Label) → ((r : Row) → claims r test (rule r) ≡ true)
-    → (room : ℕ) (r : Row) (p : Plain Label) (from to : ℕ) → Under h K rule room r p from to → Formed P p
+    → (rule : Row → Production Row NodeKind) → ((r : Row) → claims r test (rule r) ≡ true)
+    → (room : ℕ) (r : Row) (p : Plain NodeKind) (from to : ℕ) → Under h K rule room r p from to → Formed P p
 unfolding Under
 row_formed h K P test holds rule claimed zero r p from to under = absurd under
 row_formed h K P test holds rule claimed (suc room) r p from to under =

@@ -11,6 +11,7 @@ use Rattle.ts_ast.specs.declared.leaf.TsEntityName.{TsEntityName}
 use Rattle.ts_ast.specs.declared.ts.TsPart.{TsPart}
 use Rattle.es_ast.specs.declared.leaf.ExportAll.{ExportAll}
 use Rattle.es_ast.specs.declared.leaf.ImportDecl.{ImportDecl}
+use Rattle.es_ast.specs.declared.leaf.ImportPhase.{ImportPhase}
 use Rattle.es_ast.specs.declared.leaf.Lit.{Lit}
 use Rattle.es_ast.specs.declared.leaf.Modifiers.{Modifiers}
 use Rattle.es_ast.specs.declared.leaf.NamedExport.{NamedExport}
@@ -669,12 +670,12 @@ expr_New found callee type_args has_args args span =
     ∙ ap (λ x. sites_of_expr callee ++ x) (each_of
     sites_of_expr args))
 
-pub expr_ImportCall : (found : Found) (args : List Expr) (span : Range)
-    → found ++ sites_of_expr (vExpr.ImportCall args span) ≡
+pub expr_ImportCall : (found : Found) (phase : ImportPhase) (args : List Expr) (span : Range)
+    → found ++ sites_of_expr (vExpr.ImportCall phase args span) ≡
     found ++ call_sites args ++ flat_map sites_of_expr args
-expr_ImportCall found args span =
-    adds_two found _ _ (ap sites_of_expr (sym (vExpr.rolls-ImportCall args span)) ∙ at_expr
-    (Expr-F.ImportCall args span)
+expr_ImportCall found phase args span =
+    adds_two found _ _ (ap sites_of_expr (sym (vExpr.rolls-ImportCall phase args span)) ∙ at_expr
+    (Expr-F.ImportCall phase args span)
     ∙ ap (λ xs. call_sites xs ++ each (map with_expr args)) (firsts_of sites_of_expr args) ∙ ap (λ
     ys. call_sites args ++ ys) (each_of sites_of_expr args))
 
@@ -1119,7 +1120,8 @@ class_parts found it =
 
 function_rolled : (ident : Option Ident) (is_async : Bool) (is_generator : Bool) (type_params : Option TsPart)
     (params : List
-    Param) (return_type : Option TsPart) (body : Option Stmt) (span : Range) → sites_of_function (roll-Function (record {
+    Param) (return_type : Option TsPart) (body : Option Stmt) (span : Range)
+    → sites_of_function (roll-Function (record {
       ident = ident;
       is_async = is_async;
       is_generator = is_generator;

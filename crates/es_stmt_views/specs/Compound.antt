@@ -2,18 +2,18 @@
 use Rattle.std.specs.Prelude.{◌+◌, ℕ, true, List, [], ◌∷◌, Option, Some, None, option_map, slice_get}
 use Rattle.base.specs.declared.range.Range.{Range}
 use Rattle.es_token.specs.declared.token.Token.{Token}
-use Rattle.es_whole_grammar.specs.declared.rows.Label.{Label}
-use Rattle.es_whole_grammar.specs.declared.rows.Label.TheVariants as l
+use Rattle.es_grammar.specs.declared.rows.NodeKind.{NodeKind}
+use Rattle.es_grammar.specs.declared.rows.NodeKind.TheVariants as l
 use Rattle.es_ast.specs.declared.ast.Stmt.{Stmt as AStmt}
 use Rattle.es_ast.specs.declared.ast.Stmt.TheVariants as vStmt
 use Rattle.es_ast.specs.declared.ast.Expr.{Expr}
 use Rattle.es_token.specs.declared.token.TokenKind.TheVariants as k
 use Rattle.es_tree.specs.Key.{same_kind}
-use Rattle.es_dress.specs.Value.{Value, given, optional, behind, expr_at, stmt_at}
-use Rattle.es_dress.specs.Operators.{or_else}
-use Rattle.es_dress.specs.Statements.{Head, expression_at, each_of, clauses, handled}
-use Rattle.es_dress.specs.TypedStatements.{typed_handled}
-use Rattle.es_syntax.specs.declared.cursor.Row.{Row}
+use Rattle.es_lowering.specs.Value.{Value, given, optional, behind, expr_at, stmt_at}
+use Rattle.es_lowering.specs.Operators.{or_else}
+use Rattle.es_lowering.specs.Statements.{Head, expression_at, each_of, clauses, handled}
+use Rattle.es_lowering.specs.TypedStatements.{typed_handled}
+use Rattle.es_syntax.specs.declared.cursor.Siblings.{Siblings}
 use Rattle.es_syntax.specs.Held.{held, valued}
 use Rattle.es_syntax.specs.Roles.{expr_in, head_in, stmt_in}
 use Rattle.es_syntax.specs.Views.{Under, Within}
@@ -21,7 +21,7 @@ use Rattle.es_stmt_views.specs.declared.compound.Compound.{Compound}
 use Rattle.es_stmt_views.specs.declared.compound.Compound.TheVariants as view
 
 -- the alternatives
-abbrev pub compounds : List Label
+abbrev pub compounds : List NodeKind
 compounds =
     l.ForStatement ∷ l.ForEachStatement ∷ l.ForAwaitStatement ∷ l.WhileStatement ∷ l.DoStatement ∷ l.SwitchStatement
     ∷ l.TryStatement ∷ l.TypedTryStatement ∷ []
@@ -90,7 +90,7 @@ the_compound x ts r (view.TypedTry block handlers) =
 the_compound x ts r view.Broken = None
 
 -- the parts take fewer entries
-abbrev pub IsBelow : Row → Compound → Type 0
+abbrev pub IsBelow : Siblings → Compound → Type 0
 IsBelow n (view.For variables using expression test update body) =
     Within variables n × Within using n × Within expression n × Within test n × Within update n × Under body n
 IsBelow n (view.ForEach head word right body) = Under head n × Under right n × Under body n

@@ -2,15 +2,15 @@
 use Rattle.std.specs.Prelude.{ℕ, List, [], ◌∷◌, Option, Some, None, option_map, slice_get}
 use Rattle.base.specs.declared.range.Range.{Range}
 use Rattle.es_token.specs.declared.token.Token.{Token}
-use Rattle.es_whole_grammar.specs.declared.rows.Label.{Label}
-use Rattle.es_whole_grammar.specs.declared.rows.Label.TheVariants as l
+use Rattle.es_grammar.specs.declared.rows.NodeKind.{NodeKind}
+use Rattle.es_grammar.specs.declared.rows.NodeKind.TheVariants as l
 use Rattle.es_ast.specs.declared.ast.Stmt.{Stmt as AStmt}
 use Rattle.es_ast.specs.declared.ast.Stmt.TheVariants as vStmt
 use Rattle.es_ast.specs.declared.ast.Expr.{Expr}
-use Rattle.es_dress.specs.Value.{Value, given, optional, stmt_at}
-use Rattle.es_dress.specs.Texts.{ident_of, ident_at}
-use Rattle.es_dress.specs.Statements.{stmts_of, returned}
-use Rattle.es_syntax.specs.declared.cursor.Row.{Row}
+use Rattle.es_lowering.specs.Value.{Value, given, optional, stmt_at}
+use Rattle.es_lowering.specs.Texts.{ident_of, ident_at}
+use Rattle.es_lowering.specs.Statements.{stmts_of, returned}
+use Rattle.es_syntax.specs.declared.cursor.Siblings.{Siblings}
 use Rattle.es_syntax.specs.Held.{held, valued}
 use Rattle.es_syntax.specs.Roles.{expr_in, stmt_in}
 use Rattle.es_syntax.specs.Views.{Under, Within}
@@ -18,7 +18,7 @@ use Rattle.es_stmt_views.specs.declared.stmt.Stmt.{Stmt}
 use Rattle.es_stmt_views.specs.declared.stmt.Stmt.TheVariants as view
 
 -- the alternatives
-abbrev pub statements : List Label
+abbrev pub statements : List NodeKind
 statements =
     l.Block ∷ l.EmptyStatement ∷ l.DebuggerStatement ∷ l.ExpressionStatement ∷ l.LabelledStatement ∷ l.IfStatement ∷
     l.ContinueStatement ∷ l.BreakStatement ∷ l.ReturnStatement ∷ l.ThrowStatement ∷ l.WithStatement ∷ []
@@ -73,7 +73,7 @@ the_stmt x ts r (view.With obj body) = with_of r (expr_in (valued x ts obj)) (st
 the_stmt x ts r view.Broken = None
 
 -- the parts take fewer entries
-abbrev pub IsBelow : Row → Stmt → Type 0
+abbrev pub IsBelow : Siblings → Stmt → Type 0
 IsBelow n (view.Block stmts) = Within stmts n
 IsBelow n view.Empty = Unit {0}
 IsBelow n view.Debugger = Unit {0}

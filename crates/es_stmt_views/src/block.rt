@@ -2,27 +2,27 @@
 
 ghost use Rattle.std.specs.Prelude.{◌≡◌, ℕ, List, IfSome, IfNone};
 ghost use Rattle.es_token.specs.declared.token.Token.{Token as Tok};
-ghost use Rattle.es_dress.specs.Statements.{block};
+ghost use Rattle.es_lowering.specs.Statements.{block};
 ghost use Rattle.es_syntax.specs.Held.{held, valued};
 ghost use Rattle.es_syntax.specs.Roles.{block_in};
 ghost use Rattle.es_syntax.specs.Views.{IsNone};
 ghost use Rattle.es_stmt_views.specs.Block.{blocks, the_block, IsBelow};
 
-use es_syntax::{Item, Row, What};
-use es_whole_grammar::Label;
+use es_grammar::NodeKind;
+use es_syntax::{Item, Siblings, What};
 
 /// The statements of a block, as turns.
 #[derive(Clone, Copy)]
 pub enum Block<'a> {
     /// `{ a }`
-    Block(Row<'a>),
+    Block(Siblings<'a>),
     /// A part is not there.
     Broken,
 }
 
 /// `{ a }`
-#[tactic(auto, unfolding(es_dress::specs::Statements::block, crate::specs::Block::block))]
-fn stmts<'a>(parts: &Row<'a>) -> Block<'a>
+#[tactic(auto, unfolding(es_lowering::specs::Statements::block, crate::specs::Block::block))]
+fn stmts<'a>(parts: &Siblings<'a>) -> Block<'a>
     ensures form { (x : List ℕ) (ts : List Tok) → block (held x ts parts.now.entries.now) ≡ the_block x ts result }
     ensures below { IsBelow parts.now result }
 {
@@ -30,7 +30,7 @@ fn stmts<'a>(parts: &Row<'a>) -> Block<'a>
 }
 
 /// What a node is as the statements of a block; none where it is of another alternative.
-#[tactic(auto, unfolding(es_dress::specs::Dress::build, es_dress::specs::Dress::block_of))]
+#[tactic(auto, unfolding(es_lowering::specs::Lowering::build, es_lowering::specs::Lowering::block_of))]
 pub fn block_at<'a>(node: &Item<'a>) -> Option<Block<'a>>
     ensures form { (x : List ℕ) (ts : List Tok) → IfSome result (λ view. block_in (valued x ts node.now) ≡ the_block x ts view) }
     ensures other { IfNone result (IsNone blocks node.now.what) }
@@ -38,7 +38,7 @@ pub fn block_at<'a>(node: &Item<'a>) -> Option<Block<'a>>
 {
     match node.what {
         What::Node(label) => match label {
-            Label::Block => Some(stmts(&node.parts)),
+            NodeKind::Block => Some(stmts(&node.parts)),
             _ => None,
         },
         What::Leaf => None,

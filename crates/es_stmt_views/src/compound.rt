@@ -3,27 +3,27 @@
 ghost use Rattle.std.specs.Prelude.{◌≡◌, ℕ, List, IfSome, IfNone};
 ghost use Rattle.base.specs.declared.range.Range.{Range};
 ghost use Rattle.es_token.specs.declared.token.Token.{Token as Tok};
-ghost use Rattle.es_dress.specs.Statements.{for_, for_each, for_await, while_, do_, switch_, try_};
-ghost use Rattle.es_dress.specs.TypedStatements.{typed_try};
-ghost use Rattle.es_dress.specs.Texts.{span_of};
+ghost use Rattle.es_lowering.specs.Statements.{for_, for_each, for_await, while_, do_, switch_, try_};
+ghost use Rattle.es_lowering.specs.TypedStatements.{typed_try};
+ghost use Rattle.es_lowering.specs.Texts.{span_of};
 ghost use Rattle.es_syntax.specs.Held.{held, valued};
 ghost use Rattle.es_syntax.specs.Roles.{stmt_in};
 ghost use Rattle.es_syntax.specs.Views.{IsNone};
 ghost use Rattle.es_stmt_views.specs.Compound.{compounds, the_compound, IsBelow};
 
-use es_syntax::{Item, Row, What};
-use es_whole_grammar::Label;
+use es_grammar::NodeKind;
+use es_syntax::{Item, Siblings, What};
 
 /// A loop, a `switch` or a `try`, with its parts where they stand. Numbers are those of tokens.
 #[derive(Clone, Copy)]
 pub enum Compound<'a> {
     /// `for (a; b; c) d`: the first part is one of three, and each may be absent.
     For {
-        variables: Row<'a>,
-        using: Row<'a>,
-        expression: Row<'a>,
-        test: Row<'a>,
-        update: Row<'a>,
+        variables: Siblings<'a>,
+        using: Siblings<'a>,
+        expression: Siblings<'a>,
+        test: Siblings<'a>,
+        update: Siblings<'a>,
         body: Item<'a>,
     },
     /// `for (a in b) c`, `for (a of b) c`: the word between them.
@@ -52,25 +52,25 @@ pub enum Compound<'a> {
     /// `switch (a) { case b: c }`: its clauses as turns of a test or none and statements.
     Switch {
         discriminant: Item<'a>,
-        cases: Row<'a>,
+        cases: Siblings<'a>,
     },
     /// `try a catch (b) c finally d`: what is behind its block.
     Try {
         block: Item<'a>,
-        handlers: Row<'a>,
+        handlers: Siblings<'a>,
     },
     /// The same of TypeScript.
     TypedTry {
         block: Item<'a>,
-        handlers: Row<'a>,
+        handlers: Siblings<'a>,
     },
     /// A part is not there.
     Broken,
 }
 
 /// `for (a; b; c) d`: the first part is one of three, and each may be absent.
-#[tactic(auto, unfolding(es_dress::specs::Statements::for_, crate::specs::Compound::for_of))]
-fn for_<'a>(parts: &Row<'a>) -> Compound<'a>
+#[tactic(auto, unfolding(es_lowering::specs::Statements::for_, crate::specs::Compound::for_of))]
+fn for_<'a>(parts: &Siblings<'a>) -> Compound<'a>
     ensures form { (x : List ℕ) (ts : List Tok) (r : Range) → for_ ts r (held x ts parts.now.entries.now) ≡ the_compound x ts r result }
     ensures below { IsBelow parts.now result }
 {
@@ -88,8 +88,8 @@ fn for_<'a>(parts: &Row<'a>) -> Compound<'a>
 }
 
 /// `for (a in b) c`, `for (a of b) c`: the word between them.
-#[tactic(auto, unfolding(es_dress::specs::Statements::for_each, crate::specs::Compound::for_each_of))]
-fn for_each<'a>(parts: &Row<'a>) -> Compound<'a>
+#[tactic(auto, unfolding(es_lowering::specs::Statements::for_each, crate::specs::Compound::for_each_of))]
+fn for_each<'a>(parts: &Siblings<'a>) -> Compound<'a>
     ensures form { (x : List ℕ) (ts : List Tok) (r : Range) → for_each ts r (held x ts parts.now.entries.now) ≡ the_compound x ts r result }
     ensures below { IsBelow parts.now result }
 {
@@ -114,8 +114,8 @@ fn for_each<'a>(parts: &Row<'a>) -> Compound<'a>
 }
 
 /// `for await (a of b) c`
-#[tactic(auto, unfolding(es_dress::specs::Statements::for_await, crate::specs::Compound::for_await_of))]
-fn for_await<'a>(parts: &Row<'a>) -> Compound<'a>
+#[tactic(auto, unfolding(es_lowering::specs::Statements::for_await, crate::specs::Compound::for_await_of))]
+fn for_await<'a>(parts: &Siblings<'a>) -> Compound<'a>
     ensures form { (x : List ℕ) (ts : List Tok) (r : Range) → for_await r (held x ts parts.now.entries.now) ≡ the_compound x ts r result }
     ensures below { IsBelow parts.now result }
 {
@@ -132,8 +132,8 @@ fn for_await<'a>(parts: &Row<'a>) -> Compound<'a>
 }
 
 /// `while (a) b`
-#[tactic(auto, unfolding(es_dress::specs::Statements::while_, crate::specs::Compound::while_of))]
-fn while_<'a>(parts: &Row<'a>) -> Compound<'a>
+#[tactic(auto, unfolding(es_lowering::specs::Statements::while_, crate::specs::Compound::while_of))]
+fn while_<'a>(parts: &Siblings<'a>) -> Compound<'a>
     ensures form { (x : List ℕ) (ts : List Tok) (r : Range) → while_ r (held x ts parts.now.entries.now) ≡ the_compound x ts r result }
     ensures below { IsBelow parts.now result }
 {
@@ -147,8 +147,8 @@ fn while_<'a>(parts: &Row<'a>) -> Compound<'a>
 }
 
 /// `do a while (b)`
-#[tactic(auto, unfolding(es_dress::specs::Statements::do_, crate::specs::Compound::do_of))]
-fn do_<'a>(parts: &Row<'a>) -> Compound<'a>
+#[tactic(auto, unfolding(es_lowering::specs::Statements::do_, crate::specs::Compound::do_of))]
+fn do_<'a>(parts: &Siblings<'a>) -> Compound<'a>
     ensures form { (x : List ℕ) (ts : List Tok) (r : Range) → do_ r (held x ts parts.now.entries.now) ≡ the_compound x ts r result }
     ensures below { IsBelow parts.now result }
 {
@@ -162,8 +162,8 @@ fn do_<'a>(parts: &Row<'a>) -> Compound<'a>
 }
 
 /// `switch (a) { case b: c }`: its clauses as turns of a test or none and statements.
-#[tactic(auto, unfolding(es_dress::specs::Statements::switch_, crate::specs::Compound::switch_of))]
-fn switch<'a>(parts: &Row<'a>) -> Compound<'a>
+#[tactic(auto, unfolding(es_lowering::specs::Statements::switch_, crate::specs::Compound::switch_of))]
+fn switch<'a>(parts: &Siblings<'a>) -> Compound<'a>
     ensures form { (x : List ℕ) (ts : List Tok) (r : Range) → switch_ ts r (held x ts parts.now.entries.now) ≡ the_compound x ts r result }
     ensures below { IsBelow parts.now result }
 {
@@ -177,8 +177,8 @@ fn switch<'a>(parts: &Row<'a>) -> Compound<'a>
 }
 
 /// `try a catch (b) c finally d`: what is behind its block.
-#[tactic(auto, unfolding(es_dress::specs::Statements::try_, crate::specs::Compound::try_of))]
-fn try_<'a>(parts: &Row<'a>) -> Compound<'a>
+#[tactic(auto, unfolding(es_lowering::specs::Statements::try_, crate::specs::Compound::try_of))]
+fn try_<'a>(parts: &Siblings<'a>) -> Compound<'a>
     ensures form { (x : List ℕ) (ts : List Tok) (r : Range) → try_ r (held x ts parts.now.entries.now) ≡ the_compound x ts r result }
     ensures below { IsBelow parts.now result }
 {
@@ -192,8 +192,8 @@ fn try_<'a>(parts: &Row<'a>) -> Compound<'a>
 }
 
 /// The same of TypeScript.
-#[tactic(auto, unfolding(es_dress::specs::TypedStatements::typed_try, crate::specs::Compound::typed_try_of))]
-fn typed_try<'a>(parts: &Row<'a>) -> Compound<'a>
+#[tactic(auto, unfolding(es_lowering::specs::TypedStatements::typed_try, crate::specs::Compound::typed_try_of))]
+fn typed_try<'a>(parts: &Siblings<'a>) -> Compound<'a>
     ensures form { (x : List ℕ) (ts : List Tok) (r : Range) → typed_try ts r (held x ts parts.now.entries.now) ≡ the_compound x ts r result }
     ensures below { IsBelow parts.now result }
 {
@@ -207,7 +207,7 @@ fn typed_try<'a>(parts: &Row<'a>) -> Compound<'a>
 }
 
 /// What a node is as a loop, a `switch` or a `try`; none where it is of another alternative.
-#[tactic(auto, unfolding(es_dress::specs::Dress::build, es_dress::specs::Dress::stmt_of))]
+#[tactic(auto, unfolding(es_lowering::specs::Lowering::build, es_lowering::specs::Lowering::stmt_of))]
 pub fn compound_at<'a>(node: &Item<'a>) -> Option<Compound<'a>>
     ensures form { (x : List ℕ) (ts : List Tok) → IfSome result (λ view. stmt_in (valued x ts node.now) ≡ the_compound x ts (span_of ts node.now.from node.now.to) view) }
     ensures other { IfNone result (IsNone compounds node.now.what) }
@@ -215,14 +215,14 @@ pub fn compound_at<'a>(node: &Item<'a>) -> Option<Compound<'a>>
 {
     match node.what {
         What::Node(label) => match label {
-            Label::ForStatement => Some(for_(&node.parts)),
-            Label::ForEachStatement => Some(for_each(&node.parts)),
-            Label::ForAwaitStatement => Some(for_await(&node.parts)),
-            Label::WhileStatement => Some(while_(&node.parts)),
-            Label::DoStatement => Some(do_(&node.parts)),
-            Label::SwitchStatement => Some(switch(&node.parts)),
-            Label::TryStatement => Some(try_(&node.parts)),
-            Label::TypedTryStatement => Some(typed_try(&node.parts)),
+            NodeKind::ForStatement => Some(for_(&node.parts)),
+            NodeKind::ForEachStatement => Some(for_each(&node.parts)),
+            NodeKind::ForAwaitStatement => Some(for_await(&node.parts)),
+            NodeKind::WhileStatement => Some(while_(&node.parts)),
+            NodeKind::DoStatement => Some(do_(&node.parts)),
+            NodeKind::SwitchStatement => Some(switch(&node.parts)),
+            NodeKind::TryStatement => Some(try_(&node.parts)),
+            NodeKind::TypedTryStatement => Some(typed_try(&node.parts)),
             _ => None,
         },
         What::Leaf => None,

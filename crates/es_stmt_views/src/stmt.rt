@@ -3,22 +3,22 @@
 ghost use Rattle.std.specs.Prelude.{◌≡◌, ℕ, List, IfSome, IfNone, option_map};
 ghost use Rattle.base.specs.declared.range.Range.{Range};
 ghost use Rattle.es_token.specs.declared.token.Token.{Token as Tok};
-ghost use Rattle.es_dress.specs.Statements.{block, expression_statement, labelled, if_, continue_, break_, return_, throw_, with_};
+ghost use Rattle.es_lowering.specs.Statements.{block, expression_statement, labelled, if_, continue_, break_, return_, throw_, with_};
 ghost use Rattle.es_ast.specs.declared.ast.Stmt.TheVariants as vStmt;
-ghost use Rattle.es_dress.specs.Texts.{span_of};
+ghost use Rattle.es_lowering.specs.Texts.{span_of};
 ghost use Rattle.es_syntax.specs.Held.{held, valued};
 ghost use Rattle.es_syntax.specs.Roles.{stmt_in};
 ghost use Rattle.es_syntax.specs.Views.{IsNone};
 ghost use Rattle.es_stmt_views.specs.Stmt.{statements, the_stmt, IsBelow};
 
-use es_syntax::{Item, Row, What};
-use es_whole_grammar::Label;
+use es_grammar::NodeKind;
+use es_syntax::{Item, Siblings, What};
 
 /// A statement, with its parts where they stand. Numbers are those of tokens.
 #[derive(Clone, Copy)]
 pub enum Stmt<'a> {
     /// `{ a }`: its statements as turns.
-    Block(Row<'a>),
+    Block(Siblings<'a>),
     /// `;`
     Empty,
     /// `debugger;`
@@ -34,14 +34,14 @@ pub enum Stmt<'a> {
     If {
         test: Item<'a>,
         cons: Item<'a>,
-        alt: Row<'a>,
+        alt: Siblings<'a>,
     },
     /// `continue a;`: the label may be absent.
-    Continue(Row<'a>),
+    Continue(Siblings<'a>),
     /// `break a;`: the label may be absent.
-    Break(Row<'a>),
+    Break(Siblings<'a>),
     /// `return a;`: what is returned and an end, or an end alone.
-    Return(Row<'a>),
+    Return(Siblings<'a>),
     /// `throw a;`
     Throw(Item<'a>),
     /// `with (a) b`
@@ -54,8 +54,8 @@ pub enum Stmt<'a> {
 }
 
 /// `{ a }`: its statements as turns.
-#[tactic(auto, unfolding(es_dress::specs::Statements::block, crate::specs::Stmt::block))]
-fn block<'a>(parts: &Row<'a>) -> Stmt<'a>
+#[tactic(auto, unfolding(es_lowering::specs::Statements::block, crate::specs::Stmt::block))]
+fn block<'a>(parts: &Siblings<'a>) -> Stmt<'a>
     ensures form { (x : List ℕ) (ts : List Tok) (r : Range) → option_map (λ stmts. vStmt.Block stmts r) (block (held x ts parts.now.entries.now)) ≡ the_stmt x ts r result }
     ensures below { IsBelow parts.now result }
 {
@@ -63,8 +63,8 @@ fn block<'a>(parts: &Row<'a>) -> Stmt<'a>
 }
 
 /// `a;`
-#[tactic(auto, unfolding(es_dress::specs::Statements::expression_statement, crate::specs::Stmt::expression))]
-fn expression<'a>(parts: &Row<'a>) -> Stmt<'a>
+#[tactic(auto, unfolding(es_lowering::specs::Statements::expression_statement, crate::specs::Stmt::expression))]
+fn expression<'a>(parts: &Siblings<'a>) -> Stmt<'a>
     ensures form { (x : List ℕ) (ts : List Tok) (r : Range) → expression_statement r (held x ts parts.now.entries.now) ≡ the_stmt x ts r result }
     ensures below { IsBelow parts.now result }
 {
@@ -75,8 +75,8 @@ fn expression<'a>(parts: &Row<'a>) -> Stmt<'a>
 }
 
 /// `a: b`
-#[tactic(auto, unfolding(es_dress::specs::Statements::labelled, crate::specs::Stmt::labelled))]
-fn labelled<'a>(parts: &Row<'a>) -> Stmt<'a>
+#[tactic(auto, unfolding(es_lowering::specs::Statements::labelled, crate::specs::Stmt::labelled))]
+fn labelled<'a>(parts: &Siblings<'a>) -> Stmt<'a>
     ensures form { (x : List ℕ) (ts : List Tok) (r : Range) → labelled x ts r (held x ts parts.now.entries.now) ≡ the_stmt x ts r result }
     ensures below { IsBelow parts.now result }
 {
@@ -90,8 +90,8 @@ fn labelled<'a>(parts: &Row<'a>) -> Stmt<'a>
 }
 
 /// `if (a) b else c`: the last part may be absent.
-#[tactic(auto, unfolding(es_dress::specs::Statements::if_, crate::specs::Stmt::if_of))]
-fn if_<'a>(parts: &Row<'a>) -> Stmt<'a>
+#[tactic(auto, unfolding(es_lowering::specs::Statements::if_, crate::specs::Stmt::if_of))]
+fn if_<'a>(parts: &Siblings<'a>) -> Stmt<'a>
     ensures form { (x : List ℕ) (ts : List Tok) (r : Range) → if_ r (held x ts parts.now.entries.now) ≡ the_stmt x ts r result }
     ensures below { IsBelow parts.now result }
 {
@@ -109,8 +109,8 @@ fn if_<'a>(parts: &Row<'a>) -> Stmt<'a>
 }
 
 /// `continue a;`: the label may be absent.
-#[tactic(auto, unfolding(es_dress::specs::Statements::continue_, crate::specs::Stmt::continued))]
-fn continue_<'a>(parts: &Row<'a>) -> Stmt<'a>
+#[tactic(auto, unfolding(es_lowering::specs::Statements::continue_, crate::specs::Stmt::continued))]
+fn continue_<'a>(parts: &Siblings<'a>) -> Stmt<'a>
     ensures form { (x : List ℕ) (ts : List Tok) (r : Range) → continue_ x ts r (held x ts parts.now.entries.now) ≡ the_stmt x ts r result }
     ensures below { IsBelow parts.now result }
 {
@@ -118,8 +118,8 @@ fn continue_<'a>(parts: &Row<'a>) -> Stmt<'a>
 }
 
 /// `break a;`: the label may be absent.
-#[tactic(auto, unfolding(es_dress::specs::Statements::break_, crate::specs::Stmt::broken))]
-fn break_<'a>(parts: &Row<'a>) -> Stmt<'a>
+#[tactic(auto, unfolding(es_lowering::specs::Statements::break_, crate::specs::Stmt::broken))]
+fn break_<'a>(parts: &Siblings<'a>) -> Stmt<'a>
     ensures form { (x : List ℕ) (ts : List Tok) (r : Range) → break_ x ts r (held x ts parts.now.entries.now) ≡ the_stmt x ts r result }
     ensures below { IsBelow parts.now result }
 {
@@ -127,8 +127,8 @@ fn break_<'a>(parts: &Row<'a>) -> Stmt<'a>
 }
 
 /// `return a;`: what is returned and an end, or an end alone.
-#[tactic(auto, unfolding(es_dress::specs::Statements::return_, crate::specs::Stmt::returned_of))]
-fn return_<'a>(parts: &Row<'a>) -> Stmt<'a>
+#[tactic(auto, unfolding(es_lowering::specs::Statements::return_, crate::specs::Stmt::returned_of))]
+fn return_<'a>(parts: &Siblings<'a>) -> Stmt<'a>
     ensures form { (x : List ℕ) (ts : List Tok) (r : Range) → return_ r (held x ts parts.now.entries.now) ≡ the_stmt x ts r result }
     ensures below { IsBelow parts.now result }
 {
@@ -136,8 +136,8 @@ fn return_<'a>(parts: &Row<'a>) -> Stmt<'a>
 }
 
 /// `throw a;`
-#[tactic(auto, unfolding(es_dress::specs::Statements::throw_, crate::specs::Stmt::thrown))]
-fn throw<'a>(parts: &Row<'a>) -> Stmt<'a>
+#[tactic(auto, unfolding(es_lowering::specs::Statements::throw_, crate::specs::Stmt::thrown))]
+fn throw<'a>(parts: &Siblings<'a>) -> Stmt<'a>
     ensures form { (x : List ℕ) (ts : List Tok) (r : Range) → throw_ r (held x ts parts.now.entries.now) ≡ the_stmt x ts r result }
     ensures below { IsBelow parts.now result }
 {
@@ -148,8 +148,8 @@ fn throw<'a>(parts: &Row<'a>) -> Stmt<'a>
 }
 
 /// `with (a) b`
-#[tactic(auto, unfolding(es_dress::specs::Statements::with_, crate::specs::Stmt::with_of))]
-fn with_<'a>(parts: &Row<'a>) -> Stmt<'a>
+#[tactic(auto, unfolding(es_lowering::specs::Statements::with_, crate::specs::Stmt::with_of))]
+fn with_<'a>(parts: &Siblings<'a>) -> Stmt<'a>
     ensures form { (x : List ℕ) (ts : List Tok) (r : Range) → with_ r (held x ts parts.now.entries.now) ≡ the_stmt x ts r result }
     ensures below { IsBelow parts.now result }
 {
@@ -163,7 +163,7 @@ fn with_<'a>(parts: &Row<'a>) -> Stmt<'a>
 }
 
 /// What a node is as a statement that is no loop, no `switch`, no `try` and no declaration; none where it is of another alternative.
-#[tactic(auto, unfolding(es_dress::specs::Dress::build, es_dress::specs::Dress::stmt_of))]
+#[tactic(auto, unfolding(es_lowering::specs::Lowering::build, es_lowering::specs::Lowering::stmt_of))]
 pub fn stmt_at<'a>(node: &Item<'a>) -> Option<Stmt<'a>>
     ensures form { (x : List ℕ) (ts : List Tok) → IfSome result (λ view. stmt_in (valued x ts node.now) ≡ the_stmt x ts (span_of ts node.now.from node.now.to) view) }
     ensures other { IfNone result (IsNone statements node.now.what) }
@@ -171,17 +171,17 @@ pub fn stmt_at<'a>(node: &Item<'a>) -> Option<Stmt<'a>>
 {
     match node.what {
         What::Node(label) => match label {
-            Label::Block => Some(block(&node.parts)),
-            Label::EmptyStatement => Some(Stmt::Empty),
-            Label::DebuggerStatement => Some(Stmt::Debugger),
-            Label::ExpressionStatement => Some(expression(&node.parts)),
-            Label::LabelledStatement => Some(labelled(&node.parts)),
-            Label::IfStatement => Some(if_(&node.parts)),
-            Label::ContinueStatement => Some(continue_(&node.parts)),
-            Label::BreakStatement => Some(break_(&node.parts)),
-            Label::ReturnStatement => Some(return_(&node.parts)),
-            Label::ThrowStatement => Some(throw(&node.parts)),
-            Label::WithStatement => Some(with_(&node.parts)),
+            NodeKind::Block => Some(block(&node.parts)),
+            NodeKind::EmptyStatement => Some(Stmt::Empty),
+            NodeKind::DebuggerStatement => Some(Stmt::Debugger),
+            NodeKind::ExpressionStatement => Some(expression(&node.parts)),
+            NodeKind::LabelledStatement => Some(labelled(&node.parts)),
+            NodeKind::IfStatement => Some(if_(&node.parts)),
+            NodeKind::ContinueStatement => Some(continue_(&node.parts)),
+            NodeKind::BreakStatement => Some(break_(&node.parts)),
+            NodeKind::ReturnStatement => Some(return_(&node.parts)),
+            NodeKind::ThrowStatement => Some(throw(&node.parts)),
+            NodeKind::WithStatement => Some(with_(&node.parts)),
             _ => None,
         },
         What::Leaf => None,

@@ -2,7 +2,7 @@
 use Rattle.std.proofs.Common.{◌≡◌, ℕ, zero, suc, ◌+◌, ◌<◌, ◌≤◌, List, [], ◌∷◌, ◌++◌, length, length-append, length-take, length-drop, take, drop, map, refl, sym, ap, subst, ◌∙◌, arith, append_assoc}
 use Rattle.std.proofs.Math.Seq.{take-append_seam, drop-append_seam}
 use Rattle.std.proofs.lemmas.List.{append-nil, take_all, take-append-drop}
-use Rattle.es_whole_tree.specs.declared.tree.Tree.{Tree}
+use Rattle.es_cst.specs.declared.tree.Cst.{Cst}
 use Rattle.es_syntax.specs.declared.entry.What.{What}
 use Rattle.es_syntax.specs.declared.entry.Entry.{Entry}
 use Rattle.es_syntax.specs.Trees.{Kept, trees_in, tree_by, kept_by, trees}
@@ -67,7 +67,7 @@ trees_beside a b = ap trees_in (kept_beside a b) ∙ both (kept_of a) (kept_of b
   where
     both : (xs ys : List Kept) → trees_in (xs ++ ys) ≡ trees_in xs ++ trees_in ys
     both [] ys = refl
-    both (x ∷ xs) ys = ap (λ (ts : List Tree). x.1 ∷ ts) (both xs ys)
+    both (x ∷ xs) ys = ap (λ (ts : List Cst). x.1 ∷ ts) (both xs ys)
 
 -- ---- what stood there stands there still
 pub keeps_all : (es : List Entry) → Keeps es es

@@ -3,10 +3,10 @@ use Rattle.std.specs.Prelude.{Bool, true, false, List, [], ◌∷◌, Option, No
 use Rattle.std.proofs.Common.{◌≡◌, ℕ, refl}
 use denote.Enum.Bare.{sameb, same_true}
 use Rattle.es_token.specs.declared.token.Token.{Token}
-use Rattle.es_whole_grammar.specs.contracts.rows.Label.{the_type}
-use Rattle.es_whole_grammar.specs.declared.rows.Label.{Label}
+use Rattle.es_grammar.specs.contracts.rows.NodeKind.{the_type}
+use Rattle.es_grammar.specs.declared.rows.NodeKind.{NodeKind}
 
-pub other : (a b : Label) → (a ≡ b → ⊥) → sameb the_type a b ≡ false
+pub other : (a b : NodeKind) → (a ≡ b → ⊥) → sameb the_type a b ≡ false
 other a b ne = go (sameb the_type a b) refl
   where
     go : (t : Bool) → sameb the_type a b ≡ t → sameb the_type a b ≡ false

@@ -5,9 +5,9 @@ use Rattle.std.proofs.Common.{◌≡◌, ℕ, refl}
 use Rattle.base.specs.declared.range.Range.{Range}
 use Rattle.es_token.specs.declared.token.Token.{Token}
 use Rattle.es_ast.specs.declared.ast.Expr.{Expr}
-use Rattle.es_dress.specs.Value.{Value, absent, nil, more, token, node, Typed, given, typed, as_group}
-use Rattle.es_dress.specs.Texts.{span_of}
-use Rattle.es_dress.specs.Dress.{build, as_target, target_of}
+use Rattle.es_lowering.specs.Value.{Value, absent, nil, more, token, node, Typed, given, typed, as_group}
+use Rattle.es_lowering.specs.Texts.{span_of}
+use Rattle.es_lowering.specs.Lowering.{build, as_target, target_of}
 use Rattle.es_syntax.specs.declared.entry.Lean.{Lean}
 use Rattle.es_syntax.specs.declared.entry.Entry.{Entry}
 use Rattle.es_syntax.specs.Held.{label_of, Held, leaning, leaned, leant, row_of, parts_of, held}

@@ -2,8 +2,8 @@
 use Rattle.std.specs.Prelude.{None, Option, Some}
 use Rattle.std.proofs.Common.{◌≡◌, ℕ, List, [], ◌∷◌, refl}
 use Rattle.es_token.specs.declared.token.Token.{Token}
-use Rattle.es_dress.specs.Value.{Value, absent, nil, more, token, node}
-use Rattle.es_dress.specs.Dress.{as_target}
+use Rattle.es_lowering.specs.Value.{Value, absent, nil, more, token, node}
+use Rattle.es_lowering.specs.Lowering.{as_target}
 use Rattle.es_syntax.specs.declared.entry.Lean.{Lean}
 use Rattle.es_syntax.specs.declared.entry.Entry.{Entry}
 use Rattle.es_syntax.specs.Held.{Held, leaning, leaned, leant, row_of, parts_of, held}

@@ -3,15 +3,15 @@ use Rattle.std.specs.Prelude.{None, Option, Some, option_map}
 use Rattle.std.proofs.Common.{◌≡◌, ℕ, zero, suc, ◌+◌, ◌≤◌, ◌<◌, ◌-◌, List, [], ◌∷◌, length, take, drop, refl, arith, length-drop, min, map, ap, sym, ◌∙◌}
 use Rattle.std.proofs.lemmas.List.{length-take, take_min, drop_min}
 use Rattle.es_token.specs.declared.token.Token.{Token}
-use Rattle.es_whole_tree.specs.declared.tree.Tree.{Tree, roll-Tree, out-Tree, roll-out-Tree}
-use Rattle.es_whole_tree.specs.declared.tree.Tree.TheVariants as vTree
-use Rattle.es_whole_tree.specs.declared.tree.Tree.TheOpen.{Tree-F}
-use Rattle.es_whole_tree.specs.declared.tree.Tree.TheFolds.{fold-roll-Tree}
-use Rattle.es_whole_grammar.specs.declared.rows.Label.{Label}
-use Rattle.es_dress.specs.Value.{Value, absent, nil, more, token, node, part, as_group, typed}
-use Rattle.es_dress.specs.Texts.{token_of, span_of}
-use Rattle.es_dress.specs.Dress.{packed, value_step, value_of, as_target, build}
-use Rattle.es_dress.proofs.Equations.{value_leaf, value_node, value_role, value_parts}
+use Rattle.es_cst.specs.declared.tree.Cst.{Cst, roll-Cst, out-Cst, roll-out-Cst}
+use Rattle.es_cst.specs.declared.tree.Cst.TheVariants as vCst
+use Rattle.es_cst.specs.declared.tree.Cst.TheOpen.{Cst-F}
+use Rattle.es_cst.specs.declared.tree.Cst.TheFolds.{fold-roll-Cst}
+use Rattle.es_grammar.specs.declared.rows.NodeKind.{NodeKind}
+use Rattle.es_lowering.specs.Value.{Value, absent, nil, more, token, node, part, as_group, typed}
+use Rattle.es_lowering.specs.Texts.{token_of, span_of}
+use Rattle.es_lowering.specs.Lowering.{packed, value_step, value_of, as_target, build}
+use Rattle.es_lowering.proofs.Equations.{value_leaf, value_node, value_role, value_parts}
 use Rattle.es_syntax.specs.declared.entry.Lean.{Lean}
 use Rattle.es_syntax.specs.declared.entry.What.{What}
 use Rattle.es_syntax.specs.declared.entry.What.TheVariants as vWhat
@@ -138,36 +138,36 @@ module _ (x : List ℕ) (ts : List Token) where
   values_in [] = refl
   values_in (u ∷ us) = ap (more (value_of x ts u.1)) (values_in us)
 
-  first_value : (us : List Tree)
+  first_value : (us : List Cst)
       → as_target x ts (value_of x ts (first_tree us)) ≡ as_target x ts (part (packed (map (value_of x ts) us)) 0)
   first_value [] = ap (as_target x ts) (value_parts x ts [])
   first_value (u ∷ us) = refl
 
-  group_values : (us : List Tree) → as_group (packed (map (value_of x ts) us)) ≡ packed (map (value_of x ts) us)
+  group_values : (us : List Cst) → as_group (packed (map (value_of x ts) us)) ≡ packed (map (value_of x ts) us)
   group_values [] = refl
   group_values (u ∷ us) = refl
 
-  turn_value_of : (f : Tree-F Tree)
-      → packed (map (value_of x ts) (turn_parts f)) ≡ as_group (value_of x ts (roll-Tree f))
+  turn_value_of : (f : Cst-F Cst)
+      → packed (map (value_of x ts) (turn_parts f)) ≡ as_group (value_of x ts (roll-Cst f))
   unfolding value_of
-  turn_value_of (Tree-F.Leaf at) = rw (fold-roll-Tree Value (value_step x ts) (Tree-F.Leaf at)) refl
-  turn_value_of (Tree-F.Node label from to us) =
-      rw (fold-roll-Tree Value (value_step x ts) (Tree-F.Node label from to us)) refl
-  turn_value_of (Tree-F.Role label u) =
-      rw (fold-roll-Tree Value (value_step x ts) (Tree-F.Role label u), group_role (value_of x ts u)) refl
-  turn_value_of (Tree-F.Parts us) = rw (fold-roll-Tree Value (value_step x ts) (Tree-F.Parts us), group_values us) refl
+  turn_value_of (Cst-F.Leaf at) = rw (fold-roll-Cst Value (value_step x ts) (Cst-F.Leaf at)) refl
+  turn_value_of (Cst-F.Node label from to us) =
+      rw (fold-roll-Cst Value (value_step x ts) (Cst-F.Node label from to us)) refl
+  turn_value_of (Cst-F.Role label u) =
+      rw (fold-roll-Cst Value (value_step x ts) (Cst-F.Role label u), group_role (value_of x ts u)) refl
+  turn_value_of (Cst-F.Parts us) = rw (fold-roll-Cst Value (value_step x ts) (Cst-F.Parts us), group_values us) refl
 
-  turn_value : (u : Tree) → packed (map (value_of x ts) (turn_parts (out-Tree u))) ≡ as_group (value_of x ts u)
-  turn_value u = turn_value_of (out-Tree u) ∙ ap (λ (t : Tree). as_group (value_of x ts t)) (roll-out-Tree u)
+  turn_value : (u : Cst) → packed (map (value_of x ts) (turn_parts (out-Cst u))) ≡ as_group (value_of x ts u)
+  turn_value u = turn_value_of (out-Cst u) ∙ ap (λ (t : Cst). as_group (value_of x ts t)) (roll-out-Cst u)
 
-  leaning_value : (lean : Lean) (from : ℕ) (t : Tree) (u : Kept)
+  leaning_value : (lean : Lean) (from : ℕ) (t : Cst) (u : Kept)
       → value_of x ts (leaning_tree lean from t u) ≡ leaning x ts lean from (value_of x ts t) (value_in u)
   leaning_value lean from t u =
-      value_node x ts (label_of lean) from u.0 (t ∷ turn_parts (out-Tree u.1))
+      value_node x ts (label_of lean) from u.0 (t ∷ turn_parts (out-Cst u.1))
       ∙ ap (λ (v : Value). node from u.0
       (build x ts (label_of lean) from (span_of ts from u.0) (more (value_of x ts t) v))) (turn_value u.1)
 
-  leaned_value : (lean : Lean) (from : ℕ) (t : Tree) (us : List Kept)
+  leaned_value : (lean : Lean) (from : ℕ) (t : Cst) (us : List Kept)
       → value_of x ts (leaned_tree lean from t us) ≡ leaned x ts lean from (value_of x ts t) (map value_in us)
   unfolding leaned leaned_tree
   leaned_value lean from t [] = refl

@@ -1,21 +1,21 @@
 -- What a row of entries holds: the parts of a node, as values.
 use Rattle.std.specs.Prelude.{ℕ, zero, suc, List, [], ◌∷◌, length, take, drop, slice_get, Option, Some, None, map}
 use Rattle.es_token.specs.declared.token.Token.{Token}
-use Rattle.es_whole_grammar.specs.declared.rows.Label.{Label}
-use Rattle.es_whole_grammar.specs.declared.rows.Label.TheVariants as l
-use Rattle.es_dress.specs.Value.{Value, absent, nil, more, token, node, part, as_group}
-use Rattle.es_dress.specs.Texts.{span_of}
-use Rattle.es_dress.specs.Dress.{packed, build, as_target}
+use Rattle.es_grammar.specs.declared.rows.NodeKind.{NodeKind}
+use Rattle.es_grammar.specs.declared.rows.NodeKind.TheVariants as l
+use Rattle.es_lowering.specs.Value.{Value, absent, nil, more, token, node, part, as_group}
+use Rattle.es_lowering.specs.Texts.{span_of}
+use Rattle.es_lowering.specs.Lowering.{packed, build, as_target}
 use Rattle.es_syntax.specs.declared.entry.Lean.{Lean}
 use Rattle.es_syntax.specs.declared.entry.Lean.TheVariants as vLean
 use Rattle.es_syntax.specs.declared.entry.What.{What}
 use Rattle.es_syntax.specs.declared.entry.What.TheVariants as vWhat
 use Rattle.es_syntax.specs.declared.entry.Entry.{Entry}
-use Rattle.es_syntax.specs.declared.cursor.Row.{Row}
+use Rattle.es_syntax.specs.declared.cursor.Siblings.{Siblings}
 use Rattle.es_syntax.specs.declared.cursor.Item.{Item}
 
 -- the alternative of nodes that lean left
-abbrev pub label_of : Lean → Label
+abbrev pub label_of : Lean → NodeKind
 label_of vLean.Binary = l.Binary
 label_of vLean.TypedBinary = l.TypedBinary
 
@@ -25,7 +25,7 @@ Held = ℕ × Value
 
 module _ (x : List ℕ) (ts : List Token) where
   -- a node of this alternative, over its parts
-  abbrev pub node_of : Label → ℕ → ℕ → Value → Value
+  abbrev pub node_of : NodeKind → ℕ → ℕ → Value → Value
   node_of label from to p = node from to (build x ts label from (span_of ts from to) p)
 
   -- what stands before a turn, as a node with that turn
@@ -75,12 +75,12 @@ module _ (x : List ℕ) (ts : List Token) where
   valued i = made i.what i.from i.to (held i.parts.entries.now) (parts_of i.parts.entries.now)
 
   -- the first part and those behind it
-  abbrev pub first_in : Option (Item × Row) → Value
+  abbrev pub first_in : Option (Item × Siblings) → Value
   first_in None = nil
   first_in (Some p) = more (valued p.0) (held p.1.entries.now)
 
   -- the same with the token behind each
-  abbrev pub first_of_parts : Option (Item × Row) → List Held
+  abbrev pub first_of_parts : Option (Item × Siblings) → List Held
   first_of_parts None = []
   first_of_parts (Some p) = (p.0.to, valued p.0) ∷ parts_of p.1.entries.now
 

@@ -1,6 +1,6 @@
 -- Where a node stands.
 use Rattle.std.specs.Prelude.{ℕ, List, [], ◌∷◌, Option, Some, None}
-use Rattle.es_dress.specs.Value.{Value, node}
+use Rattle.es_lowering.specs.Value.{Value, node}
 use Rattle.es_syntax.specs.Held.{Held}
 
 -- its first token, and the token behind its last one

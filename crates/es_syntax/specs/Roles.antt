@@ -30,7 +30,7 @@ use Rattle.es_ast.specs.declared.ast.Prop.{Prop}
 use Rattle.es_ast.specs.declared.ast.Param.{Param}
 use Rattle.es_ast.specs.declared.ast.VarDeclarator.{VarDeclarator}
 use Rattle.es_ast.specs.declared.ast.ClassMember.{ClassMember}
-use Rattle.es_dress.specs.Value.{Value, Signature, given, typed}
+use Rattle.es_lowering.specs.Value.{Value, Signature, given, typed}
 
 abbrev pub expr_in : Value → Option Expr
 expr_in v = given (typed v) (λ m. m.expr)

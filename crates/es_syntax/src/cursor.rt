@@ -1,9 +1,9 @@
 ghost use Rattle.std.specs.Prelude.{◌≡◌, ◌+◌, ◌<◌, ◌≤◌, ℕ, List, length, map, IfSome};
 ghost use Rattle.es_syntax.specs.Places.{place_of, last_of};
 ghost use Rattle.es_token.specs.declared.token.Token.{Token as Tok};
-ghost use Rattle.es_dress.specs.Value.{part, as_group, group, is_there};
-ghost use Rattle.es_dress.specs.Texts.{token_of, token_at};
-ghost use Rattle.es_dress.specs.Dress.{packed, value_of};
+ghost use Rattle.es_lowering.specs.Value.{part, as_group, group, is_there};
+ghost use Rattle.es_lowering.specs.Texts.{token_of, token_at};
+ghost use Rattle.es_lowering.specs.Lowering.{packed, value_of};
 ghost use Rattle.es_syntax.specs.Held.{held, parts_of, valued, leant, first_in, first_of_parts, there, token_there};
 ghost use Rattle.es_syntax.specs.Trees.{trees};
 ghost use Rattle.es_syntax.specs.declared.entry.Lean.{Lean as ALean};
@@ -12,7 +12,7 @@ use crate::entry::{Entry, What};
 
 /// Parts in a row: those of a node, of a group or of a list. A part that may be absent is a group of one part or none.
 #[derive(Clone, Copy)]
-pub struct Row<'a> {
+pub struct Siblings<'a> {
     pub entries: &'a [Entry],
 }
 
@@ -22,13 +22,13 @@ pub struct Item<'a> {
     pub what: What,
     pub from: u32,
     pub to: u32,
-    pub parts: Row<'a>,
+    pub parts: Siblings<'a>,
 }
 
-impl<'a> Row<'a> {
+impl<'a> Siblings<'a> {
     /// The first part, and those behind it.
     #[tactic(auto, using(crate::proofs::Rows::held_none, crate::proofs::Rows::held_some, crate::proofs::Rows::parts_none, crate::proofs::Rows::parts_some))]
-    pub fn split(&self) -> Option<(Item<'a>, Row<'a>)>
+    pub fn split(&self) -> Option<(Item<'a>, Siblings<'a>)>
         ensures value { (x : List ℕ) (ts : List Tok) → held x ts self.now.entries.now ≡ first_in x ts result }
         ensures parts { (x : List ℕ) (ts : List Tok) → parts_of x ts self.now.entries.now ≡ first_of_parts x ts result }
         ensures below { IfSome result (λ p. length p.0.parts.entries.now + length p.1.entries.now < length self.now.entries.now) }
@@ -42,9 +42,9 @@ impl<'a> Row<'a> {
                     what: head.what,
                     from: head.from,
                     to: head.to,
-                    parts: Row { entries: parts },
+                    parts: Siblings { entries: parts },
                 };
-                Some((item, Row { entries: rest }))
+                Some((item, Siblings { entries: rest }))
             }
         }
     }
@@ -67,13 +67,13 @@ impl<'a> Row<'a> {
 
     /// The parts of the group at a place; none where no group is there.
     #[tactic(auto, using(crate::proofs::Rows::held_nothing))]
-    pub fn group_at(&self, n: usize) -> Row<'a>
+    pub fn group_at(&self, n: usize) -> Siblings<'a>
         ensures value { (x : List ℕ) (ts : List Tok) → held x ts result.entries.now ≡ group (held x ts self.now.entries.now) n }
         ensures below { length result.entries.now ≤ length self.now.entries.now }
     {
         match self.part(n) {
             Some(item) => item.group(),
-            None => Row { entries: &[] },
+            None => Siblings { entries: &[] },
         }
     }
 
@@ -115,21 +115,21 @@ impl<'a> Item<'a> {
 
     /// The parts, where it is a group.
     #[tactic(auto, using(crate::proofs::Rows::held_nothing, crate::proofs::Rows::held_group, crate::proofs::Rows::group_role, crate::proofs::Rows::group_leant))]
-    pub fn group(&self) -> Row<'a>
+    pub fn group(&self) -> Siblings<'a>
         ensures value { (x : List ℕ) (ts : List Tok) → held x ts result.entries.now ≡ as_group (valued x ts self.now) }
         ensures below { length result.entries.now ≤ length self.now.parts.entries.now }
     {
         match self.what {
             What::Parts => self.parts,
-            What::Leaf => Row { entries: &[] },
-            What::Node(_) => Row { entries: &[] },
-            What::Role(_) => Row { entries: &[] },
-            What::Lean(_) => Row { entries: &[] },
+            What::Leaf => Siblings { entries: &[] },
+            What::Node(_) => Siblings { entries: &[] },
+            What::Role(_) => Siblings { entries: &[] },
+            What::Lean(_) => Siblings { entries: &[] },
         }
     }
 }
 
-impl<'a> Row<'a> {
+impl<'a> Siblings<'a> {
     /// What the row holds is what its kept trees are: a law, and nothing to run.
     #[tactic(auto, using(crate::proofs::Rows::held_trees))]
     pub fn holds_its_trees(&self)

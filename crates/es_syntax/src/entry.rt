@@ -1,4 +1,4 @@
-use es_whole_grammar::Label;
+use es_grammar::NodeKind;
 
 /// The alternatives that lean left: their first part is again such a node, and a row has the whole chain as one entry.
 #[derive(Clone, Copy, Debug, PartialEq, Eq)]
@@ -13,9 +13,9 @@ pub enum What {
     /// A token that is kept; its number is the entry's first token.
     Leaf,
     /// A node, by its alternative.
-    Node(Label),
+    Node(NodeKind),
     /// A node in another role: the one that is its part.
-    Role(Label),
+    Role(NodeKind),
     /// The turns of a list, or the parts of a turn or of an optional part.
     Parts,
     /// A first operand and turns: the nodes that lean left over these. A turn has the parts behind the first one, and the

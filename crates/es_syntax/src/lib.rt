@@ -2,7 +2,7 @@
 //! dropped but the row.
 //!
 //! - `Entry`, `What`, `Lean`: what is kept.
-//! - `Row`, `Item`: the parts that stand in a row, and one of them; copies of a slice.
+//! - `Siblings`, `Item`: the parts that stand in a row, and one of them; copies of a slice.
 //! - `Writer`: makes a row, as text is written: a node is opened, its parts are written, it is closed. A node may be opened
 //!   before what stands there already, as one that leans left is.
 #![tactic(auto)]
@@ -11,6 +11,6 @@ mod cursor;
 mod entry;
 mod writer;
 
-pub use cursor::{Item, Row};
+pub use cursor::{Item, Siblings};
 pub use entry::{Entry, Lean, What};
 pub use writer::Writer;

@@ -2,7 +2,7 @@ ghost use Rattle.std.specs.Prelude.{◌≡◌, ◌<◌, ◌≤◌, ◌+◌, [], 
 ghost use Rattle.es_syntax.specs.Written.{closed, headed, opened};
 ghost use Rattle.es_syntax.specs.declared.entry.What.TheVariants as vWhat;
 
-use crate::cursor::Row;
+use crate::cursor::Siblings;
 use crate::entry::{Entry, What};
 use std::alloc::{AllocError, Global};
 use std::marker::Model;
@@ -40,10 +40,10 @@ impl Writer {
     }
 
     /// All that was written, to be read.
-    pub fn row(&self) -> Row<'_>
+    pub fn row(&self) -> Siblings<'_>
         ensures { result.entries.now ≡ self.now }
     {
-        Row {
+        Siblings {
             entries: self.entries.as_slice(),
         }
     }

@@ -3,7 +3,7 @@ use Rattle.std.specs.Prelude.{List, Option, not, ◌||◌, ◌&&◌, ◌⊎◌, 
 use Rattle.std.proofs.Common.{◌≡◌, ℕ, zero, suc, ◌+◌, ◌<◌, ◌≤◌, length, refl, sym, subst, inl, inr, arith}
 use Rattle.std.proofs.Math.Nat.{eq-or-lt_of_le}
 use Rattle.es_tree.specs.Key.{Key, Seen, TokenTest, seen}
-use Rattle.es_tree.specs.Form.{Told, hint, taken, guarded, Form, done, tok, punct, row, opt, many, alt, when_, where_, Rule, refuse, make, choose, as_, pick, wrap}
+use Rattle.es_tree.specs.Productions.{Predict, by_lookahead, greedy, by_predicate, Rhs, done, tok, punct, row, opt, many, alt, when_, where_, Production, refuse, make, choose, as_, pick, wrap}
 use Rattle.es_tree.specs.Plain.{Plain, node, nil, cons, turn}
 use Rattle.es_tree.specs.Fits.{free, chosen, Present, Absent, Turns, Wraps, Fits, IsBy, Under}
 use Rattle.es_tree.specs.Checks.{takes, parts_take, rule_takes, rule_parts_take}
@@ -39,28 +39,28 @@ holds_then false b e h = clash h
 
 -- ---- what obeys the tests is a free reading
 
-present_free : (c : Told) (K : List Key) (at : ℕ) → Present chosen c K at → Present free c K at
-present_free (hint t) K at e = tt
-present_free (taken t) K at e = tt
-present_free (guarded g) K at e = e
+present_free : (c : Predict) (K : List Key) (at : ℕ) → Present chosen c K at → Present free c K at
+present_free (by_lookahead t) K at e = tt
+present_free (greedy t) K at e = tt
+present_free (by_predicate g) K at e = e
 
-absent_free : (c : Told) (K : List Key) (at : ℕ) → Absent chosen c K at → Absent free c K at
-absent_free (hint t) K at e = tt
-absent_free (taken t) K at e = e
-absent_free (guarded g) K at e = e
+absent_free : (c : Predict) (K : List Key) (at : ℕ) → Absent chosen c K at → Absent free c K at
+absent_free (by_lookahead t) K at e = tt
+absent_free (greedy t) K at e = e
+absent_free (by_predicate g) K at e = e
 
-turns_free : {Label : Type 0} (K : List Key) (c : Told) (One Two : Plain Label → ℕ → ℕ → Type 0)
-    → ((q : Plain Label) (from mid : ℕ) → One q from mid → Two q from mid)
-    → (ps : Plain Label) (from to : ℕ) → Turns chosen K c One ps from to → Turns free K c Two ps from to
+turns_free : {NodeKind : Type 0} (K : List Key) (c : Predict) (One Two : Plain NodeKind → ℕ → ℕ → Type 0)
+    → ((q : Plain NodeKind) (from mid : ℕ) → One q from mid → Two q from mid)
+    → (ps : Plain NodeKind) (from to : ℕ) → Turns chosen K c One ps from to → Turns free K c Two ps from to
 turns_free K c One Two each nil from to fit = (absent_free c K from fit.0, fit.1)
 turns_free K c One Two each (turn q ps) from to fit =
     (fit.0, present_free c K from fit.1, each q from fit.0 fit.2, turns_free K c One Two each ps fit.0 to fit.3)
 turns_free K c One Two each _ from to fit = absurd fit
 
-wraps_free : {Label : Type 0} (K : List Key) (l : Label) (c : Told) (A B C D : Plain Label → ℕ → ℕ → Type 0)
-    → ((q : Plain Label) (from mid : ℕ) → A q from mid → C q from mid)
-    → ((q : Plain Label) (from mid : ℕ) → B q from mid → D q from mid)
-    → (n : ℕ) (p : Plain Label) (from to : ℕ) → Wraps chosen K l c A B n p from to → Wraps free K l c C D n p from to
+wraps_free : {NodeKind : Type 0} (K : List Key) (l : NodeKind) (c : Predict) (A B C D : Plain NodeKind → ℕ → ℕ → Type 0)
+    → ((q : Plain NodeKind) (from mid : ℕ) → A q from mid → C q from mid)
+    → ((q : Plain NodeKind) (from mid : ℕ) → B q from mid → D q from mid)
+    → (n : ℕ) (p : Plain NodeKind) (from to : ℕ) → Wraps chosen K l c A B n p from to → Wraps free K l c C D n p from to
 wraps_free K l c A B C D one other zero p from to fit = one p from to fit
 wraps_free K l c A B C D one other (suc n) p from to fit = (
   fit.0,
@@ -72,9 +72,9 @@ wraps_free K l c A B C D one other (suc n) p from to fit = (
   other fit.1 fit.2 to fit.6,
 )
 
-module _ {Row Label : Type 0} (K : List Key) (Obeys Free : Row → Plain Label → ℕ → ℕ → Type 0)
-    (below_free : (r : Row) (q : Plain Label) (from mid : ℕ) → Obeys r q from mid → Free r q from mid) where
-  form_free : (f : Form Row) (p : Plain Label) (from to : ℕ) → Fits chosen K Obeys f p from to
+module _ {Row NodeKind : Type 0} (K : List Key) (Obeys Free : Row → Plain NodeKind → ℕ → ℕ → Type 0)
+    (below_free : (r : Row) (q : Plain NodeKind) (from mid : ℕ) → Obeys r q from mid → Free r q from mid) where
+  form_free : (f : Rhs Row) (p : Plain NodeKind) (from to : ℕ) → Fits chosen K Obeys f p from to
       → Fits free K Free f p from to
   form_free done p from to fit = fit
   form_free (tok s may f) p from to fit = (fit.0, fit.1, fit.2, form_free f fit.0 (from + 1) to fit.3)
@@ -114,7 +114,7 @@ module _ {Row Label : Type 0} (K : List Key) (Obeys Free : Row → Plain Label �
   form_free (when_ t f) p from to fit = (fit.0, form_free f p from to fit.1)
   form_free (where_ t f) p from to fit = (fit.0, form_free f p from to fit.1)
 
-  rule_free : (a : Rule Row Label) (p : Plain Label) (from to : ℕ) → IsBy chosen K Obeys a p from to
+  rule_free : (a : Production Row NodeKind) (p : Plain NodeKind) (from to : ℕ) → IsBy chosen K Obeys a p from to
       → IsBy free K Free a p from to
   rule_free refuse p from to by = by
   rule_free (make l f) p from to by = (by.0, by.1, form_free f by.0 from to by.2)
@@ -136,8 +136,8 @@ module _ {Row Label : Type 0} (K : List Key) (Obeys Free : Row → Plain Label �
   )
 
 -- a tree that obeys the tests is a tree of the grammar
-pub chosen_is_free : {Row Label : Type 0} (K : List Key) (rule : Row → Rule Row Label) (room : ℕ) (r : Row)
-    (p : Plain Label)
+pub chosen_is_free : {Row NodeKind : Type 0} (K : List Key) (rule : Row → Production Row NodeKind) (room : ℕ) (r : Row)
+    (p : Plain NodeKind)
     (from to : ℕ) → Under chosen K rule room r p from to → Under free K rule room r p from to
 unfolding Under
 chosen_is_free K rule zero r p from to under = under
@@ -158,10 +158,10 @@ begun_moved K then_ from mid to e b = let P : ℕ → Type 0 = λ n. Begun K the
 seen_moved : (K : List Key) (t : TokenTest) (from mid : ℕ) → from ≡ mid → t (seen K mid) ≡ true → t (seen K from) ≡ true
 seen_moved K t from mid e h = let P : ℕ → Type 0 = λ n. t (seen K n) ≡ true in subst P (sym e) h
 
-lacks : (c : Told) (K : List Key) (at : ℕ) → Absent free c K at → may_lack c (seen K at) ≡ true
-lacks (hint t) K at e = refl
-lacks (taken t) K at e = not_false (t (seen K at)) e
-lacks (guarded g) K at e = refl
+lacks : (c : Predict) (K : List Key) (at : ℕ) → Absent free c K at → may_lack c (seen K at) ≡ true
+lacks (by_lookahead t) K at e = refl
+lacks (greedy t) K at e = not_false (t (seen K at)) e
+lacks (by_predicate g) K at e = refl
 
 row_begins : (K : List Key) (solid first : Bool) (then_ : TokenTest) (from mid : ℕ) → from ≤ mid
     → (solid ≡ true → from < mid)
@@ -183,7 +183,7 @@ row_begins K solid first then_ from mid le strictly begins rest =
     loose false f g = refl
 
 -- what is checked of a level
-level_checks : {Row Label : Type 0} (solid : Row → Bool) (a : Rule Row Label) (f : Form Row)
+level_checks : {Row NodeKind : Type 0} (solid : Row → Bool) (a : Production Row NodeKind) (f : Rhs Row)
     → rule_takes solid a && (rule_parts_take solid a && (takes solid f && parts_take solid f)) ≡ true
     → (rule_takes solid a ≡ true) × (rule_parts_take solid a ≡ true) × (takes solid f ≡ true)
     × (parts_take solid f ≡ true)
@@ -194,7 +194,7 @@ level_checks solid a f sound =
     (one.0, two.0, three.0, three.1)
 
 -- what is checked of a part by either of two forms
-either_checks : {Row : Type 0} (solid : Row → Bool) (a b f : Form Row)
+either_checks : {Row : Type 0} (solid : Row → Bool) (a b f : Rhs Row)
     → parts_take solid a && (parts_take solid b && parts_take solid f) ≡ true
     → (parts_take solid a ≡ true) × (parts_take solid b ≡ true) × (parts_take solid f ≡ true)
 either_checks solid a b f sound =
@@ -203,21 +203,21 @@ either_checks solid a b f sound =
     (one.0, two.0, two.1)
 
 -- a level begins with its operand
-wraps_begin : {Label : Type 0} (K : List Key) (l : Label) (c : Told) (A B : Plain Label → ℕ → ℕ → Type 0)
+wraps_begin : {NodeKind : Type 0} (K : List Key) (l : NodeKind) (c : Predict) (A B : Plain NodeKind → ℕ → ℕ → Type 0)
     (t : TokenTest)
-    → ((q : Plain Label) (from mid : ℕ) → A q from mid → t (seen K from) ≡ true)
-    → (n : ℕ) (p : Plain Label) (from to : ℕ) → Wraps free K l c A B n p from to → t (seen K from) ≡ true
+    → ((q : Plain NodeKind) (from mid : ℕ) → A q from mid → t (seen K from) ≡ true)
+    → (n : ℕ) (p : Plain NodeKind) (from to : ℕ) → Wraps free K l c A B n p from to → t (seen K from) ≡ true
 wraps_begin K l c A B t one zero p from to fit = one p from to fit
 wraps_begin K l c A B t one (suc n) p from to fit = wraps_begin K l c A B t one n fit.0 from fit.2 fit.4
 
-module _ {Row Label : Type 0} (K : List Key) (s : Sets Row) (Below : Row → Plain Label → ℕ → ℕ → Type 0)
-    (below_ahead : (r : Row) (q : Plain Label) (from mid : ℕ) → Below r q from mid
+module _ {Row NodeKind : Type 0} (K : List Key) (s : Sets Row) (Below : Row → Plain NodeKind → ℕ → ℕ → Type 0)
+    (below_ahead : (r : Row) (q : Plain NodeKind) (from mid : ℕ) → Below r q from mid
     → IsAhead (length K) (s.solid r) from mid)
-    (below_begins : (r : Row) (q : Plain Label) (from mid : ℕ) → Below r q from mid → from < mid
+    (below_begins : (r : Row) (q : Plain NodeKind) (from mid : ℕ) → Below r q from mid → from < mid
     → s.first r (seen K from) ≡ true) where
-  turns_begin : (c : Told) (One : Plain Label → ℕ → ℕ → Type 0) (one rest : TokenTest)
-      → ((q : Plain Label) (from mid : ℕ) → One q from mid → one (seen K from) ≡ true)
-      → (ps : Plain Label) (from to : ℕ) → Turns free K c One ps from to → (from ≡ to → rest (seen K to) ≡ true)
+  turns_begin : (c : Predict) (One : Plain NodeKind → ℕ → ℕ → Type 0) (one rest : TokenTest)
+      → ((q : Plain NodeKind) (from mid : ℕ) → One q from mid → one (seen K from) ≡ true)
+      → (ps : Plain NodeKind) (from to : ℕ) → Turns free K c One ps from to → (from ≡ to → rest (seen K to) ≡ true)
       → one (seen K from) || (may_lack c (seen K from) && rest (seen K from)) ≡ true
   turns_begin c One one rest each nil from to fit stands =
       right_holds (one (seen K from)) (may_lack c (seen K from) && rest (seen K from))
@@ -227,7 +227,7 @@ module _ {Row Label : Type 0} (K : List Key) (s : Sets Row) (Below : Row → Pla
       left_holds (one (seen K from)) (may_lack c (seen K from) && rest (seen K from)) (each q from fit.0 fit.2)
   turns_begin c One one rest each _ from to fit stands = absurd fit
 
-  form_begins : (f : Form Row) → parts_take s.solid f ≡ true → (then_ : TokenTest) (p : Plain Label) (from to : ℕ)
+  form_begins : (f : Rhs Row) → parts_take s.solid f ≡ true → (then_ : TokenTest) (p : Plain NodeKind) (from to : ℕ)
       → Fits free K Below f p from to → Begun K then_ from to → starts s f then_ (seen K from) ≡ true
   form_begins done sound then_ p from to fit begun = elim begun [
     | inl less ↦ absurd (let same = fit.1 in let bad : ⊥ = omega (arith, less, same) in bad)
@@ -288,8 +288,8 @@ module _ {Row Label : Type 0} (K : List Key) (s : Sets Row) (Below : Row → Pla
       (form_begins f sound then_ p from to fit.1 begun)
   form_begins (where_ t f) sound then_ p from to fit begun = form_begins f sound then_ p from to fit.1 begun
 
-  rule_begins : (a : Rule Row Label) → rule_parts_take s.solid a ≡ true
-      → (then_ : TokenTest) (p : Plain Label) (from to : ℕ)
+  rule_begins : (a : Production Row NodeKind) → rule_parts_take s.solid a ≡ true
+      → (then_ : TokenTest) (p : Plain NodeKind) (from to : ℕ)
       → IsBy free K Below a p from to → Begun K then_ from to → rule_starts s a then_ (seen K from) ≡ true
   rule_begins refuse sound then_ p from to by begun = absurd by
   rule_begins (make l f) sound then_ p from to by begun = form_begins f sound then_ by.0 from to by.2 begun
@@ -321,8 +321,9 @@ module _ {Row Label : Type 0} (K : List Key) (s : Sets Row) (Below : Row → Pla
       (inl ((by_ahead free K s.solid Below below_ahead true a (λ _. checks.0) q at mid one).strictly refl)))
       by.0 p from to by.1
 
-row_starts : {Row Label : Type 0} (K : List Key) (rule : Row → Rule Row Label) (s : Sets Row) → IsTold rule s
-    → (room : ℕ) (r : Row) (p : Plain Label) (from to : ℕ)
+row_starts : {Row NodeKind : Type 0} (K : List Key) (rule : Row → Production Row NodeKind) (s : Sets Row)
+    → IsTold rule s
+    → (room : ℕ) (r : Row) (p : Plain NodeKind) (from to : ℕ)
     → Under free K rule room r p from to → from < to → s.first r (seen K from) ≡ true
 unfolding Under
 row_starts K rule s told zero r p from to under less = absurd under
@@ -333,32 +334,33 @@ row_starts K rule s told (suc room) r p from to under less =
 
 -- ---- a free reading obeys the tests
 
-has_told : (c : Told) (K : List Key) (at : ℕ) → tells_has c (seen K at) ≡ true → Present free c K at
+has_told : (c : Predict) (K : List Key) (at : ℕ) → tells_has c (seen K at) ≡ true → Present free c K at
     → Present chosen c K at
-has_told (hint t) K at e a = e
-has_told (taken t) K at e a = e
-has_told (guarded g) K at e a = a
+has_told (by_lookahead t) K at e a = e
+has_told (greedy t) K at e a = e
+has_told (by_predicate g) K at e a = a
 
-lack_told : (c : Told) (K : List Key) (at : ℕ) → tells_lack c (seen K at) ≡ true → Absent free c K at
+lack_told : (c : Predict) (K : List Key) (at : ℕ) → tells_lack c (seen K at) ≡ true → Absent free c K at
     → Absent chosen c K at
-lack_told (hint t) K at e a = not_true (t (seen K at)) e
-lack_told (taken t) K at e a = a
-lack_told (guarded g) K at e a = a
+lack_told (by_lookahead t) K at e a = not_true (t (seen K at)) e
+lack_told (greedy t) K at e a = a
+lack_told (by_predicate g) K at e a = a
 
 -- behind a turn another may stand, or what stands behind the list
-turns_next : {Label : Type 0} (K : List Key) (c : Told) (One : Plain Label → ℕ → ℕ → Type 0) (next : TokenTest)
-    → ((q : Plain Label) (from mid : ℕ) → One q from mid → next (seen K from) ≡ true)
-    → (ps : Plain Label) (from to : ℕ) → Turns free K c One ps from to → next (seen K to) ≡ true
+turns_next : {NodeKind : Type 0} (K : List Key) (c : Predict) (One : Plain NodeKind → ℕ → ℕ → Type 0) (next : TokenTest)
+    → ((q : Plain NodeKind) (from mid : ℕ) → One q from mid → next (seen K from) ≡ true)
+    → (ps : Plain NodeKind) (from to : ℕ) → Turns free K c One ps from to → next (seen K to) ≡ true
     → next (seen K from) ≡ true
 turns_next K c One next each nil from to fit stands = seen_moved K next from to fit.1 stands
 turns_next K c One next each (turn q ps) from to fit stands = each q from fit.0 fit.2
 turns_next K c One next each _ from to fit stands = absurd fit
 
-turns_obey : {Label : Type 0} (K : List Key) (c : Told) (One Two : Plain Label → ℕ → ℕ → Type 0) (next : TokenTest)
-    → ((q : Plain Label) (from mid : ℕ) → One q from mid → next (seen K from) ≡ true)
-    → ((q : Plain Label) (from mid : ℕ) → One q from mid → tells_has c (seen K from) ≡ true)
-    → ((q : Plain Label) (from mid : ℕ) → One q from mid → next (seen K mid) ≡ true → Two q from mid)
-    → (ps : Plain Label) (from to : ℕ) → Turns free K c One ps from to → next (seen K to) ≡ true
+turns_obey : {NodeKind : Type 0} (K : List Key) (c : Predict) (One Two : Plain NodeKind → ℕ → ℕ → Type 0)
+    (next : TokenTest)
+    → ((q : Plain NodeKind) (from mid : ℕ) → One q from mid → next (seen K from) ≡ true)
+    → ((q : Plain NodeKind) (from mid : ℕ) → One q from mid → tells_has c (seen K from) ≡ true)
+    → ((q : Plain NodeKind) (from mid : ℕ) → One q from mid → next (seen K mid) ≡ true → Two q from mid)
+    → (ps : Plain NodeKind) (from to : ℕ) → Turns free K c One ps from to → next (seen K to) ≡ true
     → tells_lack c (seen K to) ≡ true → Turns chosen K c Two ps from to
 turns_obey K c One Two next begins tests each nil from to fit stands lack =
     (lack_told c K from (seen_moved K (tells_lack c) from to fit.1 lack) fit.0, fit.1)
@@ -371,13 +373,13 @@ turns_obey K c One Two next begins tests each (turn q ps) from to fit stands lac
 turns_obey K c One Two next begins tests each _ from to fit stands lack = absurd fit
 
 -- behind an operand and behind each turn another turn may stand, or what stands behind the level
-wraps_obey : {Label : Type 0} (K : List Key) (l : Label) (c : Told) (A B C D : Plain Label → ℕ → ℕ → Type 0)
+wraps_obey : {NodeKind : Type 0} (K : List Key) (l : NodeKind) (c : Predict) (A B C D : Plain NodeKind → ℕ → ℕ → Type 0)
     (next : TokenTest)
-    → ((q : Plain Label) (from mid : ℕ) → B q from mid → next (seen K from) ≡ true)
-    → ((q : Plain Label) (from mid : ℕ) → B q from mid → tells_has c (seen K from) ≡ true)
-    → ((q : Plain Label) (from mid : ℕ) → A q from mid → next (seen K mid) ≡ true → C q from mid)
-    → ((q : Plain Label) (from mid : ℕ) → B q from mid → next (seen K mid) ≡ true → D q from mid)
-    → (n : ℕ) (p : Plain Label) (from to : ℕ) → Wraps free K l c A B n p from to → next (seen K to) ≡ true
+    → ((q : Plain NodeKind) (from mid : ℕ) → B q from mid → next (seen K from) ≡ true)
+    → ((q : Plain NodeKind) (from mid : ℕ) → B q from mid → tells_has c (seen K from) ≡ true)
+    → ((q : Plain NodeKind) (from mid : ℕ) → A q from mid → next (seen K mid) ≡ true → C q from mid)
+    → ((q : Plain NodeKind) (from mid : ℕ) → B q from mid → next (seen K mid) ≡ true → D q from mid)
+    → (n : ℕ) (p : Plain NodeKind) (from to : ℕ) → Wraps free K l c A B n p from to → next (seen K to) ≡ true
     → Wraps chosen K l c C D n p from to
 wraps_obey K l c A B C D next begins tests one other zero p from to fit stands = one p from to fit stands
 wraps_obey K l c A B C D next begins tests one other (suc n) p from to fit stands = (
@@ -390,15 +392,15 @@ wraps_obey K l c A B C D next begins tests one other (suc n) p from to fit stand
   other fit.1 fit.2 to fit.6 stands,
 )
 
-module _ {Row Label : Type 0} (K : List Key) (s : Sets Row) (Free Obeys : Row → Plain Label → ℕ → ℕ → Type 0)
-    (below_ahead : (r : Row) (q : Plain Label) (from mid : ℕ) → Free r q from mid
+module _ {Row NodeKind : Type 0} (K : List Key) (s : Sets Row) (Free Obeys : Row → Plain NodeKind → ℕ → ℕ → Type 0)
+    (below_ahead : (r : Row) (q : Plain NodeKind) (from mid : ℕ) → Free r q from mid
     → IsAhead (length K) (s.solid r) from mid)
-    (below_begins : (r : Row) (q : Plain Label) (from mid : ℕ) → Free r q from mid → from < mid
+    (below_begins : (r : Row) (q : Plain NodeKind) (from mid : ℕ) → Free r q from mid → from < mid
     → s.first r (seen K from) ≡ true)
-    (below_obeys : (r : Row) (q : Plain Label) (from mid : ℕ) → Free r q from mid → s.follow r (seen K mid) ≡ true
+    (below_obeys : (r : Row) (q : Plain NodeKind) (from mid : ℕ) → Free r q from mid → s.follow r (seen K mid) ≡ true
     → Obeys r q from mid) where
   -- the four tests of a part that may be absent
-  part_told : (c : Told) (g f : Form Row) (inner then_ : TokenTest)
+  part_told : (c : Predict) (g f : Rhs Row) (inner then_ : TokenTest)
       → ((x : Option Seen)
       → implies (starts s g none x) (tells_has c x) && (implies (starts s f then_ x) (tells_lack c x)
       && (tells s g inner x && tells s f then_ x)) ≡ true)
@@ -413,7 +415,7 @@ module _ {Row Label : Type 0} (K : List Key) (s : Sets Row) (Free Obeys : Row �
       (a.0, b.0, d.0, d.1)
 
   -- the tests of a part by either of two forms
-  either_told : (t : TokenTest) (a b f : Form Row) (inner then_ : TokenTest)
+  either_told : (t : TokenTest) (a b f : Rhs Row) (inner then_ : TokenTest)
       → ((x : Option Seen) → implies (starts s a inner x) (t x) && (implies (starts s b inner x) (not (t x))
       && (tells s a inner x && (tells s b inner x && tells s f then_ x))) ≡ true)
       → (x : Option Seen) → (implies (starts s a inner x) (t x) ≡ true)
@@ -429,7 +431,7 @@ module _ {Row Label : Type 0} (K : List Key) (s : Sets Row) (Free Obeys : Row �
       (one.0, two.0, three.0, four.0, four.1)
 
   -- the tests of a level
-  level_told : (a : Rule Row Label) (c : Told) (f : Form Row) (next then_ : TokenTest)
+  level_told : (a : Production Row NodeKind) (c : Predict) (f : Rhs Row) (next then_ : TokenTest)
       → ((x : Option Seen) → implies (starts s f none x) (tells_has c x)
       && (implies (then_ x) (tells_lack c x) && (rule_tells s a next x && tells s f next x)) ≡ true)
       → (x : Option Seen) → (implies (starts s f none x) (tells_has c x) ≡ true)
@@ -442,9 +444,9 @@ module _ {Row Label : Type 0} (K : List Key) (s : Sets Row) (Free Obeys : Row �
       let three = both_hold (rule_tells s a next x) (tells s f next x) two.1 in
       (one.0, two.0, three.0, three.1)
 
-  form_obeys : (f : Form Row) → parts_take s.solid f ≡ true → (then_ : TokenTest)
+  form_obeys : (f : Rhs Row) → parts_take s.solid f ≡ true → (then_ : TokenTest)
       → ((x : Option Seen) → tells s f then_ x ≡ true)
-      → (p : Plain Label) (from to : ℕ) → Fits free K Free f p from to → then_ (seen K to) ≡ true
+      → (p : Plain NodeKind) (from to : ℕ) → Fits free K Free f p from to → then_ (seen K to) ≡ true
       → Fits chosen K Obeys f p from to
   form_obeys done sound then_ told p from to fit stands = fit
   form_obeys (tok sort may f) sound then_ told p from to fit stands =
@@ -499,7 +501,7 @@ module _ {Row Label : Type 0} (K : List Key) (s : Sets Row) (Free Obeys : Row �
       let next : TokenTest = (λ y. starts s g none y || starts s f then_ y) in
       let all = part_told c g f next then_ told in
       let rest = form_begins K s Free below_ahead below_begins f parts.1 then_ fit.1 fit.2 to fit.5 (inr stands) in
-      let begins = λ (q : Plain Label) (at mid : ℕ) (one : Fits free K Free g q at mid).
+      let begins = λ (q : Plain NodeKind) (at mid : ℕ) (one : Fits free K Free g q at mid).
       form_begins K s Free below_ahead below_begins g parts.0 none q at mid one
       (inl ((fits_ahead free K s.solid Free below_ahead g q at mid one).strictly checks.0)) in (
         fit.0,
@@ -550,9 +552,9 @@ module _ {Row Label : Type 0} (K : List Key) (s : Sets Row) (Free Obeys : Row �
   form_obeys (where_ t f) sound then_ told p from to fit stands =
       (fit.0, form_obeys f sound then_ told p from to fit.1 stands)
 
-  rule_obeys : (a : Rule Row Label) → rule_parts_take s.solid a ≡ true → (then_ : TokenTest)
+  rule_obeys : (a : Production Row NodeKind) → rule_parts_take s.solid a ≡ true → (then_ : TokenTest)
       → ((x : Option Seen) → rule_tells s a then_ x ≡ true)
-      → (p : Plain Label) (from to : ℕ) → IsBy free K Free a p from to → then_ (seen K to) ≡ true
+      → (p : Plain NodeKind) (from to : ℕ) → IsBy free K Free a p from to → then_ (seen K to) ≡ true
       → IsBy chosen K Obeys a p from to
   rule_obeys refuse sound then_ told p from to by stands = by
   rule_obeys (make l f) sound then_ told p from to by stands =
@@ -592,7 +594,7 @@ module _ {Row Label : Type 0} (K : List Key) (s : Sets Row) (Free Obeys : Row �
       let checks = level_checks s.solid a f sound in
       let next : TokenTest = (λ y. starts s f none y || then_ y) in
       let all = level_told a c f next then_ told in
-      let begins = λ (q : Plain Label) (at mid : ℕ) (one : Fits free K Free f q at mid).
+      let begins = λ (q : Plain NodeKind) (at mid : ℕ) (one : Fits free K Free f q at mid).
       form_begins K s Free below_ahead below_begins f checks.3 none q at mid one
       (inl ((fits_ahead free K s.solid Free below_ahead f q at mid one).strictly checks.2)) in (
         by.0,
@@ -607,8 +609,9 @@ module _ {Row Label : Type 0} (K : List Key) (s : Sets Row) (Free Obeys : Row �
       )
 
 -- a tree of the grammar, before a token that may follow its row, obeys the tests
-pub free_is_chosen : {Row Label : Type 0} (K : List Key) (rule : Row → Rule Row Label) (s : Sets Row) → IsTold rule s
-    → (room : ℕ) (r : Row) (p : Plain Label) (from to : ℕ)
+pub free_is_chosen : {Row NodeKind : Type 0} (K : List Key) (rule : Row → Production Row NodeKind) (s : Sets Row)
+    → IsTold rule s
+    → (room : ℕ) (r : Row) (p : Plain NodeKind) (from to : ℕ)
     → Under free K rule room r p from to → s.follow r (seen K to) ≡ true → Under chosen K rule room r p from to
 unfolding Under
 free_is_chosen K rule s told zero r p from to under stands = under

@@ -3,7 +3,7 @@ use Rattle.std.specs.Prelude.{List, Option, Some, None, slice_get, ◌||◌, ◌
 use Rattle.std.proofs.Common.{◌≡◌, ℕ, zero, suc, ◌+◌, ◌<◌, ◌≤◌, length, refl, inl, inr, arith}
 use Rattle.std.proofs.lemmas.Option.{slice_get_within}
 use Rattle.es_tree.specs.Key.{Key, seen_of, has_kind}
-use Rattle.es_tree.specs.Form.{Told, Form, done, tok, punct, row, opt, many, alt, when_, where_, Rule, refuse, make, choose, as_, pick, wrap}
+use Rattle.es_tree.specs.Productions.{Predict, Rhs, done, tok, punct, row, opt, many, alt, when_, where_, Production, refuse, make, choose, as_, pick, wrap}
 use Rattle.es_tree.specs.Plain.{Plain, nil, turn}
 use Rattle.es_tree.specs.Fits.{Reading, Turns, Wraps, Fits, IsBy, Under}
 use Rattle.es_tree.specs.Checks.{takes, rule_takes, IsSteady}
@@ -58,10 +58,10 @@ join n false b from mid to x y = record {
 }
 
 -- the turns of a list
-pub turns_ahead : {Label : Type 0} (h : Reading) (K : List Key) (c : Told) (One : Plain Label → ℕ → ℕ → Type 0)
+pub turns_ahead : {NodeKind : Type 0} (h : Reading) (K : List Key) (c : Predict) (One : Plain NodeKind → ℕ → ℕ → Type 0)
     (b : Bool) (n : ℕ)
-    → ((q : Plain Label) (from mid : ℕ) → One q from mid → IsAhead n b from mid)
-    → (ps : Plain Label) (from to : ℕ) → Turns h K c One ps from to → IsAhead n false from to
+    → ((q : Plain NodeKind) (from mid : ℕ) → One q from mid → IsAhead n b from mid)
+    → (ps : Plain NodeKind) (from to : ℕ) → Turns h K c One ps from to → IsAhead n false from to
 turns_ahead h K c One b n one nil from to fit = stay n from to fit.1
 turns_ahead h K c One b n one (turn q ps) from to fit =
     join n false false from fit.0 to (weaken n b from fit.0 (one q from fit.0 fit.2))
@@ -72,24 +72,24 @@ turns_ahead h K c One b n one _ from to fit = absurd fit
 or_true : (b : Bool) → b ≡ true → b || false ≡ true
 or_true b e = rw e refl
 
-pub wraps_ahead : {Label : Type 0} (h : Reading) (K : List Key) (l : Label) (c : Told)
-    (Operand Parts : Plain Label → ℕ → ℕ → Type 0)
+pub wraps_ahead : {NodeKind : Type 0} (h : Reading) (K : List Key) (l : NodeKind) (c : Predict)
+    (Operand Parts : Plain NodeKind → ℕ → ℕ → Type 0)
     (b : Bool) (n : ℕ)
-    → ((q : Plain Label) (from mid : ℕ) → Operand q from mid → IsAhead n b from mid)
-    → ((q : Plain Label) (from mid : ℕ) → Parts q from mid → IsAhead n false from mid)
-    → (k : ℕ) (p : Plain Label) (from to : ℕ) → Wraps h K l c Operand Parts k p from to → IsAhead n b from to
+    → ((q : Plain NodeKind) (from mid : ℕ) → Operand q from mid → IsAhead n b from mid)
+    → ((q : Plain NodeKind) (from mid : ℕ) → Parts q from mid → IsAhead n false from mid)
+    → (k : ℕ) (p : Plain NodeKind) (from to : ℕ) → Wraps h K l c Operand Parts k p from to → IsAhead n b from to
 wraps_ahead h K l c Operand Parts b n one other zero p from to fit = one p from to fit
 wraps_ahead h K l c Operand Parts b n one other (suc k) p from to fit =
     sharpen n b (b || false) from to (or_true b)
     (join n b false from fit.2 to (wraps_ahead h K l c Operand Parts b n one other k fit.0 from fit.2 fit.4)
     (other fit.1 fit.2 to fit.6))
 
-module _ {Row Label : Type 0} (h : Reading) (K : List Key) (solid : Row → Bool)
-    (Below : Row → Plain Label → ℕ → ℕ → Type 0)
-    (below_ahead : (r : Row) (q : Plain Label) (from mid : ℕ) → Below r q from mid
+module _ {Row NodeKind : Type 0} (h : Reading) (K : List Key) (solid : Row → Bool)
+    (Below : Row → Plain NodeKind → ℕ → ℕ → Type 0)
+    (below_ahead : (r : Row) (q : Plain NodeKind) (from mid : ℕ) → Below r q from mid
     → IsAhead (length K) (solid r) from mid) where
   -- the parts of a node
-  pub fits_ahead : (f : Form Row) (p : Plain Label) (from to : ℕ)
+  pub fits_ahead : (f : Rhs Row) (p : Plain NodeKind) (from to : ℕ)
       → Fits h K Below f p from to → IsAhead (length K) (takes solid f) from to
   fits_ahead done p from to fit = stay (length K) from to fit.1
   fits_ahead (tok s may f) p from to fit =
@@ -125,8 +125,8 @@ module _ {Row Label : Type 0} (h : Reading) (K : List Key) (solid : Row → Bool
   fits_ahead (where_ t f) p from to fit = fits_ahead f p from to fit.1
 
   -- a rule
-  pub by_ahead : (b : Bool) (a : Rule Row Label) → (b ≡ true → rule_takes solid a ≡ true)
-      → (p : Plain Label) (from to : ℕ)
+  pub by_ahead : (b : Bool) (a : Production Row NodeKind) → (b ≡ true → rule_takes solid a ≡ true)
+      → (p : Plain NodeKind) (from to : ℕ)
       → IsBy h K Below a p from to → IsAhead (length K) b from to
   by_ahead b refuse e p from to by = absurd by
   by_ahead b (make l f) e p from to by = sharpen (length K) b (takes solid f) from to e (fits_ahead f by.0 from to by.2)
@@ -144,8 +144,9 @@ module _ {Row Label : Type 0} (h : Reading) (K : List Key) (solid : Row → Bool
       (λ q at mid one. weaken (length K) (takes solid f) at mid (fits_ahead f q at mid one)) by.0 p from to by.1
 
 -- a row
-pub under_ahead : {Row Label : Type 0} (h : Reading) (K : List Key) (rule : Row → Rule Row Label) (solid : Row → Bool)
-    → IsSteady rule solid → (room : ℕ) (r : Row) (p : Plain Label) (from to : ℕ)
+pub under_ahead : {Row NodeKind : Type 0} (h : Reading) (K : List Key) (rule : Row → Production Row NodeKind)
+    (solid : Row → Bool)
+    → IsSteady rule solid → (room : ℕ) (r : Row) (p : Plain NodeKind) (from to : ℕ)
     → Under h K rule room r p from to → IsAhead (length K) (solid r) from to
 unfolding Under
 under_ahead h K rule solid steady zero r p from to under = absurd under

@@ -2,7 +2,7 @@
 use Rattle.std.specs.Prelude.{List, Option, slice_get, ◌&&◌, Bool, true, false}
 use Rattle.std.proofs.Common.{◌≡◌, ℕ, zero, suc, ◌+◌, ◌-◌, ◌<◌, ◌≤◌, length, refl, sym, ap, ◌∙◌, inl, inr, arith}
 use Rattle.es_tree.specs.Key.{Key, seen, has_kind, is, same_kind}
-use Rattle.es_tree.specs.Form.{Told, hint, taken, guarded, Guard, test, Form, done, tok, punct, row, opt, many, alt, when_, where_, Rule, refuse, make, choose, as_, pick, wrap}
+use Rattle.es_tree.specs.Productions.{Predict, by_lookahead, greedy, by_predicate, Predicate, test, Rhs, done, tok, punct, row, opt, many, alt, when_, where_, Production, refuse, make, choose, as_, pick, wrap}
 use Rattle.es_tree.specs.Plain.{Plain, node, leaf, nil, cons, mark, turn, via, plain}
 use Rattle.es_tree.specs.Fits.{chosen, Present, Absent, Turns, Wraps, Fits, IsBy, Under}
 use Rattle.es_tree.specs.Reader.{Out, nothing, gives, and_then, changed, either, read_turns, read_wraps, read_form, read_rule, read_row}
@@ -11,33 +11,33 @@ use Rattle.es_tree.proofs.OutLemmas.{nothing_gives, gives_same, and_then-gives, 
 use Rattle.es_tree.proofs.Progress.{IsAhead, both_hold, within_kind, weaken, fits_ahead, by_ahead, under_ahead, turns_ahead, wraps_ahead}
 
 -- an absent part's test is false where the tests are obeyed
-absent_test : (c : Told) (K : List Key) (at : ℕ) → Absent chosen c K at → test c K at ≡ false
-absent_test (hint t) K at e = e
-absent_test (taken t) K at e = e
-absent_test (guarded g) K at e = e
+absent_test : (c : Predict) (K : List Key) (at : ℕ) → Absent chosen c K at → test c K at ≡ false
+absent_test (by_lookahead t) K at e = e
+absent_test (greedy t) K at e = e
+absent_test (by_predicate g) K at e = e
 
-test_absent : (c : Told) (K : List Key) (at : ℕ) → test c K at ≡ false → Absent chosen c K at
-test_absent (hint t) K at e = e
-test_absent (taken t) K at e = e
-test_absent (guarded g) K at e = e
+test_absent : (c : Predict) (K : List Key) (at : ℕ) → test c K at ≡ false → Absent chosen c K at
+test_absent (by_lookahead t) K at e = e
+test_absent (greedy t) K at e = e
+test_absent (by_predicate g) K at e = e
 
 -- and one that is there has a test that is true
-present_test : (c : Told) (K : List Key) (at : ℕ) → Present chosen c K at → test c K at ≡ true
-present_test (hint t) K at e = e
-present_test (taken t) K at e = e
-present_test (guarded g) K at e = e
+present_test : (c : Predict) (K : List Key) (at : ℕ) → Present chosen c K at → test c K at ≡ true
+present_test (by_lookahead t) K at e = e
+present_test (greedy t) K at e = e
+present_test (by_predicate g) K at e = e
 
-test_present : (c : Told) (K : List Key) (at : ℕ) → test c K at ≡ true → Present chosen c K at
-test_present (hint t) K at e = e
-test_present (taken t) K at e = e
-test_present (guarded g) K at e = e
+test_present : (c : Predict) (K : List Key) (at : ℕ) → test c K at ≡ true → Present chosen c K at
+test_present (by_lookahead t) K at e = e
+test_present (greedy t) K at e = e
+test_present (by_predicate g) K at e = e
 
 -- ---- what is read fits
 
-turns_fit : {Label : Type 0} (K : List Key) (c : Told) (one : ℕ → Out (Plain Label))
-    (One : Plain Label → ℕ → ℕ → Type 0)
-    → ((at : ℕ) (q : Plain Label) (mid : ℕ) → one at ≡ gives q mid → One q at mid)
-    → (n at : ℕ) (p : Plain Label) (to : ℕ) → read_turns plain K (test c) one n at ≡ gives p to
+turns_fit : {NodeKind : Type 0} (K : List Key) (c : Predict) (one : ℕ → Out (Plain NodeKind))
+    (One : Plain NodeKind → ℕ → ℕ → Type 0)
+    → ((at : ℕ) (q : Plain NodeKind) (mid : ℕ) → one at ≡ gives q mid → One q at mid)
+    → (n at : ℕ) (p : Plain NodeKind) (to : ℕ) → read_turns plain K (test c) one n at ≡ gives p to
     → Turns chosen K c One p at to
 unfolding read_turns
 turns_fit K c one One fit zero at p to e =
@@ -66,10 +66,10 @@ turns_fit K c one One fit (suc n) at p to e =
     ]
 
 -- what is read behind an operand wraps it
-wraps_fit : {Label : Type 0} (K : List Key) (l : Label) (c : Told) (parts : ℕ → Out (Plain Label))
-    (A B : Plain Label → ℕ → ℕ → Type 0)
-    (from : ℕ) → ((at : ℕ) (ps : Plain Label) (to : ℕ) → parts at ≡ gives ps to → B ps at to)
-    → (n k : ℕ) (q : Plain Label) (at : ℕ) (p : Plain Label) (to : ℕ) → Wraps chosen K l c A B k q from at
+wraps_fit : {NodeKind : Type 0} (K : List Key) (l : NodeKind) (c : Predict) (parts : ℕ → Out (Plain NodeKind))
+    (A B : Plain NodeKind → ℕ → ℕ → Type 0)
+    (from : ℕ) → ((at : ℕ) (ps : Plain NodeKind) (to : ℕ) → parts at ≡ gives ps to → B ps at to)
+    → (n k : ℕ) (q : Plain NodeKind) (at : ℕ) (p : Plain NodeKind) (to : ℕ) → Wraps chosen K l c A B k q from at
     → read_wraps plain K l (test c) parts from n q at ≡ gives p to
     → (j : ℕ) × Wraps chosen K l c A B j p from to × Absent chosen c K to
 unfolding read_wraps
@@ -94,10 +94,10 @@ wraps_fit K l c parts A B from fit (suc n) k q at p to so_far e =
           rw (← same.0, ← same.1) (k, so_far, test_absent c K at last.0)
     ]
 
-module _ {Row Label : Type 0} (K : List Key) (below : Row → ℕ → Out (Plain Label))
-    (Below : Row → Plain Label → ℕ → ℕ → Type 0)
-    (below_fits : (r : Row) (at : ℕ) (q : Plain Label) (mid : ℕ) → below r at ≡ gives q mid → Below r q at mid) where
-  form_fits : (f : Form Row) (at : ℕ) (p : Plain Label) (to : ℕ) → read_form plain K below f at ≡ gives p to
+module _ {Row NodeKind : Type 0} (K : List Key) (below : Row → ℕ → Out (Plain NodeKind))
+    (Below : Row → Plain NodeKind → ℕ → ℕ → Type 0)
+    (below_fits : (r : Row) (at : ℕ) (q : Plain NodeKind) (mid : ℕ) → below r at ≡ gives q mid → Below r q at mid) where
+  form_fits : (f : Rhs Row) (at : ℕ) (p : Plain NodeKind) (to : ℕ) → read_form plain K below f at ≡ gives p to
       → Fits chosen K Below f p at to
   form_fits done at p to e = let same = gives_same nil p at to e in (sym same.0, same.1)
   form_fits (tok s may f) at p to e =
@@ -169,7 +169,8 @@ module _ {Row Label : Type 0} (K : List Key) (below : Row → ℕ → Out (Plain
       let here = only_if-gives (t K at) (read_form plain K below f at) p to e in
       (here.0, form_fits f at p to here.1)
 
-  rule_fits : (a : Rule Row Label) (at : ℕ) (p : Plain Label) (to : ℕ) → read_rule plain K below a at ≡ gives p to
+  rule_fits : (a : Production Row NodeKind) (at : ℕ) (p : Plain NodeKind) (to : ℕ)
+      → read_rule plain K below a at ≡ gives p to
       → IsBy chosen K Below a p at to
   rule_fits refuse at p to e = nothing_gives p to e
   rule_fits (make l f) at p to e =
@@ -200,8 +201,9 @@ module _ {Row Label : Type 0} (K : List Key) (below : Row → ℕ → Out (Plain
       first.0 first.1 p to (rule_fits a at first.0 first.1 first.2) first.3
 
 -- what the reader of a row answers is a tree of it
-pub row_fits : {Row Label : Type 0} (K : List Key) (rule : Row → Rule Row Label) (room : ℕ) (r : Row) (at : ℕ)
-    (p : Plain Label) (to : ℕ)
+pub row_fits : {Row NodeKind : Type 0} (K : List Key) (rule : Row → Production Row NodeKind) (room : ℕ) (r : Row)
+    (at : ℕ)
+    (p : Plain NodeKind) (to : ℕ)
     → read_row plain K rule room r at ≡ gives p to → Under chosen K rule room r p at to
 unfolding Under read_row
 row_fits K rule zero r at p to e = nothing_gives p to e
@@ -210,11 +212,11 @@ row_fits K rule (suc room) r at p to e =
 
 -- ---- what fits is read
 
-turns_read : {Label : Type 0} (K : List Key) (c : Told) (one : ℕ → Out (Plain Label))
-    (One : Plain Label → ℕ → ℕ → Type 0)
-    → ((q : Plain Label) (at mid : ℕ) → at ≤ length K → One q at mid → one at ≡ gives q mid)
-    → ((q : Plain Label) (at mid : ℕ) → One q at mid → IsAhead (length K) true at mid)
-    → (n : ℕ) (p : Plain Label) (at to : ℕ) → at ≤ length K → to ≤ at + n
+turns_read : {NodeKind : Type 0} (K : List Key) (c : Predict) (one : ℕ → Out (Plain NodeKind))
+    (One : Plain NodeKind → ℕ → ℕ → Type 0)
+    → ((q : Plain NodeKind) (at mid : ℕ) → at ≤ length K → One q at mid → one at ≡ gives q mid)
+    → ((q : Plain NodeKind) (at mid : ℕ) → One q at mid → IsAhead (length K) true at mid)
+    → (n : ℕ) (p : Plain NodeKind) (at to : ℕ) → at ≤ length K → to ≤ at + n
     → Turns chosen K c One p at to → read_turns plain K (test c) one n at ≡ gives p to
 unfolding read_turns
 turns_read K c one One reads ahead zero nil at to start enough fit =
@@ -240,27 +242,29 @@ turns_read K c one One reads ahead (suc n) (turn q ps) at to start enough fit =
 turns_read K c one One reads ahead n _ at to start enough fit = absurd fit
 
 -- no more turns behind an operand
-wraps_end : {Label : Type 0} (K : List Key) (l : Label) (t : Guard) (parts : ℕ → Out (Plain Label)) (from n : ℕ)
-    (p : Plain Label) (to : ℕ)
+wraps_end : {NodeKind : Type 0} (K : List Key) (l : NodeKind) (t : Predicate) (parts : ℕ → Out (Plain NodeKind))
+    (from n : ℕ)
+    (p : Plain NodeKind) (to : ℕ)
     → t K to ≡ false → read_wraps plain K l t parts from n p to ≡ gives p to
 unfolding read_wraps
 wraps_end K l t parts from zero p to e = rw e refl
 wraps_end K l t parts from (suc n) p to e = rw e refl
 
 -- one more turn behind it
-wraps_go : {Label : Type 0} (K : List Key) (l : Label) (t : Guard) (parts : ℕ → Out (Plain Label)) (from n : ℕ)
-    (q : Plain Label) (mid : ℕ)
-    (ps : Plain Label) (to : ℕ) → t K mid ≡ true → parts mid ≡ gives ps to
+wraps_go : {NodeKind : Type 0} (K : List Key) (l : NodeKind) (t : Predicate) (parts : ℕ → Out (Plain NodeKind))
+    (from n : ℕ)
+    (q : Plain NodeKind) (mid : ℕ)
+    (ps : Plain NodeKind) (to : ℕ) → t K mid ≡ true → parts mid ≡ gives ps to
     → read_wraps plain K l t parts from (suc n) q mid
     ≡ read_wraps plain K l t parts from n (node l from to (cons q ps)) to
 unfolding read_wraps
 wraps_go K l t parts from n q mid ps to e h = rw (e, h) refl
 
 -- each turn behind an operand takes a token
-wraps_count : {Label : Type 0} (K : List Key) (l : Label) (c : Told) (A B : Plain Label → ℕ → ℕ → Type 0)
-    → ((q : Plain Label) (from mid : ℕ) → A q from mid → from ≤ mid)
-    → ((q : Plain Label) (from mid : ℕ) → B q from mid → from < mid)
-    → (n : ℕ) (p : Plain Label) (from to : ℕ) → Wraps chosen K l c A B n p from to → from + n ≤ to
+wraps_count : {NodeKind : Type 0} (K : List Key) (l : NodeKind) (c : Predict) (A B : Plain NodeKind → ℕ → ℕ → Type 0)
+    → ((q : Plain NodeKind) (from mid : ℕ) → A q from mid → from ≤ mid)
+    → ((q : Plain NodeKind) (from mid : ℕ) → B q from mid → from < mid)
+    → (n : ℕ) (p : Plain NodeKind) (from to : ℕ) → Wraps chosen K l c A B n p from to → from + n ≤ to
 wraps_count K l c A B one other zero p from to fit = let le : from ≤ to = one p from to fit in omega arith
 wraps_count K l c A B one other (suc n) p from to fit =
     let so_far : from + n ≤ fit.2 = wraps_count K l c A B one other n fit.0 from fit.2 fit.4 in
@@ -268,14 +272,14 @@ wraps_count K l c A B one other (suc n) p from to fit =
     omega arith
 
 -- what wraps an operand is reached from it
-wraps_reach : {Label : Type 0} (K : List Key) (l : Label) (c : Told) (operand : Out (Plain Label))
-    (parts : ℕ → Out (Plain Label))
-    (A B : Plain Label → ℕ → ℕ → Type 0) (from most : ℕ)
-    → ((q : Plain Label) (mid : ℕ) → A q from mid → operand ≡ gives q mid)
-    → ((q : Plain Label) (mid : ℕ) → A q from mid → mid ≤ length K)
-    → ((ps : Plain Label) (mid to : ℕ) → mid ≤ length K → B ps mid to → parts mid ≡ gives ps to)
-    → ((ps : Plain Label) (mid to : ℕ) → mid ≤ length K → B ps mid to → to ≤ length K)
-    → (n m : ℕ) (p : Plain Label) (to : ℕ) → n + m ≡ most → Wraps chosen K l c A B n p from to
+wraps_reach : {NodeKind : Type 0} (K : List Key) (l : NodeKind) (c : Predict) (operand : Out (Plain NodeKind))
+    (parts : ℕ → Out (Plain NodeKind))
+    (A B : Plain NodeKind → ℕ → ℕ → Type 0) (from most : ℕ)
+    → ((q : Plain NodeKind) (mid : ℕ) → A q from mid → operand ≡ gives q mid)
+    → ((q : Plain NodeKind) (mid : ℕ) → A q from mid → mid ≤ length K)
+    → ((ps : Plain NodeKind) (mid to : ℕ) → mid ≤ length K → B ps mid to → parts mid ≡ gives ps to)
+    → ((ps : Plain NodeKind) (mid to : ℕ) → mid ≤ length K → B ps mid to → to ≤ length K)
+    → (n m : ℕ) (p : Plain NodeKind) (to : ℕ) → n + m ≡ most → Wraps chosen K l c A B n p from to
     → (and_then operand (λ q mid. read_wraps plain K l (test c) parts from most q mid)
     ≡ read_wraps plain K l (test c) parts from m p to) × (to ≤ length K)
 wraps_reach K l c operand parts A B from most reads within turn_reads turn_within zero m p to sum fit =
@@ -295,12 +299,12 @@ wraps_reach K l c operand parts A B from most reads within turn_reads turn_withi
       turn_within fit.1 fit.2 to so_far.1 fit.6,
     )
 
-module _ {Row Label : Type 0} (K : List Key) (solid : Row → Bool) (below : Row → ℕ → Out (Plain Label))
-    (Below : Row → Plain Label → ℕ → ℕ → Type 0)
-    (below_ahead : (r : Row) (q : Plain Label) (at mid : ℕ) → Below r q at mid → IsAhead (length K) (solid r) at mid)
-    (below_reads : (r : Row) (q : Plain Label) (at mid : ℕ) → at ≤ length K → Below r q at mid
+module _ {Row NodeKind : Type 0} (K : List Key) (solid : Row → Bool) (below : Row → ℕ → Out (Plain NodeKind))
+    (Below : Row → Plain NodeKind → ℕ → ℕ → Type 0)
+    (below_ahead : (r : Row) (q : Plain NodeKind) (at mid : ℕ) → Below r q at mid → IsAhead (length K) (solid r) at mid)
+    (below_reads : (r : Row) (q : Plain NodeKind) (at mid : ℕ) → at ≤ length K → Below r q at mid
     → below r at ≡ gives q mid) where
-  form_reads : (f : Form Row) → parts_take solid f ≡ true → (p : Plain Label) (at to : ℕ) → at ≤ length K
+  form_reads : (f : Rhs Row) → parts_take solid f ≡ true → (p : Plain NodeKind) (at to : ℕ) → at ≤ length K
       → Fits chosen K Below f p at to → read_form plain K below f at ≡ gives p to
   form_reads done sound p at to start fit = let tree = fit.0 in let ends = fit.1 in cc
   form_reads (tok s may f) sound p at to start fit =
@@ -342,7 +346,7 @@ module _ {Row Label : Type 0} (K : List Key) (solid : Row → Bool) (below : Row
   form_reads (many c g f) sound p at to start fit =
       let checks = both_hold (takes solid g) (parts_take solid g && parts_take solid f) sound in
       let parts = both_hold (parts_take solid g) (parts_take solid f) checks.1 in
-      let turn_ahead : (q : Plain Label) (at mid : ℕ) → Fits chosen K Below g q at mid
+      let turn_ahead : (q : Plain NodeKind) (at mid : ℕ) → Fits chosen K Below g q at mid
       → IsAhead (length K) true at mid =
       λ q at mid one. (let x = fits_ahead chosen K solid Below below_ahead g q at mid one in rw checks.0 at x) in
       let list = turns_ahead chosen K c (Fits chosen K Below g) true (length K) turn_ahead fit.0 at fit.2 fit.4 in
@@ -380,7 +384,8 @@ module _ {Row Label : Type 0} (K : List Key) (solid : Row → Bool) (below : Row
   form_reads (where_ t f) sound p at to start fit =
       only_if_true (t K at) (read_form plain K below f at) (gives p to) fit.0 (form_reads f sound p at to start fit.1)
 
-  rule_reads : (a : Rule Row Label) → rule_parts_take solid a ≡ true → (p : Plain Label) (at to : ℕ) → at ≤ length K
+  rule_reads : (a : Production Row NodeKind) → rule_parts_take solid a ≡ true → (p : Plain NodeKind) (at to : ℕ)
+      → at ≤ length K
       → IsBy chosen K Below a p at to → read_rule plain K below a at ≡ gives p to
   rule_reads refuse sound p at to start by = absurd by
   rule_reads (make l f) sound p at to start by =
@@ -437,9 +442,9 @@ module _ {Row Label : Type 0} (K : List Key) (solid : Row → Bool) (below : Row
       ∙ wraps_end K l (test c) (read_form plain K below f) at (length K - by.0) p to (absent_test c K to by.2)
 
 -- a tree of a row is what its reader answers
-pub row_reads : {Row Label : Type 0} (K : List Key) (rule : Row → Rule Row Label) (solid : Row → Bool)
+pub row_reads : {Row NodeKind : Type 0} (K : List Key) (rule : Row → Production Row NodeKind) (solid : Row → Bool)
     → IsSteady rule solid
-    → (room : ℕ) (r : Row) (p : Plain Label) (at to : ℕ) → at ≤ length K → Under chosen K rule room r p at to
+    → (room : ℕ) (r : Row) (p : Plain NodeKind) (at to : ℕ) → at ≤ length K → Under chosen K rule room r p at to
     → read_row plain K rule room r at ≡ gives p to
 unfolding Under read_row
 row_reads K rule solid steady zero r p at to start under = absurd under

@@ -2,7 +2,7 @@
 use Rattle.std.specs.Prelude.{List, max, ◌&&◌, true}
 use Rattle.std.proofs.Common.{◌≡◌, ℕ, zero, suc, ◌+◌, ◌≤◌, refl, sym, subst, inl, inr, arith}
 use Rattle.es_tree.specs.Key.{Key}
-use Rattle.es_tree.specs.Form.{Told, Form, done, tok, punct, row, opt, many, alt, when_, where_, Rule, refuse, make, choose, as_, pick, wrap}
+use Rattle.es_tree.specs.Productions.{Predict, Rhs, done, tok, punct, row, opt, many, alt, when_, where_, Production, refuse, make, choose, as_, pick, wrap}
 use Rattle.es_tree.specs.Plain.{Plain, node, leaf, nil, cons, mark, turn, via, tall, Makes, made, Tallied, tallied}
 use Rattle.es_tree.specs.Fits.{Reading, Turns, Fits, IsBy, Under}
 use Rattle.es_tree.specs.Checks.{is_flat}
@@ -13,20 +13,21 @@ use Rattle.es_tree.proofs.Progress.{both_hold}
 max_le : (a b n : ℕ) → a ≤ n → b ≤ n → max a b ≤ n
 max_le a b n x y = omega arith
 
-tall_moved : {Label : Type 0} (n : ℕ) (p q : Plain Label) → p ≡ q → tall q ≤ n → tall p ≤ n
+tall_moved : {NodeKind : Type 0} (n : ℕ) (p q : Plain NodeKind) → p ≡ q → tall q ≤ n → tall p ≤ n
 tall_moved n p q e h = let Q : Plain _ → Type 0 = λ t. tall t ≤ n in subst Q (sym e) h
 
-turns_tall : {Label : Type 0} (h : Reading) (K : List Key) (c : Told) (One : Plain Label → ℕ → ℕ → Type 0) (n : ℕ)
-    → ((q : Plain Label) (from mid : ℕ) → One q from mid → tall q ≤ n)
-    → (ps : Plain Label) (from to : ℕ) → Turns h K c One ps from to → tall ps ≤ n
+turns_tall : {NodeKind : Type 0} (h : Reading) (K : List Key) (c : Predict) (One : Plain NodeKind → ℕ → ℕ → Type 0)
+    (n : ℕ)
+    → ((q : Plain NodeKind) (from mid : ℕ) → One q from mid → tall q ≤ n)
+    → (ps : Plain NodeKind) (from to : ℕ) → Turns h K c One ps from to → tall ps ≤ n
 turns_tall h K c One n each nil from to fit = omega arith
 turns_tall h K c One n each (turn q ps) from to fit =
     max_le (tall q) (tall ps) n (each q from fit.0 fit.2) (turns_tall h K c One n each ps fit.0 to fit.3)
 turns_tall h K c One n each _ from to fit = absurd fit
 
-module _ {Row Label : Type 0} (h : Reading) (K : List Key) (Below : Row → Plain Label → ℕ → ℕ → Type 0) (n : ℕ)
-    (below_tall : (r : Row) (q : Plain Label) (from mid : ℕ) → Below r q from mid → tall q ≤ n) where
-  form_tall : (f : Form Row) (p : Plain Label) (from to : ℕ) → Fits h K Below f p from to → tall p ≤ n
+module _ {Row NodeKind : Type 0} (h : Reading) (K : List Key) (Below : Row → Plain NodeKind → ℕ → ℕ → Type 0) (n : ℕ)
+    (below_tall : (r : Row) (q : Plain NodeKind) (from mid : ℕ) → Below r q from mid → tall q ≤ n) where
+  form_tall : (f : Rhs Row) (p : Plain NodeKind) (from to : ℕ) → Fits h K Below f p from to → tall p ≤ n
   form_tall done p from to fit = tall_moved n p nil fit.0 (omega arith)
   form_tall (tok s may f) p from to fit =
       tall_moved n p (cons (leaf s from) fit.0) fit.1
@@ -54,7 +55,8 @@ module _ {Row Label : Type 0} (h : Reading) (K : List Key) (Below : Row → Plai
   form_tall (when_ t f) p from to fit = form_tall f p from to fit.1
   form_tall (where_ t f) p from to fit = form_tall f p from to fit.1
 
-  rule_tall : (a : Rule Row Label) → is_flat a ≡ true → (p : Plain Label) (from to : ℕ) → IsBy h K Below a p from to
+  rule_tall : (a : Production Row NodeKind) → is_flat a ≡ true → (p : Plain NodeKind) (from to : ℕ)
+      → IsBy h K Below a p from to
       → tall p ≤ suc n
   rule_tall refuse flat p from to by = absurd by
   rule_tall (make l f) flat p from to by =
@@ -76,7 +78,7 @@ module _ {Row Label : Type 0} (h : Reading) (K : List Key) (Below : Row → Plai
   rule_tall (wrap l a c f) flat p from to by = clash flat
 
 -- what is tallied is what is made, and how tall its tree is
-pub made_tallied : {Label Made : Type 0} (m : Makes Label Made) (p : Plain Label)
+pub made_tallied : {NodeKind Made : Type 0} (m : Makes NodeKind Made) (p : Plain NodeKind)
     → made (tallied m) p ≡ record { value = made m p; height = tall p }
 unfolding made
 made_tallied m (node l from to ps) = rw (made_tallied m ps) refl
@@ -88,8 +90,8 @@ made_tallied m (turn p ps) = rw (made_tallied m p, made_tallied m ps) refl
 made_tallied m (via w p) = rw (made_tallied m p) refl
 
 -- a tree of a row of such a table
-pub under_tall : {Row Label : Type 0} (h : Reading) (K : List Key) (rule : Row → Rule Row Label)
-    → ((r : Row) → is_flat (rule r) ≡ true) → (room : ℕ) (r : Row) (p : Plain Label) (from to : ℕ)
+pub under_tall : {Row NodeKind : Type 0} (h : Reading) (K : List Key) (rule : Row → Production Row NodeKind)
+    → ((r : Row) → is_flat (rule r) ≡ true) → (room : ℕ) (r : Row) (p : Plain NodeKind) (from to : ℕ)
     → Under h K rule room r p from to → tall p ≤ room
 unfolding Under
 under_tall h K rule flat zero r p from to under = absurd under

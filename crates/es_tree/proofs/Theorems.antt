@@ -3,7 +3,7 @@ use Rattle.std.specs.Prelude.{List, None, true}
 use Rattle.std.proofs.Common.{◌≡◌, ◌≤◌, length, sym, ap, ◌∙◌, arith}
 use Rattle.std.proofs.lemmas.Option.{slice_get_past}
 use Rattle.es_tree.specs.Key.{Key, seen, seen_of}
-use Rattle.es_tree.specs.Form.{Rule}
+use Rattle.es_tree.specs.Productions.{Production}
 use Rattle.es_tree.specs.Plain.{Plain, Makes, made, plain, tall, Tallied, tallied}
 use Rattle.es_tree.specs.Fits.{free, chosen, Under, Shape, most_nodes}
 use Rattle.es_tree.specs.Reader.{gives, changed, read_row}
@@ -16,7 +16,8 @@ use Rattle.es_tree.proofs.MadeLemmas.{row_made}
 use Rattle.es_tree.proofs.TallLemmas.{under_tall, made_tallied}
 
 -- a grammar whose tests tell, and a row of it that may stand before the end
-pub record IsGrammar {Row Label : Type 0} (rule : Row → Rule Row Label) (s : Sets Row) (start : Row) : Type 0 where
+pub record IsGrammar {Row NodeKind : Type 0} (rule : Row → Production Row NodeKind) (s : Sets Row) (start : Row) : Type
+    0 where
   pub told : IsTold rule s
   pub ends : s.follow start None ≡ true
 
@@ -24,10 +25,10 @@ pub record IsGrammar {Row Label : Type 0} (rule : Row → Rule Row Label) (s : S
 pub seen-length : (K : List Key) → seen K (length K) ≡ None
 seen-length K = ap seen_of (slice_get_past K (length K) (omega arith))
 
-module _ {Row Label : Type 0} (rule : Row → Rule Row Label) (s : Sets Row) (start : Row)
+module _ {Row NodeKind : Type 0} (rule : Row → Production Row NodeKind) (s : Sets Row) (start : Row)
     (grammar : IsGrammar rule s start) where
   -- no test bars a reading: what the grammar derives obeys them
-  pub free_is_chosen : (K : List Key) (p : Plain Label) → Shape free rule start K p → Shape chosen rule start K p
+  pub free_is_chosen : (K : List Key) (p : Plain NodeKind) → Shape free rule start K p → Shape chosen rule start K p
   unfolding Shape
   free_is_chosen K p shaped = (
     Free.free_is_chosen K rule s grammar.told most_nodes start p 0 (length K) shaped.0
@@ -36,14 +37,14 @@ module _ {Row Label : Type 0} (rule : Row → Rule Row Label) (s : Sets Row) (st
   )
 
   -- and the other way round
-  pub chosen_is_free : (K : List Key) (p : Plain Label) → Shape chosen rule start K p → Shape free rule start K p
+  pub chosen_is_free : (K : List Key) (p : Plain NodeKind) → Shape chosen rule start K p → Shape free rule start K p
   unfolding Shape
   chosen_is_free K p shaped = (Free.chosen_is_free K rule most_nodes start p 0 (length K) shaped.0, shaped.1)
 
   -- what the reader answers at the end is made of a tree that fits
-  read_fits : {Made : Type 0} (m : Makes Label Made) (K : List Key) (v : Made)
+  read_fits : {Made : Type 0} (m : Makes NodeKind Made) (K : List Key) (v : Made)
       → read_row m K rule most_nodes start 0 ≡ gives v (length K)
-      → (p : Plain Label) × Under free K rule most_nodes start p 0 (length K) × (made m p ≡ v)
+      → (p : Plain NodeKind) × Under free K rule most_nodes start p 0 (length K) × (made m p ≡ v)
   read_fits m K v read =
       let tree = changed-gives (made m) (read_row plain K rule most_nodes start 0) v (length K)
       (sym (row_made m K rule most_nodes start 0) ∙ read) in (
@@ -55,18 +56,18 @@ module _ {Row Label : Type 0} (rule : Row → Rule Row Label) (s : Sets Row) (st
 
   -- where no rule has turns behind an operand, it is made of a tree of the grammar
   pub read_is_derived : ((r : Row) → is_flat (rule r) ≡ true)
-      → {Made : Type 0} (m : Makes Label Made) (K : List Key) (v : Made)
+      → {Made : Type 0} (m : Makes NodeKind Made) (K : List Key) (v : Made)
       → read_row m K rule most_nodes start 0 ≡ gives v (length K)
-      → (p : Plain Label) × Shape free rule start K p × (made m p ≡ v)
+      → (p : Plain NodeKind) × Shape free rule start K p × (made m p ≡ v)
   unfolding Shape
   read_is_derived flat m K v read =
       let tree = read_fits m K v read in
       (tree.0, (tree.1, under_tall free K rule flat most_nodes start tree.0 0 (length K) tree.1), tree.2)
 
   -- and elsewhere where the reader counted no more nodes on a path than may be
-  pub tallied_is_derived : {Made : Type 0} (m : Makes Label Made) (K : List Key) (v : Tallied Made)
+  pub tallied_is_derived : {Made : Type 0} (m : Makes NodeKind Made) (K : List Key) (v : Tallied Made)
       → read_row (tallied m) K rule most_nodes start 0 ≡ gives v (length K) → v.height ≤ most_nodes
-      → (p : Plain Label) × Shape free rule start K p × (made m p ≡ v.value)
+      → (p : Plain NodeKind) × Shape free rule start K p × (made m p ≡ v.value)
   unfolding Shape
   tallied_is_derived m K v read low =
       let tree = read_fits (tallied m) K v read in
@@ -75,7 +76,7 @@ module _ {Row Label : Type 0} (rule : Row → Rule Row Label) (s : Sets Row) (st
       (tree.0, (tree.1, (let le : v.height ≤ most_nodes = low in omega (arith, height))), ap (λ x. x.value) same)
 
   -- what is made of a tree of the grammar is what the reader answers, at the end
-  pub derived_is_read : {Made : Type 0} (m : Makes Label Made) (K : List Key) (p : Plain Label)
+  pub derived_is_read : {Made : Type 0} (m : Makes NodeKind Made) (K : List Key) (p : Plain NodeKind)
       → Shape free rule start K p → read_row m K rule most_nodes start 0 ≡ gives (made m p) (length K)
   unfolding Shape
   derived_is_read m K p shaped =
@@ -85,14 +86,14 @@ module _ {Row Label : Type 0} (rule : Row → Rule Row Label) (s : Sets Row) (st
       (free_is_chosen K p shaped).0)
 
   -- with its height
-  pub derived_is_tallied : {Made : Type 0} (m : Makes Label Made) (K : List Key) (p : Plain Label)
+  pub derived_is_tallied : {Made : Type 0} (m : Makes NodeKind Made) (K : List Key) (p : Plain NodeKind)
       → Shape free rule start K p
       → read_row (tallied m) K rule most_nodes start 0 ≡ gives (record { value = made m p; height = tall p }) (length K)
   derived_is_tallied m K p shaped =
       derived_is_read (tallied m) K p shaped ∙ ap (λ v. gives v (length K)) (made_tallied m p)
 
   -- the keys of tokens have at most one tree
-  pub one_shape : (K : List Key) (p q : Plain Label) → Shape free rule start K p → Shape free rule start K q → p ≡ q
+  pub one_shape : (K : List Key) (p q : Plain NodeKind) → Shape free rule start K p → Shape free rule start K q → p ≡ q
   unfolding Shape
   one_shape K p q one other =
       let first = row_reads K rule s.solid grammar.told.steady most_nodes start p 0 (length K) (omega arith)

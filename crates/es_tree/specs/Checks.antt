@@ -1,10 +1,10 @@
 -- What a table of rows has to meet so that its reader reads each of its trees: tests of the table alone, each of which computes.
 use Rattle.std.specs.Prelude.{◌≡◌, Bool, true, false, ◌&&◌, ◌||◌}
-use Rattle.es_tree.specs.Form.{Form, done, tok, punct, row, opt, many, alt, when_, where_, Rule, refuse, make, choose, as_, pick, wrap}
+use Rattle.es_tree.specs.Productions.{Rhs, done, tok, punct, row, opt, many, alt, when_, where_, Production, refuse, make, choose, as_, pick, wrap}
 
 module _ {Row : Type 0} (solid : Row → Bool) where
   -- the form takes a token, whatever is absent, where `solid` tells the rows that do
-  abbrev pub takes : Form Row → Bool
+  abbrev pub takes : Rhs Row → Bool
   takes done = false
   takes (tok s may f) = true
   takes (punct k f) = true
@@ -16,7 +16,7 @@ module _ {Row : Type 0} (solid : Row → Bool) where
   takes (where_ t f) = takes f
 
   -- each optional part and each turn takes a token
-  abbrev pub parts_take : Form Row → Bool
+  abbrev pub parts_take : Rhs Row → Bool
   parts_take done = true
   parts_take (tok s may f) = parts_take f
   parts_take (punct k f) = parts_take f
@@ -28,7 +28,7 @@ module _ {Row : Type 0} (solid : Row → Bool) where
   parts_take (where_ t f) = parts_take f
 
 -- each alternative of the rule takes a token
-abbrev pub rule_takes : {Row Label : Type 0} → (Row → Bool) → Rule Row Label → Bool
+abbrev pub rule_takes : {Row NodeKind : Type 0} → (Row → Bool) → Production Row NodeKind → Bool
 rule_takes solid refuse = true
 rule_takes solid (make l f) = takes solid f
 rule_takes solid (choose t a b) = rule_takes solid a && rule_takes solid b
@@ -37,7 +37,7 @@ rule_takes solid (pick g a b) = rule_takes solid a && rule_takes solid b
 rule_takes solid (wrap l a c f) = rule_takes solid a
 
 -- each optional part and each turn of the rule takes a token
-abbrev pub rule_parts_take : {Row Label : Type 0} → (Row → Bool) → Rule Row Label → Bool
+abbrev pub rule_parts_take : {Row NodeKind : Type 0} → (Row → Bool) → Production Row NodeKind → Bool
 rule_parts_take solid refuse = true
 rule_parts_take solid (make l f) = parts_take solid f
 rule_parts_take solid (choose t a b) = rule_parts_take solid a && rule_parts_take solid b
@@ -47,7 +47,7 @@ rule_parts_take solid (wrap l a c f) =
     rule_takes solid a && (rule_parts_take solid a && (takes solid f && parts_take solid f))
 
 -- the rule has no turns behind an operand, so that its rows are its nodes
-abbrev pub is_flat : {Row Label : Type 0} → Rule Row Label → Bool
+abbrev pub is_flat : {Row NodeKind : Type 0} → Production Row NodeKind → Bool
 is_flat refuse = true
 is_flat (make l f) = true
 is_flat (choose t a b) = is_flat a && is_flat b
@@ -56,6 +56,6 @@ is_flat (pick g a b) = is_flat a && is_flat b
 is_flat (wrap l a c f) = false
 
 -- a table all of whose lists end: the rows that `solid` names take a token, and so does each optional part and each turn
-pub record IsSteady {Row Label : Type 0} (rule : Row → Rule Row Label) (solid : Row → Bool) : Type 0 where
+pub record IsSteady {Row NodeKind : Type 0} (rule : Row → Production Row NodeKind) (solid : Row → Bool) : Type 0 where
   pub rows : (r : Row) → solid r ≡ true → rule_takes solid (rule r) ≡ true
   pub parts : (r : Row) → rule_parts_take solid (rule r) ≡ true

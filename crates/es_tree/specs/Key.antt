@@ -1,4 +1,4 @@
--- What the grammar looks at of a token: a key. No row and no guard looks at a text.
+-- What the grammar looks at of a token: a key. No row and no predicate looks at a text.
 use Rattle.std.specs.Prelude.{ℕ, Bool, true, false, List, [], ◌∷◌, Option, Some, None, slice_get, ◌==◌}
 use denote.Enum.Bare.{sameb}
 use Rattle.es_token.specs.declared.token.Token.{Token}

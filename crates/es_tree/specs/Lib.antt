@@ -1,6 +1,6 @@
 -- the language in which a grammar is written, and what it means
 pub mod Key
-pub mod Form
+pub mod Productions
 pub mod Plain
 pub mod Fits
 -- the reader of a grammar, and what its table has to meet

@@ -1,26 +1,26 @@
 -- Plain trees, which know of the tokens only their numbers, and what is made of them part by part.
 use Rattle.std.specs.Prelude.{ℕ, zero, suc, max}
-use Rattle.es_tree.specs.Form.{Sort}
+use Rattle.es_tree.specs.Productions.{LeafKind}
 
 -- a tree, or the parts of a node in order
-pub data Plain (Label : Type 0) : Type 0 where
+pub data Plain (NodeKind : Type 0) : Type 0 where
   -- a node: the alternative read, its first token, the token after its last, its parts
-  node : Label → ℕ → ℕ → Plain Label → Plain Label
+  node : NodeKind → ℕ → ℕ → Plain NodeKind → Plain NodeKind
   -- a token that is kept, by its number
-  leaf : Sort → ℕ → Plain Label
+  leaf : LeafKind → ℕ → Plain NodeKind
   -- no more parts, or a part that is absent, or no more turns of a list
-  nil : Plain Label
+  nil : Plain NodeKind
   -- a part, and those after it
-  cons : Plain Label → Plain Label → Plain Label
+  cons : Plain NodeKind → Plain NodeKind → Plain NodeKind
   -- a token that is dropped, by its number, and the parts after it
-  mark : ℕ → Plain Label → Plain Label
+  mark : ℕ → Plain NodeKind → Plain NodeKind
   -- one turn of a list, and the turns after it
-  turn : Plain Label → Plain Label → Plain Label
+  turn : Plain NodeKind → Plain NodeKind → Plain NodeKind
   -- a node in another role
-  via : Label → Plain Label → Plain Label
+  via : NodeKind → Plain NodeKind → Plain NodeKind
 
 -- the most nodes on a path of it
-abbrev pub tall : {Label : Type 0} → Plain Label → ℕ
+abbrev pub tall : {NodeKind : Type 0} → Plain NodeKind → ℕ
 tall (node l from to ps) = suc (tall ps)
 tall (leaf s n) = zero
 tall nil = zero
@@ -30,17 +30,17 @@ tall (turn p ps) = max (tall p) (tall ps)
 tall (via w p) = tall p
 
 -- what is made of each part of a plain tree
-pub record Makes (Label Made : Type 0) : Type 0 where
-  pub of_node : Label → ℕ → ℕ → Made → Made
-  pub of_leaf : Sort → ℕ → Made
+pub record Makes (NodeKind Made : Type 0) : Type 0 where
+  pub of_node : NodeKind → ℕ → ℕ → Made → Made
+  pub of_leaf : LeafKind → ℕ → Made
   pub of_nil : Made
   pub of_cons : Made → Made → Made
   pub of_mark : ℕ → Made → Made
   pub of_turn : Made → Made → Made
-  pub of_via : Label → Made → Made
+  pub of_via : NodeKind → Made → Made
 
 -- what is made of a whole tree
-unfoldable pub made : {Label Made : Type 0} → Makes Label Made → Plain Label → Made
+unfoldable pub made : {NodeKind Made : Type 0} → Makes NodeKind Made → Plain NodeKind → Made
 made m (node l from to ps) = m.of_node l from to (made m ps)
 made m (leaf s n) = m.of_leaf s n
 made m nil = m.of_nil
@@ -55,7 +55,7 @@ pub record Tallied (Made : Type 0) : Type 0 where
   pub height : ℕ
 
 -- what is made of each part, tallied
-abbrev pub tallied : {Label Made : Type 0} → Makes Label Made → Makes Label (Tallied Made)
+abbrev pub tallied : {NodeKind Made : Type 0} → Makes NodeKind Made → Makes NodeKind (Tallied Made)
 tallied m = record {
   of_node = λ l from to v. record { value = m.of_node l from to v.value; height = suc v.height };
   of_leaf = λ s n. record { value = m.of_leaf s n; height = zero };
@@ -67,7 +67,7 @@ tallied m = record {
 }
 
 -- the plain tree itself
-abbrev pub plain : {Label : Type 0} → Makes Label (Plain Label)
+abbrev pub plain : {NodeKind : Type 0} → Makes NodeKind (Plain NodeKind)
 plain = record {
   of_node = node;
   of_leaf = leaf;

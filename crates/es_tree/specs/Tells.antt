@@ -2,7 +2,7 @@
 -- the one and those that may begin the other are told apart. A test of the table alone, at each token by itself.
 use Rattle.std.specs.Prelude.{◌≡◌, Bool, true, false, not, ◌&&◌, ◌||◌, Option}
 use Rattle.es_tree.specs.Key.{TokenTest, Seen, has_kind, is}
-use Rattle.es_tree.specs.Form.{Told, hint, taken, guarded, Form, done, tok, punct, row, opt, many, alt, when_, where_, Rule, refuse, make, choose, as_, pick, wrap}
+use Rattle.es_tree.specs.Productions.{Predict, by_lookahead, greedy, by_predicate, Rhs, done, tok, punct, row, opt, many, alt, when_, where_, Production, refuse, make, choose, as_, pick, wrap}
 use Rattle.es_tree.specs.Checks.{IsSteady}
 
 -- what is claimed of the rows: the tokens that may begin one, those that may follow one, and whether it always takes a token
@@ -19,27 +19,27 @@ none x = false
 abbrev pub implies : Bool → Bool → Bool
 implies a b = not a || b
 
--- a part may be absent before this token, by the written guards
-abbrev pub may_lack : Told → TokenTest
-may_lack (hint t) x = true
-may_lack (taken t) x = not (t x)
-may_lack (guarded g) x = true
+-- a part may be absent before this token, by the written predicates
+abbrev pub may_lack : Predict → TokenTest
+may_lack (by_lookahead t) x = true
+may_lack (greedy t) x = not (t x)
+may_lack (by_predicate g) x = true
 
 -- where a part is there, its test says so
-abbrev pub tells_has : Told → TokenTest
-tells_has (hint t) x = t x
-tells_has (taken t) x = t x
-tells_has (guarded g) x = true
+abbrev pub tells_has : Predict → TokenTest
+tells_has (by_lookahead t) x = t x
+tells_has (greedy t) x = t x
+tells_has (by_predicate g) x = true
 
 -- where a part is absent, its test says so
-abbrev pub tells_lack : Told → TokenTest
-tells_lack (hint t) x = not (t x)
-tells_lack (taken t) x = true
-tells_lack (guarded g) x = true
+abbrev pub tells_lack : Predict → TokenTest
+tells_lack (by_lookahead t) x = not (t x)
+tells_lack (greedy t) x = true
+tells_lack (by_predicate g) x = true
 
 module _ {Row : Type 0} (s : Sets Row) where
   -- the form may begin before this token, where `then_` tells what may stand behind it
-  abbrev pub starts : Form Row → TokenTest → TokenTest
+  abbrev pub starts : Rhs Row → TokenTest → TokenTest
   starts done then_ x = then_ x
   starts (tok sort may f) then_ x = has_kind may x
   starts (punct k f) then_ x = is k x
@@ -51,7 +51,7 @@ module _ {Row : Type 0} (s : Sets Row) where
   starts (where_ t f) then_ x = starts f then_ x
 
   -- the rule may begin before this token
-  abbrev pub rule_starts : {Label : Type 0} → Rule Row Label → TokenTest → TokenTest
+  abbrev pub rule_starts : {NodeKind : Type 0} → Production Row NodeKind → TokenTest → TokenTest
   rule_starts refuse then_ x = false
   rule_starts (make l f) then_ x = starts f then_ x
   rule_starts (choose t a b) then_ x = rule_starts a then_ x || rule_starts b then_ x
@@ -60,7 +60,7 @@ module _ {Row : Type 0} (s : Sets Row) where
   rule_starts (wrap l a c f) then_ x = rule_starts a none x
 
   -- the tests of the form tell at this token, and each row in it is followed by what may follow it
-  abbrev pub tells : Form Row → TokenTest → TokenTest
+  abbrev pub tells : Rhs Row → TokenTest → TokenTest
   tells done then_ x = true
   tells (tok sort may f) then_ x = tells f then_ x
   tells (punct k f) then_ x = tells f then_ x
@@ -80,7 +80,7 @@ module _ {Row : Type 0} (s : Sets Row) where
   tells (where_ t f) then_ x = tells f then_ x
 
   -- the tests of the rule tell at this token
-  abbrev pub rule_tells : {Label : Type 0} → Rule Row Label → TokenTest → TokenTest
+  abbrev pub rule_tells : {NodeKind : Type 0} → Production Row NodeKind → TokenTest → TokenTest
   rule_tells refuse then_ x = true
   rule_tells (make l f) then_ x = tells f then_ x
   rule_tells (choose t a b) then_ x =
@@ -94,7 +94,7 @@ module _ {Row : Type 0} (s : Sets Row) where
       && (rule_tells a (λ y. starts f none y || then_ y) x && tells f (λ y. starts f none y || then_ y) x))
 
 -- a table all of whose lists end and all of whose tests tell
-pub record IsTold {Row Label : Type 0} (rule : Row → Rule Row Label) (s : Sets Row) : Type 0 where
+pub record IsTold {Row NodeKind : Type 0} (rule : Row → Production Row NodeKind) (s : Sets Row) : Type 0 where
   pub steady : IsSteady rule s.solid
   pub firsts : (r : Row) (x : Option Seen) → rule_starts s (rule r) none x ≡ true → s.first r x ≡ true
   pub choices : (r : Row) (x : Option Seen) → rule_tells s (rule r) (s.follow r) x ≡ true

@@ -3,9 +3,9 @@ use Rattle.std.specs.Prelude.{ℕ, true, false, List, [], ◌∷◌, ◌++◌, m
 use Rattle.std.proofs.Common.{◌≡◌, refl, sym, ap, ◌∙◌}
 use Rattle.std.proofs.lemmas.List.{append-nil, append_assoc}
 use Rattle.es_token.specs.declared.token.Token.{Token}
-use Rattle.es_whole_grammar.specs.declared.rows.Label.{Label}
-use Rattle.es_whole_tree.specs.declared.tree.Tree.{Tree}
-use Rattle.es_whole_tree.specs.declared.tree.Tree.TheVariants as vTree
+use Rattle.es_grammar.specs.declared.rows.NodeKind.{NodeKind}
+use Rattle.es_cst.specs.declared.tree.Cst.{Cst}
+use Rattle.es_cst.specs.declared.tree.Cst.TheVariants as vCst
 use Rattle.es_syntax.specs.declared.entry.Entry.{Entry}
 use Rattle.es_syntax.specs.declared.entry.Lean.{Lean}
 use Rattle.es_syntax.specs.Trees.{Kept, leant_tree, trees}
@@ -35,19 +35,19 @@ module _ (x : List ℕ) (ts : List Token) where
   token_packed [] = refl
   token_packed (v ∷ vs) = refl
 
-  pub token_leaf : (at : ℕ) → is_token (part_of x ts (vTree.Leaf at)) ≡ true
+  pub token_leaf : (at : ℕ) → is_token (part_of x ts (vCst.Leaf at)) ≡ true
   unfolding is_token
   token_leaf at = ap is_token (part_leaf x ts at)
 
-  pub token_node : (label : Label) (from to : ℕ) (parts : List Tree)
-      → is_token (part_of x ts (vTree.Node label from to parts)) ≡ false
+  pub token_node : (label : NodeKind) (from to : ℕ) (parts : List Cst)
+      → is_token (part_of x ts (vCst.Node label from to parts)) ≡ false
   unfolding is_token
   token_node label from to parts = ap is_token (part_node x ts label from to parts)
 
-  pub token_role : (label : Label) (tree : Tree) → is_token (part_of x ts (vTree.Role label tree)) ≡ false
+  pub token_role : (label : NodeKind) (tree : Cst) → is_token (part_of x ts (vCst.Role label tree)) ≡ false
   token_role label tree = ap is_token (part_role x ts label tree) ∙ token_target (part_of x ts tree)
 
-  pub token_parts : (us : List Tree) → is_token (part_of x ts (vTree.Parts us)) ≡ false
+  pub token_parts : (us : List Cst) → is_token (part_of x ts (vCst.Parts us)) ≡ false
   token_parts us = ap is_token (part_parts x ts us) ∙ token_packed (map (part_of x ts) us)
 
   pub token_lean : (lean : Lean) (from : ℕ) (us : List Kept) → is_token (part_of x ts (leant_tree lean from us)) ≡ false

@@ -3,10 +3,10 @@ use Rattle.std.specs.Prelude.{ℕ, true, false, List, [], ◌∷◌, ◌++◌, m
 use Rattle.std.proofs.Common.{◌≡◌, refl, sym, ap, ◌∙◌}
 use Rattle.std.proofs.lemmas.List.{append-nil, append_assoc}
 use Rattle.es_token.specs.declared.token.Token.{Token}
-use Rattle.es_whole_tree.specs.declared.tree.Tree.{Tree, roll-Tree, out-Tree, roll-out-Tree}
-use Rattle.es_whole_tree.specs.declared.tree.Tree.TheVariants as vTree
-use Rattle.es_whole_tree.specs.declared.tree.Tree.TheOpen.{Tree-F}
-use Rattle.es_whole_tree.specs.declared.tree.Tree.TheFolds.{fold-roll-Tree}
+use Rattle.es_cst.specs.declared.tree.Cst.{Cst, roll-Cst, out-Cst, roll-out-Cst}
+use Rattle.es_cst.specs.declared.tree.Cst.TheVariants as vCst
+use Rattle.es_cst.specs.declared.tree.Cst.TheOpen.{Cst-F}
+use Rattle.es_cst.specs.declared.tree.Cst.TheFolds.{fold-roll-Cst}
 use Rattle.es_syntax.specs.declared.entry.Lean.{Lean}
 use Rattle.es_syntax.specs.declared.entry.Lean.TheVariants as vLean
 use Rattle.es_syntax.specs.Held.{label_of}
@@ -39,13 +39,13 @@ module _ (x : List ℕ) (ts : List Token) where
   -- what is told of a node that leans left, is told of all of these
   on_leaned : {A : Type 0} (f : Part → A) (a : A) (lean : Lean)
       → ((p : Part) (s : Found) → f (node (label_of lean) p s) ≡ a)
-      → (from : ℕ) (t : Tree) (us : List Kept) → f (part_of x ts t) ≡ a
+      → (from : ℕ) (t : Cst) (us : List Kept) → f (part_of x ts t) ≡ a
       → f (part_of x ts (leaned_tree lean from t us)) ≡ a
   unfolding leaned_tree
   on_leaned f a lean one from t [] e = e
   on_leaned f a lean one from t (u ∷ us) e =
       on_leaned f a lean one from (leaning_tree lean from t u) us
-      (ap f (part_node x ts (label_of lean) from u.0 (t ∷ turn_parts (out-Tree u.1))) ∙ one _ _)
+      (ap f (part_node x ts (label_of lean) from u.0 (t ∷ turn_parts (out-Cst u.1))) ∙ one _ _)
 
   pub on_lean : {A : Type 0} (f : Part → A) (a : A) (lean : Lean) → f nil ≡ a
       → ((p : Part) (s : Found) → f (node (label_of lean) p s) ≡ a)
@@ -54,22 +54,22 @@ module _ (x : List ℕ) (ts : List Token) where
   on_lean f a lean none one from (u ∷ []) = ap f (part_parts x ts []) ∙ none
   on_lean f a lean none one from (t ∷ u ∷ us) =
       on_leaned f a lean one from (leaning_tree lean from t.1 u) us
-      (ap f (part_node x ts (label_of lean) from u.0 (t.1 ∷ turn_parts (out-Tree u.1))) ∙ one _ _)
+      (ap f (part_node x ts (label_of lean) from u.0 (t.1 ∷ turn_parts (out-Cst u.1))) ∙ one _ _)
 
   -- the parts of a turn
-  turn_part_of : (f : Tree-F Tree)
-      → packed (map (part_of x ts) (turn_parts f)) ≡ as_group (part_of x ts (roll-Tree f))
+  turn_part_of : (f : Cst-F Cst)
+      → packed (map (part_of x ts) (turn_parts f)) ≡ as_group (part_of x ts (roll-Cst f))
   unfolding part_of
-  turn_part_of (Tree-F.Leaf at) = rw (fold-roll-Tree Part (part_step x ts) (Tree-F.Leaf at)) refl
-  turn_part_of (Tree-F.Node label from to us) =
-      rw (fold-roll-Tree Part (part_step x ts) (Tree-F.Node label from to us)) refl
-  turn_part_of (Tree-F.Role label u) =
-      rw (fold-roll-Tree Part (part_step x ts) (Tree-F.Role label u)) (target_group (part_of x ts u))
-  turn_part_of (Tree-F.Parts us) =
-      rw (fold-roll-Tree Part (part_step x ts) (Tree-F.Parts us)) (same_group (map (part_of x ts) us))
+  turn_part_of (Cst-F.Leaf at) = rw (fold-roll-Cst Part (part_step x ts) (Cst-F.Leaf at)) refl
+  turn_part_of (Cst-F.Node label from to us) =
+      rw (fold-roll-Cst Part (part_step x ts) (Cst-F.Node label from to us)) refl
+  turn_part_of (Cst-F.Role label u) =
+      rw (fold-roll-Cst Part (part_step x ts) (Cst-F.Role label u)) (target_group (part_of x ts u))
+  turn_part_of (Cst-F.Parts us) =
+      rw (fold-roll-Cst Part (part_step x ts) (Cst-F.Parts us)) (same_group (map (part_of x ts) us))
 
-  turn_part : (u : Tree) → packed (map (part_of x ts) (turn_parts (out-Tree u))) ≡ as_group (part_of x ts u)
-  turn_part u = turn_part_of (out-Tree u) ∙ ap (λ (t : Tree). as_group (part_of x ts t)) (roll-out-Tree u)
+  turn_part : (u : Cst) → packed (map (part_of x ts) (turn_parts (out-Cst u))) ≡ as_group (part_of x ts u)
+  turn_part u = turn_part_of (out-Cst u) ∙ ap (λ (t : Cst). as_group (part_of x ts t)) (roll-out-Cst u)
 
   -- the sites of a node over what stands before a turn
   own_lean : (lean : Lean) (v g : Part) → own x ts (label_of lean) (more v g) ≡ found v ++ operand_at lean g
@@ -78,15 +78,15 @@ module _ (x : List ℕ) (ts : List Token) where
   own_lean vLean.TypedBinary v g =
       ap (λ s. found v ++ s) (operand_is x ts (group g 0) (part (group g 0) 1) refl)
 
-  leaning_sites : (lean : Lean) (from : ℕ) (t : Tree) (u : Kept)
+  leaning_sites : (lean : Lean) (from : ℕ) (t : Cst) (u : Kept)
       → found (part_of x ts (leaning_tree lean from t u))
       ≡ found (part_of x ts t) ++ operand_at lean (as_group (part_of x ts u.1))
   leaning_sites lean from t u =
-      ap found (part_node x ts (label_of lean) from u.0 (t ∷ turn_parts (out-Tree u.1)))
-      ∙ own_lean lean (part_of x ts t) (packed (map (part_of x ts) (turn_parts (out-Tree u.1))))
+      ap found (part_node x ts (label_of lean) from u.0 (t ∷ turn_parts (out-Cst u.1)))
+      ∙ own_lean lean (part_of x ts t) (packed (map (part_of x ts) (turn_parts (out-Cst u.1))))
       ∙ ap (λ g. found (part_of x ts t) ++ operand_at lean g) (turn_part u.1)
 
-  leaned_sites : (lean : Lean) (from : ℕ) (t : Tree) (us : List Kept)
+  leaned_sites : (lean : Lean) (from : ℕ) (t : Cst) (us : List Kept)
       → found (part_of x ts (leaned_tree lean from t us))
       ≡ found (part_of x ts t) ++ operands_in lean (packed (map (part_of x ts) (trees_in us)))
   unfolding leaned_tree operands_in

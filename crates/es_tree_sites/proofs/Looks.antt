@@ -3,10 +3,10 @@ use Rattle.std.specs.Prelude.{ℕ, Bool, true, false, List, [], ◌∷◌, Optio
 use Rattle.std.proofs.Common.{◌≡◌, refl, sym, ap, ◌∙◌}
 use Rattle.ts_ast.specs.declared.leaf.Str.{Str}
 use Rattle.es_token.specs.declared.token.Token.{Token}
-use Rattle.es_whole_grammar.specs.declared.rows.Label.{Label}
-use Rattle.es_whole_grammar.specs.declared.rows.Label.TheVariants as l
-use Rattle.es_whole_tree.specs.declared.tree.Tree.{Tree}
-use Rattle.es_whole_tree.specs.declared.tree.Tree.TheVariants as vTree
+use Rattle.es_grammar.specs.declared.rows.NodeKind.{NodeKind}
+use Rattle.es_grammar.specs.declared.rows.NodeKind.TheVariants as l
+use Rattle.es_cst.specs.declared.tree.Cst.{Cst}
+use Rattle.es_cst.specs.declared.tree.Cst.TheVariants as vCst
 use Rattle.es_syntax.specs.declared.entry.Lean.{Lean}
 use Rattle.es_syntax.specs.Trees.{Kept, leant_tree}
 use Rattle.es_site.specs.declared.site.Attribute.{Attribute}
@@ -32,17 +32,17 @@ packed_token ts x (v ∷ vs) = refl
 
 module _ (x : List ℕ) (ts : List Token) where
   -- ---- tokens
-  pub token_leaf : (at : ℕ) → token_in x ts (part_of x ts (vTree.Leaf at)) ≡ slice_get ts at
+  pub token_leaf : (at : ℕ) → token_in x ts (part_of x ts (vCst.Leaf at)) ≡ slice_get ts at
   token_leaf at = ap (token_in x ts) (part_leaf x ts at)
 
-  pub token_node : (label : Label) (from to : ℕ) (us : List Tree)
-      → token_in x ts (part_of x ts (vTree.Node label from to us)) ≡ None
+  pub token_node : (label : NodeKind) (from to : ℕ) (us : List Cst)
+      → token_in x ts (part_of x ts (vCst.Node label from to us)) ≡ None
   token_node label from to us = ap (token_in x ts) (part_node x ts label from to us)
 
-  pub token_role : (label : Label) (tree : Tree) → token_in x ts (part_of x ts (vTree.Role label tree)) ≡ None
+  pub token_role : (label : NodeKind) (tree : Cst) → token_in x ts (part_of x ts (vCst.Role label tree)) ≡ None
   token_role label tree = ap (token_in x ts) (part_role x ts label tree) ∙ target_token ts x (part_of x ts tree)
 
-  pub token_parts : (us : List Tree) → token_in x ts (part_of x ts (vTree.Parts us)) ≡ None
+  pub token_parts : (us : List Cst) → token_in x ts (part_of x ts (vCst.Parts us)) ≡ None
   token_parts us = ap (token_in x ts) (part_parts x ts us) ∙ packed_token ts x (map (part_of x ts) us)
 
   pub token_lean : (lean : Lean) (from : ℕ) (us : List Kept)
@@ -50,12 +50,12 @@ module _ (x : List ℕ) (ts : List Token) where
   token_lean lean from us = on_lean x ts (token_in x ts) None lean refl (λ p s. refl) from us
 
   -- ---- clause
-  clause_label : (label : Label) (p : Part) (s : Found)
+  clause_label : (label : NodeKind) (p : Part) (s : Found)
       → clause_attribute x ts (node label p s) ≡ clause_by x ts label p
   clause_label l.Attributes p s = refl
   clause_label _ p s = refl
 
-  pub clause_node : (v : Part) (label : Label) (p : Part) → v ≡ made x ts label p
+  pub clause_node : (v : Part) (label : NodeKind) (p : Part) → v ≡ made x ts label p
       → clause_by x ts label p ≡ clause_attribute x ts v
   clause_node v label p e = sym (ap (λ v. clause_attribute x ts v) e ∙ clause_label label p (own x ts label p))
 
@@ -68,11 +68,11 @@ module _ (x : List ℕ) (ts : List Token) where
   clause_other (node _ p s) other = refl
 
   -- ---- src
-  src_label : (label : Label) (p : Part) (s : Found)
+  src_label : (label : NodeKind) (p : Part) (s : Found)
       → src_in x ts (node label p s) ≡ src_by x ts label p
   src_label label p s = refl
 
-  pub src_node : (v : Part) (label : Label) (p : Part) → v ≡ made x ts label p
+  pub src_node : (v : Part) (label : NodeKind) (p : Part) → v ≡ made x ts label p
       → src_by x ts label p ≡ src_in x ts v
   src_node v label p e = sym (ap (λ v. src_in x ts v) e ∙ src_label label p (own x ts label p))
 
@@ -85,13 +85,13 @@ module _ (x : List ℕ) (ts : List Token) where
   src_other (node _ p s) other = refl
 
   -- ---- word key
-  word_key_label : (label : Label) (p : Part) (s : Found)
+  word_key_label : (label : NodeKind) (p : Part) (s : Found)
       → is_word_key x ts (node label p s) ≡ is_word_label label
   word_key_label l.WordKey p s = refl
   word_key_label l.StrKey p s = refl
   word_key_label _ p s = refl
 
-  pub word_key_node : (v : Part) (label : Label) (p : Part) → v ≡ made x ts label p
+  pub word_key_node : (v : Part) (label : NodeKind) (p : Part) → v ≡ made x ts label p
       → is_word_label label ≡ is_word_key x ts v
   word_key_node v label p e = sym (ap (λ v. is_word_key x ts v) e ∙ word_key_label label p (own x ts label p))
 
@@ -105,13 +105,13 @@ module _ (x : List ℕ) (ts : List Token) where
   word_key_other (node _ p s) other = refl
 
   -- ---- key
-  key_label : (word : List ℕ) (label : Label) (p : Part) (s : Found)
+  key_label : (word : List ℕ) (label : NodeKind) (p : Part) (s : Found)
       → key_says x ts word (node label p s) ≡ key_by x ts word label p
   key_label word l.WordKey p s = refl
   key_label word l.StrKey p s = refl
   key_label word _ p s = refl
 
-  pub key_node : (word : List ℕ) (v : Part) (label : Label) (p : Part) → v ≡ made x ts label p
+  pub key_node : (word : List ℕ) (v : Part) (label : NodeKind) (p : Part) → v ≡ made x ts label p
       → key_by x ts word label p ≡ key_says x ts word v
   key_node word v label p e = sym (ap (λ v. key_says x ts word v) e ∙ key_label word label p (own x ts label p))
 
@@ -125,12 +125,12 @@ module _ (x : List ℕ) (ts : List Token) where
   key_other word (node _ p s) other = refl
 
   -- ---- plain
-  plain_label : (label : Label) (p : Part) (s : Found)
+  plain_label : (label : NodeKind) (p : Part) (s : Found)
       → is_plain x ts (node label p s) ≡ plain_by x ts label p
   plain_label l.KeyValue p s = refl
   plain_label _ p s = refl
 
-  pub plain_node : (v : Part) (label : Label) (p : Part) → v ≡ made x ts label p
+  pub plain_node : (v : Part) (label : NodeKind) (p : Part) → v ≡ made x ts label p
       → plain_by x ts label p ≡ is_plain x ts v
   plain_node v label p e = sym (ap (λ v. is_plain x ts v) e ∙ plain_label label p (own x ts label p))
 
@@ -143,12 +143,12 @@ module _ (x : List ℕ) (ts : List Token) where
   plain_other (node _ p s) other = refl
 
   -- ---- given
-  given_label : (word : List ℕ) (last : Option Part) (label : Label) (p : Part) (s : Found)
+  given_label : (word : List ℕ) (last : Option Part) (label : NodeKind) (p : Part) (s : Found)
       → given_in x ts word (node label p s) last ≡ given_by x ts word label p last
   given_label word last l.KeyValue p s = refl
   given_label word last _ p s = refl
 
-  pub given_node : (word : List ℕ) (last : Option Part) (v : Part) (label : Label) (p : Part) → v ≡ made x ts label p
+  pub given_node : (word : List ℕ) (last : Option Part) (v : Part) (label : NodeKind) (p : Part) → v ≡ made x ts label p
       → given_by x ts word label p last ≡ given_in x ts word v last
   given_node word last v label p e =
       sym (ap (λ v. given_in x ts word v last) e ∙ given_label word last label p (own x ts label p))
@@ -162,11 +162,11 @@ module _ (x : List ℕ) (ts : List Token) where
   given_other word last (node _ p s) other = refl
 
   -- ---- with
-  with_label : (label : Label) (p : Part) (s : Found)
+  with_label : (label : NodeKind) (p : Part) (s : Found)
       → with_in x ts (Some (node label p s)) ≡ with_by x ts label p
   with_label label p s = refl
 
-  pub with_node : (v : Part) (label : Label) (p : Part) → v ≡ made x ts label p
+  pub with_node : (v : Part) (label : NodeKind) (p : Part) → v ≡ made x ts label p
       → with_by x ts label p ≡ with_in x ts (Some v)
   with_node v label p e = sym (ap (λ v. with_in x ts (Some v)) e ∙ with_label label p (own x ts label p))
 
@@ -179,11 +179,11 @@ module _ (x : List ℕ) (ts : List Token) where
   with_other (node _ p s) other = refl
 
   -- ---- options
-  options_label : (label : Label) (p : Part) (s : Found)
+  options_label : (label : NodeKind) (p : Part) (s : Found)
       → options_of x ts (node label p s) ≡ options_by x ts label p
   options_label label p s = refl
 
-  pub options_node : (v : Part) (label : Label) (p : Part) → v ≡ made x ts label p
+  pub options_node : (v : Part) (label : NodeKind) (p : Part) → v ≡ made x ts label p
       → options_by x ts label p ≡ options_of x ts v
   options_node v label p e = sym (ap (λ v. options_of x ts v) e ∙ options_label label p (own x ts label p))
 

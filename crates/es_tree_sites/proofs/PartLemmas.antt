@@ -2,26 +2,26 @@
 use Rattle.std.specs.Prelude.{ℕ, Bool, true, List, [], ◌∷◌, Option, Some, None, map}
 use Rattle.std.proofs.Common.{◌≡◌, refl, sym, ap, subst, ◌∙◌}
 use Rattle.es_token.specs.declared.token.Token.{Token}
-use Rattle.es_whole_grammar.specs.declared.rows.Label.{Label}
-use Rattle.es_whole_tree.specs.declared.tree.Tree.{Tree}
-use Rattle.es_whole_tree.specs.declared.tree.Tree.TheVariants as vTree
+use Rattle.es_grammar.specs.declared.rows.NodeKind.{NodeKind}
+use Rattle.es_cst.specs.declared.tree.Cst.{Cst}
+use Rattle.es_cst.specs.declared.tree.Cst.TheVariants as vCst
 use Rattle.es_syntax.specs.declared.entry.Entry.{Entry}
 use Rattle.es_syntax.specs.declared.entry.Lean.{Lean}
 use Rattle.es_syntax.specs.declared.entry.Lean.TheVariants as vLean
-use Rattle.es_syntax.specs.declared.cursor.Row.{Row}
+use Rattle.es_syntax.specs.declared.cursor.Siblings.{Siblings}
 use Rattle.es_syntax.specs.declared.cursor.Item.{Item}
 use Rattle.es_syntax.specs.Held.{label_of}
 use Rattle.es_syntax.specs.Trees.{Kept, leant_tree, trees_in, trees}
 use Rattle.es_plain_sites.specs.Part.{Part, absent, nil, more, token, node, part, as_group, packed, as_target}
 use Rattle.es_plain_sites.specs.Own.{made, part_of}
 use Rattle.es_plain_sites.proofs.Equations.{part_leaf, part_node, part_role, part_parts}
-use Rattle.es_tree_sites.specs.declared.source.Source.{Source}
+use Rattle.es_tree_sites.specs.declared.source.TokenizedText.{TokenizedText}
 use Rattle.es_tree_sites.specs.Parts.{kept, first_trees, parts_of, parts_in, first_in, is_other, IsOther, Seen}
 use Rattle.es_tree_sites.proofs.RowLemmas.{trees_kept, trees_none}
 use Rattle.es_tree_sites.proofs.LeanLemmas.{on_lean}
 
 -- the first part, and those behind it
-pub split_parts : (source : Source) (es : List Entry) (r : Option (Item × Row)) → trees es ≡ first_trees r
+pub split_parts : (source : TokenizedText) (es : List Entry) (r : Option (Item × Siblings)) → trees es ≡ first_trees r
     → parts_of source.text.now source.tokens.now es ≡ first_in source r
 unfolding parts_of
 split_parts source es None e = ap (λ ts. packed (map (part_of source.text.now source.tokens.now) ts)) e
@@ -77,19 +77,19 @@ module _ (x : List ℕ) (ts : List Token) where
 
   -- ---- groups
   pub group_parts : (es : List Entry)
-      → parts_of x ts es ≡ as_group (part_of x ts (vTree.Parts (trees_in (kept es))))
+      → parts_of x ts es ≡ as_group (part_of x ts (vCst.Parts (trees_in (kept es))))
   group_parts es =
       parts_kept es ∙ group_packed (map (part_of x ts) (trees_in (kept es)))
       ∙ sym (ap as_group (part_parts x ts (trees_in (kept es))))
 
-  pub group_leaf : (at : ℕ) → parts_of x ts [] ≡ as_group (part_of x ts (vTree.Leaf at))
+  pub group_leaf : (at : ℕ) → parts_of x ts [] ≡ as_group (part_of x ts (vCst.Leaf at))
   group_leaf at = parts_none ∙ sym (ap as_group (part_leaf x ts at))
 
-  pub group_node : (label : Label) (from to : ℕ) (us : List Tree)
-      → parts_of x ts [] ≡ as_group (part_of x ts (vTree.Node label from to us))
+  pub group_node : (label : NodeKind) (from to : ℕ) (us : List Cst)
+      → parts_of x ts [] ≡ as_group (part_of x ts (vCst.Node label from to us))
   group_node label from to us = parts_none ∙ sym (ap as_group (part_node x ts label from to us))
 
-  pub group_role : (label : Label) (tree : Tree) → parts_of x ts [] ≡ as_group (part_of x ts (vTree.Role label tree))
+  pub group_role : (label : NodeKind) (tree : Cst) → parts_of x ts [] ≡ as_group (part_of x ts (vCst.Role label tree))
   group_role label tree =
       parts_none ∙ target_group (part_of x ts tree) ∙ sym (ap as_group (part_role x ts label tree))
 
@@ -99,18 +99,18 @@ module _ (x : List ℕ) (ts : List Token) where
       parts_none ∙ sym (on_lean x ts as_group nil lean refl (λ p s. refl) from us)
 
   -- ---- nodes
-  pub seen_node : (label : Label) (from to : ℕ) (es : List Entry)
-      → part_of x ts (vTree.Node label from to (trees_in (kept es))) ≡ made x ts label (parts_of x ts es)
+  pub seen_node : (label : NodeKind) (from to : ℕ) (es : List Entry)
+      → part_of x ts (vCst.Node label from to (trees_in (kept es))) ≡ made x ts label (parts_of x ts es)
   seen_node label from to es =
       part_node x ts label from to (trees_in (kept es)) ∙ ap (made x ts label) (sym (parts_kept es))
 
-  pub seen_leaf : (at : ℕ) → IsOther (part_of x ts (vTree.Leaf at))
+  pub seen_leaf : (at : ℕ) → IsOther (part_of x ts (vCst.Leaf at))
   seen_leaf at = subst IsOther (sym (part_leaf x ts at)) tt
 
-  pub seen_role : (label : Label) (tree : Tree) → IsOther (part_of x ts (vTree.Role label tree))
+  pub seen_role : (label : NodeKind) (tree : Cst) → IsOther (part_of x ts (vCst.Role label tree))
   seen_role label tree = subst IsOther (sym (part_role x ts label tree)) (other_target (part_of x ts tree))
 
-  pub seen_parts : (us : List Tree) → IsOther (part_of x ts (vTree.Parts us))
+  pub seen_parts : (us : List Cst) → IsOther (part_of x ts (vCst.Parts us))
   seen_parts us = subst IsOther (sym (part_parts x ts us)) (other_packed (map (part_of x ts) us))
 
   pub seen_lean : (lean : Lean) (from : ℕ) (us : List Kept) → IsOther (part_of x ts (leant_tree lean from us))

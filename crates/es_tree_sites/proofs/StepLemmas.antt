@@ -4,8 +4,8 @@ use Rattle.std.specs.List.{flat_map}
 use Rattle.std.proofs.Common.{◌≡◌, refl, sym, ap, ◌∙◌}
 use Rattle.std.proofs.lemmas.List.{append-nil, append_assoc}
 use Rattle.es_token.specs.declared.token.Token.{Token}
-use Rattle.es_whole_grammar.specs.declared.rows.Label.{Label}
-use Rattle.es_whole_grammar.specs.declared.rows.Label.TheVariants as l
+use Rattle.es_grammar.specs.declared.rows.NodeKind.{NodeKind}
+use Rattle.es_grammar.specs.declared.rows.NodeKind.TheVariants as l
 use Rattle.es_site.specs.declared.site.DependencyKind.TheVariants as kind
 use Rattle.es_site.specs.Sites.{Found}
 use Rattle.es_plain_sites.specs.Part.{Part, absent, nil, more, token, node, part, as_group, group, is_there, found, at, inside, may, each, turns}
@@ -120,7 +120,7 @@ module _ (x : List ℕ) (ts : List Token) where
   handlers_is (token n) = refl
   handlers_is (node label p s) = refl
 
-  pub steps_own : (label : Label) (p : Part) → flat_map (by_step x ts p) (steps label) ≡ own x ts label p
+  pub steps_own : (label : NodeKind) (p : Part) → flat_map (by_step x ts p) (steps label) ≡ own x ts label p
   unfolding turns_in steps by_step
   steps_own l.ExportDefaultFunction p = append-nil (at p 0)
   steps_own l.ExportDefaultClass p = append-nil (at p 0)

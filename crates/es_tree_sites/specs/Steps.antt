@@ -1,8 +1,8 @@
 -- Where the sites stand among the parts of a node, as data.
 use Rattle.std.specs.Prelude.{ℕ, Bool, true, false, List, [], ◌∷◌, ◌++◌}
 use Rattle.es_token.specs.declared.token.Token.{Token}
-use Rattle.es_whole_grammar.specs.declared.rows.Label.{Label}
-use Rattle.es_whole_grammar.specs.declared.rows.Label.TheVariants as l
+use Rattle.es_grammar.specs.declared.rows.NodeKind.{NodeKind}
+use Rattle.es_grammar.specs.declared.rows.NodeKind.TheVariants as l
 use Rattle.es_syntax.specs.declared.entry.Lean.{Lean}
 use Rattle.es_syntax.specs.declared.entry.Lean.TheVariants as vLean
 use Rattle.es_site.specs.declared.site.Attribute.TheVariants.{Unknown}
@@ -15,7 +15,7 @@ use Rattle.es_tree_sites.specs.declared.steps.Step.{Step}
 use Rattle.es_tree_sites.specs.declared.steps.Step.TheVariants.{At, In, Deep, Turns, Holes, Bare, From, Require, Names, Call, TypedArgs, Head, Returned, Cases, Handlers, Members, Body}
 
 -- the steps of the nodes of an alternative
-unfoldable pub steps : Label → List Step
+unfoldable pub steps : NodeKind → List Step
 steps l.ExportDefaultFunction = At 0 ∷ []
 steps l.ExportDefaultClass = At 0 ∷ []
 steps l.ExportDefaultExpression = At 0 ∷ []

@@ -1,22 +1,22 @@
 //! The `type` among the attributes of a declaration.
 
 ghost use Rattle.std.specs.Prelude.{◌≡◌, None, IfOk, IfSome, option_map, codes};
-ghost use Rattle.es_dress.specs.Texts.{str_of};
+ghost use Rattle.es_lowering.specs.Texts.{str_of};
 ghost use Rattle.es_site.specs.Attributes.{named};
 ghost use Rattle.es_plain_sites.specs.Own.{spelt, last_type, clause_attribute, attribute_in};
 ghost use Rattle.es_tree_sites.specs.Parts.{parts_in, part_in, Cuts, HasCut};
 ghost use Rattle.es_tree_sites.specs.Given.{clause_by, type_turn};
 
-use crate::source::Source;
+use crate::source::TokenizedText;
+use es_grammar::NodeKind;
 use es_site::Attribute;
-use es_syntax::{Item, Row};
+use es_syntax::{Item, Siblings};
 use es_token::Token;
-use es_whole_grammar::Label;
 use std::alloc::AllocError;
 
-impl Source<'_> {
+impl TokenizedText<'_> {
     /// The attribute of a declaration with this clause, or with none.
-    pub fn attribute(&self, clauses: &Row<'_>) -> Result<Attribute, AllocError>
+    pub fn attribute(&self, clauses: &Siblings<'_>) -> Result<Attribute, AllocError>
         requires { HasCut self.now }
         ensures { IfOk result (λ a. a ≡ attribute_in self.now.text.now self.now.tokens.now (parts_in self.now clauses.now)) }
     {
@@ -37,18 +37,22 @@ impl Source<'_> {
         }
     }
 
-    fn of_clause_parts(&self, label: Label, parts: &Row<'_>) -> Result<Attribute, AllocError>
+    fn of_clause_parts(
+        &self,
+        label: NodeKind,
+        parts: &Siblings<'_>,
+    ) -> Result<Attribute, AllocError>
         requires { HasCut self.now }
         ensures { IfOk result (λ a. a ≡ clause_by self.now.text.now self.now.tokens.now label (parts_in self.now parts.now)) }
     {
         match label {
-            Label::Attributes => self.of_items(&self.group(parts, 0)),
+            NodeKind::Attributes => self.of_items(&self.group(parts, 0)),
             _ => Ok(Attribute::Absent),
         }
     }
 
     /// The attribute by the last value that `type` is given.
-    fn of_items(&self, items: &Row<'_>) -> Result<Attribute, AllocError>
+    fn of_items(&self, items: &Siblings<'_>) -> Result<Attribute, AllocError>
         requires { HasCut self.now }
         ensures { IfOk result (λ a. a ≡ named (last_type self.now.text.now self.now.tokens.now None (parts_in self.now items.now))) }
     {
@@ -60,7 +64,7 @@ impl Source<'_> {
 
     /// The last value that `type` is given.
     #[tactic(auto, using(crate::proofs::Turns::type_none, crate::proofs::Turns::type_more))]
-    fn last_type(&self, items: &Row<'_>) -> Result<Option<Token>, AllocError>
+    fn last_type(&self, items: &Siblings<'_>) -> Result<Option<Token>, AllocError>
         requires { HasCut self.now }
         ensures is { IfOk result (λ last. option_map (str_of self.now.text.now) last ≡ last_type self.now.text.now self.now.tokens.now None (parts_in self.now items.now)) }
         ensures cut { IfOk result (λ last. IfSome last (Cuts self.now.text.now)) }

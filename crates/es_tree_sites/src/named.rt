@@ -1,7 +1,7 @@
 //! The nodes that name a module by themselves.
 
 ghost use Rattle.std.specs.Prelude.{◌≡◌, false, ◌++◌, IfOk, IfSome, OnOk, option_map};
-ghost use Rattle.es_dress.specs.Texts.{str_of};
+ghost use Rattle.es_lowering.specs.Texts.{str_of};
 ghost use Rattle.es_site.specs.declared.site.Attribute.TheVariants as attribute;
 ghost use Rattle.es_site.specs.declared.site.DependencyKind.TheVariants as kind;
 ghost use Rattle.es_plain_sites.specs.Part.{part, group, is_there};
@@ -9,16 +9,16 @@ ghost use Rattle.es_plain_sites.specs.Own.{naming, str_in, src_in, options_in};
 ghost use Rattle.es_tree_sites.specs.Parts.{parts_in, Cuts, HasCut};
 ghost use Rattle.es_tree_sites.specs.Steps.{declares};
 
-use crate::source::Source;
+use crate::source::TokenizedText;
 use base::Items;
 use es_site::{Attribute, DependencyKind, Site};
-use es_syntax::Row;
+use es_syntax::Siblings;
 use es_token::Token;
 use std::alloc::AllocError;
 
-impl Source<'_> {
+impl TokenizedText<'_> {
     /// A literal that names a module, where there is one.
-    #[tactic(auto, unfolding(es_dress::specs::Texts::str_of))]
+    #[tactic(auto, unfolding(es_lowering::specs::Texts::str_of))]
     fn name(
         &self,
         found: &mut Items<Site>,
@@ -50,7 +50,7 @@ impl Source<'_> {
         found: &mut Items<Site>,
         kind: DependencyKind,
         type_only: bool,
-        parts: &Row<'_>,
+        parts: &Siblings<'_>,
         src: usize,
         with: usize,
     ) -> Result<(), AllocError>
@@ -63,7 +63,7 @@ impl Source<'_> {
     }
 
     /// `import a = require("a")`
-    pub fn require(&self, found: &mut Items<Site>, parts: &Row<'_>) -> Result<(), AllocError>
+    pub fn require(&self, found: &mut Items<Site>, parts: &Siblings<'_>) -> Result<(), AllocError>
         requires { HasCut self.now }
         ensures { OnOk result (found.new ≡ found.old
             ++ naming self.now.text.now self.now.tokens.now kind.ImportEquals (is_there (group (parts_in self.now parts.now) 0)) attribute.Unknown
@@ -76,7 +76,7 @@ impl Source<'_> {
     }
 
     /// `import("a")`, where the first argument is a string literal.
-    pub fn call(&self, found: &mut Items<Site>, parts: &Row<'_>) -> Result<(), AllocError>
+    pub fn call(&self, found: &mut Items<Site>, parts: &Siblings<'_>) -> Result<(), AllocError>
         requires { HasCut self.now }
         ensures { OnOk result (found.new ≡ found.old
             ++ naming self.now.text.now self.now.tokens.now kind.Dynamic false (options_in self.now.text.now self.now.tokens.now (group (parts_in self.now parts.now) 1))

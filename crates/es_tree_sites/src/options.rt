@@ -2,27 +2,27 @@
 
 ghost use Rattle.std.specs.Prelude.{◌≡◌, true, None, Some, IfOk, IfSome, option_map, codes, if◌then◌else◌};
 ghost use Rattle.es_site.specs.declared.site.Attribute.TheVariants.{Unknown};
-ghost use Rattle.es_dress.specs.Texts.{str_of};
+ghost use Rattle.es_lowering.specs.Texts.{str_of};
 ghost use Rattle.es_plain_sites.specs.Part.{part};
 ghost use Rattle.es_plain_sites.specs.Own.{src_by, src_in, is_word_key, key_says, is_plain, given_in, are_plain, last_given, type_by, type_in, with_by, with_in, options_by, options_of, options_in};
 ghost use Rattle.es_tree_sites.specs.Parts.{parts_in, part_in, there, Cuts, HasCut};
 ghost use Rattle.es_tree_sites.specs.Given.{is_word_label, key_by, plain_by, given_by, plain_turn, given_turn};
 
-use crate::source::Source;
+use crate::source::TokenizedText;
+use es_grammar::NodeKind;
 use es_site::Attribute;
-use es_syntax::{Item, Row};
+use es_syntax::{Item, Siblings};
 use es_token::Token;
-use es_whole_grammar::Label;
 use std::alloc::AllocError;
 
 /// A word or a string as a key.
-fn is_word_label(label: Label) -> bool
+fn is_word_label(label: NodeKind) -> bool
     ensures { result ≡ is_word_label label }
 {
-    matches!(label, Label::WordKey | Label::StrKey)
+    matches!(label, NodeKind::WordKey | NodeKind::StrKey)
 }
 
-impl Source<'_> {
+impl TokenizedText<'_> {
     /// The token of the string literal that stands there.
     #[tactic(auto, using(crate::proofs::Looks::src_node, crate::proofs::Looks::src_other))]
     fn literal(&self, item: &Item<'_>) -> Option<Token>
@@ -36,19 +36,19 @@ impl Source<'_> {
         }
     }
 
-    fn literal_by(&self, label: Label, parts: &Row<'_>) -> Option<Token>
+    fn literal_by(&self, label: NodeKind, parts: &Siblings<'_>) -> Option<Token>
         requires { HasCut self.now }
         ensures is { option_map (str_of self.now.text.now) result ≡ src_by self.now.text.now self.now.tokens.now label (parts_in self.now parts.now) }
         ensures cut { IfSome result (Cuts self.now.text.now) }
     {
         match label {
-            Label::Str => self.token_at(parts, 0),
+            NodeKind::Str => self.token_at(parts, 0),
             _ => None,
         }
     }
 
     /// The token of the string literal at a place among the parts.
-    pub fn literal_at(&self, parts: &Row<'_>, n: usize) -> Option<Token>
+    pub fn literal_at(&self, parts: &Siblings<'_>, n: usize) -> Option<Token>
         requires { HasCut self.now }
         ensures is { option_map (str_of self.now.text.now) result ≡ src_in self.now.text.now self.now.tokens.now (part (parts_in self.now parts.now) n) }
         ensures cut { IfSome result (Cuts self.now.text.now) }
@@ -71,7 +71,7 @@ impl Source<'_> {
         }
     }
 
-    fn has_word_key(&self, parts: &Row<'_>) -> bool
+    fn has_word_key(&self, parts: &Siblings<'_>) -> bool
         ensures { result ≡ is_word_key self.now.text.now self.now.tokens.now (part (parts_in self.now parts.now) 0) }
     {
         match self.part(parts, 0) {
@@ -80,11 +80,11 @@ impl Source<'_> {
         }
     }
 
-    fn is_plain_by(&self, label: Label, parts: &Row<'_>) -> bool
+    fn is_plain_by(&self, label: NodeKind, parts: &Siblings<'_>) -> bool
         ensures { result ≡ plain_by self.now.text.now self.now.tokens.now label (parts_in self.now parts.now) }
     {
         match label {
-            Label::KeyValue => self.has_word_key(parts),
+            NodeKind::KeyValue => self.has_word_key(parts),
             _ => false,
         }
     }
@@ -111,7 +111,7 @@ impl Source<'_> {
     }
 
     #[tactic(auto, using(crate::proofs::Turns::plain_none, crate::proofs::Turns::plain_more))]
-    fn are_plain(&self, props: &Row<'_>) -> bool
+    fn are_plain(&self, props: &Siblings<'_>) -> bool
         ensures { result ≡ are_plain self.now.text.now self.now.tokens.now true (parts_in self.now props.now) }
     {
         let mut plain = true;
@@ -125,13 +125,13 @@ impl Source<'_> {
 
     // ---- what the last property with this key gives it
 
-    fn key_by(&self, word: &str, label: Label, parts: &Row<'_>) -> Result<bool, AllocError>
+    fn key_by(&self, word: &str, label: NodeKind, parts: &Siblings<'_>) -> Result<bool, AllocError>
         requires { HasCut self.now }
         ensures { IfOk result (λ yes. yes ≡ key_by self.now.text.now self.now.tokens.now word.now label (parts_in self.now parts.now)) }
     {
         match label {
-            Label::WordKey => Ok(self.is_word_at(word, parts)),
-            Label::StrKey => self.is_literal_at(word, parts),
+            NodeKind::WordKey => Ok(self.is_word_at(word, parts)),
+            NodeKind::StrKey => self.is_literal_at(word, parts),
             _ => Ok(false),
         }
     }
@@ -147,7 +147,7 @@ impl Source<'_> {
         }
     }
 
-    fn has_key(&self, word: &str, parts: &Row<'_>) -> Result<bool, AllocError>
+    fn has_key(&self, word: &str, parts: &Siblings<'_>) -> Result<bool, AllocError>
         requires { HasCut self.now }
         ensures { IfOk result (λ yes. yes ≡ key_says self.now.text.now self.now.tokens.now word.now (part (parts_in self.now parts.now) 0)) }
     {
@@ -161,15 +161,15 @@ impl Source<'_> {
         &self,
         word: &str,
         last: Option<Option<Item<'t>>>,
-        label: Label,
-        parts: &Row<'t>,
+        label: NodeKind,
+        parts: &Siblings<'t>,
     ) -> Result<Option<Option<Item<'t>>>, AllocError>
         requires { HasCut self.now }
         ensures { IfOk result (λ given. option_map (there self.now) given
             ≡ given_by self.now.text.now self.now.tokens.now word.now label (parts_in self.now parts.now) (option_map (there self.now) last.entry)) }
     {
         match label {
-            Label::KeyValue => {
+            NodeKind::KeyValue => {
                 if self.has_key(word, parts)? {
                     Ok(Some(self.part(parts, 1)))
                 } else {
@@ -219,7 +219,7 @@ impl Source<'_> {
     fn last_given<'t>(
         &self,
         word: &str,
-        props: &Row<'t>,
+        props: &Siblings<'t>,
     ) -> Result<Option<Option<Item<'t>>>, AllocError>
         requires { HasCut self.now }
         ensures { IfOk result (λ given. option_map (there self.now) given
@@ -258,17 +258,17 @@ impl Source<'_> {
         }
     }
 
-    fn of_with_by(&self, label: Label, parts: &Row<'_>) -> Result<Attribute, AllocError>
+    fn of_with_by(&self, label: NodeKind, parts: &Siblings<'_>) -> Result<Attribute, AllocError>
         requires { HasCut self.now }
         ensures { IfOk result (λ a. a ≡ with_by self.now.text.now self.now.tokens.now label (parts_in self.now parts.now)) }
     {
         match label {
-            Label::ObjectLiteral => self.of_with_props(&self.group(parts, 0)),
+            NodeKind::ObjectLiteral => self.of_with_props(&self.group(parts, 0)),
             _ => Ok(Attribute::Unknown),
         }
     }
 
-    fn of_with_props(&self, props: &Row<'_>) -> Result<Attribute, AllocError>
+    fn of_with_props(&self, props: &Siblings<'_>) -> Result<Attribute, AllocError>
         requires { HasCut self.now }
         ensures { IfOk result (λ a. a ≡ (if are_plain self.now.text.now self.now.tokens.now true (parts_in self.now props.now)
             then type_in self.now.text.now self.now.tokens.now (last_given self.now.text.now self.now.tokens.now (codes "type") None (parts_in self.now props.now))
@@ -304,7 +304,7 @@ impl Source<'_> {
         }
     }
 
-    fn of_options_props(&self, props: &Row<'_>) -> Result<Attribute, AllocError>
+    fn of_options_props(&self, props: &Siblings<'_>) -> Result<Attribute, AllocError>
         requires { HasCut self.now }
         ensures { IfOk result (λ a. a ≡ (if are_plain self.now.text.now self.now.tokens.now true (parts_in self.now props.now)
             then with_in self.now.text.now self.now.tokens.now (last_given self.now.text.now self.now.tokens.now (codes "with") None (parts_in self.now props.now))
@@ -317,12 +317,12 @@ impl Source<'_> {
         self.of_with(given)
     }
 
-    fn of_options_by(&self, label: Label, parts: &Row<'_>) -> Result<Attribute, AllocError>
+    fn of_options_by(&self, label: NodeKind, parts: &Siblings<'_>) -> Result<Attribute, AllocError>
         requires { HasCut self.now }
         ensures { IfOk result (λ a. a ≡ options_by self.now.text.now self.now.tokens.now label (parts_in self.now parts.now)) }
     {
         match label {
-            Label::ObjectLiteral => self.of_options_props(&self.group(parts, 0)),
+            NodeKind::ObjectLiteral => self.of_options_props(&self.group(parts, 0)),
             _ => Ok(Attribute::Unknown),
         }
     }
@@ -339,7 +339,7 @@ impl Source<'_> {
     }
 
     /// The attribute of an `import()` with these arguments behind the first: an object of plain properties tells.
-    pub fn options(&self, args: &Row<'_>) -> Result<Attribute, AllocError>
+    pub fn options(&self, args: &Siblings<'_>) -> Result<Attribute, AllocError>
         requires { HasCut self.now }
         ensures { IfOk result (λ a. a ≡ options_in self.now.text.now self.now.tokens.now (parts_in self.now args.now)) }
     {

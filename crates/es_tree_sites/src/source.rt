@@ -1,7 +1,7 @@
 //! A text with its tokens, and the parts of its plain tree.
 
 ghost use Rattle.std.specs.Prelude.{◌≡◌, ◌+◌, ◌≤◌, ◌<◌, length, Some, slice_get, slice_range, IfOk, IfSome, bytes_eq};
-ghost use Rattle.es_dress.specs.Texts.{str_of, name_of};
+ghost use Rattle.es_lowering.specs.Texts.{str_of, name_of};
 ghost use Rattle.es_site.specs.Attributes.{spells};
 ghost use Rattle.es_plain_sites.specs.Part.{part, as_group, group, is_there};
 ghost use Rattle.es_plain_sites.specs.Own.{token_in, str_in, same_word, same_str};
@@ -10,15 +10,15 @@ ghost use Rattle.es_tree_sites.specs.Steps.{has_second, is_token};
 ghost use Rattle.es_tree_sites.specs.Parts.{first_trees, parts_in, part_in, first_in, there, Seen, Cuts, HasCut};
 
 use base::Text;
+use es_grammar::NodeKind;
 use es_literal::literal_value;
-use es_syntax::{Item, Row, What};
+use es_syntax::{Item, Siblings, What};
 use es_token::{Token, TokenKind};
-use es_whole_grammar::Label;
 use std::alloc::{AllocError, Global};
 
 /// A text and its tokens.
 #[derive(Clone, Copy)]
-pub struct Source<'a> {
+pub struct TokenizedText<'a> {
     pub alloc: Global,
     pub text: &'a str,
     pub tokens: &'a [Token],
@@ -26,7 +26,7 @@ pub struct Source<'a> {
 
 /// The first part in a row, and those behind it.
 #[tactic(auto, using(crate::proofs::RowLemmas::trees_none, crate::proofs::RowLemmas::trees_some))]
-pub fn split<'t>(row: &Row<'t>) -> Option<(Item<'t>, Row<'t>)>
+pub fn split<'t>(row: &Siblings<'t>) -> Option<(Item<'t>, Siblings<'t>)>
     ensures trees { trees row.now.entries.now ≡ first_trees result }
     ensures below { IfSome result (λ p. length p.0.parts.entries.now + length p.1.entries.now < length row.now.entries.now) }
 {
@@ -39,16 +39,16 @@ pub fn split<'t>(row: &Row<'t>) -> Option<(Item<'t>, Row<'t>)>
                 what: head.what,
                 from: head.from,
                 to: head.to,
-                parts: Row { entries: parts },
+                parts: Siblings { entries: parts },
             };
-            Some((item, Row { entries: rest }))
+            Some((item, Siblings { entries: rest }))
         }
     }
 }
 
-impl Source<'_> {
+impl TokenizedText<'_> {
     /// The first of these parts, and those behind it.
-    pub fn split<'t>(&self, parts: &Row<'t>) -> Option<(Item<'t>, Row<'t>)>
+    pub fn split<'t>(&self, parts: &Siblings<'t>) -> Option<(Item<'t>, Siblings<'t>)>
         ensures value { parts_in self.now parts.now ≡ first_in self.now result }
         ensures below { IfSome result (λ p. length p.0.parts.entries.now + length p.1.entries.now < length parts.now.entries.now) }
     {
@@ -56,7 +56,7 @@ impl Source<'_> {
     }
 
     /// The part at a place.
-    pub fn part<'t>(&self, parts: &Row<'t>, n: usize) -> Option<Item<'t>>
+    pub fn part<'t>(&self, parts: &Siblings<'t>, n: usize) -> Option<Item<'t>>
         ensures value { part (parts_in self.now parts.now) n ≡ there self.now result }
         ensures below { IfSome result (λ item. length item.parts.entries.now < length parts.now.entries.now) }
     {
@@ -73,7 +73,7 @@ impl Source<'_> {
 
     /// Whether there is more than one part.
     #[tactic(auto, unfolding(crate::specs::Steps::has_second))]
-    pub fn has_second(&self, parts: &Row<'_>) -> bool
+    pub fn has_second(&self, parts: &Siblings<'_>) -> bool
         ensures { result ≡ has_second (parts_in self.now parts.now) }
     {
         match self.split(parts) {
@@ -87,33 +87,33 @@ impl Source<'_> {
 
     /// The parts of what stands there, where it is a group.
     #[tactic(auto, using(crate::proofs::PartLemmas::group_leaf, crate::proofs::PartLemmas::group_node, crate::proofs::PartLemmas::group_role, crate::proofs::PartLemmas::group_parts, crate::proofs::PartLemmas::group_lean))]
-    pub fn group_in<'t>(&self, item: &Item<'t>) -> Row<'t>
+    pub fn group_in<'t>(&self, item: &Item<'t>) -> Siblings<'t>
         ensures value { parts_in self.now result ≡ as_group (part_in self.now item.now) }
         ensures below { length result.entries.now ≤ length item.now.parts.entries.now }
     {
         match item.what {
             What::Parts => item.parts,
-            What::Leaf => Row { entries: &[] },
-            What::Node(_) => Row { entries: &[] },
-            What::Role(_) => Row { entries: &[] },
-            What::Lean(_) => Row { entries: &[] },
+            What::Leaf => Siblings { entries: &[] },
+            What::Node(_) => Siblings { entries: &[] },
+            What::Role(_) => Siblings { entries: &[] },
+            What::Lean(_) => Siblings { entries: &[] },
         }
     }
 
     /// The parts of a group at a place; none where no group is there.
     #[tactic(auto, using(crate::proofs::PartLemmas::parts_none))]
-    pub fn group<'t>(&self, parts: &Row<'t>, n: usize) -> Row<'t>
+    pub fn group<'t>(&self, parts: &Siblings<'t>, n: usize) -> Siblings<'t>
         ensures value { parts_in self.now result ≡ group (parts_in self.now parts.now) n }
         ensures below { length result.entries.now ≤ length parts.now.entries.now }
     {
         match self.part(parts, n) {
             Some(item) => self.group_in(&item),
-            None => Row { entries: &[] },
+            None => Siblings { entries: &[] },
         }
     }
 
     /// Whether a part that may be absent is there.
-    pub fn is_there(&self, parts: &Row<'_>, n: usize) -> bool
+    pub fn is_there(&self, parts: &Siblings<'_>, n: usize) -> bool
         ensures { result ≡ is_there (group (parts_in self.now parts.now) n) }
     {
         match self.split(&self.group(parts, n)) {
@@ -124,7 +124,7 @@ impl Source<'_> {
 
     /// The node that stands there, by its alternative, and its parts: no node in another role, and none that leans left.
     #[tactic(auto, using(crate::proofs::PartLemmas::seen_leaf, crate::proofs::PartLemmas::seen_node, crate::proofs::PartLemmas::seen_role, crate::proofs::PartLemmas::seen_parts, crate::proofs::PartLemmas::seen_lean))]
-    pub fn as_node<'t>(&self, item: &Item<'t>) -> Option<(Label, Row<'t>)>
+    pub fn as_node<'t>(&self, item: &Item<'t>) -> Option<(NodeKind, Siblings<'t>)>
         ensures { Seen self.now result (part_in self.now item.now) }
     {
         match item.what {
@@ -151,7 +151,7 @@ impl Source<'_> {
 
     /// Whether the part at a place is a token.
     #[tactic(auto, unfolding(crate::specs::Steps::is_token))]
-    pub fn is_token_at(&self, parts: &Row<'_>, n: usize) -> bool
+    pub fn is_token_at(&self, parts: &Siblings<'_>, n: usize) -> bool
         ensures { result ≡ is_token (part (parts_in self.now parts.now) n) }
     {
         match self.part(parts, n) {
@@ -182,7 +182,7 @@ impl Source<'_> {
     }
 
     /// The token at a place among the parts.
-    pub fn token_at(&self, parts: &Row<'_>, n: usize) -> Option<Token>
+    pub fn token_at(&self, parts: &Siblings<'_>, n: usize) -> Option<Token>
         requires { HasCut self.now }
         ensures is { result ≡ token_in self.now.text.now self.now.tokens.now (part (parts_in self.now parts.now) n) }
         ensures cut { IfSome result (Cuts self.now.text.now) }
@@ -202,7 +202,7 @@ impl Source<'_> {
     }
 
     /// The value of a string literal.
-    #[tactic(auto, unfolding(es_dress::specs::Texts::str_of))]
+    #[tactic(auto, unfolding(es_lowering::specs::Texts::str_of))]
     pub fn value(&self, token: Token) -> Result<Text, AllocError>
         requires { Cuts self.now.text.now token }
         ensures { IfOk result (λ value. value ≡ (str_of self.now.text.now token).value) }
@@ -212,7 +212,7 @@ impl Source<'_> {
     }
 
     /// Whether the token is this word.
-    #[tactic(auto, unfolding(es_dress::specs::Texts::ident_of))]
+    #[tactic(auto, unfolding(es_lowering::specs::Texts::ident_of))]
     pub fn is_word(&self, word: &str, token: Token) -> bool
         requires { Cuts self.now.text.now token }
         ensures { result ≡ same_word self.now.text.now self.now.tokens.now word.now (Some token) }
@@ -221,7 +221,7 @@ impl Source<'_> {
     }
 
     /// Whether the first of these parts is this word.
-    pub fn is_word_at(&self, word: &str, parts: &Row<'_>) -> bool
+    pub fn is_word_at(&self, word: &str, parts: &Siblings<'_>) -> bool
         requires { HasCut self.now }
         ensures { result ≡ same_word self.now.text.now self.now.tokens.now word.now (token_in self.now.text.now self.now.tokens.now (part (parts_in self.now parts.now) 0)) }
     {
@@ -232,7 +232,7 @@ impl Source<'_> {
     }
 
     /// Whether the first of these parts is a string literal of this word.
-    pub fn is_literal_at(&self, word: &str, parts: &Row<'_>) -> Result<bool, AllocError>
+    pub fn is_literal_at(&self, word: &str, parts: &Siblings<'_>) -> Result<bool, AllocError>
         requires { HasCut self.now }
         ensures { IfOk result (λ yes. yes ≡ same_str self.now.text.now self.now.tokens.now word.now (str_in self.now.text.now self.now.tokens.now (part (parts_in self.now parts.now) 0))) }
     {
@@ -252,7 +252,7 @@ impl Source<'_> {
     }
 
     /// Whether the token is this word, or a string literal of it.
-    #[tactic(auto, unfolding(es_dress::specs::Texts::name_of))]
+    #[tactic(auto, unfolding(es_lowering::specs::Texts::name_of))]
     pub fn spells(&self, word: &str, token: Token) -> Result<bool, AllocError>
         requires { Cuts self.now.text.now token }
         ensures { IfOk result (λ yes. yes ≡ spells word.now (name_of self.now.text.now token)) }

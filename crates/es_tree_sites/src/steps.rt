@@ -3,8 +3,8 @@
 ghost use Rattle.std.specs.Prelude.{◌≡◌};
 ghost use Rattle.es_tree_sites.specs.Steps.{steps};
 
+use es_grammar::NodeKind;
 use es_site::DependencyKind;
-use es_whole_grammar::Label;
 
 /// A place among the parts of a node at which sites stand. Parts count from 0.
 #[derive(Clone, Copy)]
@@ -47,132 +47,137 @@ pub enum Step {
 
 /// The places of the nodes of this alternative, in the order of the text.
 #[tactic(auto, unfolding(crate::specs::Steps::steps))]
-pub fn steps(label: Label) -> &'static [Step]
+pub fn steps(label: NodeKind) -> &'static [Step]
     ensures { result.now ≡ steps label }
 {
     match label {
-        Label::ExportDefaultFunction
-        | Label::ExportDefaultClass
-        | Label::ExportDefaultExpression
-        | Label::ExportDeclaration
-        | Label::ExportDefaultInterface
-        | Label::ExportAssignment
-        | Label::Parenthesized
-        | Label::Spread
-        | Label::UpdatePostfix
-        | Label::AwaitExpression
-        | Label::IndexPost
-        | Label::CallPost
-        | Label::TemplatePost
-        | Label::ComputedKey
-        | Label::SpreadProperty
-        | Label::StaticBlock
-        | Label::RestPattern
-        | Label::RestProperty
-        | Label::Signature
-        | Label::ExpressionStatement
-        | Label::ThrowStatement
-        | Label::VariableDeclaration
-        | Label::UsingDeclaration
-        | Label::Declared
-        | Label::DeclaredVariables => &[Step::At(0)],
-        Label::Module | Label::Script => &[Step::Turns(1, 0)],
-        Label::TemplateParts => &[Step::At(1), Step::Turns(2, 1)],
-        Label::ArrayLiteral | Label::ArrayPattern => &[Step::Holes(0)],
-        Label::ObjectLiteral | Label::ObjectPattern | Label::Block | Label::GlobalDeclaration => &[
-            Step::Turns(0, 0),
-        ],
-        Label::Function | Label::AsyncFunction => &[Step::At(2), Step::At(3)],
-        Label::Class => &[Step::In(1, 0), Step::Turns(2, 0)],
-        Label::New | Label::ParenthesizedArrow | Label::AsyncParenthesizedArrow => &[
+        NodeKind::ExportDefaultFunction
+        | NodeKind::ExportDefaultClass
+        | NodeKind::ExportDefaultExpression
+        | NodeKind::ExportDeclaration
+        | NodeKind::ExportDefaultInterface
+        | NodeKind::ExportAssignment
+        | NodeKind::Parenthesized
+        | NodeKind::Spread
+        | NodeKind::UpdatePostfix
+        | NodeKind::AwaitExpression
+        | NodeKind::IndexPost
+        | NodeKind::CallPost
+        | NodeKind::TemplatePost
+        | NodeKind::ComputedKey
+        | NodeKind::SpreadProperty
+        | NodeKind::StaticBlock
+        | NodeKind::RestPattern
+        | NodeKind::RestProperty
+        | NodeKind::Signature
+        | NodeKind::ExpressionStatement
+        | NodeKind::ThrowStatement
+        | NodeKind::VariableDeclaration
+        | NodeKind::UsingDeclaration
+        | NodeKind::Declared
+        | NodeKind::DeclaredVariables => &[Step::At(0)],
+        NodeKind::Module | NodeKind::Script => &[Step::Turns(1, 0)],
+        NodeKind::TemplateParts => &[Step::At(1), Step::Turns(2, 1)],
+        NodeKind::ArrayLiteral | NodeKind::ArrayPattern => &[Step::Holes(0)],
+        NodeKind::ObjectLiteral
+        | NodeKind::ObjectPattern
+        | NodeKind::Block
+        | NodeKind::GlobalDeclaration => &[Step::Turns(0, 0)],
+        NodeKind::Function | NodeKind::AsyncFunction => &[Step::At(2), Step::At(3)],
+        NodeKind::Class => &[Step::In(1, 0), Step::Turns(2, 0)],
+        NodeKind::New | NodeKind::ParenthesizedArrow | NodeKind::AsyncParenthesizedArrow => &[
             Step::At(0),
             Step::In(1, 0),
         ],
-        Label::Chain | Label::Sequence => &[Step::At(0), Step::At(1), Step::Turns(2, 0)],
-        Label::UpdatePrefix
-        | Label::UnaryExpression
-        | Label::PrivateIn
-        | Label::TypedCallPost
-        | Label::TypedTemplatePost
-        | Label::TypedSignature
-        | Label::LabelledStatement
-        | Label::VariableHead
-        | Label::TypedVariableHead => &[Step::At(1)],
-        Label::Binary | Label::Assignment => &[Step::At(0), Step::At(2)],
-        Label::Conditional
-        | Label::MethodProperty
-        | Label::GeneratorProperty
-        | Label::ForAwaitStatement => &[Step::At(0), Step::At(1), Step::At(2)],
-        Label::PatternAssignment
-        | Label::KeyValue
-        | Label::DefaultPattern
-        | Label::DefaultParameter
-        | Label::WhileStatement
-        | Label::DoStatement
-        | Label::WithStatement
-        | Label::Declarator => &[Step::At(0), Step::At(1)],
-        Label::NameArrow | Label::AsyncNameArrow | Label::NameProperty => &[Step::In(1, 0)],
-        Label::Arguments => &[Step::Turns(0, 1)],
-        Label::TypedFunction | Label::TypedAsyncFunction => &[Step::At(2), Step::In(3, 0)],
-        Label::TypedClass | Label::AbstractClass => &[Step::In(2, 0), Step::Turns(4, 0)],
-        Label::TypedNew => &[Step::At(0), Step::In(2, 0)],
-        Label::TypedParenthesizedArrow | Label::TypedAsyncParenthesizedArrow => &[
+        NodeKind::Chain | NodeKind::Sequence => &[Step::At(0), Step::At(1), Step::Turns(2, 0)],
+        NodeKind::UpdatePrefix
+        | NodeKind::UnaryExpression
+        | NodeKind::PrivateIn
+        | NodeKind::TypedCallPost
+        | NodeKind::TypedTemplatePost
+        | NodeKind::TypedSignature
+        | NodeKind::LabelledStatement
+        | NodeKind::VariableHead
+        | NodeKind::TypedVariableHead => &[Step::At(1)],
+        NodeKind::Binary | NodeKind::Assignment => &[Step::At(0), Step::At(2)],
+        NodeKind::Conditional
+        | NodeKind::MethodProperty
+        | NodeKind::GeneratorProperty
+        | NodeKind::ForAwaitStatement => &[Step::At(0), Step::At(1), Step::At(2)],
+        NodeKind::PatternAssignment
+        | NodeKind::KeyValue
+        | NodeKind::DefaultPattern
+        | NodeKind::DefaultParameter
+        | NodeKind::WhileStatement
+        | NodeKind::DoStatement
+        | NodeKind::WithStatement
+        | NodeKind::Declarator => &[Step::At(0), Step::At(1)],
+        NodeKind::NameArrow | NodeKind::AsyncNameArrow | NodeKind::NameProperty => &[Step::In(
+            1, 0,
+        )],
+        NodeKind::Arguments => &[Step::Turns(0, 1)],
+        NodeKind::TypedFunction | NodeKind::TypedAsyncFunction => &[Step::At(2), Step::In(3, 0)],
+        NodeKind::TypedClass | NodeKind::AbstractClass => &[Step::In(2, 0), Step::Turns(4, 0)],
+        NodeKind::TypedNew => &[Step::At(0), Step::In(2, 0)],
+        NodeKind::TypedParenthesizedArrow | NodeKind::TypedAsyncParenthesizedArrow => &[
             Step::At(1),
             Step::In(3, 0),
         ],
-        Label::AsyncProperty
-        | Label::AccessorProperty
-        | Label::MethodMember
-        | Label::GeneratorMember => &[Step::At(1), Step::At(2), Step::At(3)],
-        Label::TypedMethodProperty | Label::TypedGeneratorProperty => &[
+        NodeKind::AsyncProperty
+        | NodeKind::AccessorProperty
+        | NodeKind::MethodMember
+        | NodeKind::GeneratorMember => &[Step::At(1), Step::At(2), Step::At(3)],
+        NodeKind::TypedMethodProperty | NodeKind::TypedGeneratorProperty => &[
             Step::In(0, 0),
             Step::In(0, 1),
             Step::At(1),
         ],
-        Label::TypedAsyncProperty | Label::TypedAccessorProperty => &[
+        NodeKind::TypedAsyncProperty | NodeKind::TypedAccessorProperty => &[
             Step::In(1, 0),
             Step::In(1, 1),
             Step::At(2),
         ],
-        Label::AsyncMember | Label::AccessorMember => &[Step::At(2), Step::At(3), Step::At(4)],
-        Label::FieldMember | Label::AccessorField => &[Step::At(1), Step::In(2, 0)],
-        Label::TypedMethodMember | Label::TypedGeneratorMember => &[
+        NodeKind::AsyncMember | NodeKind::AccessorMember => &[
+            Step::At(2),
+            Step::At(3),
+            Step::At(4),
+        ],
+        NodeKind::FieldMember | NodeKind::AccessorField => &[Step::At(1), Step::In(2, 0)],
+        NodeKind::TypedMethodMember | NodeKind::TypedGeneratorMember => &[
             Step::In(1, 0),
             Step::In(1, 2),
             Step::In(2, 0),
         ],
-        Label::TypedAsyncMember | Label::TypedAccessorMember => &[
+        NodeKind::TypedAsyncMember | NodeKind::TypedAccessorMember => &[
             Step::In(2, 0),
             Step::In(2, 2),
             Step::In(3, 0),
         ],
-        Label::TypedFieldMember | Label::TypedAccessorField | Label::PropertyParameter => &[
-            Step::At(1),
-            Step::In(4, 0),
-        ],
-        Label::KeyPattern | Label::IfStatement => &[Step::At(0), Step::At(1), Step::In(2, 0)],
-        Label::MarkedParameter | Label::TypedDeclarator => &[Step::At(0), Step::In(3, 0)],
-        Label::ThisParameter => &[Step::In(3, 0)],
-        Label::Parameters | Label::TypedParameters => &[Step::Turns(0, 0), Step::In(1, 0)],
-        Label::ForEachStatement => &[Step::At(0), Step::In(1, 1), Step::At(2)],
-        Label::Variables | Label::Using => &[Step::At(1), Step::Turns(2, 0)],
-        Label::NamespaceDeclaration => &[Step::Turns(2, 0)],
-        Label::BareImport => &[Step::Bare],
-        Label::FromImport => &[Step::From(DependencyKind::Import)],
-        Label::RequireImport | Label::ExportedRequireImport => &[Step::Require],
-        Label::ExportAll => &[Step::From(DependencyKind::Export)],
-        Label::ExportNames => &[Step::Names],
-        Label::ImportCall => &[Step::Call, Step::At(0), Step::In(1, 0)],
-        Label::Yield => &[Step::In(0, 1)],
-        Label::OptionalPost => &[Step::In(0, 0), Step::Deep(0, 0, 0)],
-        Label::TypedBinary => &[Step::At(0), Step::In(1, 1)],
-        Label::TypedOptionalPost => &[Step::In(0, 0), Step::TypedArgs],
-        Label::ForStatement => &[Step::Head, Step::In(3, 0), Step::In(4, 0), Step::At(5)],
-        Label::ReturnStatement => &[Step::Returned],
-        Label::SwitchStatement => &[Step::At(0), Step::Cases(1)],
-        Label::TryStatement | Label::TypedTryStatement => &[Step::At(0), Step::Handlers(1)],
-        Label::EnumDeclaration => &[Step::Members(2)],
-        Label::ModuleDeclaration => &[Step::Body],
+        NodeKind::TypedFieldMember | NodeKind::TypedAccessorField | NodeKind::PropertyParameter =>
+            &[Step::At(1), Step::In(4, 0)],
+        NodeKind::KeyPattern | NodeKind::IfStatement => &[Step::At(0), Step::At(1), Step::In(2, 0)],
+        NodeKind::MarkedParameter | NodeKind::TypedDeclarator => &[Step::At(0), Step::In(3, 0)],
+        NodeKind::ThisParameter => &[Step::In(3, 0)],
+        NodeKind::Parameters | NodeKind::TypedParameters => &[Step::Turns(0, 0), Step::In(1, 0)],
+        NodeKind::ForEachStatement => &[Step::At(0), Step::In(1, 1), Step::At(2)],
+        NodeKind::Variables | NodeKind::Using => &[Step::At(1), Step::Turns(2, 0)],
+        NodeKind::NamespaceDeclaration => &[Step::Turns(2, 0)],
+        NodeKind::BareImport => &[Step::Bare],
+        NodeKind::FromImport => &[Step::From(DependencyKind::Import)],
+        NodeKind::RequireImport | NodeKind::ExportedRequireImport => &[Step::Require],
+        NodeKind::ExportAll => &[Step::From(DependencyKind::Export)],
+        NodeKind::ExportNames => &[Step::Names],
+        NodeKind::ImportCall => &[Step::Call, Step::At(0), Step::In(1, 0)],
+        NodeKind::Yield => &[Step::In(0, 1)],
+        NodeKind::OptionalPost => &[Step::In(0, 0), Step::Deep(0, 0, 0)],
+        NodeKind::TypedBinary => &[Step::At(0), Step::In(1, 1)],
+        NodeKind::TypedOptionalPost => &[Step::In(0, 0), Step::TypedArgs],
+        NodeKind::ForStatement => &[Step::Head, Step::In(3, 0), Step::In(4, 0), Step::At(5)],
+        NodeKind::ReturnStatement => &[Step::Returned],
+        NodeKind::SwitchStatement => &[Step::At(0), Step::Cases(1)],
+        NodeKind::TryStatement | NodeKind::TypedTryStatement => &[Step::At(0), Step::Handlers(1)],
+        NodeKind::EnumDeclaration => &[Step::Members(2)],
+        NodeKind::ModuleDeclaration => &[Step::Body],
         _ => &[],
     }
 }

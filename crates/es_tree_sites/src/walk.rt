@@ -11,13 +11,13 @@ ghost use Rattle.es_syntax.specs.Trees.{trees};
 ghost use Rattle.es_tree_sites.specs.Parts.{tree_at, parts_in, HasCut};
 ghost use Rattle.es_tree_sites.specs.Steps.{turns_in, holes_in, cases_in, members_in, operand_at, operands_in, leaning_in, handlers_in, declares, by_step};
 
-use crate::source::{Source, split};
+use crate::source::{TokenizedText, split};
 use crate::steps::{Step, steps};
 use base::Items;
+use es_grammar::NodeKind;
 use es_site::{DependencyKind, Site};
-use es_syntax::{Entry, Item, Lean, Row, What};
+use es_syntax::{Entry, Item, Lean, Siblings, What};
 use es_token::Token;
-use es_whole_grammar::Label;
 use std::alloc::{AllocError, Global};
 
 /// The sites of the plain trees that these entries are, over the tokens of a text, in the order of the text.
@@ -31,18 +31,18 @@ pub fn tree_sites(
     ensures { IfOk result (λ found. found ≡ flat_map (plain_sites text.now tokens.now) (trees entries.now)) }
 {
     let mut found = Items::new(alloc);
-    let source = Source {
+    let source = TokenizedText {
         alloc,
         text,
         tokens,
     };
-    source.walk_all(&mut found, &Row { entries })?;
+    source.walk_all(&mut found, &Siblings { entries })?;
     Ok(found)
 }
 
-impl Source<'_> {
+impl TokenizedText<'_> {
     /// All trees of a row.
-    fn walk_all(&self, found: &mut Items<Site>, list: &Row<'_>) -> Result<(), AllocError>
+    fn walk_all(&self, found: &mut Items<Site>, list: &Siblings<'_>) -> Result<(), AllocError>
         requires { HasCut self.now }
         ensures { OnOk result (found.new ≡ found.old ++ flat_map (plain_sites self.now.text.now self.now.tokens.now) (trees list.now.entries.now)) }
     {
@@ -70,7 +70,12 @@ impl Source<'_> {
     }
 
     #[cycle(walk)]
-    fn node(&self, found: &mut Items<Site>, label: Label, parts: &Row<'_>) -> Result<(), AllocError>
+    fn node(
+        &self,
+        found: &mut Items<Site>,
+        label: NodeKind,
+        parts: &Siblings<'_>,
+    ) -> Result<(), AllocError>
         requires { HasCut self.now }
         ensures { OnOk result (found.new ≡ found.old ++ own self.now.text.now self.now.tokens.now label (parts_in self.now parts.now)) }
     {
@@ -81,7 +86,7 @@ impl Source<'_> {
     fn all(
         &self,
         found: &mut Items<Site>,
-        parts: &Row<'_>,
+        parts: &Siblings<'_>,
         steps: &[Step],
     ) -> Result<(), AllocError>
         requires { HasCut self.now }
@@ -95,7 +100,12 @@ impl Source<'_> {
 
     #[tactic(auto, unfolding(crate::specs::Steps::by_step))]
     #[cycle(walk)]
-    fn step(&self, found: &mut Items<Site>, parts: &Row<'_>, step: Step) -> Result<(), AllocError>
+    fn step(
+        &self,
+        found: &mut Items<Site>,
+        parts: &Siblings<'_>,
+        step: Step,
+    ) -> Result<(), AllocError>
         requires { HasCut self.now }
         ensures { OnOk result (found.new ≡ found.old ++ by_step self.now.text.now self.now.tokens.now (parts_in self.now parts.now) step) }
     {
@@ -122,7 +132,7 @@ impl Source<'_> {
 
     /// The part at a place.
     #[cycle(walk)]
-    fn at(&self, found: &mut Items<Site>, parts: &Row<'_>, n: usize) -> Result<(), AllocError>
+    fn at(&self, found: &mut Items<Site>, parts: &Siblings<'_>, n: usize) -> Result<(), AllocError>
         requires { HasCut self.now }
         ensures { OnOk result (found.new ≡ found.old ++ at (parts_in self.now parts.now) n) }
     {
@@ -134,7 +144,7 @@ impl Source<'_> {
 
     /// What may stand at a place.
     #[cycle(walk)]
-    fn may(&self, found: &mut Items<Site>, parts: &Row<'_>, n: usize) -> Result<(), AllocError>
+    fn may(&self, found: &mut Items<Site>, parts: &Siblings<'_>, n: usize) -> Result<(), AllocError>
         requires { HasCut self.now }
         ensures { OnOk result (found.new ≡ found.old ++ at (group (parts_in self.now parts.now) n) 0) }
     {
@@ -145,7 +155,12 @@ impl Source<'_> {
 
     /// The part at a place of each turn.
     #[cycle(walk)]
-    fn turns(&self, found: &mut Items<Site>, list: &Row<'_>, m: usize) -> Result<(), AllocError>
+    fn turns(
+        &self,
+        found: &mut Items<Site>,
+        list: &Siblings<'_>,
+        m: usize,
+    ) -> Result<(), AllocError>
         requires { HasCut self.now }
         ensures { OnOk result (found.new ≡ found.old ++ turns_in m (parts_in self.now list.now)) }
     {
@@ -159,7 +174,7 @@ impl Source<'_> {
 
     /// What may stand in each turn.
     #[cycle(walk)]
-    fn holes(&self, found: &mut Items<Site>, list: &Row<'_>) -> Result<(), AllocError>
+    fn holes(&self, found: &mut Items<Site>, list: &Siblings<'_>) -> Result<(), AllocError>
         requires { HasCut self.now }
         ensures { OnOk result (found.new ≡ found.old ++ holes_in (parts_in self.now list.now)) }
     {
@@ -173,7 +188,7 @@ impl Source<'_> {
 
     /// The test and the statements of each case.
     #[cycle(walk)]
-    fn cases(&self, found: &mut Items<Site>, list: &Row<'_>) -> Result<(), AllocError>
+    fn cases(&self, found: &mut Items<Site>, list: &Siblings<'_>) -> Result<(), AllocError>
         requires { HasCut self.now }
         ensures { OnOk result (found.new ≡ found.old ++ cases_in (parts_in self.now list.now)) }
     {
@@ -189,7 +204,7 @@ impl Source<'_> {
 
     /// The key and the value of each member.
     #[cycle(walk)]
-    fn members(&self, found: &mut Items<Site>, list: &Row<'_>) -> Result<(), AllocError>
+    fn members(&self, found: &mut Items<Site>, list: &Siblings<'_>) -> Result<(), AllocError>
         requires { HasCut self.now }
         ensures { OnOk result (found.new ≡ found.old ++ members_in (parts_in self.now list.now)) }
     {
@@ -211,7 +226,7 @@ impl Source<'_> {
         &self,
         found: &mut Items<Site>,
         lean: Lean,
-        parts: &Row<'_>,
+        parts: &Siblings<'_>,
     ) -> Result<(), AllocError>
         requires { HasCut self.now }
         ensures { OnOk result (found.new ≡ found.old ++ leaning_in lean (parts_in self.now parts.now)) }
@@ -234,7 +249,7 @@ impl Source<'_> {
         &self,
         found: &mut Items<Site>,
         lean: Lean,
-        turns: &Row<'_>,
+        turns: &Siblings<'_>,
     ) -> Result<(), AllocError>
         requires { HasCut self.now }
         ensures { OnOk result (found.new ≡ found.old ++ operands_in lean (parts_in self.now turns.now)) }
@@ -249,7 +264,12 @@ impl Source<'_> {
 
     #[tactic(auto, unfolding(crate::specs::Steps::operand_at))]
     #[cycle(walk)]
-    fn operand(&self, found: &mut Items<Site>, lean: Lean, turn: &Row<'_>) -> Result<(), AllocError>
+    fn operand(
+        &self,
+        found: &mut Items<Site>,
+        lean: Lean,
+        turn: &Siblings<'_>,
+    ) -> Result<(), AllocError>
         requires { HasCut self.now }
         ensures { OnOk result (found.new ≡ found.old ++ operand_at lean (parts_in self.now turn.now)) }
     {
@@ -262,7 +282,7 @@ impl Source<'_> {
     // ---- forms of their own
 
     /// `export { .. }`, with `from "a"` or without.
-    fn names(&self, found: &mut Items<Site>, parts: &Row<'_>) -> Result<(), AllocError>
+    fn names(&self, found: &mut Items<Site>, parts: &Siblings<'_>) -> Result<(), AllocError>
         requires { HasCut self.now }
         ensures { OnOk result (found.new ≡ found.old ++ declares self.now.text.now self.now.tokens.now kind.Export
             (is_there (group (parts_in self.now parts.now) 0)) (group (parts_in self.now parts.now) 2) 0 1) }
@@ -280,7 +300,7 @@ impl Source<'_> {
 
     /// A name, or arguments behind those of types.
     #[cycle(walk)]
-    fn typed_args(&self, found: &mut Items<Site>, parts: &Row<'_>) -> Result<(), AllocError>
+    fn typed_args(&self, found: &mut Items<Site>, parts: &Siblings<'_>) -> Result<(), AllocError>
         requires { HasCut self.now }
         ensures { OnOk result (found.new ≡ found.old ++ typed_args self.now.text.now self.now.tokens.now (parts_in self.now parts.now)) }
     {
@@ -293,7 +313,7 @@ impl Source<'_> {
     /// The first of the three forms of a `for`'s start that is there.
     #[tactic(auto, using(crate::proofs::FormLemmas::head_if))]
     #[cycle(walk)]
-    fn head(&self, found: &mut Items<Site>, parts: &Row<'_>) -> Result<(), AllocError>
+    fn head(&self, found: &mut Items<Site>, parts: &Siblings<'_>) -> Result<(), AllocError>
         requires { HasCut self.now }
         ensures { OnOk result (found.new ≡ found.old ++ first_of self.now.text.now self.now.tokens.now (group (parts_in self.now parts.now) 0)
             (first_of self.now.text.now self.now.tokens.now (group (parts_in self.now parts.now) 1) (at (group (parts_in self.now parts.now) 2) 0))) }
@@ -309,7 +329,7 @@ impl Source<'_> {
 
     /// What a `return` gives: a group of one part is its end alone.
     #[cycle(walk)]
-    fn returned(&self, found: &mut Items<Site>, parts: &Row<'_>) -> Result<(), AllocError>
+    fn returned(&self, found: &mut Items<Site>, parts: &Siblings<'_>) -> Result<(), AllocError>
         requires { HasCut self.now }
         ensures { OnOk result (found.new ≡ found.old ++ returned self.now.text.now self.now.tokens.now (parts_in self.now parts.now)) }
     {
@@ -322,7 +342,7 @@ impl Source<'_> {
     /// `finally` alone, or a parameter, a block and what may follow.
     #[tactic(auto, using(crate::proofs::FormLemmas::handlers_if))]
     #[cycle(walk)]
-    fn handlers(&self, found: &mut Items<Site>, parts: &Row<'_>) -> Result<(), AllocError>
+    fn handlers(&self, found: &mut Items<Site>, parts: &Siblings<'_>) -> Result<(), AllocError>
         requires { HasCut self.now }
         ensures { OnOk result (found.new ≡ found.old ++ handlers_in (parts_in self.now parts.now)) }
     {

@@ -2,22 +2,22 @@
 use Rattle.std.specs.Prelude.{ℕ, List, [], ◌∷◌, Option, None, option_map, slice_get}
 use Rattle.base.specs.declared.range.Range.{Range}
 use Rattle.es_token.specs.declared.token.Token.{Token}
-use Rattle.es_whole_grammar.specs.declared.rows.Label.{Label}
-use Rattle.es_whole_grammar.specs.declared.rows.Label.TheVariants as l
+use Rattle.es_grammar.specs.declared.rows.NodeKind.{NodeKind}
+use Rattle.es_grammar.specs.declared.rows.NodeKind.TheVariants as l
 use Rattle.ts_ast.specs.declared.leaf.TsKey.{TsKey}
 use Rattle.ts_ast.specs.declared.leaf.TsKey.TheVariants as vKey
-use Rattle.es_dress.specs.Value.{Value}
-use Rattle.es_dress.specs.Texts.{ident_of, str_of}
-use Rattle.es_dress.specs.TypeTexts.{number_of}
-use Rattle.es_dress.specs.TypeMembers.{bracket_key}
-use Rattle.es_syntax.specs.declared.cursor.Row.{Row}
+use Rattle.es_lowering.specs.Value.{Value}
+use Rattle.es_lowering.specs.Texts.{ident_of, str_of}
+use Rattle.es_lowering.specs.TypeTexts.{number_of}
+use Rattle.es_lowering.specs.TypeMembers.{bracket_key}
+use Rattle.es_syntax.specs.declared.cursor.Siblings.{Siblings}
 use Rattle.es_syntax.specs.Held.{held}
 use Rattle.es_syntax.specs.Views.{Within}
 use Rattle.es_type_member_views.specs.declared.key.TypeKey.{TypeKey}
 use Rattle.es_type_member_views.specs.declared.key.TypeKey.TheVariants as view
 
 -- the alternatives
-abbrev pub keys : List Label
+abbrev pub keys : List NodeKind
 keys =
     l.WordKeyOfType ∷ l.WordPatternKey ∷ l.StrKeyOfType ∷ l.StrPatternKey ∷ l.NumberKeyOfType ∷ l.NumberPatternKey ∷
     l.ComputedKeyOfType ∷ []
@@ -44,7 +44,7 @@ the_key x ts r (view.Computed inner) = computed x ts r (held x ts inner.entries.
 the_key x ts r view.Broken = None
 
 -- the parts take fewer entries
-abbrev pub IsBelow : Row → TypeKey → Type 0
+abbrev pub IsBelow : Siblings → TypeKey → Type 0
 IsBelow n (view.Word token) = Unit {0}
 IsBelow n (view.Str token) = Unit {0}
 IsBelow n (view.Number token) = Unit {0}

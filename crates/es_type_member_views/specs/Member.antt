@@ -2,18 +2,18 @@
 use Rattle.std.specs.Prelude.{ℕ, Bool, List, [], ◌∷◌, Option, Some, None, option_map, slice_get}
 use Rattle.base.specs.declared.range.Range.{Range}
 use Rattle.es_token.specs.declared.token.Token.{Token}
-use Rattle.es_whole_grammar.specs.declared.rows.Label.{Label}
-use Rattle.es_whole_grammar.specs.declared.rows.Label.TheVariants as l
+use Rattle.es_grammar.specs.declared.rows.NodeKind.{NodeKind}
+use Rattle.es_grammar.specs.declared.rows.NodeKind.TheVariants as l
 use Rattle.ts_ast.specs.declared.ts.TsTypeElement.{TsTypeElement}
 use Rattle.ts_ast.specs.declared.ts.TsTypeElement.TheVariants as vMember
 use Rattle.ts_ast.specs.declared.ts.TsType.{TsType}
 use Rattle.ts_ast.specs.declared.ts.TsFnParam.{TsFnParam}
 use Rattle.ts_ast.specs.declared.leaf.MethodKind.TheVariants as vMethod
 use Rattle.ts_ast.specs.declared.leaf.TsKey.{TsKey}
-use Rattle.es_dress.specs.Value.{Value, given, optional, type_at, type_params_at}
-use Rattle.es_dress.specs.Texts.{ident_of}
-use Rattle.es_dress.specs.Operators.{listed, accessor_kinds}
-use Rattle.es_syntax.specs.declared.cursor.Row.{Row}
+use Rattle.es_lowering.specs.Value.{Value, given, optional, type_at, type_params_at}
+use Rattle.es_lowering.specs.Texts.{ident_of}
+use Rattle.es_lowering.specs.Operators.{listed, accessor_kinds}
+use Rattle.es_syntax.specs.declared.cursor.Siblings.{Siblings}
 use Rattle.es_syntax.specs.Held.{held, valued}
 use Rattle.es_syntax.specs.Roles.{fn_params_in, ts_type_in, type_key_in}
 use Rattle.es_syntax.specs.Views.{Under, Within}
@@ -21,7 +21,7 @@ use Rattle.es_type_member_views.specs.declared.member.TypeMember.{TypeMember}
 use Rattle.es_type_member_views.specs.declared.member.TypeMember.TheVariants as view
 
 -- the alternatives
-abbrev pub members : List Label
+abbrev pub members : List NodeKind
 members =
     l.CallSignature ∷ l.ConstructSignature ∷ l.IndexSignature ∷ l.AccessorSignature ∷ l.MethodSignature ∷
     l.PropertySignature ∷ l.ReadonlyProperty ∷ []
@@ -86,7 +86,7 @@ the_member x ts r (view.Property readonly key mark ty) =
 the_member x ts r view.Broken = None
 
 -- the parts take fewer entries
-abbrev pub IsBelow : Row → TypeMember → Type 0
+abbrev pub IsBelow : Siblings → TypeMember → Type 0
 IsBelow n (view.Call type_params params ty) = Within type_params n × Under params n × Within ty n
 IsBelow n (view.Construct type_params params ty) = Within type_params n × Under params n × Within ty n
 IsBelow n (view.Index readonly name of ty) = Under of n × Within ty n

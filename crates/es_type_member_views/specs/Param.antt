@@ -2,15 +2,15 @@
 use Rattle.std.specs.Prelude.{ℕ, Bool, false, List, [], ◌∷◌, Option, Some, None, option_map, slice_get}
 use Rattle.base.specs.declared.range.Range.{Range}
 use Rattle.es_token.specs.declared.token.Token.{Token}
-use Rattle.es_whole_grammar.specs.declared.rows.Label.{Label}
-use Rattle.es_whole_grammar.specs.declared.rows.Label.TheVariants as l
+use Rattle.es_grammar.specs.declared.rows.NodeKind.{NodeKind}
+use Rattle.es_grammar.specs.declared.rows.NodeKind.TheVariants as l
 use Rattle.ts_ast.specs.declared.ts.TsFnParam.{TsFnParam}
 use Rattle.ts_ast.specs.declared.ts.TsParamPat.{TsParamPat}
 use Rattle.ts_ast.specs.declared.ts.TsParamPat.TheVariants as vPat
 use Rattle.ts_ast.specs.declared.leaf.Ident.{Ident}
-use Rattle.es_dress.specs.Value.{Value, given, optional, type_at}
-use Rattle.es_dress.specs.TypePatterns.{param_by, param_of, marked_by}
-use Rattle.es_syntax.specs.declared.cursor.Row.{Row}
+use Rattle.es_lowering.specs.Value.{Value, given, optional, type_at}
+use Rattle.es_lowering.specs.TypePatterns.{param_by, param_of, marked_by}
+use Rattle.es_syntax.specs.declared.cursor.Siblings.{Siblings}
 use Rattle.es_syntax.specs.Held.{held, valued}
 use Rattle.es_syntax.specs.Roles.{type_name_in, type_pat_in}
 use Rattle.es_syntax.specs.Views.{Under, Within}
@@ -18,7 +18,7 @@ use Rattle.es_type_member_views.specs.declared.param.TypeFnParam.{TypeFnParam}
 use Rattle.es_type_member_views.specs.declared.param.TypeFnParam.TheVariants as view
 
 -- the alternatives
-abbrev pub parameters : List Label
+abbrev pub parameters : List NodeKind
 parameters =
     l.ThisParameterOfType ∷ l.MarkedParameterOfType ∷ l.NamePatternOfType ∷ l.ArrayPatternOfType ∷
     l.ObjectPatternOfType ∷ l.RestPatternOfType ∷ []
@@ -42,7 +42,7 @@ the_param x ts r (view.Pattern node) = option_map (param_of r) (type_pat_in (val
 the_param x ts r view.Broken = None
 
 -- the parts take fewer entries
-abbrev pub IsBelow : Row → TypeFnParam → Type 0
+abbrev pub IsBelow : Siblings → TypeFnParam → Type 0
 IsBelow n (view.This word mark ty) = Within ty n
 IsBelow n (view.Marked pat mark) = Under pat n × Within mark n
 IsBelow n (view.Pattern node) = Within node.parts n

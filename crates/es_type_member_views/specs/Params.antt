@@ -1,19 +1,19 @@
 -- What a view of parameters of a type of a function tells.
 use Rattle.std.specs.Prelude.{◌++◌, ℕ, List, [], ◌∷◌, Option, Some, None}
 use Rattle.es_token.specs.declared.token.Token.{Token}
-use Rattle.es_whole_grammar.specs.declared.rows.Label.{Label}
-use Rattle.es_whole_grammar.specs.declared.rows.Label.TheVariants as l
+use Rattle.es_grammar.specs.declared.rows.NodeKind.{NodeKind}
+use Rattle.es_grammar.specs.declared.rows.NodeKind.TheVariants as l
 use Rattle.ts_ast.specs.declared.ts.TsFnParam.{TsFnParam}
-use Rattle.es_dress.specs.Value.{Value, given, optional, option_list, turns, fn_param_at}
-use Rattle.es_dress.specs.TypePatterns.{rest_at}
-use Rattle.es_syntax.specs.declared.cursor.Row.{Row}
+use Rattle.es_lowering.specs.Value.{Value, given, optional, option_list, turns, fn_param_at}
+use Rattle.es_lowering.specs.TypePatterns.{rest_at}
+use Rattle.es_syntax.specs.declared.cursor.Siblings.{Siblings}
 use Rattle.es_syntax.specs.Held.{held}
 use Rattle.es_syntax.specs.Views.{Within}
 use Rattle.es_type_member_views.specs.declared.params.TypeFnParams.{TypeFnParams}
 use Rattle.es_type_member_views.specs.declared.params.TypeFnParams.TheVariants as view
 
 -- the alternatives
-abbrev pub parameter_lists : List Label
+abbrev pub parameter_lists : List NodeKind
 parameter_lists = l.ParametersOfType ∷ []
 
 -- ---- each form, of what its parts are
@@ -28,6 +28,6 @@ the_params x ts (view.Params all rest) = parameters ts (held x ts all.entries.no
 the_params x ts view.Broken = None
 
 -- the parts take fewer entries
-abbrev pub IsBelow : Row → TypeFnParams → Type 0
+abbrev pub IsBelow : Siblings → TypeFnParams → Type 0
 IsBelow n (view.Params all rest) = Within all n × Within rest n
 IsBelow n view.Broken = Unit {0}

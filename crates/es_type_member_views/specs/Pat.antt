@@ -2,14 +2,14 @@
 use Rattle.std.specs.Prelude.{◌+◌, ℕ, List, [], ◌∷◌, Option, None, option_map, slice_get}
 use Rattle.base.specs.declared.range.Range.{Range}
 use Rattle.es_token.specs.declared.token.Token.{Token}
-use Rattle.es_whole_grammar.specs.declared.rows.Label.{Label}
-use Rattle.es_whole_grammar.specs.declared.rows.Label.TheVariants as l
+use Rattle.es_grammar.specs.declared.rows.NodeKind.{NodeKind}
+use Rattle.es_grammar.specs.declared.rows.NodeKind.TheVariants as l
 use Rattle.ts_ast.specs.declared.ts.TsParamPat.{TsParamPat}
 use Rattle.ts_ast.specs.declared.ts.TsParamPat.TheVariants as vPat
-use Rattle.es_dress.specs.Value.{Value, turns, type_pat_at, type_prop_at}
-use Rattle.es_dress.specs.Texts.{ident_of}
-use Rattle.es_dress.specs.Expressions.{elements}
-use Rattle.es_syntax.specs.declared.cursor.Row.{Row}
+use Rattle.es_lowering.specs.Value.{Value, turns, type_pat_at, type_prop_at}
+use Rattle.es_lowering.specs.Texts.{ident_of}
+use Rattle.es_lowering.specs.Expressions.{elements}
+use Rattle.es_syntax.specs.declared.cursor.Siblings.{Siblings}
 use Rattle.es_syntax.specs.Held.{held, valued}
 use Rattle.es_syntax.specs.Roles.{type_pat_in}
 use Rattle.es_syntax.specs.Views.{Under, Within}
@@ -17,7 +17,7 @@ use Rattle.es_type_member_views.specs.declared.pat.TypePat.{TypePat}
 use Rattle.es_type_member_views.specs.declared.pat.TypePat.TheVariants as view
 
 -- the alternatives
-abbrev pub patterns : List Label
+abbrev pub patterns : List NodeKind
 patterns = l.NamePatternOfType ∷ l.ArrayPatternOfType ∷ l.ObjectPatternOfType ∷ l.RestPatternOfType ∷ []
 
 -- ---- each form, of what its parts are
@@ -42,7 +42,7 @@ the_pat x ts r (view.Rest arg) = rest r (type_pat_in (valued x ts arg))
 the_pat x ts r view.Broken = None
 
 -- the parts take fewer entries
-abbrev pub IsBelow : Row → TypePat → Type 0
+abbrev pub IsBelow : Siblings → TypePat → Type 0
 IsBelow n (view.Ident token) = Unit {0}
 IsBelow n (view.Array from elems) = Within elems n
 IsBelow n (view.Object props) = Within props n

@@ -2,15 +2,15 @@
 use Rattle.std.specs.Prelude.{ℕ, List, [], ◌∷◌, Option, Some, None, option_map, slice_get}
 use Rattle.base.specs.declared.range.Range.{Range}
 use Rattle.es_token.specs.declared.token.Token.{Token}
-use Rattle.es_whole_grammar.specs.declared.rows.Label.{Label}
-use Rattle.es_whole_grammar.specs.declared.rows.Label.TheVariants as l
+use Rattle.es_grammar.specs.declared.rows.NodeKind.{NodeKind}
+use Rattle.es_grammar.specs.declared.rows.NodeKind.TheVariants as l
 use Rattle.ts_ast.specs.declared.ts.TsParamPat.{TsParamPat}
 use Rattle.ts_ast.specs.declared.ts.TsPatProp.{TsPatProp}
 use Rattle.ts_ast.specs.declared.ts.TsPatProp.TheVariants as vProp
 use Rattle.ts_ast.specs.declared.leaf.TsKey.{TsKey}
-use Rattle.es_dress.specs.Value.{given}
-use Rattle.es_dress.specs.Texts.{ident_of}
-use Rattle.es_syntax.specs.declared.cursor.Row.{Row}
+use Rattle.es_lowering.specs.Value.{given}
+use Rattle.es_lowering.specs.Texts.{ident_of}
+use Rattle.es_syntax.specs.declared.cursor.Siblings.{Siblings}
 use Rattle.es_syntax.specs.Held.{valued}
 use Rattle.es_syntax.specs.Roles.{type_key_in, type_pat_in}
 use Rattle.es_syntax.specs.Views.{Under}
@@ -18,7 +18,7 @@ use Rattle.es_type_member_views.specs.declared.prop.TypeProp.{TypeProp}
 use Rattle.es_type_member_views.specs.declared.prop.TypeProp.TheVariants as view
 
 -- the alternatives
-abbrev pub props : List Label
+abbrev pub props : List NodeKind
 props = l.RestPropertyOfType ∷ l.KeyProperty ∷ l.NamePropertyOfType ∷ []
 
 -- ---- each form, of what its parts are
@@ -40,7 +40,7 @@ the_prop x ts r (view.Shorthand name) = shorthand x (slice_get ts name)
 the_prop x ts r view.Broken = None
 
 -- the parts take fewer entries
-abbrev pub IsBelow : Row → TypeProp → Type 0
+abbrev pub IsBelow : Siblings → TypeProp → Type 0
 IsBelow n (view.Rest arg) = Under arg n
 IsBelow n (view.KeyValue key value) = Under key n × Under value n
 IsBelow n (view.Shorthand name) = Unit {0}

@@ -3,16 +3,16 @@
 ghost use Rattle.std.specs.Prelude.{◌≡◌, ℕ, List, IfSome, IfNone};
 ghost use Rattle.base.specs.declared.range.Range.{Range};
 ghost use Rattle.es_token.specs.declared.token.Token.{Token as Tok};
-ghost use Rattle.es_dress.specs.TypeMembers.{computed_key};
-ghost use Rattle.es_dress.specs.TypePatterns.{word_key, str_key, number_key};
-ghost use Rattle.es_dress.specs.Texts.{span_of};
+ghost use Rattle.es_lowering.specs.TypeMembers.{computed_key};
+ghost use Rattle.es_lowering.specs.TypePatterns.{word_key, str_key, number_key};
+ghost use Rattle.es_lowering.specs.Texts.{span_of};
 ghost use Rattle.es_syntax.specs.Held.{held, valued};
 ghost use Rattle.es_syntax.specs.Roles.{type_key_in};
 ghost use Rattle.es_syntax.specs.Views.{IsNone};
 ghost use Rattle.es_type_member_views.specs.Key.{keys, the_key, IsBelow};
 
-use es_syntax::{Item, Row, What};
-use es_whole_grammar::Label;
+use es_grammar::NodeKind;
+use es_syntax::{Item, Siblings, What};
 
 /// A key. Numbers are those of tokens.
 #[derive(Clone, Copy)]
@@ -24,14 +24,14 @@ pub enum TypeKey<'a> {
     /// A number or a BigInt.
     Number(u32),
     /// In brackets: a literal, or a name.
-    Computed(Row<'a>),
+    Computed(Siblings<'a>),
     /// A part is not there.
     Broken,
 }
 
 /// A word.
-#[tactic(auto, unfolding(es_dress::specs::TypePatterns::word_key, crate::specs::Key::word))]
-fn word<'a>(parts: &Row<'a>) -> TypeKey<'a>
+#[tactic(auto, unfolding(es_lowering::specs::TypePatterns::word_key, crate::specs::Key::word))]
+fn word<'a>(parts: &Siblings<'a>) -> TypeKey<'a>
     ensures form { (x : List ℕ) (ts : List Tok) (r : Range) → word_key x ts (held x ts parts.now.entries.now) ≡ the_key x ts r result }
     ensures below { IsBelow parts.now result }
 {
@@ -42,8 +42,8 @@ fn word<'a>(parts: &Row<'a>) -> TypeKey<'a>
 }
 
 /// A string literal.
-#[tactic(auto, unfolding(es_dress::specs::TypePatterns::str_key, crate::specs::Key::str))]
-fn str<'a>(parts: &Row<'a>) -> TypeKey<'a>
+#[tactic(auto, unfolding(es_lowering::specs::TypePatterns::str_key, crate::specs::Key::str))]
+fn str<'a>(parts: &Siblings<'a>) -> TypeKey<'a>
     ensures form { (x : List ℕ) (ts : List Tok) (r : Range) → str_key x ts (held x ts parts.now.entries.now) ≡ the_key x ts r result }
     ensures below { IsBelow parts.now result }
 {
@@ -54,8 +54,8 @@ fn str<'a>(parts: &Row<'a>) -> TypeKey<'a>
 }
 
 /// A number or a BigInt.
-#[tactic(auto, unfolding(es_dress::specs::TypePatterns::number_key, crate::specs::Key::number))]
-fn number<'a>(parts: &Row<'a>) -> TypeKey<'a>
+#[tactic(auto, unfolding(es_lowering::specs::TypePatterns::number_key, crate::specs::Key::number))]
+fn number<'a>(parts: &Siblings<'a>) -> TypeKey<'a>
     ensures form { (x : List ℕ) (ts : List Tok) (r : Range) → number_key x ts (held x ts parts.now.entries.now) ≡ the_key x ts r result }
     ensures below { IsBelow parts.now result }
 {
@@ -66,8 +66,8 @@ fn number<'a>(parts: &Row<'a>) -> TypeKey<'a>
 }
 
 /// In brackets: a literal, or a name.
-#[tactic(auto, unfolding(es_dress::specs::TypeMembers::computed_key, crate::specs::Key::computed))]
-fn computed<'a>(parts: &Row<'a>) -> TypeKey<'a>
+#[tactic(auto, unfolding(es_lowering::specs::TypeMembers::computed_key, crate::specs::Key::computed))]
+fn computed<'a>(parts: &Siblings<'a>) -> TypeKey<'a>
     ensures form { (x : List ℕ) (ts : List Tok) (r : Range) → computed_key x ts r (held x ts parts.now.entries.now) ≡ the_key x ts r result }
     ensures below { IsBelow parts.now result }
 {
@@ -75,7 +75,7 @@ fn computed<'a>(parts: &Row<'a>) -> TypeKey<'a>
 }
 
 /// What a node is as a key of a member of a type; none where it is of another alternative.
-#[tactic(auto, unfolding(es_dress::specs::Dress::build, es_dress::specs::Dress::type_key_of))]
+#[tactic(auto, unfolding(es_lowering::specs::Lowering::build, es_lowering::specs::Lowering::type_key_of))]
 pub fn key_at<'a>(node: &Item<'a>) -> Option<TypeKey<'a>>
     ensures form { (x : List ℕ) (ts : List Tok) → IfSome result (λ view. type_key_in (valued x ts node.now) ≡ the_key x ts (span_of ts node.now.from node.now.to) view) }
     ensures other { IfNone result (IsNone keys node.now.what) }
@@ -83,13 +83,13 @@ pub fn key_at<'a>(node: &Item<'a>) -> Option<TypeKey<'a>>
 {
     match node.what {
         What::Node(label) => match label {
-            Label::WordKeyOfType => Some(word(&node.parts)),
-            Label::WordPatternKey => Some(word(&node.parts)),
-            Label::StrKeyOfType => Some(str(&node.parts)),
-            Label::StrPatternKey => Some(str(&node.parts)),
-            Label::NumberKeyOfType => Some(number(&node.parts)),
-            Label::NumberPatternKey => Some(number(&node.parts)),
-            Label::ComputedKeyOfType => Some(computed(&node.parts)),
+            NodeKind::WordKeyOfType => Some(word(&node.parts)),
+            NodeKind::WordPatternKey => Some(word(&node.parts)),
+            NodeKind::StrKeyOfType => Some(str(&node.parts)),
+            NodeKind::StrPatternKey => Some(str(&node.parts)),
+            NodeKind::NumberKeyOfType => Some(number(&node.parts)),
+            NodeKind::NumberPatternKey => Some(number(&node.parts)),
+            NodeKind::ComputedKeyOfType => Some(computed(&node.parts)),
             _ => None,
         },
         What::Leaf => None,

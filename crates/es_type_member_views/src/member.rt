@@ -3,70 +3,70 @@
 ghost use Rattle.std.specs.Prelude.{◌≡◌, ℕ, List, IfSome, IfNone};
 ghost use Rattle.base.specs.declared.range.Range.{Range};
 ghost use Rattle.es_token.specs.declared.token.Token.{Token as Tok};
-ghost use Rattle.es_dress.specs.TypeMembers.{call_signature, construct_signature, index_signature, method_by, accessor_signature, property_by};
+ghost use Rattle.es_lowering.specs.TypeMembers.{call_signature, construct_signature, index_signature, method_by, accessor_signature, property_by};
 ghost use Rattle.ts_ast.specs.declared.leaf.MethodKind.TheVariants as vMethod;
-ghost use Rattle.es_dress.specs.Texts.{span_of};
+ghost use Rattle.es_lowering.specs.Texts.{span_of};
 ghost use Rattle.es_syntax.specs.Held.{held, valued};
 ghost use Rattle.es_syntax.specs.Roles.{type_member_in};
 ghost use Rattle.es_syntax.specs.Views.{IsNone};
 ghost use Rattle.es_type_member_views.specs.Member.{members, the_member, IsBelow};
 
-use es_syntax::{Item, Row, What};
-use es_whole_grammar::Label;
+use es_grammar::NodeKind;
+use es_syntax::{Item, Siblings, What};
 
 /// A member of a type in braces, with its parts where they stand. Numbers are those of tokens.
 #[derive(Clone, Copy)]
 pub enum TypeMember<'a> {
     /// `<T>(a): b`: the type parameters and the result may be absent.
     Call {
-        type_params: Row<'a>,
+        type_params: Siblings<'a>,
         params: Item<'a>,
-        ty: Row<'a>,
+        ty: Siblings<'a>,
     },
     /// `new <T>(a): b`
     Construct {
-        type_params: Row<'a>,
+        type_params: Siblings<'a>,
         params: Item<'a>,
-        ty: Row<'a>,
+        ty: Siblings<'a>,
     },
     /// `[a: b]: c`, behind `readonly` or not.
     Index {
         readonly: bool,
         name: u32,
         of: Item<'a>,
-        ty: Row<'a>,
+        ty: Siblings<'a>,
     },
     /// `get a(): b`: the word, the key, whether a mark stands behind it.
     Accessor {
         word: u32,
         key: Item<'a>,
         mark: bool,
-        type_params: Row<'a>,
+        type_params: Siblings<'a>,
         params: Item<'a>,
-        ty: Row<'a>,
+        ty: Siblings<'a>,
     },
     /// `a?(b): c`: whether a mark stands behind the key.
     Method {
         key: Item<'a>,
         mark: bool,
-        type_params: Row<'a>,
+        type_params: Siblings<'a>,
         params: Item<'a>,
-        ty: Row<'a>,
+        ty: Siblings<'a>,
     },
     /// `a?: b`, behind `readonly` or not: whether a mark stands behind the key.
     Property {
         readonly: bool,
         key: Item<'a>,
         mark: bool,
-        ty: Row<'a>,
+        ty: Siblings<'a>,
     },
     /// A part is not there.
     Broken,
 }
 
 /// `<T>(a): b`: the type parameters and the result may be absent.
-#[tactic(auto, unfolding(es_dress::specs::TypeMembers::call_signature, crate::specs::Member::call))]
-fn call<'a>(parts: &Row<'a>) -> TypeMember<'a>
+#[tactic(auto, unfolding(es_lowering::specs::TypeMembers::call_signature, crate::specs::Member::call))]
+fn call<'a>(parts: &Siblings<'a>) -> TypeMember<'a>
     ensures form { (x : List ℕ) (ts : List Tok) (r : Range) → call_signature r (held x ts parts.now.entries.now) ≡ the_member x ts r result }
     ensures below { IsBelow parts.now result }
 {
@@ -81,8 +81,8 @@ fn call<'a>(parts: &Row<'a>) -> TypeMember<'a>
 }
 
 /// `new <T>(a): b`
-#[tactic(auto, unfolding(es_dress::specs::TypeMembers::construct_signature, crate::specs::Member::construct))]
-fn construct<'a>(parts: &Row<'a>) -> TypeMember<'a>
+#[tactic(auto, unfolding(es_lowering::specs::TypeMembers::construct_signature, crate::specs::Member::construct))]
+fn construct<'a>(parts: &Siblings<'a>) -> TypeMember<'a>
     ensures form { (x : List ℕ) (ts : List Tok) (r : Range) → construct_signature r (held x ts parts.now.entries.now) ≡ the_member x ts r result }
     ensures below { IsBelow parts.now result }
 {
@@ -97,8 +97,8 @@ fn construct<'a>(parts: &Row<'a>) -> TypeMember<'a>
 }
 
 /// `[a: b]: c`, behind `readonly` or not.
-#[tactic(auto, unfolding(es_dress::specs::TypeMembers::index_signature, crate::specs::Member::index))]
-fn index<'a>(parts: &Row<'a>) -> TypeMember<'a>
+#[tactic(auto, unfolding(es_lowering::specs::TypeMembers::index_signature, crate::specs::Member::index))]
+fn index<'a>(parts: &Siblings<'a>) -> TypeMember<'a>
     ensures form { (x : List ℕ) (ts : List Tok) (r : Range) → index_signature x ts r (held x ts parts.now.entries.now) ≡ the_member x ts r result }
     ensures below { IsBelow parts.now result }
 {
@@ -117,8 +117,8 @@ fn index<'a>(parts: &Row<'a>) -> TypeMember<'a>
 }
 
 /// `get a(): b`: the word, the key, whether a mark stands behind it.
-#[tactic(auto, unfolding(es_dress::specs::TypeMembers::accessor_signature, es_dress::specs::TypeMembers::method_by, crate::specs::Member::accessor))]
-fn accessor<'a>(parts: &Row<'a>) -> TypeMember<'a>
+#[tactic(auto, unfolding(es_lowering::specs::TypeMembers::accessor_signature, es_lowering::specs::TypeMembers::method_by, crate::specs::Member::accessor))]
+fn accessor<'a>(parts: &Siblings<'a>) -> TypeMember<'a>
     ensures form { (x : List ℕ) (ts : List Tok) (r : Range) → accessor_signature ts r (held x ts parts.now.entries.now) ≡ the_member x ts r result }
     ensures below { IsBelow parts.now result }
 {
@@ -142,8 +142,8 @@ fn accessor<'a>(parts: &Row<'a>) -> TypeMember<'a>
 }
 
 /// `a?(b): c`: whether a mark stands behind the key.
-#[tactic(auto, unfolding(es_dress::specs::TypeMembers::method_by, crate::specs::Member::method))]
-fn method<'a>(parts: &Row<'a>) -> TypeMember<'a>
+#[tactic(auto, unfolding(es_lowering::specs::TypeMembers::method_by, crate::specs::Member::method))]
+fn method<'a>(parts: &Siblings<'a>) -> TypeMember<'a>
     ensures form { (x : List ℕ) (ts : List Tok) (r : Range) → method_by vMethod.Method r (held x ts parts.now.entries.now) 0 ≡ the_member x ts r result }
     ensures below { IsBelow parts.now result }
 {
@@ -163,8 +163,8 @@ fn method<'a>(parts: &Row<'a>) -> TypeMember<'a>
 }
 
 /// `a?: b`, behind `readonly` or not: whether a mark stands behind the key.
-#[tactic(auto, unfolding(es_dress::specs::TypeMembers::property_by, crate::specs::Member::property))]
-fn property<'a>(readonly: bool, parts: &Row<'a>) -> TypeMember<'a>
+#[tactic(auto, unfolding(es_lowering::specs::TypeMembers::property_by, crate::specs::Member::property))]
+fn property<'a>(readonly: bool, parts: &Siblings<'a>) -> TypeMember<'a>
     ensures form { (x : List ℕ) (ts : List Tok) (r : Range) → property_by readonly r (held x ts parts.now.entries.now) ≡ the_member x ts r result }
     ensures below { IsBelow parts.now result }
 {
@@ -180,7 +180,7 @@ fn property<'a>(readonly: bool, parts: &Row<'a>) -> TypeMember<'a>
 }
 
 /// What a node is as a member of a type in braces; none where it is of another alternative.
-#[tactic(auto, unfolding(es_dress::specs::Dress::build, es_dress::specs::Dress::type_member_of))]
+#[tactic(auto, unfolding(es_lowering::specs::Lowering::build, es_lowering::specs::Lowering::type_member_of))]
 pub fn member_at<'a>(node: &Item<'a>) -> Option<TypeMember<'a>>
     ensures form { (x : List ℕ) (ts : List Tok) → IfSome result (λ view. type_member_in (valued x ts node.now) ≡ the_member x ts (span_of ts node.now.from node.now.to) view) }
     ensures other { IfNone result (IsNone members node.now.what) }
@@ -188,13 +188,13 @@ pub fn member_at<'a>(node: &Item<'a>) -> Option<TypeMember<'a>>
 {
     match node.what {
         What::Node(label) => match label {
-            Label::CallSignature => Some(call(&node.parts)),
-            Label::ConstructSignature => Some(construct(&node.parts)),
-            Label::IndexSignature => Some(index(&node.parts)),
-            Label::AccessorSignature => Some(accessor(&node.parts)),
-            Label::MethodSignature => Some(method(&node.parts)),
-            Label::PropertySignature => Some(property(false, &node.parts)),
-            Label::ReadonlyProperty => Some(property(true, &node.parts)),
+            NodeKind::CallSignature => Some(call(&node.parts)),
+            NodeKind::ConstructSignature => Some(construct(&node.parts)),
+            NodeKind::IndexSignature => Some(index(&node.parts)),
+            NodeKind::AccessorSignature => Some(accessor(&node.parts)),
+            NodeKind::MethodSignature => Some(method(&node.parts)),
+            NodeKind::PropertySignature => Some(property(false, &node.parts)),
+            NodeKind::ReadonlyProperty => Some(property(true, &node.parts)),
             _ => None,
         },
         What::Leaf => None,

@@ -3,23 +3,30 @@
 ghost use Rattle.std.specs.Prelude.{◌≡◌, ℕ, List, IfSome, IfNone};
 ghost use Rattle.base.specs.declared.range.Range.{Range};
 ghost use Rattle.es_token.specs.declared.token.Token.{Token as Tok};
-ghost use Rattle.es_dress.specs.TypePatterns.{this_parameter, marked_parameter};
-ghost use Rattle.es_dress.specs.Texts.{span_of};
+ghost use Rattle.es_lowering.specs.TypePatterns.{this_parameter, marked_parameter};
+ghost use Rattle.es_lowering.specs.Texts.{span_of};
 ghost use Rattle.es_syntax.specs.Held.{held, valued};
 ghost use Rattle.es_syntax.specs.Roles.{fn_param_in};
 ghost use Rattle.es_syntax.specs.Views.{IsNone};
 ghost use Rattle.es_type_member_views.specs.Param.{parameters, the_param, IsBelow};
 
-use es_syntax::{Item, Row, What};
-use es_whole_grammar::Label;
+use es_grammar::NodeKind;
+use es_syntax::{Item, Siblings, What};
 
 /// A parameter, with its parts where they stand. Numbers are those of tokens.
 #[derive(Clone, Copy)]
 pub enum TypeFnParam<'a> {
     /// `this?: T`: whether a mark stands there; the type may be absent.
-    This { word: u32, mark: bool, ty: Row<'a> },
+    This {
+        word: u32,
+        mark: bool,
+        ty: Siblings<'a>,
+    },
     /// `a?: T`, `a: T`, `a?`: a pattern, and what is behind it.
-    Marked { pat: Item<'a>, mark: Row<'a> },
+    Marked {
+        pat: Item<'a>,
+        mark: Siblings<'a>,
+    },
     /// A pattern alone: the node itself.
     Pattern(Item<'a>),
     /// A part is not there.
@@ -27,8 +34,8 @@ pub enum TypeFnParam<'a> {
 }
 
 /// `this?: T`: whether a mark stands there; the type may be absent.
-#[tactic(auto, unfolding(es_dress::specs::TypePatterns::this_parameter, crate::specs::Param::this))]
-fn this<'a>(parts: &Row<'a>) -> TypeFnParam<'a>
+#[tactic(auto, unfolding(es_lowering::specs::TypePatterns::this_parameter, crate::specs::Param::this))]
+fn this<'a>(parts: &Siblings<'a>) -> TypeFnParam<'a>
     ensures form { (x : List ℕ) (ts : List Tok) (r : Range) → this_parameter ts r (held x ts parts.now.entries.now) ≡ the_param x ts r result }
     ensures below { IsBelow parts.now result }
 {
@@ -43,8 +50,8 @@ fn this<'a>(parts: &Row<'a>) -> TypeFnParam<'a>
 }
 
 /// `a?: T`, `a: T`, `a?`: a pattern, and what is behind it.
-#[tactic(auto, unfolding(es_dress::specs::TypePatterns::marked_parameter, crate::specs::Param::marked))]
-fn marked<'a>(parts: &Row<'a>) -> TypeFnParam<'a>
+#[tactic(auto, unfolding(es_lowering::specs::TypePatterns::marked_parameter, crate::specs::Param::marked))]
+fn marked<'a>(parts: &Siblings<'a>) -> TypeFnParam<'a>
     ensures form { (x : List ℕ) (ts : List Tok) (r : Range) → marked_parameter r (held x ts parts.now.entries.now) ≡ the_param x ts r result }
     ensures below { IsBelow parts.now result }
 {
@@ -58,7 +65,7 @@ fn marked<'a>(parts: &Row<'a>) -> TypeFnParam<'a>
 }
 
 /// What a node is as a parameter of a type of a function; none where it is of another alternative.
-#[tactic(auto, unfolding(es_dress::specs::Dress::build, es_dress::specs::Dress::fn_param_of, es_dress::specs::Dress::type_pat_of))]
+#[tactic(auto, unfolding(es_lowering::specs::Lowering::build, es_lowering::specs::Lowering::fn_param_of, es_lowering::specs::Lowering::type_pat_of))]
 pub fn param_at<'a>(node: &Item<'a>) -> Option<TypeFnParam<'a>>
     ensures form { (x : List ℕ) (ts : List Tok) → IfSome result (λ view. fn_param_in (valued x ts node.now) ≡ the_param x ts (span_of ts node.now.from node.now.to) view) }
     ensures other { IfNone result (IsNone parameters node.now.what) }
@@ -66,12 +73,12 @@ pub fn param_at<'a>(node: &Item<'a>) -> Option<TypeFnParam<'a>>
 {
     match node.what {
         What::Node(label) => match label {
-            Label::ThisParameterOfType => Some(this(&node.parts)),
-            Label::MarkedParameterOfType => Some(marked(&node.parts)),
-            Label::NamePatternOfType => Some(TypeFnParam::Pattern(*node)),
-            Label::ArrayPatternOfType => Some(TypeFnParam::Pattern(*node)),
-            Label::ObjectPatternOfType => Some(TypeFnParam::Pattern(*node)),
-            Label::RestPatternOfType => Some(TypeFnParam::Pattern(*node)),
+            NodeKind::ThisParameterOfType => Some(this(&node.parts)),
+            NodeKind::MarkedParameterOfType => Some(marked(&node.parts)),
+            NodeKind::NamePatternOfType => Some(TypeFnParam::Pattern(*node)),
+            NodeKind::ArrayPatternOfType => Some(TypeFnParam::Pattern(*node)),
+            NodeKind::ObjectPatternOfType => Some(TypeFnParam::Pattern(*node)),
+            NodeKind::RestPatternOfType => Some(TypeFnParam::Pattern(*node)),
             _ => None,
         },
         What::Leaf => None,

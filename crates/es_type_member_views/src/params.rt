@@ -2,27 +2,30 @@
 
 ghost use Rattle.std.specs.Prelude.{◌≡◌, ℕ, List, IfSome, IfNone};
 ghost use Rattle.es_token.specs.declared.token.Token.{Token as Tok};
-ghost use Rattle.es_dress.specs.TypePatterns.{parameters};
+ghost use Rattle.es_lowering.specs.TypePatterns.{parameters};
 ghost use Rattle.es_syntax.specs.Held.{held, valued};
 ghost use Rattle.es_syntax.specs.Roles.{fn_params_in};
 ghost use Rattle.es_syntax.specs.Views.{IsNone};
 ghost use Rattle.es_type_member_views.specs.Params.{parameter_lists, the_params, IsBelow};
 
-use es_syntax::{Item, Row, What};
-use es_whole_grammar::Label;
+use es_grammar::NodeKind;
+use es_syntax::{Item, Siblings, What};
 
 /// Parameters, where they stand.
 #[derive(Clone, Copy)]
 pub enum TypeFnParams<'a> {
     /// `a, b, ...c`: turns of one each, and what is behind the sign or none.
-    Params { all: Row<'a>, rest: Row<'a> },
+    Params {
+        all: Siblings<'a>,
+        rest: Siblings<'a>,
+    },
     /// A part is not there.
     Broken,
 }
 
 /// `a, b, ...c`: turns of one each, and what is behind the sign or none.
-#[tactic(auto, unfolding(es_dress::specs::TypePatterns::parameters, crate::specs::Params::parameters))]
-fn parameters<'a>(parts: &Row<'a>) -> TypeFnParams<'a>
+#[tactic(auto, unfolding(es_lowering::specs::TypePatterns::parameters, crate::specs::Params::parameters))]
+fn parameters<'a>(parts: &Siblings<'a>) -> TypeFnParams<'a>
     ensures form { (x : List ℕ) (ts : List Tok) → parameters ts (held x ts parts.now.entries.now) ≡ the_params x ts result }
     ensures below { IsBelow parts.now result }
 {
@@ -33,7 +36,7 @@ fn parameters<'a>(parts: &Row<'a>) -> TypeFnParams<'a>
 }
 
 /// What a node is as parameters of a type of a function; none where it is of another alternative.
-#[tactic(auto, unfolding(es_dress::specs::Dress::build, es_dress::specs::Dress::fn_params_of))]
+#[tactic(auto, unfolding(es_lowering::specs::Lowering::build, es_lowering::specs::Lowering::fn_params_of))]
 pub fn params_at<'a>(node: &Item<'a>) -> Option<TypeFnParams<'a>>
     ensures form { (x : List ℕ) (ts : List Tok) → IfSome result (λ view. fn_params_in (valued x ts node.now) ≡ the_params x ts view) }
     ensures other { IfNone result (IsNone parameter_lists node.now.what) }
@@ -41,7 +44,7 @@ pub fn params_at<'a>(node: &Item<'a>) -> Option<TypeFnParams<'a>>
 {
     match node.what {
         What::Node(label) => match label {
-            Label::ParametersOfType => Some(parameters(&node.parts)),
+            NodeKind::ParametersOfType => Some(parameters(&node.parts)),
             _ => None,
         },
         What::Leaf => None,

@@ -3,15 +3,15 @@
 ghost use Rattle.std.specs.Prelude.{◌≡◌, ℕ, List, IfSome, IfNone};
 ghost use Rattle.base.specs.declared.range.Range.{Range};
 ghost use Rattle.es_token.specs.declared.token.Token.{Token as Tok};
-ghost use Rattle.es_dress.specs.TypePatterns.{rest_property, key_property, name_property};
-ghost use Rattle.es_dress.specs.Texts.{span_of};
+ghost use Rattle.es_lowering.specs.TypePatterns.{rest_property, key_property, name_property};
+ghost use Rattle.es_lowering.specs.Texts.{span_of};
 ghost use Rattle.es_syntax.specs.Held.{held, valued};
 ghost use Rattle.es_syntax.specs.Roles.{type_prop_in};
 ghost use Rattle.es_syntax.specs.Views.{IsNone};
 ghost use Rattle.es_type_member_views.specs.Prop.{props, the_prop, IsBelow};
 
-use es_syntax::{Item, Row, What};
-use es_whole_grammar::Label;
+use es_grammar::NodeKind;
+use es_syntax::{Item, Siblings, What};
 
 /// A property, with its parts where they stand. Numbers are those of tokens.
 #[derive(Clone, Copy)]
@@ -27,8 +27,8 @@ pub enum TypeProp<'a> {
 }
 
 /// `...a`
-#[tactic(auto, unfolding(es_dress::specs::TypePatterns::rest_property, crate::specs::Prop::rest))]
-fn rest<'a>(parts: &Row<'a>) -> TypeProp<'a>
+#[tactic(auto, unfolding(es_lowering::specs::TypePatterns::rest_property, crate::specs::Prop::rest))]
+fn rest<'a>(parts: &Siblings<'a>) -> TypeProp<'a>
     ensures form { (x : List ℕ) (ts : List Tok) (r : Range) → rest_property r (held x ts parts.now.entries.now) ≡ the_prop x ts r result }
     ensures below { IsBelow parts.now result }
 {
@@ -39,8 +39,8 @@ fn rest<'a>(parts: &Row<'a>) -> TypeProp<'a>
 }
 
 /// `a: b`
-#[tactic(auto, unfolding(es_dress::specs::TypePatterns::key_property, crate::specs::Prop::key_value))]
-fn key_value<'a>(parts: &Row<'a>) -> TypeProp<'a>
+#[tactic(auto, unfolding(es_lowering::specs::TypePatterns::key_property, crate::specs::Prop::key_value))]
+fn key_value<'a>(parts: &Siblings<'a>) -> TypeProp<'a>
     ensures form { (x : List ℕ) (ts : List Tok) (r : Range) → key_property r (held x ts parts.now.entries.now) ≡ the_prop x ts r result }
     ensures below { IsBelow parts.now result }
 {
@@ -54,8 +54,8 @@ fn key_value<'a>(parts: &Row<'a>) -> TypeProp<'a>
 }
 
 /// `a`
-#[tactic(auto, unfolding(es_dress::specs::TypePatterns::name_property, crate::specs::Prop::shorthand))]
-fn shorthand<'a>(parts: &Row<'a>) -> TypeProp<'a>
+#[tactic(auto, unfolding(es_lowering::specs::TypePatterns::name_property, crate::specs::Prop::shorthand))]
+fn shorthand<'a>(parts: &Siblings<'a>) -> TypeProp<'a>
     ensures form { (x : List ℕ) (ts : List Tok) (r : Range) → name_property x ts (held x ts parts.now.entries.now) ≡ the_prop x ts r result }
     ensures below { IsBelow parts.now result }
 {
@@ -66,7 +66,7 @@ fn shorthand<'a>(parts: &Row<'a>) -> TypeProp<'a>
 }
 
 /// What a node is as a property of a pattern of a parameter of a type; none where it is of another alternative.
-#[tactic(auto, unfolding(es_dress::specs::Dress::build, es_dress::specs::Dress::type_prop_of))]
+#[tactic(auto, unfolding(es_lowering::specs::Lowering::build, es_lowering::specs::Lowering::type_prop_of))]
 pub fn prop_at<'a>(node: &Item<'a>) -> Option<TypeProp<'a>>
     ensures form { (x : List ℕ) (ts : List Tok) → IfSome result (λ view. type_prop_in (valued x ts node.now) ≡ the_prop x ts (span_of ts node.now.from node.now.to) view) }
     ensures other { IfNone result (IsNone props node.now.what) }
@@ -74,9 +74,9 @@ pub fn prop_at<'a>(node: &Item<'a>) -> Option<TypeProp<'a>>
 {
     match node.what {
         What::Node(label) => match label {
-            Label::RestPropertyOfType => Some(rest(&node.parts)),
-            Label::KeyProperty => Some(key_value(&node.parts)),
-            Label::NamePropertyOfType => Some(shorthand(&node.parts)),
+            NodeKind::RestPropertyOfType => Some(rest(&node.parts)),
+            NodeKind::KeyProperty => Some(key_value(&node.parts)),
+            NodeKind::NamePropertyOfType => Some(shorthand(&node.parts)),
             _ => None,
         },
         What::Leaf => None,

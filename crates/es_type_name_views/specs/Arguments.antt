@@ -2,12 +2,12 @@
 use Rattle.std.specs.Prelude.{ℕ, List, [], ◌∷◌, Option, Some, None, option_map}
 use Rattle.base.specs.declared.range.Range.{Range}
 use Rattle.es_token.specs.declared.token.Token.{Token}
-use Rattle.es_whole_grammar.specs.declared.rows.Label.{Label}
-use Rattle.es_whole_grammar.specs.declared.rows.Label.TheVariants as l
+use Rattle.es_grammar.specs.declared.rows.NodeKind.{NodeKind}
+use Rattle.es_grammar.specs.declared.rows.NodeKind.TheVariants as l
 use Rattle.ts_ast.specs.declared.ts.Nodes.{Nodes}
 use Rattle.ts_ast.specs.declared.ts.TsType.{TsType}
-use Rattle.es_dress.specs.Value.{Value, given, turns, type_at}
-use Rattle.es_syntax.specs.declared.cursor.Row.{Row}
+use Rattle.es_lowering.specs.Value.{Value, given, turns, type_at}
+use Rattle.es_syntax.specs.declared.cursor.Siblings.{Siblings}
 use Rattle.es_syntax.specs.Held.{held, valued}
 use Rattle.es_syntax.specs.Roles.{ts_type_in}
 use Rattle.es_syntax.specs.Views.{Under, Within}
@@ -15,7 +15,7 @@ use Rattle.es_type_name_views.specs.declared.arguments.TypeArguments.{TypeArgume
 use Rattle.es_type_name_views.specs.declared.arguments.TypeArguments.TheVariants as view
 
 -- the alternatives
-abbrev pub argument_labels : List Label
+abbrev pub argument_labels : List NodeKind
 argument_labels = l.TypeArguments ∷ []
 
 -- ---- each form, of what its parts are
@@ -31,6 +31,6 @@ the_arguments x ts r (view.Arguments first others) =
 the_arguments x ts r view.Broken = None
 
 -- the parts take fewer entries
-abbrev pub IsBelow : Row → TypeArguments → Type 0
+abbrev pub IsBelow : Siblings → TypeArguments → Type 0
 IsBelow n (view.Arguments first others) = Under first n × Within others n
 IsBelow n view.Broken = Unit {0}

@@ -2,19 +2,19 @@
 use Rattle.std.specs.Prelude.{ℕ, List, [], ◌∷◌, Option, Some, None, option_map, slice_get}
 use Rattle.base.specs.declared.range.Range.{Range}
 use Rattle.es_token.specs.declared.token.Token.{Token}
-use Rattle.es_whole_grammar.specs.declared.rows.Label.{Label}
-use Rattle.es_whole_grammar.specs.declared.rows.Label.TheVariants as l
+use Rattle.es_grammar.specs.declared.rows.NodeKind.{NodeKind}
+use Rattle.es_grammar.specs.declared.rows.NodeKind.TheVariants as l
 use Rattle.ts_ast.specs.declared.leaf.TsEntityName.{TsEntityName}
-use Rattle.es_dress.specs.Value.{Value, given, turns}
-use Rattle.es_dress.specs.Texts.{this_or_name_of, ident_at}
-use Rattle.es_syntax.specs.declared.cursor.Row.{Row}
+use Rattle.es_lowering.specs.Value.{Value, given, turns}
+use Rattle.es_lowering.specs.Texts.{this_or_name_of, ident_at}
+use Rattle.es_syntax.specs.declared.cursor.Siblings.{Siblings}
 use Rattle.es_syntax.specs.Held.{held}
 use Rattle.es_syntax.specs.Views.{Within}
 use Rattle.es_type_name_views.specs.declared.entity.Entity.{Entity}
 use Rattle.es_type_name_views.specs.declared.entity.Entity.TheVariants as view
 
 -- the alternatives
-abbrev pub entities : List Label
+abbrev pub entities : List NodeKind
 entities = l.Entity ∷ l.EntityOfType ∷ []
 
 -- ---- each form, of what its parts are
@@ -29,6 +29,6 @@ the_entity x ts r (view.Names left rest) = names x ts r (slice_get ts left) (hel
 the_entity x ts r view.Broken = None
 
 -- the parts take fewer entries
-abbrev pub IsBelow : Row → Entity → Type 0
+abbrev pub IsBelow : Siblings → Entity → Type 0
 IsBelow n (view.Names left rest) = Within rest n
 IsBelow n view.Broken = Unit {0}

@@ -2,14 +2,14 @@
 use Rattle.std.specs.Prelude.{ℕ, List, [], ◌∷◌, Option, Some, None, option_map}
 use Rattle.base.specs.declared.range.Range.{Range}
 use Rattle.es_token.specs.declared.token.Token.{Token}
-use Rattle.es_whole_grammar.specs.declared.rows.Label.{Label}
-use Rattle.es_whole_grammar.specs.declared.rows.Label.TheVariants as l
+use Rattle.es_grammar.specs.declared.rows.NodeKind.{NodeKind}
+use Rattle.es_grammar.specs.declared.rows.NodeKind.TheVariants as l
 use Rattle.ts_ast.specs.declared.leaf.TsEntityName.{TsEntityName}
 use Rattle.ts_ast.specs.declared.ts.Nodes.{Nodes}
 use Rattle.ts_ast.specs.declared.ts.TsType.{TsType}
-use Rattle.es_dress.specs.Value.{given}
-use Rattle.es_dress.specs.Modules.{entity}
-use Rattle.es_syntax.specs.declared.cursor.Row.{Row}
+use Rattle.es_lowering.specs.Value.{given}
+use Rattle.es_lowering.specs.Modules.{entity}
+use Rattle.es_syntax.specs.declared.cursor.Siblings.{Siblings}
 use Rattle.es_syntax.specs.Held.{held, valued}
 use Rattle.es_syntax.specs.Roles.{arguments_in, entity_in}
 use Rattle.es_syntax.specs.Views.{Under, Within}
@@ -17,7 +17,7 @@ use Rattle.es_type_name_views.specs.declared.reference.Reference.{Reference}
 use Rattle.es_type_name_views.specs.declared.reference.Reference.TheVariants as view
 
 -- the alternatives
-abbrev pub references : List Label
+abbrev pub references : List NodeKind
 references = l.Reference ∷ l.EntityOfType ∷ []
 
 -- ---- each form, of what its parts are
@@ -36,7 +36,7 @@ the_reference x ts r (view.Entity parts) =
 the_reference x ts r view.Broken = None
 
 -- the parts take fewer entries
-abbrev pub IsBelow : Row → Reference → Type 0
+abbrev pub IsBelow : Siblings → Reference → Type 0
 IsBelow n (view.Named name arguments) = Under name n × Under arguments n
 IsBelow n (view.Entity parts) = Within parts n
 IsBelow n view.Broken = Unit {0}

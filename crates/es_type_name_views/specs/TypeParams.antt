@@ -2,20 +2,20 @@
 use Rattle.std.specs.Prelude.{ℕ, List, [], ◌∷◌, Option, Some, None}
 use Rattle.base.specs.declared.range.Range.{Range}
 use Rattle.es_token.specs.declared.token.Token.{Token}
-use Rattle.es_whole_grammar.specs.declared.rows.Label.{Label}
-use Rattle.es_whole_grammar.specs.declared.rows.Label.TheVariants as l
+use Rattle.es_grammar.specs.declared.rows.NodeKind.{NodeKind}
+use Rattle.es_grammar.specs.declared.rows.NodeKind.TheVariants as l
 use Rattle.ts_ast.specs.declared.ts.Nodes.{Nodes}
 use Rattle.ts_ast.specs.declared.ts.TsTypeParam.{TsTypeParam}
-use Rattle.es_dress.specs.Value.{Value, given, turns}
-use Rattle.es_dress.specs.TypeNames.{type_param}
-use Rattle.es_syntax.specs.declared.cursor.Row.{Row}
+use Rattle.es_lowering.specs.Value.{Value, given, turns}
+use Rattle.es_lowering.specs.TypeNames.{type_param}
+use Rattle.es_syntax.specs.declared.cursor.Siblings.{Siblings}
 use Rattle.es_syntax.specs.Held.{held}
 use Rattle.es_syntax.specs.Views.{Within}
 use Rattle.es_type_name_views.specs.declared.type_params.TypeParams.{TypeParams}
 use Rattle.es_type_name_views.specs.declared.type_params.TypeParams.TheVariants as view
 
 -- the alternatives
-abbrev pub type_param_labels : List Label
+abbrev pub type_param_labels : List NodeKind
 type_param_labels = l.TypeParameters ∷ []
 
 -- ---- each form, of what its parts are
@@ -31,6 +31,6 @@ the_type_params x ts r (view.Params first others) =
 the_type_params x ts r view.Broken = None
 
 -- the parts take fewer entries
-abbrev pub IsBelow : Row → TypeParams → Type 0
+abbrev pub IsBelow : Siblings → TypeParams → Type 0
 IsBelow n (view.Params first others) = Within first n × Within others n
 IsBelow n view.Broken = Unit {0}

@@ -3,28 +3,31 @@
 ghost use Rattle.std.specs.Prelude.{◌≡◌, ℕ, List, IfSome, IfNone};
 ghost use Rattle.base.specs.declared.range.Range.{Range};
 ghost use Rattle.es_token.specs.declared.token.Token.{Token as Tok};
-ghost use Rattle.es_dress.specs.TypeNames.{arguments};
-ghost use Rattle.es_dress.specs.Texts.{span_of};
+ghost use Rattle.es_lowering.specs.TypeNames.{arguments};
+ghost use Rattle.es_lowering.specs.Texts.{span_of};
 ghost use Rattle.es_syntax.specs.Held.{held, valued};
 ghost use Rattle.es_syntax.specs.Roles.{arguments_in};
 ghost use Rattle.es_syntax.specs.Views.{IsNone};
 ghost use Rattle.es_type_name_views.specs.Arguments.{argument_labels, the_arguments, IsBelow};
 
-use es_syntax::{Item, Row, What};
-use es_whole_grammar::Label;
+use es_grammar::NodeKind;
+use es_syntax::{Item, Siblings, What};
 
 /// Type arguments, where they stand.
 #[derive(Clone, Copy)]
 pub enum TypeArguments<'a> {
     /// `<a, b>`: the first, and turns of the others.
-    Arguments { first: Item<'a>, others: Row<'a> },
+    Arguments {
+        first: Item<'a>,
+        others: Siblings<'a>,
+    },
     /// A part is not there.
     Broken,
 }
 
 /// `<a, b>`: the first, and turns of the others.
-#[tactic(auto, unfolding(es_dress::specs::TypeNames::arguments, crate::specs::Arguments::arguments))]
-fn arguments<'a>(parts: &Row<'a>) -> TypeArguments<'a>
+#[tactic(auto, unfolding(es_lowering::specs::TypeNames::arguments, crate::specs::Arguments::arguments))]
+fn arguments<'a>(parts: &Siblings<'a>) -> TypeArguments<'a>
     ensures form { (x : List ℕ) (ts : List Tok) (r : Range) → arguments r (held x ts parts.now.entries.now) ≡ the_arguments x ts r result }
     ensures below { IsBelow parts.now result }
 {
@@ -38,7 +41,7 @@ fn arguments<'a>(parts: &Row<'a>) -> TypeArguments<'a>
 }
 
 /// What a node is as type arguments; none where it is of another alternative.
-#[tactic(auto, unfolding(es_dress::specs::Dress::build, es_dress::specs::Dress::arguments_of))]
+#[tactic(auto, unfolding(es_lowering::specs::Lowering::build, es_lowering::specs::Lowering::arguments_of))]
 pub fn arguments_at<'a>(node: &Item<'a>) -> Option<TypeArguments<'a>>
     ensures form { (x : List ℕ) (ts : List Tok) → IfSome result (λ view. arguments_in (valued x ts node.now) ≡ the_arguments x ts (span_of ts node.now.from node.now.to) view) }
     ensures other { IfNone result (IsNone argument_labels node.now.what) }
@@ -46,7 +49,7 @@ pub fn arguments_at<'a>(node: &Item<'a>) -> Option<TypeArguments<'a>>
 {
     match node.what {
         What::Node(label) => match label {
-            Label::TypeArguments => Some(arguments(&node.parts)),
+            NodeKind::TypeArguments => Some(arguments(&node.parts)),
             _ => None,
         },
         What::Leaf => None,

@@ -2,16 +2,16 @@
 use Rattle.std.specs.Prelude.{ℕ, List, [], ◌∷◌, Option, Some, None, option_map, slice_get}
 use Rattle.base.specs.declared.range.Range.{Range}
 use Rattle.es_token.specs.declared.token.Token.{Token}
-use Rattle.es_whole_grammar.specs.declared.rows.Label.{Label}
-use Rattle.es_whole_grammar.specs.declared.rows.Label.TheVariants as l
+use Rattle.es_grammar.specs.declared.rows.NodeKind.{NodeKind}
+use Rattle.es_grammar.specs.declared.rows.NodeKind.TheVariants as l
 use Rattle.ts_ast.specs.declared.ts.TsType.{TsType}
 use Rattle.ts_ast.specs.declared.ts.TsType.TheVariants as vType
-use Rattle.es_dress.specs.Value.{Value, given, optional, behind, turns, type_at, type_member_at, element_at}
-use Rattle.es_dress.specs.Texts.{ident_of}
-use Rattle.es_dress.specs.Operators.{listed}
-use Rattle.es_dress.specs.TypeTexts.{type_operators, signed_in}
-use Rattle.es_dress.specs.Types.{indexes, indexed, bracket_end}
-use Rattle.es_syntax.specs.declared.cursor.Row.{Row}
+use Rattle.es_lowering.specs.Value.{Value, given, optional, behind, turns, type_at, type_member_at, element_at}
+use Rattle.es_lowering.specs.Texts.{ident_of}
+use Rattle.es_lowering.specs.Operators.{listed}
+use Rattle.es_lowering.specs.TypeTexts.{type_operators, signed_in}
+use Rattle.es_lowering.specs.Types.{indexes, indexed, bracket_end}
+use Rattle.es_syntax.specs.declared.cursor.Siblings.{Siblings}
 use Rattle.es_syntax.specs.Held.{held, valued}
 use Rattle.es_syntax.specs.Roles.{ts_type_in}
 use Rattle.es_syntax.specs.Views.{Under, Within}
@@ -19,7 +19,7 @@ use Rattle.es_type_views.specs.declared.compound.CompoundType.{CompoundType}
 use Rattle.es_type_views.specs.declared.compound.CompoundType.TheVariants as view
 
 -- the alternatives
-abbrev pub compound_types : List Label
+abbrev pub compound_types : List NodeKind
 compound_types =
     l.UnionType ∷ l.LeadingUnionType ∷ l.IntersectionType ∷ l.LeadingIntersectionType ∷ l.TypeOperator ∷ l.InferType
     ∷ l.ArrayTypes ∷ l.ConditionalType ∷ l.ParenthesizedType ∷ l.MembersType ∷ l.TupleType ∷ l.MappedType ∷ []
@@ -115,7 +115,7 @@ the_compound x ts r (view.Mapped readonly name constraint name_type mark ty) =
 the_compound x ts r view.Broken = None
 
 -- the parts take fewer entries
-abbrev pub IsBelow : Row → CompoundType → Type 0
+abbrev pub IsBelow : Siblings → CompoundType → Type 0
 IsBelow n (view.Union first second others) = Under first n × Under second n × Within others n
 IsBelow n (view.LeadingUnion first others) = Under first n × Within others n
 IsBelow n (view.Intersection first second others) = Under first n × Under second n × Within others n

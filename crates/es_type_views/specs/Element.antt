@@ -2,15 +2,15 @@
 use Rattle.std.specs.Prelude.{ℕ, Bool, true, false, List, [], ◌∷◌, Option, Some, None, option_map, slice_get}
 use Rattle.base.specs.declared.range.Range.{Range}
 use Rattle.es_token.specs.declared.token.Token.{Token}
-use Rattle.es_whole_grammar.specs.declared.rows.Label.{Label}
-use Rattle.es_whole_grammar.specs.declared.rows.Label.TheVariants as l
+use Rattle.es_grammar.specs.declared.rows.NodeKind.{NodeKind}
+use Rattle.es_grammar.specs.declared.rows.NodeKind.TheVariants as l
 use Rattle.ts_ast.specs.declared.ts.TsTupleElement.{TsTupleElement}
 use Rattle.ts_ast.specs.declared.ts.TsType.{TsType}
-use Rattle.es_dress.specs.Value.{Value, given, optional}
-use Rattle.es_dress.specs.Texts.{ident_of}
-use Rattle.es_dress.specs.TypeTexts.{marked}
-use Rattle.es_dress.specs.Types.{element_by, element_of, label_at}
-use Rattle.es_syntax.specs.declared.cursor.Row.{Row}
+use Rattle.es_lowering.specs.Value.{Value, given, optional}
+use Rattle.es_lowering.specs.Texts.{ident_of}
+use Rattle.es_lowering.specs.TypeTexts.{marked}
+use Rattle.es_lowering.specs.Types.{element_by, element_of, label_at}
+use Rattle.es_syntax.specs.declared.cursor.Siblings.{Siblings}
 use Rattle.es_syntax.specs.Held.{held, valued}
 use Rattle.es_syntax.specs.Roles.{ts_type_in}
 use Rattle.es_syntax.specs.Views.{Under, Within}
@@ -18,7 +18,7 @@ use Rattle.es_type_views.specs.declared.element.Element.{Element}
 use Rattle.es_type_views.specs.declared.element.Element.TheVariants as view
 
 -- the alternatives
-abbrev pub elements : List Label
+abbrev pub elements : List NodeKind
 elements =
     l.RestElement ∷ l.LabelledElement ∷ l.OptionalElement ∷ l.KeywordType ∷ l.ThisType ∷ l.WordType ∷ l.StrType ∷
     l.NumberType ∷ l.TemplateType ∷ l.TemplateTypes ∷ l.TypeQuery ∷ l.Reference ∷ l.ImportType ∷ l.EntityOfType ∷
@@ -51,7 +51,7 @@ the_element x ts r (view.Type node) = option_map (element_of r) (ts_type_in (val
 the_element x ts r view.Broken = None
 
 -- the parts take fewer entries
-abbrev pub IsBelow : Row → Element → Type 0
+abbrev pub IsBelow : Siblings → Element → Type 0
 IsBelow n (view.Rest label ty mark) = Within label n × Under ty n
 IsBelow n (view.Labelled label label_mark ty mark) = Under ty n
 IsBelow n (view.Optional ty) = Under ty n

@@ -2,14 +2,14 @@
 use Rattle.std.specs.Prelude.{ℕ, Bool, true, false, List, [], ◌∷◌, Option, Some, None, option_map, slice_get}
 use Rattle.base.specs.declared.range.Range.{Range}
 use Rattle.es_token.specs.declared.token.Token.{Token}
-use Rattle.es_whole_grammar.specs.declared.rows.Label.{Label}
-use Rattle.es_whole_grammar.specs.declared.rows.Label.TheVariants as l
+use Rattle.es_grammar.specs.declared.rows.NodeKind.{NodeKind}
+use Rattle.es_grammar.specs.declared.rows.NodeKind.TheVariants as l
 use Rattle.ts_ast.specs.declared.ts.TsType.{TsType}
 use Rattle.ts_ast.specs.declared.ts.TsType.TheVariants as vType
 use Rattle.ts_ast.specs.declared.ts.TsFnParam.{TsFnParam}
-use Rattle.es_dress.specs.Value.{Value, given, optional, type_at, type_params_at}
-use Rattle.es_dress.specs.Texts.{this_or_name_of}
-use Rattle.es_syntax.specs.declared.cursor.Row.{Row}
+use Rattle.es_lowering.specs.Value.{Value, given, optional, type_at, type_params_at}
+use Rattle.es_lowering.specs.Texts.{this_or_name_of}
+use Rattle.es_syntax.specs.declared.cursor.Siblings.{Siblings}
 use Rattle.es_syntax.specs.Held.{held, valued}
 use Rattle.es_syntax.specs.Roles.{fn_params_in, ts_type_in}
 use Rattle.es_syntax.specs.Views.{Under, Within}
@@ -17,7 +17,7 @@ use Rattle.es_type_views.specs.declared.function.FunctionType.{FunctionType}
 use Rattle.es_type_views.specs.declared.function.FunctionType.TheVariants as view
 
 -- the alternatives
-abbrev pub function_types : List Label
+abbrev pub function_types : List NodeKind
 function_types = l.FunctionType ∷ l.ConstructorType ∷ l.AssertsResult ∷ l.PredicateResult ∷ []
 
 -- ---- each form, of what its parts are
@@ -55,7 +55,7 @@ the_function x ts r (view.Predicate name ty) = predicate x r (slice_get ts name)
 the_function x ts r view.Broken = None
 
 -- the parts take fewer entries
-abbrev pub IsBelow : Row → FunctionType → Type 0
+abbrev pub IsBelow : Siblings → FunctionType → Type 0
 IsBelow n (view.Function type_params params ty) = Within type_params n × Under params n × Under ty n
 IsBelow n (view.Constructor is_abstract type_params params ty) = Within type_params n × Under params n × Under ty n
 IsBelow n (view.Asserts name ty) = Within ty n

@@ -2,21 +2,21 @@
 use Rattle.std.specs.Prelude.{◌++◌, ℕ, Bool, List, [], ◌∷◌, Option, Some, None, option_map, slice_get}
 use Rattle.base.specs.declared.range.Range.{Range}
 use Rattle.es_token.specs.declared.token.Token.{Token}
-use Rattle.es_whole_grammar.specs.declared.rows.Label.{Label}
-use Rattle.es_whole_grammar.specs.declared.rows.Label.TheVariants as l
+use Rattle.es_grammar.specs.declared.rows.NodeKind.{NodeKind}
+use Rattle.es_grammar.specs.declared.rows.NodeKind.TheVariants as l
 use Rattle.ts_ast.specs.declared.ts.TsType.{TsType}
 use Rattle.ts_ast.specs.declared.ts.TsType.TheVariants as vType
 use Rattle.ts_ast.specs.declared.leaf.TsLit.TheVariants as vLit
 use Rattle.ts_ast.specs.declared.leaf.TsEntityName.{TsEntityName}
 use Rattle.ts_ast.specs.declared.ts.Nodes.{Nodes}
-use Rattle.es_dress.specs.Value.{Value, given, optional, turns, type_at, arguments_at, entity_at}
-use Rattle.es_dress.specs.Texts.{str_of, piece_of, piece_there}
-use Rattle.es_dress.specs.Operators.{listed}
-use Rattle.es_dress.specs.TypeTexts.{keyword_kinds, numeric_lit}
-use Rattle.es_dress.specs.TypeNames.{named}
-use Rattle.es_dress.specs.Types.{word_of}
-use Rattle.es_dress.specs.Modules.{entity}
-use Rattle.es_syntax.specs.declared.cursor.Row.{Row}
+use Rattle.es_lowering.specs.Value.{Value, given, optional, turns, type_at, arguments_at, entity_at}
+use Rattle.es_lowering.specs.Texts.{str_of, piece_of, piece_there}
+use Rattle.es_lowering.specs.Operators.{listed}
+use Rattle.es_lowering.specs.TypeTexts.{keyword_kinds, numeric_lit}
+use Rattle.es_lowering.specs.TypeNames.{named}
+use Rattle.es_lowering.specs.Types.{word_of}
+use Rattle.es_lowering.specs.Modules.{entity}
+use Rattle.es_syntax.specs.declared.cursor.Siblings.{Siblings}
 use Rattle.es_syntax.specs.Held.{held, valued}
 use Rattle.es_syntax.specs.Roles.{arguments_in, entity_in, ts_type_in}
 use Rattle.es_syntax.specs.Views.{Under, Within}
@@ -24,7 +24,7 @@ use Rattle.es_type_views.specs.declared.simple.SimpleType.{SimpleType}
 use Rattle.es_type_views.specs.declared.simple.SimpleType.TheVariants as view
 
 -- the alternatives
-abbrev pub simple_types : List Label
+abbrev pub simple_types : List NodeKind
 simple_types =
     l.KeywordType ∷ l.ThisType ∷ l.WordType ∷ l.StrType ∷ l.NumberType ∷ l.TemplateType ∷ l.TemplateTypes ∷
     l.TypeQuery ∷ l.Reference ∷ l.ImportType ∷ l.EntityOfType ∷ []
@@ -89,7 +89,7 @@ the_simple x ts r (view.Entity parts) = option_map (named r) (entity x ts r (hel
 the_simple x ts r view.Broken = None
 
 -- the parts take fewer entries
-abbrev pub IsBelow : Row → SimpleType → Type 0
+abbrev pub IsBelow : Siblings → SimpleType → Type 0
 IsBelow n (view.Keyword word) = Unit {0}
 IsBelow n view.This = Unit {0}
 IsBelow n (view.Word word) = Unit {0}

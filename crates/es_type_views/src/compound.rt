@@ -3,15 +3,15 @@
 ghost use Rattle.std.specs.Prelude.{◌≡◌, ℕ, List, IfSome, IfNone};
 ghost use Rattle.base.specs.declared.range.Range.{Range};
 ghost use Rattle.es_token.specs.declared.token.Token.{Token as Tok};
-ghost use Rattle.es_dress.specs.Types.{parenthesized_type, members_type, tuple_type, mapped_type, array_types, type_operator, infer_type, union_type, leading_union_type, intersection_type, leading_intersection_type, conditional_type};
-ghost use Rattle.es_dress.specs.Texts.{span_of};
+ghost use Rattle.es_lowering.specs.Types.{parenthesized_type, members_type, tuple_type, mapped_type, array_types, type_operator, infer_type, union_type, leading_union_type, intersection_type, leading_intersection_type, conditional_type};
+ghost use Rattle.es_lowering.specs.Texts.{span_of};
 ghost use Rattle.es_syntax.specs.Held.{held, valued};
 ghost use Rattle.es_syntax.specs.Roles.{ts_type_in};
 ghost use Rattle.es_syntax.specs.Views.{IsNone};
 ghost use Rattle.es_type_views.specs.Compound.{compound_types, the_compound, IsBelow};
 
-use es_syntax::{Item, Row, What};
-use es_whole_grammar::Label;
+use es_grammar::NodeKind;
+use es_syntax::{Item, Siblings, What};
 
 /// A type, with its parts where they stand. Numbers are those of tokens.
 #[derive(Clone, Copy)]
@@ -20,23 +20,23 @@ pub enum CompoundType<'a> {
     Union {
         first: Item<'a>,
         second: Item<'a>,
-        others: Row<'a>,
+        others: Siblings<'a>,
     },
     /// `| a | b`: the first, and turns of the others.
     LeadingUnion {
         first: Item<'a>,
-        others: Row<'a>,
+        others: Siblings<'a>,
     },
     /// `a & b & c`: the first two, and turns of the others.
     Intersection {
         first: Item<'a>,
         second: Item<'a>,
-        others: Row<'a>,
+        others: Siblings<'a>,
     },
     /// `& a & b`: the first, and turns of the others.
     LeadingIntersection {
         first: Item<'a>,
-        others: Row<'a>,
+        others: Siblings<'a>,
     },
     /// `keyof a`
     Operator {
@@ -48,8 +48,8 @@ pub enum CompoundType<'a> {
     /// `a[][b]`: a type, what stands in the first brackets or none, and turns of the others.
     Array {
         ty: Item<'a>,
-        first: Row<'a>,
-        others: Row<'a>,
+        first: Siblings<'a>,
+        others: Siblings<'a>,
     },
     /// `a extends b ? c : d`
     Conditional {
@@ -61,25 +61,25 @@ pub enum CompoundType<'a> {
     /// `(a)`
     Paren(Item<'a>),
     /// `{ a: b }`: its members as turns.
-    Members(Row<'a>),
+    Members(Siblings<'a>),
     /// `[a, b]`: its elements as turns.
-    Tuple(Row<'a>),
+    Tuple(Siblings<'a>),
     /// `{ readonly [a in b as c]?: d }`: each part but the name and what it ranges over may be absent.
     Mapped {
-        readonly: Row<'a>,
+        readonly: Siblings<'a>,
         name: u32,
         constraint: Item<'a>,
-        name_type: Row<'a>,
-        mark: Row<'a>,
-        ty: Row<'a>,
+        name_type: Siblings<'a>,
+        mark: Siblings<'a>,
+        ty: Siblings<'a>,
     },
     /// A part is not there.
     Broken,
 }
 
 /// `a | b | c`: the first two, and turns of the others.
-#[tactic(auto, unfolding(es_dress::specs::Types::union_type, crate::specs::Compound::union))]
-fn union<'a>(parts: &Row<'a>) -> CompoundType<'a>
+#[tactic(auto, unfolding(es_lowering::specs::Types::union_type, crate::specs::Compound::union))]
+fn union<'a>(parts: &Siblings<'a>) -> CompoundType<'a>
     ensures form { (x : List ℕ) (ts : List Tok) (r : Range) → union_type r (held x ts parts.now.entries.now) ≡ the_compound x ts r result }
     ensures below { IsBelow parts.now result }
 {
@@ -97,8 +97,8 @@ fn union<'a>(parts: &Row<'a>) -> CompoundType<'a>
 }
 
 /// `| a | b`: the first, and turns of the others.
-#[tactic(auto, unfolding(es_dress::specs::Types::leading_union_type, crate::specs::Compound::leading_union))]
-fn leading_union<'a>(parts: &Row<'a>) -> CompoundType<'a>
+#[tactic(auto, unfolding(es_lowering::specs::Types::leading_union_type, crate::specs::Compound::leading_union))]
+fn leading_union<'a>(parts: &Siblings<'a>) -> CompoundType<'a>
     ensures form { (x : List ℕ) (ts : List Tok) (r : Range) → leading_union_type r (held x ts parts.now.entries.now) ≡ the_compound x ts r result }
     ensures below { IsBelow parts.now result }
 {
@@ -112,8 +112,8 @@ fn leading_union<'a>(parts: &Row<'a>) -> CompoundType<'a>
 }
 
 /// `a & b & c`: the first two, and turns of the others.
-#[tactic(auto, unfolding(es_dress::specs::Types::intersection_type, crate::specs::Compound::intersection))]
-fn intersection<'a>(parts: &Row<'a>) -> CompoundType<'a>
+#[tactic(auto, unfolding(es_lowering::specs::Types::intersection_type, crate::specs::Compound::intersection))]
+fn intersection<'a>(parts: &Siblings<'a>) -> CompoundType<'a>
     ensures form { (x : List ℕ) (ts : List Tok) (r : Range) → intersection_type r (held x ts parts.now.entries.now) ≡ the_compound x ts r result }
     ensures below { IsBelow parts.now result }
 {
@@ -131,8 +131,8 @@ fn intersection<'a>(parts: &Row<'a>) -> CompoundType<'a>
 }
 
 /// `& a & b`: the first, and turns of the others.
-#[tactic(auto, unfolding(es_dress::specs::Types::leading_intersection_type, crate::specs::Compound::leading_intersection))]
-fn leading_intersection<'a>(parts: &Row<'a>) -> CompoundType<'a>
+#[tactic(auto, unfolding(es_lowering::specs::Types::leading_intersection_type, crate::specs::Compound::leading_intersection))]
+fn leading_intersection<'a>(parts: &Siblings<'a>) -> CompoundType<'a>
     ensures form { (x : List ℕ) (ts : List Tok) (r : Range) → leading_intersection_type r (held x ts parts.now.entries.now) ≡ the_compound x ts r result }
     ensures below { IsBelow parts.now result }
 {
@@ -146,8 +146,8 @@ fn leading_intersection<'a>(parts: &Row<'a>) -> CompoundType<'a>
 }
 
 /// `keyof a`
-#[tactic(auto, unfolding(es_dress::specs::Types::type_operator, crate::specs::Compound::operator))]
-fn operator<'a>(parts: &Row<'a>) -> CompoundType<'a>
+#[tactic(auto, unfolding(es_lowering::specs::Types::type_operator, crate::specs::Compound::operator))]
+fn operator<'a>(parts: &Siblings<'a>) -> CompoundType<'a>
     ensures form { (x : List ℕ) (ts : List Tok) (r : Range) → type_operator ts r (held x ts parts.now.entries.now) ≡ the_compound x ts r result }
     ensures below { IsBelow parts.now result }
 {
@@ -161,8 +161,8 @@ fn operator<'a>(parts: &Row<'a>) -> CompoundType<'a>
 }
 
 /// `infer a`
-#[tactic(auto, unfolding(es_dress::specs::Types::infer_type, crate::specs::Compound::infer))]
-fn infer<'a>(parts: &Row<'a>) -> CompoundType<'a>
+#[tactic(auto, unfolding(es_lowering::specs::Types::infer_type, crate::specs::Compound::infer))]
+fn infer<'a>(parts: &Siblings<'a>) -> CompoundType<'a>
     ensures form { (x : List ℕ) (ts : List Tok) (r : Range) → infer_type x ts r (held x ts parts.now.entries.now) ≡ the_compound x ts r result }
     ensures below { IsBelow parts.now result }
 {
@@ -173,8 +173,8 @@ fn infer<'a>(parts: &Row<'a>) -> CompoundType<'a>
 }
 
 /// `a[][b]`: a type, what stands in the first brackets or none, and turns of the others.
-#[tactic(auto, unfolding(es_dress::specs::Types::array_types, crate::specs::Compound::array))]
-fn array<'a>(parts: &Row<'a>) -> CompoundType<'a>
+#[tactic(auto, unfolding(es_lowering::specs::Types::array_types, crate::specs::Compound::array))]
+fn array<'a>(parts: &Siblings<'a>) -> CompoundType<'a>
     ensures form { (x : List ℕ) (ts : List Tok) (r : Range) → array_types ts r (held x ts parts.now.entries.now) ≡ the_compound x ts r result }
     ensures below { IsBelow parts.now result }
 {
@@ -189,8 +189,8 @@ fn array<'a>(parts: &Row<'a>) -> CompoundType<'a>
 }
 
 /// `a extends b ? c : d`
-#[tactic(auto, unfolding(es_dress::specs::Types::conditional_type, crate::specs::Compound::conditional))]
-fn conditional<'a>(parts: &Row<'a>) -> CompoundType<'a>
+#[tactic(auto, unfolding(es_lowering::specs::Types::conditional_type, crate::specs::Compound::conditional))]
+fn conditional<'a>(parts: &Siblings<'a>) -> CompoundType<'a>
     ensures form { (x : List ℕ) (ts : List Tok) (r : Range) → conditional_type r (held x ts parts.now.entries.now) ≡ the_compound x ts r result }
     ensures below { IsBelow parts.now result }
 {
@@ -215,8 +215,8 @@ fn conditional<'a>(parts: &Row<'a>) -> CompoundType<'a>
 }
 
 /// `(a)`
-#[tactic(auto, unfolding(es_dress::specs::Types::parenthesized_type, crate::specs::Compound::paren))]
-fn parenthesized<'a>(parts: &Row<'a>) -> CompoundType<'a>
+#[tactic(auto, unfolding(es_lowering::specs::Types::parenthesized_type, crate::specs::Compound::paren))]
+fn parenthesized<'a>(parts: &Siblings<'a>) -> CompoundType<'a>
     ensures form { (x : List ℕ) (ts : List Tok) (r : Range) → parenthesized_type r (held x ts parts.now.entries.now) ≡ the_compound x ts r result }
     ensures below { IsBelow parts.now result }
 {
@@ -227,8 +227,8 @@ fn parenthesized<'a>(parts: &Row<'a>) -> CompoundType<'a>
 }
 
 /// `{ a: b }`: its members as turns.
-#[tactic(auto, unfolding(es_dress::specs::Types::members_type, crate::specs::Compound::braced))]
-fn members<'a>(parts: &Row<'a>) -> CompoundType<'a>
+#[tactic(auto, unfolding(es_lowering::specs::Types::members_type, crate::specs::Compound::braced))]
+fn members<'a>(parts: &Siblings<'a>) -> CompoundType<'a>
     ensures form { (x : List ℕ) (ts : List Tok) (r : Range) → members_type r (held x ts parts.now.entries.now) ≡ the_compound x ts r result }
     ensures below { IsBelow parts.now result }
 {
@@ -236,8 +236,8 @@ fn members<'a>(parts: &Row<'a>) -> CompoundType<'a>
 }
 
 /// `[a, b]`: its elements as turns.
-#[tactic(auto, unfolding(es_dress::specs::Types::tuple_type, crate::specs::Compound::tuple))]
-fn tuple<'a>(parts: &Row<'a>) -> CompoundType<'a>
+#[tactic(auto, unfolding(es_lowering::specs::Types::tuple_type, crate::specs::Compound::tuple))]
+fn tuple<'a>(parts: &Siblings<'a>) -> CompoundType<'a>
     ensures form { (x : List ℕ) (ts : List Tok) (r : Range) → tuple_type r (held x ts parts.now.entries.now) ≡ the_compound x ts r result }
     ensures below { IsBelow parts.now result }
 {
@@ -245,8 +245,8 @@ fn tuple<'a>(parts: &Row<'a>) -> CompoundType<'a>
 }
 
 /// `{ readonly [a in b as c]?: d }`: each part but the name and what it ranges over may be absent.
-#[tactic(auto, unfolding(es_dress::specs::Types::mapped_type, crate::specs::Compound::mapped))]
-fn mapped<'a>(parts: &Row<'a>) -> CompoundType<'a>
+#[tactic(auto, unfolding(es_lowering::specs::Types::mapped_type, crate::specs::Compound::mapped))]
+fn mapped<'a>(parts: &Siblings<'a>) -> CompoundType<'a>
     ensures form { (x : List ℕ) (ts : List Tok) (r : Range) → mapped_type x ts r (held x ts parts.now.entries.now) ≡ the_compound x ts r result }
     ensures below { IsBelow parts.now result }
 {
@@ -267,7 +267,7 @@ fn mapped<'a>(parts: &Row<'a>) -> CompoundType<'a>
 }
 
 /// What a node is as a type that holds types; none where it is of another alternative.
-#[tactic(auto, unfolding(es_dress::specs::Dress::build, es_dress::specs::Dress::type_of))]
+#[tactic(auto, unfolding(es_lowering::specs::Lowering::build, es_lowering::specs::Lowering::type_of))]
 pub fn compound_at<'a>(node: &Item<'a>) -> Option<CompoundType<'a>>
     ensures form { (x : List ℕ) (ts : List Tok) → IfSome result (λ view. ts_type_in (valued x ts node.now) ≡ the_compound x ts (span_of ts node.now.from node.now.to) view) }
     ensures other { IfNone result (IsNone compound_types node.now.what) }
@@ -275,18 +275,18 @@ pub fn compound_at<'a>(node: &Item<'a>) -> Option<CompoundType<'a>>
 {
     match node.what {
         What::Node(label) => match label {
-            Label::UnionType => Some(union(&node.parts)),
-            Label::LeadingUnionType => Some(leading_union(&node.parts)),
-            Label::IntersectionType => Some(intersection(&node.parts)),
-            Label::LeadingIntersectionType => Some(leading_intersection(&node.parts)),
-            Label::TypeOperator => Some(operator(&node.parts)),
-            Label::InferType => Some(infer(&node.parts)),
-            Label::ArrayTypes => Some(array(&node.parts)),
-            Label::ConditionalType => Some(conditional(&node.parts)),
-            Label::ParenthesizedType => Some(parenthesized(&node.parts)),
-            Label::MembersType => Some(members(&node.parts)),
-            Label::TupleType => Some(tuple(&node.parts)),
-            Label::MappedType => Some(mapped(&node.parts)),
+            NodeKind::UnionType => Some(union(&node.parts)),
+            NodeKind::LeadingUnionType => Some(leading_union(&node.parts)),
+            NodeKind::IntersectionType => Some(intersection(&node.parts)),
+            NodeKind::LeadingIntersectionType => Some(leading_intersection(&node.parts)),
+            NodeKind::TypeOperator => Some(operator(&node.parts)),
+            NodeKind::InferType => Some(infer(&node.parts)),
+            NodeKind::ArrayTypes => Some(array(&node.parts)),
+            NodeKind::ConditionalType => Some(conditional(&node.parts)),
+            NodeKind::ParenthesizedType => Some(parenthesized(&node.parts)),
+            NodeKind::MembersType => Some(members(&node.parts)),
+            NodeKind::TupleType => Some(tuple(&node.parts)),
+            NodeKind::MappedType => Some(mapped(&node.parts)),
             _ => None,
         },
         What::Leaf => None,

@@ -3,22 +3,22 @@
 ghost use Rattle.std.specs.Prelude.{◌≡◌, ℕ, List, IfSome, IfNone};
 ghost use Rattle.base.specs.declared.range.Range.{Range};
 ghost use Rattle.es_token.specs.declared.token.Token.{Token as Tok};
-ghost use Rattle.es_dress.specs.Types.{rest_element, labelled_element, optional_element};
-ghost use Rattle.es_dress.specs.Texts.{span_of};
+ghost use Rattle.es_lowering.specs.Types.{rest_element, labelled_element, optional_element};
+ghost use Rattle.es_lowering.specs.Texts.{span_of};
 ghost use Rattle.es_syntax.specs.Held.{held, valued};
 ghost use Rattle.es_syntax.specs.Roles.{element_in};
 ghost use Rattle.es_syntax.specs.Views.{IsNone};
 ghost use Rattle.es_type_views.specs.Element.{elements, the_element, IsBelow};
 
-use es_syntax::{Item, Row, What};
-use es_whole_grammar::Label;
+use es_grammar::NodeKind;
+use es_syntax::{Item, Siblings, What};
 
 /// An element of a tuple, with its parts where they stand. Numbers are those of tokens.
 #[derive(Clone, Copy)]
 pub enum Element<'a> {
     /// `...a: b`: the label may be absent.
     Rest {
-        label: Row<'a>,
+        label: Siblings<'a>,
         ty: Item<'a>,
         mark: bool,
     },
@@ -38,8 +38,8 @@ pub enum Element<'a> {
 }
 
 /// `...a: b`: the label may be absent.
-#[tactic(auto, unfolding(es_dress::specs::Types::rest_element, crate::specs::Element::rest))]
-fn rest<'a>(parts: &Row<'a>) -> Element<'a>
+#[tactic(auto, unfolding(es_lowering::specs::Types::rest_element, crate::specs::Element::rest))]
+fn rest<'a>(parts: &Siblings<'a>) -> Element<'a>
     ensures form { (x : List ℕ) (ts : List Tok) (r : Range) → rest_element x ts r (held x ts parts.now.entries.now) ≡ the_element x ts r result }
     ensures below { IsBelow parts.now result }
 {
@@ -54,8 +54,8 @@ fn rest<'a>(parts: &Row<'a>) -> Element<'a>
 }
 
 /// `a?: b`: whether a mark stands behind the label, and behind the type.
-#[tactic(auto, unfolding(es_dress::specs::Types::labelled_element, crate::specs::Element::labelled))]
-fn labelled<'a>(parts: &Row<'a>) -> Element<'a>
+#[tactic(auto, unfolding(es_lowering::specs::Types::labelled_element, crate::specs::Element::labelled))]
+fn labelled<'a>(parts: &Siblings<'a>) -> Element<'a>
     ensures form { (x : List ℕ) (ts : List Tok) (r : Range) → labelled_element x ts r (held x ts parts.now.entries.now) ≡ the_element x ts r result }
     ensures below { IsBelow parts.now result }
 {
@@ -74,8 +74,8 @@ fn labelled<'a>(parts: &Row<'a>) -> Element<'a>
 }
 
 /// `a?`
-#[tactic(auto, unfolding(es_dress::specs::Types::optional_element, crate::specs::Element::optional_of))]
-fn optional<'a>(parts: &Row<'a>) -> Element<'a>
+#[tactic(auto, unfolding(es_lowering::specs::Types::optional_element, crate::specs::Element::optional_of))]
+fn optional<'a>(parts: &Siblings<'a>) -> Element<'a>
     ensures form { (x : List ℕ) (ts : List Tok) (r : Range) → optional_element r (held x ts parts.now.entries.now) ≡ the_element x ts r result }
     ensures below { IsBelow parts.now result }
 {
@@ -86,7 +86,7 @@ fn optional<'a>(parts: &Row<'a>) -> Element<'a>
 }
 
 /// What a node is as an element of a tuple; none where it is of another alternative.
-#[tactic(auto, unfolding(es_dress::specs::Dress::build, es_dress::specs::Dress::element_of, es_dress::specs::Dress::type_of))]
+#[tactic(auto, unfolding(es_lowering::specs::Lowering::build, es_lowering::specs::Lowering::element_of, es_lowering::specs::Lowering::type_of))]
 pub fn element_at<'a>(node: &Item<'a>) -> Option<Element<'a>>
     ensures form { (x : List ℕ) (ts : List Tok) → IfSome result (λ view. element_in (valued x ts node.now) ≡ the_element x ts (span_of ts node.now.from node.now.to) view) }
     ensures other { IfNone result (IsNone elements node.now.what) }
@@ -94,36 +94,36 @@ pub fn element_at<'a>(node: &Item<'a>) -> Option<Element<'a>>
 {
     match node.what {
         What::Node(label) => match label {
-            Label::RestElement => Some(rest(&node.parts)),
-            Label::LabelledElement => Some(labelled(&node.parts)),
-            Label::OptionalElement => Some(optional(&node.parts)),
-            Label::KeywordType => Some(Element::Type(*node)),
-            Label::ThisType => Some(Element::Type(*node)),
-            Label::WordType => Some(Element::Type(*node)),
-            Label::StrType => Some(Element::Type(*node)),
-            Label::NumberType => Some(Element::Type(*node)),
-            Label::TemplateType => Some(Element::Type(*node)),
-            Label::TemplateTypes => Some(Element::Type(*node)),
-            Label::TypeQuery => Some(Element::Type(*node)),
-            Label::Reference => Some(Element::Type(*node)),
-            Label::ImportType => Some(Element::Type(*node)),
-            Label::EntityOfType => Some(Element::Type(*node)),
-            Label::UnionType => Some(Element::Type(*node)),
-            Label::LeadingUnionType => Some(Element::Type(*node)),
-            Label::IntersectionType => Some(Element::Type(*node)),
-            Label::LeadingIntersectionType => Some(Element::Type(*node)),
-            Label::TypeOperator => Some(Element::Type(*node)),
-            Label::InferType => Some(Element::Type(*node)),
-            Label::ArrayTypes => Some(Element::Type(*node)),
-            Label::ConditionalType => Some(Element::Type(*node)),
-            Label::ParenthesizedType => Some(Element::Type(*node)),
-            Label::MembersType => Some(Element::Type(*node)),
-            Label::TupleType => Some(Element::Type(*node)),
-            Label::MappedType => Some(Element::Type(*node)),
-            Label::FunctionType => Some(Element::Type(*node)),
-            Label::ConstructorType => Some(Element::Type(*node)),
-            Label::AssertsResult => Some(Element::Type(*node)),
-            Label::PredicateResult => Some(Element::Type(*node)),
+            NodeKind::RestElement => Some(rest(&node.parts)),
+            NodeKind::LabelledElement => Some(labelled(&node.parts)),
+            NodeKind::OptionalElement => Some(optional(&node.parts)),
+            NodeKind::KeywordType => Some(Element::Type(*node)),
+            NodeKind::ThisType => Some(Element::Type(*node)),
+            NodeKind::WordType => Some(Element::Type(*node)),
+            NodeKind::StrType => Some(Element::Type(*node)),
+            NodeKind::NumberType => Some(Element::Type(*node)),
+            NodeKind::TemplateType => Some(Element::Type(*node)),
+            NodeKind::TemplateTypes => Some(Element::Type(*node)),
+            NodeKind::TypeQuery => Some(Element::Type(*node)),
+            NodeKind::Reference => Some(Element::Type(*node)),
+            NodeKind::ImportType => Some(Element::Type(*node)),
+            NodeKind::EntityOfType => Some(Element::Type(*node)),
+            NodeKind::UnionType => Some(Element::Type(*node)),
+            NodeKind::LeadingUnionType => Some(Element::Type(*node)),
+            NodeKind::IntersectionType => Some(Element::Type(*node)),
+            NodeKind::LeadingIntersectionType => Some(Element::Type(*node)),
+            NodeKind::TypeOperator => Some(Element::Type(*node)),
+            NodeKind::InferType => Some(Element::Type(*node)),
+            NodeKind::ArrayTypes => Some(Element::Type(*node)),
+            NodeKind::ConditionalType => Some(Element::Type(*node)),
+            NodeKind::ParenthesizedType => Some(Element::Type(*node)),
+            NodeKind::MembersType => Some(Element::Type(*node)),
+            NodeKind::TupleType => Some(Element::Type(*node)),
+            NodeKind::MappedType => Some(Element::Type(*node)),
+            NodeKind::FunctionType => Some(Element::Type(*node)),
+            NodeKind::ConstructorType => Some(Element::Type(*node)),
+            NodeKind::AssertsResult => Some(Element::Type(*node)),
+            NodeKind::PredicateResult => Some(Element::Type(*node)),
             _ => None,
         },
         What::Leaf => None,

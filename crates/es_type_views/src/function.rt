@@ -3,36 +3,36 @@
 ghost use Rattle.std.specs.Prelude.{◌≡◌, ℕ, List, IfSome, IfNone};
 ghost use Rattle.base.specs.declared.range.Range.{Range};
 ghost use Rattle.es_token.specs.declared.token.Token.{Token as Tok};
-ghost use Rattle.es_dress.specs.Types.{function_type, constructor_type, asserts_result, predicate_result};
-ghost use Rattle.es_dress.specs.Texts.{span_of};
+ghost use Rattle.es_lowering.specs.Types.{function_type, constructor_type, asserts_result, predicate_result};
+ghost use Rattle.es_lowering.specs.Texts.{span_of};
 ghost use Rattle.es_syntax.specs.Held.{held, valued};
 ghost use Rattle.es_syntax.specs.Roles.{ts_type_in};
 ghost use Rattle.es_syntax.specs.Views.{IsNone};
 ghost use Rattle.es_type_views.specs.Function.{function_types, the_function, IsBelow};
 
-use es_syntax::{Item, Row, What};
-use es_whole_grammar::Label;
+use es_grammar::NodeKind;
+use es_syntax::{Item, Siblings, What};
 
 /// A type, with its parts where they stand. Numbers are those of tokens.
 #[derive(Clone, Copy)]
 pub enum FunctionType<'a> {
     /// `<T>(a) => b`: the type parameters may be absent.
     Function {
-        type_params: Row<'a>,
+        type_params: Siblings<'a>,
         params: Item<'a>,
         ty: Item<'a>,
     },
     /// `new <T>(a) => b`, behind `abstract` or not.
     Constructor {
         is_abstract: bool,
-        type_params: Row<'a>,
+        type_params: Siblings<'a>,
         params: Item<'a>,
         ty: Item<'a>,
     },
     /// `asserts a is b`: the type may be absent.
     Asserts {
         name: u32,
-        ty: Row<'a>,
+        ty: Siblings<'a>,
     },
     /// `a is b`
     Predicate {
@@ -44,8 +44,8 @@ pub enum FunctionType<'a> {
 }
 
 /// `<T>(a) => b`: the type parameters may be absent.
-#[tactic(auto, unfolding(es_dress::specs::Types::function_type, crate::specs::Function::function))]
-fn function<'a>(parts: &Row<'a>) -> FunctionType<'a>
+#[tactic(auto, unfolding(es_lowering::specs::Types::function_type, crate::specs::Function::function))]
+fn function<'a>(parts: &Siblings<'a>) -> FunctionType<'a>
     ensures form { (x : List ℕ) (ts : List Tok) (r : Range) → function_type r (held x ts parts.now.entries.now) ≡ the_function x ts r result }
     ensures below { IsBelow parts.now result }
 {
@@ -63,8 +63,8 @@ fn function<'a>(parts: &Row<'a>) -> FunctionType<'a>
 }
 
 /// `new <T>(a) => b`, behind `abstract` or not.
-#[tactic(auto, unfolding(es_dress::specs::Types::constructor_type, crate::specs::Function::constructor))]
-fn constructor<'a>(parts: &Row<'a>) -> FunctionType<'a>
+#[tactic(auto, unfolding(es_lowering::specs::Types::constructor_type, crate::specs::Function::constructor))]
+fn constructor<'a>(parts: &Siblings<'a>) -> FunctionType<'a>
     ensures form { (x : List ℕ) (ts : List Tok) (r : Range) → constructor_type r (held x ts parts.now.entries.now) ≡ the_function x ts r result }
     ensures below { IsBelow parts.now result }
 {
@@ -83,8 +83,8 @@ fn constructor<'a>(parts: &Row<'a>) -> FunctionType<'a>
 }
 
 /// `asserts a is b`: the type may be absent.
-#[tactic(auto, unfolding(es_dress::specs::Types::asserts_result, crate::specs::Function::asserts))]
-fn asserts<'a>(parts: &Row<'a>) -> FunctionType<'a>
+#[tactic(auto, unfolding(es_lowering::specs::Types::asserts_result, crate::specs::Function::asserts))]
+fn asserts<'a>(parts: &Siblings<'a>) -> FunctionType<'a>
     ensures form { (x : List ℕ) (ts : List Tok) (r : Range) → asserts_result x ts r (held x ts parts.now.entries.now) ≡ the_function x ts r result }
     ensures below { IsBelow parts.now result }
 {
@@ -98,8 +98,8 @@ fn asserts<'a>(parts: &Row<'a>) -> FunctionType<'a>
 }
 
 /// `a is b`
-#[tactic(auto, unfolding(es_dress::specs::Types::predicate_result, crate::specs::Function::predicate))]
-fn predicate<'a>(parts: &Row<'a>) -> FunctionType<'a>
+#[tactic(auto, unfolding(es_lowering::specs::Types::predicate_result, crate::specs::Function::predicate))]
+fn predicate<'a>(parts: &Siblings<'a>) -> FunctionType<'a>
     ensures form { (x : List ℕ) (ts : List Tok) (r : Range) → predicate_result x ts r (held x ts parts.now.entries.now) ≡ the_function x ts r result }
     ensures below { IsBelow parts.now result }
 {
@@ -113,7 +113,7 @@ fn predicate<'a>(parts: &Row<'a>) -> FunctionType<'a>
 }
 
 /// What a node is as a type of a function, or as the result of one that tells of a type; none where it is of another alternative.
-#[tactic(auto, unfolding(es_dress::specs::Dress::build, es_dress::specs::Dress::type_of))]
+#[tactic(auto, unfolding(es_lowering::specs::Lowering::build, es_lowering::specs::Lowering::type_of))]
 pub fn function_at<'a>(node: &Item<'a>) -> Option<FunctionType<'a>>
     ensures form { (x : List ℕ) (ts : List Tok) → IfSome result (λ view. ts_type_in (valued x ts node.now) ≡ the_function x ts (span_of ts node.now.from node.now.to) view) }
     ensures other { IfNone result (IsNone function_types node.now.what) }
@@ -121,10 +121,10 @@ pub fn function_at<'a>(node: &Item<'a>) -> Option<FunctionType<'a>>
 {
     match node.what {
         What::Node(label) => match label {
-            Label::FunctionType => Some(function(&node.parts)),
-            Label::ConstructorType => Some(constructor(&node.parts)),
-            Label::AssertsResult => Some(asserts(&node.parts)),
-            Label::PredicateResult => Some(predicate(&node.parts)),
+            NodeKind::FunctionType => Some(function(&node.parts)),
+            NodeKind::ConstructorType => Some(constructor(&node.parts)),
+            NodeKind::AssertsResult => Some(asserts(&node.parts)),
+            NodeKind::PredicateResult => Some(predicate(&node.parts)),
             _ => None,
         },
         What::Leaf => None,

@@ -3,16 +3,16 @@
 ghost use Rattle.std.specs.Prelude.{◌≡◌, ℕ, List, IfSome, IfNone};
 ghost use Rattle.base.specs.declared.range.Range.{Range};
 ghost use Rattle.es_token.specs.declared.token.Token.{Token as Tok};
-ghost use Rattle.es_dress.specs.Types.{keyword_type, word_type, str_type, number_type, template_type, template_types, type_query};
-ghost use Rattle.es_dress.specs.TypeNames.{reference, import_type};
-ghost use Rattle.es_dress.specs.Texts.{span_of};
+ghost use Rattle.es_lowering.specs.Types.{keyword_type, word_type, str_type, number_type, template_type, template_types, type_query};
+ghost use Rattle.es_lowering.specs.TypeNames.{reference, import_type};
+ghost use Rattle.es_lowering.specs.Texts.{span_of};
 ghost use Rattle.es_syntax.specs.Held.{held, valued};
 ghost use Rattle.es_syntax.specs.Roles.{ts_type_in};
 ghost use Rattle.es_syntax.specs.Views.{IsNone};
 ghost use Rattle.es_type_views.specs.Simple.{simple_types, the_simple, IsBelow};
 
-use es_syntax::{Item, Row, What};
-use es_whole_grammar::Label;
+use es_grammar::NodeKind;
+use es_syntax::{Item, Siblings, What};
 
 /// A type, with its parts where they stand. Numbers are those of tokens.
 #[derive(Clone, Copy)]
@@ -36,7 +36,7 @@ pub enum SimpleType<'a> {
     TemplateParts {
         head: u32,
         first: Item<'a>,
-        others: Row<'a>,
+        others: Siblings<'a>,
         tail: u32,
     },
     /// `typeof a`: what is named stands in a group.
@@ -49,18 +49,18 @@ pub enum SimpleType<'a> {
     /// `import("a").b<c>`: the names and the arguments may be absent.
     Import {
         source: u32,
-        qualifier: Row<'a>,
-        arguments: Row<'a>,
+        qualifier: Siblings<'a>,
+        arguments: Siblings<'a>,
     },
     /// A name alone: its parts.
-    Entity(Row<'a>),
+    Entity(Siblings<'a>),
     /// A part is not there.
     Broken,
 }
 
 /// `any`
-#[tactic(auto, unfolding(es_dress::specs::Types::keyword_type, crate::specs::Simple::keyword))]
-fn keyword<'a>(parts: &Row<'a>) -> SimpleType<'a>
+#[tactic(auto, unfolding(es_lowering::specs::Types::keyword_type, crate::specs::Simple::keyword))]
+fn keyword<'a>(parts: &Siblings<'a>) -> SimpleType<'a>
     ensures form { (x : List ℕ) (ts : List Tok) (r : Range) → keyword_type ts r (held x ts parts.now.entries.now) ≡ the_simple x ts r result }
     ensures below { IsBelow parts.now result }
 {
@@ -71,8 +71,8 @@ fn keyword<'a>(parts: &Row<'a>) -> SimpleType<'a>
 }
 
 /// `null`, `void`, `true`, `false`
-#[tactic(auto, unfolding(es_dress::specs::Types::word_type, crate::specs::Simple::worded))]
-fn word<'a>(parts: &Row<'a>) -> SimpleType<'a>
+#[tactic(auto, unfolding(es_lowering::specs::Types::word_type, crate::specs::Simple::worded))]
+fn word<'a>(parts: &Siblings<'a>) -> SimpleType<'a>
     ensures form { (x : List ℕ) (ts : List Tok) (r : Range) → word_type ts r (held x ts parts.now.entries.now) ≡ the_simple x ts r result }
     ensures below { IsBelow parts.now result }
 {
@@ -83,8 +83,8 @@ fn word<'a>(parts: &Row<'a>) -> SimpleType<'a>
 }
 
 /// A string literal.
-#[tactic(auto, unfolding(es_dress::specs::Types::str_type, crate::specs::Simple::str))]
-fn str<'a>(parts: &Row<'a>) -> SimpleType<'a>
+#[tactic(auto, unfolding(es_lowering::specs::Types::str_type, crate::specs::Simple::str))]
+fn str<'a>(parts: &Siblings<'a>) -> SimpleType<'a>
     ensures form { (x : List ℕ) (ts : List Tok) (r : Range) → str_type x ts (held x ts parts.now.entries.now) ≡ the_simple x ts r result }
     ensures below { IsBelow parts.now result }
 {
@@ -95,8 +95,8 @@ fn str<'a>(parts: &Row<'a>) -> SimpleType<'a>
 }
 
 /// A number or a BigInt, behind `-` or not.
-#[tactic(auto, unfolding(es_dress::specs::Types::number_type, crate::specs::Simple::number))]
-fn number<'a>(parts: &Row<'a>) -> SimpleType<'a>
+#[tactic(auto, unfolding(es_lowering::specs::Types::number_type, crate::specs::Simple::number))]
+fn number<'a>(parts: &Siblings<'a>) -> SimpleType<'a>
     ensures form { (x : List ℕ) (ts : List Tok) (r : Range) → number_type x ts r (held x ts parts.now.entries.now) ≡ the_simple x ts r result }
     ensures below { IsBelow parts.now result }
 {
@@ -110,8 +110,8 @@ fn number<'a>(parts: &Row<'a>) -> SimpleType<'a>
 }
 
 /// A template without holes.
-#[tactic(auto, unfolding(es_dress::specs::Types::template_type, crate::specs::Simple::template))]
-fn template<'a>(parts: &Row<'a>) -> SimpleType<'a>
+#[tactic(auto, unfolding(es_lowering::specs::Types::template_type, crate::specs::Simple::template))]
+fn template<'a>(parts: &Siblings<'a>) -> SimpleType<'a>
     ensures form { (x : List ℕ) (ts : List Tok) (r : Range) → template_type x ts r (held x ts parts.now.entries.now) ≡ the_simple x ts r result }
     ensures below { IsBelow parts.now result }
 {
@@ -122,8 +122,8 @@ fn template<'a>(parts: &Row<'a>) -> SimpleType<'a>
 }
 
 /// A template with holes: its first piece, what stands in the first hole, turns of a piece and what stands behind it, its last piece.
-#[tactic(auto, unfolding(es_dress::specs::Types::template_types, crate::specs::Simple::template_parts))]
-fn template_parts<'a>(parts: &Row<'a>) -> SimpleType<'a>
+#[tactic(auto, unfolding(es_lowering::specs::Types::template_types, crate::specs::Simple::template_parts))]
+fn template_parts<'a>(parts: &Siblings<'a>) -> SimpleType<'a>
     ensures form { (x : List ℕ) (ts : List Tok) (r : Range) → template_types x ts r (held x ts parts.now.entries.now) ≡ the_simple x ts r result }
     ensures below { IsBelow parts.now result }
 {
@@ -145,8 +145,8 @@ fn template_parts<'a>(parts: &Row<'a>) -> SimpleType<'a>
 }
 
 /// `typeof a`: what is named stands in a group.
-#[tactic(auto, unfolding(es_dress::specs::Types::type_query, crate::specs::Simple::query))]
-fn query<'a>(parts: &Row<'a>) -> SimpleType<'a>
+#[tactic(auto, unfolding(es_lowering::specs::Types::type_query, crate::specs::Simple::query))]
+fn query<'a>(parts: &Siblings<'a>) -> SimpleType<'a>
     ensures form { (x : List ℕ) (ts : List Tok) (r : Range) → type_query r (held x ts parts.now.entries.now) ≡ the_simple x ts r result }
     ensures below { IsBelow parts.now result }
 {
@@ -157,8 +157,8 @@ fn query<'a>(parts: &Row<'a>) -> SimpleType<'a>
 }
 
 /// `a<b>`
-#[tactic(auto, unfolding(es_dress::specs::TypeNames::reference, crate::specs::Simple::reference))]
-fn reference<'a>(parts: &Row<'a>) -> SimpleType<'a>
+#[tactic(auto, unfolding(es_lowering::specs::TypeNames::reference, crate::specs::Simple::reference))]
+fn reference<'a>(parts: &Siblings<'a>) -> SimpleType<'a>
     ensures form { (x : List ℕ) (ts : List Tok) (r : Range) → reference r (held x ts parts.now.entries.now) ≡ the_simple x ts r result }
     ensures below { IsBelow parts.now result }
 {
@@ -172,8 +172,8 @@ fn reference<'a>(parts: &Row<'a>) -> SimpleType<'a>
 }
 
 /// `import("a").b<c>`: the names and the arguments may be absent.
-#[tactic(auto, unfolding(es_dress::specs::TypeNames::import_type, crate::specs::Simple::import_of))]
-fn import<'a>(parts: &Row<'a>) -> SimpleType<'a>
+#[tactic(auto, unfolding(es_lowering::specs::TypeNames::import_type, crate::specs::Simple::import_of))]
+fn import<'a>(parts: &Siblings<'a>) -> SimpleType<'a>
     ensures form { (x : List ℕ) (ts : List Tok) (r : Range) → import_type x ts r (held x ts parts.now.entries.now) ≡ the_simple x ts r result }
     ensures below { IsBelow parts.now result }
 {
@@ -188,7 +188,7 @@ fn import<'a>(parts: &Row<'a>) -> SimpleType<'a>
 }
 
 /// What a node is as a type that is a word, a literal, a template or a name; none where it is of another alternative.
-#[tactic(auto, unfolding(es_dress::specs::Dress::build, es_dress::specs::Dress::type_of))]
+#[tactic(auto, unfolding(es_lowering::specs::Lowering::build, es_lowering::specs::Lowering::type_of))]
 pub fn simple_at<'a>(node: &Item<'a>) -> Option<SimpleType<'a>>
     ensures form { (x : List ℕ) (ts : List Tok) → IfSome result (λ view. ts_type_in (valued x ts node.now) ≡ the_simple x ts (span_of ts node.now.from node.now.to) view) }
     ensures other { IfNone result (IsNone simple_types node.now.what) }
@@ -196,17 +196,17 @@ pub fn simple_at<'a>(node: &Item<'a>) -> Option<SimpleType<'a>>
 {
     match node.what {
         What::Node(label) => match label {
-            Label::KeywordType => Some(keyword(&node.parts)),
-            Label::ThisType => Some(SimpleType::This),
-            Label::WordType => Some(word(&node.parts)),
-            Label::StrType => Some(str(&node.parts)),
-            Label::NumberType => Some(number(&node.parts)),
-            Label::TemplateType => Some(template(&node.parts)),
-            Label::TemplateTypes => Some(template_parts(&node.parts)),
-            Label::TypeQuery => Some(query(&node.parts)),
-            Label::Reference => Some(reference(&node.parts)),
-            Label::ImportType => Some(import(&node.parts)),
-            Label::EntityOfType => Some(SimpleType::Entity(node.parts)),
+            NodeKind::KeywordType => Some(keyword(&node.parts)),
+            NodeKind::ThisType => Some(SimpleType::This),
+            NodeKind::WordType => Some(word(&node.parts)),
+            NodeKind::StrType => Some(str(&node.parts)),
+            NodeKind::NumberType => Some(number(&node.parts)),
+            NodeKind::TemplateType => Some(template(&node.parts)),
+            NodeKind::TemplateTypes => Some(template_parts(&node.parts)),
+            NodeKind::TypeQuery => Some(query(&node.parts)),
+            NodeKind::Reference => Some(reference(&node.parts)),
+            NodeKind::ImportType => Some(import(&node.parts)),
+            NodeKind::EntityOfType => Some(SimpleType::Entity(node.parts)),
             _ => None,
         },
         What::Leaf => None,

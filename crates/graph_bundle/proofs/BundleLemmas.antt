@@ -6,12 +6,12 @@ use Rattle.std.proofs.lemmas.List.{map-append}
 use Rattle.std.proofs.lemmas.Slice.Eq.{bytes_eq-Decides}
 use Rattle.url.specs.Parts.{Parts}
 use Rattle.graph_entry.specs.declared.answer.LoadAnswer.{LoadAnswer}
-use Rattle.deno_graph.specs.declared.options.BuildOptions.{BuildOptions}
+use Rattle.graph_builder.specs.declared.options.BuildOptions.{BuildOptions}
 use Rattle.graph_entry.specs.Specifier.{text_of}
-use Rattle.deno_graph.specs.Reach.{Specifier, has}
-use Rattle.deno_graph.specs.Memory.{is_forced}
-use Rattle.deno_graph.specs.declared.memory_loader.Arrival.{Arrival}
-use Rattle.deno_graph.specs.declared.memory_loader.Arrival.TheVariants.{Answer, Pending}
+use Rattle.graph_builder.specs.Reach.{Specifier, has}
+use Rattle.graph_builder.specs.Memory.{is_forced}
+use Rattle.graph_builder.specs.declared.memory_loader.Arrival.{Arrival}
+use Rattle.graph_builder.specs.declared.memory_loader.Arrival.TheVariants.{Answer, Pending}
 use Rattle.serde_json.specs.Data.{Data, Items, Members}
 use Rattle.serde_json.specs.Find.{as_array, as_object, as_null, get}
 use Rattle.serde_json.specs.View.{view, items_view}

@@ -16,10 +16,10 @@ use Rattle.graph_entry.specs.declared.kind.GraphKind.TheVariants.{All, CodeOnly,
 use Rattle.graph_entry.specs.declared.referrer.ReferrerImports.{ReferrerImports}
 use Rattle.graph_entry.specs.declared.answer.LoadAnswer.{LoadAnswer}
 use Rattle.graph_entry.specs.declared.answer.LoadAnswer.TheVariants.{Content, Redirect, External, Failed}
-use Rattle.deno_graph.specs.declared.memory_loader.Arrival.{Arrival}
-use Rattle.deno_graph.specs.declared.memory_loader.Arrival.TheVariants.{Answer, Pending}
-use Rattle.deno_graph.specs.declared.options.BuildOptions.{BuildOptions}
-use Rattle.deno_graph.specs.Reach.{Specifier, has}
+use Rattle.graph_builder.specs.declared.memory_loader.Arrival.{Arrival}
+use Rattle.graph_builder.specs.declared.memory_loader.Arrival.TheVariants.{Answer, Pending}
+use Rattle.graph_builder.specs.declared.options.BuildOptions.{BuildOptions}
+use Rattle.graph_builder.specs.Reach.{Specifier, has}
 use Rattle.import_map.specs.ImportMap.{MapData, map_of}
 use Rattle.graph_bundle.specs.declared.bundle.Bundle.{Bundle}
 

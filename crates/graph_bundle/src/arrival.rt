@@ -2,7 +2,7 @@
 ghost use Rattle.graph_bundle.specs.Bundle as spec;
 
 use crate::part::Part;
-use deno_graph::Arrival;
+use graph_builder::Arrival;
 use json_reading::Reading;
 use serde_json::Value;
 use std::alloc::{AllocError, Global};

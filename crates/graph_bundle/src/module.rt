@@ -2,7 +2,7 @@
 ghost use Rattle.std.specs.Prelude.{◌≡◌, ℕ, ◌≤◌, List, [], IfOk, codes};
 ghost use Rattle.std.specs.BTreeSet.{contains_text};
 ghost use Rattle.serde_json.specs.View.{view, members_view};
-ghost use Rattle.deno_graph.specs.Reach.{Specifier, has};
+ghost use Rattle.graph_builder.specs.Reach.{Specifier, has};
 ghost use Rattle.graph_bundle.specs.Bundle as spec;
 
 use crate::members::{Keys, only, optional, required};
@@ -10,7 +10,7 @@ use crate::part::Part;
 use base::{SharedBytes, Text};
 use base64::DecodeAllocError;
 use base64::engine::general_purpose::STANDARD;
-use deno_graph::{Headers, LoadAnswer};
+use graph_entry::{Headers, LoadAnswer};
 use json_reading::{Reading, escaped, pointer, under};
 use serde_json::{Map, Value};
 use std::alloc::{AllocError, Global};

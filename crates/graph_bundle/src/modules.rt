@@ -4,12 +4,12 @@ ghost use Rattle.std.specs.BTreeSet.{contains_text};
 ghost use Rattle.serde_json.specs.View.{view, items_view};
 ghost use Rattle.serde_json.specs.Find.{get};
 ghost use Rattle.json_reading.specs.Reading.{under, there};
-ghost use Rattle.deno_graph.specs.Reach.{Specifier, has};
+ghost use Rattle.graph_builder.specs.Reach.{Specifier, has};
 ghost use Rattle.graph_bundle.specs.Bundle as spec;
 
 use crate::module::module_in;
 use base::{Items, Text};
-use deno_graph::LoadAnswer;
+use graph_entry::LoadAnswer;
 use json_reading::{Reading, pointer, under, under_number};
 use serde_json::Value;
 use std::alloc::{AllocError, Global};

@@ -9,8 +9,8 @@ use Rattle.es_lexer.specs.Reads.{Reads}
 use Rattle.es_lexer.specs.Stops.{Stops}
 use Rattle.es_ast.specs.declared.ast.Program.{Program}
 use Rattle.es_site.specs.Sites.{sites_of}
-use Rattle.source_sites.specs.Tree.{IsTree}
-use Rattle.source_sites.specs.Read.{references_in}
+use Rattle.source_reading.specs.Tree.{IsTree}
+use Rattle.source_reading.specs.Read.{references_in}
 use Rattle.unread_calls.specs.Unread.{unread_of}
 use Rattle.media_type.specs.declared.media_type.MediaType.{MediaType}
 use Rattle.media_type.specs.declared.media_type.ModuleKind.{ModuleKind}

@@ -3,7 +3,7 @@ ghost use Rattle.std.specs.Prelude.{◌≡◌, ◌++◌, IfOk};
 ghost use Rattle.es_lexer.specs.Reads.{Reads};
 ghost use Rattle.graph_c.specs.Finding.{IsFinding, OfKind, OfBytes, OfText, OfTree, OfCalls, IsFault};
 ghost use Rattle.media_type.specs.MediaType.{kind_of};
-ghost use Rattle.source_sites.specs.Read.{references_in as refers};
+ghost use Rattle.source_reading.specs.Read.{references_in as refers};
 ghost use Rattle.unread_calls.specs.Unread.{unread_of};
 
 use crate::media_types::media_type_at;

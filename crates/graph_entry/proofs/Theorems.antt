@@ -2,8 +2,8 @@
 use Rattle.std.proofs.Common.{◌≡◌, List, ℕ, subst, sym}
 use Rattle.std.specs.Prelude.{All, Option}
 use Rattle.es_site.specs.declared.site.Site.{Site}
-use Rattle.source_sites.specs.Cuts.{Cuts}
-use Rattle.source_sites.proofs.Theorems.{sites_cut}
+use Rattle.source_reading.specs.Cuts.{Cuts}
+use Rattle.source_reading.proofs.Theorems.{sites_cut}
 use Rattle.graph_entry.specs.declared.answer.LoadAnswer.{LoadAnswer}
 use Rattle.graph_entry.specs.declared.entry.Entry.{Entry}
 use Rattle.graph_entry.specs.Entry.{CutsFrom, CutsName, EachEdge, EdgesCut, KeepsReasonOf, KeepsFault}

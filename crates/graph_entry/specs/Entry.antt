@@ -2,7 +2,7 @@
 use Rattle.std.specs.Prelude.{◌≡◌, ℕ, ◌≤◌, List, [], length, slice_range, All, codes, Option, Some, option_map}
 use Rattle.std.specs.Result.{result_ok}
 use Rattle.base.specs.declared.range.Range.{Range}
-use Rattle.source_sites.specs.Cuts.{Cuts}
+use Rattle.source_reading.specs.Cuts.{Cuts}
 use Rattle.graph_entry.specs.declared.entry.Dependency.{Dependency}
 use Rattle.graph_entry.specs.declared.entry.Module.TheVariants.{Js, Json, Wasm}
 use Rattle.graph_entry.specs.declared.entry.Entry.{Entry}

@@ -13,8 +13,8 @@ pub mod Entry
 pub mod Referrer
 pub mod Json
 pub mod Wasm
-pub use Rattle.source_sites.specs.Read
-pub use Rattle.source_sites.specs.Cuts
+pub use Rattle.source_reading.specs.Read
+pub use Rattle.source_reading.specs.Cuts
 pub mod Reading
 pub mod ReadingLaws
 pub mod Ways

@@ -5,8 +5,8 @@ use Rattle.es_site.specs.declared.site.Site.{Site}
 use Rattle.media_type.specs.declared.media_type.MediaType.{MediaType}
 use Rattle.parse_diagnostic.specs.declared.kind.SyntaxErrorKind.{SyntaxErrorKind}
 use Rattle.parse_diagnostic.specs.Diagnosis.{Told, told}
-use Rattle.source_sites.specs.Read.{HasSites, IsFaulty}
-use Rattle.source_sites.specs.Cuts.{Cuts}
+use Rattle.source_reading.specs.Read.{HasSites, IsFaulty}
+use Rattle.source_reading.specs.Cuts.{Cuts}
 use Rattle.graph_entry.specs.declared.analyzer.ModuleInfo.{ModuleInfo}
 use Rattle.graph_entry.specs.declared.analyzer.AnalyzeFault.{AnalyzeFault}
 use Rattle.graph_entry.specs.declared.analyzer.AnalyzeFault.TheVariants.{Parse, OutOfMemory}

@@ -4,7 +4,7 @@ use Rattle.std.proofs.Common.{◌∙◌, sym, ap}
 use Rattle.base.specs.declared.range.Range.{Range}
 use Rattle.es_site.specs.declared.site.Site.{Site}
 use Rattle.parse_diagnostic.specs.declared.kind.SyntaxErrorKind.{SyntaxErrorKind}
-use Rattle.source_sites.proofs.Theorems.{one_sites, one_fault_of, sites_or_fault}
+use Rattle.source_reading.proofs.Theorems.{one_sites, one_fault_of, sites_or_fault}
 use Rattle.graph_entry.specs.Reading.{IsFunction, diagnosis_at, ReadsSource, with_sites, no_program}
 
 pub reads_once : IsFunction ReadsSource

@@ -9,9 +9,9 @@ ghost use Rattle.graph_entry.specs.Resolution.{resolve_by};
 ghost use Rattle.graph_entry.specs.Steps.{IsReadAgain};
 ghost use Rattle.graph_entry.specs.Ways.{ways_by};
 ghost use Rattle.graph_entry.specs.Analysed as spec;
-ghost use Rattle.graph_entry.specs.Analysed.{Analysed, AnalysedBy, OfContent, OfBytes, OfText};
+ghost use Rattle.graph_entry.specs.Analysed.{AnalysedBy, OfContent, OfBytes, OfText};
 
-use crate::analyzer::{AnalyzeFault, ModuleAnalyzer, ParserModuleAnalyzer};
+use crate::analyzer::{AnalyzeFault, ModuleAnalyzer};
 use crate::answer::LoadAnswer;
 use crate::entry::{Dependency, Entry, JsModule, Module, ModuleError};
 use crate::headers::Headers;
@@ -23,24 +23,11 @@ use es_site::Site;
 use media_type::{MediaType, ModuleKind};
 use parse_diagnostic::{KeptDiagnostic, ParseDiagnostic};
 use source_text::SourceText;
-use specifier_resolver::{DefaultResolver, Resolver};
+use specifier_resolver::Resolver;
 use std::alloc::{AllocError, Global};
 use url::Url;
 
-/// The entry of the specifier, where a loader gave this answer for it.
-pub fn analyse(alloc: Global, specifier: &Url, answer: LoadAnswer) -> Result<Entry, AllocError>
-    ensures { IfOk result (λ made. Analysed (text_of specifier.now) (Some answer) made) }
-{
-    analyse_by(
-        alloc,
-        &DefaultResolver,
-        &ParserModuleAnalyzer,
-        specifier,
-        answer,
-    )
-}
-
-/// The same by a resolver and an analyser of the caller's.
+/// The entry of the specifier, where a loader gave this answer for it, by a resolver and an analyser.
 #[tactic(auto, unfolding(crate::specs::Analysed::AnalysedBy))]
 pub fn analyse_by<R: Resolver, M: ModuleAnalyzer>(
     alloc: Global,

@@ -1,9 +1,10 @@
 //! What one loader answer makes of one specifier: the layer below the graph's builder.
 //!
-//! - `analyse(specifier, answer)`: the entry that the answer makes (`Analysed`, `specs/Analysed.antt`): a module with
-//!   its text or bytes and its edges, or why there is none. Both ways, unless memory runs out.
-//! - `analyse_unasked(specifier)`: the same where no loader is asked for the specifier: what a `data:` URL holds, or
-//!   the package of an `npm:` or `jsr:` specifier.
+//! - `analyse_by(resolver, analyzer, specifier, answer)`: the entry that the answer makes (`AnalysedBy`,
+//!   `specs/Analysed.antt`): a module with its text or bytes and its edges, or why there is none. Both ways, unless memory
+//!   runs out.
+//! - `analyse_unasked_by(resolver, analyzer, specifier)`: the same where no loader is asked for the specifier: what a
+//!   `data:` URL holds, or the package of an `npm:` or `jsr:` specifier.
 //! - `resolve(text, referrer)`: what a specifier in a source leads to (`resolve`, `specs/Resolution.antt`).
 //! - `referred(places)`, `starts_of(roots, places)`: the edges of what places outside a graph import, and where reach
 //!   starts by them (`specs/Referrer.antt`).
@@ -12,7 +13,8 @@
 //!
 //! A specifier is its text. One answer makes at most one entry of it (`analysed_once`, `proofs/Theorems.antt`), whose
 //! edges cut their literals or names from the module (`analysed_cuts`), and whose faults are never that memory ran out
-//! (`analysed_faults`). `docs/RESOLUTION.md` tells the rules in words.
+//! (`analysed_faults`). `docs/RESOLUTION.md` tells the rules in words. What reads a source is a `ModuleAnalyzer`: the parser is
+//! one (`graph_analyzer`), on which this crate doesn't stand.
 //! Not promised: the range of a `Syntax` fault, what `Display` and `Debug` write, and when memory runs out.
 #![tactic(auto)]
 
@@ -30,8 +32,8 @@ mod specifier;
 mod unasked;
 mod wasm;
 
-pub use crate::analysis::{analyse, analyse_by, module_at};
-pub use crate::analyzer::{AnalyzeFault, ModuleAnalyzer, ModuleInfo, ParserModuleAnalyzer};
+pub use crate::analysis::{analyse_by, module_at};
+pub use crate::analyzer::{AnalyzeFault, ModuleAnalyzer, ModuleInfo};
 pub use crate::answer::LoadAnswer;
 pub use crate::entry::{Dependency, Entry, JsModule, JsonModule, Module, ModuleError, WasmModule};
 pub use crate::headers::Headers;
@@ -40,7 +42,7 @@ pub use crate::parse::{ParseModuleOptions, parse_module};
 pub use crate::referrer::{ReferrerImports, referred, referred_by, starts_by, starts_of};
 pub use crate::resolution::{ResolutionError, Resolved, resolve, resolve_by};
 pub use crate::specifier::is_loadable;
-pub use crate::unasked::{analyse_unasked, analyse_unasked_by};
+pub use crate::unasked::analyse_unasked_by;
 pub use data_specifier::DataError;
 pub use es_site::{Attribute, DependencyKind};
 pub use media_type::{MediaType, ModuleKind};

@@ -3,10 +3,10 @@ ghost use Rattle.std.specs.Prelude.{◌≡◌, None, Ok, IfOk};
 ghost use Rattle.data_specifier.specs.Data.{data_of};
 ghost use Rattle.graph_entry.specs.Specifier.{text_of};
 ghost use Rattle.graph_entry.specs.Ways.{ways_by};
-ghost use Rattle.graph_entry.specs.Analysed.{Analysed, AnalysedBy, OfData, OfPackage};
+ghost use Rattle.graph_entry.specs.Analysed.{AnalysedBy, OfData, OfPackage};
 
 use crate::analysis::analyse_as;
-use crate::analyzer::{ModuleAnalyzer, ParserModuleAnalyzer};
+use crate::analyzer::ModuleAnalyzer;
 use crate::entry::{Entry, ModuleError};
 use crate::resolution::read_again;
 use base::SharedBytes;
@@ -14,19 +14,12 @@ use data_specifier::{DataError, DataModule, parse_data_text};
 use lexical_path::begins;
 use media_type::MediaType;
 use package_ref::{PackageError, parse_package_ref};
-use specifier_resolver::{DefaultResolver, Resolver};
+use specifier_resolver::Resolver;
 use std::alloc::{AllocError, Global};
 use url::Url;
 
-/// The entry of a specifier that no loader is asked for: what a `data:` URL holds, or else the package that the
-/// specifier names.
-pub fn analyse_unasked(alloc: Global, specifier: &Url) -> Result<Entry, AllocError>
-    ensures { IfOk result (λ made. Analysed (text_of specifier.now) None made) }
-{
-    analyse_unasked_by(alloc, &DefaultResolver, &ParserModuleAnalyzer, specifier)
-}
-
-/// The same by a resolver and an analyser of the caller's.
+/// The entry of a specifier that no loader is asked for, by a resolver and an analyser: what a `data:` URL holds, or else the
+/// package that the specifier names.
 #[tactic(auto, unfolding(crate::specs::Analysed::AnalysedBy, crate::specs::Specifier::text_of))]
 pub fn analyse_unasked_by<R: Resolver, M: ModuleAnalyzer>(
     alloc: Global,

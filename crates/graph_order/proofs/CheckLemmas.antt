@@ -10,12 +10,12 @@ use Rattle.graph_entry.specs.declared.entry.Module.{Module}
 use Rattle.graph_entry.specs.declared.entry.Entry.{Entry}
 use Rattle.graph_entry.specs.declared.entry.Entry.TheVariants as entry
 use Rattle.graph_entry.specs.Specifier.{text_of}
-use Rattle.deno_graph.specs.Rules.{Specifier, edges_of}
-use Rattle.deno_graph.specs.Reach.{has}
-use Rattle.deno_graph.specs.Graph.{texts, entry_of, members_of, module_of, IsAscending}
-use Rattle.deno_graph.specs.ByText.{keys_at, number_of, value_at}
-use Rattle.deno_graph.proofs.ByTextLemmas.{has-keys_at, distinct_sorted}
-use Rattle.deno_graph.proofs.NumberLemmas.{absent, present}
+use Rattle.graph_builder.specs.Rules.{Specifier, edges_of}
+use Rattle.graph_builder.specs.Reach.{has}
+use Rattle.graph_builder.specs.Graph.{texts, entry_of, members_of, module_of, IsAscending}
+use Rattle.graph_builder.specs.ByText.{keys_at, number_of, value_at}
+use Rattle.graph_builder.proofs.ByTextLemmas.{has-keys_at, distinct_sorted}
+use Rattle.graph_builder.proofs.NumberLemmas.{absent, present}
 use Rattle.graph_order.specs.Edges.{Entries, IsModule, Edge, IsStaticEdge, static_target}
 use Rattle.graph_order.specs.declared.found.CycleEdge.{CycleEdge}
 use Rattle.graph_order.specs.Order.{IsFree, EachBehind, IsChain, modules, AreApart, edge_of}

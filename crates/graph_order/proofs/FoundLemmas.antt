@@ -3,8 +3,8 @@ use Rattle.std.proofs.Common.{◌≡◌, ◌<◌, ℕ, List, [], ◌∷◌, leng
 use Rattle.std.specs.Prelude.{Option, slice_get, option_and_then}
 use Rattle.std.specs.List.{AllByRecursion, filter_map}
 use Rattle.graph_entry.specs.declared.entry.Dependency.{Dependency}
-use Rattle.deno_graph.specs.Rules.{Specifier, edges_of}
-use Rattle.deno_graph.specs.Graph.{module_of, IsAscending}
+use Rattle.graph_builder.specs.Rules.{Specifier, edges_of}
+use Rattle.graph_builder.specs.Graph.{module_of, IsAscending}
 use Rattle.least_order.specs.Order as n
 use Rattle.least_order.specs.Order.{Links, Link, links_of, IsLink}
 use Rattle.least_order.specs.declared.found.Found.{Found}

@@ -15,9 +15,9 @@ use Rattle.graph_entry.specs.declared.entry.Module.{Module}
 use Rattle.graph_entry.specs.declared.entry.Entry.{Entry}
 use Rattle.graph_entry.specs.declared.entry.Entry.TheVariants as entry
 use Rattle.graph_entry.specs.Specifier.{text_of}
-use Rattle.deno_graph.specs.Rules.{Specifier, edges_of}
-use Rattle.deno_graph.specs.Graph.{entry_of, members_of, module_of, IsAscending}
-use Rattle.deno_graph.specs.ByText.{keys_at}
+use Rattle.graph_builder.specs.Rules.{Specifier, edges_of}
+use Rattle.graph_builder.specs.Graph.{entry_of, members_of, module_of, IsAscending}
+use Rattle.graph_builder.specs.ByText.{keys_at}
 use Rattle.graph_order.specs.Edges.{Entries}
 use Rattle.graph_order.specs.Names.{Held, held, bare, modules_of}
 

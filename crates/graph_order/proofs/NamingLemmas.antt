@@ -8,11 +8,11 @@ use Rattle.graph_entry.specs.declared.entry.Module.{Module}
 use Rattle.graph_entry.specs.declared.entry.Entry.{Entry}
 use Rattle.graph_entry.specs.declared.entry.Entry.TheVariants as entry
 use Rattle.graph_entry.specs.Entry.{edge_target}
-use Rattle.deno_graph.specs.Rules.{Specifier, edges_of}
-use Rattle.deno_graph.specs.Graph.{entry_of, module_of, module_at, resolved, members_of, IsAscending}
-use Rattle.deno_graph.specs.ByText.{keys_at, number_of}
-use Rattle.deno_graph.proofs.ByTextLemmas.{distinct_sorted}
-use Rattle.deno_graph.proofs.NumberLemmas.{key_of_number}
+use Rattle.graph_builder.specs.Rules.{Specifier, edges_of}
+use Rattle.graph_builder.specs.Graph.{entry_of, module_of, module_at, resolved, members_of, IsAscending}
+use Rattle.graph_builder.specs.ByText.{keys_at, number_of}
+use Rattle.graph_builder.proofs.ByTextLemmas.{distinct_sorted}
+use Rattle.graph_builder.proofs.NumberLemmas.{key_of_number}
 use Rattle.least_order.specs.Order.{links_of, AreWithin}
 use Rattle.least_order.proofs.OrderLemmas.{all_from, link_node}
 use Rattle.graph_order.specs.Edges.{Entries, IsModule, module_there, is_static, static_target, Edge, IsStaticEdge}

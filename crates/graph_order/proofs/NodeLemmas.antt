@@ -9,10 +9,10 @@ use Rattle.url.specs.Parts.{Parts}
 use Rattle.graph_entry.specs.declared.entry.Module.{Module}
 use Rattle.graph_entry.specs.declared.entry.Entry.TheVariants as entry
 use Rattle.graph_entry.specs.Specifier.{text_of}
-use Rattle.deno_graph.specs.Rules.{Specifier}
-use Rattle.deno_graph.specs.Final.{most_redirects, redirect_of}
-use Rattle.deno_graph.specs.ByText.{number_of}
-use Rattle.deno_graph.specs.Graph.{GraphData, texts, entry_of, number_in, redirected, on_from, resolved_over, resolved, module_of, module_at, IsAscending}
+use Rattle.graph_builder.specs.Rules.{Specifier}
+use Rattle.graph_builder.specs.Final.{most_redirects, redirect_of}
+use Rattle.graph_builder.specs.ByText.{number_of}
+use Rattle.graph_builder.specs.Graph.{GraphData, texts, entry_of, number_in, redirected, on_from, resolved_over, resolved, module_of, module_at, IsAscending}
 use Rattle.graph_order.specs.Edges.{Entries, IsModule}
 use Rattle.graph_order.specs.Names.{bare, modules_of, named, named_at, name_of}
 use Rattle.graph_order.specs.Nodes.{node_there, AreNodes}

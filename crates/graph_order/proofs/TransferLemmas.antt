@@ -5,8 +5,8 @@ use Rattle.std.specs.List.{AllByRecursion}
 use Rattle.std.specs.Cmp.Lexicographic.{nat_list_eq_equiv, same_text}
 use Rattle.std.proofs.lemmas.Bool.Decides.{Decides-eqb}
 use Rattle.std.proofs.lemmas.List.{map-append}
-use Rattle.deno_graph.specs.Rules.{Specifier}
-use Rattle.deno_graph.specs.Reach.{has}
+use Rattle.graph_builder.specs.Rules.{Specifier}
+use Rattle.graph_builder.specs.Reach.{has}
 use Rattle.least_order.specs.Order as n
 use Rattle.least_order.specs.Order.{Links, Link, links_of}
 use Rattle.least_order.proofs.OrderLemmas.{all_at, all_from, link_node, cycle_node}

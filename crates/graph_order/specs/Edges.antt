@@ -8,8 +8,8 @@ use Rattle.graph_entry.specs.declared.entry.Module.{Module}
 use Rattle.graph_entry.specs.declared.entry.Entry.{Entry}
 use Rattle.graph_entry.specs.declared.entry.Entry.TheVariants as entry
 use Rattle.graph_entry.specs.Entry.{edge_target}
-use Rattle.deno_graph.specs.Rules.{Specifier, edges_of}
-use Rattle.deno_graph.specs.Graph.{entry_of, module_at, resolved}
+use Rattle.graph_builder.specs.Rules.{Specifier, edges_of}
+use Rattle.graph_builder.specs.Graph.{entry_of, module_at, resolved}
 
 -- a graph's entries
 abbrev pub Entries : Type 0

@@ -1,5 +1,5 @@
 -- What the public contracts rest on.
-pub use Rattle.deno_graph.specs.Graph
+pub use Rattle.graph_builder.specs.Graph
 pub mod Edges
 pub mod Order
 -- What the crate's functions promise each other.

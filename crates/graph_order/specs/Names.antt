@@ -7,10 +7,10 @@ use Rattle.graph_entry.specs.declared.entry.Dependency.{Dependency}
 use Rattle.graph_entry.specs.declared.entry.Module.{Module}
 use Rattle.graph_entry.specs.declared.entry.Entry.{Entry}
 use Rattle.graph_entry.specs.Specifier.{text_of}
-use Rattle.deno_graph.specs.Rules.{Specifier, edges_of}
-use Rattle.deno_graph.specs.Reach.{has}
-use Rattle.deno_graph.specs.Graph.{texts, entry_of, module_of}
-use Rattle.deno_graph.specs.ByText.{keys_at, number_of}
+use Rattle.graph_builder.specs.Rules.{Specifier, edges_of}
+use Rattle.graph_builder.specs.Reach.{has}
+use Rattle.graph_builder.specs.Graph.{texts, entry_of, module_of}
+use Rattle.graph_builder.specs.ByText.{keys_at, number_of}
 use Rattle.graph_order.specs.declared.found.Order.{Order}
 use Rattle.graph_order.specs.declared.found.Order.TheVariants.{Sorted, Cycle}
 use Rattle.graph_order.specs.Edges.{Entries, Edge, IsStaticEdge, static_target}

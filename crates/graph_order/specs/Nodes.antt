@@ -1,8 +1,8 @@
 -- What the crate's functions promise each other: the numbers of modules at the numbers that the graph gave to specifiers.
 use Rattle.std.specs.Prelude.{◌≡◌, ◌<◌, ℕ, List, length, Option, Some, None, option_and_then, slice_index_or}
-use Rattle.deno_graph.specs.Rules.{Specifier}
-use Rattle.deno_graph.specs.ByText.{number_of}
-use Rattle.deno_graph.specs.Graph.{GraphData, number_in}
+use Rattle.graph_builder.specs.Rules.{Specifier}
+use Rattle.graph_builder.specs.ByText.{number_of}
+use Rattle.graph_builder.specs.Graph.{GraphData, number_in}
 use Rattle.graph_order.specs.Edges.{Entries, module_there}
 use Rattle.graph_order.specs.Names.{Names, named, name_of}
 

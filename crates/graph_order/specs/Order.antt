@@ -4,9 +4,9 @@ use Rattle.std.specs.List.{AllByRecursion}
 use Rattle.std.specs.Ordering.{nat_cmp, is_le}
 use Rattle.std.specs.Cmp.Lexicographic.{slice_cmp}
 use Rattle.graph_entry.specs.Specifier.{text_of}
-use Rattle.deno_graph.specs.Rules.{Specifier}
-use Rattle.deno_graph.specs.Reach.{has}
-use Rattle.deno_graph.specs.Graph.{texts}
+use Rattle.graph_builder.specs.Rules.{Specifier}
+use Rattle.graph_builder.specs.Reach.{has}
+use Rattle.graph_builder.specs.Graph.{texts}
 use Rattle.graph_order.specs.declared.found.Order.{Order}
 use Rattle.graph_order.specs.declared.found.Order.TheVariants.{Sorted, Cycle}
 use Rattle.graph_order.specs.declared.found.CycleEdge.{CycleEdge}

@@ -1,10 +1,10 @@
 //! Whether a list is an order of a graph's modules, and whether edges are a cycle.
 ghost use Rattle.std.specs.Prelude.{◌≡◌, ◌↔◌, true, map, Some, IfOk};
 ghost use Rattle.std.specs.List.{AllByRecursion};
-ghost use Rattle.deno_graph.specs.ByText.{keys_at};
+ghost use Rattle.graph_builder.specs.ByText.{keys_at};
 ghost use Rattle.graph_entry.specs.Specifier.{text_of};
-ghost use Rattle.deno_graph.specs.Graph.{texts, IsAscending};
-ghost use Rattle.deno_graph.specs.Rules.{edges_of};
+ghost use Rattle.graph_builder.specs.Graph.{texts, IsAscending};
+ghost use Rattle.graph_builder.specs.Rules.{edges_of};
 ghost use Rattle.graph_order.specs.Edges.{IsStaticEdge, static_target};
 ghost use Rattle.graph_order.specs.Order.{IsFree, IsOrder, IsChain, IsCycle, AreApart, modules, edge_of};
 ghost use Rattle.graph_order.specs.Names.{LeadsTo, LeadsSo, GoesOn, HoldsEach};
@@ -12,7 +12,8 @@ ghost use Rattle.graph_order.specs.Names.{LeadsTo, LeadsSo, GoesOn, HoldsEach};
 use crate::edges::{edges, is_same, module_at, nth_edge, static_target};
 use crate::found::CycleEdge;
 use crate::names::{add_name, number};
-use deno_graph::{Dependency, Entry, Module, ModuleGraph};
+use graph_builder::ModuleGraph;
+use graph_entry::{Dependency, Entry, Module};
 use numbered::Numbered;
 use std::alloc::{AllocError, Global};
 use url::Url;

@@ -2,11 +2,12 @@
 ghost use Rattle.std.specs.Prelude.{◌≡◌, bytes_eq, slice_get, option_map, option_and_then};
 ghost use Rattle.std.specs.Option.{option_copied};
 ghost use Rattle.graph_entry.specs.Specifier.{text_of};
-ghost use Rattle.deno_graph.specs.Rules.{edges_of};
-ghost use Rattle.deno_graph.specs.Graph.{entry_of, module_of};
+ghost use Rattle.graph_builder.specs.Rules.{edges_of};
+ghost use Rattle.graph_builder.specs.Graph.{entry_of, module_of};
 ghost use Rattle.graph_order.specs.Edges as spec;
 
-use deno_graph::{Dependency, DependencyKind, Entry, Module, ModuleGraph};
+use graph_builder::ModuleGraph;
+use graph_entry::{Dependency, DependencyKind, Entry, Module};
 use url::Url;
 
 /// The edges of a module.

@@ -3,7 +3,7 @@ ghost use Rattle.std.specs.Prelude.{◌≡◌, ◌<◌, length, map, slice_get, 
 ghost use Rattle.std.specs.Option.{option_copied};
 ghost use Rattle.std.specs.List.{AllByRecursion, filter_map};
 ghost use Rattle.graph_entry.specs.Specifier.{text_of};
-ghost use Rattle.deno_graph.specs.Graph.{IsAscending};
+ghost use Rattle.graph_builder.specs.Graph.{IsAscending};
 ghost use Rattle.least_order.specs.Order as least;
 ghost use Rattle.least_order.specs.Order.{IsLink};
 ghost use Rattle.graph_order.specs.Edges as spec;
@@ -16,7 +16,8 @@ use crate::found::{CycleEdge, Order};
 use crate::names::{links_of, names_of};
 use crate::nodes::{led_of, node_of};
 use base::Items;
-use deno_graph::{Dependency, Entry, ModuleGraph};
+use graph_builder::ModuleGraph;
+use graph_entry::{Dependency, Entry};
 use least_order::Found;
 use std::alloc::{AllocError, Global};
 use url::Url;

@@ -2,16 +2,17 @@
 ghost use Rattle.std.specs.Prelude.{◌≡◌, ◌<◌, ◌∷◌, [], ◌++◌, None, length, IfOk, OnOk, IfSome};
 ghost use Rattle.std.specs.List.{filter_map};
 ghost use Rattle.graph_entry.specs.Specifier.{text_of};
-ghost use Rattle.deno_graph.specs.ByText.{number_of};
-ghost use Rattle.deno_graph.specs.Rules.{edges_of};
-ghost use Rattle.deno_graph.specs.Graph.{IsAscending};
+ghost use Rattle.graph_builder.specs.ByText.{number_of};
+ghost use Rattle.graph_builder.specs.Rules.{edges_of};
+ghost use Rattle.graph_builder.specs.Graph.{IsAscending};
 ghost use Rattle.graph_order.specs.Names.{Names, named, named_at, sees, links_in, modules_of};
 ghost use Rattle.graph_order.specs.Nodes.{AreLed};
 
 use crate::edges::edges;
 use crate::nodes::node_of;
 use base::Items;
-use deno_graph::{Entry, Module, ModuleGraph};
+use graph_builder::ModuleGraph;
+use graph_entry::{Entry, Module};
 use numbered::Numbered;
 use std::alloc::{AllocError, Global};
 use url::Url;

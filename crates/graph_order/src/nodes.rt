@@ -2,14 +2,15 @@
 ghost use Rattle.std.specs.Prelude.{◌≡◌, ◌<◌, ℕ, List, Some, None, length, slice_index_or, slice_set, IfOk};
 ghost use Rattle.std.specs.Option.{option_copied};
 ghost use Rattle.graph_entry.specs.Specifier.{text_of};
-ghost use Rattle.deno_graph.specs.ByText.{number_of};
-ghost use Rattle.deno_graph.specs.Graph.{number_in, IsAscending};
+ghost use Rattle.graph_builder.specs.ByText.{number_of};
+ghost use Rattle.graph_builder.specs.Graph.{number_in, IsAscending};
 ghost use Rattle.graph_order.specs.Names.{named, named_at, sees};
 ghost use Rattle.graph_order.specs.Nodes.{AreUnknown, AreNodes, AreLed, node_there};
 
 use crate::edges::is_static;
 use base::Items;
-use deno_graph::{Dependency, ModuleGraph};
+use graph_builder::ModuleGraph;
+use graph_entry::Dependency;
 use std::alloc::{AllocError, Global};
 use url::Url;
 

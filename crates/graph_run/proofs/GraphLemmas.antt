@@ -2,21 +2,21 @@
 use Rattle.std.proofs.Common.{◌≡◌, refl, sym, ◌∙◌, ap, List, Option, Some, IsSome, None, Result, Ok, Err, IfOk, IfErr, subst, ℕ, ◌<◌, ◌≤◌, [], length, map, arith}
 use Rattle.url.specs.Parts.{Parts}
 use Rattle.graph_entry.specs.declared.answer.LoadAnswer.{LoadAnswer}
-use Rattle.deno_graph.specs.Reach.{Rules, Specifier, Answers, Log, answer_to, IsFunctional}
-use Rattle.deno_graph.specs.Graph.{GraphData, IsGraph}
-use Rattle.deno_graph.specs.declared.error.BuildError.{BuildError}
-use Rattle.deno_graph.specs.declared.error.BuildError.TheVariants.{NotYet, TooManyModules, UnaskedAnswer, Finished, OutOfMemory}
-use Rattle.deno_graph.specs.Memory.{Memory, tells, module_answer, is_forced, data_of, new_memory}
-use Rattle.deno_graph.specs.declared.memory_loader.Arrival.{Arrival}
+use Rattle.graph_builder.specs.Reach.{Rules, Specifier, Answers, Log, answer_to, IsFunctional}
+use Rattle.graph_builder.specs.Graph.{GraphData, IsGraph}
+use Rattle.graph_builder.specs.declared.error.BuildError.{BuildError}
+use Rattle.graph_builder.specs.declared.error.BuildError.TheVariants.{NotYet, TooManyModules, UnaskedAnswer, Finished, OutOfMemory}
+use Rattle.graph_builder.specs.Memory.{Memory, tells, module_answer, is_forced, data_of, new_memory}
+use Rattle.graph_builder.specs.declared.memory_loader.Arrival.{Arrival}
 use Rattle.std.specs.Prelude.{not, false}
 use Rattle.std.specs.List.{list_any}
-use Rattle.deno_graph.specs.Events.{Event, IsSettled, asked_of, log_of}
-use Rattle.deno_graph.specs.Loader.{Falls, NeverRises}
-use Rattle.deno_graph.specs.Builder.{Building, BuildingBy, new_building, new_building_by, IsToldLog, IsTooMany}
+use Rattle.graph_builder.specs.Events.{Event, IsSettled, asked_of, log_of}
+use Rattle.graph_builder.specs.Loader.{Falls, NeverRises}
+use Rattle.graph_builder.specs.Builder.{Building, BuildingBy, new_building, new_building_by, IsToldLog, IsTooMany}
 use Rattle.graph_entry.specs.Referrer.{referred_by}
 use Rattle.graph_bundle.specs.declared.bundle.Bundle.{Bundle}
 use Rattle.graph_run.specs.Run.{IsGraphOf, bundle_rules, bundle_resolves, bundle_starts}
-use Rattle.deno_graph.proofs.Theorems.{graph_told, reached_grows}
+use Rattle.graph_builder.proofs.Theorems.{graph_told, reached_grows}
 use Rattle.graph_run.specs.Steps.{BundleWays, ways_of, rules_in, mapped_ways, mapped_resolves, bundle_ways, IsFresh, IsNew, IsUnforced, SaysLarge, waits_left}
 
 -- ---- a builder over a loader in memory

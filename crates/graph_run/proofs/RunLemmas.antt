@@ -5,7 +5,7 @@ use Rattle.std.proofs.lemmas.List.{length-map}
 use Rattle.std.proofs.lemmas.Map.Made.{length-le_from_is_member}
 use Rattle.serde_json.specs.Data.{Data}
 use Rattle.graph_entry.specs.Specifier.{text_of}
-use Rattle.deno_graph.specs.Graph.{GraphData, members_of}
+use Rattle.graph_builder.specs.Graph.{GraphData, members_of}
 use Rattle.graph_bundle.specs.declared.bundle.Bundle.{Bundle}
 use Rattle.graph_bundle.specs.Bundle.{bundle_of, IsJson}
 use Rattle.graph_run.specs.declared.status.Status.{Status}

@@ -2,7 +2,7 @@
 use Rattle.std.proofs.Common.{ℕ, ◌≤◌, length, arith}
 use Rattle.std.specs.Cmp.Lexicographic.{nat_list_eq_equiv}
 use Rattle.std.proofs.lemmas.Map.Made.{length-le_from_is_member}
-use Rattle.deno_graph.specs.Builder.{following_of}
+use Rattle.graph_builder.specs.Builder.{following_of}
 use Rattle.graph_bundle.specs.Bundle.{specifiers}
 use Rattle.made_bundle.specs.Made.{made_text}
 use Rattle.made_laws.specs.Value.{made_value}

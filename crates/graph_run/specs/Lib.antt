@@ -1,10 +1,10 @@
 -- What the public contracts rest on.
-pub mod Transfer
+pub use Rattle.counted_io.specs.Transfer
 pub mod Status
-pub mod Memory
-pub mod Report
-pub mod Summary
-pub mod Orders
+pub use Rattle.counted_io.specs.Memory
+pub use Rattle.graph_report.specs.Report
+pub use Rattle.graph_report.specs.Summary
+pub use Rattle.graph_report.specs.Orders
 pub mod Telling
 pub mod Run
 -- What the crate's functions promise each other.

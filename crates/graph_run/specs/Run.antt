@@ -4,9 +4,9 @@ use Rattle.std.specs.List.{IsDistinct}
 use Rattle.std.specs.Io.KnownBytes.{Appends, Keeps}
 use Rattle.serde_json.specs.Data.{Data}
 use Rattle.url.specs.Parts.{Parts}
-use Rattle.deno_graph.specs.Rules.{Rules, rules_by}
-use Rattle.deno_graph.specs.Reach.{Specifier, Answers, IsReached, has}
-use Rattle.deno_graph.specs.Graph.{GraphData, IsGraph}
+use Rattle.graph_builder.specs.Rules.{Rules, rules_by}
+use Rattle.graph_builder.specs.Reach.{Specifier, Answers, IsReached, has}
+use Rattle.graph_builder.specs.Graph.{GraphData, IsGraph}
 use Rattle.json.specs.Print.{quoted}
 use Rattle.specifier_resolver.specs.Resolver.{Resolving, resolving_or}
 use Rattle.import_map.specs.ImportMap.{map_resolve}
@@ -15,14 +15,14 @@ use Rattle.graph_entry.specs.Reading.{ReadsSource}
 use Rattle.graph_entry.specs.Ways.{ways_by}
 use Rattle.graph_entry.specs.Analysed.{AnalysedBy}
 use Rattle.graph_entry.specs.Referrer.{referred_by, starts_by}
-use Rattle.deno_graph.specs.Memory.{tells}
-use Rattle.deno_graph.specs.Builder.{following_of}
+use Rattle.graph_builder.specs.Memory.{tells}
+use Rattle.graph_builder.specs.Builder.{following_of}
 use Rattle.graph_bundle.specs.declared.bundle.Bundle.{Bundle}
 use Rattle.graph_run.specs.declared.status.Status.{Status}
 use Rattle.graph_run.specs.declared.status.Status.TheVariants.{Done, BuildRefused, BadInput, ReadFault, WriteFault, NoMemory, Usage}
-use Rattle.graph_run.specs.Transfer.{input_limit, TookPart}
+use Rattle.counted_io.specs.Transfer.{input_limit, TookPart}
 use Rattle.graph_bundle.specs.Bundle.{IsJson, bundle_of}
-use Rattle.graph_run.specs.Report.{line_end}
+use Rattle.graph_report.specs.Report.{line_end}
 use Rattle.graph_run.specs.declared.verdict.Telling.TheVariants as telling
 use Rattle.graph_run.specs.Telling.{told_by}
 use Rattle.graph_words.specs.Words.{IsForm, IsNoForm}

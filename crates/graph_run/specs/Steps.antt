@@ -1,22 +1,22 @@
 -- What the crate's functions promise each other.
 use Rattle.std.specs.Prelude.{◌≡◌, ℕ, ◌+◌, Bool, true, false, List, [], ◌∷◌, ◌++◌, Option, Some, None, IsSome, ◌⊎◌, ◌<◌, String, string_bytes, ⊤}
-use Rattle.deno_graph.specs.declared.error.BuildError.{BuildError}
-use Rattle.deno_graph.specs.declared.error.BuildError.TheVariants.{NotYet, TooManyModules, UnaskedAnswer, Finished, OutOfMemory}
-use Rattle.deno_graph.specs.Rules.{Rules, Specifier, rules_by}
-use Rattle.deno_graph.specs.Reach.{Answers}
-use Rattle.deno_graph.specs.declared.own.Own.{Own}
+use Rattle.graph_builder.specs.declared.error.BuildError.{BuildError}
+use Rattle.graph_builder.specs.declared.error.BuildError.TheVariants.{NotYet, TooManyModules, UnaskedAnswer, Finished, OutOfMemory}
+use Rattle.graph_builder.specs.Rules.{Rules, Specifier, rules_by}
+use Rattle.graph_builder.specs.Reach.{Answers}
+use Rattle.graph_builder.specs.declared.own.Own.{Own}
 use Rattle.graph_entry.specs.Reading.{ReadsSource}
 use Rattle.graph_entry.specs.Resolution.{Resolves, resolve_by}
-use Rattle.deno_graph.specs.declared.following.Following.{Following}
+use Rattle.graph_builder.specs.declared.following.Following.{Following}
 use Rattle.graph_entry.specs.Ways.{Ways, ways_by}
 use Rattle.graph_entry.specs.Analysed.{AnalysedBy}
-use Rattle.graph_entry.specs.declared.analyzer.ParserModuleAnalyzer.{ParserModuleAnalyzer}
+use Rattle.graph_analyzer.specs.declared.analyzer.ParserModuleAnalyzer.{ParserModuleAnalyzer}
 use Rattle.specifier_resolver.specs.Resolver.{resolving_or}
 use Rattle.import_map.specs.ImportMap.{MapData, map_resolve}
 use Rattle.graph_run.specs.declared.resolver.BundleResolver.{BundleResolver}
-use Rattle.deno_graph.specs.Loader.{LoaderData}
-use Rattle.deno_graph.specs.Builder.{BuildingBy, following_of}
-use Rattle.deno_graph.specs.Memory.{is_forced}
+use Rattle.graph_builder.specs.Loader.{LoaderData}
+use Rattle.graph_builder.specs.Builder.{BuildingBy, following_of}
+use Rattle.graph_builder.specs.Memory.{is_forced}
 use Rattle.graph_bundle.specs.declared.bundle.Bundle.{Bundle}
 use Rattle.std.specs.List.{list_any}
 use Rattle.std.specs.Io.KnownBytes.{Appends}
@@ -24,16 +24,8 @@ use Rattle.graph_words.specs.declared.words.Form.{Form}
 use Rattle.graph_words.specs.declared.words.Form.TheVariants.{Build, Order, Make, Sum}
 use Rattle.graph_run.specs.declared.status.Status.{Status}
 use Rattle.graph_run.specs.declared.status.Status.TheVariants.{Done, BuildRefused, BadInput, ReadFault, WriteFault, NoMemory, Usage}
-use Rattle.graph_run.specs.Transfer.{TookPart}
+use Rattle.counted_io.specs.Transfer.{TookPart}
 use Rattle.graph_run.specs.Run.{HasMoreThan}
-
--- a text was put behind a string
-abbrev pub Adds : {A : Type 0} → String A → String A → List ℕ → Type 0
-Adds old new text = string_bytes new ≡ string_bytes old ++ text
-
--- a text between quotes
-abbrev pub between_quotes : List ℕ → List ℕ
-between_quotes text = 34 ∷ (text ++ 34 ∷ [])
 
 -- nothing happened to the builder's loader yet, which tells how often it will wait and answers open requests alone; and the builder goes on
 pub record IsNew {L W : Type 0} (seen : LoaderData) (b : BuildingBy L W) : Type 0 where

@@ -7,14 +7,12 @@ ghost use Rattle.made_bundle.specs.Made.{made_text};
 ghost use Rattle.graph_run.specs.Run.{Wrote, ReadsCounted, WritesCounted, IsRefused, IsLargeInput, IsSmallInput, Always, IsDueOf, IsDueForm};
 ghost use Rattle.graph_run.specs.Telling.{told_by};
 ghost use Rattle.graph_run.specs.declared.verdict.Telling.TheVariants as telling;
-ghost use Rattle.graph_run.specs.Transfer.{input_limit, ReadAtMost};
+ghost use Rattle.counted_io.specs.Transfer.{input_limit, ReadAtMost};
 ghost use Rattle.graph_run.specs.Steps.{reads, IsVerdict, IsStop, IsWritten};
 
-use crate::sink::Sink;
-use crate::source::Source;
 use crate::status::Status;
-use crate::transfer::{INPUT_LIMIT, ReadError, read_all, write_all};
 use crate::verdict::{Due, Telling, due_told, refusal};
+use counted_io::{INPUT_LIMIT, ReadError, Sink, Source, read_all, write_all};
 use graph_words::{Form, form_of};
 use made_bundle::make_bundle;
 use std::alloc::Global;

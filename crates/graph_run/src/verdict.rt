@@ -1,19 +1,15 @@
 //! What is due for an input: the report of its graph, or the line of a refusal.
 ghost use Rattle.std.specs.Prelude.{◌≡◌, ◌≤◌, ◌↔◌, Err, length, map, IfOk, IfErr, IsTrue, string_bytes};
 ghost use Rattle.url.specs.Parts.{Parts};
-ghost use Rattle.deno_graph.specs.Graph.{IsGraph};
+ghost use Rattle.graph_builder.specs.Graph.{IsGraph};
 ghost use Rattle.graph_entry.specs.Referrer.{referred_by};
-ghost use Rattle.deno_graph.specs.Memory.{tells, data_of, new_memory};
-ghost use Rattle.deno_graph.specs.Builder.{new_building, new_building_by, starts};
-ghost use Rattle.graph_run.specs.Transfer.{input_limit};
+ghost use Rattle.graph_builder.specs.Memory.{tells, data_of, new_memory};
+ghost use Rattle.graph_builder.specs.Builder.{new_building, new_building_by, starts};
+ghost use Rattle.counted_io.specs.Transfer.{input_limit};
 ghost use Rattle.graph_run.specs.Telling.{told_by};
 ghost use Rattle.graph_run.specs.Run.{IsDue, IsDueOf, OfBundle, IsGraphOf, bundle_rules, bundle_starts, no_bundle_line, too_many_line};
 ghost use Rattle.graph_run.specs.Steps.{IsNew, IsUnforced, SaysLarge, mapped_ways, mapped_resolves, bundle_ways, built_rules, built_resolves};
 
-use crate::counts::summary;
-use crate::orders::order_lines;
-use crate::quoted::add_quoted;
-use crate::reports::report;
 use crate::resolver::BundleResolver;
 use crate::status::Status;
 use base::{Items, Text};
@@ -22,6 +18,7 @@ use deno_graph::{
     ModuleGraph, ParserModuleAnalyzer,
 };
 use graph_bundle::{Bundle, BundleFault, read_bundle};
+use graph_report::{add_quoted, order_lines, report, summary};
 use import_map::ImportMap;
 use std::alloc::{AllocError, Global};
 use url::Url;

@@ -114,7 +114,7 @@ const ATTRIBUTES: &[(&str, &str)] = &[
     ("b.wasm", "-> file:///b.ts"),
 ];
 
-fn named(rt: &impl Abort, alloc: Global, name: &str) -> Url {
+pub fn named(rt: &impl Abort, alloc: Global, name: &str) -> Url {
     let text = format!(in alloc; "file:///{name}").expect(rt, "memory");
     Url::parse(alloc, text.as_str()).expect(rt, "a URL")
 }
@@ -158,7 +158,7 @@ fn arrivals(rt: &impl Abort, alloc: Global, letters: &str) -> Items<Arrival> {
     items
 }
 
-fn urls(rt: &impl Abort, alloc: Global, names: &[&str]) -> Items<Url> {
+pub fn urls(rt: &impl Abort, alloc: Global, names: &[&str]) -> Items<Url> {
     let mut urls = Items::new(alloc);
     for name in names {
         urls.push(named(rt, alloc, name)).expect(rt, "memory");
@@ -166,7 +166,7 @@ fn urls(rt: &impl Abort, alloc: Global, names: &[&str]) -> Items<Url> {
     urls
 }
 
-fn options(alloc: Global, kind: GraphKind, limit: usize) -> BuildOptions
+pub fn options(alloc: Global, kind: GraphKind, limit: usize) -> BuildOptions
     ensures { result.imports ≡ [] }
 {
     BuildOptions {

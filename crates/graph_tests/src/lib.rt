@@ -6,6 +6,6 @@ mod arrivals;
 #[cfg(test)]
 mod graphs;
 #[cfg(test)]
-mod rules;
+mod orders;
 #[cfg(test)]
 mod runs;

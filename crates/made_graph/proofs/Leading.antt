@@ -27,9 +27,9 @@ use Rattle.graph_entry.specs.Json.{with_json, no_json}
 use Rattle.graph_entry.specs.Wasm.{with_imports, faulty}
 use Rattle.graph_entry.specs.Ways.{default_ways}
 use Rattle.graph_entry.specs.Analysed.{unsupported, dependency_of, source_entry, OfText, with_text, no_text, OfKind, OfContent, AnalysedBy}
-use Rattle.deno_graph.specs.declared.following.Following.{Following}
-use Rattle.deno_graph.specs.Rules.{Rules, rules_by, targets, led_to}
-use Rattle.deno_graph.specs.Reach.{Specifier, has}
+use Rattle.graph_builder.specs.declared.following.Following.{Following}
+use Rattle.graph_builder.specs.Rules.{Rules, rules_by, targets, led_to}
+use Rattle.graph_builder.specs.Reach.{Specifier, has}
 use Rattle.made_bundle.specs.Made.{module_text}
 use Rattle.made_laws.specs.Value.{specifier_text}
 use Rattle.made_laws.specs.Urls.{url_at}

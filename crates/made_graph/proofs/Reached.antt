@@ -9,10 +9,10 @@ use Rattle.graph_entry.specs.declared.answer.LoadAnswer.TheVariants.{Content, Ab
 use Rattle.graph_entry.specs.Specifier.{text_of, loadable}
 use Rattle.graph_entry.specs.Ways.{default_ways}
 use Rattle.graph_entry.specs.Analysed.{AnalysedBy, media_type_at}
-use Rattle.deno_graph.specs.declared.following.Following.{Following}
-use Rattle.deno_graph.specs.Rules.{Rules, rules_by}
-use Rattle.deno_graph.specs.Reach.{Specifier, has, IsEntry, Leads, IsWay, IsReached}
-use Rattle.deno_graph.specs.Memory.{tells}
+use Rattle.graph_builder.specs.declared.following.Following.{Following}
+use Rattle.graph_builder.specs.Rules.{Rules, rules_by}
+use Rattle.graph_builder.specs.Reach.{Specifier, has, IsEntry, Leads, IsWay, IsReached}
+use Rattle.graph_builder.specs.Memory.{tells}
 use Rattle.graph_bundle.specs.Bundle.{specifiers}
 use Rattle.made_bundle.specs.Made.{module_text}
 use Rattle.made_laws.specs.Value.{specifier_text}

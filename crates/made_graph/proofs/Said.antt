@@ -8,7 +8,7 @@ use Rattle.serde_json.specs.Data.{string}
 use Rattle.url.specs.Parser.{parse_url}
 use Rattle.json_reading.specs.Reading.{url_of, each_of, required, under, before, items_list, or_here}
 use Rattle.graph_entry.specs.Specifier.{text_of}
-use Rattle.deno_graph.specs.Reach.{Specifier, has}
+use Rattle.graph_builder.specs.Reach.{Specifier, has}
 use Rattle.graph_bundle.specs.Bundle.{IsJson, module_after, modules_from, modules_of, options_of, bundle_of}
 use Rattle.made_bundle.specs.Made.{made_text}
 use Rattle.made_laws.specs.Value.{specifier_text, module_value, made_value}

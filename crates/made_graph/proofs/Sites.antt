@@ -9,9 +9,9 @@ use Rattle.es_literal.specs.Values.{value_of}
 use Rattle.es_references.specs.References.{references_of}
 use Rattle.media_type.specs.declared.media_type.MediaType.{MediaType}
 use Rattle.media_type.specs.MediaType.{is_typed}
-use Rattle.source_sites.specs.Tree.{language_of, modes_of}
-use Rattle.source_sites.specs.Read.{references_in, HasSites}
-use Rattle.source_sites.proofs.TreeLemmas.{tree_cuts}
+use Rattle.source_reading.specs.Tree.{language_of, modes_of}
+use Rattle.source_reading.specs.Read.{references_in, HasSites}
+use Rattle.source_reading.proofs.TreeLemmas.{tree_cuts}
 use Rattle.std.proofs.lemmas.List.Elements.{All-weaker}
 use Rattle.made_bundle.specs.Made.{module_text}
 use Rattle.made_laws.proofs.Lines.{Imports}

@@ -12,7 +12,7 @@ use es_function_views::{
 };
 use es_param_views::{Signature, signature_at};
 use es_stmt_views::{Block, Stmt, block_at, stmt_at};
-use es_syntax::{Item, Row};
+use es_syntax::{Item, Siblings};
 use es_token::Token;
 use es_type_name_views::{TypeParams, type_params_at};
 
@@ -80,7 +80,7 @@ fn in_declarable(letter: &str, tokens: &[Token], it: &Item<'_>) -> Option<Seen> 
 }
 
 /// A key and its value, if it has one.
-fn enum_member(tokens: &[Token], turn: &Row<'_>) -> Option<Seen> {
+fn enum_member(tokens: &[Token], turn: &Siblings<'_>) -> Option<Seen> {
     let (from, to) = ends(&turn.part(0)?)?;
     let to = behind(&turn.group_at(1), to)?;
     Some(told("EnumMember", span(tokens, from, to)?))

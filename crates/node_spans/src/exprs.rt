@@ -5,7 +5,7 @@ use es_call_views::{Call, Post, call_at, post_at};
 use es_expr_views::{Primary, primary_at};
 use es_function_views::{Function, function_at};
 use es_operator_views::{Chain, Operator, Turn, chain_at, operator_at, turn_at};
-use es_syntax::{Item, Lean, Row};
+use es_syntax::{Item, Lean, Siblings};
 use es_token::{Token, TokenKind};
 
 /// An expression, or the literal that it is.
@@ -86,7 +86,7 @@ fn operator_kind(tokens: &[Token], it: &Operator<'_>) -> Option<&'static str> {
 }
 
 /// Behind an operand: `as` or `satisfies` with what it asserts in a group, or an operand alone.
-fn turn_kind(tokens: &[Token], turn: &Row<'_>) -> Option<&'static str> {
+fn turn_kind(tokens: &[Token], turn: &Siblings<'_>) -> Option<&'static str> {
     match turn.group_at(1).part(0) {
         Some(asserted) => match asserted.token() {
             Some(_) => Some("TsConstAssertion"),
@@ -143,7 +143,7 @@ fn call_kind(it: &Call<'_>) -> Option<&'static str> {
 }
 
 /// What stands behind all else in a chain.
-pub fn last_post<'a>(first: &Item<'a>, others: &Row<'a>) -> Option<Item<'a>> {
+pub fn last_post<'a>(first: &Item<'a>, others: &Siblings<'a>) -> Option<Item<'a>> {
     match last_in(others).last {
         Some(turn) => turn.group().part(0),
         None => Some(*first),
@@ -151,7 +151,7 @@ pub fn last_post<'a>(first: &Item<'a>, others: &Row<'a>) -> Option<Item<'a>> {
 }
 
 /// What stands before that, if anything does but the base.
-pub fn post_before<'a>(first: &Item<'a>, others: &Row<'a>) -> Option<Item<'a>> {
+pub fn post_before<'a>(first: &Item<'a>, others: &Siblings<'a>) -> Option<Item<'a>> {
     match last_in(others) {
         Last {
             before: Some(turn),

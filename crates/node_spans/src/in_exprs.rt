@@ -8,7 +8,7 @@ use es_call_views::{Args, Call, Post, args_at, call_at, post_at};
 use es_expr_views::{Primary, primary_at};
 use es_member_views::{Prop, prop_at};
 use es_operator_views::{Operator, chain_at, operator_at};
-use es_syntax::{Item, Row};
+use es_syntax::{Item, Siblings};
 use es_token::{Token, TokenKind};
 
 /// Of a call the first argument, of an array the first element, of a member or a test with `in` what stands first.
@@ -69,7 +69,7 @@ fn piece_of(tokens: &[Token], token: u32) -> Option<Seen> {
 }
 
 /// The first element of an array that begins at this token: where none stands, a hole behind the bracket.
-fn first_element(tokens: &[Token], from: u32, elems: &Row<'_>) -> Option<Seen> {
+fn first_element(tokens: &[Token], from: u32, elems: &Siblings<'_>) -> Option<Seen> {
     match elems.part(0)?.group().group_at(0).part(0) {
         Some(element) => expression(tokens, &element),
         None => {
@@ -119,7 +119,12 @@ fn property(tokens: &[Token], it: &Item<'_>) -> Option<Seen> {
 }
 
 /// The first argument where a call stands last, the object where a member does.
-fn in_chain(tokens: &[Token], base: &Item<'_>, first: &Item<'_>, others: &Row<'_>) -> Option<Seen> {
+fn in_chain(
+    tokens: &[Token],
+    base: &Item<'_>,
+    first: &Item<'_>,
+    others: &Siblings<'_>,
+) -> Option<Seen> {
     match post_at(&last_post(first, others)?)? {
         Post::Call(args) => first_argument(tokens, &args),
         Post::TypedCall { args, .. } => first_argument(tokens, &args),

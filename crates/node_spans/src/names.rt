@@ -3,7 +3,7 @@
 use crate::spans::{Seen, ends, first_in, span, token_span, told, told_at};
 use es_module_name_views::{Attributes, Clause, Names, attributes_at, clause_at, names_at};
 use es_module_views::{Export, Import};
-use es_syntax::{Item, Row};
+use es_syntax::{Item, Siblings};
 use es_token::Token;
 
 /// An import, or the part of it that the letter names.
@@ -40,7 +40,12 @@ pub fn in_import(letter: &str, tokens: &[Token], it: &Item<'_>, view: &Import<'_
 }
 
 /// The literal behind `from`, or the attributes or the first of them.
-fn in_source(letter: &str, tokens: &[Token], source: u32, attributes: &Row<'_>) -> Option<Seen> {
+fn in_source(
+    letter: &str,
+    tokens: &[Token],
+    source: u32,
+    attributes: &Siblings<'_>,
+) -> Option<Seen> {
     match letter {
         "z" => Some(told("Str", token_span(tokens, source)?)),
         "w" => told_at("ImportAttributes", tokens, &attributes.part(0)?),

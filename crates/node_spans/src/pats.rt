@@ -4,7 +4,7 @@ use crate::spans::{Seen, behind, ends, first_in, span, told, told_at};
 use es_decl_views::{Declarator, declarator_at};
 use es_param_views::{Param, Params, param_at, params_at};
 use es_pattern_views::{Marked, Pat, PatProp, marked_at, pat_at, pat_prop_at};
-use es_syntax::{Item, Row};
+use es_syntax::{Item, Siblings};
 use es_token::Token;
 
 /// A pattern. A simple target is told by the range of its expression.
@@ -93,7 +93,12 @@ fn first_listed(letter: &str, tokens: &[Token], it: &Item<'_>) -> Option<Seen> {
     }
 }
 
-fn first_of(letter: &str, tokens: &[Token], all: &Row<'_>, rest: &Row<'_>) -> Option<Seen> {
+fn first_of(
+    letter: &str,
+    tokens: &[Token],
+    all: &Siblings<'_>,
+    rest: &Siblings<'_>,
+) -> Option<Seen> {
     match first_in(all) {
         Some(param) => match letter {
             "q" => pattern_of(tokens, &param),
@@ -107,7 +112,7 @@ fn first_of(letter: &str, tokens: &[Token], all: &Row<'_>, rest: &Row<'_>) -> Op
 }
 
 /// What stands last among parameters: `...`, its pattern and the type of that.
-pub fn rest_span(tokens: &[Token], rest: &Row<'_>) -> Option<base::Range> {
+pub fn rest_span(tokens: &[Token], rest: &Siblings<'_>) -> Option<base::Range> {
     let (from, to) = ends(&rest.part(0)?)?;
     span(tokens, from.checked_sub(1)?, behind(&rest.group_at(1), to)?)
 }
@@ -145,9 +150,9 @@ fn pattern_of(tokens: &[Token], it: &Item<'_>) -> Option<Seen> {
 fn tailed(
     tokens: &[Token],
     name: &Item<'_>,
-    mark: &Row<'_>,
-    ty: &Row<'_>,
-    value: &Row<'_>,
+    mark: &Siblings<'_>,
+    ty: &Siblings<'_>,
+    value: &Siblings<'_>,
 ) -> Option<Seen> {
     let (from, to) = ends(name)?;
     let to = behind(ty, behind(mark, to)?)?;

@@ -8,11 +8,11 @@ use crate::stmts::statement;
 use es_decl_views::decl_at;
 use es_module_views::{Program, export_at, import_at, program_at};
 use es_stmt_views::{Compound, Stmt, compound_at, stmt_at};
-use es_syntax::{Item, Row};
+use es_syntax::{Item, Siblings};
 use es_token::Token;
 
 /// The node that the letter names, if the program has it.
-pub fn place(letter: &str, tokens: &[Token], program: &Row<'_>) -> Option<Seen> {
+pub fn place(letter: &str, tokens: &[Token], program: &Siblings<'_>) -> Option<Seen> {
     match program_at(&program.part(0)?)? {
         Program::Script { body, .. } => statement(tokens, &first_in(&body)?),
         Program::Module { body, .. } => in_item(letter, tokens, &first_in(&body)?),
@@ -53,7 +53,7 @@ fn in_statement(letter: &str, tokens: &[Token], it: &Item<'_>) -> Option<Seen> {
 }
 
 /// The first clause of a `switch`, which begins behind the expression, `)` and `{`.
-fn first_clause(tokens: &[Token], discriminant: &Item<'_>, cases: &Row<'_>) -> Option<Seen> {
+fn first_clause(tokens: &[Token], discriminant: &Item<'_>, cases: &Siblings<'_>) -> Option<Seen> {
     let turn = cases.part(0)?.group();
     let from = ends(discriminant)?.1.checked_add(2)?;
     let colon = match turn.group_at(0).part(0) {

@@ -1,7 +1,7 @@
 //! Where nodes stand in the text: a row tells the numbers of tokens, and these their bytes.
 
 use base::Range;
-use es_syntax::{Item, Row};
+use es_syntax::{Item, Siblings};
 use es_token::Token;
 
 /// The name of a node's kind, and the range of the node.
@@ -53,7 +53,7 @@ pub fn ends(it: &Item<'_>) -> Option<(u32, u32)> {
 }
 
 /// The same of the second number, where a part may be absent: then of what stands before it.
-pub fn behind(part: &Row<'_>, before: u32) -> Option<u32> {
+pub fn behind(part: &Siblings<'_>, before: u32) -> Option<u32> {
     match part.part(0) {
         Some(it) => Some(ends(&it)?.1),
         None => Some(before),
@@ -67,7 +67,7 @@ pub fn told_at(kind: &'static str, tokens: &[Token], it: &Item<'_>) -> Option<Se
 }
 
 /// What stands first in a list.
-pub fn first_in<'a>(list: &Row<'a>) -> Option<Item<'a>> {
+pub fn first_in<'a>(list: &Siblings<'a>) -> Option<Item<'a>> {
     list.part(0)?.group().part(0)
 }
 
@@ -78,7 +78,7 @@ pub struct Last<'a> {
     pub last: Option<Item<'a>>,
 }
 
-pub fn last_in<'a>(list: &Row<'a>) -> Last<'a> {
+pub fn last_in<'a>(list: &Siblings<'a>) -> Last<'a> {
     let mut row = *list;
     let mut before = None;
     let mut last = None;

@@ -2,7 +2,7 @@
 
 use crate::pats::rest_span;
 use crate::spans::{Seen, first_in, last_in, span, token_span, told, told_at};
-use es_syntax::{Item, Row};
+use es_syntax::{Item, Siblings};
 use es_token::{Token, TokenKind};
 use es_type_member_views::{
     TypeFnParam, TypeFnParams, TypeKey, TypeMember, TypePat, TypeProp, key_at, member_at, param_at,
@@ -75,7 +75,7 @@ fn compound_kind(it: &CompoundType<'_>) -> Option<&'static str> {
 }
 
 /// What stands in the last brackets behind a type.
-fn brackets_kind(first: &Row<'_>, others: &Row<'_>) -> Option<&'static str> {
+fn brackets_kind(first: &Siblings<'_>, others: &Siblings<'_>) -> Option<&'static str> {
     let index = match last_in(others).last {
         Some(turn) => turn.group().group_at(0).part(0),
         None => first.part(0),
@@ -137,7 +137,7 @@ fn type_pattern(letter: &str, tokens: &[Token], it: &Item<'_>) -> Option<Seen> {
     }
 }
 
-fn first_element(tokens: &[Token], from: u32, elems: &Row<'_>) -> Option<Seen> {
+fn first_element(tokens: &[Token], from: u32, elems: &Siblings<'_>) -> Option<Seen> {
     match elems.part(0)?.group().group_at(0).part(0) {
         Some(element) => pattern(tokens, &element),
         None => {

@@ -3,7 +3,8 @@ ghost use Rattle.std.specs.Prelude.{◌≡◌, Some, IfOk};
 ghost use Rattle.graph_entry.specs.Specifier.{text_of};
 ghost use Rattle.graph_entry.specs.Analysed.{Analysed};
 
-use graph_entry::{Entry, LoadAnswer, analyse};
+use graph_analyzer::analyse;
+use graph_entry::{Entry, LoadAnswer};
 use std::alloc::{AllocError, Global};
 use url::Url;
 

@@ -13,9 +13,9 @@ use Rattle.parse_diagnostic.specs.declared.kind.SyntaxErrorKind.TheVariants.{Lex
 use Rattle.parse_diagnostic.specs.declared.diagnostic.ParseFault.{ParseFault}
 use Rattle.parse_diagnostic.specs.declared.diagnostic.ParseFault.TheVariants.{Diagnostic, OutOfMemory}
 use Rattle.parse_diagnostic.specs.Diagnosis.{Diagnosis, IsDiagnosis, told_range}
-use Rattle.source_sites.specs.Tree.{IsFirstTree}
-use Rattle.source_sites.specs.Read.{no_tokens, no_tree, at_place}
-use Rattle.source_sites.specs.Fault.{IsFaultIn, Refuses}
+use Rattle.source_reading.specs.Tree.{IsFirstTree}
+use Rattle.source_reading.specs.Read.{no_tokens, no_tree, at_place}
+use Rattle.source_reading.specs.Fault.{IsFaultIn, Refuses}
 
 pub Refuses-weaker : (P Q : Diagnosis → Type 0) → ((d : Diagnosis) → P d → Q d) → (f : ParseFault) → Refuses P f
     → Refuses Q f

@@ -1,5 +1,2 @@
-pub mod TreeLemmas
 pub mod FaultLemmas
-pub mod ReferenceLemmas
-pub mod Theorems
 pub mod SitesLemmas

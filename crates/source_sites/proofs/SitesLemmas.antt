@@ -15,21 +15,21 @@ use Rattle.es_tree.specs.Key.{keys_of}
 use Rattle.es_ast.specs.declared.ast.Program.{Program}
 use Rattle.es_site.specs.declared.site.Site.{Site}
 use Rattle.es_site.specs.Sites.{sites_of}
-use Rattle.es_whole_tree.specs.declared.tree.Tree.{Tree}
-use Rattle.es_whole_tree.specs.Slim.{tree_of}
+use Rattle.es_cst.specs.declared.tree.Cst.{Cst}
+use Rattle.es_cst.specs.Slim.{tree_of}
 use Rattle.es_syntax.specs.declared.entry.Entry.{Entry}
 use Rattle.es_syntax.specs.Trees.{trees}
-use Rattle.es_whole_program.specs.Program.{IsKept, HoldsKept}
-use Rattle.es_whole_program.specs.Derived.{IsRowOf, GivesTree as GivesPlain}
+use Rattle.es_program_reader.specs.Program.{IsKept, HoldsKept}
+use Rattle.es_program_reader.specs.Derived.{IsRowOf, GivesTree as GivesPlain}
 use Rattle.es_derives.specs.Derives.{Derives}
 use Rattle.es_derives.proofs.Theorems.{one_tree}
 use Rattle.es_plain_sites.specs.Own.{plain_sites}
 use Rattle.es_program_sites.proofs.Theorems.{kept_sites}
 use Rattle.media_type.specs.declared.media_type.MediaType.{MediaType}
-use Rattle.source_sites.specs.Tree.{IsFirstTree, IsTree}
-use Rattle.source_sites.specs.Read.{references_in, HasSites}
+use Rattle.source_reading.specs.Tree.{IsFirstTree, IsTree}
+use Rattle.source_reading.specs.Read.{references_in, HasSites}
 use Rattle.source_sites.specs.Answers.{AreOf, AreSitesOf, GivesSites}
-use Rattle.source_sites.proofs.TreeLemmas.{first_once}
+use Rattle.source_reading.proofs.TreeLemmas.{first_once}
 
 -- what holds of the trees of these sites
 pub AreOf-weaker : (P Q : Program → Type 0) → ((tree : Program) → P tree → Q tree) → (found : List Site) → AreOf P found
@@ -42,10 +42,10 @@ module _ (l : Lang) (m : Mode) (x : List ℕ) (ts : List Token) where
   kept_of p derived = record { plain = derived.plain; program = derived.program; kept = refl }
 
   -- the sites of the one tree of a row
-  row_sites : (es : List Entry) (kept : Tree) (found : List Site) → IsRowOf kept es
+  row_sites : (es : List Entry) (kept : Cst) (found : List Site) → IsRowOf kept es
       → found ≡ flat_map (plain_sites x ts) (trees es) → found ≡ plain_sites x ts kept
   row_sites es kept found row same =
-      same ∙ ap (λ (us : List Tree). flat_map (plain_sites x ts) us) row ∙ append-nil (plain_sites x ts kept)
+      same ∙ ap (λ (us : List Cst). flat_map (plain_sites x ts) us) row ∙ append-nil (plain_sites x ts kept)
 
   -- what is kept has a typed tree, with these sites
   pub derived_sites : (es : List Entry) (found : List Site) → HoldsKept l m (keys_of ts) es
@@ -69,7 +69,7 @@ module _ (l : Lang) (m : Mode) (x : List ℕ) (ts : List Token) where
   kept_given es (Err OutOfMemory) p holds same memory derived = tt
 
 -- a refusal of the plain tree is one of the sites
-pub refused : (e : SyntaxError) (p : Program) (tree : Tree) → GivesPlain (Err e) tree → GivesSites (Err e) p
+pub refused : (e : SyntaxError) (p : Program) (tree : Cst) → GivesPlain (Err e) tree → GivesSites (Err e) p
 refused (Syntax token) p tree given = absurd given
 refused OutOfMemory p tree given = tt
 

@@ -10,7 +10,7 @@ use Rattle.es_site.specs.declared.site.Site.{Site}
 use Rattle.es_site.specs.Sites.{sites_of}
 use Rattle.es_derives.specs.Derives.{Derives}
 use Rattle.media_type.specs.declared.media_type.MediaType.{MediaType}
-use Rattle.source_sites.specs.Tree.{IsFirstTree, IsTree}
+use Rattle.source_reading.specs.Tree.{IsFirstTree, IsTree}
 
 -- they are those of a tree of which P holds
 pub record AreOf (P : Program → Type 0) (found : List Site) : Type 0 where

@@ -4,8 +4,8 @@ ghost use Rattle.url.specs.Parts.{serialize};
 ghost use Rattle.base.specs.declared.range.Range.{Range as Place};
 ghost use Rattle.es_lexer.specs.declared.error.LexicalError.{LexicalError as Fault};
 ghost use Rattle.parse_diagnostic.specs.Diagnosis.{IsDiagnosis};
-ghost use Rattle.source_sites.specs.Read.{at_place};
-ghost use Rattle.source_sites.specs.Fault.{Refuses};
+ghost use Rattle.source_reading.specs.Read.{at_place};
+ghost use Rattle.source_reading.specs.Fault.{Refuses};
 
 use base::Range;
 use es_lexer::LexError;

@@ -1,6 +1,6 @@
 //! How sources of a media type are read.
 ghost use Rattle.std.specs.Prelude.{◌≡◌};
-ghost use Rattle.source_sites.specs.Tree as spec;
+ghost use Rattle.source_reading.specs.Tree as spec;
 ghost use Rattle.source_sites.specs.Modes.{modes_in};
 
 use es_tree::{Lang, Mode};

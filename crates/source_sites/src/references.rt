@@ -1,6 +1,6 @@
 //! Sites in comments.
 ghost use Rattle.std.specs.Prelude.{◌≡◌, ◌++◌, IfOk};
-ghost use Rattle.source_sites.specs.Read as spec;
+ghost use Rattle.source_reading.specs.Read as spec;
 
 use base::Items;
 use es_references::references;

@@ -1,10 +1,10 @@
 //! The node that one text names, in a line.
 
 use es_lexer::{LexError, lex_tokens};
-use es_syntax::Row;
+use es_program_reader::read_program;
+use es_syntax::Siblings;
 use es_token::Token;
 use es_tree::{Lang, Mode, SyntaxError};
-use es_whole_program::read_program;
 use node_spans::place;
 use std::alloc::{AllocError, Global};
 
@@ -31,7 +31,7 @@ fn program_line(alloc: Global, letter: &str, tokens: &[Token]) -> Result<String,
             alloc,
             letter,
             tokens,
-            &Row {
+            &Siblings {
                 entries: row.as_slice(),
             },
         ),
@@ -44,7 +44,7 @@ fn node_line(
     alloc: Global,
     letter: &str,
     tokens: &[Token],
-    program: &Row<'_>,
+    program: &Siblings<'_>,
 ) -> Result<String, AllocError> {
     match place(letter, tokens, program) {
         Some(seen) => format!(in alloc; "{} {}-{}", seen.kind, seen.span.start, seen.span.end),

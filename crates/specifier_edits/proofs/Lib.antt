@@ -1,5 +1,6 @@
 mod FaultLemmas
 mod NumberLemmas
+mod FirstLemmas
 mod ListLemmas
 mod ReferenceLemmas
 mod EditLemmas

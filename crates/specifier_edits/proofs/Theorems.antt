@@ -1,12 +1,12 @@
 -- The text with other specifiers: it can be made, and it is read as the old one, moved.
-use Rattle.std.proofs.Common.{◌≡◌, ℕ, ◌+◌, ◌≤◌, ◌<◌, Bool, true, false, List, [], ◌∷◌, ◌++◌, length, drop, map, get_or, slice_get, Some, refl, sym, ◌∙◌, ap, subst, arith, ◌⊎◌, inl, inr, if◌then◌else◌}
+use Rattle.std.proofs.Common.{◌≡◌, ℕ, zero, suc, ◌+◌, ◌≤◌, ◌<◌, Bool, true, false, List, [], ◌∷◌, ◌++◌, length, drop, map, get_or, slice_get, Option, Some, refl, sym, ◌∙◌, ap, subst, arith, ◌⊎◌, inl, inr, if◌then◌else◌}
 use Rattle.std.specs.List.{All, AllByRecursion as ByRecursion}
 use Rattle.std.specs.Prelude.{chars, encode_utf8_all, String, string_bytes}
 use Rattle.std.specs.Option.{option_map}
 use Rattle.std.proofs.lemmas.Str.{IsUtf8-string_bytes}
 use Rattle.std.specs.Str.{IsUtf8}
 use Rattle.std.proofs.lemmas.List.Elements.{All-get_or, All-from_recursion}
-use Rattle.std.proofs.lemmas.Option.{get_or_from_slice_get, slice_get_within, slice_get-get_or, slice_get-map}
+use Rattle.std.proofs.lemmas.Option.{none-some, same_Some, get_or_from_slice_get, slice_get_within, slice_get-get_or, slice_get-map}
 use Rattle.std.proofs.Math.Seq.{drop-append_seam}
 use Rattle.base.specs.declared.range.Range.{Range}
 use Rattle.es_literal.specs.Strings.{IsString}
@@ -23,9 +23,9 @@ use Rattle.es_ast.specs.declared.ast.Program.{Program}
 use Rattle.es_derives.specs.Derives.{Derives}
 use Rattle.media_type.specs.declared.media_type.MediaType.{MediaType}
 use Rattle.media_type.specs.MediaType.{is_typed}
-use Rattle.source_sites.specs.Tree.{language_of, modes_of, IsFirstTree}
-use Rattle.source_sites.specs.Read.{IsRead, references_in, HasSites}
-use Rattle.es_edited_sites.specs.Moved.{SitesMove}
+use Rattle.source_reading.specs.Tree.{language_of, modes_of, IsFirstTree}
+use Rattle.source_reading.specs.Read.{IsRead, references_in, HasSites}
+use Rattle.es_edited_sites.specs.Moved.{SitesMove, HasRange, AtSites, attributes_of}
 use Rattle.es_edited_sites.proofs.Theorems.{sites_move, none_derives}
 use Rattle.es_site.specs.declared.site.Site.{Site}
 use Rattle.es_site.specs.Sites.{CutsLiteral, sites_of}
@@ -38,7 +38,7 @@ use Rattle.text_changes.specs.declared.error.TextChangeError.{TextChangeError}
 use Rattle.text_changes.specs.Changes as text
 use Rattle.es_edited_tokens.specs.Moved.{moved, range_to, token_to, comment_to, cut, text_to, Chosen}
 use Rattle.es_edited_tokens.proofs.Theorems.{literals_move, text_moves, changes_apply, changes_pass, change_stands}
-use Rattle.specifier_edits.specs.Sites.{AreSites}
+use Rattle.specifier_edits.specs.Sites.{AreSites, IsLiteral}
 use Rattle.specifier_edits.specs.Edits.{NamesLiterals, range_of, edit, edits, ReadsMoved, KeepsTexts, CutsSpecifiers, ReadsMovedTree, KeepsSites}
 use Rattle.specifier_edits.proofs.ReferenceLemmas.{AreReferences, references_are, literal_in, literal_behind}
 use Rattle.specifier_edits.proofs.StayLemmas.{references_stay}
@@ -211,18 +211,68 @@ pub source_sites : (media : MediaType) (x : List ℕ) (sites : List Site) → Ha
 source_sites media x sites h =
     subst (AreSites x) (sym h.both) (read_sites (language_of media) (modes_of media) media x h.tree h.references h.read)
 
+-- ---- changes are of sites of the tree
+has_range : (own : List Site) (n : ℕ) (site : Site) → slice_get own n ≡ Some site → HasRange own site.range
+has_range [] n site at = absurd (none-some site at)
+has_range (s ∷ own) zero site at = inl (ap (λ (u : Site). u.range) (same_Some s site at))
+has_range (s ∷ own) (suc n) site at = inr (has_range own n site at)
+
+own_range : (references own : List Site) (n : ℕ) (site : Site) → AreReferences references
+    → slice_get (references ++ own) n ≡ Some site → IsLiteral site
+    → HasRange own (range_of (slice_get (references ++ own) n))
+own_range references own n site refer at literal =
+    let P : Option Site → Type 0 = λ o. HasRange own (range_of o) in
+    subst P (sym at)
+    (literal_in references own (λ (s : Site). HasRange own s.range) n site refer (λ m s here. has_range own m s here) at
+    literal)
+
+at_sites : {A : Type 0} (references own : List Site) (from : ℕ) (changes : List (ℕ × String A))
+    → AreReferences references → NamesLiterals (references ++ own) from changes
+    → AtSites own (edits (references ++ own) changes)
+at_sites references own from [] refer names = tt
+at_sites references own from (c ∷ cs) refer names =
+    (own_range references own c.0 names.0 refer names.1 names.2, at_sites references own (c.0 + 1) cs refer names.4)
+
+read_references : (lang : Lang) (modes : List Mode) (media : MediaType) (x : List ℕ) (tree : Program)
+    (references : List Site) → IsRead lang modes media x tree references → AreReferences references
+read_references lang modes media x tree references read =
+    refer_by references read.tokens read.comments
+    (refer_if (is_typed media) references read.tokens read.comments read.refers)
+
+edits_at : {A : Type 0} (lang : Lang) (modes : List Mode) (media : MediaType) (x : List ℕ) (tree : Program)
+    (references sites : List Site) (changes : List (ℕ × String A)) → IsRead lang modes media x tree references
+    → NamesLiterals sites 0 changes → sites ≡ references ++ sites_of tree
+    → AtSites (sites_of tree) (edits sites changes)
+edits_at {A} lang modes media x tree references sites changes read names e =
+    let P : List Site → Type 0 = λ ss. AtSites (sites_of tree) (edits ss changes) in
+    subst P (sym e)
+    (at_sites references (sites_of tree) 0 changes (read_references lang modes media x tree references read)
+    (subst (λ (ss : List Site). NamesLiterals ss 0 changes) e names))
+
 -- ---- the tree of the new text
+-- it is derived first, too, and its sites have moved
+record FirstMoves (lang : Lang) (x : List ℕ) (ts : List Token) (changes : List TextChange) (modes : List Mode)
+    (tree : Program) : Type 0 where
+  other : Program
+  first : IsFirstTree lang (text.changed x 0 changes) (map (token_to (moved changes)) ts) modes other
+  sites : SitesMove changes (sites_of tree) (sites_of other)
+  attributes : AtSites (sites_of tree) changes → attributes_of (sites_of other) ≡ attributes_of (sites_of tree)
+
 first_moves : (lang : Lang) (x : List ℕ) (ts : List Token) (cs : List Comment) (changes : List TextChange)
     (modes : List Mode) (tree : Program) → Reads x ts cs → Chosen ts changes → IsFirstTree lang x ts modes tree
-    → (other : Program)
-    × IsFirstTree lang (text.changed x 0 changes) (map (token_to (moved changes)) ts) modes other
-    × SitesMove changes (sites_of tree) (sites_of other)
+    → FirstMoves lang x ts changes modes tree
 first_moves lang x ts cs changes [] tree r c h = absurd h
 first_moves lang x ts cs changes (m ∷ modes) tree r c (inl d) =
-    let still = sites_move lang m x ts cs changes tree r c d in (still.new, inl still.derived, still.sites)
+    let still = sites_move lang m x ts cs changes tree r c d in
+    record { other = still.new; first = inl still.derived; sites = still.sites; attributes = still.attributes }
 first_moves lang x ts cs changes (m ∷ modes) tree r c (inr h) =
     let rest = first_moves lang x ts cs changes modes tree r c h.1 in
-    (rest.0, inr (λ other d. none_derives lang m x ts cs changes other r c h.0 d, rest.1), rest.2)
+    record {
+      other = rest.other;
+      first = inr (λ other d. none_derives lang m x ts cs changes other r c h.0 d, rest.first);
+      sites = rest.sites;
+      attributes = rest.attributes;
+    }
 
 refer_same : (typed : Bool) {found other : List Site} → found ≡ other
     → (if typed then found else []) ≡ (if typed then other else [])
@@ -231,8 +281,8 @@ refer_same typed e = ap (λ (ss : List Site). if typed then ss else []) e
 -- it is read in the same language and by the same modes, and its sites are the old ones, moved
 pub keeps_sites : {A : Type 0} (x : List ℕ) (sites : List Site) (changes : List (ℕ × String A)) (y : List ℕ)
     → AreSites x sites → NamesLiterals sites 0 changes → y ≡ text.changed x 0 (edits sites changes)
-    → KeepsSites x (edits sites changes) y
-keeps_sites x sites changes y a names same lang modes media tree references read =
+    → KeepsSites x sites changes y
+keeps_sites {A} x sites changes y a names same lang modes media tree references read =
     let made : List TextChange = edits sites changes in
     let c : Chosen read.tokens made = chosen_among x sites changes read.tokens read.comments a names read.reads in
     let m = literals_move x read.tokens read.comments made read.reads c in
@@ -241,8 +291,10 @@ keeps_sites x sites changes y a names same lang modes media tree references read
     let cs : List Comment = map (comment_to (moved made)) read.comments in
     let stay : references ≡ references_in media ts cs =
     read.refers ∙ refer_same (is_typed media) (sym (references_stay x read.tokens read.comments made read.reads c)) in
-    subst (λ (z : List ℕ). ReadsMovedTree lang modes media made z tree references) (sym same) (record {
-      other = first.0;
-      read = record { tokens = ts; comments = cs; reads = m.reads; is_tree = first.1; refers = stay };
-      sites = first.2;
+    subst (λ (z : List ℕ). ReadsMovedTree lang modes media sites made z tree references) (sym same) (record {
+      other = first.other;
+      read = record { tokens = ts; comments = cs; reads = m.reads; is_tree = first.first; refers = stay };
+      sites = first.sites;
+      attributes = λ e.
+          first.attributes (edits_at lang modes media x tree references sites changes read names e);
     })

@@ -1,5 +1,5 @@
 -- The changes that put other specifiers at sites, and what the new text is to the old one.
-use Rattle.std.specs.Prelude.{◌≡◌, ℕ, ◌+◌, ◌≤◌, nat_le, Bool, true, false, not, ◌&&◌, List, [], ◌∷◌, map, chars, encode_utf8_all, slice_get, Option, Some, None, All, String, string_bytes}
+use Rattle.std.specs.Prelude.{◌≡◌, ℕ, ◌+◌, ◌≤◌, nat_le, Bool, true, false, not, ◌&&◌, List, [], ◌∷◌, ◌++◌, map, chars, encode_utf8_all, slice_get, Option, Some, None, All, String, string_bytes}
 use Rattle.base.specs.declared.range.Range.{Range}
 use Rattle.es_literal.specs.Quotes.{quoted}
 use Rattle.es_token.specs.declared.token.Token.{Token}
@@ -11,8 +11,8 @@ use Rattle.es_tree.specs.declared.error.Mode.{Mode}
 use Rattle.es_ast.specs.declared.ast.Program.{Program}
 use Rattle.es_site.specs.Sites.{CutsLiteral, sites_of}
 use Rattle.media_type.specs.declared.media_type.MediaType.{MediaType}
-use Rattle.source_sites.specs.Read.{IsRead}
-use Rattle.es_edited_sites.specs.Moved.{SitesMove}
+use Rattle.source_reading.specs.Read.{IsRead}
+use Rattle.es_edited_sites.specs.Moved.{SitesMove, attributes_of}
 use Rattle.text_changes.specs.declared.change.TextChange.{TextChange}
 use Rattle.es_edited_tokens.specs.Moved.{moved, range_to, token_to, comment_to, cut, text_to}
 use Rattle.specifier_edits.specs.Sites.{is_reference, IsLiteral}
@@ -61,17 +61,21 @@ CutsSpecifiers sites changes new =
 
 -- the text is read in this language and these modes as a tree whose sites are those of this tree, moved; its comments
 -- refer as these do
-pub record ReadsMovedTree (lang : Lang) (modes : List Mode) (media : MediaType) (changes : List TextChange)
-    (new : List ℕ) (tree : Program) (references : List Site) : Type 0 where
+pub record ReadsMovedTree (lang : Lang) (modes : List Mode) (media : MediaType) (numbered : List Site)
+    (changes : List TextChange) (new : List ℕ) (tree : Program) (references : List Site) : Type 0 where
   pub other : Program
   pub read : IsRead lang modes media new other references
   pub sites : SitesMove changes (sites_of tree) (sites_of other)
+  -- in the reading whose sites were numbered, attributes stay
+  pub attributes : numbered ≡ references ++ sites_of tree
+      → attributes_of (sites_of other) ≡ attributes_of (sites_of tree)
 
 -- so it is in each language and by each modes in which the old text is read as a tree
-abbrev pub KeepsSites : List ℕ → List TextChange → List ℕ → Type 0
-KeepsSites text changes new =
+abbrev pub KeepsSites : {A : Type 0} → List ℕ → List Site → List (ℕ × String A) → List ℕ → Type 0
+KeepsSites text sites changes new =
     (lang : Lang) (modes : List Mode) (media : MediaType) (tree : Program) (references : List Site)
-    → IsRead lang modes media text tree references → ReadsMovedTree lang modes media changes new tree references
+    → IsRead lang modes media text tree references
+    → ReadsMovedTree lang modes media sites (edits sites changes) new tree references
 
 -- ---- whether numbers name literals
 

@@ -3,14 +3,15 @@
 //! - `rewrite_sites(text, sites, changes)`: the text with new string literals at these of its sites (`edits`,
 //!   `specs/Edits.antt`), each change the number of a site, from 0, and its new specifier. It is read as the old tokens and
 //!   comments, moved (`ReadsMoved`); where a site moved to, a literal of its new specifier stands (`CutsSpecifiers`); and
-//!   the sites of its tree are the old ones, moved, and those in comments stay (`KeepsSites`).
+//!   the sites of its tree are the old ones, moved, with their attributes, and those in comments stay (`KeepsSites`).
 //! - `name_literals(sites, changes)`: whether the numbers ascend, each that of a literal (`NamesLiterals`).
+//! - `first_fault(sites, changes)`: the first number that doesn't, and why (`IsFirstFault`, `specs/Faults.antt`).
 //!
-//! Not promised: attributes of the new sites, and when memory runs out.
+//! Not promised: when memory runs out.
 #![tactic(auto)]
 
 mod numbers;
 mod rewrite;
 
-pub use crate::numbers::name_literals;
+pub use crate::numbers::{ChangeFault, first_fault, name_literals};
 pub use crate::rewrite::rewrite_sites;

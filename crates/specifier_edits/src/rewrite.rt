@@ -34,7 +34,7 @@ pub fn rewrite_sites(
     ensures cuts { IfOk result (λ new. CutsSpecifiers sites.now changes.now (string_bytes new)) }
     // It is read as a program wherever the old one is; the sites of its tree are the old ones, moved, and those in comments
     // stay.
-    ensures sites { IfOk result (λ new. KeepsSites text.now (spec.edits sites.now changes.now) (string_bytes new)) }
+    ensures sites { IfOk result (λ new. KeepsSites text.now sites.now changes.now (string_bytes new)) }
 {
     let edits = edits(alloc, sites, changes)?;
     applied(alloc, text, edits)

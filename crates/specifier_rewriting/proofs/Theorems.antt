@@ -4,7 +4,7 @@ use Rattle.es_tree.specs.declared.error.Mode.{Mode}
 use Rattle.es_ast.specs.declared.ast.Program.{Program}
 use Rattle.es_site.specs.declared.site.Site.{Site}
 use Rattle.media_type.specs.declared.media_type.MediaType.{MediaType}
-use Rattle.source_sites.specs.Read.{IsRead}
+use Rattle.source_reading.specs.Read.{IsRead}
 use Rattle.deno_ast.specs.declared.params.ParseParams.{ParseParams}
 use Rattle.deno_ast.specs.Parsed.{Parsed, parsed_sites}
 use Rattle.deno_ast.specs.Source.{IsParsed, lang_for}

@@ -2,7 +2,7 @@
 use Rattle.std.specs.Prelude.{List}
 use Rattle.es_tree.specs.declared.error.Lang.{Lang}
 use Rattle.es_tree.specs.declared.error.Mode.{Mode}
-use Rattle.source_sites.specs.Read.{IsRead}
+use Rattle.source_reading.specs.Read.{IsRead}
 use Rattle.deno_ast.specs.Parsed.{Parsed}
 
 -- its text is read as its tree, in some language and the first of some modes that derives one, and its comments refer to

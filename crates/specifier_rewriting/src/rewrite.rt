@@ -35,7 +35,7 @@ pub fn rewrite_specifiers(
     // It is read as a program wherever the old one is; the sites of its tree are the old ones, moved, and those in comments
     // stay.
     ensures sites { IfOk result (λ new.
-        KeepsSites source.now.text (edits (parsed_sites source.now) changes.now) (string_bytes new)) }
+        KeepsSites source.now.text (parsed_sites source.now) changes.now (string_bytes new)) }
 {
     let sites = source.sites(alloc)?;
     rewrite_sites(alloc, source.text().as_str(), sites.as_slice(), changes)

@@ -1,9 +1,11 @@
 //! Texts, and where the parts that stand in them end.
 
+use es_grammar::{NodeKind, TypeRow};
 use es_lexer::lex_tokens;
-use es_tree::SyntaxError;
-use es_type_reader::{Label, Tree};
-use es_types::{TypePart, is_type_arguments, read_type, type_parameters_end};
+use es_rules::{Cursor, Input, Tokens};
+use es_syntax::{Entry, What, Writer};
+use es_tree::Lang;
+use es_type_ends::{TypePart, is_type_arguments, part_end, read_row, type_parameters_end};
 use std::alloc::Global;
 use std::test::Fail;
 
@@ -20,11 +22,7 @@ fn end_of(
     if at > tokens.len() || room > 500 {
         return Err("no such place")?;
     }
-    match read_type(alloc, part, tokens, at, room) {
-        Ok(read) => Ok(Some(read.end)),
-        Err(SyntaxError::Syntax { token: _ }) => Ok(None),
-        Err(SyntaxError::OutOfMemory) => Err("no memory")?,
-    }
+    Ok(part_end(alloc, part, tokens, at, room))
 }
 
 #[test]
@@ -83,35 +81,47 @@ fn room_bounds_the_nodes_on_a_path(rt: HostRuntime) -> Result<(), Fail> {
     Ok(())
 }
 
+/// The alternative of a node and where it stands.
+fn node_of(entry: Option<&Entry>) -> Option<(NodeKind, u32, u32)> {
+    match entry {
+        Some(
+            Entry {
+                what: What::Node(label),
+                from,
+                to,
+                size: _,
+            },
+        ) => Some((*label, *from, *to)),
+        _ => None,
+    }
+}
+
 #[test]
 fn reference_holds_its_arguments(rt: HostRuntime) -> Result<(), Fail> {
     let lexed = lex_tokens(rt.alloc(), "A<B> c")?;
-    let read = read_type(rt.alloc(), TypePart::Whole, lexed.tokens.as_slice(), 0, 500)?;
-    assert_eq!(rt; read.end, 4);
-    let Tree::Node {
-        label,
-        from,
-        to,
-        parts,
-    } = &read.tree
-    else {
-        return Err("no node")?;
-    };
-    assert_eq!(rt; *label, Label::Reference);
-    assert_eq!(rt; (*from, *to), (0, 4));
-    let Some(
-        Tree::Node {
-            label,
-            from,
-            to,
-            parts,
+    let input = Input {
+        alloc: rt.alloc(),
+        lang: Lang::Typescript,
+        tokens: Tokens {
+            tokens: lexed.tokens.as_slice(),
         },
-    ) = parts.get(1)
-    else {
-        return Err("no arguments")?;
+        keeps: true,
     };
-    assert_eq!(rt; *label, Label::TypeArguments);
-    assert_eq!(rt; (*from, *to, parts.len()), (1, 4, 2));
+    let mut cursor = Cursor {
+        at: 0,
+        row: Writer::new(rt.alloc()),
+    };
+    if read_row(input, 500, TypeRow::TypeRow(true), &mut cursor).is_err() {
+        return Err("no type")?;
+    }
+    assert_eq!(rt; cursor.at, 4);
+    let entries = cursor.row.row().entries;
+    assert_eq!(rt; node_of(entries.first()), Some((NodeKind::Reference, 0, 4)));
+    // Before the arguments stand the name's node, its one token and its further names: none.
+    assert_eq!(rt;
+        node_of(entries.get(4)),
+        Some((NodeKind::TypeArguments, 1, 4))
+    );
     Ok(())
 }
 

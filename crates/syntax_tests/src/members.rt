@@ -3,7 +3,7 @@
 use crate::told::Source;
 use es_decl_views::{Decl, Declarator, Variables, decl_at, declarator_at, variables_at};
 use es_program::span_at;
-use es_syntax::{Item, Row};
+use es_syntax::{Item, Siblings};
 use es_type_member_views::{
     TypeFnParam, TypeFnParams, TypeMember, TypePat, member_at, param_at, params_at, pat_at,
 };
@@ -11,7 +11,7 @@ use es_type_views::{CompoundType, compound_at};
 use std::alloc::{AllocError, Global};
 
 /// The members of the type of the variable that a declaration begins with, as turns.
-fn turns_of<'a>(item: &Item<'a>) -> Option<Row<'a>> {
+fn turns_of<'a>(item: &Item<'a>) -> Option<Siblings<'a>> {
     let Decl::Variables(variables) = decl_at(item)? else {
         return None;
     };

@@ -9,7 +9,7 @@ use es_module_views::{Program as View, program_at};
 use es_parser::parse_tokens;
 use es_program::{Program, SharedTokens};
 use es_site::Site;
-use es_syntax::{Item, Row};
+use es_syntax::{Item, Siblings};
 use es_token::Token;
 use es_tree::{Lang, Mode, SyntaxError};
 use source_text::SourceText;
@@ -35,7 +35,7 @@ pub enum Ask {
 pub struct Source<'a> {
     pub text: &'a str,
     pub tokens: &'a [Token],
-    pub row: Row<'a>,
+    pub row: Siblings<'a>,
 }
 
 /// What is told of a text, or `none` where it has no tree.
@@ -147,7 +147,7 @@ fn of_parts(
 }
 
 /// Whether what the row holds is a module, and its items as turns.
-fn body_of<'a>(row: Row<'a>) -> Option<(bool, Row<'a>)> {
+fn body_of<'a>(row: Siblings<'a>) -> Option<(bool, Siblings<'a>)> {
     match program_at(&row.part(0)?)? {
         View::Module { shebang: _, body } => Some((true, body)),
         View::Script { shebang: _, body } => Some((false, body)),
@@ -156,7 +156,7 @@ fn body_of<'a>(row: Row<'a>) -> Option<(bool, Row<'a>)> {
 }
 
 /// The item of the first turn.
-fn first_of<'a>(turns: Row<'a>) -> Option<Item<'a>> {
+fn first_of<'a>(turns: Siblings<'a>) -> Option<Item<'a>> {
     let (turn, _) = turns.split()?;
     turn.group().part(0)
 }

@@ -1,9 +1,9 @@
 //! Turns of a list.
 
-use es_syntax::Row;
+use es_syntax::Siblings;
 
 /// How many turns there are.
-pub fn count_of(turns: Row<'_>) -> usize {
+pub fn count_of(turns: Siblings<'_>) -> usize {
     let mut rest = turns;
     let mut count: usize = 0;
     while let Some((_, others)) = rest.split() {

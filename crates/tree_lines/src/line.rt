@@ -1,11 +1,11 @@
 //! What the plain tree of one text is, in a line.
 
+use es_grammar::NodeKind;
 use es_lexer::{LexError, lex_tokens};
-use es_syntax::{Item, Lean, Row, What};
+use es_program_reader::read_program;
+use es_syntax::{Item, Lean, Siblings, What};
 use es_token::Token;
 use es_tree::{Lang, Mode, SyntaxError};
-use es_whole_grammar::Label;
-use es_whole_program::read_program;
 use std::alloc::{AllocError, Global};
 
 /// The tree of a text behind its mode, or why it has none.
@@ -33,7 +33,7 @@ fn tokens_line(alloc: Global, mode: Mode, tokens: &[Token]) -> Result<String, Al
         Ok(row) => push_trees(
             alloc,
             &mut line,
-            &Row {
+            &Siblings {
                 entries: row.as_slice(),
             },
         )?,
@@ -45,7 +45,7 @@ fn tokens_line(alloc: Global, mode: Mode, tokens: &[Token]) -> Result<String, Al
 
 /// The trees of a row, one after another.
 #[cycle(lines)]
-fn push_trees(alloc: Global, line: &mut String, trees: &Row<'_>) -> Result<(), AllocError> {
+fn push_trees(alloc: Global, line: &mut String, trees: &Siblings<'_>) -> Result<(), AllocError> {
     let mut row = *trees;
     while let Some((tree, rest)) = row.split() {
         push_tree(alloc, line, &tree)?;
@@ -79,9 +79,9 @@ fn push_tree(alloc: Global, line: &mut String, tree: &Item<'_>) -> Result<(), Al
 fn push_leaning(
     alloc: Global,
     line: &mut String,
-    label: Label,
+    label: NodeKind,
     from: u32,
-    parts: &Row<'_>,
+    parts: &Siblings<'_>,
 ) -> Result<(), AllocError> {
     let Some((first, turns)) = parts.split() else {
         return Ok(());
@@ -101,9 +101,9 @@ fn push_leaning(
 fn push_heads(
     alloc: Global,
     line: &mut String,
-    label: Label,
+    label: NodeKind,
     from: u32,
-    turns: &Row<'_>,
+    turns: &Siblings<'_>,
 ) -> Result<(), AllocError> {
     let mut ends: Vec<u32> = Vec::new(alloc);
     let mut row = *turns;
@@ -121,16 +121,16 @@ fn push_heads(
 fn push_head(
     alloc: Global,
     line: &mut String,
-    label: Label,
+    label: NodeKind,
     from: u32,
     to: u32,
 ) -> Result<(), AllocError> {
     line.push_str(format!(in alloc; "({label:?} {from}-{to}")?.as_str())
 }
 
-fn label_of(lean: Lean) -> Label {
+fn label_of(lean: Lean) -> NodeKind {
     match lean {
-        Lean::Binary => Label::Binary,
-        Lean::TypedBinary => Label::TypedBinary,
+        Lean::Binary => NodeKind::Binary,
+        Lean::TypedBinary => NodeKind::TypedBinary,
     }
 }

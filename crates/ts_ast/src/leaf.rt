@@ -16,6 +16,8 @@ pub struct Str {
     pub value: Text,
     /// Whether there is a lone surrogate.
     pub lone: bool,
+    /// The literal as it is spelled, with its quotes; none where no text holds it.
+    pub raw: Option<Text>,
     /// The literal with its quotes.
     pub span: Range,
 }

@@ -1,10 +1,10 @@
 //! Where the nodes of one text stand, in a line.
 
 use es_lexer::{LexError, lex_tokens};
-use es_syntax::{Item, Row, What};
+use es_program_reader::read_program;
+use es_syntax::{Item, Siblings, What};
 use es_token::Token;
 use es_tree::{Lang, Mode, SyntaxError};
-use es_whole_program::read_program;
 use std::alloc::{AllocError, Global};
 
 /// The nodes of the text behind its mode, or why it has no tree.
@@ -45,7 +45,7 @@ fn nodes_of(alloc: Global, mode: Mode, tokens: &[Token]) -> Result<Option<String
         Ok(row) => push_trees(
             alloc,
             &mut line,
-            &Row {
+            &Siblings {
                 entries: row.as_slice(),
             },
         )?,
@@ -57,7 +57,7 @@ fn nodes_of(alloc: Global, mode: Mode, tokens: &[Token]) -> Result<Option<String
 
 /// The nodes of the trees of a row.
 #[cycle(lines)]
-fn push_trees(alloc: Global, line: &mut String, trees: &Row<'_>) -> Result<(), AllocError> {
+fn push_trees(alloc: Global, line: &mut String, trees: &Siblings<'_>) -> Result<(), AllocError> {
     let mut row = *trees;
     while let Some((tree, rest)) = row.split() {
         push_tree(alloc, line, &tree)?;
@@ -84,7 +84,7 @@ fn push_leaning(
     alloc: Global,
     line: &mut String,
     from: u32,
-    parts: &Row<'_>,
+    parts: &Siblings<'_>,
 ) -> Result<(), AllocError> {
     let Some((_, turns)) = parts.split() else {
         return Ok(());

@@ -1,6 +1,6 @@
 //! A loader of the program's own: one in memory, which counts its requests.
 ghost use Rattle.std.specs.Prelude.{◌≡◌};
-ghost use Rattle.deno_graph.specs.Memory.{data_of};
+ghost use Rattle.graph_builder.specs.Memory.{data_of};
 
 use base::{Items, SharedBytes};
 use deno_graph::{Arrival, Headers, LoadAnswer, Loader, LoaderPoll, MemoryLoader};

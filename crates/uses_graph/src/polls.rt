@@ -1,8 +1,8 @@
 //! The loop over a builder's polls.
 ghost use Rattle.std.specs.Prelude.{IfOk};
-ghost use Rattle.deno_graph.specs.Reach.{answer_to};
-ghost use Rattle.deno_graph.specs.Graph.{IsGraph};
-ghost use Rattle.deno_graph.specs.Builder.{graph_rules, starts};
+ghost use Rattle.graph_builder.specs.Reach.{answer_to};
+ghost use Rattle.graph_builder.specs.Graph.{IsGraph};
+ghost use Rattle.graph_builder.specs.Builder.{graph_rules, starts};
 
 use deno_graph::{BuildError, GraphBuild, Loader, ModuleGraph};
 

@@ -1,5 +1,5 @@
 use Rattle.std.proofs.Common.{sym, ◌∙◌}
-use Rattle.es_dress.specs.Texts.{span_of}
+use Rattle.es_lowering.specs.Texts.{span_of}
 use Rattle.cjs_looks.specs.Seen.{name_at}
 use Rattle.cjs_looks.proofs.Args.{call_passes, call_none, tells_first}
 use Rattle.cjs_looks.proofs.Links.{whole_chain, makes_non_null}

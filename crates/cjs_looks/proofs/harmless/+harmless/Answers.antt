@@ -1,4 +1,4 @@
-use Rattle.es_dress.specs.Texts.{span_of}
+use Rattle.es_lowering.specs.Texts.{span_of}
 use Rattle.cjs_looks.proofs.Harms.{whole_chain, makes_non_null}
 use Rattle.cjs_looks.proofs.harmless.+harmless.Goals as goal
 

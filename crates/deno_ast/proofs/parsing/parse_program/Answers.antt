@@ -3,7 +3,7 @@ use Rattle.std.specs.Prelude.{IfOk}
 use Rattle.std.specs.Result.{IfErr}
 use Rattle.es_tree.specs.declared.error.Mode.{Mode}
 use Rattle.module_text.specs.ModuleText.{without_mark}
-use Rattle.source_sites.specs.Fault.{Refuses}
+use Rattle.source_reading.specs.Fault.{Refuses}
 use Rattle.deno_ast.specs.Source.{IsParsed, IsFault}
 use Rattle.source_sites.specs.Modes.{modes_in}
 use Rattle.deno_ast.proofs.FaultLemmas.{other_text_if}

@@ -3,7 +3,7 @@ use Rattle.url.specs.Parts.{serialize}
 use Rattle.es_tree.specs.declared.error.SyntaxError.{SyntaxError}
 use Rattle.es_ast.specs.declared.ast.Program.{Program as Typed}
 use Rattle.es_parser.specs.Answers.{GivesTree}
-use Rattle.source_sites.specs.Tree.{IsFirstTree}
+use Rattle.source_reading.specs.Tree.{IsFirstTree}
 use Rattle.deno_ast.specs.Source.{lang_for}
 use Rattle.source_sites.specs.Modes.{modes_in}
 use Rattle.source_sites.proofs.FaultLemmas.{Refuses-weaker, syntax_refusal}

@@ -5,7 +5,7 @@ use Rattle.es_tree.specs.declared.error.Mode.TheVariants as mode
 use Rattle.es_ast.specs.declared.ast.Program.{Program as Typed}
 use Rattle.es_derives.specs.Derives.{Derives}
 use Rattle.es_parser.specs.Answers.{GivesTree}
-use Rattle.source_sites.proofs.TreeLemmas.{later, first_once}
+use Rattle.source_reading.proofs.TreeLemmas.{later, first_once}
 use Rattle.deno_ast.proofs.TreeLemmas.{first_given}
 use Rattle.deno_ast.proofs.tree.parse_either.Goals as goal
 

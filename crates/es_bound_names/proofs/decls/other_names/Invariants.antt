@@ -1,6 +1,6 @@
 -- What is left of the declarators adds what all do.
 use Rattle.std.proofs.Common.{◌≡◌, length, false}
-use Rattle.es_dress.specs.Value.{declarator_at}
+use Rattle.es_lowering.specs.Value.{declarator_at}
 use Rattle.es_syntax.specs.Held.{held}
 use Rattle.es_bound_names.specs.Names.{declarator_names}
 use Rattle.es_bound_names.proofs.Lists.{TurnsLeft}

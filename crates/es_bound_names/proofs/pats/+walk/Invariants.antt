@@ -1,6 +1,6 @@
 -- A walk goes down by the entries below; what is left of a list adds what the whole does.
 use Rattle.std.proofs.Common.{◌≡◌, ◌≤◌, length, ◌+◌, ◌*◌, false}
-use Rattle.es_dress.specs.Value.{pat_prop_at}
+use Rattle.es_lowering.specs.Value.{pat_prop_at}
 use Rattle.es_syntax.specs.Held.{held}
 use Rattle.es_bound_names.specs.Names.{prop_names}
 use Rattle.es_bound_names.proofs.Lists.{TurnsLeft}

@@ -1,6 +1,6 @@
 use Rattle.std.proofs.Common.{refl}
-use Rattle.es_dress.specs.Classes.{accessor_member, method_member}
-use Rattle.es_dress.specs.Functions.{method_at}
+use Rattle.es_lowering.specs.Classes.{accessor_member, method_member}
+use Rattle.es_lowering.specs.Functions.{method_at}
 use Rattle.es_class_views.specs.Member.{accessor, method}
 use Rattle.es_class_views.proofs.member.accessor.Goals as goal
 

@@ -1,6 +1,6 @@
 use Rattle.std.proofs.Common.{refl}
-use Rattle.es_dress.specs.Classes.{method_member}
-use Rattle.es_dress.specs.Functions.{method_at}
+use Rattle.es_lowering.specs.Classes.{method_member}
+use Rattle.es_lowering.specs.Functions.{method_at}
 use Rattle.es_class_views.specs.Member.{method}
 use Rattle.es_class_views.proofs.member.async_method.Goals as goal
 

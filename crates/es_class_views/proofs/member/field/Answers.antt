@@ -1,5 +1,5 @@
 use Rattle.std.proofs.Common.{refl}
-use Rattle.es_dress.specs.Classes.{field_member}
+use Rattle.es_lowering.specs.Classes.{field_member}
 use Rattle.es_class_views.specs.Member.{field}
 use Rattle.es_class_views.proofs.member.field.Goals as goal
 

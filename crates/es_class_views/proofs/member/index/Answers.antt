@@ -1,5 +1,5 @@
 use Rattle.std.proofs.Common.{refl}
-use Rattle.es_dress.specs.TypedFunctions.{index_member}
+use Rattle.es_lowering.specs.TypedFunctions.{index_member}
 use Rattle.es_class_views.specs.Member.{index}
 use Rattle.es_class_views.proofs.member.index.Goals as goal
 

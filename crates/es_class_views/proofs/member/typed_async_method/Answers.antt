@@ -1,5 +1,5 @@
 use Rattle.std.proofs.Common.{refl}
-use Rattle.es_dress.specs.TypedFunctions.{typed_method_member}
+use Rattle.es_lowering.specs.TypedFunctions.{typed_method_member}
 use Rattle.es_class_views.specs.Member.{typed_method}
 use Rattle.es_class_views.proofs.member.typed_async_method.Goals as goal
 

@@ -1,5 +1,5 @@
 use Rattle.std.proofs.Common.{refl}
-use Rattle.es_dress.specs.TypedFunctions.{typed_field}
+use Rattle.es_lowering.specs.TypedFunctions.{typed_field}
 use Rattle.es_class_views.specs.Member.{typed_field_of}
 use Rattle.es_class_views.proofs.member.typed_field.Goals as goal
 

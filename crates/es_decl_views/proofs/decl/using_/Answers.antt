@@ -1,5 +1,5 @@
 use Rattle.std.proofs.Common.{refl}
-use Rattle.es_dress.specs.Statements.{using_}
+use Rattle.es_lowering.specs.Statements.{using_}
 use Rattle.es_decl_views.specs.Decl.{using_of}
 use Rattle.es_decl_views.proofs.decl.using_.Goals as goal
 

@@ -1,5 +1,5 @@
 use Rattle.std.proofs.Common.{refl}
-use Rattle.es_dress.specs.TypedStatements.{enum_}
+use Rattle.es_lowering.specs.TypedStatements.{enum_}
 use Rattle.es_decl_views.specs.Declarable.{enum_of}
 use Rattle.es_decl_views.proofs.declarable.enum_.Goals as goal
 

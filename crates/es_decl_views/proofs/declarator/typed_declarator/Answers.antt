@@ -1,5 +1,5 @@
 use Rattle.std.proofs.Common.{refl}
-use Rattle.es_dress.specs.TypedStatements.{typed_declarator}
+use Rattle.es_lowering.specs.TypedStatements.{typed_declarator}
 use Rattle.es_decl_views.specs.Declarator.{typed}
 use Rattle.es_decl_views.proofs.declarator.typed_declarator.Goals as goal
 

@@ -1,5 +1,5 @@
 use Rattle.std.proofs.Common.{refl}
-use Rattle.es_dress.specs.Statements.{using_head}
+use Rattle.es_lowering.specs.Statements.{using_head}
 use Rattle.es_decl_views.specs.Head.{using_of}
 use Rattle.es_decl_views.proofs.head.using_head.Goals as goal
 

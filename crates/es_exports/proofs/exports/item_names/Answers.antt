@@ -1,4 +1,4 @@
-use Rattle.es_dress.specs.Texts.{span_of}
+use Rattle.es_lowering.specs.Texts.{span_of}
 use Rattle.es_exports.proofs.Items.{adds_export}
 use Rattle.es_exports.proofs.exports.item_names.Goals as goal
 

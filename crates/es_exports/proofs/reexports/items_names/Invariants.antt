@@ -1,6 +1,6 @@
 -- What is left of the turns adds what all do.
 use Rattle.std.proofs.Common.{◌≡◌, length, false}
-use Rattle.es_dress.specs.Value.{item_at}
+use Rattle.es_lowering.specs.Value.{item_at}
 use Rattle.es_syntax.specs.Held.{held}
 use Rattle.es_bound_names.proofs.Lists.{TurnsLeft}
 use Rattle.es_exports.specs.Exports.{reexported_by}

@@ -1,5 +1,5 @@
 use Rattle.std.proofs.Common.{refl}
-use Rattle.es_dress.specs.TypedFunctions.{typed_class}
+use Rattle.es_lowering.specs.TypedFunctions.{typed_class}
 use Rattle.es_function_views.specs.Class.{typed_class as the_typed_class}
 use Rattle.es_function_views.proofs.class.typed_class.Goals as goal
 

@@ -1,5 +1,5 @@
 use Rattle.std.proofs.Common.{refl}
-use Rattle.es_dress.specs.Functions.{function}
+use Rattle.es_lowering.specs.Functions.{function}
 use Rattle.es_function_views.specs.Head.{plain_function}
 use Rattle.es_function_views.proofs.head.plain_function.Goals as goal
 

@@ -1,5 +1,5 @@
 use Rattle.std.proofs.Common.{refl}
-use Rattle.es_dress.specs.TypedFunctions.{typed_function}
+use Rattle.es_lowering.specs.TypedFunctions.{typed_function}
 use Rattle.es_function_views.specs.Head.{typed_function as the_typed_function}
 use Rattle.es_function_views.proofs.head.typed_function.Goals as goal
 

@@ -1,5 +1,5 @@
 use Rattle.std.proofs.Common.{refl}
-use Rattle.es_dress.specs.Functions.{method_property, method_at}
+use Rattle.es_lowering.specs.Functions.{method_property, method_at}
 use Rattle.es_member_views.specs.Prop.{method}
 use Rattle.es_member_views.proofs.prop.async_method.Goals as goal
 

@@ -1,5 +1,5 @@
 use Rattle.std.proofs.Common.{refl}
-use Rattle.es_dress.specs.TypedFunctions.{typed_method_property}
+use Rattle.es_lowering.specs.TypedFunctions.{typed_method_property}
 use Rattle.es_member_views.specs.Prop.{typed_method}
 use Rattle.es_member_views.proofs.prop.typed_async_method.Goals as goal
 

@@ -1,5 +1,5 @@
 use Rattle.std.proofs.Common.{refl}
-use Rattle.es_dress.specs.Modules.{exported_name}
+use Rattle.es_lowering.specs.Modules.{exported_name}
 use Rattle.es_module_name_views.specs.ExportSpecifier.{exported_as}
 use Rattle.es_module_name_views.proofs.export_specifier.exported.Goals as goal
 

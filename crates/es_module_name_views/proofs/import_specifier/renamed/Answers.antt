@@ -1,5 +1,5 @@
 use Rattle.std.proofs.Common.{refl}
-use Rattle.es_dress.specs.Modules.{renamed_import}
+use Rattle.es_lowering.specs.Modules.{renamed_import}
 use Rattle.es_module_name_views.specs.ImportSpecifier.{renamed}
 use Rattle.es_module_name_views.proofs.import_specifier.renamed.Goals as goal
 

@@ -1,5 +1,5 @@
 use Rattle.std.proofs.Common.{refl}
-use Rattle.es_dress.specs.Modules.{imported_name}
+use Rattle.es_lowering.specs.Modules.{imported_name}
 use Rattle.es_module_name_views.specs.ImportSpecifier.{same}
 use Rattle.es_module_name_views.proofs.import_specifier.same.Goals as goal
 

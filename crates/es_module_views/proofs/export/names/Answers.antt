@@ -1,5 +1,5 @@
 use Rattle.std.proofs.Common.{refl}
-use Rattle.es_dress.specs.Modules.{export_names}
+use Rattle.es_lowering.specs.Modules.{export_names}
 use Rattle.es_module_views.specs.Export.{names}
 use Rattle.es_module_views.proofs.export.names.Goals as goal
 

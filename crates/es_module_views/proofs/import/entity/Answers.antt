@@ -1,5 +1,5 @@
 use Rattle.std.proofs.Common.{refl}
-use Rattle.es_dress.specs.Modules.{entity_import}
+use Rattle.es_lowering.specs.Modules.{entity_import}
 use Rattle.es_module_views.specs.Import.{aliased}
 use Rattle.es_module_views.proofs.import.entity.Goals as goal
 

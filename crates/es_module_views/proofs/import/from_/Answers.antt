@@ -1,5 +1,5 @@
 use Rattle.std.proofs.Common.{refl}
-use Rattle.es_dress.specs.Modules.{from_import}
+use Rattle.es_lowering.specs.Modules.{from_import}
 use Rattle.es_module_views.specs.Import.{from_of}
 use Rattle.es_module_views.proofs.import.from_.Goals as goal
 

@@ -1,5 +1,5 @@
 use Rattle.std.proofs.Common.{refl}
-use Rattle.es_dress.specs.Modules.{require_import}
+use Rattle.es_lowering.specs.Modules.{require_import}
 use Rattle.es_module_views.specs.Import.{require}
 use Rattle.es_module_views.proofs.import.require.Goals as goal
 

@@ -1,5 +1,5 @@
 use Rattle.std.proofs.Common.{refl}
-use Rattle.es_dress.specs.TypedParts.{property_parameter}
+use Rattle.es_lowering.specs.TypedParts.{property_parameter}
 use Rattle.es_param_views.specs.Param.{property}
 use Rattle.es_param_views.proofs.param.property.Goals as goal
 

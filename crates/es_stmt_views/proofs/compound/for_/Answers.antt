@@ -1,8 +1,8 @@
 use Rattle.std.specs.Prelude.{Option, Some, None}
 use Rattle.std.proofs.Common.{◌≡◌, refl}
 use Rattle.es_ast.specs.declared.ast.Stmt.{Stmt}
-use Rattle.es_dress.specs.Value.{given, group, optional, expr_at}
-use Rattle.es_dress.specs.Statements.{for_, start_of_for}
+use Rattle.es_lowering.specs.Value.{given, group, optional, expr_at}
+use Rattle.es_lowering.specs.Statements.{for_, start_of_for}
 use Rattle.es_syntax.specs.Held.{held}
 use Rattle.es_stmt_views.specs.Compound.{for_of}
 use Rattle.es_stmt_views.proofs.compound.for_.Goals as goal

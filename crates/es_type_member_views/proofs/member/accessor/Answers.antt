@@ -1,5 +1,5 @@
 use Rattle.std.proofs.Common.{refl}
-use Rattle.es_dress.specs.TypeMembers.{accessor_signature, method_by}
+use Rattle.es_lowering.specs.TypeMembers.{accessor_signature, method_by}
 use Rattle.es_type_member_views.specs.Member.{accessor}
 use Rattle.es_type_member_views.proofs.member.accessor.Goals as goal
 

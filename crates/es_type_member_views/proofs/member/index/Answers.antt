@@ -1,5 +1,5 @@
 use Rattle.std.proofs.Common.{refl}
-use Rattle.es_dress.specs.TypeMembers.{index_signature}
+use Rattle.es_lowering.specs.TypeMembers.{index_signature}
 use Rattle.es_type_member_views.specs.Member.{index}
 use Rattle.es_type_member_views.proofs.member.index.Goals as goal
 

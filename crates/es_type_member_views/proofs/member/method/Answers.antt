@@ -1,5 +1,5 @@
 use Rattle.std.proofs.Common.{refl}
-use Rattle.es_dress.specs.TypeMembers.{method_by}
+use Rattle.es_lowering.specs.TypeMembers.{method_by}
 use Rattle.es_type_member_views.specs.Member.{method}
 use Rattle.es_type_member_views.proofs.member.method.Goals as goal
 

@@ -1,5 +1,5 @@
 use Rattle.std.proofs.Common.{refl}
-use Rattle.es_dress.specs.TypeMembers.{property_by}
+use Rattle.es_lowering.specs.TypeMembers.{property_by}
 use Rattle.es_type_member_views.specs.Member.{property}
 use Rattle.es_type_member_views.proofs.member.property.Goals as goal
 

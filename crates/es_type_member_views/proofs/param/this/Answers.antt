@@ -1,5 +1,5 @@
 use Rattle.std.proofs.Common.{refl}
-use Rattle.es_dress.specs.TypePatterns.{this_parameter}
+use Rattle.es_lowering.specs.TypePatterns.{this_parameter}
 use Rattle.es_type_member_views.specs.Param.{this}
 use Rattle.es_type_member_views.proofs.param.this.Goals as goal
 

@@ -1,5 +1,5 @@
 use Rattle.std.proofs.Common.{refl}
-use Rattle.es_dress.specs.Types.{labelled_element}
+use Rattle.es_lowering.specs.Types.{labelled_element}
 use Rattle.es_type_views.specs.Element.{labelled}
 use Rattle.es_type_views.proofs.element.labelled.Goals as goal
 

@@ -1,5 +1,5 @@
 use Rattle.std.proofs.Common.{refl}
-use Rattle.es_dress.specs.Types.{rest_element}
+use Rattle.es_lowering.specs.Types.{rest_element}
 use Rattle.es_type_views.specs.Element.{rest}
 use Rattle.es_type_views.proofs.element.rest.Goals as goal
 

@@ -1,5 +1,5 @@
 use Rattle.std.proofs.Common.{refl}
-use Rattle.es_dress.specs.Types.{constructor_type}
+use Rattle.es_lowering.specs.Types.{constructor_type}
 use Rattle.es_type_views.specs.Function.{constructor}
 use Rattle.es_type_views.proofs.function.constructor.Goals as goal
 

@@ -3,7 +3,7 @@ use Rattle.std.proofs.Common.{◌≡◌, sym, ◌∙◌, ap, Ok, Err, true, fals
 use Rattle.std.specs.BTreeSet.{contains_text}
 use Rattle.serde_json.specs.View.{view}
 use Rattle.graph_entry.specs.Specifier.{text_of}
-use Rattle.deno_graph.specs.Reach.{has}
+use Rattle.graph_builder.specs.Reach.{has}
 use Rattle.json_reading.specs.Reading.{required, url_of}
 use Rattle.graph_bundle.proofs.BundleLemmas.{repeated, unrepeated}
 use Rattle.graph_bundle.proofs.module.new_specifier.Goals as goal

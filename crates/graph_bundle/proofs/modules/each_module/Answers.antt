@@ -8,7 +8,7 @@ use Rattle.serde_json.specs.View.{view}
 use Rattle.serde_json.specs.declared.value.Value.{Value}
 use Rattle.graph_entry.specs.declared.answer.LoadAnswer.{LoadAnswer}
 use Rattle.graph_entry.specs.Specifier.{text_of}
-use Rattle.deno_graph.specs.Reach.{has}
+use Rattle.graph_builder.specs.Reach.{has}
 use Rattle.json_reading.specs.Reading.{under}
 use Rattle.graph_bundle.specs.Bundle.{module_after, modules_from, specifiers}
 use Rattle.json_reading.proofs.ReadingLemmas.{prepend}

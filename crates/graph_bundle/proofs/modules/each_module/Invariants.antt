@@ -2,7 +2,7 @@ use Rattle.std.proofs.Common.{◌≡◌, ℕ, List, [], map, drop, length}
 use Rattle.std.specs.BTreeSet.{contains_text}
 use Rattle.serde_json.specs.View.{view}
 use Rattle.json_reading.proofs.ReadingLemmas.{prepend}
-use Rattle.deno_graph.specs.Reach.{has}
+use Rattle.graph_builder.specs.Reach.{has}
 use Rattle.graph_bundle.specs.Bundle.{modules_from, specifiers}
 use Rattle.graph_bundle.proofs.modules.each_module.Given as goal
 

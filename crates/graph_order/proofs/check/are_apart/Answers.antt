@@ -1,8 +1,8 @@
 -- No module comes twice.
 use Rattle.std.proofs.Common.{◌≡◌, ◌∙◌, ◌++◌, ◌∷◌, [], sym, ap, subst, take, drop, map, ◌+◌, false, List}
 use Rattle.std.specs.Prelude.{is_some}
-use Rattle.deno_graph.specs.Rules.{Specifier}
-use Rattle.deno_graph.specs.Reach.{has}
+use Rattle.graph_builder.specs.Rules.{Specifier}
+use Rattle.graph_builder.specs.Reach.{has}
 use Rattle.graph_entry.specs.Specifier.{text_of}
 use Rattle.graph_order.specs.Order.{modules, AreApart, edge_of}
 use Rattle.graph_order.proofs.CheckLemmas.{has_number, apart_at, apart_push, edges_next, edges_split, modules-append, keys_next}

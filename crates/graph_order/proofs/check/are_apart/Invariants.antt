@@ -1,5 +1,5 @@
 use Rattle.std.proofs.Common.{◌≡◌, map, take}
-use Rattle.deno_graph.specs.ByText.{keys_at}
+use Rattle.graph_builder.specs.ByText.{keys_at}
 use Rattle.graph_order.specs.Order.{modules, AreApart, edge_of}
 use Rattle.graph_order.proofs.check.are_apart.Given as goal
 

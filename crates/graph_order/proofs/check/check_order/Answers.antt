@@ -1,9 +1,9 @@
 -- Each stands behind those before it.
 use Rattle.std.proofs.Common.{◌≡◌, ◌∙◌, ◌++◌, ◌∷◌, [], sym, ap, subst, take, rules, true, List}
 use Rattle.std.proofs.lemmas.List.{take_all}
-use Rattle.deno_graph.specs.Rules.{Specifier}
-use Rattle.deno_graph.specs.Reach.{has}
-use Rattle.deno_graph.specs.Graph.{texts}
+use Rattle.graph_builder.specs.Rules.{Specifier}
+use Rattle.graph_builder.specs.Reach.{has}
+use Rattle.graph_builder.specs.Graph.{texts}
 use Rattle.graph_entry.specs.Specifier.{text_of}
 use Rattle.graph_order.specs.Order.{IsFree, EachBehind}
 use Rattle.graph_order.proofs.CheckLemmas.{number_none, each_push, each_at, texts_next, texts_split, keys_next, IfOk-map, holds_all, all_holds}

@@ -1,6 +1,6 @@
 use Rattle.std.proofs.Common.{◌≡◌, [], take}
-use Rattle.deno_graph.specs.ByText.{keys_at}
-use Rattle.deno_graph.specs.Graph.{texts}
+use Rattle.graph_builder.specs.ByText.{keys_at}
+use Rattle.graph_builder.specs.Graph.{texts}
 use Rattle.graph_order.specs.Order.{IsFree, EachBehind}
 use Rattle.graph_order.proofs.check.check_order.Given as goal
 

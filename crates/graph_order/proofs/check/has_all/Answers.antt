@@ -1,9 +1,9 @@
 -- The modules of the entries that are left.
 use Rattle.std.proofs.Common.{◌≡◌, ◌∙◌, sym, ap, true, false}
 use Rattle.std.specs.Prelude.{is_some, not}
-use Rattle.deno_graph.specs.ByText.{keys_at}
-use Rattle.deno_graph.specs.Entries.{entries_left}
-use Rattle.deno_graph.specs.Reach.{has}
+use Rattle.graph_builder.specs.ByText.{keys_at}
+use Rattle.graph_builder.specs.Entries.{entries_left}
+use Rattle.graph_builder.specs.Reach.{has}
 use Rattle.graph_entry.specs.Specifier.{text_of}
 use Rattle.graph_order.proofs.CheckLemmas.{has_number, holds_head, holds_tail, holds_cons}
 use Rattle.graph_order.proofs.check.has_all.Goals as goal

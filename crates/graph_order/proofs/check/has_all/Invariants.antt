@@ -1,5 +1,5 @@
-use Rattle.deno_graph.specs.ByText.{keys_at}
-use Rattle.deno_graph.specs.Entries.{entries_left}
+use Rattle.graph_builder.specs.ByText.{keys_at}
+use Rattle.graph_builder.specs.Entries.{entries_left}
 use Rattle.graph_order.specs.Names.{HoldsEach}
 use Rattle.graph_order.proofs.check.has_all.Given as goal
 

@@ -1,5 +1,5 @@
 use Rattle.std.proofs.Common.{◌≡◌, rules, true}
-use Rattle.deno_graph.specs.ByText.{keys_at}
+use Rattle.graph_builder.specs.ByText.{keys_at}
 use Rattle.graph_order.specs.Names.{LeadsTo}
 use Rattle.graph_order.proofs.CheckLemmas.{all_more}
 use Rattle.graph_order.proofs.check.leads_back.Goals as goal

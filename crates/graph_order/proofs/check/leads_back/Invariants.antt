@@ -1,6 +1,6 @@
 use Rattle.std.proofs.Common.{take}
 use Rattle.std.specs.List.{AllByRecursion}
-use Rattle.deno_graph.specs.ByText.{keys_at}
+use Rattle.graph_builder.specs.ByText.{keys_at}
 use Rattle.graph_order.specs.Names.{LeadsTo}
 use Rattle.graph_order.proofs.check.leads_back.Given as goal
 

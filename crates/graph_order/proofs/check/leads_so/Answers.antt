@@ -1,7 +1,7 @@
 use Rattle.std.proofs.Common.{◌∙◌, sym, ap}
 use Rattle.std.specs.Option.{option_copied}
 use Rattle.graph_order.specs.Order.{edge_of}
-use Rattle.deno_graph.specs.Rules.{edges_of}
+use Rattle.graph_builder.specs.Rules.{edges_of}
 use Rattle.graph_order.proofs.CheckLemmas.{leads_so, leads_not}
 use Rattle.graph_order.proofs.check.leads_so.Goals as goal
 

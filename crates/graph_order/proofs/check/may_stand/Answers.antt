@@ -1,9 +1,9 @@
 use Rattle.std.proofs.Common.{◌≡◌, ◌∙◌, sym, ap, false}
 use Rattle.std.specs.Prelude.{is_some}
 use Rattle.std.specs.Option.{option_copied}
-use Rattle.deno_graph.specs.Reach.{has}
-use Rattle.deno_graph.specs.ByText.{keys_at}
-use Rattle.deno_graph.specs.Graph.{entry_of}
+use Rattle.graph_builder.specs.Reach.{has}
+use Rattle.graph_builder.specs.ByText.{keys_at}
+use Rattle.graph_builder.specs.Graph.{entry_of}
 use Rattle.graph_entry.specs.Specifier.{text_of}
 use Rattle.graph_order.proofs.CheckLemmas.{has_number, free_from, free_leads, module_found, module_none}
 use Rattle.graph_order.proofs.check.may_stand.Goals as goal

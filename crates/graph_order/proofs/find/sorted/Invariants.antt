@@ -1,5 +1,5 @@
 use Rattle.std.proofs.Common.{◌≡◌, map, take}
-use Rattle.deno_graph.specs.Graph.{texts}
+use Rattle.graph_builder.specs.Graph.{texts}
 use Rattle.graph_order.specs.Names.{named_at, name_of}
 use Rattle.graph_order.proofs.find.sorted.Given as goal
 

@@ -1,5 +1,5 @@
 use Rattle.std.proofs.Common.{◌≡◌, ◌++◌, map}
-use Rattle.deno_graph.specs.Entries.{entries_left}
+use Rattle.graph_builder.specs.Entries.{entries_left}
 use Rattle.graph_order.specs.Names.{named, links_of_held, links_in, modules_of}
 use Rattle.graph_order.proofs.names.links_of.Given as goal
 

@@ -1,5 +1,5 @@
 use Rattle.std.proofs.Common.{◌≡◌, ◌++◌}
-use Rattle.deno_graph.specs.Entries.{entries_left}
+use Rattle.graph_builder.specs.Entries.{entries_left}
 use Rattle.graph_order.specs.Names.{named, named_at}
 use Rattle.graph_order.proofs.names.names_of.Given as goal
 

@@ -1,6 +1,6 @@
 -- One name more is placed.
 use Rattle.std.proofs.Common.{◌≡◌, ◌∙◌, ◌<◌, ℕ, length, sym, ap, subst, arith}
-use Rattle.deno_graph.specs.Graph.{number_in}
+use Rattle.graph_builder.specs.Graph.{number_in}
 use Rattle.graph_entry.specs.Specifier.{text_of}
 use Rattle.graph_order.specs.Names.{Names, named, name_of}
 use Rattle.graph_order.specs.Nodes.{AreNodes}

@@ -1,6 +1,6 @@
 use Rattle.std.proofs.Common.{◌≡◌, ◌+◌, ℕ, None, length}
 use Rattle.std.specs.Prelude.{slice_index_or}
-use Rattle.deno_graph.specs.Entries.{entries_left}
+use Rattle.graph_builder.specs.Entries.{entries_left}
 use Rattle.graph_order.proofs.nodes.unknown.Given as goal
 
 -- one for each entry that was there

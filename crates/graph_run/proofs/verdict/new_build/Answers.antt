@@ -1,8 +1,8 @@
 -- The builder is that of the bundle.
 use Rattle.std.proofs.Common.{ap, sym, subst}
 use Rattle.json_reading.proofs.ReadingLemmas.{IfOk-map}
-use Rattle.deno_graph.specs.Builder.{BuildingBy}
-use Rattle.deno_graph.specs.Memory.{Memory, data_of}
+use Rattle.graph_builder.specs.Builder.{BuildingBy}
+use Rattle.graph_builder.specs.Memory.{Memory, data_of}
 use Rattle.graph_run.specs.Steps.{BundleWays, IsNew}
 use Rattle.graph_run.proofs.GraphLemmas.{building_new, mapped_is}
 use Rattle.graph_run.proofs.verdict.new_build.Goals as goal

@@ -3,9 +3,9 @@ use Rattle.std.proofs.Common.{rules, subst, ◌∙◌}
 use Rattle.std.specs.Prelude.{IfOk, IfErr}
 use Rattle.graph_entry.proofs.Theorems.{analysed_by_once}
 use Rattle.graph_entry.specs.ReadingLaws.{reads_once}
-use Rattle.deno_graph.specs.Graph.{IsGraph}
-use Rattle.deno_graph.specs.Builder.{starts}
-use Rattle.deno_graph.specs.Memory.{tells}
+use Rattle.graph_builder.specs.Graph.{IsGraph}
+use Rattle.graph_builder.specs.Builder.{starts}
+use Rattle.graph_builder.specs.Memory.{tells}
 use Rattle.graph_run.specs.Steps.{BundleWays, ways_of, rules_in, SaysLarge}
 use Rattle.graph_run.proofs.GraphLemmas.{built_graph, refused_large, settled_none}
 use Rattle.graph_run.proofs.verdict.poll_to_end.Goals as goal

@@ -1,5 +1,5 @@
 use Rattle.std.proofs.Common.{◌≡◌}
-use Rattle.deno_graph.specs.Memory.{tells, data_of}
+use Rattle.graph_builder.specs.Memory.{tells, data_of}
 use Rattle.graph_run.specs.Steps.{IsNew, waits_left}
 use Rattle.graph_run.proofs.verdict.poll_to_end.Given as goal
 

@@ -5,7 +5,7 @@ use Rattle.es_tree.specs.declared.error.Mode.TheVariants as mode
 use Rattle.es_ast.specs.declared.ast.Program.{Program as Typed}
 use Rattle.es_derives.specs.Derives.{Derives}
 use Rattle.source_sites.specs.Answers.{GivesSites}
-use Rattle.source_sites.proofs.TreeLemmas.{is_first, later}
+use Rattle.source_reading.proofs.TreeLemmas.{is_first, later}
 use Rattle.source_sites.proofs.SitesLemmas.{AreOf-weaker, first_sites, first_given}
 use Rattle.source_sites.proofs.sites.either_sites.Goals as goal
 

@@ -1,6 +1,6 @@
 use Rattle.std.proofs.Common.{[]}
 use Rattle.std.proofs.lemmas.Result.{IfOk-weaker}
-use Rattle.source_sites.proofs.TreeLemmas.{is_first}
+use Rattle.source_reading.proofs.TreeLemmas.{is_first}
 use Rattle.source_sites.proofs.SitesLemmas.{AreOf-weaker, only_given}
 use Rattle.source_sites.proofs.sites.only_sites.Goals as goal
 

@@ -1,7 +1,7 @@
 use Rattle.std.proofs.Common.{ap, subst, List, ℕ, Err}
 use Rattle.url.specs.Parts.{serialize}
 use Rattle.es_lexer.specs.Stops.{Stops}
-use Rattle.source_sites.specs.Tree.{language_of, modes_of}
+use Rattle.source_reading.specs.Tree.{language_of, modes_of}
 use Rattle.source_sites.proofs.FaultLemmas.{Refuses-weaker, lexical_refusal}
 use Rattle.source_sites.proofs.sites.read_sites.Goals as goal
 

@@ -4,7 +4,7 @@ use Rattle.url.specs.Parts.{serialize}
 use Rattle.es_token.specs.declared.token.Token.{Token}
 use Rattle.es_tree.specs.declared.error.SyntaxError.{SyntaxError}
 use Rattle.es_ast.specs.declared.ast.Program.{Program as Typed}
-use Rattle.source_sites.specs.Tree.{language_of, modes_of, IsTree}
+use Rattle.source_reading.specs.Tree.{language_of, modes_of, IsTree}
 use Rattle.source_sites.specs.Answers.{AreSitesOf, GivesSites}
 use Rattle.source_sites.proofs.FaultLemmas.{Refuses-weaker, refuses_memory, syntax_refusal}
 use Rattle.source_sites.proofs.SitesLemmas.{has_sites}

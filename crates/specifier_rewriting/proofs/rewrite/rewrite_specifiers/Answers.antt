@@ -17,7 +17,7 @@ returns-clause-texts c =
 pub returns-clause-sites : goal.returns-clause-sites
 returns-clause-sites c =
     let P : List ℕ → List Site → Type 0 = λ x ss.
-    IfOk c.rewrite_sites.result (λ new. KeepsSites x (edits ss c.args.changes.now) (string_bytes new)) in
+    IfOk c.rewrite_sites.result (λ new. KeepsSites x ss c.args.changes.now (string_bytes new)) in
     let text : c.as_str.result.now ≡ c.args.source.now.text = c.as_str.ensures ∙ c.text.ensures in
     let sites : c.as_slice.result.now ≡ parsed_sites c.args.source.now = c.as_slice.ensures ∙ c.in_ok-sites.ensures in
     carry P c.as_str.result.now c.args.source.now.text c.as_slice.result.now (parsed_sites c.args.source.now) text sites

@@ -1,7 +1,7 @@
 -- The graph is that of the roots and the answers, and the edges of such a graph cut their literals.
 use Rattle.graph_entry.proofs.Theorems.{analysed_cuts}
-use Rattle.deno_graph.specs.Builder.{graph_rules}
-use Rattle.deno_graph.proofs.Theorems.{answered_cut}
+use Rattle.graph_builder.specs.Builder.{graph_rules}
+use Rattle.graph_builder.proofs.Theorems.{answered_cut}
 use Rattle.deno_graph.proofs.build.GraphBuild.poll.Goals as goal
 
 pub returns-clause-cuts : goal.returns-clause-cuts

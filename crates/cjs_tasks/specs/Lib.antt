@@ -1,0 +1,2 @@
+-- what tasks do
+pub mod Effects

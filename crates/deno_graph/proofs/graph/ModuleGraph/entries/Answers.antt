@@ -1,9 +1,0 @@
-use Rattle.std.proofs.Common.{subst}
-use Rattle.deno_graph.specs.Graph.{GraphData, IsAscending}
-use Rattle.deno_graph.proofs.GraphLemmas.{ascending_numbered}
-use Rattle.deno_graph.proofs.graph.ModuleGraph.entries.Goals as goal
-
-pub returns-clause-ascending : goal.returns-clause-ascending
-returns-clause-ascending c =
-    subst (λ (v : GraphData). IsAscending v.entries) c.self.view_is
-    (ascending_numbered c.self.inside.all c.self.inside.order c.self.invariant)

@@ -1,9 +1,0 @@
-use Rattle.std.proofs.Common.{◌≡◌, ◌-◌}
-use Rattle.graph_entry.specs.Specifier.{text_of}
-use Rattle.deno_graph.specs.Graph.{resolved_over}
-use Rattle.deno_graph.proofs.graph.resolve_in.Given as goal
-
--- the redirects that are left lead from here to where all lead from the specifier
-abbrev pub invariant-loop : goal.invariant-loop
-invariant-loop l = resolved_over l.all (10 - l.counter) (text_of l.at)
-    ≡ resolved_over l.all 10 (text_of l.specifier)

@@ -1,7 +1,0 @@
-use Rattle.std.proofs.Common.{◌≡◌, map, take}
-use Rattle.deno_graph.specs.Settling.{is_misfit_here}
-use Rattle.deno_graph.proofs.settle.misfits_among.Given as goal
-
--- an answer for each edge so far
-abbrev pub invariant-loop-edge : goal.invariant-loop-edge
-invariant-loop-edge l = l.refused ≡ map (is_misfit_here l.following l.typed l.firsts) (take l.edge-index l.edges)

@@ -1,8 +1,0 @@
-use Rattle.std.proofs.Common.{◌≡◌, map, take}
-use Rattle.deno_graph.specs.Rules.{rules_of}
-use Rattle.deno_graph.specs.Settling.{verdict_of}
-use Rattle.deno_graph.proofs.settle.verdicts_on.Given as goal
-
--- a verdict on each first entry so far
-abbrev pub invariant-loop-first : goal.invariant-loop-first
-invariant-loop-first l = l.verdicts ≡ map (verdict_of (rules_of l.following) l.firsts) (take l.first-index l.values)

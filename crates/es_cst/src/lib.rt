@@ -1,0 +1,10 @@
+//! What a reader of programs in both languages keeps of a plain tree.
+//!
+//! - `Cst`: the nodes, and the tokens that are kept (`slim`, `specs/Slim.antt`).
+//!
+//! It stands below the readers, so that what is made of such a tree stands on no reader.
+#![tactic(auto)]
+
+mod tree;
+
+pub use tree::Cst;

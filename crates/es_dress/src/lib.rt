@@ -1,2 +1,0 @@
-//! What the typed tree of a plain tree of programs of both languages is: a definition, and no code (`specs/Dress.antt`).
-#![tactic(auto)]

@@ -1,0 +1,12 @@
+use Rattle.std.proofs.Common.{sym}
+use Rattle.es_rules.specs.Steps.{keys_in}
+use Rattle.es_expression_rules.proofs.Absent.{logical_absent}
+use Rattle.es_expression_rules.proofs.levels.LogicalReadsBehindRow.read.Goals as goal
+
+-- no operator of these levels stands here
+pub returns-then-not-opens_logical : goal.returns-then-not-opens_logical
+returns-then-not-opens_logical g c =
+    λ a base there read. logical_absent c.args.grammar.now.input.keeps (keys_in c.args.grammar.now.input)
+    (g.T.Rows.below c.args.grammar.now.rows c.args.grammar.now.input)
+    c.args.from.token base c.args.cursor.now c.args.operand c.args.self.now.0 a (sym c.if-not-opens_logical.ensures)
+    read

@@ -1,0 +1,485 @@
+//! Chains: calls and members.
+
+ghost use Rattle.es_tree.specs.declared.error.Lang.TheVariants as lang;
+ghost use Rattle.es_grammar.specs.Expressions.{import_call, import_meta, base, arguments, plain_member_post, non_null_post, member_post, optional_post, post, chain, callee};
+
+use crate::primary::Primary;
+use es_grammar::{Context, NodeKind, Row};
+use es_predicates::Lookahead::{Is, Other};
+use es_predicates::{Kinds, Lookahead, Predicate};
+use es_rules::{
+    Alt, ByLookahead, ByPredicate, Choose, Cursor, Done, Grammar, Greedy, LeafKind, Make, MakeBy,
+    Many, OfRow, Opt, Pick, Punct, ReadsProduction, Rows, Tok, When, Where, Wrap,
+};
+use es_shared_rules::{CallArgumentsIn, TypeArgumentsIn};
+use es_token::TokenKind;
+use es_tree::{Lang, SyntaxError};
+
+/// 'import' '(' Assign (',' Assign)? ','? ')'
+#[derive(Clone, Copy)]
+pub struct ImportCall(pub Context);
+
+impl ReadsProduction<Row> for ImportCall {
+    ghost rule = { λ s. import_call s.0 };
+
+    #[tactic(auto, unfolding(es_grammar::specs::Expressions::import_call))]
+    fn read<T: Rows<Row>>(
+        &self,
+        grammar: &Grammar<'_, T>,
+        cursor: &mut Cursor,
+    ) -> Result<usize, SyntaxError> {
+        let outside = Context {
+            no_in: false,
+            no_colon: false,
+            in_constructor: false,
+            ..self.0
+        };
+        Make(
+            NodeKind::ImportCall,
+            Punct(
+                TokenKind::ImportWord,
+                Punct(
+                    TokenKind::OpenParen,
+                    OfRow(
+                        Row::AssignmentRow(outside),
+                        Opt(
+                            ByPredicate(Predicate::HasArgument),
+                            Punct(TokenKind::Comma, OfRow(Row::AssignmentRow(outside), Done)),
+                            Opt(
+                                Greedy(Is(TokenKind::Comma)),
+                                Punct(TokenKind::Comma, Done),
+                                Punct(TokenKind::CloseParen, Done),
+                            ),
+                        ),
+                    ),
+                ),
+            ),
+        )
+        .read(grammar, cursor)
+    }
+}
+
+/// 'import' '.' 'meta', in modules.
+#[derive(Clone, Copy)]
+pub struct ImportMeta(pub Context);
+
+impl ReadsProduction<Row> for ImportMeta {
+    ghost rule = { λ s. import_meta s.0 };
+
+    #[tactic(auto, unfolding(es_grammar::specs::Expressions::import_meta))]
+    fn read<T: Rows<Row>>(
+        &self,
+        grammar: &Grammar<'_, T>,
+        cursor: &mut Cursor,
+    ) -> Result<usize, SyntaxError> {
+        Make(
+            NodeKind::ImportMeta,
+            Where(
+                Predicate::IsModule(self.0),
+                Punct(
+                    TokenKind::ImportWord,
+                    Punct(TokenKind::Dot, Punct(TokenKind::MetaWord, Done)),
+                ),
+            ),
+        )
+        .read(grammar, cursor)
+    }
+}
+
+/// Base: Prim | 'super' | 'import' .. | 'new' .., without the parts behind it.
+#[derive(Clone, Copy)]
+pub struct Base(pub Lang, pub Context);
+
+impl ReadsProduction<Row> for Base {
+    ghost rule = { λ s. base s.0 s.1 };
+
+    #[tactic(auto, unfolding(es_grammar::specs::Expressions::base))]
+    fn read<T: Rows<Row>>(
+        &self,
+        grammar: &Grammar<'_, T>,
+        cursor: &mut Cursor,
+    ) -> Result<usize, SyntaxError> {
+        Choose(
+            Is(TokenKind::SuperWord),
+            Make(
+                NodeKind::Super,
+                Tok(
+                    LeafKind::There,
+                    Kinds::Only(TokenKind::SuperWord),
+                    When(Lookahead::FollowsSuper, Done),
+                ),
+            ),
+            Choose(
+                Is(TokenKind::ImportWord),
+                Pick(
+                    Predicate::OpensProperty,
+                    ImportMeta(self.1),
+                    ImportCall(self.1),
+                ),
+                Choose(
+                    Is(TokenKind::NewWord),
+                    Pick(
+                        Predicate::OpensProperty,
+                        Make(
+                            NodeKind::NewTarget,
+                            Punct(
+                                TokenKind::NewWord,
+                                Punct(TokenKind::Dot, Punct(TokenKind::TargetWord, Done)),
+                            ),
+                        ),
+                        MakeBy(
+                            self.0,
+                            NodeKind::New,
+                            NodeKind::TypedNew,
+                            Punct(
+                                TokenKind::NewWord,
+                                OfRow(
+                                    Row::CalleeRow(self.1),
+                                    CallArgumentsIn(
+                                        self.0,
+                                        Opt(
+                                            Greedy(Is(TokenKind::OpenParen)),
+                                            OfRow(Row::ArgumentsRow(self.1), Done),
+                                            Done,
+                                        ),
+                                    ),
+                                ),
+                            ),
+                        ),
+                    ),
+                    Primary(self.0, self.1),
+                ),
+            ),
+        )
+        .read(grammar, cursor)
+    }
+}
+
+/// Args: '(' ('...'? Assign)% ')'
+#[derive(Clone, Copy)]
+pub struct Arguments(pub Context);
+
+impl ReadsProduction<Row> for Arguments {
+    ghost rule = { λ s. arguments s.0 };
+
+    #[tactic(auto, unfolding(es_grammar::specs::Expressions::arguments))]
+    fn read<T: Rows<Row>>(
+        &self,
+        grammar: &Grammar<'_, T>,
+        cursor: &mut Cursor,
+    ) -> Result<usize, SyntaxError> {
+        let outside = Context {
+            no_in: false,
+            no_colon: false,
+            in_constructor: false,
+            ..self.0
+        };
+        Make(
+            NodeKind::Arguments,
+            Punct(
+                TokenKind::OpenParen,
+                Many(
+                    ByLookahead(Other(TokenKind::CloseParen)),
+                    Opt(
+                        Greedy(Is(TokenKind::Ellipsis)),
+                        Tok(LeafKind::There, Kinds::Only(TokenKind::Ellipsis), Done),
+                        OfRow(
+                            Row::AssignmentRow(outside),
+                            Opt(
+                                Greedy(Other(TokenKind::CloseParen)),
+                                Punct(TokenKind::Comma, Done),
+                                Done,
+                            ),
+                        ),
+                    ),
+                    Punct(TokenKind::CloseParen, Done),
+                ),
+            ),
+        )
+        .read(grammar, cursor)
+    }
+}
+
+/// TS ~ '!'
+#[derive(Clone, Copy)]
+pub struct NonNullPost;
+
+impl ReadsProduction<Row> for NonNullPost {
+    ghost rule = { λ s. non_null_post };
+
+    #[tactic(auto, unfolding(es_grammar::specs::Expressions::non_null_post))]
+    fn read<T: Rows<Row>>(
+        &self,
+        grammar: &Grammar<'_, T>,
+        cursor: &mut Cursor,
+    ) -> Result<usize, SyntaxError> {
+        Make(
+            NodeKind::NonNullPost,
+            When(Lookahead::Near, Punct(TokenKind::Exclamation, Done)),
+        )
+        .read(grammar, cursor)
+    }
+}
+
+/// '.' (Name | PrivateName) | '[' Expr ']' | Tpl, in TypeScript also ~ '!'
+#[derive(Clone, Copy)]
+pub struct MemberPost(pub Lang, pub Context);
+
+impl ReadsProduction<Row> for MemberPost {
+    ghost rule = { λ s. member_post s.0 s.1 };
+
+    #[tactic(auto, unfolding(es_grammar::specs::Expressions::member_post))]
+    fn read<T: Rows<Row>>(
+        &self,
+        grammar: &Grammar<'_, T>,
+        cursor: &mut Cursor,
+    ) -> Result<usize, SyntaxError> {
+        match self.0 {
+            Lang::Es => PlainMemberPost(self.1).read(grammar, cursor),
+            Lang::Typescript => Choose(
+                Is(TokenKind::Exclamation),
+                NonNullPost,
+                PlainMemberPost(self.1),
+            )
+            .read(grammar, cursor),
+        }
+    }
+}
+
+/// '.' (Name | PrivateName) | '[' Expr ']' | Tpl
+#[derive(Clone, Copy)]
+pub struct PlainMemberPost(pub Context);
+
+impl ReadsProduction<Row> for PlainMemberPost {
+    ghost rule = { λ s. plain_member_post s.0 };
+
+    #[tactic(auto, unfolding(es_grammar::specs::Expressions::plain_member_post))]
+    fn read<T: Rows<Row>>(
+        &self,
+        grammar: &Grammar<'_, T>,
+        cursor: &mut Cursor,
+    ) -> Result<usize, SyntaxError> {
+        let outside = Context {
+            no_in: false,
+            no_colon: false,
+            in_constructor: false,
+            ..self.0
+        };
+        Choose(
+            Is(TokenKind::Dot),
+            Make(
+                NodeKind::MemberPost,
+                Punct(
+                    TokenKind::Dot,
+                    Tok(LeafKind::Name, Kinds::PropertyName, Done),
+                ),
+            ),
+            Choose(
+                Is(TokenKind::OpenBracket),
+                Make(
+                    NodeKind::IndexPost,
+                    Punct(
+                        TokenKind::OpenBracket,
+                        OfRow(
+                            Row::ExpressionRow(outside),
+                            Punct(TokenKind::CloseBracket, Done),
+                        ),
+                    ),
+                ),
+                Make(
+                    NodeKind::TemplatePost,
+                    OfRow(Row::TemplateRow(self.0), Done),
+                ),
+            ),
+        )
+        .read(grammar, cursor)
+    }
+}
+
+/// '?.' (Name | PrivateName | '[' Expr ']' | Args)
+#[derive(Clone, Copy)]
+pub struct OptionalPost(pub Lang, pub Context);
+
+impl ReadsProduction<Row> for OptionalPost {
+    ghost rule = { λ s. optional_post s.0 s.1 };
+
+    #[tactic(auto, unfolding(es_grammar::specs::Expressions::optional_post))]
+    fn read<T: Rows<Row>>(
+        &self,
+        grammar: &Grammar<'_, T>,
+        cursor: &mut Cursor,
+    ) -> Result<usize, SyntaxError> {
+        let outside = Context {
+            no_in: false,
+            no_colon: false,
+            in_constructor: false,
+            ..self.1
+        };
+        MakeBy(
+            self.0,
+            NodeKind::OptionalPost,
+            NodeKind::TypedOptionalPost,
+            Punct(
+                TokenKind::QuestionDot,
+                Alt(
+                    Is(TokenKind::OpenBracket),
+                    Punct(
+                        TokenKind::OpenBracket,
+                        OfRow(
+                            Row::ExpressionRow(outside),
+                            Punct(TokenKind::CloseBracket, Done),
+                        ),
+                    ),
+                    Alt(
+                        Lookahead::BeginsArguments(self.0),
+                        TypeArgumentsIn(self.0, OfRow(Row::ArgumentsRow(self.1), Done)),
+                        Tok(LeafKind::Name, Kinds::PropertyName, Done),
+                        Done,
+                    ),
+                    Done,
+                ),
+            ),
+        )
+        .read(grammar, cursor)
+    }
+}
+
+/// Post: Args | '?.' .. | a member
+#[derive(Clone, Copy)]
+pub struct Post(pub Lang, pub Context);
+
+impl ReadsProduction<Row> for Post {
+    ghost rule = { λ s. post s.0 s.1 };
+
+    #[tactic(auto, unfolding(es_grammar::specs::Expressions::post))]
+    fn read<T: Rows<Row>>(
+        &self,
+        grammar: &Grammar<'_, T>,
+        cursor: &mut Cursor,
+    ) -> Result<usize, SyntaxError> {
+        match self.0 {
+            Lang::Es => Choose(
+                Is(TokenKind::OpenParen),
+                Make(NodeKind::CallPost, OfRow(Row::ArgumentsRow(self.1), Done)),
+                Choose(
+                    Is(TokenKind::QuestionDot),
+                    OptionalPost(Lang::Es, self.1),
+                    MemberPost(Lang::Es, self.1),
+                ),
+            )
+            .read(grammar, cursor),
+            Lang::Typescript => TypedPost(self.1).read(grammar, cursor),
+        }
+    }
+}
+
+/// The same of TypeScript: TArgs? Args | TArgs? Tpl | ..
+#[derive(Clone, Copy)]
+struct TypedPost(Context);
+
+impl ReadsProduction<Row> for TypedPost {
+    ghost rule = { λ s. post lang.Typescript s.0 };
+
+    #[tactic(auto, unfolding(es_grammar::specs::Expressions::post))]
+    fn read<T: Rows<Row>>(
+        &self,
+        grammar: &Grammar<'_, T>,
+        cursor: &mut Cursor,
+    ) -> Result<usize, SyntaxError> {
+        let lang = Lang::Typescript;
+        Pick(
+            Predicate::OpensCall,
+            Make(
+                NodeKind::TypedCallPost,
+                TypeArgumentsIn(lang, OfRow(Row::ArgumentsRow(self.0), Done)),
+            ),
+            Pick(
+                Predicate::OpensTypedTemplate,
+                Make(
+                    NodeKind::TypedTemplatePost,
+                    TypeArgumentsIn(lang, OfRow(Row::TemplateRow(self.0), Done)),
+                ),
+                Choose(
+                    Is(TokenKind::QuestionDot),
+                    OptionalPost(lang, self.0),
+                    MemberPost(lang, self.0),
+                ),
+            ),
+        )
+        .read(grammar, cursor)
+    }
+}
+
+/// Chain: Base Post*
+#[derive(Clone, Copy)]
+pub struct Chain(pub Lang, pub Context);
+
+impl ReadsProduction<Row> for Chain {
+    ghost rule = { λ s. chain s.0 s.1 };
+
+    #[tactic(auto, unfolding(es_grammar::specs::Expressions::chain))]
+    fn read<T: Rows<Row>>(
+        &self,
+        grammar: &Grammar<'_, T>,
+        cursor: &mut Cursor,
+    ) -> Result<usize, SyntaxError> {
+        match self.0 {
+            Lang::Es => {
+                let told = Greedy(Lookahead::BeginsPost);
+                Wrap(
+                    NodeKind::Chain,
+                    Base(Lang::Es, self.1),
+                    told,
+                    OfRow(
+                        Row::PostRow(self.1),
+                        Many(told, OfRow(Row::PostRow(self.1), Done), Done),
+                    ),
+                )
+                .read(grammar, cursor)
+            }
+            Lang::Typescript => {
+                let told = ByPredicate(Predicate::OpensPost);
+                Wrap(
+                    NodeKind::Chain,
+                    Base(Lang::Typescript, self.1),
+                    told,
+                    OfRow(
+                        Row::PostRow(self.1),
+                        Many(told, OfRow(Row::PostRow(self.1), Done), Done),
+                    ),
+                )
+                .read(grammar, cursor)
+            }
+        }
+    }
+}
+
+/// Chain1: a Chain with no Args and no '?.'.
+#[derive(Clone, Copy)]
+pub struct Callee(pub Lang, pub Context);
+
+impl ReadsProduction<Row> for Callee {
+    ghost rule = { λ s. callee s.0 s.1 };
+
+    #[tactic(auto, unfolding(es_grammar::specs::Expressions::callee))]
+    fn read<T: Rows<Row>>(
+        &self,
+        grammar: &Grammar<'_, T>,
+        cursor: &mut Cursor,
+    ) -> Result<usize, SyntaxError> {
+        Wrap(
+            NodeKind::Chain,
+            Base(self.0, self.1),
+            Greedy(Lookahead::BeginsCalleePost(self.0)),
+            OfRow(
+                Row::MemberPostRow(self.1),
+                Many(
+                    Greedy(Lookahead::BeginsCalleePost(self.0)),
+                    OfRow(Row::MemberPostRow(self.1), Done),
+                    Done,
+                ),
+            ),
+        )
+        .read(grammar, cursor)
+    }
+}

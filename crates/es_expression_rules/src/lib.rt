@@ -1,0 +1,22 @@
+//! Rows of the table of programs (`es_grammar`): expressions, and what is assigned to.
+#![tactic(auto)]
+
+mod arrows;
+mod chains;
+mod expressions;
+mod levels;
+mod operators;
+mod primary;
+mod targets;
+
+pub use arrows::{ArrowIn, AsyncArrow, PlainArrow};
+pub use chains::{
+    Arguments, Base, Callee, Chain, ImportCall, ImportMeta, MemberPost, OptionalPost, Post,
+};
+pub use expressions::{Assignment, Element, Expression, Operated, Yield};
+pub use operators::{
+    And, Await, BitAnd, BitOr, BitXor, Equality, Level, Power, Prefix, PrivateIn, Product,
+    Relation, Shift, Sum, Unary, Update,
+};
+pub use primary::{ArrayLiteral, ObjectLiteral, Primary, Spread, Template};
+pub use targets::{Head, InnerPattern, PatternElement, Target};

@@ -1,0 +1,443 @@
+//! Operators, from the tightest to the loosest.
+
+ghost use Rattle.es_grammar.specs.Expressions.{level, private_in, update, prefix, await_, unary, power, product, sum, shift, comparison_in, relation, equality, bit_and, bit_xor, bit_or, and_};
+ghost use Rattle.es_predicates.specs.Named.{kinds_of};
+
+use crate::chains::Chain;
+use crate::levels::{Arithmetic, Bitwise, Comparing, LevelBehind, Related, Shifted};
+use es_grammar::{Context, NodeKind, Row};
+use es_predicates::Lookahead::{Has, Is, Other};
+use es_predicates::{Kinds, Lookahead, Predicate};
+use es_rules::{
+    Alt, Both, ByPredicate, Choose, Cursor, Done, Grammar, Greedy, LeafKind, Make, OfRow, Opt,
+    Punct, ReadsBehind, ReadsProduction, ReadsRhs, Rows, Tok, When, Where, Wrap,
+};
+use es_token::TokenKind;
+use es_tree::{Lang, SyntaxError};
+
+/// ('++' | '--') Unary | Chain (~ ('++' | '--'))?
+#[derive(Clone, Copy)]
+pub struct Update(pub Lang, pub Context);
+
+impl ReadsProduction<Row> for Update {
+    ghost rule = { λ s. update s.0 s.1 };
+
+    #[tactic(auto, unfolding(es_grammar::specs::Expressions::update))]
+    fn read<T: Rows<Row>>(
+        &self,
+        grammar: &Grammar<'_, T>,
+        cursor: &mut Cursor,
+    ) -> Result<usize, SyntaxError> {
+        Choose(
+            Has(Kinds::Update),
+            Make(
+                NodeKind::UpdatePrefix,
+                Tok(
+                    LeafKind::Kind,
+                    Kinds::Update,
+                    OfRow(Row::UnaryRow(self.1), Done),
+                ),
+            ),
+            Wrap(
+                NodeKind::UpdatePostfix,
+                Chain(self.0, self.1),
+                Greedy(Lookahead::UpdateHere),
+                When(
+                    Lookahead::Near,
+                    Tok(
+                        LeafKind::Kind,
+                        Kinds::Update,
+                        When(Lookahead::NoUpdateHere, Done),
+                    ),
+                ),
+            ),
+        )
+        .read(grammar, cursor)
+    }
+}
+
+/// ('delete' | 'void' | 'typeof' | '+' | '-' | '~' | '!') Unary
+#[derive(Clone, Copy)]
+pub struct Prefix(pub Context);
+
+impl ReadsProduction<Row> for Prefix {
+    ghost rule = { λ s. prefix s.0 };
+
+    #[tactic(auto, unfolding(es_grammar::specs::Expressions::prefix))]
+    fn read<T: Rows<Row>>(
+        &self,
+        grammar: &Grammar<'_, T>,
+        cursor: &mut Cursor,
+    ) -> Result<usize, SyntaxError> {
+        Make(
+            NodeKind::UnaryExpression,
+            Tok(
+                LeafKind::Kind,
+                Kinds::Prefix,
+                OfRow(Row::UnaryRow(self.0), Done),
+            ),
+        )
+        .read(grammar, cursor)
+    }
+}
+
+/// 'await' Unary, in modules and in async functions.
+#[derive(Clone, Copy)]
+pub struct Await(pub Context);
+
+impl ReadsProduction<Row> for Await {
+    ghost rule = { λ s. await_ s.0 };
+
+    #[tactic(auto, unfolding(es_grammar::specs::Expressions::await_))]
+    fn read<T: Rows<Row>>(
+        &self,
+        grammar: &Grammar<'_, T>,
+        cursor: &mut Cursor,
+    ) -> Result<usize, SyntaxError> {
+        Make(
+            NodeKind::AwaitExpression,
+            Where(
+                Predicate::MayAwait(self.0),
+                Punct(TokenKind::AwaitWord, OfRow(Row::UnaryRow(self.0), Done)),
+            ),
+        )
+        .read(grammar, cursor)
+    }
+}
+
+/// Unary: an operator and its operand, 'await' Unary, or an update.
+#[derive(Clone, Copy)]
+pub struct Unary(pub Lang, pub Context);
+
+impl ReadsProduction<Row> for Unary {
+    ghost rule = { λ s. unary s.0 s.1 };
+
+    #[tactic(auto, unfolding(es_grammar::specs::Expressions::unary))]
+    fn read<T: Rows<Row>>(
+        &self,
+        grammar: &Grammar<'_, T>,
+        cursor: &mut Cursor,
+    ) -> Result<usize, SyntaxError> {
+        Choose(
+            Has(Kinds::Prefix),
+            Prefix(self.1),
+            Choose(
+                Is(TokenKind::AwaitWord),
+                Await(self.1),
+                Update(self.0, self.1),
+            ),
+        )
+        .read(grammar, cursor)
+    }
+}
+
+/// Unary | (Chain or update) '**' Power
+#[derive(Clone, Copy)]
+pub struct Power(pub Lang, pub Context);
+
+impl ReadsProduction<Row> for Power {
+    ghost rule = { λ s. power s.0 s.1 };
+
+    #[tactic(auto, unfolding(es_grammar::specs::Expressions::power))]
+    fn read<T: Rows<Row>>(
+        &self,
+        grammar: &Grammar<'_, T>,
+        cursor: &mut Cursor,
+    ) -> Result<usize, SyntaxError> {
+        Choose(
+            Has(Kinds::Prefix),
+            Prefix(self.1),
+            Choose(
+                Is(TokenKind::AwaitWord),
+                Await(self.1),
+                Wrap(
+                    NodeKind::Binary,
+                    Update(self.0, self.1),
+                    Greedy(Is(TokenKind::StarStar)),
+                    Tok(
+                        LeafKind::Kind,
+                        Kinds::Only(TokenKind::StarStar),
+                        OfRow(
+                            Row::PowerRow(self.1),
+                            When(Other(TokenKind::StarStar), Done),
+                        ),
+                    ),
+                ),
+            ),
+        )
+        .read(grammar, cursor)
+    }
+}
+
+/// A level of operators of one token, left-associative.
+#[derive(Clone, Copy)]
+pub struct Level<A>(pub Kinds, pub Row, pub A);
+
+impl<A: ReadsProduction<Row> + Copy> ReadsProduction<Row> for Level<A> {
+    ghost rule = { λ s. level (kinds_of s.0) s.1 (A.rule s.2) };
+
+    #[tactic(auto, unfolding(es_grammar::specs::Expressions::level))]
+    fn read<T: Rows<Row>>(
+        &self,
+        grammar: &Grammar<'_, T>,
+        cursor: &mut Cursor,
+    ) -> Result<usize, SyntaxError> {
+        Wrap(
+            NodeKind::Binary,
+            self.2,
+            Greedy(Has(self.0)),
+            Tok(LeafKind::Kind, self.0, OfRow(self.1, Done)),
+        )
+        .read(grammar, cursor)
+    }
+}
+
+/// Product: Power (('*' | '/' | '%') Power)*
+#[derive(Clone, Copy)]
+pub struct Product(pub Lang, pub Context);
+
+impl ReadsProduction<Row> for Product {
+    ghost rule = { λ s. product s.0 s.1 };
+
+    #[tactic(auto, unfolding(es_grammar::specs::Expressions::product))]
+    fn read<T: Rows<Row>>(
+        &self,
+        grammar: &Grammar<'_, T>,
+        cursor: &mut Cursor,
+    ) -> Result<usize, SyntaxError> {
+        Level(Kinds::Product, Row::PowerRow(self.1), Power(self.0, self.1)).read(grammar, cursor)
+    }
+}
+
+/// Sum: Product (('+' | '-') Product)*
+#[derive(Clone, Copy)]
+pub struct Sum(pub Lang, pub Context);
+
+impl ReadsProduction<Row> for Sum {
+    ghost rule = { λ s. sum s.0 s.1 };
+
+    #[tactic(auto, unfolding(es_grammar::specs::Expressions::sum))]
+    fn read<T: Rows<Row>>(
+        &self,
+        grammar: &Grammar<'_, T>,
+        cursor: &mut Cursor,
+    ) -> Result<usize, SyntaxError> {
+        let from = cursor.here();
+        let operand = Power(self.0, self.1).read(grammar, cursor);
+        Arithmetic(self.1).read(from, operand, grammar, cursor)
+    }
+}
+
+/// Shift: Sum (('<<' | '>>' | '>>>') Sum)*
+#[derive(Clone, Copy)]
+pub struct Shift(pub Lang, pub Context);
+
+impl ReadsProduction<Row> for Shift {
+    ghost rule = { λ s. shift s.0 s.1 };
+
+    #[tactic(auto, unfolding(es_grammar::specs::Expressions::shift))]
+    fn read<T: Rows<Row>>(
+        &self,
+        grammar: &Grammar<'_, T>,
+        cursor: &mut Cursor,
+    ) -> Result<usize, SyntaxError> {
+        let from = cursor.here();
+        let operand = Power(self.0, self.1).read(grammar, cursor);
+        Both(Arithmetic(self.1), Shifted(self.1)).read(from, operand, grammar, cursor)
+    }
+}
+
+/// PrivateName 'in' Shift
+#[derive(Clone, Copy)]
+pub struct PrivateIn(pub Context);
+
+impl ReadsProduction<Row> for PrivateIn {
+    ghost rule = { λ s. private_in s.0 };
+
+    #[tactic(auto, unfolding(es_grammar::specs::Expressions::private_in))]
+    fn read<T: Rows<Row>>(
+        &self,
+        grammar: &Grammar<'_, T>,
+        cursor: &mut Cursor,
+    ) -> Result<usize, SyntaxError> {
+        Make(
+            NodeKind::PrivateIn,
+            Where(
+                Predicate::MayTest(self.0),
+                Tok(
+                    LeafKind::Name,
+                    Kinds::Only(TokenKind::PrivateName),
+                    Punct(TokenKind::InWord, OfRow(Row::ShiftRow(self.0), Done)),
+                ),
+            ),
+        )
+        .read(grammar, cursor)
+    }
+}
+
+/// Relation: (PrivateName 'in' Shift | Shift) (('<' | '<=' | '>' | '>=' | 'instanceof' | 'in') Shift)*
+#[derive(Clone, Copy)]
+pub struct Relation(pub Lang, pub Context);
+
+impl ReadsProduction<Row> for Relation {
+    ghost rule = { λ s. relation s.0 s.1 };
+
+    #[tactic(auto, unfolding(es_grammar::specs::Expressions::relation))]
+    fn read<T: Rows<Row>>(
+        &self,
+        grammar: &Grammar<'_, T>,
+        cursor: &mut Cursor,
+    ) -> Result<usize, SyntaxError> {
+        let from = cursor.here();
+        let operand = Power(self.0, self.1).read(grammar, cursor);
+        Both(
+            Both(Arithmetic(self.1), Shifted(self.1)),
+            Related(self.0, self.1),
+        )
+        .read(from, operand, grammar, cursor)
+    }
+}
+
+/// An operator of the level of `<`, and its operand.
+#[derive(Clone, Copy)]
+pub struct ComparisonIn(pub Context);
+
+impl ReadsRhs<Row> for ComparisonIn {
+    ghost form = { λ s. comparison_in s.0 };
+
+    #[tactic(auto, unfolding(es_grammar::specs::Expressions::comparison_in))]
+    fn read<T: Rows<Row>>(
+        &self,
+        grammar: &Grammar<'_, T>,
+        cursor: &mut Cursor,
+    ) -> Result<usize, SyntaxError> {
+        Alt(
+            Is(TokenKind::Greater),
+            Tok(
+                LeafKind::Kind,
+                Kinds::Only(TokenKind::Greater),
+                Opt(
+                    ByPredicate(Predicate::Joins(TokenKind::Equal)),
+                    Tok(LeafKind::There, Kinds::Only(TokenKind::Equal), Done),
+                    Done,
+                ),
+            ),
+            Tok(LeafKind::Kind, Kinds::Relation, Done),
+            OfRow(Row::ShiftRow(self.0), Done),
+        )
+        .read(grammar, cursor)
+    }
+}
+
+/// Equality: Relation (('==' | '!=' | '===' | '!==') Relation)*
+#[derive(Clone, Copy)]
+pub struct Equality(pub Lang, pub Context);
+
+impl ReadsProduction<Row> for Equality {
+    ghost rule = { λ s. equality s.0 s.1 };
+
+    #[tactic(auto, unfolding(es_grammar::specs::Expressions::equality))]
+    fn read<T: Rows<Row>>(
+        &self,
+        grammar: &Grammar<'_, T>,
+        cursor: &mut Cursor,
+    ) -> Result<usize, SyntaxError> {
+        let from = cursor.here();
+        let operand = Power(self.0, self.1).read(grammar, cursor);
+        Both(Arithmetic(self.1), Comparing(self.0, self.1)).read(from, operand, grammar, cursor)
+    }
+}
+
+/// BitAnd: Equality ('&' Equality)*
+#[derive(Clone, Copy)]
+pub struct BitAnd(pub Lang, pub Context);
+
+impl ReadsProduction<Row> for BitAnd {
+    ghost rule = { λ s. bit_and s.0 s.1 };
+
+    #[tactic(auto, unfolding(es_grammar::specs::Expressions::bit_and))]
+    fn read<T: Rows<Row>>(
+        &self,
+        grammar: &Grammar<'_, T>,
+        cursor: &mut Cursor,
+    ) -> Result<usize, SyntaxError> {
+        let from = cursor.here();
+        let operand = Power(self.0, self.1).read(grammar, cursor);
+        Both(
+            Both(Arithmetic(self.1), Comparing(self.0, self.1)),
+            LevelBehind(Kinds::Only(TokenKind::Ampersand), Row::EqualityRow(self.1)),
+        )
+        .read(from, operand, grammar, cursor)
+    }
+}
+
+/// BitXor: BitAnd ('^' BitAnd)*
+#[derive(Clone, Copy)]
+pub struct BitXor(pub Lang, pub Context);
+
+impl ReadsProduction<Row> for BitXor {
+    ghost rule = { λ s. bit_xor s.0 s.1 };
+
+    #[tactic(auto, unfolding(es_grammar::specs::Expressions::bit_xor))]
+    fn read<T: Rows<Row>>(
+        &self,
+        grammar: &Grammar<'_, T>,
+        cursor: &mut Cursor,
+    ) -> Result<usize, SyntaxError> {
+        let from = cursor.here();
+        let operand = Power(self.0, self.1).read(grammar, cursor);
+        Both(
+            Both(Arithmetic(self.1), Comparing(self.0, self.1)),
+            Both(
+                LevelBehind(Kinds::Only(TokenKind::Ampersand), Row::EqualityRow(self.1)),
+                LevelBehind(Kinds::Only(TokenKind::Caret), Row::BitAndRow(self.1)),
+            ),
+        )
+        .read(from, operand, grammar, cursor)
+    }
+}
+
+/// BitOr: BitXor ('|' BitXor)*
+#[derive(Clone, Copy)]
+pub struct BitOr(pub Lang, pub Context);
+
+impl ReadsProduction<Row> for BitOr {
+    ghost rule = { λ s. bit_or s.0 s.1 };
+
+    #[tactic(auto, unfolding(es_grammar::specs::Expressions::bit_or))]
+    fn read<T: Rows<Row>>(
+        &self,
+        grammar: &Grammar<'_, T>,
+        cursor: &mut Cursor,
+    ) -> Result<usize, SyntaxError> {
+        let from = cursor.here();
+        let operand = Power(self.0, self.1).read(grammar, cursor);
+        Both(
+            Both(Arithmetic(self.1), Comparing(self.0, self.1)),
+            Bitwise(self.1),
+        )
+        .read(from, operand, grammar, cursor)
+    }
+}
+
+/// '&&' behind an operand.
+#[derive(Clone, Copy)]
+pub struct And<A>(pub Context, pub A);
+
+impl<A: ReadsProduction<Row> + Copy> ReadsProduction<Row> for And<A> {
+    ghost rule = { λ s. and_ s.0 (A.rule s.1) };
+
+    #[tactic(auto, unfolding(es_grammar::specs::Expressions::and_))]
+    fn read<T: Rows<Row>>(
+        &self,
+        grammar: &Grammar<'_, T>,
+        cursor: &mut Cursor,
+    ) -> Result<usize, SyntaxError> {
+        Level(
+            Kinds::Only(TokenKind::AmpersandAmpersand),
+            Row::BitOrRow(self.0),
+            self.1,
+        )
+        .read(grammar, cursor)
+    }
+}

@@ -1,0 +1,85 @@
+-- Where a row of programs stands; its type, those of the rows and of the alternatives are in src/rows.rt.
+use Rattle.std.specs.Prelude.{Bool, true, false}
+use Rattle.es_tree.specs.declared.error.Lang.{Lang}
+use Rattle.es_tree.specs.declared.error.Lang.TheVariants as lang
+use Rattle.es_type_grammar.specs.declared.rows.Context as programs
+use Rattle.es_grammar.specs.declared.rows.Context.{Context}
+
+-- the language is TypeScript
+abbrev pub is_typescript : Lang → Bool
+is_typescript lang.Es = false
+is_typescript lang.Typescript = true
+
+-- ---- places
+
+-- the place of the plain table
+abbrev pub widened : programs.Context → Context
+widened c = record {
+  script = c.script;
+  no_in = c.no_in;
+  in_async = c.in_async;
+  no_colon = false;
+  in_constructor = false;
+}
+
+-- the outside of a module, and of a script
+abbrev pub in_module : Context
+in_module = record { script = false; no_in = false; in_async = false; no_colon = false; in_constructor = false }
+
+abbrev pub in_script : Context
+in_script = record { script = true; no_in = false; in_async = false; no_colon = false; in_constructor = false }
+
+-- the same place, outside the head of a `for` and within brackets
+abbrev pub outside : Context → Context
+outside c = record {
+  script = c.script;
+  no_in = false;
+  in_async = c.in_async;
+  no_colon = false;
+  in_constructor = false;
+}
+
+-- inside the head of a `for`
+abbrev pub in_head : Context → Context
+in_head c = record {
+  script = c.script;
+  no_in = true;
+  in_async = c.in_async;
+  no_colon = c.no_colon;
+  in_constructor = false;
+}
+
+-- in an async function
+abbrev pub async_in : Context → Context
+async_in c = record { script = c.script; no_in = false; in_async = true; no_colon = false; in_constructor = false }
+
+-- in an async arrow's body, which may be in the head of a `for` and where no `:` opens a result
+abbrev pub async_here : Context → Context
+async_here c = record {
+  script = c.script;
+  no_in = c.no_in;
+  in_async = true;
+  no_colon = c.no_colon;
+  in_constructor = false;
+}
+
+-- where no `:` opens an arrow's result
+abbrev pub without_colon : Lang → Context → Context
+without_colon lang.Es c = c
+without_colon lang.Typescript c = record {
+  script = c.script;
+  no_in = c.no_in;
+  in_async = c.in_async;
+  no_colon = true;
+  in_constructor = c.in_constructor;
+}
+
+-- in the parameters of a constructor
+abbrev pub constructing : Context → Context
+constructing c = record {
+  script = c.script;
+  no_in = false;
+  in_async = c.in_async;
+  no_colon = false;
+  in_constructor = true;
+}

@@ -1,4 +1,0 @@
--- what is seen of a token
-pub mod Sight
--- tests and guards by name
-pub mod Named

@@ -1,9 +1,0 @@
--- What is seen of a token at run time, as the tests of a table see it.
-use Rattle.std.specs.Prelude.{Option, Some, None}
-use Rattle.es_tree.specs.Key.{Seen}
-use Rattle.es_guards.specs.declared.looks.Seen.{Seen as Sighted}
-
--- what the tests see
-unfoldable pub sight : Option Sighted → Option Seen
-sight (Some s) = Some (record { kind = s.kind; line_before = s.line_before })
-sight None = None

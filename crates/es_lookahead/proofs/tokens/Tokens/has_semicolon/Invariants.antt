@@ -1,0 +1,10 @@
+use Rattle.std.proofs.Common.{◌≡◌, ◌-◌, length}
+use Rattle.es_tree.specs.Key.{keys_of}
+use Rattle.es_type_grammar.specs.Statements.{has_semicolon}
+use Rattle.es_lookahead.proofs.tokens.Tokens.has_semicolon.Given as goal
+
+-- what is left to look at tells what the whole tells
+abbrev pub invariant-loop-turn : goal.invariant-loop-turn
+invariant-loop-turn l =
+    has_semicolon (keys_of l.self.tokens.now) (length (keys_of l.self.tokens.now)) l.from l.to
+    ≡ has_semicolon (keys_of l.self.tokens.now) (length l.self.tokens.now - l.turn) l.at l.to

@@ -1,0 +1,4 @@
+-- what is seen of a token
+pub mod Sight
+-- tests and predicates by name
+pub mod Named

@@ -1,0 +1,83 @@
+//! Where type arguments and type parameters can be read.
+
+ghost use Rattle.std.specs.Prelude.{◌≡◌, ◌≤◌, length};
+ghost use Rattle.es_tree.specs.Key.{keys_of};
+ghost use Rattle.es_tree.specs.Productions.{Predicate as AnyPredicate};
+ghost use Rattle.es_type_grammar.specs.declared.rows.TypeRow.TheVariants.{ArgumentsRow, TypeParametersRow};
+ghost use Rattle.es_grammar.specs.Embedding.{reads_before, opens_call_arguments, opens_heritage_arguments};
+ghost use Rattle.es_grammar.specs.Expressions.{opens_call};
+ghost use Rattle.es_predicates.specs.Named.{holds_behind};
+
+use crate::looks::begins_call;
+use es_lookahead::Tokens;
+use es_token::TokenKind;
+use es_type_ends::{type_arguments_end, type_parameters_end};
+use std::alloc::Global;
+
+/// The number behind the type arguments that can be read here, or none: a predicate holds behind them exactly where it does
+/// behind that number.
+fn arguments_end(tokens: &Tokens<'_>, alloc: Global, at: usize) -> Option<usize>
+    requires { at ≤ length tokens.now.tokens.now }
+    ensures { (g : AnyPredicate) → reads_before ArgumentsRow g (keys_of tokens.now.tokens.now) at
+        ≡ holds_behind g (keys_of tokens.now.tokens.now) result }
+{
+    type_arguments_end(alloc, tokens.tokens, at)
+}
+
+/// The number behind the type parameters that can be read here, or none.
+pub fn parameters_end(tokens: &Tokens<'_>, alloc: Global, at: usize) -> Option<usize>
+    requires { at ≤ length tokens.now.tokens.now }
+    ensures { (g : AnyPredicate) → reads_before TypeParametersRow g (keys_of tokens.now.tokens.now) at
+        ≡ holds_behind g (keys_of tokens.now.tokens.now) result }
+{
+    type_parameters_end(alloc, tokens.tokens, at)
+}
+
+/// `<` opens type arguments behind an expression.
+#[tactic(auto, unfolding(es_grammar::specs::Embedding::opens_call_arguments, es_grammar::specs::Embedding::stands_call))]
+pub fn opens_call_arguments(tokens: &Tokens<'_>, alloc: Global, at: usize) -> bool
+    ensures { result ≡ opens_call_arguments (keys_of tokens.now.tokens.now) at }
+{
+    if !tokens.stands(TokenKind::Less, at) {
+        return false;
+    }
+    match arguments_end(tokens, alloc, at) {
+        Some(end) => begins_call(tokens.seen(end)),
+        None => false,
+    }
+}
+
+/// It does behind the operand of `extends`.
+#[tactic(auto, unfolding(es_grammar::specs::Embedding::opens_heritage_arguments, es_grammar::specs::Embedding::stands_heritage))]
+pub fn opens_heritage_arguments(tokens: &Tokens<'_>, alloc: Global, at: usize) -> bool
+    ensures { result ≡ opens_heritage_arguments (keys_of tokens.now.tokens.now) at }
+{
+    if !tokens.stands(TokenKind::Less, at) {
+        return false;
+    }
+    match arguments_end(tokens, alloc, at) {
+        Some(end) => {
+            begins_call(tokens.seen(end))
+                || tokens.sees(TokenKind::OpenBrace, end)
+                || tokens.sees(TokenKind::ImplementsWord, end)
+        }
+        None => false,
+    }
+}
+
+/// `(`, or `(` behind type arguments.
+#[tactic(auto, unfolding(es_grammar::specs::Expressions::opens_call, es_grammar::specs::Expressions::is_at))]
+pub fn opens_call(tokens: &Tokens<'_>, alloc: Global, at: usize) -> bool
+    ensures { result ≡ opens_call (keys_of tokens.now.tokens.now) at }
+{
+    if tokens.sees(TokenKind::OpenParen, at) {
+        return true;
+    }
+    if !tokens.stands(TokenKind::Less, at) {
+        return false;
+    }
+    match arguments_end(tokens, alloc, at) {
+        Some(end) => tokens.sees(TokenKind::OpenParen, end),
+        None => false,
+    }
+}

@@ -1,0 +1,83 @@
+//! Programs.
+
+ghost use Rattle.std.specs.Prelude.{IfOk};
+ghost use Rattle.es_grammar.specs.Table.{rule};
+ghost use Rattle.es_rules.specs.Bounded.{row_at};
+ghost use Rattle.es_rules.specs.Steps.{keys_in, IsRead};
+ghost use Rattle.es_tree.specs.Key.{keys_of};
+ghost use Rattle.es_cst.specs.declared.tree.Cst.{Cst as Kept};
+ghost use Rattle.es_program_reader.specs.Derived.{HoldsShaped, IsShaped, GivesTree};
+ghost use Rattle.es_program_reader.specs.Program.{HoldsKept, IsKept};
+
+use crate::program::whole;
+use crate::sound::first_unsound;
+use es_grammar::Row;
+use es_row_reader::{Ring, read_row};
+use es_rules::{Cursor, Grammar, Input, Tokens};
+use es_syntax::{Entry, Siblings as Entries};
+use es_token::Token;
+use es_tree::{Lang, Mode, SyntaxError};
+use std::alloc::Global;
+
+/// The most nodes on a path of a tree: the program's own, and 500 below it.
+const MOST_NODES: usize = 501;
+
+/// A row of the table, where so many rows may stand on a path.
+fn row(input: Input<'_>, room: usize, row: Row, cursor: &mut Cursor) -> Result<usize, SyntaxError>
+    ensures { IsRead input.entry.keeps (row_at (rule input.entry.lang) (keys_in input.entry) room row cursor.old.at) cursor.old.row cursor.new result }
+{
+    read_row(input, room, row, cursor)
+}
+
+/// The tree of a module or a script by the rows of the table alone, where anything may be assigned to.
+#[tactic(auto, using(crate::proofs::AnswerLemmas::most))]
+pub fn read_tree(
+    alloc: Global,
+    lang: Lang,
+    mode: Mode,
+    tokens: &[Token],
+) -> Result<Vec<Entry>, SyntaxError>
+    // What is answered is kept of a plain tree that has the shape of a program.
+    ensures shaped { IfOk result (λ row. HoldsShaped lang mode (keys_of tokens.now) row.items) }
+    // What is kept of one is answered, unless memory runs out.
+    ensures only { (tree : Kept) → IsShaped lang mode (keys_of tokens.now) tree → GivesTree result tree }
+{
+    let grammar = Grammar {
+        input: Input {
+            alloc,
+            lang,
+            tokens: Tokens { tokens },
+            keeps: true,
+        },
+        rows: Ring {
+            room: MOST_NODES,
+            read: row,
+        },
+    };
+    whole(&grammar, mode)
+}
+
+/// The tree of a module or a script, as one row of entries. `Syntax` names the token where reading stopped, or the first
+/// one of the first node in which no simple target is assigned to, or updated.
+pub fn read_program(
+    alloc: Global,
+    lang: Lang,
+    mode: Mode,
+    tokens: &[Token],
+) -> Result<Vec<Entry>, SyntaxError>
+    // What is answered is kept of a plain tree of a program.
+    ensures kept { IfOk result (λ row. HoldsKept lang mode (keys_of tokens.now) row.items) }
+    // What is kept of one is answered, unless memory runs out: so `Syntax` comes only where there is none.
+    ensures only { (tree : Kept) → IsKept lang mode (keys_of tokens.now) tree → GivesTree result tree }
+{
+    let row = read_tree(alloc, lang, mode, tokens)?;
+    let entries = Entries {
+        entries: row.as_slice(),
+    };
+    match first_unsound(entries) {
+        Some(token) => Err(SyntaxError::Syntax {
+            token: token as usize,
+        }),
+        None => Ok(row),
+    }
+}

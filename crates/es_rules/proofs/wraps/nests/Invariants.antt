@@ -1,0 +1,26 @@
+use Rattle.std.proofs.Common.{◌≡◌, ◌∷◌, [], List, length}
+use Rattle.es_tree.specs.Productions.{test}
+use Rattle.es_cst.specs.declared.tree.Cst.{Cst}
+use Rattle.es_syntax.specs.declared.entry.Entry.{Entry}
+use Rattle.es_rules.specs.Bounded.{form_at, wraps_at}
+use Rattle.es_rules.specs.Steps.{keys_in, Writes, single}
+use Rattle.es_rules.proofs.WrapLemmas.{IsNested, rest_at}
+use Rattle.es_rules.proofs.wraps.nests.Given as goal
+
+-- what all turns make of the operand is what the turns left make of what was read
+abbrev pub invariant-turns : goal.invariant-turns
+invariant-turns g l =
+    (base : List Entry) (t : Cst) → length base ≡ l.from.entry
+    → Writes l.grammar.input.keeps base l.fn.cursor.row (t ∷ [])
+    → IsNested l.grammar.input.keeps (wraps_at (keys_in l.grammar.input) l.label (test (g.C.Tells.told l.told))
+    (form_at (keys_in l.grammar.input)
+    (g.T.Rows.below l.grammar.rows l.grammar.input)
+    (g.P.ReadsRhs.form l.turn)) l.from.token (length (keys_in l.grammar.input))
+    (single t l.fn.first) l.fn.cursor.at)
+    (rest_at (keys_in l.grammar.input) l.label (test (g.C.Tells.told l.told))
+    (form_at (keys_in l.grammar.input)
+    (g.T.Rows.below l.grammar.rows l.grammar.input)
+    (g.P.ReadsRhs.form l.turn)) l.from.token l.left l.cursor.at) l.height base l.cursor.row
+
+abbrev pub decreases-turns : goal.decreases-turns
+decreases-turns g l = l.left

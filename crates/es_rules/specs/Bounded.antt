@@ -1,0 +1,50 @@
+-- The reader of a table, as the code runs it: it keeps of each part what `slim` keeps, counts the nodes on a path, and
+-- makes no node that stands on a path with too many.
+use Rattle.std.specs.Prelude.{ℕ, zero, suc, leb, List, length}
+use Rattle.es_tree.specs.Key.{Key, seen}
+use Rattle.es_tree.specs.Productions.{Predicate, test, Rhs, Production, refuse, make, choose, as_, pick, wrap}
+use Rattle.es_tree.specs.Plain.{Makes, Tallied, tallied}
+use Rattle.es_tree.specs.Fits.{most_nodes}
+use Rattle.es_tree.specs.Reader.{Out, nothing, gives, and_then, changed, only_if, either, read_form}
+use Rattle.es_grammar.specs.declared.rows.NodeKind.{NodeKind}
+use Rattle.es_cst.specs.Slim.{Kept, slim}
+
+-- what is read: what is kept, with the most nodes on a path
+abbrev pub Read : Type 0
+Read = Tallied Kept
+
+-- what is made of each part
+abbrev pub makes : Makes NodeKind Read
+makes = tallied slim
+
+-- a node, where no path of it has too many
+unfoldable pub node_at : NodeKind → ℕ → ℕ → Read → Out Read
+node_at l from to v = only_if (leb (suc v.height) most_nodes) (gives (makes.of_node l from to v) to)
+
+-- the turns behind an operand that was read from a place on, at most so many
+unfoldable pub wraps_at : List Key → NodeKind → Predicate → (ℕ → Out Read) → ℕ → ℕ → Read → ℕ → Out Read
+wraps_at K l t parts from zero q at = either (t K at) nothing (gives q at)
+wraps_at K l t parts from (suc n) q at =
+    either (t K at)
+    (and_then (parts at) (λ ps to. and_then (node_at l from to (makes.of_cons q ps)) (wraps_at K l t parts from n)))
+    (gives q at)
+
+module _ {Row : Type 0} where
+  -- the parts of a node
+  unfoldable pub form_at : List Key → (Row → ℕ → Out Read) → Rhs Row → ℕ → Out Read
+  form_at K below f at = read_form makes K below f at
+
+  -- a rule
+  abbrev pub rule_at : List Key → (Row → ℕ → Out Read) → Production Row NodeKind → ℕ → Out Read
+  rule_at K below refuse at = nothing
+  rule_at K below (make l f) at = and_then (form_at K below f at) (λ ps to. node_at l at to ps)
+  rule_at K below (choose t a b) at = either (t (seen K at)) (rule_at K below a at) (rule_at K below b at)
+  rule_at K below (as_ w a) at = changed (makes.of_via w) (rule_at K below a at)
+  rule_at K below (pick g a b) at = either (g K at) (rule_at K below a at) (rule_at K below b at)
+  rule_at K below (wrap l a c f) at =
+      and_then (rule_at K below a at) (λ q mid. wraps_at K l (test c) (form_at K below f) at (length K) q mid)
+
+  -- a row, with at most `room` rows on a path
+  unfoldable pub row_at : (Row → Production Row NodeKind) → List Key → ℕ → Row → ℕ → Out Read
+  row_at rule K zero r at = nothing
+  row_at rule K (suc room) r at = rule_at K (row_at rule K room) (rule r) at

@@ -1,0 +1,18 @@
+//! Forms of the table of programs (`es_grammar`) that rows of expressions, of members and of statements share.
+#![tactic(auto)]
+
+mod ends;
+mod functions;
+mod patterns;
+mod typed;
+
+pub use ends::{Ended, ExpressionEnded, UsingIn};
+pub use functions::{
+    AbstractClass, AnyClass, AnyFunction, AsyncFunction, BodyIn, Class, ClassForm, Function,
+    NameIn, StarIn,
+};
+pub use patterns::{ArrayPattern, BracketPattern, DefaultIn, ObjectPattern, Pattern};
+pub use typed::{
+    AnnotationIn, ArrowResultIn, Asserted, AssertedOr, CallArgumentsIn, HeritageIn, ImplementsIn,
+    ReferencesIn, ResultIn, TypeArgumentsIn, TypeParametersIn, without_colon,
+};

@@ -1,0 +1,4 @@
+pub mod Claims
+pub mod LowLemmas
+pub mod AnswerLemmas
+pub mod EmbeddedLemmas

@@ -1,0 +1,15 @@
+-- What the reader of the table of programs answers for keys: for worked rows.
+use Rattle.std.specs.Prelude.{List}
+use Rattle.es_tree.specs.declared.error.Lang.{Lang}
+use Rattle.es_tree.specs.declared.error.Mode.{Mode}
+use Rattle.es_tree.specs.Key.{Key}
+use Rattle.es_tree.specs.Plain.{Plain, plain}
+use Rattle.es_tree.specs.Fits.{most_nodes}
+use Rattle.es_tree.specs.Reader.{Out, read_row}
+use Rattle.es_type_grammar.specs.declared.rows.NodeKind.{NodeKind}
+use Rattle.es_type_grammar.specs.Table.{rule}
+use Rattle.es_type_grammar.specs.Conditions.{program_row}
+
+-- what is read as a program, from the first key on
+unfoldable pub read_program : Lang → Mode → List Key → Out (Plain NodeKind)
+read_program l m K = read_row plain K rule most_nodes (program_row l m) 0

@@ -1,0 +1,14 @@
+//! The grammar of JavaScript and TypeScript programs as tables: definitions and their laws. It is written in the
+//! language of `es_tree` (`specs/Rhs.antt` there).
+//!
+//! - `Row`, `NodeKind`, `Context`: the rows of programs, the alternatives that make a node, and where a row stands.
+//! - `specs/TypeTable.antt`: the types of TypeScript, which hold no expression and so are a table by themselves; its
+//!   areas stand in `specs/Types.antt`, `Members.antt`, `Parameters.antt` and `TypeNames.antt`.
+//! - `proofs/Theorems.antt`: keys of tokens have at most one tree, and no test that only chooses bars a reading.
+//!
+//! `docs/GRAMMAR.md` tells the rows in words.
+#![tactic(auto)]
+
+mod rows;
+
+pub use rows::{Context, NodeKind, Row, TypeRow};

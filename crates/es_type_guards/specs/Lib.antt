@@ -1,2 +1,0 @@
--- tests and guards by name
-pub mod Named

@@ -1,0 +1,2 @@
+-- rules by the names of another table
+pub mod Labelled

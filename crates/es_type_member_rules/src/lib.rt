@@ -1,0 +1,12 @@
+//! Rows of the types' table (`es_type_grammar`): names, arguments, parameters, patterns, and members of types in braces.
+#![tactic(auto)]
+
+mod members;
+mod names;
+mod parameters;
+mod patterns;
+
+pub use members::{Key, Member};
+pub use names::{Arguments, EntityOf, ImportType, ReferenceOf, TypeParameters};
+pub use parameters::{ListBefore, MarkIn, Parameter, Parameters, ParametersIn, TypeIn};
+pub use patterns::{Pattern, PatternElement, PatternKey, PatternProperty};

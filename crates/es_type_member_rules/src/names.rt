@@ -1,0 +1,224 @@
+//! Names of types, and the lists of arguments and parameters between `<` and `>`.
+
+ghost use Rattle.es_type_predicates.specs.Named.{kinds_of};
+ghost use Rattle.es_type_grammar.specs.TypeNames.{further_names, entity, reference, import_type, arguments, type_parameter, type_parameters};
+ghost use Rattle.es_grammar.specs.TypeNames.{label_name};
+ghost use Rattle.es_type_member_rules.specs.Labelled.{labelled};
+
+use es_grammar::{NodeKind, TypeRow};
+use es_rules::{
+    ByLookahead, ByPredicate, Cursor, Done, Grammar, Greedy, LeafKind, Make, Many, OfRow, Opt,
+    Punct, ReadsProduction, ReadsRhs, Rows, Tok, When, Wrap,
+};
+use es_token::TokenKind;
+use es_tree::SyntaxError;
+use es_type_predicates::Lookahead::{Is, Other};
+use es_type_predicates::{Kinds, Lookahead, Predicate};
+
+/// ('.' Name)*, and what stands behind it
+#[derive(Clone, Copy)]
+pub struct FurtherNames<N>(pub N);
+
+impl<N: ReadsRhs<TypeRow> + Copy> ReadsRhs<TypeRow> for FurtherNames<N> {
+    ghost form = { λ s. further_names (N.form s.0) };
+
+    #[tactic(auto, unfolding(es_type_grammar::specs::TypeNames::further_names))]
+    fn read<T: Rows<TypeRow>>(
+        &self,
+        grammar: &Grammar<'_, T>,
+        cursor: &mut Cursor,
+    ) -> Result<usize, SyntaxError> {
+        Many(
+            Greedy(Is(TokenKind::Dot)),
+            Punct(TokenKind::Dot, Tok(LeafKind::Name, Kinds::Name, Done)),
+            self.0,
+        )
+        .read(grammar, cursor)
+    }
+}
+
+/// Entity: (Name | 'this') ('.' Name)*, by the kinds that its first token may have.
+#[derive(Clone, Copy)]
+pub struct EntityOf(pub Kinds);
+
+impl ReadsProduction<TypeRow> for EntityOf {
+    ghost rule = { λ s. labelled label_name (entity (kinds_of s.0)) };
+
+    #[tactic(auto, unfolding(es_type_grammar::specs::TypeNames::entity))]
+    fn read<T: Rows<TypeRow>>(
+        &self,
+        grammar: &Grammar<'_, T>,
+        cursor: &mut Cursor,
+    ) -> Result<usize, SyntaxError> {
+        Make(
+            NodeKind::EntityOfType,
+            Tok(LeafKind::Name, self.0, FurtherNames(Done)),
+        )
+        .read(grammar, cursor)
+    }
+}
+
+/// Ref: Entity (~ TArgs)?
+#[derive(Clone, Copy)]
+pub struct ReferenceOf(pub Kinds);
+
+impl ReadsProduction<TypeRow> for ReferenceOf {
+    ghost rule = { λ s. labelled label_name (reference (kinds_of s.0)) };
+
+    #[tactic(auto, unfolding(es_type_grammar::specs::TypeNames::reference))]
+    fn read<T: Rows<TypeRow>>(
+        &self,
+        grammar: &Grammar<'_, T>,
+        cursor: &mut Cursor,
+    ) -> Result<usize, SyntaxError> {
+        Wrap(
+            NodeKind::Reference,
+            EntityOf(self.0),
+            Greedy(Lookahead::OpensArguments),
+            When(
+                Lookahead::Near,
+                OfRow(TypeRow::ArgumentsRow, When(Lookahead::NoArguments, Done)),
+            ),
+        )
+        .read(grammar, cursor)
+    }
+}
+
+/// 'import' '(' Str ')' ('.' Entity)? TArgs?
+#[derive(Clone, Copy)]
+pub struct ImportType;
+
+impl ReadsProduction<TypeRow> for ImportType {
+    ghost rule = { λ _. labelled label_name import_type };
+
+    #[tactic(auto, unfolding(es_type_grammar::specs::TypeNames::import_type))]
+    fn read<T: Rows<TypeRow>>(
+        &self,
+        grammar: &Grammar<'_, T>,
+        cursor: &mut Cursor,
+    ) -> Result<usize, SyntaxError> {
+        Make(
+            NodeKind::ImportType,
+            Punct(
+                TokenKind::ImportWord,
+                Punct(
+                    TokenKind::OpenParen,
+                    Tok(
+                        LeafKind::Str,
+                        Kinds::Only(TokenKind::Str),
+                        Punct(
+                            TokenKind::CloseParen,
+                            Opt(
+                                Greedy(Is(TokenKind::Dot)),
+                                Punct(TokenKind::Dot, OfRow(TypeRow::EntityRow, Done)),
+                                Opt(
+                                    Greedy(Is(TokenKind::Less)),
+                                    OfRow(TypeRow::ArgumentsRow, Done),
+                                    Done,
+                                ),
+                            ),
+                        ),
+                    ),
+                ),
+            ),
+        )
+        .read(grammar, cursor)
+    }
+}
+
+/// TArgs: '<' Type (',' Type)* '>'
+#[derive(Clone, Copy)]
+pub struct Arguments;
+
+impl ReadsProduction<TypeRow> for Arguments {
+    ghost rule = { λ _. labelled label_name arguments };
+
+    #[tactic(auto, unfolding(es_type_grammar::specs::TypeNames::arguments))]
+    fn read<T: Rows<TypeRow>>(
+        &self,
+        grammar: &Grammar<'_, T>,
+        cursor: &mut Cursor,
+    ) -> Result<usize, SyntaxError> {
+        Make(
+            NodeKind::TypeArguments,
+            Punct(
+                TokenKind::Less,
+                OfRow(
+                    TypeRow::TypeRow(true),
+                    Many(
+                        Greedy(Is(TokenKind::Comma)),
+                        Punct(TokenKind::Comma, OfRow(TypeRow::TypeRow(true), Done)),
+                        Punct(TokenKind::Greater, Done),
+                    ),
+                ),
+            ),
+        )
+        .read(grammar, cursor)
+    }
+}
+
+/// ('const' | 'in' | 'out')* Name ('extends' Type)? ('=' Type)?, a `,` unless `>` follows, and what stands behind it
+#[derive(Clone, Copy)]
+pub struct TypeParameter<N>(pub N);
+
+impl<N: ReadsRhs<TypeRow> + Copy> ReadsRhs<TypeRow> for TypeParameter<N> {
+    ghost form = { λ s. type_parameter (N.form s.0) };
+
+    #[tactic(auto, unfolding(es_type_grammar::specs::TypeNames::type_parameter))]
+    fn read<T: Rows<TypeRow>>(
+        &self,
+        grammar: &Grammar<'_, T>,
+        cursor: &mut Cursor,
+    ) -> Result<usize, SyntaxError> {
+        Many(
+            ByPredicate(Predicate::OpensModifier),
+            Tok(LeafKind::Kind, Kinds::Modifier, Done),
+            Tok(
+                LeafKind::Name,
+                Kinds::Name,
+                Opt(
+                    Greedy(Is(TokenKind::ExtendsWord)),
+                    Punct(TokenKind::ExtendsWord, OfRow(TypeRow::TypeRow(true), Done)),
+                    Opt(
+                        Greedy(Is(TokenKind::Equal)),
+                        Punct(TokenKind::Equal, OfRow(TypeRow::TypeRow(true), Done)),
+                        Opt(
+                            Greedy(Other(TokenKind::Greater)),
+                            Punct(TokenKind::Comma, Done),
+                            self.0,
+                        ),
+                    ),
+                ),
+            ),
+        )
+        .read(grammar, cursor)
+    }
+}
+
+/// TParams: '<' one or more of them, with an optional last ',' '>'
+#[derive(Clone, Copy)]
+pub struct TypeParameters;
+
+impl ReadsProduction<TypeRow> for TypeParameters {
+    ghost rule = { λ _. labelled label_name type_parameters };
+
+    #[tactic(auto, unfolding(es_type_grammar::specs::TypeNames::type_parameters))]
+    fn read<T: Rows<TypeRow>>(
+        &self,
+        grammar: &Grammar<'_, T>,
+        cursor: &mut Cursor,
+    ) -> Result<usize, SyntaxError> {
+        Make(
+            NodeKind::TypeParameters,
+            Punct(
+                TokenKind::Less,
+                TypeParameter(Many(
+                    ByLookahead(Other(TokenKind::Greater)),
+                    TypeParameter(Done),
+                    Punct(TokenKind::Greater, Done),
+                )),
+            ),
+        )
+        .read(grammar, cursor)
+    }
+}

@@ -1,0 +1,2 @@
+-- tests and predicates by name
+pub mod Named

@@ -1,0 +1,152 @@
+//! Predicates of types, elements of tuples and results.
+
+ghost use Rattle.std.specs.Prelude.{◌≡◌};
+ghost use Rattle.es_token.specs.declared.token.TokenKind.TheVariants as k;
+ghost use Rattle.es_tree.specs.Key.{keys_of, is};
+ghost use Rattle.es_type_grammar.specs.Words.{closes_before};
+ghost use Rattle.es_type_grammar.specs.Types.{shows_mapped, opens_mapped, opens_this_reference, is_keyword_type, opens_operator, opens_infer, opens_function, opens_constructor, is_label, opens_asserts, opens_predicate};
+
+use crate::looks::{begins_type, has, is, is_asserted_name, is_near};
+use crate::named::Kinds;
+use es_lookahead::Tokens;
+use es_token::TokenKind;
+
+/// '[' Name 'in'
+#[tactic(auto, unfolding(es_type_grammar::specs::Types::shows_mapped))]
+fn shows_mapped(tokens: &Tokens<'_>, at: usize) -> bool
+    ensures { result ≡ shows_mapped (keys_of tokens.now.tokens.now) at }
+{
+    tokens.sees(TokenKind::OpenBracket, at)
+        && has(Kinds::Name, tokens.seen_after(at, 1))
+        && is(TokenKind::InWord, tokens.seen_after(at, 2))
+}
+
+/// `{` before `[ Name in`, behind `readonly`, `+ readonly` or `- readonly` too.
+#[tactic(auto, unfolding(es_type_grammar::specs::Types::opens_mapped))]
+pub fn opens_mapped(tokens: &Tokens<'_>, at: usize) -> bool
+    ensures { result ≡ opens_mapped (keys_of tokens.now.tokens.now) at }
+{
+    if at >= tokens.tokens.len() {
+        return false;
+    }
+    if shows_mapped(tokens, at + 1) {
+        return true;
+    }
+    let next = tokens.seen_after(at, 1);
+    if is(TokenKind::ReadonlyWord, next) && shows_mapped(tokens, at + 2) {
+        return true;
+    }
+    has(Kinds::Sign, next)
+        && is(TokenKind::ReadonlyWord, tokens.seen_after(at, 2))
+        && shows_mapped(tokens, at + 3)
+}
+
+/// `this` before `.`, or before `<` on its line.
+#[tactic(auto, unfolding(es_type_grammar::specs::Types::opens_this_reference))]
+pub fn opens_this_reference(tokens: &Tokens<'_>, at: usize) -> bool
+    ensures { result ≡ opens_this_reference (keys_of tokens.now.tokens.now) at }
+{
+    let next = tokens.seen_after(at, 1);
+    is(TokenKind::Dot, next) || (is(TokenKind::Less, next) && is_near(next))
+}
+
+/// A word of a keyword type, not before `.`.
+#[tactic(auto, unfolding(es_type_grammar::specs::Types::is_keyword_type))]
+pub fn is_keyword_type(tokens: &Tokens<'_>, at: usize) -> bool
+    ensures { result ≡ is_keyword_type (keys_of tokens.now.tokens.now) at }
+{
+    has(Kinds::TypeWord, tokens.seen(at)) && !is(TokenKind::Dot, tokens.seen_after(at, 1))
+}
+
+/// An operator before a token that can begin a type.
+#[tactic(auto, unfolding(es_type_grammar::specs::Types::opens_operator))]
+pub fn opens_operator(tokens: &Tokens<'_>, at: usize) -> bool
+    ensures { result ≡ opens_operator (keys_of tokens.now.tokens.now) at }
+{
+    has(Kinds::TypeOperator, tokens.seen(at)) && begins_type(tokens.seen_after(at, 1))
+}
+
+/// `infer` before a name.
+#[tactic(auto, unfolding(es_type_grammar::specs::Types::opens_infer))]
+pub fn opens_infer(tokens: &Tokens<'_>, at: usize) -> bool
+    ensures { result ≡ opens_infer (keys_of tokens.now.tokens.now) at }
+{
+    tokens.sees(TokenKind::InferWord, at) && has(Kinds::Name, tokens.seen_after(at, 1))
+}
+
+/// Whether the bracket that matches the one at this place stands before `=>`.
+fn closes_before_arrow(tokens: &Tokens<'_>, at: usize) -> bool
+    ensures { result ≡ closes_before (is k.Arrow) (keys_of tokens.now.tokens.now) at }
+{
+    match tokens.partner(at) {
+        Some(closer) => is(TokenKind::Arrow, tokens.seen_after(closer, 1)),
+        None => false,
+    }
+}
+
+/// `(` whose `)` stands before `=>`, or `<`.
+#[tactic(auto, unfolding(es_type_grammar::specs::Types::opens_function))]
+pub fn opens_function(tokens: &Tokens<'_>, at: usize) -> bool
+    ensures { result ≡ opens_function (keys_of tokens.now.tokens.now) at }
+{
+    tokens.sees(TokenKind::Less, at)
+        || (tokens.sees(TokenKind::OpenParen, at) && closes_before_arrow(tokens, at))
+}
+
+/// `new`, or `abstract` before a `new` that stands before a function type.
+#[tactic(auto, unfolding(es_type_grammar::specs::Types::opens_constructor))]
+pub fn opens_constructor(tokens: &Tokens<'_>, at: usize) -> bool
+    ensures { result ≡ opens_constructor (keys_of tokens.now.tokens.now) at }
+{
+    if tokens.sees(TokenKind::NewWord, at) {
+        return true;
+    }
+    let _length = tokens.tokens.len();
+    if !tokens.stands(TokenKind::AbstractWord, at) {
+        return false;
+    }
+    if is(TokenKind::NewWord, tokens.seen_after(at, 1)) {
+        opens_function(tokens, at + 2)
+    } else {
+        false
+    }
+}
+
+/// A name before `:` or `? :`.
+#[tactic(auto, unfolding(es_type_grammar::specs::Types::is_label))]
+pub fn is_label(tokens: &Tokens<'_>, at: usize) -> bool
+    ensures { result ≡ is_label (keys_of tokens.now.tokens.now) at }
+{
+    if !has(Kinds::Name, tokens.seen(at)) {
+        return false;
+    }
+    let next = tokens.seen_after(at, 1);
+    is(TokenKind::Colon, next)
+        || (is(TokenKind::Question, next) && is(TokenKind::Colon, tokens.seen_after(at, 2)))
+}
+
+/// `asserts` before the name that is asserted.
+#[tactic(auto, unfolding(es_type_grammar::specs::Types::opens_asserts))]
+pub fn opens_asserts(tokens: &Tokens<'_>, at: usize) -> bool
+    ensures { result ≡ opens_asserts (keys_of tokens.now.tokens.now) at }
+{
+    if !tokens.sees(TokenKind::AssertsWord, at) {
+        return false;
+    }
+    let next = tokens.seen_after(at, 1);
+    is_near(next)
+        && has(Kinds::NameOrThis, next)
+        && (!is(TokenKind::IsWord, next) || is_asserted_name(tokens.seen_after(at, 2)))
+}
+
+/// A name before `is` on its line, where a token that can begin a type follows.
+#[tactic(auto, unfolding(es_type_grammar::specs::Types::opens_predicate))]
+pub fn opens_predicate(tokens: &Tokens<'_>, at: usize) -> bool
+    ensures { result ≡ opens_predicate (keys_of tokens.now.tokens.now) at }
+{
+    if !has(Kinds::NameOrThis, tokens.seen(at)) {
+        return false;
+    }
+    let next = tokens.seen_after(at, 1);
+    is_near(next) && is(TokenKind::IsWord, next) && begins_type(tokens.seen_after(at, 2))
+}

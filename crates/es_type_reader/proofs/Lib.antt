@@ -1,4 +1,0 @@
-pub mod NameLemmas
-pub mod SlimLemmas
-pub mod FormLemmas
-pub mod WrapLemmas

@@ -1,9 +1,0 @@
--- rows and alternatives of the table by the values that name them in the code
-pub mod Names
--- the tree that is kept of a plain tree, and the reader that makes it
-pub mod Slim
-pub mod Bounded
--- what the values of the code stand for
-pub mod Told
--- what the functions of the crate promise each other
-pub mod Steps

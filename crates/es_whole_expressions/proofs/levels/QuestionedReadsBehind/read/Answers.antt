@@ -1,4 +1,0 @@
-use Rattle.es_whole_expressions.proofs.levels.QuestionedReadsBehind.read.Goals as goal
-
-pub returns : goal.returns
-returns g c = λ a base there read. rw (← c.without_colon-first.ensures) (c.read.ensures a base there read)

@@ -1,5 +1,0 @@
-mod Equations
-mod Forests
-mod Refused
-mod Roles
-pub mod NamedLemmas

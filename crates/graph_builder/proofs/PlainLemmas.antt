@@ -1,0 +1,112 @@
+-- Where nothing is to be judged, first entries are those of the graph.
+use Rattle.std.proofs.Common.{◌≡◌, ℕ, Bool, true, false, cond, List, [], ◌∷◌, map, refl, sym, ◌∙◌, ap, ap₂, Option, Some, None}
+use Rattle.std.specs.Prelude.{not, ◌&&◌, bytes_eq, option_and_then, Result, Ok, Err}
+use Rattle.std.specs.List.{list_all}
+use Rattle.url.specs.Parts.{Parts}
+use Rattle.es_site.specs.declared.site.Attribute.{Attribute}
+use Rattle.es_site.specs.declared.site.Attribute.TheVariants.{Absent, Named, Unknown}
+use Rattle.graph_entry.specs.Specifier.{text_of}
+use Rattle.graph_entry.specs.Resolution.{Resolved}
+use Rattle.graph_entry.specs.declared.entry.Dependency.{Dependency}
+use Rattle.graph_entry.specs.declared.entry.Module.{Module}
+use Rattle.graph_entry.specs.declared.entry.Module.TheVariants.{Js, Json, Wasm}
+use Rattle.graph_entry.specs.declared.entry.Entry.{Entry}
+use Rattle.graph_entry.specs.declared.entry.Entry.TheVariants as entry
+use Rattle.graph_builder.specs.Rules.{edges_of}
+use Rattle.graph_builder.specs.Reach.{Specifier, Rules}
+use Rattle.graph_builder.specs.Graph.{entry_of, resolved, module_of, module_at}
+use Rattle.graph_builder.specs.Final.{fits, with_edges}
+use Rattle.graph_builder.specs.Settling.{is_named, are_unnamed, is_plain, are_plain, is_unfit, is_unfit_at, is_misfit, settled_edge, settled, finals_of}
+
+left : (a b : Bool) → a && b ≡ true → a ≡ true
+left true b h = refl
+left false b h = absurd cc
+
+right : (a b : Bool) → a && b ≡ true → b ≡ true
+right true b h = h
+right false b h = absurd cc
+
+and_false : (a : Bool) → a && false ≡ false
+and_false true = refl
+and_false false = refl
+
+off : (b : Bool) → not b ≡ true → b ≡ false
+off true h = absurd cc
+off false h = refl
+
+-- each entry is plain
+entry_plain : (firsts : List (Parts × Entry)) (s : Specifier) (e : Entry) → are_plain firsts ≡ true
+    → entry_of firsts s ≡ Some e
+    → is_plain e ≡ true
+entry_plain [] s e h is = absurd cc
+entry_plain (f ∷ firsts) s e h is =
+    by (bytes_eq s (text_of f.0)) (left (is_plain f.1) (are_plain firsts) h)
+    (λ later. entry_plain firsts s e (right (is_plain f.1) (are_plain firsts) h) later) is
+  where
+    by : (b : Bool) → is_plain f.1 ≡ true → (entry_of firsts s ≡ Some e → is_plain e ≡ true)
+        → cond b (Some f.1) (entry_of firsts s) ≡ Some e → is_plain e ≡ true
+    by true here later i = let one : f.1 ≡ e = cc in ap is_plain (sym one) ∙ here
+    by false here later i = later i
+
+-- an attribute that names nothing fits a plain module
+fits_plain : (a : Attribute) (m : Module) → is_named a ≡ false → is_plain (entry.Module m) ≡ true → fits a m ≡ true
+fits_plain Absent (Js m) h p = refl
+fits_plain Absent (Json m) h p = absurd cc
+fits_plain Absent (Wasm m) h p = refl
+fits_plain (Named text) m h p = absurd cc
+fits_plain Unknown m h p = refl
+
+module _ (rules : Rules) (firsts : List (Parts × Entry)) (plain : are_plain firsts ≡ true) where
+  fits_found : (a : Attribute) (s : Specifier) → is_named a ≡ false → is_unfit a (module_at firsts s) ≡ false
+  fits_found a s unnamed =
+      by (entry_of firsts (resolved firsts s)) (λ e is. entry_plain firsts (resolved firsts s) e plain is)
+    where
+      by : (f : Option Entry) → ((e : Entry) → f ≡ Some e → is_plain e ≡ true)
+          → is_unfit a (option_and_then module_of f) ≡ false
+      by None each = refl
+      by (Some (entry.Redirect target)) each = refl
+      by (Some (entry.Module m)) each = ap not (fits_plain a m unnamed (each (entry.Module m) refl))
+      by (Some (entry.Package held)) each = refl
+      by (Some entry.External) each = refl
+      by (Some (entry.Error e)) each = refl
+
+  -- no edge is refused
+  no_misfit : (m : Module) (d : Dependency) → is_named d.attribute ≡ false → is_misfit rules firsts m d ≡ false
+  no_misfit m d unnamed =
+      ap (λ (b : Bool). rules.follows m d && b) (by d.resolution) ∙ and_false (rules.follows m d)
+    where
+      by : (r : Resolved) → is_unfit_at firsts d.attribute r ≡ false
+      by (Ok target) = fits_found d.attribute (text_of target) unnamed
+      by (Err e) = refl
+
+  edges_stay : (m : Module) (ds : List Dependency) → are_unnamed ds ≡ true
+      → map (λ d. settled_edge (is_misfit rules firsts m d) d) ds ≡ ds
+  edges_stay m [] h = refl
+  edges_stay m (d ∷ ds) h =
+      ap₂ (λ (e : Dependency) (es : List Dependency). e ∷ es)
+      (ap (λ (b : Bool). settled_edge b d)
+      (no_misfit m d (off (is_named d.attribute) (left (not (is_named d.attribute)) (are_unnamed ds) h))))
+      (edges_stay m ds (right (not (is_named d.attribute)) (are_unnamed ds) h))
+
+  entry_stays : (e : Entry) → is_plain e ≡ true → settled rules firsts e ≡ e
+  entry_stays (entry.Redirect target) h = absurd cc
+  entry_stays (entry.Module (Js m)) h =
+      ap (λ (ds : List Dependency). entry.Module (with_edges (Js m) ds)) (edges_stay (Js m) m.dependencies h)
+  entry_stays (entry.Module (Json m)) h = absurd cc
+  entry_stays (entry.Module (Wasm m)) h =
+      ap (λ (ds : List Dependency). entry.Module (with_edges (Wasm m) ds)) (edges_stay (Wasm m) m.dependencies h)
+  entry_stays (entry.Package held) h = refl
+  entry_stays entry.External h = refl
+  entry_stays (entry.Error e) h = refl
+
+  all_stay : (es : List (Parts × Entry)) → are_plain es ≡ true → map (λ e. (e.0, settled rules firsts e.1)) es ≡ es
+  all_stay [] h = refl
+  all_stay (e ∷ es) h =
+      ap₂ (λ (f : Parts × Entry) (fs : List (Parts × Entry)). f ∷ fs)
+      (ap (λ (s : Entry). (e.0, s)) (entry_stays e.1 (left (is_plain e.1) (are_plain es) h)))
+      (all_stay es (right (is_plain e.1) (are_plain es) h))
+
+-- plain entries are those of the graph
+pub plain_finals : (rules : Rules) (firsts : List (Parts × Entry)) → are_plain firsts ≡ true
+    → firsts ≡ finals_of rules firsts
+plain_finals rules firsts plain = sym (all_stay rules firsts plain firsts plain)

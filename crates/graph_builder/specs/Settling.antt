@@ -1,0 +1,154 @@
+-- How the first entries of all that is reached become those of the graph.
+use Rattle.std.specs.Prelude.{◌≡◌, ℕ, length, zero, suc, Bool, true, false, not, ◌&&◌, List, map, Option, Some, None, is_some, option_and_then, Ok, Err, if◌then◌else◌}
+use Rattle.std.specs.List.{zip, list_all}
+use Rattle.url.specs.Parts.{Parts}
+use Rattle.es_site.specs.declared.site.Attribute.{Attribute}
+use Rattle.es_site.specs.declared.site.Attribute.TheVariants.{Absent, Named, Unknown}
+use Rattle.graph_entry.specs.Specifier.{text_of}
+use Rattle.graph_entry.specs.Resolution.{Resolved}
+use Rattle.graph_entry.specs.declared.entry.Dependency.{Dependency}
+use Rattle.graph_entry.specs.declared.entry.Module.{Module}
+use Rattle.graph_entry.specs.declared.entry.Module.TheVariants.{Js, Json, Wasm}
+use Rattle.graph_entry.specs.declared.entry.Entry.{Entry}
+use Rattle.graph_entry.specs.declared.entry.Entry.TheVariants as entry
+use Rattle.graph_entry.specs.declared.entry.ModuleError.TheVariants.{TooManyRedirects}
+use Rattle.graph_builder.specs.declared.slot.Slot.{Slot}
+use Rattle.graph_builder.specs.declared.settle.Verdict.{Verdict}
+use Rattle.graph_builder.specs.declared.settle.Verdict.TheVariants.{Kept, TooFar, Judged}
+use Rattle.graph_builder.specs.declared.following.Following.{Following}
+use Rattle.graph_builder.specs.Rules.{edges_of, is_followed}
+use Rattle.graph_builder.specs.Reach.{Specifier, Rules}
+use Rattle.graph_builder.specs.Graph.{GraphData, texts, entry_of, redirected, module_at, IsAscending}
+use Rattle.graph_builder.specs.ByText.{keys_at}
+use Rattle.graph_builder.specs.Final.{most_redirects, fits, refused_edge, with_edges}
+use Rattle.graph_builder.specs.Inside.{all_done}
+
+-- ---- redirects
+
+-- where so many steps lead, if there are so many
+abbrev pub led : (Specifier → Option Specifier) → ℕ → Specifier → Option Specifier
+led next zero s = Some s
+led next (suc n) s = option_and_then (led next n) (next s)
+
+-- from here as many redirects lead on as are followed
+abbrev pub leads_on : List (Parts × Entry) → Specifier → Bool
+leads_on firsts s = is_some (led (redirected firsts) most_redirects s)
+
+-- ---- attributes
+
+-- the attribute doesn't fit the module, if there is one
+abbrev pub is_unfit : Attribute → Option Module → Bool
+is_unfit attribute None = false
+is_unfit attribute (Some m) = not (fits attribute m)
+
+-- the attribute doesn't fit the module at the edge's end
+abbrev pub is_unfit_at : List (Parts × Entry) → Attribute → Resolved → Bool
+is_unfit_at firsts attribute (Ok target) = is_unfit attribute (module_at firsts (text_of target))
+is_unfit_at firsts attribute (Err e) = false
+
+-- the edge of a module is refused for its attribute
+abbrev pub is_misfit : Rules → List (Parts × Entry) → Module → Dependency → Bool
+is_misfit rules firsts m d = rules.follows m d && is_unfit_at firsts d.attribute d.resolution
+
+-- the same of an edge of a module with types, or without, by the rules of this crate
+abbrev pub is_misfit_here : Following → Bool → List (Parts × Entry) → Dependency → Bool
+is_misfit_here following typed firsts d = is_followed following typed d && is_unfit_at firsts d.attribute d.resolution
+
+-- ---- entries that nothing is to be judged of
+
+-- an attribute names something
+abbrev pub is_named : Attribute → Bool
+is_named Absent = false
+is_named (Named text) = true
+is_named Unknown = false
+
+-- no attribute of an edge does
+abbrev pub are_unnamed : List Dependency → Bool
+are_unnamed edges = list_all (λ d. not (is_named d.attribute)) edges
+
+-- the entry doesn't redirect and isn't JSON, and no attribute of its edges names something
+abbrev pub is_plain : Entry → Bool
+is_plain (entry.Redirect target) = false
+is_plain (entry.Module (Js m)) = are_unnamed m.dependencies
+is_plain (entry.Module (Json m)) = false
+is_plain (entry.Module (Wasm m)) = are_unnamed m.dependencies
+is_plain (entry.Package held) = true
+is_plain entry.External = true
+is_plain (entry.Error e) = true
+
+-- all of a list are so
+abbrev pub all_plain : List Entry → Bool
+all_plain firsts = list_all is_plain firsts
+
+-- all entries are so
+abbrev pub are_plain : List (Parts × Entry) → Bool
+are_plain firsts = list_all (λ e. is_plain e.1) firsts
+
+-- ---- what becomes of an entry
+
+-- the entries without their specifiers
+abbrev pub values_of : List (Parts × Entry) → List Entry
+values_of firsts = map (λ e. e.1) firsts
+
+-- what is to become of it
+abbrev pub verdict_of : Rules → List (Parts × Entry) → Entry → Verdict
+verdict_of rules firsts (entry.Redirect target) = if leads_on firsts (text_of target) then TooFar else Kept
+verdict_of rules firsts (entry.Module m) = Judged (map (is_misfit rules firsts m) (edges_of m))
+verdict_of rules firsts (entry.Package held) = Kept
+verdict_of rules firsts entry.External = Kept
+verdict_of rules firsts (entry.Error e) = Kept
+
+-- an edge that is refused for its attribute, or isn't
+abbrev pub settled_edge : Bool → Dependency → Dependency
+settled_edge true d = refused_edge d
+settled_edge false d = d
+
+-- the edges, each refused where its place says so
+abbrev pub judged_edges : List Bool → List Dependency → List Dependency
+judged_edges refused edges = map (λ p. settled_edge p.0 p.1) (zip refused edges)
+
+-- the entry by its verdict
+abbrev pub judged : Verdict → Entry → Entry
+judged Kept first = first
+judged TooFar (entry.Redirect target) = entry.Error (TooManyRedirects target)
+judged TooFar (entry.Module m) = entry.Module m
+judged TooFar (entry.Package held) = entry.Package held
+judged TooFar entry.External = entry.External
+judged TooFar (entry.Error e) = entry.Error e
+judged (Judged refused) (entry.Module m) = entry.Module (with_edges m (judged_edges refused (edges_of m)))
+judged (Judged refused) (entry.Redirect target) = entry.Redirect target
+judged (Judged refused) (entry.Package held) = entry.Package held
+judged (Judged refused) entry.External = entry.External
+judged (Judged refused) (entry.Error e) = entry.Error e
+
+-- the entries by their verdicts
+abbrev pub all_judged : List Verdict → List Entry → List Entry
+all_judged verdicts firsts = map (λ p. judged p.0 p.1) (zip verdicts firsts)
+
+-- a verdict on a module has a place for each of its edges
+abbrev pub IsVerdictOn : Verdict → Entry → Type 0
+IsVerdictOn (Judged refused) (entry.Module m) = length refused ≡ length (edges_of m)
+IsVerdictOn verdict first = Unit {0}
+
+-- what a first entry becomes
+abbrev pub settled : Rules → List (Parts × Entry) → Entry → Entry
+settled rules firsts (entry.Redirect target) =
+    if leads_on firsts (text_of target) then entry.Error (TooManyRedirects target) else entry.Redirect target
+settled rules firsts (entry.Module m) =
+    entry.Module (with_edges m (map (λ d. settled_edge (is_misfit rules firsts m d) d) (edges_of m)))
+settled rules firsts (entry.Package held) = entry.Package held
+settled rules firsts entry.External = entry.External
+settled rules firsts (entry.Error e) = entry.Error e
+
+-- the entries of the graph
+abbrev pub finals_of : Rules → List (Parts × Entry) → List (Parts × Entry)
+finals_of rules firsts = map (λ e. (e.0, settled rules firsts e.1)) firsts
+
+-- the slots all have a first entry; the graph's entries are what these become, in the order of bytes, and their numbers stay
+pub record AreSettled (rules : Rules) (slots : List (Parts × Slot)) (graph : GraphData) : Type 0 where
+  pub firsts : List (Parts × Entry)
+  pub done : slots ≡ all_done firsts
+  pub ascending : IsAscending graph.entries
+  pub is : (t : Specifier) → entry_of graph.entries t ≡ entry_of (finals_of rules firsts) t
+  pub counted : length graph.entries ≡ length firsts
+  pub numbered : texts graph.numbered ≡ keys_at slots

@@ -1,0 +1,44 @@
+//! The builder of a graph, over any loader and any ways of reading an answer and of following edges.
+//!
+//! - `trait Ways`: what an answer means, which edges are followed, and where specifiers lead. `Own` has a caller's own
+//!   resolver and analyser.
+//! - `CustomBuild::poll`: the graph of the roots and the loader's answers by a caller's own resolver and analyser, or why there
+//!   is none yet (`IsGraph`, `specs/Graph.antt`; reached, `specs/Reach.antt`; the causes, `specs/Builder.antt`). `Inner` is the
+//!   same over any `Ways`.
+//! - `Loader`: what a loader's calls do to its data (`specs/Loader.antt`). `MemoryLoader` is one that has its
+//!   modules in memory (`specs/Memory.antt`).
+//! - `ModuleGraph::{roots, referrer_imports, entry, entries}`: look into the graph.
+//!
+//! No reader of the grammar stands below it: `deno_graph` has the builder whose sources the parser reads.
+//! `OutOfMemory` is the one answer that no clause ties to a cause.
+#![tactic(auto)]
+
+mod by_number;
+mod custom;
+mod entries;
+mod error;
+mod finish;
+mod following;
+mod graph;
+mod inner;
+mod loader;
+mod memory_loader;
+mod options;
+mod own;
+mod progress;
+mod reaching;
+mod settle;
+mod slot;
+mod ways;
+
+pub use custom::CustomBuild;
+pub use entries::Entries;
+pub use error::BuildError;
+pub use following::Following;
+pub use graph::ModuleGraph;
+pub use inner::{Inner, Parts};
+pub use loader::{Loader, LoaderPoll};
+pub use memory_loader::{Arrival, MemoryLoader};
+pub use options::BuildOptions;
+pub use own::Own;
+pub use ways::Ways;

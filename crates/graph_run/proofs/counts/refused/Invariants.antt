@@ -1,8 +1,0 @@
-use Rattle.std.proofs.Common.{◌≡◌, take}
-use Rattle.std.specs.Prelude.{count_by}
-use Rattle.graph_run.specs.Summary.{is_refused}
-use Rattle.graph_run.proofs.counts.refused.Given as goal
-
--- the edges so far were counted
-abbrev pub invariant-loop-edge : goal.invariant-loop-edge
-invariant-loop-edge l = l.count ≡ count_by is_refused (take l.edge-index l.edges)

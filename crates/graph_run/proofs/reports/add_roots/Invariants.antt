@@ -1,9 +1,0 @@
-use Rattle.std.proofs.Common.{take}
-use Rattle.std.specs.List.{flat_map}
-use Rattle.graph_run.specs.Report.{root_line}
-use Rattle.graph_run.specs.Steps.{Adds}
-use Rattle.graph_run.proofs.reports.add_roots.Given as goal
-
--- the lines of the roots so far were added
-abbrev pub invariant-loop-root : goal.invariant-loop-root
-invariant-loop-root l = Adds l.initial.out l.out (flat_map root_line (take l.root-index l.roots))
