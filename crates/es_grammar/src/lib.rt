@@ -1,5 +1,5 @@
 //! The grammar of programs in both languages as one table, of which the language is a parameter: definitions and their
-//! laws. It is written in the language of `es_tree` (`specs/Rhs.antt` there).
+//! laws. It is written in the language of `es_tree` (`specs/Productions.antt` there).
 //!
 //! - `specs/Table.antt`: the rule of each row; its areas stand in `specs/Items.antt`, `Declarations.antt`,
 //!   `Statements.antt`, `Functions.antt`, `Classes.antt` and `Expressions.antt`.

@@ -1,5 +1,5 @@
 //! The grammar of JavaScript and TypeScript programs as tables: definitions and their laws. It is written in the
-//! language of `es_tree` (`specs/Rhs.antt` there).
+//! language of `es_tree` (`specs/Productions.antt` there).
 //!
 //! - `Row`, `NodeKind`, `Context`: the rows of programs, the alternatives that make a node, and where a row stands.
 //! - `specs/TypeTable.antt`: the types of TypeScript, which hold no expression and so are a table by themselves; its
