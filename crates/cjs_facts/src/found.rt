@@ -39,8 +39,10 @@ impl Found {
         }
     }
 
-    /// Where names take their memory from.
-    pub fn allocator(&self) -> Global {
+    /// Where names take their memory from. There is only one such allocator.
+    pub fn allocator(&self) -> Global
+        ensures { (any : Global) → result ≡ any }
+    {
         self.exports.allocator()
     }
 
