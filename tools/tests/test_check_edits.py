@@ -87,12 +87,29 @@ class Edits(unittest.TestCase):
 
 
 # The toolchain as far as edits go: it refuses those whose new text isn't `right`, and takes a tenth of a second for each crate.
+# bin/unproved names crates that aren't proved among others, and with a `!` those that never are.
 TOOLCHAIN = """#!/bin/sh
 [ "$1" = version ] && { echo rattle-kit-0; exit; }
 [ "$1" = help ] && { echo 'What a run passed is kept'; exit; }
 sleep 0.1
+unproved=" $(cat "${0%rt}unproved") "
+crates=$(ls -d crates/*/must-fail | wc -l)
+not_proved() {
+  seq -f "fn $1::early_%g: proved" 50
+  echo "fn $1::error: proved"
+  echo "fn $1::middle: no proof: expected answers in ./proofs/middle/Answers.antt; \`search\` did not prove \`result\`"
+  echo "help: write these lines"
+  seq -f "    line %g" 50
+  echo "note: \`result\` of proofs/middle/Answers.antt must prove: c.result ≡ 7"
+  seq -f "fn $1::late_%g: proved" 50
+  echo "rt: $1 NOT PROVED"
+}
 for edit in crates/*/must-fail/*.edit; do
   crate=${edit#crates/}
+  case "$unproved" in
+    *" !${crate%%/*} "*) not_proved "${crate%%/*}"; continue ;;
+    *" ${crate%%/*} "*) [ "$crates" = 1 ] || { not_proved "${crate%%/*}"; continue; } ;;
+  esac
   case "$(cat "$edit")" in
     *right*) said='NOT REFUSED: the crate is still proved with this edit' ;;
     *) said='refused, as it must be: src/lib.rt:1:1: error' ;;
@@ -113,7 +130,7 @@ class Runs(unittest.TestCase):
         check_edits.ROOT, check_edits.MOST_AT_ONCE = self.room, 2
         os.environ["PATH"] = f"{self.room}/bin:{old[2]}"
         self.addCleanup(lambda: (setattr(check_edits, "ROOT", old[0]), setattr(check_edits, "MOST_AT_ONCE", old[1]), os.environ.update(PATH=old[2])))
-        for path, text in {**FILES, **EDITS, "bin/rt": TOOLCHAIN, check_edits.TABLE: ""}.items():
+        for path, text in {**FILES, **EDITS, "bin/rt": TOOLCHAIN, "bin/unproved": "", check_edits.TABLE: ""}.items():
             Edits.write(self, path, text)
         os.chmod(f"{self.room}/bin/rt", 0o755)
 
@@ -156,6 +173,55 @@ class Runs(unittest.TestCase):
         self.assertEqual(status, 1)
         self.assertIn("edits: low/b.edit: NOT REFUSED: the crate is still proved with this edit", lines)
         self.assertNotIn("low/b.edit", self.table())
+
+    def test_a_crate_that_is_not_proved_among_others_is_tried_once_more_alone(self):
+        check_edits.MOST_AT_ONCE = 8
+        Edits.write(self, "bin/unproved", "side")
+        lines, status = self.run_of("--write")
+        self.assertEqual((lines[0], status), ("edits: 5 are tried, of high, low, side", 0))
+        again = lines.index("edits: 2 of side weren't tried, and are tried once more, it alone")
+        self.assertEqual(lines[again + 1:], ["edits: tried in this run: 5, 5 of them refused, as they must be"])
+        self.assertEqual(self.table(), ["high/a.edit", "low/a.edit", "low/b.edit", "side/a.edit", "side/b.edit"])
+
+    def test_a_crate_that_is_not_proved_alone_either_fails(self):
+        check_edits.MOST_AT_ONCE = 8
+        Edits.write(self, "bin/unproved", "side !low")
+        lines, status = self.run_of("--write")
+        self.assertEqual(status, 1)
+        self.assertEqual([line for line in lines if "NOT TRIED" in line], [
+            f"edits: low/{name}.edit: NOT TRIED: its crate is not proved, nor when it is tried alone" for name in "ab"])
+        self.assertIn("edits: tried in this run: 5, 3 of them refused, as they must be", lines)
+        self.assertEqual(self.table(), ["high/a.edit", "side/a.edit", "side/b.edit"])
+
+    def test_a_crate_that_is_not_proved_is_left_when_the_seconds_are_gone(self):
+        Edits.write(self, "bin/unproved", "!low")
+        clock, times = check_edits.time.monotonic, iter([0.0, 0.0] + [9.0] * 9)
+        check_edits.time.monotonic = lambda: next(times)
+        self.addCleanup(lambda: setattr(check_edits.time, "monotonic", clock))
+        lines, status = self.run_of("--seconds", "5", "--write")
+        self.assertEqual((status, self.table()), (0, []))
+        self.assertIn("5, of high, low, side", lines[-1])
+
+    def test_why_a_crate_is_not_proved_is_told(self):
+        Edits.write(self, "bin/unproved", "!low")
+        lines, _ = self.run_of("low")
+        first = lines[:lines.index("edits: 2 of low weren't tried, and are tried once more, it alone")]
+        for told in ("fn low::middle: no proof: expected answers in ./proofs/middle/Answers.antt; `search` did not prove `result`",
+                     "note: `result` of proofs/middle/Answers.antt must prove: c.result ≡ 7", "    line 50", "fn low::late_2: proved", "..", "rt: low NOT PROVED"):
+            self.assertIn(told, first)
+        for left_out in ("fn low::early_9: proved", "    line 9", "fn low::late_9: proved"):
+            self.assertNotIn(left_out, first)
+
+    def test_an_edit_whose_check_was_ended_is_tried_once_more(self):
+        ended = TOOLCHAIN.replace("case \"$(cat", "mkdir \"${0%rt}once\" 2>&- && { echo \"rt: must-fail ${crate%%/*}/${edit##*/}: NOT TRIED: its check was killed\"; continue; }\n  case \"$(cat")
+        Edits.write(self, "bin/rt", ended)
+        lines, status = self.run_of("low")
+        self.assertEqual(status, 0)
+        self.assertIn("edits: tried in this run: 2, 2 of them refused, as they must be", lines)
+        self.assertIn("edits: 1 of low weren't tried, and are tried once more, it alone", lines)
+
+    def test_refused_edits_say_nothing_of_why(self):
+        self.assertEqual(check_edits.excerpt(["rt: must-fail low/a.edit: refused, as it must be: a.rt:1:1: error\n", *["\n"] * 30, "end\n"]), "..\n" + "\n" * 19 + "end\n")
 
 
 if __name__ == "__main__":
