@@ -42,8 +42,8 @@ def make_program(folder, name, crates, main, printed):
     """
     rows = rows_below(crates)
     for crate in rows:
-        copy = os.path.join(folder, "crates", crate)
-        shutil.copytree(os.path.join(ROOT, "crates", crate), copy, ignore=shutil.ignore_patterns("out", "must-fail"))
+        at, copy = os.path.join(ROOT, "crates", crate), os.path.join(folder, "crates", crate)
+        shutil.copytree(at, copy, ignore=lambda where, _, at=at: ("out", "must-fail") if where == at else ())
     where = os.path.join(folder, "crates", name)
     os.makedirs(os.path.join(where, "src"))
     for file, text in (("src/main.rt", main), ("stdin", ""), ("stdout", printed)):

@@ -80,6 +80,15 @@ class Edits(unittest.TestCase):
             with open(f"{to}/crates.txt", encoding="utf-8") as file:
                 self.assertEqual(file.read(), "low:\nhigh: low url\n")
 
+    def test_a_copy_leaves_out_folders_of_the_crate_alone(self):
+        for path in ("proofs/edits/Answers.antt", "proofs/out/Answers.antt", "src/must-fail/mod.rt", "out/rlib/stamp", "README.md"):
+            self.write(f"crates/low/{path}", "text\n")
+        with tempfile.TemporaryDirectory() as to:
+            check_edits.make_copy(self.repository(), [EDIT], to)
+            self.assertEqual(sorted(os.listdir(f"{to}/crates/low")), ["README.md", "proofs", "src"])
+            self.assertEqual(sorted(os.listdir(f"{to}/crates/low/proofs")), ["edits", "out"])
+            self.assertEqual(sorted(os.listdir(f"{to}/crates/low/src")), ["lib.rt", "must-fail"])
+
     def test_a_table_is_read_as_it_was_written(self):
         os.mkdir(os.path.join(self.room, "tools"))
         check_edits.write_table(self.room, {EDIT: ("12ab", "kit")})
