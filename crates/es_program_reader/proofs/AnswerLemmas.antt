@@ -30,7 +30,7 @@ use Rattle.es_syntax.specs.declared.entry.Entry.{Entry}
 use Rattle.es_syntax.specs.Trees.{trees}
 use Rattle.es_syntax.specs.Forest.{entries_of}
 use Rattle.es_syntax.proofs.Forests.{trees_forest}
-use Rattle.es_program_reader.specs.Derived.{IsRowOf, IsShaped, HoldsShaped, GivesTree}
+use Rattle.es_program_reader.specs.Derived.{IsRowOf, IsWritten, IsShaped, HoldsShaped, GivesTree}
 use Rattle.es_program_reader.proofs.LowLemmas.{low, is_low, row_low}
 
 low-gives : (o : Out (Plain NodeKind)) (v : Read) (to : ℕ) → low o ≡ gives v to
@@ -50,6 +50,13 @@ kept_read keeps out old new r e read = subst (λ keeps. IsRead keeps out old new
 pub alone : (old new es : List Entry) (t : Cst) → old ≡ [] → es ≡ new → Writes true old new (t ∷ []) → IsRowOf t es
 alone old new es t none same w =
     ap trees (same ∙ (w.1 ∙ ap (λ us. us ++ entries_of w.0) none)) ∙ (trees_forest w.0 ∙ w.2)
+
+pub alone_written : (old new es : List Entry) (ts : List Cst) → old ≡ [] → es ≡ new → Writes true old new ts
+    → IsWritten es
+alone_written old new es ts none same w = record {
+  forest = w.0;
+  row = same ∙ (w.1 ∙ ap (λ us. us ++ entries_of w.0) none);
+}
 
 module _ (l : Lang) (m : Mode) (ts : List Token) where
   -- what is read up to the end is shaped
@@ -74,7 +81,8 @@ module _ (l : Lang) (m : Mode) (ts : List Token) where
 
   -- what is shaped is read, up to the end
   pub shaped_read : (room : ℕ) (tree : Cst) → room ≡ most_nodes → IsShaped l m (keys_of ts) tree
-      → (v : Read) × (row_at (rule l) (keys_of ts) room (program_row m) 0 ≡ gives v (length ts)) × (tree_in v.value ≡ tree)
+      → (v : Read) × (row_at (rule l) (keys_of ts) room (program_row m) 0 ≡ gives v (length ts))
+      × (tree_in v.value ≡ tree)
   unfolding Shape
   shaped_read room tree most shaped =
       let K : List Key = keys_of ts in

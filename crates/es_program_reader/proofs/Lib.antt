@@ -6,5 +6,6 @@ mod TypeShapes
 mod RowShapes
 mod Equations
 mod RowLemmas
+mod WrittenLemmas
 pub mod SoundTheorems
 mod KeptLemmas

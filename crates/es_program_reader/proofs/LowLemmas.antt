@@ -141,7 +141,8 @@ unfolding made most_nodes
 nil_low at = refl
 
 module _ (K : List Key) where
-  turns_low : (t : Predicate) (one : ℕ → Out Read) (each : ℕ → Out (Plain NodeKind)) → ((at : ℕ) → one at ≡ low (each at))
+  turns_low : (t : Predicate) (one : ℕ → Out Read) (each : ℕ → Out (Plain NodeKind))
+      → ((at : ℕ) → one at ≡ low (each at))
       → (n at : ℕ) → read_turns makes K t one n at ≡ low (read_turns plain K t each n at)
   unfolding read_turns
   turns_low t one each same zero at =
@@ -221,7 +222,8 @@ module _ (K : List Key) (below : Row → ℕ → Out Read) (under : Row → ℕ 
       go false h = rw h (node_tall l from to ps h)
 
   -- what a node that is too tall grows to
-  stays_tall : (l : NodeKind) (t : Predicate) (each : ℕ → Out (Plain NodeKind)) (from n : ℕ) (q : Plain NodeKind) (at : ℕ)
+  stays_tall : (l : NodeKind) (t : Predicate) (each : ℕ → Out (Plain NodeKind)) (from n : ℕ) (q : Plain NodeKind)
+      (at : ℕ)
       → is_low q ≡ false
       → nothing ≡ low (read_wraps plain K l t each from n q at)
   unfolding read_wraps

@@ -15,6 +15,7 @@ use Rattle.es_cst.specs.declared.tree.Cst.{Cst}
 use Rattle.es_cst.specs.Slim.{tree_of}
 use Rattle.es_syntax.specs.declared.entry.Entry.{Entry}
 use Rattle.es_syntax.specs.Trees.{trees}
+use Rattle.es_syntax.specs.Forest.{Forest, entries_of}
 
 -- the tree is that of a plain tree which has the shape of a program over the keys of all tokens
 pub record IsShaped (l : Lang) (m : Mode) (K : List Key) (tree : Cst) : Type 0 where
@@ -25,6 +26,11 @@ pub record IsShaped (l : Lang) (m : Mode) (K : List Key) (tree : Cst) : Type 0 w
 -- the row is this tree, and no other
 abbrev pub IsRowOf : Cst → List Entry → Type 0
 IsRowOf tree es = trees es ≡ tree ∷ []
+
+-- the row is as a writer leaves it: trees side by side, each before its parts
+pub record IsWritten (es : List Entry) : Type 0 where
+  pub forest : Forest
+  pub row : es ≡ entries_of forest
 
 -- the row is a tree of this shape
 pub record HoldsShaped (l : Lang) (m : Mode) (K : List Key) (es : List Entry) : Type 0 where

@@ -1,11 +1,13 @@
 -- The trees that a cursor over a row stands at, and what is asked of those that lean left.
-use Rattle.std.specs.Prelude.{Bool, true, false, ◌&&◌, List, [], ◌∷◌, length, Option, Some, None}
+use Rattle.std.specs.Prelude.{Bool, true, false, ◌&&◌, List, [], ◌∷◌, length, take, Option, Some, None}
 use Rattle.es_cst.specs.declared.tree.Cst.{Cst, out-Cst}
+use Rattle.es_syntax.specs.declared.entry.What.{What}
+use Rattle.es_syntax.specs.declared.entry.What.TheVariants as vWhat
 use Rattle.es_syntax.specs.declared.entry.Entry.{Entry}
 use Rattle.es_syntax.specs.declared.cursor.Siblings.{Siblings}
 use Rattle.es_syntax.specs.declared.cursor.Item.{Item}
 use Rattle.es_syntax.specs.Trees.{Kept, turn_parts, trees_in, tree_by, kept_by}
-use Rattle.es_program_reader.specs.Sound.{is_assertion, is_simple, is_sound, are_sound}
+use Rattle.es_program_reader.specs.Sound.{is_assertion, first_is, is_simple, may_hold, is_sound, are_sound}
 
 -- the trees that the entries are, each with the token behind its last one
 unfoldable pub kept_in : List Entry → List Kept
@@ -51,3 +53,21 @@ turns_sound (turn ∷ turns) = are_sound (turn_parts (out-Cst turn)) && turns_so
 abbrev pub leant_sound : List Cst → Bool
 leant_sound (first ∷ turn ∷ turns) = is_sound first && turns_sound (turn ∷ turns)
 leant_sound _ = true
+
+-- ---- entry by entry
+
+-- what is assigned to, or updated, by what stands there over these parts is a simple target
+abbrev pub holds_target : What → List Cst → Bool
+holds_target (vWhat.Node label) ts = may_hold label ts
+holds_target (vWhat.Role label) ts = first_is is_simple ts
+holds_target _ ts = true
+
+-- so it is by each entry, over as many of those behind it as its parts take
+abbrev pub each_holds_target : List Entry → Bool
+each_holds_target [] = true
+each_holds_target (e ∷ es) = holds_target e.what (trees_in (kept_in (take e.size es))) && each_holds_target es
+
+-- by the first entry and those behind it
+abbrev pub next_holds_target : Option (Item × Siblings) → Bool
+next_holds_target None = true
+next_holds_target (Some p) = holds_target p.0.what (trees_at p.0.parts) && each_holds_target p.1.entries.now

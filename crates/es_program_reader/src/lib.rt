@@ -18,6 +18,7 @@ mod plain;
 mod program;
 mod simple;
 mod sound;
+mod written;
 
 pub use plain::{read_program, read_tree};
 pub use program::whole;

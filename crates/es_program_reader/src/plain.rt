@@ -6,11 +6,11 @@ ghost use Rattle.es_rules.specs.Bounded.{row_at};
 ghost use Rattle.es_rules.specs.Steps.{keys_in, IsRead};
 ghost use Rattle.es_tree.specs.Key.{keys_of};
 ghost use Rattle.es_cst.specs.declared.tree.Cst.{Cst as Kept};
-ghost use Rattle.es_program_reader.specs.Derived.{HoldsShaped, IsShaped, GivesTree};
+ghost use Rattle.es_program_reader.specs.Derived.{HoldsShaped, IsShaped, GivesTree, IsWritten};
 ghost use Rattle.es_program_reader.specs.Program.{HoldsKept, IsKept};
 
 use crate::program::whole;
-use crate::sound::first_unsound;
+use crate::written::first_unsound_written;
 use es_grammar::Row;
 use es_row_reader::{Ring, read_row};
 use es_rules::{Cursor, Grammar, Input, Tokens};
@@ -39,6 +39,8 @@ pub fn read_tree(
 ) -> Result<Vec<Entry>, SyntaxError>
     // What is answered is kept of a plain tree that has the shape of a program.
     ensures shaped { IfOk result (λ row. HoldsShaped lang mode (keys_of tokens.now) row.items) }
+    // It is as a writer leaves it.
+    ensures written { IfOk result (λ row. IsWritten row.items) }
     // What is kept of one is answered, unless memory runs out.
     ensures only { (tree : Kept) → IsShaped lang mode (keys_of tokens.now) tree → GivesTree result tree }
 {
@@ -74,7 +76,7 @@ pub fn read_program(
     let entries = Entries {
         entries: row.as_slice(),
     };
-    match first_unsound(entries) {
+    match first_unsound_written(entries) {
         Some(token) => Err(SyntaxError::Syntax {
             token: token as usize,
         }),

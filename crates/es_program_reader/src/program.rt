@@ -7,7 +7,7 @@ ghost use Rattle.es_grammar.specs.Table.{rule};
 ghost use Rattle.es_grammar.specs.Conditions.{program_row};
 ghost use Rattle.es_cst.specs.declared.tree.Cst.{Cst as Kept};
 ghost use Rattle.es_rules.specs.Steps.{IsRing};
-ghost use Rattle.es_program_reader.specs.Derived.{HoldsShaped, IsShaped, GivesTree};
+ghost use Rattle.es_program_reader.specs.Derived.{HoldsShaped, IsShaped, GivesTree, IsWritten};
 
 use es_grammar::Row;
 use es_row_reader::Ring;
@@ -35,6 +35,8 @@ pub fn whole<F: Fn(Input<'_>, usize, Row, &mut Cursor) -> Result<usize, SyntaxEr
     requires keeps { grammar.now.input.keeps ≡ true }
     // What is answered is kept of a plain tree of the program.
     ensures shaped { IfOk result (λ row. HoldsShaped grammar.now.input.lang mode (keys_of grammar.now.input.tokens.tokens.now) row.items) }
+    // It is as a writer leaves it.
+    ensures written { IfOk result (λ row. IsWritten row.items) }
     // What is kept of one is answered, unless memory runs out: so `Syntax` comes only where there is none.
     ensures only { (tree : Kept) → IsShaped grammar.now.input.lang mode (keys_of grammar.now.input.tokens.tokens.now) tree → GivesTree result tree }
 {

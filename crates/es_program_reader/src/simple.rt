@@ -230,7 +230,7 @@ pub fn is_simple(item: Item<'_>) -> bool
 
 /// The first of these parts is a simple target.
 #[cycle(simple)]
-fn first_is_simple(parts: Siblings<'_>) -> bool
+pub fn first_is_simple(parts: Siblings<'_>) -> bool
     ensures { result ≡ first_is is_simple (trees_at parts.entry) }
 {
     match first_part(parts) {

@@ -31,8 +31,9 @@ fn second_simple(parts: Siblings<'_>) -> bool
 }
 
 /// The parts of a node are those that its alternative may have.
+#[inline(always)]
 #[tactic(auto, unfolding(crate::specs::Sound::may_hold))]
-fn may_hold(label: NodeKind, parts: Siblings<'_>) -> bool
+pub fn may_hold(label: NodeKind, parts: Siblings<'_>) -> bool
     ensures { result ≡ may_hold label (trees_at parts.entry) }
 {
     match label {

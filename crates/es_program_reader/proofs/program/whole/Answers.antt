@@ -1,10 +1,10 @@
-use Rattle.std.specs.Prelude.{Ok, Err}
+use Rattle.std.specs.Prelude.{Ok, Err, [], ◌∷◌}
 use Rattle.std.proofs.Common.{refl}
 use Rattle.std.proofs.lemmas.Result.{err_from_is_err_and}
 use Rattle.es_grammar.specs.Table.{rule}
 use Rattle.es_rules.specs.Bounded.{row_at}
 use Rattle.es_rules.specs.Steps.{keys_in}
-use Rattle.es_program_reader.proofs.AnswerLemmas.{alone, kept_read, row_shaped, answer_only, refused_only}
+use Rattle.es_program_reader.proofs.AnswerLemmas.{alone, alone_written, kept_read, row_shaped, answer_only, refused_only}
 use Rattle.es_program_reader.proofs.program.whole.Goals as goal
 
 -- nothing is read, so nothing is shaped
@@ -46,6 +46,15 @@ returns-clause-shaped g c =
     (alone c.new.result c.row.new.cursor.row c.into_entries.result.items read.0 c.new.ensures c.into_entries.ensures
     read.1)
     (rw (← c.program_row-row.ensures) read.2) c.if-cursor-tokens.false
+
+pub returns-clause-written : goal.returns-clause-written
+returns-clause-written g c =
+    let read = kept_read c.args.grammar.now.input.keeps
+    (row_at (rule c.args.grammar.now.input.lang) (keys_in c.args.grammar.now.input) c.args.grammar.now.rows.room
+    c.program_row-row.result 0)
+    c.new.result c.row.new.cursor (Ok c.in_ok-_height._height) c.requires.keeps c.in_ok-_height.ensures in
+    alone_written c.new.result c.row.new.cursor.row c.into_entries.result.items (read.0 ∷ []) c.new.ensures
+    c.into_entries.ensures read.1
 
 pub returns-clause-only : goal.returns-clause-only
 returns-clause-only g c = λ tree shaped.
