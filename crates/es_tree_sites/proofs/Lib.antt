@@ -5,5 +5,6 @@ pub mod Looks
 pub mod Turns
 pub mod StepLemmas
 pub mod WalkLemmas
+mod NamedLemmas
 pub mod FormLemmas
 mod CutLemmas

@@ -4,3 +4,5 @@ pub mod Parts
 pub mod Steps
 -- attributes, by the alternative of a node and over turns
 pub mod Given
+-- where a module can be named at all
+pub mod Named

@@ -12,6 +12,7 @@
 mod attribute;
 mod named;
 mod options;
+mod search;
 mod source;
 mod steps;
 mod walk;

@@ -22,6 +22,8 @@ pub struct TokenizedText<'a> {
     pub alloc: Global,
     pub text: &'a str,
     pub tokens: &'a [Token],
+    /// How many entries the parts have that were searched last, of those around.
+    pub searched: usize,
 }
 
 /// The first part in a row, and those behind it.

@@ -11,6 +11,7 @@ ghost use Rattle.es_syntax.specs.Trees.{trees};
 ghost use Rattle.es_tree_sites.specs.Parts.{tree_at, parts_in, HasCut};
 ghost use Rattle.es_tree_sites.specs.Steps.{turns_in, holes_in, cases_in, members_in, operand_at, operands_in, leaning_in, handlers_in, declares, by_step};
 
+use crate::search::item_may_name;
 use crate::source::{TokenizedText, split};
 use crate::steps::{Step, steps};
 use base::Items;
@@ -35,6 +36,7 @@ pub fn tree_sites(
         alloc,
         text,
         tokens,
+        searched: entries.len(),
     };
     source.walk_all(&mut found, &Siblings { entries })?;
     Ok(found)
@@ -54,9 +56,44 @@ impl TokenizedText<'_> {
         Ok(())
     }
 
-    #[tactic(auto, using(crate::proofs::WalkLemmas::walk_leaf, crate::proofs::WalkLemmas::walk_node, crate::proofs::WalkLemmas::walk_role, crate::proofs::WalkLemmas::walk_parts, crate::proofs::WalkLemmas::walk_lean))]
+    /// Whether what stands there is searched before the walk goes in: where it may have sites among its parts, and takes at most
+    /// half the entries of what was searched last. So each entry is searched a few times at most.
+    fn is_searched(&self, item: &Item<'_>) -> bool {
+        match item.what {
+            What::Leaf => false,
+            What::Node(label) => {
+                !steps(label).is_empty() && item.parts.entries.len() <= self.searched / 2
+            }
+            What::Role(_) => false,
+            What::Parts => false,
+            What::Lean(_) => item.parts.entries.len() <= self.searched / 2,
+        }
+    }
+
+    /// What was searched is left out where no node in it can name a module.
     #[cycle(walk)]
     fn walk(&self, found: &mut Items<Site>, item: &Item<'_>) -> Result<(), AllocError>
+        requires { HasCut self.now }
+        ensures { OnOk result (found.new ≡ found.old ++ plain_sites self.now.text.now self.now.tokens.now (tree_at item.now)) }
+    {
+        if !self.is_searched(item) {
+            return self.walk_in(found, item);
+        }
+        if !item_may_name(item) {
+            return Ok(());
+        }
+        let inner = TokenizedText {
+            alloc: self.alloc,
+            text: self.text,
+            tokens: self.tokens,
+            searched: item.parts.entries.len(),
+        };
+        inner.walk_in(found, item)
+    }
+
+    #[tactic(auto, using(crate::proofs::WalkLemmas::walk_leaf, crate::proofs::WalkLemmas::walk_node, crate::proofs::WalkLemmas::walk_role, crate::proofs::WalkLemmas::walk_parts, crate::proofs::WalkLemmas::walk_lean))]
+    #[cycle(walk)]
+    fn walk_in(&self, found: &mut Items<Site>, item: &Item<'_>) -> Result<(), AllocError>
         requires { HasCut self.now }
         ensures { OnOk result (found.new ≡ found.old ++ plain_sites self.now.text.now self.now.tokens.now (tree_at item.now)) }
     {

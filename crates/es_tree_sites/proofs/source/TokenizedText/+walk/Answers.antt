@@ -6,10 +6,18 @@ use Rattle.es_tree_sites.specs.declared.steps.Step.{Step}
 use Rattle.es_tree_sites.specs.Parts.{parts_in, part_in}
 use Rattle.es_tree_sites.specs.Steps.{turns_in, holes_in, cases_in, members_in, operand_at, operands_in, by_step}
 use Rattle.es_tree_sites.proofs.StepLemmas.{steps_own}
+use Rattle.es_tree_sites.proofs.NamedLemmas.{item_none}
 use Rattle.es_tree_sites.proofs.LeanLemmas.{leaning_less, leaning_none, leaning_more}
 use Rattle.es_tree_sites.proofs.Turns.{both_add, each_more, each_end}
 use Rattle.es_tree_sites.proofs.FormLemmas.{args_token, args_other, returned_one, returned_more}
 use Rattle.es_tree_sites.proofs.source.TokenizedText.+walk.Goals as goal
+
+-- ---- nothing can name a module
+pub walk-returns-then-not-item_may_name : goal.walk-returns-then-not-item_may_name
+walk-returns-then-not-item_may_name t c =
+    sym (item_none c.args.self.now.text.now c.args.self.now.tokens.now c.args.found.now c.args.item.now.what
+    c.args.item.now.from c.args.item.now.to c.args.item.now.parts.entries.now
+    (sym c.item_may_name.ensures ∙ c.if-not-item_may_name.true))
 
 -- ---- the steps are what the alternative says
 pub node-returns : goal.node-returns

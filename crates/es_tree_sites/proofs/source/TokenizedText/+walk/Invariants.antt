@@ -7,55 +7,58 @@ use Rattle.es_tree_sites.proofs.source.TokenizedText.+walk.Given as goal
 
 -- ---- below
 abbrev pub decreases-walk : goal.decreases-walk
-decreases-walk l = 8 * length l.item.now.parts.entries.now + 8
+decreases-walk l = 9 * length l.item.now.parts.entries.now + 9
+
+abbrev pub decreases-walk_in : goal.decreases-walk_in
+decreases-walk_in l = 9 * length l.item.now.parts.entries.now + 8
 
 abbrev pub decreases-node : goal.decreases-node
-decreases-node l = 8 * length l.parts.now.entries.now + 7
+decreases-node l = 9 * length l.parts.now.entries.now + 7
 
 abbrev pub decreases-leaning : goal.decreases-leaning
-decreases-leaning l = 8 * length l.parts.now.entries.now + 7
+decreases-leaning l = 9 * length l.parts.now.entries.now + 7
 
 abbrev pub decreases-all : goal.decreases-all
-decreases-all l = 8 * length l.parts.now.entries.now + 6
+decreases-all l = 9 * length l.parts.now.entries.now + 6
 
 abbrev pub decreases-step : goal.decreases-step
-decreases-step l = 8 * length l.parts.now.entries.now + 5
+decreases-step l = 9 * length l.parts.now.entries.now + 5
 
 abbrev pub decreases-head : goal.decreases-head
-decreases-head l = 8 * length l.parts.now.entries.now + 3
+decreases-head l = 9 * length l.parts.now.entries.now + 3
 
 abbrev pub decreases-typed_args : goal.decreases-typed_args
-decreases-typed_args l = 8 * length l.parts.now.entries.now + 3
+decreases-typed_args l = 9 * length l.parts.now.entries.now + 3
 
 abbrev pub decreases-returned : goal.decreases-returned
-decreases-returned l = 8 * length l.parts.now.entries.now + 3
+decreases-returned l = 9 * length l.parts.now.entries.now + 3
 
 abbrev pub decreases-handlers : goal.decreases-handlers
-decreases-handlers l = 8 * length l.parts.now.entries.now + 3
+decreases-handlers l = 9 * length l.parts.now.entries.now + 3
 
 abbrev pub decreases-turns : goal.decreases-turns
-decreases-turns l = 8 * length l.list.now.entries.now + 3
+decreases-turns l = 9 * length l.list.now.entries.now + 3
 
 abbrev pub decreases-holes : goal.decreases-holes
-decreases-holes l = 8 * length l.list.now.entries.now + 3
+decreases-holes l = 9 * length l.list.now.entries.now + 3
 
 abbrev pub decreases-cases : goal.decreases-cases
-decreases-cases l = 8 * length l.list.now.entries.now + 4
+decreases-cases l = 9 * length l.list.now.entries.now + 4
 
 abbrev pub decreases-members : goal.decreases-members
-decreases-members l = 8 * length l.list.now.entries.now + 3
+decreases-members l = 9 * length l.list.now.entries.now + 3
 
 abbrev pub decreases-operands : goal.decreases-operands
-decreases-operands l = 8 * length l.turns.now.entries.now + 4
+decreases-operands l = 9 * length l.turns.now.entries.now + 4
 
 abbrev pub decreases-operand : goal.decreases-operand
-decreases-operand l = 8 * length l.turn.now.entries.now + 3
+decreases-operand l = 9 * length l.turn.now.entries.now + 3
 
 abbrev pub decreases-may : goal.decreases-may
-decreases-may l = 8 * length l.parts.now.entries.now + 2
+decreases-may l = 9 * length l.parts.now.entries.now + 2
 
 abbrev pub decreases-at : goal.decreases-at
-decreases-at l = 8 * length l.parts.now.entries.now + 1
+decreases-at l = 9 * length l.parts.now.entries.now + 1
 
 -- ---- lists
 abbrev pub invariant-all-loop-step : goal.invariant-all-loop-step
