@@ -85,53 +85,70 @@ function boxOf(folder) {
 function boxFor(entry, boxes) {
   for (let at = entry.at; at; at = at.above) if (boxes.has(at)) return boxes.get(at);
 }
-function place() {
-  const boxes = shownFolders().map(boxOf), of = new Map(boxes.map(box => [box.folder, box]));
-  for (const entry of entries) entry.box = boxFor(entry, of);
-  for (const edge of edges) if (edge.a.box !== edge.b.box) { edge.a.box.tied.push(edge.b.box); edge.b.box.tied.push(edge.a.box); }
+// The boxes by their depth, each level in the order of what its boxes are tied to.
+function levelsOf(boxes) {
   const levels = new Map();
   for (const box of boxes) { if (!levels.has(box.depth)) levels.set(box.depth, []); levels.get(box.depth).push(box); }
-  const depths = [...levels.keys()].sort((a, b) => a - b);
-  for (const level of levels.values()) level.forEach((box, at) => { box.order = at / level.length; });
+  const sorted = [...levels.keys()].sort((a, b) => a - b).map(depth => levels.get(depth));
+  for (const level of sorted) level.forEach((box, at) => { box.order = at / level.length; });
   for (let round = 0; round < 8; round++) {
-    for (const depth of depths) {
-      const level = levels.get(depth);
+    for (const level of sorted) {
       for (const box of level) box.mean = box.tied.length ? box.tied.reduce((sum, other) => sum + other.order, 0) / box.tied.length : box.order;
       level.sort((a, b) => a.mean - b.mean || (a.folder.path < b.folder.path ? -1 : 1));
       level.forEach((box, at) => { box.order = (at + 0.5) / level.length; });
     }
   }
-  const area = boxes.reduce((sum, box) => sum + (box.width + GAP) * (box.height + BETWEEN), 0);
-  const mostHigh = Math.max(...boxes.map(box => box.height), Math.sqrt(area / 1.6));
+  return sorted;
+}
+// Each level in as many columns as its boxes need below a height.
+function columnsOf(levels, mostHigh) {
   const columns = [];
-  for (const depth of depths) {
+  for (const level of levels) {
     let high = 0;
     columns.push([]);
-    for (const box of levels.get(depth)) {
+    for (const box of level) {
       if (columns[columns.length - 1].length && high + box.height > mostHigh) { columns.push([]); high = 0; }
       columns[columns.length - 1].push(box);
       high += box.height + BETWEEN;
     }
   }
-  const highOf = column => column.reduce((sum, box) => sum + box.height + BETWEEN, -BETWEEN), wideOf = column => Math.max(...column.map(box => box.width)) + GAP;
-  const mostWide = Math.max(2000, 2.6 * mostHigh), bands = [[]];
+  return columns;
+}
+const highOf = column => column.reduce((sum, box) => sum + box.height + BETWEEN, -BETWEEN);
+const wideOf = column => Math.max(...column.map(box => box.width)) + GAP;
+// The columns in as many bands, one below the other, as a width asks for.
+function bandsOf(columns, mostWide) {
+  const bands = [[]];
   let wide = 0;
   for (const column of columns) {
     if (bands[bands.length - 1].length && wide + wideOf(column) > mostWide) { bands.push([]); wide = 0; }
     bands[bands.length - 1].push(column);
     wide += wideOf(column);
   }
+  return bands;
+}
+// Gives each box of a band its place; the answer is how far the band reaches.
+function placeBand(band, top) {
+  const high = Math.max(...band.map(highOf));
+  let left = 24;
+  for (const column of band) {
+    let y = top + (high - highOf(column)) / 2;
+    for (const box of column) { box.x = left; box.y = y; y += box.height + BETWEEN; }
+    left += wideOf(column);
+  }
+  return { right: left, below: top + high + 2 * BETWEEN };
+}
+function place() {
+  const boxes = shownFolders().map(boxOf), of = new Map(boxes.map(box => [box.folder, box]));
+  for (const entry of entries) entry.box = boxFor(entry, of);
+  for (const edge of edges) if (edge.a.box !== edge.b.box) { edge.a.box.tied.push(edge.b.box); edge.b.box.tied.push(edge.a.box); }
+  const area = boxes.reduce((sum, box) => sum + (box.width + GAP) * (box.height + BETWEEN), 0);
+  const mostHigh = Math.max(...boxes.map(box => box.height), Math.sqrt(area / 1.6));
   let top = 20, widest = 0;
-  for (const band of bands) {
-    const high = Math.max(...band.map(highOf));
-    let left = 24;
-    for (const column of band) {
-      let y = top + (high - highOf(column)) / 2;
-      for (const box of column) { box.x = left; box.y = y; y += box.height + BETWEEN; }
-      left += wideOf(column);
-    }
-    top += high + 2 * BETWEEN;
-    widest = Math.max(widest, left);
+  for (const band of bandsOf(columnsOf(levelsOf(boxes), mostHigh), Math.max(2000, 2.6 * mostHigh))) {
+    const { right, below } = placeBand(band, top);
+    top = below;
+    widest = Math.max(widest, right);
   }
   return { boxes, wide: widest - GAP + 60, high: top };
 }
