@@ -41,7 +41,7 @@ module _ (keeps : Bool) (K : List Key) (below : Row → ℕ → Out Read) (from 
   IsReadBy a = IsRead keeps (rule_at K below a from) base new r
 
   -- no turn stands there: the operand alone is read
-  wrap_absent : (l : NodeKind) (a : Production Row NodeKind) (c : Predict) (f : Rhs Row) → test c K new.at ≡ false
+  pub wrap_absent : (l : NodeKind) (a : Production Row NodeKind) (c : Predict) (f : Rhs Row) → test c K new.at ≡ false
       → IsReadBy a → IsReadBy (wrap l a c f)
   wrap_absent l a c f none read =
       alone r read

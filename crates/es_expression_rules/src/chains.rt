@@ -1,15 +1,17 @@
 //! Chains: calls and members.
 
 ghost use Rattle.es_tree.specs.declared.error.Lang.TheVariants as lang;
+ghost use Rattle.es_expression_rules.specs.Bases.{new_base};
 ghost use Rattle.es_grammar.specs.Expressions.{import_call, import_meta, base, arguments, plain_member_post, non_null_post, member_post, optional_post, post, chain, callee};
 
+use crate::operand::Operand;
 use crate::primary::Primary;
 use es_grammar::{Context, NodeKind, Row};
 use es_predicates::Lookahead::{Is, Other};
 use es_predicates::{Kinds, Lookahead, Predicate};
 use es_rules::{
-    Alt, ByLookahead, ByPredicate, Choose, Cursor, Done, Grammar, Greedy, LeafKind, Make, MakeBy,
-    Many, OfRow, Opt, Pick, Punct, ReadsProduction, Rows, Tok, When, Where, Wrap,
+    Alt, ByLookahead, ByPredicate, Choose, Cursor, Done, Grammar, Greedy, Holds, LeafKind, Make,
+    MakeBy, Many, OfRow, Opt, Pick, Punct, ReadsProduction, Rows, Tok, When, Where,
 };
 use es_shared_rules::{CallArgumentsIn, TypeArgumentsIn};
 use es_token::TokenKind;
@@ -86,6 +88,51 @@ impl ReadsProduction<Row> for ImportMeta {
     }
 }
 
+/// 'new' '.' 'target' | 'new' Chain1 (TS TArgs)? Args?
+#[derive(Clone, Copy)]
+struct NewBase(Lang, Context);
+
+impl ReadsProduction<Row> for NewBase {
+    ghost rule = { λ s. new_base s.0 s.1 };
+
+    fn read<T: Rows<Row>>(
+        &self,
+        grammar: &Grammar<'_, T>,
+        cursor: &mut Cursor,
+    ) -> Result<usize, SyntaxError> {
+        Pick(
+            Predicate::OpensProperty,
+            Make(
+                NodeKind::NewTarget,
+                Punct(
+                    TokenKind::NewWord,
+                    Punct(TokenKind::Dot, Punct(TokenKind::TargetWord, Done)),
+                ),
+            ),
+            MakeBy(
+                self.0,
+                NodeKind::New,
+                NodeKind::TypedNew,
+                Punct(
+                    TokenKind::NewWord,
+                    OfRow(
+                        Row::CalleeRow(self.1),
+                        CallArgumentsIn(
+                            self.0,
+                            Opt(
+                                Greedy(Is(TokenKind::OpenParen)),
+                                OfRow(Row::ArgumentsRow(self.1), Done),
+                                Done,
+                            ),
+                        ),
+                    ),
+                ),
+            ),
+        )
+        .read(grammar, cursor)
+    }
+}
+
 /// Base: Prim | 'super' | 'import' .. | 'new' .., without the parts behind it.
 #[derive(Clone, Copy)]
 pub struct Base(pub Lang, pub Context);
@@ -99,59 +146,30 @@ impl ReadsProduction<Row> for Base {
         grammar: &Grammar<'_, T>,
         cursor: &mut Cursor,
     ) -> Result<usize, SyntaxError> {
-        Choose(
-            Is(TokenKind::SuperWord),
-            Make(
+        let tokens = grammar.input.tokens;
+        if tokens.sees(TokenKind::SuperWord, cursor.at) {
+            return Make(
                 NodeKind::Super,
                 Tok(
                     LeafKind::There,
                     Kinds::Only(TokenKind::SuperWord),
                     When(Lookahead::FollowsSuper, Done),
                 ),
-            ),
-            Choose(
-                Is(TokenKind::ImportWord),
-                Pick(
-                    Predicate::OpensProperty,
-                    ImportMeta(self.1),
-                    ImportCall(self.1),
-                ),
-                Choose(
-                    Is(TokenKind::NewWord),
-                    Pick(
-                        Predicate::OpensProperty,
-                        Make(
-                            NodeKind::NewTarget,
-                            Punct(
-                                TokenKind::NewWord,
-                                Punct(TokenKind::Dot, Punct(TokenKind::TargetWord, Done)),
-                            ),
-                        ),
-                        MakeBy(
-                            self.0,
-                            NodeKind::New,
-                            NodeKind::TypedNew,
-                            Punct(
-                                TokenKind::NewWord,
-                                OfRow(
-                                    Row::CalleeRow(self.1),
-                                    CallArgumentsIn(
-                                        self.0,
-                                        Opt(
-                                            Greedy(Is(TokenKind::OpenParen)),
-                                            OfRow(Row::ArgumentsRow(self.1), Done),
-                                            Done,
-                                        ),
-                                    ),
-                                ),
-                            ),
-                        ),
-                    ),
-                    Primary(self.0, self.1),
-                ),
-            ),
-        )
-        .read(grammar, cursor)
+            )
+            .read(grammar, cursor);
+        }
+        if tokens.sees(TokenKind::ImportWord, cursor.at) {
+            return Pick(
+                Predicate::OpensProperty,
+                ImportMeta(self.1),
+                ImportCall(self.1),
+            )
+            .read(grammar, cursor);
+        }
+        if tokens.sees(TokenKind::NewWord, cursor.at) {
+            return NewBase(self.0, self.1).read(grammar, cursor);
+        }
+        Primary(self.0, self.1).read(grammar, cursor)
     }
 }
 
@@ -265,32 +283,33 @@ impl ReadsProduction<Row> for PlainMemberPost {
             in_constructor: false,
             ..self.0
         };
-        Choose(
-            Is(TokenKind::Dot),
-            Make(
+        let tokens = grammar.input.tokens;
+        if tokens.sees(TokenKind::Dot, cursor.at) {
+            return Make(
                 NodeKind::MemberPost,
                 Punct(
                     TokenKind::Dot,
                     Tok(LeafKind::Name, Kinds::PropertyName, Done),
                 ),
-            ),
-            Choose(
-                Is(TokenKind::OpenBracket),
-                Make(
-                    NodeKind::IndexPost,
-                    Punct(
-                        TokenKind::OpenBracket,
-                        OfRow(
-                            Row::ExpressionRow(outside),
-                            Punct(TokenKind::CloseBracket, Done),
-                        ),
+            )
+            .read(grammar, cursor);
+        }
+        if tokens.sees(TokenKind::OpenBracket, cursor.at) {
+            return Make(
+                NodeKind::IndexPost,
+                Punct(
+                    TokenKind::OpenBracket,
+                    OfRow(
+                        Row::ExpressionRow(outside),
+                        Punct(TokenKind::CloseBracket, Done),
                     ),
                 ),
-                Make(
-                    NodeKind::TemplatePost,
-                    OfRow(Row::TemplateRow(self.0), Done),
-                ),
-            ),
+            )
+            .read(grammar, cursor);
+        }
+        Make(
+            NodeKind::TemplatePost,
+            OfRow(Row::TemplateRow(self.0), Done),
         )
         .read(grammar, cursor)
     }
@@ -358,18 +377,35 @@ impl ReadsProduction<Row> for Post {
         cursor: &mut Cursor,
     ) -> Result<usize, SyntaxError> {
         match self.0 {
-            Lang::Es => Choose(
-                Is(TokenKind::OpenParen),
-                Make(NodeKind::CallPost, OfRow(Row::ArgumentsRow(self.1), Done)),
-                Choose(
-                    Is(TokenKind::QuestionDot),
-                    OptionalPost(Lang::Es, self.1),
-                    MemberPost(Lang::Es, self.1),
-                ),
-            )
-            .read(grammar, cursor),
+            Lang::Es => PlainPost(self.1).read(grammar, cursor),
             Lang::Typescript => TypedPost(self.1).read(grammar, cursor),
         }
+    }
+}
+
+/// Args | '?.' .. | a member
+#[derive(Clone, Copy)]
+struct PlainPost(Context);
+
+impl ReadsProduction<Row> for PlainPost {
+    ghost rule = { λ s. post lang.Es s.0 };
+
+    #[tactic(auto, unfolding(es_grammar::specs::Expressions::post))]
+    fn read<T: Rows<Row>>(
+        &self,
+        grammar: &Grammar<'_, T>,
+        cursor: &mut Cursor,
+    ) -> Result<usize, SyntaxError> {
+        let tokens = grammar.input.tokens;
+        if tokens.sees(TokenKind::OpenParen, cursor.at) {
+            return Make(NodeKind::CallPost, OfRow(Row::ArgumentsRow(self.0), Done)).read(
+                grammar, cursor,
+            );
+        }
+        if tokens.sees(TokenKind::QuestionDot, cursor.at) {
+            return OptionalPost(Lang::Es, self.0).read(grammar, cursor);
+        }
+        MemberPost(Lang::Es, self.0).read(grammar, cursor)
     }
 }
 
@@ -387,26 +423,24 @@ impl ReadsProduction<Row> for TypedPost {
         cursor: &mut Cursor,
     ) -> Result<usize, SyntaxError> {
         let lang = Lang::Typescript;
-        Pick(
-            Predicate::OpensCall,
-            Make(
+        if Predicate::OpensCall.holds(&grammar.input, cursor.at) {
+            return Make(
                 NodeKind::TypedCallPost,
                 TypeArgumentsIn(lang, OfRow(Row::ArgumentsRow(self.0), Done)),
-            ),
-            Pick(
-                Predicate::OpensTypedTemplate,
-                Make(
-                    NodeKind::TypedTemplatePost,
-                    TypeArgumentsIn(lang, OfRow(Row::TemplateRow(self.0), Done)),
-                ),
-                Choose(
-                    Is(TokenKind::QuestionDot),
-                    OptionalPost(lang, self.0),
-                    MemberPost(lang, self.0),
-                ),
-            ),
-        )
-        .read(grammar, cursor)
+            )
+            .read(grammar, cursor);
+        }
+        if Predicate::OpensTypedTemplate.holds(&grammar.input, cursor.at) {
+            return Make(
+                NodeKind::TypedTemplatePost,
+                TypeArgumentsIn(lang, OfRow(Row::TemplateRow(self.0), Done)),
+            )
+            .read(grammar, cursor);
+        }
+        if grammar.input.tokens.sees(TokenKind::QuestionDot, cursor.at) {
+            return OptionalPost(lang, self.0).read(grammar, cursor);
+        }
+        MemberPost(lang, self.0).read(grammar, cursor)
     }
 }
 
@@ -426,7 +460,7 @@ impl ReadsProduction<Row> for Chain {
         match self.0 {
             Lang::Es => {
                 let told = Greedy(Lookahead::BeginsPost);
-                Wrap(
+                Operand(
                     NodeKind::Chain,
                     Base(Lang::Es, self.1),
                     told,
@@ -439,7 +473,7 @@ impl ReadsProduction<Row> for Chain {
             }
             Lang::Typescript => {
                 let told = ByPredicate(Predicate::OpensPost);
-                Wrap(
+                Operand(
                     NodeKind::Chain,
                     Base(Lang::Typescript, self.1),
                     told,
@@ -467,7 +501,7 @@ impl ReadsProduction<Row> for Callee {
         grammar: &Grammar<'_, T>,
         cursor: &mut Cursor,
     ) -> Result<usize, SyntaxError> {
-        Wrap(
+        Operand(
             NodeKind::Chain,
             Base(self.0, self.1),
             Greedy(Lookahead::BeginsCalleePost(self.0)),

@@ -1,18 +1,20 @@
 //! Assignments and whole expressions.
 
+ghost use Rattle.es_expression_rules.specs.Bases.{any_arrow, pattern_assignment};
 ghost use Rattle.es_expression_rules.specs.Levels.{assignment_over};
 ghost use Rattle.es_grammar.specs.Expressions.{conditional, yield_, assignment, expression, element};
 
 use crate::arrows::{AsyncArrow, PlainArrow};
 use crate::levels::Operators;
+use crate::operand::Operand;
 use crate::operators::Power;
 use crate::primary::Spread;
 use es_grammar::{Context, NodeKind, Row};
 use es_predicates::Lookahead::Is;
 use es_predicates::{Kinds, Lookahead, Predicate, opens_operator};
 use es_rules::{
-    Choose, Cursor, Done, Grammar, Greedy, LeafKind, Make, Many, OfRow, Opt, Pick, Punct,
-    ReadsBehind, ReadsProduction, Rows, Tok, When, Wrap,
+    Choose, Cursor, Done, Grammar, Greedy, Holds, LeafKind, Make, Many, OfRow, Opt, Pick, Punct,
+    ReadsBehind, ReadsProduction, Rows, Tok, When,
 };
 use es_token::TokenKind;
 use es_tree::{Lang, SyntaxError};
@@ -87,33 +89,63 @@ impl ReadsProduction<Row> for Assignment {
         grammar: &Grammar<'_, T>,
         cursor: &mut Cursor,
     ) -> Result<usize, SyntaxError> {
+        if Predicate::OpensAnyArrow(self.0, self.1).holds(&grammar.input, cursor.at) {
+            return AnyArrow(self.0, self.1).read(grammar, cursor);
+        }
+        if grammar.input.tokens.sees(TokenKind::YieldWord, cursor.at) {
+            return Yield(self.0, self.1).read(grammar, cursor);
+        }
+        if Predicate::OpensPattern.holds(&grammar.input, cursor.at) {
+            return PatternAssignment(self.1).read(grammar, cursor);
+        }
+        Operated(self.0, self.1).read(grammar, cursor)
+    }
+}
+
+/// Arrow: an arrow of either kind.
+#[derive(Clone, Copy)]
+struct AnyArrow(Lang, Context);
+
+impl ReadsProduction<Row> for AnyArrow {
+    ghost rule = { λ s. any_arrow s.0 s.1 };
+
+    fn read<T: Rows<Row>>(
+        &self,
+        grammar: &Grammar<'_, T>,
+        cursor: &mut Cursor,
+    ) -> Result<usize, SyntaxError> {
+        Pick(
+            Predicate::OpensAsyncHere(self.0, self.1),
+            AsyncArrow(self.0, self.1),
+            PlainArrow(self.0, self.1),
+        )
+        .read(grammar, cursor)
+    }
+}
+
+/// Pat '=' Assign, of a pattern in brackets.
+#[derive(Clone, Copy)]
+struct PatternAssignment(Context);
+
+impl ReadsProduction<Row> for PatternAssignment {
+    ghost rule = { λ s. pattern_assignment s.0 };
+
+    fn read<T: Rows<Row>>(
+        &self,
+        grammar: &Grammar<'_, T>,
+        cursor: &mut Cursor,
+    ) -> Result<usize, SyntaxError> {
         let outside = Context {
             no_in: false,
             no_colon: false,
             in_constructor: false,
-            ..self.1
+            ..self.0
         };
-        Pick(
-            Predicate::OpensAnyArrow(self.0, self.1),
-            Pick(
-                Predicate::OpensAsyncHere(self.0, self.1),
-                AsyncArrow(self.0, self.1),
-                PlainArrow(self.0, self.1),
-            ),
-            Choose(
-                Is(TokenKind::YieldWord),
-                Yield(self.0, self.1),
-                Pick(
-                    Predicate::OpensPattern,
-                    Make(
-                        NodeKind::PatternAssignment,
-                        OfRow(
-                            Row::PatternRow(true, outside),
-                            Punct(TokenKind::Equal, OfRow(Row::AssignmentRow(self.1), Done)),
-                        ),
-                    ),
-                    Operated(self.0, self.1),
-                ),
+        Make(
+            NodeKind::PatternAssignment,
+            OfRow(
+                Row::PatternRow(true, outside),
+                Punct(TokenKind::Equal, OfRow(Row::AssignmentRow(self.0), Done)),
             ),
         )
         .read(grammar, cursor)
@@ -133,7 +165,7 @@ impl ReadsProduction<Row> for Expression {
         grammar: &Grammar<'_, T>,
         cursor: &mut Cursor,
     ) -> Result<usize, SyntaxError> {
-        Wrap(
+        Operand(
             NodeKind::Sequence,
             Assignment(self.0, self.1),
             Greedy(Is(TokenKind::Comma)),

@@ -5,6 +5,7 @@ mod arrows;
 mod chains;
 mod expressions;
 mod levels;
+mod operand;
 mod operators;
 mod primary;
 mod targets;

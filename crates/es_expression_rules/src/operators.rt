@@ -1,15 +1,17 @@
 //! Operators, from the tightest to the loosest.
 
+ghost use Rattle.es_expression_rules.specs.Bases.{update_prefix};
 ghost use Rattle.es_grammar.specs.Expressions.{level, private_in, update, prefix, await_, unary, power, product, sum, shift, comparison_in, relation, equality, bit_and, bit_xor, bit_or, and_};
 ghost use Rattle.es_predicates.specs.Named.{kinds_of};
 
 use crate::chains::Chain;
 use crate::levels::{Arithmetic, Bitwise, Comparing, LevelBehind, Related, Shifted};
+use crate::operand::Operand;
 use es_grammar::{Context, NodeKind, Row};
 use es_predicates::Lookahead::{Has, Is, Other};
 use es_predicates::{Kinds, Lookahead, Predicate};
 use es_rules::{
-    Alt, Both, ByPredicate, Choose, Cursor, Done, Grammar, Greedy, LeafKind, Make, OfRow, Opt,
+    Alt, Both, ByPredicate, Cursor, Done, Grammar, Greedy, IsOfKinds, LeafKind, Make, OfRow, Opt,
     Punct, ReadsBehind, ReadsProduction, ReadsRhs, Rows, Tok, When, Where, Wrap,
 };
 use es_token::TokenKind;
@@ -28,28 +30,44 @@ impl ReadsProduction<Row> for Update {
         grammar: &Grammar<'_, T>,
         cursor: &mut Cursor,
     ) -> Result<usize, SyntaxError> {
-        Choose(
-            Has(Kinds::Update),
-            Make(
-                NodeKind::UpdatePrefix,
+        if Kinds::Update.is_there(&grammar.input.tokens, cursor.at) {
+            return UpdatePrefix(self.1).read(grammar, cursor);
+        }
+        Operand(
+            NodeKind::UpdatePostfix,
+            Chain(self.0, self.1),
+            Greedy(Lookahead::UpdateHere),
+            When(
+                Lookahead::Near,
                 Tok(
                     LeafKind::Kind,
                     Kinds::Update,
-                    OfRow(Row::UnaryRow(self.1), Done),
+                    When(Lookahead::NoUpdateHere, Done),
                 ),
             ),
-            Wrap(
-                NodeKind::UpdatePostfix,
-                Chain(self.0, self.1),
-                Greedy(Lookahead::UpdateHere),
-                When(
-                    Lookahead::Near,
-                    Tok(
-                        LeafKind::Kind,
-                        Kinds::Update,
-                        When(Lookahead::NoUpdateHere, Done),
-                    ),
-                ),
+        )
+        .read(grammar, cursor)
+    }
+}
+
+/// ('++' | '--') Unary
+#[derive(Clone, Copy)]
+struct UpdatePrefix(Context);
+
+impl ReadsProduction<Row> for UpdatePrefix {
+    ghost rule = { λ s. update_prefix s.0 };
+
+    fn read<T: Rows<Row>>(
+        &self,
+        grammar: &Grammar<'_, T>,
+        cursor: &mut Cursor,
+    ) -> Result<usize, SyntaxError> {
+        Make(
+            NodeKind::UpdatePrefix,
+            Tok(
+                LeafKind::Kind,
+                Kinds::Update,
+                OfRow(Row::UnaryRow(self.0), Done),
             ),
         )
         .read(grammar, cursor)
@@ -118,16 +136,14 @@ impl ReadsProduction<Row> for Unary {
         grammar: &Grammar<'_, T>,
         cursor: &mut Cursor,
     ) -> Result<usize, SyntaxError> {
-        Choose(
-            Has(Kinds::Prefix),
-            Prefix(self.1),
-            Choose(
-                Is(TokenKind::AwaitWord),
-                Await(self.1),
-                Update(self.0, self.1),
-            ),
-        )
-        .read(grammar, cursor)
+        let tokens = grammar.input.tokens;
+        if Kinds::Prefix.is_there(&tokens, cursor.at) {
+            return Prefix(self.1).read(grammar, cursor);
+        }
+        if tokens.sees(TokenKind::AwaitWord, cursor.at) {
+            return Await(self.1).read(grammar, cursor);
+        }
+        Update(self.0, self.1).read(grammar, cursor)
     }
 }
 
@@ -144,24 +160,23 @@ impl ReadsProduction<Row> for Power {
         grammar: &Grammar<'_, T>,
         cursor: &mut Cursor,
     ) -> Result<usize, SyntaxError> {
-        Choose(
-            Has(Kinds::Prefix),
-            Prefix(self.1),
-            Choose(
-                Is(TokenKind::AwaitWord),
-                Await(self.1),
-                Wrap(
-                    NodeKind::Binary,
-                    Update(self.0, self.1),
-                    Greedy(Is(TokenKind::StarStar)),
-                    Tok(
-                        LeafKind::Kind,
-                        Kinds::Only(TokenKind::StarStar),
-                        OfRow(
-                            Row::PowerRow(self.1),
-                            When(Other(TokenKind::StarStar), Done),
-                        ),
-                    ),
+        let tokens = grammar.input.tokens;
+        if Kinds::Prefix.is_there(&tokens, cursor.at) {
+            return Prefix(self.1).read(grammar, cursor);
+        }
+        if tokens.sees(TokenKind::AwaitWord, cursor.at) {
+            return Await(self.1).read(grammar, cursor);
+        }
+        Operand(
+            NodeKind::Binary,
+            Update(self.0, self.1),
+            Greedy(Is(TokenKind::StarStar)),
+            Tok(
+                LeafKind::Kind,
+                Kinds::Only(TokenKind::StarStar),
+                OfRow(
+                    Row::PowerRow(self.1),
+                    When(Other(TokenKind::StarStar), Done),
                 ),
             ),
         )

@@ -3,11 +3,11 @@
 ghost use Rattle.es_grammar.specs.Expressions.{template, spread, array_literal, object_literal, name_expression, named_primary, primary};
 
 use es_grammar::{Context, NodeKind, Row};
-use es_predicates::Lookahead::{Has, Is, Other};
+use es_predicates::Lookahead::{Is, Other};
 use es_predicates::{Kinds, Lookahead, Predicate};
 use es_rules::{
-    Alt, ByLookahead, Choose, Cursor, Done, Grammar, Greedy, LeafKind, Make, Many, OfRow, Opt,
-    Pick, Punct, ReadsProduction, Rows, Tok, When, Where,
+    Alt, ByLookahead, Cursor, Done, Grammar, Greedy, Holds, IsOfKinds, LeafKind, Make, Many, OfRow,
+    Opt, Punct, ReadsProduction, Rows, Tok, When, Where,
 };
 use es_shared_rules::{AbstractClass, AsyncFunction, Class, Function};
 use es_token::TokenKind;
@@ -32,28 +32,32 @@ impl ReadsProduction<Row> for Template {
             in_constructor: false,
             ..self.0
         };
-        Choose(
-            Is(TokenKind::TemplateWhole),
-            Make(
+        if grammar
+            .input
+            .tokens
+            .sees(TokenKind::TemplateWhole, cursor.at)
+        {
+            return Make(
                 NodeKind::Template,
                 Tok(LeafKind::Raw, Kinds::Only(TokenKind::TemplateWhole), Done),
-            ),
-            Make(
-                NodeKind::TemplateParts,
-                Tok(
-                    LeafKind::Raw,
-                    Kinds::Only(TokenKind::TemplateHead),
-                    OfRow(
-                        Row::ExpressionRow(outside),
-                        Many(
-                            Greedy(Is(TokenKind::TemplateMiddle)),
-                            Tok(
-                                LeafKind::Raw,
-                                Kinds::Only(TokenKind::TemplateMiddle),
-                                OfRow(Row::ExpressionRow(outside), Done),
-                            ),
-                            Tok(LeafKind::Raw, Kinds::Only(TokenKind::TemplateTail), Done),
+            )
+            .read(grammar, cursor);
+        }
+        Make(
+            NodeKind::TemplateParts,
+            Tok(
+                LeafKind::Raw,
+                Kinds::Only(TokenKind::TemplateHead),
+                OfRow(
+                    Row::ExpressionRow(outside),
+                    Many(
+                        Greedy(Is(TokenKind::TemplateMiddle)),
+                        Tok(
+                            LeafKind::Raw,
+                            Kinds::Only(TokenKind::TemplateMiddle),
+                            OfRow(Row::ExpressionRow(outside), Done),
                         ),
+                        Tok(LeafKind::Raw, Kinds::Only(TokenKind::TemplateTail), Done),
                     ),
                 ),
             ),
@@ -202,27 +206,26 @@ impl ReadsProduction<Row> for NamedPrimary {
         cursor: &mut Cursor,
     ) -> Result<usize, SyntaxError> {
         match self.0 {
-            Lang::Es => Pick(
-                Predicate::OpensAsyncFunction,
-                AsyncFunction(Lang::Es, false, self.1),
-                NameExpression,
-            )
-            .read(grammar, cursor),
-            Lang::Typescript => Pick(
-                Predicate::OpensAsyncFunction,
-                AsyncFunction(Lang::Typescript, false, self.1),
-                Pick(
-                    Predicate::OpensAbstractClass,
-                    AbstractClass(false, self.1),
-                    NameExpression,
-                ),
-            )
-            .read(grammar, cursor),
+            Lang::Es => {
+                if Predicate::OpensAsyncFunction.holds(&grammar.input, cursor.at) {
+                    return AsyncFunction(Lang::Es, false, self.1).read(grammar, cursor);
+                }
+                NameExpression.read(grammar, cursor)
+            }
+            Lang::Typescript => {
+                if Predicate::OpensAsyncFunction.holds(&grammar.input, cursor.at) {
+                    return AsyncFunction(Lang::Typescript, false, self.1).read(grammar, cursor);
+                }
+                if Predicate::OpensAbstractClass.holds(&grammar.input, cursor.at) {
+                    return AbstractClass(false, self.1).read(grammar, cursor);
+                }
+                NameExpression.read(grammar, cursor)
+            }
         }
     }
 }
 
-/// Prim: what stands alone as an operand.
+/// Prim: what stands alone as an operand. Its first token tells which alternative is read.
 #[derive(Clone, Copy)]
 pub struct Primary(pub Lang, pub Context);
 
@@ -241,9 +244,9 @@ impl ReadsProduction<Row> for Primary {
             in_constructor: false,
             ..self.1
         };
-        Choose(
-            Is(TokenKind::OpenParen),
-            Make(
+        let tokens = grammar.input.tokens;
+        if tokens.sees(TokenKind::OpenParen, cursor.at) {
+            return Make(
                 NodeKind::Parenthesized,
                 Where(
                     Predicate::OpensNoArrow(self.0, self.1),
@@ -255,65 +258,50 @@ impl ReadsProduction<Row> for Primary {
                         ),
                     ),
                 ),
-            ),
-            Choose(
-                Is(TokenKind::OpenBracket),
-                ArrayLiteral(outside),
-                Choose(
-                    Is(TokenKind::OpenBrace),
-                    ObjectLiteral(outside),
-                    Choose(
-                        Is(TokenKind::FunctionWord),
-                        Function(self.0, false, self.1),
-                        Choose(
-                            Is(TokenKind::ClassWord),
-                            Class(self.0, false, self.1),
-                            Choose(
-                                Has(Kinds::Name),
-                                NamedPrimary(self.0, self.1),
-                                Choose(
-                                    Has(Kinds::LiteralWord),
-                                    Make(
-                                        NodeKind::Word,
-                                        Tok(LeafKind::Kind, Kinds::LiteralWord, Done),
-                                    ),
-                                    Choose(
-                                        Has(Kinds::Numeric),
-                                        Make(
-                                            NodeKind::Number,
-                                            Tok(LeafKind::Raw, Kinds::Numeric, Done),
-                                        ),
-                                        Choose(
-                                            Is(TokenKind::Str),
-                                            Make(
-                                                NodeKind::Str,
-                                                Tok(
-                                                    LeafKind::Str,
-                                                    Kinds::Only(TokenKind::Str),
-                                                    Done,
-                                                ),
-                                            ),
-                                            Choose(
-                                                Is(TokenKind::RegExp),
-                                                Make(
-                                                    NodeKind::RegExp,
-                                                    Tok(
-                                                        LeafKind::Raw,
-                                                        Kinds::Only(TokenKind::RegExp),
-                                                        Done,
-                                                    ),
-                                                ),
-                                                Template(self.1),
-                                            ),
-                                        ),
-                                    ),
-                                ),
-                            ),
-                        ),
-                    ),
-                ),
-            ),
-        )
-        .read(grammar, cursor)
+            )
+            .read(grammar, cursor);
+        }
+        if tokens.sees(TokenKind::OpenBracket, cursor.at) {
+            return ArrayLiteral(outside).read(grammar, cursor);
+        }
+        if tokens.sees(TokenKind::OpenBrace, cursor.at) {
+            return ObjectLiteral(outside).read(grammar, cursor);
+        }
+        if tokens.sees(TokenKind::FunctionWord, cursor.at) {
+            return Function(self.0, false, self.1).read(grammar, cursor);
+        }
+        if tokens.sees(TokenKind::ClassWord, cursor.at) {
+            return Class(self.0, false, self.1).read(grammar, cursor);
+        }
+        if Kinds::Name.is_there(&tokens, cursor.at) {
+            return NamedPrimary(self.0, self.1).read(grammar, cursor);
+        }
+        if Kinds::LiteralWord.is_there(&tokens, cursor.at) {
+            return Make(
+                NodeKind::Word,
+                Tok(LeafKind::Kind, Kinds::LiteralWord, Done),
+            )
+            .read(grammar, cursor);
+        }
+        if Kinds::Numeric.is_there(&tokens, cursor.at) {
+            return Make(NodeKind::Number, Tok(LeafKind::Raw, Kinds::Numeric, Done)).read(
+                grammar, cursor,
+            );
+        }
+        if tokens.sees(TokenKind::Str, cursor.at) {
+            return Make(
+                NodeKind::Str,
+                Tok(LeafKind::Str, Kinds::Only(TokenKind::Str), Done),
+            )
+            .read(grammar, cursor);
+        }
+        if tokens.sees(TokenKind::RegExp, cursor.at) {
+            return Make(
+                NodeKind::RegExp,
+                Tok(LeafKind::Raw, Kinds::Only(TokenKind::RegExp), Done),
+            )
+            .read(grammar, cursor);
+        }
+        Template(self.1).read(grammar, cursor)
     }
 }

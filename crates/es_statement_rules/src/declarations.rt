@@ -6,11 +6,11 @@ ghost use Rattle.es_grammar.specs.Declarations.{plain_declaration, declaration};
 
 use crate::typed::{Declare, Enum, TypedDeclaration};
 use es_grammar::{Context, NodeKind, Row};
-use es_predicates::Lookahead::{Has, Is, Other};
+use es_predicates::Lookahead::{Is, Other};
 use es_predicates::{Kinds, Predicate};
 use es_rules::{
-    ByLookahead, Choose, Cursor, Done, Grammar, Greedy, LeafKind, Make, Many, OfRow, Opt, Pick,
-    Punct, ReadsProduction, ReadsRhs, Rows, Tok, When, Where, Wrap,
+    ByLookahead, Cursor, Done, Grammar, Greedy, Holds, IsOfKinds, LeafKind, Make, Many, OfRow, Opt,
+    Pick, Punct, ReadsProduction, ReadsRhs, Rows, Tok, When, Where, Wrap,
 };
 use es_shared_rules::{
     AbstractClass, AnnotationIn, AsyncFunction, Class, Ended, Function, Pattern, UsingIn,
@@ -269,33 +269,30 @@ impl<A: ReadsProduction<Row> + Copy> ReadsProduction<Row> for PlainDeclaration<A
         grammar: &Grammar<'_, T>,
         cursor: &mut Cursor,
     ) -> Result<usize, SyntaxError> {
-        Choose(
-            Has(Kinds::VariableWord),
-            Make(
+        let tokens = grammar.input.tokens;
+        if Kinds::VariableWord.is_there(&tokens, cursor.at) {
+            return Make(
                 NodeKind::VariableDeclaration,
                 OfRow(Row::VariablesRow(self.1), Ended),
-            ),
-            Choose(
-                Is(TokenKind::FunctionWord),
-                Function(self.0, true, self.1),
-                Choose(
-                    Is(TokenKind::ClassWord),
-                    Class(self.0, true, self.1),
-                    Pick(
-                        Predicate::OpensUsing,
-                        Make(
-                            NodeKind::UsingDeclaration,
-                            OfRow(Row::UsingRow(self.1), Ended),
-                        ),
-                        Pick(
-                            Predicate::OpensAsyncFunction,
-                            AsyncFunction(self.0, true, self.1),
-                            self.2,
-                        ),
-                    ),
-                ),
-            ),
-        )
-        .read(grammar, cursor)
+            )
+            .read(grammar, cursor);
+        }
+        if tokens.sees(TokenKind::FunctionWord, cursor.at) {
+            return Function(self.0, true, self.1).read(grammar, cursor);
+        }
+        if tokens.sees(TokenKind::ClassWord, cursor.at) {
+            return Class(self.0, true, self.1).read(grammar, cursor);
+        }
+        if Predicate::OpensUsing.holds(&grammar.input, cursor.at) {
+            return Make(
+                NodeKind::UsingDeclaration,
+                OfRow(Row::UsingRow(self.1), Ended),
+            )
+            .read(grammar, cursor);
+        }
+        if Predicate::OpensAsyncFunction.holds(&grammar.input, cursor.at) {
+            return AsyncFunction(self.0, true, self.1).read(grammar, cursor);
+        }
+        self.2.read(grammar, cursor)
     }
 }

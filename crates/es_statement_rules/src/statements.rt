@@ -1,7 +1,7 @@
 //! Statements.
 
 ghost use Rattle.es_grammar.specs.Embedding.{plain_form};
-ghost use Rattle.es_grammar.specs.Statements.{return_, case_in, switch_, finally_in, try_, expression_statement, keyword_statement};
+ghost use Rattle.es_grammar.specs.Statements.{return_, case_in, switch_, finally_in, try_, expression_statement, keyword_statement, other_statement};
 ghost use Rattle.es_grammar.specs.Declarations.{statement};
 ghost use Rattle.es_type_grammar.specs.Statements.{label_ended};
 
@@ -11,7 +11,7 @@ use es_grammar::{Context, NodeKind, Row};
 use es_predicates::Lookahead::Is;
 use es_predicates::{Kinds, Lookahead, Predicate};
 use es_rules::{
-    Alt, ByLookahead, Choose, Cursor, Done, Grammar, Greedy, LeafKind, Make, MakeBy, Many, OfRow,
+    Alt, ByLookahead, Cursor, Done, Grammar, Greedy, Holds, LeafKind, Make, MakeBy, Many, OfRow,
     Opt, Pick, Punct, ReadsProduction, ReadsRhs, Rows, Tok, When, Where,
 };
 use es_shared_rules::{AnnotationIn, Ended, ExpressionEnded, without_colon};
@@ -247,9 +247,9 @@ impl<A: ReadsProduction<Row> + Copy> ReadsProduction<Row> for KeywordStatement<A
         grammar: &Grammar<'_, T>,
         cursor: &mut Cursor,
     ) -> Result<usize, SyntaxError> {
-        Choose(
-            Is(TokenKind::IfWord),
-            Make(
+        let tokens = grammar.input.tokens;
+        if tokens.sees(TokenKind::IfWord, cursor.at) {
+            return Make(
                 NodeKind::IfStatement,
                 Punct(
                     TokenKind::IfWord,
@@ -265,121 +265,135 @@ impl<A: ReadsProduction<Row> + Copy> ReadsProduction<Row> for KeywordStatement<A
                         ),
                     ),
                 ),
-            ),
-            Choose(
-                Is(TokenKind::ForWord),
-                Pick(
-                    Predicate::OpensForAwait,
-                    ForAwait(self.1),
-                    Pick(Predicate::OpensFor, For(self.1), ForEach(self.1)),
+            )
+            .read(grammar, cursor);
+        }
+        if tokens.sees(TokenKind::ForWord, cursor.at) {
+            return Pick(
+                Predicate::OpensForAwait,
+                ForAwait(self.1),
+                Pick(Predicate::OpensFor, For(self.1), ForEach(self.1)),
+            )
+            .read(grammar, cursor);
+        }
+        if tokens.sees(TokenKind::WhileWord, cursor.at) {
+            return Make(
+                NodeKind::WhileStatement,
+                Punct(
+                    TokenKind::WhileWord,
+                    ConditionIn(self.1, OfRow(Row::StatementRow(self.1), Done)),
                 ),
-                Choose(
-                    Is(TokenKind::WhileWord),
-                    Make(
-                        NodeKind::WhileStatement,
+            )
+            .read(grammar, cursor);
+        }
+        if tokens.sees(TokenKind::DoWord, cursor.at) {
+            return Make(
+                NodeKind::DoStatement,
+                Punct(
+                    TokenKind::DoWord,
+                    OfRow(
+                        Row::StatementRow(self.1),
                         Punct(
                             TokenKind::WhileWord,
-                            ConditionIn(self.1, OfRow(Row::StatementRow(self.1), Done)),
-                        ),
-                    ),
-                    Choose(
-                        Is(TokenKind::DoWord),
-                        Make(
-                            NodeKind::DoStatement,
-                            Punct(
-                                TokenKind::DoWord,
-                                OfRow(
-                                    Row::StatementRow(self.1),
-                                    Punct(
-                                        TokenKind::WhileWord,
-                                        ConditionIn(
-                                            self.1,
-                                            Opt(
-                                                Greedy(Is(TokenKind::Semicolon)),
-                                                Punct(TokenKind::Semicolon, Done),
-                                                Done,
-                                            ),
-                                        ),
-                                    ),
-                                ),
-                            ),
-                        ),
-                        Choose(
-                            Is(TokenKind::ContinueWord),
-                            Make(
-                                NodeKind::ContinueStatement,
-                                Punct(TokenKind::ContinueWord, LabelEnded),
-                            ),
-                            Choose(
-                                Is(TokenKind::BreakWord),
-                                Make(
-                                    NodeKind::BreakStatement,
-                                    Punct(TokenKind::BreakWord, LabelEnded),
-                                ),
-                                Choose(
-                                    Is(TokenKind::ReturnWord),
-                                    Return(self.0, self.1),
-                                    Choose(
-                                        Is(TokenKind::ThrowWord),
-                                        Make(
-                                            NodeKind::ThrowStatement,
-                                            Punct(
-                                                TokenKind::ThrowWord,
-                                                When(
-                                                    Lookahead::Near,
-                                                    OfRow(
-                                                        Row::ExpressionRow(self.1),
-                                                        ExpressionEnded,
-                                                    ),
-                                                ),
-                                            ),
-                                        ),
-                                        Choose(
-                                            Is(TokenKind::SwitchWord),
-                                            Switch(self.0, self.1),
-                                            Choose(
-                                                Is(TokenKind::TryWord),
-                                                Try(self.0, self.1),
-                                                Choose(
-                                                    Is(TokenKind::DebuggerWord),
-                                                    Make(
-                                                        NodeKind::DebuggerStatement,
-                                                        Punct(TokenKind::DebuggerWord, Ended),
-                                                    ),
-                                                    Choose(
-                                                        Is(TokenKind::WithWord),
-                                                        Make(
-                                                            NodeKind::WithStatement,
-                                                            Punct(
-                                                                TokenKind::WithWord,
-                                                                Where(
-                                                                    Predicate::IsScript(self.1),
-                                                                    ConditionIn(
-                                                                        self.1,
-                                                                        OfRow(
-                                                                            Row::StatementRow(
-                                                                                self.1,
-                                                                            ),
-                                                                            Done,
-                                                                        ),
-                                                                    ),
-                                                                ),
-                                                            ),
-                                                        ),
-                                                        self.2,
-                                                    ),
-                                                ),
-                                            ),
-                                        ),
-                                    ),
+                            ConditionIn(
+                                self.1,
+                                Opt(
+                                    Greedy(Is(TokenKind::Semicolon)),
+                                    Punct(TokenKind::Semicolon, Done),
+                                    Done,
                                 ),
                             ),
                         ),
                     ),
                 ),
-            ),
-        )
-        .read(grammar, cursor)
+            )
+            .read(grammar, cursor);
+        }
+        if tokens.sees(TokenKind::ContinueWord, cursor.at) {
+            return Make(
+                NodeKind::ContinueStatement,
+                Punct(TokenKind::ContinueWord, LabelEnded),
+            )
+            .read(grammar, cursor);
+        }
+        if tokens.sees(TokenKind::BreakWord, cursor.at) {
+            return Make(
+                NodeKind::BreakStatement,
+                Punct(TokenKind::BreakWord, LabelEnded),
+            )
+            .read(grammar, cursor);
+        }
+        if tokens.sees(TokenKind::ReturnWord, cursor.at) {
+            return Return(self.0, self.1).read(grammar, cursor);
+        }
+        if tokens.sees(TokenKind::ThrowWord, cursor.at) {
+            return Make(
+                NodeKind::ThrowStatement,
+                Punct(
+                    TokenKind::ThrowWord,
+                    When(
+                        Lookahead::Near,
+                        OfRow(Row::ExpressionRow(self.1), ExpressionEnded),
+                    ),
+                ),
+            )
+            .read(grammar, cursor);
+        }
+        if tokens.sees(TokenKind::SwitchWord, cursor.at) {
+            return Switch(self.0, self.1).read(grammar, cursor);
+        }
+        if tokens.sees(TokenKind::TryWord, cursor.at) {
+            return Try(self.0, self.1).read(grammar, cursor);
+        }
+        if tokens.sees(TokenKind::DebuggerWord, cursor.at) {
+            return Make(
+                NodeKind::DebuggerStatement,
+                Punct(TokenKind::DebuggerWord, Ended),
+            )
+            .read(grammar, cursor);
+        }
+        if tokens.sees(TokenKind::WithWord, cursor.at) {
+            return Make(
+                NodeKind::WithStatement,
+                Punct(
+                    TokenKind::WithWord,
+                    Where(
+                        Predicate::IsScript(self.1),
+                        ConditionIn(self.1, OfRow(Row::StatementRow(self.1), Done)),
+                    ),
+                ),
+            )
+            .read(grammar, cursor);
+        }
+        self.2.read(grammar, cursor)
+    }
+}
+
+/// Name ':' Stmt, or an expression.
+#[derive(Clone, Copy)]
+struct OtherStatement(Context);
+
+impl ReadsProduction<Row> for OtherStatement {
+    ghost rule = { λ s. other_statement s.0 };
+
+    #[tactic(auto, unfolding(es_grammar::specs::Statements::other_statement))]
+    fn read<T: Rows<Row>>(
+        &self,
+        grammar: &Grammar<'_, T>,
+        cursor: &mut Cursor,
+    ) -> Result<usize, SyntaxError> {
+        if Predicate::OpensLabel.holds(&grammar.input, cursor.at) {
+            return Make(
+                NodeKind::LabelledStatement,
+                Tok(
+                    LeafKind::Name,
+                    Kinds::Name,
+                    Punct(TokenKind::Colon, OfRow(Row::StatementRow(self.0), Done)),
+                ),
+            )
+            .read(grammar, cursor);
+        }
+        ExpressionStatement(self.0).read(grammar, cursor)
     }
 }
 
@@ -390,39 +404,25 @@ pub struct Statement(pub Lang, pub Context);
 impl ReadsProduction<Row> for Statement {
     ghost rule = { λ s. statement s.0 s.1 };
 
-    #[tactic(auto, unfolding(es_grammar::specs::Declarations::statement, es_grammar::specs::Statements::other_statement))]
+    #[tactic(auto, unfolding(es_grammar::specs::Declarations::statement))]
     fn read<T: Rows<Row>>(
         &self,
         grammar: &Grammar<'_, T>,
         cursor: &mut Cursor,
     ) -> Result<usize, SyntaxError> {
-        Choose(
-            Is(TokenKind::OpenBrace),
-            Block(self.1),
-            Choose(
-                Is(TokenKind::Semicolon),
-                Make(NodeKind::EmptyStatement, Punct(TokenKind::Semicolon, Done)),
-                KeywordStatement(
-                    self.0,
-                    self.1,
-                    Declaration(
-                        self.0,
-                        self.1,
-                        Pick(
-                            Predicate::OpensLabel,
-                            Make(
-                                NodeKind::LabelledStatement,
-                                Tok(
-                                    LeafKind::Name,
-                                    Kinds::Name,
-                                    Punct(TokenKind::Colon, OfRow(Row::StatementRow(self.1), Done)),
-                                ),
-                            ),
-                            ExpressionStatement(self.1),
-                        ),
-                    ),
-                ),
-            ),
+        let tokens = grammar.input.tokens;
+        if tokens.sees(TokenKind::OpenBrace, cursor.at) {
+            return Block(self.1).read(grammar, cursor);
+        }
+        if tokens.sees(TokenKind::Semicolon, cursor.at) {
+            return Make(NodeKind::EmptyStatement, Punct(TokenKind::Semicolon, Done)).read(
+                grammar, cursor,
+            );
+        }
+        KeywordStatement(
+            self.0,
+            self.1,
+            Declaration(self.0, self.1, OtherStatement(self.1)),
         )
         .read(grammar, cursor)
     }

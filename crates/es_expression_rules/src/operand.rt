@@ -1,0 +1,30 @@
+//! An operand, and turns behind it, where one stands there.
+
+ghost use Rattle.es_tree.specs.Productions.{wrap};
+
+use es_grammar::{NodeKind, Row};
+use es_rules::{Cursor, Grammar, ReadsBehind, ReadsProduction, ReadsRhs, Rows, Tells, Turns};
+use es_tree::SyntaxError;
+
+/// What `Wrap` reads. Most operands stand alone: such a one is answered as it was read, with no look at the turns.
+#[derive(Clone, Copy)]
+pub struct Operand<A, C, P>(pub NodeKind, pub A, pub C, pub P);
+
+impl<A: ReadsProduction<Row>, C: Tells + Copy, P: ReadsRhs<Row> + Copy> ReadsProduction<Row>
+    for Operand<A, C, P> {
+    ghost rule = { λ s. wrap s.0 (A.rule s.1) (C.told s.2) (P.form s.3) };
+
+    #[inline(always)]
+    fn read<T: Rows<Row>>(
+        &self,
+        grammar: &Grammar<'_, T>,
+        cursor: &mut Cursor,
+    ) -> Result<usize, SyntaxError> {
+        let from = cursor.here();
+        let operand = self.1.read(grammar, cursor);
+        if !self.2.is_there(&grammar.input, cursor.at) {
+            return operand;
+        }
+        Turns(self.0, self.2, self.3).read(from, operand, grammar, cursor)
+    }
+}
