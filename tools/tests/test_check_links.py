@@ -61,6 +61,13 @@ class CheckLinks(unittest.TestCase):
         self.put("README.md", "# One\n\n[`IsDead`](crates/lexer/specs/Dead.antt)\n")
         self.assertEqual(self.told()[1][0], "README.md:3: no contract cites IsDead of crates/lexer/specs/Dead.antt, and the line speaks of no law")
 
+    def test_a_promise_names_what_is_declared(self):
+        rows = "# Theorems\n\n| promise | call and clause | definition |\n|---|---|---|\n| all is read | `read_all`, `{}` | `IsRead` |\n\n| a | b | c |\n|---|---|---|\n| d | `nowhere` | |\n"
+        self.put("docs/THEOREMS.md", rows.format("read"))
+        self.assertEqual(self.told()[0], 0)
+        self.put("docs/THEOREMS.md", rows.format("record"))
+        self.assertEqual(self.told(), (1, ["docs/THEOREMS.md:5: no source declares record", "links: 4 pages, 1 faults"]))
+
     def test_no_faults(self):
         for text in ("[a](https://example.com/none)", "[One](#one)", "`reads_nothing`", "`lexer`", "`FOLDER` and `check-NAME`", "`a word`",
                      "`..-in_room`", "`let x_y = 1;`", "```\n`None_such` [a](b.md)\n```", "    `None_such`", "[`whole`](crates/lexer/specs/Reads.antt)",
