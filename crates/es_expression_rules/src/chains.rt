@@ -451,6 +451,7 @@ pub struct Chain(pub Lang, pub Context);
 impl ReadsProduction<Row> for Chain {
     ghost rule = { λ s. chain s.0 s.1 };
 
+    #[inline(always)]
     #[tactic(auto, unfolding(es_grammar::specs::Expressions::chain))]
     fn read<T: Rows<Row>>(
         &self,

@@ -24,6 +24,7 @@ pub struct Update(pub Lang, pub Context);
 impl ReadsProduction<Row> for Update {
     ghost rule = { λ s. update s.0 s.1 };
 
+    #[inline(always)]
     #[tactic(auto, unfolding(es_grammar::specs::Expressions::update))]
     fn read<T: Rows<Row>>(
         &self,
