@@ -1,0 +1,2 @@
+-- names in sets
+pub mod Sets

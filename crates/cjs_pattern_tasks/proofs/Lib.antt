@@ -1,0 +1,6 @@
+-- keys
+pub mod KeyForms
+-- elements of lists
+pub mod Elements
+-- patterns
+pub mod PatForms
