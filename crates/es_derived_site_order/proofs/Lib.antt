@@ -1,14 +1,6 @@
-mod Given
 mod Sites
+mod Parts
 mod Own
-mod Forms
-mod On
-mod Exprs
-mod Patterns
-mod Stmts
-mod Modules
-mod Typed
-mod Build
-mod Kept
+mod Trees
 mod AscendLemmas
 pub mod Theorems

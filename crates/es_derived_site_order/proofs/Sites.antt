@@ -1,15 +1,10 @@
--- Lists of sites that stand on tokens, in order, and the parts of a tree that have them.
-use Rattle.std.specs.Prelude.{List, [], ◌∷◌, ◌++◌, Option, Some, None, slice_get}
-use Rattle.std.proofs.Common.{◌≡◌, ℕ, ◌+◌, ◌<◌, ◌≤◌, refl, sym, ◌∙◌, subst, arith}
+-- Lists of sites that stand on tokens, in order.
+use Rattle.std.specs.Prelude.{List, [], ◌∷◌, ◌++◌, Some, slice_get}
+use Rattle.std.proofs.Common.{◌≡◌, ℕ, ◌+◌, ◌<◌, ◌≤◌, arith}
 use Rattle.es_token.specs.declared.token.Token.{Token}
 use Rattle.ts_ast.specs.declared.leaf.Str.{Str}
 use Rattle.es_site.specs.declared.site.Site.{Site}
-use Rattle.es_site.specs.Sites.{Found, if_some}
 use Rattle.es_derived_site_order.specs.Order.{StandOn}
-
--- what is there has sites on these tokens
-abbrev pub Of : {A : Type 0} → (A → Found) → List Token → ℕ → ℕ → A → Type 0
-Of sites ts a b it = StandOn ts a b (sites it)
 
 -- a string literal is one of these tokens
 abbrev pub StrOn : List Token → ℕ → ℕ → Str → Type 0
@@ -43,38 +38,8 @@ module _ (ts : List Token) where
   both a b c (x ∷ xs) ys one other =
       (one.0, one.1, one.2, one.3, one.4, both (one.0 + 1) b c xs ys one.5 other)
 
-  pub same : (a b : ℕ) (xs ys : List Site) → xs ≡ ys → StandOn ts a b ys → StandOn ts a b xs
-  same a b xs ys e on = let P : List Site → Type 0 = λ s. StandOn ts a b s in subst P (sym e) on
-
-  -- one site, or none
-  pub one_on : (a b : ℕ) (site : Site) (s : Str) → site.range ≡ s.span → StrOn ts a b s → StandOn ts a b (site ∷ [])
-  one_on a b site s e on =
-      let behind : on.0 < b = on.3 in
-      (on.0, on.1, on.2, on.4, e ∙ on.5, (let rest : on.0 + 1 ≤ b = omega (arith, behind) in rest))
-
   pub str_widen : (a b c d : ℕ) (s : Str) → a ≤ b → c ≤ d → StrOn ts b c s → StrOn ts a d s
   str_widen a b c d s low high on =
       let first : b ≤ on.0 = on.2 in
       let last : on.0 < c = on.3 in
       (on.0, on.1, omega (arith, first), omega (arith, last), on.4, on.5)
-
-  pub str_forward : (a b : ℕ) (s : Str) → StrOn ts a b s → a ≤ b
-  str_forward a b s on =
-      let first : a ≤ on.0 = on.2 in
-      let last : on.0 < b = on.3 in
-      omega (arith, first, last)
-
-  -- what may be there
-  pub some_on : {A : Type 0} (sites : A → Found) (a b : ℕ) (o : Option A) → a ≤ b
-      → ((x : A) → o ≡ Some x → StandOn ts a b (sites x))
-      → StandOn ts a b (if_some sites o)
-  some_on sites a b (Some x) low each = each x refl
-  some_on sites a b None low each = low
-
-  -- a list of sites in two
-  pub split : (a b : ℕ) (xs ys : List Site) → StandOn ts a b (xs ++ ys)
-      → (mid : ℕ) × StandOn ts a mid xs × StandOn ts mid b ys
-  split a b [] ys on = (a, omega arith, on)
-  split a b (x ∷ xs) ys on =
-      let rest = split (on.0 + 1) b xs ys on.5 in
-      (rest.0, (on.0, on.1, on.2, on.3, on.4, rest.1), rest.2)

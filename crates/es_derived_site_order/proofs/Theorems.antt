@@ -1,6 +1,6 @@
 -- The laws of the order of the sites of derived trees.
-use Rattle.std.specs.Prelude.{List, Option}
-use Rattle.std.proofs.Common.{ℕ, length, subst}
+use Rattle.std.specs.Prelude.{List}
+use Rattle.std.proofs.Common.{ℕ, length, sym, subst}
 use Rattle.es_token.specs.declared.token.Token.{Token}
 use Rattle.es_lexer.specs.Reads.{ReadsTokens}
 use Rattle.es_tree.specs.declared.error.Lang.{Lang}
@@ -13,15 +13,13 @@ use Rattle.es_grammar.specs.Conditions.{program_row}
 use Rattle.es_type_grammar.proofs.OrderLemmas.{row_stands}
 use Rattle.es_lookahead.proofs.TokenLemmas.{length-keys_of}
 use Rattle.es_cst.specs.Slim.{tree_of}
-use Rattle.es_literal_places.proofs.Theorems.{strs}
+use Rattle.es_site.specs.declared.site.Site.{Site}
 use Rattle.es_site.specs.Sites.{sites_of}
-use Rattle.es_lowering.specs.Lowering.{value_of}
+use Rattle.es_plain_sites.specs.Own.{plain_sites}
+use Rattle.es_plain_sites.proofs.Theorems.{derived_sites}
 use Rattle.es_derives.specs.Derives.{Derives}
-use Rattle.es_site_ranges.proofs.Cuts.{Opt}
 use Rattle.es_derived_site_order.specs.Order.{Ascend, token_range, site_range, StandOn}
-use Rattle.es_derived_site_order.proofs.Sites.{Of}
-use Rattle.es_derived_site_order.proofs.On.{read_program}
-use Rattle.es_derived_site_order.proofs.Kept.{tree_on}
+use Rattle.es_derived_site_order.proofs.Trees.{plain_stand}
 use Rattle.es_derived_site_order.proofs.AscendLemmas.{tokens_ascend, stand_ascend}
 
 -- each site of a derived tree has the range of a token of its own, in the order of the tokens, whatever the tokens are
@@ -29,12 +27,12 @@ pub derives_stand : (l : Lang) (m : Mode) (x : List ℕ) (ts : List Token) (p : 
     → StandOn ts 0 (length ts) (sites_of p)
 unfolding Shape
 derives_stand l m x ts p derived =
-    let P : Option Program → Type 0 = λ o. Opt (Of sites_of ts 0 (length (keys_of ts))) o in
-    let stand : StandOn ts 0 (length (keys_of ts)) (sites_of p) = subst P derived.lowered
-    (read_program ts 0 (length (keys_of ts)) (value_of x ts (tree_of derived.plain))
-    (tree_on x ts 0 (length (keys_of ts)) derived.plain (strs l m (keys_of ts) derived.plain derived.program.shaped)
+    let plain : StandOn ts 0 (length (keys_of ts)) (plain_sites x ts (tree_of derived.plain)) =
+    plain_stand x ts 0 (length (keys_of ts)) derived.plain
     (row_stands free (keys_of ts) (rule l) most_nodes (program_row m) derived.plain 0 (length (keys_of ts))
-    derived.program.shaped.0))) in
+    derived.program.shaped.0) in
+    let stand : StandOn ts 0 (length (keys_of ts)) (sites_of p) =
+    subst (λ (ss : List Site). StandOn ts 0 (length (keys_of ts)) ss) (sym (derived_sites l m x ts p derived)) plain in
     subst (λ (n : ℕ). StandOn ts 0 n (sites_of p)) (length-keys_of ts) stand
 
 -- where the tokens ascend, so do the sites
