@@ -39,10 +39,11 @@ module _ (x : List ℕ) (ts : List Token) where
       let inner = (tree_stands first next ps h.2).1 in
       let low : f ≤ first = h.0 in
       let mid : first ≤ next = ahead inner in
-      let high : next ≤ to = h.1 in
-      (by_form f to _ _ (part_node x ts label first next (parts ps))
-      (a.made label low high mid (λ never. refl) inner (own_on x ts label first next (become (parts ps)) inner)),
-      a.end (omega (arith, low, mid, high)))
+      let high : next ≤ to = h.1 in (
+        by_form f to _ _ (part_node x ts label first next (parts ps))
+            (a.made label low high mid (λ never. refl) inner (own_on x ts label first next (become (parts ps)) inner)),
+        a.end (omega (arith, low, mid, high)),
+      )
   tree_stands f to (leaf s n) h =
       let whole = a.leaf n h.0 h.1 in (by_form f to _ _ (part_leaf x ts n) whole, a.end (ahead whole))
   tree_stands f to nil h = (listed f to [] (a.end h), a.end h)
