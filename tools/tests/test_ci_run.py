@@ -68,10 +68,9 @@ class CiRun(unittest.TestCase):
             self.assertEqual((lines[-1], status), ("7 passed, 0 failed", 0))
 
     def test_the_proofs_alone(self):
-        for words in (("--no-try",), ("--no-try", "--whole"), ("--whole", "--no-try")):
-            lines, status = self.gate(*words)
-            self.assertNotIn("called try-tests --minutes 20", lines)
-            self.assertEqual((lines[-1], status), ("7 passed, 0 failed", 0))
+        lines, status = self.gate("--no-try")
+        self.assertNotIn("called try-tests --minutes 20", lines)
+        self.assertEqual((lines[-1], status), ("7 passed, 0 failed", 0))
 
     def test_what_is_proved_and_checked_counts(self):
         self.assertEqual(self.gate(proved=(1, "4 passed, 1 failed"))[0][-1], "6 passed, 1 failed")
