@@ -25,14 +25,20 @@ enum {
     JORAVELSU_BAD_BUNDLE = 2,      /* build: over 16 MiB, no JSON, or no bundle; a line that says which was written */
     JORAVELSU_NO_ROOM = 4,         /* a buffer is too small: nothing was written, and the call answers what is needed */
     JORAVELSU_NO_MEMORY = 5,       /* out of memory: nothing was written */
-    JORAVELSU_TOO_LONG = 6,        /* sites, unread: the text is over 16 MiB */
-    JORAVELSU_NO_UTF8 = 7,         /* sites, unread: the text is no UTF-8; the answer says from which byte on, counted from
+    JORAVELSU_TOO_LONG = 6,        /* sites, unread, rewrite: the text is over 16 MiB */
+    JORAVELSU_NO_UTF8 = 7,         /* sites, unread, rewrite: the text is no UTF-8; the answer says from which byte on, counted from
                                       the first, that of a byte order mark too */
-    JORAVELSU_NO_MEDIA_TYPE = 8,   /* sites: no media type has this number */
-    JORAVELSU_NOT_READ = 9,        /* sites: modules of this media type are no sources */
-    JORAVELSU_LEXICAL_FAULT = 10,  /* sites, unread: a part of the text is no token; the answer says which fault, and where */
-    JORAVELSU_SYNTAX_FAULT = 11    /* sites: the tokens are no program of the grammar; the answer says where that was
-                                      noticed (the one place that no proof covers) */
+    JORAVELSU_NO_MEDIA_TYPE = 8,   /* sites, rewrite: no media type has this number */
+    JORAVELSU_NOT_READ = 9,        /* sites, rewrite: modules of this media type are no sources */
+    JORAVELSU_LEXICAL_FAULT = 10,  /* sites, unread, rewrite: a part of the text is no token; the answer says which fault,
+                                      and where */
+    JORAVELSU_SYNTAX_FAULT = 11,   /* sites, rewrite: the tokens are no program of the grammar; the answer says where that
+                                      was noticed (the one place that no proof covers) */
+    JORAVELSU_NO_VALUE = 12,       /* rewrite: a change's specifier isn't in the buffer of values, or is no UTF-8 */
+    JORAVELSU_NO_SITE = 13,        /* rewrite: no site has the number of a change */
+    JORAVELSU_NO_LITERAL = 14,     /* rewrite: the site of a change stands in a comment */
+    JORAVELSU_NO_ORDER = 15        /* rewrite: the number of a change isn't above that of the change before it; for these
+                                      four the answer says which change, and nothing was written */
 };
 
 /* Media types. Sources are all but JSON and WebAssembly. */
@@ -122,6 +128,21 @@ typedef struct joravelsu_unread_answer {
     size_t place;       /* where the fault is, else 0 */
 } joravelsu_unread_answer;
 
+/* A new specifier for a site. */
+typedef struct joravelsu_change {
+    size_t site;        /* its number, from 0, in the order of joravelsu_sites */
+    size_t value_start; /* the specifier, in the buffer of values: UTF-8, not ended by a 0 */
+    size_t value_end;
+} joravelsu_change;
+
+/* What joravelsu_rewrite answers beside its buffer. */
+typedef struct joravelsu_rewrite_answer {
+    size_t needed;      /* how many bytes the new text has: what the buffer must hold */
+    size_t change;      /* at JORAVELSU_NO_VALUE, _NO_SITE, _NO_LITERAL and _NO_ORDER which change, from 0; else 0 */
+    uint32_t fault;     /* the lexical fault at JORAVELSU_LEXICAL_FAULT, else 0 */
+    size_t place;       /* where the fault is, else 0 */
+} joravelsu_rewrite_answer;
+
 /* The version of the library: 10,000 times its first number, 100 times its second, and its third; 100 is 0.1.0. */
 uint32_t joravelsu_version(void);
 
@@ -174,6 +195,25 @@ uint32_t joravelsu_sites(const uint8_t *text, size_t text_length, uint32_t media
  */
 uint32_t joravelsu_unread(const uint8_t *text, size_t text_length, joravelsu_call *calls, size_t calls_length,
                           joravelsu_unread_answer *answer);
+
+/* A source text with other specifiers at some of its sites. The literal of each of these gives way to one in double quotes;
+ * all else stays byte for byte, but for a byte order mark in front, which isn't written. The new text is read as the old one,
+ * and has its sites, moved by what the literals before them gained and lost.
+ *
+ * text, text_length, media_type: as for joravelsu_sites.
+ * changes, changes_length: a record for each change, in the order of the sites, no site twice; the length counts records.
+ *   Sites in comments can't be changed.
+ * values, values_length: where the records have their specifiers.
+ * buffer, buffer_length: where the new text is written, in UTF-8, not ended by a 0.
+ * answer: always written; where the buffer is too small, it says what it must hold.
+ *
+ * Answers JORAVELSU_DONE, or why nothing was written into the buffer: what joravelsu_sites answers of a text without sites,
+ * in its order, then JORAVELSU_NO_VALUE of the first change that has none, then _NO_SITE, _NO_LITERAL or _NO_ORDER of the
+ * first change that can't be made, then _NO_ROOM; JORAVELSU_NO_MEMORY at any time.
+ */
+uint32_t joravelsu_rewrite(const uint8_t *text, size_t text_length, uint32_t media_type, const joravelsu_change *changes,
+                           size_t changes_length, const uint8_t *values, size_t values_length, uint8_t *buffer,
+                           size_t buffer_length, joravelsu_rewrite_answer *answer);
 
 #ifdef __cplusplus
 }

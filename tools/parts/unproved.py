@@ -244,6 +244,8 @@ fn main(rt: HostRuntime) {
     let _ = joravelsu_sites(rt.alloc(), b"", 3, &mut [], &mut [], &mut answer);
     let mut told = CallsAnswer { calls: 0, fault: 0, place: 0 };
     let _ = joravelsu_unread(rt.alloc(), b"", &mut [], &mut told);
+    let mut made = RewriteAnswer { needed: 0, change: 0, fault: 0, place: 0 };
+    let _ = joravelsu_rewrite(rt.alloc(), b"", 3, &[], b"", &mut [], &mut made);
 }
 """
 

@@ -5,4 +5,5 @@ pub mod Finding
 pub mod Told
 pub mod Answer
 pub mod Calls
+pub mod Rewrite
 pub mod Build

@@ -4,9 +4,11 @@
 //! - `joravelsu_sites(text, media_type)`: where a source names other modules, or why it has no sites (`AnswersSites`,
 //!   `specs/Answer.antt`).
 //! - `joravelsu_unread(text)`: which calls may load a module and have no edge (`AnswersCalls`, `specs/Calls.antt`).
+//! - `joravelsu_rewrite(text, media_type, changes, values)`: a source with other specifiers at some of its sites, or which
+//!   change can't be made, or why it has no sites (`AnswersRewrite`, `specs/Rewrite.antt`).
 //! - `joravelsu_version()`: the version of the library.
 //!
-//! The first three write into buffers of the caller's, all or nothing, and tell what they must hold. They keep no state. A
+//! The first four write into buffers of the caller's, all or nothing, and tell what they must hold. They keep no state. A
 //! call fails besides only where memory runs out.
 //! Not promised: the place of a syntax error, and when memory runs out.
 #![tactic(auto)]
@@ -15,12 +17,14 @@ ghost use Rattle.std.specs.Prelude.{◌≡◌};
 ghost use Rattle.graph_c.specs.Build.{Builds};
 ghost use Rattle.graph_c.specs.Answer.{AnswersSites};
 ghost use Rattle.graph_c.specs.Calls.{AnswersCalls};
+ghost use Rattle.graph_c.specs.Rewrite.{AnswersRewrite};
 
 mod answer;
 mod build;
 mod calls;
 mod finding;
 mod media_types;
+mod rewrite;
 mod room;
 mod text;
 mod told;
@@ -28,6 +32,8 @@ mod told;
 use crate::answer::{Answer, SourceSite, answer_sites};
 use crate::build::build_report;
 use crate::calls::{CallsAnswer, SourceCall, answer_calls};
+use crate::rewrite::{RewriteAnswer, answer_rewrite};
+use specifier_records::SourceChange;
 use std::alloc::Global;
 
 /// The version, as 10,000 times its first number, 100 times its second, and its third: 100 is 0.1.0.
@@ -80,4 +86,20 @@ pub extern "C" fn joravelsu_unread(
     ensures { AnswersCalls text.now calls.old calls.new answer.new result }
 {
     answer_calls(alloc, text, calls, answer)
+}
+
+/// Writes a source with other specifiers at some of its sites into the buffer.
+#[unsafe(no_mangle)]
+pub extern "C" fn joravelsu_rewrite(
+    alloc: Global,
+    text: &[u8],
+    media_type: u32,
+    changes: &[SourceChange],
+    values: &[u8],
+    room: &mut [u8],
+    answer: &mut RewriteAnswer,
+) -> u32
+    ensures { AnswersRewrite media_type text.now changes.now values.now room.old room.new answer.new result }
+{
+    answer_rewrite(alloc, text, media_type, changes, values, room, answer)
 }

@@ -4,6 +4,8 @@
     [Site(kind='import', type_only=False, start=7, end=15, value='./b.ts', attribute=None)]
     >>> unread_in("import(a); require('b');")
     [Call(kind='import', start=0, end=9), Call(kind='require', start=11, end=23)]
+    >>> rewrite('import "./b.ts"; import("./c.ts");', TYPESCRIPT, {0: "./lib/b.ts"})
+    'import "./lib/b.ts"; import("./c.ts");'
 
 The library is found by the variable JORAVELSU_LIBRARY, the path of libjoravelsu.so, or else by the system.
 """
@@ -27,6 +29,12 @@ _REASONS = {
     9: "modules of this media type are no sources",
     10: "a part of the text is no token",
     11: "the tokens are no program of the grammar",
+}
+_REFUSALS = {
+    12: "its specifier is no text",
+    13: "no site has this number",
+    14: "the site stands in a comment",
+    15: "the number isn't above that of the change before it",
 }
 
 
@@ -78,6 +86,15 @@ class SourceError(ValueError):
         self.place = place
 
 
+class ChangeError(ValueError):
+    """Why a change can't be made. `status` is the library's, `site` the number that was asked for."""
+
+    def __init__(self, status: int, site: int):
+        super().__init__(f"site {site}: {_REFUSALS[status]}")
+        self.status = status
+        self.site = site
+
+
 class BundleError(ValueError):
     """Why a bundle has no graph: the line that the program writes for it."""
 
@@ -113,6 +130,19 @@ class _UnreadAnswer(ctypes.Structure):
     _fields_ = [("calls", ctypes.c_size_t), ("fault", ctypes.c_uint32), ("place", ctypes.c_size_t)]
 
 
+class _Change(ctypes.Structure):
+    _fields_ = [("site", ctypes.c_size_t), ("value_start", ctypes.c_size_t), ("value_end", ctypes.c_size_t)]
+
+
+class _RewriteAnswer(ctypes.Structure):
+    _fields_ = [
+        ("needed", ctypes.c_size_t),
+        ("change", ctypes.c_size_t),
+        ("fault", ctypes.c_uint32),
+        ("place", ctypes.c_size_t),
+    ]
+
+
 def _load() -> ctypes.CDLL:
     path = os.environ.get("JORAVELSU_LIBRARY", "libjoravelsu.so")
     try:
@@ -127,6 +157,9 @@ def _load() -> ctypes.CDLL:
     library.joravelsu_sites.restype = ctypes.c_uint32
     library.joravelsu_unread.argtypes = [text, size, ctypes.POINTER(_Call), size, ctypes.POINTER(_UnreadAnswer)]
     library.joravelsu_unread.restype = ctypes.c_uint32
+    changes = [ctypes.POINTER(_Change), size, text, size]
+    library.joravelsu_rewrite.argtypes = [text, size, ctypes.c_uint32, *changes, text, size, ctypes.POINTER(_RewriteAnswer)]
+    library.joravelsu_rewrite.restype = ctypes.c_uint32
     library.joravelsu_version.argtypes = []
     library.joravelsu_version.restype = ctypes.c_uint32
     return library
@@ -199,6 +232,39 @@ def unread_in(text: str | bytes) -> list[Call]:
         if status != _NO_ROOM:
             raise _refused(status, answer.place)
         length = answer.calls
+
+
+def rewrite(text: str | bytes, media_type: int, specifiers: dict[int, str]) -> str:
+    """The source with other specifiers at some of its sites, by the numbers of these in imports_of, from 0.
+
+    Each new literal is in double quotes; all else stays, but for a byte order mark in front. Raises SourceError where the
+    source isn't read, and ChangeError where no literal has such a number: comments are none.
+    """
+    source = text.encode() if isinstance(text, str) else bytes(text)
+    numbers = sorted(specifiers)
+    if numbers and numbers[0] < 0:
+        raise ChangeError(13, numbers[0])
+    changes, values = (_Change * len(numbers))(), b""
+    for change, number in zip(changes, numbers):
+        change.site, change.value_start = number, len(values)
+        values += specifiers[number].encode()
+        change.value_end = len(values)
+    answer = _RewriteAnswer()
+    length = len(source) + 2 * len(values) + 64
+    while True:
+        buffer = ctypes.create_string_buffer(length)
+        status = _library.joravelsu_rewrite(
+            source, len(source), media_type, changes, len(numbers), values, len(values), buffer, length, ctypes.byref(answer)
+        )
+        if status == _NO_MEMORY:
+            raise MemoryError
+        if status == _DONE:
+            return buffer.raw[: answer.needed].decode()
+        if status in _REFUSALS:
+            raise ChangeError(status, numbers[answer.change])
+        if status != _NO_ROOM:
+            raise _refused(status, answer.place)
+        length = answer.needed
 
 
 def graph(bundle: str | bytes | dict) -> str:

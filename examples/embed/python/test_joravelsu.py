@@ -31,6 +31,17 @@ def raw_calls(text, length):
     return status, (answer.calls, answer.fault, answer.place), calls[0].kind == 99
 
 
+def raw_rewrite(text, media_type, records, values, length):
+    """The same of other specifiers: each record is a site's number, and where its specifier begins and ends."""
+    changes = (joravelsu._Change * len(records))(*[joravelsu._Change(*record) for record in records])
+    buffer = ctypes.create_string_buffer(b"#" * (length + 1))
+    answer = joravelsu._RewriteAnswer(7, 7, 7, 7)
+    status = joravelsu._library.joravelsu_rewrite(
+        text, len(text), media_type, changes, len(records), values, len(values), buffer, length, ctypes.byref(answer)
+    )
+    return status, (answer.needed, answer.change, answer.fault, answer.place), buffer.raw[:-1]
+
+
 class Version(unittest.TestCase):
     def test_version(self):
         self.assertEqual(joravelsu.version(), (0, 1, 0))
@@ -147,6 +158,60 @@ class Calls(unittest.TestCase):
         self.assertEqual(raw_calls(text, 2)[:2], (0, (2, 0, 0)))
         self.assertEqual(raw_calls(b"", 0), (0, (0, 0, 0), True))
         self.assertEqual(raw_calls(b'"', 0), (10, (0, 1, 0), True))
+
+
+class Rewriting(unittest.TestCase):
+    def test_of_texts(self):
+        ts, mjs = joravelsu.TYPESCRIPT, joravelsu.MJS
+        rows = [
+            ('import "./a.ts"; const s = "./a.ts";', ts, {0: "./b.ts"}, 'import "./b.ts"; const s = "./a.ts";'),
+            ("import './a.ts'", ts, {0: 'x\n"'}, 'import "x\\n\\""'),
+            ('import "./b.ts"; import("./c.ts");', ts, {0: "./lib/b.ts"}, 'import "./lib/b.ts"; import("./c.ts");'),
+            ("import a from'a'\nexport*from'b'", mjs, {1: "ö", 0: ""}, 'import a from""\nexport*from"ö"'),
+            ('/// <reference path="r" />\nimport "a"', ts, {1: "b"}, '/// <reference path="r" />\nimport "b"'),
+            ("\ufeffimport 'a'", mjs, {0: "b"}, 'import "b"'),
+            ("1 + '2'", mjs, {}, "1 + '2'"),
+        ]
+        for text, media_type, specifiers, wanted in rows:
+            self.assertEqual(joravelsu.rewrite(text, media_type, specifiers), wanted)
+
+    def test_moved_sites(self):
+        new = joravelsu.rewrite('import "./b.ts"; import("./c.ts");', joravelsu.TYPESCRIPT, {0: "./lib/b.ts"})
+        found = [(it.start, it.end, it.value) for it in joravelsu.imports_of(new, joravelsu.TYPESCRIPT)]
+        self.assertEqual(found, [(7, 19, "./lib/b.ts"), (28, 36, "./c.ts")])
+
+    def test_more_than_the_first_buffer_holds(self):
+        text, values = 'import "a";' * 1000, {i: '"' * 100 for i in range(1000)}
+        self.assertEqual(joravelsu.rewrite(text, joravelsu.MJS, values), ('import "' + '\\"' * 100 + '";') * 1000)
+
+    def test_changes_that_cant_be_made(self):
+        text = '/// <reference path="r" />\nimport "a"; import "b";'
+        for specifiers, status, site in (({3: "c"}, 13, 3), ({0: "c"}, 14, 0), ({1: "c", 9: "d"}, 13, 9), ({-1: "c"}, 13, -1)):
+            with self.assertRaises(joravelsu.ChangeError) as caught:
+                joravelsu.rewrite(text, joravelsu.TYPESCRIPT, specifiers)
+            self.assertEqual((caught.exception.status, caught.exception.site), (status, site))
+        for text, status, place in ((b"\xff", 7, 0), (b'import "a', 10, 7), (b"a b", 11, 2)):
+            with self.assertRaises(joravelsu.SourceError) as caught:
+                joravelsu.rewrite(text, joravelsu.MJS, {0: "b"})
+            self.assertEqual((caught.exception.status, caught.exception.place), (status, place))
+
+    def test_buffers(self):
+        text, mjs = b'import "a"; import "b";', joravelsu.MJS
+        rows = [
+            ([(0, 0, 1)], b"x", 23, 0, (23, 0, 0, 0), b'import "x"; import "b";'),
+            ([(0, 0, 1)], b"x", 22, 4, (23, 0, 0, 0), b"#" * 22),
+            ([(0, 0, 1), (1, 1, 1)], b"x", 23, 0, (22, 0, 0, 0), b'import "x"; import "";#'),
+            ([(0, 0, 1), (1, 0, 2)], b"x", 2, 12, (0, 1, 0, 0), b"##"),
+            ([(0, 1, 0)], b"x", 2, 12, (0, 0, 0, 0), b"##"),
+            ([(0, 0, 1)], b"\xff", 2, 12, (0, 0, 0, 0), b"##"),
+            ([(1, 0, 1), (1, 0, 1)], b"x", 2, 15, (0, 1, 0, 0), b"##"),
+            ([(1, 0, 1), (0, 0, 1)], b"x", 2, 15, (0, 1, 0, 0), b"##"),
+            ([(2, 0, 1)], b"x", 2, 13, (0, 0, 0, 0), b"##"),
+            ([], b"", 0, 4, (23, 0, 0, 0), b""),
+        ]
+        for records, values, length, status, answer, held in rows:
+            self.assertEqual(raw_rewrite(text, mjs, records, values, length), (status, answer, held), records)
+        self.assertEqual(raw_rewrite(text, 99, [(5, 9, 3)], b"", 0)[:2], (8, (0, 0, 0, 0)))
 
 
 class Graphs(unittest.TestCase):

@@ -1,0 +1,13 @@
+//! Other specifiers for the sites of a text, by records over one buffer of bytes, as a program in C has them.
+//!
+//! - `rewrite_by_records(text, sites, records, values)`: the new text, or the first record that can't be followed, and why
+//!   (`IsRewritten`, `specs/Records.antt`).
+//!
+//! Not promised: when memory runs out.
+#![tactic(auto)]
+
+mod records;
+mod rewrite;
+
+pub use crate::records::SourceChange;
+pub use crate::rewrite::{Rewritten, rewrite_by_records};
