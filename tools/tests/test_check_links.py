@@ -68,6 +68,12 @@ class CheckLinks(unittest.TestCase):
         self.put("docs/THEOREMS.md", rows.format("record"))
         self.assertEqual(self.told(), (1, ["docs/THEOREMS.md:5: no source declares record", "links: 4 pages, 1 faults"]))
 
+    def test_a_crate_that_the_page_of_crates_lacks(self):
+        self.put("docs/ARCHITECTURE.md", "# Crates\n\n| `lexer` |\n")
+        self.assertEqual(self.told()[0], 0)
+        self.put("crates/parser/README.md", "# parser\n")
+        self.assertEqual(self.told()[1], ["docs/ARCHITECTURE.md: it has no crate parser", "links: 5 pages, 1 faults"])
+
     def test_no_faults(self):
         for text in ("[a](https://example.com/none)", "[One](#one)", "`reads_nothing`", "`lexer`", "`FOLDER` and `check-NAME`", "`a word`",
                      "`..-in_room`", "`let x_y = 1;`", "```\n`None_such` [a](b.md)\n```", "    `None_such`", "[`whole`](crates/lexer/specs/Reads.antt)",
