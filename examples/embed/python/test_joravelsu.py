@@ -32,7 +32,7 @@ def raw_calls(text, length):
 
 
 def raw_rewrite(text, media_type, records, values, length):
-    """The same of other specifiers: each record is a site's number, and where its specifier begins and ends."""
+    """The same of other specifiers: each record is a site's number, and where its specifier begins and ends. The buffer is told with the byte behind it."""
     changes = (joravelsu._Change * len(records))(*[joravelsu._Change(*record) for record in records])
     buffer = ctypes.create_string_buffer(b"#" * (length + 1))
     answer = joravelsu._RewriteAnswer(7, 7, 7, 7)
@@ -210,7 +210,8 @@ class Rewriting(unittest.TestCase):
             ([], b"", 0, 4, (23, 0, 0, 0), b""),
         ]
         for records, values, length, status, answer, held in rows:
-            self.assertEqual(raw_rewrite(text, mjs, records, values, length), (status, answer, held), records)
+            # the byte behind the buffer stays as it was
+            self.assertEqual(raw_rewrite(text, mjs, records, values, length), (status, answer, held + b"#"), records)
         self.assertEqual(raw_rewrite(text, 99, [(5, 9, 3)], b"", 0)[:2], (8, (0, 0, 0, 0)))
 
 
