@@ -1,12 +1,12 @@
 //! The builder: asks a loader for all that is reached, and makes the graph of its answers.
-ghost use Rattle.std.specs.Prelude.{◌≡◌, ◌≤◌, ℕ, true, false, ◌↔◌, length, map, IfOk, IfErr, OnOk, Err};
+ghost use Rattle.std.specs.Prelude.{◌≡◌, ◌≤◌, ◌<◌, ℕ, true, false, ◌↔◌, length, map, IfOk, IfErr, OnOk, Err};
 ghost use Rattle.url.specs.Parts.{Parts};
 ghost use Rattle.graph_entry.specs.Specifier.{text_of};
 ghost use Rattle.graph_entry.specs.Resolution.{resolve, resolve_by};
 ghost use Rattle.graph_entry.specs.Referrer.{referred, starts_of};
 ghost use Rattle.graph_builder.specs.Reach.{answer_to};
 ghost use Rattle.graph_builder.specs.Graph.{texts, different, IsGraph, EachEdgeCuts};
-ghost use Rattle.graph_builder.specs.Builder.{graph_rules, starts, GoesOn, new_building, new_building_by, IsOrderly, IsAsking, IsAskedFor, EachAnswered, IsToldLog, HasHistory, IsNotYet, IsUnawaited, IsTooMany, IsComplete, IsFairly, CameInTime};
+ghost use Rattle.graph_builder.specs.Builder.{graph_rules, starts, GoesOn, new_building, new_building_by, IsOrderly, IsAsking, IsAskedFor, EachAnswered, IsToldLog, HasHistory, IsNotYet, IsUnawaited, IsTooMany, IsComplete, IsCompleteBy, IsFairly, CameInTime};
 
 use crate::ways::{DefaultWays, following_parts};
 use base::Items;
@@ -14,6 +14,7 @@ use graph_analyzer::ParserModuleAnalyzer;
 use graph_builder::{BuildError, BuildOptions, CustomBuild, Following, Inner, Loader, ModuleGraph};
 use graph_entry::{DefaultResolver, ModuleAnalyzer, Resolver};
 use std::alloc::{AllocError, AllocFailed, Global};
+use std::thread::Threads;
 use url::Url;
 
 /// A graph under construction, over a loader. It keeps an inner part, which contracts see as plain data.
@@ -129,6 +130,59 @@ impl<L: Loader + Drop> GraphBuild<L> {
         ensures later { (self.new.inner.finished ≡ false) ↔ (result ≡ Err BuildError.NotYet) }
     {
         self.inner.poll()
+    }
+
+    /// As `poll`, but so many answers are taken at a time, and analysed by halves in threads of their own. An answer that
+    /// leads to others leads there once its batch is analysed.
+    pub fn poll_batched<R: Threads + Sync>(
+        &mut self,
+        rt: &R,
+        batch: usize,
+    ) -> Result<ModuleGraph, BuildError>
+        requires size { 0 < batch }
+        // The graph is that of the roots and the answers.
+        ensures graph { IfOk result (λ g.
+            IsGraph (graph_rules self.old.inner) (starts self.old.inner) (answer_to self.new.inner.log) g.entries) }
+        ensures cuts { IfOk result (λ g. EachEdgeCuts g.entries) }
+        ensures roots { IfOk result (λ g. g.roots ≡ self.old.inner.roots) }
+        ensures imports { IfOk result (λ g. g.imports ≡ map referred self.old.inner.imports) }
+        // It starts at the roots and where the referrer imports lead.
+        ensures starts { starts self.old.inner ≡ starts_of self.old.inner.roots self.old.inner.imports }
+        // Each answer was awaited when it came; what was asked is what the graph needs, and is answered.
+        ensures orderly { OnOk result (IsOrderly (graph_rules self.old.inner) (starts self.old.inner) self.new.inner.log) }
+        ensures asked { OnOk result
+            (IsAskedFor (graph_rules self.old.inner) (starts self.old.inner) self.new.inner.asked self.new.inner.log) }
+        ensures answered { OnOk result (EachAnswered self.new.inner.asked self.new.inner.log) }
+        ensures limit { IfOk result (λ g. length g.entries ≤ self.old.inner.limit) }
+        // The different roots have the first numbers, in the order in which they first stand among the roots.
+        ensures firsts { IfOk result (λ g. GoesOn (different (texts self.old.inner.roots)) (texts g.numbered)) }
+        ensures pending { OnOk result (self.new.inner.pending ≡ self.old.inner.pending) }
+        // Why there is no graph.
+        ensures not_yet { result ≡ Err BuildError.NotYet →
+            IsNotYet (graph_rules self.old.inner) self.old.inner self.new.inner }
+        ensures unasked { (s : Parts) → result ≡ Err (BuildError.UnaskedAnswer s) →
+            IsUnawaited (graph_rules self.old.inner) batch self.old.inner self.new.inner (text_of s) }
+        ensures unasked_pending { (s : Parts) → result ≡ Err (BuildError.UnaskedAnswer s) →
+            self.new.inner.pending ≡ self.old.inner.pending }
+        ensures too_many { (seen : ℕ) → result ≡ Err (BuildError.TooManyModules seen) →
+            IsTooMany (graph_rules self.old.inner) (starts self.old.inner) self.new.inner.log self.old.inner.limit seen }
+        ensures finished { (result ≡ Err BuildError.Finished) ↔ (self.old.inner.finished ≡ true) }
+        // And when there is one, unless memory runs out.
+        ensures complete { IsCompleteBy (graph_rules self.old.inner) batch self.old.inner self.new.inner result }
+        // No answer is unasked of a loader that answers open requests alone.
+        ensures fair { IsFairly (L.seen self.old.inner.loader) self.old.inner result }
+        // On every answer.
+        ensures in_time { CameInTime (graph_rules self.old.inner) (starts self.old.inner) self.new.inner.events result }
+        ensures asking { IsAsking (graph_rules self.old.inner) (starts self.old.inner) self.new.inner.asked self.new.inner.log }
+        ensures told { IsToldLog ((L.seen self.new.inner.loader).told) self.new.inner.log }
+        ensures telling { (L.seen self.new.inner.loader).told ≡ (L.seen self.old.inner.loader).told }
+        ensures stays_fair { (L.seen self.old.inner.loader).fair ≡ true →
+            (L.seen self.new.inner.loader).fair ≡ true }
+        ensures history { HasHistory self.old.inner self.new.inner }
+        ensures idle { self.old.inner.finished ≡ true → self.new ≡ self.old }
+        ensures later { (self.new.inner.finished ≡ false) ↔ (result ≡ Err BuildError.NotYet) }
+    {
+        self.inner.poll_batched(rt, batch)
     }
 
     /// The loader.

@@ -47,7 +47,7 @@ written_some old new s t x w h n = by (bytes_eq t s) refl
 -- ---- a specifier is taken from the worklist
 
 -- the first of a list without repeats isn't among the others
-apart_first : (s : Specifier) (rest : List Specifier) → AllByRecursion (λ z. bytes_eq s z ≡ false) rest
+pub apart_first : (s : Specifier) (rest : List Specifier) → AllByRecursion (λ z. bytes_eq s z ≡ false) rest
     → has rest s ≡ false
 apart_first s [] h = refl
 apart_first s (z ∷ rest) h = rw (h.0, apart_first s rest h.1) refl
@@ -205,6 +205,65 @@ building_answered rules starts asked log slots todo s a b here loads =
     answered t c true e h = has_same asked s t e ∙ (b.outstanding s refl here).0
     answered t c false e h = b.answered t c (sym (answer_other log s a t e) ∙ h)
 
+-- the same, where others are in hand too: it waits for its answer no more
+pub building_taken : (rules : Rules) (starts asked : List Specifier) (log : Log) (slots new : Slots)
+    (todo : List Specifier) (held later : Specifier → Bool) (s : Specifier) (a : LoadAnswer)
+    → IsBuilding rules starts held asked log slots todo → slots s ≡ Some Asked → held s ≡ false → loadable s ≡ true
+    → IsWritten slots new s Queued
+    → ((t : Specifier) → later t ≡ false → (held t ≡ false) × (bytes_eq t s ≡ false))
+    → ((t : Specifier) → later t ≡ true → (held t ≡ true) ⊎ (bytes_eq t s ≡ true))
+    → ((t : Specifier) → held t ≡ false → bytes_eq t s ≡ false → later t ≡ false)
+    → IsBuilding rules starts later asked (log ++ (s, a) ∷ []) new todo
+building_taken rules starts asked log slots new todo held later s a b here free loads w apart either neither =
+    let within = answer_kept log ((s, a) ∷ []) in record {
+      sound = λ t x h. reached_grows rules starts (answer_to log) (answer_to (log ++ (s, a) ∷ [])) within t
+          (sound t x (bytes_eq t s) refl h);
+      done = λ t e h. entry_grows rules (answer_to log) (answer_to (log ++ (s, a) ∷ [])) within t e
+          (b.done t e (elsewhere t (Done e) (λ q. cc) h));
+      closed = λ t u e h among. written_some slots new s u Queued w
+          (b.closed t u e (elsewhere t (Done e) (λ q. cc) h) among);
+      outstanding = λ t out h.
+          let old = b.outstanding t (apart t out).0 (sym (written_there slots new s t Queued w (apart t out).1) ∙ h) in
+          (old.0, answer_other log s a t (apart t out).1 ∙ old.1);
+      queued = λ t out h.
+          b.queued t (apart t out).0 (sym (written_there slots new s t Queued w (apart t out).1) ∙ h);
+      listed = λ t h. listed t (b.listed t h);
+      holds = λ t h. holds t (either t h);
+      todo_once = b.todo_once;
+      asked_slot = λ t h. written_some slots new s t Queued w (b.asked_slot t h);
+      answered = λ t c h. answered t c (bytes_eq t s) refl h;
+      orderly = orderly_push rules starts [] log s a b.orderly
+          (record { reached = b.sound s Asked here; loads = loads; open_yet = (b.outstanding s free here).1 });
+    }
+  where
+    elsewhere : (t : Specifier) (x : Slot) → (Some x ≡ Some Queued → ⊥) → new t ≡ Some x → slots t ≡ Some x
+    elsewhere t x differs h = by (bytes_eq t s) refl
+      where
+        by : (c : Bool) → bytes_eq t s ≡ c → slots t ≡ Some x
+        by true e = absurd (differs (sym h ∙ written_here slots new s t Queued w e))
+        by false e = sym (written_there slots new s t Queued w e) ∙ h
+
+    sound : (t : Specifier) (x : Slot) (c : Bool) → bytes_eq t s ≡ c → new t ≡ Some x
+        → IsReached rules starts (answer_to log) t
+    sound t x true e h = b.sound t Asked (ap slots (text_same s t e) ∙ here)
+    sound t x false e h = b.sound t x (sym (written_there slots new s t Queued w e) ∙ h)
+
+    listed : (t : Specifier) → (slots t ≡ Some Queued) × (held t ≡ false)
+        → (new t ≡ Some Queued) × (later t ≡ false)
+    listed t old =
+        let other : bytes_eq t s ≡ false =
+        false_from (bytes_eq t s) (λ e. let g = ap slots (text_same s t e) ∙ here in let q = old.0 in cc) in
+        (written_there slots new s t Queued w other ∙ old.0, neither t old.1 other)
+
+    holds : (t : Specifier) → (held t ≡ true) ⊎ (bytes_eq t s ≡ true) → new t ≡ None → ⊥
+    holds t (inl h) n = written_some slots new s t Queued w (b.holds t h) n
+    holds t (inr e) n = let g = written_here slots new s t Queued w e in cc
+
+    answered : (t : Specifier) (c : LoadAnswer) (d : Bool) → bytes_eq t s ≡ d
+        → answer_to (log ++ (s, a) ∷ []) t ≡ Some c → has asked t ≡ true
+    answered t c true e h = has_same asked s t e ∙ (b.outstanding s free here).0
+    answered t c false e h = b.answered t c (sym (answer_other log s a t e) ∙ h)
+
 -- ---- what came is reached
 
 pub building_grown : (rules : Rules) (starts : List Specifier) (in_hand : Specifier → Bool) (asked : List Specifier)
@@ -252,27 +311,36 @@ building_grown rules starts in_hand asked log slots new todo later come b g reac
     listed t (inl h) = (g.kept t Queued (b.listed t h).0, (b.listed t h).1)
     listed t (inr h) = (h.1, false_from (in_hand t) (λ e. b.holds t e h.0))
 
--- ---- the one in hand has its entry
+-- ---- one in hand has its entry
 
-pub building_filled : (rules : Rules) (starts asked : List Specifier) (log : Log) (slots new : Slots)
-    (todo : List Specifier) (s : Specifier) (e : Entry)
-    → IsBuilding rules starts (this_one s) asked log slots todo → IsReached rules starts (answer_to log) s
+-- of those in hand, one is in hand no more
+pub building_filled_by : (rules : Rules) (starts asked : List Specifier) (log : Log) (slots new : Slots)
+    (todo : List Specifier) (held later : Specifier → Bool) (s : Specifier) (e : Entry)
+    → IsBuilding rules starts held asked log slots todo → IsReached rules starts (answer_to log) s
     → IsEntry rules (answer_to log) s e
     → ((u : Specifier) → has (targets rules e) u ≡ true → slots u ≡ None → ⊥)
-    → IsWritten slots new s (Done e) → IsBuilding rules starts no_one asked log new todo
-building_filled rules starts asked log slots new todo s e b reached is_entry closed w = record {
-  sound = λ t x h. sound t x (bytes_eq t s) refl h;
-  done = λ t f h. done t f (bytes_eq t s) refl h;
-  closed = λ t u f h among. written_some slots new s u (Done e) w (shut t u f (bytes_eq t s) refl h among);
-  outstanding = λ t out h. outstanding t (bytes_eq t s) refl h;
-  queued = λ t out h. queued t (bytes_eq t s) refl h;
-  listed = λ t h. (written_there slots new s t (Done e) w (b.listed t h).1 ∙ (b.listed t h).0, refl);
-  holds = λ t h n. absurd cc;
-  todo_once = b.todo_once;
-  asked_slot = λ t h. written_some slots new s t (Done e) w (b.asked_slot t h);
-  answered = b.answered;
-  orderly = b.orderly;
-}
+    → IsWritten slots new s (Done e)
+    → ((t : Specifier) → held t ≡ false → (bytes_eq t s ≡ false) × (later t ≡ false))
+    → ((t : Specifier) → later t ≡ true → held t ≡ true)
+    → ((t : Specifier) → bytes_eq t s ≡ false → later t ≡ false → held t ≡ false)
+    → IsBuilding rules starts later asked log new todo
+building_filled_by rules starts asked log slots new todo held later s e b reached is_entry closed w apart still out =
+    record {
+      sound = λ t x h. sound t x (bytes_eq t s) refl h;
+      done = λ t f h. done t f (bytes_eq t s) refl h;
+      closed = λ t u f h among. written_some slots new s u (Done e) w (shut t u f (bytes_eq t s) refl h among);
+      outstanding = λ t free h. outstanding t (bytes_eq t s) refl free h;
+      queued = λ t free h. queued t (bytes_eq t s) refl free h;
+      listed = λ t h. (
+        written_there slots new s t (Done e) w (apart t (b.listed t h).1).0 ∙ (b.listed t h).0,
+        (apart t (b.listed t h).1).1,
+      );
+      holds = λ t h. written_some slots new s t (Done e) w (b.holds t (still t h));
+      todo_once = b.todo_once;
+      asked_slot = λ t h. written_some slots new s t (Done e) w (b.asked_slot t h);
+      answered = b.answered;
+      orderly = b.orderly;
+    }
   where
     sound : (t : Specifier) (x : Slot) (c : Bool) → bytes_eq t s ≡ c → new t ≡ Some x
         → IsReached rules starts (answer_to log) t
@@ -297,11 +365,24 @@ building_filled rules starts asked log slots new todo s e b reached is_entry clo
         closed u (ap (λ (g : Entry). has (targets rules g) u) same ∙ among)
     shut t u f false d h among = b.closed t u f (sym (written_there slots new s t (Done e) w d) ∙ h) among
 
-    outstanding : (t : Specifier) (c : Bool) → bytes_eq t s ≡ c → new t ≡ Some Asked → IsOutstanding asked log t
-    outstanding t true d h = absurd (let g = written_here slots new s t (Done e) w d in cc)
-    outstanding t false d h = b.outstanding t d (sym (written_there slots new s t (Done e) w d) ∙ h)
+    outstanding : (t : Specifier) (c : Bool) → bytes_eq t s ≡ c → later t ≡ false → new t ≡ Some Asked
+        → IsOutstanding asked log t
+    outstanding t true d free h = absurd (let g = written_here slots new s t (Done e) w d in cc)
+    outstanding t false d free h =
+        b.outstanding t (out t d free) (sym (written_there slots new s t (Done e) w d) ∙ h)
 
-    queued : (t : Specifier) (c : Bool) → bytes_eq t s ≡ c → new t ≡ Some Queued
+    queued : (t : Specifier) (c : Bool) → bytes_eq t s ≡ c → later t ≡ false → new t ≡ Some Queued
         → (has todo t ≡ true) × (has asked t ≡ false)
-    queued t true d h = absurd (let g = written_here slots new s t (Done e) w d in cc)
-    queued t false d h = b.queued t d (sym (written_there slots new s t (Done e) w d) ∙ h)
+    queued t true d free h = absurd (let g = written_here slots new s t (Done e) w d in cc)
+    queued t false d free h = b.queued t (out t d free) (sym (written_there slots new s t (Done e) w d) ∙ h)
+
+-- the only one in hand
+pub building_filled : (rules : Rules) (starts asked : List Specifier) (log : Log) (slots new : Slots)
+    (todo : List Specifier) (s : Specifier) (e : Entry)
+    → IsBuilding rules starts (this_one s) asked log slots todo → IsReached rules starts (answer_to log) s
+    → IsEntry rules (answer_to log) s e
+    → ((u : Specifier) → has (targets rules e) u ≡ true → slots u ≡ None → ⊥)
+    → IsWritten slots new s (Done e) → IsBuilding rules starts no_one asked log new todo
+building_filled rules starts asked log slots new todo s e b reached is_entry closed w =
+    building_filled_by rules starts asked log slots new todo (this_one s) no_one s e b reached is_entry closed w
+    (λ t h. (h, refl)) (λ t h. absurd cc) (λ t d h. d)

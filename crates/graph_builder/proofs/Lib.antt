@@ -7,6 +7,7 @@ pub mod SlotsLemmas
 pub mod ReachingLemmas
 pub mod BuildingLemmas
 pub mod ProgressLemmas
+pub mod HandLemmas
 pub mod FinalLemmas
 pub mod SettlingLemmas
 pub mod GraphLemmas

@@ -39,7 +39,7 @@ use Rattle.graph_builder.specs.Loader.{LoaderData, HasStarted, HasPolled, NeverR
 use Rattle.graph_builder.specs.Progress.{At, at, IsLive, HasFirst, IsInHand, IsInHandAt, starts_at, own_count, own_events, own_asked, own_log, slots_at, todo_at, IsKeptAt, Deals, GoOn, GoesOnAt, OnlyAsks, FillsUnasked, Takes, Turns, Runs, Begins, AsksNext, AsksAll}
 use Rattle.graph_builder.proofs.ReachLemmas.{reached_least, entry_once, answer_here, reached_start, reached_on, reached_grows, answer_kept, answer_later}
 use Rattle.graph_builder.proofs.SlotsLemmas.{has_append, has_one, has_same, none_equal}
-use Rattle.graph_builder.proofs.BuildingLemmas.{text_same, written_some, building_popped, popped_slot, building_asked, building_answered, building_grown, building_filled}
+use Rattle.graph_builder.proofs.BuildingLemmas.{text_same, written_some, building_popped, popped_slot, building_asked, building_answered, building_grown, building_filled_by}
 
 -- ---- what holds at all times
 
@@ -168,7 +168,7 @@ has_begun x s o some f b =
     let none : slots_at x s ≡ None = ap (λ (es : List (Parts × Slot)). value_at es s) (f.before b) in cc
 
 -- the first numbers stay when others come
-first_later : (x y : At) (s : Specifier) (o : Slot) → HasFirst x → slots_at x s ≡ Some o
+pub first_later : (x y : At) (s : Specifier) (o : Slot) → HasFirst x → slots_at x s ≡ Some o
     → y.progress.begun ≡ x.progress.begun → starts_at y ≡ starts_at x
     → GoesOn (keys_at x.progress.reaching.reached) (keys_at y.progress.reaching.reached) → HasFirst y
 first_later x y s o f some begun starts goes = record {
@@ -256,7 +256,7 @@ too_many rules starts come log slots limit seen full sound reached = record {
 -- ---- the specifier in hand has its entry
 
 -- what came keeps a slot through both steps
-filled_some : {rules : Rules} → (s t : Specifier) (e : Entry) (old new : Reaching) → IsFilled rules s e old new
+pub filled_some : {rules : Rules} → (s t : Specifier) (e : Entry) (old new : Reaching) → IsFilled rules s e old new
     → (slots_of old t ≡ None → ⊥) → slots_of new t ≡ None → ⊥
 filled_some {rules} s t e old new f h =
     written_some f.between (slots_of new) s t (Done e) f.written (between (slots_of old t) refl)
@@ -265,7 +265,24 @@ filled_some {rules} s t e old new f h =
     between None d n = h d
     between (Some x) d n = let k = f.grown.kept t x d in cc
 
--- the entry of the specifier in hand fills its slot
+-- the entry of a specifier in hand fills its slot
+pub building_entry_by : (rules : Rules) (starts asked : List Specifier) (log : Log) (held later : Specifier → Bool)
+    (s : Specifier) (e : Entry) (old new : Reaching)
+    → IsBuilding rules starts held asked log (slots_of old) (todo_of old)
+    → IsReached rules starts (answer_to log) s
+    → IsEntry rules (answer_to log) s e → IsFilled rules s e old new
+    → ((t : Specifier) → held t ≡ false → (bytes_eq t s ≡ false) × (later t ≡ false))
+    → ((t : Specifier) → later t ≡ true → held t ≡ true)
+    → ((t : Specifier) → bytes_eq t s ≡ false → later t ≡ false → held t ≡ false)
+    → IsBuilding rules starts later asked log (slots_of new) (todo_of new)
+building_entry_by rules starts asked log held later s e old new b reached is_entry f apart still out =
+    building_filled_by rules starts asked log f.between (slots_of new) (todo_of new) held later s e
+    (building_grown rules starts held asked log (slots_of old) f.between (todo_of old) (todo_of new)
+    (targets rules e) b f.grown
+    (λ t h. reached_on rules starts (answer_to log) s t reached (record { entry = e; is_entry = is_entry; among = h })))
+    reached is_entry f.grown.came f.written apart still out
+
+-- of the only one in hand
 pub building_entry : (rules : Rules) (starts asked : List Specifier) (log : Log) (s : Specifier) (e : Entry)
     (old new : Reaching)
     → IsBuilding rules starts (this_one s) asked log (slots_of old) (todo_of old)
@@ -273,11 +290,8 @@ pub building_entry : (rules : Rules) (starts asked : List Specifier) (log : Log)
     → IsEntry rules (answer_to log) s e → IsFilled rules s e old new
     → IsBuilding rules starts no_one asked log (slots_of new) (todo_of new)
 building_entry rules starts asked log s e old new b reached is_entry f =
-    building_filled rules starts asked log f.between (slots_of new) (todo_of new) s e
-    (building_grown rules starts (this_one s) asked log (slots_of old) f.between (todo_of old) (todo_of new)
-    (targets rules e) b f.grown
-    (λ t h. reached_on rules starts (answer_to log) s t reached (record { entry = e; is_entry = is_entry; among = h })))
-    reached is_entry f.grown.came f.written
+    building_entry_by rules starts asked log (this_one s) no_one s e old new b reached is_entry f
+    (λ t h. (h, refl)) (λ t h. absurd cc) (λ t d h. d)
 
 pub live_alone : (rules : Rules) (x : At) (s : Specifier) (e : Entry) (new : Reaching) → IsInHand rules x s
     → loadable s ≡ false
@@ -727,43 +741,6 @@ all_answered asked log once answered fits s h = by (answer_to log s) refl
 
 -- ---- an answer that isn't awaited
 
--- what has no waiting slot isn't awaited, where the worklist is empty
-pub unawaited_now : (rules : Rules) → IsFunctional rules → (x : At) → IsLive rules x → x.progress.begun ≡ true
-    → todo_at x ≡ []
-    → (s : Specifier) → (slots_at x s ≡ Some Asked → ⊥) → IsUnawaitedOver rules 1 (starts_at x) (own_log x) s
-unawaited_now rules once x v begun empty s not_asked = by (slots_at x s) refl
-  where
-    whole : take (length (own_log x) - 0) (own_log x) ≡ own_log x
-    whole = take_all (length (own_log x) - 0) (own_log x) (omega arith)
-
-    from : (e : Entry) → IsEntry rules (answer_to (own_log x)) s e → IsUnawaitedOver rules 1 (starts_at x) (own_log x) s
-    from e (inl a) = inl (rw a.given refl)
-    from e (inr u) = inr (λ r loads. let g = u.0 in cc)
-
-    by : (o : Option Slot) → slots_at x s ≡ o → IsUnawaitedOver rules 1 (starts_at x) (own_log x) s
-    by None d = inr (λ r loads. way_in rules once x v begun empty s
-        (subst (λ (l : Log). IsReached rules (starts_at x) (answer_to l) s) whole r) d)
-    by (Some Queued) d =
-        absurd (let h = (v.building.queued s refl d).0 in let none = ap (λ (l : List Specifier). has l s) empty in
-        cc)
-    by (Some Asked) d = absurd (not_asked d)
-    by (Some (Done e)) d = from e (v.building.done s e d)
-
--- nor is it outstanding
-pub settled_now : {rules : Rules} → (x : At) → IsLive rules x → (s : Specifier) → (slots_at x s ≡ Some Asked → ⊥)
-    → IsOutstanding (own_asked x) (own_log x) s → ⊥
-settled_now {rules} x v s not_asked is_open = by (slots_at x s) refl
-  where
-    from : (e : Entry) → IsEntry rules (answer_to (own_log x)) s e → ⊥
-    from e (inl a) = let g = a.given in let n = is_open.1 in cc
-    from e (inr u) = let g = u.0 in let l = v.kept.own.asking.loads s is_open.0 in cc
-
-    by : (o : Option Slot) → slots_at x s ≡ o → ⊥
-    by None d = v.building.asked_slot s is_open.0 d
-    by (Some Queued) d = let h = (v.building.queued s refl d).1 in let k = is_open.0 in cc
-    by (Some Asked) d = not_asked d
-    by (Some (Done e)) d = from e (v.building.done s e d)
-
 -- a builder after an answer was taken: its own events
 pub own_answered : {rules : Rules} → (x y : At) (url : Parts) (a : LoadAnswer) → IsKeptAt rules x
     → HasPolled x.loader y.loader (Ok (Answer url a))
@@ -773,64 +750,6 @@ own_answered {rules} x y url a k polled asked taken =
     ap (λ (l : List Event). last_of (own_count y) l) polled.events
     ∙ last_of-push (own_count x) (own_count y) x.loader.events (Answered (text_of url) a) k.fits
     (omega (arith, asked, taken))
-
--- the answers and requests of one list are those of an equal one
-same_counts : (s : Specifier) (xs ys : List Event) → xs ≡ ys → answers xs s < requests xs s
-    → answers ys s < requests ys s
-same_counts s xs ys is = subst (λ (l : List Event). answers l s < requests l s) is
-
--- the loader answers, and it is refused
-pub turns_refused : {rules : Rules} → (x y : At) (url : Parts) (a : LoadAnswer) (new : Reaching) (e : BuildError)
-    → IsLive rules x → x.progress.begun ≡ true → todo_at x ≡ [] → x.progress.taken < x.progress.asked
-    → Takes rules url a x.progress.reaching new (Err e) → HasPolled x.loader y.loader (Ok (Answer url a))
-    → y.progress.asked ≡ x.progress.asked → y.progress.taken ≡ x.progress.taken + 1
-    → Turns rules x y (Err e)
-turns_refused {rules} x y url a new (error.TooManyModules seen) v begun empty fewer refused polled asked taken =
-    let s : Specifier = text_of url in
-    let is_open = v.building.outstanding s refl refused.0 in
-    let loads : loadable s ≡ true = v.kept.own.asking.loads s is_open.0 in
-    let later = building_answered rules (starts_at x) (own_asked x) (own_log x) (slots_at x) (todo_at x) s a v.building
-    refused.0 loads in
-    subst (λ (l : Log). IsTooMany rules (starts_at x) l x.progress.reaching.limit seen)
-    (sym (ap log_of (own_answered x y url a v.kept polled asked taken) ∙ log_of-answer (own_events x) s a))
-    (too_many rules (starts_at x) (targets rules refused.1.0) (own_log x ++ (s, a) ∷ []) (slots_at x)
-    x.progress.reaching.limit seen refused.1.2 later.sound
-    (λ t h. reached_on rules (starts_at x) (answer_to (own_log x ++ (s, a) ∷ [])) s t (later.sound s Asked refused.0)
-    (record {
-      entry = refused.1.0;
-      is_entry = inl (record
-          { loads = loads; answer = a; given = answer_here (own_log x) s a is_open.1; means = refused.1.1 });
-      among = h;
-    })))
-turns_refused {rules} x y url a new (error.UnaskedAnswer other) v begun empty fewer refused polled asked taken =
-    let same : text_of other ≡ text_of url = ap text_of refused.0 in
-    let last : own_events y ≡ own_events x ++ Answered (text_of url) a ∷ [] =
-    own_answered x y url a v.kept polled asked taken in
-    let asks : own_asked y ≡ own_asked x = ap asked_of last ∙ asked_of-answer (own_events x) (text_of url) a in record {
-      before = own_events x;
-      answer = a;
-      last = rw same last;
-      goes_on = ([], sym (append-nil (own_events x)));
-      orderly = v.building.orderly;
-      outstanding = rw asks (one_open (own_asked x) (own_log x) v.kept.own.asking.once
-          (omega (arith, v.kept.own.asked_counted, v.kept.own.taken_counted, fewer)));
-      settled = rw (asks, same) (settled_now x v (text_of url) refused.1);
-      unawaited = λ once. rw same (unawaited_now rules once x v begun empty (text_of url) refused.1);
-      pending = polled.pending;
-      fair = λ f. rw same (same_counts (text_of url) x.loader.events
-          (before_last (own_count y) y.loader.events ++ own_events x) whole (polled.fair f).1);
-    }
-  where
-    first : before_last (own_count y) y.loader.events ≡ before_last (own_count x) x.loader.events
-    first = ap (λ (l : List Event). before_last (own_count y) l) polled.events
-        ∙ before_last-push (own_count x) (own_count y) x.loader.events (Answered (text_of url) a) v.kept.fits
-        (omega (arith, asked, taken))
-
-    whole : x.loader.events ≡ before_last (own_count y) y.loader.events ++ own_events x
-    whole = sym (ap (λ (l : List Event). l ++ own_events x) first ∙ before_last-last (own_count x) x.loader.events)
-turns_refused {rules} x y url a new error.OutOfMemory v begun empty fewer refused polled asked taken = tt
-turns_refused {rules} x y url a new error.NotYet v begun empty fewer refused polled asked taken = absurd refused
-turns_refused {rules} x y url a new error.Finished v begun empty fewer refused polled asked taken = absurd refused
 
 -- an answer that was awaited came in time
 pub answered_in_time : {rules : Rules} → (x y : At) (url : Parts) (a : LoadAnswer) → IsLive rules x
@@ -915,20 +834,21 @@ goes_polled x y url a polled starts limit asked taken = record {
 -- ---- turn after turn
 
 -- why a turn ends, told from an earlier state
-pub errs_after : {rules : Rules} → (x y z : At) (e : BuildError) → IsKeptAt rules x → GoesOnAt x y
-    → y.loader.pending ≡ x.loader.pending → Turns rules y z (Err e)
-    → Turns rules x z (Err e)
-errs_after {rules} x y z error.NotYet k g same t = record {
+pub errs_after : {rules : Rules} → (batch : ℕ) (x y z : At) (e : BuildError) → IsKeptAt rules x → GoesOnAt x y
+    → y.loader.pending ≡ x.loader.pending → Turns rules batch y z (Err e)
+    → Turns rules batch x z (Err e)
+errs_after {rules} batch x y z error.NotYet k g same t = record {
   live = t.live;
   asked_all = t.asked_all;
   begun = t.begun;
   open_yet = t.open_yet;
   counted = rw (← same) t.counted;
-  standing = t.standing;
-  patience = λ fewer. falls_after x.loader.patience y.loader.patience z.loader.patience g.patience (t.patience fewer);
+  stands = t.stands;
+  stood_open = t.stood_open;
+  patience = λ even. falls_after x.loader.patience y.loader.patience z.loader.patience g.patience (t.patience even);
 }
-errs_after {rules} x y z (error.TooManyModules seen) k g same t = rw (← ap texts g.starts, ← g.limit) t
-errs_after {rules} x y z (error.UnaskedAnswer url) k g same t = record {
+errs_after {rules} batch x y z (error.TooManyModules seen) k g same t = rw (← ap texts g.starts, ← g.limit) t
+errs_after {rules} batch x y z (error.UnaskedAnswer url) k g same t = record {
   before = t.before;
   answer = t.answer;
   last = t.last;
@@ -944,14 +864,14 @@ errs_after {rules} x y z (error.UnaskedAnswer url) k g same t = record {
   pending = t.pending ∙ same;
   fair = λ f. t.fair (g.fair f);
 }
-errs_after {rules} x y z error.OutOfMemory k g same t = tt
-errs_after {rules} x y z error.Finished k g same t = absurd t
+errs_after {rules} batch x y z error.OutOfMemory k g same t = tt
+errs_after {rules} batch x y z error.Finished k g same t = absurd t
 
 -- a turn after the loader was only asked
-pub turns_after : {rules : Rules} → (x y z : At) (r : Result Bool BuildError) → IsKeptAt rules x → OnlyAsks x y
-    → GoesOnAt y z → Turns rules y z r → Turns rules x z r
-turns_after {rules} x y z (Ok true) k a g t = (t.0, t.1, t.2 ∙ ap (λ n. n + 1) a.taken, t.3 ∙ a.pending)
-turns_after {rules} x y z (Ok false) k a g t =
+pub turns_after : {rules : Rules} → (batch : ℕ) (x y z : At) (r : Result Bool BuildError) → IsKeptAt rules x → OnlyAsks x y
+    → GoesOnAt y z → Turns rules batch y z r → Turns rules batch x z r
+turns_after {rules} batch x y z (Ok true) k a g t = (t.0, t.1, omega (arith, t.2, a.taken), t.3 ∙ a.pending)
+turns_after {rules} batch x y z (Ok false) k a g t =
     record {
       live = t.live;
       asked_all = t.asked_all;
@@ -960,15 +880,16 @@ turns_after {rules} x y z (Ok false) k a g t =
       pending =
           t.pending ∙ a.pending;
     }
-turns_after {rules} x y z (Err e) k a g t = errs_after x y z e k a.goes a.pending t
+turns_after {rules} batch x y z (Err e) k a g t = errs_after batch x y z e k a.goes a.pending t
 
 -- a run ends as its last turn does
-pub runs_err : (rules : Rules) (x z : At) (e : BuildError) → Turns rules x z (Err e) → Runs rules x z (Err e)
-runs_err rules x z error.NotYet t = t
-runs_err rules x z (error.TooManyModules seen) t = t
-runs_err rules x z (error.UnaskedAnswer url) t = t
-runs_err rules x z error.OutOfMemory t = t
-runs_err rules x z error.Finished t = t
+pub runs_err : (rules : Rules) (batch : ℕ) (x z : At) (e : BuildError) → Turns rules batch x z (Err e)
+    → Runs rules batch x z (Err e)
+runs_err rules batch x z error.NotYet t = t
+runs_err rules batch x z (error.TooManyModules seen) t = t
+runs_err rules batch x z (error.UnaskedAnswer url) t = t
+runs_err rules batch x z error.OutOfMemory t = t
+runs_err rules batch x z error.Finished t = t
 
 -- ---- the starts are reached
 

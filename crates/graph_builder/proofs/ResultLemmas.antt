@@ -21,7 +21,7 @@ use Rattle.graph_builder.specs.Graph.{GraphData, texts, with_one, different, mem
 use Rattle.graph_builder.specs.ByText.{value_at, keys_at}
 use Rattle.graph_builder.specs.Events.{Event, asked_of, log_of, IsOutstanding, IsTimely, IsSettled, times, requests, answers}
 use Rattle.graph_builder.specs.Building.{IsBuilding, no_one}
-use Rattle.graph_builder.specs.Builder.{last_of, before_last, GoesOn, SomeOutstanding, IsFairly, IsAskedFor, EachAnswered, ReachesAtMost, IsOrderly, IsOrderlyAfter, IsAwaited, IsUnawaited, IsUnawaitedOver, IsNotYet, IsTooMany, BuildingBy, starts, HasHistory}
+use Rattle.graph_builder.specs.Builder.{last_of, before_last, GoesOn, SomeOutstanding, IsFairly, IsAskedFor, EachAnswered, ReachesAtMost, IsOrderly, IsOrderlyAfter, IsAwaited, IsAwaitedBy, IsOrderlyByAfter, IsOrderlyBy, IsUnawaited, IsUnawaitedOver, IsNotYet, IsTooMany, BuildingBy, starts, HasHistory}
 use Rattle.graph_builder.specs.declared.error.BuildError.{BuildError}
 use Rattle.graph_builder.specs.declared.error.BuildError.TheVariants as error
 use Rattle.graph_builder.specs.Progress.{At, IsLive, starts_at, own_count, own_events, own_asked, own_log, slots_at, todo_at, IsThrough, IsPaused, IsUnasked, GoesOnAt, IsKeptAt}
@@ -294,26 +294,17 @@ result_not_yet {rules} once l m w rs os x y f g1 p g k sorted = record {
       (within_now rules once y p.live p.begun p.asked_all sorted));
   outstanding = open_now;
   counted = p.counted;
-  stands = ap (λ (s : ℕ × ℕ). s.1) p.standing ∙ ap length (sym logs) ∙ length-append logs_before (own_log y);
-  stood_open = subst (λ (n : ℕ). SomeOutstanding (take (n - length asks_before) (own_asked y)) (own_log y))
-      (sym (ap (λ (s : ℕ × ℕ). s.0) p.standing))
-      (subst (λ (l : List Specifier). SomeOutstanding l (own_log y))
-      (sym (take_all (length (asked_of y.loader.events) - length asks_before) (own_asked y) long)) open_now);
-  patience = λ even. p.patience (behind even);
+  stands = p.stands ∙ ap length (sym logs) ∙ length-append logs_before (own_log y);
+  stood_open = p.stood_open;
+  patience = λ even. p.patience (ap (λ (l : List Event). length (asked_of l)) earlier_same ∙ even
+      ∙ sym (ap (λ (l : List Event). length (log_of l)) earlier_same));
 }
   where
     from : (P : List Specifier → Type 0) → P (starts_at y) → P (starts_at x)
     from P h = subst P (ap texts g.starts) h
 
-    asks_before : List Specifier
-    asks_before = asked_of (before_last (own_count y) y.loader.events)
-
     logs_before : Log
     logs_before = log_of (before_last (own_count y) y.loader.events)
-
-    asks : asks_before ++ own_asked y ≡ asked_of y.loader.events
-    asks = sym (asked_of-append (before_last (own_count y) y.loader.events) (own_events y))
-        ∙ ap asked_of (before_last-last (own_count y) y.loader.events)
 
     logs : logs_before ++ own_log y ≡ log_of y.loader.events
     logs = sym (log_of-append (before_last (own_count y) y.loader.events) (own_events y))
@@ -323,41 +314,14 @@ result_not_yet {rules} once l m w rs os x y f g1 p g k sorted = record {
     open_now = one_open (own_asked y) (own_log y) p.live.kept.own.asking.once
         (omega (arith, p.live.kept.own.asked_counted, p.live.kept.own.taken_counted, p.open_yet))
 
-    long : length (own_asked y) ≤ length (asked_of y.loader.events) - length asks_before
-    long = let n = ap length asks in omega (arith, n, length-append asks_before (own_asked y))
-
     earlier_same : before_last (own_count y) y.loader.events ≡ before_last (own_count x) x.loader.events
     earlier_same = before_after x y k g
 
-    behind : length (asked_of (before_last (own_count x) x.loader.events))
-        ≡ length (log_of (before_last (own_count x) x.loader.events))
-        → length (log_of y.loader.events) < length (asked_of y.loader.events)
-    behind even =
-        let a : length asks_before ≡ length (asked_of (before_last (own_count x) x.loader.events)) =
-        ap (λ (l : List Event). length (asked_of l)) earlier_same in
-        let b : length logs_before ≡ length (log_of (before_last (own_count x) x.loader.events)) =
-        ap (λ (l : List Event). length (log_of l)) earlier_same in
-        let m : length (asks_before ++ own_asked y) ≡ length (asked_of y.loader.events) = ap length asks in
-        let n : length (logs_before ++ own_log y) ≡ length (log_of y.loader.events) = ap length logs in
-        omega (
-          arith,
-          even,
-          a,
-          b,
-          m,
-          n,
-          length-append asks_before (own_asked y),
-          length-append logs_before (own_log y),
-          p.live.kept.own.asked_counted,
-          p.live.kept.own.taken_counted,
-          p.open_yet,
-        )
-
 pub result_unasked : {rules : Rules} → IsFunctional rules
-    → {L W : Type 0} (l m : L) (w : W) (rs : List Parts) (os : List ReferrerImports) (x y : At) (f g1 : Bool)
+    → {L W : Type 0} (batch : ℕ) (l m : L) (w : W) (rs : List Parts) (os : List ReferrerImports) (x y : At) (f g1 : Bool)
     (s : Specifier)
-    → IsUnasked rules x y s → IsUnawaited rules 1 (seen_of l w rs os x f) (seen_of m w rs os y g1) s
-result_unasked {rules} once l m w rs os x y f g1 s u = record {
+    → IsUnasked rules batch x y s → IsUnawaited rules batch (seen_of l w rs os x f) (seen_of m w rs os y g1) s
+result_unasked {rules} once batch l m w rs os x y f g1 s u = record {
   before = log_of u.before;
   answer = u.answer;
   last = ap log_of u.last ∙ log_of-answer u.before s u.answer;
@@ -369,10 +333,10 @@ result_unasked {rules} once l m w rs os x y f g1 s u = record {
 }
 
 -- of a loader that answers open requests alone no answer is unasked, where none was open before
-pub fairly : {rules : Rules} → (x y : At) (s : Specifier) → IsKeptAt rules x → IsKeptAt rules y → GoesOnAt x y
-    → IsUnasked rules x y s → x.loader.fair ≡ true
+pub fairly : {rules : Rules} → (batch : ℕ) (x y : At) (s : Specifier) → IsKeptAt rules x → IsKeptAt rules y → GoesOnAt x y
+    → IsUnasked rules batch x y s → x.loader.fair ≡ true
     → IsSettled (before_last (own_count x) x.loader.events) → ⊥
-fairly {rules} x y s kx ky g u fair none_open =
+fairly {rules} batch x y s kx ky g u fair none_open =
     u.settled (subst (λ (l : List Specifier). IsOutstanding l (log_of u.before) s) (sym asks)
     (is_outstanding u.before s (subst (IsDistinct bytes_eq) asks ky.own.asking.once)
     (omega (arith, more, le, length_requests, length_answers))))
@@ -400,13 +364,13 @@ fairly {rules} x y s kx ky g u fair none_open =
 
 -- as `poll` says it
 pub result_fair : {rules : Rules}
-    → {L W A : Type 0} (l : L) (w : W) (rs : List Parts) (os : List ReferrerImports) (x y : At) (f : Bool)
+    → {L W A : Type 0} (batch : ℕ) (l : L) (w : W) (rs : List Parts) (os : List ReferrerImports) (x y : At) (f : Bool)
     (url : Parts)
     → IsKeptAt rules x → IsKeptAt rules y → GoesOnAt x y
-    → IsUnasked rules x y (text_of url)
+    → IsUnasked rules batch x y (text_of url)
     → IsFairly {A = A} x.loader (seen_of l w rs os x f) (Err (error.UnaskedAnswer url))
-result_fair {rules} l w rs os x y f url kx ky g u =
-    λ fair none_open s same. fairly x y (text_of url) kx ky g u fair none_open
+result_fair {rules} batch l w rs os x y f url kx ky g u =
+    λ fair none_open s same. fairly batch x y (text_of url) kx ky g u fair none_open
 
 -- more than are reached aren't reached
 pub too_many_none : (rules : Rules) (starts0 : List Specifier) (log : Log) (limit seen : ℕ)
@@ -438,6 +402,26 @@ unawaited_none rules old new s u h = by u.unawaited
     by (inl some) = let none = ap is_some awaited.open_yet in cc
     by (inr never) = never
         (subst (λ (l : Log). IsReached rules (starts old) (answer_to l) s) (sym whole) awaited.reached) awaited.loads
+
+orderly_last_by : (rules : Rules) (batch : ℕ) (starts0 : List Specifier) (before log : Log) (s : Specifier)
+    (a : LoadAnswer)
+    → IsOrderlyByAfter rules batch starts0 before (log ++ (s, a) ∷ []) → IsAwaitedBy rules batch starts0 (before ++ log) s
+orderly_last_by rules batch starts0 before [] s a h = rw append-nil h.0
+orderly_last_by rules batch starts0 before (x ∷ log) s a h =
+    rw (sym (append_assoc before (x ∷ []) log)) (orderly_last_by rules batch starts0 (before ++ x ∷ []) log s a h.1)
+
+pub unawaited_none_by : (rules : Rules) (batch : ℕ) {L W : Type 0} (old new : BuildingBy L W) (s : Specifier)
+    → IsUnawaited rules batch old new s
+    → IsOrderlyBy rules batch (starts old) new.log → ⊥
+unawaited_none_by rules batch old new s u h = by u.unawaited
+  where
+    awaited : IsAwaitedBy rules batch (starts old) u.before s
+    awaited = orderly_last_by rules batch (starts old) [] u.before s u.answer
+        (subst (IsOrderlyBy rules batch (starts old)) u.last h)
+
+    by : IsUnawaitedOver rules batch (starts old) u.before s → ⊥
+    by (inl some) = let none = ap is_some awaited.open_yet in cc
+    by (inr never) = never awaited.reached awaited.loads
 
 -- a builder that begins has nothing
 pub inside_new : (rules : Rules) (resolves : Resolves) (rs : List Parts) (os : List ReferrerImports) (x : At)

@@ -1,5 +1,5 @@
 -- The laws of graphs and of what is reached that other crates name.
-use Rattle.std.proofs.Common.{◌≡◌, inl, inr, true, List, sym, ◌∙◌, ap, subst, refl, Option, Some, None}
+use Rattle.std.proofs.Common.{◌≡◌, ℕ, inl, inr, true, List, sym, ◌∙◌, ap, subst, refl, Option, Some, None}
 use Rattle.std.specs.Prelude.{IsSome, is_some, Result, Ok, Err, IfOk}
 use Rattle.url.specs.Parts.{Parts}
 use Rattle.graph_entry.specs.declared.answer.LoadAnswer.{LoadAnswer}
@@ -134,8 +134,8 @@ graph_told rules once starts log told entries g is all =
 
 -- between two states of a builder no answer is unasked, where the loader says that it answers open requests alone, and had
 -- none open when the builder was made
-pub fairly : {rules : Rules} → (x y : At) (s : Specifier) → IsKeptAt rules x → IsKeptAt rules y → GoesOnAt x y
-    → IsUnasked rules x y s → x.loader.fair ≡ true
+pub fairly : {rules : Rules} → (batch : ℕ) (x y : At) (s : Specifier) → IsKeptAt rules x → IsKeptAt rules y → GoesOnAt x y
+    → IsUnasked rules batch x y s → x.loader.fair ≡ true
     → IsSettled (before_last (own_count x) x.loader.events) → ⊥
-fairly {rules} x y s kept later goes unasked fair none_open =
-    endings.fairly {rules = rules} x y s kept later goes unasked fair none_open
+fairly {rules} batch x y s kept later goes unasked fair none_open =
+    endings.fairly {rules = rules} batch x y s kept later goes unasked fair none_open

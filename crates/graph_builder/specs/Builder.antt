@@ -69,6 +69,22 @@ IsOrderlyAfter rules starts before (x ∷ rest) =
 abbrev pub IsOrderly : Rules → List Specifier → Log → Type 0
 IsOrderly rules starts log = IsOrderlyAfter rules starts [] log
 
+-- the same where an answer may have come in one batch of so many with those before it: it is reached over the answers before
+-- it, less the last that may be of its batch
+pub record IsAwaitedBy (rules : Rules) (batch : ℕ) (starts : List Specifier) (log : Log) (s : Specifier) : Type 0 where
+  pub reached : IsReached rules starts (answer_to (take (length log - (batch - 1)) log)) s
+  pub loads : loadable s ≡ true
+  pub open_yet : answer_to log s ≡ None
+
+abbrev pub IsOrderlyByAfter : Rules → ℕ → List Specifier → Log → Log → Type 0
+IsOrderlyByAfter rules batch starts before [] = Unit {0}
+IsOrderlyByAfter rules batch starts before (x ∷ rest) =
+    IsAwaitedBy rules batch starts before x.0 × IsOrderlyByAfter rules batch starts (before ++ x ∷ []) rest
+
+-- each answer was awaited before any answer of its batch was analysed
+abbrev pub IsOrderlyBy : Rules → ℕ → List Specifier → Log → Type 0
+IsOrderlyBy rules batch starts log = IsOrderlyByAfter rules batch starts [] log
+
 -- in time: each answer was awaited, and outstanding, when it came
 pub record IsInTime (rules : Rules) (starts : List Specifier) (events : List Event) : Type 0 where
   pub orderly : IsOrderly rules starts (log_of events)
@@ -240,5 +256,14 @@ IsComplete rules old new result =
     old.finished ≡ false
     → ReachesAtMost rules (starts old) (answer_to new.log) old.limit
     → IsOrderly rules (starts old) new.log
+    → (HasRisen old.pending new.pending → ⊥)
+    → IsOkUnless result OutOfMemory
+
+-- the same of a builder that takes so many answers before it analyses any of them
+abbrev pub IsCompleteBy : Rules → ℕ → {L W A : Type 0} → BuildingBy L W → BuildingBy L W → Result A BuildError → Type 0
+IsCompleteBy rules batch old new result =
+    old.finished ≡ false
+    → ReachesAtMost rules (starts old) (answer_to new.log) old.limit
+    → IsOrderlyBy rules batch (starts old) new.log
     → (HasRisen old.pending new.pending → ⊥)
     → IsOkUnless result OutOfMemory

@@ -18,5 +18,6 @@ pub mod Slots
 pub mod Building
 pub mod Reaching
 pub mod Progress
+pub mod Batch
 pub mod Inside
 pub mod Settling

@@ -1,5 +1,5 @@
 -- What holds of a builder that goes on, beside its loader's data.
-use Rattle.std.specs.Prelude.{◌≡◌, ◌≤◌, ◌<◌, ◌+◌, ℕ, Bool, true, false, List, [], ◌∷◌, ◌++◌, length, slice_get, Some, None, Result, Ok, Err}
+use Rattle.std.specs.Prelude.{◌≡◌, ◌≤◌, ◌<◌, ◌+◌, ◌-◌, ℕ, Bool, true, false, List, [], ◌∷◌, ◌++◌, length, take, slice_get, Some, None, Result, Ok, Err}
 use Rattle.url.specs.Parts.{Parts}
 use Rattle.graph_entry.specs.declared.answer.LoadAnswer.{LoadAnswer}
 use Rattle.graph_entry.specs.declared.entry.Entry.{Entry}
@@ -45,6 +45,13 @@ own_asked x = asked_of (own_events x)
 
 abbrev pub own_log : At → Log
 own_log x = log_of (own_events x)
+
+-- what the loader was asked and answered before
+abbrev pub asked_before : At → List Specifier
+asked_before x = asked_of (before_last (own_count x) x.loader.events)
+
+abbrev pub log_before : At → Log
+log_before x = log_of (before_last (own_count x) x.loader.events)
 
 -- the slots and the worklist
 abbrev pub slots_at : At → Slots
@@ -176,6 +183,12 @@ Takes rules url answer old new (Err error.OutOfMemory) = slots_of old (text_of u
 Takes rules url answer old new (Err error.NotYet) = ⊥
 Takes rules url answer old new (Err error.Finished) = ⊥
 
+-- the loader had nothing to give
+pub record HasWaited (old new : At) : Type 0 where
+  pub counted : HasRisen old.loader.pending new.loader.pending
+  pub standing : new.loader.standing ≡ (length (asked_of new.loader.events), length (log_of new.loader.events))
+  pub patience : length (log_of new.loader.events) < length (asked_of new.loader.events) → Falls old.loader.patience new.loader.patience
+
 -- the builder waits for its loader
 pub record IsPaused (rules : Rules) (old new : At) : Type 0 where
   pub live : IsLive rules new
@@ -183,11 +196,14 @@ pub record IsPaused (rules : Rules) (old new : At) : Type 0 where
   pub begun : new.progress.begun ≡ true
   pub open_yet : new.progress.taken < new.progress.asked
   pub counted : HasRisen old.loader.pending new.loader.pending
-  pub standing : new.loader.standing ≡ (length (asked_of new.loader.events), length (log_of new.loader.events))
-  pub patience : length (log_of new.loader.events) < length (asked_of new.loader.events) → Falls old.loader.patience new.loader.patience
+  -- the last `Pending` came after the last answer
+  pub stands : new.loader.standing.1 ≡ length (log_of new.loader.events)
+  -- and while a request of this builder was outstanding
+  pub stood_open : SomeOutstanding (take (new.loader.standing.0 - length (asked_before new)) (own_asked new)) (own_log new)
+  pub patience : length (asked_before new) ≡ length (log_before new) → Falls old.loader.patience new.loader.patience
 
--- the last answer wasn't awaited
-pub record IsUnasked (rules : Rules) (old new : At) (s : Specifier) : Type 0 where
+-- the last answer wasn't awaited; `batch` answers are taken before any of them is analysed
+pub record IsUnasked (rules : Rules) (batch : ℕ) (old new : At) (s : Specifier) : Type 0 where
   pub before : List Event
   pub answer : LoadAnswer
   pub last : own_events new ≡ before ++ Answered s answer ∷ []
@@ -195,7 +211,7 @@ pub record IsUnasked (rules : Rules) (old new : At) (s : Specifier) : Type 0 whe
   pub orderly : IsOrderly rules (starts_at old) (log_of before)
   pub outstanding : SomeOutstanding (own_asked new) (log_of before)
   pub settled : IsOutstanding (own_asked new) (log_of before) s → ⊥
-  pub unawaited : IsFunctional rules → IsUnawaitedOver rules 1 (starts_at old) (log_of before) s
+  pub unawaited : IsFunctional rules → IsUnawaitedOver rules batch (starts_at old) (log_of before) s
   pub pending : new.loader.pending ≡ old.loader.pending
   -- and a loader that answers open requests alone had one
   pub fair : old.loader.fair ≡ true
@@ -210,23 +226,23 @@ pub record IsThrough (rules : Rules) (old new : At) : Type 0 where
   pub pending : new.loader.pending ≡ old.loader.pending
 
 -- why a run ends
-abbrev pub Runs : Rules → At → At → Result (Unit {0}) BuildError → Type 0
-Runs rules old new (Ok done) = IsThrough rules old new
-Runs rules old new (Err error.NotYet) = IsPaused rules old new
-Runs rules old new (Err (error.TooManyModules seen)) =
+abbrev pub Runs : Rules → ℕ → At → At → Result (Unit {0}) BuildError → Type 0
+Runs rules batch old new (Ok done) = IsThrough rules old new
+Runs rules batch old new (Err error.NotYet) = IsPaused rules old new
+Runs rules batch old new (Err (error.TooManyModules seen)) =
     IsTooMany rules (starts_at old) (own_log new) old.progress.reaching.limit seen
-Runs rules old new (Err (error.UnaskedAnswer url)) = IsUnasked rules old new (text_of url)
-Runs rules old new (Err error.Finished) = ⊥
-Runs rules old new (Err error.OutOfMemory) = Unit {0}
+Runs rules batch old new (Err (error.UnaskedAnswer url)) = IsUnasked rules batch old new (text_of url)
+Runs rules batch old new (Err error.Finished) = ⊥
+Runs rules batch old new (Err error.OutOfMemory) = Unit {0}
 
--- one turn of a run: it is through, or it goes on with one answer more
-abbrev pub Turns : Rules → At → At → Result Bool BuildError → Type 0
-Turns rules old new (Ok true) = IsLive rules new × (new.progress.begun ≡ true)
-    × (new.progress.taken ≡ old.progress.taken + 1) × (new.loader.pending ≡ old.loader.pending)
-Turns rules old new (Ok false) = IsThrough rules old new
-Turns rules old new (Err error.NotYet) = IsPaused rules old new
-Turns rules old new (Err (error.TooManyModules seen)) =
+-- one turn of a run: it is through, or it goes on with more answers
+abbrev pub Turns : Rules → ℕ → At → At → Result Bool BuildError → Type 0
+Turns rules batch old new (Ok true) = IsLive rules new × (new.progress.begun ≡ true)
+    × (old.progress.taken < new.progress.taken) × (new.loader.pending ≡ old.loader.pending)
+Turns rules batch old new (Ok false) = IsThrough rules old new
+Turns rules batch old new (Err error.NotYet) = IsPaused rules old new
+Turns rules batch old new (Err (error.TooManyModules seen)) =
     IsTooMany rules (starts_at old) (own_log new) old.progress.reaching.limit seen
-Turns rules old new (Err (error.UnaskedAnswer url)) = IsUnasked rules old new (text_of url)
-Turns rules old new (Err error.Finished) = ⊥
-Turns rules old new (Err error.OutOfMemory) = Unit {0}
+Turns rules batch old new (Err (error.UnaskedAnswer url)) = IsUnasked rules batch old new (text_of url)
+Turns rules batch old new (Err error.Finished) = ⊥
+Turns rules batch old new (Err error.OutOfMemory) = Unit {0}

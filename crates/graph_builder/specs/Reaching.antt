@@ -1,11 +1,11 @@
 -- What reaching does to the slots and the worklist, and why it stops. The worklist is what stands behind the queue's cursor.
-use Rattle.std.specs.Prelude.{◌≡◌, ◌+◌, ◌≤◌, ℕ, List, [], ◌∷◌, length, drop, fold, slice_get, Option, Some, None, Result, Ok, Err}
+use Rattle.std.specs.Prelude.{◌≡◌, ◌+◌, ◌≤◌, ℕ, Bool, true, false, List, [], ◌∷◌, length, drop, fold, slice_get, Option, Some, None, Result, Ok, Err}
 use Rattle.graph_builder.specs.declared.reaching.Reaching.{Reaching}
 use Rattle.graph_builder.specs.declared.reaching.GrowError.{GrowError}
 use Rattle.graph_builder.specs.declared.reaching.GrowError.TheVariants.{TooMany, OutOfMemory}
 use Rattle.graph_entry.specs.declared.entry.Entry.{Entry}
 use Rattle.graph_builder.specs.declared.slot.Slot.{Slot}
-use Rattle.graph_builder.specs.declared.slot.Slot.TheVariants.{Done}
+use Rattle.graph_builder.specs.declared.slot.Slot.TheVariants.{Queued, Asked, Done}
 use Rattle.graph_builder.specs.Building.{IsWritten}
 use Rattle.graph_builder.specs.Builder.{GoesOn}
 use Rattle.graph_builder.specs.Rules.{Rules, targets}
@@ -68,3 +68,8 @@ abbrev pub TakesNext : Reaching → Reaching → Option ℕ → Type 0
 TakesNext old new None = (todo_of old ≡ []) × (new ≡ old)
 TakesNext old new (Some n) = (s : Specifier) × (todo_of old ≡ s ∷ todo_of new) × (slice_get (keys_at new.reached) n ≡ Some s)
     × (new.reached ≡ old.reached) × (new.limit ≡ old.limit) × (new.next ≤ length new.reached)
+
+-- a specifier that waits for its answer waits no more, or it doesn't wait
+abbrev pub TakesInHand : Specifier → Reaching → Reaching → Bool → Type 0
+TakesInHand s old new true = (slots_of old s ≡ Some Asked) × IsMarked s Queued old new
+TakesInHand s old new false = (slots_of old s ≡ Some Asked → ⊥) × (new ≡ old)

@@ -1,5 +1,5 @@
 //! The builder with a resolver or an analyser of the caller's.
-ghost use Rattle.std.specs.Prelude.{◌≡◌, ◌≤◌, ℕ, true, false, ◌↔◌, length, map, IfOk, OnOk, Err};
+ghost use Rattle.std.specs.Prelude.{◌≡◌, ◌≤◌, ◌<◌, ℕ, true, false, ◌↔◌, length, map, IfOk, OnOk, Err};
 ghost use Rattle.url.specs.Parts.{Parts as UrlParts};
 ghost use Rattle.graph_entry.specs.Specifier.{text_of};
 ghost use Rattle.graph_entry.specs.Resolution.{resolve_by};
@@ -8,7 +8,7 @@ ghost use Rattle.graph_entry.specs.Reading.{CutsSites};
 ghost use Rattle.graph_builder.specs.Own.{own_rules, own_resolves};
 ghost use Rattle.graph_builder.specs.Reach.{answer_to};
 ghost use Rattle.graph_builder.specs.Graph.{texts, different, IsGraph, EachEdgeCuts};
-ghost use Rattle.graph_builder.specs.Builder.{starts, GoesOn, new_building_by, IsOrderly, IsAsking, IsAskedFor, EachAnswered, IsToldLog, HasHistory, IsNotYet, IsUnawaited, IsTooMany, IsComplete, IsFairly, CameInTime};
+ghost use Rattle.graph_builder.specs.Builder.{starts, GoesOn, new_building_by, IsOrderly, IsAsking, IsAskedFor, EachAnswered, IsToldLog, HasHistory, IsNotYet, IsUnawaited, IsTooMany, IsComplete, IsCompleteBy, IsFairly, CameInTime};
 
 use crate::error::BuildError;
 use crate::following::Following;
@@ -18,6 +18,7 @@ use crate::loader::Loader;
 use crate::own::Own;
 use graph_entry::{ModuleAnalyzer, Resolver};
 use std::alloc::AllocError;
+use std::thread::Threads;
 
 /// A graph under construction, whose specifiers a resolver of the caller's resolves, and whose sources an analyser of the
 /// caller's reads.
@@ -147,6 +148,66 @@ impl<L: Loader + Drop, R: Resolver + Drop, M: ModuleAnalyzer + Drop> CustomBuild
     {
         let CustomBuild { inner } = self;
         inner.into_parts().loader
+    }
+}
+
+impl<L: Loader + Drop, R: Resolver + Drop + Sync, M: ModuleAnalyzer + Drop + Sync> CustomBuild<
+    L,
+    R,
+    M,
+> {
+    /// As `poll`, but so many answers are taken at a time, and analysed by halves in threads of their own. An answer that
+    /// leads to others leads there once its batch is analysed.
+    pub fn poll_batched<T: Threads + Sync>(
+        &mut self,
+        rt: &T,
+        batch: usize,
+    ) -> Result<ModuleGraph, BuildError>
+        requires size { 0 < batch }
+        // The graph is that of the roots and the answers.
+        ensures graph { IfOk result (λ g.
+            IsGraph (own_rules R.resolving M.reads self.old.inner.following) (starts self.old.inner) (answer_to self.new.inner.log) g.entries) }
+        ensures cuts { CutsSites (M.reads self.old.inner.following.analyzer) → IfOk result (λ g. EachEdgeCuts g.entries) }
+        ensures roots { IfOk result (λ g. g.roots ≡ self.old.inner.roots) }
+        ensures imports { IfOk result (λ g. g.imports ≡ map (referred_by (own_resolves R.resolving self.old.inner.following)) self.old.inner.imports) }
+        // It starts at the roots and where the referrer imports lead.
+        ensures starts { starts self.old.inner
+            ≡ starts_by (own_resolves R.resolving self.old.inner.following) self.old.inner.roots self.old.inner.imports }
+        // Each answer was awaited when it came; what was asked is what the graph needs, and is answered.
+        ensures orderly { OnOk result (IsOrderly (own_rules R.resolving M.reads self.old.inner.following) (starts self.old.inner) self.new.inner.log) }
+        ensures asked { OnOk result
+            (IsAskedFor (own_rules R.resolving M.reads self.old.inner.following) (starts self.old.inner) self.new.inner.asked self.new.inner.log) }
+        ensures answered { OnOk result (EachAnswered self.new.inner.asked self.new.inner.log) }
+        ensures limit { IfOk result (λ g. length g.entries ≤ self.old.inner.limit) }
+        // The different roots have the first numbers, in the order in which they first stand among the roots.
+        ensures firsts { IfOk result (λ g. GoesOn (different (texts self.old.inner.roots)) (texts g.numbered)) }
+        ensures pending { OnOk result (self.new.inner.pending ≡ self.old.inner.pending) }
+        // Why there is no graph.
+        ensures not_yet { result ≡ Err BuildError.NotYet →
+            IsNotYet (own_rules R.resolving M.reads self.old.inner.following) self.old.inner self.new.inner }
+        ensures unasked { (s : UrlParts) → result ≡ Err (BuildError.UnaskedAnswer s) →
+            IsUnawaited (own_rules R.resolving M.reads self.old.inner.following) batch self.old.inner self.new.inner (text_of s) }
+        ensures unasked_pending { (s : UrlParts) → result ≡ Err (BuildError.UnaskedAnswer s) →
+            self.new.inner.pending ≡ self.old.inner.pending }
+        ensures too_many { (seen : ℕ) → result ≡ Err (BuildError.TooManyModules seen) →
+            IsTooMany (own_rules R.resolving M.reads self.old.inner.following) (starts self.old.inner) self.new.inner.log self.old.inner.limit seen }
+        ensures finished { (result ≡ Err BuildError.Finished) ↔ (self.old.inner.finished ≡ true) }
+        // And when there is one, unless memory runs out.
+        ensures complete { IsCompleteBy (own_rules R.resolving M.reads self.old.inner.following) batch self.old.inner self.new.inner result }
+        // No answer is unasked of a loader that answers open requests alone.
+        ensures fair { IsFairly (L.seen self.old.inner.loader) self.old.inner result }
+        // On every answer.
+        ensures in_time { CameInTime (own_rules R.resolving M.reads self.old.inner.following) (starts self.old.inner) self.new.inner.events result }
+        ensures asking { IsAsking (own_rules R.resolving M.reads self.old.inner.following) (starts self.old.inner) self.new.inner.asked self.new.inner.log }
+        ensures told { IsToldLog ((L.seen self.new.inner.loader).told) self.new.inner.log }
+        ensures telling { (L.seen self.new.inner.loader).told ≡ (L.seen self.old.inner.loader).told }
+        ensures stays_fair { (L.seen self.old.inner.loader).fair ≡ true →
+            (L.seen self.new.inner.loader).fair ≡ true }
+        ensures history { HasHistory self.old.inner self.new.inner }
+        ensures idle { self.old.inner.finished ≡ true → self.new ≡ self.old }
+        ensures later { (self.new.inner.finished ≡ false) ↔ (result ≡ Err BuildError.NotYet) }
+    {
+        self.inner.poll_batched(rt, batch)
     }
 }
 

@@ -1,12 +1,12 @@
 //! The inner part of a builder: asks a loader for all that is reached, and makes the graph of its answers.
-ghost use Rattle.std.specs.Prelude.{◌≡◌, ◌≤◌, ℕ, true, false, ◌↔◌, length, map, IfOk, IfErr, OnOk, Err};
+ghost use Rattle.std.specs.Prelude.{◌≡◌, ◌≤◌, ◌<◌, ℕ, true, false, ◌↔◌, length, map, IfOk, IfErr, OnOk, Err};
 ghost use Rattle.url.specs.Parts.{Parts as UrlParts};
 ghost use Rattle.graph_entry.specs.Specifier.{text_of};
 ghost use Rattle.graph_entry.specs.Referrer.{referred_by, starts_by};
 ghost use Rattle.graph_builder.specs.Rules.{rules_by};
 ghost use Rattle.graph_builder.specs.Reach.{answer_to};
 ghost use Rattle.graph_builder.specs.Graph.{texts, different, IsGraph};
-ghost use Rattle.graph_builder.specs.Builder.{starts, GoesOn, new_building_by, IsOrderly, IsAsking, IsAskedFor, EachAnswered, IsToldLog, HasHistory, IsNotYet, IsUnawaited, IsTooMany, IsComplete, IsFairly, CameInTime};
+ghost use Rattle.graph_builder.specs.Builder.{starts, GoesOn, new_building_by, IsOrderly, IsAsking, IsAskedFor, EachAnswered, IsToldLog, HasHistory, IsNotYet, IsUnawaited, IsTooMany, IsComplete, IsCompleteBy, IsFairly, CameInTime};
 
 use crate::by_number::count;
 use crate::error::BuildError;
@@ -20,6 +20,7 @@ use base::Items;
 use graph_entry::ReferrerImports;
 use std::alloc::{AllocFailed, Global};
 use std::marker::Model;
+use std::thread::Threads;
 use url::Url;
 
 /// What a builder keeps.
@@ -167,6 +168,81 @@ impl<L: Loader + Drop, W: Ways + Drop> Inner<L, W> {
         match self
             .progress
             .run(self.alloc, &self.following, &mut self.loader)
+        {
+            Ok(()) => {
+                match finish(
+                    self.alloc,
+                    &self.following,
+                    self.roots.as_slice(),
+                    self.imports.as_slice(),
+                    &mut self.progress.reaching.reached,
+                ) {
+                    Ok(graph) => return Ok(graph),
+                    Err(_) => return Err(BuildError::OutOfMemory),
+                }
+            }
+            Err(BuildError::NotYet) => {
+                self.finished = false;
+                // The proof learns from it that no specifier has two numbers.
+                let _count = count(&self.progress.reaching.reached);
+                Err(BuildError::NotYet)
+            }
+            Err(BuildError::TooManyModules { seen }) => Err(BuildError::TooManyModules { seen }),
+            Err(BuildError::UnaskedAnswer(specifier)) => Err(BuildError::UnaskedAnswer(specifier)),
+            Err(BuildError::OutOfMemory) => Err(BuildError::OutOfMemory),
+            // A run of a builder that goes on never says so.
+            Err(BuildError::Finished) => unreachable!(),
+        }
+    }
+}
+
+impl<L: Loader + Drop, W: Ways + Drop + Sync> Inner<L, W> {
+    /// As `poll`, but so many answers are taken at a time, and analysed by halves in threads of their own.
+    pub fn poll_batched<R: Threads + Sync>(
+        &mut self,
+        rt: &R,
+        batch: usize,
+    ) -> Result<ModuleGraph, BuildError>
+        requires size { 0 < batch }
+        ensures graph { IfOk result (λ g.
+            IsGraph (rules_by (W.means self.old.following) (W.follows self.old.following)) (starts self.old) (answer_to self.new.log) g.entries) }
+        ensures roots { IfOk result (λ g. g.roots ≡ self.old.roots) }
+        ensures imports { IfOk result (λ g. g.imports ≡ map (referred_by (W.resolves self.old.following)) self.old.imports) }
+        ensures starts { starts self.old ≡ starts_by (W.resolves self.old.following) self.old.roots self.old.imports }
+        ensures orderly { OnOk result (IsOrderly (rules_by (W.means self.old.following) (W.follows self.old.following)) (starts self.old) self.new.log) }
+        ensures asked { OnOk result
+            (IsAskedFor (rules_by (W.means self.old.following) (W.follows self.old.following)) (starts self.old) self.new.asked self.new.log) }
+        ensures answered { OnOk result (EachAnswered self.new.asked self.new.log) }
+        ensures limit { IfOk result (λ g. length g.entries ≤ self.old.limit) }
+        ensures firsts { IfOk result (λ g. GoesOn (different (texts self.old.roots)) (texts g.numbered)) }
+        ensures pending { OnOk result (self.new.pending ≡ self.old.pending) }
+        ensures not_yet { result ≡ Err BuildError.NotYet →
+            IsNotYet (rules_by (W.means self.old.following) (W.follows self.old.following)) self.old self.new }
+        ensures unasked { (s : UrlParts) → result ≡ Err (BuildError.UnaskedAnswer s) →
+            IsUnawaited (rules_by (W.means self.old.following) (W.follows self.old.following)) batch self.old self.new (text_of s) }
+        ensures unasked_pending { (s : UrlParts) → result ≡ Err (BuildError.UnaskedAnswer s) →
+            self.new.pending ≡ self.old.pending }
+        ensures too_many { (seen : ℕ) → result ≡ Err (BuildError.TooManyModules seen) →
+            IsTooMany (rules_by (W.means self.old.following) (W.follows self.old.following)) (starts self.old) self.new.log self.old.limit seen }
+        ensures finished { (result ≡ Err BuildError.Finished) ↔ (self.old.finished ≡ true) }
+        ensures complete { IsCompleteBy (rules_by (W.means self.old.following) (W.follows self.old.following)) batch self.old self.new result }
+        ensures fair { IsFairly (L.seen self.old.loader) self.old result }
+        ensures in_time { CameInTime (rules_by (W.means self.old.following) (W.follows self.old.following)) (starts self.old) self.new.events result }
+        ensures asking { IsAsking (rules_by (W.means self.old.following) (W.follows self.old.following)) (starts self.old) self.new.asked self.new.log }
+        ensures told { IsToldLog ((L.seen self.new.loader).told) self.new.log }
+        ensures telling { (L.seen self.new.loader).told ≡ (L.seen self.old.loader).told }
+        ensures stays_fair { (L.seen self.old.loader).fair ≡ true → (L.seen self.new.loader).fair ≡ true }
+        ensures history { HasHistory self.old self.new }
+        ensures idle { self.old.finished ≡ true → self.new ≡ self.old }
+        ensures later { (self.new.finished ≡ false) ↔ (result ≡ Err BuildError.NotYet) }
+    {
+        if self.finished {
+            return Err(BuildError::Finished);
+        }
+        self.finished = true;
+        match self
+            .progress
+            .run_batched(rt, self.alloc, &self.following, &mut self.loader, batch)
         {
             Ok(()) => {
                 match finish(

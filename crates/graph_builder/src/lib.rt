@@ -5,6 +5,8 @@
 //! - `CustomBuild::poll`: the graph of the roots and the loader's answers by a caller's own resolver and analyser, or why there
 //!   is none yet (`IsGraph`, `specs/Graph.antt`; reached, `specs/Reach.antt`; the causes, `specs/Builder.antt`). `Inner` is the
 //!   same over any `Ways`.
+//! - `CustomBuild::poll_batched`: the same, where so many answers are taken before any of them is analysed, by halves in
+//!   threads of their own (`specs/Batch.antt`).
 //! - `Loader`: what a loader's calls do to its data (`specs/Loader.antt`). `MemoryLoader` is one that has its
 //!   modules in memory (`specs/Memory.antt`).
 //! - `ModuleGraph::{roots, referrer_imports, entry, entries}`: look into the graph.
@@ -13,6 +15,7 @@
 //! `OutOfMemory` is the one answer that no clause ties to a cause.
 #![tactic(auto)]
 
+mod batched;
 mod by_number;
 mod custom;
 mod entries;

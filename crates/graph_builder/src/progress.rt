@@ -38,7 +38,7 @@ impl Progress {
         loader: &mut L,
     ) -> Result<(), BuildError>
         requires live { IsLive (rules_by (W.means ways.now) (W.follows ways.now)) (at (L.seen loader.old) self.old) }
-        ensures runs { Runs (rules_by (W.means ways.now) (W.follows ways.now)) (at (L.seen loader.old) self.old) (at (L.seen loader.new) self.new) result }
+        ensures runs { Runs (rules_by (W.means ways.now) (W.follows ways.now)) 1 (at (L.seen loader.old) self.old) (at (L.seen loader.new) self.new) result }
         ensures in_time { CameInTime (rules_by (W.means ways.now) (W.follows ways.now)) (texts self.old.starts) (own_events (at (L.seen loader.new) self.new)) result }
         ensures kept { IsKeptAt (rules_by (W.means ways.now) (W.follows ways.now)) (at (L.seen loader.new) self.new) }
         ensures goes { GoesOnAt (at (L.seen loader.old) self.old) (at (L.seen loader.new) self.new) }
@@ -57,8 +57,8 @@ impl Progress {
         }
     }
 
-    // Reaches the starts, the first time. What is followed and the loader are there for the contract.
-    fn begin<L: Loader, W: Ways>(&mut self, ways: &W, loader: &mut L) -> Result<(), GrowError>
+    /// Reaches the starts, the first time. What is followed and the loader are there for the contract.
+    pub fn begin<L: Loader, W: Ways>(&mut self, ways: &W, loader: &mut L) -> Result<(), GrowError>
         requires live { IsLive (rules_by (W.means ways.now) (W.follows ways.now)) (at (L.seen loader.old) self.old) }
         ensures begins { Begins (rules_by (W.means ways.now) (W.follows ways.now)) (at (L.seen loader.old) self.old) (at (L.seen loader.new) self.new) result }
         ensures kept { IsKeptAt (rules_by (W.means ways.now) (W.follows ways.now)) (at (L.seen loader.new) self.new) }
@@ -90,7 +90,7 @@ impl Progress {
     ) -> Result<bool, BuildError>
         requires live { IsLive (rules_by (W.means ways.now) (W.follows ways.now)) (at (L.seen loader.old) self.old) }
         requires begun { self.old.begun ≡ true }
-        ensures turns { Turns (rules_by (W.means ways.now) (W.follows ways.now)) (at (L.seen loader.old) self.old) (at (L.seen loader.new) self.new) result }
+        ensures turns { Turns (rules_by (W.means ways.now) (W.follows ways.now)) 1 (at (L.seen loader.old) self.old) (at (L.seen loader.new) self.new) result }
         ensures in_time { CameInTime (rules_by (W.means ways.now) (W.follows ways.now)) (texts self.old.starts) (own_events (at (L.seen loader.new) self.new)) result }
         ensures kept { IsKeptAt (rules_by (W.means ways.now) (W.follows ways.now)) (at (L.seen loader.new) self.new) }
         ensures goes { GoesOnAt (at (L.seen loader.old) self.old) (at (L.seen loader.new) self.new) }
@@ -117,7 +117,7 @@ impl Progress {
         requires begun { self.old.begun ≡ true }
         requires asked_all { todo_of self.old.reaching ≡ [] }
         requires open_yet { self.old.taken < self.old.asked }
-        ensures turns { Turns (rules_by (W.means ways.now) (W.follows ways.now)) (at (L.seen loader.old) self.old) (at (L.seen loader.new) self.new) result }
+        ensures turns { Turns (rules_by (W.means ways.now) (W.follows ways.now)) 1 (at (L.seen loader.old) self.old) (at (L.seen loader.new) self.new) result }
         ensures in_time { CameInTime (rules_by (W.means ways.now) (W.follows ways.now)) (texts self.old.starts) (own_events (at (L.seen loader.new) self.new)) result }
         ensures kept { IsKeptAt (rules_by (W.means ways.now) (W.follows ways.now)) (at (L.seen loader.new) self.new) }
         ensures goes { GoesOnAt (at (L.seen loader.old) self.old) (at (L.seen loader.new) self.new) }
@@ -137,8 +137,8 @@ impl Progress {
         }
     }
 
-    // Empties the worklist.
-    fn ask_all<L: Loader, W: Ways>(
+    /// Empties the worklist.
+    pub fn ask_all<L: Loader, W: Ways>(
         &mut self,
         alloc: Global,
         ways: &W,

@@ -7,7 +7,7 @@ ghost use Rattle.graph_builder.specs.Reach.{Specifier};
 ghost use Rattle.graph_builder.specs.Rules.{edges_of, led_to, targets, has_types, is_followed, rules_by};
 ghost use Rattle.graph_builder.specs.Graph.{texts};
 ghost use Rattle.graph_builder.specs.ByText.{value_at, keys_at};
-ghost use Rattle.graph_builder.specs.Reaching.{todo_of, HasRoom, Grows, Fills, IsMarked, TakesNext};
+ghost use Rattle.graph_builder.specs.Reaching.{slots_of, todo_of, HasRoom, TakesInHand, Grows, Fills, IsMarked, TakesNext};
 ghost use Rattle.graph_builder.specs.Progress.{FillsUnasked, Takes};
 
 use crate::by_number::{add, count, number, set};
@@ -259,6 +259,38 @@ impl Reaching {
             Ok(()) => Ok(()),
             Err(GrowError::TooMany { seen }) => Err(BuildError::TooManyModules { seen }),
             Err(GrowError::OutOfMemory) => Err(BuildError::OutOfMemory),
+        }
+    }
+
+    /// Takes the answer for a specifier in hand, if it waits for one: it waits no more, until it has its entry.
+    pub fn take_in_hand(&mut self, url: &Url) -> bool
+        ensures takes { TakesInHand (text_of url.now) self.old self.new result }
+        ensures limit { self.new.limit ≡ self.old.limit }
+    {
+        match self.asked_number(url) {
+            Some(number) => {
+                set(&mut self.reached, number, Slot::Queued);
+                true
+            }
+            None => false,
+        }
+    }
+
+    /// The specifier, which has a slot, has this entry: what the entry leads to is reached.
+    pub fn fill_in_hand<W: Ways>(
+        &mut self,
+        ways: &W,
+        url: &Url,
+        entry: Entry,
+    ) -> Result<(), GrowError>
+        requires room { HasRoom self.old }
+        requires there { slots_of self.old (text_of url.now) ≡ None → ⊥ }
+        ensures fills { Fills (rules_by (W.means ways.now) (W.follows ways.now)) (text_of url.now) entry self.old self.new result }
+        ensures limit { self.new.limit ≡ self.old.limit }
+    {
+        match number(&self.reached, url) {
+            Some(number) => self.fill(ways, number, entry),
+            None => unreachable!(),
         }
     }
 

@@ -83,7 +83,7 @@ returns-in-Err-UnaskedAnswer-clause-unasked g c = λ s same.
     rw (← unasked_same c.in-Err-UnaskedAnswer.specifier s same, ← c.self.view_is)
     (result_unasked {rules =
     rules_by (g.W.Ways.means c.self.inside.following) (g.W.Ways.follows c.self.inside.following)}
-    (g.met.W.Ways.once c.self.inside.following) _ c.run.new.loader
+    (g.met.W.Ways.once c.self.inside.following) 1 _ c.run.new.loader
     c.self.inside.following c.self.inside.roots c.self.inside.imports
     (at (g.L.Loader.seen c.self.inside.loader) c.self.inside.progress)
     (at (g.L.Loader.seen c.run.new.loader) c.run.new.self) _ true (text_of c.in-Err-UnaskedAnswer.specifier)
@@ -100,7 +100,7 @@ returns-in-Err-UnaskedAnswer-clause-complete g c = λ live within orderly still.
     (text_of c.in-Err-UnaskedAnswer.specifier)
     (result_unasked {rules =
     rules_by (g.W.Ways.means c.self.inside.following) (g.W.Ways.follows c.self.inside.following)}
-    (g.met.W.Ways.once c.self.inside.following)
+    (g.met.W.Ways.once c.self.inside.following) 1
     c.self.inside.loader c.run.new.loader c.self.inside.following c.self.inside.roots c.self.inside.imports
     (at (g.L.Loader.seen c.self.inside.loader) c.self.inside.progress)
     (at (g.L.Loader.seen c.run.new.loader) c.run.new.self) c.self.inside.finished true
@@ -111,7 +111,7 @@ returns-in-Err-UnaskedAnswer-clause-complete g c = λ live within orderly still.
 pub returns-in-Err-UnaskedAnswer-clause-fair : goal.returns-in-Err-UnaskedAnswer-clause-fair
 returns-in-Err-UnaskedAnswer-clause-fair g c =
     rw (← c.self.view_is)
-    (result_fair c.self.inside.loader c.self.inside.following c.self.inside.roots c.self.inside.imports
+    (result_fair 1 c.self.inside.loader c.self.inside.following c.self.inside.roots c.self.inside.imports
     (at (g.L.Loader.seen c.self.inside.loader) c.self.inside.progress)
     (at (g.L.Loader.seen c.run.new.loader) c.run.new.self) c.self.inside.finished
     c.in-Err-UnaskedAnswer.specifier c.self.invariant.kept c.run.ensures.kept c.run.ensures.goes

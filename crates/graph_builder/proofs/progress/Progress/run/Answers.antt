@@ -21,11 +21,11 @@ returns-in-Err-clause-goes g c = goes_more _ _ _ c.turns.invariant.goes c.turn.e
 
 pub returns-in-Err-clause-runs : goal.returns-in-Err-clause-runs
 returns-in-Err-clause-runs g c =
-    runs_err (rules_by (g.W.Ways.means c.args.ways.now) (g.W.Ways.follows c.args.ways.now))
+    runs_err (rules_by (g.W.Ways.means c.args.ways.now) (g.W.Ways.follows c.args.ways.now)) 1
     (at (g.L.Loader.seen c.args.loader.now) c.args.self.now)
     (at (g.L.Loader.seen c.turn.new.loader) c.turn.new.self)
     c.in-Err.error
-    (errs_after
+    (errs_after 1
     (at (g.L.Loader.seen c.args.loader.now) c.args.self.now)
     (at (g.L.Loader.seen c.turns.loader) c.turns.self)
     (at (g.L.Loader.seen c.turn.new.loader) c.turn.new.self)

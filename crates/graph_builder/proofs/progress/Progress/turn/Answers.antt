@@ -5,7 +5,7 @@ use Rattle.graph_builder.proofs.progress.Progress.turn.Goals as goal
 
 pub returns-clause-turns : goal.returns-clause-turns
 returns-clause-turns g c =
-    turns_after
+    turns_after 1
     (at (g.L.Loader.seen c.args.loader.now) c.args.self.now)
     (at (g.L.Loader.seen c.ask_all.new.loader) c.ask_all.new.self)
     (at (g.L.Loader.seen c.poll.new.loader) c.poll.new.self)
