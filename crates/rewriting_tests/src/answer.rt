@@ -3,13 +3,13 @@
 use media_type::MediaType;
 use source_sites::read_sites;
 use source_text::SourceText;
-use specifier_edits::{name_literals, rewrite_sites};
+use specifier_edits::{ChangeFault, first_fault, name_literals, rewrite_sites};
 use std::alloc::{AllocError, Global};
 use test_rows::Row;
 use url::Url;
 
-/// The new text of a row, or where its sites stand and what they name. Behind its URL and its source stands how many
-/// changes there are, then for each the number of a site and its new specifier.
+/// The new text of a row, or where its sites stand and what they name, or which change can't be made and why. Behind its
+/// URL and its source stands how many changes there are, then for each the number of a site and its new specifier.
 pub fn answer(alloc: Global, row: &Row) -> Result<String, AllocError> {
     match Url::parse(alloc, row.at(1)) {
         Ok(specifier) => answer_at(alloc, row, &specifier),
@@ -20,6 +20,9 @@ pub fn answer(alloc: Global, row: &Row) -> Result<String, AllocError> {
 fn answer_at(alloc: Global, row: &Row, specifier: &Url) -> Result<String, AllocError> {
     let media_type = MediaType::from_specifier(alloc, specifier)?;
     let text = SourceText::from_string(String::from_str(alloc, row.at(2))?)?;
+    if row.call() == "fault" {
+        return told_fault(alloc, row, specifier, media_type, &text);
+    }
     let new = match rewritten(alloc, row, specifier, media_type, &text)? {
         Some(new) => new,
         None => return String::from_str(alloc, "none"),
@@ -49,6 +52,33 @@ fn rewritten(
     }
     let new = rewrite_sites(alloc, text.as_str(), sites.as_slice(), changes.as_slice())?;
     Ok(Some(new))
+}
+
+/// The place of the first change that can't be made, and why.
+fn told_fault(
+    alloc: Global,
+    row: &Row,
+    specifier: &Url,
+    media_type: MediaType,
+    text: &SourceText,
+) -> Result<String, AllocError> {
+    let changes = changes_of(alloc, row)?;
+    let sites = match read_sites(alloc, specifier, text, media_type) {
+        Ok(sites) => sites,
+        Err(_) => return String::from_str(alloc, "no program"),
+    };
+    match first_fault(sites.as_slice(), changes.as_slice()) {
+        Some((at, fault)) => format!(in alloc; "{at} {}", word_of(fault)),
+        None => String::from_str(alloc, "none"),
+    }
+}
+
+fn word_of(fault: ChangeFault) -> &'static str {
+    match fault {
+        ChangeFault::NoSite => "NoSite",
+        ChangeFault::NoLiteral => "NoLiteral",
+        ChangeFault::NoOrder => "NoOrder",
+    }
 }
 
 fn changes_of(alloc: Global, row: &Row) -> Result<Vec<(usize, String)>, AllocError> {
