@@ -65,7 +65,11 @@ enum {
     JORAVELSU_IMPORT_EQUALS = 2, /* import a = require("a") */
     JORAVELSU_DYNAMIC = 3,       /* import("a") */
     JORAVELSU_REFERENCE_PATH = 4,/* the comment /// <reference path="a" />, in TypeScript */
-    JORAVELSU_REFERENCE_TYPES = 5/* the comment /// <reference types="a" />, in TypeScript */
+    JORAVELSU_REFERENCE_TYPES = 5,/* the comment /// <reference types="a" />, in TypeScript */
+    JORAVELSU_IMPORT_SOURCE = 8, /* import source a from "a" */
+    JORAVELSU_IMPORT_DEFER = 9,  /* import defer * as a from "a" */
+    JORAVELSU_DYNAMIC_SOURCE = 10,/* import.source("a") */
+    JORAVELSU_DYNAMIC_DEFER = 11 /* import.defer("a") */
 };
 
 /* Whether a site has an import attribute `type`, as in import a from "a" with { type: "json" }. */
@@ -78,7 +82,7 @@ enum {
 
 /* A call that may load a module and is no site. */
 enum {
-    JORAVELSU_IMPORT_CALL = 0,  /* import(..), whose first argument is no string literal */
+    JORAVELSU_IMPORT_CALL = 0,  /* import(..), import.source(..) or import.defer(..), whose first argument is no string literal */
     JORAVELSU_REQUIRE_CALL = 1  /* require(..) */
 };
 
@@ -158,7 +162,8 @@ uint32_t joravelsu_version(void);
 uint32_t joravelsu_build(const uint8_t *bundle, size_t bundle_length, uint8_t *buffer, size_t buffer_length, size_t *needed);
 
 /* The sites of a source text, in the order of the text: reference comments, where the media type is one of TypeScript,
- * imports, exports with from, import-equals, and import() of a literal. They are those that the graph has edges of.
+ * imports, exports with from, import-equals, and import(), import.source() and import.defer() of a literal. They are those
+ * that the graph has edges of.
  *
  * text, text_length: the source in UTF-8. A byte order mark in front is passed over, and places count from behind it.
  * media_type: JORAVELSU_TYPESCRIPT or another of its list.
@@ -176,8 +181,9 @@ uint32_t joravelsu_sites(const uint8_t *text, size_t text_length, uint32_t media
 /* The calls of a source text that may load a module and are no sites, in the order of the text: what else a permission
  * check has to look at. They are told by the tokens alone, whether these are a program or not.
  *
- * A call is the word import or require with a bracket right behind it that has something in it, other than
- * - import("a") and import("a", b), where a string literal alone is the first argument;
+ * A call is the word import or require, or import.source or import.defer, with a bracket right behind it that has something
+ * in it, other than
+ * - import("a") and import("a", b), in any phase, where a string literal alone is the first argument;
  * - import a = require("b") and import type a = require("b"), with a on the line of the word before it;
  * - the word behind . or ?. or function;
  * - the word with a: in front in its bracket, which is a method's parameter with its type;

@@ -7,7 +7,10 @@
 #include <stdlib.h>
 #include <string.h>
 
-static const char *const kinds[] = {"import", "export", "import-equals", "dynamic", "reference-path", "reference-types"};
+static const char *const kinds[] = {
+    "import", "export", "import-equals", "dynamic", "reference-path", "reference-types", "wasm", "referrer",
+    "import-source", "import-defer", "dynamic-source", "dynamic-defer",
+};
 
 static uint32_t media_type_of(const char *path)
 {

@@ -31,6 +31,7 @@ OF_EDGE = {
     "InvalidDowngrade": "from https it would lead to http",
     "InvalidLocalImport": "from the web it would lead to a local file",
     "InvalidTypeAssertion": "the attribute type doesn't fit what the module is",
+    "InvalidSourcePhase": "a source is taken of a module of WebAssembly alone, and this is none",
     "Refused": "the import map refuses it: its address is none, or leads elsewhere",
 }
 

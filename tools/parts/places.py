@@ -254,14 +254,10 @@ def form_left_out(tokens, number, typed):
         return f"a comment of HTML, {LEFT_OUT}"
     if here == "assert" and number and tokens[number - 1].kind == "string":
         return f"attributes with assert, {LEFT_OUT}: write with"
-    if (one in ("defer", "source") and two == "import") or (one == "import" and here == "." and next1 in ("defer", "source")):
-        return "imports by phase aren't read: the standard doesn't have them yet"
     if typed and here == "extends" and (two == "infer" or any(text_at(at) == "infer" and text_at(at + 2) == "extends" for at in range(number, number + 60))):
         return f"a condition of infer, {LEFT_OUT}"
     if typed and here == "import" and next1 == "(" and next3 == ",":
         return f"attributes of an import type, {LEFT_OUT}"
-    if typed and one == "implements" and two == "class":
-        return f"a class without a name that implements something, {LEFT_OUT}: give it a name"
     if typed and one == "as" and two == "type":
         return f"'as' behind type in braces, {LEFT_OUT}"
     if typed and one == ">" and here in (";", ",", ")", "]", "}", "?.") and sign_in_statement(tokens, number, "<"):
@@ -296,27 +292,7 @@ def fault_of(text, specifier, are_read):
     reason = reason_at(search, number, specifier)
     if token is None:
         return len(text), 1, reason
-    reason = reason_by_asking(search, number) or reason
     return token.start, max(1, token.end - token.start), reason
-
-
-def reason_by_asking(search, number):
-    """A sentence on a token that the language has here and this project leaves out, as shown by what is read in its place."""
-    text, token = search.text, search.tokens[number]
-    if token.line_before and (token.is_sign("(", "[", "+", "-", "/") or token.kind in ("template", "head")):
-        if reads_beyond(search, text[:token.start] + ";" + text[token.start:], token.start + 1):
-            return f"'{shortened(token.text)}' can't go on with the line above: put a ; in front, as the language does and this project doesn't"
-    if token.is_sign("+", "-", "*", "/", "%", "**", "<<", ">"):
-        cast = before_at_level(search.tokens, number, ("as", "satisfies"))
-        if cast is not None and reads_beyond(search, text[:search.tokens[cast].start] + text[token.start:], search.tokens[cast].start):
-            return f"an operator right behind {search.tokens[cast].text} and its type, {LEFT_OUT}: put what stands before it in brackets"
-    return None
-
-
-def reads_beyond(search, text, at):
-    """Whether another text is read beyond a place."""
-    other = Search(text, search.are_read)
-    return not other.scan.fault and other.start_of(other.place()) > at
 
 
 def sign_in_statement(tokens, number, sign):
@@ -327,16 +303,3 @@ def sign_in_statement(tokens, number, sign):
             return True
         at -= 1
     return False
-
-
-def before_at_level(tokens, number, words):
-    """The number of the last of these words before a token, in the same brackets and the same statement, or None."""
-    at = number - 1
-    while at >= 0 and not tokens[at].is_sign(";", ",", "="):
-        token = tokens[at]
-        if token.is_word(*words):
-            return at
-        if token.mate is not None and token.mate > at:
-            return None
-        at = token.mate - 1 if token.mate is not None else at - 1
-    return None

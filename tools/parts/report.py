@@ -9,6 +9,10 @@ STATE = re.compile(rf"(.+) (module \S+ \d+|package \S+ {TEXT} \S.*|redirect \S.*
 REFERRER = re.compile(rf"import (\S+) (\S+) (\d+-\d+|-) ({TEXT}) (-|\?|{TEXT}) (?:-> (.+)|! (.+))")
 
 
+# The kinds of edges by which a running program takes a module later, if at all.
+LATER = ("dynamic", "dynamic-source", "dynamic-defer", "import-defer")
+
+
 class NoReport(Exception):
     """Why the input is no report of a graph, in one line."""
 
@@ -175,9 +179,9 @@ class Graph:
         return any(target is entry for target in self.loaded(entry))
 
     def loaded(self, entry):
-        """The entries to which edges of an entry lead over redirects that aren't only for types; an import() waits, and is none."""
+        """The entries to which edges of an entry lead over redirects that aren't only for types; an import() waits, as a deferred import does, and is none."""
         for edge in entry.edges:
-            if edge.target in self.entries and not is_type_only(edge) and edge.kind != "dynamic" and entry.kind() != "redirect":
+            if edge.target in self.entries and not is_type_only(edge) and edge.kind not in LATER and entry.kind() != "redirect":
                 target = self.end_of(edge.target)
                 if target is not None:
                     yield target

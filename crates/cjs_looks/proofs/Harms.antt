@@ -8,6 +8,7 @@ use Rattle.es_tree.specs.Key.{same_kind}
 use Rattle.ts_ast.specs.declared.leaf.Ident.{Ident}
 use Rattle.ts_ast.specs.declared.ts.TsPart.{TsPart}
 use Rattle.ts_ast.specs.declared.ts.TsPart.TheVariants as vPart
+use Rattle.es_ast.specs.declared.leaf.ImportPhase.{ImportPhase}
 use Rattle.es_ast.specs.declared.leaf.Lit.{Lit}
 use Rattle.es_ast.specs.declared.leaf.Lit.TheVariants as vLit
 use Rattle.es_ast.specs.declared.ast.Expr.{Expr, roll-Expr}
@@ -224,8 +225,9 @@ module _ (r : Range) where
   pub harms_new_target : Tells is_harmless (Some (vExpr.NewTarget r)) false
   harms_new_target = by_nothing _ (others.is_new_target r)
 
-  pub harms_imported : (first : Option Expr) (second : Value) → Tells is_harmless (call.imported r first second) false
-  harms_imported first second = by_nothing _ (others.is_imported r first second)
+  pub harms_imported : (phase : ImportPhase) (first : Option Expr) (second : Value)
+      → Tells is_harmless (call.imported r phase first second) false
+  harms_imported phase first second = by_nothing _ (others.is_imported r phase first second)
 
   pub harms_newed : (callee : Option Expr) (args : Value) → Tells is_harmless (call.newed r callee args) false
   harms_newed callee args = by_nothing _ (others.is_newed r callee args)

@@ -4,7 +4,7 @@ use Rattle.std.proofs.Common.{refl}
 use Rattle.base.specs.declared.range.Range.{Range}
 use Rattle.es_token.specs.declared.token.Token.{Token}
 use Rattle.ts_ast.specs.declared.ts.TsPart.TheVariants as vPart
-use Rattle.es_ast.specs.declared.leaf.ImportPhase.TheVariants as vPhase
+use Rattle.es_ast.specs.declared.leaf.ImportPhase.{ImportPhase}
 use Rattle.es_ast.specs.declared.ast.Expr.{Expr}
 use Rattle.es_ast.specs.declared.ast.Expr.TheVariants as vExpr
 use Rattle.es_ast.specs.declared.ast.Param.{Param}
@@ -50,13 +50,14 @@ module _ (r : Range) where
   is_new_target =
       all_one N _ (nothing (Expr-F.NewTarget r) _ (vExpr.rolls-NewTarget r) refl refl refl refl refl refl)
 
-  pub is_imported : (first : Option Expr) (second : Value) → All N (call.imported r first second)
+  pub is_imported : (phase : ImportPhase) (first : Option Expr) (second : Value)
+      → All N (call.imported r phase first second)
   unfolding call.imported
-  is_imported first second =
+  is_imported phase first second =
       all_given N first (λ first. all_given N (optional expr_at second) (λ second.
       all_one N _
-      (nothing (Expr-F.ImportCall vPhase.Evaluation (first ∷ option_list second) r) _
-      (vExpr.rolls-ImportCall vPhase.Evaluation (first ∷ option_list second) r) refl refl refl refl refl refl)))
+      (nothing (Expr-F.ImportCall phase (first ∷ option_list second) r) _
+      (vExpr.rolls-ImportCall phase (first ∷ option_list second) r) refl refl refl refl refl refl)))
 
   pub is_newed : (callee : Option Expr) (args : Value) → All N (call.newed r callee args)
   unfolding call.newed

@@ -3,6 +3,7 @@ use Rattle.std.specs.Prelude.{ℕ, Bool, List, [], ◌∷◌, Option, Some, None
 use Rattle.std.proofs.Common.{◌≡◌, refl, sym, ap, ◌∙◌}
 use Rattle.base.specs.declared.range.Range.{Range}
 use Rattle.es_token.specs.declared.token.Token.{Token}
+use Rattle.es_ast.specs.declared.leaf.ImportPhase.{ImportPhase}
 use Rattle.es_ast.specs.declared.ast.Expr.{Expr, roll-Expr, out-Expr, out-roll-Expr}
 use Rattle.es_ast.specs.declared.ast.Expr.TheVariants as vExpr
 use Rattle.es_ast.specs.declared.ast.Prop.{Prop}
@@ -97,8 +98,9 @@ module _ (r : Range) where
   pub is_new_target : All P (Some (vExpr.NewTarget r))
   is_new_target = others.all_plain _ (others.is_new_target r)
 
-  pub is_imported : (first : Option Expr) (second : Value) → All P (call.imported r first second)
-  is_imported first second = others.all_plain _ (others.is_imported r first second)
+  pub is_imported : (phase : ImportPhase) (first : Option Expr) (second : Value)
+      → All P (call.imported r phase first second)
+  is_imported phase first second = others.all_plain _ (others.is_imported r phase first second)
 
   pub is_newed : (callee : Option Expr) (args : Value) → All P (call.newed r callee args)
   is_newed callee args = others.all_plain _ (others.is_newed r callee args)

@@ -330,7 +330,7 @@ pub enum Expr {
         args: Items<Expr>,
         span: Range,
     },
-    /// `import(a, b)`: the phase is always `Evaluation`, as others aren't read.
+    /// `import(a, b)`, `import.source(a, b)` or `import.defer(a, b)`.
     ImportCall {
         phase: ImportPhase,
         args: Items<Expr>,

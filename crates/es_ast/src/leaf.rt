@@ -72,6 +72,7 @@ pub enum ImportClause {
 }
 
 /// How far an import takes a module (the standard, and TC39's proposals of `import source` and `import defer`).
+#[derive(Clone, Copy, Debug, PartialEq, Eq)]
 pub enum ImportPhase {
     /// The module is linked and evaluated.
     Evaluation,
@@ -85,7 +86,7 @@ pub enum ImportPhase {
 pub struct ImportDecl {
     /// Whether `type` follows `import` as a modifier.
     pub type_only: bool,
-    /// Always `Evaluation`: other phases aren't read.
+    /// `Evaluation` where no other phase is written.
     pub phase: ImportPhase,
     /// Absent in `import "a";`.
     pub clause: Option<ImportClause>,

@@ -5,7 +5,7 @@ use Rattle.es_token.specs.declared.token.Token.{Token}
 use Rattle.es_grammar.specs.declared.rows.NodeKind.{NodeKind}
 use Rattle.es_grammar.specs.declared.rows.NodeKind.TheVariants as l
 use Rattle.es_ast.specs.declared.ast.Expr.{Expr}
-use Rattle.es_ast.specs.declared.leaf.ImportPhase.TheVariants as vPhase
+use Rattle.es_ast.specs.declared.leaf.ImportPhase.{ImportPhase}
 use Rattle.es_ast.specs.declared.ast.Expr.TheVariants as vExpr
 use Rattle.es_lowering.specs.Value.{Value, given, optional, option_list, turns, expr_at, args_at, post_at, arguments_at}
 use Rattle.es_lowering.specs.Expressions.{Post, chained, new_of}
@@ -20,14 +20,16 @@ use Rattle.es_call_views.specs.declared.call.Call.TheVariants as view
 
 -- the alternatives
 abbrev pub calls : List NodeKind
-calls = l.Super ∷ l.ImportMeta ∷ l.NewTarget ∷ l.ImportCall ∷ l.New ∷ l.Chain ∷ l.TypedNew ∷ []
+calls =
+    l.Super ∷ l.ImportMeta ∷ l.NewTarget ∷ l.ImportCall ∷ l.SourceCall ∷ l.DeferCall ∷ l.New ∷ l.Chain ∷ l.TypedNew
+    ∷ []
 
 -- ---- each form, of what its parts are
-unfoldable pub imported : Range → Option Expr → Value → Option Expr
-imported r first second =
+unfoldable pub imported : Range → ImportPhase → Option Expr → Value → Option Expr
+imported r phase first second =
     given first (λ first.
     given (optional expr_at second) (λ second.
-    Some (vExpr.ImportCall vPhase.Evaluation (first ∷ option_list second) r)))
+    Some (vExpr.ImportCall phase (first ∷ option_list second) r)))
 
 unfoldable pub newed : Range → Option Expr → Value → Option Expr
 newed r callee args = given callee (λ callee. given (optional args_at args) (λ args. Some (new_of r callee args)))
@@ -49,7 +51,8 @@ abbrev pub the_call : List ℕ → List Token → Range → Call → Option Expr
 the_call x ts r view.Super = Some (vExpr.Super r)
 the_call x ts r view.ImportMeta = Some (vExpr.ImportMeta r)
 the_call x ts r view.NewTarget = Some (vExpr.NewTarget r)
-the_call x ts r (view.Import first second) = imported r (expr_in (valued x ts first)) (held x ts second.entries.now)
+the_call x ts r (view.Import phase first second) =
+    imported r phase (expr_in (valued x ts first)) (held x ts second.entries.now)
 the_call x ts r (view.New callee args) = newed r (expr_in (valued x ts callee)) (held x ts args.entries.now)
 the_call x ts r (view.Chain base first others) =
     chained_of r (expr_in (valued x ts base)) (post_in (valued x ts first)) (held x ts others.entries.now)
@@ -62,7 +65,7 @@ abbrev pub IsBelow : Siblings → Call → Type 0
 IsBelow n view.Super = Unit {0}
 IsBelow n view.ImportMeta = Unit {0}
 IsBelow n view.NewTarget = Unit {0}
-IsBelow n (view.Import first second) = Under first n × Within second n
+IsBelow n (view.Import phase first second) = Under first n × Within second n
 IsBelow n (view.New callee args) = Under callee n × Within args n
 IsBelow n (view.Chain base first others) = Under base n × Under first n × Within others n
 IsBelow n (view.TypedNew callee type_args args) = Under callee n × Within type_args n × Within args n

@@ -11,6 +11,7 @@ ghost use Rattle.es_syntax.specs.Roles.{expr_in};
 ghost use Rattle.es_syntax.specs.Views.{IsNone};
 ghost use Rattle.es_call_views.specs.Call.{calls, the_call, IsBelow};
 
+use es_ast::ImportPhase;
 use es_grammar::NodeKind;
 use es_syntax::{Item, Siblings, What};
 
@@ -23,8 +24,9 @@ pub enum Call<'a> {
     ImportMeta,
     /// `new.target`
     NewTarget,
-    /// `import(a, b)`: the second one may be absent.
+    /// `import(a, b)`, `import.source(a, b)` or `import.defer(a, b)`: the second one may be absent.
     Import {
+        phase: ImportPhase,
         first: Item<'a>,
         second: Siblings<'a>,
     },
@@ -49,14 +51,15 @@ pub enum Call<'a> {
     Broken,
 }
 
-/// `import(a, b)`: the second one may be absent.
+/// `import(a, b)` in a phase: the second one may be absent.
 #[tactic(auto, unfolding(es_lowering::specs::Expressions::import_call, crate::specs::Call::imported))]
-fn import_call<'a>(parts: &Siblings<'a>) -> Call<'a>
-    ensures form { (x : List ℕ) (ts : List Tok) (r : Range) → import_call r (held x ts parts.now.entries.now) ≡ the_call x ts r result }
+fn import_call<'a>(phase: ImportPhase, parts: &Siblings<'a>) -> Call<'a>
+    ensures form { (x : List ℕ) (ts : List Tok) (r : Range) → import_call phase r (held x ts parts.now.entries.now) ≡ the_call x ts r result }
     ensures below { IsBelow parts.now result }
 {
     match parts.part(0) {
         Some(first) => Call::Import {
+            phase,
             first,
             second: parts.group_at(1),
         },
@@ -126,7 +129,9 @@ pub fn call_at<'a>(node: &Item<'a>) -> Option<Call<'a>>
             NodeKind::Super => Some(Call::Super),
             NodeKind::ImportMeta => Some(Call::ImportMeta),
             NodeKind::NewTarget => Some(Call::NewTarget),
-            NodeKind::ImportCall => Some(import_call(&node.parts)),
+            NodeKind::ImportCall => Some(import_call(ImportPhase::Evaluation, &node.parts)),
+            NodeKind::SourceCall => Some(import_call(ImportPhase::Source, &node.parts)),
+            NodeKind::DeferCall => Some(import_call(ImportPhase::Defer, &node.parts)),
             NodeKind::New => Some(new_(&node.parts)),
             NodeKind::Chain => Some(chain(&node.parts)),
             NodeKind::TypedNew => Some(typed_new(&node.parts)),

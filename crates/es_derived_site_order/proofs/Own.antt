@@ -78,33 +78,34 @@ module _ (x : List ℕ) (ts : List Token) where
   behind_none m b s u e rest = let P : Found → Type 0 = λ r. On ts m b (r ++ u) in subst P (sym e) rest
 
   -- a call whose first argument is a literal, or isn't
-  called_by : (label : NodeKind) (a b m from to : ℕ) (p : Part) (s u : Found) (attribute : Attribute) → a ≤ from
-      → to ≤ m → m ≤ b → from ≤ to → Linked x ts label p s → Stands x ts from to p → On ts from to s → On ts m b u
-      → On ts a b (naming x ts kind.Dynamic false attribute (src_by x ts label p) ++ (s ++ u))
-  called_by l.Str a b m from to p s u attribute low high le mid link h it rest =
+  called_by : (kind : DependencyKind) (label : NodeKind) (a b m from to : ℕ) (p : Part) (s u : Found)
+      (attribute : Attribute) → a ≤ from → to ≤ m → m ≤ b → from ≤ to → Linked x ts label p s → Stands x ts from to p → On ts from to s → On ts m b u
+      → On ts a b (naming x ts kind false attribute (src_by x ts label p) ++ (s ++ u))
+  called_by kind l.Str a b m from to p s u attribute low high le mid link h it rest =
       let within : place 1 h ≤ to = last 1 h in
-      naming_on kind.Dynamic a m b (s ++ u) false attribute _ (omega (arith, low, mid, high)) le
+      naming_on kind a m b (s ++ u) false attribute _ (omega (arith, low, mid, high)) le
       (may_wider a (place 0 h) (place 1 h) m _ low (omega (arith, within, high))
       (str_on _ _ (part p 0) (part_stands 0 h)))
       (behind_none m b s u (link (λ e. cc)) rest)
-  called_by _ a b m from to p s u attribute low high le mid link h it rest =
+  called_by kind _ a b m from to p s u attribute low high le mid link h it rest =
       on_wider low (omega arith) (both_on high it rest)
 
-  call_on : (a m b : ℕ) (p : Part) (u : Found) (attribute : Attribute) → Stands x ts a m p → m ≤ b → On ts m b u
-      → On ts a b (naming x ts kind.Dynamic false attribute (src_in x ts p) ++ (found p ++ u))
-  call_on a m b p u attribute (gone first) le rest = on_wider first (omega arith) rest
-  call_on a m b p u attribute (end first) le rest = on_wider first (omega arith) rest
-  call_on a m b p u attribute (pair h i) le rest = on_wider (ahead (pair h i)) (omega arith) rest
-  call_on a m b p u attribute (leaf n low high) le rest = on_wider (omega (arith, low, high)) (omega arith) rest
-  call_on a m b p u attribute (made {from = from} {to = to} label low high mid link h it) le rest =
-      called_by label a b m from to _ _ u attribute low high le mid link h it rest
+  call_on : (kind : DependencyKind) (a m b : ℕ) (p : Part) (u : Found) (attribute : Attribute)
+      → Stands x ts a m p → m ≤ b → On ts m b u
+      → On ts a b (naming x ts kind false attribute (src_in x ts p) ++ (found p ++ u))
+  call_on kind a m b p u attribute (gone first) le rest = on_wider first (omega arith) rest
+  call_on kind a m b p u attribute (end first) le rest = on_wider first (omega arith) rest
+  call_on kind a m b p u attribute (pair h i) le rest = on_wider (ahead (pair h i)) (omega arith) rest
+  call_on kind a m b p u attribute (leaf n low high) le rest = on_wider (omega (arith, low, high)) (omega arith) rest
+  call_on kind a m b p u attribute (made {from = from} {to = to} label low high mid link h it) le rest =
+      called_by kind label a b m from to _ _ u attribute low high le mid link h it rest
 
-  call_run : {a b : ℕ} {p : Part} (h : Stands x ts a b p)
-      → Run h 0 2 (naming x ts kind.Dynamic false (options_in x ts (group p 1)) (src_in x ts (part p 0))
+  call_run : (kind : DependencyKind) {a b : ℕ} {p : Part} (h : Stands x ts a b p)
+      → Run h 0 2 (naming x ts kind false (options_in x ts (group p 1)) (src_in x ts (part p 0))
       ++ (at p 0 ++ may p 1))
-  call_run {p = p} h =
+  call_run kind {p = p} h =
       record {
-        on = call_on (place 0 h) (place 1 h) (place 2 h) (part p 0) (may p 1) _ (part_stands 0 h)
+        on = call_on kind (place 0 h) (place 1 h) (place 2 h) (part p 0) (may p 1) _ (part_stands 0 h)
             (up 1 2 h (omega arith)) (may_run h 1).on;
       }
 
@@ -220,6 +221,8 @@ module _ (x : List ℕ) (ts : List Token) where
   -- modules
   own_on l.BareImport a b p h = all (declared_run kind.Import false h 0)
   own_on l.FromImport a b p h = all (declared_run kind.Import _ h 2)
+  own_on l.SourceImport a b p h = all (declared_run kind.ImportSource false h 1)
+  own_on l.DeferImport a b p h = all (declared_run kind.ImportDefer false h 1)
   own_on l.RequireImport a b p h = all (required_run h)
   own_on l.ExportedRequireImport a b p h = all (required_run h)
   own_on l.ExportAll a b p h = all (declared_run kind.Export _ h 2)
@@ -234,7 +237,9 @@ module _ (x : List ℕ) (ts : List Token) where
   own_on l.Module a b p h = all (turns_run h 1 0)
   own_on l.Script a b p h = all (turns_run h 1 0)
   -- expressions
-  own_on l.ImportCall a b p h = all (call_run h)
+  own_on l.ImportCall a b p h = all (call_run kind.Dynamic h)
+  own_on l.SourceCall a b p h = all (call_run kind.DynamicSource h)
+  own_on l.DeferCall a b p h = all (call_run kind.DynamicDefer h)
   own_on l.TemplateParts a b p h = all (two (at_run h 1) (turns_run h 2 1) refl)
   own_on l.Parenthesized a b p h = all (at_run h 0)
   own_on l.ArrayLiteral a b p h =

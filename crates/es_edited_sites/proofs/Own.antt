@@ -13,7 +13,7 @@ use Rattle.es_site.specs.declared.site.DependencyKind.TheVariants as kind
 use Rattle.es_site.specs.Sites.{Found}
 use Rattle.es_lowering.specs.Texts.{str_of}
 use Rattle.es_plain_sites.specs.Part.{Part, part, group, is_there, found, at, inside, may, each, turns}
-use Rattle.es_plain_sites.specs.Own.{str_in, attribute_in, src_by, src_in, options_in, naming, declared, first_of, returned, handled, optional_inner, typed_args, typed_inner, operand, own}
+use Rattle.es_plain_sites.specs.Own.{str_in, attribute_in, src_by, src_in, options_in, naming, declared, called, first_of, returned, handled, optional_inner, typed_args, typed_inner, operand, own}
 use Rattle.text_changes.specs.declared.change.TextChange.{TextChange}
 use Rattle.es_edited_tokens.specs.Moved.{moved, range_to}
 use Rattle.es_edited_sites.specs.Moved.{value_to, SiteMoves, SitesMove, none, one, attributes_of}
@@ -134,42 +134,41 @@ module _ (changes : List TextChange) (x : List ℕ) (ts : List Token) (y : List 
   safe_none m b s u e safe = let P : Found → Type 0 = λ r. Safe changes ts m b (r ++ u) in subst P e safe
 
   -- a call whose first argument is a literal, or isn't
-  called_by : (label : NodeKind) (a b m from to : ℕ) (p q : Part) (s t u v : Found) (old new : Attribute) → a ≤ from
+  called_by : (kind : DependencyKind) (label : NodeKind) (a b m from to : ℕ) (p q : Part) (s t u v : Found)
+      (old new : Attribute) → a ≤ from
       → to ≤ m → m ≤ b → from ≤ to → Linked x ts label p s → Same from to p q → Move from to s t
       → (Apart ts → Safe changes ts m b u → new ≡ old) → Move m b u v
-      → Move a b (naming x ts kind.Dynamic false old (src_by x ts label p) ++ (s ++ u))
-      (naming y us kind.Dynamic false new (src_by y us label q) ++ (t ++ v))
-  called_by l.Str a b m from to p q s t u v old new low high le mid link h it given rest =
+      → Move a b (naming x ts kind false old (src_by x ts label p) ++ (s ++ u))
+      (naming y us kind false new (src_by y us label q) ++ (t ++ v))
+  called_by kind l.Str a b m from to p q s t u v old new low high le mid link h it given rest =
       let no_sites : s ≡ [] = link (λ e. cc) in
       let place_low : a ≤ place 0 h = low in
       let place_high : place 1 h ≤ m =
       (let within : place 1 h ≤ to = last 1 h in omega (arith, within, high)) in
-      naming_moves kind.Dynamic a m b (s ++ u) (t ++ v) false false old new _ _ refl le
+      naming_moves kind a m b (s ++ u) (t ++ v) false false old new _ _ refl le
       (str_wider place_low place_high (str_moves _ _ (part p 0) (part q 0) (part_alike 0 h)))
       (λ apart safe. given apart (safe_none m b s u no_sites safe))
       (behind_none m b s t u v no_sites (emptied s t it.move no_sites) rest) (omega (arith, low, mid, high))
-  called_by _ a b m from to p q s t u v old new low high le mid link h it given rest =
+  called_by kind _ a b m from to p q s t u v old new low high le mid link h it given rest =
       moves_wider low (omega arith) (both_move high it rest)
 
-  call_moves : (a m b : ℕ) (p q : Part) (u v : Found) (old new : Attribute) → Same a m p q → m ≤ b
-      → (Apart ts → Safe changes ts m b u → new ≡ old) → Move m b u v
-      → Move a b (naming x ts kind.Dynamic false old (src_in x ts p) ++ (found p ++ u))
-      (naming y us kind.Dynamic false new (src_in y us q) ++ (found q ++ v))
-  call_moves a m b p q u v old new (gone first) le given rest = moves_wider first (omega arith) rest
-  call_moves a m b p q u v old new (end first) le given rest = moves_wider first (omega arith) rest
-  call_moves a m b p q u v old new (pair h i) le given rest = moves_wider (ahead (pair h i)) (omega arith) rest
-  call_moves a m b p q u v old new (leaf n low high) le given rest =
+  call_moves : (kind : DependencyKind) (a m b : ℕ) (p q : Part) (u v : Found) (old new : Attribute)
+      → Same a m p q → m ≤ b → (Apart ts → Safe changes ts m b u → new ≡ old) → Move m b u v
+      → Move a b (naming x ts kind false old (src_in x ts p) ++ (found p ++ u))
+      (naming y us kind false new (src_in y us q) ++ (found q ++ v))
+  call_moves kind a m b p q u v old new (gone first) le given rest = moves_wider first (omega arith) rest
+  call_moves kind a m b p q u v old new (end first) le given rest = moves_wider first (omega arith) rest
+  call_moves kind a m b p q u v old new (pair h i) le given rest = moves_wider (ahead (pair h i)) (omega arith) rest
+  call_moves kind a m b p q u v old new (leaf n low high) le given rest =
       moves_wider (omega (arith, low, high)) (omega arith) rest
-  call_moves a m b p q u v old new (made {from = from} {to = to} label low high mid link h it) le given rest =
-      called_by label a b m from to _ _ _ _ u v old new low high le mid link h it given rest
+  call_moves kind a m b p q u v old new (made {from = from} {to = to} label low high mid link h it) le given rest =
+      called_by kind label a b m from to _ _ _ _ u v old new low high le mid link h it given rest
 
-  call_run : {a b : ℕ} {p q : Part} (h : Same a b p q)
-      → Run h 0 2 (naming x ts kind.Dynamic false (options_in x ts (group p 1)) (src_in x ts (part p 0))
-      ++ (at p 0 ++ may p 1))
-      (naming y us kind.Dynamic false (options_in y us (group q 1)) (src_in y us (part q 0)) ++ (at q 0 ++ may q 1))
-  call_run {p = p} {q = q} h =
+  call_run : (kind : DependencyKind) {a b : ℕ} {p q : Part} (h : Same a b p q)
+      → Run h 0 2 (called x ts kind p) (called y us kind q)
+  call_run kind {p = p} {q = q} h =
       record {
-        moves = call_moves (place 0 h) (place 1 h) (place 2 h) (part p 0) (part q 0) (may p 1) (may q 1) _ _
+        moves = call_moves kind (place 0 h) (place 1 h) (place 2 h) (part p 0) (part q 0) (may p 1) (may q 1) _ _
             (part_alike 0 h) (up 1 2 h (omega arith))
             (λ apart safe. options_same changes x ts y us apart keeps _ _ (group p 1) (group q 1) (group_alike 1 h)
             safe)
@@ -307,6 +306,8 @@ module _ (changes : List TextChange) (x : List ℕ) (ts : List Token) (y : List 
   -- modules
   own_moves l.BareImport a b p q h = all (declared_run kind.Import false false refl h 0)
   own_moves l.FromImport a b p q h = all (declared_run kind.Import _ _ (there (group_alike 0 h)) h 2)
+  own_moves l.SourceImport a b p q h = all (declared_run kind.ImportSource false false refl h 1)
+  own_moves l.DeferImport a b p q h = all (declared_run kind.ImportDefer false false refl h 1)
   own_moves l.RequireImport a b p q h = all (required_run h)
   own_moves l.ExportedRequireImport a b p q h = all (required_run h)
   own_moves l.ExportAll a b p q h = all (declared_run kind.Export _ _ (there (group_alike 0 h)) h 2)
@@ -322,7 +323,9 @@ module _ (changes : List TextChange) (x : List ℕ) (ts : List Token) (y : List 
   own_moves l.Module a b p q h = all (turns_run h 1 0)
   own_moves l.Script a b p q h = all (turns_run h 1 0)
   -- expressions
-  own_moves l.ImportCall a b p q h = all (call_run h)
+  own_moves l.ImportCall a b p q h = all (call_run kind.Dynamic h)
+  own_moves l.SourceCall a b p q h = all (call_run kind.DynamicSource h)
+  own_moves l.DeferCall a b p q h = all (call_run kind.DynamicDefer h)
   own_moves l.TemplateParts a b p q h = all (two (at_run h 1) (turns_run h 2 1) refl)
   own_moves l.Parenthesized a b p q h = all (at_run h 0)
   own_moves l.ArrayLiteral a b p q h =

@@ -7,6 +7,8 @@ use Rattle.base.specs.declared.range.Range.{Range}
 use Rattle.es_token.specs.declared.token.Token.{Token}
 use Rattle.es_grammar.specs.declared.rows.NodeKind.{NodeKind}
 use Rattle.es_grammar.specs.declared.rows.NodeKind.TheVariants as l
+use Rattle.es_ast.specs.declared.leaf.ImportPhase.{ImportPhase}
+use Rattle.es_ast.specs.declared.leaf.ImportPhase.TheVariants as vPhase
 use Rattle.es_ast.specs.declared.leaf.ImportDecl.{ImportDecl}
 use Rattle.es_ast.specs.declared.leaf.TsImportEqualsDecl.{TsImportEqualsDecl}
 use Rattle.es_ast.specs.declared.ast.Expr.{Expr}
@@ -124,6 +126,14 @@ module _ (names : Whole ModuleDecl-F → Names) (imports : (it : ImportDecl) →
           given_quiet (v.optional v.attributes_at (group p 3)) _ (λ with.
           decl_is _ (ModuleDecl-F.Import _) (imports _) (vModuleDecl.rolls-Import _))))
 
+      phase_quiet : (phase : ImportPhase) → Quiet (d.phase_import x ts phase r p)
+      unfolding d.phase_import
+      phase_quiet phase =
+          given_quiet (texts.ident_at x ts p 0) _ (λ local.
+          given_quiet (texts.str_at x ts p 1) _ (λ src.
+          given_quiet (v.optional v.attributes_at (group p 2)) _ (λ with.
+          decl_is _ (ModuleDecl-F.Import _) (imports _) (vModuleDecl.rolls-Import _))))
+
       require_quiet : (is_export : Bool) → Quiet (d.require_import x ts is_export r p)
       unfolding d.require_import
       require_quiet is_export =
@@ -151,6 +161,8 @@ module _ (names : Whole ModuleDecl-F → Names) (imports : (it : ImportDecl) →
           let e8 = not_rest (same_label label l.ExportDeclaration) _ e7 in
           quiet_if (same_label label l.BareImport) _ _ bare_quiet
           (quiet_if (same_label label l.FromImport) _ _ from_quiet
+          (quiet_if (same_label label l.SourceImport) _ _ (phase_quiet vPhase.Source)
+          (quiet_if (same_label label l.DeferImport) _ _ (phase_quiet vPhase.Defer)
           (quiet_if (same_label label l.RequireImport) _ _ (require_quiet false)
           (quiet_if (same_label label l.EntityImport) _ _ (entity_quiet false)
           (quiet_if (same_label label l.ExportedRequireImport) _ _ (require_quiet true)
@@ -168,7 +180,7 @@ module _ (names : Whole ModuleDecl-F → Names) (imports : (it : ImportDecl) →
           (quiet_skip (same_label label l.ExportDefaultInterface) _ _
           (not_first (same_label label l.ExportDefaultInterface) _ e5)
           (quiet_skip (same_label label l.ExportAssignment) _ _ (not_first (same_label label l.ExportAssignment) _ e8)
-          tt))))))))))))))
+          tt))))))))))))))))
 
     -- what an item adds whose names these are
     abbrev Names_in : ModuleItem → Names

@@ -11,20 +11,20 @@ use Rattle.es_tree.specs.Productions.{Predicate, Predict, test, as_kind, as_ther
 use Rattle.es_tree.specs.Reader.{Out, nothing, gives, and_then, either}
 use Rattle.es_tree.proofs.OutLemmas.{either_false, then_gives}
 use Rattle.es_type_grammar.specs.Words.{only, is_other}
-use Rattle.es_type_grammar.specs.Expressions.{is_product, is_sum, is_equality, is_assignment, joins, opens_shift, no_mix, opens_assignment}
+use Rattle.es_type_grammar.specs.Expressions.{is_product, is_sum, is_equality, is_assignment, joins, no_mix, opens_assignment}
 use Rattle.es_grammar.specs.declared.rows.Context.{Context}
 use Rattle.es_grammar.specs.declared.rows.Row.{Row}
 use Rattle.es_grammar.specs.declared.rows.Row.TheVariants.{AssignmentRow, AndRow, BitOrRow, BitXorRow, BitAndRow, EqualityRow, RelationRow, SumRow, ProductRow, PowerRow}
 use Rattle.es_grammar.specs.declared.rows.NodeKind.{NodeKind}
 use Rattle.es_grammar.specs.declared.rows.NodeKind.TheVariants.{Assignment, Binary, Conditional, TypedBinary}
 use Rattle.es_grammar.specs.Rows.{without_colon}
-use Rattle.es_grammar.specs.Expressions.{level, private_in, comparison_in, asserted_or, opens_comparison}
+use Rattle.es_grammar.specs.Expressions.{level, private_in, comparison_in, tight_in, asserted_or, opens_shift_in, opens_comparison}
 use Rattle.es_predicates.specs.Operators.{is_arithmetic, is_comparing, is_bitwise, is_logical, is_operator}
 use Rattle.es_syntax.specs.declared.entry.Entry.{Entry}
 use Rattle.es_rules.specs.declared.cursor.Cursor.{Cursor}
 use Rattle.es_rules.specs.Bounded.{Read, form_at, wraps_at, rule_at}
 use Rattle.es_rules.specs.Steps.{single, IsRead}
-use Rattle.es_expression_rules.specs.Levels.{arithmetic_over, shift_over, related, relation_over, comparing_over, bitwise_over, coalesce_over, logical_over, conditional_over, assignment_over, operators_over}
+use Rattle.es_expression_rules.specs.Levels.{arithmetic_over, shift_over, related, relation_over, behind_types, comparing_over, bitwise_over, coalesce_over, logical_over, conditional_over, assignment_over, operators_over}
 use Rattle.es_expression_rules.proofs.OperatorLemmas.{no_product, no_sum, no_equality, no_and, no_xor, no_or, no_coalesce, no_both, no_either, no_arithmetic, no_comparing, no_bitwise, no_logical, no_question, no_shift, no_comparison, no_assignment}
 
 -- no turn stands behind an operand
@@ -72,15 +72,15 @@ module _ (keeps : Bool) (K : List Key) (below : Row → ℕ → Out Read) (from 
       level_absent is_sum (ProductRow c) (level is_product (PowerRow c) a) (no_sum (seen K new.at) none)
       (level_absent is_product (PowerRow c) a (no_product (seen K new.at) none) read)
 
-  shift_absent : (c : Context) (a : Production Row NodeKind) → has_kind is_comparing (seen K new.at) ≡ false
-      → IsReadBy a → IsReadBy (shift_over c a)
-  shift_absent c a none read =
-      wrap_absent Binary a (by_predicate opens_shift)
+  shift_absent : (l : Lang) (c : Context) (a : Production Row NodeKind) → has_kind is_comparing (seen K new.at) ≡ false
+      → IsReadBy a → IsReadBy (shift_over l c a)
+  shift_absent l c a none read =
+      wrap_absent Binary a (by_predicate (opens_shift_in l))
       (alt (is k.Greater)
       (tok as_kind (only k.Greater) (tok as_there (only k.Greater)
       (opt (by_predicate (joins k.Greater)) (tok as_there (only k.Greater) done) done)))
       (tok as_kind (only k.LessLess) done) (row (SumRow c) done))
-      (no_shift K new.at none) read
+      (no_shift K new.at l none) read
 
   -- no private name stands first: the other rule is chosen
   pub other_chosen : (p a : Production Row NodeKind) → is k.PrivateName (seen K from) ≡ false
@@ -102,15 +102,22 @@ module _ (keeps : Bool) (K : List Key) (below : Row → ℕ → Out Read) (from 
       wrap_absent Binary a (by_predicate (opens_comparison lang.Es c)) (comparison_in c)
       (no_comparison K new.at lang.Es c none) read
   related_absent lang.Typescript c a none read =
-      wrap_absent TypedBinary a (by_predicate (opens_comparison lang.Typescript c)) (asserted_or (comparison_in c))
+      wrap_absent TypedBinary a (by_predicate (opens_comparison lang.Typescript c)) (asserted_or (tight_in c))
       (no_comparison K new.at lang.Typescript c none) read
+
+  behind_absent : (l : Lang) (c : Context) (a : Production Row NodeKind) → has_kind is_comparing (seen K new.at) ≡ false
+      → IsReadBy a → IsReadBy (behind_types l c a)
+  behind_absent lang.Es c a none read = read
+  behind_absent lang.Typescript c a none read = shift_absent lang.Typescript c a none read
 
   pub comparing_absent : (l : Lang) (c : Context) (a : Production Row NodeKind) → has_kind is_comparing (seen K new.at) ≡ false
       → is k.PrivateName (seen K from) ≡ false → IsReadBy a → IsReadBy (comparing_over l c a)
   comparing_absent l c a none named read =
-      level_absent is_equality (RelationRow c) (relation_over l c (shift_over c a)) (no_equality (seen K new.at) none)
-      (related_absent l c (choose (is k.PrivateName) (private_in c) (shift_over c a)) none
-      (other_chosen (private_in c) (shift_over c a) named (shift_absent c a none read)))
+      level_absent is_equality (RelationRow c) (behind_types l c (relation_over l c (shift_over l c a)))
+      (no_equality (seen K new.at) none)
+      (behind_absent l c (relation_over l c (shift_over l c a)) none
+      (related_absent l c (choose (is k.PrivateName) (private_in c) (shift_over l c a)) none
+      (other_chosen (private_in c) (shift_over l c a) named (shift_absent l c a none read))))
 
   pub bitwise_absent : (c : Context) (a : Production Row NodeKind) → has_kind is_bitwise (seen K new.at) ≡ false
       → IsReadBy a → IsReadBy (bitwise_over c a)

@@ -9,7 +9,7 @@ use Rattle.es_tree.proofs.EachKind.{holds_everywhere, holds_of_each}
 use Rattle.es_type_grammar.specs.Words.{only, is_near}
 use Rattle.es_type_grammar.specs.Expressions.{is_product, is_sum, is_equality, is_relation, is_assignment, opens_greater, opens_right_shift, opens_right_assignment, opens_shift, opens_assignment}
 use Rattle.es_grammar.specs.declared.rows.Context.{Context}
-use Rattle.es_grammar.specs.Expressions.{is_assertion_word, opens_assertion, opens_comparison}
+use Rattle.es_grammar.specs.Expressions.{is_assertion_word, opens_assertion, is_tight, opens_shift_in, opens_comparison}
 use Rattle.es_predicates.specs.Operators.{is_operator_word, is_arithmetic, is_comparing, is_bitwise, is_logical, is_operator}
 
 -- no token of which the narrow test holds fails the wide one
@@ -46,6 +46,10 @@ module _ (x : Option Seen) where
   no_relation : has_kind is_comparing x ≡ false → has_kind is_relation x ≡ false
   unfolding is_comparing is_operator_word is_relation holds_everywhere
   no_relation = covered (has_kind is_comparing) (has_kind is_relation) refl x
+
+  no_tight : has_kind is_comparing x ≡ false → has_kind is_tight x ≡ false
+  unfolding is_comparing is_operator_word is_tight is_relation is_sum is_product holds_everywhere
+  no_tight = covered (has_kind is_comparing) (has_kind is_tight) refl x
 
   no_word : has_kind is_comparing x ≡ false → has_kind is_assertion_word x ≡ false
   unfolding is_comparing is_operator_word is_assertion_word holds_everywhere
@@ -110,9 +114,14 @@ and_false true = refl
 and_false false = refl
 
 module _ (K : List Key) (at : ℕ) where
-  pub no_shift : has_kind is_comparing (seen K at) ≡ false → opens_shift K at ≡ false
+  plain_shift : has_kind is_comparing (seen K at) ≡ false → opens_shift K at ≡ false
   unfolding opens_shift opens_right_shift
-  no_shift none = rw (no_left (seen K at) none, no_greater (seen K at) none) refl
+  plain_shift none = rw (no_left (seen K at) none, no_greater (seen K at) none) refl
+
+  pub no_shift : (l : Lang) → has_kind is_comparing (seen K at) ≡ false → opens_shift_in l K at ≡ false
+  unfolding opens_shift_in
+  no_shift lang.Es none = plain_shift none
+  no_shift lang.Typescript none = rw (plain_shift none) refl
 
   pub no_comparison : (l : Lang) (c : Context) → has_kind is_comparing (seen K at) ≡ false
       → opens_comparison l c K at ≡ false
@@ -121,7 +130,7 @@ module _ (K : List Key) (at : ℕ) where
   no_comparison lang.Typescript c none =
       rw (
         no_greater (seen K at) none,
-        no_relation (seen K at) none,
+        no_tight (seen K at) none,
         no_word (seen K at) none,
         and_false (is_near (seen K at)),
       ) refl

@@ -15,7 +15,7 @@ use Rattle.es_grammar.specs.declared.rows.Row.{Row}
 use Rattle.es_grammar.specs.declared.rows.NodeKind.{NodeKind}
 use Rattle.es_grammar.specs.declared.rows.Row.TheVariants.{AndRow, BitOrRow, BitXorRow, BitAndRow, EqualityRow, RelationRow}
 use Rattle.es_grammar.specs.declared.rows.NodeKind.TheVariants.{Binary, TypedBinary}
-use Rattle.es_grammar.specs.Expressions.{level, power, product, sum, shift, relation, equality, bit_and, bit_xor, bit_or, and_, coalesce, binary, conditional, comparison_in, asserted_or, opens_comparison}
+use Rattle.es_grammar.specs.Expressions.{level, power, product, sum, shifted, shift, relation, equality, bit_and, bit_xor, bit_or, and_, coalesce, binary, conditional, comparison_in, tight_in, asserted_or, opens_comparison}
 use Rattle.es_syntax.specs.declared.entry.Entry.{Entry}
 use Rattle.es_syntax.specs.Forest.{entries_of, Keeps}
 use Rattle.es_syntax.proofs.Forests.{keeps_all, keeps_before}
@@ -23,25 +23,25 @@ use Rattle.es_rules.specs.declared.cursor.Cursor.{Cursor}
 use Rattle.es_rules.specs.declared.cursor.Place.{Place}
 use Rattle.es_rules.specs.Bounded.{Read, rule_at}
 use Rattle.es_rules.specs.Steps.{IsRead}
-use Rattle.es_expression_rules.specs.Levels.{arithmetic_over, shift_over, related, relation_over, comparing_over, bitwise_over, coalesce_over, logical_over, conditional_over, assignment_over, operators_over}
+use Rattle.es_expression_rules.specs.Levels.{arithmetic_over, shift_over, related, relation_over, behind_types, comparing_over, bitwise_over, coalesce_over, logical_over, conditional_over, assignment_over, operators_over}
 
 module _ (l : Lang) (c : Context) where
   pub sum_same : arithmetic_over c (power l c) ≡ sum l c
   unfolding sum product
   sum_same = refl
 
-  pub shift_same : shift_over c (arithmetic_over c (power l c)) ≡ shift l c
-  unfolding shift sum product
+  pub shift_same : shift_over l c (arithmetic_over c (power l c)) ≡ shift l c
+  unfolding shift shifted sum product
   shift_same = refl
 
-relation_shift : (l : Lang) (c : Context) → relation_over l c (shift l c) ≡ relation l c
-unfolding relation
+relation_shift : (l : Lang) (c : Context) → behind_types l c (relation_over l c (shift l c)) ≡ relation l c
+unfolding relation shifted
 relation_shift lang.Es c = refl
 relation_shift lang.Typescript c = refl
 
 module _ (l : Lang) (c : Context) where
-  pub relation_same : relation_over l c (shift_over c (arithmetic_over c (power l c))) ≡ relation l c
-  unfolding shift sum product
+  pub relation_same : behind_types l c (relation_over l c (shift_over l c (arithmetic_over c (power l c)))) ≡ relation l c
+  unfolding shift shifted sum product
   relation_same = relation_shift l c
 
   pub equality_same : comparing_over l c (arithmetic_over c (power l c)) ≡ equality l c
@@ -66,6 +66,16 @@ module _ (l : Lang) (c : Context) where
   unfolding conditional binary and_ coalesce
   conditional_same = ap (λ a. assignment_over c (conditional_over l c (logical_over c a))) bit_or_same
 
+-- what stands behind a type, in a language that is known
+module _ (c : Context) (a : Production Row NodeKind) where
+  pub behind_plain : (l : Lang) → l ≡ lang.Es → a ≡ behind_types l c a
+  behind_plain lang.Es e = refl
+  behind_plain lang.Typescript e = absurd (let bad : ⊥ = cc in bad)
+
+  pub behind_typed : (l : Lang) → l ≡ lang.Typescript → shift_over l c a ≡ behind_types l c a
+  behind_typed lang.Es e = absurd (let bad : ⊥ = cc in bad)
+  behind_typed lang.Typescript e = refl
+
 -- a comparison, in a language that is known
 module _ (c : Context) (a : Production Row NodeKind) where
   pub related_plain : (l : Lang) → l ≡ lang.Es
@@ -74,7 +84,7 @@ module _ (c : Context) (a : Production Row NodeKind) where
   related_plain lang.Typescript e = absurd (let bad : ⊥ = cc in bad)
 
   pub related_typed : (l : Lang) → l ≡ lang.Typescript
-      → wrap TypedBinary a (by_predicate (opens_comparison l c)) (asserted_or (comparison_in c)) ≡ related l c a
+      → wrap TypedBinary a (by_predicate (opens_comparison l c)) (asserted_or (tight_in c)) ≡ related l c a
   related_typed lang.Es e = absurd (let bad : ⊥ = cc in bad)
   related_typed lang.Typescript e = refl
 

@@ -12,13 +12,13 @@ use Rattle.es_grammar.specs.declared.rows.NodeKind.{NodeKind}
 use Rattle.es_grammar.specs.declared.rows.NodeKind.TheVariants.{New, NewTarget, PatternAssignment, TypedNew, UpdatePrefix}
 use Rattle.es_grammar.specs.Rows.{outside}
 use Rattle.es_grammar.specs.Embedding.{label_by, typed_in}
-use Rattle.es_grammar.specs.Expressions.{call_arguments_in, opens_async_here, async_arrow, plain_arrow}
+use Rattle.es_grammar.specs.Expressions.{new_arguments_in, opens_async_here, async_arrow, plain_arrow}
 
 -- 'new' '.' 'target' | 'new' Chain1 (TS TArgs)? Args?
 abbrev pub new_base : Lang → Context → Production Row NodeKind
 new_base l c =
     pick opens_property (make NewTarget (punct k.NewWord (punct k.Dot (punct k.TargetWord done))))
-    (make (label_by l New TypedNew) (punct k.NewWord (row (CalleeRow c) (typed_in l call_arguments_in
+    (make (label_by l New TypedNew) (punct k.NewWord (row (CalleeRow c) (typed_in l new_arguments_in
     (opt (greedy (is k.OpenParen)) (row (ArgumentsRow c) done) done)))))
 
 -- ('++' | '--') Unary

@@ -5,14 +5,14 @@ use Rattle.es_tree.specs.declared.error.Lang.TheVariants as lang
 use Rattle.es_tree.specs.Key.{seen, is}
 use Rattle.es_tree.specs.Productions.{as_kind, as_there, greedy, by_predicate, done, tok, punct, row, opt, alt, when_, Production, choose, wrap}
 use Rattle.es_type_grammar.specs.Words.{only, is_other}
-use Rattle.es_type_grammar.specs.Expressions.{is_product, is_sum, is_equality, is_assignment, joins, opens_shift, no_mix, opens_assignment}
+use Rattle.es_type_grammar.specs.Expressions.{is_product, is_sum, is_equality, is_assignment, joins, no_mix, opens_assignment}
 use Rattle.es_grammar.specs.declared.rows.Context.{Context}
 use Rattle.es_grammar.specs.declared.rows.Row.{Row}
 use Rattle.es_grammar.specs.declared.rows.Row.TheVariants.{AssignmentRow, AndRow, BitOrRow, BitXorRow, BitAndRow, EqualityRow, RelationRow, SumRow, ProductRow, PowerRow}
 use Rattle.es_grammar.specs.declared.rows.NodeKind.{NodeKind}
 use Rattle.es_grammar.specs.declared.rows.NodeKind.TheVariants.{Assignment, Binary, Conditional, TypedBinary}
 use Rattle.es_grammar.specs.Rows.{without_colon}
-use Rattle.es_grammar.specs.Expressions.{level, private_in, comparison_in, asserted_or, opens_comparison}
+use Rattle.es_grammar.specs.Expressions.{level, private_in, comparison_in, tight_in, asserted_or, opens_shift_in, opens_comparison}
 
 abbrev Rules : Type 0
 Rules = Production Row NodeKind
@@ -20,9 +20,9 @@ Rules = Production Row NodeKind
 abbrev pub arithmetic_over : Context → Rules → Rules
 arithmetic_over c a = level is_sum (ProductRow c) (level is_product (PowerRow c) a)
 
-abbrev pub shift_over : Context → Rules → Rules
-shift_over c a =
-    wrap Binary a (by_predicate opens_shift)
+abbrev pub shift_over : Lang → Context → Rules → Rules
+shift_over l c a =
+    wrap Binary a (by_predicate (opens_shift_in l))
     (alt (is k.Greater)
     (tok as_kind (only k.Greater) (tok as_there (only k.Greater)
     (opt (by_predicate (joins k.Greater)) (tok as_there (only k.Greater) done) done)))
@@ -31,13 +31,18 @@ shift_over c a =
 -- a comparison, with this rule in the place of its first operand
 abbrev pub related : Lang → Context → Rules → Rules
 related lang.Es c a = wrap Binary a (by_predicate (opens_comparison lang.Es c)) (comparison_in c)
-related lang.Typescript c a = wrap TypedBinary a (by_predicate (opens_comparison lang.Typescript c)) (asserted_or (comparison_in c))
+related lang.Typescript c a = wrap TypedBinary a (by_predicate (opens_comparison lang.Typescript c)) (asserted_or (tight_in c))
 
 abbrev pub relation_over : Lang → Context → Rules → Rules
 relation_over l c a = related l c (choose (is k.PrivateName) (private_in c) a)
 
+-- in TypeScript shifts behind a type
+abbrev pub behind_types : Lang → Context → Rules → Rules
+behind_types lang.Es c a = a
+behind_types lang.Typescript c a = shift_over lang.Typescript c a
+
 abbrev pub comparing_over : Lang → Context → Rules → Rules
-comparing_over l c a = level is_equality (RelationRow c) (relation_over l c (shift_over c a))
+comparing_over l c a = level is_equality (RelationRow c) (behind_types l c (relation_over l c (shift_over l c a)))
 
 abbrev pub bitwise_over : Context → Rules → Rules
 bitwise_over c a =

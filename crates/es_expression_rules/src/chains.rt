@@ -2,7 +2,7 @@
 
 ghost use Rattle.es_tree.specs.declared.error.Lang.TheVariants as lang;
 ghost use Rattle.es_expression_rules.specs.Bases.{new_base};
-ghost use Rattle.es_grammar.specs.Expressions.{import_call, import_meta, base, arguments, plain_member_post, non_null_post, member_post, optional_post, post, chain, callee};
+ghost use Rattle.es_grammar.specs.Expressions.{import_call, source_call, defer_call, import_meta, import_base, imported, base, arguments, plain_member_post, non_null_post, member_post, optional_post, post, chain, callee, import_arguments};
 
 use crate::operand::Operand;
 use crate::primary::Primary;
@@ -11,11 +11,49 @@ use es_predicates::Lookahead::{Is, Other};
 use es_predicates::{Kinds, Lookahead, Predicate};
 use es_rules::{
     Alt, ByLookahead, ByPredicate, Choose, Cursor, Done, Grammar, Greedy, Holds, LeafKind, Make,
-    MakeBy, Many, OfRow, Opt, Pick, Punct, ReadsProduction, Rows, Tok, When, Where,
+    MakeBy, Many, OfRow, Opt, Pick, Punct, ReadsProduction, ReadsRhs, Rows, Tok, When, Where,
 };
-use es_shared_rules::{CallArgumentsIn, TypeArgumentsIn};
+use es_shared_rules::{NewArgumentsIn, TypeArgumentsIn};
 use es_token::TokenKind;
 use es_tree::{Lang, SyntaxError};
+
+/// '(' Assign (',' Assign)? ','? ')'
+#[derive(Clone, Copy)]
+pub struct ImportArguments(pub Context);
+
+impl ReadsRhs<Row> for ImportArguments {
+    ghost form = { λ s. import_arguments s.0 };
+
+    #[tactic(auto, unfolding(es_grammar::specs::Expressions::import_arguments))]
+    fn read<T: Rows<Row>>(
+        &self,
+        grammar: &Grammar<'_, T>,
+        cursor: &mut Cursor,
+    ) -> Result<usize, SyntaxError> {
+        let outside = Context {
+            no_in: false,
+            no_colon: false,
+            in_constructor: false,
+            ..self.0
+        };
+        Punct(
+            TokenKind::OpenParen,
+            OfRow(
+                Row::AssignmentRow(outside),
+                Opt(
+                    ByPredicate(Predicate::HasArgument),
+                    Punct(TokenKind::Comma, OfRow(Row::AssignmentRow(outside), Done)),
+                    Opt(
+                        Greedy(Is(TokenKind::Comma)),
+                        Punct(TokenKind::Comma, Done),
+                        Punct(TokenKind::CloseParen, Done),
+                    ),
+                ),
+            ),
+        )
+        .read(grammar, cursor)
+    }
+}
 
 /// 'import' '(' Assign (',' Assign)? ','? ')'
 #[derive(Clone, Copy)]
@@ -30,30 +68,61 @@ impl ReadsProduction<Row> for ImportCall {
         grammar: &Grammar<'_, T>,
         cursor: &mut Cursor,
     ) -> Result<usize, SyntaxError> {
-        let outside = Context {
-            no_in: false,
-            no_colon: false,
-            in_constructor: false,
-            ..self.0
-        };
         Make(
             NodeKind::ImportCall,
+            Punct(TokenKind::ImportWord, ImportArguments(self.0)),
+        )
+        .read(grammar, cursor)
+    }
+}
+
+/// 'import' '.' 'source' '(' Assign (',' Assign)? ','? ')'
+#[derive(Clone, Copy)]
+pub struct SourceCall(pub Context);
+
+impl ReadsProduction<Row> for SourceCall {
+    ghost rule = { λ s. source_call s.0 };
+
+    #[tactic(auto, unfolding(es_grammar::specs::Expressions::source_call))]
+    fn read<T: Rows<Row>>(
+        &self,
+        grammar: &Grammar<'_, T>,
+        cursor: &mut Cursor,
+    ) -> Result<usize, SyntaxError> {
+        Make(
+            NodeKind::SourceCall,
             Punct(
                 TokenKind::ImportWord,
                 Punct(
-                    TokenKind::OpenParen,
-                    OfRow(
-                        Row::AssignmentRow(outside),
-                        Opt(
-                            ByPredicate(Predicate::HasArgument),
-                            Punct(TokenKind::Comma, OfRow(Row::AssignmentRow(outside), Done)),
-                            Opt(
-                                Greedy(Is(TokenKind::Comma)),
-                                Punct(TokenKind::Comma, Done),
-                                Punct(TokenKind::CloseParen, Done),
-                            ),
-                        ),
-                    ),
+                    TokenKind::Dot,
+                    Punct(TokenKind::SourceWord, ImportArguments(self.0)),
+                ),
+            ),
+        )
+        .read(grammar, cursor)
+    }
+}
+
+/// 'import' '.' 'defer' '(' Assign (',' Assign)? ','? ')'
+#[derive(Clone, Copy)]
+pub struct DeferCall(pub Context);
+
+impl ReadsProduction<Row> for DeferCall {
+    ghost rule = { λ s. defer_call s.0 };
+
+    #[tactic(auto, unfolding(es_grammar::specs::Expressions::defer_call))]
+    fn read<T: Rows<Row>>(
+        &self,
+        grammar: &Grammar<'_, T>,
+        cursor: &mut Cursor,
+    ) -> Result<usize, SyntaxError> {
+        Make(
+            NodeKind::DeferCall,
+            Punct(
+                TokenKind::ImportWord,
+                Punct(
+                    TokenKind::Dot,
+                    Punct(TokenKind::DeferWord, ImportArguments(self.0)),
                 ),
             ),
         )
@@ -88,6 +157,57 @@ impl ReadsProduction<Row> for ImportMeta {
     }
 }
 
+/// 'import' '(' .. ')' | 'import' '.' ('source' | 'defer') '(' .. ')' | 'import' '.' 'meta'
+#[derive(Clone, Copy)]
+pub struct ImportBase(pub Context);
+
+impl ReadsProduction<Row> for ImportBase {
+    ghost rule = { λ s. import_base s.0 };
+
+    #[tactic(auto, unfolding(es_grammar::specs::Expressions::import_base))]
+    fn read<T: Rows<Row>>(
+        &self,
+        grammar: &Grammar<'_, T>,
+        cursor: &mut Cursor,
+    ) -> Result<usize, SyntaxError> {
+        Pick(
+            Predicate::OpensSourceCall,
+            SourceCall(self.0),
+            Pick(
+                Predicate::OpensDeferCall,
+                DeferCall(self.0),
+                Pick(
+                    Predicate::OpensProperty,
+                    ImportMeta(self.0),
+                    ImportCall(self.0),
+                ),
+            ),
+        )
+        .read(grammar, cursor)
+    }
+}
+
+/// 'import' '.' 'meta', and where it may be called (true) import calls.
+#[derive(Clone, Copy)]
+pub struct Imported(pub bool, pub Context);
+
+impl ReadsProduction<Row> for Imported {
+    ghost rule = { λ s. imported s.0 s.1 };
+
+    #[tactic(auto, unfolding(es_grammar::specs::Expressions::imported))]
+    fn read<T: Rows<Row>>(
+        &self,
+        grammar: &Grammar<'_, T>,
+        cursor: &mut Cursor,
+    ) -> Result<usize, SyntaxError> {
+        if self.0 {
+            ImportBase(self.1).read(grammar, cursor)
+        } else {
+            ImportMeta(self.1).read(grammar, cursor)
+        }
+    }
+}
+
 /// 'new' '.' 'target' | 'new' Chain1 (TS TArgs)? Args?
 #[derive(Clone, Copy)]
 struct NewBase(Lang, Context);
@@ -117,7 +237,7 @@ impl ReadsProduction<Row> for NewBase {
                     TokenKind::NewWord,
                     OfRow(
                         Row::CalleeRow(self.1),
-                        CallArgumentsIn(
+                        NewArgumentsIn(
                             self.0,
                             Opt(
                                 Greedy(Is(TokenKind::OpenParen)),
@@ -133,12 +253,12 @@ impl ReadsProduction<Row> for NewBase {
     }
 }
 
-/// Base: Prim | 'super' | 'import' .. | 'new' .., without the parts behind it.
+/// Base: Prim | 'super' | 'import' .. | 'new' .., without the parts behind it; behind `new` (false) without the import call.
 #[derive(Clone, Copy)]
-pub struct Base(pub Lang, pub Context);
+pub struct Base(pub Lang, pub bool, pub Context);
 
 impl ReadsProduction<Row> for Base {
-    ghost rule = { λ s. base s.0 s.1 };
+    ghost rule = { λ s. base s.0 s.1 s.2 };
 
     #[tactic(auto, unfolding(es_grammar::specs::Expressions::base))]
     fn read<T: Rows<Row>>(
@@ -159,17 +279,12 @@ impl ReadsProduction<Row> for Base {
             .read(grammar, cursor);
         }
         if tokens.sees(TokenKind::ImportWord, cursor.at) {
-            return Pick(
-                Predicate::OpensProperty,
-                ImportMeta(self.1),
-                ImportCall(self.1),
-            )
-            .read(grammar, cursor);
+            return Imported(self.1, self.2).read(grammar, cursor);
         }
         if tokens.sees(TokenKind::NewWord, cursor.at) {
-            return NewBase(self.0, self.1).read(grammar, cursor);
+            return NewBase(self.0, self.2).read(grammar, cursor);
         }
-        Primary(self.0, self.1).read(grammar, cursor)
+        Primary(self.0, self.2).read(grammar, cursor)
     }
 }
 
@@ -463,7 +578,7 @@ impl ReadsProduction<Row> for Chain {
                 let told = Greedy(Lookahead::BeginsPost);
                 Operand(
                     NodeKind::Chain,
-                    Base(Lang::Es, self.1),
+                    Base(Lang::Es, true, self.1),
                     told,
                     OfRow(
                         Row::PostRow(self.1),
@@ -476,7 +591,7 @@ impl ReadsProduction<Row> for Chain {
                 let told = ByPredicate(Predicate::OpensPost);
                 Operand(
                     NodeKind::Chain,
-                    Base(Lang::Typescript, self.1),
+                    Base(Lang::Typescript, true, self.1),
                     told,
                     OfRow(
                         Row::PostRow(self.1),
@@ -504,7 +619,7 @@ impl ReadsProduction<Row> for Callee {
     ) -> Result<usize, SyntaxError> {
         Operand(
             NodeKind::Chain,
-            Base(self.0, self.1),
+            Base(self.0, false, self.1),
             Greedy(Lookahead::BeginsCalleePost(self.0)),
             OfRow(
                 Row::MemberPostRow(self.1),

@@ -4,9 +4,9 @@
 
 ghost use Rattle.es_grammar.specs.Expressions.{level, private_in};
 ghost use Rattle.es_predicates.specs.Named.{kinds_of};
-ghost use Rattle.es_expression_rules.specs.Levels.{arithmetic_over, shift_over, related, relation_over, comparing_over, bitwise_over, coalesce_over, logical_over, conditional_over, assignment_over, operators_over};
+ghost use Rattle.es_expression_rules.specs.Levels.{arithmetic_over, shift_over, related, relation_over, behind_types, comparing_over, bitwise_over, coalesce_over, logical_over, conditional_over, assignment_over, operators_over};
 
-use crate::operators::{ComparisonIn, PrivateIn};
+use crate::operators::{ComparisonIn, PrivateIn, TightIn};
 use es_grammar::{Context, NodeKind, Row};
 use es_predicates::Lookahead::{Has, Is, Other};
 use es_predicates::{
@@ -71,10 +71,10 @@ impl ReadsBehind<Row> for Arithmetic {
 
 /// ('<<' | '>>' | '>>>') Sum
 #[derive(Clone, Copy)]
-pub struct Shifted(pub Context);
+pub struct Shifted(pub Lang, pub Context);
 
 impl ReadsBehind<Row> for Shifted {
-    ghost over = { λ s a. shift_over s.0 a };
+    ghost over = { λ s a. shift_over s.0 s.1 a };
 
     fn read<T: Rows<Row>>(
         &self,
@@ -85,7 +85,7 @@ impl ReadsBehind<Row> for Shifted {
     ) -> Result<usize, SyntaxError> {
         Turns(
             NodeKind::Binary,
-            ByPredicate(Predicate::OpensShift),
+            ByPredicate(Predicate::OpensShiftIn(self.0)),
             Alt(
                 Is(TokenKind::Greater),
                 Tok(
@@ -102,14 +102,14 @@ impl ReadsBehind<Row> for Shifted {
                     ),
                 ),
                 Tok(LeafKind::Kind, Kinds::Only(TokenKind::LessLess), Done),
-                OfRow(Row::SumRow(self.0), Done),
+                OfRow(Row::SumRow(self.1), Done),
             ),
         )
         .read(from, operand, grammar, cursor)
     }
 }
 
-/// ('<' | '<=' | '>' | '>=' | 'instanceof' | 'in') Shift
+/// ('<' | '<=' | '>' | '>=' | 'instanceof' | 'in') Shift, in TypeScript also `as` and `satisfies`, and tighter operators
 #[derive(Clone, Copy)]
 pub struct Compared(pub Lang, pub Context);
 
@@ -131,9 +131,8 @@ impl ReadsBehind<Row> for Compared {
             Lang::Typescript => Turns(
                 NodeKind::TypedBinary,
                 told,
-                AssertedOr(ComparisonIn(self.1)),
-            )
-            .read(from, operand, grammar, cursor),
+                AssertedOr(TightIn(self.1)),
+            ).read(from, operand, grammar, cursor),
         }
     }
 }
@@ -183,6 +182,27 @@ impl ReadsBehind<Row> for Related {
     }
 }
 
+/// Shifts behind a type of TypeScript.
+#[derive(Clone, Copy)]
+pub struct BehindTypes(pub Lang, pub Context);
+
+impl ReadsBehind<Row> for BehindTypes {
+    ghost over = { λ s a. behind_types s.0 s.1 a };
+
+    fn read<T: Rows<Row>>(
+        &self,
+        from: Place,
+        operand: Result<usize, SyntaxError>,
+        grammar: &Grammar<'_, T>,
+        cursor: &mut Cursor,
+    ) -> Result<usize, SyntaxError> {
+        match self.0 {
+            Lang::Es => operand,
+            Lang::Typescript => Shifted(self.0, self.1).read(from, operand, grammar, cursor),
+        }
+    }
+}
+
 /// Shifts, relations, ('==' | '!=' | '===' | '!==') Relation
 #[derive(Clone, Copy)]
 pub struct Comparing(pub Lang, pub Context);
@@ -204,7 +224,10 @@ impl ReadsBehind<Row> for Comparing {
             return operand;
         }
         Both(
-            Both(Shifted(self.1), Related(self.0, self.1)),
+            Both(
+                Both(Shifted(self.0, self.1), Related(self.0, self.1)),
+                BehindTypes(self.0, self.1),
+            ),
             LevelBehind(Kinds::Equality, Row::RelationRow(self.1)),
         )
         .read(from, operand, grammar, cursor)

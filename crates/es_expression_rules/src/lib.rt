@@ -12,12 +12,13 @@ mod targets;
 
 pub use arrows::{ArrowIn, AsyncArrow, PlainArrow};
 pub use chains::{
-    Arguments, Base, Callee, Chain, ImportCall, ImportMeta, MemberPost, OptionalPost, Post,
+    Arguments, Base, Callee, Chain, DeferCall, ImportArguments, ImportBase, ImportCall, ImportMeta,
+    MemberPost, OptionalPost, Post, SourceCall,
 };
 pub use expressions::{Assignment, Element, Expression, Operated, Yield};
 pub use operators::{
     And, Await, BitAnd, BitOr, BitXor, Equality, Level, Power, Prefix, PrivateIn, Product,
-    Relation, Shift, Sum, Unary, Update,
+    Relation, RightOperand, Shift, Sum, Unary, Update,
 };
 pub use primary::{ArrayLiteral, ObjectLiteral, Primary, Spread, Template};
-pub use targets::{Head, InnerPattern, PatternElement, Target};
+pub use targets::{Head, HeadPattern, InnerPattern, PatternElement, Target};

@@ -1,18 +1,18 @@
 //! Operators, from the tightest to the loosest.
 
 ghost use Rattle.es_expression_rules.specs.Bases.{update_prefix};
-ghost use Rattle.es_grammar.specs.Expressions.{level, private_in, update, prefix, await_, unary, power, product, sum, shift, comparison_in, relation, equality, bit_and, bit_xor, bit_or, and_};
+ghost use Rattle.es_grammar.specs.Expressions.{level, private_in, update, prefix, await_, unary, no_power, power, product, sum, shift, comparison_in, right_operand, tight_in, relation, equality, bit_and, bit_xor, bit_or, and_};
 ghost use Rattle.es_predicates.specs.Named.{kinds_of};
 
 use crate::chains::Chain;
-use crate::levels::{Arithmetic, Bitwise, Comparing, LevelBehind, Related, Shifted};
+use crate::levels::{Arithmetic, BehindTypes, Bitwise, Comparing, LevelBehind, Related, Shifted};
 use crate::operand::Operand;
 use es_grammar::{Context, NodeKind, Row};
 use es_predicates::Lookahead::{Has, Is, Other};
 use es_predicates::{Kinds, Lookahead, Predicate};
 use es_rules::{
     Alt, Both, ByPredicate, Cursor, Done, Grammar, Greedy, IsOfKinds, LeafKind, Make, OfRow, Opt,
-    Punct, ReadsBehind, ReadsProduction, ReadsRhs, Rows, Tok, When, Where, Wrap,
+    Pick, Punct, ReadsBehind, ReadsProduction, ReadsRhs, Rows, Tok, When, Where, Wrap,
 };
 use es_token::TokenKind;
 use es_tree::{Lang, SyntaxError};
@@ -75,12 +75,12 @@ impl ReadsProduction<Row> for UpdatePrefix {
     }
 }
 
-/// ('delete' | 'void' | 'typeof' | '+' | '-' | '~' | '!') Unary
+/// ('delete' | 'void' | 'typeof' | '+' | '-' | '~' | '!') Unary, and what stands behind it.
 #[derive(Clone, Copy)]
-pub struct Prefix(pub Context);
+pub struct Prefix<N>(pub Context, pub N);
 
-impl ReadsProduction<Row> for Prefix {
-    ghost rule = { λ s. prefix s.0 };
+impl<N: ReadsRhs<Row> + Copy> ReadsProduction<Row> for Prefix<N> {
+    ghost rule = { λ s. prefix s.0 (N.form s.1) };
 
     #[tactic(auto, unfolding(es_grammar::specs::Expressions::prefix))]
     fn read<T: Rows<Row>>(
@@ -93,19 +93,19 @@ impl ReadsProduction<Row> for Prefix {
             Tok(
                 LeafKind::Kind,
                 Kinds::Prefix,
-                OfRow(Row::UnaryRow(self.0), Done),
+                OfRow(Row::UnaryRow(self.0), self.1),
             ),
         )
         .read(grammar, cursor)
     }
 }
 
-/// 'await' Unary, in modules and in async functions.
+/// 'await' Unary, in modules and in async functions, and what stands behind it.
 #[derive(Clone, Copy)]
-pub struct Await(pub Context);
+pub struct Await<N>(pub Context, pub N);
 
-impl ReadsProduction<Row> for Await {
-    ghost rule = { λ s. await_ s.0 };
+impl<N: ReadsRhs<Row> + Copy> ReadsProduction<Row> for Await<N> {
+    ghost rule = { λ s. await_ s.0 (N.form s.1) };
 
     #[tactic(auto, unfolding(es_grammar::specs::Expressions::await_))]
     fn read<T: Rows<Row>>(
@@ -117,7 +117,7 @@ impl ReadsProduction<Row> for Await {
             NodeKind::AwaitExpression,
             Where(
                 Predicate::MayAwait(self.0),
-                Punct(TokenKind::AwaitWord, OfRow(Row::UnaryRow(self.0), Done)),
+                Punct(TokenKind::AwaitWord, OfRow(Row::UnaryRow(self.0), self.1)),
             ),
         )
         .read(grammar, cursor)
@@ -139,12 +139,32 @@ impl ReadsProduction<Row> for Unary {
     ) -> Result<usize, SyntaxError> {
         let tokens = grammar.input.tokens;
         if Kinds::Prefix.is_there(&tokens, cursor.at) {
-            return Prefix(self.1).read(grammar, cursor);
+            return Prefix(self.1, Done).read(grammar, cursor);
         }
         if tokens.sees(TokenKind::AwaitWord, cursor.at) {
-            return Await(self.1).read(grammar, cursor);
+            return Await(self.1, Done).read(grammar, cursor);
         }
         Update(self.0, self.1).read(grammar, cursor)
+    }
+}
+
+/// In TypeScript no `**` stands here.
+#[derive(Clone, Copy)]
+pub struct NoPower(pub Lang);
+
+impl ReadsRhs<Row> for NoPower {
+    ghost form = { λ s. no_power s.0 };
+
+    #[tactic(auto, unfolding(es_grammar::specs::Expressions::no_power))]
+    fn read<T: Rows<Row>>(
+        &self,
+        grammar: &Grammar<'_, T>,
+        cursor: &mut Cursor,
+    ) -> Result<usize, SyntaxError> {
+        match self.0 {
+            Lang::Es => Done.read(grammar, cursor),
+            Lang::Typescript => When(Other(TokenKind::StarStar), Done).read(grammar, cursor),
+        }
     }
 }
 
@@ -163,10 +183,10 @@ impl ReadsProduction<Row> for Power {
     ) -> Result<usize, SyntaxError> {
         let tokens = grammar.input.tokens;
         if Kinds::Prefix.is_there(&tokens, cursor.at) {
-            return Prefix(self.1).read(grammar, cursor);
+            return Prefix(self.1, NoPower(self.0)).read(grammar, cursor);
         }
         if tokens.sees(TokenKind::AwaitWord, cursor.at) {
-            return Await(self.1).read(grammar, cursor);
+            return Await(self.1, NoPower(self.0)).read(grammar, cursor);
         }
         Operand(
             NodeKind::Binary,
@@ -259,7 +279,7 @@ impl ReadsProduction<Row> for Shift {
     ) -> Result<usize, SyntaxError> {
         let from = cursor.here();
         let operand = Power(self.0, self.1).read(grammar, cursor);
-        Both(Arithmetic(self.1), Shifted(self.1)).read(from, operand, grammar, cursor)
+        Both(Arithmetic(self.1), Shifted(self.0, self.1)).read(from, operand, grammar, cursor)
     }
 }
 
@@ -307,8 +327,11 @@ impl ReadsProduction<Row> for Relation {
         let from = cursor.here();
         let operand = Power(self.0, self.1).read(grammar, cursor);
         Both(
-            Both(Arithmetic(self.1), Shifted(self.1)),
-            Related(self.0, self.1),
+            Both(
+                Both(Arithmetic(self.1), Shifted(self.0, self.1)),
+                Related(self.0, self.1),
+            ),
+            BehindTypes(self.0, self.1),
         )
         .read(from, operand, grammar, cursor)
     }
@@ -340,6 +363,67 @@ impl ReadsRhs<Row> for ComparisonIn {
             ),
             Tok(LeafKind::Kind, Kinds::Relation, Done),
             OfRow(Row::ShiftRow(self.0), Done),
+        )
+        .read(grammar, cursor)
+    }
+}
+
+/// The right operand of an operator of the level of `<` or tighter, by the operator before it.
+#[derive(Clone, Copy)]
+pub struct RightOperand(pub Lang, pub Context);
+
+impl ReadsProduction<Row> for RightOperand {
+    ghost rule = { λ s. right_operand s.0 s.1 };
+
+    #[tactic(auto, unfolding(es_grammar::specs::Expressions::right_operand))]
+    fn read<T: Rows<Row>>(
+        &self,
+        grammar: &Grammar<'_, T>,
+        cursor: &mut Cursor,
+    ) -> Result<usize, SyntaxError> {
+        Pick(
+            Predicate::ComesBehind(Kinds::Tightest),
+            Power(self.0, self.1),
+            Pick(
+                Predicate::ComesBehind(Kinds::Sum),
+                Product(self.0, self.1),
+                Pick(
+                    Predicate::ComesBehind(Kinds::Only(TokenKind::LessLess)),
+                    Sum(self.0, self.1),
+                    Shift(self.0, self.1),
+                ),
+            ),
+        )
+        .read(grammar, cursor)
+    }
+}
+
+/// An operator of the level of `<` or tighter, and its operand.
+#[derive(Clone, Copy)]
+pub struct TightIn(pub Context);
+
+impl ReadsRhs<Row> for TightIn {
+    ghost form = { λ s. tight_in s.0 };
+
+    #[tactic(auto, unfolding(es_grammar::specs::Expressions::tight_in))]
+    fn read<T: Rows<Row>>(
+        &self,
+        grammar: &Grammar<'_, T>,
+        cursor: &mut Cursor,
+    ) -> Result<usize, SyntaxError> {
+        Alt(
+            Is(TokenKind::Greater),
+            Tok(
+                LeafKind::Kind,
+                Kinds::Only(TokenKind::Greater),
+                Opt(
+                    ByPredicate(Predicate::Joins(TokenKind::Equal)),
+                    Tok(LeafKind::There, Kinds::Only(TokenKind::Equal), Done),
+                    Done,
+                ),
+            ),
+            Tok(LeafKind::Kind, Kinds::Tight, Done),
+            OfRow(Row::RightRow(self.0), Done),
         )
         .read(grammar, cursor)
     }

@@ -2,7 +2,7 @@
 
 ghost use Rattle.es_grammar.specs.Expressions.{no_form};
 ghost use Rattle.es_grammar.specs.Functions.{target, inner_pattern, pattern_element};
-ghost use Rattle.es_grammar.specs.Statements.{head};
+ghost use Rattle.es_grammar.specs.Statements.{head_pattern, head_pattern_in, head};
 
 use crate::chains::Chain;
 use es_grammar::{Context, NodeKind, Row};
@@ -133,6 +133,69 @@ impl ReadsProduction<Row> for PatternElement {
     }
 }
 
+/// Pat, or in scripts behind 'var': Name '=' Assign, before `in`
+#[derive(Clone, Copy)]
+pub struct HeadPattern(pub Lang, pub Context);
+
+impl ReadsProduction<Row> for HeadPattern {
+    ghost rule = { λ s. head_pattern s.0 s.1 };
+
+    #[tactic(auto, unfolding(es_grammar::specs::Statements::head_pattern))]
+    fn read<T: Rows<Row>>(
+        &self,
+        grammar: &Grammar<'_, T>,
+        cursor: &mut Cursor,
+    ) -> Result<usize, SyntaxError> {
+        let in_head = Context {
+            no_in: true,
+            in_constructor: false,
+            ..self.1
+        };
+        Pick(
+            Predicate::OpensInitial(self.1),
+            Make(
+                NodeKind::DefaultPattern,
+                OfRow(
+                    Row::PatternRow(false, self.1),
+                    Punct(
+                        TokenKind::Equal,
+                        OfRow(
+                            Row::AssignmentRow(in_head),
+                            When(Is(TokenKind::InWord), Done),
+                        ),
+                    ),
+                ),
+            ),
+            Pattern(self.0, false, self.1),
+        )
+        .read(grammar, cursor)
+    }
+}
+
+/// Such a pattern; TS: Pat (':' Type)?
+#[derive(Clone, Copy)]
+pub struct HeadPatternIn(pub Lang, pub Context);
+
+impl ReadsRhs<Row> for HeadPatternIn {
+    ghost form = { λ s. head_pattern_in s.0 s.1 };
+
+    #[tactic(auto, unfolding(es_grammar::specs::Statements::head_pattern_in))]
+    fn read<T: Rows<Row>>(
+        &self,
+        grammar: &Grammar<'_, T>,
+        cursor: &mut Cursor,
+    ) -> Result<usize, SyntaxError> {
+        match self.0 {
+            Lang::Es => OfRow(Row::HeadPatternRow(self.1), Done).read(grammar, cursor),
+            Lang::Typescript => OfRow(
+                Row::PatternRow(false, self.1),
+                AnnotationIn(Lang::Typescript, Done),
+            )
+            .read(grammar, cursor),
+        }
+    }
+}
+
 /// Head: ('var' | 'let' | 'const') Pat | ('await' ~)? 'using' ~ Name | Target
 #[derive(Clone, Copy)]
 pub struct Head(pub Lang, pub Context);
@@ -160,7 +223,7 @@ impl ReadsProduction<Row> for Head {
                 Tok(
                     LeafKind::Kind,
                     Kinds::VariableWord,
-                    OfRow(Row::PatternRow(false, self.1), AnnotationIn(self.0, Done)),
+                    HeadPatternIn(self.0, self.1),
                 ),
             ),
             Pick(

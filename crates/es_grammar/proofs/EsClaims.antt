@@ -7,21 +7,22 @@ use Rattle.es_tree.specs.Tells.{none, implies, rule_starts, rule_tells}
 use Rattle.es_tree.proofs.EachKind.{holds_everywhere}
 use Rattle.es_tree.proofs.OutLemmas.{clash}
 use Rattle.es_type_grammar.specs.Words.{is_name, is_word, is_name_or_this, is_numeric, is_sign, is_accessor_word, is_near, begins_key}
-use Rattle.es_type_grammar.specs.Modules.{may_end, ended, word_or_str_in, names_in, attributes, attributes_ended, from_ended, opens_type_import, opens_type_name, type_word_in, is_renamed, is_no_type_as_as, import_specifier, named, has_comma, clause, entity, opens_equals, shows_require, opens_require, equals_in, required, opens_bare, import_, export_specifier, opens_type_export, opens_all, opens_exported_equals, opens_exported_require, export_}
+use Rattle.es_type_grammar.specs.Modules.{may_end, ended, word_or_str_in, names_in, attributes, attributes_ended, from_ended, opens_type_import, opens_type_name, type_word_in, is_renamed, is_no_type_as_as, import_specifier, named, has_comma, clause, entity, opens_equals, shows_require, opens_require, equals_in, required, opens_bare, opens_source_import, opens_defer_import, source_import, defer_import, import_, export_specifier, opens_type_export, opens_all, opens_exported_equals, opens_exported_require, export_}
 use Rattle.es_type_grammar.specs.Expressions.{is_prefix, is_update, is_product, is_sum, is_equality, is_relation, is_assignment, is_property_name, begins_expression, is_arrow, no_arrow, is_literal_word, follows_super, begins_member, begins_post, is_update_here, no_update_here, no_mix}
 use Rattle.es_type_grammar.specs.Functions.{follows_pattern, is_parameter}
 use Rattle.es_type_grammar.specs.Statements.{is_variable_word, is_each, is_label_here, label_ended, is_case, is_in_case, begins_no_other}
 use Rattle.es_type_grammar.specs.Members.{opens_parameters}
 use Rattle.es_type_grammar.specs.Types.{begins_type, is_literal_word as is_literal_type_word}
+use Rattle.es_type_grammar.specs.TypeNames.{begins_angle}
 use Rattle.es_grammar.specs.declared.rows.Context.{Context}
 use Rattle.es_grammar.specs.declared.rows.Row.{Row}
-use Rattle.es_grammar.specs.declared.rows.Row.TheVariants.{ModuleRow, ScriptRow, ItemRow, ClauseRow, NamedRow, ImportSpecifierRow, ExportSpecifierRow, AttributesRow, EntityRow, StatementRow, BlockRow, DeclarationRow, DeclaredRow, VariablesRow, DeclaratorRow, UsingRow, HeadRow, SignatureRow, ParametersRow, ParameterRow, PatternRow, InnerPatternRow, PatternElementRow, PatternPropertyRow, FunctionRow, ClassRow, MemberRow, PropertyRow, KeyRow, ExpressionRow, AssignmentRow, AndRow, BitOrRow, BitXorRow, BitAndRow, EqualityRow, RelationRow, ShiftRow, SumRow, ProductRow, PowerRow, UnaryRow, ChainRow, CalleeRow, PostRow, MemberPostRow, ArgumentsRow, ElementRow, TemplateRow, TypesRow}
+use Rattle.es_grammar.specs.declared.rows.Row.TheVariants.{ModuleRow, ScriptRow, ItemRow, ClauseRow, NamedRow, ImportSpecifierRow, ExportSpecifierRow, AttributesRow, EntityRow, StatementRow, BlockRow, DeclarationRow, DeclaredRow, VariablesRow, DeclaratorRow, UsingRow, HeadRow, HeadPatternRow, SignatureRow, ParametersRow, ParameterRow, PatternRow, InnerPatternRow, PatternElementRow, PatternPropertyRow, FunctionRow, ClassRow, MemberRow, PropertyRow, KeyRow, ExpressionRow, AssignmentRow, AndRow, BitOrRow, BitXorRow, BitAndRow, EqualityRow, RelationRow, RightRow, ShiftRow, SumRow, ProductRow, PowerRow, UnaryRow, ChainRow, CalleeRow, PostRow, MemberPostRow, ArgumentsRow, ElementRow, TemplateRow, TypesRow}
 use Rattle.es_grammar.specs.Rows.{in_module}
 use Rattle.es_grammar.specs.Embedding.{annotation_in, result_in, type_parameters_in, type_arguments_in, begins_call, stands_call, opens_call_arguments, stands_heritage, opens_heritage_arguments}
-use Rattle.es_grammar.specs.Expressions.{opens_parameters_of_arrow, opens_arrow_here, opens_generic_async, opens_async_here, opens_any_arrow, arrow_in, opens_arrow_result, arrow_result_in, parameters_arrow_in, plain_arrow, opens_async_list, async_arrow, template, star_in, name_in, body_in, function, async_function, any_function, references_in, heritage_in, implements_in, class_form, class_, abstract_class, opens_abstract_class, any_class, spread, array_literal, object_literal, opens_no_arrow, name_expression, named_primary, primary, import_call, is_module, import_meta, call_arguments_in, base, arguments, opens_non_null, opens_post, plain_member_post, non_null_post, member_post, optional_post, is_at, opens_call, opens_typed_template, post, chain, callee, may_await, update, prefix, await_, unary, power, level, product, sum, shift, is_assertion_word, opens_assertion, opens_comparison, may_test, private_in, comparison_in, is_behind_as, asserted, asserted_or, no_form, relation, equality, bit_and, bit_xor, bit_or, and_, coalesce, binary, conditional, opens_operand, yield_, assignment, expression, element}
+use Rattle.es_grammar.specs.Expressions.{opens_parameters_of_arrow, opens_arrow_here, opens_generic_async, opens_async_here, opens_any_arrow, arrow_in, opens_arrow_result, arrow_result_in, parameters_arrow_in, plain_arrow, opens_async_list, async_arrow, template, star_in, name_in, body_in, function, async_function, any_function, references_in, heritage_in, implements_in, class_form, class_, abstract_class, opens_abstract_class, any_class, spread, array_literal, object_literal, opens_no_arrow, name_expression, named_primary, primary, import_arguments, import_call, source_call, defer_call, is_module, import_meta, import_base, goes_on, ends_new, stands_new, opens_new_arguments, new_arguments_in, imported, opens_class_name, class_name_in, no_power, is_tight, comes_behind, is_tightest, right_operand, tight_in, base, arguments, opens_non_null, opens_post, plain_member_post, non_null_post, member_post, optional_post, is_at, opens_call, opens_typed_template, post, chain, callee, may_await, update, prefix, await_, unary, power, level, product, sum, opens_shift_in, shifted, shift, is_assertion_word, opens_assertion, opens_comparison, may_test, private_in, comparison_in, is_behind_as, asserted, asserted_or, no_form, relation, equality, bit_and, bit_xor, bit_or, and_, coalesce, binary, conditional, opens_operand, yield_, assignment, expression, element}
 use Rattle.es_grammar.specs.Functions.{default_in, array_pattern, object_pattern, target, bracket_pattern, inner_pattern, pattern, pattern_element, pattern_property, rest_in, parameters, is_typed_modifier, is_modifier, opens_parameter_modifier, each_once, modifiers_in, mark_in, parameter_tail, is_parameter_mark, opens_marked, parameter, signature, plain_key, key, opens_any_method, typed_head_in, method_in, property}
 use Rattle.es_grammar.specs.Classes.{opens_modifier, behind_all, is_member_key, static_in, value_in, head_in, marked_in, class_method_in, is_field_mark, field_in, modified_member, index_member, any_member, member}
-use Rattle.es_grammar.specs.Statements.{expression_ended, condition_in, block, is_declarator_mark, opens_declarator, declarator, declarators, variables, using_in, using_, head, start_in, for_, for_each, for_await, return_, case_in, switch_, finally_in, try_, is_script, expression_statement, keyword_statement, other_statement}
+use Rattle.es_grammar.specs.Statements.{condition_in, block, is_declarator_mark, opens_declarator, declarator, declarators, variables, using_in, using_, opens_initial, head_pattern, head_pattern_in, head, start_in, for_, for_each, for_await, return_, case_in, switch_, finally_in, try_, is_script, expression_statement, keyword_statement, other_statement}
 use Rattle.es_grammar.specs.Declarations.{opens_interface, opens_alias, opens_enum, opens_namespace, opens_module, opens_global, is_declaration_word, opens_declare, type_members, interface, alias, enum_, items_in, is_namespace_word, namespace, module_namespace, global, typed_declaration, declared, declares_variables, declare, plain_declaration, declaration, statement}
 use Rattle.es_grammar.specs.Items.{opens_any_default_class, opens_default_interface, default_expression, default_interface, other_default, export_default, opens_any_declaration, opens_export_assignment, export_names, export_item, item, shebang_in, module_, script}
 use Rattle.es_grammar.specs.Table.{rule}
@@ -34,6 +35,7 @@ unfolding is_name is_word is_name_or_this is_numeric is_sign is_accessor_word is
     word_or_str_in names_in attributes attributes_ended from_ended opens_type_import opens_type_name type_word_in
     is_renamed is_no_type_as_as import_specifier named has_comma clause entity opens_equals shows_require
     opens_require equals_in required opens_bare import_ export_specifier opens_type_export opens_all
+    opens_source_import opens_defer_import source_import defer_import
     opens_exported_equals opens_exported_require export_ is_prefix is_update is_product is_sum is_equality is_relation
     is_assignment is_property_name begins_expression is_arrow no_arrow is_literal_word follows_super begins_member
     begins_post is_update_here no_update_here no_mix follows_pattern is_parameter is_variable_word is_each
@@ -44,17 +46,19 @@ unfolding is_name is_word is_name_or_this is_numeric is_sign is_accessor_word is
     opens_async_list async_arrow template star_in name_in body_in function async_function any_function references_in
     heritage_in implements_in class_form class_ abstract_class opens_abstract_class any_class spread array_literal
     object_literal opens_no_arrow name_expression named_primary primary import_call is_module import_meta
-    call_arguments_in base arguments opens_non_null opens_post plain_member_post non_null_post member_post
+    goes_on ends_new stands_new opens_new_arguments new_arguments_in imported opens_class_name class_name_in no_power
+    is_tight comes_behind is_tightest right_operand tight_in base arguments opens_non_null opens_post
+    plain_member_post non_null_post member_post import_arguments source_call defer_call import_base
     optional_post is_at opens_call opens_typed_template post chain callee may_await update prefix await_ unary power
-    level product sum shift is_assertion_word opens_assertion opens_comparison may_test private_in comparison_in
+    level product sum begins_angle opens_shift_in shifted shift is_assertion_word opens_assertion opens_comparison may_test private_in comparison_in
     is_behind_as asserted asserted_or no_form relation equality bit_and bit_xor bit_or and_ coalesce binary
     conditional opens_operand yield_ assignment expression element default_in array_pattern object_pattern target
     bracket_pattern inner_pattern pattern pattern_element pattern_property rest_in parameters is_typed_modifier
     is_modifier opens_parameter_modifier each_once modifiers_in mark_in parameter_tail is_parameter_mark opens_marked
     parameter signature plain_key key opens_any_method typed_head_in method_in property opens_modifier behind_all
     is_member_key static_in value_in head_in marked_in class_method_in is_field_mark field_in modified_member
-    index_member any_member member expression_ended condition_in block is_declarator_mark opens_declarator declarator
-    declarators variables using_in using_ head start_in for_ for_each for_await return_ case_in switch_ finally_in
+    index_member any_member member condition_in block is_declarator_mark opens_declarator declarator
+    declarators variables using_in using_ opens_initial head_pattern head_pattern_in head start_in for_ for_each for_await return_ case_in switch_ finally_in
     try_ is_script expression_statement keyword_statement other_statement opens_interface opens_alias opens_enum
     opens_namespace opens_module opens_global is_declaration_word opens_declare type_members interface alias enum_
     items_in is_namespace_word namespace module_namespace global typed_declaration declared declares_variables declare
@@ -78,6 +82,7 @@ rows_take (VariablesRow c) h = refl
 rows_take (DeclaratorRow c) h = refl
 rows_take (UsingRow c) h = refl
 rows_take (HeadRow c) h = refl
+rows_take (HeadPatternRow c) h = refl
 rows_take (SignatureRow c) h = refl
 rows_take (ParametersRow c) h = clash h
 rows_take (ParameterRow c) h = refl
@@ -105,6 +110,7 @@ rows_take (BitXorRow c) h = refl
 rows_take (BitAndRow c) h = refl
 rows_take (EqualityRow c) h = refl
 rows_take (RelationRow c) h = refl
+rows_take (RightRow c) h = refl
 rows_take (ShiftRow c) h = refl
 rows_take (SumRow c) h = refl
 rows_take (ProductRow c) h = refl
@@ -124,6 +130,7 @@ unfolding is_name is_word is_name_or_this is_numeric is_sign is_accessor_word is
     word_or_str_in names_in attributes attributes_ended from_ended opens_type_import opens_type_name type_word_in
     is_renamed is_no_type_as_as import_specifier named has_comma clause entity opens_equals shows_require
     opens_require equals_in required opens_bare import_ export_specifier opens_type_export opens_all
+    opens_source_import opens_defer_import source_import defer_import
     opens_exported_equals opens_exported_require export_ is_prefix is_update is_product is_sum is_equality is_relation
     is_assignment is_property_name begins_expression is_arrow no_arrow is_literal_word follows_super begins_member
     begins_post is_update_here no_update_here no_mix follows_pattern is_parameter is_variable_word is_each
@@ -134,17 +141,19 @@ unfolding is_name is_word is_name_or_this is_numeric is_sign is_accessor_word is
     opens_async_list async_arrow template star_in name_in body_in function async_function any_function references_in
     heritage_in implements_in class_form class_ abstract_class opens_abstract_class any_class spread array_literal
     object_literal opens_no_arrow name_expression named_primary primary import_call is_module import_meta
-    call_arguments_in base arguments opens_non_null opens_post plain_member_post non_null_post member_post
+    goes_on ends_new stands_new opens_new_arguments new_arguments_in imported opens_class_name class_name_in no_power
+    is_tight comes_behind is_tightest right_operand tight_in base arguments opens_non_null opens_post
+    plain_member_post non_null_post member_post import_arguments source_call defer_call import_base
     optional_post is_at opens_call opens_typed_template post chain callee may_await update prefix await_ unary power
-    level product sum shift is_assertion_word opens_assertion opens_comparison may_test private_in comparison_in
+    level product sum begins_angle opens_shift_in shifted shift is_assertion_word opens_assertion opens_comparison may_test private_in comparison_in
     is_behind_as asserted asserted_or no_form relation equality bit_and bit_xor bit_or and_ coalesce binary
     conditional opens_operand yield_ assignment expression element default_in array_pattern object_pattern target
     bracket_pattern inner_pattern pattern pattern_element pattern_property rest_in parameters is_typed_modifier
     is_modifier opens_parameter_modifier each_once modifiers_in mark_in parameter_tail is_parameter_mark opens_marked
     parameter signature plain_key key opens_any_method typed_head_in method_in property opens_modifier behind_all
     is_member_key static_in value_in head_in marked_in class_method_in is_field_mark field_in modified_member
-    index_member any_member member expression_ended condition_in block is_declarator_mark opens_declarator declarator
-    declarators variables using_in using_ head start_in for_ for_each for_await return_ case_in switch_ finally_in
+    index_member any_member member condition_in block is_declarator_mark opens_declarator declarator
+    declarators variables using_in using_ opens_initial head_pattern head_pattern_in head start_in for_ for_each for_await return_ case_in switch_ finally_in
     try_ is_script expression_statement keyword_statement other_statement opens_interface opens_alias opens_enum
     opens_namespace opens_module opens_global is_declaration_word opens_declare type_members interface alias enum_
     items_in is_namespace_word namespace module_namespace global typed_declaration declared declares_variables declare
@@ -168,6 +177,7 @@ parts_take (VariablesRow c) = refl
 parts_take (DeclaratorRow c) = refl
 parts_take (UsingRow c) = refl
 parts_take (HeadRow c) = refl
+parts_take (HeadPatternRow c) = refl
 parts_take (SignatureRow c) = refl
 parts_take (ParametersRow c) = refl
 parts_take (ParameterRow c) = refl
@@ -195,6 +205,7 @@ parts_take (BitXorRow c) = refl
 parts_take (BitAndRow c) = refl
 parts_take (EqualityRow c) = refl
 parts_take (RelationRow c) = refl
+parts_take (RightRow c) = refl
 parts_take (ShiftRow c) = refl
 parts_take (SumRow c) = refl
 parts_take (ProductRow c) = refl
@@ -216,6 +227,7 @@ unfolding is_name is_word is_name_or_this is_numeric is_sign is_accessor_word is
     word_or_str_in names_in attributes attributes_ended from_ended opens_type_import opens_type_name type_word_in
     is_renamed is_no_type_as_as import_specifier named has_comma clause entity opens_equals shows_require
     opens_require equals_in required opens_bare import_ export_specifier opens_type_export opens_all
+    opens_source_import opens_defer_import source_import defer_import
     opens_exported_equals opens_exported_require export_ is_prefix is_update is_product is_sum is_equality is_relation
     is_assignment is_property_name begins_expression is_arrow no_arrow is_literal_word follows_super begins_member
     begins_post is_update_here no_update_here no_mix follows_pattern is_parameter is_variable_word is_each
@@ -226,17 +238,19 @@ unfolding is_name is_word is_name_or_this is_numeric is_sign is_accessor_word is
     opens_async_list async_arrow template star_in name_in body_in function async_function any_function references_in
     heritage_in implements_in class_form class_ abstract_class opens_abstract_class any_class spread array_literal
     object_literal opens_no_arrow name_expression named_primary primary import_call is_module import_meta
-    call_arguments_in base arguments opens_non_null opens_post plain_member_post non_null_post member_post
+    goes_on ends_new stands_new opens_new_arguments new_arguments_in imported opens_class_name class_name_in no_power
+    is_tight comes_behind is_tightest right_operand tight_in base arguments opens_non_null opens_post
+    plain_member_post non_null_post member_post import_arguments source_call defer_call import_base
     optional_post is_at opens_call opens_typed_template post chain callee may_await update prefix await_ unary power
-    level product sum shift is_assertion_word opens_assertion opens_comparison may_test private_in comparison_in
+    level product sum begins_angle opens_shift_in shifted shift is_assertion_word opens_assertion opens_comparison may_test private_in comparison_in
     is_behind_as asserted asserted_or no_form relation equality bit_and bit_xor bit_or and_ coalesce binary
     conditional opens_operand yield_ assignment expression element default_in array_pattern object_pattern target
     bracket_pattern inner_pattern pattern pattern_element pattern_property rest_in parameters is_typed_modifier
     is_modifier opens_parameter_modifier each_once modifiers_in mark_in parameter_tail is_parameter_mark opens_marked
     parameter signature plain_key key opens_any_method typed_head_in method_in property opens_modifier behind_all
     is_member_key static_in value_in head_in marked_in class_method_in is_field_mark field_in modified_member
-    index_member any_member member expression_ended condition_in block is_declarator_mark opens_declarator declarator
-    declarators variables using_in using_ head start_in for_ for_each for_await return_ case_in switch_ finally_in
+    index_member any_member member condition_in block is_declarator_mark opens_declarator declarator
+    declarators variables using_in using_ opens_initial head_pattern head_pattern_in head start_in for_ for_each for_await return_ case_in switch_ finally_in
     try_ is_script expression_statement keyword_statement other_statement opens_interface opens_alias opens_enum
     opens_namespace opens_module opens_global is_declaration_word opens_declare type_members interface alias enum_
     items_in is_namespace_word namespace module_namespace global typed_declaration declared declares_variables declare
@@ -260,6 +274,7 @@ begins (VariablesRow c) = refl
 begins (DeclaratorRow c) = refl
 begins (UsingRow c) = refl
 begins (HeadRow c) = refl
+begins (HeadPatternRow c) = refl
 begins (SignatureRow c) = refl
 begins (ParametersRow c) = refl
 begins (ParameterRow c) = refl
@@ -287,6 +302,7 @@ begins (BitXorRow c) = refl
 begins (BitAndRow c) = refl
 begins (EqualityRow c) = refl
 begins (RelationRow c) = refl
+begins (RightRow c) = refl
 begins (ShiftRow c) = refl
 begins (SumRow c) = refl
 begins (ProductRow c) = refl
@@ -320,6 +336,7 @@ unfolding is_name is_word is_name_or_this is_numeric is_sign is_accessor_word is
     word_or_str_in names_in attributes attributes_ended from_ended opens_type_import opens_type_name type_word_in
     is_renamed is_no_type_as_as import_specifier named has_comma clause entity opens_equals shows_require
     opens_require equals_in required opens_bare import_ export_specifier opens_type_export opens_all
+    opens_source_import opens_defer_import source_import defer_import
     opens_exported_equals opens_exported_require export_ is_prefix is_update is_product is_sum is_equality is_relation
     is_assignment is_property_name begins_expression is_arrow no_arrow is_literal_word follows_super begins_member
     begins_post is_update_here no_update_here no_mix follows_pattern is_parameter is_variable_word is_each
@@ -330,17 +347,19 @@ unfolding is_name is_word is_name_or_this is_numeric is_sign is_accessor_word is
     opens_async_list async_arrow template star_in name_in body_in function async_function any_function references_in
     heritage_in implements_in class_form class_ abstract_class opens_abstract_class any_class spread array_literal
     object_literal opens_no_arrow name_expression named_primary primary import_call is_module import_meta
-    call_arguments_in base arguments opens_non_null opens_post plain_member_post non_null_post member_post
+    goes_on ends_new stands_new opens_new_arguments new_arguments_in imported opens_class_name class_name_in no_power
+    is_tight comes_behind is_tightest right_operand tight_in base arguments opens_non_null opens_post
+    plain_member_post non_null_post member_post import_arguments source_call defer_call import_base
     optional_post is_at opens_call opens_typed_template post chain callee may_await update prefix await_ unary power
-    level product sum shift is_assertion_word opens_assertion opens_comparison may_test private_in comparison_in
+    level product sum begins_angle opens_shift_in shifted shift is_assertion_word opens_assertion opens_comparison may_test private_in comparison_in
     is_behind_as asserted asserted_or no_form relation equality bit_and bit_xor bit_or and_ coalesce binary
     conditional opens_operand yield_ assignment expression element default_in array_pattern object_pattern target
     bracket_pattern inner_pattern pattern pattern_element pattern_property rest_in parameters is_typed_modifier
     is_modifier opens_parameter_modifier each_once modifiers_in mark_in parameter_tail is_parameter_mark opens_marked
     parameter signature plain_key key opens_any_method typed_head_in method_in property opens_modifier behind_all
     is_member_key static_in value_in head_in marked_in class_method_in is_field_mark field_in modified_member
-    index_member any_member member expression_ended condition_in block is_declarator_mark opens_declarator declarator
-    declarators variables using_in using_ head start_in for_ for_each for_await return_ case_in switch_ finally_in
+    index_member any_member member condition_in block is_declarator_mark opens_declarator declarator
+    declarators variables using_in using_ opens_initial head_pattern head_pattern_in head start_in for_ for_each for_await return_ case_in switch_ finally_in
     try_ is_script expression_statement keyword_statement other_statement opens_interface opens_alias opens_enum
     opens_namespace opens_module opens_global is_declaration_word opens_declare type_members interface alias enum_
     items_in is_namespace_word namespace module_namespace global typed_declaration declared declares_variables declare
@@ -359,10 +378,12 @@ statements_tell : (c : Context) →
     × Tells (DeclaratorRow c)
     × Tells (UsingRow c)
     × Tells (HeadRow c)
+    × Tells (HeadPatternRow c)
 unfolding is_name is_word is_name_or_this is_numeric is_sign is_accessor_word is_near begins_key may_end ended
     word_or_str_in names_in attributes attributes_ended from_ended opens_type_import opens_type_name type_word_in
     is_renamed is_no_type_as_as import_specifier named has_comma clause entity opens_equals shows_require
     opens_require equals_in required opens_bare import_ export_specifier opens_type_export opens_all
+    opens_source_import opens_defer_import source_import defer_import
     opens_exported_equals opens_exported_require export_ is_prefix is_update is_product is_sum is_equality is_relation
     is_assignment is_property_name begins_expression is_arrow no_arrow is_literal_word follows_super begins_member
     begins_post is_update_here no_update_here no_mix follows_pattern is_parameter is_variable_word is_each
@@ -373,24 +394,26 @@ unfolding is_name is_word is_name_or_this is_numeric is_sign is_accessor_word is
     opens_async_list async_arrow template star_in name_in body_in function async_function any_function references_in
     heritage_in implements_in class_form class_ abstract_class opens_abstract_class any_class spread array_literal
     object_literal opens_no_arrow name_expression named_primary primary import_call is_module import_meta
-    call_arguments_in base arguments opens_non_null opens_post plain_member_post non_null_post member_post
+    goes_on ends_new stands_new opens_new_arguments new_arguments_in imported opens_class_name class_name_in no_power
+    is_tight comes_behind is_tightest right_operand tight_in base arguments opens_non_null opens_post
+    plain_member_post non_null_post member_post import_arguments source_call defer_call import_base
     optional_post is_at opens_call opens_typed_template post chain callee may_await update prefix await_ unary power
-    level product sum shift is_assertion_word opens_assertion opens_comparison may_test private_in comparison_in
+    level product sum begins_angle opens_shift_in shifted shift is_assertion_word opens_assertion opens_comparison may_test private_in comparison_in
     is_behind_as asserted asserted_or no_form relation equality bit_and bit_xor bit_or and_ coalesce binary
     conditional opens_operand yield_ assignment expression element default_in array_pattern object_pattern target
     bracket_pattern inner_pattern pattern pattern_element pattern_property rest_in parameters is_typed_modifier
     is_modifier opens_parameter_modifier each_once modifiers_in mark_in parameter_tail is_parameter_mark opens_marked
     parameter signature plain_key key opens_any_method typed_head_in method_in property opens_modifier behind_all
     is_member_key static_in value_in head_in marked_in class_method_in is_field_mark field_in modified_member
-    index_member any_member member expression_ended condition_in block is_declarator_mark opens_declarator declarator
-    declarators variables using_in using_ head start_in for_ for_each for_await return_ case_in switch_ finally_in
+    index_member any_member member condition_in block is_declarator_mark opens_declarator declarator
+    declarators variables using_in using_ opens_initial head_pattern head_pattern_in head start_in for_ for_each for_await return_ case_in switch_ finally_in
     try_ is_script expression_statement keyword_statement other_statement opens_interface opens_alias opens_enum
     opens_namespace opens_module opens_global is_declaration_word opens_declare type_members interface alias enum_
     items_in is_namespace_word namespace module_namespace global typed_declaration declared declares_variables declare
     plain_declaration declaration statement opens_any_default_class opens_default_interface default_expression
     default_interface other_default export_default opens_any_declaration opens_export_assignment export_names
     export_item item shebang_in module_ script rule holds_everywhere
-statements_tell c = (refl, refl, refl, refl, refl, refl, refl, refl)
+statements_tell c = (refl, refl, refl, refl, refl, refl, refl, refl, refl)
 
 -- parameters and patterns
 patterns_tell : (c : Context) →
@@ -409,6 +432,7 @@ unfolding is_name is_word is_name_or_this is_numeric is_sign is_accessor_word is
     word_or_str_in names_in attributes attributes_ended from_ended opens_type_import opens_type_name type_word_in
     is_renamed is_no_type_as_as import_specifier named has_comma clause entity opens_equals shows_require
     opens_require equals_in required opens_bare import_ export_specifier opens_type_export opens_all
+    opens_source_import opens_defer_import source_import defer_import
     opens_exported_equals opens_exported_require export_ is_prefix is_update is_product is_sum is_equality is_relation
     is_assignment is_property_name begins_expression is_arrow no_arrow is_literal_word follows_super begins_member
     begins_post is_update_here no_update_here no_mix follows_pattern is_parameter is_variable_word is_each
@@ -419,17 +443,19 @@ unfolding is_name is_word is_name_or_this is_numeric is_sign is_accessor_word is
     opens_async_list async_arrow template star_in name_in body_in function async_function any_function references_in
     heritage_in implements_in class_form class_ abstract_class opens_abstract_class any_class spread array_literal
     object_literal opens_no_arrow name_expression named_primary primary import_call is_module import_meta
-    call_arguments_in base arguments opens_non_null opens_post plain_member_post non_null_post member_post
+    goes_on ends_new stands_new opens_new_arguments new_arguments_in imported opens_class_name class_name_in no_power
+    is_tight comes_behind is_tightest right_operand tight_in base arguments opens_non_null opens_post
+    plain_member_post non_null_post member_post import_arguments source_call defer_call import_base
     optional_post is_at opens_call opens_typed_template post chain callee may_await update prefix await_ unary power
-    level product sum shift is_assertion_word opens_assertion opens_comparison may_test private_in comparison_in
+    level product sum begins_angle opens_shift_in shifted shift is_assertion_word opens_assertion opens_comparison may_test private_in comparison_in
     is_behind_as asserted asserted_or no_form relation equality bit_and bit_xor bit_or and_ coalesce binary
     conditional opens_operand yield_ assignment expression element default_in array_pattern object_pattern target
     bracket_pattern inner_pattern pattern pattern_element pattern_property rest_in parameters is_typed_modifier
     is_modifier opens_parameter_modifier each_once modifiers_in mark_in parameter_tail is_parameter_mark opens_marked
     parameter signature plain_key key opens_any_method typed_head_in method_in property opens_modifier behind_all
     is_member_key static_in value_in head_in marked_in class_method_in is_field_mark field_in modified_member
-    index_member any_member member expression_ended condition_in block is_declarator_mark opens_declarator declarator
-    declarators variables using_in using_ head start_in for_ for_each for_await return_ case_in switch_ finally_in
+    index_member any_member member condition_in block is_declarator_mark opens_declarator declarator
+    declarators variables using_in using_ opens_initial head_pattern head_pattern_in head start_in for_ for_each for_await return_ case_in switch_ finally_in
     try_ is_script expression_statement keyword_statement other_statement opens_interface opens_alias opens_enum
     opens_namespace opens_module opens_global is_declaration_word opens_declare type_members interface alias enum_
     items_in is_namespace_word namespace module_namespace global typed_declaration declared declares_variables declare
@@ -452,6 +478,7 @@ unfolding is_name is_word is_name_or_this is_numeric is_sign is_accessor_word is
     word_or_str_in names_in attributes attributes_ended from_ended opens_type_import opens_type_name type_word_in
     is_renamed is_no_type_as_as import_specifier named has_comma clause entity opens_equals shows_require
     opens_require equals_in required opens_bare import_ export_specifier opens_type_export opens_all
+    opens_source_import opens_defer_import source_import defer_import
     opens_exported_equals opens_exported_require export_ is_prefix is_update is_product is_sum is_equality is_relation
     is_assignment is_property_name begins_expression is_arrow no_arrow is_literal_word follows_super begins_member
     begins_post is_update_here no_update_here no_mix follows_pattern is_parameter is_variable_word is_each
@@ -462,17 +489,19 @@ unfolding is_name is_word is_name_or_this is_numeric is_sign is_accessor_word is
     opens_async_list async_arrow template star_in name_in body_in function async_function any_function references_in
     heritage_in implements_in class_form class_ abstract_class opens_abstract_class any_class spread array_literal
     object_literal opens_no_arrow name_expression named_primary primary import_call is_module import_meta
-    call_arguments_in base arguments opens_non_null opens_post plain_member_post non_null_post member_post
+    goes_on ends_new stands_new opens_new_arguments new_arguments_in imported opens_class_name class_name_in no_power
+    is_tight comes_behind is_tightest right_operand tight_in base arguments opens_non_null opens_post
+    plain_member_post non_null_post member_post import_arguments source_call defer_call import_base
     optional_post is_at opens_call opens_typed_template post chain callee may_await update prefix await_ unary power
-    level product sum shift is_assertion_word opens_assertion opens_comparison may_test private_in comparison_in
+    level product sum begins_angle opens_shift_in shifted shift is_assertion_word opens_assertion opens_comparison may_test private_in comparison_in
     is_behind_as asserted asserted_or no_form relation equality bit_and bit_xor bit_or and_ coalesce binary
     conditional opens_operand yield_ assignment expression element default_in array_pattern object_pattern target
     bracket_pattern inner_pattern pattern pattern_element pattern_property rest_in parameters is_typed_modifier
     is_modifier opens_parameter_modifier each_once modifiers_in mark_in parameter_tail is_parameter_mark opens_marked
     parameter signature plain_key key opens_any_method typed_head_in method_in property opens_modifier behind_all
     is_member_key static_in value_in head_in marked_in class_method_in is_field_mark field_in modified_member
-    index_member any_member member expression_ended condition_in block is_declarator_mark opens_declarator declarator
-    declarators variables using_in using_ head start_in for_ for_each for_await return_ case_in switch_ finally_in
+    index_member any_member member condition_in block is_declarator_mark opens_declarator declarator
+    declarators variables using_in using_ opens_initial head_pattern head_pattern_in head start_in for_ for_each for_await return_ case_in switch_ finally_in
     try_ is_script expression_statement keyword_statement other_statement opens_interface opens_alias opens_enum
     opens_namespace opens_module opens_global is_declaration_word opens_declare type_members interface alias enum_
     items_in is_namespace_word namespace module_namespace global typed_declaration declared declares_variables declare
@@ -492,6 +521,7 @@ unfolding is_name is_word is_name_or_this is_numeric is_sign is_accessor_word is
     word_or_str_in names_in attributes attributes_ended from_ended opens_type_import opens_type_name type_word_in
     is_renamed is_no_type_as_as import_specifier named has_comma clause entity opens_equals shows_require
     opens_require equals_in required opens_bare import_ export_specifier opens_type_export opens_all
+    opens_source_import opens_defer_import source_import defer_import
     opens_exported_equals opens_exported_require export_ is_prefix is_update is_product is_sum is_equality is_relation
     is_assignment is_property_name begins_expression is_arrow no_arrow is_literal_word follows_super begins_member
     begins_post is_update_here no_update_here no_mix follows_pattern is_parameter is_variable_word is_each
@@ -502,17 +532,19 @@ unfolding is_name is_word is_name_or_this is_numeric is_sign is_accessor_word is
     opens_async_list async_arrow template star_in name_in body_in function async_function any_function references_in
     heritage_in implements_in class_form class_ abstract_class opens_abstract_class any_class spread array_literal
     object_literal opens_no_arrow name_expression named_primary primary import_call is_module import_meta
-    call_arguments_in base arguments opens_non_null opens_post plain_member_post non_null_post member_post
+    goes_on ends_new stands_new opens_new_arguments new_arguments_in imported opens_class_name class_name_in no_power
+    is_tight comes_behind is_tightest right_operand tight_in base arguments opens_non_null opens_post
+    plain_member_post non_null_post member_post import_arguments source_call defer_call import_base
     optional_post is_at opens_call opens_typed_template post chain callee may_await update prefix await_ unary power
-    level product sum shift is_assertion_word opens_assertion opens_comparison may_test private_in comparison_in
+    level product sum begins_angle opens_shift_in shifted shift is_assertion_word opens_assertion opens_comparison may_test private_in comparison_in
     is_behind_as asserted asserted_or no_form relation equality bit_and bit_xor bit_or and_ coalesce binary
     conditional opens_operand yield_ assignment expression element default_in array_pattern object_pattern target
     bracket_pattern inner_pattern pattern pattern_element pattern_property rest_in parameters is_typed_modifier
     is_modifier opens_parameter_modifier each_once modifiers_in mark_in parameter_tail is_parameter_mark opens_marked
     parameter signature plain_key key opens_any_method typed_head_in method_in property opens_modifier behind_all
     is_member_key static_in value_in head_in marked_in class_method_in is_field_mark field_in modified_member
-    index_member any_member member expression_ended condition_in block is_declarator_mark opens_declarator declarator
-    declarators variables using_in using_ head start_in for_ for_each for_await return_ case_in switch_ finally_in
+    index_member any_member member condition_in block is_declarator_mark opens_declarator declarator
+    declarators variables using_in using_ opens_initial head_pattern head_pattern_in head start_in for_ for_each for_await return_ case_in switch_ finally_in
     try_ is_script expression_statement keyword_statement other_statement opens_interface opens_alias opens_enum
     opens_namespace opens_module opens_global is_declaration_word opens_declare type_members interface alias enum_
     items_in is_namespace_word namespace module_namespace global typed_declaration declared declares_variables declare
@@ -532,10 +564,12 @@ levels_tell : (c : Context) →
     × Tells (ProductRow c)
     × Tells (PowerRow c)
     × Tells (UnaryRow c)
+    × Tells (RightRow c)
 unfolding is_name is_word is_name_or_this is_numeric is_sign is_accessor_word is_near begins_key may_end ended
     word_or_str_in names_in attributes attributes_ended from_ended opens_type_import opens_type_name type_word_in
     is_renamed is_no_type_as_as import_specifier named has_comma clause entity opens_equals shows_require
     opens_require equals_in required opens_bare import_ export_specifier opens_type_export opens_all
+    opens_source_import opens_defer_import source_import defer_import
     opens_exported_equals opens_exported_require export_ is_prefix is_update is_product is_sum is_equality is_relation
     is_assignment is_property_name begins_expression is_arrow no_arrow is_literal_word follows_super begins_member
     begins_post is_update_here no_update_here no_mix follows_pattern is_parameter is_variable_word is_each
@@ -546,24 +580,26 @@ unfolding is_name is_word is_name_or_this is_numeric is_sign is_accessor_word is
     opens_async_list async_arrow template star_in name_in body_in function async_function any_function references_in
     heritage_in implements_in class_form class_ abstract_class opens_abstract_class any_class spread array_literal
     object_literal opens_no_arrow name_expression named_primary primary import_call is_module import_meta
-    call_arguments_in base arguments opens_non_null opens_post plain_member_post non_null_post member_post
+    goes_on ends_new stands_new opens_new_arguments new_arguments_in imported opens_class_name class_name_in no_power
+    is_tight comes_behind is_tightest right_operand tight_in base arguments opens_non_null opens_post
+    plain_member_post non_null_post member_post import_arguments source_call defer_call import_base
     optional_post is_at opens_call opens_typed_template post chain callee may_await update prefix await_ unary power
-    level product sum shift is_assertion_word opens_assertion opens_comparison may_test private_in comparison_in
+    level product sum begins_angle opens_shift_in shifted shift is_assertion_word opens_assertion opens_comparison may_test private_in comparison_in
     is_behind_as asserted asserted_or no_form relation equality bit_and bit_xor bit_or and_ coalesce binary
     conditional opens_operand yield_ assignment expression element default_in array_pattern object_pattern target
     bracket_pattern inner_pattern pattern pattern_element pattern_property rest_in parameters is_typed_modifier
     is_modifier opens_parameter_modifier each_once modifiers_in mark_in parameter_tail is_parameter_mark opens_marked
     parameter signature plain_key key opens_any_method typed_head_in method_in property opens_modifier behind_all
     is_member_key static_in value_in head_in marked_in class_method_in is_field_mark field_in modified_member
-    index_member any_member member expression_ended condition_in block is_declarator_mark opens_declarator declarator
-    declarators variables using_in using_ head start_in for_ for_each for_await return_ case_in switch_ finally_in
+    index_member any_member member condition_in block is_declarator_mark opens_declarator declarator
+    declarators variables using_in using_ opens_initial head_pattern head_pattern_in head start_in for_ for_each for_await return_ case_in switch_ finally_in
     try_ is_script expression_statement keyword_statement other_statement opens_interface opens_alias opens_enum
     opens_namespace opens_module opens_global is_declaration_word opens_declare type_members interface alias enum_
     items_in is_namespace_word namespace module_namespace global typed_declaration declared declares_variables declare
     plain_declaration declaration statement opens_any_default_class opens_default_interface default_expression
     default_interface other_default export_default opens_any_declaration opens_export_assignment export_names
     export_item item shebang_in module_ script rule holds_everywhere
-levels_tell c = (refl, refl, refl, refl, refl, refl, refl, refl, refl)
+levels_tell c = (refl, refl, refl, refl, refl, refl, refl, refl, refl, refl)
 
 -- chains and their parts
 chains_tell : (c : Context) →
@@ -577,6 +613,7 @@ unfolding is_name is_word is_name_or_this is_numeric is_sign is_accessor_word is
     word_or_str_in names_in attributes attributes_ended from_ended opens_type_import opens_type_name type_word_in
     is_renamed is_no_type_as_as import_specifier named has_comma clause entity opens_equals shows_require
     opens_require equals_in required opens_bare import_ export_specifier opens_type_export opens_all
+    opens_source_import opens_defer_import source_import defer_import
     opens_exported_equals opens_exported_require export_ is_prefix is_update is_product is_sum is_equality is_relation
     is_assignment is_property_name begins_expression is_arrow no_arrow is_literal_word follows_super begins_member
     begins_post is_update_here no_update_here no_mix follows_pattern is_parameter is_variable_word is_each
@@ -587,17 +624,19 @@ unfolding is_name is_word is_name_or_this is_numeric is_sign is_accessor_word is
     opens_async_list async_arrow template star_in name_in body_in function async_function any_function references_in
     heritage_in implements_in class_form class_ abstract_class opens_abstract_class any_class spread array_literal
     object_literal opens_no_arrow name_expression named_primary primary import_call is_module import_meta
-    call_arguments_in base arguments opens_non_null opens_post plain_member_post non_null_post member_post
+    goes_on ends_new stands_new opens_new_arguments new_arguments_in imported opens_class_name class_name_in no_power
+    is_tight comes_behind is_tightest right_operand tight_in base arguments opens_non_null opens_post
+    plain_member_post non_null_post member_post import_arguments source_call defer_call import_base
     optional_post is_at opens_call opens_typed_template post chain callee may_await update prefix await_ unary power
-    level product sum shift is_assertion_word opens_assertion opens_comparison may_test private_in comparison_in
+    level product sum begins_angle opens_shift_in shifted shift is_assertion_word opens_assertion opens_comparison may_test private_in comparison_in
     is_behind_as asserted asserted_or no_form relation equality bit_and bit_xor bit_or and_ coalesce binary
     conditional opens_operand yield_ assignment expression element default_in array_pattern object_pattern target
     bracket_pattern inner_pattern pattern pattern_element pattern_property rest_in parameters is_typed_modifier
     is_modifier opens_parameter_modifier each_once modifiers_in mark_in parameter_tail is_parameter_mark opens_marked
     parameter signature plain_key key opens_any_method typed_head_in method_in property opens_modifier behind_all
     is_member_key static_in value_in head_in marked_in class_method_in is_field_mark field_in modified_member
-    index_member any_member member expression_ended condition_in block is_declarator_mark opens_declarator declarator
-    declarators variables using_in using_ head start_in for_ for_each for_await return_ case_in switch_ finally_in
+    index_member any_member member condition_in block is_declarator_mark opens_declarator declarator
+    declarators variables using_in using_ opens_initial head_pattern head_pattern_in head start_in for_ for_each for_await return_ case_in switch_ finally_in
     try_ is_script expression_statement keyword_statement other_statement opens_interface opens_alias opens_enum
     opens_namespace opens_module opens_global is_declaration_word opens_declare type_members interface alias enum_
     items_in is_namespace_word namespace module_namespace global typed_declaration declared declares_variables declare
@@ -624,6 +663,7 @@ tests_tell (VariablesRow c) = (statements_tell c).4
 tests_tell (DeclaratorRow c) = (statements_tell c).5
 tests_tell (UsingRow c) = (statements_tell c).6
 tests_tell (HeadRow c) = (statements_tell c).7
+tests_tell (HeadPatternRow c) = (statements_tell c).8
 tests_tell (SignatureRow c) = (patterns_tell c).0
 tests_tell (ParametersRow c) = (patterns_tell c).1
 tests_tell (ParameterRow c) = (patterns_tell c).2
@@ -656,6 +696,7 @@ tests_tell (SumRow c) = (levels_tell c).5
 tests_tell (ProductRow c) = (levels_tell c).6
 tests_tell (PowerRow c) = (levels_tell c).7
 tests_tell (UnaryRow c) = (levels_tell c).8
+tests_tell (RightRow c) = (levels_tell c).9
 tests_tell (ChainRow c) = (chains_tell c).0
 tests_tell (CalleeRow c) = (chains_tell c).1
 tests_tell (PostRow c) = (chains_tell c).2

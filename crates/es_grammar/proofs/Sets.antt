@@ -10,11 +10,12 @@ use Rattle.es_type_grammar.specs.Words.{is_name, is_word, is_name_or_this, is_nu
 use Rattle.es_type_grammar.specs.declared.rows.TypeRow.{TypeRow}
 use Rattle.es_type_grammar.specs.declared.rows.TypeRow.TheVariants as types
 use Rattle.es_type_grammar.specs.Types.{begins_type}
+use Rattle.es_type_grammar.specs.TypeNames.{begins_angle, begins_type_parameter}
 use Rattle.es_type_grammar.specs.Members.{opens_parameters}
 use Rattle.es_type_grammar.specs.Expressions.{is_prefix, is_update, is_literal_word, begins_member, begins_post}
 use Rattle.es_type_grammar.specs.Statements.{is_variable_word}
 use Rattle.es_grammar.specs.declared.rows.Row.{Row}
-use Rattle.es_grammar.specs.declared.rows.Row.TheVariants.{ModuleRow, ScriptRow, ItemRow, ClauseRow, NamedRow, ImportSpecifierRow, ExportSpecifierRow, AttributesRow, EntityRow, StatementRow, BlockRow, DeclarationRow, DeclaredRow, VariablesRow, DeclaratorRow, UsingRow, HeadRow, FunctionRow, ClassRow, SignatureRow, ParametersRow, ParameterRow, PatternRow, InnerPatternRow, PatternElementRow, PatternPropertyRow, MemberRow, PropertyRow, KeyRow, ExpressionRow, AssignmentRow, AndRow, BitOrRow, BitXorRow, BitAndRow, EqualityRow, RelationRow, ShiftRow, SumRow, ProductRow, PowerRow, UnaryRow, ChainRow, CalleeRow, PostRow, MemberPostRow, ArgumentsRow, ElementRow, TemplateRow, TypesRow}
+use Rattle.es_grammar.specs.declared.rows.Row.TheVariants.{ModuleRow, ScriptRow, ItemRow, ClauseRow, NamedRow, ImportSpecifierRow, ExportSpecifierRow, AttributesRow, EntityRow, StatementRow, BlockRow, DeclarationRow, DeclaredRow, VariablesRow, DeclaratorRow, UsingRow, HeadRow, HeadPatternRow, FunctionRow, ClassRow, SignatureRow, ParametersRow, ParameterRow, PatternRow, InnerPatternRow, PatternElementRow, PatternPropertyRow, MemberRow, PropertyRow, KeyRow, ExpressionRow, AssignmentRow, AndRow, BitOrRow, BitXorRow, BitAndRow, EqualityRow, RelationRow, RightRow, ShiftRow, SumRow, ProductRow, PowerRow, UnaryRow, ChainRow, CalleeRow, PostRow, MemberPostRow, ArgumentsRow, ElementRow, TemplateRow, TypesRow}
 use Rattle.es_grammar.specs.Expressions.{begins_value, begins_parameters, opens_non_null}
 
 -- a token that can begin a chain, and one that can begin a pattern
@@ -65,9 +66,11 @@ first_of_types types.OperandRow x = begins_type x
 first_of_types types.ReferenceRow x = has_kind is_name_or_this x
 first_of_types types.EntityRow x = has_kind is_name_or_this x
 first_of_types types.ImportRow x = is k.ImportWord x
-first_of_types types.ArgumentsRow x = is k.Less x
+first_of_types types.ArgumentsRow x = begins_angle x
 first_of_types types.TypeParametersRow x = is k.Less x
-first_of_types types.ElementRow x = is k.Ellipsis x || begins_type x
+first_of_types types.OpenedFunctionRow x = begins_type_parameter x
+first_of_types types.OpenedParametersRow x = begins_type_parameter x
+first_of_types types.ElementRow x = is k.Ellipsis x || (has_kind is_word x || begins_type x)
 first_of_types types.MemberRow x = opens_parameters x || begins_key x
 first_of_types types.KeyRow x = begins_key x
 first_of_types (types.ResultRow c) x = begins_type x
@@ -98,6 +101,7 @@ first l (VariablesRow c) x = has_kind is_variable_word x
 first l (DeclaratorRow c) x = begins_pattern x
 first l (UsingRow c) x = is k.UsingWord x || is k.AwaitWord x
 first l (HeadRow c) x = begins_chain x || (has_kind is_variable_word x || is k.AwaitWord x)
+first l (HeadPatternRow c) x = begins_pattern x
 first l (FunctionRow named c) x = is k.FunctionWord x || is k.AsyncWord x
 first l (ClassRow named c) x = is k.ClassWord x || if_typescript l (is k.AbstractWord) x
 first l (SignatureRow c) x = begins_parameters l x
@@ -122,6 +126,7 @@ first l (BitXorRow c) x = begins_operand x || is k.PrivateName x
 first l (BitAndRow c) x = begins_operand x || is k.PrivateName x
 first l (EqualityRow c) x = begins_operand x || is k.PrivateName x
 first l (RelationRow c) x = begins_operand x || is k.PrivateName x
+first l (RightRow c) x = begins_operand x
 first l (ShiftRow c) x = begins_operand x
 first l (SumRow c) x = begins_operand x
 first l (ProductRow c) x = begins_operand x
@@ -129,7 +134,7 @@ first l (PowerRow c) x = begins_operand x
 first l (UnaryRow c) x = begins_operand x
 first l (ChainRow c) x = begins_chain x
 first l (CalleeRow c) x = begins_chain x
-first l (PostRow c) x = begins_post x || if_typescript l (λ y. opens_non_null y || is k.Less y) x
+first l (PostRow c) x = begins_post x || if_typescript l (λ y. opens_non_null y || begins_angle y) x
 first l (MemberPostRow c) x = begins_member x || if_typescript l opens_non_null x
 first l (ArgumentsRow c) x = is k.OpenParen x
 first l (ElementRow c) x = is k.Ellipsis x || begins_value l x

@@ -7,9 +7,9 @@ use Rattle.es_tree.specs.Tells.{none, implies, rule_starts, rule_tells}
 use Rattle.es_tree.proofs.EachKind.{holds_everywhere}
 use Rattle.es_tree.proofs.OutLemmas.{clash}
 use Rattle.es_type_grammar.specs.declared.rows.TypeRow.{TypeRow as Row}
-use Rattle.es_type_grammar.specs.declared.rows.TypeRow.TheVariants.{TypeRow, IntersectionRow, OperandRow, ReferenceRow, EntityRow, ImportRow, ArgumentsRow, TypeParametersRow, ElementRow, MemberRow, KeyRow, ResultRow, ParametersRow, ParameterRow, PatternRow, PatternElementRow, PatternPropertyRow, PatternKeyRow}
+use Rattle.es_type_grammar.specs.declared.rows.TypeRow.TheVariants.{TypeRow, IntersectionRow, OperandRow, ReferenceRow, EntityRow, ImportRow, ArgumentsRow, TypeParametersRow, OpenedFunctionRow, OpenedParametersRow, ElementRow, MemberRow, KeyRow, ResultRow, ParametersRow, ParameterRow, PatternRow, PatternElementRow, PatternPropertyRow, PatternKeyRow}
 use Rattle.es_type_grammar.specs.Words.{is_name, is_word, is_name_or_this, is_numeric, is_sign, is_accessor_word, is_near, begins_key}
-use Rattle.es_type_grammar.specs.TypeNames.{further_names, entity, opens_arguments, no_arguments, reference, import_type, arguments, is_modifier, opens_modifier, type_parameter, type_parameters}
+use Rattle.es_type_grammar.specs.TypeNames.{further_names, entity, opens_arguments, no_arguments, further_arguments, listed_parameters, opened_parameters, opened_function, begins_angle, begins_type_parameter, shows_type_parameter, opens_angle, reference, import_type, arguments, is_modifier, opens_modifier, type_parameter, type_parameters}
 use Rattle.es_type_grammar.specs.Parameters.{parameters_in, mark_in, type_in, list_before, is_parameter, parameters, has_mark, no_mark, name_pattern, array_pattern, object_pattern, pattern, parameter, pattern_element, pattern_key, opens_value, pattern_property}
 use Rattle.es_type_grammar.specs.Members.{result_in, is_separator, may_separate, separator, opens_parameters, call_signature, opens_construct, construct_signature, opens_readonly, shows_index, opens_index, index_signature, opens_accessor, accessor_signature, opens_method, method_signature, property_signature, is_property_key, readonly_property, member, computed_key, key}
 use Rattle.es_type_grammar.specs.Types.{is_literal_word, begins_type, parenthesized_type, members_type, shows_mapped, opens_mapped, sign_in, begins_signed, mapped_type, tuple_type, type_query, opens_this_reference, is_type_word, is_keyword_type, template_types, number_type, primary_type, opens_brackets, brackets_in, array_types, is_type_operator, opens_operator, opens_infer, operand_type, operands_in, intersection_type, union_type, opens_condition, no_condition, conditional_type, opens_function, function_type, opens_constructor, constructor_type, any_type, is_label, label_in, element, is_asserted_name, opens_asserts, opens_predicate, result}
@@ -20,7 +20,7 @@ use Rattle.es_grammar.proofs.Sets.{first, follow, solid, sets}
 
 pub rows_take : (l : Lang) (r : Row) → solid (TypesRow r) ≡ true → rule_takes solid (rule l (TypesRow r)) ≡ true
 unfolding is_name is_word is_name_or_this is_numeric is_sign is_accessor_word is_near begins_key further_names entity
-    opens_arguments no_arguments reference import_type arguments is_modifier opens_modifier type_parameter
+    opens_arguments no_arguments further_arguments listed_parameters opened_parameters opened_function begins_angle begins_type_parameter shows_type_parameter opens_angle reference import_type arguments is_modifier opens_modifier type_parameter
     type_parameters parameters_in mark_in type_in list_before is_parameter parameters has_mark no_mark name_pattern
     array_pattern object_pattern pattern parameter pattern_element pattern_key opens_value pattern_property result_in
     is_separator may_separate separator opens_parameters call_signature opens_construct construct_signature
@@ -41,6 +41,8 @@ rows_take l EntityRow h = refl
 rows_take l ImportRow h = refl
 rows_take l ArgumentsRow h = refl
 rows_take l TypeParametersRow h = refl
+rows_take l OpenedFunctionRow h = refl
+rows_take l OpenedParametersRow h = refl
 rows_take l ElementRow h = refl
 rows_take l MemberRow h = refl
 rows_take l KeyRow h = refl
@@ -55,7 +57,7 @@ rows_take l PatternKeyRow h = refl
 
 pub parts_take : (l : Lang) (r : Row) → rule_parts_take solid (rule l (TypesRow r)) ≡ true
 unfolding is_name is_word is_name_or_this is_numeric is_sign is_accessor_word is_near begins_key further_names entity
-    opens_arguments no_arguments reference import_type arguments is_modifier opens_modifier type_parameter
+    opens_arguments no_arguments further_arguments listed_parameters opened_parameters opened_function begins_angle begins_type_parameter shows_type_parameter opens_angle reference import_type arguments is_modifier opens_modifier type_parameter
     type_parameters parameters_in mark_in type_in list_before is_parameter parameters has_mark no_mark name_pattern
     array_pattern object_pattern pattern parameter pattern_element pattern_key opens_value pattern_property result_in
     is_separator may_separate separator opens_parameters call_signature opens_construct construct_signature
@@ -76,6 +78,8 @@ parts_take l EntityRow = refl
 parts_take l ImportRow = refl
 parts_take l ArgumentsRow = refl
 parts_take l TypeParametersRow = refl
+parts_take l OpenedFunctionRow = refl
+parts_take l OpenedParametersRow = refl
 parts_take l ElementRow = refl
 parts_take l MemberRow = refl
 parts_take l KeyRow = refl
@@ -92,7 +96,7 @@ pub begins : (l : Lang) (r : Row)
     → holds_everywhere (λ x. implies (rule_starts (sets l) (rule l (TypesRow r)) none x) (first l (TypesRow r) x))
     ≡ true
 unfolding is_name is_word is_name_or_this is_numeric is_sign is_accessor_word is_near begins_key further_names entity
-    opens_arguments no_arguments reference import_type arguments is_modifier opens_modifier type_parameter
+    opens_arguments no_arguments further_arguments listed_parameters opened_parameters opened_function begins_angle begins_type_parameter shows_type_parameter opens_angle reference import_type arguments is_modifier opens_modifier type_parameter
     type_parameters parameters_in mark_in type_in list_before is_parameter parameters has_mark no_mark name_pattern
     array_pattern object_pattern pattern parameter pattern_element pattern_key opens_value pattern_property result_in
     is_separator may_separate separator opens_parameters call_signature opens_construct construct_signature
@@ -113,6 +117,8 @@ begins l EntityRow = refl
 begins l ImportRow = refl
 begins l ArgumentsRow = refl
 begins l TypeParametersRow = refl
+begins l OpenedFunctionRow = refl
+begins l OpenedParametersRow = refl
 begins l ElementRow = refl
 begins l MemberRow = refl
 begins l KeyRow = refl
@@ -128,7 +134,7 @@ begins l PatternKeyRow = refl
 pub tests_tell : (l : Lang) (r : Row)
     → holds_everywhere (rule_tells (sets l) (rule l (TypesRow r)) (follow (TypesRow r))) ≡ true
 unfolding is_name is_word is_name_or_this is_numeric is_sign is_accessor_word is_near begins_key further_names entity
-    opens_arguments no_arguments reference import_type arguments is_modifier opens_modifier type_parameter
+    opens_arguments no_arguments further_arguments listed_parameters opened_parameters opened_function begins_angle begins_type_parameter shows_type_parameter opens_angle reference import_type arguments is_modifier opens_modifier type_parameter
     type_parameters parameters_in mark_in type_in list_before is_parameter parameters has_mark no_mark name_pattern
     array_pattern object_pattern pattern parameter pattern_element pattern_key opens_value pattern_property result_in
     is_separator may_separate separator opens_parameters call_signature opens_construct construct_signature
@@ -149,6 +155,8 @@ tests_tell l EntityRow = refl
 tests_tell l ImportRow = refl
 tests_tell l ArgumentsRow = refl
 tests_tell l TypeParametersRow = refl
+tests_tell l OpenedFunctionRow = refl
+tests_tell l OpenedParametersRow = refl
 tests_tell l ElementRow = refl
 tests_tell l MemberRow = refl
 tests_tell l KeyRow = refl

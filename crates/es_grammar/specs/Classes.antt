@@ -8,7 +8,6 @@ use Rattle.es_tree.specs.Key.{Key, seen, same_kind, has_kind, is}
 use Rattle.es_tree.specs.Productions.{as_name, as_kind, as_there, greedy, by_predicate, Predicate, Rhs, done, tok, punct, row, opt, where_, Production, make, choose, pick}
 use Rattle.es_type_grammar.specs.Words.{only, is_name, is_accessor_word, is_near}
 use Rattle.es_type_grammar.specs.Modules.{ended}
-use Rattle.es_type_grammar.specs.Expressions.{ends_expression}
 use Rattle.es_type_grammar.specs.Functions.{starts_key, opens_accessor, opens_async, opens_star}
 use Rattle.es_type_grammar.specs.Classes.{opens_static, opens_field_accessor, behind_static, is_plain_member, opens_static_block}
 use Rattle.es_type_grammar.specs.Members.{shows_index}
@@ -50,10 +49,10 @@ is_member_key K at =
 unfoldable pub static_in : Rhs Row → Rhs Row
 static_in f = opt (by_predicate opens_static) (tok as_there (only k.StaticWord) done) f
 
--- '=' Assign before END
+-- ('=' Assign)? END
 unfoldable pub value_in : Context → Rhs Row
 value_in c =
-    opt (greedy (is k.Equal)) (punct k.Equal (row (AssignmentRow c) (where_ ends_expression done))) (plain_form ended)
+    opt (greedy (is k.Equal)) (punct k.Equal (row (AssignmentRow c) done)) (plain_form ended)
 
 -- Mod*, or 'static'?, and what stands behind them
 unfoldable pub head_in : Lang → Rhs Row → Rhs Row

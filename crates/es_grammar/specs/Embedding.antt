@@ -11,6 +11,7 @@ use Rattle.es_tree.specs.Fits.{most_nodes}
 use Rattle.es_tree.specs.Reader.{Out, nothing, gives, read_row}
 use Rattle.es_type_grammar.specs.Words.{only, is_name, is_word, is_other}
 use Rattle.es_type_grammar.specs.Modules.{opens_type_import}
+use Rattle.es_type_grammar.specs.TypeNames.{begins_angle}
 use Rattle.es_type_grammar.specs.declared.rows.Row as programs
 use Rattle.es_type_grammar.specs.declared.rows.Row.TheVariants as rows
 use Rattle.es_type_grammar.specs.declared.rows.NodeKind as labels
@@ -23,7 +24,7 @@ use Rattle.es_grammar.specs.TypeNames.{label_name}
 use Rattle.es_type_grammar.specs.TypeTable.{type_rule}
 use Rattle.es_grammar.specs.declared.rows.Row.{Row}
 use Rattle.es_grammar.specs.declared.rows.NodeKind.{NodeKind}
-use Rattle.es_grammar.specs.declared.rows.Row.TheVariants.{ModuleRow, ScriptRow, ItemRow, ClauseRow, NamedRow, ImportSpecifierRow, ExportSpecifierRow, AttributesRow, EntityRow, StatementRow, BlockRow, DeclarationRow, VariablesRow, DeclaratorRow, UsingRow, HeadRow, FunctionRow, ClassRow, SignatureRow, ParametersRow, ParameterRow, PatternRow, InnerPatternRow, PatternElementRow, PatternPropertyRow, MemberRow, PropertyRow, KeyRow, ExpressionRow, AssignmentRow, AndRow, BitOrRow, BitXorRow, BitAndRow, EqualityRow, RelationRow, ShiftRow, SumRow, ProductRow, PowerRow, UnaryRow, ChainRow, CalleeRow, PostRow, MemberPostRow, ArgumentsRow, ElementRow, TemplateRow, TypesRow}
+use Rattle.es_grammar.specs.declared.rows.Row.TheVariants.{ModuleRow, ScriptRow, ItemRow, ClauseRow, NamedRow, ImportSpecifierRow, ExportSpecifierRow, AttributesRow, EntityRow, StatementRow, BlockRow, DeclarationRow, VariablesRow, DeclaratorRow, UsingRow, HeadRow, HeadPatternRow, FunctionRow, ClassRow, SignatureRow, ParametersRow, ParameterRow, PatternRow, InnerPatternRow, PatternElementRow, PatternPropertyRow, MemberRow, PropertyRow, KeyRow, ExpressionRow, AssignmentRow, AndRow, BitOrRow, BitXorRow, BitAndRow, EqualityRow, RelationRow, ShiftRow, SumRow, ProductRow, PowerRow, UnaryRow, ChainRow, CalleeRow, PostRow, MemberPostRow, ArgumentsRow, ElementRow, TemplateRow, TypesRow}
 use Rattle.es_grammar.specs.Rows.{widened, in_module}
 
 -- ---- mapped rules
@@ -69,6 +70,7 @@ row_of (rows.VariablesRow c) = VariablesRow (widened c)
 row_of (rows.DeclaratorRow c) = DeclaratorRow (widened c)
 row_of (rows.UsingRow c) = UsingRow (widened c)
 row_of (rows.HeadRow c) = HeadRow (widened c)
+row_of (rows.HeadPatternRow c) = HeadPatternRow (widened c)
 row_of (rows.FunctionRow named c) = FunctionRow named (widened c)
 row_of (rows.ClassRow named c) = ClassRow named (widened c)
 row_of (rows.SignatureRow c) = SignatureRow (widened c)
@@ -106,6 +108,8 @@ row_of (rows.TemplateRow c) = TemplateRow (widened c)
 abbrev pub label_of : labels.NodeKind → NodeKind
 label_of named.BareImport = here.BareImport
 label_of named.FromImport = here.FromImport
+label_of named.SourceImport = here.SourceImport
+label_of named.DeferImport = here.DeferImport
 label_of named.RequireImport = here.RequireImport
 label_of named.EntityImport = here.EntityImport
 label_of named.ExportedRequireImport = here.ExportedRequireImport
@@ -204,6 +208,8 @@ label_of named.TemplatePost = here.TemplatePost
 label_of named.OptionalPost = here.OptionalPost
 label_of named.Super = here.Super
 label_of named.ImportCall = here.ImportCall
+label_of named.SourceCall = here.SourceCall
+label_of named.DeferCall = here.DeferCall
 label_of named.ImportMeta = here.ImportMeta
 label_of named.NewTarget = here.NewTarget
 label_of named.New = here.New
@@ -290,7 +296,7 @@ type_parameters_in f = opt (greedy (is k.Less)) (row (TypesRow types.TypeParamet
 
 -- TArgs?
 unfoldable pub type_arguments_in : Rhs Row → Rhs Row
-type_arguments_in f = opt (greedy (is k.Less)) (row (TypesRow types.ArgumentsRow) done) f
+type_arguments_in f = opt (greedy begins_angle) (row (TypesRow types.ArgumentsRow) done) f
 
 -- ---- where type arguments and type parameters can be read
 
@@ -310,9 +316,10 @@ begins_call x = is k.OpenParen x || (is k.TemplateWhole x || is k.TemplateHead x
 unfoldable pub stands_call : Predicate
 stands_call K at = begins_call (seen K at)
 
--- `<` after an expression opens type arguments exactly where they can be read there and `(` or a template follows
+-- `<` or `<<` after an expression opens type arguments exactly where they can be read there and `(` or a template
+-- follows
 unfoldable pub opens_call_arguments : Predicate
-opens_call_arguments K at = is k.Less (seen K at) && reads_before types.ArgumentsRow stands_call K at
+opens_call_arguments K at = begins_angle (seen K at) && reads_before types.ArgumentsRow stands_call K at
 
 -- behind `extends` also where `{` or `implements` follows
 unfoldable pub stands_heritage : Predicate
@@ -320,4 +327,4 @@ stands_heritage K at =
     begins_call (seen K at) || (is k.OpenBrace (seen K at) || is k.ImplementsWord (seen K at))
 
 unfoldable pub opens_heritage_arguments : Predicate
-opens_heritage_arguments K at = is k.Less (seen K at) && reads_before types.ArgumentsRow stands_heritage K at
+opens_heritage_arguments K at = begins_angle (seen K at) && reads_before types.ArgumentsRow stands_heritage K at

@@ -5,25 +5,55 @@ use Rattle.es_token.specs.declared.token.TokenKind.{TokenKind}
 use Rattle.es_token.specs.declared.token.TokenKind.TheVariants as k
 use Rattle.es_tree.specs.declared.error.Lang.{Lang}
 use Rattle.es_tree.specs.declared.error.Lang.TheVariants as lang
-use Rattle.es_tree.specs.Key.{TokenTest, seen, same_kind, has_kind, is}
+use Rattle.es_tree.specs.Key.{TokenTest, seen, same_kind, has_kind, is, is_after_line}
 use Rattle.es_tree.specs.Productions.{as_str, as_name, as_raw, as_kind, as_there, by_lookahead, greedy, by_predicate, Predicate, Rhs, done, tok, punct, row, opt, many, alt, when_, where_, Production, make, choose, pick, wrap}
 use Rattle.es_tree.specs.Tells.{none}
 use Rattle.es_type_grammar.specs.Words.{only, is_name, is_numeric, is_near, is_other, closes_before}
-use Rattle.es_grammar.specs.declared.rows.NodeKind.TheVariants.{AbstractClass, Arguments, ArrayLiteral, Assignment, AsyncFunction, AsyncNameArrow, AsyncParenthesizedArrow, AwaitExpression, Binary, CallPost, Chain, Class, Conditional, Function, ImportCall, ImportMeta, IndexPost, MemberPost, Name, NameArrow, New, NewTarget, NonNullPost, Number, ObjectLiteral, OptionalPost, Parenthesized, ParenthesizedArrow, PatternAssignment, PrivateIn, RegExp, Sequence, Spread, Str, Super, Template, TemplateParts, TemplatePost, TypedAsyncFunction, TypedAsyncParenthesizedArrow, TypedBinary, TypedCallPost, TypedClass, TypedFunction, TypedNew, TypedOptionalPost, TypedParenthesizedArrow, TypedTemplatePost, UnaryExpression, UpdatePostfix, UpdatePrefix, Word, Yield}
+use Rattle.es_grammar.specs.declared.rows.NodeKind.TheVariants.{AbstractClass, Arguments, ArrayLiteral, Assignment, AsyncFunction, AsyncNameArrow, AsyncParenthesizedArrow, AwaitExpression, Binary, CallPost, Chain, Class, Conditional, Function, ImportCall, SourceCall, DeferCall, ImportMeta, IndexPost, MemberPost, Name, NameArrow, New, NewTarget, NonNullPost, Number, ObjectLiteral, OptionalPost, Parenthesized, ParenthesizedArrow, PatternAssignment, PrivateIn, RegExp, Sequence, Spread, Str, Super, Template, TemplateParts, TemplatePost, TypedAsyncFunction, TypedAsyncParenthesizedArrow, TypedBinary, TypedCallPost, TypedClass, TypedFunction, TypedNew, TypedOptionalPost, TypedParenthesizedArrow, TypedTemplatePost, UnaryExpression, UpdatePostfix, UpdatePrefix, Word, Yield}
 use Rattle.es_type_grammar.specs.declared.rows.TypeRow.TheVariants as types
 use Rattle.es_type_grammar.specs.Modules.{ended}
-use Rattle.es_type_grammar.specs.Expressions.{is_prefix, is_update, is_product, is_sum, is_equality, is_relation, is_assignment, is_property_name, joins, opens_greater, begins_expression, is_arrow, no_arrow, opens_plain_arrow, opens_async_arrow, opens_async_parenthesis, is_no_arrow_head, opens_async_function, is_literal_word, opens_property, has_argument, follows_super, begins_member, begins_post, is_update_here, no_update_here, opens_shift, no_mix, opens_pattern, opens_assignment}
+use Rattle.es_type_grammar.specs.TypeNames.{begins_angle}
+use Rattle.es_type_grammar.specs.Expressions.{is_prefix, is_update, is_product, is_sum, is_equality, is_relation, is_assignment, is_property_name, joins, opens_greater, begins_expression, is_arrow, no_arrow, opens_plain_arrow, opens_async_arrow, opens_async_parenthesis, is_no_arrow_head, opens_async_function, is_literal_word, opens_property, has_argument, opens_source_call, opens_defer_call, follows_super, begins_member, begins_post, is_update_here, no_update_here, opens_shift, no_mix, opens_pattern, opens_assignment}
 use Rattle.es_grammar.specs.declared.rows.Context.{Context}
 use Rattle.es_grammar.specs.declared.rows.Row.{Row}
 use Rattle.es_grammar.specs.declared.rows.NodeKind.{NodeKind}
-use Rattle.es_grammar.specs.declared.rows.Row.TheVariants.{BlockRow, SignatureRow, ParametersRow, PatternRow, PropertyRow, ExpressionRow, AssignmentRow, AndRow, BitOrRow, BitXorRow, BitAndRow, EqualityRow, RelationRow, ShiftRow, SumRow, ProductRow, PowerRow, UnaryRow, ChainRow, CalleeRow, PostRow, MemberPostRow, ArgumentsRow, ElementRow, TemplateRow, MemberRow, TypesRow}
+use Rattle.es_grammar.specs.declared.rows.Row.TheVariants.{BlockRow, SignatureRow, ParametersRow, PatternRow, PropertyRow, ExpressionRow, AssignmentRow, AndRow, BitOrRow, BitXorRow, BitAndRow, EqualityRow, RelationRow, RightRow, ShiftRow, SumRow, ProductRow, PowerRow, UnaryRow, ChainRow, CalleeRow, PostRow, MemberPostRow, ArgumentsRow, ElementRow, TemplateRow, MemberRow, TypesRow}
 use Rattle.es_grammar.specs.Rows.{outside, async_in, async_here, without_colon}
-use Rattle.es_grammar.specs.Embedding.{label_by, typed_in, type_then, plain_form, type_parameters_in, type_arguments_in, reads_before, opens_call_arguments, opens_heritage_arguments}
+use Rattle.es_grammar.specs.Embedding.{label_by, typed_in, type_then, plain_form, type_parameters_in, type_arguments_in, reads_before, begins_call, opens_call_arguments, opens_heritage_arguments}
+
+-- `as` or `satisfies`, on the line of the token before it
+unfoldable pub is_assertion_word : TokenKind → Bool
+is_assertion_word kind = same_kind kind k.AsWord || same_kind kind k.SatisfiesWord
+
+unfoldable pub opens_assertion : TokenTest
+opens_assertion x = is_near x && has_kind is_assertion_word x
 
 -- in TypeScript an expression may also begin with `<`: an arrow's type parameters
 abbrev pub begins_value : Lang → TokenTest
 begins_value lang.Es x = begins_expression x
 begins_value lang.Typescript x = is k.Less x || begins_expression x
+
+-- ---- type arguments of `new`
+
+-- a token that goes on with what `a<b>` is as comparisons, or with a member
+unfoldable pub goes_on : TokenTest
+goes_on x =
+    is k.Less x || (is k.Greater x || (has_kind is_sum x || (is k.Equal x || (is k.Dot x || (is k.QuestionDot x
+    || is k.OpenBracket x)))))
+
+-- `new a<b>` ends before a token that doesn't, and that stands on a new line, is `as` or `satisfies`, or begins no
+-- expression
+unfoldable pub ends_new : TokenTest
+ends_new x = not (goes_on x) && (is_after_line x || (opens_assertion x || not (begins_expression x)))
+
+-- behind the type arguments of `new`: `(` or a template, or such a token; `>==` is no `>` before `==`
+unfoldable pub stands_new : Predicate
+stands_new K at =
+    begins_call (seen K at)
+    || (ends_new (seen K at) && not (joins k.EqualEqual K at || joins k.EqualEqualEqual K at))
+
+unfoldable pub opens_new_arguments : Predicate
+opens_new_arguments K at = begins_angle (seen K at) && reads_before types.ArgumentsRow stands_new K at
 
 -- ---- arrows
 
@@ -124,6 +154,17 @@ unfoldable pub name_in : Bool → Rhs Row → Rhs Row
 name_in true f = tok as_name is_name f
 name_in false f = opt (greedy (has_kind is_name)) (tok as_name is_name done) f
 
+-- in TypeScript `implements` before a name is no name of a class
+unfoldable pub opens_class_name : Predicate
+opens_class_name K at =
+    has_kind is_name (seen K at) && not (is k.ImplementsWord (seen K at) && has_kind is_name (seen K (at + 1)))
+
+-- a class's name
+unfoldable pub class_name_in : Lang → Bool → Rhs Row → Rhs Row
+class_name_in lang.Es named f = name_in named f
+class_name_in lang.Typescript true f = name_in true f
+class_name_in lang.Typescript false f = opt (by_predicate opens_class_name) (tok as_name is_name done) f
+
 -- Block | TS END: a function's block is taken where its `{` is there
 unfoldable pub body_in : Lang → Context → Rhs Row
 body_in lang.Es c = row (BlockRow c) done
@@ -164,7 +205,7 @@ implements_in f = opt (greedy (is k.ImplementsWord)) (punct k.ImplementsWord (re
 -- 'class' Name? (TS TParams)? ('extends' Chain (TS TArgs)?)? (TS 'implements' Ref%+)? '{' Member* '}'
 unfoldable pub class_form : Lang → Bool → Context → Rhs Row
 class_form l named c =
-    punct k.ClassWord (name_in named (typed_in l type_parameters_in
+    punct k.ClassWord (class_name_in l named (typed_in l type_parameters_in
     (opt (greedy (is k.ExtendsWord)) (punct k.ExtendsWord (row (ChainRow (outside c)) (typed_in l heritage_in done)))
     (typed_in l implements_in
     (punct k.OpenBrace (many (by_lookahead (is_other k.CloseBrace)) (row (MemberRow (outside c)) done)
@@ -239,12 +280,24 @@ primary l c =
 
 -- ---- chains
 
+-- '(' Assign (',' Assign)? ','? ')'
+unfoldable pub import_arguments : Context → Rhs Row
+import_arguments c =
+    punct k.OpenParen (row (AssignmentRow (outside c))
+    (opt (by_predicate has_argument) (punct k.Comma (row (AssignmentRow (outside c)) done))
+    (opt (greedy (is k.Comma)) (punct k.Comma done) (punct k.CloseParen done))))
+
 -- 'import' '(' Assign (',' Assign)? ','? ')'
 unfoldable pub import_call : Context → Production Row NodeKind
-import_call c =
-    make ImportCall (punct k.ImportWord (punct k.OpenParen (row (AssignmentRow (outside c))
-    (opt (by_predicate has_argument) (punct k.Comma (row (AssignmentRow (outside c)) done))
-    (opt (greedy (is k.Comma)) (punct k.Comma done) (punct k.CloseParen done))))))
+import_call c = make ImportCall (punct k.ImportWord (import_arguments c))
+
+-- 'import' '.' 'source' '(' Assign (',' Assign)? ','? ')'
+unfoldable pub source_call : Context → Production Row NodeKind
+source_call c = make SourceCall (punct k.ImportWord (punct k.Dot (punct k.SourceWord (import_arguments c))))
+
+-- 'import' '.' 'defer' '(' Assign (',' Assign)? ','? ')'
+unfoldable pub defer_call : Context → Production Row NodeKind
+defer_call c = make DeferCall (punct k.ImportWord (punct k.Dot (punct k.DeferWord (import_arguments c))))
 
 unfoldable pub is_module : Context → Predicate
 is_module c K at = not c.script
@@ -254,19 +307,30 @@ unfoldable pub import_meta : Context → Production Row NodeKind
 import_meta c =
     make ImportMeta (where_ (is_module c) (punct k.ImportWord (punct k.Dot (punct k.MetaWord done))))
 
--- (TS TArgs)? Args?, behind Chain1
-unfoldable pub call_arguments_in : Rhs Row → Rhs Row
-call_arguments_in f = opt (by_predicate opens_call_arguments) (row (TypesRow types.ArgumentsRow) done) f
+-- (TS TArgs)?, behind Chain1
+unfoldable pub new_arguments_in : Rhs Row → Rhs Row
+new_arguments_in f = opt (by_predicate opens_new_arguments) (row (TypesRow types.ArgumentsRow) done) f
 
--- Base: Prim | 'super' | 'import' '(' .. ')' | 'import' '.' 'meta' | 'new' '.' 'target'
---       | 'new' Chain1 (TS TArgs)? Args?
-unfoldable pub base : Lang → Context → Production Row NodeKind
-base l c =
+-- 'import' '(' .. ')' | 'import' '.' ('source' | 'defer') '(' .. ')' | 'import' '.' 'meta'
+unfoldable pub import_base : Context → Production Row NodeKind
+import_base c =
+    pick opens_source_call (source_call c)
+    (pick opens_defer_call (defer_call c) (pick opens_property (import_meta c) (import_call c)))
+
+-- behind `new` (false) an import is no call (ECMA-262, "Left-Hand-Side Expressions")
+unfoldable pub imported : Bool → Context → Production Row NodeKind
+imported true c = import_base c
+imported false c = import_meta c
+
+-- Base: Prim | 'super' | 'import' '(' .. ')' | 'import' '.' 'meta' | 'import' '.' ('source' | 'defer') '(' .. ')'
+--       | 'new' '.' 'target' | 'new' Chain1 (TS TArgs)? Args?, import calls not behind `new`
+unfoldable pub base : Lang → Bool → Context → Production Row NodeKind
+base l called c =
     choose (is k.SuperWord) (make Super (tok as_there (only k.SuperWord) (when_ follows_super done)))
-    (choose (is k.ImportWord) (pick opens_property (import_meta c) (import_call c))
+    (choose (is k.ImportWord) (imported called c)
     (choose (is k.NewWord)
     (pick opens_property (make NewTarget (punct k.NewWord (punct k.Dot (punct k.TargetWord done))))
-    (make (label_by l New TypedNew) (punct k.NewWord (row (CalleeRow c) (typed_in l call_arguments_in
+    (make (label_by l New TypedNew) (punct k.NewWord (row (CalleeRow c) (typed_in l new_arguments_in
     (opt (greedy (is k.OpenParen)) (row (ArgumentsRow c) done) done))))))
     (primary l c)))
 
@@ -287,7 +351,7 @@ abbrev pub begins_callee_post : Lang → TokenTest
 begins_callee_post lang.Es x = begins_member x
 begins_callee_post lang.Typescript x = begins_member x || opens_non_null x
 
--- a token that begins a further part of a chain, or in TypeScript `<` that opens type arguments
+-- a token that begins a further part of a chain, or in TypeScript `<` or `<<` that opens type arguments
 unfoldable pub opens_post : Predicate
 opens_post K at = begins_post (seen K at) || (opens_non_null (seen K at) || opens_call_arguments K at)
 
@@ -311,7 +375,7 @@ member_post lang.Typescript c = choose (is k.Exclamation) non_null_post (plain_m
 -- the arguments of a call behind `?.`
 abbrev pub begins_arguments : Lang → TokenTest
 begins_arguments lang.Es x = is k.OpenParen x
-begins_arguments lang.Typescript x = is k.OpenParen x || is k.Less x
+begins_arguments lang.Typescript x = is k.OpenParen x || begins_angle x
 
 -- '?.' (Name | PrivateName | '[' Expr ']' | (TS TArgs)? Args)
 unfoldable pub optional_post : Lang → Context → Production Row NodeKind
@@ -328,10 +392,10 @@ is_at t K at = t (seen K at)
 unfoldable pub opens_call : Predicate
 opens_call K at =
     is k.OpenParen (seen K at)
-    || (is k.Less (seen K at) && reads_before types.ArgumentsRow (is_at (is k.OpenParen)) K at)
+    || (begins_angle (seen K at) && reads_before types.ArgumentsRow (is_at (is k.OpenParen)) K at)
 
 unfoldable pub opens_typed_template : Predicate
-opens_typed_template K at = is k.Less (seen K at)
+opens_typed_template K at = begins_angle (seen K at)
 
 -- Post: '.' (Name | PrivateName) | '[' Expr ']' | (TS TArgs)? Args | (TS TArgs)? Tpl | '?.' .. | TS ~ '!'
 unfoldable pub post : Lang → Context → Production Row NodeKind
@@ -346,16 +410,16 @@ post lang.Typescript c =
 -- Chain: Base Post*
 unfoldable pub chain : Lang → Context → Production Row NodeKind
 chain lang.Es c =
-    wrap Chain (base lang.Es c) (greedy begins_post)
+    wrap Chain (base lang.Es true c) (greedy begins_post)
     (row (PostRow c) (many (greedy begins_post) (row (PostRow c) done) done))
 chain lang.Typescript c =
-    wrap Chain (base lang.Typescript c) (by_predicate opens_post)
+    wrap Chain (base lang.Typescript true c) (by_predicate opens_post)
     (row (PostRow c) (many (by_predicate opens_post) (row (PostRow c) done) done))
 
--- Chain1: a Chain with no Args, no `?.` and no TArgs
+-- Chain1: a Chain with no Args, no `?.` and no TArgs, and no import call at its front
 unfoldable pub callee : Lang → Context → Production Row NodeKind
 callee l c =
-    wrap Chain (base l c) (greedy (begins_callee_post l))
+    wrap Chain (base l false c) (greedy (begins_callee_post l))
     (row (MemberPostRow c) (many (greedy (begins_callee_post l)) (row (MemberPostRow c) done) done))
 
 -- ---- operators
@@ -370,22 +434,27 @@ update l c =
     (wrap UpdatePostfix (chain l c) (greedy is_update_here) (when_ is_near (tok as_kind is_update
     (when_ no_update_here done))))
 
--- ('delete' | 'void' | 'typeof' | '+' | '-' | '~' | '!') Unary
-unfoldable pub prefix : Context → Production Row NodeKind
-prefix c = make UnaryExpression (tok as_kind is_prefix (row (UnaryRow c) done))
+-- ('delete' | 'void' | 'typeof' | '+' | '-' | '~' | '!') Unary, and what stands behind it
+unfoldable pub prefix : Context → Rhs Row → Production Row NodeKind
+prefix c f = make UnaryExpression (tok as_kind is_prefix (row (UnaryRow c) f))
 
 -- 'await' Unary, in modules and in async functions
-unfoldable pub await_ : Context → Production Row NodeKind
-await_ c = make AwaitExpression (where_ (may_await c) (punct k.AwaitWord (row (UnaryRow c) done)))
+unfoldable pub await_ : Context → Rhs Row → Production Row NodeKind
+await_ c f = make AwaitExpression (where_ (may_await c) (punct k.AwaitWord (row (UnaryRow c) f)))
 
 -- Unary
 unfoldable pub unary : Lang → Context → Production Row NodeKind
-unary l c = choose (has_kind is_prefix) (prefix c) (choose (is k.AwaitWord) (await_ c) (update l c))
+unary l c = choose (has_kind is_prefix) (prefix c done) (choose (is k.AwaitWord) (await_ c done) (update l c))
+
+-- in TypeScript `**` may stand at the level of `<` too, behind a type: not behind such an operand
+unfoldable pub no_power : Lang → Rhs Row
+no_power lang.Es = done
+no_power lang.Typescript = when_ (is_other k.StarStar) done
 
 -- Unary | (Chain or update) '**' Power
 unfoldable pub power : Lang → Context → Production Row NodeKind
 power l c =
-    choose (has_kind is_prefix) (prefix c) (choose (is k.AwaitWord) (await_ c)
+    choose (has_kind is_prefix) (prefix c (no_power l)) (choose (is k.AwaitWord) (await_ c (no_power l))
     (wrap Binary (update l c) (greedy (is k.StarStar))
     (tok as_kind (only k.StarStar) (row (PowerRow c) (when_ (is_other k.StarStar) done)))))
 
@@ -399,29 +468,36 @@ product l c = level is_product (PowerRow c) (power l c)
 unfoldable pub sum : Lang → Context → Production Row NodeKind
 sum l c = level is_sum (ProductRow c) (product l c)
 
--- '<<' | '>>' | '>>>'
-unfoldable pub shift : Lang → Context → Production Row NodeKind
-shift l c =
-    wrap Binary (sum l c) (by_predicate opens_shift)
+-- '<<' | '>>' | '>>>', in TypeScript `<<` only where it opens no type arguments
+unfoldable pub opens_shift_in : Lang → Predicate
+opens_shift_in lang.Es K at = opens_shift K at
+opens_shift_in lang.Typescript K at = opens_shift K at && not (opens_call_arguments K at)
+
+-- these behind an operand
+unfoldable pub shifted : Lang → Context → Production Row NodeKind → Production Row NodeKind
+shifted l c operand =
+    wrap Binary operand (by_predicate (opens_shift_in l))
     (alt (is k.Greater)
     (tok as_kind (only k.Greater) (tok as_there (only k.Greater)
     (opt (by_predicate (joins k.Greater)) (tok as_there (only k.Greater) done) done)))
     (tok as_kind (only k.LessLess) done) (row (SumRow c) done))
 
--- `as` or `satisfies`, on the line of the token before it
-unfoldable pub is_assertion_word : TokenKind → Bool
-is_assertion_word kind = same_kind kind k.AsWord || same_kind kind k.SatisfiesWord
+unfoldable pub shift : Lang → Context → Production Row NodeKind
+shift l c = shifted l c (sum l c)
 
-unfoldable pub opens_assertion : TokenTest
-opens_assertion x = is_near x && has_kind is_assertion_word x
+-- an operator of one token at the level of `<` or tighter
+unfoldable pub is_tight : TokenKind → Bool
+is_tight kind =
+    is_relation kind || (same_kind kind k.LessLess || (is_sum kind || (is_product kind || same_kind kind k.StarStar)))
 
 -- '<' | '<=' | '>' | '>=' | 'instanceof' | 'in', this one outside the head of a `for`; in TypeScript also such a
--- word, and `<` only where it opens no type arguments
+-- word, `<` only where it opens no type arguments, and the tighter operators of one token: behind an operand their own
+-- level has taken them, and behind a type they go on from here
 unfoldable pub opens_comparison : Lang → Context → Predicate
 opens_comparison lang.Es c K at =
     opens_greater K at || (has_kind is_relation (seen K at) && not (c.no_in && is k.InWord (seen K at)))
 opens_comparison lang.Typescript c K at =
-    opens_greater K at || (opens_assertion (seen K at) || (has_kind is_relation (seen K at)
+    opens_greater K at || (opens_assertion (seen K at) || (has_kind is_tight (seen K at)
     && (not (c.no_in && is k.InWord (seen K at)) && not (opens_call_arguments K at))))
 
 unfoldable pub may_test : Context → Predicate
@@ -439,6 +515,26 @@ comparison_in c =
     alt (is k.Greater) (tok as_kind (only k.Greater) (opt (by_predicate (joins k.Equal)) (tok as_there
     (only k.Equal) done) done))
     (tok as_kind is_relation done) (row (ShiftRow c) done)
+
+-- the token before is of such a kind
+unfoldable pub comes_behind : (TokenKind → Bool) → Predicate
+comes_behind may K at = has_kind may (seen K (at - 1))
+
+unfoldable pub is_tightest : TokenKind → Bool
+is_tightest kind = is_product kind || same_kind kind k.StarStar
+
+-- the right operand of an operator at the level of `<` or tighter, by the operator before it
+unfoldable pub right_operand : Lang → Context → Production Row NodeKind
+right_operand l c =
+    pick (comes_behind is_tightest) (power l c)
+    (pick (comes_behind is_sum) (product l c) (pick (comes_behind (only k.LessLess)) (sum l c) (shift l c)))
+
+-- an operator at the level of `<` or tighter, and its operand
+unfoldable pub tight_in : Context → Rhs Row
+tight_in c =
+    alt (is k.Greater) (tok as_kind (only k.Greater) (opt (by_predicate (joins k.Equal)) (tok as_there
+    (only k.Equal) done) done))
+    (tok as_kind is_tight done) (row (RightRow c) done)
 
 -- `const` stands behind `as` alone
 unfoldable pub is_behind_as : Predicate
@@ -458,13 +554,14 @@ asserted_or other = alt (has_kind is_assertion_word) asserted other done
 unfoldable pub no_form : Rhs Row
 no_form = when_ none (punct k.Semicolon done)
 
+-- in TypeScript `>>` and `>>>` behind a type go on outside: a run of `>` doesn't tell by its end how long it is
 unfoldable pub relation : Lang → Context → Production Row NodeKind
 relation lang.Es c =
     wrap Binary (choose (is k.PrivateName) (private_in c) (shift lang.Es c))
     (by_predicate (opens_comparison lang.Es c)) (comparison_in c)
 relation lang.Typescript c =
-    wrap TypedBinary (choose (is k.PrivateName) (private_in c) (shift lang.Typescript c))
-    (by_predicate (opens_comparison lang.Typescript c)) (asserted_or (comparison_in c))
+    shifted lang.Typescript c (wrap TypedBinary (choose (is k.PrivateName) (private_in c) (shift lang.Typescript c))
+    (by_predicate (opens_comparison lang.Typescript c)) (asserted_or (tight_in c)))
 
 unfoldable pub equality : Lang → Context → Production Row NodeKind
 equality l c = level is_equality (RelationRow c) (relation l c)

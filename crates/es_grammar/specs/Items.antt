@@ -9,15 +9,15 @@ use Rattle.es_tree.specs.Productions.{as_raw, by_lookahead, greedy, Predicate, R
 use Rattle.es_type_grammar.specs.Words.{only}
 use Rattle.es_type_grammar.specs.Modules as modules
 use Rattle.es_type_grammar.specs.Items as items
+use Rattle.es_type_grammar.specs.Modules.{ended}
 use Rattle.es_grammar.specs.declared.rows.NodeKind.TheVariants.{ExportAssignment, ExportDeclaration, ExportDefaultClass, ExportDefaultExpression, ExportDefaultFunction, ExportDefaultInterface, Module, Script}
 use Rattle.es_grammar.specs.declared.rows.Context.{Context}
 use Rattle.es_grammar.specs.declared.rows.Row.{Row}
 use Rattle.es_grammar.specs.declared.rows.NodeKind.{NodeKind}
 use Rattle.es_grammar.specs.declared.rows.Row.TheVariants.{ItemRow, StatementRow, DeclarationRow, DeclaredRow, FunctionRow, ClassRow, ExpressionRow, AssignmentRow}
 use Rattle.es_grammar.specs.Rows.{in_module, in_script}
-use Rattle.es_grammar.specs.Embedding.{plain_rule}
+use Rattle.es_grammar.specs.Embedding.{plain_rule, plain_form}
 use Rattle.es_grammar.specs.Expressions.{opens_abstract_class}
-use Rattle.es_grammar.specs.Statements.{expression_ended}
 use Rattle.es_grammar.specs.Declarations.{opens_interface, opens_alias, opens_enum, opens_namespace, opens_module, opens_global, opens_declare, statement}
 
 -- behind `export default` stands a class, in TypeScript also an abstract one
@@ -32,7 +32,7 @@ opens_default_interface K at = opens_interface K (at + 2)
 unfoldable pub default_expression : Context → Production Row NodeKind
 default_expression c =
     make ExportDefaultExpression (punct k.ExportWord (punct k.DefaultWord (row
-    (AssignmentRow c) expression_ended)))
+    (AssignmentRow c) (plain_form ended))))
 
 -- TS 'export' 'default' Interface
 unfoldable pub default_interface : Context → Production Row NodeKind
@@ -67,7 +67,7 @@ unfoldable pub export_names : Lang → Context → Production Row NodeKind
 export_names lang.Es c = plain_rule (modules.export_ lang.Es)
 export_names lang.Typescript c =
     pick opens_export_assignment
-    (make ExportAssignment (punct k.ExportWord (punct k.Equal (row (ExpressionRow c) expression_ended))))
+    (make ExportAssignment (punct k.ExportWord (punct k.Equal (row (ExpressionRow c) (plain_form ended)))))
     (plain_rule (modules.export_ lang.Typescript))
 
 -- Export: 'export' Decl | 'export' 'default' (Fn | Class | TS Interface | Assign END), and of names

@@ -1,28 +1,23 @@
 -- Statements and variables in both languages (ECMA-262, "ECMAScript Language: Statements and Declarations").
-use Rattle.std.specs.Prelude.{true, false, ◌&&◌, ◌||◌}
+use Rattle.std.specs.Prelude.{◌+◌, ◌-◌, true, false, ◌&&◌, ◌||◌}
 use Rattle.es_token.specs.declared.token.TokenKind.TheVariants as k
 use Rattle.es_tree.specs.declared.error.Lang.{Lang}
 use Rattle.es_tree.specs.declared.error.Lang.TheVariants as lang
-use Rattle.es_tree.specs.Key.{TokenTest, has_kind, is}
+use Rattle.es_tree.specs.Key.{TokenTest, seen, has_kind, is}
 use Rattle.es_tree.specs.Productions.{as_name, as_kind, as_there, by_lookahead, greedy, by_predicate, Predicate, Rhs, done, tok, punct, row, opt, many, alt, when_, where_, Production, make, choose, pick, wrap}
 use Rattle.es_type_grammar.specs.Words.{only, is_name, is_near, is_other}
 use Rattle.es_type_grammar.specs.Modules.{ended}
-use Rattle.es_type_grammar.specs.Expressions.{ends_expression}
 use Rattle.es_type_grammar.specs.Functions.{key_before}
-use Rattle.es_type_grammar.specs.Statements.{is_variable_word, ends_value, opens_using, opens_for, opens_for_await, opens_head_pattern, starts_using, starts_expression, label_ended, is_case, is_in_case, opens_label, begins_no_other}
-use Rattle.es_grammar.specs.declared.rows.NodeKind.TheVariants.{Block, BreakStatement, ContinueStatement, DebuggerStatement, Declarator, DoStatement, ExpressionStatement, ForAwaitStatement, ForEachStatement, ForStatement, IfStatement, LabelledStatement, ReturnStatement, SwitchStatement, ThrowStatement, TryStatement, TypedDeclarator, TypedTryStatement, TypedVariableHead, Using, UsingHead, VariableHead, Variables, WhileStatement, WithStatement}
+use Rattle.es_type_grammar.specs.Statements.{is_variable_word, opens_using, opens_for, opens_for_await, opens_head_pattern, starts_using, starts_expression, label_ended, is_case, is_in_case, opens_label, begins_no_other}
+use Rattle.es_grammar.specs.declared.rows.NodeKind.TheVariants.{Block, BreakStatement, ContinueStatement, DebuggerStatement, Declarator, DefaultPattern, DoStatement, ExpressionStatement, ForAwaitStatement, ForEachStatement, ForStatement, IfStatement, LabelledStatement, ReturnStatement, SwitchStatement, ThrowStatement, TryStatement, TypedDeclarator, TypedTryStatement, TypedVariableHead, Using, UsingHead, VariableHead, Variables, WhileStatement, WithStatement}
 use Rattle.es_grammar.specs.declared.rows.Context.{Context}
 use Rattle.es_grammar.specs.declared.rows.Row.{Row}
 use Rattle.es_grammar.specs.declared.rows.NodeKind.{NodeKind}
-use Rattle.es_grammar.specs.declared.rows.Row.TheVariants.{StatementRow, BlockRow, VariablesRow, DeclaratorRow, UsingRow, HeadRow, PatternRow, ExpressionRow, AssignmentRow}
+use Rattle.es_grammar.specs.declared.rows.Row.TheVariants.{StatementRow, BlockRow, VariablesRow, DeclaratorRow, UsingRow, HeadRow, HeadPatternRow, PatternRow, ExpressionRow, AssignmentRow}
 use Rattle.es_grammar.specs.Rows.{outside, in_head, without_colon}
 use Rattle.es_grammar.specs.Embedding.{label_by, typed_in, annotation_in, plain_form}
-use Rattle.es_grammar.specs.Expressions.{begins_value, may_await}
+use Rattle.es_grammar.specs.Expressions.{begins_value, may_await, opens_non_null}
 use Rattle.es_grammar.specs.Functions.{target, pattern}
-
--- END behind an expression
-unfoldable pub expression_ended : Rhs Row
-expression_ended = where_ ends_expression (plain_form ended)
 
 -- '(' Expr ')', and what stands behind it
 unfoldable pub condition_in : Context → Rhs Row → Rhs Row
@@ -36,23 +31,23 @@ block c =
 
 -- ---- variables
 
--- a pattern before `!`, `:` or `=`
+-- behind a pattern: `!` on its line, `:` or `=`
 unfoldable pub is_declarator_mark : TokenTest
-is_declarator_mark x = is k.Exclamation x || (is k.Colon x || is k.Equal x)
+is_declarator_mark x = opens_non_null x || (is k.Colon x || is k.Equal x)
 
 unfoldable pub opens_declarator : Predicate
 opens_declarator K at = key_before is_declarator_mark K at
 
--- Dtor: Pat (TS '!')? (TS ':' Type)? ('=' Assign)?, without a node of its own where it is a pattern alone
+-- Dtor: Pat (TS ~ '!')? (TS ':' Type)? ('=' Assign)?, without a node of its own where it is a pattern alone
 unfoldable pub declarator : Lang → Context → Production Row NodeKind
 declarator lang.Es c =
     wrap Declarator (pattern lang.Es false (outside c)) (greedy (is k.Equal))
-    (punct k.Equal (row (AssignmentRow c) (when_ (is_other k.Equal) (where_ ends_value done))))
+    (punct k.Equal (row (AssignmentRow c) (when_ (is_other k.Equal) done)))
 declarator lang.Typescript c =
     pick opens_declarator
     (make TypedDeclarator (row (PatternRow false (outside c))
-    (opt (greedy (is k.Exclamation)) (tok as_there (only k.Exclamation) done)
-    (annotation_in (opt (greedy (is k.Equal)) (punct k.Equal (row (AssignmentRow c) (where_ ends_value done))) done)))))
+    (opt (greedy opens_non_null) (when_ is_near (tok as_there (only k.Exclamation) done))
+    (annotation_in (opt (greedy (is k.Equal)) (punct k.Equal (row (AssignmentRow c) done)) done)))))
     (pattern lang.Typescript false (outside c))
 
 -- Dtor (',' Dtor)*
@@ -76,12 +71,31 @@ using_ c = make Using (using_in c (declarators c))
 
 -- ---- loops
 
--- Head: ('var' | 'let' | 'const') Pat (TS ':' Type)? | ('await' ~)? 'using' ~ Name | Target
+-- in scripts `var` before a name and `=`: an initial value in the head of a `for` with `in` (ECMA-262, "Initializers in
+-- ForIn Statement Heads")
+unfoldable pub opens_initial : Context → Predicate
+opens_initial c K at =
+    c.script && (is k.VarWord (seen K (at - 1)) && (has_kind is_name (seen K at) && is k.Equal (seen K (at + 1))))
+
+-- Pat | in scripts, behind 'var': Name '=' Assign, before `in`
+unfoldable pub head_pattern : Lang → Context → Production Row NodeKind
+head_pattern l c =
+    pick (opens_initial c)
+    (make DefaultPattern (row (PatternRow false c) (punct k.Equal (row (AssignmentRow (in_head c)) (when_
+    (is k.InWord) done)))))
+    (pattern l false c)
+
+-- such a pattern; TS: Pat (':' Type)?
+unfoldable pub head_pattern_in : Lang → Context → Rhs Row
+head_pattern_in lang.Es c = row (HeadPatternRow c) done
+head_pattern_in lang.Typescript c = row (PatternRow false c) (annotation_in done)
+
+-- Head: ('var' | 'let' | 'const') (Pat (TS ':' Type)? | 'var' Name '=' Assign) | ('await' ~)? 'using' ~ Name | Target
 unfoldable pub head : Lang → Context → Production Row NodeKind
 head l c =
     choose (has_kind is_variable_word)
     (make (label_by l VariableHead TypedVariableHead)
-    (tok as_kind is_variable_word (row (PatternRow false c) (typed_in l annotation_in done))))
+    (tok as_kind is_variable_word (head_pattern_in l c)))
     (pick opens_using (make UsingHead (using_in c (tok as_name is_name done)))
     (pick opens_head_pattern (pattern l true c) (target l (in_head c))))
 
@@ -124,7 +138,7 @@ begins_value_here l x = is_near x && begins_value l x
 unfoldable pub return_ : Lang → Context → Production Row NodeKind
 return_ l c =
     make ReturnStatement (punct k.ReturnWord (alt (begins_value_here l) (when_ is_near (row
-    (ExpressionRow c) expression_ended)) (plain_form ended) done))
+    (ExpressionRow c) (plain_form ended))) (plain_form ended) done))
 
 -- ('case' Expr | 'default') ':' Stmt*
 unfoldable pub case_in : Lang → Context → Rhs Row
@@ -156,7 +170,7 @@ is_script c K at = c.script
 -- Expr END
 unfoldable pub expression_statement : Context → Production Row NodeKind
 expression_statement c =
-    make ExpressionStatement (when_ begins_no_other (row (ExpressionRow c) expression_ended))
+    make ExpressionStatement (when_ begins_no_other (row (ExpressionRow c) (plain_form ended)))
 
 -- the statements that begin with a keyword of their own
 unfoldable pub keyword_statement : Lang → Context → Production Row NodeKind → Production Row NodeKind
@@ -174,7 +188,7 @@ keyword_statement l c other =
     (choose (is k.BreakWord) (make BreakStatement (punct k.BreakWord (plain_form label_ended)))
     (choose (is k.ReturnWord) (return_ l c)
     (choose (is k.ThrowWord) (make ThrowStatement (punct k.ThrowWord (when_ is_near (row
-    (ExpressionRow c) expression_ended))))
+    (ExpressionRow c) (plain_form ended)))))
     (choose (is k.SwitchWord) (switch_ l c)
     (choose (is k.TryWord) (try_ l c)
     (choose (is k.DebuggerWord) (make DebuggerStatement (punct k.DebuggerWord (plain_form ended)))

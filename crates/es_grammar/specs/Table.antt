@@ -5,12 +5,12 @@ use Rattle.es_type_grammar.specs.Modules as modules
 use Rattle.es_type_grammar.specs.TypeTable.{type_rule}
 use Rattle.es_grammar.specs.declared.rows.Row.{Row}
 use Rattle.es_grammar.specs.declared.rows.NodeKind.{NodeKind}
-use Rattle.es_grammar.specs.declared.rows.Row.TheVariants.{ModuleRow, ScriptRow, ItemRow, ClauseRow, NamedRow, ImportSpecifierRow, ExportSpecifierRow, AttributesRow, EntityRow, StatementRow, BlockRow, DeclarationRow, DeclaredRow, VariablesRow, DeclaratorRow, UsingRow, HeadRow, FunctionRow, ClassRow, SignatureRow, ParametersRow, ParameterRow, PatternRow, InnerPatternRow, PatternElementRow, PatternPropertyRow, MemberRow, PropertyRow, KeyRow, ExpressionRow, AssignmentRow, AndRow, BitOrRow, BitXorRow, BitAndRow, EqualityRow, RelationRow, ShiftRow, SumRow, ProductRow, PowerRow, UnaryRow, ChainRow, CalleeRow, PostRow, MemberPostRow, ArgumentsRow, ElementRow, TemplateRow, TypesRow}
+use Rattle.es_grammar.specs.declared.rows.Row.TheVariants.{ModuleRow, ScriptRow, ItemRow, ClauseRow, NamedRow, ImportSpecifierRow, ExportSpecifierRow, AttributesRow, EntityRow, StatementRow, BlockRow, DeclarationRow, DeclaredRow, VariablesRow, DeclaratorRow, UsingRow, HeadRow, HeadPatternRow, FunctionRow, ClassRow, SignatureRow, ParametersRow, ParameterRow, PatternRow, InnerPatternRow, PatternElementRow, PatternPropertyRow, MemberRow, PropertyRow, KeyRow, ExpressionRow, AssignmentRow, AndRow, BitOrRow, BitXorRow, BitAndRow, EqualityRow, RelationRow, RightRow, ShiftRow, SumRow, ProductRow, PowerRow, UnaryRow, ChainRow, CalleeRow, PostRow, MemberPostRow, ArgumentsRow, ElementRow, TemplateRow, TypesRow}
 use Rattle.es_grammar.specs.Embedding.{plain_rule, types_rule}
-use Rattle.es_grammar.specs.Expressions.{any_function, any_class, template, arguments, post, member_post, chain, callee, unary, power, product, sum, shift, relation, equality, bit_and, bit_xor, bit_or, and_, assignment, expression, element}
+use Rattle.es_grammar.specs.Expressions.{any_function, any_class, template, arguments, post, member_post, chain, callee, unary, power, product, sum, shift, right_operand, relation, equality, bit_and, bit_xor, bit_or, and_, assignment, expression, element}
 use Rattle.es_grammar.specs.Functions.{pattern, inner_pattern, pattern_element, pattern_property, parameters, parameter, signature, key, property}
 use Rattle.es_grammar.specs.Classes.{member}
-use Rattle.es_grammar.specs.Statements.{block, declarator, variables, using_, head}
+use Rattle.es_grammar.specs.Statements.{block, declarator, variables, using_, head, head_pattern}
 use Rattle.es_grammar.specs.Declarations.{declaration, declared, statement}
 use Rattle.es_grammar.specs.Items.{item, module_, script}
 
@@ -32,6 +32,7 @@ rule l (VariablesRow c) = variables c
 rule l (DeclaratorRow c) = declarator l c
 rule l (UsingRow c) = using_ c
 rule l (HeadRow c) = head l c
+rule l (HeadPatternRow c) = head_pattern l c
 rule l (FunctionRow named c) = any_function l named c
 rule l (ClassRow named c) = any_class l named c
 rule l (SignatureRow c) = signature l c
@@ -52,6 +53,7 @@ rule l (BitXorRow c) = bit_xor l c
 rule l (BitAndRow c) = bit_and l c
 rule l (EqualityRow c) = equality l c
 rule l (RelationRow c) = relation l c
+rule l (RightRow c) = right_operand l c
 rule l (ShiftRow c) = shift l c
 rule l (SumRow c) = sum l c
 rule l (ProductRow c) = product l c

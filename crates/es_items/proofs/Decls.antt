@@ -3,6 +3,8 @@ use Rattle.std.specs.Prelude.{Bool, true, false, Option, Some, None, option_map}
 use Rattle.std.proofs.Common.{◌≡◌, ℕ, List, refl, sym, ap, ◌∙◌}
 use Rattle.base.specs.declared.range.Range.{Range}
 use Rattle.es_token.specs.declared.token.Token.{Token}
+use Rattle.es_ast.specs.declared.leaf.ImportPhase.{ImportPhase}
+use Rattle.es_ast.specs.declared.leaf.ImportPhase.TheVariants as vPhase
 use Rattle.es_ast.specs.declared.ast.ModuleDecl.{ModuleDecl, roll-ModuleDecl, out-ModuleDecl, out-roll-ModuleDecl}
 use Rattle.es_ast.specs.declared.ast.ModuleDecl.TheVariants as vModuleDecl
 use Rattle.es_ast.specs.declared.ast.ClassMember.TheOpen.{ModuleDecl-F}
@@ -46,6 +48,14 @@ module _ (x : List ℕ) (ts : List Token) (r : Range) (p : Value) where
       given_any (DeclIs r (Some false)) (v.clause_at p 1) _
       (λ clause. given_any (DeclIs r (Some false)) (texts.str_at x ts p 2) _ (λ src.
       given_any (DeclIs r (Some false)) (v.optional v.attributes_at (group p 3)) _
+      (λ with. decl_is r _ _ (ModuleDecl-F.Import _) (vModuleDecl.rolls-Import _) refl refl)))
+
+  phase_is : (phase : ImportPhase) → Opt (DeclIs r (Some false)) (d.phase_import x ts phase r p)
+  unfolding d.phase_import
+  phase_is phase =
+      given_any (DeclIs r (Some false)) (texts.ident_at x ts p 0) _
+      (λ local. given_any (DeclIs r (Some false)) (texts.str_at x ts p 1) _ (λ src.
+      given_any (DeclIs r (Some false)) (v.optional v.attributes_at (group p 2)) _
       (λ with. decl_is r _ _ (ModuleDecl-F.Import _) (vModuleDecl.rolls-Import _) refl refl)))
 
   require_is : (is_export : Bool) → Opt (DeclIs r (Some true)) (d.require_import x ts is_export r p)
@@ -118,6 +128,8 @@ module _ (x : List ℕ) (ts : List Token) (r : Range) (p : Value) where
   decl_at label =
       if_at At label l.BareImport _ _ bare_is
       (if_at At label l.FromImport _ _ from_is
+      (if_at At label l.SourceImport _ _ (phase_is vPhase.Source)
+      (if_at At label l.DeferImport _ _ (phase_is vPhase.Defer)
       (if_at At label l.RequireImport _ _ (require_is false)
       (if_at At label l.EntityImport _ _ (entity_is false)
       (if_at At label l.ExportedRequireImport _ _ (require_is true)
@@ -130,7 +142,7 @@ module _ (x : List ℕ) (ts : List Token) (r : Range) (p : Value) where
       (if_at At label l.ExportDefaultExpression _ _ default_expression_is
       (if_at At label l.ExportDeclaration _ _ declaration_is
       (if_at At label l.ExportDefaultInterface _ _ default_decl_is
-      (if_at At label l.ExportAssignment _ _ assignment_is tt))))))))))))))
+      (if_at At label l.ExportAssignment _ _ assignment_is tt))))))))))))))))
 
   -- no other alternative is an import or an export
   pub no_decl : (label : NodeKind) → is_one_of decl_labels label ≡ false → module_decl_of x ts label r p ≡ None
@@ -138,6 +150,8 @@ module _ (x : List ℕ) (ts : List Token) (r : Range) (p : Value) where
   no_decl label =
       if_none (same_label label l.BareImport) _ _ _
       (if_none (same_label label l.FromImport) _ _ _
+      (if_none (same_label label l.SourceImport) _ _ _
+      (if_none (same_label label l.DeferImport) _ _ _
       (if_none (same_label label l.RequireImport) _ _ _
       (if_none (same_label label l.EntityImport) _ _ _
       (if_none (same_label label l.ExportedRequireImport) _ _ _
@@ -150,7 +164,7 @@ module _ (x : List ℕ) (ts : List Token) (r : Range) (p : Value) where
       (if_none (same_label label l.ExportDefaultExpression) _ _ _
       (if_none (same_label label l.ExportDeclaration) _ _ _
       (if_none (same_label label l.ExportDefaultInterface) _ _ _
-      (if_none (same_label label l.ExportAssignment) _ _ _ (λ e. refl)))))))))))))))
+      (if_none (same_label label l.ExportAssignment) _ _ _ (λ e. refl)))))))))))))))))
 
   abbrev NoStmt : NodeKind → Type 0
   NoStmt label = stmt_of x ts label r p ≡ None
@@ -161,6 +175,8 @@ module _ (x : List ℕ) (ts : List Token) (r : Range) (p : Value) where
   no_stmt label =
       if_one NoStmt label l.BareImport _ refl
       (if_one NoStmt label l.FromImport _ refl
+      (if_one NoStmt label l.SourceImport _ refl
+      (if_one NoStmt label l.DeferImport _ refl
       (if_one NoStmt label l.RequireImport _ refl
       (if_one NoStmt label l.EntityImport _ refl
       (if_one NoStmt label l.ExportedRequireImport _ refl
@@ -173,4 +189,4 @@ module _ (x : List ℕ) (ts : List Token) (r : Range) (p : Value) where
       (if_one NoStmt label l.ExportDefaultExpression _ refl
       (if_one NoStmt label l.ExportDeclaration _ refl
       (if_one NoStmt label l.ExportDefaultInterface _ refl
-      (if_one NoStmt label l.ExportAssignment _ refl (λ e. let bad : ⊥ = cc in absurd bad)))))))))))))))
+      (if_one NoStmt label l.ExportAssignment _ refl (λ e. let bad : ⊥ = cc in absurd bad)))))))))))))))))

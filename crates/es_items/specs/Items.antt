@@ -53,9 +53,10 @@ the_items None = []
 -- the alternatives of imports and exports
 abbrev pub decl_labels : List NodeKind
 decl_labels =
-    l.BareImport ∷ l.FromImport ∷ l.RequireImport ∷ l.EntityImport ∷ l.ExportedRequireImport ∷ l.ExportedEntityImport ∷
-    l.ExportAll ∷ l.ExportNames ∷ l.ExportNamespace ∷ l.ExportDefaultFunction ∷ l.ExportDefaultClass ∷
-    l.ExportDefaultExpression ∷ l.ExportDeclaration ∷ l.ExportDefaultInterface ∷ l.ExportAssignment ∷ []
+    l.BareImport ∷ l.FromImport ∷ l.SourceImport ∷ l.DeferImport ∷ l.RequireImport ∷ l.EntityImport ∷
+    l.ExportedRequireImport ∷ l.ExportedEntityImport ∷ l.ExportAll ∷ l.ExportNames ∷ l.ExportNamespace ∷
+    l.ExportDefaultFunction ∷ l.ExportDefaultClass ∷ l.ExportDefaultExpression ∷ l.ExportDeclaration ∷
+    l.ExportDefaultInterface ∷ l.ExportAssignment ∷ []
 
 abbrev pub is_decl_node : What → Bool
 is_decl_node (vWhat.Node label) = is_one_of decl_labels label

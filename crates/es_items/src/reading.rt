@@ -89,6 +89,8 @@ fn is_decl_label(label: NodeKind) -> bool
     match label {
         NodeKind::BareImport => true,
         NodeKind::FromImport => true,
+        NodeKind::SourceImport => true,
+        NodeKind::DeferImport => true,
         NodeKind::RequireImport => true,
         NodeKind::EntityImport => true,
         NodeKind::ExportedRequireImport => true,

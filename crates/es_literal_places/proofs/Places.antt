@@ -11,7 +11,7 @@ use Rattle.es_tree.proofs.OutLemmas.{clash}
 use Rattle.es_tree.proofs.EachKind.{holds_everywhere, holds_of_each}
 use Rattle.es_grammar.specs.declared.rows.Row.{Row}
 use Rattle.es_grammar.specs.declared.rows.NodeKind.{NodeKind}
-use Rattle.es_grammar.specs.declared.rows.NodeKind.TheVariants.{BareImport, FromImport, RequireImport, ExportedRequireImport, ExportAll, ExportNames, Str, StrKey, ModuleDeclaration, StrType, ImportType, StrKeyOfType, StrPatternKey}
+use Rattle.es_grammar.specs.declared.rows.NodeKind.TheVariants.{BareImport, FromImport, SourceImport, DeferImport, RequireImport, ExportedRequireImport, ExportAll, ExportNames, Str, StrKey, ModuleDeclaration, StrType, ImportType, StrKeyOfType, StrPatternKey}
 use Rattle.es_shapes.proofs.FormedLemmas.{Any}
 
 -- a token of these kinds is a string literal
@@ -56,6 +56,8 @@ str_group (where_ t f) n = str_group f n
 abbrev pub names : NodeKind → Rhs Row → Bool
 names BareImport f = str_part f 0
 names FromImport f = str_part f 2
+names SourceImport f = str_part f 1
+names DeferImport f = str_part f 1
 names RequireImport f = str_part f 2
 names ExportedRequireImport f = str_part f 2
 names ExportAll f = str_part f 2
@@ -99,6 +101,8 @@ StrGroup K _ n = ⊥
 abbrev pub Names : List Key → NodeKind → Plain NodeKind → Type 0
 Names K BareImport ps = StrPart K ps 0
 Names K FromImport ps = StrPart K ps 2
+Names K SourceImport ps = StrPart K ps 1
+Names K DeferImport ps = StrPart K ps 1
 Names K RequireImport ps = StrPart K ps 2
 Names K ExportedRequireImport ps = StrPart K ps 2
 Names K ExportAll ps = StrPart K ps 2
@@ -197,6 +201,8 @@ module _ (h : Reading) (K : List Key) where
       → Names K l p
   names_hold BareImport f p from to e fit = part_holds f 0 p from to e fit
   names_hold FromImport f p from to e fit = part_holds f 2 p from to e fit
+  names_hold SourceImport f p from to e fit = part_holds f 1 p from to e fit
+  names_hold DeferImport f p from to e fit = part_holds f 1 p from to e fit
   names_hold RequireImport f p from to e fit = part_holds f 2 p from to e fit
   names_hold ExportedRequireImport f p from to e fit = part_holds f 2 p from to e fit
   names_hold ExportAll f p from to e fit = part_holds f 2 p from to e fit

@@ -3,7 +3,7 @@
 ghost use Rattle.std.specs.Prelude.{◌≡◌, ◌+◌, ◌^◌, ◌<◌, ◌&&◌, ◌||◌};
 ghost use Rattle.es_token.specs.declared.token.TokenKind.TheVariants as k;
 ghost use Rattle.es_tree.specs.Key.{keys_of, seen};
-ghost use Rattle.es_type_grammar.specs.Expressions.{joins, opens_greater, opens_right_shift, opens_right_assignment, begins_expression, continues_expression, is_body, follows_arrow_body, ends_expression, is_arrow, no_arrow, opens_plain_arrow, opens_async_arrow, opens_arrow, opens_async_parenthesis, is_no_arrow_head, opens_async_function, opens_property, has_argument, is_module, may_await, may_test, follows_super, begins_member, begins_post, is_update_here, no_update_here, no_mix, is_operand, opens_shift, opens_relation, opens_pattern, opens_assignment};
+ghost use Rattle.es_type_grammar.specs.Expressions.{joins, opens_greater, opens_right_shift, opens_right_assignment, begins_expression, is_arrow, no_arrow, opens_plain_arrow, opens_async_arrow, opens_arrow, opens_async_parenthesis, is_no_arrow_head, opens_async_function, opens_property, has_argument, opens_source_call, opens_defer_call, is_module, may_await, may_test, follows_super, begins_member, begins_post, is_update_here, no_update_here, no_mix, is_operand, opens_shift, opens_relation, opens_pattern, opens_assignment};
 
 use crate::looks::{self, is};
 use crate::tokens::{Tokens, before};
@@ -54,50 +54,6 @@ impl Tokens<'_> {
         ensures { result ≡ begins_expression (seen (keys_of self.now.tokens.now) at) }
     {
         looks::begins_expression(self.seen(at))
-    }
-
-    /// Whether the token at this place would go on with the expression before it.
-    pub fn continues_expression(&self, at: usize) -> bool
-        ensures { result ≡ continues_expression (seen (keys_of self.now.tokens.now) at) }
-    {
-        looks::continues_expression(self.seen(at))
-    }
-
-    /// Whether the bracket at this place directly follows `=>`.
-    fn is_body(&self, opener: Option<usize>) -> bool
-        ensures { result ≡ is_body (keys_of self.now.tokens.now) opener }
-    {
-        match opener {
-            Some(opener) => self.sees(TokenKind::Arrow, before(opener)),
-            None => false,
-        }
-    }
-
-    /// The token before is the `}` of a body of an arrow.
-    #[tactic(auto, unfolding(es_type_grammar::specs::Expressions::follows_arrow_body))]
-    pub fn follows_arrow_body(&self, at: usize) -> bool
-        ensures { result ≡ follows_arrow_body (keys_of self.now.tokens.now) at }
-    {
-        let last = before(at);
-        self.sees(TokenKind::CloseBrace, last) && self.is_body(self.partner(last))
-    }
-
-    /// Behind an expression a statement may end here.
-    #[tactic(auto, unfolding(es_type_grammar::specs::Expressions::ends_expression))]
-    pub fn ends_expression(&self, at: usize) -> bool
-        ensures { result ≡ ends_expression (keys_of self.now.tokens.now) at }
-    {
-        if self.sees(TokenKind::Semicolon, at)
-            || self.sees(TokenKind::CloseBrace, at)
-            || self.is_end(at)
-        {
-            return true;
-        }
-        if self.follows_arrow_body(at) {
-            self.is_other(TokenKind::Comma, at)
-        } else {
-            !self.continues_expression(at)
-        }
     }
 
     /// `=>` on its line.
@@ -177,6 +133,24 @@ impl Tokens<'_> {
         ensures { result ≡ opens_property (keys_of self.now.tokens.now) at }
     {
         is(TokenKind::Dot, self.seen_after(at, 1))
+    }
+
+    /// `source` stands behind `import` and `.`.
+    #[tactic(auto, unfolding(es_type_grammar::specs::Expressions::opens_source_call))]
+    pub fn opens_source_call(&self, at: usize) -> bool
+        ensures { result ≡ opens_source_call (keys_of self.now.tokens.now) at }
+    {
+        is(TokenKind::Dot, self.seen_after(at, 1))
+            && is(TokenKind::SourceWord, self.seen_after(at, 2))
+    }
+
+    /// `defer` stands behind `import` and `.`.
+    #[tactic(auto, unfolding(es_type_grammar::specs::Expressions::opens_defer_call))]
+    pub fn opens_defer_call(&self, at: usize) -> bool
+        ensures { result ≡ opens_defer_call (keys_of self.now.tokens.now) at }
+    {
+        is(TokenKind::Dot, self.seen_after(at, 1))
+            && is(TokenKind::DeferWord, self.seen_after(at, 2))
     }
 
     /// A further argument of `import()`: a `,` that isn't the last one.

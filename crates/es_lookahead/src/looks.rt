@@ -4,7 +4,7 @@ ghost use Rattle.std.specs.Prelude.{◌≡◌};
 ghost use Rattle.es_tree.specs.Key.{has_kind, is, is_end, is_token, is_after_line};
 ghost use Rattle.es_type_grammar.specs.Words.{is_name, is_word, is_numeric, is_accessor_word, is_near, begins_key};
 ghost use Rattle.es_type_grammar.specs.Modules.{may_end};
-ghost use Rattle.es_type_grammar.specs.Expressions.{is_prefix, is_update, is_product, is_sum, is_equality, is_relation, is_assignment, is_arrow, begins_expression, continues_expression, begins_member};
+ghost use Rattle.es_type_grammar.specs.Expressions.{is_prefix, is_update, is_product, is_sum, is_equality, is_relation, is_assignment, is_arrow, begins_expression, begins_member};
 ghost use Rattle.es_type_grammar.specs.Functions.{follows_pattern, starts_key};
 ghost use Rattle.es_type_grammar.specs.Statements.{is_variable_word, is_each, is_case};
 ghost use Rattle.es_lookahead.specs.Sight.{sight};
@@ -311,34 +311,4 @@ pub fn begins_expression(next: Option<Seen>) -> bool
         || is(TokenKind::AwaitWord, next)
         || is(TokenKind::YieldWord, next)
         || is(TokenKind::PrivateName, next)
-}
-
-/// A token that would go on with the expression before it.
-#[tactic(auto, unfolding(es_type_grammar::specs::Expressions::continues_expression))]
-pub fn continues_expression(next: Option<Seen>) -> bool
-    ensures { result ≡ continues_expression (sight next) }
-{
-    is(TokenKind::OpenParen, next)
-        || is(TokenKind::OpenBracket, next)
-        || is(TokenKind::Dot, next)
-        || is(TokenKind::QuestionDot, next)
-        || is(TokenKind::Comma, next)
-        || is(TokenKind::Question, next)
-        || is(TokenKind::Arrow, next)
-        || is(TokenKind::TemplateWhole, next)
-        || is(TokenKind::TemplateHead, next)
-        || is(TokenKind::StarStar, next)
-        || is(TokenKind::Greater, next)
-        || has_assignment(next)
-        || has_relation(next)
-        || has_equality(next)
-        || has_sum(next)
-        || has_product(next)
-        || is(TokenKind::LessLess, next)
-        || is(TokenKind::Ampersand, next)
-        || is(TokenKind::Bar, next)
-        || is(TokenKind::Caret, next)
-        || is(TokenKind::AmpersandAmpersand, next)
-        || is(TokenKind::BarBar, next)
-        || is(TokenKind::QuestionQuestion, next)
 }

@@ -2,7 +2,7 @@
 
 ghost use Rattle.std.specs.Prelude.{◌≡◌, ◌+◌, ◌^◌, ◌<◌};
 ghost use Rattle.es_tree.specs.Key.{keys_of, seen};
-ghost use Rattle.es_type_grammar.specs.Modules.{is_typescript, may_end, opens_type_import, opens_type_name, is_renamed, is_no_type_as_as, has_comma, behind_type, names_before_equal, opens_equals, shows_require, opens_require, opens_bare, opens_type_export, opens_all, opens_exported_equals, opens_exported_require, opens_namespace};
+ghost use Rattle.es_type_grammar.specs.Modules.{is_typescript, may_end, opens_type_import, opens_type_name, is_renamed, is_no_type_as_as, has_comma, behind_type, names_before_equal, opens_equals, shows_require, opens_require, opens_bare, opens_source_import, opens_defer_import, opens_type_export, opens_all, opens_exported_equals, opens_exported_require, opens_namespace};
 ghost use Rattle.es_type_grammar.specs.Items.{opens_import, opens_default, opens_default_function, opens_default_class, opens_declaration};
 
 use crate::looks::{self, is};
@@ -141,6 +141,28 @@ impl Tokens<'_> {
         ensures { result ≡ opens_bare (keys_of self.now.tokens.now) at }
     {
         is(TokenKind::Str, self.seen_after(at, 1))
+    }
+
+    /// Behind `import`, `source` is the phase before a name, except `from` with a Str after it.
+    #[tactic(auto, unfolding(es_type_grammar::specs::Modules::opens_source_import))]
+    pub fn opens_source_import(&self, at: usize) -> bool
+        ensures { result ≡ opens_source_import (keys_of self.now.tokens.now) at }
+    {
+        if !is(TokenKind::SourceWord, self.seen_after(at, 1)) {
+            return false;
+        }
+        let name = self.seen_after(at, 2);
+        looks::has_name(name)
+            && !(is(TokenKind::FromWord, name) && is(TokenKind::Str, self.seen_after(at, 3)))
+    }
+
+    /// Behind `import`, `defer` is the phase before `*`.
+    #[tactic(auto, unfolding(es_type_grammar::specs::Modules::opens_defer_import))]
+    pub fn opens_defer_import(&self, at: usize) -> bool
+        ensures { result ≡ opens_defer_import (keys_of self.now.tokens.now) at }
+    {
+        is(TokenKind::DeferWord, self.seen_after(at, 1))
+            && is(TokenKind::Star, self.seen_after(at, 2))
     }
 
     /// In TypeScript `type` is a modifier of the export here.

@@ -4,7 +4,7 @@ ghost use Rattle.std.specs.Prelude.{◌≡◌, ℕ, ◌+◌, ◌<◌, ◌&&◌, 
 ghost use Rattle.es_token.specs.declared.token.TokenKind.TheVariants as k;
 ghost use Rattle.es_tree.specs.Key.{keys_of, seen, has_kind, is};
 ghost use Rattle.es_type_grammar.specs.Words.{is_name, is_near, is_other, partner_of};
-ghost use Rattle.es_type_grammar.specs.Statements.{ends_value, opens_using, step_over, has_semicolon, opens_for, opens_for_await, opens_head_pattern, starts_using, starts_expression, is_label_here, is_value_here, is_case, is_in_case, is_script, opens_label, begins_no_other};
+ghost use Rattle.es_type_grammar.specs.Statements.{opens_using, step_over, has_semicolon, opens_for, opens_for_await, opens_head_pattern, starts_using, starts_expression, is_label_here, is_value_here, is_case, is_in_case, is_script, opens_label, begins_no_other};
 
 use crate::looks::{self, is};
 use crate::tokens::{Tokens, before};
@@ -12,14 +12,6 @@ use es_token::TokenKind;
 use es_type_grammar::Context;
 
 impl Tokens<'_> {
-    /// Behind a value END may stand, or a further declarator.
-    #[tactic(auto, unfolding(es_type_grammar::specs::Statements::ends_value))]
-    pub fn ends_value(&self, at: usize) -> bool
-        ensures { result ≡ ends_value (keys_of self.now.tokens.now) at }
-    {
-        self.sees(TokenKind::Comma, at) || self.ends_expression(at)
-    }
-
     /// `using` before a name on its line, but `of`.
     fn opens_plain_using(&self, at: usize) -> bool
         ensures { result ≡ is k.UsingWord (seen (keys_of self.now.tokens.now) at)

@@ -53,7 +53,7 @@ use Rattle.es_lowering.specs.Patterns.{name_pattern as patterns_name_pattern, ar
 use Rattle.es_lowering.specs.Functions.{default_parameter as functions_default_parameter, parameters as functions_parameters, signature as functions_signature, function as functions_function, method_at as functions_method_at, name_arrow as functions_name_arrow, parenthesized_arrow as functions_parenthesized_arrow, word_key as functions_word_key, str_key as functions_str_key, number_key as functions_number_key, computed_key as functions_computed_key, private_key as functions_private_key, spread_property as functions_spread_property, shorthand as functions_shorthand, key_value as functions_key_value, method_property as functions_method_property, accessor_property as functions_accessor_property}
 use Rattle.es_lowering.specs.Classes.{class_ as classes_class_, static_block as classes_static_block, method_member as classes_method_member, accessor_member as classes_accessor_member, field_member as classes_field_member}
 use Rattle.es_lowering.specs.Statements.{block as statements_block, declarator as statements_declarator, variables as statements_variables, using_ as statements_using_, variable_declaration as statements_variable_declaration, variable_head as statements_variable_head, using_head as statements_using_head, for_ as statements_for_, for_each as statements_for_each, for_await as statements_for_await, while_ as statements_while_, do_ as statements_do_, expression_statement as statements_expression_statement, labelled as statements_labelled, if_ as statements_if_, continue_ as statements_continue_, break_ as statements_break_, return_ as statements_return_, throw_ as statements_throw_, switch_ as statements_switch_, try_ as statements_try_, with_ as statements_with_}
-use Rattle.es_lowering.specs.Modules.{attributes as modules_attributes, namespace as modules_namespace, named_imports as modules_named_imports, default_clause as modules_default_clause, default_and_clause as modules_default_and_clause, renamed_import as modules_renamed_import, imported_name as modules_imported_name, bare_import as modules_bare_import, from_import as modules_from_import, require_import as modules_require_import, entity_import as modules_entity_import, entity as modules_entity, export_all as modules_export_all, export_names as modules_export_names, exported_name as modules_exported_name, export_namespace as modules_export_namespace, export_default_decl as modules_export_default_decl, export_default_expression as modules_export_default_expression, export_declaration as modules_export_declaration, module_ as modules_module_, script as modules_script}
+use Rattle.es_lowering.specs.Modules.{attributes as modules_attributes, namespace as modules_namespace, named_imports as modules_named_imports, default_clause as modules_default_clause, default_and_clause as modules_default_and_clause, renamed_import as modules_renamed_import, imported_name as modules_imported_name, bare_import as modules_bare_import, from_import as modules_from_import, phase_import as modules_phase_import, require_import as modules_require_import, entity_import as modules_entity_import, entity as modules_entity, export_all as modules_export_all, export_names as modules_export_names, exported_name as modules_exported_name, export_namespace as modules_export_namespace, export_default_decl as modules_export_default_decl, export_default_expression as modules_export_default_expression, export_declaration as modules_export_declaration, module_ as modules_module_, script as modules_script}
 use Rattle.es_lowering.specs.Lowering.{expr_of as lower_expr_of, pat_of as lower_pat_of, variables_of as lower_variables_of, decl_of as lower_decl_of, block_of as lower_block_of, stmt_of as lower_stmt_of, declarator_of as lower_declarator_of, param_of as lower_param_of, head_of as lower_head_of, params_of as lower_params_of, pat_prop_of as lower_pat_prop_of, key_of as lower_key_of, prop_of as lower_prop_of, member_of as lower_member_of, post_of as lower_post_of, args_of as lower_args_of, names_of as lower_names_of, clause_of as lower_clause_of, import_specifier_of as lower_import_specifier_of, export_specifier_of as lower_export_specifier_of, attributes_of as lower_attributes_of, entity_of as lower_entity_of, module_decl_of as lower_module_decl_of, program_of as lower_program_of, build as lowering_build, value_of as lower_value_of}
 use Rattle.es_lowering.specs.Functions as functions
 use Rattle.es_lowering.specs.Classes as classes
@@ -477,7 +477,7 @@ unfolding lowered texts_end_before texts_span_of texts_ident_of texts_private_of
     patterns_name_property
     functions_default_parameter
     functions_parameters
-    functions_signature functions_function functions_method_at functions_name_arrow functions_parenthesized_arrow functions_word_key functions_str_key functions_number_key functions_computed_key functions_private_key functions_spread_property functions_shorthand functions_key_value functions_method_property functions_accessor_property classes_class_ classes_static_block classes_method_member classes_accessor_member classes_field_member statements_block statements_declarator statements_variables statements_using_ statements_variable_declaration statements_variable_head statements_using_head statements_for_ statements_for_each statements_for_await statements_while_ statements_do_ statements_expression_statement statements_labelled statements_if_ statements_continue_ statements_break_ statements_return_ statements_throw_ statements_switch_ statements_try_ statements_with_ modules_attributes modules_namespace modules_named_imports modules_default_clause modules_default_and_clause modules_renamed_import modules_imported_name modules_bare_import modules_from_import modules_require_import modules_entity_import modules_entity modules_export_all modules_export_names modules_exported_name modules_export_namespace modules_export_default_decl modules_export_default_expression modules_export_declaration modules_module_ modules_script lower_expr_of lower_pat_of lower_variables_of lower_decl_of lower_block_of lower_stmt_of lower_declarator_of lower_param_of lower_head_of lower_params_of lower_pat_prop_of lower_key_of lower_prop_of lower_member_of lower_post_of lower_args_of lower_names_of lower_clause_of lower_import_specifier_of lower_export_specifier_of lower_attributes_of lower_entity_of lower_module_decl_of lower_program_of lowering_build lower_value_of
+    functions_signature functions_function functions_method_at functions_name_arrow functions_parenthesized_arrow functions_word_key functions_str_key functions_number_key functions_computed_key functions_private_key functions_spread_property functions_shorthand functions_key_value functions_method_property functions_accessor_property classes_class_ classes_static_block classes_method_member classes_accessor_member classes_field_member statements_block statements_declarator statements_variables statements_using_ statements_variable_declaration statements_variable_head statements_using_head statements_for_ statements_for_each statements_for_await statements_while_ statements_do_ statements_expression_statement statements_labelled statements_if_ statements_continue_ statements_break_ statements_return_ statements_throw_ statements_switch_ statements_try_ statements_with_ modules_attributes modules_namespace modules_named_imports modules_default_clause modules_default_and_clause modules_renamed_import modules_imported_name modules_bare_import modules_from_import modules_phase_import modules_require_import modules_entity_import modules_entity modules_export_all modules_export_names modules_exported_name modules_export_namespace modules_export_default_decl modules_export_default_expression modules_export_declaration modules_module_ modules_script lower_expr_of lower_pat_of lower_variables_of lower_decl_of lower_block_of lower_stmt_of lower_declarator_of lower_param_of lower_head_of lower_params_of lower_pat_prop_of lower_key_of lower_prop_of lower_member_of lower_post_of lower_args_of lower_names_of lower_clause_of lower_import_specifier_of lower_export_specifier_of lower_attributes_of lower_entity_of lower_module_decl_of lower_program_of lowering_build lower_value_of
 operators = (refl, refl, refl, refl, refl, refl, refl, refl, refl, refl, refl, refl, refl, refl, refl)
 
 operands :
@@ -696,7 +696,7 @@ unfolding lowered texts_end_before texts_span_of texts_ident_of texts_private_of
     patterns_name_property
     functions_default_parameter
     functions_parameters
-    functions_signature functions_function functions_method_at functions_name_arrow functions_parenthesized_arrow functions_word_key functions_str_key functions_number_key functions_computed_key functions_private_key functions_spread_property functions_shorthand functions_key_value functions_method_property functions_accessor_property classes_class_ classes_static_block classes_method_member classes_accessor_member classes_field_member statements_block statements_declarator statements_variables statements_using_ statements_variable_declaration statements_variable_head statements_using_head statements_for_ statements_for_each statements_for_await statements_while_ statements_do_ statements_expression_statement statements_labelled statements_if_ statements_continue_ statements_break_ statements_return_ statements_throw_ statements_switch_ statements_try_ statements_with_ modules_attributes modules_namespace modules_named_imports modules_default_clause modules_default_and_clause modules_renamed_import modules_imported_name modules_bare_import modules_from_import modules_require_import modules_entity_import modules_entity modules_export_all modules_export_names modules_exported_name modules_export_namespace modules_export_default_decl modules_export_default_expression modules_export_declaration modules_module_ modules_script lower_expr_of lower_pat_of lower_variables_of lower_decl_of lower_block_of lower_stmt_of lower_declarator_of lower_param_of lower_head_of lower_params_of lower_pat_prop_of lower_key_of lower_prop_of lower_member_of lower_post_of lower_args_of lower_names_of lower_clause_of lower_import_specifier_of lower_export_specifier_of lower_attributes_of lower_entity_of lower_module_decl_of lower_program_of lowering_build lower_value_of
+    functions_signature functions_function functions_method_at functions_name_arrow functions_parenthesized_arrow functions_word_key functions_str_key functions_number_key functions_computed_key functions_private_key functions_spread_property functions_shorthand functions_key_value functions_method_property functions_accessor_property classes_class_ classes_static_block classes_method_member classes_accessor_member classes_field_member statements_block statements_declarator statements_variables statements_using_ statements_variable_declaration statements_variable_head statements_using_head statements_for_ statements_for_each statements_for_await statements_while_ statements_do_ statements_expression_statement statements_labelled statements_if_ statements_continue_ statements_break_ statements_return_ statements_throw_ statements_switch_ statements_try_ statements_with_ modules_attributes modules_namespace modules_named_imports modules_default_clause modules_default_and_clause modules_renamed_import modules_imported_name modules_bare_import modules_from_import modules_phase_import modules_require_import modules_entity_import modules_entity modules_export_all modules_export_names modules_exported_name modules_export_namespace modules_export_default_decl modules_export_default_expression modules_export_declaration modules_module_ modules_script lower_expr_of lower_pat_of lower_variables_of lower_decl_of lower_block_of lower_stmt_of lower_declarator_of lower_param_of lower_head_of lower_params_of lower_pat_prop_of lower_key_of lower_prop_of lower_member_of lower_post_of lower_args_of lower_names_of lower_clause_of lower_import_specifier_of lower_export_specifier_of lower_attributes_of lower_entity_of lower_module_decl_of lower_program_of lowering_build lower_value_of
 operands = (refl, refl, refl, refl, refl, refl, refl, refl, refl)
 
 statements :
@@ -1079,7 +1079,7 @@ unfolding lowered texts_end_before texts_span_of texts_ident_of texts_private_of
     patterns_name_property
     functions_default_parameter
     functions_parameters
-    functions_signature functions_function functions_method_at functions_name_arrow functions_parenthesized_arrow functions_word_key functions_str_key functions_number_key functions_computed_key functions_private_key functions_spread_property functions_shorthand functions_key_value functions_method_property functions_accessor_property classes_class_ classes_static_block classes_method_member classes_accessor_member classes_field_member statements_block statements_declarator statements_variables statements_using_ statements_variable_declaration statements_variable_head statements_using_head statements_for_ statements_for_each statements_for_await statements_while_ statements_do_ statements_expression_statement statements_labelled statements_if_ statements_continue_ statements_break_ statements_return_ statements_throw_ statements_switch_ statements_try_ statements_with_ modules_attributes modules_namespace modules_named_imports modules_default_clause modules_default_and_clause modules_renamed_import modules_imported_name modules_bare_import modules_from_import modules_require_import modules_entity_import modules_entity modules_export_all modules_export_names modules_exported_name modules_export_namespace modules_export_default_decl modules_export_default_expression modules_export_declaration modules_module_ modules_script lower_expr_of lower_pat_of lower_variables_of lower_decl_of lower_block_of lower_stmt_of lower_declarator_of lower_param_of lower_head_of lower_params_of lower_pat_prop_of lower_key_of lower_prop_of lower_member_of lower_post_of lower_args_of lower_names_of lower_clause_of lower_import_specifier_of lower_export_specifier_of lower_attributes_of lower_entity_of lower_module_decl_of lower_program_of lowering_build lower_value_of
+    functions_signature functions_function functions_method_at functions_name_arrow functions_parenthesized_arrow functions_word_key functions_str_key functions_number_key functions_computed_key functions_private_key functions_spread_property functions_shorthand functions_key_value functions_method_property functions_accessor_property classes_class_ classes_static_block classes_method_member classes_accessor_member classes_field_member statements_block statements_declarator statements_variables statements_using_ statements_variable_declaration statements_variable_head statements_using_head statements_for_ statements_for_each statements_for_await statements_while_ statements_do_ statements_expression_statement statements_labelled statements_if_ statements_continue_ statements_break_ statements_return_ statements_throw_ statements_switch_ statements_try_ statements_with_ modules_attributes modules_namespace modules_named_imports modules_default_clause modules_default_and_clause modules_renamed_import modules_imported_name modules_bare_import modules_from_import modules_phase_import modules_require_import modules_entity_import modules_entity modules_export_all modules_export_names modules_exported_name modules_export_namespace modules_export_default_decl modules_export_default_expression modules_export_declaration modules_module_ modules_script lower_expr_of lower_pat_of lower_variables_of lower_decl_of lower_block_of lower_stmt_of lower_declarator_of lower_param_of lower_head_of lower_params_of lower_pat_prop_of lower_key_of lower_prop_of lower_member_of lower_post_of lower_args_of lower_names_of lower_clause_of lower_import_specifier_of lower_export_specifier_of lower_attributes_of lower_entity_of lower_module_decl_of lower_program_of lowering_build lower_value_of
 statements = (
   refl,
   refl,
@@ -1229,7 +1229,7 @@ unfolding lowered texts_end_before texts_span_of texts_ident_of texts_private_of
     patterns_name_property
     functions_default_parameter
     functions_parameters
-    functions_signature functions_function functions_method_at functions_name_arrow functions_parenthesized_arrow functions_word_key functions_str_key functions_number_key functions_computed_key functions_private_key functions_spread_property functions_shorthand functions_key_value functions_method_property functions_accessor_property classes_class_ classes_static_block classes_method_member classes_accessor_member classes_field_member statements_block statements_declarator statements_variables statements_using_ statements_variable_declaration statements_variable_head statements_using_head statements_for_ statements_for_each statements_for_await statements_while_ statements_do_ statements_expression_statement statements_labelled statements_if_ statements_continue_ statements_break_ statements_return_ statements_throw_ statements_switch_ statements_try_ statements_with_ modules_attributes modules_namespace modules_named_imports modules_default_clause modules_default_and_clause modules_renamed_import modules_imported_name modules_bare_import modules_from_import modules_require_import modules_entity_import modules_entity modules_export_all modules_export_names modules_exported_name modules_export_namespace modules_export_default_decl modules_export_default_expression modules_export_declaration modules_module_ modules_script lower_expr_of lower_pat_of lower_variables_of lower_decl_of lower_block_of lower_stmt_of lower_declarator_of lower_param_of lower_head_of lower_params_of lower_pat_prop_of lower_key_of lower_prop_of lower_member_of lower_post_of lower_args_of lower_names_of lower_clause_of lower_import_specifier_of lower_export_specifier_of lower_attributes_of lower_entity_of lower_module_decl_of lower_program_of lowering_build lower_value_of
+    functions_signature functions_function functions_method_at functions_name_arrow functions_parenthesized_arrow functions_word_key functions_str_key functions_number_key functions_computed_key functions_private_key functions_spread_property functions_shorthand functions_key_value functions_method_property functions_accessor_property classes_class_ classes_static_block classes_method_member classes_accessor_member classes_field_member statements_block statements_declarator statements_variables statements_using_ statements_variable_declaration statements_variable_head statements_using_head statements_for_ statements_for_each statements_for_await statements_while_ statements_do_ statements_expression_statement statements_labelled statements_if_ statements_continue_ statements_break_ statements_return_ statements_throw_ statements_switch_ statements_try_ statements_with_ modules_attributes modules_namespace modules_named_imports modules_default_clause modules_default_and_clause modules_renamed_import modules_imported_name modules_bare_import modules_from_import modules_phase_import modules_require_import modules_entity_import modules_entity modules_export_all modules_export_names modules_exported_name modules_export_namespace modules_export_default_decl modules_export_default_expression modules_export_declaration modules_module_ modules_script lower_expr_of lower_pat_of lower_variables_of lower_decl_of lower_block_of lower_stmt_of lower_declarator_of lower_param_of lower_head_of lower_params_of lower_pat_prop_of lower_key_of lower_prop_of lower_member_of lower_post_of lower_args_of lower_names_of lower_clause_of lower_import_specifier_of lower_export_specifier_of lower_attributes_of lower_entity_of lower_module_decl_of lower_program_of lowering_build lower_value_of
 declarations = (refl, refl, refl, refl)
 
 items :
@@ -1478,6 +1478,69 @@ items :
       span =
           (sp 0 13);
     })))
+    -- import source a from "b"
+    × (lowered (codes "import source a from 'b'")
+    (tok k.ImportWord 0 6 ∷ tok k.SourceWord 7 13 ∷ tok k.Name 14 15 ∷ tok k.FromWord 16 20 ∷ tok k.Str 21 24 ∷ [])
+    (branch l.Module 0 5
+    ((group []) ∷ (group
+    ((group ((branch l.SourceImport 0 5 ((leaf 2) ∷ (leaf 4) ∷ (group []) ∷ (group []) ∷ [])) ∷ [])) ∷ [])) ∷ []))
+    ≡ Some (vProgram.Module
+    (record {
+      shebang = None;
+      body =
+          ((vItem.ModuleDecl (vModuleDecl.Import
+          (record {
+            type_only = false;
+            phase = vPhase.Source;
+            clause = (Some (vClause.Default (id (codes "a") 14 15)));
+            src = (str (codes "'b'") 21 24);
+            with = None;
+            span = (sp 0 24);
+          }))) ∷ []);
+      span = (sp 0 24);
+    })))
+    -- import defer * as a from "b"
+    × (lowered (codes "import defer * as a from 'b'")
+    (tok k.ImportWord 0 6 ∷ tok k.DeferWord 7 12 ∷ tok k.Star 13 14 ∷ tok k.AsWord 15 17 ∷ tok k.Name 18 19
+    ∷ tok k.FromWord 20 24 ∷ tok k.Str 25 28 ∷ [])
+    (branch l.Module 0 7
+    ((group []) ∷ (group
+    ((group ((branch l.DeferImport 0 7 ((leaf 4) ∷ (leaf 6) ∷ (group []) ∷ (group []) ∷ [])) ∷ [])) ∷ [])) ∷ []))
+    ≡ Some (vProgram.Module
+    (record {
+      shebang = None;
+      body =
+          ((vItem.ModuleDecl (vModuleDecl.Import
+          (record {
+            type_only = false;
+            phase = vPhase.Defer;
+            clause =
+                (Some (vClause.Names
+                (vNames.Namespace (id (codes "a") 18 19) (sp 13 19))));
+            src = (str (codes "'b'") 25 28);
+            with = None;
+            span = (sp 0 28);
+          }))) ∷ []);
+      span = (sp 0 28);
+    })))
+    -- import . defer ( a )
+    × (lowered (codes "import . defer ( a )")
+    (tok k.ImportWord 0 6 ∷ tok k.Dot 7 8 ∷ tok k.DeferWord 9 14 ∷ tok k.OpenParen 15 16 ∷ tok k.Name 17 18
+    ∷ tok k.CloseParen 19 20 ∷ [])
+    (branch l.Module 0 6
+    ((group []) ∷ (group
+    ((group ((branch l.ExpressionStatement 0 6
+    ((branch l.DeferCall 0 6 ((branch l.Name 4 5 ((leaf 4) ∷ [])) ∷ (group []) ∷ (group []) ∷ []))
+    ∷ (group []) ∷ [])) ∷ [])) ∷ [])) ∷ []))
+    ≡ Some (vProgram.Module
+    (record {
+      shebang = None;
+      body =
+          ((vItem.Stmt (vStmt.Expr
+          (vExpr.ImportCall vPhase.Defer ((vExpr.Ident (id (codes "a") 17 18)) ∷ []) (sp 0 20))
+          (sp 0 20))) ∷ []);
+      span = (sp 0 20);
+    })))
     -- nothing
     × (lowered (codes "") [] (branch l.Module 0 0 ((group []) ∷ (group []) ∷ []))
     ≡ Some (vProgram.Module (record { shebang = None; body = []; span = (sp 0 0) })))
@@ -1502,5 +1565,5 @@ unfolding lowered texts_end_before texts_span_of texts_ident_of texts_private_of
     patterns_name_property
     functions_default_parameter
     functions_parameters
-    functions_signature functions_function functions_method_at functions_name_arrow functions_parenthesized_arrow functions_word_key functions_str_key functions_number_key functions_computed_key functions_private_key functions_spread_property functions_shorthand functions_key_value functions_method_property functions_accessor_property classes_class_ classes_static_block classes_method_member classes_accessor_member classes_field_member statements_block statements_declarator statements_variables statements_using_ statements_variable_declaration statements_variable_head statements_using_head statements_for_ statements_for_each statements_for_await statements_while_ statements_do_ statements_expression_statement statements_labelled statements_if_ statements_continue_ statements_break_ statements_return_ statements_throw_ statements_switch_ statements_try_ statements_with_ modules_attributes modules_namespace modules_named_imports modules_default_clause modules_default_and_clause modules_renamed_import modules_imported_name modules_bare_import modules_from_import modules_require_import modules_entity_import modules_entity modules_export_all modules_export_names modules_exported_name modules_export_namespace modules_export_default_decl modules_export_default_expression modules_export_declaration modules_module_ modules_script lower_expr_of lower_pat_of lower_variables_of lower_decl_of lower_block_of lower_stmt_of lower_declarator_of lower_param_of lower_head_of lower_params_of lower_pat_prop_of lower_key_of lower_prop_of lower_member_of lower_post_of lower_args_of lower_names_of lower_clause_of lower_import_specifier_of lower_export_specifier_of lower_attributes_of lower_entity_of lower_module_decl_of lower_program_of lowering_build lower_value_of
-items = (refl, refl, refl, refl, refl, refl, refl, refl, refl, refl, refl)
+    functions_signature functions_function functions_method_at functions_name_arrow functions_parenthesized_arrow functions_word_key functions_str_key functions_number_key functions_computed_key functions_private_key functions_spread_property functions_shorthand functions_key_value functions_method_property functions_accessor_property classes_class_ classes_static_block classes_method_member classes_accessor_member classes_field_member statements_block statements_declarator statements_variables statements_using_ statements_variable_declaration statements_variable_head statements_using_head statements_for_ statements_for_each statements_for_await statements_while_ statements_do_ statements_expression_statement statements_labelled statements_if_ statements_continue_ statements_break_ statements_return_ statements_throw_ statements_switch_ statements_try_ statements_with_ modules_attributes modules_namespace modules_named_imports modules_default_clause modules_default_and_clause modules_renamed_import modules_imported_name modules_bare_import modules_from_import modules_phase_import modules_require_import modules_entity_import modules_entity modules_export_all modules_export_names modules_exported_name modules_export_namespace modules_export_default_decl modules_export_default_expression modules_export_declaration modules_module_ modules_script lower_expr_of lower_pat_of lower_variables_of lower_decl_of lower_block_of lower_stmt_of lower_declarator_of lower_param_of lower_head_of lower_params_of lower_pat_prop_of lower_key_of lower_prop_of lower_member_of lower_post_of lower_args_of lower_names_of lower_clause_of lower_import_specifier_of lower_export_specifier_of lower_attributes_of lower_entity_of lower_module_decl_of lower_program_of lowering_build lower_value_of
+items = (refl, refl, refl, refl, refl, refl, refl, refl, refl, refl, refl, refl, refl, refl)

@@ -7,7 +7,7 @@ use Rattle.es_token.specs.declared.token.TokenKind.TheVariants as k
 use Rattle.es_tree.specs.Key.{same_kind}
 use Rattle.ts_ast.specs.declared.leaf.Ident.{Ident}
 use Rattle.es_ast.specs.declared.leaf.Lit.TheVariants as vLit
-use Rattle.es_ast.specs.declared.leaf.ImportPhase.TheVariants as vPhase
+use Rattle.es_ast.specs.declared.leaf.ImportPhase.{ImportPhase}
 use Rattle.es_ast.specs.declared.leaf.AssignOp.TheVariants as vAssign
 use Rattle.es_ast.specs.declared.leaf.BinaryOp.TheVariants as vBinary
 use Rattle.es_ast.specs.declared.ast.Expr.{Expr}
@@ -154,11 +154,11 @@ chain r p =
     given (turns (λ turn. post_at turn 0) (group p 2)) (λ others.
     Some (chained r.start base (first ∷ others)))))
 
-unfoldable pub import_call : Range → Value → Option Expr
-import_call r p =
+unfoldable pub import_call : ImportPhase → Range → Value → Option Expr
+import_call phase r p =
     given (expr_at p 0) (λ first.
     given (optional expr_at (group p 1)) (λ second.
-    Some (vExpr.ImportCall vPhase.Evaluation (first ∷ option_list second) r)))
+    Some (vExpr.ImportCall phase (first ∷ option_list second) r)))
 
 -- `new a`, and `new a(b)`
 abbrev pub new_of : Range → Expr → Option (List Expr) → Expr

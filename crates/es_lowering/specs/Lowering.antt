@@ -20,6 +20,7 @@ use Rattle.ts_ast.specs.declared.ts.TsPart.{TsPart}
 use Rattle.es_ast.specs.declared.leaf.ImportNames.{ImportNames}
 use Rattle.es_ast.specs.declared.leaf.ImportClause.{ImportClause}
 use Rattle.es_ast.specs.declared.leaf.ImportClause.TheVariants as vClause
+use Rattle.es_ast.specs.declared.leaf.ImportPhase.TheVariants as vPhase
 use Rattle.es_ast.specs.declared.leaf.ImportSpecifier.{ImportSpecifier}
 use Rattle.es_ast.specs.declared.leaf.ExportSpecifier.{ExportSpecifier}
 use Rattle.es_ast.specs.declared.leaf.ImportAttributes.{ImportAttributes}
@@ -93,7 +94,9 @@ module _ (x : List ℕ) (ts : List Token) where
       else (if same_label label l.AsyncFunction then option_map vExpr.Fn (functions.function x ts true r p)
       else (if same_label label l.Class then option_map vExpr.Class (classes.class_ x ts r p)
       else (if same_label label l.Super then Some (vExpr.Super r)
-      else (if same_label label l.ImportCall then exprs.import_call r p
+      else (if same_label label l.ImportCall then exprs.import_call vPhase.Evaluation r p
+      else (if same_label label l.SourceCall then exprs.import_call vPhase.Source r p
+      else (if same_label label l.DeferCall then exprs.import_call vPhase.Defer r p
       else (if same_label label l.ImportMeta then Some (vExpr.ImportMeta r)
       else (if same_label label l.NewTarget then Some (vExpr.NewTarget r)
       else (if same_label label l.New then exprs.new_ r p
@@ -121,7 +124,7 @@ module _ (x : List ℕ) (ts : List Token) where
       else (if same_label label l.TypedBinary then typed_exprs.typed_binary ts r p
       else (if same_label label l.TypedParenthesizedArrow then typed.typed_arrow ts false r p
       else (if same_label label l.TypedAsyncParenthesizedArrow then typed.typed_arrow ts true r p
-      else None))))))))))))))))))))))))))))))))))))))))))
+      else None))))))))))))))))))))))))))))))))))))))))))))
 
   -- as a pattern
   unfoldable pub pat_of : NodeKind → ℕ → Range → Value → Option Pat
@@ -346,6 +349,8 @@ module _ (x : List ℕ) (ts : List Token) where
   module_decl_of label r p =
       if same_label label l.BareImport then modules.bare_import x ts r p
       else (if same_label label l.FromImport then modules.from_import x ts r p
+      else (if same_label label l.SourceImport then modules.phase_import x ts vPhase.Source r p
+      else (if same_label label l.DeferImport then modules.phase_import x ts vPhase.Defer r p
       else (if same_label label l.RequireImport then modules.require_import x ts false r p
       else (if same_label label l.EntityImport then modules.entity_import x ts false r p
       else (if same_label label l.ExportedRequireImport then modules.require_import x ts true r p
@@ -359,7 +364,7 @@ module _ (x : List ℕ) (ts : List Token) where
       else (if same_label label l.ExportDeclaration then modules.export_declaration r p
       else (if same_label label l.ExportDefaultInterface then modules.export_default_decl r p
       else (if same_label label l.ExportAssignment then typed_stmts.export_assignment r p
-      else None))))))))))))))
+      else None))))))))))))))))
 
   -- an item that is no import and no export is a statement
   abbrev pub item_by : Option ModuleDecl → Option Stmt → Option ModuleItem

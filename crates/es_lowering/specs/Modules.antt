@@ -9,6 +9,7 @@ use Rattle.es_ast.specs.declared.leaf.ImportNames.{ImportNames}
 use Rattle.es_ast.specs.declared.leaf.ImportNames.TheVariants as vNames
 use Rattle.es_ast.specs.declared.leaf.ImportClause.{ImportClause}
 use Rattle.es_ast.specs.declared.leaf.ImportClause.TheVariants as vClause
+use Rattle.es_ast.specs.declared.leaf.ImportPhase.{ImportPhase}
 use Rattle.es_ast.specs.declared.leaf.ImportPhase.TheVariants as vPhase
 use Rattle.es_ast.specs.declared.leaf.ImportSpecifier.{ImportSpecifier}
 use Rattle.es_ast.specs.declared.leaf.ExportSpecifier.{ExportSpecifier}
@@ -79,6 +80,27 @@ from_import x ts r p =
       type_only = is_there (group p 0);
       phase = vPhase.Evaluation;
       clause = Some clause;
+      src = src;
+      with = with;
+      span = r;
+    })))))
+
+-- what an import in a phase binds: a deferred one a namespace, which spans from the `*`, two tokens before the name
+abbrev pub phase_clause : List Token → ImportPhase → Value → Ident → ImportClause
+phase_clause ts vPhase.Defer name local =
+    vClause.Names (vNames.Namespace local (span_of ts (first_of name - 2) (behind name)))
+phase_clause ts _ name local = vClause.Default local
+
+-- a name, a string literal and attributes, behind the word of a phase
+unfoldable pub phase_import : List ℕ → List Token → ImportPhase → Range → Value → Option ModuleDecl
+phase_import x ts phase r p =
+    given (ident_at x ts p 0) (λ local.
+    given (str_at x ts p 1) (λ src.
+    given (optional attributes_at (group p 2)) (λ with.
+    Some (vModuleDecl.Import (record {
+      type_only = false;
+      phase = phase;
+      clause = Some (phase_clause ts phase (part p 0) local);
       src = src;
       with = with;
       span = r;

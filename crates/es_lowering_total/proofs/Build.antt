@@ -3,6 +3,7 @@ use Rattle.std.specs.Prelude.{List, Option, Some, None}
 use Rattle.std.proofs.Common.{ℕ}
 use Rattle.base.specs.declared.range.Range.{Range}
 use Rattle.es_token.specs.declared.token.Token.{Token}
+use Rattle.es_ast.specs.declared.leaf.ImportPhase.TheVariants as vPhase
 use Rattle.es_ast.specs.declared.ast.ModuleDecl.{ModuleDecl}
 use Rattle.es_ast.specs.declared.ast.Stmt.{Stmt}
 use Rattle.es_grammar.specs.declared.rows.NodeKind.{NodeKind}
@@ -16,7 +17,7 @@ use Rattle.es_lowering_total.proofs.Words.{map_there}
 use Rattle.es_lowering_total.proofs.Table.{needs_expr, needs_pat, needs_marked, needs_variables, needs_declarable, needs_decl, needs_block, needs_stmt, needs_declarator, needs_param, needs_head, needs_params, needs_signature, needs_pat_prop, needs_key, needs_prop, needs_member, needs_post, needs_args, needs_names, needs_clause, needs_import_specifier, needs_export_specifier, needs_attributes, needs_entity, needs_module_decl, needs_program, needs_type, needs_arguments, needs_type_params, needs_element, needs_type_member, needs_type_key, needs_type_pat, needs_type_prop, needs_fn_param, needs_fn_params, needs_reference, needs_item, needs}
 use Rattle.es_lowering_total.proofs.ExprForms.{expr_Name, expr_Word, expr_Number, expr_Str, expr_RegExp, expr_Template, expr_TemplateParts, expr_Parenthesized, expr_ArrayLiteral, expr_ObjectLiteral, expr_Spread, expr_Function, expr_AsyncFunction, expr_Class, expr_Super, expr_ImportCall, expr_ImportMeta, expr_NewTarget, expr_New, expr_Chain, expr_UpdatePrefix, expr_UpdatePostfix, expr_UnaryExpression, expr_AwaitExpression, expr_Binary, expr_PrivateIn, expr_Conditional, expr_Assignment, expr_PatternAssignment, expr_Yield, expr_NameArrow, expr_ParenthesizedArrow, expr_AsyncNameArrow, expr_AsyncParenthesizedArrow, expr_Sequence, expr_TypedFunction, expr_TypedAsyncFunction, expr_TypedClass, expr_AbstractClass, expr_TypedNew, expr_TypedBinary, expr_TypedParenthesizedArrow, expr_TypedAsyncParenthesizedArrow, post_MemberPost, post_IndexPost, post_CallPost, post_TemplatePost, post_OptionalPost, post_TypedCallPost, post_TypedTemplatePost, post_TypedOptionalPost, post_NonNullPost, args_Arguments}
 use Rattle.es_lowering_total.proofs.StmtForms.{pat_NamePattern, pat_ArrayPattern, pat_ObjectPattern, pat_RestPattern, pat_DefaultPattern, marked_NamePattern, marked_ArrayPattern, marked_ObjectPattern, variables_Variables, variables_Using, declarable_TypedFunction, declarable_TypedAsyncFunction, declarable_TypedClass, declarable_AbstractClass, declarable_InterfaceDeclaration, declarable_AliasDeclaration, declarable_EnumDeclaration, declarable_NamespaceDeclaration, declarable_ModuleDeclaration, declarable_GlobalDeclaration, decl_Function, decl_AsyncFunction, decl_Class, decl_VariableDeclaration, decl_UsingDeclaration, decl_Variables, decl_Using, decl_Declared, decl_DeclaredVariables, block_Block, stmt_Block, stmt_EmptyStatement, stmt_ExpressionStatement, stmt_LabelledStatement, stmt_IfStatement, stmt_ForStatement, stmt_ForEachStatement, stmt_ForAwaitStatement, stmt_WhileStatement, stmt_DoStatement, stmt_ContinueStatement, stmt_BreakStatement, stmt_ReturnStatement, stmt_ThrowStatement, stmt_SwitchStatement, stmt_TryStatement, stmt_DebuggerStatement, stmt_WithStatement, stmt_TypedTryStatement, declarator_Declarator, declarator_TypedDeclarator, param_DefaultParameter, param_ThisParameter, param_PropertyParameter, param_MarkedParameter, head_VariableHead, head_UsingHead, head_TypedVariableHead, params_Parameters, params_Signature, params_TypedParameters, signature_TypedSignature, pat_prop_RestProperty, pat_prop_KeyPattern, pat_prop_NameProperty, key_WordKey, key_StrKey, key_NumberKey, key_ComputedKey, key_PrivateKey, prop_SpreadProperty, prop_AccessorProperty, prop_AsyncProperty, prop_GeneratorProperty, prop_MethodProperty, prop_KeyValue, prop_Shorthand, prop_TypedAccessorProperty, prop_TypedAsyncProperty, prop_TypedGeneratorProperty, prop_TypedMethodProperty, member_EmptyMember, member_StaticBlock, member_AccessorMember, member_AsyncMember, member_GeneratorMember, member_MethodMember, member_FieldMember, member_AccessorField, member_TypedAccessorMember, member_TypedAsyncMember, member_TypedGeneratorMember, member_TypedMethodMember, member_TypedFieldMember, member_TypedAccessorField, member_IndexMember}
-use Rattle.es_lowering_total.proofs.ModuleForms.{names_Namespace, names_NamedImports, clause_DefaultClause, clause_DefaultAndClause, import_specifier_RenamedImport, import_specifier_ImportedName, export_specifier_ExportedName, attributes_Attributes, entity_Entity, entity_EntityOfType, module_decl_BareImport, module_decl_FromImport, module_decl_RequireImport, module_decl_EntityImport, module_decl_ExportedRequireImport, module_decl_ExportedEntityImport, module_decl_ExportAll, module_decl_ExportNames, module_decl_ExportNamespace, module_decl_ExportDefaultFunction, module_decl_ExportDefaultClass, module_decl_ExportDefaultExpression, module_decl_ExportDeclaration, module_decl_ExportDefaultInterface, module_decl_ExportAssignment, program_Module, program_Script}
+use Rattle.es_lowering_total.proofs.ModuleForms.{names_Namespace, names_NamedImports, clause_DefaultClause, clause_DefaultAndClause, import_specifier_RenamedImport, import_specifier_ImportedName, export_specifier_ExportedName, attributes_Attributes, entity_Entity, entity_EntityOfType, module_decl_BareImport, module_decl_FromImport, module_decl_phase, module_decl_RequireImport, module_decl_EntityImport, module_decl_ExportedRequireImport, module_decl_ExportedEntityImport, module_decl_ExportAll, module_decl_ExportNames, module_decl_ExportNamespace, module_decl_ExportDefaultFunction, module_decl_ExportDefaultClass, module_decl_ExportDefaultExpression, module_decl_ExportDeclaration, module_decl_ExportDefaultInterface, module_decl_ExportAssignment, program_Module, program_Script}
 use Rattle.es_lowering_total.proofs.TypeForms.{type_FunctionType, type_ConstructorType, type_ConditionalType, type_UnionType, type_LeadingUnionType, type_IntersectionType, type_LeadingIntersectionType, type_TypeOperator, type_InferType, type_ArrayTypes, type_KeywordType, type_ThisType, type_WordType, type_StrType, type_NumberType, type_TemplateType, type_TemplateTypes, type_TypeQuery, type_ParenthesizedType, type_MembersType, type_TupleType, type_MappedType, type_Reference, type_ImportType, type_AssertsResult, type_PredicateResult, type_EntityOfType, arguments_TypeArguments, type_params_TypeParameters, element_RestElement, element_LabelledElement, element_OptionalElement, type_member_CallSignature, type_member_ConstructSignature, type_member_IndexSignature, type_member_AccessorSignature, type_member_MethodSignature, type_member_PropertySignature, type_member_ReadonlyProperty, type_key_WordKeyOfType, type_key_StrKeyOfType, type_key_NumberKeyOfType, type_key_ComputedKeyOfType, type_key_WordPatternKey, type_key_StrPatternKey, type_key_NumberPatternKey, type_pat_NamePatternOfType, type_pat_ArrayPatternOfType, type_pat_ObjectPatternOfType, type_pat_RestPatternOfType, type_prop_RestPropertyOfType, type_prop_KeyProperty, type_prop_NamePropertyOfType, fn_param_ThisParameterOfType, fn_param_MarkedParameterOfType, fn_params_ParametersOfType, reference_Reference, reference_EntityOfType}
 
 module _ (x : List ℕ) (ts : List Token) where
@@ -38,7 +39,9 @@ module _ (x : List ℕ) (ts : List Token) where
   expr_there l.AsyncFunction from r p m = expr_AsyncFunction x ts from r p m
   expr_there l.Class from r p m = expr_Class x ts from r p m
   expr_there l.Super from r p m = expr_Super x ts from r p m
-  expr_there l.ImportCall from r p m = expr_ImportCall x ts from r p m
+  expr_there l.ImportCall from r p m = expr_ImportCall x ts vPhase.Evaluation from r p m
+  expr_there l.SourceCall from r p m = expr_ImportCall x ts vPhase.Source from r p m
+  expr_there l.DeferCall from r p m = expr_ImportCall x ts vPhase.Defer from r p m
   expr_there l.ImportMeta from r p m = expr_ImportMeta x ts from r p m
   expr_there l.NewTarget from r p m = expr_NewTarget x ts from r p m
   expr_there l.New from r p m = expr_New x ts from r p m
@@ -310,6 +313,8 @@ module _ (x : List ℕ) (ts : List Token) where
   unfolding module_decl_of
   module_decl_there l.BareImport from r p m = module_decl_BareImport x ts from r p m
   module_decl_there l.FromImport from r p m = module_decl_FromImport x ts from r p m
+  module_decl_there l.SourceImport from r p m = module_decl_phase x ts vPhase.Source from r p m
+  module_decl_there l.DeferImport from r p m = module_decl_phase x ts vPhase.Defer from r p m
   module_decl_there l.RequireImport from r p m = module_decl_RequireImport x ts from r p m
   module_decl_there l.EntityImport from r p m = module_decl_EntityImport x ts from r p m
   module_decl_there l.ExportedRequireImport from r p m = module_decl_ExportedRequireImport x ts from r p m
@@ -461,6 +466,12 @@ module _ (x : List ℕ) (ts : List Token) where
   item_there l.FromImport from r p m =
       decl_item (module_decl_of x ts l.FromImport r p) (stmt_of x ts l.FromImport r p)
       (module_decl_there l.FromImport from r p m)
+  item_there l.SourceImport from r p m =
+      decl_item (module_decl_of x ts l.SourceImport r p) (stmt_of x ts l.SourceImport r p)
+      (module_decl_there l.SourceImport from r p m)
+  item_there l.DeferImport from r p m =
+      decl_item (module_decl_of x ts l.DeferImport r p) (stmt_of x ts l.DeferImport r p)
+      (module_decl_there l.DeferImport from r p m)
   item_there l.RequireImport from r p m =
       decl_item (module_decl_of x ts l.RequireImport r p) (stmt_of x ts l.RequireImport r p)
       (module_decl_there l.RequireImport from r p m)

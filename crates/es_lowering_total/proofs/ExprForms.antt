@@ -3,6 +3,7 @@ use Rattle.std.specs.Prelude.{true, false, List, Some, option_map}
 use Rattle.std.proofs.Common.{ℕ, ◌+◌}
 use Rattle.base.specs.declared.range.Range.{Range}
 use Rattle.es_token.specs.declared.token.Token.{Token}
+use Rattle.es_ast.specs.declared.leaf.ImportPhase.{ImportPhase}
 use Rattle.es_ast.specs.declared.ast.Expr.TheVariants as vExpr
 use Rattle.es_grammar.specs.declared.rows.NodeKind.TheVariants as l
 use Rattle.es_lowering.specs.Value.{Value, absent, given, part, group, first_of, behind, optional, turns, expr_at, pat_at, stmt_at, params_at, prop_at, member_at, post_at, args_at, signature_at, type_at, arguments_at, type_params_at}
@@ -123,10 +124,10 @@ module _ (x : List ℕ) (ts : List Token) where
       → IsThere (Some (vExpr.Super r))
   expr_Super from r p m = tt
 
-  pub expr_ImportCall : (from : ℕ) (r : Range) (p : Value) → Meets ts absent (needs_expr l.ImportCall) (part p)
-      → IsThere (exprs.import_call r p)
+  pub expr_ImportCall : (phase : ImportPhase) (from : ℕ) (r : Range) (p : Value)
+      → Meets ts absent (needs_expr l.ImportCall) (part p) → IsThere (exprs.import_call phase r p)
   unfolding exprs.import_call
-  expr_ImportCall from r p m =
+  expr_ImportCall phase from r p m =
       given_there (expr_at p 0) _ m.0
       (λ a1. given_there (optional expr_at (group p 1)) _
       (optional_in (λ v. Meets ts absent (of as_expr rest) (part v)) expr_at (λ g2 h2. h2.0) (part p 1) m.1.0)

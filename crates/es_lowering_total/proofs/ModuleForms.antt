@@ -3,6 +3,7 @@ use Rattle.std.specs.Prelude.{true, false, List}
 use Rattle.std.proofs.Common.{ℕ}
 use Rattle.base.specs.declared.range.Range.{Range}
 use Rattle.es_token.specs.declared.token.Token.{Token}
+use Rattle.es_ast.specs.declared.leaf.ImportPhase.{ImportPhase}
 use Rattle.es_grammar.specs.declared.rows.NodeKind.TheVariants as l
 use Rattle.es_lowering.specs.Value.{Value, absent, part, group, optional, turns, expr_at, stmt_at, decl_at, item_at, clause_at, names_at, import_specifier_at, export_specifier_at, attributes_at, entity_at}
 use Rattle.es_lowering.specs.Texts.{token_at, ident_at, str_at, shebang_at, name_at, this_or_name_at}
@@ -108,6 +109,17 @@ module _ (x : List ℕ) (ts : List Token) where
       (λ a2. given_there (optional attributes_at (group p 3)) _
       (optional_in (λ v. Meets ts absent (of as_attributes rest) (part v)) attributes_at (λ g3 h3. h3.0)
       (part p 3) m.1.1.1.0) (λ a4. tt)))
+
+  pub module_decl_phase : (phase : ImportPhase) (from : ℕ) (r : Range) (p : Value)
+      → Meets ts absent (leaf (leaf (maybe (of as_attributes rest) rest))) (part p)
+      → IsThere (modules.phase_import x ts phase r p)
+  unfolding modules.phase_import
+  module_decl_phase phase from r p m =
+      given_there (ident_at x ts p 0) _ (map_there (token_at ts p 0) _ m.0)
+      (λ a1. given_there (str_at x ts p 1) _ (map_there (token_at ts p 1) _ m.1.0)
+      (λ a2. given_there (optional attributes_at (group p 2)) _
+      (optional_in (λ v. Meets ts absent (of as_attributes rest) (part v)) attributes_at (λ g3 h3. h3.0)
+      (part p 2) m.1.1.0) (λ a4. tt)))
 
   pub module_decl_RequireImport : (from : ℕ) (r : Range) (p : Value)
       → Meets ts absent (needs_module_decl l.RequireImport) (part p) → IsThere (modules.require_import x ts false r p)

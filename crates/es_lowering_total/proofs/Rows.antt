@@ -3,7 +3,7 @@ use Rattle.std.specs.Prelude.{Bool, false, ◌||◌}
 use Rattle.es_tree.specs.declared.error.Lang.{Lang}
 use Rattle.es_tree.specs.declared.error.Lang.TheVariants as lang
 use Rattle.es_grammar.specs.declared.rows.Row.{Row}
-use Rattle.es_grammar.specs.declared.rows.Row.TheVariants.{ModuleRow, ScriptRow, ItemRow, ClauseRow, NamedRow, ImportSpecifierRow, ExportSpecifierRow, AttributesRow, EntityRow, StatementRow, BlockRow, DeclarationRow, DeclaredRow, VariablesRow, DeclaratorRow, UsingRow, HeadRow, SignatureRow, ParametersRow, ParameterRow, PatternRow, InnerPatternRow, PatternElementRow, PatternPropertyRow, FunctionRow, ClassRow, MemberRow, PropertyRow, KeyRow, PostRow, MemberPostRow, ArgumentsRow, TypesRow}
+use Rattle.es_grammar.specs.declared.rows.Row.TheVariants.{ModuleRow, ScriptRow, ItemRow, ClauseRow, NamedRow, ImportSpecifierRow, ExportSpecifierRow, AttributesRow, EntityRow, StatementRow, BlockRow, DeclarationRow, DeclaredRow, VariablesRow, DeclaratorRow, UsingRow, HeadRow, HeadPatternRow, SignatureRow, ParametersRow, ParameterRow, PatternRow, InnerPatternRow, PatternElementRow, PatternPropertyRow, FunctionRow, ClassRow, MemberRow, PropertyRow, KeyRow, PostRow, MemberPostRow, ArgumentsRow, TypesRow}
 use Rattle.es_type_grammar.specs.declared.rows.TypeRow.TheVariants as types
 use Rattle.es_lowering_total.proofs.Uses.{Use, as_args, as_arguments, as_attributes, as_block, as_clause, as_decl, as_declarable, as_declarator, as_element, as_entity, as_export_specifier, as_expr, as_fn_param, as_fn_params, as_head, as_import_specifier, as_item, as_key, as_marked, as_member, as_names, as_param, as_params, as_pat, as_pat_prop, as_post, as_program, as_prop, as_reference, as_signature, as_stmt, as_type, as_type_key, as_type_member, as_type_params, as_type_pat, as_type_prop, as_variables, same_use}
 
@@ -26,6 +26,7 @@ first_use l (VariablesRow c) = as_variables
 first_use l (DeclaratorRow c) = as_declarator
 first_use l (UsingRow c) = as_variables
 first_use l (HeadRow c) = as_head
+first_use l (HeadPatternRow c) = as_pat
 first_use l (FunctionRow named c) = as_decl
 first_use l (ClassRow named c) = as_decl
 first_use l (ParametersRow c) = as_params
@@ -50,6 +51,8 @@ first_use l (TypesRow types.EntityRow) = as_entity
 first_use l (TypesRow types.ImportRow) = as_type
 first_use l (TypesRow types.ArgumentsRow) = as_arguments
 first_use l (TypesRow types.TypeParametersRow) = as_type_params
+first_use l (TypesRow types.OpenedFunctionRow) = as_type
+first_use l (TypesRow types.OpenedParametersRow) = as_type_params
 first_use l (TypesRow types.ElementRow) = as_element
 first_use l (TypesRow types.MemberRow) = as_type_member
 first_use l (TypesRow types.KeyRow) = as_type_key

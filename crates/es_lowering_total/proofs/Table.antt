@@ -23,6 +23,8 @@ needs_expr l.AsyncFunction = any (name (of as_params (of as_stmt rest)))
 needs_expr l.Class = name (maybe (of as_expr rest) (list (of as_member rest) rest))
 needs_expr l.Super = rest
 needs_expr l.ImportCall = of as_expr (maybe (of as_expr rest) rest)
+needs_expr l.SourceCall = of as_expr (maybe (of as_expr rest) rest)
+needs_expr l.DeferCall = of as_expr (maybe (of as_expr rest) rest)
 needs_expr l.ImportMeta = rest
 needs_expr l.NewTarget = rest
 needs_expr l.New = of as_expr (maybe (of as_args rest) rest)
@@ -305,6 +307,8 @@ needs_entity _ = never
 abbrev pub needs_module_decl : NodeKind → Needs
 needs_module_decl l.BareImport = leaf (maybe (of as_attributes rest) rest)
 needs_module_decl l.FromImport = any (of as_clause (leaf (maybe (of as_attributes rest) rest)))
+needs_module_decl l.SourceImport = leaf (leaf (maybe (of as_attributes rest) rest))
+needs_module_decl l.DeferImport = leaf (leaf (maybe (of as_attributes rest) rest))
 needs_module_decl l.RequireImport = any (leaf (leaf rest))
 needs_module_decl l.EntityImport = any (leaf (of as_entity rest))
 needs_module_decl l.ExportedRequireImport = any (leaf (leaf rest))
@@ -446,6 +450,8 @@ needs_reference _ = never
 abbrev pub needs_item : NodeKind → Needs
 needs_item l.BareImport = needs_module_decl l.BareImport
 needs_item l.FromImport = needs_module_decl l.FromImport
+needs_item l.SourceImport = needs_module_decl l.SourceImport
+needs_item l.DeferImport = needs_module_decl l.DeferImport
 needs_item l.RequireImport = needs_module_decl l.RequireImport
 needs_item l.EntityImport = needs_module_decl l.EntityImport
 needs_item l.ExportedRequireImport = needs_module_decl l.ExportedRequireImport

@@ -214,13 +214,7 @@ impl ReadsRhs<Row> for ValueIn {
     ) -> Result<usize, SyntaxError> {
         Opt(
             Greedy(Is(TokenKind::Equal)),
-            Punct(
-                TokenKind::Equal,
-                OfRow(
-                    Row::AssignmentRow(self.0),
-                    Where(Predicate::EndsExpression, Done),
-                ),
-            ),
+            Punct(TokenKind::Equal, OfRow(Row::AssignmentRow(self.0), Done)),
             Ended,
         )
         .read(grammar, cursor)

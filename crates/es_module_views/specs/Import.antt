@@ -7,11 +7,12 @@ use Rattle.es_grammar.specs.declared.rows.NodeKind.TheVariants as l
 use Rattle.es_ast.specs.declared.ast.ModuleDecl.{ModuleDecl}
 use Rattle.es_ast.specs.declared.ast.ModuleDecl.TheVariants as vModuleDecl
 use Rattle.es_ast.specs.declared.leaf.ImportClause.{ImportClause}
+use Rattle.es_ast.specs.declared.leaf.ImportPhase.{ImportPhase}
 use Rattle.es_ast.specs.declared.leaf.ImportPhase.TheVariants as vPhase
 use Rattle.ts_ast.specs.declared.leaf.TsEntityName.{TsEntityName}
 use Rattle.es_lowering.specs.Value.{Value, given, optional, first_of, behind, attributes_at}
 use Rattle.es_lowering.specs.Texts.{span_of, ident_of, str_of, token_of}
-use Rattle.es_lowering.specs.Modules.{equals_of}
+use Rattle.es_lowering.specs.Modules.{equals_of, phase_clause}
 use Rattle.es_ast.specs.declared.leaf.TsModuleRef.TheVariants as vRef
 use Rattle.es_syntax.specs.declared.cursor.Siblings.{Siblings}
 use Rattle.es_syntax.specs.Held.{held, valued}
@@ -23,8 +24,8 @@ use Rattle.es_module_views.specs.declared.import.Import.TheVariants as view
 -- the alternatives
 abbrev pub imports : List NodeKind
 imports =
-    l.BareImport ∷ l.FromImport ∷ l.RequireImport ∷ l.ExportedRequireImport ∷ l.EntityImport ∷ l.ExportedEntityImport
-    ∷ []
+    l.BareImport ∷ l.FromImport ∷ l.SourceImport ∷ l.DeferImport ∷ l.RequireImport ∷ l.ExportedRequireImport
+    ∷ l.EntityImport ∷ l.ExportedEntityImport ∷ []
 
 -- ---- each form, of what its parts are
 unfoldable pub bare : List ℕ → Range → Option Token → Value → Option ModuleDecl
@@ -41,6 +42,20 @@ from_of x r type_only clause source attributes =
     given (optional attributes_at attributes) (λ with.
     Some (vModuleDecl.Import (record
     { type_only = type_only; phase = vPhase.Evaluation; clause = Some clause; src = src; with = with; span = r })))))
+
+unfoldable pub phased : List ℕ → List Token → Range → ImportPhase → Value → Option Token → Value → Option ModuleDecl
+phased x ts r phase name source attributes =
+    given (option_map (ident_of x) (token_of ts name)) (λ local.
+    given (option_map (str_of x) source) (λ src.
+    given (optional attributes_at attributes) (λ with.
+    Some (vModuleDecl.Import (record {
+      type_only = false;
+      phase = phase;
+      clause = Some (phase_clause ts phase name local);
+      src = src;
+      with = with;
+      span = r;
+    })))))
 
 unfoldable pub require : List ℕ → List Token → Range → Bool → Bool → Option Token → Value → Option ModuleDecl
 require x ts r is_export type_only name source =
@@ -59,6 +74,8 @@ abbrev pub the_import : List ℕ → List Token → Range → Import → Option 
 the_import x ts r (view.Bare source attributes) = bare x r (slice_get ts source) (held x ts attributes.entries.now)
 the_import x ts r (view.From type_only clause source attributes) =
     from_of x r type_only (clause_in (valued x ts clause)) (slice_get ts source) (held x ts attributes.entries.now)
+the_import x ts r (view.Phased phase name source attributes) =
+    phased x ts r phase (valued x ts name) (slice_get ts source) (held x ts attributes.entries.now)
 the_import x ts r (view.Require is_export type_only name source) =
     require x ts r is_export type_only (slice_get ts name) (valued x ts source)
 the_import x ts r (view.Entity is_export type_only name entity) =
@@ -69,6 +86,7 @@ the_import x ts r view.Broken = None
 abbrev pub IsBelow : Siblings → Import → Type 0
 IsBelow n (view.Bare source attributes) = Within attributes n
 IsBelow n (view.From type_only clause source attributes) = Under clause n × Within attributes n
+IsBelow n (view.Phased phase name source attributes) = Under name n × Within attributes n
 IsBelow n (view.Require is_export type_only name source) = Under source n
 IsBelow n (view.Entity is_export type_only name entity) = Under entity n
 IsBelow n view.Broken = Unit {0}

@@ -3,7 +3,7 @@
 ghost use Rattle.std.specs.Prelude.{◌≡◌, ℕ, List, IfSome, IfNone, None};
 ghost use Rattle.base.specs.declared.range.Range.{Range};
 ghost use Rattle.es_token.specs.declared.token.Token.{Token as Tok};
-ghost use Rattle.es_lowering.specs.Modules.{bare_import, from_import, require_import, entity_import};
+ghost use Rattle.es_lowering.specs.Modules.{bare_import, from_import, phase_import, require_import, entity_import};
 ghost use Rattle.es_lowering.specs.Lowering.{item_by};
 ghost use Rattle.es_lowering.specs.Texts.{span_of};
 ghost use Rattle.es_syntax.specs.Held.{held, valued};
@@ -11,6 +11,7 @@ ghost use Rattle.es_syntax.specs.Roles.{item_in};
 ghost use Rattle.es_syntax.specs.Views.{IsNone};
 ghost use Rattle.es_module_views.specs.Import.{imports, the_import, IsBelow};
 
+use es_ast::ImportPhase;
 use es_grammar::NodeKind;
 use es_syntax::{Item, Siblings, What};
 
@@ -26,6 +27,13 @@ pub enum Import<'a> {
     From {
         type_only: bool,
         clause: Item<'a>,
+        source: u32,
+        attributes: Siblings<'a>,
+    },
+    /// `import source a from "b"`, or `import defer * as a from "b"`: the name is a token's.
+    Phased {
+        phase: ImportPhase,
+        name: Item<'a>,
         source: u32,
         attributes: Siblings<'a>,
     },
@@ -75,6 +83,26 @@ fn from_<'a>(parts: &Siblings<'a>) -> Import<'a>
                 clause,
                 source,
                 attributes: parts.group_at(3),
+            },
+            None => Import::Broken,
+        },
+        None => Import::Broken,
+    }
+}
+
+/// `import source a from "b"`, `import defer * as a from "b"`
+#[tactic(auto, unfolding(es_lowering::specs::Modules::phase_import, crate::specs::Import::phased))]
+fn phased<'a>(phase: ImportPhase, parts: &Siblings<'a>) -> Import<'a>
+    ensures form { (x : List ℕ) (ts : List Tok) (r : Range) → phase_import x ts phase r (held x ts parts.now.entries.now) ≡ the_import x ts r result }
+    ensures below { IsBelow parts.now result }
+{
+    match parts.part(0) {
+        Some(name) => match parts.token_at(1) {
+            Some(source) => Import::Phased {
+                phase,
+                name,
+                source,
+                attributes: parts.group_at(2),
             },
             None => Import::Broken,
         },
@@ -133,6 +161,8 @@ pub fn import_at<'a>(node: &Item<'a>) -> Option<Import<'a>>
         What::Node(label) => match label {
             NodeKind::BareImport => Some(bare(&node.parts)),
             NodeKind::FromImport => Some(from_(&node.parts)),
+            NodeKind::SourceImport => Some(phased(ImportPhase::Source, &node.parts)),
+            NodeKind::DeferImport => Some(phased(ImportPhase::Defer, &node.parts)),
             NodeKind::RequireImport => Some(require(false, &node.parts)),
             NodeKind::ExportedRequireImport => Some(require(true, &node.parts)),
             NodeKind::EntityImport => Some(entity(false, &node.parts)),

@@ -5,6 +5,7 @@ use Rattle.std.proofs.Common.{◌≡◌, ℕ, refl, ◌∙◌}
 use Rattle.base.specs.declared.range.Range.{Range}
 use Rattle.es_token.specs.declared.token.Token.{Token}
 use Rattle.ts_ast.specs.declared.leaf.MethodKind.TheVariants as vMethod
+use Rattle.es_ast.specs.declared.leaf.ImportPhase.TheVariants as vPhase
 use Rattle.es_ast.specs.declared.leaf.ImportAttributes.{ImportAttributes}
 use Rattle.es_ast.specs.declared.ast.Expr.TheVariants as vExpr
 use Rattle.es_ast.specs.declared.ast.Prop.TheVariants as vProp
@@ -28,10 +29,10 @@ use Rattle.es_plain_sites.specs.Own.{own, clause_attribute}
 use Rattle.es_plain_sites.proofs.Given.{given_any, map_fine}
 use Rattle.es_plain_sites.proofs.Is.{Of, PostIs, KeyIs, PropIs, MarkedIs, DeclarableIs, TypedIs, Is, head_sites, variables_sites, signature_sites, if_at}
 use Rattle.es_plain_sites.proofs.Exprs.{Ex, expr_by, name_is, str_is, parenthesized_is, await_is, binary_is, conditional_is, pattern_assignment_is, assignment_is, sequence_is, call_post_is}
-use Rattle.es_plain_sites.proofs.Calls.{import_call_is, member_post_is, index_post_is, chain_is, arguments_is}
+use Rattle.es_plain_sites.proofs.Calls.{import_call_is, source_call_is, defer_call_is, member_post_is, index_post_is, chain_is, arguments_is}
 use Rattle.es_plain_sites.proofs.Objects.{object_literal_is, word_key_is, str_key_is, computed_key_is, key_value_is, shorthand_is}
 use Rattle.es_plain_sites.proofs.More.{word_is, number_is, regexp_is, template_is, template_parts_is, array_literal_is, spread_is, new_is, prefix_is, update_prefix_is, update_postfix_is, private_in_is, yield_is, template_post_is, optional_post_is}
-use Rattle.es_plain_sites.proofs.Modules.{attributes_is, bare_import_is, from_import_is, require_import_is, entity_import_is, export_all_is, export_names_is, export_namespace_is, export_default_decl_is, export_default_expression_is, export_declaration_is, export_assignment_is, module_is, script_is, item_by_is}
+use Rattle.es_plain_sites.proofs.Modules.{attributes_is, bare_import_is, from_import_is, phase_import_is, require_import_is, entity_import_is, export_all_is, export_names_is, export_namespace_is, export_default_decl_is, export_default_expression_is, export_declaration_is, export_assignment_is, module_is, script_is, item_by_is}
 use Rattle.es_plain_sites.proofs.Stmts.{block_is, declarator_is, bare_declarator_is, variables_is, using_is, variable_declaration_is, variable_head_is, using_head_is, for_each_is, for_await_is, while_is, do_is, expression_statement_is, labelled_is, if_is, continue_is, break_is, throw_is, with_is, return_is, switch_is, for_is, try_is}
 use Rattle.es_plain_sites.proofs.Patterns.{param_is, prop_by, name_pattern_is, array_pattern_is, object_pattern_is, rest_pattern_is, default_pattern_is, rest_property_is, key_pattern_is, name_property_is, default_parameter_is, parameters_is, signature_is, function_made_is, name_arrow_is, parenthesized_arrow_is, number_key_is, private_key_is, spread_property_is, method_property_is, class_made_is, static_block_is, method_member_is, accessor_member_is, field_member_is}
 use Rattle.es_plain_sites.proofs.Typed.{marked_name_is, marked_array_is, marked_object_is, marked_parameter_is, property_parameter_is, this_parameter_is, typed_parameters_is, typed_signature_is, typed_function_is, typed_arrow_is, typed_method_property_is, typed_class_is, typed_method_member_is, typed_accessor_member_is, typed_field_is, index_member_is, typed_call_post_is, typed_template_post_is, non_null_post_is, typed_new_is, typed_declarator_is, typed_head_is, interface_is, alias_is, enum_is, namespace_is, module_namespace_is, global_is, declared_is, declared_variables_is, typed_optional_post_is, typed_binary_is, typed_try_is}
@@ -68,7 +69,9 @@ module _ (x : List ℕ) (ts : List Token) where
       refl refl refl)) (if_at x ts P label l.Super _ _
       (expr_by x ts l.Super q [] (vExpr.Super r) (Expr-F.Super r) (vExpr.rolls-Super r) (expr_Super [] r) refl refl
       refl) (if_at x ts P label l.ImportCall _ _
-      (import_call_is x ts r p q h) (if_at x ts P label l.ImportMeta _ _
+      (import_call_is x ts r p q h) (if_at x ts P label l.SourceCall _ _
+      (source_call_is x ts r p q h) (if_at x ts P label l.DeferCall _ _
+      (defer_call_is x ts r p q h) (if_at x ts P label l.ImportMeta _ _
       (expr_by x ts l.ImportMeta q [] (vExpr.ImportMeta r) (Expr-F.ImportMeta r) (vExpr.rolls-ImportMeta r)
       (expr_ImportMeta [] r) refl refl refl) (if_at x ts P label l.NewTarget _ _
       (expr_by x ts l.NewTarget q [] (vExpr.NewTarget r) (Expr-F.NewTarget r) (vExpr.rolls-NewTarget r)
@@ -122,7 +125,7 @@ module _ (x : List ℕ) (ts : List Token) where
       (typed_arrow_is x ts r p q h l.TypedAsyncParenthesizedArrow true
       (λ it g. expr_by x ts l.TypedAsyncParenthesizedArrow q _ (vExpr.Arrow it) (Expr-F.Arrow it)
       (vExpr.rolls-Arrow it) (expr_Arrow [] it ∙ g) refl refl refl))
-      (tt)))))))))))))))))))))))))))))))))))))))))))
+      (tt)))))))))))))))))))))))))))))))))))))))))))))
 
   pat_law : (label : NodeKind) (from : ℕ) (r : Range) (p : Value) (q : Part) → Is x ts p q
       → Opt ((λ (k : NodeKind). Of sites_of_pat (own x ts k q)) label) (pat_of x ts label from r p)
@@ -440,7 +443,9 @@ module _ (x : List ℕ) (ts : List Token) where
       let P = (λ (k : NodeKind). Of sites_of_module_decl (own x ts k q)) in
       if_at x ts P label l.BareImport _ _
       (bare_import_is x ts r p q h) (if_at x ts P label l.FromImport _ _
-      (from_import_is x ts r p q h) (if_at x ts P label l.RequireImport _ _
+      (from_import_is x ts r p q h) (if_at x ts P label l.SourceImport _ _
+      (phase_import_is x ts r p q h vPhase.Source) (if_at x ts P label l.DeferImport _ _
+      (phase_import_is x ts r p q h vPhase.Defer) (if_at x ts P label l.RequireImport _ _
       (require_import_is x ts r p q h false) (if_at x ts P label l.EntityImport _ _
       (entity_import_is x ts r p q h false) (if_at x ts P label l.ExportedRequireImport _ _
       (require_import_is x ts r p q h true) (if_at x ts P label l.ExportedEntityImport _ _
@@ -453,7 +458,7 @@ module _ (x : List ℕ) (ts : List Token) where
       (export_default_expression_is x ts r p q h) (if_at x ts P label l.ExportDeclaration _ _
       (export_declaration_is x ts r p q h) (if_at x ts P label l.ExportDefaultInterface _ _
       (export_default_decl_is x ts r p q h) (if_at x ts P label l.ExportAssignment _ _
-      (export_assignment_is x ts r p q h) (tt)))))))))))))))
+      (export_assignment_is x ts r p q h) (tt)))))))))))))))))
 
   program_law : (label : NodeKind) (from : ℕ) (r : Range) (p : Value) (q : Part) → Is x ts p q
       → Opt ((λ (k : NodeKind). Of sites_of (own x ts k q)) label) (program_of x ts label r p)

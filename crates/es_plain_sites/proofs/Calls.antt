@@ -6,16 +6,17 @@ use Rattle.std.proofs.lemmas.List.{append-nil, append_assoc}
 use Rattle.base.specs.declared.range.Range.{Range}
 use Rattle.es_token.specs.declared.token.Token.{Token}
 use Rattle.es_ast.specs.declared.leaf.Lit.TheVariants as vLit
+use Rattle.es_ast.specs.declared.leaf.ImportPhase.{ImportPhase}
 use Rattle.es_ast.specs.declared.leaf.ImportPhase.TheVariants as vPhase
 use Rattle.es_ast.specs.declared.ast.Expr.{Expr, roll-Expr, out-Expr, out-roll-Expr}
 use Rattle.es_ast.specs.declared.ast.Expr.TheVariants as vExpr
 use Rattle.es_ast.specs.declared.ast.ClassMember.TheOpen.{Expr-F}
+use Rattle.es_grammar.specs.declared.rows.NodeKind.{NodeKind}
 use Rattle.es_grammar.specs.declared.rows.NodeKind.TheVariants as l
 use Rattle.es_site.specs.Parts.{ExprParts}
 use Rattle.es_site.specs.declared.site.Attribute.TheVariants.{Unknown}
-use Rattle.es_site.specs.declared.site.DependencyKind.TheVariants as kind
 use Rattle.es_site.specs.Attributes.{options_attribute, options_part, with_part}
-use Rattle.es_site.specs.Sites.{Found, first_argument, sites_of_expr}
+use Rattle.es_site.specs.Sites.{Found, call_kind, first_argument, sites_of_expr}
 use Rattle.es_site.proofs.Equations.{expr_ImportCall, expr_Member, expr_Index, expr_Spread}
 use Rattle.es_lowering.specs.Value.{Typed, Value, given, typed}
 use Rattle.es_lowering.specs.Value as v
@@ -23,7 +24,7 @@ use Rattle.es_lowering.specs.Texts.{span_of, property_at}
 use Rattle.es_lowering.specs.Expressions.{Post, argument_of, argument, arguments, member_of, index_of, member_post, index_post, chained, chain, import_call}
 use Rattle.es_site_ranges.proofs.Cuts.{Opt}
 use Rattle.es_plain_sites.specs.Part.{Part, absent, nil, more, token, node, part, as_group, group, found, at, inside, each, turns}
-use Rattle.es_plain_sites.specs.Own.{src_in, options_of, options_in, naming, own}
+use Rattle.es_plain_sites.specs.Own.{src_by, src_in, with_by, options_by, options_of, options_in, naming, called, own}
 use Rattle.es_plain_sites.proofs.Given.{given_fine, map_fine, map_any}
 use Rattle.es_plain_sites.proofs.Is.{Of, PostIs, ValueIs, Is, none, nothing, both, same, made, part_is, as_group_is, group_is, str_view, expr_in, post_in, turns_in}
 use Rattle.es_plain_sites.proofs.Exprs.{two, Ex, expr_by}
@@ -49,11 +50,11 @@ chained_is start obj s posts (one_more a b post rest f g) other =
 
 module _ (x : List ℕ) (ts : List Token) where
   -- a literal, as the first argument of a call
-  first_by : (it : ExprParts) (rest : List Expr)
-      → first_argument it rest ≡ naming x ts kind.Dynamic false (options_attribute rest) (str_view it)
-  first_by (Expr-F.Lit (vLit.Str s)) rest = refl
-  first_by (Expr-F.Lit _) rest = refl
-  first_by _ rest = refl
+  first_by : (phase : ImportPhase) (it : ExprParts) (rest : List Expr)
+      → first_argument phase it rest ≡ naming x ts (call_kind phase) false (options_attribute rest) (str_view it)
+  first_by phase (Expr-F.Lit (vLit.Str s)) rest = refl
+  first_by phase (Expr-F.Lit _) rest = refl
+  first_by phase _ rest = refl
 
   pub value_in : (p : Value) (q : Part) → Is x ts p q → Opt (ValueIs x ts q) (given (typed p) (λ m. m.expr))
   value_in p q none = tt
@@ -100,21 +101,33 @@ module _ (x : List ℕ) (ts : List Token) where
   second_is p q (made from to m label r s h) = (refl, refl)
 
   module _ (r : Range) (p : Value) (q : Part) (h : Is x ts p q) where
-    pub import_call_is : Opt (Ex x ts l.ImportCall q) (import_call r p)
+    call_by : (label : NodeKind) (phase : ImportPhase) → called x ts (call_kind phase) q ≡ own x ts label q
+        → None ≡ src_by x ts label q → Unknown ≡ options_by x ts label q → Unknown ≡ with_by x ts label q
+        → Opt (Ex x ts label q) (import_call phase r p)
     unfolding import_call SecondIs
-    import_call_is =
-        given_fine (ValueIs x ts (part q 0)) (Ex x ts l.ImportCall q) (v.expr_at p 0) _
+    call_by label phase sites str options with =
+        given_fine (ValueIs x ts (part q 0)) (Ex x ts label q) (v.expr_at p 0) _
         (value_in (v.part p 0) (part q 0) (part_is x ts p q 0 h)) (λ first f.
-        given_fine (SecondIs (group q 1)) (Ex x ts l.ImportCall q) (v.optional v.expr_at (v.group p 1)) _
+        given_fine (SecondIs (group q 1)) (Ex x ts label q) (v.optional v.expr_at (v.group p 1)) _
         (second_is (v.group p 1) (group q 1) (group_is x ts p q 1 h)) (λ second g.
         (let args = first ∷ v.option_list second in
-        expr_by x ts l.ImportCall q (own x ts l.ImportCall q) (vExpr.ImportCall vPhase.Evaluation args r)
-        (Expr-F.ImportCall vPhase.Evaluation args r) (vExpr.rolls-ImportCall vPhase.Evaluation args r)
-        (expr_ImportCall [] vPhase.Evaluation args r
+        expr_by x ts label q (own x ts label q) (vExpr.ImportCall phase args r) (Expr-F.ImportCall phase args r)
+        (vExpr.rolls-ImportCall phase args r)
+        (expr_ImportCall [] phase args r
         ∙ two (λ a b. a ++ b)
-        (first_by (out-Expr first) (v.option_list second)
-        ∙ two (naming x ts kind.Dynamic false) g.1 (value_str (part q 0) first f))
-        (two (λ a b. a ++ b) (value_sites (part q 0) first f) g.0)) refl refl refl)))
+        (first_by phase (out-Expr first) (v.option_list second)
+        ∙ two (naming x ts (call_kind phase) false) g.1 (value_str (part q 0) first f))
+        (two (λ a b. a ++ b) (value_sites (part q 0) first f) g.0)
+        ∙ sites) str options with)))
+
+    pub import_call_is : Opt (Ex x ts l.ImportCall q) (import_call vPhase.Evaluation r p)
+    import_call_is = call_by l.ImportCall vPhase.Evaluation refl refl refl refl
+
+    pub source_call_is : Opt (Ex x ts l.SourceCall q) (import_call vPhase.Source r p)
+    source_call_is = call_by l.SourceCall vPhase.Source refl refl refl refl
+
+    pub defer_call_is : Opt (Ex x ts l.DeferCall q) (import_call vPhase.Defer r p)
+    defer_call_is = call_by l.DeferCall vPhase.Defer refl refl refl refl
 
     -- ---- chains
     pub post_by : (s : Found) (post : Post) (it : ℕ → Expr → ExprParts)

@@ -5,6 +5,7 @@ use Rattle.std.proofs.Common.{◌≡◌, ℕ, refl, sym, ap, ◌∙◌}
 use Rattle.base.specs.declared.range.Range.{Range}
 use Rattle.es_token.specs.declared.token.Token.{Token}
 use Rattle.ts_ast.specs.declared.leaf.Str.{Str}
+use Rattle.es_ast.specs.declared.leaf.ImportPhase.{ImportPhase}
 use Rattle.es_ast.specs.declared.leaf.ImportAttribute.{ImportAttribute}
 use Rattle.es_ast.specs.declared.leaf.ImportAttributes.{ImportAttributes}
 use Rattle.es_ast.specs.declared.leaf.ModuleExportName.{ModuleExportName}
@@ -18,12 +19,12 @@ use Rattle.es_site.specs.declared.site.Attribute.TheVariants.{Unknown}
 use Rattle.es_site.specs.declared.site.DependencyKind.{DependencyKind}
 use Rattle.es_site.specs.declared.site.DependencyKind.TheVariants as kind
 use Rattle.es_site.specs.Attributes.{attribute_of, named, spells}
-use Rattle.es_site.specs.Sites.{Found, site_at, export_site, sites_of, sites_of_expr, sites_of_decl, sites_of_stmt, sites_of_module_decl, sites_of_module_item}
+use Rattle.es_site.specs.Sites.{Found, import_kind, site_at, export_site, sites_of, sites_of_expr, sites_of_decl, sites_of_stmt, sites_of_module_decl, sites_of_module_item}
 use Rattle.es_site.proofs.Equations.{module_decl_Import, module_decl_ExportDecl, module_decl_ExportNamed, module_decl_ExportDefaultDecl, module_decl_ExportDefaultExpr, module_decl_ExportAll, module_decl_TsImportEquals, module_decl_TsExportAssignment, module_decl_TsNamespaceExport, module_item_ModuleDecl, module_item_Stmt}
 use Rattle.es_lowering.specs.Value.{Typed, Value, given, typed}
 use Rattle.es_lowering.specs.Value as v
 use Rattle.es_lowering.specs.Texts.{ident_at, name_of, name_at, str_of, str_at, token_of, shebang_at}
-use Rattle.es_lowering.specs.Modules.{attribute, attributes, bare_import, from_import, require_import, entity_import, export_all, source_with, with_of, export_names, export_namespace, export_default_decl, export_default_expression, export_declaration, module_, script}
+use Rattle.es_lowering.specs.Modules.{attribute, attributes, bare_import, from_import, phase_import, require_import, entity_import, export_all, source_with, with_of, export_names, export_namespace, export_default_decl, export_default_expression, export_declaration, module_, script}
 use Rattle.es_lowering.specs.TypedStatements.{export_assignment}
 use Rattle.es_lowering.specs.Lowering.{item_by}
 use Rattle.es_site_ranges.proofs.Cuts.{Opt}
@@ -149,6 +150,18 @@ module _ (x : List ℕ) (ts : List Token) where
         (with_there (v.group p 3) (group q 3) (group_is x ts p q 3 h)) (λ with g.
         module_decl_Import [] _ ∙ names kind.Import (v.is_there (v.group p 0)) _ _ _ src _
         (there_is x ts (v.group p 0) (group q 0) (group_is x ts p q 0 h)) g f)))
+
+    pub phase_import_is : (phase : ImportPhase)
+        → Opt (Of sites_of_module_decl (declared x ts (import_kind phase) false q 1)) (phase_import x ts phase r p)
+    unfolding phase_import
+    phase_import_is phase =
+        let Q = Of sites_of_module_decl (declared x ts (import_kind phase) false q 1) in
+        given_any Q (ident_at x ts p 0) _ (λ local.
+        given_fine (λ s. str_in x ts (part q 1) ≡ Some s) Q (str_at x ts p 1) _ (str_there 1 p q h) (λ src f.
+        given_fine (λ (c : Option ImportAttributes). attribute_of c ≡ attribute_in x ts (group q 2)) Q
+        (v.optional v.attributes_at (v.group p 2)) _
+        (with_there (v.group p 2) (group q 2) (group_is x ts p q 2 h)) (λ with g.
+        module_decl_Import [] _ ∙ names (import_kind phase) false false _ _ src _ refl g f)))
 
     pub require_import_is : (is_export : Bool)
         → Opt (Of sites_of_module_decl

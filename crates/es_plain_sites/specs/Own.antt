@@ -131,6 +131,10 @@ module _ (x : List ℕ) (ts : List Token) where
   abbrev pub declared : DependencyKind → Bool → Part → ℕ → Found
   declared kind type_only p n = naming kind type_only (attribute_in (group p (n + 1))) (str_in (part p n))
 
+  -- a call of `import`, in a phase
+  abbrev pub called : DependencyKind → Part → Found
+  called kind p = naming kind false (options_in (group p 1)) (src_in (part p 0)) ++ (at p 0 ++ may p 1)
+
   -- the first that is there
   abbrev pub first_of : Part → Found → Found
   first_of (more v vs) others = at (more v vs) 0
@@ -168,6 +172,8 @@ module _ (x : List ℕ) (ts : List Token) where
   -- modules
   own l.BareImport p = declared kind.Import false p 0
   own l.FromImport p = declared kind.Import (is_there (group p 0)) p 2
+  own l.SourceImport p = declared kind.ImportSource false p 1
+  own l.DeferImport p = declared kind.ImportDefer false p 1
   own l.RequireImport p = naming kind.ImportEquals (is_there (group p 0)) Unknown (str_in (part p 2))
   own l.ExportedRequireImport p = naming kind.ImportEquals (is_there (group p 0)) Unknown (str_in (part p 2))
   own l.ExportAll p = declared kind.Export (is_there (group p 0)) p 2
@@ -181,7 +187,9 @@ module _ (x : List ℕ) (ts : List Token) where
   own l.Module p = turns p 1 0
   own l.Script p = turns p 1 0
   -- expressions
-  own l.ImportCall p = naming kind.Dynamic false (options_in (group p 1)) (src_in (part p 0)) ++ (at p 0 ++ may p 1)
+  own l.ImportCall p = called kind.Dynamic p
+  own l.SourceCall p = called kind.DynamicSource p
+  own l.DeferCall p = called kind.DynamicDefer p
   own l.TemplateParts p = at p 1 ++ turns p 2 1
   own l.Parenthesized p = at p 0
   own l.ArrayLiteral p = each (λ turn. may turn 0) (group p 0)

@@ -7,15 +7,16 @@ use Rattle.es_tree.specs.declared.error.Lang.TheVariants as lang
 use Rattle.es_type_grammar.specs.Functions.{opens_accessor, opens_async, opens_star}
 use Rattle.es_type_grammar.specs.Classes.{opens_field_accessor}
 use Rattle.es_type_grammar.specs.Members.{shows_index}
+use Rattle.es_type_grammar.specs.TypeNames.{begins_angle}
 use Rattle.es_lookahead.specs.Named as plain
 use Rattle.es_lookahead.specs.declared.named.Kinds.TheVariants as plain_kinds
 use Rattle.es_lookahead.specs.declared.named.Lookahead.TheVariants as plain_lookahead
 use Rattle.es_lookahead.specs.declared.named.Predicate.TheVariants as plain_predicate
 use Rattle.es_grammar.specs.Embedding.{opens_call_arguments, opens_heritage_arguments}
-use Rattle.es_grammar.specs.Expressions.{is_assertion_word, begins_parameters, begins_arguments, begins_callee_post, opens_operand, opens_assertion, opens_any_arrow, opens_async_here, opens_async_list, opens_arrow_result, opens_no_arrow, opens_post, opens_call, opens_typed_template, opens_comparison, is_behind_as, opens_abstract_class, may_await, may_test, is_module}
+use Rattle.es_grammar.specs.Expressions.{is_assertion_word, opens_new_arguments, opens_class_name, is_tight, comes_behind, is_tightest, begins_parameters, begins_arguments, begins_callee_post, opens_operand, opens_assertion, opens_non_null, opens_any_arrow, opens_async_here, opens_async_list, opens_arrow_result, opens_no_arrow, opens_post, opens_call, opens_typed_template, opens_shift_in, opens_comparison, is_behind_as, opens_abstract_class, may_await, may_test, is_module}
 use Rattle.es_grammar.specs.Functions.{is_typed_modifier, is_modifier, opens_parameter_modifier, each_once, opens_marked, opens_any_method}
 use Rattle.es_grammar.specs.Classes.{opens_modifier, behind_all, is_member_key, is_field_mark}
-use Rattle.es_grammar.specs.Statements.{begins_value_here, is_script, opens_declarator}
+use Rattle.es_grammar.specs.Statements.{begins_value_here, is_script, opens_declarator, opens_initial}
 use Rattle.es_grammar.specs.Declarations.{is_declaration_word, is_namespace_word, opens_interface, opens_alias, opens_enum, opens_namespace, opens_module, opens_global, opens_declare, declares_variables}
 use Rattle.es_grammar.specs.Items.{opens_any_default_class, opens_default_interface, opens_any_declaration, opens_export_assignment}
 use Rattle.es_predicates.specs.declared.named.Kinds.{Kinds}
@@ -51,6 +52,8 @@ kinds_of kinds.PropertyName = plain.kinds_of plain_kinds.PropertyName
 kinds_of kinds.LiteralWord = plain.kinds_of plain_kinds.LiteralWord
 kinds_of kinds.VariableWord = plain.kinds_of plain_kinds.VariableWord
 kinds_of kinds.AssertionWord = is_assertion_word
+kinds_of kinds.Tight = is_tight
+kinds_of kinds.Tightest = is_tightest
 kinds_of kinds.TypedModifier = is_typed_modifier
 kinds_of kinds.Modifier = is_modifier
 kinds_of kinds.FieldMark = is_field_mark
@@ -83,6 +86,8 @@ lookahead_of (lookahead.BeginsCalleePost l) = begins_callee_post l
 lookahead_of (lookahead.ValueHere l) = begins_value_here l
 lookahead_of (lookahead.Operand l) = opens_operand l
 lookahead_of lookahead.Assertion = opens_assertion
+lookahead_of lookahead.NonNull = opens_non_null
+lookahead_of lookahead.BeginsAngle = begins_angle
 
 -- the predicate that is named
 abbrev pub predicate_of : NamedPredicate → Predicate
@@ -94,6 +99,8 @@ predicate_of predicate.HasComma = plain.predicate_of plain_predicate.HasComma
 predicate_of (predicate.OpensEquals l) = plain.predicate_of (plain_predicate.OpensEquals l)
 predicate_of (predicate.OpensRequire l) = plain.predicate_of (plain_predicate.OpensRequire l)
 predicate_of predicate.OpensBare = plain.predicate_of plain_predicate.OpensBare
+predicate_of predicate.OpensSourceImport = plain.predicate_of plain_predicate.OpensSourceImport
+predicate_of predicate.OpensDeferImport = plain.predicate_of plain_predicate.OpensDeferImport
 predicate_of (predicate.OpensTypeExport l) = plain.predicate_of (plain_predicate.OpensTypeExport l)
 predicate_of (predicate.OpensAll l) = plain.predicate_of (plain_predicate.OpensAll l)
 predicate_of (predicate.OpensExportedEquals l) = plain.predicate_of (plain_predicate.OpensExportedEquals l)
@@ -104,7 +111,6 @@ predicate_of predicate.OpensDefault = plain.predicate_of plain_predicate.OpensDe
 predicate_of predicate.OpensDefaultFunction = plain.predicate_of plain_predicate.OpensDefaultFunction
 predicate_of predicate.OpensDefaultClass = plain.predicate_of plain_predicate.OpensDefaultClass
 predicate_of predicate.OpensDeclaration = plain.predicate_of plain_predicate.OpensDeclaration
-predicate_of predicate.EndsValue = plain.predicate_of plain_predicate.EndsValue
 predicate_of predicate.OpensUsing = plain.predicate_of plain_predicate.OpensUsing
 predicate_of predicate.OpensFor = plain.predicate_of plain_predicate.OpensFor
 predicate_of predicate.OpensForAwait = plain.predicate_of plain_predicate.OpensForAwait
@@ -126,12 +132,13 @@ predicate_of predicate.BehindStaticAsync = plain.predicate_of plain_predicate.Be
 predicate_of predicate.BehindStaticStar = plain.predicate_of plain_predicate.BehindStaticStar
 predicate_of predicate.BehindStaticFieldAccessor = plain.predicate_of plain_predicate.BehindStaticFieldAccessor
 predicate_of predicate.BehindStaticMethod = plain.predicate_of plain_predicate.BehindStaticMethod
-predicate_of predicate.EndsExpression = plain.predicate_of plain_predicate.EndsExpression
 predicate_of predicate.OpensAsyncParenthesis = plain.predicate_of plain_predicate.OpensAsyncParenthesis
 predicate_of predicate.IsNoArrowHead = plain.predicate_of plain_predicate.IsNoArrowHead
 predicate_of predicate.OpensAsyncFunction = plain.predicate_of plain_predicate.OpensAsyncFunction
 predicate_of predicate.OpensProperty = plain.predicate_of plain_predicate.OpensProperty
 predicate_of predicate.HasArgument = plain.predicate_of plain_predicate.HasArgument
+predicate_of predicate.OpensSourceCall = plain.predicate_of plain_predicate.OpensSourceCall
+predicate_of predicate.OpensDeferCall = plain.predicate_of plain_predicate.OpensDeferCall
 predicate_of predicate.OpensShift = plain.predicate_of plain_predicate.OpensShift
 predicate_of predicate.OpensArrow = plain.predicate_of plain_predicate.OpensArrow
 predicate_of predicate.OpensAsyncArrow = plain.predicate_of plain_predicate.OpensAsyncArrow
@@ -144,12 +151,16 @@ predicate_of (predicate.OpensAsyncList l) = opens_async_list l
 predicate_of (predicate.OpensArrowResult c) = opens_arrow_result c
 predicate_of (predicate.OpensNoArrow l c) = opens_no_arrow l c
 predicate_of predicate.OpensCallArguments = opens_call_arguments
+predicate_of predicate.OpensNewArguments = opens_new_arguments
 predicate_of predicate.OpensHeritageArguments = opens_heritage_arguments
 predicate_of predicate.OpensPost = opens_post
 predicate_of predicate.OpensCall = opens_call
 predicate_of predicate.OpensTypedTemplate = opens_typed_template
+predicate_of (predicate.OpensShiftIn l) = opens_shift_in l
 predicate_of (predicate.OpensComparison l c) = opens_comparison l c
 predicate_of predicate.IsBehindAs = is_behind_as
+predicate_of (predicate.ComesBehind named) = comes_behind (kinds_of named)
+predicate_of predicate.OpensClassName = opens_class_name
 predicate_of predicate.OpensAbstractClass = opens_abstract_class
 predicate_of (predicate.MayAwait c) = may_await c
 predicate_of (predicate.MayTest c) = may_test c
@@ -169,6 +180,7 @@ predicate_of predicate.BehindAllStar = behind_all opens_star
 predicate_of predicate.BehindAllFieldAccessor = behind_all opens_field_accessor
 predicate_of predicate.BehindAllMethod = behind_all (opens_any_method lang.Typescript)
 predicate_of predicate.OpensDeclarator = opens_declarator
+predicate_of (predicate.OpensInitial c) = opens_initial c
 predicate_of predicate.OpensInterface = opens_interface
 predicate_of predicate.OpensAlias = opens_alias
 predicate_of predicate.OpensEnum = opens_enum

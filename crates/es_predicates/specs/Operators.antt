@@ -16,10 +16,10 @@ is_operator_word kind =
 unfoldable pub is_arithmetic : TokenKind → Bool
 is_arithmetic kind = is_between k.Plus k.Percent kind
 
--- from `<` to `!==`, `<<`, and words
+-- from `<` to `**`, `<<`, and words
 unfoldable pub is_comparing : TokenKind → Bool
 is_comparing kind =
-    is_between k.Less k.NotEqualEqual kind || (same_kind kind k.LessLess || is_operator_word kind)
+    is_between k.Less k.StarStar kind || (same_kind kind k.LessLess || is_operator_word kind)
 
 -- `&`, `|`, `^`
 unfoldable pub is_bitwise : TokenKind → Bool

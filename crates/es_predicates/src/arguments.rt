@@ -1,13 +1,15 @@
 //! Where type arguments and type parameters can be read.
 
-ghost use Rattle.std.specs.Prelude.{◌≡◌, ◌≤◌, length};
-ghost use Rattle.es_tree.specs.Key.{keys_of};
+ghost use Rattle.std.specs.Prelude.{◌≡◌, ◌≤◌, ◌<◌, true, length};
+ghost use Rattle.es_tree.specs.Key.{keys_of, seen};
 ghost use Rattle.es_tree.specs.Productions.{Predicate as AnyPredicate};
 ghost use Rattle.es_type_grammar.specs.declared.rows.TypeRow.TheVariants.{ArgumentsRow, TypeParametersRow};
+ghost use Rattle.es_type_grammar.specs.TypeNames.{begins_angle};
 ghost use Rattle.es_grammar.specs.Embedding.{reads_before, opens_call_arguments, opens_heritage_arguments};
-ghost use Rattle.es_grammar.specs.Expressions.{opens_call};
+ghost use Rattle.es_grammar.specs.Expressions.{stands_new, opens_new_arguments, opens_call};
 ghost use Rattle.es_predicates.specs.Named.{holds_behind};
 
+use crate::expressions::ends_new;
 use crate::looks::begins_call;
 use es_lookahead::Tokens;
 use es_token::TokenKind;
@@ -33,16 +35,52 @@ pub fn parameters_end(tokens: &Tokens<'_>, alloc: Global, at: usize) -> Option<u
     type_parameters_end(alloc, tokens.tokens, at)
 }
 
+/// `<` or `<<` stands here; then it is a place of the tokens.
+#[tactic(auto, unfolding(es_type_grammar::specs::TypeNames::begins_angle))]
+fn stands_angle(tokens: &Tokens<'_>, at: usize) -> bool
+    ensures kind { result ≡ begins_angle (seen (keys_of tokens.now.tokens.now) at) }
+    ensures within { result ≡ true → at < length tokens.now.tokens.now }
+{
+    tokens.stands(TokenKind::Less, at) || tokens.stands(TokenKind::LessLess, at)
+}
+
 /// `<` opens type arguments behind an expression.
 #[tactic(auto, unfolding(es_grammar::specs::Embedding::opens_call_arguments, es_grammar::specs::Embedding::stands_call))]
 pub fn opens_call_arguments(tokens: &Tokens<'_>, alloc: Global, at: usize) -> bool
     ensures { result ≡ opens_call_arguments (keys_of tokens.now.tokens.now) at }
 {
-    if !tokens.stands(TokenKind::Less, at) {
+    if !stands_angle(tokens, at) {
         return false;
     }
     match arguments_end(tokens, alloc, at) {
         Some(end) => begins_call(tokens.seen(end)),
+        None => false,
+    }
+}
+
+/// The type arguments of `new` may end before this place.
+#[tactic(auto, unfolding(es_grammar::specs::Expressions::stands_new))]
+fn stands_new(tokens: &Tokens<'_>, at: usize) -> bool
+    ensures { result ≡ stands_new (keys_of tokens.now.tokens.now) at }
+{
+    if begins_call(tokens.seen(at)) {
+        return true;
+    }
+    ends_new(tokens, at)
+        && !(tokens.joins(TokenKind::EqualEqual, at)
+            || tokens.joins(TokenKind::EqualEqualEqual, at))
+}
+
+/// It does behind the operand of `new`.
+#[tactic(auto, unfolding(es_grammar::specs::Expressions::opens_new_arguments))]
+pub fn opens_new_arguments(tokens: &Tokens<'_>, alloc: Global, at: usize) -> bool
+    ensures { result ≡ opens_new_arguments (keys_of tokens.now.tokens.now) at }
+{
+    if !stands_angle(tokens, at) {
+        return false;
+    }
+    match arguments_end(tokens, alloc, at) {
+        Some(end) => stands_new(tokens, end),
         None => false,
     }
 }
@@ -52,7 +90,7 @@ pub fn opens_call_arguments(tokens: &Tokens<'_>, alloc: Global, at: usize) -> bo
 pub fn opens_heritage_arguments(tokens: &Tokens<'_>, alloc: Global, at: usize) -> bool
     ensures { result ≡ opens_heritage_arguments (keys_of tokens.now.tokens.now) at }
 {
-    if !tokens.stands(TokenKind::Less, at) {
+    if !stands_angle(tokens, at) {
         return false;
     }
     match arguments_end(tokens, alloc, at) {
@@ -73,7 +111,7 @@ pub fn opens_call(tokens: &Tokens<'_>, alloc: Global, at: usize) -> bool
     if tokens.sees(TokenKind::OpenParen, at) {
         return true;
     }
-    if !tokens.stands(TokenKind::Less, at) {
+    if !stands_angle(tokens, at) {
         return false;
     }
     match arguments_end(tokens, alloc, at) {

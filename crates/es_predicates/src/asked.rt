@@ -4,7 +4,9 @@ ghost use Rattle.std.specs.Prelude.{◌≡◌};
 ghost use Rattle.es_tree.specs.Key.{keys_of, seen};
 ghost use Rattle.es_predicates.specs.Named.{kinds_of, lookahead_of, predicate_of};
 
-use crate::arguments::{opens_call, opens_call_arguments, opens_heritage_arguments};
+use crate::arguments::{
+    opens_call, opens_call_arguments, opens_heritage_arguments, opens_new_arguments,
+};
 use crate::named::{Kinds, Lookahead, Modifiers, Predicate};
 use crate::{arrows, classes, declarations, expressions, looks};
 use es_lookahead::Tokens;
@@ -74,6 +76,8 @@ fn sees_other(tokens: &Tokens<'_>, lookahead: Lookahead, at: usize) -> bool
         Lookahead::ValueHere(lang) => expressions::begins_value_here(tokens, lang, at),
         Lookahead::Operand(lang) => expressions::opens_operand(tokens, lang, at),
         Lookahead::Assertion => looks::opens_assertion(tokens.seen(at)),
+        Lookahead::NonNull => looks::opens_non_null(tokens.seen(at)),
+        Lookahead::BeginsAngle => expressions::begins_angle(tokens, at),
     }
 }
 
@@ -104,6 +108,7 @@ pub fn holds(tokens: &Tokens<'_>, alloc: Global, predicate: Predicate, at: usize
         Predicate::BehindAllFieldAccessor => classes::behind_all_field_accessor(tokens, at),
         Predicate::BehindAllMethod => classes::behind_all_method(tokens, at),
         Predicate::OpensDeclarator => classes::opens_declarator(tokens, at),
+        Predicate::OpensInitial(context) => expressions::opens_initial(tokens, context, at),
         Predicate::OpensInterface => declarations::opens_interface(tokens, at),
         Predicate::OpensAlias => declarations::opens_alias(tokens, at),
         Predicate::OpensEnum => declarations::opens_enum(tokens, at),
@@ -128,6 +133,8 @@ pub fn holds(tokens: &Tokens<'_>, alloc: Global, predicate: Predicate, at: usize
         Predicate::OpensEquals(lang) => tokens.opens_equals(lang, at),
         Predicate::OpensRequire(lang) => tokens.opens_require(lang, at),
         Predicate::OpensBare => tokens.opens_bare(at),
+        Predicate::OpensSourceImport => tokens.opens_source_import(at),
+        Predicate::OpensDeferImport => tokens.opens_defer_import(at),
         Predicate::OpensTypeExport(lang) => tokens.opens_type_export(lang, at),
         Predicate::OpensAll(lang) => tokens.opens_all(lang, at),
         Predicate::OpensExportedEquals(lang) => tokens.opens_exported_equals(lang, at),
@@ -138,7 +145,6 @@ pub fn holds(tokens: &Tokens<'_>, alloc: Global, predicate: Predicate, at: usize
         Predicate::OpensDefaultFunction => tokens.opens_default_function(at),
         Predicate::OpensDefaultClass => tokens.opens_default_class(at),
         Predicate::OpensDeclaration => tokens.opens_declaration(at),
-        Predicate::EndsValue => tokens.ends_value(at),
         Predicate::OpensUsing => tokens.opens_using(at),
         Predicate::OpensFor => tokens.opens_for(at),
         Predicate::OpensForAwait => tokens.opens_for_await(at),
@@ -160,12 +166,13 @@ pub fn holds(tokens: &Tokens<'_>, alloc: Global, predicate: Predicate, at: usize
         Predicate::BehindStaticStar => tokens.behind_static_star(at),
         Predicate::BehindStaticFieldAccessor => tokens.behind_static_field_accessor(at),
         Predicate::BehindStaticMethod => tokens.behind_static_method(at),
-        Predicate::EndsExpression => tokens.ends_expression(at),
         Predicate::OpensAsyncParenthesis => tokens.opens_async_parenthesis(at),
         Predicate::IsNoArrowHead => tokens.is_no_arrow_head(at),
         Predicate::OpensAsyncFunction => tokens.opens_async_function(at),
         Predicate::OpensProperty => tokens.opens_property(at),
         Predicate::HasArgument => tokens.has_argument(at),
+        Predicate::OpensSourceCall => tokens.opens_source_call(at),
+        Predicate::OpensDeferCall => tokens.opens_defer_call(at),
         Predicate::OpensShift => tokens.opens_shift(at),
         Predicate::OpensArrow => tokens.opens_arrow(at),
         Predicate::OpensAsyncArrow => tokens.opens_async_arrow(at),
@@ -182,14 +189,18 @@ pub fn holds(tokens: &Tokens<'_>, alloc: Global, predicate: Predicate, at: usize
         Predicate::OpensArrowResult(context) => arrows::opens_arrow_result(tokens, context, at),
         Predicate::OpensNoArrow(lang, context) => arrows::opens_no_arrow(tokens, lang, context, at),
         Predicate::OpensCallArguments => opens_call_arguments(tokens, alloc, at),
+        Predicate::OpensNewArguments => opens_new_arguments(tokens, alloc, at),
         Predicate::OpensHeritageArguments => opens_heritage_arguments(tokens, alloc, at),
         Predicate::OpensPost => expressions::opens_post(tokens, alloc, at),
         Predicate::OpensCall => opens_call(tokens, alloc, at),
-        Predicate::OpensTypedTemplate => tokens.sees(TokenKind::Less, at),
+        Predicate::OpensTypedTemplate => expressions::begins_angle(tokens, at),
+        Predicate::OpensShiftIn(lang) => expressions::opens_shift_in(tokens, alloc, lang, at),
         Predicate::OpensComparison(lang, context) => expressions::opens_comparison(
             tokens, alloc, lang, context, at,
         ),
         Predicate::IsBehindAs => expressions::is_behind_as(tokens, at),
+        Predicate::ComesBehind(kinds) => expressions::comes_behind(tokens, kinds, at),
+        Predicate::OpensClassName => expressions::opens_class_name(tokens, at),
         Predicate::OpensAbstractClass => expressions::opens_abstract_class(tokens, at),
         Predicate::MayAwait(context) => !context.script || context.in_async,
         Predicate::MayTest(context) => !context.no_in,

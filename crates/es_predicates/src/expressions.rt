@@ -2,13 +2,17 @@
 
 ghost use Rattle.std.specs.Prelude.{◌≡◌};
 ghost use Rattle.es_tree.specs.Key.{keys_of, seen};
-ghost use Rattle.es_grammar.specs.Expressions.{begins_value, begins_parameters, begins_arguments, begins_callee_post, opens_operand, opens_post, opens_comparison, is_behind_as, opens_abstract_class};
-ghost use Rattle.es_grammar.specs.Statements.{begins_value_here};
+ghost use Rattle.es_grammar.specs.Expressions.{begins_value, begins_parameters, begins_arguments, begins_callee_post, opens_operand, opens_post, opens_shift_in, goes_on, ends_new, comes_behind, opens_class_name, opens_comparison, is_behind_as, opens_abstract_class};
+ghost use Rattle.es_type_grammar.specs.TypeNames.{begins_angle};
+ghost use Rattle.es_grammar.specs.Statements.{begins_value_here, opens_initial};
+ghost use Rattle.es_lookahead.specs.Sight.{sight};
+ghost use Rattle.es_predicates.specs.Named.{kinds_of};
 
 use crate::arguments::opens_call_arguments;
-use crate::looks::{is, opens_assertion, opens_non_null};
+use crate::looks::{has, has_name, is, is_after_line, opens_assertion, opens_non_null};
+use crate::named::Kinds;
 use es_grammar::Context;
-use es_lookahead::Tokens;
+use es_lookahead::{Seen, Tokens};
 use es_token::TokenKind;
 use es_tree::Lang;
 use std::alloc::Global;
@@ -50,11 +54,33 @@ pub fn begins_parameters(tokens: &Tokens<'_>, lang: Lang, at: usize) -> bool
     }
 }
 
-/// The same of the arguments of a call behind `?.`.
+/// `<` or `<<`
+#[tactic(auto, unfolding(es_type_grammar::specs::TypeNames::begins_angle))]
+pub fn begins_angle(tokens: &Tokens<'_>, at: usize) -> bool
+    ensures { result ≡ begins_angle (seen (keys_of tokens.now.tokens.now) at) }
+{
+    tokens.sees(TokenKind::Less, at) || tokens.sees(TokenKind::LessLess, at)
+}
+
+/// `(`, in TypeScript also `<` or `<<`: of the arguments of a call behind `?.`.
 pub fn begins_arguments(tokens: &Tokens<'_>, lang: Lang, at: usize) -> bool
     ensures { result ≡ begins_arguments lang (seen (keys_of tokens.now.tokens.now) at) }
 {
-    begins_parameters(tokens, lang, at)
+    match lang {
+        Lang::Es => tokens.sees(TokenKind::OpenParen, at),
+        Lang::Typescript => tokens.sees(TokenKind::OpenParen, at) || begins_angle(tokens, at),
+    }
+}
+
+/// A shift, in TypeScript `<<` only where it opens no type arguments.
+#[tactic(auto, unfolding(es_grammar::specs::Expressions::opens_shift_in))]
+pub fn opens_shift_in(tokens: &Tokens<'_>, alloc: Global, lang: Lang, at: usize) -> bool
+    ensures { result ≡ opens_shift_in lang (keys_of tokens.now.tokens.now) at }
+{
+    match lang {
+        Lang::Es => tokens.opens_shift(at),
+        Lang::Typescript => tokens.opens_shift(at) && !opens_call_arguments(tokens, alloc, at),
+    }
 }
 
 /// A token that begins a member, in TypeScript also `!` on the line of the token before it.
@@ -77,7 +103,64 @@ pub fn opens_post(tokens: &Tokens<'_>, alloc: Global, at: usize) -> bool
         || opens_call_arguments(tokens, alloc, at)
 }
 
-/// An operator of the level of `<`.
+/// A token that goes on with comparisons, or with a member.
+#[tactic(auto, unfolding(es_grammar::specs::Expressions::goes_on))]
+fn goes_on(next: Option<Seen>) -> bool
+    ensures { result ≡ goes_on (sight next) }
+{
+    is(TokenKind::Less, next)
+        || is(TokenKind::Greater, next)
+        || has(Kinds::Sum, next)
+        || is(TokenKind::Equal, next)
+        || is(TokenKind::Dot, next)
+        || is(TokenKind::QuestionDot, next)
+        || is(TokenKind::OpenBracket, next)
+}
+
+/// A token that doesn't, before which `new a<b>` ends.
+#[tactic(auto, unfolding(es_grammar::specs::Expressions::ends_new))]
+pub fn ends_new(tokens: &Tokens<'_>, at: usize) -> bool
+    ensures { result ≡ ends_new (seen (keys_of tokens.now.tokens.now) at) }
+{
+    let next = tokens.seen(at);
+    !goes_on(next)
+        && (is_after_line(next) || opens_assertion(next) || !tokens.begins_expression(at))
+}
+
+/// The token before is of such a kind.
+#[tactic(auto, unfolding(es_grammar::specs::Expressions::comes_behind))]
+pub fn comes_behind(tokens: &Tokens<'_>, kinds: Kinds, at: usize) -> bool
+    ensures { result ≡ comes_behind (kinds_of kinds) (keys_of tokens.now.tokens.now) at }
+{
+    if at == 0 {
+        return has(kinds, tokens.seen(0));
+    }
+    has(kinds, tokens.seen(at - 1))
+}
+
+/// In scripts, an initial value in the head of a `for`: a name behind `var` and before `=`.
+#[tactic(auto, unfolding(es_grammar::specs::Statements::opens_initial))]
+pub fn opens_initial(tokens: &Tokens<'_>, context: Context, at: usize) -> bool
+    ensures { result ≡ opens_initial context (keys_of tokens.now.tokens.now) at }
+{
+    if !context.script {
+        return false;
+    }
+    comes_behind(tokens, Kinds::Only(TokenKind::VarWord), at)
+        && has_name(tokens.seen(at))
+        && is(TokenKind::Equal, tokens.seen_after(at, 1))
+}
+
+/// A name of a class, but `implements` before a name.
+#[tactic(auto, unfolding(es_grammar::specs::Expressions::opens_class_name))]
+pub fn opens_class_name(tokens: &Tokens<'_>, at: usize) -> bool
+    ensures { result ≡ opens_class_name (keys_of tokens.now.tokens.now) at }
+{
+    let next = tokens.seen(at);
+    has_name(next) && !(is(TokenKind::ImplementsWord, next) && has_name(tokens.seen_after(at, 1)))
+}
+
+/// An operator of the level of `<`, in TypeScript also a tighter one.
 #[tactic(auto, unfolding(es_grammar::specs::Expressions::opens_comparison))]
 pub fn opens_comparison(
     tokens: &Tokens<'_>,
@@ -91,13 +174,13 @@ pub fn opens_comparison(
     if tokens.opens_greater(at) {
         return true;
     }
-    let operator = tokens.sees_relation(at)
-        && !(context.no_in && tokens.sees(TokenKind::InWord, at));
+    let barred = context.no_in && tokens.sees(TokenKind::InWord, at);
     match lang {
-        Lang::Es => operator,
+        Lang::Es => tokens.sees_relation(at) && !barred,
         Lang::Typescript => {
-            opens_assertion(tokens.seen(at))
-                || (operator && !opens_call_arguments(tokens, alloc, at))
+            let next = tokens.seen(at);
+            opens_assertion(next)
+                || (has(Kinds::Tight, next) && !barred && !opens_call_arguments(tokens, alloc, at))
         }
     }
 }

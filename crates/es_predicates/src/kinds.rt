@@ -1,7 +1,7 @@
 //! Kinds of tokens by what is written with them.
 
 ghost use Rattle.std.specs.Prelude.{◌≡◌};
-ghost use Rattle.es_grammar.specs.Expressions.{is_assertion_word};
+ghost use Rattle.es_grammar.specs.Expressions.{is_assertion_word, is_tight, is_tightest};
 ghost use Rattle.es_grammar.specs.Functions.{is_typed_modifier, is_modifier};
 ghost use Rattle.es_grammar.specs.Classes.{is_field_mark};
 ghost use Rattle.es_grammar.specs.Declarations.{is_declaration_word, is_namespace_word};
@@ -17,6 +17,26 @@ fn is_assertion_word(kind: TokenKind) -> bool
     ensures { result ≡ is_assertion_word kind }
 {
     kind == TokenKind::AsWord || kind == TokenKind::SatisfiesWord
+}
+
+/// An operator of one token at the level of `<` or tighter.
+#[tactic(auto, unfolding(es_grammar::specs::Expressions::is_tight))]
+fn is_tight(kind: TokenKind) -> bool
+    ensures { result ≡ is_tight kind }
+{
+    plain::is_of(plain::Kinds::Relation, kind)
+        || kind == TokenKind::LessLess
+        || plain::is_of(plain::Kinds::Sum, kind)
+        || plain::is_of(plain::Kinds::Product, kind)
+        || kind == TokenKind::StarStar
+}
+
+/// `*`, `/`, `%` or `**`
+#[tactic(auto, unfolding(es_grammar::specs::Expressions::is_tightest))]
+fn is_tightest(kind: TokenKind) -> bool
+    ensures { result ≡ is_tightest kind }
+{
+    plain::is_of(plain::Kinds::Product, kind) || kind == TokenKind::StarStar
 }
 
 /// A modifier of TypeScript.
@@ -97,6 +117,8 @@ pub fn is_of(named: Kinds, kind: TokenKind) -> bool
         Kinds::LiteralWord => plain::is_of(plain::Kinds::LiteralWord, kind),
         Kinds::VariableWord => plain::is_of(plain::Kinds::VariableWord, kind),
         Kinds::AssertionWord => is_assertion_word(kind),
+        Kinds::Tight => is_tight(kind),
+        Kinds::Tightest => is_tightest(kind),
         Kinds::TypedModifier => is_typed_modifier(kind),
         Kinds::Modifier => is_modifier(kind),
         Kinds::FieldMark => is_field_mark(kind),

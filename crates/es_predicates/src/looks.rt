@@ -50,7 +50,7 @@ pub fn has_name(next: Option<Seen>) -> bool
 
 /// A line end stands before the next token.
 #[tactic(auto, unfolding(es_lookahead::specs::Sight::sight))]
-fn is_after_line(next: Option<Seen>) -> bool
+pub fn is_after_line(next: Option<Seen>) -> bool
     ensures { result ≡ is_after_line (sight next) }
 {
     match next {
@@ -135,10 +135,10 @@ pub fn is_parameter_mark(next: Option<Seen>) -> bool
     is(TokenKind::Question, next) || is(TokenKind::Colon, next) || is(TokenKind::Equal, next)
 }
 
-/// `!`, `:` or `=`
+/// `!` on its line, `:` or `=`
 #[tactic(auto, unfolding(es_grammar::specs::Statements::is_declarator_mark))]
 pub fn is_declarator_mark(next: Option<Seen>) -> bool
     ensures { result ≡ is_declarator_mark (sight next) }
 {
-    is(TokenKind::Exclamation, next) || is(TokenKind::Colon, next) || is(TokenKind::Equal, next)
+    opens_non_null(next) || is(TokenKind::Colon, next) || is(TokenKind::Equal, next)
 }

@@ -38,14 +38,14 @@ pub fn opens_arithmetic(tokens: &Tokens<'_>, at: usize) -> bool
     }
 }
 
-/// A token stands here that may begin an operator of shifts, or a comparison.
+/// A token stands here that may begin an operator of shifts, or of the level of `<`.
 #[tactic(auto, unfolding(crate::specs::Operators::is_comparing, es_lookahead::specs::Sight::sight))]
 pub fn opens_comparing(tokens: &Tokens<'_>, at: usize) -> bool
     ensures { result ≡ has_kind is_comparing (seen (keys_of tokens.now.tokens.now) at) }
 {
     match tokens.seen(at) {
         Some(seen) => {
-            is_between(TokenKind::Less, TokenKind::NotEqualEqual, seen.kind)
+            is_between(TokenKind::Less, TokenKind::StarStar, seen.kind)
                 || seen.kind == TokenKind::LessLess
                 || is_operator_word(seen.kind)
         }

@@ -6,8 +6,8 @@ ghost use Rattle.es_rules.specs.Steps.{keys_in, IsRead, IsRing};
 
 use es_expression_rules::{
     And, Arguments, Assignment, BitAnd, BitOr, BitXor, Callee, Chain, Element, Equality,
-    Expression, Head, InnerPattern, MemberPost, PatternElement, Post, Power, Product, Relation,
-    Shift, Sum, Template, Unary,
+    Expression, Head, HeadPattern, InnerPattern, MemberPost, PatternElement, Post, Power, Product,
+    Relation, RightOperand, Shift, Sum, Template, Unary,
 };
 use es_grammar::Row;
 use es_member_rules::{Key, Member, Parameter, Parameters, PatternProperty, Property, Signature};
@@ -69,6 +69,7 @@ impl ReadsProduction<Row> for ProductionOf {
             Row::DeclaratorRow(context) => reads(Declarator(self.0, context), grammar, cursor),
             Row::UsingRow(context) => reads(Using(context), grammar, cursor),
             Row::HeadRow(context) => reads(Head(self.0, context), grammar, cursor),
+            Row::HeadPatternRow(context) => reads(HeadPattern(self.0, context), grammar, cursor),
             Row::FunctionRow(named, context) => reads(
                 AnyFunction(self.0, named, context),
                 grammar,
@@ -113,6 +114,7 @@ impl ReadsProduction<Row> for ProductionOf {
             Row::BitAndRow(context) => reads(BitAnd(self.0, context), grammar, cursor),
             Row::EqualityRow(context) => reads(Equality(self.0, context), grammar, cursor),
             Row::RelationRow(context) => reads(Relation(self.0, context), grammar, cursor),
+            Row::RightRow(context) => reads(RightOperand(self.0, context), grammar, cursor),
             Row::ShiftRow(context) => reads(Shift(self.0, context), grammar, cursor),
             Row::SumRow(context) => reads(Sum(self.0, context), grammar, cursor),
             Row::ProductRow(context) => reads(Product(self.0, context), grammar, cursor),

@@ -2,7 +2,7 @@
 
 ghost use Rattle.es_type_grammar.specs.Modules.{ended};
 ghost use Rattle.es_grammar.specs.Embedding.{plain_form};
-ghost use Rattle.es_grammar.specs.Statements.{expression_ended, using_in};
+ghost use Rattle.es_grammar.specs.Statements.{using_in};
 
 use es_grammar::{Context, Row};
 use es_predicates::Lookahead::Is;
@@ -35,23 +35,6 @@ impl ReadsRhs<Row> for Ended {
             ),
         )
         .read(grammar, cursor)
-    }
-}
-
-/// END behind an expression
-#[derive(Clone, Copy)]
-pub struct ExpressionEnded;
-
-impl ReadsRhs<Row> for ExpressionEnded {
-    ghost form = { λ _. expression_ended };
-
-    #[tactic(auto, unfolding(es_grammar::specs::Statements::expression_ended))]
-    fn read<T: Rows<Row>>(
-        &self,
-        grammar: &Grammar<'_, T>,
-        cursor: &mut Cursor,
-    ) -> Result<usize, SyntaxError> {
-        Where(Predicate::EndsExpression, Ended).read(grammar, cursor)
     }
 }
 

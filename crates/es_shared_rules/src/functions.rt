@@ -1,15 +1,15 @@
 //! Functions and classes.
 
-ghost use Rattle.es_grammar.specs.Expressions.{star_in, name_in, body_in, function, async_function, any_function, class_form, class_, abstract_class, any_class};
+ghost use Rattle.es_grammar.specs.Expressions.{star_in, name_in, class_name_in, body_in, function, async_function, any_function, class_form, class_, abstract_class, any_class};
 
 use crate::ends::Ended;
 use crate::typed::{HeritageIn, ImplementsIn, TypeParametersIn};
 use es_grammar::{Context, NodeKind, Row};
 use es_predicates::Lookahead::{Has, Is, Other};
-use es_predicates::{Kinds, Lookahead};
+use es_predicates::{Kinds, Lookahead, Predicate};
 use es_rules::{
-    Alt, ByLookahead, Choose, Cursor, Done, Grammar, Greedy, LeafKind, Make, MakeBy, Many, OfRow,
-    Opt, Punct, ReadsProduction, ReadsRhs, Rows, Tok, When,
+    Alt, ByLookahead, ByPredicate, Choose, Cursor, Done, Grammar, Greedy, LeafKind, Make, MakeBy,
+    Many, OfRow, Opt, Punct, ReadsProduction, ReadsRhs, Rows, Tok, When,
 };
 use es_token::TokenKind;
 use es_tree::{Lang, SyntaxError};
@@ -58,6 +58,36 @@ impl<N: ReadsRhs<Row> + Copy> ReadsRhs<Row> for NameIn<N> {
                 self.1,
             )
             .read(grammar, cursor)
+        }
+    }
+}
+
+/// A class's name, which may lack where it isn't asked for, and what stands behind it.
+#[derive(Clone, Copy)]
+pub struct ClassNameIn<N>(pub Lang, pub bool, pub N);
+
+impl<N: ReadsRhs<Row> + Copy> ReadsRhs<Row> for ClassNameIn<N> {
+    ghost form = { λ s. class_name_in s.0 s.1 (N.form s.2) };
+
+    #[tactic(auto, unfolding(es_grammar::specs::Expressions::class_name_in))]
+    fn read<T: Rows<Row>>(
+        &self,
+        grammar: &Grammar<'_, T>,
+        cursor: &mut Cursor,
+    ) -> Result<usize, SyntaxError> {
+        match self.0 {
+            Lang::Es => NameIn(self.1, self.2).read(grammar, cursor),
+            Lang::Typescript => {
+                if self.1 {
+                    return NameIn(true, self.2).read(grammar, cursor);
+                }
+                Opt(
+                    ByPredicate(Predicate::OpensClassName),
+                    Tok(LeafKind::Name, Kinds::Name, Done),
+                    self.2,
+                )
+                .read(grammar, cursor)
+            }
         }
     }
 }
@@ -217,7 +247,8 @@ impl ReadsRhs<Row> for ClassForm {
         let superclass = OfRow(Row::ChainRow(outside), HeritageIn(self.0, Done));
         Punct(
             TokenKind::ClassWord,
-            NameIn(
+            ClassNameIn(
+                self.0,
                 self.1,
                 TypeParametersIn(
                     self.0,

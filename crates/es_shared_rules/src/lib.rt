@@ -6,13 +6,13 @@ mod functions;
 mod patterns;
 mod typed;
 
-pub use ends::{Ended, ExpressionEnded, UsingIn};
+pub use ends::{Ended, UsingIn};
 pub use functions::{
     AbstractClass, AnyClass, AnyFunction, AsyncFunction, BodyIn, Class, ClassForm, Function,
     NameIn, StarIn,
 };
 pub use patterns::{ArrayPattern, BracketPattern, DefaultIn, ObjectPattern, Pattern};
 pub use typed::{
-    AnnotationIn, ArrowResultIn, Asserted, AssertedOr, CallArgumentsIn, HeritageIn, ImplementsIn,
+    AnnotationIn, ArrowResultIn, Asserted, AssertedOr, HeritageIn, ImplementsIn, NewArgumentsIn,
     ReferencesIn, ResultIn, TypeArgumentsIn, TypeParametersIn, without_colon,
 };

@@ -4,7 +4,7 @@ ghost use Rattle.es_tree.specs.declared.error.Lang.TheVariants as lang;
 ghost use Rattle.std.specs.Prelude.{◌≡◌};
 ghost use Rattle.es_grammar.specs.Rows.{without_colon};
 ghost use Rattle.es_grammar.specs.Embedding.{typed_in, type_parameters_in, type_arguments_in, annotation_in, result_in};
-ghost use Rattle.es_grammar.specs.Expressions.{call_arguments_in, heritage_in, implements_in, references_in, arrow_result_in, asserted, asserted_or};
+ghost use Rattle.es_grammar.specs.Expressions.{new_arguments_in, heritage_in, implements_in, references_in, arrow_result_in, asserted, asserted_or};
 
 use es_grammar::{Context, Row, TypeRow};
 use es_predicates::Lookahead::{Has, Is};
@@ -98,7 +98,7 @@ impl<N: ReadsRhs<Row> + Copy> ReadsRhs<Row> for TypeArgumentsIn<N> {
         match self.0 {
             Lang::Es => self.1.read(grammar, cursor),
             Lang::Typescript => Opt(
-                Greedy(Is(TokenKind::Less)),
+                Greedy(Lookahead::BeginsAngle),
                 OfRow(Row::TypesRow(TypeRow::ArgumentsRow), Done),
                 self.1,
             )
@@ -165,12 +165,12 @@ impl<N: ReadsRhs<Row> + Copy> ReadsRhs<Row> for ResultIn<N> {
 
 /// (TS TArgs, behind the operand of `new`)?, and what stands behind it.
 #[derive(Clone, Copy)]
-pub struct CallArgumentsIn<N>(pub Lang, pub N);
+pub struct NewArgumentsIn<N>(pub Lang, pub N);
 
-impl<N: ReadsRhs<Row> + Copy> ReadsRhs<Row> for CallArgumentsIn<N> {
-    ghost form = { λ s. typed_in s.0 call_arguments_in (N.form s.1) };
+impl<N: ReadsRhs<Row> + Copy> ReadsRhs<Row> for NewArgumentsIn<N> {
+    ghost form = { λ s. typed_in s.0 new_arguments_in (N.form s.1) };
 
-    #[tactic(auto, unfolding(es_grammar::specs::Expressions::call_arguments_in))]
+    #[tactic(auto, unfolding(es_grammar::specs::Expressions::new_arguments_in))]
     fn read<T: Rows<Row>>(
         &self,
         grammar: &Grammar<'_, T>,
@@ -179,7 +179,7 @@ impl<N: ReadsRhs<Row> + Copy> ReadsRhs<Row> for CallArgumentsIn<N> {
         match self.0 {
             Lang::Es => self.1.read(grammar, cursor),
             Lang::Typescript => Opt(
-                ByPredicate(Predicate::OpensCallArguments),
+                ByPredicate(Predicate::OpensNewArguments),
                 OfRow(Row::TypesRow(TypeRow::ArgumentsRow), Done),
                 self.1,
             )

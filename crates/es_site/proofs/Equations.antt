@@ -672,12 +672,12 @@ expr_New found callee type_args has_args args span =
 
 pub expr_ImportCall : (found : Found) (phase : ImportPhase) (args : List Expr) (span : Range)
     → found ++ sites_of_expr (vExpr.ImportCall phase args span) ≡
-    found ++ call_sites args ++ flat_map sites_of_expr args
+    found ++ call_sites phase args ++ flat_map sites_of_expr args
 expr_ImportCall found phase args span =
     adds_two found _ _ (ap sites_of_expr (sym (vExpr.rolls-ImportCall phase args span)) ∙ at_expr
     (Expr-F.ImportCall phase args span)
-    ∙ ap (λ xs. call_sites xs ++ each (map with_expr args)) (firsts_of sites_of_expr args) ∙ ap (λ
-    ys. call_sites args ++ ys) (each_of sites_of_expr args))
+    ∙ ap (λ xs. call_sites phase xs ++ each (map with_expr args)) (firsts_of sites_of_expr args) ∙ ap (λ
+    ys. call_sites phase args ++ ys) (each_of sites_of_expr args))
 
 pub expr_ImportMeta : (found : Found) (it : Range) → found ++ sites_of_expr (vExpr.ImportMeta it) ≡ found
 expr_ImportMeta found it =

@@ -6,6 +6,8 @@ use Rattle.es_literal.specs.Strings.{IsString}
 use Rattle.es_literal.specs.Values.{value_of}
 use Rattle.ts_ast.specs.declared.leaf.Str.{Str}
 use Rattle.es_ast.specs.declared.leaf.ImportDecl.{ImportDecl}
+use Rattle.es_ast.specs.declared.leaf.ImportPhase.{ImportPhase}
+use Rattle.es_ast.specs.declared.leaf.ImportPhase.TheVariants as phase
 use Rattle.es_ast.specs.declared.leaf.NamedExport.{NamedExport}
 use Rattle.es_ast.specs.declared.leaf.ExportAll.{ExportAll}
 use Rattle.es_ast.specs.declared.leaf.TsImportEqualsDecl.{TsImportEqualsDecl}
@@ -63,9 +65,20 @@ site_at kind type_only src attribute = record {
   attribute = attribute;
 }
 
--- `import .. from "a"` (ECMA-262, ImportDeclaration)
+-- the kind of a site names its phase: of a declaration, and of a call
+abbrev pub import_kind : ImportPhase → DependencyKind
+import_kind phase.Evaluation = kind.Import
+import_kind phase.Source = kind.ImportSource
+import_kind phase.Defer = kind.ImportDefer
+
+abbrev pub call_kind : ImportPhase → DependencyKind
+call_kind phase.Evaluation = kind.Dynamic
+call_kind phase.Source = kind.DynamicSource
+call_kind phase.Defer = kind.DynamicDefer
+
+-- `import .. from "a"`, in any phase (ECMA-262, ImportDeclaration)
 abbrev pub import_site : ImportDecl → Found
-import_site d = site_at kind.Import d.type_only d.src (attribute_of d.with) ∷ []
+import_site d = site_at (import_kind d.phase) d.type_only d.src (attribute_of d.with) ∷ []
 
 -- `export * from "a"` (ECMA-262, ExportDeclaration)
 abbrev pub export_all_site : ExportAll → Found
@@ -87,14 +100,14 @@ module_ref_sites type_only (TsEntityName _) = []
 abbrev pub import_equals_sites : TsImportEqualsDecl → Found
 import_equals_sites d = module_ref_sites d.type_only d.module_ref
 
--- `import("a")`, where the first argument is a string literal (ECMA-262, ImportCall)
-abbrev pub first_argument : ExprParts → List Expr → Found
-first_argument (Expr-F.Lit (vLit.Str src)) rest = site_at kind.Dynamic false src (options_attribute rest) ∷ []
-first_argument _ rest = []
+-- `import("a")`, in any phase, where the first argument is a string literal (ECMA-262, ImportCall)
+abbrev pub first_argument : ImportPhase → ExprParts → List Expr → Found
+first_argument p (Expr-F.Lit (vLit.Str src)) rest = site_at (call_kind p) false src (options_attribute rest) ∷ []
+first_argument p _ rest = []
 
-abbrev pub call_sites : List Expr → Found
-call_sites (first ∷ rest) = first_argument (out-Expr first) rest
-call_sites [] = []
+abbrev pub call_sites : ImportPhase → List Expr → Found
+call_sites p (first ∷ rest) = first_argument p (out-Expr first) rest
+call_sites p [] = []
 
 -- ---- the sites of a node, from those of its parts, in the order of the text
 
@@ -158,7 +171,7 @@ in_expr (Expr-F.Member obj _ _ _ _) = obj.1
 in_expr (Expr-F.Index obj _ prop _) = obj.1 ++ prop.1
 in_expr (Expr-F.Call callee _ _ args _) = callee.1 ++ each args
 in_expr (Expr-F.New callee _ _ args _) = callee.1 ++ each args
-in_expr (Expr-F.ImportCall _ args _) = call_sites (firsts args) ++ each args
+in_expr (Expr-F.ImportCall p args _) = call_sites p (firsts args) ++ each args
 in_expr (Expr-F.ImportMeta _) = []
 in_expr (Expr-F.NewTarget _) = []
 in_expr (Expr-F.Tpl _ exprs _) = each exprs

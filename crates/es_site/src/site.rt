@@ -8,12 +8,20 @@ use std::alloc::AllocError;
 pub enum DependencyKind {
     /// `import .. from "a"`, or `import "a"`.
     Import,
+    /// `import source a from "a"`.
+    ImportSource,
+    /// `import defer * as a from "a"`.
+    ImportDefer,
     /// `export .. from "a"`.
     Export,
     /// `import a = require("a")`.
     ImportEquals,
     /// `import("a")`.
     Dynamic,
+    /// `import.source("a")`.
+    DynamicSource,
+    /// `import.defer("a")`.
+    DynamicDefer,
     /// `/// <reference path="a" />`.
     ReferencePath,
     /// `/// <reference types="a" />`.

@@ -4,6 +4,7 @@ use Rattle.std.proofs.Common.{◌≡◌, ℕ}
 use Rattle.base.specs.declared.range.Range.{Range}
 use Rattle.es_token.specs.declared.token.Token.{Token}
 use Rattle.ts_ast.specs.declared.leaf.MethodKind.TheVariants as vMethod
+use Rattle.es_ast.specs.declared.leaf.ImportPhase.TheVariants as vPhase
 use Rattle.es_ast.specs.declared.ast.Expr.{Expr}
 use Rattle.es_ast.specs.declared.ast.Expr.TheVariants as vExpr
 use Rattle.es_ast.specs.declared.ast.Pat.TheVariants as vPat
@@ -24,12 +25,14 @@ use Rattle.es_site_ranges.proofs.Exprs.{name_cuts, word_cuts, number_cuts, str_c
 use Rattle.es_site_ranges.proofs.Patterns.{name_pattern_cuts, array_pattern_cuts, object_pattern_cuts, rest_pattern_cuts, default_pattern_cuts, rest_property_cuts, key_pattern_cuts, name_property_cuts, default_parameter_cuts, parameters_cuts, signature_cuts, function_made_cuts, name_arrow_cuts, parenthesized_arrow_cuts, word_key_cuts, str_key_cuts, number_key_cuts, computed_key_cuts, private_key_cuts, spread_property_cuts, shorthand_cuts, key_value_cuts, method_property_cuts, accessor_property_cuts, class_made_cuts, static_block_cuts, method_member_cuts, accessor_member_cuts, field_member_cuts, param_of_cuts as pat_param_cuts}
 use Rattle.es_site_ranges.proofs.Stmts.{block_cuts, declarator_cuts, bare_declarator_cuts, variables_cuts, using_cuts, variable_declaration_cuts, variable_head_cuts, using_head_cuts, for_cuts, for_each_cuts, for_await_cuts, while_cuts, do_cuts, expression_statement_cuts, labelled_cuts, if_cuts, continue_cuts, break_cuts, return_cuts, throw_cuts, switch_cuts, try_cuts, with_cuts, decl_of_cuts as variables_decl_cuts}
 use Rattle.es_site_ranges.proofs.Typed.{alias_cuts, declared_cuts, declared_variables_cuts, enum_cuts, export_assignment_cuts, global_cuts, index_member_cuts, interface_cuts, marked_array_cuts, marked_name_cuts, marked_object_cuts, marked_parameter_cuts, module_namespace_cuts, namespace_cuts, non_null_post_cuts, property_parameter_cuts, this_parameter_cuts, typed_accessor_member_cuts, typed_accessor_property_cuts, typed_arrow_cuts, typed_binary_cuts, typed_call_post_cuts, typed_class_cuts, typed_declarator_cuts, typed_field_cuts, typed_function_cuts, typed_head_cuts, typed_method_member_cuts, typed_method_property_cuts, typed_new_cuts, typed_optional_post_cuts, typed_parameters_cuts, typed_signature_cuts, typed_template_post_cuts, typed_try_cuts}
-use Rattle.es_site_ranges.proofs.Modules.{bare_import_cuts, from_import_cuts, require_import_cuts, entity_import_cuts, export_all_cuts, export_names_cuts, export_namespace_cuts, export_default_decl_cuts, export_default_expression_cuts, export_declaration_cuts, item_by_cuts, module_cuts, script_cuts}
+use Rattle.es_site_ranges.proofs.Modules.{bare_import_cuts, from_import_cuts, phase_import_cuts, require_import_cuts, entity_import_cuts, export_all_cuts, export_names_cuts, export_namespace_cuts, export_default_decl_cuts, export_default_expression_cuts, export_declaration_cuts, item_by_cuts, module_cuts, script_cuts}
 
 -- the literals that name modules, and those that are expressions or keys, are cut
 pub record SourcesCut (x : List ℕ) (ts : List Token) (label : NodeKind) (p : Value) : Type 0 where
   pub bare_import : same_label label l.BareImport ≡ true → Opt (StrCuts x) (str_at x ts p 0)
   pub from_import : same_label label l.FromImport ≡ true → Opt (StrCuts x) (str_at x ts p 2)
+  pub source_import : same_label label l.SourceImport ≡ true → Opt (StrCuts x) (str_at x ts p 1)
+  pub defer_import : same_label label l.DeferImport ≡ true → Opt (StrCuts x) (str_at x ts p 1)
   pub require_import : same_label label l.RequireImport ≡ true → Opt (StrCuts x) (str_at x ts p 2)
   pub exported_require_import : same_label label l.ExportedRequireImport ≡ true → Opt (StrCuts x) (str_at x ts p 2)
   pub export_all : same_label label l.ExportAll ≡ true → Opt (StrCuts x) (str_at x ts p 2)
@@ -63,7 +66,9 @@ module _ (x : List ℕ) (ts : List Token) where
       (λ e. map_fine (ClassCuts x) (ExprCuts x) (classes.class_ x ts r p) vExpr.Class
       (class_made_cuts x ts r p fine) (expr_Class_cuts x))
       (if_fine (ExprCuts x) (same_label label l.Super) _ _ (λ e. expr_Super_cuts x r)
-      (if_fine (ExprCuts x) (same_label label l.ImportCall) _ _ (λ e. import_call_cuts x ts r p fine)
+      (if_fine (ExprCuts x) (same_label label l.ImportCall) _ _ (λ e. import_call_cuts x ts vPhase.Evaluation r p fine)
+      (if_fine (ExprCuts x) (same_label label l.SourceCall) _ _ (λ e. import_call_cuts x ts vPhase.Source r p fine)
+      (if_fine (ExprCuts x) (same_label label l.DeferCall) _ _ (λ e. import_call_cuts x ts vPhase.Defer r p fine)
       (if_fine (ExprCuts x) (same_label label l.ImportMeta) _ _ (λ e. expr_ImportMeta_cuts x r)
       (if_fine (ExprCuts x) (same_label label l.NewTarget) _ _ (λ e. expr_NewTarget_cuts x r)
       (if_fine (ExprCuts x) (same_label label l.New) _ _ (λ e. new_cuts x ts r p fine)
@@ -102,7 +107,7 @@ module _ (x : List ℕ) (ts : List Token) where
       (if_fine (ExprCuts x) (same_label label l.TypedParenthesizedArrow) _ _ (λ e. typed_arrow_cuts x ts false r p fine)
       (if_fine (ExprCuts x) (same_label label l.TypedAsyncParenthesizedArrow) _ _
       (λ e. typed_arrow_cuts x ts true r p fine)
-      (tt)))))))))))))))))))))))))))))))))))))))))))
+      (tt)))))))))))))))))))))))))))))))))))))))))))))
 
   pat_of_cuts : (label : NodeKind) (from : ℕ) (r : Range) (p : Value) → Fine x p
       → Opt (PatCuts x) (pat_of x ts label from r p)
@@ -355,6 +360,10 @@ module _ (x : List ℕ) (ts : List Token) where
       (λ e. bare_import_cuts x ts r p (sources.bare_import e))
       (if_fine (ModuleDeclCuts x) (same_label label l.FromImport) _ _
       (λ e. from_import_cuts x ts r p (sources.from_import e))
+      (if_fine (ModuleDeclCuts x) (same_label label l.SourceImport) _ _
+      (λ e. phase_import_cuts x ts vPhase.Source r p (sources.source_import e))
+      (if_fine (ModuleDeclCuts x) (same_label label l.DeferImport) _ _
+      (λ e. phase_import_cuts x ts vPhase.Defer r p (sources.defer_import e))
       (if_fine (ModuleDeclCuts x) (same_label label l.RequireImport) _ _
       (λ e. require_import_cuts x ts false r p (sources.require_import e))
       (if_fine (ModuleDeclCuts x) (same_label label l.EntityImport) _ _ (λ e. entity_import_cuts x ts false r p)
@@ -377,7 +386,7 @@ module _ (x : List ℕ) (ts : List Token) where
       (if_fine (ModuleDeclCuts x) (same_label label l.ExportDefaultInterface) _ _
       (λ e. export_default_decl_cuts x ts r p fine)
       (if_fine (ModuleDeclCuts x) (same_label label l.ExportAssignment) _ _ (λ e. export_assignment_cuts x ts r p fine)
-      (tt)))))))))))))))
+      (tt)))))))))))))))))
 
   program_of_cuts : (label : NodeKind) (r : Range) (p : Value) → Fine x p
       → Opt (ProgramCuts x) (program_of x ts label r p)

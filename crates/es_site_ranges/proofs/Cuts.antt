@@ -147,20 +147,21 @@ pub expr_Lit_cuts : (x : List ℕ) (it : Lit) → LitCuts x it → ExprCuts x (v
 expr_Lit_cuts x it f = expr_by x (vExpr.Lit it) (Expr-F.Lit it) _ (vExpr.rolls-Lit it) (expr_Lit [] it) tt f
 
 -- ---- forms that have a site of their own
-argument_cut : (x : List ℕ) (it : ExprParts) (rest : List Expr) → LayerCuts x it → Cut x (first_argument it rest)
-argument_cut x (Expr-F.Lit (vLit.Str src)) rest f = (f, tt)
-argument_cut x _ rest f = tt
+argument_cut : (x : List ℕ) (p : ImportPhase) (it : ExprParts) (rest : List Expr) → LayerCuts x it
+    → Cut x (first_argument p it rest)
+argument_cut x p (Expr-F.Lit (vLit.Str src)) rest f = (f, tt)
+argument_cut x p _ rest f = tt
 
-call_cut : (x : List ℕ) (args : List Expr) → Each (ExprCuts x) args → Cut x (call_sites args)
-call_cut x [] f = tt
-call_cut x (first ∷ rest) f = argument_cut x (out-Expr first) rest f.0.1
+call_cut : (x : List ℕ) (p : ImportPhase) (args : List Expr) → Each (ExprCuts x) args → Cut x (call_sites p args)
+call_cut x p [] f = tt
+call_cut x p (first ∷ rest) f = argument_cut x p (out-Expr first) rest f.0.1
 
 pub expr_ImportCall_cuts : (x : List ℕ) (phase : ImportPhase) (args : List Expr) (span : Range) → Each (ExprCuts x) args
     → ExprCuts x (vExpr.ImportCall phase args span)
 expr_ImportCall_cuts x phase args span f =
     expr_by x (vExpr.ImportCall phase args span) (Expr-F.ImportCall phase args span) _
     (vExpr.rolls-ImportCall phase args span) (expr_ImportCall [] phase args span)
-    (cut_both x (call_sites args) (flat_map sites_of_expr args) (call_cut x args f) (exprs_cut x args f)) tt
+    (cut_both x (call_sites phase args) (flat_map sites_of_expr args) (call_cut x phase args f) (exprs_cut x args f)) tt
 
 pub module_decl_Import_cuts : (x : List ℕ) (it : ImportDecl) → StrCuts x it.src
     → ModuleDeclCuts x (vModuleDecl.Import it)

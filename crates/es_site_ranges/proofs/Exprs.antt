@@ -6,7 +6,7 @@ use Rattle.es_token.specs.declared.token.Token.{Token}
 use Rattle.es_token.specs.declared.token.TokenKind.{TokenKind}
 use Rattle.ts_ast.specs.declared.leaf.Ident.{Ident}
 use Rattle.es_ast.specs.declared.leaf.Lit.TheVariants as vLit
-use Rattle.es_ast.specs.declared.leaf.ImportPhase.TheVariants as vPhase
+use Rattle.es_ast.specs.declared.leaf.ImportPhase.{ImportPhase}
 use Rattle.es_ast.specs.declared.leaf.AssignOp.TheVariants as vAssign
 use Rattle.es_ast.specs.declared.leaf.BinaryOp.TheVariants as vBinary
 use Rattle.es_ast.specs.declared.ast.Expr.{Expr}
@@ -183,14 +183,15 @@ module _ (x : List ℕ) (ts : List Token) where
       (group_fine x p 2 fine)) (λ others h.
       expr_Seq_cuts x (first ∷ second ∷ others) r (f, (g, h)))))
 
-  pub import_call_cuts : (r : Range) (p : Value) → Fine x p → Opt (ExprCuts x) (import_call r p)
+  pub import_call_cuts : (phase : ImportPhase) (r : Range) (p : Value) → Fine x p
+      → Opt (ExprCuts x) (import_call phase r p)
   unfolding import_call
-  import_call_cuts r p fine =
+  import_call_cuts phase r p fine =
       given_fine (ExprCuts x) (ExprCuts x) (expr_at p 0) _ (expr_fine x p 0 fine) (λ first f.
       given_fine (Opt (ExprCuts x)) (ExprCuts x) (optional expr_at (group p 1)) _
       (optional_fine x (ExprCuts x) expr_at (λ v here. expr_fine x v 0 here) (group p 1) (group_fine x p 1 fine))
       (λ second g.
-      expr_ImportCall_cuts x vPhase.Evaluation (first ∷ option_list second) r (f, listed_fine (ExprCuts x) second g)))
+      expr_ImportCall_cuts x phase (first ∷ option_list second) r (f, listed_fine (ExprCuts x) second g)))
 
   new_of_cuts : (r : Range) (callee : Expr) (args : Option (List Expr)) → ExprCuts x callee
       → Opt (Each (ExprCuts x)) args → ExprCuts x (new_of r callee args)

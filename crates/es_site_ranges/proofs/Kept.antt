@@ -128,6 +128,8 @@ module _ (x : List ℕ) (ts : List Token)
   sources label ps names formed = record {
     bare_import = λ e. part_cuts ps 0 (names_at label l.BareImport ps e names);
     from_import = λ e. part_cuts ps 2 (names_at label l.FromImport ps e names);
+    source_import = λ e. part_cuts ps 1 (names_at label l.SourceImport ps e names);
+    defer_import = λ e. part_cuts ps 1 (names_at label l.DeferImport ps e names);
     require_import = λ e. part_cuts ps 2 (names_at label l.RequireImport ps e names);
     exported_require_import = λ e. part_cuts ps 2 (names_at label l.ExportedRequireImport ps e names);
     export_all = λ e. part_cuts ps 2 (names_at label l.ExportAll ps e names);

@@ -5,6 +5,7 @@ use Rattle.base.specs.declared.range.Range.{Range}
 use Rattle.es_token.specs.declared.token.Token.{Token}
 use Rattle.ts_ast.specs.declared.leaf.Str.{Str}
 use Rattle.es_ast.specs.declared.leaf.ImportAttributes.{ImportAttributes}
+use Rattle.es_ast.specs.declared.leaf.ImportPhase.{ImportPhase}
 use Rattle.es_ast.specs.declared.leaf.ImportPhase.TheVariants as vPhase
 use Rattle.es_ast.specs.declared.ast.Stmt.{Stmt}
 use Rattle.es_ast.specs.declared.ast.ModuleDecl.{ModuleDecl}
@@ -12,7 +13,7 @@ use Rattle.es_ast.specs.declared.ast.ModuleItem.TheVariants as vItem
 use Rattle.es_site.specs.Sites.{sites_of_module_item, sites_of_stmt}
 use Rattle.es_lowering.specs.Value.{Value, absent, nil, more, token, node, group, optional, is_there, turns, expr_at, stmt_at, decl_at, item_at, clause_at, export_specifier_at, attributes_at, entity_at}
 use Rattle.es_lowering.specs.Texts.{ident_at, str_at, name_at, shebang_at}
-use Rattle.es_lowering.specs.Modules.{bare_import, from_import, require_import, entity_import, export_all, source_with, with_of, export_names, export_namespace, export_default_decl, export_default_expression, export_declaration, module_, script}
+use Rattle.es_lowering.specs.Modules.{bare_import, from_import, phase_import, require_import, entity_import, export_all, source_with, with_of, export_names, export_namespace, export_default_decl, export_default_expression, export_declaration, module_, script}
 use Rattle.es_lowering.specs.Lowering.{item_by}
 use Rattle.es_site_ranges.proofs.Cuts.{Each, Opt, StrCuts, ExprCuts, DeclCuts, StmtCuts, ItemCuts, ModuleDeclCuts, all_cut, module_decl_Import_cuts, module_decl_ExportAll_cuts, module_decl_ExportNamed_cuts, module_decl_TsImportEquals_cuts}
 use Rattle.es_site_ranges.proofs.Forms.{module_decl_ExportDecl_cuts, module_decl_ExportDefaultDecl_cuts, module_decl_ExportDefaultExpr_cuts, module_decl_TsNamespaceExport_cuts, module_item_ModuleDecl_cuts, module_item_Stmt_cuts}
@@ -58,6 +59,15 @@ module _ (x : List ℕ) (ts : List Token) where
         with = with;
         span = r;
       }) f)))
+
+  pub phase_import_cuts : (phase : ImportPhase) (r : Range) (p : Value) → Opt (StrCuts x) (str_at x ts p 1)
+      → Opt (ModuleDeclCuts x) (phase_import x ts phase r p)
+  unfolding phase_import
+  phase_import_cuts phase r p there =
+      given_any (ModuleDeclCuts x) (ident_at x ts p 0) _ (λ local.
+      given_fine (StrCuts x) (ModuleDeclCuts x) (str_at x ts p 1) _ there (λ src f.
+      given_any (ModuleDeclCuts x) (optional attributes_at (group p 2)) _ (λ with.
+      module_decl_Import_cuts x _ f)))
 
   pub require_import_cuts : (is_export : Bool) (r : Range) (p : Value) → Opt (StrCuts x) (str_at x ts p 2)
       → Opt (ModuleDeclCuts x) (require_import x ts is_export r p)

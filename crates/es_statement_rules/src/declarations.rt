@@ -7,10 +7,10 @@ ghost use Rattle.es_grammar.specs.Declarations.{plain_declaration, declaration};
 use crate::typed::{Declare, Enum, TypedDeclaration};
 use es_grammar::{Context, NodeKind, Row};
 use es_predicates::Lookahead::{Is, Other};
-use es_predicates::{Kinds, Predicate};
+use es_predicates::{Kinds, Lookahead, Predicate};
 use es_rules::{
     ByLookahead, Cursor, Done, Grammar, Greedy, Holds, IsOfKinds, LeafKind, Make, Many, OfRow, Opt,
-    Pick, Punct, ReadsProduction, ReadsRhs, Rows, Tok, When, Where, Wrap,
+    Pick, Punct, ReadsProduction, ReadsRhs, Rows, Tok, When, Wrap,
 };
 use es_shared_rules::{
     AbstractClass, AnnotationIn, AsyncFunction, Class, Ended, Function, Pattern, UsingIn,
@@ -98,7 +98,7 @@ impl ReadsProduction<Row> for Declarator {
                     TokenKind::Equal,
                     OfRow(
                         Row::AssignmentRow(self.1),
-                        When(Other(TokenKind::Equal), Where(Predicate::EndsValue, Done)),
+                        When(Other(TokenKind::Equal), Done),
                     ),
                 ),
             )
@@ -129,13 +129,7 @@ impl ReadsProduction<Row> for TypedDeclarator {
         };
         let value = Opt(
             Greedy(Is(TokenKind::Equal)),
-            Punct(
-                TokenKind::Equal,
-                OfRow(
-                    Row::AssignmentRow(self.0),
-                    Where(Predicate::EndsValue, Done),
-                ),
-            ),
+            Punct(TokenKind::Equal, OfRow(Row::AssignmentRow(self.0), Done)),
             Done,
         );
         Pick(
@@ -145,8 +139,11 @@ impl ReadsProduction<Row> for TypedDeclarator {
                 OfRow(
                     Row::PatternRow(false, outside),
                     Opt(
-                        Greedy(Is(TokenKind::Exclamation)),
-                        Tok(LeafKind::There, Kinds::Only(TokenKind::Exclamation), Done),
+                        Greedy(Lookahead::NonNull),
+                        When(
+                            Lookahead::Near,
+                            Tok(LeafKind::There, Kinds::Only(TokenKind::Exclamation), Done),
+                        ),
                         AnnotationIn(Lang::Typescript, value),
                     ),
                 ),

@@ -11,7 +11,7 @@ use es_rules::{
     ByLookahead, Choose, Cursor, Done, Grammar, Greedy, LeafKind, Make, Many, OfRow, Opt, Pick,
     Punct, ReadsProduction, ReadsRhs, Rows, Tok,
 };
-use es_shared_rules::ExpressionEnded;
+use es_shared_rules::Ended;
 use es_token::TokenKind;
 use es_tree::{Lang, SyntaxError};
 
@@ -34,7 +34,7 @@ impl ReadsProduction<Row> for DefaultExpression {
                 TokenKind::ExportWord,
                 Punct(
                     TokenKind::DefaultWord,
-                    OfRow(Row::AssignmentRow(self.0), ExpressionEnded),
+                    OfRow(Row::AssignmentRow(self.0), Ended),
                 ),
             ),
         )
@@ -159,10 +159,7 @@ impl ReadsProduction<Row> for ExportNames {
                     NodeKind::ExportAssignment,
                     Punct(
                         TokenKind::ExportWord,
-                        Punct(
-                            TokenKind::Equal,
-                            OfRow(Row::ExpressionRow(self.1), ExpressionEnded),
-                        ),
+                        Punct(TokenKind::Equal, OfRow(Row::ExpressionRow(self.1), Ended)),
                     ),
                 ),
                 Export(Lang::Typescript),

@@ -17,8 +17,9 @@ pub use items::{
 };
 pub use loops::{For, ForAwait, ForEach, StartIn};
 pub use modules::{
-    Attributes, AttributesEnded, Clause, Entity, EqualsIn, Export, ExportSpecifier, FromEnded,
-    Import, ImportSpecifier, Named, NamesIn, Required, TypeWordIn, WordOrStrIn,
+    Attributes, AttributesEnded, Clause, DeferImport, Entity, EqualsIn, Export, ExportSpecifier,
+    FromEnded, Import, ImportSpecifier, Named, NamesIn, Required, SourceImport, TypeWordIn,
+    WordOrStrIn,
 };
 pub use statements::{
     CaseIn, ExpressionStatement, FinallyIn, KeywordStatement, LabelEnded, Return, Statement,

@@ -2,7 +2,7 @@
 
 ghost use Rattle.es_grammar.specs.Embedding.{plain_form, plain_rule, word_or_str_in, names_in, type_word_in, equals_in};
 ghost use Rattle.es_predicates.specs.Named.{predicate_of};
-ghost use Rattle.es_type_grammar.specs.Modules.{attributes, attributes_ended, from_ended, import_specifier, named, clause, entity, required, import_, export_specifier, export_};
+ghost use Rattle.es_type_grammar.specs.Modules.{attributes, attributes_ended, from_ended, import_specifier, named, clause, entity, required, source_import, defer_import, import_, export_specifier, export_};
 
 use es_grammar::{NodeKind, Row};
 use es_predicates::Lookahead::{Has, Is, Other};
@@ -365,7 +365,67 @@ impl ReadsRhs<Row> for Required {
     }
 }
 
-/// Import: 'import' Str Attrs? END | 'import' 'type'? Clause 'from' Str Attrs? END | TS, with '='.
+/// 'import' 'source' Name 'from' Str Attrs? END
+#[derive(Clone, Copy)]
+pub struct SourceImport;
+
+impl ReadsProduction<Row> for SourceImport {
+    ghost rule = { λ _. plain_rule source_import };
+
+    #[tactic(auto, unfolding(es_type_grammar::specs::Modules::source_import))]
+    fn read<T: Rows<Row>>(
+        &self,
+        grammar: &Grammar<'_, T>,
+        cursor: &mut Cursor,
+    ) -> Result<usize, SyntaxError> {
+        Make(
+            NodeKind::SourceImport,
+            Punct(
+                TokenKind::ImportWord,
+                Punct(
+                    TokenKind::SourceWord,
+                    Tok(LeafKind::Name, Kinds::Name, FromEnded),
+                ),
+            ),
+        )
+        .read(grammar, cursor)
+    }
+}
+
+/// 'import' 'defer' '*' 'as' Name 'from' Str Attrs? END
+#[derive(Clone, Copy)]
+pub struct DeferImport;
+
+impl ReadsProduction<Row> for DeferImport {
+    ghost rule = { λ _. plain_rule defer_import };
+
+    #[tactic(auto, unfolding(es_type_grammar::specs::Modules::defer_import))]
+    fn read<T: Rows<Row>>(
+        &self,
+        grammar: &Grammar<'_, T>,
+        cursor: &mut Cursor,
+    ) -> Result<usize, SyntaxError> {
+        Make(
+            NodeKind::DeferImport,
+            Punct(
+                TokenKind::ImportWord,
+                Punct(
+                    TokenKind::DeferWord,
+                    Punct(
+                        TokenKind::Star,
+                        Punct(
+                            TokenKind::AsWord,
+                            Tok(LeafKind::Name, Kinds::Name, FromEnded),
+                        ),
+                    ),
+                ),
+            ),
+        )
+        .read(grammar, cursor)
+    }
+}
+
+/// Import: 'import' Str Attrs? END | 'import' 'type'? Clause 'from' Str Attrs? END | with a phase | TS, with '='.
 #[derive(Clone, Copy)]
 pub struct Import(pub Lang);
 
@@ -397,13 +457,21 @@ impl ReadsProduction<Row> for Import {
                         Tok(LeafKind::Str, Kinds::Only(TokenKind::Str), AttributesEnded),
                     ),
                 ),
-                Make(
-                    NodeKind::FromImport,
-                    Punct(
-                        TokenKind::ImportWord,
-                        TypeWordIn(
-                            Predicate::OpensTypeImport(self.0),
-                            OfRow(Row::ClauseRow, FromEnded),
+                Pick(
+                    Predicate::OpensSourceImport,
+                    SourceImport,
+                    Pick(
+                        Predicate::OpensDeferImport,
+                        DeferImport,
+                        Make(
+                            NodeKind::FromImport,
+                            Punct(
+                                TokenKind::ImportWord,
+                                TypeWordIn(
+                                    Predicate::OpensTypeImport(self.0),
+                                    OfRow(Row::ClauseRow, FromEnded),
+                                ),
+                            ),
                         ),
                     ),
                 ),

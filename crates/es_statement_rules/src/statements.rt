@@ -14,7 +14,7 @@ use es_rules::{
     Alt, ByLookahead, Cursor, Done, Grammar, Greedy, Holds, LeafKind, Make, MakeBy, Many, OfRow,
     Opt, Pick, Punct, ReadsProduction, ReadsRhs, Rows, Tok, When, Where,
 };
-use es_shared_rules::{AnnotationIn, Ended, ExpressionEnded, without_colon};
+use es_shared_rules::{AnnotationIn, Ended, without_colon};
 use es_token::TokenKind;
 use es_tree::{Lang, SyntaxError};
 
@@ -59,10 +59,7 @@ impl ReadsProduction<Row> for Return {
                 TokenKind::ReturnWord,
                 Alt(
                     Lookahead::ValueHere(self.0),
-                    When(
-                        Lookahead::Near,
-                        OfRow(Row::ExpressionRow(self.1), ExpressionEnded),
-                    ),
+                    When(Lookahead::Near, OfRow(Row::ExpressionRow(self.1), Ended)),
                     Ended,
                     Done,
                 ),
@@ -227,7 +224,7 @@ impl ReadsProduction<Row> for ExpressionStatement {
             NodeKind::ExpressionStatement,
             When(
                 Lookahead::BeginsNoOther,
-                OfRow(Row::ExpressionRow(self.0), ExpressionEnded),
+                OfRow(Row::ExpressionRow(self.0), Ended),
             ),
         )
         .read(grammar, cursor)
@@ -331,10 +328,7 @@ impl<A: ReadsProduction<Row> + Copy> ReadsProduction<Row> for KeywordStatement<A
                 NodeKind::ThrowStatement,
                 Punct(
                     TokenKind::ThrowWord,
-                    When(
-                        Lookahead::Near,
-                        OfRow(Row::ExpressionRow(self.1), ExpressionEnded),
-                    ),
+                    When(Lookahead::Near, OfRow(Row::ExpressionRow(self.1), Ended)),
                 ),
             )
             .read(grammar, cursor);

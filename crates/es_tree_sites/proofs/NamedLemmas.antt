@@ -18,7 +18,7 @@ use Rattle.es_plain_sites.specs.Part.{Part, absent, nil, more, token, node, part
 use Rattle.es_plain_sites.specs.Own.{own, first_of, returned, typed_args, part_of, plain_sites}
 use Rattle.es_plain_sites.proofs.Equations.{part_leaf, part_node, part_role, part_parts}
 use Rattle.es_tree_sites.specs.declared.steps.Step.{Step}
-use Rattle.es_tree_sites.specs.declared.steps.Step.TheVariants.{At, In, Deep, Turns, Holes, Bare, From, Require, Names, Call, TypedArgs, Head, Returned, Cases, Handlers, Members, Body}
+use Rattle.es_tree_sites.specs.declared.steps.Step.TheVariants.{At, In, Deep, Turns, Holes, Bare, From, Phase, Require, Names, Call, TypedArgs, Head, Returned, Cases, Handlers, Members, Body}
 use Rattle.es_tree_sites.specs.Parts.{kept}
 use Rattle.es_tree_sites.specs.Steps.{steps, by_step, turns_in, holes_in, cases_in, members_in, operand_at, operands_in, leaning_in, handlers_in}
 use Rattle.es_tree_sites.specs.Named.{is_own, any_own, names_module, may_name, any_may_name}
@@ -193,9 +193,10 @@ module _ (x : List ℕ) (ts : List Token) where
   step_none p (Holes n) c e = holes_none (group p n) (group_none p n c)
   step_none p Bare c e = absurd (let bad : ⊥ = cc in bad)
   step_none p (From kind) c e = absurd (let bad : ⊥ = cc in bad)
+  step_none p (Phase kind) c e = absurd (let bad : ⊥ = cc in bad)
   step_none p Require c e = absurd (let bad : ⊥ = cc in bad)
   step_none p Names c e = absurd (let bad : ⊥ = cc in bad)
-  step_none p Call c e = absurd (let bad : ⊥ = cc in bad)
+  step_none p (Call kind) c e = absurd (let bad : ⊥ = cc in bad)
   step_none p TypedArgs c e = args_none (group (group p 0) 0) (group_none (group p 0) 0 (group_none p 0 c))
   step_none p Head c e =
       first_none (group p 0) (first_of x ts (group p 1) (at (group p 2) 0)) (group_none p 0 c)

@@ -6,10 +6,11 @@ use Rattle.std.proofs.lemmas.List.{append-nil, append_assoc}
 use Rattle.es_token.specs.declared.token.Token.{Token}
 use Rattle.es_grammar.specs.declared.rows.NodeKind.{NodeKind}
 use Rattle.es_grammar.specs.declared.rows.NodeKind.TheVariants as l
+use Rattle.es_site.specs.declared.site.DependencyKind.{DependencyKind}
 use Rattle.es_site.specs.declared.site.DependencyKind.TheVariants as kind
 use Rattle.es_site.specs.Sites.{Found}
 use Rattle.es_plain_sites.specs.Part.{Part, absent, nil, more, token, node, part, as_group, group, is_there, found, at, inside, may, each, turns}
-use Rattle.es_plain_sites.specs.Own.{own, declared, naming, options_in, src_in, optional_inner, typed_inner, typed_args, operand, first_of, handled}
+use Rattle.es_plain_sites.specs.Own.{own, called, declared, naming, options_in, src_in, optional_inner, typed_inner, typed_args, operand, first_of, handled}
 use Rattle.es_tree_sites.specs.Steps.{steps, by_step, declares, turns_in, holes_in, cases_in, members_in, handlers_in}
 
 right2 : (a b : Found) → a ++ (b ++ []) ≡ a ++ b
@@ -119,6 +120,14 @@ module _ (x : List ℕ) (ts : List Token) where
   handlers_is (more v (node label p s)) = both (more v (node label p s))
   handlers_is (token n) = refl
   handlers_is (node label p s) = refl
+
+  called_is : (kind : DependencyKind) (p : Part)
+      → naming x ts kind false (options_in x ts (group p 1)) (src_in x ts (part p 0))
+      ++ (at p 0 ++ (at (group p 1) 0 ++ []))
+      ≡ called x ts kind p
+  called_is kind p =
+      let name = naming x ts kind false (options_in x ts (group p 1)) (src_in x ts (part p 0)) in
+      right3 name (at p 0) (at (group p 1) 0) ∙ ap (λ k. name ++ (at p 0 ++ k)) (may_is p 1)
 
   pub steps_own : (label : NodeKind) (p : Part) → flat_map (by_step x ts p) (steps label) ≡ own x ts label p
   unfolding turns_in steps by_step
@@ -231,15 +240,17 @@ module _ (x : List ℕ) (ts : List Token) where
   steps_own l.GlobalDeclaration p = append-nil (turns p 0 0)
   steps_own l.BareImport p = append-nil (own x ts l.BareImport p)
   steps_own l.FromImport p = append-nil (own x ts l.FromImport p)
+  steps_own l.SourceImport p = append-nil (own x ts l.SourceImport p)
+  steps_own l.DeferImport p = append-nil (own x ts l.DeferImport p)
   steps_own l.RequireImport p = append-nil (own x ts l.RequireImport p)
   steps_own l.ExportedRequireImport p = append-nil (own x ts l.ExportedRequireImport p)
   steps_own l.ExportAll p = append-nil (own x ts l.ExportAll p)
   steps_own l.ExportNames p =
       append-nil (declares x ts kind.Export (is_there (group p 0)) (group p 2) 0 1)
       ∙ names_is (is_there (group p 0)) p 2
-  steps_own l.ImportCall p =
-      let name = naming x ts kind.Dynamic false (options_in x ts (group p 1)) (src_in x ts (part p 0)) in
-      right3 name (at p 0) (at (group p 1) 0) ∙ ap (λ k. name ++ (at p 0 ++ k)) (may_is p 1)
+  steps_own l.ImportCall p = called_is kind.Dynamic p
+  steps_own l.SourceCall p = called_is kind.DynamicSource p
+  steps_own l.DeferCall p = called_is kind.DynamicDefer p
   steps_own l.Yield p = append-nil (at (group p 0) 1) ∙ in_at (part p 0) 1
   steps_own l.OptionalPost p = optional_is (part (group p 0) 0)
   steps_own l.TypedBinary p =

@@ -6,16 +6,17 @@ use Rattle.es_syntax.specs.declared.entry.What.TheVariants as vWhat
 use Rattle.es_syntax.specs.declared.entry.Entry.{Entry}
 use Rattle.es_syntax.specs.declared.cursor.Item.{Item}
 use Rattle.es_tree_sites.specs.declared.steps.Step.{Step}
-use Rattle.es_tree_sites.specs.declared.steps.Step.TheVariants.{Bare, From, Require, Names, Call}
+use Rattle.es_tree_sites.specs.declared.steps.Step.TheVariants.{Bare, From, Phase, Require, Names, Call}
 use Rattle.es_tree_sites.specs.Steps.{steps}
 
 -- a step that is a site of the node itself, and no place among its parts
 abbrev pub is_own : Step → Bool
 is_own Bare = true
 is_own (From kind) = true
+is_own (Phase kind) = true
 is_own Require = true
 is_own Names = true
-is_own Call = true
+is_own (Call kind) = true
 is_own _ = false
 
 abbrev pub any_own : List Step → Bool

@@ -12,7 +12,7 @@ use Rattle.es_site.specs.Sites.{Found}
 use Rattle.es_plain_sites.specs.Part.{Part, nil, more, token, part, group, is_there, found, at, each}
 use Rattle.es_plain_sites.specs.Own.{attribute_in, str_in, options_in, src_in, naming, first_of, returned, typed_args}
 use Rattle.es_tree_sites.specs.declared.steps.Step.{Step}
-use Rattle.es_tree_sites.specs.declared.steps.Step.TheVariants.{At, In, Deep, Turns, Holes, Bare, From, Require, Names, Call, TypedArgs, Head, Returned, Cases, Handlers, Members, Body}
+use Rattle.es_tree_sites.specs.declared.steps.Step.TheVariants.{At, In, Deep, Turns, Holes, Bare, From, Phase, Require, Names, Call, TypedArgs, Head, Returned, Cases, Handlers, Members, Body}
 
 -- the steps of the nodes of an alternative
 unfoldable pub steps : NodeKind → List Step
@@ -124,11 +124,15 @@ steps l.NamespaceDeclaration = Turns 2 0 ∷ []
 steps l.GlobalDeclaration = Turns 0 0 ∷ []
 steps l.BareImport = Bare ∷ []
 steps l.FromImport = From kind.Import ∷ []
+steps l.SourceImport = Phase kind.ImportSource ∷ []
+steps l.DeferImport = Phase kind.ImportDefer ∷ []
 steps l.RequireImport = Require ∷ []
 steps l.ExportedRequireImport = Require ∷ []
 steps l.ExportAll = From kind.Export ∷ []
 steps l.ExportNames = Names ∷ []
-steps l.ImportCall = Call ∷ At 0 ∷ In 1 0 ∷ []
+steps l.ImportCall = Call kind.Dynamic ∷ At 0 ∷ In 1 0 ∷ []
+steps l.SourceCall = Call kind.DynamicSource ∷ At 0 ∷ In 1 0 ∷ []
+steps l.DeferCall = Call kind.DynamicDefer ∷ At 0 ∷ In 1 0 ∷ []
 steps l.Yield = In 0 1 ∷ []
 steps l.OptionalPost = In 0 0 ∷ Deep 0 0 0 ∷ []
 steps l.TypedBinary = At 0 ∷ In 1 1 ∷ []
@@ -202,9 +206,10 @@ module _ (x : List ℕ) (ts : List Token) where
   by_step p (Holes n) = holes_in (group p n)
   by_step p Bare = declares kind.Import false p 0 1
   by_step p (From kind) = declares kind (is_there (group p 0)) p 2 3
+  by_step p (Phase kind) = declares kind false p 1 2
   by_step p Require = naming x ts kind.ImportEquals (is_there (group p 0)) Unknown (str_in x ts (part p 2))
   by_step p Names = declares kind.Export (is_there (group p 0)) (group p 2) 0 1
-  by_step p Call = naming x ts kind.Dynamic false (options_in x ts (group p 1)) (src_in x ts (part p 0))
+  by_step p (Call kind) = naming x ts kind false (options_in x ts (group p 1)) (src_in x ts (part p 0))
   by_step p TypedArgs = typed_args x ts (group (group p 0) 0)
   by_step p Head = first_of x ts (group p 0) (first_of x ts (group p 1) (at (group p 2) 0))
   by_step p Returned = returned x ts (group p 0)

@@ -3,7 +3,7 @@
 ghost use Rattle.std.specs.Prelude.{◌≡◌, false, ◌++◌, IfOk, IfSome, OnOk, option_map};
 ghost use Rattle.es_lowering.specs.Texts.{str_of};
 ghost use Rattle.es_site.specs.declared.site.Attribute.TheVariants as attribute;
-ghost use Rattle.es_site.specs.declared.site.DependencyKind.TheVariants as kind;
+ghost use Rattle.es_site.specs.declared.site.DependencyKind.TheVariants as kinds;
 ghost use Rattle.es_plain_sites.specs.Part.{part, group, is_there};
 ghost use Rattle.es_plain_sites.specs.Own.{naming, str_in, src_in, options_in};
 ghost use Rattle.es_tree_sites.specs.Parts.{parts_in, Cuts, HasCut};
@@ -66,7 +66,7 @@ impl TokenizedText<'_> {
     pub fn require(&self, found: &mut Items<Site>, parts: &Siblings<'_>) -> Result<(), AllocError>
         requires { HasCut self.now }
         ensures { OnOk result (found.new ≡ found.old
-            ++ naming self.now.text.now self.now.tokens.now kind.ImportEquals (is_there (group (parts_in self.now parts.now) 0)) attribute.Unknown
+            ++ naming self.now.text.now self.now.tokens.now kinds.ImportEquals (is_there (group (parts_in self.now parts.now) 0)) attribute.Unknown
             (str_in self.now.text.now self.now.tokens.now (part (parts_in self.now parts.now) 2))) }
     {
         let kind = DependencyKind::ImportEquals;
@@ -75,15 +75,20 @@ impl TokenizedText<'_> {
         self.name(found, kind, type_only, Attribute::Unknown, src)
     }
 
-    /// `import("a")`, where the first argument is a string literal.
-    pub fn call(&self, found: &mut Items<Site>, parts: &Siblings<'_>) -> Result<(), AllocError>
+    /// `import("a")`, in any phase, where the first argument is a string literal.
+    pub fn call(
+        &self,
+        found: &mut Items<Site>,
+        kind: DependencyKind,
+        parts: &Siblings<'_>,
+    ) -> Result<(), AllocError>
         requires { HasCut self.now }
         ensures { OnOk result (found.new ≡ found.old
-            ++ naming self.now.text.now self.now.tokens.now kind.Dynamic false (options_in self.now.text.now self.now.tokens.now (group (parts_in self.now parts.now) 1))
+            ++ naming self.now.text.now self.now.tokens.now kind false (options_in self.now.text.now self.now.tokens.now (group (parts_in self.now parts.now) 1))
             (src_in self.now.text.now self.now.tokens.now (part (parts_in self.now parts.now) 0))) }
     {
         let attribute = self.options(&self.group(parts, 1))?;
         let src = self.literal_at(parts, 0);
-        self.name(found, DependencyKind::Dynamic, false, attribute, src)
+        self.name(found, kind, false, attribute, src)
     }
 }

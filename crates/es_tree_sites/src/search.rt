@@ -15,11 +15,15 @@ fn names_module(label: NodeKind) -> bool
     match label {
         NodeKind::BareImport
         | NodeKind::FromImport
+        | NodeKind::SourceImport
+        | NodeKind::DeferImport
         | NodeKind::RequireImport
         | NodeKind::ExportedRequireImport
         | NodeKind::ExportAll
         | NodeKind::ExportNames
-        | NodeKind::ImportCall => true,
+        | NodeKind::ImportCall
+        | NodeKind::SourceCall
+        | NodeKind::DeferCall => true,
         _ => false,
     }
 }

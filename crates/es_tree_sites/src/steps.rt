@@ -23,12 +23,14 @@ pub enum Step {
     Bare,
     /// `import .. from "a"`, `export * from "a"`
     From(DependencyKind),
+    /// `import source a from "a"`, `import defer * as a from "a"`
+    Phase(DependencyKind),
     /// `import a = require("a")`
     Require,
     /// `export { .. }`, with `from "a"` or without.
     Names,
-    /// `import("a")`
-    Call,
+    /// `import("a")`, in any phase.
+    Call(DependencyKind),
     /// What stands behind `?.` and arguments of types.
     TypedArgs,
     /// The first of the three forms of a `for`'s start that is there.
@@ -164,10 +166,26 @@ pub fn steps(label: NodeKind) -> &'static [Step]
         NodeKind::NamespaceDeclaration => &[Step::Turns(2, 0)],
         NodeKind::BareImport => &[Step::Bare],
         NodeKind::FromImport => &[Step::From(DependencyKind::Import)],
+        NodeKind::SourceImport => &[Step::Phase(DependencyKind::ImportSource)],
+        NodeKind::DeferImport => &[Step::Phase(DependencyKind::ImportDefer)],
         NodeKind::RequireImport | NodeKind::ExportedRequireImport => &[Step::Require],
         NodeKind::ExportAll => &[Step::From(DependencyKind::Export)],
         NodeKind::ExportNames => &[Step::Names],
-        NodeKind::ImportCall => &[Step::Call, Step::At(0), Step::In(1, 0)],
+        NodeKind::ImportCall => &[
+            Step::Call(DependencyKind::Dynamic),
+            Step::At(0),
+            Step::In(1, 0),
+        ],
+        NodeKind::SourceCall => &[
+            Step::Call(DependencyKind::DynamicSource),
+            Step::At(0),
+            Step::In(1, 0),
+        ],
+        NodeKind::DeferCall => &[
+            Step::Call(DependencyKind::DynamicDefer),
+            Step::At(0),
+            Step::In(1, 0),
+        ],
         NodeKind::Yield => &[Step::In(0, 1)],
         NodeKind::OptionalPost => &[Step::In(0, 0), Step::Deep(0, 0, 0)],
         NodeKind::TypedBinary => &[Step::At(0), Step::In(1, 1)],

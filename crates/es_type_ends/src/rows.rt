@@ -11,8 +11,8 @@ use es_grammar::TypeRow;
 use es_rules::{Cursor, Grammar, Input, ReadsProduction, Rows};
 use es_tree::SyntaxError;
 use es_type_member_rules::{
-    Arguments, EntityOf, ImportType, Key, Member, Parameter, Parameters, Pattern, PatternElement,
-    PatternKey, PatternProperty, ReferenceOf, TypeParameters,
+    Arguments, EntityOf, ImportType, Key, Member, OpenedFunction, OpenedParameters, Parameter,
+    Parameters, Pattern, PatternElement, PatternKey, PatternProperty, ReferenceOf, TypeParameters,
 };
 use es_type_predicates::Kinds;
 use es_type_rules::{AnyType, Element, IntersectionType, OperandType, ResultType};
@@ -39,6 +39,8 @@ impl ReadsProduction<TypeRow> for ProductionOf {
             TypeRow::ImportRow => ImportType.read(grammar, cursor),
             TypeRow::ArgumentsRow => Arguments.read(grammar, cursor),
             TypeRow::TypeParametersRow => TypeParameters.read(grammar, cursor),
+            TypeRow::OpenedFunctionRow => OpenedFunction.read(grammar, cursor),
+            TypeRow::OpenedParametersRow => OpenedParameters.read(grammar, cursor),
             TypeRow::ElementRow => Element.read(grammar, cursor),
             TypeRow::MemberRow => Member.read(grammar, cursor),
             TypeRow::KeyRow => Key.read(grammar, cursor),

@@ -13,13 +13,13 @@ use Rattle.es_tree.proofs.FreeLemmas.{holds_then}
 use Rattle.es_tree.proofs.Theorems.{IsGrammar}
 use Rattle.es_type_grammar.specs.declared.rows.Context.{Context}
 use Rattle.es_type_grammar.specs.declared.rows.Row.{Row}
-use Rattle.es_type_grammar.specs.declared.rows.Row.TheVariants.{ModuleRow, ScriptRow, ItemRow, ClauseRow, NamedRow, ImportSpecifierRow, ExportSpecifierRow, AttributesRow, EntityRow, StatementRow, BlockRow, DeclarationRow, VariablesRow, DeclaratorRow, UsingRow, HeadRow, SignatureRow, ParametersRow, ParameterRow, PatternRow, InnerPatternRow, PatternElementRow, PatternPropertyRow, FunctionRow, ClassRow, MemberRow, PropertyRow, KeyRow, ExpressionRow, AssignmentRow, AndRow, BitOrRow, BitXorRow, BitAndRow, EqualityRow, RelationRow, ShiftRow, SumRow, ProductRow, PowerRow, UnaryRow, ChainRow, CalleeRow, PostRow, MemberPostRow, ArgumentsRow, ElementRow, TemplateRow}
+use Rattle.es_type_grammar.specs.declared.rows.Row.TheVariants.{ModuleRow, ScriptRow, ItemRow, ClauseRow, NamedRow, ImportSpecifierRow, ExportSpecifierRow, AttributesRow, EntityRow, StatementRow, BlockRow, DeclarationRow, VariablesRow, DeclaratorRow, UsingRow, HeadRow, HeadPatternRow, SignatureRow, ParametersRow, ParameterRow, PatternRow, InnerPatternRow, PatternElementRow, PatternPropertyRow, FunctionRow, ClassRow, MemberRow, PropertyRow, KeyRow, ExpressionRow, AssignmentRow, AndRow, BitOrRow, BitXorRow, BitAndRow, EqualityRow, RelationRow, ShiftRow, SumRow, ProductRow, PowerRow, UnaryRow, ChainRow, CalleeRow, PostRow, MemberPostRow, ArgumentsRow, ElementRow, TemplateRow}
 use Rattle.es_type_grammar.specs.Words.{is_name, is_word, is_name_or_this, is_numeric, is_sign, is_accessor_word, is_near, begins_key}
-use Rattle.es_type_grammar.specs.Modules.{may_end, ended, word_or_str_in, names_in, attributes, attributes_ended, from_ended, opens_type_import, opens_type_name, type_word_in, is_renamed, is_no_type_as_as, import_specifier, named, has_comma, clause, entity, opens_equals, shows_require, opens_require, equals_in, required, opens_bare, import_, export_specifier, opens_type_export, opens_all, opens_exported_equals, opens_exported_require, opens_namespace, export_}
-use Rattle.es_type_grammar.specs.Expressions.{is_prefix, is_update, is_product, is_sum, is_equality, is_relation, is_assignment, is_property_name, joins, opens_greater, opens_right_shift, opens_right_assignment, begins_expression, continues_expression, follows_arrow_body, ends_expression, is_arrow, no_arrow, opens_plain_arrow, opens_async_arrow, opens_arrow, arrow_in, plain_arrow, opens_async_parenthesis, async_arrow, template, spread, array_literal, object_literal, is_no_arrow_head, opens_async_function, star_in, name_in, function, async_function, any_function, class_, is_literal_word, primary, opens_property, has_argument, import_call, is_module, import_meta, follows_super, base, arguments, begins_member, begins_post, member_post, optional_post, post, chain, callee, may_await, is_update_here, no_update_here, update, prefix, await_, unary, power, level, product, sum, opens_shift, shift, opens_relation, may_test, private_in, relation, equality, bit_and, bit_xor, bit_or, and_, no_mix, coalesce, binary, conditional, opens_pattern, opens_assignment, is_operand, yield_, assignment, expression, element}
+use Rattle.es_type_grammar.specs.Modules.{may_end, ended, word_or_str_in, names_in, attributes, attributes_ended, from_ended, opens_type_import, opens_type_name, type_word_in, is_renamed, is_no_type_as_as, import_specifier, named, has_comma, clause, entity, opens_equals, shows_require, opens_require, equals_in, required, opens_bare, opens_source_import, opens_defer_import, source_import, defer_import, import_, export_specifier, opens_type_export, opens_all, opens_exported_equals, opens_exported_require, opens_namespace, export_}
+use Rattle.es_type_grammar.specs.Expressions.{is_prefix, is_update, is_product, is_sum, is_equality, is_relation, is_assignment, is_property_name, joins, opens_greater, opens_right_shift, opens_right_assignment, begins_expression, is_arrow, no_arrow, opens_plain_arrow, opens_async_arrow, opens_arrow, arrow_in, plain_arrow, opens_async_parenthesis, async_arrow, template, spread, array_literal, object_literal, is_no_arrow_head, opens_async_function, star_in, name_in, function, async_function, any_function, class_, is_literal_word, primary, opens_property, has_argument, opens_source_call, opens_defer_call, import_arguments, import_call, source_call, defer_call, is_module, import_meta, import_base, follows_super, imported, base, arguments, begins_member, begins_post, member_post, optional_post, post, chain, callee, may_await, is_update_here, no_update_here, update, prefix, await_, unary, power, level, product, sum, opens_shift, shift, opens_relation, may_test, private_in, relation, equality, bit_and, bit_xor, bit_or, and_, no_mix, coalesce, binary, conditional, opens_pattern, opens_assignment, is_operand, yield_, assignment, expression, element}
 use Rattle.es_type_grammar.specs.Functions.{default_in, array_pattern, object_pattern, follows_pattern, opens_inner_pattern, target, bracket_pattern, inner_pattern, pattern, pattern_element, opens_value, pattern_property, is_parameter, parameters, parameter, signature, plain_key, key, opens_accessor, opens_async, is_plain_key, opens_star, opens_method, method_in, async_method_in, property}
 use Rattle.es_type_grammar.specs.Classes.{opens_static, opens_field_accessor, behind_static, is_plain_member, opens_static_block, static_in, value_in, member}
-use Rattle.es_type_grammar.specs.Statements.{expression_ended, condition_in, block, is_variable_word, ends_value, declarator, declarators, variables, opens_using, using_in, using_, opens_for, opens_for_await, is_each, opens_head_pattern, head, starts_using, starts_expression, start_in, for_, for_each, for_await, is_label_here, label_ended, is_value_here, return_, is_case, is_in_case, case_in, switch_, finally_in, try_, is_script, opens_label, begins_no_other, expression_statement, keyword_statement, declaration, statement}
+use Rattle.es_type_grammar.specs.Statements.{condition_in, block, is_variable_word, declarator, declarators, variables, opens_using, using_in, using_, opens_for, opens_for_await, is_each, opens_head_pattern, opens_initial, head_pattern, head, starts_using, starts_expression, start_in, for_, for_each, for_await, is_label_here, label_ended, is_value_here, return_, is_case, is_in_case, case_in, switch_, finally_in, try_, is_script, opens_label, begins_no_other, expression_statement, keyword_statement, declaration, statement}
 use Rattle.es_type_grammar.specs.Items.{opens_import, opens_default, opens_default_function, opens_default_class, export_default, opens_declaration, export_item, item, shebang_in, module_, script}
 use Rattle.es_type_grammar.specs.Table.{rule}
 
@@ -65,6 +65,7 @@ first (DeclarationRow c) x =
 first (VariablesRow c) x = has_kind is_variable_word x
 first (DeclaratorRow c) x = begins_pattern x
 first (UsingRow c) x = is k.UsingWord x || is k.AwaitWord x
+first (HeadPatternRow c) x = begins_pattern x
 first (HeadRow c) x = begins_chain x || (has_kind is_variable_word x || is k.AwaitWord x)
 first (FunctionRow named c) x = is k.FunctionWord x || is k.AsyncWord x
 first (ClassRow named c) x = is k.ClassWord x
@@ -126,22 +127,24 @@ unfolding is_name is_word is_name_or_this is_numeric is_sign is_accessor_word is
     word_or_str_in names_in attributes attributes_ended from_ended opens_type_import opens_type_name type_word_in
     is_renamed is_no_type_as_as import_specifier named has_comma clause entity opens_equals shows_require
     opens_require equals_in required opens_bare import_ export_specifier opens_type_export opens_all
+    opens_source_import opens_defer_import source_import defer_import
     opens_exported_equals opens_exported_require opens_namespace export_ is_prefix is_update is_product is_sum
     is_equality is_relation is_assignment is_property_name joins opens_greater opens_right_shift
-    opens_right_assignment begins_expression continues_expression follows_arrow_body ends_expression is_arrow no_arrow
+    opens_right_assignment begins_expression is_arrow no_arrow
     opens_plain_arrow opens_async_arrow opens_arrow arrow_in plain_arrow opens_async_parenthesis async_arrow template
     spread array_literal object_literal is_no_arrow_head opens_async_function star_in name_in function async_function
     any_function class_ is_literal_word primary opens_property has_argument import_call is_module import_meta
-    follows_super base arguments begins_member begins_post member_post optional_post post chain callee may_await
+    follows_super imported base arguments begins_member begins_post member_post optional_post post chain callee
+    may_await opens_source_call opens_defer_call import_arguments source_call defer_call import_base
     is_update_here no_update_here update prefix await_ unary power level product sum opens_shift shift opens_relation
     may_test private_in relation equality bit_and bit_xor bit_or and_ no_mix coalesce binary conditional opens_pattern
     opens_assignment is_operand yield_ assignment expression element default_in array_pattern object_pattern
     follows_pattern opens_inner_pattern target bracket_pattern inner_pattern pattern pattern_element opens_value
     pattern_property is_parameter parameters parameter signature plain_key key opens_accessor opens_async is_plain_key
     opens_star opens_method method_in async_method_in property opens_static opens_field_accessor behind_static
-    is_plain_member opens_static_block static_in value_in member expression_ended condition_in block is_variable_word
-    ends_value declarator declarators variables opens_using using_in using_ opens_for opens_for_await is_each
-    opens_head_pattern head starts_using starts_expression start_in for_ for_each for_await is_label_here label_ended
+    is_plain_member opens_static_block static_in value_in member condition_in block is_variable_word
+    declarator declarators variables opens_using using_in using_ opens_for opens_for_await is_each
+    opens_head_pattern opens_initial head_pattern head starts_using starts_expression start_in for_ for_each for_await is_label_here label_ended
     is_value_here return_ is_case is_in_case case_in switch_ finally_in try_ is_script opens_label begins_no_other
     expression_statement keyword_statement declaration statement opens_import opens_default opens_default_function
     opens_default_class export_default opens_declaration export_item item shebang_in module_ script rule
@@ -161,6 +164,7 @@ rows_take (VariablesRow c) h = refl
 rows_take (DeclaratorRow c) h = refl
 rows_take (UsingRow c) h = refl
 rows_take (HeadRow c) h = refl
+rows_take (HeadPatternRow c) h = refl
 rows_take (SignatureRow c) h = refl
 rows_take (ParametersRow c) h = clash h
 rows_take (ParameterRow c) h = refl
@@ -206,22 +210,24 @@ unfolding is_name is_word is_name_or_this is_numeric is_sign is_accessor_word is
     word_or_str_in names_in attributes attributes_ended from_ended opens_type_import opens_type_name type_word_in
     is_renamed is_no_type_as_as import_specifier named has_comma clause entity opens_equals shows_require
     opens_require equals_in required opens_bare import_ export_specifier opens_type_export opens_all
+    opens_source_import opens_defer_import source_import defer_import
     opens_exported_equals opens_exported_require opens_namespace export_ is_prefix is_update is_product is_sum
     is_equality is_relation is_assignment is_property_name joins opens_greater opens_right_shift
-    opens_right_assignment begins_expression continues_expression follows_arrow_body ends_expression is_arrow no_arrow
+    opens_right_assignment begins_expression is_arrow no_arrow
     opens_plain_arrow opens_async_arrow opens_arrow arrow_in plain_arrow opens_async_parenthesis async_arrow template
     spread array_literal object_literal is_no_arrow_head opens_async_function star_in name_in function async_function
     any_function class_ is_literal_word primary opens_property has_argument import_call is_module import_meta
-    follows_super base arguments begins_member begins_post member_post optional_post post chain callee may_await
+    follows_super imported base arguments begins_member begins_post member_post optional_post post chain callee
+    may_await opens_source_call opens_defer_call import_arguments source_call defer_call import_base
     is_update_here no_update_here update prefix await_ unary power level product sum opens_shift shift opens_relation
     may_test private_in relation equality bit_and bit_xor bit_or and_ no_mix coalesce binary conditional opens_pattern
     opens_assignment is_operand yield_ assignment expression element default_in array_pattern object_pattern
     follows_pattern opens_inner_pattern target bracket_pattern inner_pattern pattern pattern_element opens_value
     pattern_property is_parameter parameters parameter signature plain_key key opens_accessor opens_async is_plain_key
     opens_star opens_method method_in async_method_in property opens_static opens_field_accessor behind_static
-    is_plain_member opens_static_block static_in value_in member expression_ended condition_in block is_variable_word
-    ends_value declarator declarators variables opens_using using_in using_ opens_for opens_for_await is_each
-    opens_head_pattern head starts_using starts_expression start_in for_ for_each for_await is_label_here label_ended
+    is_plain_member opens_static_block static_in value_in member condition_in block is_variable_word
+    declarator declarators variables opens_using using_in using_ opens_for opens_for_await is_each
+    opens_head_pattern opens_initial head_pattern head starts_using starts_expression start_in for_ for_each for_await is_label_here label_ended
     is_value_here return_ is_case is_in_case case_in switch_ finally_in try_ is_script opens_label begins_no_other
     expression_statement keyword_statement declaration statement opens_import opens_default opens_default_function
     opens_default_class export_default opens_declaration export_item item shebang_in module_ script rule
@@ -241,6 +247,7 @@ parts_take (VariablesRow c) = refl
 parts_take (DeclaratorRow c) = refl
 parts_take (UsingRow c) = refl
 parts_take (HeadRow c) = refl
+parts_take (HeadPatternRow c) = refl
 parts_take (SignatureRow c) = refl
 parts_take (ParametersRow c) = refl
 parts_take (ParameterRow c) = refl
@@ -287,22 +294,24 @@ unfolding is_name is_word is_name_or_this is_numeric is_sign is_accessor_word is
     word_or_str_in names_in attributes attributes_ended from_ended opens_type_import opens_type_name type_word_in
     is_renamed is_no_type_as_as import_specifier named has_comma clause entity opens_equals shows_require
     opens_require equals_in required opens_bare import_ export_specifier opens_type_export opens_all
+    opens_source_import opens_defer_import source_import defer_import
     opens_exported_equals opens_exported_require opens_namespace export_ is_prefix is_update is_product is_sum
     is_equality is_relation is_assignment is_property_name joins opens_greater opens_right_shift
-    opens_right_assignment begins_expression continues_expression follows_arrow_body ends_expression is_arrow no_arrow
+    opens_right_assignment begins_expression is_arrow no_arrow
     opens_plain_arrow opens_async_arrow opens_arrow arrow_in plain_arrow opens_async_parenthesis async_arrow template
     spread array_literal object_literal is_no_arrow_head opens_async_function star_in name_in function async_function
     any_function class_ is_literal_word primary opens_property has_argument import_call is_module import_meta
-    follows_super base arguments begins_member begins_post member_post optional_post post chain callee may_await
+    follows_super imported base arguments begins_member begins_post member_post optional_post post chain callee
+    may_await opens_source_call opens_defer_call import_arguments source_call defer_call import_base
     is_update_here no_update_here update prefix await_ unary power level product sum opens_shift shift opens_relation
     may_test private_in relation equality bit_and bit_xor bit_or and_ no_mix coalesce binary conditional opens_pattern
     opens_assignment is_operand yield_ assignment expression element default_in array_pattern object_pattern
     follows_pattern opens_inner_pattern target bracket_pattern inner_pattern pattern pattern_element opens_value
     pattern_property is_parameter parameters parameter signature plain_key key opens_accessor opens_async is_plain_key
     opens_star opens_method method_in async_method_in property opens_static opens_field_accessor behind_static
-    is_plain_member opens_static_block static_in value_in member expression_ended condition_in block is_variable_word
-    ends_value declarator declarators variables opens_using using_in using_ opens_for opens_for_await is_each
-    opens_head_pattern head starts_using starts_expression start_in for_ for_each for_await is_label_here label_ended
+    is_plain_member opens_static_block static_in value_in member condition_in block is_variable_word
+    declarator declarators variables opens_using using_in using_ opens_for opens_for_await is_each
+    opens_head_pattern opens_initial head_pattern head starts_using starts_expression start_in for_ for_each for_await is_label_here label_ended
     is_value_here return_ is_case is_in_case case_in switch_ finally_in try_ is_script opens_label begins_no_other
     expression_statement keyword_statement declaration statement opens_import opens_default opens_default_function
     opens_default_class export_default opens_declaration export_item item shebang_in module_ script rule
@@ -323,6 +332,7 @@ begins (VariablesRow c) = refl
 begins (DeclaratorRow c) = refl
 begins (UsingRow c) = refl
 begins (HeadRow c) = refl
+begins (HeadPatternRow c) = refl
 begins (SignatureRow c) = refl
 begins (ParametersRow c) = refl
 begins (ParameterRow c) = refl
@@ -389,22 +399,24 @@ unfolding is_name is_word is_name_or_this is_numeric is_sign is_accessor_word is
     word_or_str_in names_in attributes attributes_ended from_ended opens_type_import opens_type_name type_word_in
     is_renamed is_no_type_as_as import_specifier named has_comma clause entity opens_equals shows_require
     opens_require equals_in required opens_bare import_ export_specifier opens_type_export opens_all
+    opens_source_import opens_defer_import source_import defer_import
     opens_exported_equals opens_exported_require opens_namespace export_ is_prefix is_update is_product is_sum
     is_equality is_relation is_assignment is_property_name joins opens_greater opens_right_shift
-    opens_right_assignment begins_expression continues_expression follows_arrow_body ends_expression is_arrow no_arrow
+    opens_right_assignment begins_expression is_arrow no_arrow
     opens_plain_arrow opens_async_arrow opens_arrow arrow_in plain_arrow opens_async_parenthesis async_arrow template
     spread array_literal object_literal is_no_arrow_head opens_async_function star_in name_in function async_function
     any_function class_ is_literal_word primary opens_property has_argument import_call is_module import_meta
-    follows_super base arguments begins_member begins_post member_post optional_post post chain callee may_await
+    follows_super imported base arguments begins_member begins_post member_post optional_post post chain callee
+    may_await opens_source_call opens_defer_call import_arguments source_call defer_call import_base
     is_update_here no_update_here update prefix await_ unary power level product sum opens_shift shift opens_relation
     may_test private_in relation equality bit_and bit_xor bit_or and_ no_mix coalesce binary conditional opens_pattern
     opens_assignment is_operand yield_ assignment expression element default_in array_pattern object_pattern
     follows_pattern opens_inner_pattern target bracket_pattern inner_pattern pattern pattern_element opens_value
     pattern_property is_parameter parameters parameter signature plain_key key opens_accessor opens_async is_plain_key
     opens_star opens_method method_in async_method_in property opens_static opens_field_accessor behind_static
-    is_plain_member opens_static_block static_in value_in member expression_ended condition_in block is_variable_word
-    ends_value declarator declarators variables opens_using using_in using_ opens_for opens_for_await is_each
-    opens_head_pattern head starts_using starts_expression start_in for_ for_each for_await is_label_here label_ended
+    is_plain_member opens_static_block static_in value_in member condition_in block is_variable_word
+    declarator declarators variables opens_using using_in using_ opens_for opens_for_await is_each
+    opens_head_pattern opens_initial head_pattern head starts_using starts_expression start_in for_ for_each for_await is_label_here label_ended
     is_value_here return_ is_case is_in_case case_in switch_ finally_in try_ is_script opens_label begins_no_other
     expression_statement keyword_statement declaration statement opens_import opens_default opens_default_function
     opens_default_class export_default opens_declaration export_item item shebang_in module_ script rule
@@ -420,31 +432,34 @@ statements_tell : (l : Lang) (c : Context) →
     × Tells (DeclaratorRow c)
     × Tells (UsingRow c)
     × Tells (HeadRow c)
+    × Tells (HeadPatternRow c)
 unfolding is_name is_word is_name_or_this is_numeric is_sign is_accessor_word is_near begins_key may_end ended
     word_or_str_in names_in attributes attributes_ended from_ended opens_type_import opens_type_name type_word_in
     is_renamed is_no_type_as_as import_specifier named has_comma clause entity opens_equals shows_require
     opens_require equals_in required opens_bare import_ export_specifier opens_type_export opens_all
+    opens_source_import opens_defer_import source_import defer_import
     opens_exported_equals opens_exported_require opens_namespace export_ is_prefix is_update is_product is_sum
     is_equality is_relation is_assignment is_property_name joins opens_greater opens_right_shift
-    opens_right_assignment begins_expression continues_expression follows_arrow_body ends_expression is_arrow no_arrow
+    opens_right_assignment begins_expression is_arrow no_arrow
     opens_plain_arrow opens_async_arrow opens_arrow arrow_in plain_arrow opens_async_parenthesis async_arrow template
     spread array_literal object_literal is_no_arrow_head opens_async_function star_in name_in function async_function
     any_function class_ is_literal_word primary opens_property has_argument import_call is_module import_meta
-    follows_super base arguments begins_member begins_post member_post optional_post post chain callee may_await
+    follows_super imported base arguments begins_member begins_post member_post optional_post post chain callee
+    may_await opens_source_call opens_defer_call import_arguments source_call defer_call import_base
     is_update_here no_update_here update prefix await_ unary power level product sum opens_shift shift opens_relation
     may_test private_in relation equality bit_and bit_xor bit_or and_ no_mix coalesce binary conditional opens_pattern
     opens_assignment is_operand yield_ assignment expression element default_in array_pattern object_pattern
     follows_pattern opens_inner_pattern target bracket_pattern inner_pattern pattern pattern_element opens_value
     pattern_property is_parameter parameters parameter signature plain_key key opens_accessor opens_async is_plain_key
     opens_star opens_method method_in async_method_in property opens_static opens_field_accessor behind_static
-    is_plain_member opens_static_block static_in value_in member expression_ended condition_in block is_variable_word
-    ends_value declarator declarators variables opens_using using_in using_ opens_for opens_for_await is_each
-    opens_head_pattern head starts_using starts_expression start_in for_ for_each for_await is_label_here label_ended
+    is_plain_member opens_static_block static_in value_in member condition_in block is_variable_word
+    declarator declarators variables opens_using using_in using_ opens_for opens_for_await is_each
+    opens_head_pattern opens_initial head_pattern head starts_using starts_expression start_in for_ for_each for_await is_label_here label_ended
     is_value_here return_ is_case is_in_case case_in switch_ finally_in try_ is_script opens_label begins_no_other
     expression_statement keyword_statement declaration statement opens_import opens_default opens_default_function
     opens_default_class export_default opens_declaration export_item item shebang_in module_ script rule
     holds_everywhere
-statements_tell l c = (refl, refl, refl, refl, refl, refl, refl)
+statements_tell l c = (refl, refl, refl, refl, refl, refl, refl, refl)
 
 -- parameters and patterns
 patterns_tell : (l : Lang) (c : Context) →
@@ -463,22 +478,24 @@ unfolding is_name is_word is_name_or_this is_numeric is_sign is_accessor_word is
     word_or_str_in names_in attributes attributes_ended from_ended opens_type_import opens_type_name type_word_in
     is_renamed is_no_type_as_as import_specifier named has_comma clause entity opens_equals shows_require
     opens_require equals_in required opens_bare import_ export_specifier opens_type_export opens_all
+    opens_source_import opens_defer_import source_import defer_import
     opens_exported_equals opens_exported_require opens_namespace export_ is_prefix is_update is_product is_sum
     is_equality is_relation is_assignment is_property_name joins opens_greater opens_right_shift
-    opens_right_assignment begins_expression continues_expression follows_arrow_body ends_expression is_arrow no_arrow
+    opens_right_assignment begins_expression is_arrow no_arrow
     opens_plain_arrow opens_async_arrow opens_arrow arrow_in plain_arrow opens_async_parenthesis async_arrow template
     spread array_literal object_literal is_no_arrow_head opens_async_function star_in name_in function async_function
     any_function class_ is_literal_word primary opens_property has_argument import_call is_module import_meta
-    follows_super base arguments begins_member begins_post member_post optional_post post chain callee may_await
+    follows_super imported base arguments begins_member begins_post member_post optional_post post chain callee
+    may_await opens_source_call opens_defer_call import_arguments source_call defer_call import_base
     is_update_here no_update_here update prefix await_ unary power level product sum opens_shift shift opens_relation
     may_test private_in relation equality bit_and bit_xor bit_or and_ no_mix coalesce binary conditional opens_pattern
     opens_assignment is_operand yield_ assignment expression element default_in array_pattern object_pattern
     follows_pattern opens_inner_pattern target bracket_pattern inner_pattern pattern pattern_element opens_value
     pattern_property is_parameter parameters parameter signature plain_key key opens_accessor opens_async is_plain_key
     opens_star opens_method method_in async_method_in property opens_static opens_field_accessor behind_static
-    is_plain_member opens_static_block static_in value_in member expression_ended condition_in block is_variable_word
-    ends_value declarator declarators variables opens_using using_in using_ opens_for opens_for_await is_each
-    opens_head_pattern head starts_using starts_expression start_in for_ for_each for_await is_label_here label_ended
+    is_plain_member opens_static_block static_in value_in member condition_in block is_variable_word
+    declarator declarators variables opens_using using_in using_ opens_for opens_for_await is_each
+    opens_head_pattern opens_initial head_pattern head starts_using starts_expression start_in for_ for_each for_await is_label_here label_ended
     is_value_here return_ is_case is_in_case case_in switch_ finally_in try_ is_script opens_label begins_no_other
     expression_statement keyword_statement declaration statement opens_import opens_default opens_default_function
     opens_default_class export_default opens_declaration export_item item shebang_in module_ script rule
@@ -499,22 +516,24 @@ unfolding is_name is_word is_name_or_this is_numeric is_sign is_accessor_word is
     word_or_str_in names_in attributes attributes_ended from_ended opens_type_import opens_type_name type_word_in
     is_renamed is_no_type_as_as import_specifier named has_comma clause entity opens_equals shows_require
     opens_require equals_in required opens_bare import_ export_specifier opens_type_export opens_all
+    opens_source_import opens_defer_import source_import defer_import
     opens_exported_equals opens_exported_require opens_namespace export_ is_prefix is_update is_product is_sum
     is_equality is_relation is_assignment is_property_name joins opens_greater opens_right_shift
-    opens_right_assignment begins_expression continues_expression follows_arrow_body ends_expression is_arrow no_arrow
+    opens_right_assignment begins_expression is_arrow no_arrow
     opens_plain_arrow opens_async_arrow opens_arrow arrow_in plain_arrow opens_async_parenthesis async_arrow template
     spread array_literal object_literal is_no_arrow_head opens_async_function star_in name_in function async_function
     any_function class_ is_literal_word primary opens_property has_argument import_call is_module import_meta
-    follows_super base arguments begins_member begins_post member_post optional_post post chain callee may_await
+    follows_super imported base arguments begins_member begins_post member_post optional_post post chain callee
+    may_await opens_source_call opens_defer_call import_arguments source_call defer_call import_base
     is_update_here no_update_here update prefix await_ unary power level product sum opens_shift shift opens_relation
     may_test private_in relation equality bit_and bit_xor bit_or and_ no_mix coalesce binary conditional opens_pattern
     opens_assignment is_operand yield_ assignment expression element default_in array_pattern object_pattern
     follows_pattern opens_inner_pattern target bracket_pattern inner_pattern pattern pattern_element opens_value
     pattern_property is_parameter parameters parameter signature plain_key key opens_accessor opens_async is_plain_key
     opens_star opens_method method_in async_method_in property opens_static opens_field_accessor behind_static
-    is_plain_member opens_static_block static_in value_in member expression_ended condition_in block is_variable_word
-    ends_value declarator declarators variables opens_using using_in using_ opens_for opens_for_await is_each
-    opens_head_pattern head starts_using starts_expression start_in for_ for_each for_await is_label_here label_ended
+    is_plain_member opens_static_block static_in value_in member condition_in block is_variable_word
+    declarator declarators variables opens_using using_in using_ opens_for opens_for_await is_each
+    opens_head_pattern opens_initial head_pattern head starts_using starts_expression start_in for_ for_each for_await is_label_here label_ended
     is_value_here return_ is_case is_in_case case_in switch_ finally_in try_ is_script opens_label begins_no_other
     expression_statement keyword_statement declaration statement opens_import opens_default opens_default_function
     opens_default_class export_default opens_declaration export_item item shebang_in module_ script rule
@@ -532,22 +551,24 @@ unfolding is_name is_word is_name_or_this is_numeric is_sign is_accessor_word is
     word_or_str_in names_in attributes attributes_ended from_ended opens_type_import opens_type_name type_word_in
     is_renamed is_no_type_as_as import_specifier named has_comma clause entity opens_equals shows_require
     opens_require equals_in required opens_bare import_ export_specifier opens_type_export opens_all
+    opens_source_import opens_defer_import source_import defer_import
     opens_exported_equals opens_exported_require opens_namespace export_ is_prefix is_update is_product is_sum
     is_equality is_relation is_assignment is_property_name joins opens_greater opens_right_shift
-    opens_right_assignment begins_expression continues_expression follows_arrow_body ends_expression is_arrow no_arrow
+    opens_right_assignment begins_expression is_arrow no_arrow
     opens_plain_arrow opens_async_arrow opens_arrow arrow_in plain_arrow opens_async_parenthesis async_arrow template
     spread array_literal object_literal is_no_arrow_head opens_async_function star_in name_in function async_function
     any_function class_ is_literal_word primary opens_property has_argument import_call is_module import_meta
-    follows_super base arguments begins_member begins_post member_post optional_post post chain callee may_await
+    follows_super imported base arguments begins_member begins_post member_post optional_post post chain callee
+    may_await opens_source_call opens_defer_call import_arguments source_call defer_call import_base
     is_update_here no_update_here update prefix await_ unary power level product sum opens_shift shift opens_relation
     may_test private_in relation equality bit_and bit_xor bit_or and_ no_mix coalesce binary conditional opens_pattern
     opens_assignment is_operand yield_ assignment expression element default_in array_pattern object_pattern
     follows_pattern opens_inner_pattern target bracket_pattern inner_pattern pattern pattern_element opens_value
     pattern_property is_parameter parameters parameter signature plain_key key opens_accessor opens_async is_plain_key
     opens_star opens_method method_in async_method_in property opens_static opens_field_accessor behind_static
-    is_plain_member opens_static_block static_in value_in member expression_ended condition_in block is_variable_word
-    ends_value declarator declarators variables opens_using using_in using_ opens_for opens_for_await is_each
-    opens_head_pattern head starts_using starts_expression start_in for_ for_each for_await is_label_here label_ended
+    is_plain_member opens_static_block static_in value_in member condition_in block is_variable_word
+    declarator declarators variables opens_using using_in using_ opens_for opens_for_await is_each
+    opens_head_pattern opens_initial head_pattern head starts_using starts_expression start_in for_ for_each for_await is_label_here label_ended
     is_value_here return_ is_case is_in_case case_in switch_ finally_in try_ is_script opens_label begins_no_other
     expression_statement keyword_statement declaration statement opens_import opens_default opens_default_function
     opens_default_class export_default opens_declaration export_item item shebang_in module_ script rule
@@ -569,22 +590,24 @@ unfolding is_name is_word is_name_or_this is_numeric is_sign is_accessor_word is
     word_or_str_in names_in attributes attributes_ended from_ended opens_type_import opens_type_name type_word_in
     is_renamed is_no_type_as_as import_specifier named has_comma clause entity opens_equals shows_require
     opens_require equals_in required opens_bare import_ export_specifier opens_type_export opens_all
+    opens_source_import opens_defer_import source_import defer_import
     opens_exported_equals opens_exported_require opens_namespace export_ is_prefix is_update is_product is_sum
     is_equality is_relation is_assignment is_property_name joins opens_greater opens_right_shift
-    opens_right_assignment begins_expression continues_expression follows_arrow_body ends_expression is_arrow no_arrow
+    opens_right_assignment begins_expression is_arrow no_arrow
     opens_plain_arrow opens_async_arrow opens_arrow arrow_in plain_arrow opens_async_parenthesis async_arrow template
     spread array_literal object_literal is_no_arrow_head opens_async_function star_in name_in function async_function
     any_function class_ is_literal_word primary opens_property has_argument import_call is_module import_meta
-    follows_super base arguments begins_member begins_post member_post optional_post post chain callee may_await
+    follows_super imported base arguments begins_member begins_post member_post optional_post post chain callee
+    may_await opens_source_call opens_defer_call import_arguments source_call defer_call import_base
     is_update_here no_update_here update prefix await_ unary power level product sum opens_shift shift opens_relation
     may_test private_in relation equality bit_and bit_xor bit_or and_ no_mix coalesce binary conditional opens_pattern
     opens_assignment is_operand yield_ assignment expression element default_in array_pattern object_pattern
     follows_pattern opens_inner_pattern target bracket_pattern inner_pattern pattern pattern_element opens_value
     pattern_property is_parameter parameters parameter signature plain_key key opens_accessor opens_async is_plain_key
     opens_star opens_method method_in async_method_in property opens_static opens_field_accessor behind_static
-    is_plain_member opens_static_block static_in value_in member expression_ended condition_in block is_variable_word
-    ends_value declarator declarators variables opens_using using_in using_ opens_for opens_for_await is_each
-    opens_head_pattern head starts_using starts_expression start_in for_ for_each for_await is_label_here label_ended
+    is_plain_member opens_static_block static_in value_in member condition_in block is_variable_word
+    declarator declarators variables opens_using using_in using_ opens_for opens_for_await is_each
+    opens_head_pattern opens_initial head_pattern head starts_using starts_expression start_in for_ for_each for_await is_label_here label_ended
     is_value_here return_ is_case is_in_case case_in switch_ finally_in try_ is_script opens_label begins_no_other
     expression_statement keyword_statement declaration statement opens_import opens_default opens_default_function
     opens_default_class export_default opens_declaration export_item item shebang_in module_ script rule
@@ -603,22 +626,24 @@ unfolding is_name is_word is_name_or_this is_numeric is_sign is_accessor_word is
     word_or_str_in names_in attributes attributes_ended from_ended opens_type_import opens_type_name type_word_in
     is_renamed is_no_type_as_as import_specifier named has_comma clause entity opens_equals shows_require
     opens_require equals_in required opens_bare import_ export_specifier opens_type_export opens_all
+    opens_source_import opens_defer_import source_import defer_import
     opens_exported_equals opens_exported_require opens_namespace export_ is_prefix is_update is_product is_sum
     is_equality is_relation is_assignment is_property_name joins opens_greater opens_right_shift
-    opens_right_assignment begins_expression continues_expression follows_arrow_body ends_expression is_arrow no_arrow
+    opens_right_assignment begins_expression is_arrow no_arrow
     opens_plain_arrow opens_async_arrow opens_arrow arrow_in plain_arrow opens_async_parenthesis async_arrow template
     spread array_literal object_literal is_no_arrow_head opens_async_function star_in name_in function async_function
     any_function class_ is_literal_word primary opens_property has_argument import_call is_module import_meta
-    follows_super base arguments begins_member begins_post member_post optional_post post chain callee may_await
+    follows_super imported base arguments begins_member begins_post member_post optional_post post chain callee
+    may_await opens_source_call opens_defer_call import_arguments source_call defer_call import_base
     is_update_here no_update_here update prefix await_ unary power level product sum opens_shift shift opens_relation
     may_test private_in relation equality bit_and bit_xor bit_or and_ no_mix coalesce binary conditional opens_pattern
     opens_assignment is_operand yield_ assignment expression element default_in array_pattern object_pattern
     follows_pattern opens_inner_pattern target bracket_pattern inner_pattern pattern pattern_element opens_value
     pattern_property is_parameter parameters parameter signature plain_key key opens_accessor opens_async is_plain_key
     opens_star opens_method method_in async_method_in property opens_static opens_field_accessor behind_static
-    is_plain_member opens_static_block static_in value_in member expression_ended condition_in block is_variable_word
-    ends_value declarator declarators variables opens_using using_in using_ opens_for opens_for_await is_each
-    opens_head_pattern head starts_using starts_expression start_in for_ for_each for_await is_label_here label_ended
+    is_plain_member opens_static_block static_in value_in member condition_in block is_variable_word
+    declarator declarators variables opens_using using_in using_ opens_for opens_for_await is_each
+    opens_head_pattern opens_initial head_pattern head starts_using starts_expression start_in for_ for_each for_await is_label_here label_ended
     is_value_here return_ is_case is_in_case case_in switch_ finally_in try_ is_script opens_label begins_no_other
     expression_statement keyword_statement declaration statement opens_import opens_default opens_default_function
     opens_default_class export_default opens_declaration export_item item shebang_in module_ script rule
@@ -642,6 +667,7 @@ tests_tell (VariablesRow c) = (statements_tell es c).3
 tests_tell (DeclaratorRow c) = (statements_tell es c).4
 tests_tell (UsingRow c) = (statements_tell es c).5
 tests_tell (HeadRow c) = (statements_tell es c).6
+tests_tell (HeadPatternRow c) = (statements_tell es c).7
 tests_tell (SignatureRow c) = (patterns_tell es c).0
 tests_tell (ParametersRow c) = (patterns_tell es c).1
 tests_tell (ParameterRow c) = (patterns_tell es c).2

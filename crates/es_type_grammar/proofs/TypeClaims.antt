@@ -11,9 +11,9 @@ use Rattle.es_tree.proofs.OutLemmas.{clash}
 use Rattle.es_tree.proofs.FreeLemmas.{holds_then}
 use Rattle.es_tree.proofs.Theorems.{IsGrammar}
 use Rattle.es_type_grammar.specs.declared.rows.TypeRow.{TypeRow as Row}
-use Rattle.es_type_grammar.specs.declared.rows.TypeRow.TheVariants.{TypeRow, IntersectionRow, OperandRow, ReferenceRow, EntityRow, ImportRow, ArgumentsRow, TypeParametersRow, ElementRow, MemberRow, KeyRow, ResultRow, ParametersRow, ParameterRow, PatternRow, PatternElementRow, PatternPropertyRow, PatternKeyRow}
+use Rattle.es_type_grammar.specs.declared.rows.TypeRow.TheVariants.{TypeRow, IntersectionRow, OperandRow, ReferenceRow, EntityRow, ImportRow, ArgumentsRow, TypeParametersRow, OpenedFunctionRow, OpenedParametersRow, ElementRow, MemberRow, KeyRow, ResultRow, ParametersRow, ParameterRow, PatternRow, PatternElementRow, PatternPropertyRow, PatternKeyRow}
 use Rattle.es_type_grammar.specs.Words.{is_name, is_word, is_name_or_this, is_numeric, is_sign, is_accessor_word, is_near, begins_key}
-use Rattle.es_type_grammar.specs.TypeNames.{further_names, entity, opens_arguments, no_arguments, reference, import_type, arguments, is_modifier, opens_modifier, type_parameter, type_parameters}
+use Rattle.es_type_grammar.specs.TypeNames.{further_names, entity, opens_arguments, no_arguments, further_arguments, listed_parameters, opened_parameters, opened_function, begins_angle, begins_type_parameter, shows_type_parameter, opens_angle, reference, import_type, arguments, is_modifier, opens_modifier, type_parameter, type_parameters}
 use Rattle.es_type_grammar.specs.Parameters.{parameters_in, mark_in, type_in, list_before, is_parameter, parameters, has_mark, no_mark, name_pattern, array_pattern, object_pattern, pattern, parameter, pattern_element, pattern_key, opens_value, pattern_property}
 use Rattle.es_type_grammar.specs.Members.{result_in, is_separator, may_separate, separator, opens_parameters, call_signature, opens_construct, construct_signature, opens_readonly, shows_index, opens_index, index_signature, opens_accessor, accessor_signature, opens_method, method_signature, property_signature, is_property_key, readonly_property, member, computed_key, key}
 use Rattle.es_type_grammar.specs.Types.{is_literal_word, begins_type, parenthesized_type, members_type, shows_mapped, opens_mapped, sign_in, begins_signed, mapped_type, tuple_type, type_query, opens_this_reference, is_type_word, is_keyword_type, template_types, number_type, primary_type, opens_brackets, brackets_in, array_types, is_type_operator, opens_operator, opens_infer, operand_type, operands_in, intersection_type, union_type, opens_condition, no_condition, conditional_type, opens_function, function_type, opens_constructor, constructor_type, any_type, is_label, label_in, element, is_asserted_name, opens_asserts, opens_predicate, result}
@@ -31,9 +31,11 @@ first OperandRow x = begins_type x
 first ReferenceRow x = has_kind is_name_or_this x
 first EntityRow x = has_kind is_name_or_this x
 first ImportRow x = is k.ImportWord x
-first ArgumentsRow x = is k.Less x
+first ArgumentsRow x = begins_angle x
 first TypeParametersRow x = is k.Less x
-first ElementRow x = is k.Ellipsis x || begins_type x
+first OpenedFunctionRow x = begins_type_parameter x
+first OpenedParametersRow x = begins_type_parameter x
+first ElementRow x = is k.Ellipsis x || (has_kind is_word x || begins_type x)
 first MemberRow x = opens_parameters x || begins_key x
 first KeyRow x = begins_key x
 first (ResultRow c) x = begins_type x
@@ -60,7 +62,7 @@ sets = record { first = first; follow = follow; solid = solid }
 -- each row but that of parameters takes a token, and so does each part that may be absent
 rows_take : (r : Row) → solid r ≡ true → rule_takes solid (type_rule r) ≡ true
 unfolding is_name is_word is_name_or_this is_numeric is_sign is_accessor_word is_near begins_key further_names entity
-    opens_arguments no_arguments reference import_type arguments is_modifier opens_modifier type_parameter
+    opens_arguments no_arguments further_arguments listed_parameters opened_parameters opened_function begins_angle begins_type_parameter shows_type_parameter opens_angle reference import_type arguments is_modifier opens_modifier type_parameter
     type_parameters parameters_in mark_in type_in list_before is_parameter parameters has_mark no_mark name_pattern
     array_pattern object_pattern pattern parameter pattern_element pattern_key opens_value pattern_property result_in
     is_separator may_separate separator opens_parameters call_signature opens_construct construct_signature
@@ -81,6 +83,8 @@ rows_take EntityRow h = refl
 rows_take ImportRow h = refl
 rows_take ArgumentsRow h = refl
 rows_take TypeParametersRow h = refl
+rows_take OpenedFunctionRow h = refl
+rows_take OpenedParametersRow h = refl
 rows_take ElementRow h = refl
 rows_take MemberRow h = refl
 rows_take KeyRow h = refl
@@ -95,7 +99,7 @@ rows_take PatternKeyRow h = refl
 
 parts_take : (r : Row) → rule_parts_take solid (type_rule r) ≡ true
 unfolding is_name is_word is_name_or_this is_numeric is_sign is_accessor_word is_near begins_key further_names entity
-    opens_arguments no_arguments reference import_type arguments is_modifier opens_modifier type_parameter
+    opens_arguments no_arguments further_arguments listed_parameters opened_parameters opened_function begins_angle begins_type_parameter shows_type_parameter opens_angle reference import_type arguments is_modifier opens_modifier type_parameter
     type_parameters parameters_in mark_in type_in list_before is_parameter parameters has_mark no_mark name_pattern
     array_pattern object_pattern pattern parameter pattern_element pattern_key opens_value pattern_property result_in
     is_separator may_separate separator opens_parameters call_signature opens_construct construct_signature
@@ -116,6 +120,8 @@ parts_take EntityRow = refl
 parts_take ImportRow = refl
 parts_take ArgumentsRow = refl
 parts_take TypeParametersRow = refl
+parts_take OpenedFunctionRow = refl
+parts_take OpenedParametersRow = refl
 parts_take ElementRow = refl
 parts_take MemberRow = refl
 parts_take KeyRow = refl
@@ -131,7 +137,7 @@ parts_take PatternKeyRow = refl
 -- what a row begins with
 begins : (r : Row) → holds_everywhere (λ x. implies (rule_starts sets (type_rule r) none x) (first r x)) ≡ true
 unfolding is_name is_word is_name_or_this is_numeric is_sign is_accessor_word is_near begins_key further_names entity
-    opens_arguments no_arguments reference import_type arguments is_modifier opens_modifier type_parameter
+    opens_arguments no_arguments further_arguments listed_parameters opened_parameters opened_function begins_angle begins_type_parameter shows_type_parameter opens_angle reference import_type arguments is_modifier opens_modifier type_parameter
     type_parameters parameters_in mark_in type_in list_before is_parameter parameters has_mark no_mark name_pattern
     array_pattern object_pattern pattern parameter pattern_element pattern_key opens_value pattern_property result_in
     is_separator may_separate separator opens_parameters call_signature opens_construct construct_signature
@@ -152,6 +158,8 @@ begins EntityRow = refl
 begins ImportRow = refl
 begins ArgumentsRow = refl
 begins TypeParametersRow = refl
+begins OpenedFunctionRow = refl
+begins OpenedParametersRow = refl
 begins ElementRow = refl
 begins MemberRow = refl
 begins KeyRow = refl
@@ -167,7 +175,7 @@ begins PatternKeyRow = refl
 -- each test tells
 tests_tell : (r : Row) → holds_everywhere (rule_tells sets (type_rule r) (follow r)) ≡ true
 unfolding is_name is_word is_name_or_this is_numeric is_sign is_accessor_word is_near begins_key further_names entity
-    opens_arguments no_arguments reference import_type arguments is_modifier opens_modifier type_parameter
+    opens_arguments no_arguments further_arguments listed_parameters opened_parameters opened_function begins_angle begins_type_parameter shows_type_parameter opens_angle reference import_type arguments is_modifier opens_modifier type_parameter
     type_parameters parameters_in mark_in type_in list_before is_parameter parameters has_mark no_mark name_pattern
     array_pattern object_pattern pattern parameter pattern_element pattern_key opens_value pattern_property result_in
     is_separator may_separate separator opens_parameters call_signature opens_construct construct_signature
@@ -188,6 +196,8 @@ tests_tell EntityRow = refl
 tests_tell ImportRow = refl
 tests_tell ArgumentsRow = refl
 tests_tell TypeParametersRow = refl
+tests_tell OpenedFunctionRow = refl
+tests_tell OpenedParametersRow = refl
 tests_tell ElementRow = refl
 tests_tell MemberRow = refl
 tests_tell KeyRow = refl

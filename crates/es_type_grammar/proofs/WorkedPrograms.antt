@@ -9,15 +9,15 @@ use Rattle.es_tree.specs.Productions.{as_kind, as_name, as_raw, as_str, as_there
 use Rattle.es_tree.specs.Plain.{node, leaf, nil, cons, mark, turn, via}
 use Rattle.es_tree.specs.Fits.{most_nodes}
 use Rattle.es_tree.specs.Reader.{gives, read_turns, read_wraps, read_row}
-use Rattle.es_type_grammar.specs.declared.rows.NodeKind.TheVariants.{AccessorProperty, Arguments, ArrayLiteral, ArrayPattern, Assignment, AsyncFunction, AsyncNameArrow, Attributes, BareImport, Binary, Block, CallPost, Chain, Class, Conditional, Declarator, DefaultAndClause, DefaultPattern, DoStatement, ExportAll, ExportDeclaration, ExportDefaultExpression, ExportDefaultFunction, ExportNames, ExportedName, ExpressionStatement, FieldMember, ForAwaitStatement, ForEachStatement, ForStatement, FromImport, Function, IfStatement, ImportCall, ImportMeta, KeyValue, LabelledStatement, MemberPost, MethodMember, Module, Name, NameArrow, NamePattern, NameProperty, NamedImports, Namespace, New, ObjectLiteral, ObjectPattern, OptionalPost, Parameters, Parenthesized, ParenthesizedArrow, PatternAssignment, PrivateIn, PrivateKey, RenamedImport, ReturnStatement, Script, Shorthand, Signature, Spread, SwitchStatement, Target, Template, TemplateParts, TryStatement, UnaryExpression, UpdatePostfix, UpdatePrefix, Using, UsingDeclaration, VariableDeclaration, VariableHead, Variables, WithStatement, WordKey, Yield}
+use Rattle.es_type_grammar.specs.declared.rows.NodeKind.TheVariants.{AccessorProperty, Arguments, ArrayLiteral, ArrayPattern, Assignment, AsyncFunction, AsyncNameArrow, Attributes, BareImport, Binary, Block, CallPost, Chain, Class, Conditional, Declarator, DefaultAndClause, DefaultClause, DefaultPattern, DeferCall, DeferImport, DoStatement, ExportAll, ExportDeclaration, ExportDefaultExpression, ExportDefaultFunction, ExportNames, ExportedName, ExpressionStatement, FieldMember, ForAwaitStatement, ForEachStatement, ForStatement, FromImport, Function, IfStatement, ImportCall, ImportMeta, KeyValue, LabelledStatement, MemberPost, MethodMember, Module, Name, NameArrow, NamePattern, NameProperty, NamedImports, Namespace, New, ObjectLiteral, ObjectPattern, OptionalPost, Parameters, Parenthesized, ParenthesizedArrow, PatternAssignment, PrivateIn, PrivateKey, RenamedImport, ReturnStatement, Script, Shorthand, Signature, SourceCall, SourceImport, Spread, SwitchStatement, Target, Template, TemplateParts, TryStatement, UnaryExpression, UpdatePostfix, UpdatePrefix, Using, UsingDeclaration, VariableDeclaration, VariableHead, Variables, WithStatement, WordKey, Yield}
 use Rattle.es_type_grammar.specs.TypeReader.{one, joined, paired, line}
 use Rattle.es_type_grammar.specs.ProgramReader.{read_program}
 use Rattle.es_type_grammar.specs.Words.{is_name, is_word, is_name_or_this, is_numeric, is_sign, is_accessor_word, is_near, begins_key}
-use Rattle.es_type_grammar.specs.Modules.{may_end, ended, word_or_str_in, names_in, attributes, attributes_ended, from_ended, opens_type_import, opens_type_name, type_word_in, is_renamed, is_no_type_as_as, import_specifier, named, has_comma, clause, entity, opens_equals, shows_require, opens_require, equals_in, required, opens_bare, import_, export_specifier, opens_type_export, opens_all, opens_exported_equals, opens_exported_require, opens_namespace, export_}
-use Rattle.es_type_grammar.specs.Expressions.{is_prefix, is_update, is_product, is_sum, is_equality, is_relation, is_assignment, is_property_name, joins, opens_greater, opens_right_shift, opens_right_assignment, begins_expression, continues_expression, follows_arrow_body, ends_expression, is_arrow, no_arrow, opens_plain_arrow, opens_async_arrow, opens_arrow, arrow_in, plain_arrow, opens_async_parenthesis, async_arrow, template, spread, array_literal, object_literal, is_no_arrow_head, opens_async_function, star_in, name_in, function, async_function, any_function, class_, is_literal_word, primary, opens_property, has_argument, import_call, is_module, import_meta, follows_super, base, arguments, begins_member, begins_post, member_post, optional_post, post, chain, callee, may_await, is_update_here, no_update_here, update, prefix, await_, unary, power, level, product, sum, opens_shift, shift, opens_relation, may_test, private_in, relation, equality, bit_and, bit_xor, bit_or, and_, no_mix, coalesce, binary, conditional, opens_pattern, opens_assignment, is_operand, yield_, assignment, expression, element}
+use Rattle.es_type_grammar.specs.Modules.{may_end, ended, word_or_str_in, names_in, attributes, attributes_ended, from_ended, opens_type_import, opens_type_name, type_word_in, is_renamed, is_no_type_as_as, import_specifier, named, has_comma, clause, entity, opens_equals, shows_require, opens_require, equals_in, required, opens_bare, opens_source_import, opens_defer_import, source_import, defer_import, import_, export_specifier, opens_type_export, opens_all, opens_exported_equals, opens_exported_require, opens_namespace, export_}
+use Rattle.es_type_grammar.specs.Expressions.{is_prefix, is_update, is_product, is_sum, is_equality, is_relation, is_assignment, is_property_name, joins, opens_greater, opens_right_shift, opens_right_assignment, begins_expression, is_arrow, no_arrow, opens_plain_arrow, opens_async_arrow, opens_arrow, arrow_in, plain_arrow, opens_async_parenthesis, async_arrow, template, spread, array_literal, object_literal, is_no_arrow_head, opens_async_function, star_in, name_in, function, async_function, any_function, class_, is_literal_word, primary, opens_property, has_argument, opens_source_call, opens_defer_call, import_arguments, import_call, source_call, defer_call, is_module, import_meta, import_base, follows_super, imported, base, arguments, begins_member, begins_post, member_post, optional_post, post, chain, callee, may_await, is_update_here, no_update_here, update, prefix, await_, unary, power, level, product, sum, opens_shift, shift, opens_relation, may_test, private_in, relation, equality, bit_and, bit_xor, bit_or, and_, no_mix, coalesce, binary, conditional, opens_pattern, opens_assignment, is_operand, yield_, assignment, expression, element}
 use Rattle.es_type_grammar.specs.Functions.{default_in, array_pattern, object_pattern, follows_pattern, opens_inner_pattern, target, bracket_pattern, inner_pattern, pattern, pattern_element, opens_value, pattern_property, is_parameter, parameters, parameter, signature, plain_key, key, opens_accessor, opens_async, is_plain_key, opens_star, opens_method, method_in, async_method_in, property}
 use Rattle.es_type_grammar.specs.Classes.{opens_static, opens_field_accessor, behind_static, is_plain_member, opens_static_block, static_in, value_in, member}
-use Rattle.es_type_grammar.specs.Statements.{expression_ended, condition_in, block, is_variable_word, ends_value, declarator, declarators, variables, opens_using, using_in, using_, opens_for, opens_for_await, is_each, opens_head_pattern, head, starts_using, starts_expression, start_in, for_, for_each, for_await, is_label_here, label_ended, is_value_here, return_, is_case, is_in_case, case_in, switch_, finally_in, try_, is_script, opens_label, begins_no_other, expression_statement, keyword_statement, declaration, statement}
+use Rattle.es_type_grammar.specs.Statements.{condition_in, block, is_variable_word, declarator, declarators, variables, opens_using, using_in, using_, opens_for, opens_for_await, is_each, opens_head_pattern, opens_initial, head_pattern, head, starts_using, starts_expression, start_in, for_, for_each, for_await, is_label_here, label_ended, is_value_here, return_, is_case, is_in_case, case_in, switch_, finally_in, try_, is_script, opens_label, begins_no_other, expression_statement, keyword_statement, declaration, statement}
 use Rattle.es_type_grammar.specs.Items.{opens_import, opens_default, opens_default_function, opens_default_class, export_default, opens_declaration, export_item, item, shebang_in, module_, script}
 use Rattle.es_type_grammar.specs.Table.{rule}
 
@@ -113,22 +113,24 @@ unfolding read_program read_row read_turns read_wraps most_nodes is_name is_word
     is_accessor_word is_near begins_key may_end ended word_or_str_in names_in attributes attributes_ended from_ended
     opens_type_import opens_type_name type_word_in is_renamed is_no_type_as_as import_specifier named has_comma clause
     entity opens_equals shows_require opens_require equals_in required opens_bare import_ export_specifier
+    opens_source_import opens_defer_import source_import defer_import
     opens_type_export opens_all opens_exported_equals opens_exported_require opens_namespace export_ is_prefix
     is_update is_product is_sum is_equality is_relation is_assignment is_property_name joins opens_greater
-    opens_right_shift opens_right_assignment begins_expression continues_expression follows_arrow_body ends_expression
+    opens_right_shift opens_right_assignment begins_expression
     is_arrow no_arrow opens_plain_arrow opens_async_arrow opens_arrow arrow_in plain_arrow opens_async_parenthesis
     async_arrow template spread array_literal object_literal is_no_arrow_head opens_async_function star_in name_in
     function async_function any_function class_ is_literal_word primary opens_property has_argument import_call
-    is_module import_meta follows_super base arguments begins_member begins_post member_post optional_post post chain
+    is_module import_meta follows_super imported base arguments begins_member begins_post member_post optional_post
+    post chain import_base opens_source_call opens_defer_call import_arguments source_call defer_call
     callee may_await is_update_here no_update_here update prefix await_ unary power level product sum opens_shift
     shift opens_relation may_test private_in relation equality bit_and bit_xor bit_or and_ no_mix coalesce binary
     conditional opens_pattern opens_assignment is_operand yield_ assignment expression element default_in
     array_pattern object_pattern follows_pattern opens_inner_pattern target bracket_pattern inner_pattern pattern
     pattern_element opens_value pattern_property is_parameter parameters parameter signature plain_key key
     opens_accessor opens_async is_plain_key opens_star opens_method method_in async_method_in property opens_static
-    opens_field_accessor behind_static is_plain_member opens_static_block static_in value_in member expression_ended
-    condition_in block is_variable_word ends_value declarator declarators variables opens_using using_in using_
-    opens_for opens_for_await is_each opens_head_pattern head starts_using starts_expression start_in for_ for_each
+    opens_field_accessor behind_static is_plain_member opens_static_block static_in value_in member
+    condition_in block is_variable_word declarator declarators variables opens_using using_in using_
+    opens_for opens_for_await is_each opens_head_pattern opens_initial head_pattern head starts_using starts_expression start_in for_ for_each
     for_await is_label_here label_ended is_value_here return_ is_case is_in_case case_in switch_ finally_in try_
     is_script opens_label begins_no_other expression_statement keyword_statement declaration statement opens_import
     opens_default opens_default_function opens_default_class export_default opens_declaration export_item item
@@ -202,22 +204,24 @@ unfolding read_program read_row read_turns read_wraps most_nodes is_name is_word
     is_accessor_word is_near begins_key may_end ended word_or_str_in names_in attributes attributes_ended from_ended
     opens_type_import opens_type_name type_word_in is_renamed is_no_type_as_as import_specifier named has_comma clause
     entity opens_equals shows_require opens_require equals_in required opens_bare import_ export_specifier
+    opens_source_import opens_defer_import source_import defer_import
     opens_type_export opens_all opens_exported_equals opens_exported_require opens_namespace export_ is_prefix
     is_update is_product is_sum is_equality is_relation is_assignment is_property_name joins opens_greater
-    opens_right_shift opens_right_assignment begins_expression continues_expression follows_arrow_body ends_expression
+    opens_right_shift opens_right_assignment begins_expression
     is_arrow no_arrow opens_plain_arrow opens_async_arrow opens_arrow arrow_in plain_arrow opens_async_parenthesis
     async_arrow template spread array_literal object_literal is_no_arrow_head opens_async_function star_in name_in
     function async_function any_function class_ is_literal_word primary opens_property has_argument import_call
-    is_module import_meta follows_super base arguments begins_member begins_post member_post optional_post post chain
+    is_module import_meta follows_super imported base arguments begins_member begins_post member_post optional_post
+    post chain import_base opens_source_call opens_defer_call import_arguments source_call defer_call
     callee may_await is_update_here no_update_here update prefix await_ unary power level product sum opens_shift
     shift opens_relation may_test private_in relation equality bit_and bit_xor bit_or and_ no_mix coalesce binary
     conditional opens_pattern opens_assignment is_operand yield_ assignment expression element default_in
     array_pattern object_pattern follows_pattern opens_inner_pattern target bracket_pattern inner_pattern pattern
     pattern_element opens_value pattern_property is_parameter parameters parameter signature plain_key key
     opens_accessor opens_async is_plain_key opens_star opens_method method_in async_method_in property opens_static
-    opens_field_accessor behind_static is_plain_member opens_static_block static_in value_in member expression_ended
-    condition_in block is_variable_word ends_value declarator declarators variables opens_using using_in using_
-    opens_for opens_for_await is_each opens_head_pattern head starts_using starts_expression start_in for_ for_each
+    opens_field_accessor behind_static is_plain_member opens_static_block static_in value_in member
+    condition_in block is_variable_word declarator declarators variables opens_using using_in using_
+    opens_for opens_for_await is_each opens_head_pattern opens_initial head_pattern head starts_using starts_expression start_in for_ for_each
     for_await is_label_here label_ended is_value_here return_ is_case is_in_case case_in switch_ finally_in try_
     is_script opens_label begins_no_other expression_statement keyword_statement declaration statement opens_import
     opens_default opens_default_function opens_default_class export_default opens_declaration export_item item
@@ -344,22 +348,24 @@ unfolding read_program read_row read_turns read_wraps most_nodes is_name is_word
     is_accessor_word is_near begins_key may_end ended word_or_str_in names_in attributes attributes_ended from_ended
     opens_type_import opens_type_name type_word_in is_renamed is_no_type_as_as import_specifier named has_comma clause
     entity opens_equals shows_require opens_require equals_in required opens_bare import_ export_specifier
+    opens_source_import opens_defer_import source_import defer_import
     opens_type_export opens_all opens_exported_equals opens_exported_require opens_namespace export_ is_prefix
     is_update is_product is_sum is_equality is_relation is_assignment is_property_name joins opens_greater
-    opens_right_shift opens_right_assignment begins_expression continues_expression follows_arrow_body ends_expression
+    opens_right_shift opens_right_assignment begins_expression
     is_arrow no_arrow opens_plain_arrow opens_async_arrow opens_arrow arrow_in plain_arrow opens_async_parenthesis
     async_arrow template spread array_literal object_literal is_no_arrow_head opens_async_function star_in name_in
     function async_function any_function class_ is_literal_word primary opens_property has_argument import_call
-    is_module import_meta follows_super base arguments begins_member begins_post member_post optional_post post chain
+    is_module import_meta follows_super imported base arguments begins_member begins_post member_post optional_post
+    post chain import_base opens_source_call opens_defer_call import_arguments source_call defer_call
     callee may_await is_update_here no_update_here update prefix await_ unary power level product sum opens_shift
     shift opens_relation may_test private_in relation equality bit_and bit_xor bit_or and_ no_mix coalesce binary
     conditional opens_pattern opens_assignment is_operand yield_ assignment expression element default_in
     array_pattern object_pattern follows_pattern opens_inner_pattern target bracket_pattern inner_pattern pattern
     pattern_element opens_value pattern_property is_parameter parameters parameter signature plain_key key
     opens_accessor opens_async is_plain_key opens_star opens_method method_in async_method_in property opens_static
-    opens_field_accessor behind_static is_plain_member opens_static_block static_in value_in member expression_ended
-    condition_in block is_variable_word ends_value declarator declarators variables opens_using using_in using_
-    opens_for opens_for_await is_each opens_head_pattern head starts_using starts_expression start_in for_ for_each
+    opens_field_accessor behind_static is_plain_member opens_static_block static_in value_in member
+    condition_in block is_variable_word declarator declarators variables opens_using using_in using_
+    opens_for opens_for_await is_each opens_head_pattern opens_initial head_pattern head starts_using starts_expression start_in for_ for_each
     for_await is_label_here label_ended is_value_here return_ is_case is_in_case case_in switch_ finally_in try_
     is_script opens_label begins_no_other expression_statement keyword_statement declaration statement opens_import
     opens_default opens_default_function opens_default_class export_default opens_declaration export_item item
@@ -409,22 +415,24 @@ unfolding read_program read_row read_turns read_wraps most_nodes is_name is_word
     is_accessor_word is_near begins_key may_end ended word_or_str_in names_in attributes attributes_ended from_ended
     opens_type_import opens_type_name type_word_in is_renamed is_no_type_as_as import_specifier named has_comma clause
     entity opens_equals shows_require opens_require equals_in required opens_bare import_ export_specifier
+    opens_source_import opens_defer_import source_import defer_import
     opens_type_export opens_all opens_exported_equals opens_exported_require opens_namespace export_ is_prefix
     is_update is_product is_sum is_equality is_relation is_assignment is_property_name joins opens_greater
-    opens_right_shift opens_right_assignment begins_expression continues_expression follows_arrow_body ends_expression
+    opens_right_shift opens_right_assignment begins_expression
     is_arrow no_arrow opens_plain_arrow opens_async_arrow opens_arrow arrow_in plain_arrow opens_async_parenthesis
     async_arrow template spread array_literal object_literal is_no_arrow_head opens_async_function star_in name_in
     function async_function any_function class_ is_literal_word primary opens_property has_argument import_call
-    is_module import_meta follows_super base arguments begins_member begins_post member_post optional_post post chain
+    is_module import_meta follows_super imported base arguments begins_member begins_post member_post optional_post
+    post chain import_base opens_source_call opens_defer_call import_arguments source_call defer_call
     callee may_await is_update_here no_update_here update prefix await_ unary power level product sum opens_shift
     shift opens_relation may_test private_in relation equality bit_and bit_xor bit_or and_ no_mix coalesce binary
     conditional opens_pattern opens_assignment is_operand yield_ assignment expression element default_in
     array_pattern object_pattern follows_pattern opens_inner_pattern target bracket_pattern inner_pattern pattern
     pattern_element opens_value pattern_property is_parameter parameters parameter signature plain_key key
     opens_accessor opens_async is_plain_key opens_star opens_method method_in async_method_in property opens_static
-    opens_field_accessor behind_static is_plain_member opens_static_block static_in value_in member expression_ended
-    condition_in block is_variable_word ends_value declarator declarators variables opens_using using_in using_
-    opens_for opens_for_await is_each opens_head_pattern head starts_using starts_expression start_in for_ for_each
+    opens_field_accessor behind_static is_plain_member opens_static_block static_in value_in member
+    condition_in block is_variable_word declarator declarators variables opens_using using_in using_
+    opens_for opens_for_await is_each opens_head_pattern opens_initial head_pattern head starts_using starts_expression start_in for_ for_each
     for_await is_label_here label_ended is_value_here return_ is_case is_in_case case_in switch_ finally_in try_
     is_script opens_label begins_no_other expression_statement keyword_statement declaration statement opens_import
     opens_default opens_default_function opens_default_class export_default opens_declaration export_item item
@@ -488,31 +496,85 @@ items :
     × (read_program lang.Es mode.Module (one k.ImportWord ∷ one k.Dot ∷ one k.MetaWord ∷ []) ≡ gives (node Module 0 3
     (cons nil (cons (turn (cons (node ExpressionStatement 0 3 (cons (node ImportMeta 0 3 (mark 0 (mark 1 (mark 2
     nil)))) (cons nil nil))) nil) nil) nil))) 3)
+    -- import source a from "b"
+    × (read_program lang.Es mode.Module (one k.ImportWord ∷ one k.SourceWord ∷ one k.Name ∷ one k.FromWord ∷ one
+    k.Str ∷ []) ≡ gives (node Module 0 5 (cons nil (cons (turn (cons (node SourceImport 0 5 (mark 0 (mark 1 (cons
+    (leaf as_name 2) (mark 3 (cons (leaf as_str 4) (cons nil (cons nil nil)))))))) nil) nil) nil))) 5)
+    -- import source from "a"
+    × (read_program lang.Es mode.Module (one k.ImportWord ∷ one k.SourceWord ∷ one k.FromWord ∷ one k.Str ∷ []) ≡
+    gives (node Module 0 4 (cons nil (cons (turn (cons (node FromImport 0 4 (mark 0 (cons nil (cons (node
+    DefaultClause 1 2 (cons (leaf as_name 1) nil)) (mark 2 (cons (leaf as_str 3) (cons nil (cons nil nil))))))))
+    nil) nil) nil))) 4)
+    -- import source from from "a"
+    × (read_program lang.Es mode.Module (one k.ImportWord ∷ one k.SourceWord ∷ one k.FromWord ∷ one k.FromWord ∷ one
+    k.Str ∷ []) ≡ gives (node Module 0 5 (cons nil (cons (turn (cons (node SourceImport 0 5 (mark 0 (mark 1 (cons
+    (leaf as_name 2) (mark 3 (cons (leaf as_str 4) (cons nil (cons nil nil)))))))) nil) nil) nil))) 5)
+    -- import defer * as a from "b"
+    × (read_program lang.Es mode.Module (one k.ImportWord ∷ one k.DeferWord ∷ one k.Star ∷ one k.AsWord ∷ one k.Name
+    ∷ one k.FromWord ∷ one k.Str ∷ []) ≡ gives (node Module 0 7 (cons nil (cons (turn (cons (node DeferImport 0 7
+    (mark 0 (mark 1 (mark 2 (mark 3 (cons (leaf as_name 4) (mark 5 (cons (leaf as_str 6) (cons nil (cons nil
+    nil)))))))))) nil) nil) nil))) 7)
+    -- import defer from "a"
+    × (read_program lang.Es mode.Module (one k.ImportWord ∷ one k.DeferWord ∷ one k.FromWord ∷ one k.Str ∷ []) ≡
+    gives (node Module 0 4 (cons nil (cons (turn (cons (node FromImport 0 4 (mark 0 (cons nil (cons (node
+    DefaultClause 1 2 (cons (leaf as_name 1) nil)) (mark 2 (cons (leaf as_str 3) (cons nil (cons nil nil))))))))
+    nil) nil) nil))) 4)
+    -- import . source ( a )
+    × (read_program lang.Es mode.Module (one k.ImportWord ∷ one k.Dot ∷ one k.SourceWord ∷ paired k.OpenParen 5 ∷
+    one k.Name ∷ paired k.CloseParen 3 ∷ []) ≡ gives (node Module 0 6 (cons nil (cons (turn (cons (node
+    ExpressionStatement 0 6 (cons (node SourceCall 0 6 (mark 0 (mark 1 (mark 2 (mark 3 (cons (node Name 4 5 (cons
+    (leaf as_name 4) nil)) (cons nil (cons nil (mark 5 nil))))))))) (cons nil nil))) nil) nil) nil))) 6)
+    -- import . defer ( a , b )
+    × (read_program lang.Es mode.Module (one k.ImportWord ∷ one k.Dot ∷ one k.DeferWord ∷ paired k.OpenParen 7 ∷ one
+    k.Name ∷ one k.Comma ∷ one k.Name ∷ paired k.CloseParen 3 ∷ []) ≡ gives (node Module 0 8 (cons nil (cons (turn
+    (cons (node ExpressionStatement 0 8 (cons (node DeferCall 0 8 (mark 0 (mark 1 (mark 2 (mark 3 (cons (node Name 4
+    5 (cons (leaf as_name 4) nil)) (cons (mark 5 (cons (node Name 6 7 (cons (leaf as_name 6) nil)) nil)) (cons nil
+    (mark 7 nil))))))))) (cons nil nil))) nil) nil) nil))) 8)
     -- nothing
     × (read_program lang.Es mode.Module ([]) ≡ gives (node Module 0 0 (cons nil (cons nil nil))) 0)
 unfolding read_program read_row read_turns read_wraps most_nodes is_name is_word is_name_or_this is_numeric is_sign
     is_accessor_word is_near begins_key may_end ended word_or_str_in names_in attributes attributes_ended from_ended
     opens_type_import opens_type_name type_word_in is_renamed is_no_type_as_as import_specifier named has_comma clause
     entity opens_equals shows_require opens_require equals_in required opens_bare import_ export_specifier
+    opens_source_import opens_defer_import source_import defer_import
     opens_type_export opens_all opens_exported_equals opens_exported_require opens_namespace export_ is_prefix
     is_update is_product is_sum is_equality is_relation is_assignment is_property_name joins opens_greater
-    opens_right_shift opens_right_assignment begins_expression continues_expression follows_arrow_body ends_expression
+    opens_right_shift opens_right_assignment begins_expression
     is_arrow no_arrow opens_plain_arrow opens_async_arrow opens_arrow arrow_in plain_arrow opens_async_parenthesis
     async_arrow template spread array_literal object_literal is_no_arrow_head opens_async_function star_in name_in
     function async_function any_function class_ is_literal_word primary opens_property has_argument import_call
-    is_module import_meta follows_super base arguments begins_member begins_post member_post optional_post post chain
+    is_module import_meta follows_super imported base arguments begins_member begins_post member_post optional_post
+    post chain import_base opens_source_call opens_defer_call import_arguments source_call defer_call
     callee may_await is_update_here no_update_here update prefix await_ unary power level product sum opens_shift
     shift opens_relation may_test private_in relation equality bit_and bit_xor bit_or and_ no_mix coalesce binary
     conditional opens_pattern opens_assignment is_operand yield_ assignment expression element default_in
     array_pattern object_pattern follows_pattern opens_inner_pattern target bracket_pattern inner_pattern pattern
     pattern_element opens_value pattern_property is_parameter parameters parameter signature plain_key key
     opens_accessor opens_async is_plain_key opens_star opens_method method_in async_method_in property opens_static
-    opens_field_accessor behind_static is_plain_member opens_static_block static_in value_in member expression_ended
-    condition_in block is_variable_word ends_value declarator declarators variables opens_using using_in using_
-    opens_for opens_for_await is_each opens_head_pattern head starts_using starts_expression start_in for_ for_each
+    opens_field_accessor behind_static is_plain_member opens_static_block static_in value_in member
+    condition_in block is_variable_word declarator declarators variables opens_using using_in using_
+    opens_for opens_for_await is_each opens_head_pattern opens_initial head_pattern head starts_using starts_expression start_in for_ for_each
     for_await is_label_here label_ended is_value_here return_ is_case is_in_case case_in switch_ finally_in try_
     is_script opens_label begins_no_other expression_statement keyword_statement declaration statement opens_import
     opens_default opens_default_function opens_default_class export_default opens_declaration export_item item
     shebang_in module_ script rule
-items =
-    (refl, refl, refl, refl, refl, refl, refl, refl, refl, refl, refl)
+items = (
+  refl,
+  refl,
+  refl,
+  refl,
+  refl,
+  refl,
+  refl,
+  refl,
+  refl,
+  refl,
+  refl,
+  refl,
+  refl,
+  refl,
+  refl,
+  refl,
+  refl,
+  refl,
+)

@@ -10,7 +10,7 @@ use Rattle.es_type_grammar.specs.declared.rows.Row.TheVariants.{BlockRow, KeyRow
 use Rattle.es_type_grammar.specs.declared.rows.NodeKind.{NodeKind}
 use Rattle.es_type_grammar.specs.declared.rows.NodeKind.TheVariants.{EmptyMember, StaticBlock, AccessorMember, AsyncMember, GeneratorMember, MethodMember, FieldMember, AccessorField}
 use Rattle.es_type_grammar.specs.Modules.{ended}
-use Rattle.es_type_grammar.specs.Expressions.{star_in, ends_expression}
+use Rattle.es_type_grammar.specs.Expressions.{star_in}
 use Rattle.es_type_grammar.specs.Functions.{starts_key, opens_accessor, opens_async, opens_star, opens_method, method_in, async_method_in}
 
 -- `static` is a modifier before a key, `*` or `{`
@@ -42,9 +42,9 @@ opens_static_block K at = is k.StaticWord (seen K at) && is k.OpenBrace (seen K 
 unfoldable pub static_in : Rhs Row → Rhs Row
 static_in f = opt (by_predicate opens_static) (tok as_there (only k.StaticWord) done) f
 
--- '=' Assign before END
+-- ('=' Assign)?, and what stands behind it
 unfoldable pub value_in : Context → Rhs Row → Rhs Row
-value_in c f = opt (greedy (is k.Equal)) (punct k.Equal (row (AssignmentRow c) (where_ ends_expression done))) f
+value_in c f = opt (greedy (is k.Equal)) (punct k.Equal (row (AssignmentRow c) done)) f
 
 -- Member: ';' | 'static' Block | 'static'? ('get' | 'set' | 'async'? '*'?) Key Sig Block | 'static'? 'accessor'? Key
 -- ('=' Assign)? END

@@ -1,15 +1,15 @@
 -- Expressions (ECMA-262, "ECMAScript Language: Expressions"), templates, and what may stand behind them.
-use Rattle.std.specs.Prelude.{ℕ, ◌+◌, ◌-◌, Bool, true, false, not, ◌&&◌, ◌||◌, List, Option, Some, None, slice_get}
+use Rattle.std.specs.Prelude.{ℕ, ◌+◌, Bool, true, false, not, ◌&&◌, ◌||◌, List, Option, Some, None, slice_get}
 use Rattle.es_token.specs.declared.token.TokenKind.{TokenKind}
 use Rattle.es_token.specs.declared.token.TokenKind.TheVariants as k
-use Rattle.es_tree.specs.Key.{Key, TokenTest, seen, same_kind, has_kind, is, is_end}
+use Rattle.es_tree.specs.Key.{Key, TokenTest, seen, same_kind, has_kind, is}
 use Rattle.es_tree.specs.Productions.{as_str, as_name, as_raw, as_kind, as_there, by_lookahead, greedy, by_predicate, Predicate, Rhs, done, tok, punct, row, opt, many, alt, when_, where_, Production, make, choose, pick, wrap}
-use Rattle.es_type_grammar.specs.Words.{only, is_between, is_name, is_numeric, is_near, is_other, partner_of, closes_before}
+use Rattle.es_type_grammar.specs.Words.{only, is_between, is_name, is_numeric, is_near, is_other, closes_before}
 use Rattle.es_type_grammar.specs.declared.rows.Context.{Context}
 use Rattle.es_type_grammar.specs.declared.rows.Row.{Row}
 use Rattle.es_type_grammar.specs.declared.rows.Row.TheVariants.{BlockRow, SignatureRow, ParametersRow, PatternRow, PropertyRow, ExpressionRow, AssignmentRow, AndRow, BitOrRow, BitXorRow, BitAndRow, EqualityRow, RelationRow, ShiftRow, SumRow, ProductRow, PowerRow, UnaryRow, ChainRow, CalleeRow, PostRow, MemberPostRow, ArgumentsRow, ElementRow, TemplateRow, MemberRow}
 use Rattle.es_type_grammar.specs.declared.rows.NodeKind.{NodeKind}
-use Rattle.es_type_grammar.specs.declared.rows.NodeKind.TheVariants.{AsyncFunction, Function, Class, Sequence, Yield, PatternAssignment, Assignment, NameArrow, ParenthesizedArrow, AsyncNameArrow, AsyncParenthesizedArrow, Conditional, Binary, PrivateIn, UnaryExpression, AwaitExpression, UpdatePrefix, UpdatePostfix, Chain, MemberPost, IndexPost, CallPost, TemplatePost, OptionalPost, Super, ImportCall, ImportMeta, NewTarget, New, Arguments, Name, Word, Number, Str, RegExp, Template, TemplateParts, Parenthesized, ArrayLiteral, ObjectLiteral, Spread}
+use Rattle.es_type_grammar.specs.declared.rows.NodeKind.TheVariants.{AsyncFunction, Function, Class, Sequence, Yield, PatternAssignment, Assignment, NameArrow, ParenthesizedArrow, AsyncNameArrow, AsyncParenthesizedArrow, Conditional, Binary, PrivateIn, UnaryExpression, AwaitExpression, UpdatePrefix, UpdatePostfix, Chain, MemberPost, IndexPost, CallPost, TemplatePost, OptionalPost, Super, ImportCall, SourceCall, DeferCall, ImportMeta, NewTarget, New, Arguments, Name, Word, Number, Str, RegExp, Template, TemplateParts, Parenthesized, ArrayLiteral, ObjectLiteral, Spread}
 
 -- the same place, outside the head of a `for`, and inside one, and in an async function
 abbrev pub outside : Context → Context
@@ -88,31 +88,6 @@ begins_expression x =
     || (is k.NullWord x || (is k.TrueWord x || (is k.FalseWord x || (is k.FunctionWord x || (is k.ClassWord x
     || (is k.SuperWord x || (is k.ImportWord x || (is k.NewWord x || (has_kind is_prefix x || (has_kind is_update x
     || (is k.AwaitWord x || (is k.YieldWord x || is k.PrivateName x)))))))))))))))))))))
-
--- a token that would go on with the expression before it
-unfoldable pub continues_expression : TokenTest
-continues_expression x =
-    is k.OpenParen x || (is k.OpenBracket x || (is k.Dot x || (is k.QuestionDot x || (is k.Comma x || (is k.Question x
-    || (is k.Arrow x || (is k.TemplateWhole x || (is k.TemplateHead x || (is k.StarStar x || (is k.Greater x
-    || (has_kind is_assignment x || (has_kind is_relation x || (has_kind is_equality x || (has_kind is_sum x
-    || (has_kind is_product x || (is k.LessLess x || (is k.Ampersand x || (is k.Bar x || (is k.Caret x
-    || (is k.AmpersandAmpersand x || (is k.BarBar x || is k.QuestionQuestion x)))))))))))))))))))))
-
--- the token before is the `}` of a body whose `{` directly follows `=>`
-abbrev pub is_body : List Key → Option ℕ → Bool
-is_body K (Some opener) = is k.Arrow (seen K (opener - 1))
-is_body K None = false
-
-unfoldable pub follows_arrow_body : Predicate
-follows_arrow_body K at = is k.CloseBrace (seen K (at - 1)) && is_body K (partner_of (slice_get K (at - 1)))
-
--- behind an expression a statement may end here, where the next token doesn't go on with it; behind a body of an arrow
--- only `,` would
-unfoldable pub ends_expression : Predicate
-ends_expression K at =
-    (is k.Semicolon (seen K at) || (is k.CloseBrace (seen K at) || is_end (seen K at)))
-    || ((follows_arrow_body K at && is_other k.Comma (seen K at))
-    || (not (follows_arrow_body K at) && not (continues_expression (seen K at))))
 
 -- ---- arrows
 
@@ -264,16 +239,35 @@ primary c =
 unfoldable pub opens_property : Predicate
 opens_property K at = is k.Dot (seen K (at + 1))
 
+-- `source`, or `defer`, stands behind `import` and `.`
+unfoldable pub opens_source_call : Predicate
+opens_source_call K at = is k.Dot (seen K (at + 1)) && is k.SourceWord (seen K (at + 2))
+
+unfoldable pub opens_defer_call : Predicate
+opens_defer_call K at = is k.Dot (seen K (at + 1)) && is k.DeferWord (seen K (at + 2))
+
 -- a further argument of `import()`: a `,` that isn't the last one
 unfoldable pub has_argument : Predicate
 has_argument K at = is k.Comma (seen K at) && is_other k.CloseParen (seen K (at + 1))
 
+-- '(' Assign (',' Assign)? ','? ')'
+unfoldable pub import_arguments : Context → Rhs Row
+import_arguments c =
+    punct k.OpenParen (row (AssignmentRow (outside c))
+    (opt (by_predicate has_argument) (punct k.Comma (row (AssignmentRow (outside c)) done))
+    (opt (greedy (is k.Comma)) (punct k.Comma done) (punct k.CloseParen done))))
+
 -- 'import' '(' Assign (',' Assign)? ','? ')'
 unfoldable pub import_call : Context → Production Row NodeKind
-import_call c =
-    make ImportCall (punct k.ImportWord (punct k.OpenParen (row (AssignmentRow (outside c))
-    (opt (by_predicate has_argument) (punct k.Comma (row (AssignmentRow (outside c)) done))
-    (opt (greedy (is k.Comma)) (punct k.Comma done) (punct k.CloseParen done))))))
+import_call c = make ImportCall (punct k.ImportWord (import_arguments c))
+
+-- 'import' '.' 'source' '(' Assign (',' Assign)? ','? ')'
+unfoldable pub source_call : Context → Production Row NodeKind
+source_call c = make SourceCall (punct k.ImportWord (punct k.Dot (punct k.SourceWord (import_arguments c))))
+
+-- 'import' '.' 'defer' '(' Assign (',' Assign)? ','? ')'
+unfoldable pub defer_call : Context → Production Row NodeKind
+defer_call c = make DeferCall (punct k.ImportWord (punct k.Dot (punct k.DeferWord (import_arguments c))))
 
 unfoldable pub is_module : Context → Predicate
 is_module c K at = not c.script
@@ -285,11 +279,23 @@ import_meta c = make ImportMeta (where_ (is_module c) (punct k.ImportWord (punct
 unfoldable pub follows_super : TokenTest
 follows_super x = is k.Dot x || (is k.OpenBracket x || is k.OpenParen x)
 
--- Base: Prim | 'super' | 'import' '(' .. ')' | 'import' '.' 'meta' | 'new' '.' 'target' | 'new' Chain1 Args?
-unfoldable pub base : Context → Production Row NodeKind
-base c =
+-- 'import' '(' .. ')' | 'import' '.' ('source' | 'defer') '(' .. ')' | 'import' '.' 'meta'
+unfoldable pub import_base : Context → Production Row NodeKind
+import_base c =
+    pick opens_source_call (source_call c)
+    (pick opens_defer_call (defer_call c) (pick opens_property (import_meta c) (import_call c)))
+
+-- behind `new` (false) an import is no call (ECMA-262, "Left-Hand-Side Expressions")
+unfoldable pub imported : Bool → Context → Production Row NodeKind
+imported true c = import_base c
+imported false c = import_meta c
+
+-- Base: Prim | 'super' | 'import' '(' .. ')' | 'import' '.' 'meta' | 'import' '.' ('source' | 'defer') '(' .. ')'
+--       | 'new' '.' 'target' | 'new' Chain1 Args?, import calls not behind `new`
+unfoldable pub base : Bool → Context → Production Row NodeKind
+base called c =
     choose (is k.SuperWord) (make Super (tok as_there (only k.SuperWord) (when_ follows_super done)))
-    (choose (is k.ImportWord) (pick opens_property (import_meta c) (import_call c))
+    (choose (is k.ImportWord) (imported called c)
     (choose (is k.NewWord)
     (pick opens_property (make NewTarget (punct k.NewWord (punct k.Dot (punct k.TargetWord done))))
     (make New (punct k.NewWord (row (CalleeRow c) (opt (greedy (is k.OpenParen)) (row (ArgumentsRow c) done) done)))))
@@ -334,12 +340,12 @@ post c =
 -- Chain: Base Post*
 unfoldable pub chain : Context → Production Row NodeKind
 chain c =
-    wrap Chain (base c) (greedy begins_post) (row (PostRow c) (many (greedy begins_post) (row (PostRow c) done) done))
+    wrap Chain (base true c) (greedy begins_post) (row (PostRow c) (many (greedy begins_post) (row (PostRow c) done) done))
 
--- Chain1: a Chain with no Args and no `?.`
+-- Chain1: a Chain with no Args, no `?.` and no import call at its front
 unfoldable pub callee : Context → Production Row NodeKind
 callee c =
-    wrap Chain (base c) (greedy begins_member)
+    wrap Chain (base false c) (greedy begins_member)
     (row (MemberPostRow c) (many (greedy begins_member) (row (MemberPostRow c) done) done))
 
 -- ---- operators

@@ -10,9 +10,9 @@ use Rattle.es_type_grammar.specs.declared.rows.Row.{Row}
 use Rattle.es_type_grammar.specs.declared.rows.Row.TheVariants.{ItemRow, StatementRow, DeclarationRow, FunctionRow, ClassRow, AssignmentRow}
 use Rattle.es_type_grammar.specs.declared.rows.NodeKind.{NodeKind}
 use Rattle.es_type_grammar.specs.declared.rows.NodeKind.TheVariants.{ExportDefaultFunction, ExportDefaultClass, ExportDefaultExpression, ExportDeclaration, Module, Script}
-use Rattle.es_type_grammar.specs.Modules.{import_, export_}
+use Rattle.es_type_grammar.specs.Modules.{ended, import_, export_}
 use Rattle.es_type_grammar.specs.Expressions.{opens_async_function}
-use Rattle.es_type_grammar.specs.Statements.{is_variable_word, opens_using, statement, expression_ended}
+use Rattle.es_type_grammar.specs.Statements.{is_variable_word, opens_using, statement}
 
 -- at the outside of a module, and of a script
 abbrev pub in_module : Context
@@ -44,7 +44,7 @@ export_default =
     (pick opens_default_class
     (make ExportDefaultClass (punct k.ExportWord (punct k.DefaultWord (row (ClassRow false in_module) done))))
     (make ExportDefaultExpression (punct k.ExportWord (punct k.DefaultWord (row
-    (AssignmentRow in_module) expression_ended)))))
+    (AssignmentRow in_module) ended)))))
 
 -- behind `export` stands a declaration
 unfoldable pub opens_declaration : Predicate

@@ -9,7 +9,7 @@ use Rattle.es_type_grammar.specs.Words.{only, is_name, is_word, is_name_or_this,
 use Rattle.es_type_grammar.specs.declared.rows.Row.{Row}
 use Rattle.es_type_grammar.specs.declared.rows.Row.TheVariants.{ClauseRow, NamedRow, ImportSpecifierRow, ExportSpecifierRow, AttributesRow, EntityRow}
 use Rattle.es_type_grammar.specs.declared.rows.NodeKind.{NodeKind}
-use Rattle.es_type_grammar.specs.declared.rows.NodeKind.TheVariants.{BareImport, FromImport, RequireImport, EntityImport, ExportedRequireImport, ExportedEntityImport, DefaultClause, DefaultAndClause, Namespace, NamedImports, RenamedImport, ImportedName, ExportAll, ExportNames, ExportNamespace, ExportedName, Attributes, Entity}
+use Rattle.es_type_grammar.specs.declared.rows.NodeKind.TheVariants.{BareImport, FromImport, SourceImport, DeferImport, RequireImport, EntityImport, ExportedRequireImport, ExportedEntityImport, DefaultClause, DefaultAndClause, Namespace, NamedImports, RenamedImport, ImportedName, ExportAll, ExportNames, ExportNamespace, ExportedName, Attributes, Entity}
 
 -- the language is TypeScript
 abbrev pub is_typescript : Lang → Bool
@@ -150,8 +150,30 @@ required = punct k.RequireWord (punct k.OpenParen (tok as_str (only k.Str) (punc
 unfoldable pub opens_bare : Predicate
 opens_bare K at = is k.Str (seen K (at + 1))
 
+-- directly behind `import`, `source` is the phase before a name, except `from` with a Str after it
+unfoldable pub opens_source_import : Predicate
+opens_source_import K at =
+    is k.SourceWord (seen K (at + 1)) && (has_kind is_name (seen K (at + 2))
+    && not (is k.FromWord (seen K (at + 2)) && is k.Str (seen K (at + 3))))
+
+-- there `defer` is the phase before `*`
+unfoldable pub opens_defer_import : Predicate
+opens_defer_import K at = is k.DeferWord (seen K (at + 1)) && is k.Star (seen K (at + 2))
+
+-- 'import' 'source' Name 'from' Str Attrs? END
+unfoldable pub source_import : Production Row NodeKind
+source_import = make SourceImport (punct k.ImportWord (punct k.SourceWord (tok as_name is_name from_ended)))
+
+-- 'import' 'defer' '*' 'as' Name 'from' Str Attrs? END
+unfoldable pub defer_import : Production Row NodeKind
+defer_import =
+    make DeferImport (punct k.ImportWord (punct k.DeferWord (punct k.Star (punct k.AsWord (tok as_name is_name
+    from_ended)))))
+
 -- Import: 'import' Str Attrs? END | 'import' 'type'? Clause 'from' Str Attrs? END
 --         | TS 'import' 'type'? Name '=' ('require' '(' Str ')' | Entity) END
+--         | 'import' 'source' Name 'from' Str Attrs? END
+--         | 'import' 'defer' '*' 'as' Name 'from' Str Attrs? END
 unfoldable pub import_ : Lang → Production Row NodeKind
 import_ l =
     pick (opens_equals l)
@@ -159,7 +181,9 @@ import_ l =
     (make EntityImport (equals_in l (row EntityRow ended))))
     (pick opens_bare
     (make BareImport (punct k.ImportWord (tok as_str (only k.Str) attributes_ended)))
-    (make FromImport (punct k.ImportWord (type_word_in (opens_type_import l) (row (ClauseRow l) from_ended)))))
+    (pick opens_source_import source_import
+    (pick opens_defer_import defer_import
+    (make FromImport (punct k.ImportWord (type_word_in (opens_type_import l) (row (ClauseRow l) from_ended)))))))
 
 -- ---- exports
 

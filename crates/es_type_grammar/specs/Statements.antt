@@ -7,16 +7,12 @@ use Rattle.es_tree.specs.Productions.{as_name, as_kind, as_there, by_lookahead, 
 use Rattle.es_type_grammar.specs.Words.{only, is_name, is_near, is_other, partner_of, closes_before}
 use Rattle.es_type_grammar.specs.declared.rows.Context.{Context}
 use Rattle.es_type_grammar.specs.declared.rows.Row.{Row}
-use Rattle.es_type_grammar.specs.declared.rows.Row.TheVariants.{StatementRow, BlockRow, VariablesRow, DeclaratorRow, UsingRow, HeadRow, PatternRow, ExpressionRow, AssignmentRow}
+use Rattle.es_type_grammar.specs.declared.rows.Row.TheVariants.{StatementRow, BlockRow, VariablesRow, DeclaratorRow, UsingRow, HeadRow, HeadPatternRow, PatternRow, ExpressionRow, AssignmentRow}
 use Rattle.es_type_grammar.specs.declared.rows.NodeKind.{NodeKind}
-use Rattle.es_type_grammar.specs.declared.rows.NodeKind.TheVariants.{Block, EmptyStatement, ExpressionStatement, LabelledStatement, IfStatement, ForStatement, ForEachStatement, ForAwaitStatement, WhileStatement, DoStatement, ContinueStatement, BreakStatement, ReturnStatement, ThrowStatement, SwitchStatement, TryStatement, DebuggerStatement, WithStatement, VariableDeclaration, UsingDeclaration, Variables, Declarator, Using, VariableHead, UsingHead}
+use Rattle.es_type_grammar.specs.declared.rows.NodeKind.TheVariants.{Block, EmptyStatement, ExpressionStatement, LabelledStatement, IfStatement, ForStatement, ForEachStatement, ForAwaitStatement, WhileStatement, DoStatement, ContinueStatement, BreakStatement, ReturnStatement, ThrowStatement, SwitchStatement, TryStatement, DebuggerStatement, WithStatement, VariableDeclaration, UsingDeclaration, Variables, Declarator, DefaultPattern, Using, VariableHead, UsingHead}
 use Rattle.es_type_grammar.specs.Modules.{ended}
-use Rattle.es_type_grammar.specs.Expressions.{outside, in_head, begins_expression, ends_expression, opens_async_function, function, async_function, class_, may_await}
+use Rattle.es_type_grammar.specs.Expressions.{outside, in_head, begins_expression, opens_async_function, function, async_function, class_, may_await}
 use Rattle.es_type_grammar.specs.Functions.{target, pattern}
-
--- END behind an expression
-unfoldable pub expression_ended : Rhs Row
-expression_ended = where_ ends_expression ended
 
 -- '(' Expr ')', and what stands behind it
 unfoldable pub condition_in : Context → Rhs Row → Rhs Row
@@ -34,15 +30,11 @@ block c =
 unfoldable pub is_variable_word : TokenKind → Bool
 is_variable_word kind = same_kind kind k.VarWord || (same_kind kind k.LetWord || same_kind kind k.ConstWord)
 
--- behind a value END may stand, or a further declarator
-unfoldable pub ends_value : Predicate
-ends_value K at = is k.Comma (seen K at) || ends_expression K at
-
 -- Dtor: Pat ('=' Assign)?, without a node of its own where it is a pattern alone
 unfoldable pub declarator : Context → Production Row NodeKind
 declarator c =
     wrap Declarator (pattern false (outside c)) (greedy (is k.Equal))
-    (punct k.Equal (row (AssignmentRow c) (when_ (is_other k.Equal) (where_ ends_value done))))
+    (punct k.Equal (row (AssignmentRow c) (when_ (is_other k.Equal) done)))
 
 -- Dtor (',' Dtor)*
 unfoldable pub declarators : Context → Rhs Row
@@ -103,11 +95,25 @@ is_each x = is k.OfWord x || is k.InWord x
 unfoldable pub opens_head_pattern : Predicate
 opens_head_pattern K at = (is k.OpenBracket (seen K at) || is k.OpenBrace (seen K at)) && closes_before is_each K at
 
--- Head: ('var' | 'let' | 'const') Pat | ('await' ~)? 'using' ~ Name | Target
+-- in scripts `var` before a name and `=`: an initial value in the head of a `for` with `in` (ECMA-262, "Initializers in
+-- ForIn Statement Heads")
+unfoldable pub opens_initial : Context → Predicate
+opens_initial c K at =
+    c.script && (is k.VarWord (seen K (at - 1)) && (has_kind is_name (seen K at) && is k.Equal (seen K (at + 1))))
+
+-- Pat | in scripts, behind 'var': Name '=' Assign, before `in`
+unfoldable pub head_pattern : Context → Production Row NodeKind
+head_pattern c =
+    pick (opens_initial c)
+    (make DefaultPattern (row (PatternRow false c) (punct k.Equal (row (AssignmentRow (in_head c)) (when_
+    (is k.InWord) done)))))
+    (pattern false c)
+
+-- Head: ('var' | 'let' | 'const') (Pat | 'var' Name '=' Assign) | ('await' ~)? 'using' ~ Name | Target
 unfoldable pub head : Context → Production Row NodeKind
 head c =
     choose (has_kind is_variable_word) (make VariableHead (tok as_kind is_variable_word (row
-    (PatternRow false c) done)))
+    (HeadPatternRow c) done)))
     (pick opens_using (make UsingHead (using_in c (tok as_name is_name done)))
     (pick opens_head_pattern (pattern true c) (target (in_head c))))
 
@@ -165,7 +171,7 @@ is_value_here x = is_near x && begins_expression x
 unfoldable pub return_ : Context → Production Row NodeKind
 return_ c =
     make ReturnStatement (punct k.ReturnWord (alt is_value_here (when_ is_near (row
-    (ExpressionRow c) expression_ended)) ended done))
+    (ExpressionRow c) ended)) ended done))
 
 -- a clause of `switch` begins here, and its statements end before such a clause or `}`
 unfoldable pub is_case : TokenTest
@@ -211,7 +217,7 @@ begins_no_other x = not (is k.OpenBrace x || (is k.FunctionWord x || is k.ClassW
 
 -- Expr END
 unfoldable pub expression_statement : Context → Production Row NodeKind
-expression_statement c = make ExpressionStatement (when_ begins_no_other (row (ExpressionRow c) expression_ended))
+expression_statement c = make ExpressionStatement (when_ begins_no_other (row (ExpressionRow c) ended))
 
 -- the statements that begin with a keyword of their own
 unfoldable pub keyword_statement : Context → Production Row NodeKind → Production Row NodeKind
@@ -228,7 +234,7 @@ keyword_statement c other =
     (choose (is k.BreakWord) (make BreakStatement (punct k.BreakWord label_ended))
     (choose (is k.ReturnWord) (return_ c)
     (choose (is k.ThrowWord) (make ThrowStatement (punct k.ThrowWord (when_ is_near (row
-    (ExpressionRow c) expression_ended))))
+    (ExpressionRow c) ended))))
     (choose (is k.SwitchWord) (switch_ c)
     (choose (is k.TryWord) (try_ c)
     (choose (is k.DebuggerWord) (make DebuggerStatement (punct k.DebuggerWord ended))

@@ -1,13 +1,13 @@
 -- The table of programs: the rule of each row.
 use Rattle.es_tree.specs.Productions.{Production, refuse}
 use Rattle.es_type_grammar.specs.declared.rows.Row.{Row}
-use Rattle.es_type_grammar.specs.declared.rows.Row.TheVariants.{ModuleRow, ScriptRow, ItemRow, ClauseRow, NamedRow, ImportSpecifierRow, ExportSpecifierRow, AttributesRow, EntityRow, StatementRow, BlockRow, DeclarationRow, VariablesRow, DeclaratorRow, UsingRow, HeadRow, FunctionRow, ClassRow, SignatureRow, ParametersRow, ParameterRow, PatternRow, InnerPatternRow, PatternElementRow, PatternPropertyRow, MemberRow, PropertyRow, KeyRow, ExpressionRow, AssignmentRow, AndRow, BitOrRow, BitXorRow, BitAndRow, EqualityRow, RelationRow, ShiftRow, SumRow, ProductRow, PowerRow, UnaryRow, ChainRow, CalleeRow, PostRow, MemberPostRow, ArgumentsRow, ElementRow, TemplateRow}
+use Rattle.es_type_grammar.specs.declared.rows.Row.TheVariants.{ModuleRow, ScriptRow, ItemRow, ClauseRow, NamedRow, ImportSpecifierRow, ExportSpecifierRow, AttributesRow, EntityRow, StatementRow, BlockRow, DeclarationRow, VariablesRow, DeclaratorRow, UsingRow, HeadRow, HeadPatternRow, FunctionRow, ClassRow, SignatureRow, ParametersRow, ParameterRow, PatternRow, InnerPatternRow, PatternElementRow, PatternPropertyRow, MemberRow, PropertyRow, KeyRow, ExpressionRow, AssignmentRow, AndRow, BitOrRow, BitXorRow, BitAndRow, EqualityRow, RelationRow, ShiftRow, SumRow, ProductRow, PowerRow, UnaryRow, ChainRow, CalleeRow, PostRow, MemberPostRow, ArgumentsRow, ElementRow, TemplateRow}
 use Rattle.es_type_grammar.specs.declared.rows.NodeKind.{NodeKind}
 use Rattle.es_type_grammar.specs.Modules.{clause, named, import_specifier, export_specifier, attributes, entity}
 use Rattle.es_type_grammar.specs.Expressions.{any_function, class_, template, arguments, post, member_post, chain, callee, unary, power, product, sum, shift, relation, equality, bit_and, bit_xor, bit_or, and_, assignment, expression, element}
 use Rattle.es_type_grammar.specs.Functions.{pattern, inner_pattern, pattern_element, pattern_property, parameters, parameter, signature, key, property}
 use Rattle.es_type_grammar.specs.Classes.{member}
-use Rattle.es_type_grammar.specs.Statements.{block, declarator, declaration, variables, using_, head, statement}
+use Rattle.es_type_grammar.specs.Statements.{block, declarator, declaration, variables, using_, head, head_pattern, statement}
 use Rattle.es_type_grammar.specs.Items.{item, module_, script}
 
 unfoldable pub rule : Row → Production Row NodeKind
@@ -27,6 +27,7 @@ rule (VariablesRow c) = variables c
 rule (DeclaratorRow c) = declarator c
 rule (UsingRow c) = using_ c
 rule (HeadRow c) = head c
+rule (HeadPatternRow c) = head_pattern c
 rule (FunctionRow named c) = any_function named c
 rule (ClassRow named c) = class_ named c
 rule (SignatureRow c) = signature c

@@ -2,9 +2,9 @@
 use Rattle.es_tree.specs.Productions.{Production}
 use Rattle.es_type_grammar.specs.Words.{is_name_or_this}
 use Rattle.es_type_grammar.specs.declared.rows.TypeRow.{TypeRow as Row}
-use Rattle.es_type_grammar.specs.declared.rows.TypeRow.TheVariants.{TypeRow, IntersectionRow, OperandRow, ReferenceRow, EntityRow, ImportRow, ArgumentsRow, TypeParametersRow, ElementRow, MemberRow, KeyRow, ResultRow, ParametersRow, ParameterRow, PatternRow, PatternElementRow, PatternPropertyRow, PatternKeyRow}
+use Rattle.es_type_grammar.specs.declared.rows.TypeRow.TheVariants.{TypeRow, IntersectionRow, OperandRow, ReferenceRow, EntityRow, ImportRow, ArgumentsRow, TypeParametersRow, OpenedFunctionRow, OpenedParametersRow, ElementRow, MemberRow, KeyRow, ResultRow, ParametersRow, ParameterRow, PatternRow, PatternElementRow, PatternPropertyRow, PatternKeyRow}
 use Rattle.es_type_grammar.specs.TypeRows.{NodeKind}
-use Rattle.es_type_grammar.specs.TypeNames.{entity, reference, import_type, arguments, type_parameters}
+use Rattle.es_type_grammar.specs.TypeNames.{entity, reference, import_type, arguments, type_parameters, opened_function, opened_parameters}
 use Rattle.es_type_grammar.specs.Parameters.{parameters, parameter, pattern, pattern_element, pattern_property, pattern_key}
 use Rattle.es_type_grammar.specs.Members.{member, key}
 use Rattle.es_type_grammar.specs.Types.{any_type, intersection_type, operand_type, element, result}
@@ -18,6 +18,8 @@ type_rule EntityRow = entity is_name_or_this
 type_rule ImportRow = import_type
 type_rule ArgumentsRow = arguments
 type_rule TypeParametersRow = type_parameters
+type_rule OpenedFunctionRow = opened_function
+type_rule OpenedParametersRow = opened_parameters
 type_rule ElementRow = element
 type_rule MemberRow = member
 type_rule KeyRow = key

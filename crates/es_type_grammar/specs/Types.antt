@@ -4,7 +4,7 @@ use Rattle.es_token.specs.declared.token.TokenKind.{TokenKind}
 use Rattle.es_token.specs.declared.token.TokenKind.TheVariants as k
 use Rattle.es_tree.specs.Key.{TokenTest, seen, same_kind, has_kind, is, is_end, is_after_line}
 use Rattle.es_tree.specs.Productions.{as_str, as_name, as_raw, as_kind, as_there, by_lookahead, greedy, by_predicate, Predicate, Rhs, done, tok, punct, row, opt, many, alt, when_, Production, make, choose, pick, wrap}
-use Rattle.es_type_grammar.specs.Words.{only, is_name, is_name_or_this, is_numeric, is_sign, is_near, is_other, closes_before}
+use Rattle.es_type_grammar.specs.Words.{only, is_name, is_word, is_name_or_this, is_numeric, is_sign, is_near, is_other, closes_before}
 use Rattle.es_type_grammar.specs.declared.rows.TypeRow.{TypeRow as Row}
 use Rattle.es_type_grammar.specs.declared.rows.TypeRow.TheVariants.{TypeRow, IntersectionRow, OperandRow, ReferenceRow, ImportRow, ElementRow, MemberRow, ResultRow}
 use Rattle.es_type_grammar.specs.TypeRows.{NodeKind, FunctionType, ConstructorType, ConditionalType, UnionType, LeadingUnionType, IntersectionType, LeadingIntersectionType, TypeOperator, InferType, ArrayTypes, KeywordType, ThisType, WordType, StrType, NumberType, TemplateType, TemplateTypes, TypeQuery, ParenthesizedType, MembersType, TupleType, MappedType, RestElement, LabelledElement, OptionalElement, AssertsResult, PredicateResult}
@@ -192,9 +192,25 @@ conditional_type true =
     (punct k.Colon (row (TypeRow true) (when_ no_condition done))))))))
 conditional_type false = union_type
 
--- `(` opens a function type where its `)` is followed by `=>`, and `<` always
+-- what may stand behind the name or the pattern of a parameter
+unfoldable pub follows_parameter : TokenTest
+follows_parameter x =
+    is k.Colon x || (is k.Comma x || (is k.Question x || (is k.Equal x || is k.CloseParen x)))
+
+-- parameters begin here: `)`, `...`, or a name or a pattern before such a token
+unfoldable pub begins_parameters : Predicate
+begins_parameters K at =
+    is k.CloseParen (seen K at)
+    || (is k.Ellipsis (seen K at)
+    || ((has_kind is_name_or_this (seen K at) && follows_parameter (seen K (at + 1)))
+    || ((is k.OpenBracket (seen K at) || is k.OpenBrace (seen K at)) && closes_before follows_parameter K at)))
+
+-- `(` opens a function type where parameters begin behind it and its `)` is followed by `=>`, and `<` always: so
+-- `(): (a | b) => c` is an arrow whose result stands in brackets
 unfoldable pub opens_function : Predicate
-opens_function K at = is k.Less (seen K at) || (is k.OpenParen (seen K at) && closes_before (is k.Arrow) K at)
+opens_function K at =
+    is k.Less (seen K at)
+    || (is k.OpenParen (seen K at) && (closes_before (is k.Arrow) K at && begins_parameters K (at + 1)))
 
 -- TParams? '(' Params ')' '=>' Ret
 unfoldable pub function_type : Bool → Production Row NodeKind
@@ -221,14 +237,14 @@ any_type c = pick opens_function (function_type c) (pick opens_constructor (cons
 -- a label stands before `:` or `? :`
 unfoldable pub is_label : Predicate
 is_label K at =
-    has_kind is_name (seen K at)
+    has_kind is_word (seen K at)
     && (is k.Colon (seen K (at + 1)) || (is k.Question (seen K (at + 1)) && is k.Colon (seen K (at + 2))))
 
--- Name '?'? ':'
+-- Word '?'? ':'
 unfoldable pub label_in : Rhs Row → Rhs Row
-label_in f = tok as_name is_name (mark_in (punct k.Colon f))
+label_in f = tok as_name is_word (mark_in (punct k.Colon f))
 
--- TElem: '...'? (Name '?'? ':')? Type '?'?, without a node of its own where it is a type alone
+-- TElem: '...'? (Word '?'? ':')? Type '?'?, without a node of its own where it is a type alone
 unfoldable pub element : Production Row NodeKind
 element =
     choose (is k.Ellipsis)

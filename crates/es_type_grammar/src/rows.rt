@@ -34,6 +34,7 @@ pub enum Row {
     DeclaratorRow(Context),
     UsingRow(Context),
     HeadRow(Context),
+    HeadPatternRow(Context),
     // Functions and classes, whose name may lack or not (true); parameters and patterns: in a pattern that is assigned to
     // (true) targets stand in place of names.
     FunctionRow(bool, Context),
@@ -77,6 +78,8 @@ pub enum Row {
 pub enum NodeKind {
     BareImport,
     FromImport,
+    SourceImport,
+    DeferImport,
     RequireImport,
     EntityImport,
     ExportedRequireImport,
@@ -175,6 +178,8 @@ pub enum NodeKind {
     OptionalPost,
     Super,
     ImportCall,
+    SourceCall,
+    DeferCall,
     ImportMeta,
     NewTarget,
     New,
@@ -213,6 +218,9 @@ pub enum TypeRow {
     ImportRow,
     ArgumentsRow,
     TypeParametersRow,
+    // A function type behind `<<`, whose second half is its own, and its type parameters.
+    OpenedFunctionRow,
+    OpenedParametersRow,
     // Parts of tuples and of types in braces.
     ElementRow,
     MemberRow,

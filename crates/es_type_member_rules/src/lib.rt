@@ -7,6 +7,8 @@ mod parameters;
 mod patterns;
 
 pub use members::{Key, Member};
-pub use names::{Arguments, EntityOf, ImportType, ReferenceOf, TypeParameters};
+pub use names::{
+    Arguments, EntityOf, ImportType, OpenedFunction, OpenedParameters, ReferenceOf, TypeParameters,
+};
 pub use parameters::{ListBefore, MarkIn, Parameter, Parameters, ParametersIn, TypeIn};
 pub use patterns::{Pattern, PatternElement, PatternKey, PatternProperty};

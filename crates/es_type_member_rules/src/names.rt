@@ -1,14 +1,14 @@
 //! Names of types, and the lists of arguments and parameters between `<` and `>`.
 
 ghost use Rattle.es_type_predicates.specs.Named.{kinds_of};
-ghost use Rattle.es_type_grammar.specs.TypeNames.{further_names, entity, reference, import_type, arguments, type_parameter, type_parameters};
+ghost use Rattle.es_type_grammar.specs.TypeNames.{further_names, entity, reference, import_type, further_arguments, arguments, type_parameter, listed_parameters, type_parameters, opened_parameters, opened_function};
 ghost use Rattle.es_grammar.specs.TypeNames.{label_name};
 ghost use Rattle.es_type_member_rules.specs.Labelled.{labelled};
 
 use es_grammar::{NodeKind, TypeRow};
 use es_rules::{
-    ByLookahead, ByPredicate, Cursor, Done, Grammar, Greedy, LeafKind, Make, Many, OfRow, Opt,
-    Punct, ReadsProduction, ReadsRhs, Rows, Tok, When, Wrap,
+    ByLookahead, ByPredicate, Choose, Cursor, Done, Grammar, Greedy, LeafKind, Make, Many, OfRow,
+    Opt, Punct, ReadsProduction, ReadsRhs, Rows, Tok, When, Where, Wrap,
 };
 use es_token::TokenKind;
 use es_tree::SyntaxError;
@@ -74,10 +74,10 @@ impl ReadsProduction<TypeRow> for ReferenceOf {
         Wrap(
             NodeKind::Reference,
             EntityOf(self.0),
-            Greedy(Lookahead::OpensArguments),
+            ByPredicate(Predicate::OpensArguments),
             When(
                 Lookahead::Near,
-                OfRow(TypeRow::ArgumentsRow, When(Lookahead::NoArguments, Done)),
+                OfRow(TypeRow::ArgumentsRow, Where(Predicate::NoArguments, Done)),
             ),
         )
         .read(grammar, cursor)
@@ -112,7 +112,7 @@ impl ReadsProduction<TypeRow> for ImportType {
                                 Greedy(Is(TokenKind::Dot)),
                                 Punct(TokenKind::Dot, OfRow(TypeRow::EntityRow, Done)),
                                 Opt(
-                                    Greedy(Is(TokenKind::Less)),
+                                    ByPredicate(Predicate::OpensAngle),
                                     OfRow(TypeRow::ArgumentsRow, Done),
                                     Done,
                                 ),
@@ -126,7 +126,29 @@ impl ReadsProduction<TypeRow> for ImportType {
     }
 }
 
-/// TArgs: '<' Type (',' Type)* '>'
+/// (',' Type)* '>'
+#[derive(Clone, Copy)]
+pub struct FurtherArguments;
+
+impl ReadsRhs<TypeRow> for FurtherArguments {
+    ghost form = { λ _. further_arguments };
+
+    #[tactic(auto, unfolding(es_type_grammar::specs::TypeNames::further_arguments))]
+    fn read<T: Rows<TypeRow>>(
+        &self,
+        grammar: &Grammar<'_, T>,
+        cursor: &mut Cursor,
+    ) -> Result<usize, SyntaxError> {
+        Many(
+            Greedy(Is(TokenKind::Comma)),
+            Punct(TokenKind::Comma, OfRow(TypeRow::TypeRow(true), Done)),
+            Punct(TokenKind::Greater, Done),
+        )
+        .read(grammar, cursor)
+    }
+}
+
+/// TArgs: '<' Type (',' Type)* '>', or with `<<` in the place of both `<` where the first type begins with one
 #[derive(Clone, Copy)]
 pub struct Arguments;
 
@@ -139,17 +161,20 @@ impl ReadsProduction<TypeRow> for Arguments {
         grammar: &Grammar<'_, T>,
         cursor: &mut Cursor,
     ) -> Result<usize, SyntaxError> {
-        Make(
-            NodeKind::TypeArguments,
-            Punct(
-                TokenKind::Less,
-                OfRow(
-                    TypeRow::TypeRow(true),
-                    Many(
-                        Greedy(Is(TokenKind::Comma)),
-                        Punct(TokenKind::Comma, OfRow(TypeRow::TypeRow(true), Done)),
-                        Punct(TokenKind::Greater, Done),
-                    ),
+        Choose(
+            Is(TokenKind::LessLess),
+            Make(
+                NodeKind::TypeArguments,
+                Punct(
+                    TokenKind::LessLess,
+                    OfRow(TypeRow::OpenedFunctionRow, FurtherArguments),
+                ),
+            ),
+            Make(
+                NodeKind::TypeArguments,
+                Punct(
+                    TokenKind::Less,
+                    OfRow(TypeRow::TypeRow(true), FurtherArguments),
                 ),
             ),
         )
@@ -195,7 +220,29 @@ impl<N: ReadsRhs<TypeRow> + Copy> ReadsRhs<TypeRow> for TypeParameter<N> {
     }
 }
 
-/// TParams: '<' one or more of them, with an optional last ',' '>'
+/// One or more of them, with an optional last ',' '>'
+#[derive(Clone, Copy)]
+pub struct ListedParameters;
+
+impl ReadsRhs<TypeRow> for ListedParameters {
+    ghost form = { λ _. listed_parameters };
+
+    #[tactic(auto, unfolding(es_type_grammar::specs::TypeNames::listed_parameters))]
+    fn read<T: Rows<TypeRow>>(
+        &self,
+        grammar: &Grammar<'_, T>,
+        cursor: &mut Cursor,
+    ) -> Result<usize, SyntaxError> {
+        TypeParameter(Many(
+            ByLookahead(Other(TokenKind::Greater)),
+            TypeParameter(Done),
+            Punct(TokenKind::Greater, Done),
+        ))
+        .read(grammar, cursor)
+    }
+}
+
+/// TParams: '<' and these
 #[derive(Clone, Copy)]
 pub struct TypeParameters;
 
@@ -210,13 +257,55 @@ impl ReadsProduction<TypeRow> for TypeParameters {
     ) -> Result<usize, SyntaxError> {
         Make(
             NodeKind::TypeParameters,
-            Punct(
-                TokenKind::Less,
-                TypeParameter(Many(
-                    ByLookahead(Other(TokenKind::Greater)),
-                    TypeParameter(Done),
-                    Punct(TokenKind::Greater, Done),
-                )),
+            Punct(TokenKind::Less, ListedParameters),
+        )
+        .read(grammar, cursor)
+    }
+}
+
+/// The same behind `<<`, whose second half is their `<`.
+#[derive(Clone, Copy)]
+pub struct OpenedParameters;
+
+impl ReadsProduction<TypeRow> for OpenedParameters {
+    ghost rule = { λ _. labelled label_name opened_parameters };
+
+    #[tactic(auto, unfolding(es_type_grammar::specs::TypeNames::opened_parameters))]
+    fn read<T: Rows<TypeRow>>(
+        &self,
+        grammar: &Grammar<'_, T>,
+        cursor: &mut Cursor,
+    ) -> Result<usize, SyntaxError> {
+        Make(NodeKind::TypeParameters, ListedParameters).read(grammar, cursor)
+    }
+}
+
+/// A function type whose parameters are opened so.
+#[derive(Clone, Copy)]
+pub struct OpenedFunction;
+
+impl ReadsProduction<TypeRow> for OpenedFunction {
+    ghost rule = { λ _. labelled label_name opened_function };
+
+    #[tactic(auto, unfolding(es_type_grammar::specs::TypeNames::opened_function))]
+    fn read<T: Rows<TypeRow>>(
+        &self,
+        grammar: &Grammar<'_, T>,
+        cursor: &mut Cursor,
+    ) -> Result<usize, SyntaxError> {
+        let result = Punct(TokenKind::Arrow, OfRow(TypeRow::ResultRow(true), Done));
+        Make(
+            NodeKind::FunctionType,
+            When(
+                Lookahead::BeginsTypeParameter,
+                Opt(
+                    Greedy(Lookahead::BeginsTypeParameter),
+                    OfRow(TypeRow::OpenedParametersRow, Done),
+                    Punct(
+                        TokenKind::OpenParen,
+                        OfRow(TypeRow::ParametersRow, Punct(TokenKind::CloseParen, result)),
+                    ),
+                ),
             ),
         )
         .read(grammar, cursor)

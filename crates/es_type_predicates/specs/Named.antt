@@ -4,7 +4,7 @@ use Rattle.es_token.specs.declared.token.TokenKind.{TokenKind}
 use Rattle.es_tree.specs.Key.{TokenTest, has_kind, is}
 use Rattle.es_tree.specs.Productions.{Predicate}
 use Rattle.es_type_grammar.specs.Words.{only, is_other, is_name, is_word, is_name_or_this, is_numeric, is_sign, is_accessor_word, is_near}
-use Rattle.es_type_grammar.specs.TypeNames.{opens_arguments, no_arguments, is_modifier, opens_modifier}
+use Rattle.es_type_grammar.specs.TypeNames.{begins_type_parameter, opens_arguments, no_arguments, opens_angle, is_modifier, opens_modifier}
 use Rattle.es_type_grammar.specs.Parameters.{is_parameter, has_mark, no_mark, opens_value}
 use Rattle.es_type_grammar.specs.Members.{is_separator, may_separate, opens_parameters, opens_construct, opens_readonly, opens_index, opens_accessor, opens_method, is_property_key}
 use Rattle.es_type_grammar.specs.Types.{is_literal_word, begins_type, opens_mapped, begins_signed, opens_this_reference, is_type_word, is_keyword_type, opens_brackets, is_type_operator, opens_operator, opens_infer, opens_condition, no_condition, opens_function, opens_constructor, is_label, opens_asserts, opens_predicate}
@@ -38,8 +38,7 @@ lookahead_of (lookahead.Has named) = has_kind (kinds_of named)
 lookahead_of (lookahead.Signed kind) = begins_signed kind
 lookahead_of lookahead.Near = is_near
 lookahead_of lookahead.BeginsType = begins_type
-lookahead_of lookahead.OpensArguments = opens_arguments
-lookahead_of lookahead.NoArguments = no_arguments
+lookahead_of lookahead.BeginsTypeParameter = begins_type_parameter
 lookahead_of lookahead.OpensBrackets = opens_brackets
 lookahead_of lookahead.OpensCondition = opens_condition
 lookahead_of lookahead.NoCondition = no_condition
@@ -52,6 +51,9 @@ lookahead_of lookahead.OpensParameters = opens_parameters
 -- the predicate that is named
 abbrev pub predicate_of : NamedPredicate → Predicate
 predicate_of predicate.OpensModifier = opens_modifier
+predicate_of predicate.OpensArguments = opens_arguments
+predicate_of predicate.NoArguments = no_arguments
+predicate_of predicate.OpensAngle = opens_angle
 predicate_of predicate.OpensValue = opens_value
 predicate_of predicate.OpensConstruct = opens_construct
 predicate_of predicate.OpensReadonly = opens_readonly

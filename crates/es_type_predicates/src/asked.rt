@@ -7,8 +7,8 @@ ghost use Rattle.es_type_predicates.specs.Named.{kinds_of, lookahead_of, predica
 use crate::looks::{has, looks};
 use crate::named::{Kinds, Lookahead, Predicate};
 use crate::names::{
-    is_property_key, opens_accessor, opens_construct, opens_index, opens_method, opens_modifier,
-    opens_readonly, opens_value,
+    is_property_key, opens_accessor, opens_angle, opens_arguments, opens_construct, opens_index,
+    opens_method, opens_modifier, opens_readonly, opens_value,
 };
 use crate::types::{
     is_keyword_type, is_label, opens_asserts, opens_constructor, opens_function, opens_infer,
@@ -45,11 +45,15 @@ impl Holds for Predicate {
 }
 
 /// Whether the predicate holds at this place.
+#[tactic(auto, unfolding(es_type_grammar::specs::TypeNames::no_arguments))]
 fn holds(tokens: &Tokens<'_>, predicate: Predicate, at: usize) -> bool
     ensures { result ≡ predicate_of predicate (keys_of tokens.now.tokens.now) at }
 {
     match predicate {
         Predicate::OpensModifier => opens_modifier(tokens, at),
+        Predicate::OpensArguments => opens_arguments(tokens, at),
+        Predicate::NoArguments => !opens_arguments(tokens, at),
+        Predicate::OpensAngle => opens_angle(tokens, at),
         Predicate::OpensValue => opens_value(tokens, at),
         Predicate::OpensConstruct => opens_construct(tokens, at),
         Predicate::OpensReadonly => opens_readonly(tokens, at),

@@ -3,10 +3,10 @@
 ghost use Rattle.std.specs.Prelude.{◌≡◌};
 ghost use Rattle.es_tree.specs.Key.{has_kind, is, is_end, is_after_line};
 ghost use Rattle.es_type_grammar.specs.Words.{is_near, begins_key};
-ghost use Rattle.es_type_grammar.specs.TypeNames.{opens_arguments};
+ghost use Rattle.es_type_grammar.specs.TypeNames.{begins_type_parameter};
 ghost use Rattle.es_type_grammar.specs.Parameters.{is_parameter, has_mark};
 ghost use Rattle.es_type_grammar.specs.Members.{may_separate, opens_parameters};
-ghost use Rattle.es_type_grammar.specs.Types.{begins_type, begins_signed, opens_brackets, opens_condition, is_asserted_name};
+ghost use Rattle.es_type_grammar.specs.Types.{begins_type, begins_signed, opens_brackets, opens_condition, follows_parameter, is_asserted_name};
 ghost use Rattle.es_lookahead.specs.Sight.{sight};
 ghost use Rattle.es_type_predicates.specs.Named.{kinds_of, lookahead_of};
 
@@ -109,12 +109,12 @@ fn begins_signed(kind: TokenKind, next: Option<Seen>) -> bool
     has(Kinds::Sign, next) || is(kind, next)
 }
 
-/// `<` on the line of the token before it.
-#[tactic(auto, unfolding(es_type_grammar::specs::TypeNames::opens_arguments))]
-fn opens_arguments(next: Option<Seen>) -> bool
-    ensures { result ≡ opens_arguments (sight next) }
+/// `const`, `in`, or a name.
+#[tactic(auto, unfolding(es_type_grammar::specs::TypeNames::begins_type_parameter))]
+fn begins_type_parameter(next: Option<Seen>) -> bool
+    ensures { result ≡ begins_type_parameter (sight next) }
 {
-    is_near(next) && is(TokenKind::Less, next)
+    is(TokenKind::ConstWord, next) || is(TokenKind::InWord, next) || has(Kinds::Name, next)
 }
 
 /// `[` on the line of the token before it.
@@ -165,6 +165,18 @@ pub fn opens_parameters(next: Option<Seen>) -> bool
     is(TokenKind::OpenParen, next) || is(TokenKind::Less, next)
 }
 
+/// What may stand behind the name or the pattern of a parameter.
+#[tactic(auto, unfolding(es_type_grammar::specs::Types::follows_parameter))]
+pub fn follows_parameter(next: Option<Seen>) -> bool
+    ensures { result ≡ follows_parameter (sight next) }
+{
+    is(TokenKind::Colon, next)
+        || is(TokenKind::Comma, next)
+        || is(TokenKind::Question, next)
+        || is(TokenKind::Equal, next)
+        || is(TokenKind::CloseParen, next)
+}
+
 /// Behind `is`: what makes it the name that is asserted.
 #[tactic(auto, unfolding(es_type_grammar::specs::Types::is_asserted_name))]
 pub fn is_asserted_name(next: Option<Seen>) -> bool
@@ -178,7 +190,7 @@ pub fn is_asserted_name(next: Option<Seen>) -> bool
 }
 
 /// What the test that is named says of the next token.
-#[tactic(auto, unfolding(es_type_grammar::specs::TypeNames::no_arguments, es_type_grammar::specs::Types::no_condition, es_type_grammar::specs::Parameters::no_mark))]
+#[tactic(auto, unfolding(es_type_grammar::specs::Types::no_condition, es_type_grammar::specs::Parameters::no_mark))]
 pub fn looks(lookahead: Lookahead, next: Option<Seen>) -> bool
     ensures { result ≡ lookahead_of lookahead (sight next) }
 {
@@ -189,8 +201,7 @@ pub fn looks(lookahead: Lookahead, next: Option<Seen>) -> bool
         Lookahead::Signed(kind) => begins_signed(kind, next),
         Lookahead::Near => is_near(next),
         Lookahead::BeginsType => begins_type(next),
-        Lookahead::OpensArguments => opens_arguments(next),
-        Lookahead::NoArguments => !opens_arguments(next),
+        Lookahead::BeginsTypeParameter => begins_type_parameter(next),
         Lookahead::OpensBrackets => opens_brackets(next),
         Lookahead::OpensCondition => opens_condition(next),
         Lookahead::NoCondition => !opens_condition(next),

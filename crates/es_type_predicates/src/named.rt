@@ -28,8 +28,7 @@ pub enum Lookahead {
     Signed(TokenKind),
     Near,
     BeginsType,
-    OpensArguments,
-    NoArguments,
+    BeginsTypeParameter,
     OpensBrackets,
     OpensCondition,
     NoCondition,
@@ -44,6 +43,9 @@ pub enum Lookahead {
 #[derive(Clone, Copy)]
 pub enum Predicate {
     OpensModifier,
+    OpensArguments,
+    NoArguments,
+    OpensAngle,
     OpensValue,
     OpensConstruct,
     OpensReadonly,

@@ -3,7 +3,7 @@
 ghost use Rattle.std.specs.Prelude.{◌≡◌, ◌<◌, ◌||◌, ◌&&◌, true, length};
 ghost use Rattle.es_token.specs.declared.token.TokenKind.TheVariants as k;
 ghost use Rattle.es_tree.specs.Key.{keys_of, is};
-ghost use Rattle.es_type_grammar.specs.TypeNames.{opens_modifier};
+ghost use Rattle.es_type_grammar.specs.TypeNames.{shows_type_parameter, opens_arguments, opens_angle, opens_modifier};
 ghost use Rattle.es_type_grammar.specs.Parameters.{opens_value};
 ghost use Rattle.es_type_grammar.specs.Members.{opens_parameters, opens_construct, opens_readonly, shows_index, opens_index, opens_accessor, opens_method, is_property_key};
 ghost use Rattle.es_lookahead.specs.Sight.{sight};
@@ -115,4 +115,45 @@ pub fn is_property_key(tokens: &Tokens<'_>, at: usize) -> bool
     ensures { result ≡ is_property_key (keys_of tokens.now.tokens.now) at }
 {
     !opens_accessor(tokens, at) && !opens_method(tokens, at)
+}
+
+/// A type parameter begins here.
+#[tactic(auto, unfolding(es_type_grammar::specs::TypeNames::shows_type_parameter))]
+fn shows_type_parameter(tokens: &Tokens<'_>, at: usize) -> bool
+    ensures { result ≡ shows_type_parameter (keys_of tokens.now.tokens.now) at }
+{
+    let first = tokens.seen(at);
+    if is(TokenKind::ConstWord, first) || is(TokenKind::InWord, first) {
+        return true;
+    }
+    let next = tokens.seen_after(at, 1);
+    has(Kinds::Name, first)
+        && (is(TokenKind::Greater, next)
+            || is(TokenKind::Comma, next)
+            || is(TokenKind::ExtendsWord, next)
+            || is(TokenKind::Equal, next)
+            || has(Kinds::Name, next))
+}
+
+/// `<`, or `<<` before a type parameter.
+#[tactic(auto, unfolding(es_type_grammar::specs::TypeNames::opens_angle))]
+pub fn opens_angle(tokens: &Tokens<'_>, at: usize) -> bool
+    ensures { result ≡ opens_angle (keys_of tokens.now.tokens.now) at }
+{
+    if tokens.sees(TokenKind::Less, at) {
+        return true;
+    }
+    let _length = tokens.tokens.len();
+    if !tokens.stands(TokenKind::LessLess, at) {
+        return false;
+    }
+    shows_type_parameter(tokens, at + 1)
+}
+
+/// The same on the line of the token before it.
+#[tactic(auto, unfolding(es_type_grammar::specs::TypeNames::opens_arguments))]
+pub fn opens_arguments(tokens: &Tokens<'_>, at: usize) -> bool
+    ensures { result ≡ opens_arguments (keys_of tokens.now.tokens.now) at }
+{
+    is_near(tokens.seen(at)) && opens_angle(tokens, at)
 }

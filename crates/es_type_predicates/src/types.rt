@@ -4,9 +4,9 @@ ghost use Rattle.std.specs.Prelude.{◌≡◌};
 ghost use Rattle.es_token.specs.declared.token.TokenKind.TheVariants as k;
 ghost use Rattle.es_tree.specs.Key.{keys_of, is};
 ghost use Rattle.es_type_grammar.specs.Words.{closes_before};
-ghost use Rattle.es_type_grammar.specs.Types.{shows_mapped, opens_mapped, opens_this_reference, is_keyword_type, opens_operator, opens_infer, opens_function, opens_constructor, is_label, opens_asserts, opens_predicate};
+ghost use Rattle.es_type_grammar.specs.Types.{shows_mapped, opens_mapped, opens_this_reference, is_keyword_type, opens_operator, opens_infer, follows_parameter, begins_parameters, opens_function, opens_constructor, is_label, opens_asserts, opens_predicate};
 
-use crate::looks::{begins_type, has, is, is_asserted_name, is_near};
+use crate::looks::{begins_type, follows_parameter, has, is, is_asserted_name, is_near};
 use crate::named::Kinds;
 use es_lookahead::Tokens;
 use es_token::TokenKind;
@@ -84,13 +84,45 @@ fn closes_before_arrow(tokens: &Tokens<'_>, at: usize) -> bool
     }
 }
 
-/// `(` whose `)` stands before `=>`, or `<`.
+/// Whether the bracket that matches the one at this place stands before what may follow a parameter.
+fn closes_parameter(tokens: &Tokens<'_>, at: usize) -> bool
+    ensures { result ≡ closes_before follows_parameter (keys_of tokens.now.tokens.now) at }
+{
+    match tokens.partner(at) {
+        Some(closer) => follows_parameter(tokens.seen_after(closer, 1)),
+        None => false,
+    }
+}
+
+/// Parameters begin here.
+#[tactic(auto, unfolding(es_type_grammar::specs::Types::begins_parameters))]
+fn begins_parameters(tokens: &Tokens<'_>, at: usize) -> bool
+    ensures { result ≡ begins_parameters (keys_of tokens.now.tokens.now) at }
+{
+    let next = tokens.seen(at);
+    if is(TokenKind::CloseParen, next) || is(TokenKind::Ellipsis, next) {
+        return true;
+    }
+    if has(Kinds::NameOrThis, next) && follows_parameter(tokens.seen_after(at, 1)) {
+        return true;
+    }
+    (is(TokenKind::OpenBracket, next) || is(TokenKind::OpenBrace, next))
+        && closes_parameter(tokens, at)
+}
+
+/// `(` before parameters whose `)` stands before `=>`, or `<`.
 #[tactic(auto, unfolding(es_type_grammar::specs::Types::opens_function))]
 pub fn opens_function(tokens: &Tokens<'_>, at: usize) -> bool
     ensures { result ≡ opens_function (keys_of tokens.now.tokens.now) at }
 {
-    tokens.sees(TokenKind::Less, at)
-        || (tokens.sees(TokenKind::OpenParen, at) && closes_before_arrow(tokens, at))
+    if tokens.sees(TokenKind::Less, at) {
+        return true;
+    }
+    let _length = tokens.tokens.len();
+    if !tokens.stands(TokenKind::OpenParen, at) {
+        return false;
+    }
+    closes_before_arrow(tokens, at) && begins_parameters(tokens, at + 1)
 }
 
 /// `new`, or `abstract` before a `new` that stands before a function type.
@@ -112,12 +144,12 @@ pub fn opens_constructor(tokens: &Tokens<'_>, at: usize) -> bool
     }
 }
 
-/// A name before `:` or `? :`.
+/// A word before `:` or `? :`.
 #[tactic(auto, unfolding(es_type_grammar::specs::Types::is_label))]
 pub fn is_label(tokens: &Tokens<'_>, at: usize) -> bool
     ensures { result ≡ is_label (keys_of tokens.now.tokens.now) at }
 {
-    if !has(Kinds::Name, tokens.seen(at)) {
+    if !has(Kinds::Word, tokens.seen(at)) {
         return false;
     }
     let next = tokens.seen_after(at, 1);

@@ -16,7 +16,7 @@ use es_type_member_rules::MarkIn;
 use es_type_predicates::Lookahead::{Is, Other};
 use es_type_predicates::{Kinds, Lookahead, Predicate};
 
-/// Name '?'? ':', and what stands behind it
+/// Word '?'? ':', and what stands behind it
 #[derive(Clone, Copy)]
 pub struct LabelIn<N>(pub N);
 
@@ -31,14 +31,14 @@ impl<N: ReadsRhs<TypeRow> + Copy> ReadsRhs<TypeRow> for LabelIn<N> {
     ) -> Result<usize, SyntaxError> {
         Tok(
             LeafKind::Name,
-            Kinds::Name,
+            Kinds::Word,
             MarkIn(Punct(TokenKind::Colon, self.0)),
         )
         .read(grammar, cursor)
     }
 }
 
-/// TElem: '...'? (Name '?'? ':')? Type '?'?
+/// TElem: '...'? (Word '?'? ':')? Type '?'?
 #[derive(Clone, Copy)]
 pub struct Element;
 

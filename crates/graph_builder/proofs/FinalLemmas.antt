@@ -8,6 +8,7 @@ use Rattle.std.proofs.lemmas.Map.Made.{lookup-map_values}
 use Rattle.url.specs.Parts.{Parts}
 use Rattle.graph_entry.specs.Specifier.{text_of}
 use Rattle.graph_entry.specs.Resolution.{Resolved}
+use Rattle.graph_entry.specs.declared.resolution.ResolutionError.{ResolutionError}
 use Rattle.graph_entry.specs.declared.entry.Dependency.{Dependency}
 use Rattle.graph_entry.specs.declared.entry.Module.{Module}
 use Rattle.graph_entry.specs.declared.entry.Module.TheVariants.{Js, Json, Wasm}
@@ -17,9 +18,11 @@ use Rattle.graph_entry.specs.declared.entry.Entry.{Entry}
 use Rattle.graph_entry.specs.declared.entry.Entry.TheVariants as entry
 use Rattle.graph_builder.specs.Rules.{targets, edges_of, led_to}
 use Rattle.graph_builder.specs.Reach.{Specifier, Answers, Rules, has, IsFunctional, IsEntry, IsReached, IsReach}
-use Rattle.graph_builder.specs.Final.{Redirects, most_redirects, redirect_of, is_redirect, LeadsTo, fits, IsMisfit, refused_edge, IsFinalEdge, misfit, fit, AreFinalEdges, with_edges, IsFinal, redirect, too_far, with_module, same}
+use Rattle.graph_builder.specs.Final.{Redirects, most_redirects, redirect_of, is_redirect, LeadsTo, fits, fits_phase, LeadsAmiss, refused_edge, IsFinalEdge, misfit, phase_misfit, fit, AreFinalEdges, with_edges, IsFinal, redirect, too_far, with_module, same}
 use Rattle.graph_builder.specs.Graph.{members_of, entry_of, redirected, on_from, resolved_over, resolved, module_of, module_at, IsAscending, IsGraph}
-use Rattle.graph_builder.specs.Settling.{led, is_unfit, is_unfit_at, is_misfit, settled_edge, settled, finals_of}
+use Rattle.graph_builder.specs.Settling as settling
+use Rattle.graph_builder.specs.Settling.{led, unfit_at, settled_edge, settled, finals_of}
+use Rattle.graph_builder.specs.declared.settle.Unfit.TheVariants.{ForAttribute, ForPhase}
 use Rattle.graph_builder.proofs.ReachLemmas.{reached_on, entry_once}
 use Rattle.graph_builder.proofs.SlotsLemmas.{has_one}
 use Rattle.graph_builder.proofs.ByTextLemmas.{has-keys_at, distinct_sorted}
@@ -68,9 +71,8 @@ members_finals : (g : Entry → Entry) (es : List (Parts × Entry))
 members_finals g [] = refl
 members_finals g (e ∷ es) = rw (members_finals g es) refl
 
-not_true : (b : Bool) → not b ≡ true → b ≡ false
-not_true true h = absurd cc
-not_true false h = refl
+ok_same : (r : Resolved) (x y : Parts) → r ≡ Ok x → r ≡ Ok y → x ≡ y
+ok_same r x y h g = cc
 
 -- where a module's followed edge leads is among its targets
 pub among_targets : (rules : Rules) (m : Module) (t : Specifier)
@@ -285,58 +287,82 @@ module _ (rules : Rules) (starts : List Specifier) (answers : Answers) (firsts :
       (redirect_reached rules starts answers s way.0 reached way.1) way.2 is_entry in
       (ap (λ (o : Option Entry). on_from s (resolved_over firsts n) (option_and_then redirect_of o)) e ∙ more.0, more.1)
 
-  -- an edge that is found unfit is a misfit
-  is_misfit_of : (m : Module) (d : Dependency) → is_misfit rules firsts m d ≡ true → IsMisfit rules answers m d
-  is_misfit_of m d h = by (rules.follows m d) refl d.resolution refl h
-    where
-      found : (target : Parts) (o : Option Module) → rules.follows m d ≡ true → d.resolution ≡ Ok target
-          → module_at firsts (text_of target) ≡ o → is_unfit d.attribute o ≡ true → IsMisfit rules answers m d
-      found target None f r e h = absurd cc
-      found target (Some k) f r e h =
-          record {
-            followed = f;
-            target = target;
-            resolved = r;
-            found = k;
-            leads = module_found (text_of target) k e;
-            unfit = not_true (fits d.attribute k) h;
-          }
-
-      by : (b : Bool) → rules.follows m d ≡ b → (r : Resolved) → d.resolution ≡ r
-          → (b && is_unfit_at firsts d.attribute r) ≡ true
-          → IsMisfit rules answers m d
-      by true f (Ok target) r h = found target (module_at firsts (text_of target)) f r refl h
-      by true f (Err e) r h = absurd cc
-      by false f r e h = absurd cc
-
-  -- and a misfit is found
-  misfit_found : (m : Module) (d : Dependency)
-      → ((target : Parts) → d.resolution ≡ Ok target → rules.follows m d ≡ true
-      → IsReached rules starts answers (text_of target))
-      → IsMisfit rules answers m d → is_misfit rules firsts m d ≡ true
-  misfit_found m d reached x =
-      let end = resolved_there x.leads.steps most_redirects (text_of x.target) x.leads.end x.found x.leads.few
-      (reached x.target x.resolved x.followed) x.leads.way x.leads.is_entry in
-      let there : module_at firsts (text_of x.target) ≡ Some x.found =
-      ap (λ (t : Specifier). option_and_then module_of (entry_of firsts t)) end.0
-      ∙ ap (option_and_then module_of) end.1 in
-      rw (x.followed, x.resolved, there, x.unfit) refl
+  -- a followed edge leads to the module that is found at its end, which isn't such a one
+  amiss : (m : Module) (d : Dependency) (suits : Module → Bool) (target : Parts) (k : Module)
+      → rules.follows m d ≡ true → d.resolution ≡ Ok target → module_at firsts (text_of target) ≡ Some k
+      → suits k ≡ false → LeadsAmiss rules answers m d suits
+  amiss m d suits target k f r e h = record {
+    followed = f;
+    target = target;
+    resolved = r;
+    found = k;
+    leads = module_found (text_of target) k e;
+    unfit = h;
+  }
 
   -- what the edges of a module become
   edge_of : (m : Module) (d : Dependency)
       → ((target : Parts) → d.resolution ≡ Ok target → rules.follows m d ≡ true
       → IsReached rules starts answers (text_of target))
-      → (b : Bool) → is_misfit rules firsts m d ≡ b → IsFinalEdge rules answers m d (settled_edge b d)
-  edge_of m d reached true e = misfit (is_misfit_of m d e) refl
-  edge_of m d reached false e = fit (λ x. let found = misfit_found m d reached x in cc) refl
+      → IsFinalEdge rules answers m d (settled_edge (settling.misfit rules firsts m d) d)
+  edge_of m d reached = by (rules.follows m d) refl d.resolution refl
+    where
+      -- the module that it leads to is found
+      there : (suits : Module → Bool) (x : LeadsAmiss rules answers m d suits)
+          → module_at firsts (text_of x.target) ≡ Some x.found
+      there suits x =
+          let end = resolved_there x.leads.steps most_redirects (text_of x.target) x.leads.end x.found x.leads.few
+          (reached x.target x.resolved x.followed) x.leads.way x.leads.is_entry in
+          ap (λ (t : Specifier). option_and_then module_of (entry_of firsts t)) end.0
+          ∙ ap (option_and_then module_of) end.1
+
+      -- it leads to no module, so nothing is amiss
+      nothing : ((suits : Module → Bool) → LeadsAmiss rules answers m d suits → ⊥) → IsFinalEdge rules answers m d d
+      nothing none = fit (none (fits d.attribute)) (none (fits_phase d.kind)) refl
+
+      -- the one that it leads to is such a one
+      well : (suits : Module → Bool) (target : Parts) (k : Module) → d.resolution ≡ Ok target
+          → module_at firsts (text_of target) ≡ Some k → suits k ≡ true → LeadsAmiss rules answers m d suits → ⊥
+      well suits target k r e h x =
+          let same : x.target ≡ target = ok_same d.resolution x.target target x.resolved r in
+          let one : x.found ≡ k = some_same x.found k
+          (sym (there suits x) ∙ ap (λ (t : Parts). module_at firsts (text_of t)) same ∙ e) in
+          let bad : true ≡ false = sym h ∙ ap suits (sym one) ∙ x.unfit in
+          cc
+
+      here : (target : Parts) (k : Module) → rules.follows m d ≡ true → d.resolution ≡ Ok target
+          → module_at firsts (text_of target) ≡ Some k
+          → (a : Bool) → fits d.attribute k ≡ a → (b : Bool) → fits_phase d.kind k ≡ b
+          → IsFinalEdge rules answers m d
+          (settled_edge (if not a then Some ForAttribute else if not b then Some ForPhase else None) d)
+      here target k f r e false u b v = misfit (amiss m d (fits d.attribute) target k f r e u) refl
+      here target k f r e true u false v =
+          phase_misfit (well (fits d.attribute) target k r e u) (amiss m d (fits_phase d.kind) target k f r e v) refl
+      here target k f r e true u true v =
+          fit (well (fits d.attribute) target k r e u) (well (fits_phase d.kind) target k r e v) refl
+
+      at : (target : Parts) (o : Option Module) → rules.follows m d ≡ true → d.resolution ≡ Ok target
+          → module_at firsts (text_of target) ≡ o → IsFinalEdge rules answers m d (settled_edge (settling.unfit d o) d)
+      at target None f r e =
+          nothing (λ suits x.
+          let same : x.target ≡ target = ok_same d.resolution x.target target x.resolved r in
+          let bad : Some x.found ≡ None =
+          sym (there suits x) ∙ ap (λ (t : Parts). module_at firsts (text_of t)) same ∙ e in
+          cc)
+      at target (Some k) f r e = here target k f r e (fits d.attribute k) refl (fits_phase d.kind k) refl
+
+      by : (b : Bool) → rules.follows m d ≡ b → (r : Resolved) → d.resolution ≡ r
+          → IsFinalEdge rules answers m d (settled_edge (if b then unfit_at firsts d r else None) d)
+      by true f (Ok target) r = at target (module_at firsts (text_of target)) f r refl
+      by true f (Err e) r = nothing (λ suits x. let bad = sym x.resolved ∙ r in cc)
+      by false f r e = nothing (λ suits x. let bad : true ≡ false = sym x.followed ∙ f in cc)
 
   edges_final : (m : Module) (ds : List Dependency)
       → ((t : Specifier) → has (filter_map (led_to (rules.follows m)) ds) t ≡ true → IsReached rules starts answers t)
-      → AreFinalEdges rules answers m ds (map (λ d. settled_edge (is_misfit rules firsts m d) d) ds)
+      → AreFinalEdges rules answers m ds (map (λ d. settled_edge (settling.misfit rules firsts m d) d) ds)
   edges_final m [] reached = tt
   edges_final m (d ∷ ds) reached = (
-    edge_of m d (λ target r f. reached (text_of target) (led_first rules m d ds target r f))
-        (is_misfit rules firsts m d) refl,
+    edge_of m d (λ target r f. reached (text_of target) (led_first rules m d ds target r f)),
     edges_final m ds (λ t h. reached t (led_later rules m d ds t h)),
   )
 
@@ -346,7 +372,7 @@ module _ (rules : Rules) (starts : List Specifier) (answers : Answers) (firsts :
   final_of s (entry.Module m) e =
       let here : has (members_of firsts) s ≡ true = has-keys_at firsts s ∙ ap is_some e in
       let is_entry = each s (entry.Module m) e in
-      with_module m is_entry (map (λ d. settled_edge (is_misfit rules firsts m d) d) (edges_of m))
+      with_module m is_entry (map (λ d. settled_edge (settling.misfit rules firsts m d) d) (edges_of m))
       (edges_final m (edges_of m) (λ t h. reached_on rules starts answers s t (reach.reached s here)
       (record { entry = entry.Module m; is_entry = is_entry; among = among_targets rules m t h })))
       refl
@@ -385,15 +411,16 @@ module _ (rules : Rules) (starts : List Specifier) (answers : Answers) (firsts :
 
 -- a fact of an edge that its refusal keeps is one of what the edges become
 all_final : (rules : Rules) (answers : Answers) (m : Module) (P : Dependency → Type 0)
-    → ((d : Dependency) → P d → P (refused_edge d))
+    → ((why : ResolutionError) (d : Dependency) → P d → P (refused_edge why d))
     → (ds es : List Dependency) → All P ds → AreFinalEdges rules answers m ds es → All P es
 all_final rules answers m P keeps [] [] all are = All-nil P
 all_final rules answers m P keeps (d ∷ ds) (e ∷ es) all are =
     All-cons P e es (one are.0) (all_final rules answers m P keeps ds es (All-tail P d ds all) are.1)
   where
     one : IsFinalEdge rules answers m d e → P e
-    one (misfit x is) = subst P (sym is) (keeps d (All-head P d ds all))
-    one (fit none is) = subst P (sym is) (All-head P d ds all)
+    one (misfit x is) = subst P (sym is) (keeps _ d (All-head P d ds all))
+    one (phase_misfit none x is) = subst P (sym is) (keeps _ d (All-head P d ds all))
+    one (fit none nothing is) = subst P (sym is) (All-head P d ds all)
 all_final rules answers m P keeps [] (e ∷ es) all are = absurd are
 all_final rules answers m P keeps (d ∷ ds) [] all are = absurd are
 
@@ -401,10 +428,10 @@ all_final rules answers m P keeps (d ∷ ds) [] all are = absurd are
 pub final_cuts : (rules : Rules) (answers : Answers) (m : Module) (edges : List Dependency) → EdgesCut (entry.Module m)
     → AreFinalEdges rules answers m (edges_of m) edges → EdgesCut (entry.Module (with_edges m edges))
 final_cuts rules answers (Js m) edges cuts are =
-    all_final rules answers (Js m) (CutsFrom m.text) (λ d h. h) m.dependencies edges cuts are
+    all_final rules answers (Js m) (CutsFrom m.text) (λ why d h. h) m.dependencies edges cuts are
 final_cuts rules answers (Json m) edges cuts are = tt
 final_cuts rules answers (Wasm m) edges cuts are =
-    all_final rules answers (Wasm m) (CutsName m.bytes) (λ d h. h) m.dependencies edges cuts are
+    all_final rules answers (Wasm m) (CutsName m.bytes) (λ why d h. h) m.dependencies edges cuts are
 
 -- ---- what the code gives
 
@@ -452,11 +479,11 @@ module _ (rules : Rules) (starts : List Specifier) (few many : Answers)
       record { steps = l.steps; few = l.few; end = l.end; way = way.0; is_entry = back l.end e way.1 l.is_entry }
 
   -- a misfit of one is one of the other, where the edge's target is reached
-  misfit_agrees : (m : Module) (d : Dependency)
+  misfit_agrees : (m : Module) (d : Dependency) (suits : Module → Bool)
       → ((target : Parts) → d.resolution ≡ Ok target → rules.follows m d ≡ true
       → IsReached rules starts few (text_of target))
-      → IsMisfit rules few m d → IsMisfit rules many m d
-  misfit_agrees m d reached x = record {
+      → LeadsAmiss rules few m d suits → LeadsAmiss rules many m d suits
+  misfit_agrees m d suits reached x = record {
     followed = x.followed;
     target = x.target;
     resolved = x.resolved;
@@ -465,11 +492,11 @@ module _ (rules : Rules) (starts : List Specifier) (few many : Answers)
     unfit = x.unfit;
   }
 
-  misfit_back : (m : Module) (d : Dependency)
+  misfit_back : (m : Module) (d : Dependency) (suits : Module → Bool)
       → ((target : Parts) → d.resolution ≡ Ok target → rules.follows m d ≡ true
       → IsReached rules starts few (text_of target))
-      → IsMisfit rules many m d → IsMisfit rules few m d
-  misfit_back m d reached x = record {
+      → LeadsAmiss rules many m d suits → LeadsAmiss rules few m d suits
+  misfit_back m d suits reached x = record {
     followed = x.followed;
     target = x.target;
     resolved = x.resolved;
@@ -482,8 +509,13 @@ module _ (rules : Rules) (starts : List Specifier) (few many : Answers)
       → ((target : Parts) → d.resolution ≡ Ok target → rules.follows m d ≡ true
       → IsReached rules starts few (text_of target))
       → IsFinalEdge rules few m d made → IsFinalEdge rules many m d made
-  edge_agrees m d made reached (misfit x is) = misfit (misfit_agrees m d reached x) is
-  edge_agrees m d made reached (fit none is) = fit (λ x. none (misfit_back m d reached x)) is
+  edge_agrees m d made reached (misfit x is) = misfit (misfit_agrees m d (fits d.attribute) reached x) is
+  edge_agrees m d made reached (phase_misfit none x is) =
+      phase_misfit (λ y. none (misfit_back m d (fits d.attribute) reached y))
+      (misfit_agrees m d (fits_phase d.kind) reached x) is
+  edge_agrees m d made reached (fit none nothing is) =
+      fit (λ x. none (misfit_back m d (fits d.attribute) reached x))
+      (λ x. nothing (misfit_back m d (fits_phase d.kind) reached x)) is
 
   edges_agree : (m : Module) (ds made : List Dependency)
       → ((t : Specifier) → has (filter_map (led_to (rules.follows m)) ds) t ≡ true → IsReached rules starts few t)

@@ -1,8 +1,9 @@
 -- Where nothing is to be judged, first entries are those of the graph.
 use Rattle.std.proofs.Common.{◌≡◌, ℕ, Bool, true, false, cond, List, [], ◌∷◌, map, refl, sym, ◌∙◌, ap, ap₂, Option, Some, None}
-use Rattle.std.specs.Prelude.{not, ◌&&◌, bytes_eq, option_and_then, Result, Ok, Err}
+use Rattle.std.specs.Prelude.{not, ◌&&◌, bytes_eq, option_and_then, Result, Ok, Err, if◌then◌else◌}
 use Rattle.std.specs.List.{list_all}
 use Rattle.url.specs.Parts.{Parts}
+use Rattle.es_site.specs.declared.site.DependencyKind.{DependencyKind}
 use Rattle.es_site.specs.declared.site.Attribute.{Attribute}
 use Rattle.es_site.specs.declared.site.Attribute.TheVariants.{Absent, Named, Unknown}
 use Rattle.graph_entry.specs.Specifier.{text_of}
@@ -12,11 +13,12 @@ use Rattle.graph_entry.specs.declared.entry.Module.{Module}
 use Rattle.graph_entry.specs.declared.entry.Module.TheVariants.{Js, Json, Wasm}
 use Rattle.graph_entry.specs.declared.entry.Entry.{Entry}
 use Rattle.graph_entry.specs.declared.entry.Entry.TheVariants as entry
-use Rattle.graph_builder.specs.Rules.{edges_of}
+use Rattle.graph_builder.specs.declared.settle.Unfit.{Unfit}
+use Rattle.graph_builder.specs.Rules.{edges_of, is_source}
 use Rattle.graph_builder.specs.Reach.{Specifier, Rules}
 use Rattle.graph_builder.specs.Graph.{entry_of, resolved, module_of, module_at}
-use Rattle.graph_builder.specs.Final.{fits, with_edges}
-use Rattle.graph_builder.specs.Settling.{is_named, are_unnamed, is_plain, are_plain, is_unfit, is_unfit_at, is_misfit, settled_edge, settled, finals_of}
+use Rattle.graph_builder.specs.Final.{fits, fits_phase, with_edges}
+use Rattle.graph_builder.specs.Settling.{is_named, asks_nothing, ask_nothing, is_plain, are_plain, unfit, unfit_at, misfit, settled_edge, settled, finals_of}
 
 left : (a b : Bool) → a && b ≡ true → a ≡ true
 left true b h = refl
@@ -25,10 +27,6 @@ left false b h = absurd cc
 right : (a b : Bool) → a && b ≡ true → b ≡ true
 right true b h = h
 right false b h = absurd cc
-
-and_false : (a : Bool) → a && false ≡ false
-and_false true = refl
-and_false false = refl
 
 off : (b : Bool) → not b ≡ true → b ≡ false
 off true h = absurd cc
@@ -56,37 +54,47 @@ fits_plain Absent (Wasm m) h p = refl
 fits_plain (Named text) m h p = absurd cc
 fits_plain Unknown m h p = refl
 
+-- and a phase that takes no source fits all
+phase_fits : (k : DependencyKind) (m : Module) → is_source k ≡ false → fits_phase k m ≡ true
+phase_fits k (Js m) h = ap not h
+phase_fits k (Json m) h = ap not h
+phase_fits k (Wasm m) h = refl
+
 module _ (rules : Rules) (firsts : List (Parts × Entry)) (plain : are_plain firsts ≡ true) where
-  fits_found : (a : Attribute) (s : Specifier) → is_named a ≡ false → is_unfit a (module_at firsts s) ≡ false
-  fits_found a s unnamed =
+  fits_found : (d : Dependency) (s : Specifier) → is_named d.attribute ≡ false → is_source d.kind ≡ false
+      → unfit d (module_at firsts s) ≡ None
+  fits_found d s unnamed sourceless =
       by (entry_of firsts (resolved firsts s)) (λ e is. entry_plain firsts (resolved firsts s) e plain is)
     where
       by : (f : Option Entry) → ((e : Entry) → f ≡ Some e → is_plain e ≡ true)
-          → is_unfit a (option_and_then module_of f) ≡ false
+          → unfit d (option_and_then module_of f) ≡ None
       by None each = refl
       by (Some (entry.Redirect target)) each = refl
-      by (Some (entry.Module m)) each = ap not (fits_plain a m unnamed (each (entry.Module m) refl))
+      by (Some (entry.Module m)) each =
+          rw (fits_plain d.attribute m unnamed (each (entry.Module m) refl), phase_fits d.kind m sourceless) refl
       by (Some (entry.Package held)) each = refl
       by (Some entry.External) each = refl
       by (Some (entry.Error e)) each = refl
 
   -- no edge is refused
-  no_misfit : (m : Module) (d : Dependency) → is_named d.attribute ≡ false → is_misfit rules firsts m d ≡ false
-  no_misfit m d unnamed =
-      ap (λ (b : Bool). rules.follows m d && b) (by d.resolution) ∙ and_false (rules.follows m d)
+  no_misfit : (m : Module) (d : Dependency) → asks_nothing d ≡ true → misfit rules firsts m d ≡ None
+  no_misfit m d h = by (rules.follows m d) d.resolution
     where
-      by : (r : Resolved) → is_unfit_at firsts d.attribute r ≡ false
-      by (Ok target) = fits_found d.attribute (text_of target) unnamed
-      by (Err e) = refl
+      by : (b : Bool) (r : Resolved) → (if b then unfit_at firsts d r else None) ≡ None
+      by true (Ok target) =
+          fits_found d (text_of target)
+          (off (is_named d.attribute) (left (not (is_named d.attribute)) (not (is_source d.kind)) h))
+          (off (is_source d.kind) (right (not (is_named d.attribute)) (not (is_source d.kind)) h))
+      by true (Err e) = refl
+      by false r = refl
 
-  edges_stay : (m : Module) (ds : List Dependency) → are_unnamed ds ≡ true
-      → map (λ d. settled_edge (is_misfit rules firsts m d) d) ds ≡ ds
+  edges_stay : (m : Module) (ds : List Dependency) → ask_nothing ds ≡ true
+      → map (λ d. settled_edge (misfit rules firsts m d) d) ds ≡ ds
   edges_stay m [] h = refl
   edges_stay m (d ∷ ds) h =
       ap₂ (λ (e : Dependency) (es : List Dependency). e ∷ es)
-      (ap (λ (b : Bool). settled_edge b d)
-      (no_misfit m d (off (is_named d.attribute) (left (not (is_named d.attribute)) (are_unnamed ds) h))))
-      (edges_stay m ds (right (not (is_named d.attribute)) (are_unnamed ds) h))
+      (ap (λ (u : Option Unfit). settled_edge u d) (no_misfit m d (left (asks_nothing d) (ask_nothing ds) h)))
+      (edges_stay m ds (right (asks_nothing d) (ask_nothing ds) h))
 
   entry_stays : (e : Entry) → is_plain e ≡ true → settled rules firsts e ≡ e
   entry_stays (entry.Redirect target) h = absurd cc

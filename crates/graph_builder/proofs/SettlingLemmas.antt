@@ -9,6 +9,7 @@ use Rattle.graph_entry.specs.declared.entry.Dependency.{Dependency}
 use Rattle.graph_entry.specs.declared.entry.Entry.{Entry}
 use Rattle.graph_entry.specs.declared.entry.Entry.TheVariants as entry
 use Rattle.graph_entry.specs.declared.entry.ModuleError.TheVariants.{TooManyRedirects}
+use Rattle.graph_builder.specs.declared.settle.Unfit.{Unfit}
 use Rattle.graph_builder.specs.declared.settle.Verdict.{Verdict}
 use Rattle.graph_builder.specs.declared.settle.Verdict.TheVariants.{Kept, TooFar}
 use Rattle.graph_builder.specs.declared.following.Following.{Following}
@@ -16,7 +17,7 @@ use Rattle.graph_builder.specs.Rules.{edges_of, Means, rules_of, rules_by}
 use Rattle.graph_builder.specs.Reach.{Specifier, Rules}
 use Rattle.graph_builder.specs.Graph.{redirected, on_from, resolved_over}
 use Rattle.graph_builder.specs.Final.{with_edges}
-use Rattle.graph_builder.specs.Settling.{led, leads_on, is_misfit, verdict_of, settled_edge, judged_edges, judged, all_judged, IsVerdictOn, values_of, settled, finals_of}
+use Rattle.graph_builder.specs.Settling.{led, leads_on, misfit, verdict_of, settled_edge, judged_edges, judged, all_judged, IsVerdictOn, values_of, settled, finals_of}
 
 -- ---- redirects, step by step
 
@@ -87,7 +88,7 @@ module _ {X V : Type 0} where
 -- ---- verdicts
 
 -- the edges with their answers are the edges with what is answered of each
-edges_judged : (f : Dependency → Bool) (ds : List Dependency)
+edges_judged : (f : Dependency → Option Unfit) (ds : List Dependency)
     → judged_edges (map f ds) ds ≡ map (λ d. settled_edge (f d) d) ds
 edges_judged f [] = refl
 edges_judged f (d ∷ ds) = ap (λ (es : List Dependency). settled_edge (f d) d ∷ es) (edges_judged f ds)
@@ -102,7 +103,7 @@ judged_settled rules firsts (entry.Redirect target) = by (leads_on firsts (text_
     by true = refl
     by false = refl
 judged_settled rules firsts (entry.Module m) =
-    ap (λ (es : List Dependency). entry.Module (with_edges m es)) (edges_judged (is_misfit rules firsts m) (edges_of m))
+    ap (λ (es : List Dependency). entry.Module (with_edges m es)) (edges_judged (misfit rules firsts m) (edges_of m))
 judged_settled rules firsts (entry.Package held) = refl
 judged_settled rules firsts entry.External = refl
 judged_settled rules firsts (entry.Error e) = refl
@@ -114,14 +115,14 @@ verdict_on rules firsts (entry.Redirect target) = by (leads_on firsts (text_of t
     by : (b : Bool) → IsVerdictOn (if b then TooFar else Kept) (entry.Redirect target)
     by true = tt
     by false = tt
-verdict_on rules firsts (entry.Module m) = length-map (edges_of m) (is_misfit rules firsts m)
+verdict_on rules firsts (entry.Module m) = length-map (edges_of m) (misfit rules firsts m)
 verdict_on rules firsts (entry.Package held) = tt
 verdict_on rules firsts entry.External = tt
 verdict_on rules firsts (entry.Error e) = tt
 
 -- ---- edges, one by one
 
-pub edges_more : (refused : List Bool) (yielded : List Dependency) (edge : Dependency) (d : Bool)
+pub edges_more : (refused : List (Option Unfit)) (yielded : List Dependency) (edge : Dependency) (d : Option Unfit)
     → length yielded < length refused
     → judged_edges (take (length (yielded ++ edge ∷ [])) refused) (yielded ++ edge ∷ [])
     ≡ judged_edges (take (length yielded) refused) yielded ++ settled_edge (get_or refused (length yielded) d) edge ∷ []
@@ -274,20 +275,20 @@ verdicts_even rules firsts verdicts ks vs even is by_rules =
     by_rules ∙ ap (map (verdict_of rules firsts)) (sym (ap values_of is) ∙ values_zip ks vs even)
 
 -- one more edge by its answer
-pub edges_push : (refused : List Bool) (edges yielded rest made new : List Dependency) (edge settled_one : Dependency)
-    (is_refused d : Bool) (n : ℕ)
+pub edges_push : (refused : List (Option Unfit)) (edges yielded rest made new : List Dependency)
+    (edge settled_one : Dependency) (unfit d : Option Unfit) (n : ℕ)
     → made ≡ judged_edges (take (length yielded) refused) yielded → length made ≡ length yielded
     → edges ≡ yielded ++ edge ∷ rest
-    → length refused ≡ length edges → n ≡ length made → is_refused ≡ get_or refused n d
-    → settled_one ≡ settled_edge is_refused edge
+    → length refused ≡ length edges → n ≡ length made → unfit ≡ get_or refused n d
+    → settled_one ≡ settled_edge unfit edge
     → new ≡ made ++ settled_one ∷ []
     → (new ≡ judged_edges (take (length (yielded ++ edge ∷ [])) refused) (yielded ++ edge ∷ []))
     × (length new ≡ length (yielded ++ edge ∷ []))
-edges_push refused edges yielded rest made new edge settled_one is_refused d n so_far counted whole long here value
+edges_push refused edges yielded rest made new edge settled_one unfit d n so_far counted whole long here value
     settles longer = (
       longer ∙ ap (λ (ds : List Dependency). ds ++ settled_one ∷ []) so_far
           ∙ ap (λ (x : Dependency). judged_edges (take (length yielded) refused) yielded ++ x ∷ [])
-          (settles ∙ ap (λ (b : Bool). settled_edge b edge)
+          (settles ∙ ap (λ (u : Option Unfit). settled_edge u edge)
           (value ∙ ap (λ (k : ℕ). get_or refused k d) (here ∙ counted)))
           ∙ sym (edges_more refused yielded edge d
           (place_now edges yielded rest edge (length yielded) (length refused) whole refl long)),
@@ -296,10 +297,11 @@ edges_push refused edges yielded rest made new edge settled_one is_refused d n s
     )
 
 -- all of them
-pub edges_whole : (refused : List Bool) (edges made : List Dependency) → length refused ≡ length edges
+pub edges_whole : (refused : List (Option Unfit)) (edges made : List Dependency) → length refused ≡ length edges
     → made ≡ judged_edges (take (length edges) refused) edges → made ≡ judged_edges refused edges
 edges_whole refused edges made long is =
-    is ∙ ap (λ (bs : List Bool). judged_edges bs edges) (take_all (length edges) refused (omega (arith, long)))
+    is ∙ ap (λ (us : List (Option Unfit)). judged_edges us edges)
+    (take_all (length edges) refused (omega (arith, long)))
 
 -- ---- what becomes of entries is told by which edges are followed
 

@@ -1,18 +1,21 @@
 -- The entry that a graph has for a specifier, against the first entry, which is what its answer means. A redirect that leads
--- too far is a fault, and so is an edge with an import attribute that the module at its end doesn't ask for.
-use Rattle.std.specs.Prelude.{◌≡◌, ℕ, zero, suc, ◌+◌, ◌≤◌, Bool, true, false, List, [], ◌∷◌, bytes_eq, codes, Option, Some, None, Ok, Err}
+-- too far is a fault, and so is an edge with an import attribute that the module at its end doesn't ask for, or in a source
+-- phase that it hasn't.
+use Rattle.std.specs.Prelude.{◌≡◌, ℕ, zero, suc, ◌+◌, ◌≤◌, Bool, true, false, not, List, [], ◌∷◌, bytes_eq, codes, Option, Some, None, Ok, Err}
 use Rattle.url.specs.Parts.{Parts}
 use Rattle.es_site.specs.declared.site.Attribute.{Attribute}
 use Rattle.es_site.specs.declared.site.Attribute.TheVariants.{Absent, Named, Unknown}
+use Rattle.es_site.specs.declared.site.DependencyKind.{DependencyKind}
 use Rattle.graph_entry.specs.Specifier.{text_of}
-use Rattle.graph_entry.specs.declared.resolution.ResolutionError.TheVariants.{InvalidTypeAssertion}
+use Rattle.graph_entry.specs.declared.resolution.ResolutionError.{ResolutionError}
+use Rattle.graph_entry.specs.declared.resolution.ResolutionError.TheVariants.{InvalidTypeAssertion, InvalidSourcePhase}
 use Rattle.graph_entry.specs.declared.entry.Dependency.{Dependency}
 use Rattle.graph_entry.specs.declared.entry.Module.{Module}
 use Rattle.graph_entry.specs.declared.entry.Module.TheVariants.{Js, Json, Wasm}
 use Rattle.graph_entry.specs.declared.entry.Entry.{Entry}
 use Rattle.graph_entry.specs.declared.entry.Entry.TheVariants as entry
 use Rattle.graph_entry.specs.declared.entry.ModuleError.TheVariants.{TooManyRedirects}
-use Rattle.graph_builder.specs.Rules.{edges_of}
+use Rattle.graph_builder.specs.Rules.{edges_of, is_source}
 use Rattle.graph_builder.specs.Reach.{Specifier, Answers, Rules, IsEntry}
 
 -- ---- redirects
@@ -76,32 +79,52 @@ fits (Named text) (Json m) = bytes_eq text (codes "json")
 fits (Named text) (Wasm m) = false
 fits Unknown m = true
 
--- an edge is followed, and redirects lead from its target to a module that its attribute doesn't fit
-pub record IsMisfit (rules : Rules) (answers : Answers) (m : Module) (d : Dependency) : Type 0 where
+-- whether a phase fits a module: a source phase asks for one of WebAssembly (TC39, "Source Phase Imports"; this project's
+-- profile), any other for none
+abbrev pub fits_phase : DependencyKind → Module → Bool
+fits_phase kind (Js m) = not (is_source kind)
+fits_phase kind (Json m) = not (is_source kind)
+fits_phase kind (Wasm m) = true
+
+-- an edge is followed, and redirects lead from its target to a module that isn't such a one
+pub record LeadsAmiss (rules : Rules) (answers : Answers) (m : Module) (d : Dependency) (suits : Module → Bool)
+    : Type 0 where
   pub followed : rules.follows m d ≡ true
   pub target : Parts
   pub resolved : d.resolution ≡ Ok target
   pub found : Module
   pub leads : LeadsTo rules answers (text_of target) (entry.Module found)
-  pub unfit : fits d.attribute found ≡ false
+  pub unfit : suits found ≡ false
 
--- the edge, refused for its attribute
-abbrev pub refused_edge : Dependency → Dependency
-refused_edge d = record {
+-- its attribute doesn't fit the module there
+abbrev pub IsMisfit : Rules → Answers → Module → Dependency → Type 0
+IsMisfit rules answers m d = LeadsAmiss rules answers m d (fits d.attribute)
+
+-- its phase doesn't
+abbrev pub IsPhaseMisfit : Rules → Answers → Module → Dependency → Type 0
+IsPhaseMisfit rules answers m d = LeadsAmiss rules answers m d (fits_phase d.kind)
+
+-- the edge, refused for this
+abbrev pub refused_edge : ResolutionError → Dependency → Dependency
+refused_edge why d = record {
   kind = d.kind;
   type_only = d.type_only;
   range = d.range;
   text = d.text;
   attribute = d.attribute;
-  resolution = Err InvalidTypeAssertion;
+  resolution = Err why;
 }
 
 -- what becomes of an edge of a module
 pub data IsFinalEdge (rules : Rules) (answers : Answers) (m : Module) (d made : Dependency) : Type 0 where
   -- it is refused for its attribute
-  misfit : IsMisfit rules answers m d → made ≡ refused_edge d → IsFinalEdge rules answers m d made
+  misfit : IsMisfit rules answers m d → made ≡ refused_edge InvalidTypeAssertion d → IsFinalEdge rules answers m d made
+  -- it isn't, but for its phase
+  phase_misfit : (IsMisfit rules answers m d → ⊥) → IsPhaseMisfit rules answers m d
+      → made ≡ refused_edge InvalidSourcePhase d → IsFinalEdge rules answers m d made
   -- it stays
-  fit : (IsMisfit rules answers m d → ⊥) → made ≡ d → IsFinalEdge rules answers m d made
+  fit : (IsMisfit rules answers m d → ⊥) → (IsPhaseMisfit rules answers m d → ⊥) → made ≡ d
+      → IsFinalEdge rules answers m d made
 
 -- what becomes of the edges of a module, one by one
 abbrev pub AreFinalEdges : Rules → Answers → Module → List Dependency → List Dependency → Type 0

@@ -2,7 +2,7 @@
 use Rattle.std.specs.Prelude.{ℕ, Bool, true, false, not, ◌&&◌, List, [], ◌∷◌, Option, None, if◌then◌else◌}
 use Rattle.std.specs.List.{filter_map}
 use Rattle.es_site.specs.declared.site.DependencyKind.{DependencyKind}
-use Rattle.es_site.specs.declared.site.DependencyKind.TheVariants.{Dynamic}
+use Rattle.es_site.specs.declared.site.DependencyKind.TheVariants.{ImportSource, Dynamic, DynamicSource, DynamicDefer}
 use Rattle.media_type.specs.MediaType.{is_typed}
 use Rattle.graph_entry.specs.declared.answer.LoadAnswer.{LoadAnswer}
 use Rattle.graph_entry.specs.declared.entry.Dependency.{Dependency}
@@ -53,21 +53,30 @@ has_types (Js m) = is_typed m.media_type
 has_types (Json m) = false
 has_types (Wasm m) = false
 
--- a graph of this kind follows an edge: every one, those that a running program takes, or those of modules with types
-abbrev pub of_kind : GraphKind → Bool → Bool → Bool
-of_kind All typed type_only = true
-of_kind CodeOnly typed type_only = not type_only
-of_kind TypesOnly typed type_only = typed
+-- the edge takes the source of a module of WebAssembly
+abbrev pub is_source : DependencyKind → Bool
+is_source ImportSource = true
+is_source DynamicSource = true
+is_source _ = false
 
--- the edge is an `import()`
+-- a graph of this kind follows an edge: every one, those that a running program takes, or those of modules with types,
+-- but for the edges that take a source
+abbrev pub of_kind : GraphKind → Bool → Dependency → Bool
+of_kind All typed d = true
+of_kind CodeOnly typed d = not d.type_only
+of_kind TypesOnly typed d = typed && not (is_source d.kind)
+
+-- the edge is an `import()`, in any phase
 abbrev pub is_dynamic : DependencyKind → Bool
 is_dynamic Dynamic = true
+is_dynamic DynamicSource = true
+is_dynamic DynamicDefer = true
 is_dynamic _ = false
 
 -- an edge of a module with types, or without, is followed (this project's profile)
 abbrev pub is_followed : Following → Bool → Dependency → Bool
 is_followed following typed d =
-    of_kind following.kind typed d.type_only && not (following.skip_dynamic_deps && is_dynamic d.kind)
+    of_kind following.kind typed d && not (following.skip_dynamic_deps && is_dynamic d.kind)
 
 -- which entries an answer for a specifier can have
 abbrev pub Means : Type 1

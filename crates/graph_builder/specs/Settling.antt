@@ -12,15 +12,18 @@ use Rattle.graph_entry.specs.declared.entry.Module.TheVariants.{Js, Json, Wasm}
 use Rattle.graph_entry.specs.declared.entry.Entry.{Entry}
 use Rattle.graph_entry.specs.declared.entry.Entry.TheVariants as entry
 use Rattle.graph_entry.specs.declared.entry.ModuleError.TheVariants.{TooManyRedirects}
+use Rattle.graph_entry.specs.declared.resolution.ResolutionError.TheVariants.{InvalidTypeAssertion, InvalidSourcePhase}
 use Rattle.graph_builder.specs.declared.slot.Slot.{Slot}
+use Rattle.graph_builder.specs.declared.settle.Unfit.{Unfit}
+use Rattle.graph_builder.specs.declared.settle.Unfit.TheVariants.{ForAttribute, ForPhase}
 use Rattle.graph_builder.specs.declared.settle.Verdict.{Verdict}
 use Rattle.graph_builder.specs.declared.settle.Verdict.TheVariants.{Kept, TooFar, Judged}
 use Rattle.graph_builder.specs.declared.following.Following.{Following}
-use Rattle.graph_builder.specs.Rules.{edges_of, is_followed}
+use Rattle.graph_builder.specs.Rules.{edges_of, is_source, is_followed}
 use Rattle.graph_builder.specs.Reach.{Specifier, Rules}
 use Rattle.graph_builder.specs.Graph.{GraphData, texts, entry_of, redirected, module_at, IsAscending}
 use Rattle.graph_builder.specs.ByText.{keys_at}
-use Rattle.graph_builder.specs.Final.{most_redirects, fits, refused_edge, with_edges}
+use Rattle.graph_builder.specs.Final.{most_redirects, fits, fits_phase, refused_edge, with_edges}
 use Rattle.graph_builder.specs.Inside.{all_done}
 
 -- ---- redirects
@@ -34,25 +37,28 @@ led next (suc n) s = option_and_then (led next n) (next s)
 abbrev pub leads_on : List (Parts × Entry) → Specifier → Bool
 leads_on firsts s = is_some (led (redirected firsts) most_redirects s)
 
--- ---- attributes
+-- ---- edges
 
--- the attribute doesn't fit the module, if there is one
-abbrev pub is_unfit : Attribute → Option Module → Bool
-is_unfit attribute None = false
-is_unfit attribute (Some m) = not (fits attribute m)
+-- what an edge is refused for by the module that it leads to, if there is one: first its attribute, then its phase
+abbrev pub unfit : Dependency → Option Module → Option Unfit
+unfit d None = None
+unfit d (Some m) =
+    if not (fits d.attribute m) then Some ForAttribute
+    else if not (fits_phase d.kind m) then Some ForPhase
+    else None
 
--- the attribute doesn't fit the module at the edge's end
-abbrev pub is_unfit_at : List (Parts × Entry) → Attribute → Resolved → Bool
-is_unfit_at firsts attribute (Ok target) = is_unfit attribute (module_at firsts (text_of target))
-is_unfit_at firsts attribute (Err e) = false
+-- the same of the module at the edge's end
+abbrev pub unfit_at : List (Parts × Entry) → Dependency → Resolved → Option Unfit
+unfit_at firsts d (Ok target) = unfit d (module_at firsts (text_of target))
+unfit_at firsts d (Err e) = None
 
--- the edge of a module is refused for its attribute
-abbrev pub is_misfit : Rules → List (Parts × Entry) → Module → Dependency → Bool
-is_misfit rules firsts m d = rules.follows m d && is_unfit_at firsts d.attribute d.resolution
+-- what an edge of a module is refused for, where it is followed
+abbrev pub misfit : Rules → List (Parts × Entry) → Module → Dependency → Option Unfit
+misfit rules firsts m d = if rules.follows m d then unfit_at firsts d d.resolution else None
 
 -- the same of an edge of a module with types, or without, by the rules of this crate
-abbrev pub is_misfit_here : Following → Bool → List (Parts × Entry) → Dependency → Bool
-is_misfit_here following typed firsts d = is_followed following typed d && is_unfit_at firsts d.attribute d.resolution
+abbrev pub misfit_here : Following → Bool → List (Parts × Entry) → Dependency → Option Unfit
+misfit_here following typed firsts d = if is_followed following typed d then unfit_at firsts d d.resolution else None
 
 -- ---- entries that nothing is to be judged of
 
@@ -62,16 +68,20 @@ is_named Absent = false
 is_named (Named text) = true
 is_named Unknown = false
 
--- no attribute of an edge does
-abbrev pub are_unnamed : List Dependency → Bool
-are_unnamed edges = list_all (λ d. not (is_named d.attribute)) edges
+-- an edge asks a module for nothing: its attribute names nothing, and it takes no source
+abbrev pub asks_nothing : Dependency → Bool
+asks_nothing d = not (is_named d.attribute) && not (is_source d.kind)
 
--- the entry doesn't redirect and isn't JSON, and no attribute of its edges names something
+-- all edges are so
+abbrev pub ask_nothing : List Dependency → Bool
+ask_nothing edges = list_all asks_nothing edges
+
+-- the entry doesn't redirect and isn't JSON, and its edges ask for nothing
 abbrev pub is_plain : Entry → Bool
 is_plain (entry.Redirect target) = false
-is_plain (entry.Module (Js m)) = are_unnamed m.dependencies
+is_plain (entry.Module (Js m)) = ask_nothing m.dependencies
 is_plain (entry.Module (Json m)) = false
-is_plain (entry.Module (Wasm m)) = are_unnamed m.dependencies
+is_plain (entry.Module (Wasm m)) = ask_nothing m.dependencies
 is_plain (entry.Package held) = true
 is_plain entry.External = true
 is_plain (entry.Error e) = true
@@ -93,18 +103,19 @@ values_of firsts = map (λ e. e.1) firsts
 -- what is to become of it
 abbrev pub verdict_of : Rules → List (Parts × Entry) → Entry → Verdict
 verdict_of rules firsts (entry.Redirect target) = if leads_on firsts (text_of target) then TooFar else Kept
-verdict_of rules firsts (entry.Module m) = Judged (map (is_misfit rules firsts m) (edges_of m))
+verdict_of rules firsts (entry.Module m) = Judged (map (misfit rules firsts m) (edges_of m))
 verdict_of rules firsts (entry.Package held) = Kept
 verdict_of rules firsts entry.External = Kept
 verdict_of rules firsts (entry.Error e) = Kept
 
--- an edge that is refused for its attribute, or isn't
-abbrev pub settled_edge : Bool → Dependency → Dependency
-settled_edge true d = refused_edge d
-settled_edge false d = d
+-- an edge that is refused, or isn't
+abbrev pub settled_edge : Option Unfit → Dependency → Dependency
+settled_edge None d = d
+settled_edge (Some ForAttribute) d = refused_edge InvalidTypeAssertion d
+settled_edge (Some ForPhase) d = refused_edge InvalidSourcePhase d
 
 -- the edges, each refused where its place says so
-abbrev pub judged_edges : List Bool → List Dependency → List Dependency
+abbrev pub judged_edges : List (Option Unfit) → List Dependency → List Dependency
 judged_edges refused edges = map (λ p. settled_edge p.0 p.1) (zip refused edges)
 
 -- the entry by its verdict
@@ -135,7 +146,7 @@ abbrev pub settled : Rules → List (Parts × Entry) → Entry → Entry
 settled rules firsts (entry.Redirect target) =
     if leads_on firsts (text_of target) then entry.Error (TooManyRedirects target) else entry.Redirect target
 settled rules firsts (entry.Module m) =
-    entry.Module (with_edges m (map (λ d. settled_edge (is_misfit rules firsts m d) d) (edges_of m)))
+    entry.Module (with_edges m (map (λ d. settled_edge (misfit rules firsts m d) d) (edges_of m)))
 settled rules firsts (entry.Package held) = entry.Package held
 settled rules firsts entry.External = entry.External
 settled rules firsts (entry.Error e) = entry.Error e

@@ -1,6 +1,6 @@
 //! Which edges of a graph are followed.
 ghost use Rattle.std.specs.Prelude.{◌≡◌};
-ghost use Rattle.graph_builder.specs.Rules.{of_kind, is_followed};
+ghost use Rattle.graph_builder.specs.Rules.{of_kind, is_source, is_dynamic, is_followed};
 
 use graph_entry::{Dependency, DependencyKind, GraphKind};
 
@@ -16,17 +16,36 @@ impl Following {
     pub fn is_followed(self, typed: bool, dependency: &Dependency) -> bool
         ensures { result ≡ is_followed self typed dependency.now }
     {
-        self.is_of_kind(typed, dependency.type_only)
-            && !(self.skip_dynamic_deps && matches!(dependency.kind, DependencyKind::Dynamic))
+        self.is_of_kind(typed, dependency)
+            && !(self.skip_dynamic_deps && is_dynamic(dependency.kind))
     }
 
-    fn is_of_kind(self, typed: bool, type_only: bool) -> bool
-        ensures { result ≡ of_kind self.kind typed type_only }
+    fn is_of_kind(self, typed: bool, dependency: &Dependency) -> bool
+        ensures { result ≡ of_kind self.kind typed dependency.now }
     {
         match self.kind {
             GraphKind::All => true,
-            GraphKind::CodeOnly => !type_only,
-            GraphKind::TypesOnly => typed,
+            GraphKind::CodeOnly => !dependency.type_only,
+            GraphKind::TypesOnly => typed && !is_source(dependency.kind),
         }
     }
+}
+
+/// Whether an edge takes the source of a module of WebAssembly.
+pub fn is_source(kind: DependencyKind) -> bool
+    ensures { result ≡ is_source kind }
+{
+    matches!(
+        kind,
+        DependencyKind::ImportSource | DependencyKind::DynamicSource
+    )
+}
+
+fn is_dynamic(kind: DependencyKind) -> bool
+    ensures { result ≡ is_dynamic kind }
+{
+    matches!(
+        kind,
+        DependencyKind::Dynamic | DependencyKind::DynamicSource | DependencyKind::DynamicDefer
+    )
 }

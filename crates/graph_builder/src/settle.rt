@@ -4,20 +4,30 @@ ghost use Rattle.graph_entry.specs.declared.entry.Entry.{Entry as First};
 ghost use Rattle.graph_builder.specs.declared.settle.Verdict.{Verdict as Judgement};
 ghost use Rattle.graph_entry.specs.Specifier.{text_of};
 ghost use Rattle.graph_builder.specs.Rules.{edges_of, has_types, rules_of, rules_by};
-ghost use Rattle.graph_builder.specs.Final.{fits, refused_edge, with_edges};
+ghost use Rattle.graph_builder.specs.Final.{fits, fits_phase, refused_edge, with_edges};
 ghost use Rattle.graph_builder.specs.Settling as spec;
 ghost use Rattle.graph_builder.specs.Settling.{finals_of, values_of, verdict_of, settled_edge};
 
-use crate::following::Following;
+use crate::following::{Following, is_source};
 use crate::graph::{MOST_REDIRECTS, module_in, redirect_in};
 use crate::ways::Ways;
 use base::Items;
 use graph_entry::{
-    Attribute, Dependency, Entry, JsModule, Module, ModuleError, ResolutionError, WasmModule,
+    Attribute, Dependency, DependencyKind, Entry, JsModule, Module, ModuleError, ResolutionError,
+    WasmModule,
 };
 use numbered::Numbered;
 use std::alloc::{AllocError, Global};
 use url::Url;
+
+/// What an edge is refused for by the module at its end.
+#[derive(Clone, Copy)]
+pub enum Unfit {
+    /// Its import attribute.
+    ForAttribute,
+    /// Its phase.
+    ForPhase,
+}
 
 /// What is to become of a first entry.
 #[derive(Drop)]
@@ -26,8 +36,8 @@ pub enum Verdict {
     Kept,
     /// It redirects further than redirects are followed.
     TooFar,
-    /// It is a module: which of its edges are refused for their attributes.
-    Judged(Items<bool>),
+    /// It is a module: which of its edges are refused, and for what.
+    Judged(Items<Option<Unfit>>),
 }
 
 /// The entries of the graph, of the first entries of all that is reached.
@@ -56,7 +66,7 @@ pub fn settle_by<W: Ways>(
     settle(alloc, ways.following(), firsts)
 }
 
-// Whether all first entries stay as they are: none redirects, none is JSON, and no attribute asks for something.
+// Whether all first entries stay as they are: none redirects, none is JSON, and no edge asks for something.
 fn are_plain(firsts: &[Entry]) -> bool
     ensures { result ≡ spec.all_plain firsts.now }
 {
@@ -67,17 +77,23 @@ fn is_plain(first: &Entry) -> bool
     ensures { result ≡ spec.is_plain first.now }
 {
     match first {
-        Entry::Module(Module::Js(source)) => are_unnamed(source.dependencies.as_slice()),
-        Entry::Module(Module::Wasm(binary)) => are_unnamed(binary.dependencies.as_slice()),
+        Entry::Module(Module::Js(source)) => ask_nothing(source.dependencies.as_slice()),
+        Entry::Module(Module::Wasm(binary)) => ask_nothing(binary.dependencies.as_slice()),
         Entry::Redirect(_) | Entry::Module(Module::Json(_)) => false,
         Entry::Package(_) | Entry::External | Entry::Error(_) => true,
     }
 }
 
-fn are_unnamed(edges: &[Dependency]) -> bool
-    ensures { result ≡ spec.are_unnamed edges.now }
+fn ask_nothing(edges: &[Dependency]) -> bool
+    ensures { result ≡ spec.ask_nothing edges.now }
 {
-    edges.iter().all(|edge| is_unnamed(&edge.attribute))
+    edges.iter().all(asks_nothing)
+}
+
+fn asks_nothing(edge: &Dependency) -> bool
+    ensures { result ≡ spec.asks_nothing edge.now }
+{
+    is_unnamed(&edge.attribute) && !is_source(edge.kind)
 }
 
 fn is_unnamed(attribute: &Attribute) -> bool
@@ -154,15 +170,15 @@ fn leads_on(firsts: &Numbered<Entry>, specifier: &Url) -> bool
     true
 }
 
-// Which edges of a module are refused for their attributes.
+// Which edges of a module are refused, and for what.
 fn misfits(
     alloc: Global,
     following: Following,
     firsts: &Numbered<Entry>,
     importer: &Module,
-) -> Result<Items<bool>, AllocError>
+) -> Result<Items<Option<Unfit>>, AllocError>
     ensures { IfOk result (λ refused. refused
-        ≡ map (spec.is_misfit (rules_of following) firsts.now importer.now) (edges_of importer.now)) }
+        ≡ map (spec.misfit (rules_of following) firsts.now importer.now) (edges_of importer.now)) }
 {
     match importer {
         Module::Js(source) => {
@@ -195,32 +211,62 @@ fn misfits_among(
     typed: bool,
     firsts: &Numbered<Entry>,
     edges: &[Dependency],
-) -> Result<Items<bool>, AllocError>
-    ensures { IfOk result (λ refused. refused ≡ map (spec.is_misfit_here following typed firsts.now) edges.now) }
+) -> Result<Items<Option<Unfit>>, AllocError>
+    ensures { IfOk result (λ refused. refused ≡ map (spec.misfit_here following typed firsts.now) edges.now) }
 {
     let mut refused = Items::new(alloc);
     for edge in edges {
-        refused.push(is_misfit(following, typed, firsts, edge))?;
+        refused.push(misfit(following, typed, firsts, edge))?;
     }
     Ok(refused)
 }
 
-fn is_misfit(following: Following, typed: bool, firsts: &Numbered<Entry>, edge: &Dependency) -> bool
-    ensures { result ≡ spec.is_misfit_here following typed firsts.now edge.now }
+fn misfit(
+    following: Following,
+    typed: bool,
+    firsts: &Numbered<Entry>,
+    edge: &Dependency,
+) -> Option<Unfit>
+    ensures { result ≡ spec.misfit_here following typed firsts.now edge.now }
 {
-    following.is_followed(typed, edge) && is_unfit(firsts, edge)
+    if following.is_followed(typed, edge) {
+        unfit_at(firsts, edge)
+    } else {
+        None
+    }
 }
 
-// Whether the edge's attribute doesn't fit the module that the edge leads to.
-fn is_unfit(firsts: &Numbered<Entry>, edge: &Dependency) -> bool
-    ensures { result ≡ spec.is_unfit_at firsts.now edge.now.attribute edge.now.resolution }
+// What the module that the edge leads to refuses it for.
+fn unfit_at(firsts: &Numbered<Entry>, edge: &Dependency) -> Option<Unfit>
+    ensures { result ≡ spec.unfit_at firsts.now edge.now edge.now.resolution }
 {
     match &edge.resolution {
         Ok(target) => match module_in(firsts, target) {
-            Some(found) => !fits(&edge.attribute, found),
-            None => false,
+            Some(found) => unfit(edge, found),
+            None => None,
         },
-        Err(_) => false,
+        Err(_) => None,
+    }
+}
+
+fn unfit(edge: &Dependency, found: &Module) -> Option<Unfit>
+    ensures { result ≡ spec.unfit edge.now (Some found.now) }
+{
+    if !fits(&edge.attribute, found) {
+        Some(Unfit::ForAttribute)
+    } else if !fits_phase(edge.kind, found) {
+        Some(Unfit::ForPhase)
+    } else {
+        None
+    }
+}
+
+fn fits_phase(kind: DependencyKind, found: &Module) -> bool
+    ensures { result ≡ fits_phase kind found.now }
+{
+    match found {
+        Module::Js(_) | Module::Json(_) => !is_source(kind),
+        Module::Wasm(_) => true,
     }
 }
 
@@ -286,7 +332,11 @@ fn judged(alloc: Global, verdict: &Verdict, first: Entry) -> Result<Entry, Alloc
     }
 }
 
-fn judged_module(alloc: Global, refused: &[bool], importer: Module) -> Result<Module, AllocError>
+fn judged_module(
+    alloc: Global,
+    refused: &[Option<Unfit>],
+    importer: Module,
+) -> Result<Module, AllocError>
     requires { length refused.now ≡ length (edges_of importer) }
     ensures { IfOk result (λ m. m ≡ with_edges importer (spec.judged_edges refused.now (edges_of importer))) }
 {
@@ -319,7 +369,7 @@ fn judged_module(alloc: Global, refused: &[bool], importer: Module) -> Result<Mo
 
 fn judged_edges(
     alloc: Global,
-    refused: &[bool],
+    refused: &[Option<Unfit>],
     edges: Items<Dependency>,
 ) -> Result<Items<Dependency>, AllocError>
     requires { length refused.now ≡ length edges }
@@ -327,18 +377,25 @@ fn judged_edges(
 {
     let mut made = Items::new(alloc);
     for edge in edges.into_vec() {
-        let is_refused = refused[made.len()];
-        made.push(settled_edge(is_refused, edge))?;
+        let refusal = refused[made.len()];
+        made.push(settled_edge(refusal, edge))?;
     }
     Ok(made)
 }
 
-fn settled_edge(is_refused: bool, edge: Dependency) -> Dependency
-    ensures { result ≡ settled_edge is_refused edge }
+fn settled_edge(unfit: Option<Unfit>, edge: Dependency) -> Dependency
+    ensures { result ≡ settled_edge unfit edge }
 {
-    if !is_refused {
-        return edge;
+    match unfit {
+        None => edge,
+        Some(Unfit::ForAttribute) => refused_edge(ResolutionError::InvalidTypeAssertion, edge),
+        Some(Unfit::ForPhase) => refused_edge(ResolutionError::InvalidSourcePhase, edge),
     }
+}
+
+fn refused_edge(why: ResolutionError, edge: Dependency) -> Dependency
+    ensures { result ≡ refused_edge why edge }
+{
     let Dependency {
         kind,
         type_only,
@@ -353,6 +410,6 @@ fn settled_edge(is_refused: bool, edge: Dependency) -> Dependency
         range,
         text,
         attribute,
-        resolution: Err(ResolutionError::InvalidTypeAssertion),
+        resolution: Err(why),
     }
 }

@@ -197,5 +197,9 @@ fn kind_number(kind: DependencyKind) -> u32
         DependencyKind::ReferenceTypes => 5,
         DependencyKind::Wasm => 6,
         DependencyKind::Referrer => 7,
+        DependencyKind::ImportSource => 8,
+        DependencyKind::ImportDefer => 9,
+        DependencyKind::DynamicSource => 10,
+        DependencyKind::DynamicDefer => 11,
     }
 }

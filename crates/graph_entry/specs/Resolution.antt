@@ -9,7 +9,7 @@ use Rattle.file_url.specs.Imports as imports
 use Rattle.specifier_resolver.specs.declared.resolver.ResolveFault.TheVariants as fault
 use Rattle.specifier_resolver.specs.Resolver.{Resolving, default_resolving}
 use Rattle.graph_entry.specs.declared.resolution.ResolutionError.{ResolutionError}
-use Rattle.graph_entry.specs.declared.resolution.ResolutionError.TheVariants.{ImportPrefixMissing, InvalidUrl, InvalidDowngrade, InvalidLocalImport, InvalidTypeAssertion, Refused}
+use Rattle.graph_entry.specs.declared.resolution.ResolutionError.TheVariants.{ImportPrefixMissing, InvalidUrl, InvalidDowngrade, InvalidLocalImport, InvalidTypeAssertion, InvalidSourcePhase, Refused}
 
 -- a target, or why there is none
 abbrev pub Resolved : Type 0
@@ -82,6 +82,7 @@ KeepsReason (Err (InvalidUrl e)) = ¬ IsOutOfRoom e
 KeepsReason (Err InvalidDowngrade) = Unit {0}
 KeepsReason (Err InvalidLocalImport) = Unit {0}
 KeepsReason (Err InvalidTypeAssertion) = Unit {0}
+KeepsReason (Err InvalidSourcePhase) = Unit {0}
 KeepsReason (Err (Refused text)) = Unit {0}
 
 -- the name of a refusal, as reports write it
@@ -91,4 +92,5 @@ name_of_error (InvalidUrl e) = codes "InvalidUrl"
 name_of_error InvalidDowngrade = codes "InvalidDowngrade"
 name_of_error InvalidLocalImport = codes "InvalidLocalImport"
 name_of_error InvalidTypeAssertion = codes "InvalidTypeAssertion"
+name_of_error InvalidSourcePhase = codes "InvalidSourcePhase"
 name_of_error (Refused text) = codes "Refused"

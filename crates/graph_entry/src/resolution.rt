@@ -25,6 +25,9 @@ pub enum ResolutionError {
     InvalidLocalImport,
     /// The import attribute doesn't fit the module at the edge's end. Never what a text and a referrer lead to.
     InvalidTypeAssertion,
+    /// The edge is of a source phase, and the module at its end isn't one of WebAssembly. Never what a text and a referrer
+    /// lead to.
+    InvalidSourcePhase,
     /// For a reason of a caller's own resolver.
     Refused(Text),
 }
@@ -43,6 +46,7 @@ impl ResolutionError {
             ResolutionError::InvalidDowngrade => ResolutionError::InvalidDowngrade,
             ResolutionError::InvalidLocalImport => ResolutionError::InvalidLocalImport,
             ResolutionError::InvalidTypeAssertion => ResolutionError::InvalidTypeAssertion,
+            ResolutionError::InvalidSourcePhase => ResolutionError::InvalidSourcePhase,
             ResolutionError::Refused(why) => ResolutionError::Refused(why.copy()?),
         })
     }
@@ -57,6 +61,7 @@ impl ResolutionError {
             ResolutionError::InvalidDowngrade => "InvalidDowngrade",
             ResolutionError::InvalidLocalImport => "InvalidLocalImport",
             ResolutionError::InvalidTypeAssertion => "InvalidTypeAssertion",
+            ResolutionError::InvalidSourcePhase => "InvalidSourcePhase",
             ResolutionError::Refused(_) => "Refused",
         }
     }

@@ -2,7 +2,7 @@
 use Rattle.std.specs.Prelude.{◌≡◌, ℕ, Bool, true, false, not, ◌&&◌, List, Option, Some, None, is_some, option_and_then, slice_get, if◌then◌else◌}
 use Rattle.url.specs.Parts.{Parts}
 use Rattle.es_site.specs.declared.site.DependencyKind.{DependencyKind}
-use Rattle.es_site.specs.declared.site.DependencyKind.TheVariants.{Import, Export, ImportEquals, Wasm}
+use Rattle.es_site.specs.declared.site.DependencyKind.TheVariants.{Import, ImportSource, Export, ImportEquals, Wasm}
 use Rattle.graph_entry.specs.declared.entry.Dependency.{Dependency}
 use Rattle.graph_entry.specs.declared.entry.Module.{Module}
 use Rattle.graph_entry.specs.declared.entry.Entry.{Entry}
@@ -18,6 +18,7 @@ Entries = List (Parts × Entry)
 -- an edge of this kind leads to what runs first
 abbrev pub is_static_kind : DependencyKind → Bool
 is_static_kind Import = true
+is_static_kind ImportSource = true
 is_static_kind Export = true
 is_static_kind ImportEquals = true
 is_static_kind Wasm = true

@@ -72,6 +72,7 @@ fn is_static_kind(kind: DependencyKind) -> bool
     matches!(
         kind,
         DependencyKind::Import
+            | DependencyKind::ImportSource
             | DependencyKind::Export
             | DependencyKind::ImportEquals
             | DependencyKind::Wasm

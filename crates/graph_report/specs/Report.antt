@@ -5,7 +5,7 @@ use Rattle.json.specs.Print.{quoted}
 use Rattle.base.specs.declared.range.Range.{Range}
 use Rattle.url.specs.Parts.{Parts}
 use Rattle.es_site.specs.declared.site.DependencyKind.{DependencyKind}
-use Rattle.es_site.specs.declared.site.DependencyKind.TheVariants.{Import, Export, ImportEquals, Dynamic, ReferencePath, ReferenceTypes, Wasm, Referrer}
+use Rattle.es_site.specs.declared.site.DependencyKind.TheVariants.{Import, ImportSource, ImportDefer, Export, ImportEquals, Dynamic, DynamicSource, DynamicDefer, ReferencePath, ReferenceTypes, Wasm, Referrer}
 use Rattle.es_site.specs.declared.site.Attribute.{Attribute}
 use Rattle.es_site.specs.declared.site.Attribute.TheVariants.{Absent, Named, Unknown}
 use Rattle.package_ref.specs.declared.reference.PackageRef.{PackageRef}
@@ -35,11 +35,15 @@ blank = 32 ∷ []
 abbrev pub kind_word : DependencyKind → Bool → List ℕ
 kind_word Import false = codes "import"
 kind_word Import true = codes "import-type"
+kind_word ImportSource type_only = codes "import-source"
+kind_word ImportDefer type_only = codes "import-defer"
 kind_word Export false = codes "export"
 kind_word Export true = codes "export-type"
 kind_word ImportEquals false = codes "import-equals"
 kind_word ImportEquals true = codes "import-equals-type"
 kind_word Dynamic type_only = codes "dynamic"
+kind_word DynamicSource type_only = codes "dynamic-source"
+kind_word DynamicDefer type_only = codes "dynamic-defer"
 kind_word ReferencePath type_only = codes "reference-path"
 kind_word ReferenceTypes type_only = codes "reference-types"
 kind_word Wasm type_only = codes "wasm"

@@ -1,6 +1,7 @@
 //! Imports and exports, and what stands in them.
 
 use crate::spans::{Seen, ends, first_in, span, token_span, told, told_at};
+use es_ast::ImportPhase;
 use es_module_name_views::{Attributes, Clause, Names, attributes_at, clause_at, names_at};
 use es_module_views::{Export, Import};
 use es_syntax::{Item, Siblings};
@@ -26,6 +27,16 @@ pub fn in_import(letter: &str, tokens: &[Token], it: &Item<'_>, view: &Import<'_
             "i" => told_at("Import", tokens, it),
             "z" | "w" | "v" => in_source(letter, tokens, *source, attributes),
             _ => in_clause(tokens, clause),
+        },
+        Import::Phased {
+            phase,
+            name,
+            source,
+            attributes,
+        } => match letter {
+            "i" => told_at("Import", tokens, it),
+            "z" | "w" | "v" => in_source(letter, tokens, *source, attributes),
+            _ => in_phase(tokens, *phase, name),
         },
         Import::Require { source, .. } => match letter {
             "i" => told_at("TsImportEquals", tokens, it),
@@ -76,6 +87,15 @@ fn in_clause(tokens: &[Token], it: &Item<'_>) -> Option<Seen> {
             Names::Broken => None,
         },
         Clause::Broken => None,
+    }
+}
+
+/// What an import in a phase binds: a deferred one `* as a`, from two tokens before the name.
+fn in_phase(tokens: &[Token], phase: ImportPhase, name: &Item<'_>) -> Option<Seen> {
+    let (from, to) = ends(name)?;
+    match phase {
+        ImportPhase::Defer => Some(told("Namespace", span(tokens, from.checked_sub(2)?, to)?)),
+        _ => Some(told("Ident", span(tokens, from, to)?)),
     }
 }
 

@@ -105,6 +105,31 @@ const TYPED: &[(&str, &str)] = &[
     ),
 ];
 
+/// Imports and calls by phase.
+const PHASES: &[(&str, &str)] = &[
+    (
+        "import source a from 'b'",
+        "ImportSource 21-24 \"b\" Absent; ",
+    ),
+    ("import source from 'b'", "Import 19-22 \"b\" Absent; "),
+    (
+        "import source from from 'b'",
+        "ImportSource 24-27 \"b\" Absent; ",
+    ),
+    (
+        "import defer * as a from 'b' with { type: 'c' }",
+        "ImportDefer 25-28 \"b\" Named(\"c\"); ",
+    ),
+    (
+        "import.source('a', import.defer('b'))",
+        "DynamicSource 14-17 \"a\" Unknown; DynamicDefer 32-35 \"b\" Absent; ",
+    ),
+    (
+        "import.defer('a', { with: { type: 'b' } }), import.source(import('c'),)",
+        "DynamicDefer 13-16 \"a\" Named(\"b\"); Dynamic 65-68 \"c\" Absent; ",
+    ),
+];
+
 /// The attribute of a call by the keys of its options.
 const PLAIN: &[(&str, &str)] = &[
     (
@@ -187,7 +212,12 @@ fn each_place_of_a_form(rt: HostRuntime) -> Result<(), Fail> {
 
 #[test]
 fn kinds_and_attributes(rt: HostRuntime) -> Result<(), Fail> {
-    for (lang, rows) in [(Lang::Typescript, TYPED), (Lang::Es, PLAIN)] {
+    for (lang, rows) in [
+        (Lang::Typescript, TYPED),
+        (Lang::Es, PLAIN),
+        (Lang::Es, PHASES),
+        (Lang::Typescript, PHASES),
+    ] {
         let found = others(rt.alloc(), Ask::Sites, lang, Mode::Module, rows)?;
         assert_eq!(rt; found.as_str(), "");
     }

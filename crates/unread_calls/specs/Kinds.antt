@@ -1,7 +1,7 @@
 -- Kinds of tokens that tell a call, or nothing where there is no token.
 use Rattle.std.specs.Prelude.{Bool, true, false, Option, Some}
 use Rattle.es_token.specs.declared.token.TokenKind.{TokenKind}
-use Rattle.es_token.specs.declared.token.TokenKind.TheVariants.{OpenParen, CloseParen, Comma, Str, Colon, OpenBrace, Equal, Dot, QuestionDot, FunctionWord, ExtendsWord, NewWord, ImportWord, TypeWord}
+use Rattle.es_token.specs.declared.token.TokenKind.TheVariants.{OpenParen, CloseParen, Comma, Str, Colon, OpenBrace, Equal, Dot, QuestionDot, FunctionWord, ExtendsWord, NewWord, ImportWord, TypeWord, SourceWord, DeferWord}
 
 abbrev pub is_opening : Option TokenKind → Bool
 is_opening (Some OpenParen) = true
@@ -51,3 +51,17 @@ abbrev pub declares : Option TokenKind → Bool
 declares (Some ImportWord) = true
 declares (Some TypeWord) = true
 declares _ = false
+
+abbrev pub is_dot : Option TokenKind → Bool
+is_dot (Some Dot) = true
+is_dot _ = false
+
+abbrev pub is_import : Option TokenKind → Bool
+is_import (Some ImportWord) = true
+is_import _ = false
+
+-- the words of phases
+abbrev pub is_phase : Option TokenKind → Bool
+is_phase (Some SourceWord) = true
+is_phase (Some DeferWord) = true
+is_phase _ = false

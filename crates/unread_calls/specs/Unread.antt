@@ -9,7 +9,7 @@ use Rattle.es_token.specs.declared.token.TokenKind.TheVariants.{ImportWord, Requ
 use Rattle.unread_calls.specs.declared.call.Loader.{Loader}
 use Rattle.unread_calls.specs.declared.call.Loader.TheVariants.{Import, Require}
 use Rattle.unread_calls.specs.declared.call.UnreadCall.{UnreadCall}
-use Rattle.unread_calls.specs.Kinds.{is_opening, is_closing, ends_argument, is_string, is_colon, is_brace, is_equal, names, is_heritage, declares}
+use Rattle.unread_calls.specs.Kinds.{is_opening, is_closing, ends_argument, is_string, is_colon, is_brace, is_equal, names, is_heritage, declares, is_dot, is_import, is_phase}
 
 -- ---- around the word with a number
 
@@ -40,6 +40,17 @@ takes_literal tokens i = is_string (kind_at tokens (i + 2)) && ends_argument (ki
 abbrev pub closing : List Token → ℕ → Option ℕ
 closing tokens i = option_and_then (λ t. t.partner) (slice_get tokens (i + 1))
 
+-- ---- what stands in front of the bracket's word
+
+-- the word is a phase, behind `import` and `.`
+abbrev pub is_in_phase : List Token → ℕ → Bool
+is_in_phase tokens i =
+    is_phase (kind_at tokens i) && is_dot (kind_before tokens i 1) && is_import (kind_before tokens i 2)
+
+-- the number of the first word of what is called: of `import` in `import.source`
+abbrev pub head : List Token → ℕ → ℕ
+head tokens i = if is_in_phase tokens i then i - 2 else i
+
 -- ---- what is a name alone
 
 -- a token on the line of the one in front of it
@@ -57,11 +68,12 @@ behind_closing tokens i = option_and_then (λ close. slice_get tokens (close + 1
 
 -- a body stands behind the bracket, so that the word is a method's name; what a class extends has one behind it too
 abbrev pub has_body : List Token → ℕ → Bool
-has_body tokens i = opens_body (behind_closing tokens i) && not (is_heritage (kind_before tokens i 1))
+has_body tokens i = opens_body (behind_closing tokens i) && not (is_heritage (kind_before tokens (head tokens i) 1))
 
 -- the word is the name of a property, of a function, or of a method, whose first parameter has a type or which has a body
 abbrev pub is_name : List Token → ℕ → Bool
-is_name tokens i = names (kind_before tokens i 1) || is_colon (kind_at tokens (i + 3)) || has_body tokens i
+is_name tokens i =
+    names (kind_before tokens (head tokens i) 1) || is_colon (kind_at tokens (i + 3)) || has_body tokens i
 
 -- ---- what has an edge
 
@@ -83,6 +95,9 @@ loader_of (Some ImportWord) = Some Import
 loader_of (Some RequireWord) = Some Require
 loader_of _ = None
 
+abbrev pub loader_at : List Token → ℕ → Option Loader
+loader_at tokens i = if is_in_phase tokens i then Some Import else loader_of (kind_at tokens i)
+
 -- the word calls it, and no edge stands for that
 abbrev pub is_unread : Loader → List Token → ℕ → Bool
 is_unread loader tokens i = takes_argument tokens i && not (is_name tokens i) && not (has_edge loader tokens i)
@@ -95,13 +110,13 @@ call_of loader word close =
 abbrev pub call_at : Loader → List Token → ℕ → Option UnreadCall
 call_at loader tokens i =
     option_and_then (λ word. option_map (call_of loader word) (option_and_then (slice_get tokens) (closing tokens i)))
-    (slice_get tokens i)
+    (slice_get tokens (head tokens i))
 
 -- the call of the word with this number, where no edge stands for it
 abbrev pub unread_at : List Token → ℕ → Option UnreadCall
 unread_at tokens i =
     option_and_then (λ loader. if is_unread loader tokens i then call_at loader tokens i else None)
-    (loader_of (kind_at tokens i))
+    (loader_at tokens i)
 
 -- all of them, in the order of the text
 abbrev pub unread_of : List Token → List UnreadCall

@@ -3,8 +3,8 @@ ghost use Rattle.std.specs.Prelude.{◌≡◌, ◌+◌, slice_get};
 ghost use Rattle.unread_calls.specs.Unread as spec;
 
 use crate::kinds::{
-    declares, ends_argument, is_brace, is_closing, is_colon, is_equal, is_heritage, is_opening,
-    is_string, names,
+    declares, ends_argument, is_brace, is_closing, is_colon, is_dot, is_equal, is_heritage,
+    is_import, is_opening, is_phase, is_string, names,
 };
 use es_token::{Token, TokenKind};
 
@@ -63,6 +63,26 @@ fn kind_before(tokens: &[Token], i: usize, count: usize) -> Option<TokenKind>
     kind_of(token_before(tokens, i, count))
 }
 
+/// Whether the word is a phase, behind `import` and `.`.
+pub fn is_in_phase(tokens: &[Token], i: usize) -> bool
+    ensures { result ≡ spec.is_in_phase tokens.now i }
+{
+    is_phase(kind_at(tokens, i))
+        && is_dot(kind_before(tokens, i, 1))
+        && is_import(kind_before(tokens, i, 2))
+}
+
+/// The number of the first word of what is called: of `import` in `import.source`.
+pub fn head(tokens: &[Token], i: usize) -> usize
+    ensures { result ≡ spec.head tokens.now i }
+{
+    if is_in_phase(tokens, i) {
+        i.saturating_sub(2)
+    } else {
+        i
+    }
+}
+
 /// Whether a bracket stands behind the word, and something in the bracket.
 pub fn takes_argument(tokens: &[Token], i: usize) -> bool
     ensures { result ≡ spec.takes_argument tokens.now i }
@@ -117,14 +137,17 @@ fn token_behind_closing(tokens: &[Token], i: usize) -> Option<Token>
 fn has_body(tokens: &[Token], i: usize) -> bool
     ensures { result ≡ spec.has_body tokens.now i }
 {
-    opens_body(token_behind_closing(tokens, i)) && !is_heritage(kind_before(tokens, i, 1))
+    opens_body(token_behind_closing(tokens, i))
+        && !is_heritage(kind_before(tokens, head(tokens, i), 1))
 }
 
 /// Whether the word is the name of a property, of a function, or of a method.
 pub fn is_name(tokens: &[Token], i: usize) -> bool
     ensures { result ≡ spec.is_name tokens.now i }
 {
-    names(kind_before(tokens, i, 1)) || is_colon(kind_behind(tokens, i, 3)) || has_body(tokens, i)
+    names(kind_before(tokens, head(tokens, i), 1))
+        || is_colon(kind_behind(tokens, i, 3))
+        || has_body(tokens, i)
 }
 
 /// Whether the word stands in `import a = require("b")`.

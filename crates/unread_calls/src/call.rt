@@ -3,7 +3,8 @@ ghost use Rattle.std.specs.Prelude.{◌≡◌, ◌++◌, IfOk, OnOk, option_to_l
 ghost use Rattle.unread_calls.specs.Unread as spec;
 
 use crate::around::{
-    closing, is_import_equals, is_name, kind_at, takes_argument, takes_literal, token_at,
+    closing, head, is_import_equals, is_in_phase, is_name, kind_at, takes_argument, takes_literal,
+    token_at,
 };
 use base::{Items, Range};
 use es_token::{Token, TokenKind};
@@ -12,7 +13,7 @@ use std::alloc::{AllocError, Global};
 /// What a call loads by.
 #[derive(Clone, Copy, Debug, PartialEq, Eq)]
 pub enum Loader {
-    /// `import(..)`, whose first argument is no string literal.
+    /// `import(..)`, `import.source(..)` or `import.defer(..)`, whose first argument is no string literal.
     Import,
     /// `require(..)`, other than in `import a = require("b")`.
     Require,
@@ -51,11 +52,21 @@ fn add_unread(tokens: &[Token], i: usize, calls: &mut Items<UnreadCall>) -> Resu
 fn unread_at(tokens: &[Token], i: usize) -> Option<UnreadCall>
     ensures { result ≡ spec.unread_at tokens.now i }
 {
-    let loader = loader_of(kind_at(tokens, i))?;
+    let loader = loader_at(tokens, i)?;
     if is_unread(loader, tokens, i) {
         call_at(loader, tokens, i)
     } else {
         None
+    }
+}
+
+fn loader_at(tokens: &[Token], i: usize) -> Option<Loader>
+    ensures { result ≡ spec.loader_at tokens.now i }
+{
+    if is_in_phase(tokens, i) {
+        Some(Loader::Import)
+    } else {
+        loader_of(kind_at(tokens, i))
     }
 }
 
@@ -87,7 +98,7 @@ fn has_edge(loader: Loader, tokens: &[Token], i: usize) -> bool
 fn call_at(loader: Loader, tokens: &[Token], i: usize) -> Option<UnreadCall>
     ensures { result ≡ spec.call_at loader tokens.now i }
 {
-    let word = token_at(tokens, i)?;
+    let word = token_at(tokens, head(tokens, i))?;
     let close = token_at(tokens, closing(tokens, i)?)?;
     Some(UnreadCall {
         loader,

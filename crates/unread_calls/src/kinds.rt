@@ -76,3 +76,24 @@ pub fn declares(kind: Option<TokenKind>) -> bool
 {
     matches!(kind, Some(TokenKind::ImportWord | TokenKind::TypeWord))
 }
+
+/// `.`
+pub fn is_dot(kind: Option<TokenKind>) -> bool
+    ensures { result ≡ spec.is_dot kind }
+{
+    matches!(kind, Some(TokenKind::Dot))
+}
+
+/// `import`
+pub fn is_import(kind: Option<TokenKind>) -> bool
+    ensures { result ≡ spec.is_import kind }
+{
+    matches!(kind, Some(TokenKind::ImportWord))
+}
+
+/// `source` or `defer`.
+pub fn is_phase(kind: Option<TokenKind>) -> bool
+    ensures { result ≡ spec.is_phase kind }
+{
+    matches!(kind, Some(TokenKind::SourceWord | TokenKind::DeferWord))
+}

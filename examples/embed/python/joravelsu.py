@@ -19,7 +19,8 @@ from typing import NamedTuple
 DTS, DMTS, DCTS, TYPESCRIPT, MTS, CTS, TSX, JAVASCRIPT, MJS, CJS, JSX, JSON, WASM = range(13)
 
 _DONE, _BAD_BUNDLE, _NO_ROOM, _NO_MEMORY = 0, 2, 4, 5
-_KINDS = ("import", "export", "import-equals", "dynamic", "reference-path", "reference-types", "wasm", "referrer")
+_KINDS = ("import", "export", "import-equals", "dynamic", "reference-path", "reference-types", "wasm", "referrer",
+          "import-source", "import-defer", "dynamic-source", "dynamic-defer")
 _CALLS = ("import", "require")
 _NO_UTF8, _NAMED = 7, 2
 _REASONS = {
@@ -52,7 +53,8 @@ class Site(NamedTuple):
     """A place where a source names another module."""
 
     kind: str
-    """import, export, import-equals, dynamic, reference-path or reference-types."""
+    """import, import-source, import-defer, export, import-equals, dynamic, dynamic-source, dynamic-defer, reference-path or
+    reference-types."""
     type_only: bool
     """Whether nothing is loaded when the program runs."""
     start: int

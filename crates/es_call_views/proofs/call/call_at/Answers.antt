@@ -15,6 +15,8 @@ returns-in_default c =
         other label l.ImportMeta c.in_default.not-ImportMeta,
         other label l.NewTarget c.in_default.not-NewTarget,
         other label l.ImportCall c.in_default.not-ImportCall,
+        other label l.SourceCall c.in_default.not-SourceCall,
+        other label l.DeferCall c.in_default.not-DeferCall,
         other label l.New c.in_default.not-New,
         other label l.Chain c.in_default.not-Chain,
         other label l.TypedNew c.in_default.not-TypedNew,

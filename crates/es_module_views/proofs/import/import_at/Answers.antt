@@ -13,6 +13,8 @@ returns-in_default c =
         c.in-Node.is,
         other label l.BareImport c.in_default.not-BareImport,
         other label l.FromImport c.in_default.not-FromImport,
+        other label l.SourceImport c.in_default.not-SourceImport,
+        other label l.DeferImport c.in_default.not-DeferImport,
         other label l.RequireImport c.in_default.not-RequireImport,
         other label l.ExportedRequireImport c.in_default.not-ExportedRequireImport,
         other label l.EntityImport c.in_default.not-EntityImport,

@@ -1,7 +1,7 @@
 use Rattle.std.proofs.Common.{◌≡◌, map, take}
-use Rattle.graph_builder.specs.Settling.{is_misfit_here}
+use Rattle.graph_builder.specs.Settling.{misfit_here}
 use Rattle.graph_builder.proofs.settle.misfits_among.Given as goal
 
 -- an answer for each edge so far
 abbrev pub invariant-loop-edge : goal.invariant-loop-edge
-invariant-loop-edge l = l.refused ≡ map (is_misfit_here l.following l.typed l.firsts) (take l.edge-index l.edges)
+invariant-loop-edge l = l.refused ≡ map (misfit_here l.following l.typed l.firsts) (take l.edge-index l.edges)

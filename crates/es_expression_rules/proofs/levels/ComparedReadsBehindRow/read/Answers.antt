@@ -1,7 +1,7 @@
 use Rattle.std.proofs.Common.{refl}
 use Rattle.es_tree.specs.Productions.{by_predicate, wrap}
 use Rattle.es_grammar.specs.declared.rows.NodeKind.TheVariants.{Binary, TypedBinary}
-use Rattle.es_grammar.specs.Expressions.{comparison_in, asserted_or, opens_comparison}
+use Rattle.es_grammar.specs.Expressions.{comparison_in, tight_in, asserted_or, opens_comparison}
 use Rattle.es_rules.specs.Steps.{keys_in}
 use Rattle.es_expression_rules.specs.Levels.{related}
 use Rattle.es_expression_rules.proofs.Same.{read_as, related_plain, related_typed}
@@ -22,7 +22,7 @@ returns-in-Typescript g c =
     (g.T.Rows.below c.args.grammar.now.rows c.args.grammar.now.input)
     c.args.from.token c.args.from.token base base c.read-in-Typescript.new.cursor c.read-in-Typescript.result
     (wrap TypedBinary a (by_predicate (opens_comparison c.args.self.now.0 c.args.self.now.1))
-    (asserted_or (comparison_in c.args.self.now.1)))
+    (asserted_or (tight_in c.args.self.now.1)))
     (related c.args.self.now.0 c.args.self.now.1 a) refl refl
     (related_typed c.args.self.now.1 a c.args.self.now.0 c.in-Typescript.is)
     (c.read-in-Typescript.ensures a base there read)
