@@ -59,7 +59,10 @@ file_name k media = codes "m" ++ decimal k ++ codes "." ++ extension media
 -- the name of its file, and the specifier that this joins to at the folder, if it is one
 abbrev pub name_of : Parts → ℕ → Module → NewName
 name_of base k m =
-    record { file_name = file_name k (media_of m); target = result_ok (parse_url (Some base) (file_name k (media_of m))) }
+    record {
+      file_name = file_name k (media_of m);
+      target = result_ok (parse_url (Some base) (file_name k (media_of m)));
+    }
 
 -- the modules' specifiers with their new names
 abbrev pub Names : Type 0

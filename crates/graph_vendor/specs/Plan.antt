@@ -42,14 +42,18 @@ range_or None = record { start = 0; end = 0 }
 -- the literal of an edge gives way to its new one, in double quotes
 abbrev pub edit_of : Entries → Names → Dependency → TextChange
 edit_of entries names d =
-    record { range = range_or d.range; new_text = encode_utf8_all (quoted (chars (literal_to entries names d.resolution))) }
+    record {
+      range = range_or d.range;
+      new_text = encode_utf8_all (quoted (chars (literal_to entries names d.resolution)));
+    }
 
 -- the site of an edge with this range
 abbrev pub site_of : Dependency → Range → Site
 site_of d range =
     record { kind = d.kind; type_only = d.type_only; range = range; value = d.text; attribute = d.attribute }
 
--- a text as the bytes of a file that is read as this text: where it begins with a byte order mark, one more stands in front
+-- a text as the bytes of a file that is read as this text: where it begins with a byte order mark, one more stands in
+-- front
 abbrev pub in_file : List ℕ → List ℕ
 in_file text = if begins text mark then mark ++ text else text
 
@@ -96,7 +100,8 @@ pub record Passes (reads : Reading) (graph : GraphData) : Type 0 where
   pub all : IsFirstRefused reads graph.entries None
 
 -- the first of the causes, with the specifier that has it
-pub data IsRefusal (reads : Reading) (graph : GraphData) (names : Names) (cause : VendorCause) (s : Parts) : Type 0 where
+pub data IsRefusal (reads : Reading) (graph : GraphData) (names : Names) (cause : VendorCause) (s : Parts) :
+    Type 0 where
   referrer : (rest : List (Parts × List Dependency)) (edges : List Dependency) → cause ≡ ReferrerImport
       → graph.imports ≡ (s, edges) ∷ rest → IsRefusal reads graph names cause s
   of_entry : graph.imports ≡ [] → IsFirstRefused reads graph.entries (Some (cause, s))

@@ -92,7 +92,8 @@ fn serves_at(
     held: &Module,
     target: Option<&Url>,
 ) -> Result<bool, AllocError>
-    ensures { IfOk result (λ yes. (yes ≡ true) ↔ ServesAt graph.now.entries names.now held.now (option_copied target.entry)) }
+    ensures { IfOk result (λ yes. (yes ≡ true)
+        ↔ ServesAt graph.now.entries names.now held.now (option_copied target.entry)) }
 {
     match target {
         Some(target) => serves(alloc, graph, names, held, target),
@@ -139,7 +140,8 @@ fn keeps_edge(
     at: &Url,
     edge: &Dependency,
 ) -> Result<bool, AllocError>
-    ensures { IfOk result (λ yes. yes ≡ kept.keeps_edge graph.now.entries names.now (text_of at.now) edge.now.resolution) }
+    ensures { IfOk result (λ yes. yes
+        ≡ kept.keeps_edge graph.now.entries names.now (text_of at.now) edge.now.resolution) }
 {
     match &edge.resolution {
         Ok(to) => leads_there(alloc, graph, names, at, to),
@@ -154,7 +156,8 @@ fn leads_there(
     at: &Url,
     to: &Url,
 ) -> Result<bool, AllocError>
-    ensures { IfOk result (λ yes. yes ≡ kept.leads_there graph.now.entries names.now (text_of at.now) (text_of to.now)) }
+    ensures { IfOk result (λ yes. yes
+        ≡ kept.leads_there graph.now.entries names.now (text_of at.now) (text_of to.now)) }
 {
     let text = literal_for(alloc, graph, names, to)?;
     match resolve(alloc, text.as_str(), at)? {
@@ -185,7 +188,8 @@ pub fn renamed<'a>(
     names: &'a Numbered<NewName>,
     specifier: &'a Url,
 ) -> Option<&'a Url>
-    ensures { option_map text_of (option_copied result) ≡ spec.renamed graph.now.entries names.now (text_of specifier.now) }
+    ensures { option_map text_of (option_copied result)
+        ≡ spec.renamed graph.now.entries names.now (text_of specifier.now) }
 {
     let there = graph.resolve(specifier);
     match name_at(names, there) {

@@ -61,7 +61,8 @@ fn name_of(
     media: MediaType,
 ) -> Result<NewName, AllocError>
     ensures file { IfOk result (λ name. name.file_name ≡ spec.file_name number media) }
-    ensures target { IfOk result (λ name. name.target ≡ result_ok (parse_url (Some base.now) (spec.file_name number media))) }
+    ensures target { IfOk result (λ name. name.target
+        ≡ result_ok (parse_url (Some base.now) (spec.file_name number media))) }
 {
     let file_name = file_name(alloc, number, media)?;
     let target = joined(base, file_name.as_str())?;
