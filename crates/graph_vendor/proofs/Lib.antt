@@ -1,0 +1,4 @@
+pub mod NameLemmas
+pub mod FileLemmas
+pub mod RefusedLemmas
+pub mod KeptLemmas

@@ -1,0 +1,17 @@
+//! The modules of a graph as files of one folder, in which each names the others by their new names.
+//!
+//! - `plan_vendor(analyzer, graph, base)`: the files, the roots and what stays outside, or the first cause for which the
+//!   graph can't be vendored (`IsPlanned`, `specs/Plan.antt`).
+//!
+//! Not promised: when memory runs out.
+#![tactic(auto)]
+
+mod edges;
+mod files;
+mod kept;
+mod names;
+mod plan;
+mod refused;
+
+pub use crate::names::NewName;
+pub use crate::plan::{VendorCause, VendorError, VendorFile, VendorPlan, plan_vendor};
