@@ -1,7 +1,7 @@
 //! The rule of each row, and the rows themselves.
 
 ghost use Rattle.es_grammar.specs.Table.{rule};
-ghost use Rattle.es_rules.specs.Bounded.{row_at, rule_at};
+ghost use Rattle.es_rules.specs.Bounded.{row_at};
 ghost use Rattle.es_rules.specs.Steps.{keys_in, IsRead, IsRing};
 
 use es_expression_rules::{
@@ -20,21 +20,90 @@ use es_statement_rules::{
 use es_tree::{Lang, SyntaxError};
 use es_type_ends::OfTypes;
 
-/// What a production reads. Its value stands in the frame of this function, so that a row whose rule is told apart from fifty
-/// others has one such value in its frame, and not one for each of them.
-#[inline(never)]
-fn reads<P: ReadsProduction<Row> + Copy, T: Rows<Row>>(
-    production: P,
-    grammar: &Grammar<'_, T>,
-    cursor: &mut Cursor,
-) -> Result<usize, SyntaxError>
-    requires { T.ready grammar.now.rows grammar.now.input }
-    ensures { IsRead grammar.now.input.keeps (rule_at (keys_in grammar.now.input) (T.below grammar.now.rows grammar.now.input) (P.rule production) cursor.old.at) cursor.old.row cursor.new result }
-{
-    production.read(grammar, cursor)
+/// The rule of a row, in a language: each of them.
+#[derive(Clone, Copy)]
+struct AnyProduction(Lang, Row);
+
+impl ReadsProduction<Row> for AnyProduction {
+    ghost rule = { λ s. rule s.0 s.1 };
+
+    #[inline(never)]
+    #[tactic(auto, unfolding(es_grammar::specs::Table::rule))]
+    fn read<T: Rows<Row>>(
+        &self,
+        grammar: &Grammar<'_, T>,
+        cursor: &mut Cursor,
+    ) -> Result<usize, SyntaxError> {
+        match self.1 {
+            Row::ModuleRow => Module.read(grammar, cursor),
+            Row::ScriptRow => Script.read(grammar, cursor),
+            Row::ItemRow(context) => Item(self.0, context).read(grammar, cursor),
+            Row::ClauseRow => Clause(self.0).read(grammar, cursor),
+            Row::NamedRow => Named(self.0).read(grammar, cursor),
+            Row::ImportSpecifierRow => ImportSpecifier(self.0).read(grammar, cursor),
+            Row::ExportSpecifierRow => ExportSpecifier(self.0).read(grammar, cursor),
+            Row::AttributesRow => Attributes.read(grammar, cursor),
+            Row::EntityRow => Entity.read(grammar, cursor),
+            Row::StatementRow(context) => Statement(self.0, context).read(grammar, cursor),
+            Row::BlockRow(context) => Block(context).read(grammar, cursor),
+            Row::DeclarationRow(context) => {
+                Declaration(self.0, context, Refuse).read(grammar, cursor)
+            }
+            Row::DeclaredRow(context) => Declared(context).read(grammar, cursor),
+            Row::VariablesRow(context) => Variables(context).read(grammar, cursor),
+            Row::DeclaratorRow(context) => Declarator(self.0, context).read(grammar, cursor),
+            Row::UsingRow(context) => Using(context).read(grammar, cursor),
+            Row::HeadRow(context) => Head(self.0, context).read(grammar, cursor),
+            Row::HeadPatternRow(context) => HeadPattern(self.0, context).read(grammar, cursor),
+            Row::FunctionRow(named, context) => {
+                AnyFunction(self.0, named, context).read(grammar, cursor)
+            }
+            Row::ClassRow(named, context) => AnyClass(self.0, named, context).read(grammar, cursor),
+            Row::SignatureRow(context) => Signature(self.0, context).read(grammar, cursor),
+            Row::ParametersRow(context) => Parameters(self.0, context).read(grammar, cursor),
+            Row::ParameterRow(context) => Parameter(self.0, context).read(grammar, cursor),
+            Row::PatternRow(assigned, context) => {
+                Pattern(self.0, assigned, context).read(grammar, cursor)
+            }
+            Row::InnerPatternRow(assigned, context) => {
+                InnerPattern(self.0, assigned, context).read(grammar, cursor)
+            }
+            Row::PatternElementRow(assigned, context) => {
+                PatternElement(self.0, assigned, context).read(grammar, cursor)
+            }
+            Row::PatternPropertyRow(assigned, context) => {
+                PatternProperty(assigned, context).read(grammar, cursor)
+            }
+            Row::MemberRow(context) => Member(self.0, context).read(grammar, cursor),
+            Row::PropertyRow(context) => Property(self.0, context).read(grammar, cursor),
+            Row::KeyRow(private, context) => Key(private, context).read(grammar, cursor),
+            Row::ExpressionRow(context) => Expression(self.0, context).read(grammar, cursor),
+            Row::AssignmentRow(context) => Assignment(self.0, context).read(grammar, cursor),
+            Row::AndRow(context) => And(context, BitOr(self.0, context)).read(grammar, cursor),
+            Row::BitOrRow(context) => BitOr(self.0, context).read(grammar, cursor),
+            Row::BitXorRow(context) => BitXor(self.0, context).read(grammar, cursor),
+            Row::BitAndRow(context) => BitAnd(self.0, context).read(grammar, cursor),
+            Row::EqualityRow(context) => Equality(self.0, context).read(grammar, cursor),
+            Row::RelationRow(context) => Relation(self.0, context).read(grammar, cursor),
+            Row::ShiftRow(context) => Shift(self.0, context).read(grammar, cursor),
+            Row::SumRow(context) => Sum(self.0, context).read(grammar, cursor),
+            Row::ProductRow(context) => Product(self.0, context).read(grammar, cursor),
+            Row::PowerRow(context) => Power(self.0, context).read(grammar, cursor),
+            Row::UnaryRow(context) => Unary(self.0, context).read(grammar, cursor),
+            Row::RightRow(context) => RightOperand(self.0, context).read(grammar, cursor),
+            Row::ChainRow(context) => Chain(self.0, context).read(grammar, cursor),
+            Row::CalleeRow(context) => Callee(self.0, context).read(grammar, cursor),
+            Row::PostRow(context) => Post(self.0, context).read(grammar, cursor),
+            Row::MemberPostRow(context) => MemberPost(self.0, context).read(grammar, cursor),
+            Row::ArgumentsRow(context) => Arguments(context).read(grammar, cursor),
+            Row::ElementRow(context) => Element(self.0, context).read(grammar, cursor),
+            Row::TemplateRow(context) => Template(context).read(grammar, cursor),
+            Row::TypesRow(row) => OfTypes(row).read(grammar, cursor),
+        }
+    }
 }
 
-/// The rule of a row, in a language.
+/// The rule of a row, in a language. Those that are read most stand first, in a frame of their own: that of all rows is wide.
 #[derive(Clone, Copy)]
 pub struct ProductionOf(pub Lang, pub Row);
 
@@ -48,86 +117,13 @@ impl ReadsProduction<Row> for ProductionOf {
         cursor: &mut Cursor,
     ) -> Result<usize, SyntaxError> {
         match self.1 {
-            Row::ModuleRow => reads(Module, grammar, cursor),
-            Row::ScriptRow => reads(Script, grammar, cursor),
-            Row::ItemRow(context) => reads(Item(self.0, context), grammar, cursor),
-            Row::ClauseRow => reads(Clause(self.0), grammar, cursor),
-            Row::NamedRow => reads(Named(self.0), grammar, cursor),
-            Row::ImportSpecifierRow => reads(ImportSpecifier(self.0), grammar, cursor),
-            Row::ExportSpecifierRow => reads(ExportSpecifier(self.0), grammar, cursor),
-            Row::AttributesRow => reads(Attributes, grammar, cursor),
-            Row::EntityRow => reads(Entity, grammar, cursor),
-            Row::StatementRow(context) => reads(Statement(self.0, context), grammar, cursor),
-            Row::BlockRow(context) => reads(Block(context), grammar, cursor),
-            Row::DeclarationRow(context) => reads(
-                Declaration(self.0, context, Refuse),
-                grammar,
-                cursor,
-            ),
-            Row::DeclaredRow(context) => reads(Declared(context), grammar, cursor),
-            Row::VariablesRow(context) => reads(Variables(context), grammar, cursor),
-            Row::DeclaratorRow(context) => reads(Declarator(self.0, context), grammar, cursor),
-            Row::UsingRow(context) => reads(Using(context), grammar, cursor),
-            Row::HeadRow(context) => reads(Head(self.0, context), grammar, cursor),
-            Row::HeadPatternRow(context) => reads(HeadPattern(self.0, context), grammar, cursor),
-            Row::FunctionRow(named, context) => reads(
-                AnyFunction(self.0, named, context),
-                grammar,
-                cursor,
-            ),
-            Row::ClassRow(named, context) => reads(
-                AnyClass(self.0, named, context),
-                grammar,
-                cursor,
-            ),
-            Row::SignatureRow(context) => reads(Signature(self.0, context), grammar, cursor),
-            Row::ParametersRow(context) => reads(Parameters(self.0, context), grammar, cursor),
-            Row::ParameterRow(context) => reads(Parameter(self.0, context), grammar, cursor),
-            Row::PatternRow(assigned, context) => reads(
-                Pattern(self.0, assigned, context),
-                grammar,
-                cursor,
-            ),
-            Row::InnerPatternRow(assigned, context) => reads(
-                InnerPattern(self.0, assigned, context),
-                grammar,
-                cursor,
-            ),
-            Row::PatternElementRow(assigned, context) => reads(
-                PatternElement(self.0, assigned, context),
-                grammar,
-                cursor,
-            ),
-            Row::PatternPropertyRow(assigned, context) => reads(
-                PatternProperty(assigned, context),
-                grammar,
-                cursor,
-            ),
-            Row::MemberRow(context) => reads(Member(self.0, context), grammar, cursor),
-            Row::PropertyRow(context) => reads(Property(self.0, context), grammar, cursor),
-            Row::KeyRow(private, context) => reads(Key(private, context), grammar, cursor),
-            Row::ExpressionRow(context) => reads(Expression(self.0, context), grammar, cursor),
-            Row::AssignmentRow(context) => reads(Assignment(self.0, context), grammar, cursor),
-            Row::AndRow(context) => reads(And(context, BitOr(self.0, context)), grammar, cursor),
-            Row::BitOrRow(context) => reads(BitOr(self.0, context), grammar, cursor),
-            Row::BitXorRow(context) => reads(BitXor(self.0, context), grammar, cursor),
-            Row::BitAndRow(context) => reads(BitAnd(self.0, context), grammar, cursor),
-            Row::EqualityRow(context) => reads(Equality(self.0, context), grammar, cursor),
-            Row::RelationRow(context) => reads(Relation(self.0, context), grammar, cursor),
-            Row::RightRow(context) => reads(RightOperand(self.0, context), grammar, cursor),
-            Row::ShiftRow(context) => reads(Shift(self.0, context), grammar, cursor),
-            Row::SumRow(context) => reads(Sum(self.0, context), grammar, cursor),
-            Row::ProductRow(context) => reads(Product(self.0, context), grammar, cursor),
-            Row::PowerRow(context) => reads(Power(self.0, context), grammar, cursor),
-            Row::UnaryRow(context) => reads(Unary(self.0, context), grammar, cursor),
-            Row::ChainRow(context) => reads(Chain(self.0, context), grammar, cursor),
-            Row::CalleeRow(context) => reads(Callee(self.0, context), grammar, cursor),
-            Row::PostRow(context) => reads(Post(self.0, context), grammar, cursor),
-            Row::MemberPostRow(context) => reads(MemberPost(self.0, context), grammar, cursor),
-            Row::ArgumentsRow(context) => reads(Arguments(context), grammar, cursor),
-            Row::ElementRow(context) => reads(Element(self.0, context), grammar, cursor),
-            Row::TemplateRow(context) => reads(Template(context), grammar, cursor),
-            Row::TypesRow(row) => reads(OfTypes(row), grammar, cursor),
+            Row::PostRow(context) => Post(self.0, context).read(grammar, cursor),
+            Row::AssignmentRow(context) => Assignment(self.0, context).read(grammar, cursor),
+            Row::ExpressionRow(context) => Expression(self.0, context).read(grammar, cursor),
+            Row::ArgumentsRow(context) => Arguments(context).read(grammar, cursor),
+            Row::StatementRow(context) => Statement(self.0, context).read(grammar, cursor),
+            Row::TypesRow(row) => OfTypes(row).read(grammar, cursor),
+            row => AnyProduction(self.0, row).read(grammar, cursor),
         }
     }
 }
