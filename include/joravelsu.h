@@ -66,6 +66,7 @@ enum {
     JORAVELSU_DYNAMIC = 3,       /* import("a") */
     JORAVELSU_REFERENCE_PATH = 4,/* the comment /// <reference path="a" />, in TypeScript */
     JORAVELSU_REFERENCE_TYPES = 5,/* the comment /// <reference types="a" />, in TypeScript */
+    /* 6 and 7 are kinds of edges that stand in no source */
     JORAVELSU_IMPORT_SOURCE = 8, /* import source a from "a" */
     JORAVELSU_IMPORT_DEFER = 9,  /* import defer * as a from "a" */
     JORAVELSU_DYNAMIC_SOURCE = 10,/* import.source("a") */

@@ -230,7 +230,7 @@ function drawEdges(layer) {
     for (const edge of list) kinds.set(edge.kind, (kinds.get(edge.kind) || 0) + 1);
     const kind = [...kinds].sort((a, b) => b[1] - a[1])[0][0], isRed = list.every(edge => edge.b.isFaulty);
     const path = make('path', {
-      class: 'edge' + (kind !== base(kind) ? ' type' : '') + (['dynamic', 'redirect'].includes(base(kind)) ? ' lazy' : ''),
+      class: 'edge' + (kind !== base(kind) ? ' type' : '') + (data.lazy.includes(base(kind)) ? ' lazy' : ''),
       stroke: colourOf(kind, isRed), d: curve(one, other), opacity: clear, 'marker-end': `url(#to${colourOf(kind, isRed).slice(1)})`,
     });
     if (list.length > 1) path.style.strokeWidth = (1.3 + Math.log2(list.length) * 0.6).toFixed(1);
