@@ -16,7 +16,7 @@ pub returns-in-Typescript : goal.returns-in-Typescript
 returns-in-Typescript g c =
     λ a base there read. read_as c.args.grammar.now.input.keeps (keys_in c.args.grammar.now.input)
     (g.T.Rows.below c.args.grammar.now.rows c.args.grammar.now.input)
-    c.args.from.token c.args.from.token base base c.read-in-Typescript.new.cursor c.read-in-Typescript.result
+    c.args.from.token c.args.from.token base base c.read.new.cursor c.read.result
     (shift_over c.args.self.now.0 c.args.self.now.1 a) (behind_types c.args.self.now.0 c.args.self.now.1 a) refl refl
     (behind_typed c.args.self.now.1 a c.args.self.now.0 c.in-Typescript.is)
-    (c.read-in-Typescript.ensures a base there read)
+    (c.read.ensures a base there read)
