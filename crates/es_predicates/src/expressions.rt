@@ -1,7 +1,8 @@
 //! Predicates of what may stand behind an expression, and tests of the next token.
 
-ghost use Rattle.std.specs.Prelude.{◌≡◌};
-ghost use Rattle.es_tree.specs.Key.{keys_of, seen};
+ghost use Rattle.std.specs.Prelude.{◌≡◌, ◌-◌};
+ghost use Rattle.es_token.specs.declared.token.TokenKind.TheVariants as k;
+ghost use Rattle.es_tree.specs.Key.{keys_of, seen, is};
 ghost use Rattle.es_grammar.specs.Expressions.{begins_value, begins_parameters, begins_arguments, begins_callee_post, opens_operand, opens_post, opens_shift_in, goes_on, ends_new, comes_behind, opens_class_name, opens_comparison, is_behind_as, opens_abstract_class};
 ghost use Rattle.es_type_grammar.specs.TypeNames.{begins_angle};
 ghost use Rattle.es_grammar.specs.Statements.{begins_value_here, opens_initial};
@@ -138,15 +139,23 @@ pub fn comes_behind(tokens: &Tokens<'_>, kinds: Kinds, at: usize) -> bool
     has(kinds, tokens.seen(at - 1))
 }
 
+/// `var` stands before.
+fn is_behind_var(tokens: &Tokens<'_>, at: usize) -> bool
+    ensures { result ≡ is k.VarWord (seen (keys_of tokens.now.tokens.now) (at - 1)) }
+{
+    if at == 0 {
+        return tokens.sees(TokenKind::VarWord, 0);
+    }
+    tokens.sees(TokenKind::VarWord, at - 1)
+}
+
 /// In scripts, an initial value in the head of a `for`: a name behind `var` and before `=`.
 #[tactic(auto, unfolding(es_grammar::specs::Statements::opens_initial))]
 pub fn opens_initial(tokens: &Tokens<'_>, context: Context, at: usize) -> bool
     ensures { result ≡ opens_initial context (keys_of tokens.now.tokens.now) at }
 {
-    if !context.script {
-        return false;
-    }
-    comes_behind(tokens, Kinds::Only(TokenKind::VarWord), at)
+    context.script
+        && is_behind_var(tokens, at)
         && has_name(tokens.seen(at))
         && is(TokenKind::Equal, tokens.seen_after(at, 1))
 }
