@@ -25,12 +25,12 @@ use Rattle.es_grammar.specs.declared.rows.Row.TheVariants.{ModuleRow, ScriptRow,
 use Rattle.es_lowering.specs.Texts.{stop_of}
 use Rattle.es_lowering.specs.Operators.{unary_ops, update_ops, arithmetic_ops, logical_ops, assign_ops, variable_kinds, accessor_kinds}
 use Rattle.es_lowering.specs.TypeTexts.{keyword_kinds, type_operators, signs}
-use Rattle.es_lowering_total.proofs.Rows.{first_use, second_use, yields}
+use Rattle.es_lowering_total.proofs.Rows.{first_use, second_use, yields, shut}
 use Rattle.es_lowering_total.proofs.Table.{needs}
 use Rattle.es_lowering_total.proofs.Rules.{rule_ok}
 
 pub es_first : (r : Row) → yields lang.Es r (first_use lang.Es r) ≡ true
-    → rule_ok (yields lang.Es) needs (rule lang.Es r) (first_use lang.Es r) ≡ true
+    → rule_ok (yields lang.Es) needs (shut r) (rule lang.Es r) (first_use lang.Es r) ≡ true
 unfolding holds_everywhere is_name is_word is_name_or_this is_numeric is_sign is_accessor_word is_near begins_key
     may_end ended word_or_str_in names_in attributes attributes_ended from_ended opens_type_import opens_type_name
     type_word_in is_renamed is_no_type_as_as import_specifier named has_comma clause entity opens_equals shows_require
@@ -50,7 +50,8 @@ unfolding holds_everywhere is_name is_word is_name_or_this is_numeric is_sign is
     is_tight comes_behind is_tightest right_operand tight_in base arguments opens_non_null opens_post
     plain_member_post non_null_post member_post import_arguments source_call defer_call import_base
     optional_post is_at opens_call opens_typed_template post chain callee may_await update prefix await_ unary power
-    level product sum begins_angle opens_shift_in shifted shift is_assertion_word opens_assertion opens_comparison may_test private_in comparison_in
+    level product sum begins_angle opens_shift_in shifted shift is_assertion_word opens_assertion opens_comparison
+    may_test private_in comparison_in
     is_behind_as asserted asserted_or no_form relation equality bit_and bit_xor bit_or and_ coalesce binary
     conditional opens_operand yield_ assignment expression element default_in array_pattern object_pattern target
     bracket_pattern inner_pattern pattern pattern_element pattern_property rest_in parameters is_typed_modifier
@@ -58,7 +59,8 @@ unfolding holds_everywhere is_name is_word is_name_or_this is_numeric is_sign is
     parameter signature plain_key key opens_any_method typed_head_in method_in property opens_modifier behind_all
     is_member_key static_in value_in head_in marked_in class_method_in is_field_mark field_in modified_member
     index_member any_member member condition_in block is_declarator_mark opens_declarator declarator
-    declarators variables using_in using_ opens_initial head_pattern head_pattern_in head start_in for_ for_each for_await return_ case_in switch_ finally_in
+    declarators variables using_in using_ opens_initial head_pattern head_pattern_in head start_in for_ for_each
+    for_await return_ case_in switch_ finally_in
     try_ is_script expression_statement keyword_statement other_statement opens_interface opens_alias opens_enum
     opens_namespace opens_module opens_global is_declaration_word opens_declare type_members interface alias enum_
     items_in is_namespace_word namespace module_namespace global typed_declaration declared declares_variables declare
@@ -127,7 +129,7 @@ es_first (TemplateRow c) e = refl
 es_first (TypesRow r) e = clash e
 
 pub es_second : (r : Row) → yields lang.Es r (second_use lang.Es r) ≡ true
-    → rule_ok (yields lang.Es) needs (rule lang.Es r) (second_use lang.Es r) ≡ true
+    → rule_ok (yields lang.Es) needs (shut r) (rule lang.Es r) (second_use lang.Es r) ≡ true
 unfolding holds_everywhere is_name is_word is_name_or_this is_numeric is_sign is_accessor_word is_near begins_key
     may_end ended word_or_str_in names_in attributes attributes_ended from_ended opens_type_import opens_type_name
     type_word_in is_renamed is_no_type_as_as import_specifier named has_comma clause entity opens_equals shows_require
@@ -147,7 +149,8 @@ unfolding holds_everywhere is_name is_word is_name_or_this is_numeric is_sign is
     is_tight comes_behind is_tightest right_operand tight_in base arguments opens_non_null opens_post
     plain_member_post non_null_post member_post import_arguments source_call defer_call import_base
     optional_post is_at opens_call opens_typed_template post chain callee may_await update prefix await_ unary power
-    level product sum begins_angle opens_shift_in shifted shift is_assertion_word opens_assertion opens_comparison may_test private_in comparison_in
+    level product sum begins_angle opens_shift_in shifted shift is_assertion_word opens_assertion opens_comparison
+    may_test private_in comparison_in
     is_behind_as asserted asserted_or no_form relation equality bit_and bit_xor bit_or and_ coalesce binary
     conditional opens_operand yield_ assignment expression element default_in array_pattern object_pattern target
     bracket_pattern inner_pattern pattern pattern_element pattern_property rest_in parameters is_typed_modifier
@@ -155,7 +158,8 @@ unfolding holds_everywhere is_name is_word is_name_or_this is_numeric is_sign is
     parameter signature plain_key key opens_any_method typed_head_in method_in property opens_modifier behind_all
     is_member_key static_in value_in head_in marked_in class_method_in is_field_mark field_in modified_member
     index_member any_member member condition_in block is_declarator_mark opens_declarator declarator
-    declarators variables using_in using_ opens_initial head_pattern head_pattern_in head start_in for_ for_each for_await return_ case_in switch_ finally_in
+    declarators variables using_in using_ opens_initial head_pattern head_pattern_in head start_in for_ for_each
+    for_await return_ case_in switch_ finally_in
     try_ is_script expression_statement keyword_statement other_statement opens_interface opens_alias opens_enum
     opens_namespace opens_module opens_global is_declaration_word opens_declare type_members interface alias enum_
     items_in is_namespace_word namespace module_namespace global typed_declaration declared declares_variables declare

@@ -11,6 +11,7 @@ mod ModuleForms
 mod TypeForms
 mod Build
 mod Rows
+mod Once
 mod TypeClaims
 mod EsClaims
 mod TypescriptClaims

@@ -4,7 +4,7 @@ use Rattle.std.proofs.Common.{◌≡◌, ◌⊎◌}
 use Rattle.es_token.specs.declared.token.Token.{Token}
 use Rattle.es_token.specs.declared.token.TokenKind.{TokenKind}
 use Rattle.es_token.specs.declared.token.TokenKind.TheVariants as k
-use Rattle.es_tree.specs.Key.{TokenTest, same_kind, has_kind}
+use Rattle.es_tree.specs.Key.{Key, TokenTest, same_kind, has_kind}
 use Rattle.es_tree.specs.Productions.{Predict, by_lookahead, greedy, by_predicate, Rhs, done, tok, punct, row, opt, many, alt, when_, where_}
 use Rattle.es_tree.proofs.EachKind.{holds_everywhere}
 use Rattle.es_lowering.specs.Value.{Value, absent, nil, more, part, as_group, first_of, behind}
@@ -198,6 +198,32 @@ told (by_predicate g) x = true
 -- no turn is told behind a turn
 abbrev pub stands_once : {Row : Type 0} → Predict → Rhs Row → Bool
 stands_once c f = holds_everywhere (λ x. not (told c x && closes f x))
+
+-- what a predicate tells of the place where a turn begins; a test of one token isn't asked here
+abbrev pub Shown : Predict → List Key → ℕ → Type 0
+Shown (by_lookahead t) K at = Unit {0}
+Shown (greedy t) K at = Unit {0}
+Shown (by_predicate g) K at = g K at ≡ true
+
+abbrev pub IfClosed : Bool → Bool → Type 0
+IfClosed true b = b ≡ true
+IfClosed false b = Unit {0}
+
+-- what predicates at the end of a form tell of the place behind it
+abbrev pub Closes : {Row : Type 0} → Rhs Row → List Key → ℕ → Type 0
+Closes done K at = Unit {0}
+Closes (tok s may f) K at = Closes f K at
+Closes (punct k f) K at = Closes f K at
+Closes (row r f) K at = Closes f K at
+Closes (opt c g f) K at = Closes f K at
+Closes (many c g f) K at = Closes f K at
+Closes (alt t a b f) K at = Closes f K at
+Closes (when_ t f) K at = Closes f K at
+Closes (where_ t f) K at = IfClosed (is_closed f) (t K at) × Closes f K at
+
+-- no turn begins behind a turn, by predicates
+abbrev pub StandsOnce : {Row : Type 0} → Predict → Rhs Row → Type 0
+StandsOnce c f = (K : List Key) (at : ℕ) → Shown c K at → Closes f K at → ⊥
 
 -- either of two tests, the other of which is asked only where the one fails
 abbrev pub or_asks : Bool → (Bool → Bool) → Bool

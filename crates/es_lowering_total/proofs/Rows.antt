@@ -4,7 +4,10 @@ use Rattle.es_tree.specs.declared.error.Lang.{Lang}
 use Rattle.es_tree.specs.declared.error.Lang.TheVariants as lang
 use Rattle.es_grammar.specs.declared.rows.Row.{Row}
 use Rattle.es_grammar.specs.declared.rows.Row.TheVariants.{ModuleRow, ScriptRow, ItemRow, ClauseRow, NamedRow, ImportSpecifierRow, ExportSpecifierRow, AttributesRow, EntityRow, StatementRow, BlockRow, DeclarationRow, DeclaredRow, VariablesRow, DeclaratorRow, UsingRow, HeadRow, HeadPatternRow, SignatureRow, ParametersRow, ParameterRow, PatternRow, InnerPatternRow, PatternElementRow, PatternPropertyRow, FunctionRow, ClassRow, MemberRow, PropertyRow, KeyRow, PostRow, MemberPostRow, ArgumentsRow, TypesRow}
+use Rattle.es_grammar.specs.declared.rows.NodeKind.{NodeKind}
+use Rattle.es_grammar.specs.declared.rows.NodeKind.TheVariants as labels
 use Rattle.es_type_grammar.specs.declared.rows.TypeRow.TheVariants as types
+use Rattle.es_lowering.specs.Lowering.{same_label}
 use Rattle.es_lowering_total.proofs.Uses.{Use, as_args, as_arguments, as_attributes, as_block, as_clause, as_decl, as_declarable, as_declarator, as_element, as_entity, as_export_specifier, as_expr, as_fn_param, as_fn_params, as_head, as_import_specifier, as_item, as_key, as_marked, as_member, as_names, as_param, as_params, as_pat, as_pat_prop, as_post, as_program, as_prop, as_reference, as_signature, as_stmt, as_type, as_type_key, as_type_member, as_type_params, as_type_pat, as_type_prop, as_variables, same_use}
 
 -- what each row gives
@@ -80,3 +83,12 @@ abbrev pub yields : Lang → Row → Use → Bool
 yields lang.Es (DeclaredRow c) u = false
 yields lang.Es (TypesRow r) u = false
 yields l r u = same_use u (first_use l r) || same_use u (second_use l r)
+
+-- what stands behind a type's name is no further node of the same alternative
+abbrev pub is_reference : NodeKind → Bool
+is_reference label = same_label label labels.Reference
+
+-- so it is told of the rows of types; of the others nothing is asked
+abbrev pub shut : Row → NodeKind → Bool
+shut (TypesRow r) = is_reference
+shut _ = λ label. false

@@ -18,8 +18,8 @@ use Rattle.es_lowering.specs.Texts.{span_of}
 use Rattle.es_lowering.specs.Lowering.{build, target_of, as_target}
 use Rattle.es_lowering.proofs.Equations.{value_node, value_role}
 use Rattle.es_lowering_total.proofs.Uses.{Use, as_expr, as_pat, as_head, IsThere, HasAt, same_use, same_uses}
-use Rattle.es_lowering_total.proofs.Needs.{Needs, of, Meets, told, stands_once, or_asks, covers}
-use Rattle.es_lowering_total.proofs.Sound.{IsNode, value, values, parts_of, either_holds, form_meets, no_more_turns}
+use Rattle.es_lowering_total.proofs.Needs.{Needs, of, Meets, told, stands_once, StandsOnce, or_asks, covers}
+use Rattle.es_lowering_total.proofs.Sound.{IsNode, value, values, parts_of, either_holds, form_meets, no_more_turns, no_second_turn}
 
 -- a node in the role of a target is a pattern and a head
 abbrev pub is_target : Use → Bool
@@ -31,6 +31,23 @@ target_there : {A B : Type 0} (o : Option A) (f : A → B) → IsThere o → IsT
 target_there (Some a) f h = tt
 target_there None f h = absurd h
 
+-- the nodes of these alternatives have no turn behind a turn, by predicates
+abbrev pub IfShut : Bool → Predict → Rhs Row → Type 0
+IfShut true c f = StandsOnce c f
+IfShut false c f = Unit {0}
+
+abbrev pub Shuts : (NodeKind → Bool) → Production Row NodeKind → Type 0
+Shuts shut refuse = Unit {0}
+Shuts shut (make l f) = Unit {0}
+Shuts shut (choose t a b) = Shuts shut a × Shuts shut b
+Shuts shut (as_ w a) = Shuts shut a
+Shuts shut (pick g a b) = Shuts shut a × Shuts shut b
+Shuts shut (wrap l a c f) = Shuts shut a × IfShut (shut l) c f
+
+once_of : (b : Bool) (c : Predict) (f : Rhs Row) → IfShut b c f → b ≡ true → StandsOnce c f
+once_of true c f once e = once
+once_of false c f once e = clash e
+
 module _ (yields : Row → Use → Bool) (needs : NodeKind → Use → Needs) where
   -- a turn behind an operand that is read as the turn is
   abbrev pub turn_self : Use → Rhs Row → Needs → Bool
@@ -38,20 +55,20 @@ module _ (yields : Row → Use → Bool) (needs : NodeKind → Use → Needs) wh
   turn_self u f _ = false
 
   -- a turn behind an operand, which is read in another way: either it stands once, or turns may be read so too
-  abbrev pub turn_ok : NodeKind → Use → (Use → Bool) → Predict → Rhs Row → Needs → Bool
-  turn_ok l u operand c f (of w s) =
+  abbrev pub turn_ok : Bool → NodeKind → Use → (Use → Bool) → Predict → Rhs Row → Needs → Bool
+  turn_ok shut l u operand c f (of w s) =
       covers yields true f s
-      && or_asks (same_use w u) (λ b. operand w && (stands_once c f || turn_self w f (needs l w)))
-  turn_ok l u operand c f _ = false
+      && or_asks (same_use w u) (λ b. operand w && (stands_once c f || (shut || turn_self w f (needs l w))))
+  turn_ok shut l u operand c f _ = false
 
   -- each alternative of the rule may be read so
-  abbrev pub rule_ok : Production Row NodeKind → Use → Bool
-  rule_ok refuse u = true
-  rule_ok (make l f) u = covers yields false f (needs l u)
-  rule_ok (choose t a b) u = rule_ok a u && rule_ok b u
-  rule_ok (as_ w a) u = is_target u && rule_ok a as_expr
-  rule_ok (pick g a b) u = rule_ok a u && rule_ok b u
-  rule_ok (wrap l a c f) u = rule_ok a u && turn_ok l u (rule_ok a) c f (needs l u)
+  abbrev pub rule_ok : (NodeKind → Bool) → Production Row NodeKind → Use → Bool
+  rule_ok shut refuse u = true
+  rule_ok shut (make l f) u = covers yields false f (needs l u)
+  rule_ok shut (choose t a b) u = rule_ok shut a u && rule_ok shut b u
+  rule_ok shut (as_ w a) u = is_target u && rule_ok shut a as_expr
+  rule_ok shut (pick g a b) u = rule_ok shut a u && rule_ok shut b u
+  rule_ok shut (wrap l a c f) u = rule_ok shut a u && turn_ok (shut l) l u (rule_ok shut a) c f (needs l u)
 
   module _ (x : List ℕ) (ts : List Token)
       (built : (l : NodeKind) (u : Use) (from to : ℕ) (p : Value) → Meets ts no_part (needs l u) (part p)
@@ -140,14 +157,15 @@ module _ (yields : Row → Use → Bool) (needs : NodeKind → Use → Needs) wh
           → HasAt u (value x ts q)) where
         -- the operand of a turn, where it isn't read as the turn is
         first_operand : (l : NodeKind) (c : Predict) (A : Plain NodeKind → ℕ → ℕ → Type 0) (f : Rhs Row) (w : Use)
-            → stands_once c f ≡ true
+            → ((q : Plain NodeKind) (from mid : ℕ) → Fits h (keys_of ts) Below f q from mid
+            → Present h c (keys_of ts) mid → ⊥)
             → ((q : Plain NodeKind) (from mid : ℕ) → A q from mid → HasAt w (value x ts q))
             → (n : ℕ) (q : Plain NodeKind) (from mid : ℕ)
             → Wraps h (keys_of ts) l c A (Fits h (keys_of ts) Below f) n q from mid
             → Present h c (keys_of ts) mid → HasAt w (value x ts q)
         first_operand l c A f w once operand zero q from mid fit next = operand q from mid fit
         first_operand l c A f w once operand (suc n) q from mid fit next =
-            absurd (no_more_turns x ts h Below c f once fit.1 fit.2 mid fit.6 (asks c mid next))
+            absurd (once fit.1 fit.2 mid fit.6 next)
 
         turn_has : (u w : Use) (l : NodeKind) (f : Rhs Row) (s : Needs) → needs l u ≡ of w s
             → covers yields true f s ≡ true
@@ -167,7 +185,8 @@ module _ (yields : Row → Use → Bool) (needs : NodeKind → Use → Needs) wh
         use_moved : (a b : Use) (v : Value) → a ≡ b → HasAt b v → HasAt a v
         use_moved a b v e has = let P : Use → Type 0 = λ u. HasAt u v in subst P (sym e) has
 
-        module _ (l : NodeKind) (c : Predict) (A : Plain NodeKind → ℕ → ℕ → Type 0) (f : Rhs Row)
+        module _ (shut : Bool) (l : NodeKind) (c : Predict) (A : Plain NodeKind → ℕ → ℕ → Type 0) (f : Rhs Row)
+            (shuts : IfShut shut c f)
             (is : (q : Plain NodeKind) (from mid : ℕ) → A q from mid → IsNode (value x ts q) from mid) where
           -- turns each of which is read as its operand is
           wraps_alike : (u w : Use) (s : Needs)
@@ -192,11 +211,25 @@ module _ (yields : Row → Use → Bool) (needs : NodeKind → Use → Needs) wh
               wraps_alike u w s operand same (same_uses w u both.0) both.1 n p from to fit
           wraps_self u operand _ same e n p from to fit = clash e
 
+          shut_or_self : (ok : Use → Bool)
+              → ((w : Use) → ok w ≡ true → (q : Plain NodeKind) (from mid : ℕ) → A q from mid → HasAt w (value x ts q))
+              → (w : Use) → ok w ≡ true → shut || turn_self w f (needs l w) ≡ true
+              → (n : ℕ) (q : Plain NodeKind) (from mid : ℕ)
+              → Wraps h (keys_of ts) l c A (Fits h (keys_of ts) Below f) n q from mid
+              → Present h c (keys_of ts) mid → HasAt w (value x ts q)
+          shut_or_self ok has w here e n q from mid fit next =
+              elim (either_holds shut (turn_self w f (needs l w)) e) [
+                | inl is_shut ↦
+                    first_operand l c A f w (no_second_turn x ts h Below c f (once_of shut c f shuts is_shut))
+                    (has w here) n q from mid fit next
+                | inr self ↦ wraps_self w (has w here) (needs l w) refl self n q from mid fit
+              ]
+
           operand_has : (ok : Use → Bool)
               → ((w : Use) → ok w ≡ true → (q : Plain NodeKind) (from mid : ℕ) → A q from mid → HasAt w (value x ts q))
               → (u w : Use) (s : Needs) → ok u ≡ true → needs l u ≡ of w s → covers yields true f s ≡ true
               → (alike : Bool) → same_use w u ≡ alike
-              → or_asks alike (λ b. ok w && (stands_once c f || turn_self w f (needs l w))) ≡ true
+              → or_asks alike (λ b. ok w && (stands_once c f || (shut || turn_self w f (needs l w)))) ≡ true
               → (n : ℕ) (q : Plain NodeKind) (from mid : ℕ)
               → Wraps h (keys_of ts) l c A (Fits h (keys_of ts) Below f) n q from mid
               → Present h c (keys_of ts) mid → HasAt w (value x ts q)
@@ -204,58 +237,63 @@ module _ (yields : Row → Use → Bool) (needs : NodeKind → Use → Needs) wh
               use_moved w u (value x ts q) (same_uses w u alike)
               (wraps_alike u w s (has u here) same (same_uses w u alike) covered n q from mid fit)
           operand_has ok has u w s here same covered false other e n q from mid fit next =
-              let both = both_hold (ok w) (stands_once c f || turn_self w f (needs l w)) e in
-              elim (either_holds (stands_once c f) (turn_self w f (needs l w)) both.1) [
-                | inl once ↦ first_operand l c A f w once (has w both.0) n q from mid fit next
-                | inr self ↦ wraps_self w (has w both.0) (needs l w) refl self n q from mid fit
+              let both = both_hold (ok w) (stands_once c f || (shut || turn_self w f (needs l w))) e in
+              elim (either_holds (stands_once c f) (shut || turn_self w f (needs l w)) both.1) [
+                | inl once ↦
+                    first_operand l c A f w
+                    (λ p start stop one then. no_more_turns x ts h Below c f once p start stop one (asks c stop then))
+                    (has w both.0) n q from mid fit next
+                | inr rest ↦ shut_or_self ok has w both.0 rest n q from mid fit next
               ]
 
           wraps_has : (ok : Use → Bool)
               → ((w : Use) → ok w ≡ true → (q : Plain NodeKind) (from mid : ℕ) → A q from mid → HasAt w (value x ts q))
-              → (u : Use) → ok u ≡ true → (N : Needs) → needs l u ≡ N → turn_ok l u ok c f N ≡ true
+              → (u : Use) → ok u ≡ true → (N : Needs) → needs l u ≡ N → turn_ok shut l u ok c f N ≡ true
               → (n : ℕ) (p : Plain NodeKind) (from to : ℕ)
               → Wraps h (keys_of ts) l c A (Fits h (keys_of ts) Below f) n p from to → HasAt u (value x ts p)
           wraps_has ok has u here N same e zero p from to fit = has u here p from to fit
           wraps_has ok has u here (of w s) same e (suc n) p from to fit =
               let both = both_hold (covers yields true f s)
-              (or_asks (same_use w u) (λ b. ok w && (stands_once c f || turn_self w f (needs l w)))) e in
+              (or_asks (same_use w u) (λ b. ok w && (stands_once c f || (shut || turn_self w f (needs l w))))) e in
               turn_has u w l f s same both.0 p fit.0 fit.1 from fit.2 to fit.3
               (wraps_is l c A (Fits h (keys_of ts) Below f) is n fit.0 from fit.2 fit.4)
               (operand_has ok has u w s here same both.0 (same_use w u) refl both.1 n fit.0 from fit.2 fit.4 fit.5)
               fit.6
           wraps_has ok has u here _ same e (suc n) p from to fit = clash e
 
-        rule_has : (a : Production Row NodeKind) (u : Use) → rule_ok a u ≡ true → (p : Plain NodeKind) (from to : ℕ)
+        rule_has : (shut : NodeKind → Bool) (a : Production Row NodeKind) → Shuts shut a → (u : Use)
+            → rule_ok shut a u ≡ true → (p : Plain NodeKind) (from to : ℕ)
             → IsBy h (keys_of ts) Below a p from to → HasAt u (value x ts p)
-        rule_has refuse u e p from to by = absurd by
-        rule_has (make l f) u e p from to by =
+        rule_has shut refuse shuts u e p from to by = absurd by
+        rule_has shut (make l f) shuts u e p from to by =
             made_has l u from to p by.0 by.1
             (form_meets x ts h Below yields nodes reads false f (needs l u) e no_part by.0 from to (λ e. clash e) by.2)
-        rule_has (choose t a b) u e p from to by =
-            let both = both_hold (rule_ok a u) (rule_ok b u) e in
+        rule_has shut (choose t a b) shuts u e p from to by =
+            let both = both_hold (rule_ok shut a u) (rule_ok shut b u) e in
             elim by [
-              | inl one ↦ rule_has a u both.0 p from to one.1
-              | inr other ↦ rule_has b u both.1 p from to other.1
+              | inl one ↦ rule_has shut a shuts.0 u both.0 p from to one.1
+              | inr other ↦ rule_has shut b shuts.1 u both.1 p from to other.1
             ]
-        rule_has (as_ w a) u e p from to by =
-            let both = both_hold (is_target u) (rule_ok a as_expr) e in
+        rule_has shut (as_ w a) shuts u e p from to by =
+            let both = both_hold (is_target u) (rule_ok shut a as_expr) e in
             has_made u p (via w by.0) by.1
             (role_has u both.0 w by.0 from to (rule_is a by.0 from to by.2)
-            (rule_has a as_expr both.1 by.0 from to by.2))
-        rule_has (pick g a b) u e p from to by =
-            let both = both_hold (rule_ok a u) (rule_ok b u) e in
+            (rule_has shut a shuts as_expr both.1 by.0 from to by.2))
+        rule_has shut (pick g a b) shuts u e p from to by =
+            let both = both_hold (rule_ok shut a u) (rule_ok shut b u) e in
             elim by [
-              | inl one ↦ rule_has a u both.0 p from to one.1
-              | inr other ↦ rule_has b u both.1 p from to other.1
+              | inl one ↦ rule_has shut a shuts.0 u both.0 p from to one.1
+              | inr other ↦ rule_has shut b shuts.1 u both.1 p from to other.1
             ]
-        rule_has (wrap l a c f) u e p from to by =
-            let both = both_hold (rule_ok a u) (turn_ok l u (rule_ok a) c f (needs l u)) e in
-            wraps_has l c (IsBy h (keys_of ts) Below a) f (rule_is a) (rule_ok a) (rule_has a) u both.0
-            (needs l u) refl both.1 by.0 p from to by.1
+        rule_has shut (wrap l a c f) shuts u e p from to by =
+            let both = both_hold (rule_ok shut a u) (turn_ok (shut l) l u (rule_ok shut a) c f (needs l u)) e in
+            wraps_has (shut l) l c (IsBy h (keys_of ts) Below a) f shuts.1 (rule_is a) (rule_ok shut a)
+            (rule_has shut a shuts.0) u both.0 (needs l u) refl both.1 by.0 p from to by.1
 
     -- ---- rows
     module _ (rule : Row → Production Row NodeKind)
-        (claimed : (r : Row) (u : Use) → yields r u ≡ true → rule_ok (rule r) u ≡ true) where
+        (shut : Row → NodeKind → Bool) (shuts : (r : Row) → Shuts (shut r) (rule r))
+        (claimed : (r : Row) (u : Use) → yields r u ≡ true → rule_ok (shut r) (rule r) u ≡ true) where
       row_is : (room : ℕ) (r : Row) (p : Plain NodeKind) (from to : ℕ) → Under h (keys_of ts) rule room r p from to
           → IsNode (value x ts p) from to
       unfolding Under
@@ -268,5 +306,5 @@ module _ (yields : Row → Use → Bool) (needs : NodeKind → Use → Needs) wh
       unfolding Under
       row_has zero r u e p from to under = absurd under
       row_has (suc room) r u e p from to under =
-          rule_has (Under h (keys_of ts) rule room) (row_is room) (row_has room) (rule r) u (claimed r u e) p from to
-          under
+          rule_has (Under h (keys_of ts) rule room) (row_is room) (row_has room) (shut r) (rule r) (shuts r) u
+          (claimed r u e) p from to under

@@ -5,9 +5,9 @@ use Rattle.std.proofs.Common.{◌≡◌, ◌≤◌, ℕ, zero, suc, ◌+◌, ref
 use Rattle.es_token.specs.declared.token.Token.{Token}
 use Rattle.es_token.specs.declared.token.TokenKind.{TokenKind}
 use Rattle.es_tree.specs.Key.{TokenTest, Seen, seen, keys_of, has_kind, same_kind}
-use Rattle.es_tree.specs.Productions.{LeafKind, Predict, Rhs, done, tok, punct, row, opt, many, alt, when_, where_}
+use Rattle.es_tree.specs.Productions.{LeafKind, Predict, by_lookahead, greedy, by_predicate, Rhs, done, tok, punct, row, opt, many, alt, when_, where_}
 use Rattle.es_tree.specs.Plain.{Plain, leaf, nil, cons, mark, turn, made}
-use Rattle.es_tree.specs.Fits.{Reading, Turns, Fits}
+use Rattle.es_tree.specs.Fits.{Reading, Present, Turns, Fits}
 use Rattle.es_tree.proofs.Progress.{both_hold}
 use Rattle.es_tree.proofs.OutLemmas.{clash}
 use Rattle.es_tree.proofs.EachKind.{holds_of_each}
@@ -25,7 +25,7 @@ use Rattle.es_lowering.specs.Lowering.{packed, value_of}
 use Rattle.es_lowering.proofs.Equations.{value_leaf, value_parts}
 use Rattle.es_lowering_total.proofs.Uses.{Use, IsThere, HasAt}
 use Rattle.es_lowering_total.proofs.Words.{there_of, if_there, rest_true, not_both, kind_there}
-use Rattle.es_lowering_total.proofs.Needs.{Needs, rest, never, any, of, leaf as a_leaf, word, name, maybe, hollow, list, group_of, either_of, or_one, binary, assign, HasKind, MayMeet, EachTurn, IsAlone, Meets, only_such, never_holds, is_bare, is_single, are_tokens, least, most, is_binary, is_assign, is_greater, begins_with, spells_binary, spells_assign, goes_on, is_closed, closes, told, stands_once, or_asks, covers}
+use Rattle.es_lowering_total.proofs.Needs.{Needs, rest, never, any, of, leaf as a_leaf, word, name, maybe, hollow, list, group_of, either_of, or_one, binary, assign, HasKind, MayMeet, EachTurn, IsAlone, Meets, only_such, never_holds, is_bare, is_single, are_tokens, least, most, is_binary, is_assign, is_greater, begins_with, spells_binary, spells_assign, goes_on, is_closed, closes, told, stands_once, Shown, IfClosed, Closes, StandsOnce, or_asks, covers}
 
 -- ---- tests
 pub either_holds : (a b : Bool) → a || b ≡ true → (a ≡ true) ⊎ (b ≡ true)
@@ -45,7 +45,7 @@ never_both true true e f g = clash e
 never_both true false e f g = clash g
 never_both false b e f g = clash f
 
-never_true : (a : Bool) → not a ≡ true → a ≡ true → ⊥
+pub never_true : (a : Bool) → not a ≡ true → a ≡ true → ⊥
 never_true true e f = clash e
 never_true false e f = clash f
 
@@ -297,6 +297,38 @@ module _ (x : List ℕ) (ts : List Token) where
         never_both (told c (seen (keys_of ts) mid)) (closes f (seen (keys_of ts) mid))
         (holds_of_each (λ x. not (told c x && closes f x)) once (seen (keys_of ts) mid)) other
         (form_closes f p from mid one)
+
+    -- the same by predicates
+    if_closed : (b c : Bool) → (b ≡ true → c ≡ true) → IfClosed b c
+    if_closed true c e = e refl
+    if_closed false c e = tt
+
+    form_ends : (f : Rhs Row) (p : Plain NodeKind) (from to : ℕ) → Fits h (keys_of ts) Below f p from to
+        → Closes f (keys_of ts) to
+    form_ends done p from to fit = tt
+    form_ends (tok s may f) p from to fit = form_ends f fit.0 (from + 1) to fit.3
+    form_ends (punct kind f) p from to fit = form_ends f fit.0 (from + 1) to fit.3
+    form_ends (row r f) p from to fit = form_ends f fit.1 fit.2 to fit.5
+    form_ends (opt c g f) p from to fit = form_ends f fit.1 fit.2 to fit.5
+    form_ends (many c g f) p from to fit = form_ends f fit.1 fit.2 to fit.5
+    form_ends (alt t a b f) p from to fit = form_ends f fit.1 fit.2 to fit.5
+    form_ends (when_ t f) p from to fit = form_ends f p from to fit.1
+    form_ends (where_ t f) p from to fit = (
+      if_closed (is_closed f) (t (keys_of ts) to) (λ e.
+          let P : ℕ → Type 0 = λ n. t (keys_of ts) n ≡ true in
+          subst P (closed_stays f e p from to fit.1) fit.0),
+      form_ends f p from to fit.1,
+    )
+
+    shown : (c : Predict) (at : ℕ) → Present h c (keys_of ts) at → Shown c (keys_of ts) at
+    shown (by_lookahead t) at next = tt
+    shown (greedy t) at next = tt
+    shown (by_predicate g) at next = next
+
+    pub no_second_turn : (c : Predict) (f : Rhs Row) → StandsOnce c f → (p : Plain NodeKind) (from mid : ℕ)
+        → Fits h (keys_of ts) Below f p from mid → Present h c (keys_of ts) mid → ⊥
+    no_second_turn c f once p from mid one next =
+        once (keys_of ts) mid (shown c mid next) (form_ends f p from mid one)
 
     -- ---- operators
     width : (f : Rhs Row) → are_tokens f ≡ true → (p : Plain NodeKind) (from to : ℕ)

@@ -24,20 +24,21 @@ use Rattle.es_derives.specs.Derives.{program_in, Derives}
 use Rattle.es_lowering_total.proofs.Uses.{Use, as_program, IsThere, same_use, same_uses}
 use Rattle.es_lowering_total.proofs.Needs.{told}
 use Rattle.es_lowering_total.proofs.Sound.{either_holds}
-use Rattle.es_lowering_total.proofs.Rows.{first_use, second_use, yields}
+use Rattle.es_lowering_total.proofs.Rows.{first_use, second_use, yields, shut}
 use Rattle.es_lowering_total.proofs.Table.{needs}
 use Rattle.es_lowering_total.proofs.Rules.{rule_ok, row_has}
 use Rattle.es_lowering_total.proofs.Build.{built}
+use Rattle.es_lowering_total.proofs.Once.{row_shuts}
 use Rattle.es_lowering_total.proofs.EsClaims.{es_first, es_second}
 use Rattle.es_lowering_total.proofs.TypescriptClaims.{ty_first, ty_second}
 
 first_ok : (l : Lang) (r : Row) → yields l r (first_use l r) ≡ true
-    → rule_ok (yields l) needs (rule l r) (first_use l r) ≡ true
+    → rule_ok (yields l) needs (shut r) (rule l r) (first_use l r) ≡ true
 first_ok lang.Es r e = es_first r e
 first_ok lang.Typescript r e = ty_first r e
 
 second_ok : (l : Lang) (r : Row) → yields l r (second_use l r) ≡ true
-    → rule_ok (yields l) needs (rule l r) (second_use l r) ≡ true
+    → rule_ok (yields l) needs (shut r) (rule l r) (second_use l r) ≡ true
 second_ok lang.Es r e = es_second r e
 second_ok lang.Typescript r e = ty_second r e
 
@@ -48,18 +49,18 @@ yields_one lang.Es (DeclaredRow c) u e = clash e
 yields_one lang.Es (TypesRow r) u e = clash e
 yields_one l r u e = e
 
-claimed : (l : Lang) (r : Row) (u : Use) → yields l r u ≡ true → rule_ok (yields l) needs (rule l r) u ≡ true
+claimed : (l : Lang) (r : Row) (u : Use) → yields l r u ≡ true → rule_ok (yields l) needs (shut r) (rule l r) u ≡ true
 claimed l r u e =
     elim (either_holds (same_use u (first_use l r)) (same_use u (second_use l r)) (yields_one l r u e)) [
       | inl one ↦ moved (first_use l r) (same_uses u (first_use l r) one) (first_ok l r)
       | inr other ↦ moved (second_use l r) (same_uses u (second_use l r) other) (second_ok l r)
     ]
   where
-    moved : (v : Use) → u ≡ v → (yields l r v ≡ true → rule_ok (yields l) needs (rule l r) v ≡ true)
-        → rule_ok (yields l) needs (rule l r) u ≡ true
+    moved : (v : Use) → u ≡ v → (yields l r v ≡ true → rule_ok (yields l) needs (shut r) (rule l r) v ≡ true)
+        → rule_ok (yields l) needs (shut r) (rule l r) u ≡ true
     moved v same ok =
         let P : Use → Type 0 = λ w. yields l r w ≡ true in
-        let Q : Use → Type 0 = λ w. rule_ok (yields l) needs (rule l r) w ≡ true in
+        let Q : Use → Type 0 = λ w. rule_ok (yields l) needs (shut r) (rule l r) w ≡ true in
         subst Q (sym same) (ok (subst P same e))
 
 program_yields : (l : Lang) (m : Mode) → yields l (program_row m) as_program ≡ true
@@ -80,7 +81,8 @@ program_there : (l : Lang) (m : Mode) (x : List ℕ) (ts : List Token) (p : Plai
     → Shape free (rule l) (program_row m) (keys_of ts) p → IsThere (program_in (value_of x ts (tree_of p)))
 unfolding Shape
 program_there l m x ts p shaped =
-    row_has (yields l) needs x ts (built x ts) chosen (asks ts) (rule l) (claimed l) most_nodes (program_row m)
+    row_has (yields l) needs x ts (built x ts) chosen (asks ts) (rule l) shut (row_shuts l) (claimed l) most_nodes
+    (program_row m)
     as_program (program_yields l m) p 0 (length (keys_of ts)) (free_is_chosen l m (keys_of ts) p shaped).0
 
 there_is : {A : Type 0} (o : Option A) → IsThere o → (a : A) × (o ≡ Some a)

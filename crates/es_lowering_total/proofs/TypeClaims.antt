@@ -16,15 +16,17 @@ use Rattle.es_grammar.specs.Table.{rule}
 use Rattle.es_lowering.specs.Texts.{stop_of}
 use Rattle.es_lowering.specs.Operators.{unary_ops, update_ops, arithmetic_ops, logical_ops, assign_ops, variable_kinds, accessor_kinds}
 use Rattle.es_lowering.specs.TypeTexts.{keyword_kinds, type_operators, signs}
-use Rattle.es_lowering_total.proofs.Rows.{first_use, second_use, yields}
+use Rattle.es_lowering_total.proofs.Rows.{first_use, second_use, yields, shut}
 use Rattle.es_lowering_total.proofs.Table.{needs}
 use Rattle.es_lowering_total.proofs.Rules.{rule_ok}
 
 pub ty_first : (r : Row) → yields lang.Typescript (TypesRow r) (first_use lang.Typescript (TypesRow r)) ≡ true
-    → rule_ok (yields lang.Typescript) needs (rule lang.Typescript (TypesRow r))
+    → rule_ok (yields lang.Typescript) needs (shut (TypesRow r)) (rule lang.Typescript (TypesRow r))
     (first_use lang.Typescript (TypesRow r)) ≡ true
 unfolding holds_everywhere is_name is_word is_name_or_this is_numeric is_sign is_accessor_word is_near begins_key
-    further_names entity opens_arguments no_arguments further_arguments listed_parameters opened_parameters opened_function begins_angle begins_type_parameter shows_type_parameter opens_angle reference import_type arguments is_modifier opens_modifier
+    further_names entity opens_arguments no_arguments further_arguments listed_parameters opened_parameters
+    opened_function begins_angle begins_type_parameter shows_type_parameter opens_angle reference import_type
+    arguments is_modifier opens_modifier
     type_parameter type_parameters parameters_in mark_in type_in list_before is_parameter parameters has_mark no_mark
     name_pattern array_pattern object_pattern pattern parameter pattern_element pattern_key opens_value
     pattern_property result_in is_separator may_separate separator opens_parameters call_signature opens_construct
@@ -61,10 +63,12 @@ ty_first PatternPropertyRow e = refl
 ty_first PatternKeyRow e = refl
 
 pub ty_second : (r : Row) → yields lang.Typescript (TypesRow r) (second_use lang.Typescript (TypesRow r)) ≡ true
-    → rule_ok (yields lang.Typescript) needs (rule lang.Typescript (TypesRow r))
+    → rule_ok (yields lang.Typescript) needs (shut (TypesRow r)) (rule lang.Typescript (TypesRow r))
     (second_use lang.Typescript (TypesRow r)) ≡ true
 unfolding holds_everywhere is_name is_word is_name_or_this is_numeric is_sign is_accessor_word is_near begins_key
-    further_names entity opens_arguments no_arguments further_arguments listed_parameters opened_parameters opened_function begins_angle begins_type_parameter shows_type_parameter opens_angle reference import_type arguments is_modifier opens_modifier
+    further_names entity opens_arguments no_arguments further_arguments listed_parameters opened_parameters
+    opened_function begins_angle begins_type_parameter shows_type_parameter opens_angle reference import_type
+    arguments is_modifier opens_modifier
     type_parameter type_parameters parameters_in mark_in type_in list_before is_parameter parameters has_mark no_mark
     name_pattern array_pattern object_pattern pattern parameter pattern_element pattern_key opens_value
     pattern_property result_in is_separator may_separate separator opens_parameters call_signature opens_construct
