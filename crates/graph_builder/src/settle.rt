@@ -242,14 +242,14 @@ fn unfit_at(firsts: &Numbered<Entry>, edge: &Dependency) -> Option<Unfit>
 {
     match &edge.resolution {
         Ok(target) => match module_in(firsts, target) {
-            Some(found) => unfit(edge, found),
+            Some(found) => refusal(edge, found),
             None => None,
         },
         Err(_) => None,
     }
 }
 
-fn unfit(edge: &Dependency, found: &Module) -> Option<Unfit>
+fn refusal(edge: &Dependency, found: &Module) -> Option<Unfit>
     ensures { result ≡ spec.unfit edge.now (Some found.now) }
 {
     if !fits(&edge.attribute, found) {

@@ -233,7 +233,7 @@ fn dependencies_of<R: Resolver>(
     ensures { IfOk result (λ edges. edges ≡ map (spec.dependency_of (resolve_by (R.resolving resolver.now))
         (text_of source.entry.specifier.now)) sites) }
 {
-    let mut edges = Items::new(alloc);
+    let mut edges = Items::from_vec(Vec::with_capacity(alloc, sites.len())?);
     for site in sites.into_vec() {
         edges.push(dependency_of(alloc, resolver, source, site)?)?;
     }

@@ -65,7 +65,7 @@ fn edges_of<R: Resolver>(
     ensures { IfOk result (λ edges. edges
         ≡ map (wasm_dependency (resolve_by (R.resolving resolver.now)) (text_of specifier.now)) (map imported imports.now)) }
 {
-    let mut edges = Items::new(alloc);
+    let mut edges = Items::from_vec(Vec::with_capacity(alloc, imports.len())?);
     for import in imports {
         edges.push(edge_of(alloc, resolver, specifier, base, import)?)?;
     }
