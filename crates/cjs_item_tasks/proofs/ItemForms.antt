@@ -5,6 +5,7 @@ use Rattle.base.specs.declared.range.Range.{Range}
 use Rattle.es_token.specs.declared.token.Token.{Token}
 use Rattle.ts_ast.specs.declared.leaf.TsEntityName.{TsEntityName}
 use Rattle.es_ast.specs.declared.leaf.ImportClause.{ImportClause}
+use Rattle.es_ast.specs.declared.leaf.ImportPhase.{ImportPhase}
 use Rattle.es_ast.specs.declared.ast.Decl.{Decl}
 use Rattle.es_ast.specs.declared.ast.Expr.{Expr}
 use Rattle.es_ast.specs.declared.ast.ModuleDecl.{ModuleDecl}
@@ -100,6 +101,15 @@ module _ (x : List ℕ) (ts : List Token) (old : List Task) (r : Range) where
   unfolding import.from_of
   from_import type_only clause source attributes =
       skip x ts facts_of_module_decl old old clause _ (λ clause.
+      skip x ts facts_of_module_decl old old (option_map (str_of x) source) _ (λ src.
+      skip x ts facts_of_module_decl old old (optional attributes_at attributes) _ (λ with.
+      quiet _ (facts.module_decl_Import [] _))))
+
+  pub phased_import : (phase : ImportPhase) (name : Value) (source : Option Token) (attributes : Value)
+      → Queues x ts (of facts_of_module_decl (import.phased x ts r phase name source attributes)) old old
+  unfolding import.phased
+  phased_import phase name source attributes =
+      skip x ts facts_of_module_decl old old (option_map (ident_of x) (token_of ts name)) _ (λ local.
       skip x ts facts_of_module_decl old old (option_map (str_of x) source) _ (λ src.
       skip x ts facts_of_module_decl old old (optional attributes_at attributes) _ (λ with.
       quiet _ (facts.module_decl_Import [] _))))

@@ -58,15 +58,19 @@ module _ (x : List ℕ) (ts : List Token) where
       let e8 = not_rest (same_label label l.ExportDeclaration) _ e7 in
       let f1 = not_rest (same_label label l.BareImport) _ f in
       let f2 = not_rest (same_label label l.FromImport) _ f1 in
-      let f3 = not_rest (same_label label l.RequireImport) _ f2 in
-      let f4 = not_rest (same_label label l.ExportedRequireImport) _ f3 in
-      let f5 = not_rest (same_label label l.EntityImport) _ f4 in
+      let f3 = not_rest (same_label label l.SourceImport) _ f2 in
+      let f4 = not_rest (same_label label l.DeferImport) _ f3 in
+      let f5 = not_rest (same_label label l.RequireImport) _ f4 in
+      let f6 = not_rest (same_label label l.ExportedRequireImport) _ f5 in
+      let f7 = not_rest (same_label label l.EntityImport) _ f6 in
       past (same_label label l.BareImport) _ _ (not_first (same_label label l.BareImport) _ f)
       ∙ (past (same_label label l.FromImport) _ _ (not_first (same_label label l.FromImport) _ f1)
-      ∙ (past (same_label label l.RequireImport) _ _ (not_first (same_label label l.RequireImport) _ f2)
-      ∙ (past (same_label label l.EntityImport) _ _ (not_first (same_label label l.EntityImport) _ f4)
-      ∙ (past (same_label label l.ExportedRequireImport) _ _ (not_first (same_label label l.ExportedRequireImport) _ f3)
-      ∙ (past (same_label label l.ExportedEntityImport) _ _ (not_first (same_label label l.ExportedEntityImport) _ f5)
+      ∙ (past (same_label label l.SourceImport) _ _ (not_first (same_label label l.SourceImport) _ f2)
+      ∙ (past (same_label label l.DeferImport) _ _ (not_first (same_label label l.DeferImport) _ f3)
+      ∙ (past (same_label label l.RequireImport) _ _ (not_first (same_label label l.RequireImport) _ f4)
+      ∙ (past (same_label label l.EntityImport) _ _ (not_first (same_label label l.EntityImport) _ f6)
+      ∙ (past (same_label label l.ExportedRequireImport) _ _ (not_first (same_label label l.ExportedRequireImport) _ f5)
+      ∙ (past (same_label label l.ExportedEntityImport) _ _ (not_first (same_label label l.ExportedEntityImport) _ f7)
       ∙ (past (same_label label l.ExportAll) _ _ (not_first (same_label label l.ExportAll) _ e)
       ∙ (past (same_label label l.ExportNames) _ _ (not_first (same_label label l.ExportNames) _ e1)
       ∙ (past (same_label label l.ExportNamespace) _ _ (not_first (same_label label l.ExportNamespace) _ e2)
@@ -78,7 +82,7 @@ module _ (x : List ℕ) (ts : List Token) where
       ∙ (past (same_label label l.ExportDefaultInterface) _ _
       (not_first (same_label label l.ExportDefaultInterface) _ e5)
       ∙ past (same_label label l.ExportAssignment) _ _
-      (not_first (same_label label l.ExportAssignment) _ e8))))))))))))))
+      (not_first (same_label label l.ExportAssignment) _ e8))))))))))))))))
 
   abbrev IsStmt : Value → Type 0
   IsStmt v = item_in v ≡ option_map vItem.Stmt (stmt_in v)

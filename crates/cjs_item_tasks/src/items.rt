@@ -18,7 +18,7 @@ use es_syntax::Item;
 use std::alloc::AllocError;
 
 /// What an import leaves: nothing.
-#[tactic(auto, using(crate::proofs::ItemForms::bare_import, crate::proofs::ItemForms::from_import, crate::proofs::ItemForms::require_import, crate::proofs::ItemForms::entity_import))]
+#[tactic(auto, using(crate::proofs::ItemForms::bare_import, crate::proofs::ItemForms::from_import, crate::proofs::ItemForms::phased_import, crate::proofs::ItemForms::require_import, crate::proofs::ItemForms::entity_import))]
 fn import<'a>(next: &mut Items<Task<'a>>, it: &Import<'a>) -> Result<(), AllocError>
     ensures { OnOk result ((x : List ℕ) (ts : List Tok) (r : Range) → Queues x ts (of facts_of_module_decl (the_import x ts r it.now)) next.old next.new) }
 {
@@ -26,6 +26,7 @@ fn import<'a>(next: &mut Items<Task<'a>>, it: &Import<'a>) -> Result<(), AllocEr
     match *it {
         Import::Bare { .. } => Ok(()),
         Import::From { .. } => Ok(()),
+        Import::Phased { .. } => Ok(()),
         Import::Require { .. } => Ok(()),
         Import::Entity { .. } => Ok(()),
         Import::Broken => Err(AllocError),
