@@ -1,0 +1,54 @@
+//! How names are bound, and what scopes stand around them.
+
+ghost use Rattle.std.specs.Prelude.{◌≡◌};
+ghost use Rattle.es_scope_analysis.specs.Kinds.{is_import};
+
+/// How a name is bound.
+#[derive(Clone, Copy, Debug, PartialEq, Eq, Hash)]
+pub enum BindingKind {
+    Var,
+    Const,
+    Let,
+    Function,
+    Param,
+    Class,
+    CatchClause,
+    /// `import * as a from "a"`
+    NamespaceImport,
+    /// Any other name of an import.
+    ValueImport,
+    /// An alias of a type, or an interface.
+    TypeName,
+}
+
+impl BindingKind {
+    pub fn is_import(&self) -> bool
+        ensures { result ≡ is_import self.now }
+    {
+        match self {
+            BindingKind::NamespaceImport => true,
+            BindingKind::ValueImport => true,
+            BindingKind::Var => false,
+            BindingKind::Const => false,
+            BindingKind::Let => false,
+            BindingKind::Function => false,
+            BindingKind::Param => false,
+            BindingKind::Class => false,
+            BindingKind::CatchClause => false,
+            BindingKind::TypeName => false,
+        }
+    }
+}
+
+/// What stands around a name.
+#[derive(Clone, Copy, Debug, PartialEq, Eq, Hash)]
+pub enum ScopeKind {
+    Arrow,
+    Function,
+    Block,
+    Loop,
+    Class,
+    Switch,
+    With,
+    Catch,
+}

@@ -1,0 +1,7 @@
+//! What a program declares, how each name is bound, and what stands around it: definitions.
+#![tactic(auto)]
+
+mod kinds;
+mod steps;
+
+pub use kinds::{BindingKind, ScopeKind};
