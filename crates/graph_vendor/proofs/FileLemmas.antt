@@ -31,9 +31,13 @@ or_none (Some x) b e = absurd (let bad : ⊥ = cc in bad)
 
 no_reference : (k : DependencyKind) → kind_cause k ≡ None → is_reference k ≡ false
 no_reference kind.Import e = refl
+no_reference kind.ImportSource e = refl
+no_reference kind.ImportDefer e = refl
 no_reference kind.Export e = refl
 no_reference kind.ImportEquals e = refl
 no_reference kind.Dynamic e = refl
+no_reference kind.DynamicSource e = refl
+no_reference kind.DynamicDefer e = refl
 no_reference kind.ReferencePath e = absurd (let bad : ⊥ = cc in bad)
 no_reference kind.ReferenceTypes e = absurd (let bad : ⊥ = cc in bad)
 no_reference kind.Wasm e = refl

@@ -2,3 +2,4 @@ pub mod NameLemmas
 pub mod FileLemmas
 pub mod RefusedLemmas
 pub mod KeptLemmas
+pub mod TwiceLemmas

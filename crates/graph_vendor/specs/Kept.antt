@@ -1,13 +1,14 @@
 -- Whether the new names of modules serve (this project's profile).
 use Rattle.std.specs.Prelude.{◌≡◌, ◌⊎◌, Bool, true, false, ◌&&◌, List, [], ◌∷◌, bytes_eq, Option, Some, None, is_none, Ok, Err, if◌then◌else◌}
+use Rattle.std.specs.Str.{is_utf8}
 use Rattle.url.specs.Parts.{Parts}
-use Rattle.media_type.specs.Specifiers.{of_specifier}
 use Rattle.graph_entry.specs.declared.entry.Dependency.{Dependency}
 use Rattle.graph_entry.specs.declared.entry.Module.{Module}
 use Rattle.graph_entry.specs.declared.entry.Entry.{Entry}
 use Rattle.graph_entry.specs.declared.entry.Entry.TheVariants as entry
-use Rattle.graph_entry.specs.Specifier.{text_of}
+use Rattle.graph_entry.specs.Specifier.{text_of, loadable}
 use Rattle.graph_entry.specs.Resolution.{Resolved, resolve}
+use Rattle.graph_entry.specs.Analysed.{media_type_at}
 use Rattle.graph_builder.specs.Rules.{edges_of}
 use Rattle.graph_builder.specs.Reach.{Specifier}
 use Rattle.graph_builder.specs.Graph.{entry_of}
@@ -39,9 +40,10 @@ leads_by (Ok there) (Some s) = bytes_eq s (text_of there)
 leads_by (Ok there) None = false
 leads_by (Err e) s = false
 
--- from this new name the new literal for a specifier leads to that one's new name
+-- the new literal for a specifier is a text, which leads from this new name to that one's new name
 abbrev pub leads_there : Entries → Names → Specifier → Specifier → Bool
-leads_there entries names at to = leads_by (resolve at (literal entries names to)) (renamed entries names to)
+leads_there entries names at to =
+    is_utf8 (literal entries names to) && leads_by (resolve at (literal entries names to)) (renamed entries names to)
 
 -- so does the new literal of an edge
 abbrev pub keeps_edge : Entries → Names → Specifier → Resolved → Bool
@@ -53,9 +55,10 @@ abbrev pub keep_edges : Entries → Names → Specifier → List Dependency → 
 keep_edges entries names at [] = true
 keep_edges entries names at (d ∷ ds) = keeps_edge entries names at d.resolution && keep_edges entries names at ds
 
--- the new name tells the module's media type, and the new literals lead on from it
+-- loaders are asked for the new name, it tells the module's media type, and the new literals lead on from it
 pub record Serves (entries : Entries) (names : Names) (m : Module) (target : Parts) : Type 0 where
-  pub media : of_specifier target ≡ media_of m
+  pub loads : loadable (text_of target) ≡ true
+  pub media : media_type_at (text_of target) [] ≡ media_of m
   pub edges : keep_edges entries names (text_of target) (edges_of m) ≡ true
 
 abbrev pub ServesAt : Entries → Names → Module → Option Parts → Type 0

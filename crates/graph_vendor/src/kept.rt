@@ -1,7 +1,10 @@
 //! Whether the new names of modules serve.
-ghost use Rattle.std.specs.Prelude.{◌≡◌, ◌↔◌, ◌++◌, true, Ok, codes, bytes_eq, IfOk, option_map};
+ghost use Rattle.std.specs.Prelude.{◌≡◌, ◌↔◌, ◌++◌, true, [], None, Ok, codes, bytes_eq, IfOk, option_map};
 ghost use Rattle.std.specs.Option.{option_copied};
+ghost use Rattle.std.specs.Result.{result_ok};
+ghost use Rattle.url.specs.Parser.{parse_url};
 ghost use Rattle.graph_entry.specs.Specifier.{text_of};
+ghost use Rattle.graph_entry.specs.Analysed.{media_type_at};
 ghost use Rattle.graph_builder.specs.Rules.{edges_of};
 ghost use Rattle.graph_vendor.specs.Names as spec;
 ghost use Rattle.graph_vendor.specs.Kept.{IsKept, Serves, ServesAt, IsFirstLost};
@@ -10,10 +13,10 @@ ghost use Rattle.graph_vendor.specs.Kept as kept;
 use crate::names::{NewName, media_of, name_at, target_at};
 use base::Text;
 use graph_builder::ModuleGraph;
-use graph_entry::{Dependency, Entry, MediaType, Module, resolve};
+use graph_entry::{Dependency, Entry, MediaType, Module, is_loadable, resolve};
 use numbered::Numbered;
 use std::alloc::{AllocError, Global};
-use url::Url;
+use url::{ParseError, Url};
 
 /// The first module whose new name is the specifier of an entry.
 pub fn first_taken(
@@ -110,10 +113,34 @@ fn serves(
 ) -> Result<bool, AllocError>
     ensures { IfOk result (λ yes. (yes ≡ true) ↔ Serves graph.now.entries names.now held.now target.now) }
 {
-    if MediaType::from_specifier(alloc, target)? != media_of(held) {
+    if !is_loadable(target) {
+        return Ok(false);
+    }
+    if told_media(alloc, target)? != media_of(held) {
         return Ok(false);
     }
     keep_edges(alloc, graph, names, target, edges(held))
+}
+
+// The media type of content without headers at a specifier, which is read again.
+fn told_media(alloc: Global, specifier: &Url) -> Result<MediaType, AllocError>
+    ensures { IfOk result (λ media. media ≡ media_type_at (text_of specifier.now) []) }
+{
+    match read(alloc, specifier.as_str())? {
+        Some(again) => MediaType::from_specifier(alloc, &again),
+        None => Ok(MediaType::Unknown),
+    }
+}
+
+// The URL that a text is read as, if it is one.
+fn read(alloc: Global, text: &str) -> Result<Option<Url>, AllocError>
+    ensures { IfOk result (λ url. url ≡ result_ok (parse_url None text.now)) }
+{
+    match Url::parse(alloc, text) {
+        Ok(url) => Ok(Some(url)),
+        Err(ParseError::OutOfMemory | ParseError::Overflow) => Err(AllocError),
+        Err(_) => Ok(None),
+    }
 }
 
 fn keep_edges(

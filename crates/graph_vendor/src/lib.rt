@@ -12,6 +12,7 @@ mod kept;
 mod names;
 mod plan;
 mod refused;
+mod twice;
 
 pub use crate::names::NewName;
 pub use crate::plan::{VendorCause, VendorError, VendorFile, VendorPlan, plan_vendor};

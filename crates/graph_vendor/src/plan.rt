@@ -1,12 +1,12 @@
 //! The plan of a graph's modules as files of a folder.
-ghost use Rattle.std.specs.Prelude.{◌≡◌, ℕ, List, [], None, Ok, IfOk};
-ghost use Rattle.std.specs.List.{filter_map};
+ghost use Rattle.std.specs.Prelude.{◌≡◌, ℕ, List, [], bytes_eq, None, Ok, IfOk};
+ghost use Rattle.std.specs.List.{filter_map, IsDistinct};
 ghost use Rattle.media_type.specs.declared.media_type.MediaType.{MediaType as Media};
 ghost use Rattle.es_site.specs.declared.site.Site.{Site as Place};
 ghost use Rattle.source_reading.specs.Read.{HasSites};
 ghost use Rattle.graph_entry.specs.Specifier.{text_of};
 ghost use Rattle.graph_builder.specs.Graph.{texts};
-ghost use Rattle.graph_vendor.specs.Names.{renamed, names_in};
+ghost use Rattle.graph_vendor.specs.Names.{modules_of, renamed, names_in};
 ghost use Rattle.graph_vendor.specs.Kept.{first_taken as taken, IsFirstLost};
 ghost use Rattle.graph_vendor.specs.Plan as spec;
 ghost use Rattle.graph_vendor.specs.Plan.{IsPlanned, IsMade};
@@ -16,6 +16,7 @@ use crate::files::files_of;
 use crate::kept::{first_lost, first_taken, renamed};
 use crate::names::{NewName, names_of};
 use crate::refused::first_refused;
+use crate::twice::first_twice;
 use base::Items;
 use graph_builder::ModuleGraph;
 use graph_entry::{Entry, ModuleAnalyzer};
@@ -61,9 +62,10 @@ pub enum VendorCause {
     ReferenceComment,
     /// An edge of the module stands in WebAssembly.
     WasmImport,
-    /// The module's new name is the specifier of an entry.
+    /// The module's new name is the specifier of an entry, or the new name of a module before it.
     NameTaken,
-    /// The module's new name is no URL, tells another media type, or leads elsewhere by one of its new literals.
+    /// The module's new name is no URL or none that a loader is asked for, tells another media type, or leads elsewhere by
+    /// one of its new literals.
     NameNotKept,
 }
 
@@ -169,7 +171,24 @@ fn free_so(
 {
     match first_lost(alloc, graph, names)? {
         Some(specifier) => Ok(Planned::Unplanned(VendorCause::NameNotKept, specifier)),
-        None => Ok(Planned::Made(plan_by(alloc, graph, names)?)),
+        None => kept_so(alloc, graph, names),
+    }
+}
+
+fn kept_so(
+    alloc: Global,
+    graph: &ModuleGraph,
+    names: &Numbered<NewName>,
+) -> Result<Planned, AllocError>
+    requires own { AreOwn graph.now.entries }
+    requires free { taken graph.now.entries names.now graph.now.entries ≡ None }
+    requires kept { IsFirstLost graph.now.entries names.now graph.now.entries None }
+    ensures { IfOk result (IsNamed graph.now names.now) }
+{
+    let files = files_of(alloc, graph, names)?;
+    match first_twice(alloc, files.as_slice())? {
+        Some(specifier) => Ok(Planned::Unplanned(VendorCause::NameTaken, specifier)),
+        None => Ok(Planned::Made(plan_by(alloc, graph, names, files)?)),
     }
 }
 
@@ -177,15 +196,17 @@ fn plan_by(
     alloc: Global,
     graph: &ModuleGraph,
     names: &Numbered<NewName>,
+    files: Items<VendorFile>,
 ) -> Result<VendorPlan, AllocError>
-    requires own { AreOwn graph.now.entries }
     requires free { taken graph.now.entries names.now graph.now.entries ≡ None }
     requires kept { IsFirstLost graph.now.entries names.now graph.now.entries None }
+    requires files { files ≡ spec.files_of graph.now.entries names.now (modules_of graph.now.entries) }
+    requires apart { IsDistinct bytes_eq (spec.targets_of files) }
     ensures { IfOk result (IsMade graph.now names.now) }
 {
     Ok(VendorPlan {
         roots: roots_of(alloc, graph, names)?,
-        files: files_of(alloc, graph, names)?,
+        files,
         externals: externals_of(alloc, graph)?,
     })
 }
