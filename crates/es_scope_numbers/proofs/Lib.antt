@@ -1,0 +1,5 @@
+pub mod Stacks
+pub mod OpenedLemmas
+pub mod NameLemmas
+pub mod TopLemmas
+pub mod CutLemmas
