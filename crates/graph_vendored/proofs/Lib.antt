@@ -1,0 +1,13 @@
+mod Lists
+mod Setting
+mod Entries
+mod Texts
+mod Files
+mod Edits
+mod Stays
+mod References
+mod Sources
+mod News
+mod Reached
+mod Finals
+pub mod Theorems
