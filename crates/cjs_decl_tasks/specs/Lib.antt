@@ -1,0 +1,2 @@
+-- parts that are no nodes of their own
+pub mod Parts
