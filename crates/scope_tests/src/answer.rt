@@ -1,0 +1,90 @@
+//! The numbers of the names in the source of a row.
+
+ghost use Rattle.es_lexer.specs.Reads.{ReadsTokens};
+
+use es_bound_names::cut;
+use es_lexer::lex_tokens;
+use es_program_reader::read_program;
+use es_scope_numbers::scope_ids;
+use es_scopes::program_marks;
+use es_syntax::Siblings;
+use es_token::Token;
+use es_tree::{Lang, Mode};
+use std::alloc::{AllocError, Global};
+use test_rows::Row;
+
+/// Each name of the source of a row with its number, in the order of the text.
+pub fn answer(alloc: Global, row: &Row) -> Result<String, AllocError> {
+    let lang = match row.call() {
+        "ts" => Lang::Typescript,
+        _ => Lang::Es,
+    };
+    let mode = match row.call() {
+        "script" => Mode::Script,
+        _ => Mode::Module,
+    };
+    let text = row.at(1);
+    match lex_tokens(alloc, text) {
+        Ok(lexed) => program(alloc, lang, mode, text, lexed.tokens.as_slice()),
+        Err(_) => String::from_str(alloc, "no tokens"),
+    }
+}
+
+fn program(
+    alloc: Global,
+    lang: Lang,
+    mode: Mode,
+    text: &str,
+    tokens: &[Token],
+) -> Result<String, AllocError>
+    requires { ReadsTokens text.now tokens.now }
+{
+    match read_program(alloc, lang, mode, tokens) {
+        Ok(row) => told(
+            alloc,
+            text,
+            tokens,
+            &Siblings {
+                entries: row.as_slice(),
+            },
+        ),
+        Err(_) => String::from_str(alloc, "no program"),
+    }
+}
+
+fn told(
+    alloc: Global,
+    text: &str,
+    tokens: &[Token],
+    row: &Siblings<'_>,
+) -> Result<String, AllocError>
+    requires { ReadsTokens text.now tokens.now }
+{
+    let marks = program_marks(alloc, tokens, row)?;
+    let ids = scope_ids(alloc, text, tokens, marks.as_slice())?;
+    let mut out = String::new(alloc);
+    for id in ids.as_slice() {
+        add(&mut out, alloc, text, tokens, id.0, id.1)?;
+    }
+    Ok(out)
+}
+
+fn add(
+    out: &mut String,
+    alloc: Global,
+    text: &str,
+    tokens: &[Token],
+    token: u32,
+    number: u32,
+) -> Result<(), AllocError> {
+    if !out.is_empty() {
+        out.push_str(" ")?;
+    }
+    if let Some(token) = tokens.get(token as usize) {
+        if let Some(name) = cut(text, *token) {
+            out.push_str(name)?;
+        }
+    }
+    out.push_str(format!(in alloc; ":{number}")?.as_str())?;
+    Ok(())
+}
