@@ -1,0 +1,2 @@
+-- operands of operators
+pub mod Operands
