@@ -1,0 +1,122 @@
+//! The getter of a descriptor: its property `get`.
+
+ghost use Rattle.std.specs.Prelude.{Some, ◌≡◌, IfSome, IfOk};
+ghost use Rattle.es_lowering.specs.Value.{as_group, turns, prop_at};
+ghost use Rattle.es_syntax.specs.Held.{held, valued};
+ghost use Rattle.cjs_facts.specs.Looks.{name_by};
+ghost use Rattle.cjs_facts.specs.Exports.{is_get};
+ghost use Rattle.cjs_looks.specs.Seen.{look_of};
+ghost use Rattle.cjs_objects.specs.Properties.{IsProperty};
+ghost use Rattle.cjs_calls.specs.Getters.{Gets, IsSafeGet, GotLook};
+
+use cjs_looks::{Body, Key, Look, look_at, spells};
+use cjs_objects::{Property, property_at, returned_by, returns_harmless};
+use cjs_steps::says;
+use es_syntax::{Item, Siblings};
+use es_token::Token;
+use std::alloc::{AllocError, Global};
+
+/// What the property in a turn is; none where a part of it is unknown.
+pub fn prop_turn<'a>(text: &str, tokens: &[Token], turn: &Item<'a>) -> Option<Property<'a>>
+    ensures { IfSome result (λ told. IsProperty text.now tokens.now told (prop_at (as_group (valued text.now tokens.now turn.now)) 0)) }
+{
+    match turn.group().part(0) {
+        Some(prop) => match property_at(text, tokens, &prop) {
+            Some(property) => Some(property),
+            None => None,
+        },
+        None => None,
+    }
+}
+
+/// Whether a property that is named by what looks so is `get`.
+#[tactic(auto, using(crate::proofs::Getters::get_text, crate::proofs::Getters::get_required))]
+fn is_get(alloc: Global, text: &str, tokens: &[Token], name: Look) -> Result<bool, AllocError>
+    ensures { IfOk result (λ is. is ≡ is_get (name_by (look_of text.now tokens.now name))) }
+{
+    match name {
+        Look::Named(at) => Ok(spells(text, tokens, at, "get")),
+        Look::Text(at) => {
+            let is = says(alloc, text, tokens, Key::Quoted(at), "get")?;
+            Ok(is)
+        }
+        Look::Member(_, _) => Ok(false),
+        Look::Requires(_) => Ok(false),
+        Look::Other => Ok(false),
+    }
+}
+
+/// The function of the first property `get`; the outer none where there is no such property.
+#[tactic(auto, using(crate::proofs::Getters::gets_all, crate::proofs::Getters::gets_next, crate::proofs::Getters::gets_here, crate::proofs::Getters::gets_done))]
+pub fn first_get<'a>(
+    alloc: Global,
+    text: &str,
+    tokens: &[Token],
+    props: &Siblings<'a>,
+) -> Result<Option<Option<Body<'a>>>, AllocError>
+    ensures { IfOk result (λ got. Gets text.now tokens.now got (turns (λ turn. prop_at turn 0) (held text.now tokens.now props.now.entries.now))) }
+{
+    let mut row = *props;
+    while let Some((turn, rest)) = row.split() {
+        match prop_turn(text, tokens, &turn) {
+            Some(property) => {
+                let is = is_get(alloc, text, tokens, property.name)?;
+                if is {
+                    return Ok(Some(property.function));
+                }
+            }
+            None => return Err(AllocError),
+        }
+        row = rest;
+    }
+    Ok(None)
+}
+
+/// Whether there is no `get`, or one that only returns what is harmless.
+#[tactic(auto, using(crate::proofs::Getters::safe_none, crate::proofs::Getters::safe_no_function, crate::proofs::Getters::safe_function))]
+pub fn is_safe_get(
+    text: &str,
+    tokens: &[Token],
+    got: &Option<Option<Body<'_>>>,
+) -> Result<bool, AllocError>
+    ensures { IfOk result (λ is. IsSafeGet text.now tokens.now got.now is) }
+{
+    match got {
+        None => Ok(true),
+        Some(None) => Ok(false),
+        Some(Some(body)) => match returns_harmless(text, tokens, body) {
+            Some(is) => Ok(is),
+            None => Err(AllocError),
+        },
+    }
+}
+
+/// What a body only returns, by its look.
+#[tactic(auto, using(crate::proofs::Getters::look_returned, crate::proofs::Getters::look_nothing))]
+fn body_look(text: &str, tokens: &[Token], body: &Body<'_>) -> Result<Look, AllocError>
+    ensures { IfOk result (λ told. GotLook text.now tokens.now (Some (Some body.now)) (look_of text.now tokens.now told)) }
+{
+    match returned_by(body) {
+        Some(expr) => match look_at(text, tokens, &expr) {
+            Some(look) => Ok(look),
+            None => Err(AllocError),
+        },
+        None => Ok(Look::Other),
+    }
+}
+
+/// What the function of `get` only returns.
+#[tactic(auto, using(crate::proofs::Getters::look_none, crate::proofs::Getters::look_no_function))]
+pub fn got_look(
+    text: &str,
+    tokens: &[Token],
+    got: &Option<Option<Body<'_>>>,
+) -> Result<Look, AllocError>
+    ensures { IfOk result (λ told. GotLook text.now tokens.now got.now (look_of text.now tokens.now told)) }
+{
+    match got {
+        None => Ok(Look::Other),
+        Some(None) => Ok(Look::Other),
+        Some(Some(body)) => body_look(text, tokens, body),
+    }
+}
