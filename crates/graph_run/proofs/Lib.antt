@@ -1,3 +1,4 @@
 pub mod GraphLemmas
+pub mod DueLemmas
 pub mod SumLemmas
 pub mod RunLemmas

@@ -168,9 +168,9 @@ other_form : (words : List (List ℕ)) (f g : Form) → IsForm f words → (f �
 other_form words f g is apart also = apart (one_form f g words is also)
 
 -- so its input isn't read
-unread_form : (words : List (List ℕ)) (f : Form) → IsForm f words → (f ≡ Build → ⊥) → (f ≡ Order → ⊥)
-    → IsReading words → ⊥
-unread_form words f is build order (inl also) = other_form words f Build is build also
+unread_form : (words : List (List ℕ)) (f : Form) → IsForm f words → ((batch : ℕ) → f ≡ Build batch → ⊥)
+    → (f ≡ Order → ⊥) → IsReading words → ⊥
+unread_form words f is build order (inl also) = other_form words f (Build also.0) is (build also.0) also.1
 unread_form words f is build order (inr also) = other_form words f Order is order also
 
 module _ (words : List (List ℕ)) (f : Form) (is : IsForm f words) (input old new : Option (List ℕ)) (status : Status)
@@ -183,7 +183,7 @@ module _ (words : List (List ℕ)) (f : Form) (is : IsForm f words) (input old n
       by : (g : Form) → IsForm g words → IsDueForm g input status text
           → IfSome input (λ bytes. IsRefused bytes
           → Always (IsReading words) reads read failed fails result BadInput)
-      by Build i d =
+      by (Build batch) i d =
           refused_written (told_by telling.Report) input old new status text written failed fails result d w
           (IsReading words) reads read
       by Order i d =
@@ -191,10 +191,10 @@ module _ (words : List (List ℕ)) (f : Form) (is : IsForm f words) (input old n
           (IsReading words) reads read
       by (Make n) i d =
           never_always IsRefused input (IsReading words) reads read failed fails result BadInput
-          (unread_form words (Make n) i (λ e. cc) (λ e. cc))
+          (unread_form words (Make n) i (λ batch e. cc) (λ e. cc))
       by (Sum n) i d =
           never_always IsRefused input (IsReading words) reads read failed fails result BadInput
-          (unread_form words (Sum n) i (λ e. cc) (λ e. cc))
+          (unread_form words (Sum n) i (λ batch e. cc) (λ e. cc))
 
   pub large_for : IfSome input
       (λ bytes. IsLargeInput bytes → Always (IsReading words) reads read failed fails result BuildRefused)
@@ -203,7 +203,7 @@ module _ (words : List (List ℕ)) (f : Form) (is : IsForm f words) (input old n
       by : (g : Form) → IsForm g words → IsDueForm g input status text
           → IfSome input (λ bytes. IsLargeInput bytes
           → Always (IsReading words) reads read failed fails result BuildRefused)
-      by Build i d =
+      by (Build batch) i d =
           large_written (told_by telling.Report) input old new status text written failed fails result d w
           (IsReading words) reads read
       by Order i d =
@@ -211,10 +211,10 @@ module _ (words : List (List ℕ)) (f : Form) (is : IsForm f words) (input old n
           (IsReading words) reads read
       by (Make n) i d =
           never_always IsLargeInput input (IsReading words) reads read failed fails result BuildRefused
-          (unread_form words (Make n) i (λ e. cc) (λ e. cc))
+          (unread_form words (Make n) i (λ batch e. cc) (λ e. cc))
       by (Sum n) i d =
           never_always IsLargeInput input (IsReading words) reads read failed fails result BuildRefused
-          (unread_form words (Sum n) i (λ e. cc) (λ e. cc))
+          (unread_form words (Sum n) i (λ batch e. cc) (λ e. cc))
 
   pub small_for : IfSome input
       (λ bytes. IsSmallInput bytes → Always (IsReading words) reads read failed fails result Done)
@@ -222,7 +222,7 @@ module _ (words : List (List ℕ)) (f : Form) (is : IsForm f words) (input old n
     where
       by : (g : Form) → IsForm g words → IsDueForm g input status text
           → IfSome input (λ bytes. IsSmallInput bytes → Always (IsReading words) reads read failed fails result Done)
-      by Build i d =
+      by (Build batch) i d =
           small_written (told_by telling.Report) input old new status text written failed fails result d w
           (IsReading words) reads read
       by Order i d =
@@ -230,17 +230,17 @@ module _ (words : List (List ℕ)) (f : Form) (is : IsForm f words) (input old n
           (IsReading words) reads read
       by (Make n) i d =
           never_always IsSmallInput input (IsReading words) reads read failed fails result Done
-          (unread_form words (Make n) i (λ e. cc) (λ e. cc))
+          (unread_form words (Make n) i (λ batch e. cc) (λ e. cc))
       by (Sum n) i d =
           never_always IsSmallInput input (IsReading words) reads read failed fails result Done
-          (unread_form words (Sum n) i (λ e. cc) (λ e. cc))
+          (unread_form words (Sum n) i (λ batch e. cc) (λ e. cc))
 
   pub made_for : (n : ℕ) → Always (IsForm (Make n) words) reads read failed fails result Done
   made_for n = by f is due
     where
       by : (g : Form) → IsForm g words → IsDueForm g input status text
           → Always (IsForm (Make n) words) reads read failed fails result Done
-      by Build i d = λ also. absurd (other_form words Build (Make n) i (λ e. cc) also)
+      by (Build batch) i d = λ also. absurd (other_form words (Build batch) (Make n) i (λ e. cc) also)
       by Order i d = λ also. absurd (other_form words Order (Make n) i (λ e. cc) also)
       by (Make m) i d = answered Done old new status written failed fails result d.0 w (IsForm (Make n) words) reads
           read
@@ -251,7 +251,7 @@ module _ (words : List (List ℕ)) (f : Form) (is : IsForm f words) (input old n
     where
       by : (g : Form) → IsForm g words → IsDueForm g input status text
           → Always (IsForm (Sum n) words) reads read failed fails result Done
-      by Build i d = λ also. absurd (other_form words Build (Sum n) i (λ e. cc) also)
+      by (Build batch) i d = λ also. absurd (other_form words (Build batch) (Sum n) i (λ e. cc) also)
       by Order i d = λ also. absurd (other_form words Order (Sum n) i (λ e. cc) also)
       by (Make m) i d = λ also. absurd (other_form words (Make m) (Sum n) i (λ e. cc) also)
       by (Sum m) i d =
@@ -268,7 +268,7 @@ none_reading fact words input reads read failed fails result due none =
     never_always fact input (IsReading words) reads read failed fails result due by
   where
     by : IsReading words → ⊥
-    by (inl is) = none Build is
+    by (inl is) = none (Build is.0) is.1
     by (inr is) = none Order is
 
 pub none_always : (words : List (List ℕ)) (g : Form) (reads read failed fails : ℕ) (result due : Status)

@@ -33,7 +33,7 @@ use Rattle.made_bundle.specs.Made.{made_text}
 -- ---- the lines of the refusals
 
 abbrev pub usage_line : List ℕ
-usage_line = codes "usage: graph_tool build | make N | sum N | order" ++ line_end
+usage_line = codes "usage: graph_tool build [--batch N] | make N | sum N | order" ++ line_end
 
 abbrev pub too_long_line : List ℕ
 too_long_line = codes "error InputTooLong" ++ line_end
@@ -118,10 +118,10 @@ pub data IsDueOf (tells : GraphData → List ℕ → Type 0) (input : List ℕ) 
 abbrev pub IsDue : List ℕ → Status → List ℕ → Type 0
 IsDue = IsDueOf (told_by telling.Report)
 
--- what is due for a form and an input: of `build` the report of the input's graph, where the input is told; of `order`
+-- what is due for a form and an input: of `build` the report of the input's graph, whatever the batch, where the input is told; of `order`
 -- that of its modules; of `make N` the bundle of N modules; of `sum N` the counts of that bundle's graph
 abbrev pub IsDueForm : Form → Option (List ℕ) → Status → List ℕ → Type 0
-IsDueForm Build input status text = IfSome input (λ bytes. IsDue bytes status text)
+IsDueForm (Build batch) input status text = IfSome input (λ bytes. IsDue bytes status text)
 IsDueForm Order input status text = IfSome input (λ bytes. IsDueOf (told_by telling.Order) bytes status text)
 IsDueForm (Make n) input status text = (status ≡ Done) × (text ≡ made_text n)
 IsDueForm (Sum n) input status text = IsDueOf (told_by telling.Counts) (made_text n) status text

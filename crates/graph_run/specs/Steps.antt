@@ -1,5 +1,5 @@
 -- What the crate's functions promise each other.
-use Rattle.std.specs.Prelude.{◌≡◌, ℕ, ◌+◌, Bool, true, false, List, [], ◌∷◌, ◌++◌, Option, Some, None, IsSome, ◌⊎◌, ◌<◌, String, string_bytes, ⊤}
+use Rattle.std.specs.Prelude.{◌≡◌, ℕ, ◌+◌, Bool, true, false, List, [], ◌∷◌, ◌++◌, Option, Some, None, Result, Ok, Err, IsSome, ◌⊎◌, ◌<◌, String, string_bytes, ⊤}
 use Rattle.graph_builder.specs.declared.error.BuildError.{BuildError}
 use Rattle.graph_builder.specs.declared.error.BuildError.TheVariants.{NotYet, TooManyModules, UnaskedAnswer, Finished, OutOfMemory}
 use Rattle.graph_builder.specs.Rules.{Rules, Specifier, rules_by}
@@ -18,6 +18,9 @@ use Rattle.graph_builder.specs.Loader.{LoaderData}
 use Rattle.graph_builder.specs.Builder.{BuildingBy, following_of}
 use Rattle.graph_builder.specs.Memory.{is_forced}
 use Rattle.graph_bundle.specs.declared.bundle.Bundle.{Bundle}
+use Rattle.graph_bundle.specs.declared.bundle.BundleFault.{BundleFault}
+use Rattle.graph_bundle.specs.declared.bundle.BundleFault.TheVariants as fault
+use Rattle.graph_builder.specs.Graph.{GraphData}
 use Rattle.std.specs.List.{list_any}
 use Rattle.std.specs.Io.KnownBytes.{Appends}
 use Rattle.graph_words.specs.declared.words.Form.{Form}
@@ -25,7 +28,7 @@ use Rattle.graph_words.specs.declared.words.Form.TheVariants.{Build, Order, Make
 use Rattle.graph_run.specs.declared.status.Status.{Status}
 use Rattle.graph_run.specs.declared.status.Status.TheVariants.{Done, BuildRefused, BadInput, ReadFault, WriteFault, NoMemory, Usage}
 use Rattle.counted_io.specs.Transfer.{TookPart}
-use Rattle.graph_run.specs.Run.{HasMoreThan}
+use Rattle.graph_run.specs.Run.{HasMoreThan, not_json_line, no_bundle_line, too_many_line}
 
 -- nothing happened to the builder's loader yet, which tells how often it will wait and answers open requests alone; and the builder goes on
 pub record IsNew {L W : Type 0} (seen : LoaderData) (b : BuildingBy L W) : Type 0 where
@@ -82,6 +85,29 @@ abbrev pub waits_left : Option ℕ → ℕ
 waits_left None = 0
 waits_left (Some n) = n
 
+-- ---- what is due, by what the input and the builder come to
+
+-- for bytes that are no bundle
+abbrev pub OfFault : BundleFault → Status → List ℕ → Type 0
+OfFault fault.NotJson status text = (status ≡ BadInput) × (text ≡ not_json_line)
+OfFault (fault.Pointer at) status text = (status ≡ BadInput) × (text ≡ no_bundle_line at)
+OfFault fault.OutOfMemory status text = ⊥
+
+-- a builder ends with a graph, because too much is reached, or because memory ran out
+abbrev pub IsEnd : Result GraphData BuildError → Type 0
+IsEnd (Ok graph) = ⊤
+IsEnd (Err NotYet) = ⊥
+IsEnd (Err (TooManyModules seen)) = ⊤
+IsEnd (Err (UnaskedAnswer url)) = ⊥
+IsEnd (Err Finished) = ⊥
+IsEnd (Err OutOfMemory) = ⊤
+
+-- for such an end, where `tells` says what may be told of a graph
+abbrev pub OfEnd : (GraphData → List ℕ → Type 0) → Result GraphData BuildError → Status → List ℕ → Type 0
+OfEnd tells (Ok graph) status text = (status ≡ Done) × tells graph text
+OfEnd tells (Err (TooManyModules seen)) status text = (status ≡ BuildRefused) × (text ≡ too_many_line seen)
+OfEnd tells (Err e) status text = ⊥
+
 -- such a builder ends with an error only where too much is reached, or because memory ran out
 abbrev pub SaysLarge : Rules → List Specifier → Answers → ℕ → BuildError → Type 0
 SaysLarge rules starts answers limit NotYet = ⊥
@@ -92,7 +118,7 @@ SaysLarge rules starts answers limit OutOfMemory = ⊤
 
 -- the form's input is read
 abbrev pub reads : Form → Bool
-reads Build = true
+reads (Build batch) = true
 reads Order = true
 reads (Make n) = false
 reads (Sum n) = false

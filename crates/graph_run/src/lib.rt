@@ -2,13 +2,15 @@
 //!
 //! - `run`: by its words, reads a bundle and writes the report of its graph, or writes a made bundle or the counts of its
 //!   graph, and answers a `Status` (`Wrote`, `specs/Run.antt`).
-//! - `due_for`: what is due for the bytes of an input: a status, and the report or the line of a refusal (`IsDue`).
+//! - `due_for`: what is due for the bytes of an input: a status, and the report or the line of a refusal (`IsDue`). It starts
+//!   no thread; `run` has the analyses of a batch run in threads.
 //! - `report`, `summary`: the text of a graph, its counts: those of `graph_report`.
 //! - `read_all`, `write_all`, `Source`, `Sink` and those in memory: what gives and takes bytes, that of `counted_io`.
 //!
 //! Running out of memory is the one answer without a cause.
 #![tactic(auto)]
 
+mod batches;
 mod program;
 mod resolver;
 mod status;

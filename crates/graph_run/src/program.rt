@@ -10,17 +10,22 @@ ghost use Rattle.graph_run.specs.declared.verdict.Telling.TheVariants as telling
 ghost use Rattle.counted_io.specs.Transfer.{input_limit, ReadAtMost};
 ghost use Rattle.graph_run.specs.Steps.{reads, IsVerdict, IsStop, IsWritten};
 
+use crate::batches::due_batched;
 use crate::status::Status;
-use crate::verdict::{Due, Telling, due_told, refusal};
+use crate::verdict::{Due, Telling, refusal};
 use counted_io::{INPUT_LIMIT, ReadError, Sink, Source, read_all, write_all};
-use graph_words::{Form, form_of};
+use graph_words::{BATCH, Form, form_of};
 use made_bundle::make_bundle;
 use std::alloc::Global;
+use std::thread::Threads;
 
 /// Runs the program with the words behind its name. With `build` it reads a bundle from the source
 /// and writes the report of its graph, or the line of a refusal; with `order` the order of its modules, or a cycle of them.
 /// With `make N` it writes the bundle of N modules, with `sum N` the counts of its graph. Other words get the usage line.
-pub fn run<S: Source, K: Sink>(
+/// Modules are taken in batches of 64, or of as many as `build --batch N` says, and the analyses of a batch run in threads;
+/// what is written is the same whatever the number.
+pub fn run<R: Threads + Sync, S: Source, K: Sink>(
+    rt: &R,
     alloc: Global,
     words: &[String],
     source: &mut S,
@@ -53,17 +58,22 @@ pub fn run<S: Source, K: Sink>(
         return finish(
             sink,
             Status::Usage,
-            "usage: graph_tool build | make N | sum N | order\n",
+            "usage: graph_tool build [--batch N] | make N | sum N | order\n",
         );
     };
-    match find_due(alloc, form, source) {
+    match find_due(rt, alloc, form, source) {
         Ok(due) => finish(sink, due.status, due.text.as_str()),
         Err(status) => status,
     }
 }
 
 /// Finds what is due for a form.
-fn find_due<S: Source>(alloc: Global, form: Form, source: &mut S) -> Result<Due, Status>
+fn find_due<R: Threads + Sync, S: Source>(
+    rt: &R,
+    alloc: Global,
+    form: Form,
+    source: &mut S,
+) -> Result<Due, Status>
     requires { IsWithin form }
     ensures due { IfOk result (λ due. IsDueForm form (S.left source.old) due.status (string_bytes due.text)) }
     ensures verdict { IfOk result (λ due. IsVerdict due.status) }
@@ -75,10 +85,10 @@ fn find_due<S: Source>(alloc: Global, form: Form, source: &mut S) -> Result<Due,
         (ReadsCounted (S.faults source.old) (S.faults source.new)) }
 {
     match form {
-        Form::Build => read_due(alloc, source, Telling::Report),
-        Form::Order => read_due(alloc, source, Telling::Order),
+        Form::Build { batch } => read_due(rt, alloc, source, Telling::Report, batch),
+        Form::Order => read_due(rt, alloc, source, Telling::Order, BATCH),
         Form::Make(count) => made_due(alloc, count),
-        Form::Sum(count) => summed_due(alloc, count),
+        Form::Sum(count) => summed_due(rt, alloc, count),
     }
 }
 
@@ -98,7 +108,7 @@ fn made_due(alloc: Global, count: u32) -> Result<Due, Status>
 }
 
 /// The counts of that bundle's graph.
-fn summed_due(alloc: Global, count: u32) -> Result<Due, Status>
+fn summed_due<R: Threads + Sync>(rt: &R, alloc: Global, count: u32) -> Result<Due, Status>
     requires { count ≤ 100000 }
     ensures due { IfOk result (λ due. IsDueOf (told_by telling.Counts) (made_text count) due.status (string_bytes due.text)) }
     ensures verdict { IfOk result (λ due. IsVerdict due.status) }
@@ -107,15 +117,22 @@ fn summed_due(alloc: Global, count: u32) -> Result<Due, Status>
     let Ok(text) = make_bundle(alloc, count) else {
         return Err(Status::NoMemory);
     };
-    let bytes = text.as_bytes();
+    let bytes = text.into_bytes();
     if bytes.len() > INPUT_LIMIT {
         return refusal(alloc, "error InputTooLong\n").map_err(|_| Status::NoMemory);
     }
-    due_told(alloc, bytes, Telling::Counts).map_err(|_| Status::NoMemory)
+    due_batched(rt, alloc, bytes, Telling::Counts, BATCH).map_err(|_| Status::NoMemory)
 }
 
 /// Reads the source, and finds what is due for its bytes.
-fn read_due<S: Source>(alloc: Global, source: &mut S, telling: Telling) -> Result<Due, Status>
+fn read_due<R: Threads + Sync, S: Source>(
+    rt: &R,
+    alloc: Global,
+    source: &mut S,
+    telling: Telling,
+    batch: u32,
+) -> Result<Due, Status>
+    requires { 1 ≤ batch }
     ensures due { IfOk result (λ due. IfSome (S.left source.old)
         (λ input. IsDueOf (told_by telling) input due.status (string_bytes due.text))) }
     ensures verdict { IfOk result (λ due. IsVerdict due.status) }
@@ -126,7 +143,7 @@ fn read_due<S: Source>(alloc: Global, source: &mut S, telling: Telling) -> Resul
         (ReadsCounted (S.faults source.old) (S.faults source.new)) }
 {
     match read_all(alloc, source) {
-        Ok(bytes) => due_told(alloc, bytes.as_slice(), telling).map_err(|_| Status::NoMemory),
+        Ok(bytes) => { due_batched(rt, alloc, bytes, telling, batch).map_err(|_| Status::NoMemory) }
         Err(ReadError::TooLong) => {
             refusal(alloc, "error InputTooLong\n").map_err(|_| Status::NoMemory)
         }

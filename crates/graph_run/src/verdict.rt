@@ -7,8 +7,8 @@ ghost use Rattle.graph_builder.specs.Memory.{tells, data_of, new_memory};
 ghost use Rattle.graph_builder.specs.Builder.{new_building, new_building_by, starts};
 ghost use Rattle.counted_io.specs.Transfer.{input_limit};
 ghost use Rattle.graph_run.specs.Telling.{told_by};
-ghost use Rattle.graph_run.specs.Run.{IsDue, IsDueOf, OfBundle, IsGraphOf, bundle_rules, bundle_starts, no_bundle_line, too_many_line};
-ghost use Rattle.graph_run.specs.Steps.{IsNew, IsUnforced, SaysLarge, mapped_ways, mapped_resolves, bundle_ways, built_rules, built_resolves};
+ghost use Rattle.graph_run.specs.Run.{IsDue, IsGraphOf, bundle_rules, bundle_starts, no_bundle_line, too_many_line};
+ghost use Rattle.graph_run.specs.Steps.{OfFault, IsEnd, OfEnd, IsNew, IsUnforced, SaysLarge, mapped_ways, mapped_resolves, bundle_ways, built_rules, built_resolves};
 
 use crate::resolver::BundleResolver;
 use crate::status::Status;
@@ -41,24 +41,25 @@ pub enum Telling {
     Order,
 }
 
-/// What is due for an input that is not too long: the report of its graph.
+/// What is due for an input that is not too long: the report of its graph. No thread is started.
 pub fn due_for(alloc: Global, bytes: &[u8]) -> Result<Due, AllocError>
     requires { length bytes.now ≤ input_limit }
     ensures { IfOk result (λ due. IsDue bytes.now due.status (string_bytes due.text)) }
 {
-    due_told(alloc, bytes, Telling::Report)
+    match read_bundle(alloc, bytes) {
+        Ok(bundle) => due_for_end(alloc, build(alloc, bundle), Telling::Report),
+        Err(fault) => due_for_fault(alloc, fault),
+    }
 }
 
-/// The same, where something else may be told of its graph.
-pub fn due_told(alloc: Global, bytes: &[u8], telling: Telling) -> Result<Due, AllocError>
-    requires { length bytes.now ≤ input_limit }
-    ensures { IfOk result (λ due. IsDueOf (told_by telling) bytes.now due.status (string_bytes due.text)) }
+/// What is due for bytes that are no bundle.
+pub fn due_for_fault(alloc: Global, fault: BundleFault) -> Result<Due, AllocError>
+    ensures { IfOk result (λ due. OfFault fault due.status (string_bytes due.text)) }
 {
-    match read_bundle(alloc, bytes) {
-        Ok(bundle) => due_for_bundle(alloc, bundle, telling),
-        Err(BundleFault::NotJson) => refusal(alloc, "error NotJson\n"),
-        Err(BundleFault::Pointer(at)) => no_bundle(alloc, at),
-        Err(BundleFault::OutOfMemory) => Err(AllocError),
+    match fault {
+        BundleFault::NotJson => refusal(alloc, "error NotJson\n"),
+        BundleFault::Pointer(at) => no_bundle(alloc, at),
+        BundleFault::OutOfMemory => Err(AllocError),
     }
 }
 
@@ -85,12 +86,16 @@ pub fn refusal(alloc: Global, line: &str) -> Result<Due, AllocError>
     })
 }
 
-/// What is due for a bundle.
-fn due_for_bundle(alloc: Global, bundle: Bundle, telling: Telling) -> Result<Due, AllocError>
-    requires { IsUnforced bundle }
-    ensures { IfOk result (λ due. OfBundle (told_by telling) bundle due.status (string_bytes due.text)) }
+/// What is due where the builder of a bundle's graph has ended.
+pub fn due_for_end(
+    alloc: Global,
+    end: Result<ModuleGraph, BuildError>,
+    telling: Telling,
+) -> Result<Due, AllocError>
+    requires { IsEnd end }
+    ensures { IfOk result (λ due. OfEnd (told_by telling) end due.status (string_bytes due.text)) }
 {
-    match build(alloc, bundle) {
+    match end {
         Ok(graph) => done(alloc, &graph, telling),
         Err(BuildError::TooManyModules { seen }) => too_large(alloc, seen),
         Err(BuildError::OutOfMemory) => Err(AllocError),
@@ -141,10 +146,10 @@ fn build(alloc: Global, bundle: Bundle) -> Result<ModuleGraph, BuildError>
 }
 
 /// A builder of the graph of a bundle.
-type BundleBuild = CustomBuild<MemoryLoader, BundleResolver, ParserModuleAnalyzer>;
+pub type BundleBuild = CustomBuild<MemoryLoader, BundleResolver, ParserModuleAnalyzer>;
 
 /// A builder of the graph of a bundle, over a loader in memory that has its modules. Its import map resolves.
-fn new_build(alloc: Global, bundle: Bundle) -> Result<BundleBuild, BuildError>
+pub fn new_build(alloc: Global, bundle: Bundle) -> Result<BundleBuild, BuildError>
     requires { IsUnforced bundle }
     ensures new { IfOk result (λ build. IsNew (data_of build.inner.loader) build.inner) }
     ensures ways { IfOk result (λ build. build.inner.following ≡ bundle_ways bundle) }
@@ -228,7 +233,7 @@ fn poll_to_end(build: &mut BundleBuild) -> Result<ModuleGraph, BuildError>
 }
 
 /// Whether the builder wants to be polled again.
-fn is_not_yet(answer: &Result<ModuleGraph, BuildError>) -> bool
+pub fn is_not_yet(answer: &Result<ModuleGraph, BuildError>) -> bool
     ensures { IsTrue result ↔ (answer.now ≡ Err BuildError.NotYet) }
 {
     matches!(answer, Err(BuildError::NotYet))

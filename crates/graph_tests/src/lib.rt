@@ -4,6 +4,8 @@
 #[cfg(test)]
 mod arrivals;
 #[cfg(test)]
+mod batches;
+#[cfg(test)]
 mod graphs;
 #[cfg(test)]
 mod orders;

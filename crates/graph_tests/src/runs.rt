@@ -5,6 +5,7 @@ ghost use Rattle.std.specs.Prelude.{◌<◌};
 use graph_run::{MemorySink, MemorySource, run};
 use std::alloc::{AllocError, Global};
 use std::process::Abort;
+use std::thread::Threads;
 
 const ROW: &str =
     r#"{"roots":["file:///a.ts"],"modules":[{"specifier":"file:///a.ts","text":"import \"./b.ts\";"}]}"#;
@@ -23,7 +24,7 @@ const MADE: &str =
     r#"0 {"limit":2,"modules":[{"specifier":"file:///m/0.ts","text":"import \"./1.ts\";\nexport const v0 = 0;\n"},{"specifier":"file:///m/1.ts","text":"import(\"./0.ts\");\nexport const v1 = 1;\n"}],"roots":["file:///m/0.ts"]}
 "#;
 
-const USAGE: &str = "64 usage: graph_tool build | make N | sum N | order\n";
+const USAGE: &str = "64 usage: graph_tool build [--batch N] | make N | sum N | order\n";
 
 /// A word, the number behind it, and the status with what is written.
 const FORMS: &[(&str, &str, &str)] = &[
@@ -43,6 +44,19 @@ const FORMS: &[(&str, &str, &str)] = &[
     ("Make", "2", USAGE),
 ];
 
+/// A number behind `build --batch`, and the status with what is written.
+const BATCHES: &[(&str, &str)] = &[
+    ("1", REPORT),
+    ("2", REPORT),
+    ("64", REPORT),
+    ("1000000", REPORT),
+    ("0", USAGE),
+    ("01", USAGE),
+    ("+1", USAGE),
+    ("", USAGE),
+    ("1000001", USAGE),
+];
+
 /// A size of the input, the status with what is written, and how many bytes are left unread.
 const SIZES: &[(usize, &str, usize)] = &[
     (16_777_216, "0 entries 0\n", 0),
@@ -50,7 +64,8 @@ const SIZES: &[(usize, &str, usize)] = &[
 ];
 
 /// The status and what was written.
-fn ended(
+fn ended<R: Threads + Sync>(
+    rt: &R,
     alloc: Global,
     words: &[&str],
     source: &mut MemorySource,
@@ -60,29 +75,34 @@ fn ended(
     for word in words {
         given.push(String::from_str(alloc, word)?)?;
     }
-    let status = run(alloc, given.as_slice(), source, sink).code();
+    let status = run(rt, alloc, given.as_slice(), source, sink).code();
     let text = std::str::from_utf8(sink.taken()).unwrap_or("no text");
     format!(in alloc; "{status} {text}")
 }
 
 /// The same for `build` over the input, in pieces of this size.
-fn built(rt: &impl Abort, alloc: Global, input: &str, piece: usize) -> String
+fn built<R: Abort + Threads + Sync>(rt: &R, alloc: Global, input: &str, piece: usize) -> String
     requires { 0 < piece }
 {
     let bytes = input.as_bytes().to_vec(alloc).expect(rt, "memory");
     let mut source = MemorySource::new(bytes, piece, Vec::new(alloc));
     let mut sink = MemorySink::new(alloc, 4096, piece, Vec::new(alloc)).expect(rt, "memory");
-    ended(alloc, &["build"], &mut source, &mut sink).expect(rt, "memory")
+    ended(rt, alloc, &["build"], &mut source, &mut sink).expect(rt, "memory")
 }
 
 /// The same where one read or one write fails.
-fn failing(rt: &impl Abort, alloc: Global, reads: &[u64], writes: &[u64]) -> String {
+fn failing<R: Abort + Threads + Sync>(
+    rt: &R,
+    alloc: Global,
+    reads: &[u64],
+    writes: &[u64],
+) -> String {
     let bytes = FIVE.as_bytes().to_vec(alloc).expect(rt, "memory");
     let reads = reads.to_vec(alloc).expect(rt, "memory");
     let writes = writes.to_vec(alloc).expect(rt, "memory");
     let mut source = MemorySource::new(bytes, 64, reads);
     let mut sink = MemorySink::new(alloc, 4096, 64, writes).expect(rt, "memory");
-    ended(alloc, &["build"], &mut source, &mut sink).expect(rt, "memory")
+    ended(rt, alloc, &["build"], &mut source, &mut sink).expect(rt, "memory")
 }
 
 #[test]
@@ -93,11 +113,16 @@ fn runs_in_pieces(rt: HostRuntime) {
 }
 
 /// What a run with these words says where this much may be written, and how much of the input is left.
-fn refused(rt: &impl Abort, alloc: Global, words: &[&str], room: usize) -> (String, usize) {
+fn refused<R: Abort + Threads + Sync>(
+    rt: &R,
+    alloc: Global,
+    words: &[&str],
+    room: usize,
+) -> (String, usize) {
     let bytes = ROW.as_bytes().to_vec(alloc).expect(rt, "memory");
     let mut source = MemorySource::new(bytes, 9, Vec::new(alloc));
     let mut sink = MemorySink::new(alloc, room, 9, Vec::new(alloc)).expect(rt, "memory");
-    let got = ended(alloc, words, &mut source, &mut sink).expect(rt, "memory");
+    let got = ended(rt, alloc, words, &mut source, &mut sink).expect(rt, "memory");
     (got, source.left().len())
 }
 
@@ -105,10 +130,7 @@ fn refused(rt: &impl Abort, alloc: Global, words: &[&str], room: usize) -> (Stri
 fn runs_with_other_words_or_no_room(rt: HostRuntime) {
     let alloc = rt.alloc();
     let (got, left) = refused(&rt, alloc, &["build", "x"], 100);
-    assert_eq!(rt;
-        got.as_str(),
-        "64 usage: graph_tool build | make N | sum N | order\n"
-    );
+    assert_eq!(rt; got.as_str(), USAGE);
     assert_eq!(rt; left, ROW.len());
     let (got, left) = refused(&rt, alloc, &["run", "x"], 5);
     assert_eq!(rt; got.as_str(), "4 usage");
@@ -123,6 +145,21 @@ fn runs_of_forms_with_a_number(rt: HostRuntime) {
         assert_eq!(rt; got.as_str(), *want, "{word} {number}");
         assert_eq!(rt; left, ROW.len(), "{word} {number}");
     }
+}
+
+#[test]
+fn runs_of_batches(rt: HostRuntime) {
+    let alloc = rt.alloc();
+    for (number, want) in BATCHES {
+        let (got, left) = refused(&rt, alloc, &["build", "--batch", *number], 1000);
+        assert_eq!(rt; got.as_str(), *want, "{number}");
+        let unread = if *want == USAGE { ROW.len() } else { 0 };
+        assert_eq!(rt; left, unread, "{number}");
+    }
+    let (got, _) = refused(&rt, alloc, &["build", "--batches", "2"], 1000);
+    assert_eq!(rt; got.as_str(), USAGE);
+    let (got, _) = refused(&rt, alloc, &["order", "--batch", "2"], 1000);
+    assert_eq!(rt; got.as_str(), USAGE);
 }
 
 #[test]
@@ -151,7 +188,7 @@ fn runs_at_the_limit_of_sizes(rt: HostRuntime) {
         bytes.resize(*size, b' ').expect(&rt, "memory");
         let mut source = MemorySource::new(bytes, 1_000_000, Vec::new(alloc));
         let mut sink = MemorySink::new(alloc, 100, 100, Vec::new(alloc)).expect(&rt, "memory");
-        let got = ended(alloc, &["build"], &mut source, &mut sink).expect(&rt, "memory");
+        let got = ended(&rt, alloc, &["build"], &mut source, &mut sink).expect(&rt, "memory");
         assert_eq!(rt; got.as_str(), *want, "{size}");
         assert_eq!(rt; source.left().len(), *left, "{size}");
     }

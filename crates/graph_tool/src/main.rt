@@ -24,6 +24,6 @@ fn main(rt: HostRuntime) -> ExitCode {
     let words: Vec<String> = words;
     let mut source = ReadSource::new(rt.reader());
     let mut sink = WriteSink::new(io::writer(&rt));
-    let status = run(rt.alloc(), words.as_slice(), &mut source, &mut sink);
+    let status = run(&rt, rt.alloc(), words.as_slice(), &mut source, &mut sink);
     ExitCode::from(status.code())
 }

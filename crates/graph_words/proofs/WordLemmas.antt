@@ -24,8 +24,8 @@ no_zero (b ∷ word) h is = let no : is_plain (48 ∷ word) ≡ true = subst (λ
 -- what is read of such a word is its number
 pub count_read : {E : Type 0} (word : List ℕ) (r : Result ℕ E) (n : ℕ) → ParsesUnsigned 32 10 word r
     → is_plain word ≡ true
-    → r ≡ Ok n → n ≤ 100000 → IsCount n word
-count_read {E} word r n parsed plain is le =
+    → r ≡ Ok n → (most : ℕ) → most ≤ 1000000 → n ≤ most → IsCount most n word
+count_read {E} word r n parsed plain is most low le =
     let read : ParsesUnsigned {E = E} 32 10 word (Ok n) = subst (ParsesUnsigned {E = E} 32 10 word) is parsed in
     let told : (AllDigits 10 word × (0 < length word) × (digits_value 10 word < 2 ^ 32)) × (n ≡ digits_value 10 word) =
     parse_plain own {E = E} 32 word (Ok n) read (no_sign word plain) in
@@ -42,10 +42,10 @@ count_read {E} word r n parsed plain is le =
     positive (suc m) w = omega arith
 
 -- a number's word is plain
-pub count_plain : (word : List ℕ) (n : ℕ) → IsCount n word → is_plain word ≡ true
-count_plain word n (written, some, le) =
+pub count_plain : (word : List ℕ) (most n : ℕ) → most ≤ 1000000 → IsCount most n word → is_plain word ≡ true
+count_plain word most n low (written, some, le) =
     by word (subst (λ (ds : List ℕ). 48 < get_or ds 0 0) (sym written)
-    (first_decimal n (omega (arith, some)) (omega (arith, le))))
+    (first_decimal n (omega (arith, some)) (omega (arith, le, low))))
   where
     by : (ds : List ℕ) → 48 < get_or ds 0 0 → is_plain ds ≡ true
     by [] lt = absurd (omega arith)
@@ -57,40 +57,42 @@ count_plain word n (written, some, le) =
         high false false h k = refl
 
 -- and is read
-pub count_written : {E : Type 0} (word : List ℕ) (r : Result ℕ E) (n : ℕ) → ParsesUnsigned 32 10 word r
-    → IsCount n word → r ≡ Ok n
-count_written word r n parsed (written, some, le) =
-    parse-decimal 32 n word r (omega (arith, le)) (omega (arith, le)) written parsed
+pub count_written : {E : Type 0} (word : List ℕ) (r : Result ℕ E) (most n : ℕ) → most ≤ 1000000
+    → ParsesUnsigned 32 10 word r → IsCount most n word → r ≡ Ok n
+count_written word r most n low parsed (written, some, le) =
+    parse-decimal 32 n word r (omega (arith, le, low)) (omega (arith, le, low)) written parsed
 
 -- ---- what `count_of` answers
 
-pub none_unplain : (word : List ℕ) → is_plain word ≡ false → (n : ℕ)
-    → (◌≡◌ {A = Option ℕ} None (Some n)) ↔ IsCount n word
-none_unplain word unplain n =
-    (λ is. absurd cc, λ counted. absurd (let yes : is_plain word ≡ true = count_plain word n counted in cc))
+module _ (word : List ℕ) (most : ℕ) (low : most ≤ 1000000) where
+  pub none_unplain : is_plain word ≡ false → (n : ℕ) → (◌≡◌ {A = Option ℕ} None (Some n)) ↔ IsCount most n word
+  none_unplain unplain n =
+      (λ is. absurd cc, λ counted. absurd (let yes : is_plain word ≡ true = count_plain word most n low counted in cc))
 
-pub some_read : {E : Type 0} (word : List ℕ) (r : Result ℕ E) (m : ℕ) → ParsesUnsigned 32 10 word r
-    → is_plain word ≡ true
-    → r ≡ Ok m → m ≤ 100000 → (n : ℕ) → (◌≡◌ {A = Option ℕ} (Some m) (Some n)) ↔ IsCount n word
-some_read {E} word r m parsed plain is le n = (
-  λ same. let one : m ≡ n = cc in subst (λ (k : ℕ). IsCount k word) one (count_read word r m parsed plain is le),
-  λ counted. let both : ◌≡◌ {A = Result ℕ E} (Ok m) (Ok n) = sym is ∙ count_written word r n parsed counted in cc,
-)
+  pub some_read : {E : Type 0} (r : Result ℕ E) (m : ℕ) → ParsesUnsigned 32 10 word r → is_plain word ≡ true
+      → r ≡ Ok m → m ≤ most → (n : ℕ) → (◌≡◌ {A = Option ℕ} (Some m) (Some n)) ↔ IsCount most n word
+  some_read {E} r m parsed plain is le n = (
+    λ same.
+        let one : m ≡ n = cc in
+        subst (λ (k : ℕ). IsCount most k word) one (count_read word r m parsed plain is most low le),
+    λ counted.
+        let both : ◌≡◌ {A = Result ℕ E} (Ok m) (Ok n) = sym is ∙ count_written word r most n low parsed counted in cc,
+  )
 
-pub none_large : {E : Type 0} (word : List ℕ) (r : Result ℕ E) (m : ℕ) → ParsesUnsigned 32 10 word r → r ≡ Ok m
-    → 100000 < m
-    → (n : ℕ) → (◌≡◌ {A = Option ℕ} None (Some n)) ↔ IsCount n word
-none_large {E} word r m parsed is large n = (
-  λ same. absurd cc,
-  λ counted.
-      let both : ◌≡◌ {A = Result ℕ E} (Ok m) (Ok n) = sym is ∙ count_written word r n parsed counted in
-      let one : m ≡ n = cc in absurd (omega (arith, one, large, counted.2)),
-)
+  pub none_large : {E : Type 0} (r : Result ℕ E) (m : ℕ) → ParsesUnsigned 32 10 word r → r ≡ Ok m → most < m
+      → (n : ℕ) → (◌≡◌ {A = Option ℕ} None (Some n)) ↔ IsCount most n word
+  none_large {E} r m parsed is large n = (
+    λ same. absurd cc,
+    λ counted.
+        let both : ◌≡◌ {A = Result ℕ E} (Ok m) (Ok n) = sym is ∙ count_written word r most n low parsed counted in
+        let one : m ≡ n = cc in absurd (omega (arith, one, large, counted.2)),
+  )
 
-pub none_unread : {E : Type 0} (word : List ℕ) (r : Result ℕ E) (e : E) → ParsesUnsigned 32 10 word r → r ≡ Err e
-    → (n : ℕ) → (◌≡◌ {A = Option ℕ} None (Some n)) ↔ IsCount n word
-none_unread {E} word r e parsed is n = (
-  λ same. absurd cc,
-  λ counted. absurd
-      (let both : ◌≡◌ {A = Result ℕ E} (Err e) (Ok n) = sym is ∙ count_written word r n parsed counted in cc),
-)
+  pub none_unread : {E : Type 0} (r : Result ℕ E) (e : E) → ParsesUnsigned 32 10 word r → r ≡ Err e
+      → (n : ℕ) → (◌≡◌ {A = Option ℕ} None (Some n)) ↔ IsCount most n word
+  none_unread {E} r e parsed is n = (
+    λ same. absurd cc,
+    λ counted. absurd
+        (let both : ◌≡◌ {A = Result ℕ E} (Err e) (Ok n) = sym is ∙ count_written word r most n low parsed counted in
+        cc),
+  )

@@ -5,4 +5,4 @@
 
 mod words;
 
-pub use words::{Form, MOST_MODULES, form_of};
+pub use words::{BATCH, Form, MOST_BATCH, MOST_MODULES, form_of};

@@ -4,6 +4,7 @@ use Rattle.graph_words.specs.declared.words.Form.TheVariants.{Make, Sum}
 use Rattle.graph_run.specs.declared.status.Status.TheVariants.{Done, BuildRefused, BadInput}
 use Rattle.graph_run.specs.Run.{form, IsRefused, IsLargeInput, IsSmallInput}
 use Rattle.graph_run.proofs.RunLemmas.{wrote_due, wrote_usage, refused_for, large_for, small_for, made_for, summed_for, none_always, none_reading}
+use Rattle.graph_run.proofs.DueLemmas.{unread_of}
 use Rattle.graph_run.proofs.program.run.Goals as goal
 
 -- ---- the words are no form
@@ -59,3 +60,13 @@ pub returns-in-Ok-clause-summed : goal.returns-in-Ok-clause-summed
 returns-in-Ok-clause-summed g c =
     summed_for _ c.in-Some.form c.in-Some.ensures.form _ _ _ c.in-Ok.due.status (string_bytes c.in-Ok.due.text)
     c.as_str.result.now _ _ _ c.in-Ok.ensures.due c.finish-in-Ok.ensures _ _
+
+pub returns-in-Ok-clause-unread : goal.returns-in-Ok-clause-unread
+returns-in-Ok-clause-unread g c none =
+    c.find_due.ensures.unread (unread_of _ c.in-Some.form c.in-Some.ensures.form none)
+
+-- ---- or nothing was
+
+pub returns-in-Err-clause-unread : goal.returns-in-Err-clause-unread
+returns-in-Err-clause-unread g c none =
+    c.find_due.ensures.unread (unread_of _ c.in-Some.form c.in-Some.ensures.form none)

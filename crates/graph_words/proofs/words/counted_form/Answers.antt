@@ -1,5 +1,5 @@
 -- The words are the name and the number.
-use Rattle.std.proofs.Common.{rules, ap, sym, List, ℕ, [], ◌∷◌, ◌∙◌}
+use Rattle.std.proofs.Common.{ap, List, ℕ, [], ◌∷◌}
 use Rattle.graph_words.proofs.words.counted_form.Goals as goal
 
 pub returns-in-make-clause-form : goal.returns-in-make-clause-form
