@@ -50,8 +50,8 @@ class CiRun(unittest.TestCase):
         lines, status = self.gate()
         called = [line for line in lines if line.startswith("called")]
         self.assertEqual(called[:-1], ["called try-tests --minutes 20", "called rt ci", "called check"])
-        # the edits come last, with what is left of two and a half hours
-        self.assertRegex(called[-1], r"^called edits --seconds (9000|89\d\d)$")
+        # the edits come last, with what is left of two hours
+        self.assertRegex(called[-1], r"^called edits --seconds (7200|71\d\d)$")
         self.assertEqual((lines[-1], status), ("7 passed, 0 failed", 0))
 
     def test_a_failing_test_ends_it(self):
