@@ -125,7 +125,7 @@ class Places(unittest.TestCase):
             for text in spans_in(instead) if instead != "`with`" else ():
                 with self.subTest(text=text):
                     self.assertEqual(self.program.which_are_read("file:///a.ts", [text if text.endswith(";") else f"x = {text}"]), [True])
-        self.assertGreater(asked, 30)
+        self.assertGreater(asked, 25)
 
     def test_sentences(self):
         for name, text, part in SENTENCES:
