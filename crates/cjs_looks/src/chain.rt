@@ -190,7 +190,7 @@ fn dotted(tokens: &[Token], before: Look, name: u32) -> Look
 {
     match token_at(tokens, name) {
         Some(token) => {
-            if token.kind == TokenKind::PrivateName {
+            if token.kind() == TokenKind::PrivateName {
                 Look::Member(before.object(), Key::Odd)
             } else {
                 Look::Member(before.object(), Key::Dotted(name))

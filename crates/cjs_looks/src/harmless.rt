@@ -29,7 +29,7 @@ fn word_harmless(tokens: &[Token], at: u32) -> bool
 {
     match token_at(tokens, at) {
         Some(token) => {
-            if token.kind == TokenKind::ThisWord {
+            if token.kind() == TokenKind::ThisWord {
                 return false;
             }
             true

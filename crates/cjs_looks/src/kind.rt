@@ -130,7 +130,7 @@ pub fn assignment_kind<'a>(tokens: &[Token], left: &Item<'a>, right: &Item<'a>) 
     match left.place() {
         Some((_, behind)) => match token_at(tokens, behind) {
             Some(token) => {
-                if token.kind == TokenKind::Equal {
+                if token.kind() == TokenKind::Equal {
                     Kind::Assigned(*right)
                 } else {
                     Kind::Plain(Look::Other)

@@ -19,8 +19,9 @@ fn bytes_of(text: &str, token: Token) -> &[u8]
     ensures { result.now ≡ slice_range text.now token.range.start token.range.end }
 {
     let bytes = text.as_bytes();
-    let end = token.range.end.min(bytes.len());
-    let start = token.range.start.min(end);
+    let range = token.range();
+    let end = range.end.min(bytes.len());
+    let start = range.start.min(end);
     &bytes[start..end]
 }
 

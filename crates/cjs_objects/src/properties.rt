@@ -85,7 +85,7 @@ fn accessor_exports(text: &str, tokens: &[Token], sign: u32, body: &Item<'_>) ->
 {
     match token_at(tokens, sign) {
         Some(token) => {
-            if token.kind == TokenKind::GetWord {
+            if token.kind() == TokenKind::GetWord {
                 return match returns_harmless(text, tokens, &Body::Block(*body)) {
                     Some(is) => Some(is),
                     None => None,

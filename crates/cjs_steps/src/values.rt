@@ -16,7 +16,8 @@ use std::alloc::{AllocError, Global};
 fn cut(text: &str, token: Token) -> Result<&str, AllocError>
     ensures { IfOk result (λ piece. piece.now ≡ slice_range text.now token.range.start token.range.end) }
 {
-    let (start, end) = (token.range.start, token.range.end);
+    let range = token.range();
+    let (start, end) = (range.start, range.end);
     if start <= end && text.is_char_boundary(start) && text.is_char_boundary(end) {
         return Ok(&text[start..end]);
     }

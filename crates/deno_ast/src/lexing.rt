@@ -83,8 +83,8 @@ fn add_tokens(items: &mut Vec<LexedItem>, tokens: &[Token]) -> Result<(), AllocE
 {
     for token in tokens {
         items.push(LexedItem {
-            range: token.range,
-            inner: TokenOrComment::Token(token.kind),
+            range: token.range(),
+            inner: TokenOrComment::Token(token.kind()),
         })?;
     }
     Ok(())

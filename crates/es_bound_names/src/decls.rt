@@ -101,7 +101,7 @@ fn left_name(out: &mut Names, text: &str, tokens: &[Token], at: u32)
 {
     match token_at(tokens, at) {
         Some(token) => {
-            if token.kind == TokenKind::ThisWord {
+            if token.kind() == TokenKind::ThisWord {
                 return;
             }
             out.token(text, tokens, at);

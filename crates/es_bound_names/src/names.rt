@@ -89,7 +89,8 @@ pub fn token_at(tokens: &[Token], at: u32) -> Option<Token>
 pub fn cut(text: &str, token: Token) -> Option<&str>
     ensures { IfSome result (λ piece. piece.now ≡ slice_range text.now token.range.start token.range.end) }
 {
-    let (start, end) = (token.range.start, token.range.end);
+    let range = token.range();
+    let (start, end) = (range.start, range.end);
     if start <= end && text.is_char_boundary(start) && text.is_char_boundary(end) {
         return Some(&text[start..end]);
     }

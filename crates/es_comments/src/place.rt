@@ -91,7 +91,7 @@ fn pass(tokens: &[Token], from: usize, place: usize) -> usize
     ensures { result ≡ count_before tokens.now place }
 {
     let mut passed = from;
-    while passed < tokens.len() && tokens[passed].range.start < place {
+    while passed < tokens.len() && tokens[passed].range().start < place {
         passed += 1;
     }
     passed
@@ -106,7 +106,7 @@ fn line_since(text: &[u8], tokens: &[Token], past: Past, passed: usize, place: u
     let Some(last) = last_token(tokens, passed) else {
         return false;
     };
-    let end = last.range.end;
+    let end = last.range().end;
     if passed == past.passed {
         past.line || has_line_end(text, end.max(past.place), place)
     } else {
@@ -160,13 +160,13 @@ fn between(last: Option<Token>, next: Option<Token>, line: bool) -> Stand
 {
     match (last, next) {
         (None, None) => Stand::Leading(0),
-        (None, Some(next)) => Stand::Leading(next.range.start),
-        (Some(last), None) => Stand::Trailing(last.range.end),
+        (None, Some(next)) => Stand::Leading(next.range().start),
+        (Some(last), None) => Stand::Trailing(last.range().end),
         (Some(last), Some(next)) => {
             if line {
-                Stand::Leading(next.range.start)
+                Stand::Leading(next.range().start)
             } else {
-                Stand::Trailing(last.range.end)
+                Stand::Trailing(last.range().end)
             }
         }
     }

@@ -49,7 +49,7 @@ pub fn export_name(out: &mut Names, text: &str, tokens: &[Token], at: u32)
 {
     match token_at(tokens, at) {
         Some(token) => {
-            if token.kind == TokenKind::Str {
+            if token.kind() == TokenKind::Str {
                 str_name(out, text, tokens, at);
             } else {
                 out.token(text, tokens, at);

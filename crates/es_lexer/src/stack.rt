@@ -188,12 +188,7 @@ pub fn push_token(
 {
     match role_of(kind) {
         Role::Plain => {
-            tokens.push(Token {
-                kind,
-                range,
-                line_before: state.line,
-                partner: None,
-            })?;
+            tokens.push(Token::new(kind, range, state.line, None)?)?;
             Ok(false)
         }
         role => push_bracket(
@@ -243,13 +238,9 @@ fn put_token(
 {
     let number = tokens.len();
     let closed = take_closed(brackets, role);
-    join(tokens, closed, number);
-    tokens.push(Token {
-        kind,
-        range,
-        line_before: line,
-        partner: numbered(role, closed),
-    })?;
+    let token = Token::new(kind, range, line, numbered(role, closed))?;
+    join(tokens, closed, number)?;
+    tokens.push(token)?;
     push_open(brackets, role, number, headed)?;
     Ok(is_headed(closed))
 }
@@ -296,14 +287,19 @@ fn push_open(
 
 /// Gives the bracket that is closed its partner.
 #[tactic(auto, unfolding(crate::specs::Scan::joined))]
-fn join(tokens: &mut Items<Token>, closed: Option<OpenBracket>, number: usize)
-    ensures { tokens.new ≡ joined closed number tokens.old }
+fn join(
+    tokens: &mut Items<Token>,
+    closed: Option<OpenBracket>,
+    number: usize,
+) -> Result<(), AllocError>
+    ensures { OnOk result (tokens.new ≡ joined closed number tokens.old) }
 {
     if let Some(bracket) = closed {
         if let Some(token) = tokens.get_mut(bracket.number) {
-            token.partner = Some(number);
+            token.set_partner(number)?;
         }
     }
+    Ok(())
 }
 
 /// The partner of a closing token.

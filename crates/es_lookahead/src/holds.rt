@@ -39,7 +39,7 @@ impl Tokens<'_> {
         ensures { result ≡ has_kind (kinds_of named) (seen (keys_of self.now.tokens.now) at) }
     {
         match self.token(at) {
-            Some(token) => is_of(named, token.kind),
+            Some(token) => is_of(named, token.kind()),
             None => false,
         }
     }

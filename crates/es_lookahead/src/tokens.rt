@@ -37,8 +37,8 @@ impl Tokens<'_> {
     {
         match self.token(at) {
             Some(token) => Some(Seen {
-                kind: token.kind,
-                line_before: token.line_before,
+                kind: token.kind(),
+                line_before: token.line_before(),
             }),
             None => None,
         }
@@ -80,7 +80,7 @@ impl Tokens<'_> {
         ensures { result ≡ partner_of (slice_get (keys_of self.now.tokens.now) at) }
     {
         match self.token(at) {
-            Some(token) => token.partner,
+            Some(token) => token.partner(),
             None => None,
         }
     }
@@ -109,7 +109,7 @@ impl Tokens<'_> {
             None => return false,
         };
         match self.token(at) {
-            Some(token) => token.kind == kind && token.range.start == last.range.end,
+            Some(token) => token.kind() == kind && token.range().start == last.range().end,
             None => false,
         }
     }

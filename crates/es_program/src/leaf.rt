@@ -22,7 +22,7 @@ fn start_of(tokens: &[Token], at: usize) -> usize
     ensures { result ≡ texts.start_of (slice_get tokens.now at) }
 {
     match token_at(tokens, at) {
-        Some(token) => token.range.start,
+        Some(token) => token.range().start,
         None => 0,
     }
 }
@@ -31,7 +31,7 @@ fn end_of(tokens: &[Token], at: usize) -> usize
     ensures { result ≡ texts.end_of (slice_get tokens.now at) }
 {
     match token_at(tokens, at) {
-        Some(token) => token.range.end,
+        Some(token) => token.range().end,
         None => 0,
     }
 }
@@ -75,10 +75,11 @@ fn line_of(text: &str, token: Token) -> Option<&str>
     requires { token.kind ≡ TokenKind.Shebang → Cuts text.now (token.range.start + 2) token.range.end }
     ensures { LentAs result (texts.shebang_of text.now token) }
 {
-    if token.kind != TokenKind::Shebang {
+    if token.kind() != TokenKind::Shebang {
         return None;
     }
-    Some(piece(text, token.range.start + 2, token.range.end))
+    let range = token.range();
+    Some(piece(text, range.start + 2, range.end))
 }
 
 /// The line behind `#!` of the token at this place, where it is one.

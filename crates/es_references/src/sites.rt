@@ -35,7 +35,7 @@ fn first_token(tokens: &[Token]) -> Option<Token>
     ensures { result ≡ spec.first_token tokens.now }
 {
     for token in tokens {
-        if !is_shebang(token.kind) {
+        if !is_shebang(token.kind()) {
             return Some(*token);
         }
     }
@@ -52,7 +52,7 @@ fn is_before(comment: &Comment, first: Option<Token>) -> bool
     ensures { result ≡ spec.is_before comment.now first }
 {
     match first {
-        Some(token) => comment.range.end <= token.range.start,
+        Some(token) => comment.range.end <= token.range().start,
         None => true,
     }
 }

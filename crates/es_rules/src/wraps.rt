@@ -155,16 +155,14 @@ pub fn wraps<R, C: Tells, P: ReadsRhs<R>, T: Rows<R>>(
     ensures { (base : List Entry) (t : Cst) → length base ≡ from.entry → Writes grammar.now.input.keeps base cursor.old.row (t ∷ [])
         → IsRead grammar.now.input.keeps (wraps_at (keys_in grammar.now.input) label (test (C.told told.now)) (form_at (keys_in grammar.now.input) (T.below grammar.now.rows grammar.now.input) (P.form turn.now)) from.token (length (keys_in grammar.now.input)) (single t first) cursor.old.at) base cursor.new result }
 {
+    if !told.is_there(&grammar.input, cursor.at) {
+        return Ok(first);
+    }
     if !grammar.input.keeps {
         return nests(label, told, turn, from, first, grammar, cursor);
     }
     match lean_of(label) {
         None => nests(label, told, turn, from, first, grammar, cursor),
-        Some(lean) => {
-            if told.is_there(&grammar.input, cursor.at) {
-                return leans(lean, told, turn, from, first, grammar, cursor);
-            }
-            Ok(first)
-        }
+        Some(lean) => leans(lean, told, turn, from, first, grammar, cursor),
     }
 }

@@ -39,7 +39,8 @@ impl Spellings<'_> {
         requires { Cuts self.now.text.now token }
         ensures { result.now ≡ slice_range self.now.text.now token.range.start token.range.end }
     {
-        &self.text[token.range.start..token.range.end]
+        let range = token.range();
+        &self.text[range.start..range.end]
     }
 
     /// The text of the token of this number.

@@ -24,7 +24,7 @@ fn is_kind(tokens: &[Token], at: usize, kind: TokenKind) -> bool
     ensures { is_kind tokens.now kind at ≡ result }
 {
     match tokens.get(at) {
-        Some(token) => token.kind == kind,
+        Some(token) => token.kind() == kind,
         None => false,
     }
 }

@@ -36,7 +36,7 @@ impl TokenizedText<'_> {
             found.push(Site {
                 kind,
                 type_only,
-                range: token.range,
+                range: token.range(),
                 value,
                 attribute,
             })?;

@@ -200,7 +200,8 @@ impl TokenizedText<'_> {
         requires { Cuts self.now.text.now token }
         ensures { result.now ≡ slice_range self.now.text.now token.range.start token.range.end }
     {
-        &self.text[token.range.start..token.range.end]
+        let range = token.range();
+        &self.text[range.start..range.end]
     }
 
     /// The value of a string literal.
@@ -259,7 +260,7 @@ impl TokenizedText<'_> {
         requires { Cuts self.now.text.now token }
         ensures { IfOk result (λ yes. yes ≡ spells word.now (name_of self.now.text.now token)) }
     {
-        if token.kind == TokenKind::Str {
+        if token.kind() == TokenKind::Str {
             return self.is_literal_of(word, token);
         }
         Ok(self.is_word(word, token))

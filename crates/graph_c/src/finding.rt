@@ -145,7 +145,7 @@ fn found_behind_references(
 // Where the token begins, or the end of the text.
 fn start_of(text: &str, tokens: &[Token], token: usize) -> usize {
     match tokens.get(token) {
-        Some(token) => token.range.start,
+        Some(token) => token.range().start,
         None => text.len(),
     }
 }

@@ -35,8 +35,8 @@ fn expression_kind(tokens: &[Token], it: &Item<'_>) -> Option<&'static str> {
 fn primary_kind(tokens: &[Token], it: &Primary<'_>) -> Option<&'static str> {
     match it {
         Primary::Ident(_) => Some("Ident"),
-        Primary::Word(token) => word_kind(tokens.get(*token as usize)?.kind),
-        Primary::Number(token) => number_kind(tokens.get(*token as usize)?.kind),
+        Primary::Word(token) => word_kind(tokens.get(*token as usize)?.kind()),
+        Primary::Number(token) => number_kind(tokens.get(*token as usize)?.kind()),
         Primary::Str(_) => Some("Str"),
         Primary::RegExp(_) => Some("Regex"),
         Primary::Template(_) => Some("Tpl"),
@@ -90,7 +90,7 @@ fn turn_kind(tokens: &[Token], turn: &Siblings<'_>) -> Option<&'static str> {
     match turn.group_at(1).part(0) {
         Some(asserted) => match asserted.token() {
             Some(_) => Some("TsConstAssertion"),
-            None => assertion_kind(tokens.get(turn.token_at(0)? as usize)?.kind),
+            None => assertion_kind(tokens.get(turn.token_at(0)? as usize)?.kind()),
         },
         None => Some("Bin"),
     }

@@ -57,13 +57,13 @@ fn in_primary(tokens: &[Token], it: &Primary<'_>) -> Option<Seen> {
 /// A piece of a template, without its backtick, `}` and `${`.
 fn piece_of(tokens: &[Token], token: u32) -> Option<Seen> {
     let token = tokens.get(token as usize)?;
-    let stop: usize = match token.kind {
+    let stop: usize = match token.kind() {
         TokenKind::TemplateHead | TokenKind::TemplateMiddle => 2,
         _ => 1,
     };
     let span = Range {
-        start: token.range.start.checked_add(1)?,
-        end: token.range.end.checked_sub(stop)?,
+        start: token.range().start.checked_add(1)?,
+        end: token.range().end.checked_sub(stop)?,
     };
     Some(told("TplElement", span))
 }

@@ -18,7 +18,7 @@ pub fn told(kind: &'static str, span: Range) -> Seen {
 /// The bytes of a token.
 pub fn token_span(tokens: &[Token], token: u32) -> Option<Range> {
     match tokens.get(token as usize) {
-        Some(token) => Some(token.range),
+        Some(token) => Some(token.range()),
         None => None,
     }
 }

@@ -41,7 +41,7 @@ fn simple_kind(it: &Stmt<'_>) -> Option<&'static str> {
 fn compound_kind(tokens: &[Token], it: &Compound<'_>) -> Option<&'static str> {
     match it {
         Compound::For { .. } => Some("For"),
-        Compound::ForEach { word, .. } => each_kind(tokens.get(*word as usize)?.kind),
+        Compound::ForEach { word, .. } => each_kind(tokens.get(*word as usize)?.kind()),
         Compound::ForAwait { .. } => Some("ForOf"),
         Compound::While { .. } => Some("While"),
         Compound::Do { .. } => Some("DoWhile"),

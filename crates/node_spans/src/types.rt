@@ -35,7 +35,7 @@ fn simple_kind(tokens: &[Token], it: &SimpleType<'_>) -> Option<&'static str> {
     match it {
         SimpleType::Keyword(_) => Some("Keyword"),
         SimpleType::This => Some("This"),
-        SimpleType::Word(token) => word_kind(tokens.get(*token as usize)?.kind),
+        SimpleType::Word(token) => word_kind(tokens.get(*token as usize)?.kind()),
         SimpleType::Str(_) => Some("Lit"),
         SimpleType::Number { .. } => Some("Lit"),
         SimpleType::Template(_) => Some("Tpl"),

@@ -90,7 +90,7 @@ fn diagnostic_at(
 // The range of the token, or the empty one at the end of the text.
 fn range_at(text: &str, tokens: &[Token], token: usize) -> Range {
     match tokens.get(token) {
-        Some(token) => token.range,
+        Some(token) => token.range(),
         None => Range {
             start: text.len(),
             end: text.len(),

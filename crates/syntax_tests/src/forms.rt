@@ -107,7 +107,8 @@ fn literal_of(alloc: Global, source: &Source<'_>, at: u32) -> Result<String, All
     let Some(token) = source.tokens.get(at as usize) else {
         return String::from_str(alloc, "no token");
     };
-    let (start, end) = (token.range.start, token.range.end);
+    let range = token.range();
+    let (start, end) = (range.start, range.end);
     match source.text.get(start..end) {
         Some(text) => {
             let literal = literal_value(alloc, text)?;

@@ -9,29 +9,29 @@ use std::test::Fail;
 /// Whether END stands before that token, and takes none.
 fn ends(next: Option<Token>) -> bool {
     match next {
-        Some(token) => token.line_before && token.kind != TokenKind::Semicolon,
+        Some(token) => token.line_before() && token.kind() != TokenKind::Semicolon,
         None => true,
     }
 }
 
 /// Whether the token is an expression.
 fn is_value(token: Token) -> bool {
-    token.kind == TokenKind::Str || token.kind == TokenKind::Name
+    token.kind() == TokenKind::Str || token.kind() == TokenKind::Name
 }
 
 /// Whether the tokens are an item, before that token: an empty one, an import, or an expression.
 fn is_item(piece: &[Token], next: Option<Token>) -> bool {
     match piece {
-        [one] => one.kind == TokenKind::Semicolon || (is_value(*one) && ends(next)),
+        [one] => one.kind() == TokenKind::Semicolon || (is_value(*one) && ends(next)),
         [first, second] => {
-            let is_statement = is_value(*first) && second.kind == TokenKind::Semicolon;
-            let is_import = first.kind == TokenKind::ImportWord && second.kind == TokenKind::Str;
+            let is_statement = is_value(*first) && second.kind() == TokenKind::Semicolon;
+            let is_import = first.kind() == TokenKind::ImportWord && second.kind() == TokenKind::Str;
             is_statement || (is_import && ends(next))
         }
         [word, literal, semi] => {
-            word.kind == TokenKind::ImportWord
-                && literal.kind == TokenKind::Str
-                && semi.kind == TokenKind::Semicolon
+            word.kind() == TokenKind::ImportWord
+                && literal.kind() == TokenKind::Str
+                && semi.kind() == TokenKind::Semicolon
         }
         _ => false,
     }

@@ -52,7 +52,7 @@ fn name_at<'a>(source: &Source<'a>, at: u32) -> &'a str {
     match source.tokens.get(at as usize) {
         Some(token) => source
             .text
-            .get(token.range.start..token.range.end)
+            .get(token.range().start..token.range().end)
             .unwrap_or(""),
         None => "",
     }

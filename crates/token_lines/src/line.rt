@@ -22,12 +22,12 @@ fn lexed_line(alloc: Global, lexed: &Lexed) -> Result<String, AllocError> {
 
 fn push_tokens(alloc: Global, line: &mut String, tokens: &[Token]) -> Result<(), AllocError> {
     for token in tokens {
-        let star = if token.line_before { "*" } else { "" };
-        let kind = token.kind;
-        let start = token.range.start;
-        let end = token.range.end;
+        let star = if token.line_before() { "*" } else { "" };
+        let kind = token.kind();
+        let start = token.range().start;
+        let end = token.range().end;
         line.push_str(format!(in alloc; "{star}{kind:?} {start}-{end}")?.as_str())?;
-        if let Some(partner) = token.partner {
+        if let Some(partner) = token.partner() {
             line.push_str(format!(in alloc; "={partner}")?.as_str())?;
         }
         line.push_str(", ")?;

@@ -33,8 +33,8 @@ fn described(alloc: Global, lexed: &Lexed) -> Result<String, AllocError> {
 
 fn push_tokens(alloc: Global, out: &mut String, tokens: &[Token]) -> Result<(), AllocError> {
     for token in tokens {
-        let star = if token.line_before { "*" } else { "" };
-        let (kind, start, end) = (token.kind, token.range.start, token.range.end);
+        let star = if token.line_before() { "*" } else { "" };
+        let (kind, start, end) = (token.kind(), token.range().start, token.range().end);
         out.push_str(format!(in alloc; "{star}{kind:?} {start}-{end}, ")?.as_str())?;
     }
     Ok(())
@@ -68,7 +68,7 @@ fn partners(alloc: Global, text: &str) -> Result<String, AllocError> {
 fn partners_of(alloc: Global, tokens: &[Token]) -> Result<String, AllocError> {
     let mut out = String::new(alloc);
     for token in tokens {
-        match token.partner {
+        match token.partner() {
             Some(partner) => out.push_str(format!(in alloc; "{partner} ")?.as_str())?,
             None => out.push_str(". ")?,
         }

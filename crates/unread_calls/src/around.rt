@@ -39,7 +39,7 @@ fn kind_of(token: Option<Token>) -> Option<TokenKind>
     ensures { result ≡ spec.kind_of token }
 {
     match token {
-        Some(token) => Some(token.kind),
+        Some(token) => Some(token.kind()),
         None => None,
     }
 }
@@ -102,7 +102,7 @@ pub fn closing(tokens: &[Token], i: usize) -> Option<usize>
     ensures { result ≡ spec.closing tokens.now i }
 {
     match token_behind(tokens, i, 1) {
-        Some(token) => token.partner,
+        Some(token) => token.partner(),
         None => None,
     }
 }
@@ -111,7 +111,7 @@ fn is_near(token: Option<Token>) -> bool
     ensures { result ≡ spec.is_near token }
 {
     match token {
-        Some(token) => !token.line_before,
+        Some(token) => !token.line_before(),
         None => false,
     }
 }
@@ -120,7 +120,7 @@ fn opens_body(token: Option<Token>) -> bool
     ensures { result ≡ spec.opens_body token }
 {
     match token {
-        Some(token) => is_brace(token.kind) && !token.line_before,
+        Some(token) => is_brace(token.kind()) && !token.line_before(),
         None => false,
     }
 }

@@ -103,8 +103,8 @@ fn call_at(loader: Loader, tokens: &[Token], i: usize) -> Option<UnreadCall>
     Some(UnreadCall {
         loader,
         range: Range {
-            start: word.range.start,
-            end: close.range.end,
+            start: word.range().start,
+            end: close.range().end,
         },
     })
 }

@@ -9,8 +9,8 @@ use Rattle.es_rules.proofs.WrapLemmas.{wraps_end}
 use Rattle.es_rules.proofs.wraps.wraps.Goals as goal
 
 -- a chain that leans left
-pub returns-then-is_there : goal.returns-then-is_there
-returns-then-is_there g c =
+pub returns-in-Some : goal.returns-in-Some
+returns-in-Some g c =
     λ base t place written.
     let kept = c.if-not-grammar.false in
     subst (λ (l : NodeKind). IsRead c.args.grammar.now.input.keeps
@@ -29,13 +29,13 @@ returns-then-is_there g c =
     (subst (λ (b : Bool). Writes b base c.args.cursor.now.row (t ∷ [])) kept written)))
 
 -- no turn stands there
-pub returns-else-is_there : goal.returns-else-is_there
-returns-else-is_there g c =
+pub returns-then-not-is_there : goal.returns-then-not-is_there
+returns-then-not-is_there g c =
     λ base t place written. (
       t,
       written,
       wraps_end (keys_in c.args.grammar.now.input) c.args.label (test (g.C.Tells.told c.args.told.now))
           (form_at (keys_in c.args.grammar.now.input) (g.T.Rows.below c.args.grammar.now.rows c.args.grammar.now.input)
           (g.P.ReadsRhs.form c.args.turn.now)) c.args.from.token (length (keys_in c.args.grammar.now.input))
-          (single t c.args.first) c.args.cursor.now.at (sym c.if-is_there.ensures),
+          (single t c.args.first) c.args.cursor.now.at (sym c.if-not-is_there.ensures),
     )

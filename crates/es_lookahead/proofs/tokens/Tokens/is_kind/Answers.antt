@@ -7,8 +7,9 @@ use Rattle.es_lookahead.proofs.tokens.Tokens.is_kind.Goals as goal
 pub returns-in-Some : goal.returns-in-Some
 returns-in-Some c =
     c.is_of.ensures
-    ∙ look_some (has_kind (kinds_of c.args.named)) c.args.self.now.tokens.now c.args.at c.in-Some.token
-    c.in-Some.ensures
+    ∙ rw c.kind.ensures
+    (look_some (has_kind (kinds_of c.args.named)) c.args.self.now.tokens.now c.args.at c.in-Some.token
+    c.in-Some.ensures)
 
 pub returns-in-None : goal.returns-in-None
 returns-in-None c =

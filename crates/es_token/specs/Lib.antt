@@ -1,0 +1,2 @@
+-- what a token is
+pub mod Plain
