@@ -19,7 +19,7 @@ use Rattle.es_grammar.specs.declared.rows.NodeKind.{NodeKind}
 use Rattle.es_grammar.specs.declared.rows.Row.TheVariants.{TypesRow}
 use Rattle.es_grammar.specs.TypeNames.{label_name}
 use Rattle.es_grammar.specs.Table.{rule}
-use Rattle.es_grammar.specs.Conditions.{IsProgram, program_row}
+use Rattle.es_grammar.specs.Conditions.{IsProgram, leans, program_row}
 use Rattle.es_grammar.proofs.Sets.{sets}
 use Rattle.es_grammar.proofs.MappedLemmas.{renamed, row_same}
 use Rattle.es_grammar.proofs.Claims.{modules, scripts}
@@ -31,18 +31,18 @@ programs l mode.Script = scripts l
 
 -- no test of the table bars a reading: the trees that obey the tests are those of the grammar
 pub free_is_chosen : (l : Lang) (m : Mode) (K : List Key) (p : Plain NodeKind)
-    → Shape free (rule l) (program_row m) K p → Shape chosen (rule l) (program_row m) K p
-free_is_chosen l m = grammars.free_is_chosen (rule l) (sets l) (program_row m) (programs l m)
+    → Shape leans free (rule l) (program_row m) K p → Shape leans chosen (rule l) (program_row m) K p
+free_is_chosen l m = grammars.free_is_chosen leans (rule l) (sets l) (program_row m) (programs l m)
 
 pub chosen_is_free : (l : Lang) (m : Mode) (K : List Key) (p : Plain NodeKind)
-    → Shape chosen (rule l) (program_row m) K p → Shape free (rule l) (program_row m) K p
-chosen_is_free l m = grammars.chosen_is_free (rule l) (sets l) (program_row m) (programs l m)
+    → Shape leans chosen (rule l) (program_row m) K p → Shape leans free (rule l) (program_row m) K p
+chosen_is_free l m = grammars.chosen_is_free leans (rule l) (sets l) (program_row m) (programs l m)
 
 -- keys have at most one tree in a language and a mode
 pub one_program : (l : Lang) (m : Mode) (K : List Key) (p q : Plain NodeKind) → IsProgram l m K p → IsProgram l m K q
     → p ≡ q
 one_program l m K p q one other =
-    grammars.one_shape (rule l) (sets l) (program_row m) (programs l m) K p q one.shaped other.shaped
+    grammars.one_shape leans (rule l) (sets l) (program_row m) (programs l m) K p q one.shaped other.shaped
 
 -- the parts of a program stand in order, each within the range of the node that holds it
 pub program_ordered : (l : Lang) (m : Mode) (K : List Key) (p : Plain NodeKind) → IsProgram l m K p

@@ -7,7 +7,7 @@ use Rattle.es_tree.specs.declared.error.Mode.TheVariants as mode
 use Rattle.es_tree.specs.Key.{Key}
 use Rattle.es_tree.specs.Plain.{Plain, node, nil, cons, mark, turn, via}
 use Rattle.es_tree.specs.Fits.{free, Shape}
-use Rattle.es_grammar.specs.declared.rows.NodeKind.TheVariants.{Assignment, Chain, IndexPost, MemberPost, Name, NonNullPost, Parenthesized, TypedBinary, UpdatePostfix, UpdatePrefix}
+use Rattle.es_grammar.specs.declared.rows.NodeKind.TheVariants.{Assignment, Binary, Chain, IndexPost, MemberPost, Name, NonNullPost, Parenthesized, TypedBinary, UpdatePostfix, UpdatePrefix}
 use Rattle.es_grammar.specs.declared.rows.Row.{Row}
 use Rattle.es_grammar.specs.declared.rows.NodeKind.{NodeKind}
 use Rattle.es_grammar.specs.declared.rows.Row.TheVariants.{ModuleRow, ScriptRow}
@@ -60,6 +60,12 @@ is_sound (turn p ps) = is_sound p && is_sound ps
 is_sound (mark n ps) = is_sound ps
 is_sound _ = true
 
+-- the alternatives of operators behind whose first operand turns stand: it stands as deep as the operator
+abbrev pub leans : NodeKind → Bool
+leans Binary = true
+leans TypedBinary = true
+leans _ = false
+
 -- the row of a program
 abbrev pub program_row : Mode → Row
 program_row mode.Module = ModuleRow
@@ -67,5 +73,5 @@ program_row mode.Script = ScriptRow
 
 -- a plain tree of a program, by its keys
 pub record IsProgram (l : Lang) (m : Mode) (K : List Key) (p : Plain NodeKind) : Type 0 where
-  pub shaped : Shape free (rule l) (program_row m) K p
+  pub shaped : Shape leans free (rule l) (program_row m) K p
   pub sound : is_sound p ≡ true

@@ -6,7 +6,7 @@ use Rattle.es_tree.specs.declared.error.Lang.{Lang}
 use Rattle.es_tree.specs.declared.error.Lang.TheVariants as lang
 use Rattle.es_tree.specs.Key.{Key, TokenTest, seen, is}
 use Rattle.es_tree.specs.Productions.{as_str, as_name, as_there, by_lookahead, greedy, by_predicate, Predicate, Rhs, done, tok, punct, row, opt, many, alt, when_, where_, Production, refuse, make, choose, as_, pick, wrap}
-use Rattle.es_tree.specs.Plain.{Plain, plain, tall}
+use Rattle.es_tree.specs.Plain.{Plain, plain, none_leans, tall}
 use Rattle.es_tree.specs.Fits.{most_nodes}
 use Rattle.es_tree.specs.Reader.{Out, nothing, gives, read_row}
 use Rattle.es_type_grammar.specs.Words.{only, is_name, is_word, is_other}
@@ -303,7 +303,7 @@ type_arguments_in f = opt (greedy begins_angle) (row (TypesRow types.ArgumentsRo
 -- a tree of at most 500 nodes on a path was read, and the predicate holds behind it
 abbrev pub ends_before : Predicate → List Key → Out (Plain table.NodeKind) → Bool
 ends_before g K nothing = false
-ends_before g K (gives p to) = leb (tall p) 500 && g K to
+ends_before g K (gives p to) = leb (tall none_leans p) 500 && g K to
 
 -- the row of types can be read here, and the predicate holds behind it
 abbrev pub reads_before : TypeRow → Predicate → Predicate

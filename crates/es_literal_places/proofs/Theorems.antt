@@ -28,7 +28,7 @@ use Rattle.es_grammar.specs.Statements.{condition_in, block, is_declarator_mark,
 use Rattle.es_grammar.specs.Declarations.{opens_interface, opens_alias, opens_enum, opens_namespace, opens_module, opens_global, is_declaration_word, opens_declare, type_members, interface, alias, enum_, items_in, is_namespace_word, namespace, module_namespace, global, typed_declaration, declared, declares_variables, declare, plain_declaration, declaration, statement}
 use Rattle.es_grammar.specs.Items.{opens_any_default_class, opens_default_interface, default_expression, default_interface, other_default, export_default, opens_any_declaration, opens_export_assignment, export_names, export_item, item, shebang_in, module_, script}
 use Rattle.es_grammar.specs.Table.{rule}
-use Rattle.es_grammar.specs.Conditions.{program_row}
+use Rattle.es_grammar.specs.Conditions.{leans, program_row}
 use Rattle.es_shapes.proofs.FormedLemmas.{Formed, claims, row_formed}
 use Rattle.es_literal_places.proofs.Places.{Names, names, names_hold}
 use Rattle.es_literal_places.proofs.TypePlaces as types
@@ -231,7 +231,7 @@ rows_name lang.Typescript any r = typed_name any r
 
 -- in a plain tree of the shape of a program, string literals stand where they name modules, and where expressions, keys and
 -- types are such
-pub strs : (l : Lang) (m : Mode) (K : List Key) (p : Plain NodeKind) → Shape free (rule l) (program_row m) K p
+pub strs : (l : Lang) (m : Mode) (K : List Key) (p : Plain NodeKind) → Shape leans free (rule l) (program_row m) K p
     → Formed (Names K) p
 unfolding Shape
 strs l m K p shaped =

@@ -16,7 +16,7 @@ use Rattle.es_grammar.specs.declared.rows.Row.{Row}
 use Rattle.es_grammar.specs.declared.rows.Row.TheVariants.{DeclaredRow, TypesRow}
 use Rattle.es_grammar.specs.declared.rows.NodeKind.{NodeKind}
 use Rattle.es_grammar.specs.Table.{rule}
-use Rattle.es_grammar.specs.Conditions.{program_row, IsProgram}
+use Rattle.es_grammar.specs.Conditions.{leans, program_row, IsProgram}
 use Rattle.es_grammar.proofs.Theorems.{free_is_chosen}
 use Rattle.es_cst.specs.Slim.{tree_of}
 use Rattle.es_lowering.specs.Lowering.{value_of}
@@ -78,7 +78,7 @@ asks ts (by_predicate g) at e = refl
 
 -- what has the shape of a program may be read as one
 program_there : (l : Lang) (m : Mode) (x : List ℕ) (ts : List Token) (p : Plain NodeKind)
-    → Shape free (rule l) (program_row m) (keys_of ts) p → IsThere (program_in (value_of x ts (tree_of p)))
+    → Shape leans free (rule l) (program_row m) (keys_of ts) p → IsThere (program_in (value_of x ts (tree_of p)))
 unfolding Shape
 program_there l m x ts p shaped =
     row_has (yields l) needs x ts (built x ts) chosen (asks ts) (rule l) shut (row_shuts l) (claimed l) most_nodes
@@ -92,7 +92,7 @@ there_is None h = absurd h
 -- lowering is total: each plain tree that has the shape of a program over the keys of tokens, whatever their text, is a
 -- typed tree
 pub lowers : (l : Lang) (m : Mode) (x : List ℕ) (ts : List Token) (p : Plain NodeKind)
-    → Shape free (rule l) (program_row m) (keys_of ts) p
+    → Shape leans free (rule l) (program_row m) (keys_of ts) p
     → (tree : Program) × (program_in (value_of x ts (tree_of p)) ≡ Some tree)
 lowers l m x ts p shaped =
     there_is (program_in (value_of x ts (tree_of p))) (program_there l m x ts p shaped)

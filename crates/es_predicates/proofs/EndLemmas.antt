@@ -3,7 +3,7 @@ use Rattle.std.specs.Prelude.{ℕ, leb, Bool, true, false, ◌&&◌, List, Optio
 use Rattle.std.proofs.Common.{◌≡◌, ◌≤◌, refl, sym, ap, ◌∙◌, length, leb-true, le-leb, subst, arith}
 use Rattle.es_tree.specs.Key.{Key, Seen, seen}
 use Rattle.es_tree.specs.Productions.{Predicate}
-use Rattle.es_tree.specs.Plain.{Plain, plain, tall}
+use Rattle.es_tree.specs.Plain.{Plain, plain, none_leans, tall}
 use Rattle.es_tree.specs.Fits.{most_nodes}
 use Rattle.es_tree.specs.Reader.{Out, nothing, gives, read_row}
 use Rattle.es_tree.proofs.OutLemmas.{nothing_gives, gives_same}
@@ -33,13 +33,13 @@ if_some_of P (Some m) n h e = let same : m ≡ n = cc in subst P same h
 module _ (which : TypePart) (K : List Key) (at : ℕ) (within : at ≤ length K) where
   -- what is read with few enough nodes reaches
   reaches_of : (p : Plain NodeKind) (to : ℕ) → read_row plain K type_rule most_nodes (part_row which) at ≡ gives p to
-      → leb (tall p) 500 ≡ true → Reaches which K 500 at to
+      → leb (tall none_leans p) 500 ≡ true → Reaches which K 500 at to
   reaches_of p to e low = record {
     plain = p;
     stands = record {
       derived = Free.chosen_is_free K type_rule most_nodes (part_row which) p at to
           (row_fits K type_rule most_nodes (part_row which) at p to e);
-      low = leb-true (tall p) 500 low;
+      low = leb-true (tall none_leans p) 500 low;
     };
   }
 
@@ -55,16 +55,16 @@ module _ (which : TypePart) (K : List Key) (at : ℕ) (within : at ≤ length K)
       (only : (to : ℕ) → Reaches which K 500 at to → end ≡ Some to) where
     -- a tree was read, of few enough nodes or not
     at_tree : (p : Plain NodeKind) (to : ℕ) → read_row plain K type_rule most_nodes (part_row which) at ≡ gives p to
-        → (b : Bool) → leb (tall p) 500 ≡ b → (o : Option ℕ) → end ≡ o → (b && g K to) ≡ holds_behind g K o
+        → (b : Bool) → leb (tall none_leans p) 500 ≡ b → (o : Option ℕ) → end ≡ o → (b && g K to) ≡ holds_behind g K o
     at_tree p to e true low o is_end =
         ap (holds_behind g K) (sym (only to (reaches_of p to e low)) ∙ is_end)
     at_tree p to e false high None is_end = refl
     at_tree p to e false high (Some n) is_end =
         let of : Reaches which K 500 at n = if_some_of (λ to. Reaches which K 500 at to) end n some is_end in
         let same = gives_same p of.plain to n (sym e ∙ read_of n of) in
-        let tall_same : tall p ≡ tall of.plain = ap tall same.0 in
-        let small : tall of.plain ≤ 500 = of.stands.low in
-        let low : leb (tall p) 500 ≡ true = le-leb (tall p) 500 (omega arith) in
+        let tall_same : tall none_leans p ≡ tall none_leans of.plain = ap (tall none_leans) same.0 in
+        let small : tall none_leans of.plain ≤ 500 = of.stands.low in
+        let low : leb (tall none_leans p) 500 ≡ true = le-leb (tall none_leans p) 500 (omega arith) in
         absurd (let bad : ⊥ = cc in bad)
 
     at_answer : (o : Out (Plain NodeKind)) → read_row plain K type_rule most_nodes (part_row which) at ≡ o
@@ -73,7 +73,7 @@ module _ (which : TypePart) (K : List Key) (at : ℕ) (within : at ≤ length K)
     at_answer nothing e (Some n) is_end =
         nothing_gives (if_some_of (λ to. Reaches which K 500 at to) end n some is_end).plain n
         (sym e ∙ read_of n (if_some_of (λ to. Reaches which K 500 at to) end n some is_end))
-    at_answer (gives p to) e n is_end = at_tree p to e (leb (tall p) 500) refl n is_end
+    at_answer (gives p to) e n is_end = at_tree p to e (leb (tall none_leans p) 500) refl n is_end
 
     -- a predicate holds behind what is read exactly where it does behind the end
     pub behind : ends_before g K (read_row plain K type_rule most_nodes (part_row which) at) ≡ holds_behind g K end

@@ -14,16 +14,15 @@ use Rattle.es_tree.specs.Reader.{Out, nothing, gives, only_if, read_row}
 use Rattle.es_tree.proofs.OutLemmas.{nothing_gives, gives_same, only_if-gives}
 use Rattle.es_tree.proofs.ReaderLemmas.{row_fits, row_reads}
 use Rattle.es_tree.proofs.FreeLemmas as Free
-use Rattle.es_tree.proofs.TallLemmas.{made_tallied}
 use Rattle.es_lookahead.proofs.TokenLemmas.{length-keys_of}
 use Rattle.es_grammar.specs.declared.rows.NodeKind.{NodeKind}
 use Rattle.es_grammar.specs.Table.{rule}
-use Rattle.es_grammar.specs.Conditions.{program_row}
+use Rattle.es_grammar.specs.Conditions.{leans, program_row}
 use Rattle.es_grammar.proofs.Sets.{sets}
 use Rattle.es_grammar.proofs.Theorems.{programs, free_is_chosen}
 use Rattle.es_cst.specs.declared.tree.Cst.{Cst}
 use Rattle.es_cst.specs.Slim.{slim, one, tree_in}
-use Rattle.es_rules.specs.Bounded.{Read, makes, row_at}
+use Rattle.es_rules.specs.Bounded.{Read, row_at}
 use Rattle.es_rules.specs.declared.cursor.Cursor.{Cursor}
 use Rattle.es_rules.specs.Steps.{single, Writes, IsRead}
 use Rattle.es_syntax.specs.declared.entry.Entry.{Entry}
@@ -31,14 +30,14 @@ use Rattle.es_syntax.specs.Trees.{trees}
 use Rattle.es_syntax.specs.Forest.{entries_of}
 use Rattle.es_syntax.proofs.Forests.{trees_forest}
 use Rattle.es_program_reader.specs.Derived.{IsRowOf, IsWritten, IsShaped, HoldsShaped, GivesTree}
-use Rattle.es_program_reader.proofs.LowLemmas.{low, is_low, row_low}
+use Rattle.es_program_reader.proofs.LowLemmas.{low, is_low, read_of, row_low}
 
 low-gives : (o : Out (Plain NodeKind)) (v : Read) (to : ℕ) → low o ≡ gives v to
-    → (p : Plain NodeKind) × (o ≡ gives p to) × (is_low p ≡ true) × (made makes p ≡ v)
+    → (p : Plain NodeKind) × (o ≡ gives p to) × (is_low p ≡ true) × (read_of p ≡ v)
 low-gives nothing v to e = nothing_gives v to e
 low-gives (gives p at) v to e =
-    let held = only_if-gives (is_low p) (gives (made makes p) at) v to e in
-    let same = gives_same (made makes p) v at to held.1 in
+    let held = only_if-gives (is_low p) (gives (read_of p) at) v to e in
+    let same = gives_same (read_of p) v at to held.1 in
     (p, ap (gives p) same.1, held.0, same.0)
 
 -- what is read where entries are kept
@@ -72,10 +71,10 @@ module _ (l : Lang) (m : Mode) (ts : List Token) where
       let found = low-gives (read_row plain K (rule l) most_nodes (program_row m) 0) (single t h) (length K) answer in
       let under = Free.chosen_is_free K (rule l) most_nodes (program_row m) found.0 0 (length K)
       (row_fits K (rule l) most_nodes (program_row m) 0 found.0 (length K) found.1) in
-      let value : made slim found.0 ≡ one t = ap (λ v. v.value) (sym (made_tallied slim found.0) ∙ found.3) in
+      let value : made slim found.0 ≡ one t = ap (λ v. v.value) found.3 in
       record {
         plain = found.0;
-        shaped = (under, leb-true (tall found.0) most_nodes found.2);
+        shaped = (under, leb-true (tall leans found.0) most_nodes found.2);
         kept = ap tree_in value;
       }
 
@@ -90,12 +89,12 @@ module _ (l : Lang) (m : Mode) (ts : List Token) where
       let read : read_row plain K (rule l) most_nodes (program_row m) 0 ≡ gives p (length K) =
       row_reads K (rule l) (sets l).solid (programs l m).told.steady most_nodes (program_row m) p 0 (length K)
       (omega arith) (free_is_chosen l m K p shaped.shaped).0 in
-      let small : is_low p ≡ true = le-leb (tall p) most_nodes shaped.shaped.1 in (
-        made makes p,
+      let small : is_low p ≡ true = le-leb (tall leans p) most_nodes shaped.shaped.1 in (
+        read_of p,
         ap (λ n. row_at (rule l) K n (program_row m) 0) most ∙ row_low l K most_nodes (program_row m) 0 ∙ ap low read
-            ∙ ap (λ b. only_if b (gives (made makes p) (length K))) small
-            ∙ ap (gives (made makes p)) (length-keys_of ts),
-        ap (λ v. tree_in v.value) (made_tallied slim p) ∙ shaped.kept,
+            ∙ ap (λ b. only_if b (gives (read_of p) (length K))) small
+            ∙ ap (gives (read_of p)) (length-keys_of ts),
+        shaped.kept,
       )
 
   pub row_shaped : (room : ℕ) (es : List Entry) (t : Cst) (h to : ℕ) → room ≡ most_nodes → IsRowOf t es

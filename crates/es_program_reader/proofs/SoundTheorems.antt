@@ -10,7 +10,7 @@ use Rattle.es_grammar.specs.declared.rows.NodeKind.{NodeKind}
 use Rattle.es_grammar.specs.declared.rows.NodeKind.TheVariants.{Name, Parenthesized, Chain, TypedBinary, MemberPost, IndexPost, NonNullPost, Assignment, UpdatePostfix, UpdatePrefix}
 use Rattle.es_grammar.specs.Table.{rule}
 use Rattle.es_grammar.specs.Conditions as plains
-use Rattle.es_grammar.specs.Conditions.{program_row}
+use Rattle.es_grammar.specs.Conditions.{leans, program_row}
 use Rattle.es_cst.specs.declared.tree.Cst.{Cst, out-Cst}
 use Rattle.es_cst.specs.declared.tree.Cst.TheVariants as vCst
 use Rattle.es_cst.specs.Slim.{parts_in, slim, tree_of}
@@ -215,7 +215,8 @@ sound_same (via w p) fine = (
 )
 
 -- a tree that is kept of a plain tree of a program is sound exactly where the plain tree is
-pub kept_sound : (l : Lang) (m : Mode) (K : List Key) (p : Plain NodeKind) → Shape free (rule l) (program_row m) K p
+pub kept_sound : (l : Lang) (m : Mode) (K : List Key) (p : Plain NodeKind)
+    → Shape leans free (rule l) (program_row m) K p
     → is_sound (tree_of p) ≡ plains.is_sound p
 unfolding Shape Same
 kept_sound l m K p shaped =
@@ -228,7 +229,7 @@ sound_of l m K tree of =
 
 -- a sound tree that is kept of a plain tree of this shape is kept of a program
 pub program_of : (l : Lang) (m : Mode) (K : List Key) (p : Plain NodeKind) (tree : Cst)
-    → Shape free (rule l) (program_row m) K p → tree_of p ≡ tree → is_sound tree ≡ true → IsKept l m K tree
+    → Shape leans free (rule l) (program_row m) K p → tree_of p ≡ tree → is_sound tree ≡ true → IsKept l m K tree
 program_of l m K p tree shaped kept sound = record {
   plain = p;
   program = record { shaped = shaped; sound = sym (kept_sound l m K p shaped) ∙ ap is_sound kept ∙ sound };

@@ -10,7 +10,7 @@ use Rattle.es_tree.specs.Plain.{Plain}
 use Rattle.es_tree.specs.Fits.{free, Shape}
 use Rattle.es_grammar.specs.declared.rows.NodeKind.{NodeKind}
 use Rattle.es_grammar.specs.Table.{rule}
-use Rattle.es_grammar.specs.Conditions.{program_row}
+use Rattle.es_grammar.specs.Conditions.{leans, program_row}
 use Rattle.es_cst.specs.declared.tree.Cst.{Cst}
 use Rattle.es_cst.specs.Slim.{tree_of}
 use Rattle.es_syntax.specs.declared.entry.Entry.{Entry}
@@ -20,7 +20,7 @@ use Rattle.es_syntax.specs.Forest.{Forest, entries_of}
 -- the tree is that of a plain tree which has the shape of a program over the keys of all tokens
 pub record IsShaped (l : Lang) (m : Mode) (K : List Key) (tree : Cst) : Type 0 where
   pub plain : Plain NodeKind
-  pub shaped : Shape free (rule l) (program_row m) K plain
+  pub shaped : Shape leans free (rule l) (program_row m) K plain
   pub kept : tree_of plain ≡ tree
 
 -- the row is this tree, and no other

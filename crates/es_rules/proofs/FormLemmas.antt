@@ -53,14 +53,20 @@ unfolding entries_of kept_of
 writes_leaf true w f t old new e = (node w f t none none, e, refl)
 writes_leaf false w f t old new e = e
 
--- a node that was opened behind some entries, and closed behind its parts
+-- a node whose entry stood behind some entries, and was closed behind its parts
+pub closes_over : (w : What) (f t at : ℕ) (old mid new : List Entry) (h : Entry) (s : Forest) → at ≡ length old
+    → mid ≡ (old ++ h ∷ []) ++ entries_of s → new ≡ closed w f t at mid → new ≡ old ++ entries_of (node w f t s none)
+unfolding entries_of
+closes_over w f t at old mid new h s place parts e =
+    e ∙ (ap (closed w f t at) parts
+    ∙ (closed_at w f t at old (entries_of s) h place
+    ∙ ap (λ (es : List Entry). old ++ es) (sym (append-nil (headed w f t (entries_of s))))))
+
+-- one that was opened there
 pub closes : (w : What) (f t at : ℕ) (old mid new : List Entry) (s : Forest) → at ≡ length old
     → mid ≡ (old ++ opened) ++ entries_of s → new ≡ closed w f t at mid → new ≡ old ++ entries_of (node w f t s none)
-unfolding entries_of
 closes w f t at old mid new s place parts e =
-    e ∙ (ap (closed w f t at) parts
-    ∙ (closed_at w f t at old (entries_of s) (record { what = vWhat.Parts; from = 0; to = 0; size = 0 }) place
-    ∙ ap (λ (es : List Entry). old ++ es) (sym (append-nil (headed w f t (entries_of s))))))
+    closes_over w f t at old mid new (record { what = vWhat.Parts; from = 0; to = 0; size = 0 }) s place parts e
 
 -- these trees, as the parts of a node that was opened before them and closed behind them
 pub writes_node : (keeps : Bool) (w : What) (f t at : ℕ) (old mid new after : List Entry) (ts : List Cst)

@@ -1,3 +1,6 @@
 pub mod FormLemmas
 pub mod ListLemmas
 pub mod WrapLemmas
+pub mod ChainLemmas
+pub mod LowLemmas
+pub mod RoomLemmas

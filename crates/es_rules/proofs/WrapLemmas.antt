@@ -7,14 +7,17 @@ use Rattle.es_tree.specs.declared.error.SyntaxError.{SyntaxError}
 use Rattle.es_tree.specs.declared.error.SyntaxError.TheVariants.{OutOfMemory}
 use Rattle.es_tree.specs.Key.{Key}
 use Rattle.es_tree.specs.Productions.{Predicate, Predict, test, Rhs, Production, wrap}
+use Rattle.es_tree.specs.Plain.{over}
 use Rattle.es_tree.specs.Fits.{most_nodes}
 use Rattle.es_tree.specs.Reader.{Out, nothing, gives, and_then}
 use Rattle.es_tree.proofs.OutLemmas.{either_true, then_gives, only_if_true}
 use Rattle.es_grammar.specs.declared.rows.NodeKind.{NodeKind}
+use Rattle.es_grammar.specs.Conditions.{leans}
 use Rattle.es_cst.specs.declared.tree.Cst.{Cst, out-Cst, out-roll-Cst}
 use Rattle.es_cst.specs.declared.tree.Cst.TheVariants as vCst
 use Rattle.es_cst.specs.declared.tree.Cst.TheOpen.{Cst-F}
 use Rattle.es_syntax.specs.declared.entry.Lean.{Lean}
+use Rattle.es_syntax.specs.declared.entry.Lean.TheVariants as vLean
 use Rattle.es_syntax.specs.declared.entry.What.TheVariants as vWhat
 use Rattle.es_syntax.specs.declared.entry.Entry.{Entry}
 use Rattle.es_syntax.specs.Held.{label_of}
@@ -23,7 +26,7 @@ use Rattle.es_syntax.specs.Written.{closed, opened}
 use Rattle.es_syntax.specs.Forest.{Forest, none, node, entries_of, kept_of, beside, Keeps}
 use Rattle.es_syntax.proofs.Forests.{entries_beside, kept_beside, trees_beside, keeps_all, keeps_less}
 use Rattle.es_rules.specs.declared.cursor.Cursor.{Cursor}
-use Rattle.es_rules.specs.Bounded.{Read, makes, node_at, wraps_at, form_at, rule_at}
+use Rattle.es_rules.specs.Bounded.{Read, turned, turned_at, wraps_at, form_at, rule_at}
 use Rattle.es_rules.specs.Steps.{single, group, with_opened, with_closed, Writes, IsRefused, IsRead, IsTurn, Adds}
 use Rattle.es_rules.proofs.FormLemmas.{closes, keeps_written, keeps_opened}
 
@@ -35,34 +38,34 @@ nested (gives a to) f g = refl
 
 -- the node of an operand and a turn
 pub node_gives : (out : Out Read) (l : NodeKind) (t : Cst) (from h g n : ℕ) (ts : List Cst) (to : ℕ)
-    → out ≡ gives (group ts g) to → n ≡ suc (max h g) → leb n most_nodes ≡ true
-    → and_then out (λ ps to. node_at l from to (makes.of_cons (single t h) ps))
+    → out ≡ gives (group ts g) to → n ≡ over (leans l) h g → leb n most_nodes ≡ true
+    → and_then out (λ ps to. turned_at l from to (single t h) ps)
     ≡ gives (single (vCst.Node l from to (t ∷ ts)) n) to
-unfolding node_at
+unfolding turned_at
 node_gives out l t from h g n ts to e count few =
-    then_gives out (λ ps to. node_at l from to (makes.of_cons (single t h) ps)) (group ts g) to
+    then_gives out (λ ps to. turned_at l from to (single t h) ps) (group ts g) to
     (gives (single (vCst.Node l from to (t ∷ ts)) n) to) e
-    (only_if_true (leb (suc (max h g)) most_nodes)
-    (gives (single (vCst.Node l from to (t ∷ ts)) (suc (max h g))) to)
+    (only_if_true (leb (over (leans l) h g) most_nodes)
+    (gives (single (vCst.Node l from to (t ∷ ts)) (over (leans l) h g)) to)
     (gives (single (vCst.Node l from to (t ∷ ts)) n) to)
     (ap (λ k. leb k most_nodes) (sym count) ∙ few)
     (ap (λ k. gives (single (vCst.Node l from to (t ∷ ts)) k) to) (sym count)))
 
 pub node_many : (out : Out Read) (l : NodeKind) (t : Cst) (from h g : ℕ) (ts : List Cst) (to : ℕ)
-    → out ≡ gives (group ts g) to → leb (suc (max h g)) most_nodes ≡ false
-    → and_then out (λ ps to. node_at l from to (makes.of_cons (single t h) ps)) ≡ nothing
-unfolding node_at
+    → out ≡ gives (group ts g) to → leb (over (leans l) h g) most_nodes ≡ false
+    → and_then out (λ ps to. turned_at l from to (single t h) ps) ≡ nothing
+unfolding turned_at
 node_many out l t from h g ts to e past =
-    then_gives out (λ ps to. node_at l from to (makes.of_cons (single t h) ps)) (group ts g) to nothing e (rw past refl)
+    then_gives out (λ ps to. turned_at l from to (single t h) ps) (group ts g) to nothing e (rw past refl)
 
 pub node_none : (out : Out Read) (l : NodeKind) (t : Cst) (from h : ℕ) → out ≡ nothing
-    → and_then out (λ ps to. node_at l from to (makes.of_cons (single t h) ps)) ≡ nothing
-node_none out l t from h e = ap (λ o. and_then o (λ ps to. node_at l from to (makes.of_cons (single t h) ps))) e
+    → and_then out (λ ps to. turned_at l from to (single t h) ps) ≡ nothing
+node_none out l t from h e = ap (λ o. and_then o (λ ps to. turned_at l from to (single t h) ps)) e
 
 module _ (K : List Key) (l : NodeKind) (t : Predicate) (parts : ℕ → Out Read) (from : ℕ) where
   -- what one turn makes
   abbrev pub turn_at : Read → ℕ → Out Read
-  turn_at q at = and_then (parts at) (λ ps to. node_at l from to (makes.of_cons q ps))
+  turn_at q at = and_then (parts at) (λ ps to. turned_at l from to q ps)
 
   -- a turn, and those after it
   one_turn : (n : ℕ) (q : Read) (at : ℕ) → t K at ≡ true
@@ -70,10 +73,10 @@ module _ (K : List Key) (l : NodeKind) (t : Predicate) (parts : ℕ → Out Read
   unfolding wraps_at
   one_turn n q at here =
       either_true (t K at)
-      (and_then (parts at) (λ ps to. and_then (node_at l from to (makes.of_cons q ps)) (wraps_at K l t parts from n)))
+      (and_then (parts at) (λ ps to. and_then (turned_at l from to q ps) (wraps_at K l t parts from n)))
       (gives q at)
       (and_then (turn_at q at) (wraps_at K l t parts from n)) here
-      (nested (parts at) (λ ps to. node_at l from to (makes.of_cons q ps)) (wraps_at K l t parts from n))
+      (nested (parts at) (λ ps to. turned_at l from to q ps) (wraps_at K l t parts from n))
 
   -- one more turn
   pub wraps_more : (n : ℕ) (q : Read) (at : ℕ) (x : Read) (mid : ℕ) → (n ≡ 0 → ⊥) → t K at ≡ true
@@ -151,7 +154,7 @@ behind_refused keeps out f base new e told = (told.0, λ memory. ap (λ o. and_t
 
 -- ---- a node that was opened before an operand
 
-opened_at : (at : ℕ) (base old : List Entry) (s : Forest) → length base ≡ at → old ≡ base ++ entries_of s
+pub opened_at : (at : ℕ) (base old : List Entry) (s : Forest) → length base ≡ at → old ≡ base ++ entries_of s
     → with_opened true at old ≡ (base ++ opened) ++ entries_of s
 opened_at at base old s place e =
     rw (← place, e, take-append_seam base (entries_of s), drop-append_seam base (entries_of s)) refl
@@ -190,10 +193,11 @@ writes_wrapped false l from to at base old mid new after t ts e parts shut place
 -- a node of an operand and of parts behind it
 module _ (keeps : Bool) (out : Out Read) (l : NodeKind) (from h at : ℕ) (old mid : List Entry) (new : Cursor) where
   pub wrapped_read : (g n : ℕ) (after : Cursor) (base : List Entry) (t : Cst) → mid ≡ with_opened keeps at old
-      → Adds keeps out mid new (Ok g) → n ≡ suc (max h g) → leb (suc (max h g)) most_nodes ≡ true → after.at ≡ new.at
+      → Adds keeps out mid new (Ok g) → n ≡ over (leans l) h g → leb (over (leans l) h g) most_nodes ≡ true
+      → after.at ≡ new.at
       → after.row ≡ with_closed keeps (vWhat.Node l) from new.at at new.row → length base ≡ at
       → Writes keeps base old (t ∷ [])
-      → IsRead keeps (and_then out (λ ps to. node_at l from to (makes.of_cons (single t h) ps))) base after (Ok n)
+      → IsRead keeps (and_then out (λ ps to. turned_at l from to (single t h) ps)) base after (Ok n)
   wrapped_read g n after base t e adds count few same shut place w = (
     vCst.Node l from new.at (t ∷ adds.0),
     writes_wrapped keeps l from new.at at base old mid new.row after.row t adds.0 e adds.1 shut place w,
@@ -202,9 +206,9 @@ module _ (keeps : Bool) (out : Out Read) (l : NodeKind) (from h at : ℕ) (old m
   )
 
   pub wrapped_many : (g : ℕ) (y : SyntaxError) (base : List Entry) (t : Cst) → mid ≡ with_opened keeps at old
-      → Adds keeps out mid new (Ok g) → leb (suc (max h g)) most_nodes ≡ false → length base ≡ at
+      → Adds keeps out mid new (Ok g) → leb (over (leans l) h g) most_nodes ≡ false → length base ≡ at
       → Writes keeps base old (t ∷ [])
-      → IsRefused keeps (and_then out (λ ps to. node_at l from to (makes.of_cons (single t h) ps))) base new.row y
+      → IsRefused keeps (and_then out (λ ps to. turned_at l from to (single t h) ps)) base new.row y
   wrapped_many g y base t e adds past place w = (
     keeps_opened_before keeps at base old mid new.row (t ∷ []) place w e
         (keeps_written keeps mid new.row adds.0 adds.1),
@@ -213,7 +217,7 @@ module _ (keeps : Bool) (out : Out Read) (l : NodeKind) (from h at : ℕ) (old m
 
   pub wrapped_refused : (y : SyntaxError) (base : List Entry) (t : Cst) → mid ≡ with_opened keeps at old
       → IsRefused keeps out mid new.row y → length base ≡ at → Writes keeps base old (t ∷ [])
-      → IsRefused keeps (and_then out (λ ps to. node_at l from to (makes.of_cons (single t h) ps))) base new.row y
+      → IsRefused keeps (and_then out (λ ps to. turned_at l from to (single t h) ps)) base new.row y
   wrapped_refused y base t e told place w = (
     keeps_opened_before keeps at base old mid new.row (t ∷ []) place w e told.0,
     λ memory. node_none out l t from h (told.1 memory),
@@ -223,7 +227,7 @@ module _ (keeps : Bool) (out : Out Read) (l : NodeKind) (from h at : ℕ) (old m
 
 module _ (out : Out Read) (first : ℕ) where
   pub turn_read : (g n at to : ℕ) (old mid after : List Entry) (new : Cursor) → at ≡ length old → mid ≡ old ++ opened
-      → Adds true out mid new (Ok g) → n ≡ suc (max first g) → leb (suc (max first g)) most_nodes ≡ true → to ≡ new.at
+      → Adds true out mid new (Ok g) → n ≡ max first (suc g) → leb (max first (suc g)) most_nodes ≡ true → to ≡ new.at
       → after ≡ closed vWhat.Parts 0 to at new.row
       → IsTurn out first old (record { at = new.at; row = after }) (Ok n)
   turn_read g n at to old mid after new place e adds count few ends shut = (
@@ -238,17 +242,18 @@ module _ (out : Out Read) (first : ℕ) where
   )
 
   pub turn_many : (g : ℕ) (old mid : List Entry) (new : Cursor) (e : SyntaxError) → mid ≡ old ++ opened
-      → Adds true out mid new (Ok g) → leb (suc (max first g)) most_nodes ≡ false → IsTurn out first old new (Err e)
+      → Adds true out mid new (Ok g) → leb (max first (suc g)) most_nodes ≡ false → IsTurn out first old new (Err e)
   turn_many g old mid new e written adds past = (
     keeps_opened true old mid new.row written (keeps_written true mid new.row adds.0 adds.1),
-    λ memory l t from. node_many out l t from first g adds.0 new.at adds.2 past,
+    λ memory l t from leaning. node_many out l t from first g adds.0 new.at adds.2
+        (ap (λ b. leb (over b first g) most_nodes) leaning ∙ past),
   )
 
   pub turn_refused : (old mid : List Entry) (new : Cursor) (e : SyntaxError) → mid ≡ old ++ opened
       → IsRefused true out mid new.row e → IsTurn out first old new (Err e)
   turn_refused old mid new e written told = (
     keeps_opened true old mid new.row written told.0,
-    λ memory l t from. node_none out l t from first (told.1 memory),
+    λ memory l t from leaning. node_none out l t from first (told.1 memory),
   )
 
   pub turn_failed : (old : List Entry) (new : Cursor) (r : Result ℕ SyntaxError) (y e : SyntaxError) → r ≡ Err y
@@ -309,156 +314,3 @@ module _ (keeps : Bool) (K : List Key) (l : NodeKind) (t : Predicate) (parts : �
     nest.written,
     nest.same ∙ wraps_end K l t parts from n (single nest.tree h) old.at there,
   )
-
--- ---- a chain that leans left
-
-leaned_more : (lean : Lean) (from : ℕ) (t : Cst) (ks : List Kept) (k : Kept)
-    → leaned_tree lean from t (ks ++ k ∷ []) ≡ leaning_tree lean from (leaned_tree lean from t ks) k
-unfolding leaned_tree
-leaned_more lean from t [] k = refl
-leaned_more lean from t (j ∷ ks) k = leaned_more lean from (leaning_tree lean from t j) ks k
-
-turn_of : (ts : List Cst) → turn_parts (out-Cst (vCst.Parts ts)) ≡ ts
-turn_of ts =
-    ap (λ (u : Cst). turn_parts (out-Cst u)) (sym (vCst.rolls-Parts ts))
-    ∙ ap turn_parts (out-roll-Cst (Cst-F.Parts ts))
-
--- the operand and the turns so far stand behind the node that is open; with them, what all turns make of the operand is
--- what the turns left make of the chain
-pub record IsChain (lean : Lean) (from : ℕ) (whole : Out Read) (rest : Read → Out Read) (h : ℕ) (base row : List Entry)
-    (t : Cst) (start at : ℕ) : Type 0 where
-  pub first : Forest
-  pub turns : Forest
-  pub is : trees_in (kept_of first) ≡ t ∷ []
-  pub written : row ≡ (base ++ opened) ++ (entries_of first ++ entries_of turns)
-  pub same : whole ≡ rest (single (leaned_tree lean from t (kept_of turns)) h)
-  pub begins : turns ≡ none → at ≡ start
-
-no_turn : {A : Type 0} (a p : Forest) (to : ℕ) → beside a (node vWhat.Parts 0 to p none) ≡ none → A
-unfolding beside
-no_turn none p to e = absurd (let bad : ⊥ = cc in bad)
-no_turn (node w f t q r) p to e = absurd (let bad : ⊥ = cc in bad)
-
-one_kept : (s : Forest) (t : Cst) → trees_in (kept_of s) ≡ t ∷ [] → (e : ℕ) × (kept_of s ≡ (e, t) ∷ [])
-unfolding kept_of
-one_kept none t e = absurd (let bad : ⊥ = cc in bad)
-one_kept (node w f to p none) t e =
-    (to, (let same : tree_by w f to (kept_of p) ≡ t = cc in ap (λ (u : Cst). (to, u) ∷ []) same))
-one_kept (node w f to p (node w2 f2 to2 p2 r)) t e = absurd (let bad : ⊥ = cc in bad)
-
-leant_all : (lean : Lean) (from : ℕ) (t : Cst) (first turns : Forest) → trees_in (kept_of first) ≡ t ∷ []
-    → (turns ≡ none → ⊥) → leant_tree lean from (kept_of (beside first turns)) ≡ leaned_tree lean from t (kept_of turns)
-unfolding leaned_tree kept_of
-leant_all lean from t first none is some = absurd (some refl)
-leant_all lean from t first (node w f to p r) is some =
-    let one = one_kept first t is in
-    let turns = node w f to p r in
-    ap (leant_tree lean from) (kept_beside first turns ∙ ap (λ (ks : List Kept). ks ++ kept_of turns) one.1)
-
-module _ (lean : Lean) (K : List Key) (g : Predicate) (parts : ℕ → Out Read) (from : ℕ) (whole : Out Read)
-    (base : List Entry) (t : Cst) (start : ℕ) where
-  abbrev Chain : ℕ → ℕ → List Entry → ℕ → Type 0
-  Chain n h row at = IsChain lean from whole (rest_at K (label_of lean) g parts from n at) h base row t start at
-
-  pub chain_start : (n n2 h at : ℕ) (old row : List Entry)
-      → whole ≡ wraps_at K (label_of lean) g parts from n (single t h) start → n2 ≡ n → length base ≡ at
-      → Writes true base old (t ∷ []) → row ≡ with_opened true at old → Chain n2 h row start
-  unfolding leaned_tree kept_of entries_of
-  chain_start n n2 h at old row same left place w e = record {
-    first = w.0;
-    turns = none;
-    is = w.2;
-    written =
-        e ∙ (opened_at at base old w.0 place w.1
-        ∙ ap (λ (es : List Entry). (base ++ opened) ++ es) (sym (append-nil (entries_of w.0))));
-    same = same ∙ ap (λ k. wraps_at K (label_of lean) g parts from k (single t h) start) (sym left);
-    begins = λ _. refl;
-  }
-
-  keeps_chain : (n h : ℕ) (row new : List Entry) (at : ℕ) → Chain n h row at → Keeps row new → Keeps base new
-  keeps_chain n h row new at chain k =
-      let es = entries_of chain.first ++ entries_of chain.turns in
-      let same : row ≡ base ++ (opened ++ es) = chain.written ∙ append_assoc base opened es in
-      keeps_less base (opened ++ es) new (subst (λ (es : List Entry). Keeps es new) same k)
-
-  pub chain_more : (n h m : ℕ) (old new : Cursor) → (n ≡ 0 → ⊥) → Chain n h old.row old.at → g K old.at ≡ true
-      → IsTurn (parts old.at) h old.row new (Ok m) → Chain (n - 1) m new.row new.at
-  unfolding entries_of kept_of
-  chain_more n h m old new some chain here turn =
-      let last = node vWhat.Parts 0 new.at turn.0 none in
-      let q = leaned_tree lean from t (kept_of chain.turns) in
-      let ts = trees_in (kept_of turn.0) in
-      let next = leaning_tree lean from q (new.at, vCst.Parts ts) in
-      let all : kept_of (beside chain.turns last) ≡ kept_of chain.turns ++ (new.at, vCst.Parts ts) ∷ [] =
-      kept_beside chain.turns last in
-      let made : leaned_tree lean from t (kept_of (beside chain.turns last))
-      ≡ vCst.Node (label_of lean) from new.at (q ∷ ts) =
-      ap (leaned_tree lean from t) all
-      ∙ (leaned_more lean from t (kept_of chain.turns) (new.at, vCst.Parts ts)
-      ∙ ap (λ (us : List Cst). vCst.Node (label_of lean) from new.at (q ∷ us)) (turn_of ts)) in
-      record {
-        first = chain.first;
-        turns = beside chain.turns last;
-        is = chain.is;
-        written =
-            turn.2 ∙ (ap (λ (es : List Entry). es ++ entries_of last) chain.written
-            ∙ (append_assoc (base ++ opened) (entries_of chain.first ++ entries_of chain.turns) (entries_of last)
-            ∙ ap (λ (es : List Entry). (base ++ opened) ++ es)
-            (append_assoc (entries_of chain.first) (entries_of chain.turns) (entries_of last)
-            ∙ ap (λ (es : List Entry). entries_of chain.first ++ es) (sym (entries_beside chain.turns last)))));
-        same =
-            chain.same ∙ (wraps_more K (label_of lean) g parts from n (single q h) old.at
-            (single (vCst.Node (label_of lean) from new.at (q ∷ ts)) m) new.at some here
-            (node_gives (parts old.at) (label_of lean) q from h turn.1 m ts new.at turn.3 turn.4 turn.5)
-            ∙ ap (λ (u : Cst). wraps_at K (label_of lean) g parts from (n - 1) (single u m) new.at) (sym made));
-        begins = λ e. no_turn chain.turns turn.0 new.at e;
-      }
-
-  pub chain_stuck : (n h : ℕ) (old new : Cursor) (e : SyntaxError) → Chain n h old.row old.at → g K old.at ≡ true
-      → IsTurn (parts old.at) h old.row new (Err e) → IsRefused true whole base new.row e
-  chain_stuck n h old new e chain here turn = (
-    keeps_chain n h old.row new.row old.at chain turn.0,
-    λ memory. chain.same ∙ wraps_stuck K (label_of lean) g parts from n
-        (single (leaned_tree lean from t (kept_of chain.turns)) h) old.at here
-        (turn.1 memory (label_of lean) (leaned_tree lean from t (kept_of chain.turns)) from),
-  )
-
-  -- memory ran out behind it
-  pub chain_lost : (n h : ℕ) (old : Cursor) (new : List Entry) → Chain n h old.row old.at → new ≡ old.row
-      → IsRefused true whole base new OutOfMemory
-  chain_lost n h old new chain same = (
-    keeps_chain n h old.row new old.at chain
-        (subst (λ (es : List Entry). Keeps old.row es) (sym same) (keeps_all old.row)),
-    λ memory. absurd (memory refl),
-  )
-
-  pub chain_full : (n h : ℕ) (old : Cursor) (e : SyntaxError) → n ≡ 0 → Chain n h old.row old.at → g K old.at ≡ true
-      → IsRefused true whole base old.row e
-  chain_full n h old e over chain here = (
-    keeps_chain n h old.row old.row old.at chain (keeps_all old.row),
-    λ memory. chain.same ∙ wraps_full K (label_of lean) g parts from n
-        (single (leaned_tree lean from t (kept_of chain.turns)) h) old.at over here,
-  )
-
-  pub chain_end : (n h f to place : ℕ) (old : Cursor) (after : List Entry) → Chain n h old.row old.at
-      → g K old.at ≡ false → g K start ≡ true → f ≡ from → to ≡ old.at → length base ≡ place
-      → after ≡ closed (vWhat.Lean lean) f to place old.row
-      → IsRead true whole base (record { at = old.at; row = after }) (Ok h)
-  unfolding kept_of
-  chain_end n h f to place old after chain there here starts ends at shut =
-      let q = leaned_tree lean from t (kept_of chain.turns) in
-      let s = beside chain.first chain.turns in
-      let some : chain.turns ≡ none → ⊥ =
-      λ e. let bad : true ≡ false = sym here ∙ (ap (g K) (sym (chain.begins e)) ∙ there) in
-      let no : ⊥ = cc in no in (
-        q,
-        (
-          node (vWhat.Lean lean) f to s none,
-          closes (vWhat.Lean lean) f to place base old.row after s (sym at)
-              (chain.written ∙ ap (λ (es : List Entry). (base ++ opened) ++ es)
-              (sym (entries_beside chain.first chain.turns))) shut,
-          ap (λ (u : Cst). u ∷ []) (ap (λ k. leant_tree lean k (kept_of s)) starts
-              ∙ leant_all lean from t chain.first chain.turns chain.is some),
-        ),
-        chain.same ∙ wraps_end K (label_of lean) g parts from n (single q h) old.at there,
-      )

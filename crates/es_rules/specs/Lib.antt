@@ -4,3 +4,5 @@ pub mod Bounded
 pub mod Predict
 -- what the functions of the crate promise each other
 pub mod Steps
+-- rules by the names of another table
+pub mod Labelled

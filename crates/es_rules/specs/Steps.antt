@@ -1,6 +1,6 @@
 -- What readers of rows, rules and forms promise: each writes what the reader of the table answers there, where entries are
 -- kept, and answers the most nodes on a path of it.
-use Rattle.std.specs.Prelude.{◌≡◌, ◌≢◌, ℕ, suc, max, leb, Bool, true, false, ◌∷◌, [], ◌++◌, List, take, drop, Result, Ok, Err}
+use Rattle.std.specs.Prelude.{◌≡◌, ◌≢◌, ◌<◌, ◌+◌, ◌⊎◌, Some, slice_get, ℕ, suc, max, leb, Bool, true, false, ◌∷◌, [], ◌++◌, List, take, drop, Result, Ok, Err}
 use denote.Ref.{MutBor}
 use Rattle.es_tree.specs.declared.error.SyntaxError.{SyntaxError}
 use Rattle.es_tree.specs.declared.error.SyntaxError.TheVariants.{OutOfMemory}
@@ -12,6 +12,7 @@ use Rattle.es_grammar.specs.declared.rows.NodeKind.{NodeKind}
 use Rattle.es_cst.specs.declared.tree.Cst.{Cst}
 use Rattle.es_cst.specs.Slim.{one, several, tree_in}
 use Rattle.es_syntax.specs.declared.entry.Entry.{Entry}
+use Rattle.es_syntax.specs.declared.entry.Lean.{Lean}
 use Rattle.es_syntax.specs.declared.entry.What.{What}
 use Rattle.es_syntax.specs.declared.entry.What.TheVariants as vWhat
 use Rattle.es_syntax.specs.Trees.{trees_in}
@@ -19,7 +20,8 @@ use Rattle.es_syntax.specs.Written.{opened, closed}
 use Rattle.es_syntax.specs.Forest.{Forest, none, node, entries_of, kept_of, Keeps}
 use Rattle.es_rules.specs.declared.cursor.Input.{Input}
 use Rattle.es_rules.specs.declared.cursor.Cursor.{Cursor}
-use Rattle.es_rules.specs.Bounded.{Read, makes, node_at, row_at}
+use Rattle.es_grammar.specs.Conditions.{leans}
+use Rattle.es_rules.specs.Bounded.{Read, turned_at, row_at}
 
 -- the keys of the tokens of a text
 abbrev pub keys_in : Input → List Key
@@ -80,14 +82,28 @@ Adds keeps out old new (Ok h) =
 Adds keeps out old new (Err e) = IsRefused keeps out old new.row e
 
 -- the parts of a turn that was read behind an operand of this height are written behind these entries as one group, which
--- ends where reading stands; the height is that of a node of both, and no path of it has too many
+-- ends where reading stands; the height is that of a node of both that leans, and no path of it has too many
 abbrev pub IsTurn : Out Read → ℕ → List Entry → Cursor → Result ℕ SyntaxError → Type 0
 IsTurn out first old new (Ok h) =
     (parts : Forest) × (g : ℕ) × (new.row ≡ old ++ entries_of (node vWhat.Parts 0 new.at parts none))
-    × (out ≡ gives (group (trees_in (kept_of parts)) g) new.at) × (h ≡ suc (max first g)) × (leb h most_nodes ≡ true)
+    × (out ≡ gives (group (trees_in (kept_of parts)) g) new.at) × (h ≡ max first (suc g)) × (leb h most_nodes ≡ true)
 IsTurn out first old new (Err e) =
-    Keeps old new.row × (e ≢ OutOfMemory → (l : NodeKind) (t : Cst) (from : ℕ)
-    → and_then out (λ ps to. node_at l from to (makes.of_cons (single t first) ps)) ≡ nothing)
+    Keeps old new.row × (e ≢ OutOfMemory → (l : NodeKind) (t : Cst) (from : ℕ) → leans l ≡ true
+    → and_then out (λ ps to. turned_at l from to (single t first) ps) ≡ nothing)
+
+-- at this place of a row begins a chain that leans left, from this token on, of an operand and a turn at least
+pub record LeadsChain (lean : Lean) (from at : ℕ) (row : List Entry) : Type 0 where
+  pub head : Entry
+  pub first : Entry
+  pub there : slice_get row at ≡ Some head
+  pub next : slice_get row (at + 1) ≡ Some first
+  pub what : head.what ≡ vWhat.Lean lean
+  pub begins : head.from ≡ from
+  pub more : first.size + 1 < head.size
+
+-- a node is opened before what stands from this place on; or that is such a chain, and goes on
+abbrev pub Reopens : Lean → ℕ → ℕ → List Entry → List Entry → Type 0
+Reopens lean from at old new = (new ≡ with_opened true at old) ⊎ ((new ≡ old) × LeadsChain lean from at old)
 
 -- the most nodes on a path of a part, and of those behind it
 abbrev pub higher_of : ℕ → Result ℕ SyntaxError → Result ℕ SyntaxError

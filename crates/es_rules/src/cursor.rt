@@ -246,3 +246,21 @@ pub fn counted(parts: usize, cursor: &Cursor) -> Result<usize, SyntaxError>
     }
     Ok(parts + 1)
 }
+
+/// The most nodes on a path of a node that leans, by that of its first operand, which stands as deep as the node, and that of
+/// the parts behind it, where no path of it has too many.
+#[tactic(auto, unfolding(es_tree::specs::Fits::most_nodes))]
+#[inline(always)]
+pub fn reached(first: usize, parts: usize, cursor: &Cursor) -> Result<usize, SyntaxError>
+    ensures counted { IfOk result (λ n. (n ≡ max first (suc parts)) × (leb (max first (suc parts)) most_nodes ≡ true)) }
+    ensures many { OnErr result (leb (max first (suc parts)) most_nodes ≡ false) }
+{
+    if parts >= MOST_NODES {
+        return Err(SyntaxError::Syntax { token: cursor.at });
+    }
+    let height = highest(first, parts + 1);
+    if height > MOST_NODES {
+        return Err(SyntaxError::Syntax { token: cursor.at });
+    }
+    Ok(height)
+}

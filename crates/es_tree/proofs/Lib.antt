@@ -4,6 +4,7 @@ pub mod ReaderLemmas
 pub mod FreeLemmas
 pub mod MadeLemmas
 pub mod TallLemmas
+pub mod RoomLemmas
 pub mod Theorems
 pub mod EachKind
 pub mod LeafLemmas

@@ -1,10 +1,10 @@
 -- The laws of a grammar whose tests tell, for whatever table of rows.
-use Rattle.std.specs.Prelude.{List, None, true}
+use Rattle.std.specs.Prelude.{List, None, Bool, true}
 use Rattle.std.proofs.Common.{◌≡◌, ◌≤◌, length, sym, ap, ◌∙◌, arith}
 use Rattle.std.proofs.lemmas.Option.{slice_get_past}
 use Rattle.es_tree.specs.Key.{Key, seen, seen_of}
 use Rattle.es_tree.specs.Productions.{Production}
-use Rattle.es_tree.specs.Plain.{Plain, Makes, made, plain, tall, Tallied, tallied}
+use Rattle.es_tree.specs.Plain.{Plain, Makes, made, plain, tall}
 use Rattle.es_tree.specs.Fits.{free, chosen, Under, Shape, most_nodes}
 use Rattle.es_tree.specs.Reader.{gives, changed, read_row}
 use Rattle.es_tree.specs.Checks.{is_flat}
@@ -13,7 +13,7 @@ use Rattle.es_tree.proofs.OutLemmas.{gives_same, changed-gives}
 use Rattle.es_tree.proofs.ReaderLemmas.{row_fits, row_reads}
 use Rattle.es_tree.proofs.FreeLemmas as Free
 use Rattle.es_tree.proofs.MadeLemmas.{row_made}
-use Rattle.es_tree.proofs.TallLemmas.{under_tall, made_tallied}
+use Rattle.es_tree.proofs.TallLemmas.{under_tall}
 
 -- a grammar whose tests tell, and a row of it that may stand before the end
 pub record IsGrammar {Row NodeKind : Type 0} (rule : Row → Production Row NodeKind) (s : Sets Row) (start : Row) : Type
@@ -25,10 +25,11 @@ pub record IsGrammar {Row NodeKind : Type 0} (rule : Row → Production Row Node
 pub seen-length : (K : List Key) → seen K (length K) ≡ None
 seen-length K = ap seen_of (slice_get_past K (length K) (omega arith))
 
-module _ {Row NodeKind : Type 0} (rule : Row → Production Row NodeKind) (s : Sets Row) (start : Row)
-    (grammar : IsGrammar rule s start) where
+module _ {Row NodeKind : Type 0} (leans : NodeKind → Bool) (rule : Row → Production Row NodeKind) (s : Sets Row)
+    (start : Row) (grammar : IsGrammar rule s start) where
   -- no test bars a reading: what the grammar derives obeys them
-  pub free_is_chosen : (K : List Key) (p : Plain NodeKind) → Shape free rule start K p → Shape chosen rule start K p
+  pub free_is_chosen : (K : List Key) (p : Plain NodeKind) → Shape leans free rule start K p
+      → Shape leans chosen rule start K p
   unfolding Shape
   free_is_chosen K p shaped = (
     Free.free_is_chosen K rule s grammar.told most_nodes start p 0 (length K) shaped.0
@@ -37,7 +38,8 @@ module _ {Row NodeKind : Type 0} (rule : Row → Production Row NodeKind) (s : S
   )
 
   -- and the other way round
-  pub chosen_is_free : (K : List Key) (p : Plain NodeKind) → Shape chosen rule start K p → Shape free rule start K p
+  pub chosen_is_free : (K : List Key) (p : Plain NodeKind) → Shape leans chosen rule start K p
+      → Shape leans free rule start K p
   unfolding Shape
   chosen_is_free K p shaped = (Free.chosen_is_free K rule most_nodes start p 0 (length K) shaped.0, shaped.1)
 
@@ -54,30 +56,27 @@ module _ {Row NodeKind : Type 0} (rule : Row → Production Row NodeKind) (s : S
         tree.2,
       )
 
+  -- a tree of the grammar, where no path of it has too many nodes
+  pub low_is_derived : {Made : Type 0} (m : Makes NodeKind Made) (K : List Key) (v : Made)
+      → read_row m K rule most_nodes start 0 ≡ gives v (length K)
+      → (p : Plain NodeKind) × (tall leans p ≤ most_nodes → Shape leans free rule start K p) × (made m p ≡ v)
+  unfolding Shape
+  low_is_derived m K v read =
+      let tree = read_fits m K v read in (tree.0, (λ low. (tree.1, low)), tree.2)
+
   -- where no rule has turns behind an operand, it is made of a tree of the grammar
   pub read_is_derived : ((r : Row) → is_flat (rule r) ≡ true)
       → {Made : Type 0} (m : Makes NodeKind Made) (K : List Key) (v : Made)
       → read_row m K rule most_nodes start 0 ≡ gives v (length K)
-      → (p : Plain NodeKind) × Shape free rule start K p × (made m p ≡ v)
+      → (p : Plain NodeKind) × Shape leans free rule start K p × (made m p ≡ v)
   unfolding Shape
   read_is_derived flat m K v read =
       let tree = read_fits m K v read in
-      (tree.0, (tree.1, under_tall free K rule flat most_nodes start tree.0 0 (length K) tree.1), tree.2)
-
-  -- and elsewhere where the reader counted no more nodes on a path than may be
-  pub tallied_is_derived : {Made : Type 0} (m : Makes NodeKind Made) (K : List Key) (v : Tallied Made)
-      → read_row (tallied m) K rule most_nodes start 0 ≡ gives v (length K) → v.height ≤ most_nodes
-      → (p : Plain NodeKind) × Shape free rule start K p × (made m p ≡ v.value)
-  unfolding Shape
-  tallied_is_derived m K v read low =
-      let tree = read_fits (tallied m) K v read in
-      let same = sym (made_tallied m tree.0) ∙ tree.2 in
-      let height : tall tree.0 ≡ v.height = ap (λ x. x.height) same in
-      (tree.0, (tree.1, (let le : v.height ≤ most_nodes = low in omega (arith, height))), ap (λ x. x.value) same)
+      (tree.0, (tree.1, under_tall leans free K rule flat most_nodes start tree.0 0 (length K) tree.1), tree.2)
 
   -- what is made of a tree of the grammar is what the reader answers, at the end
   pub derived_is_read : {Made : Type 0} (m : Makes NodeKind Made) (K : List Key) (p : Plain NodeKind)
-      → Shape free rule start K p → read_row m K rule most_nodes start 0 ≡ gives (made m p) (length K)
+      → Shape leans free rule start K p → read_row m K rule most_nodes start 0 ≡ gives (made m p) (length K)
   unfolding Shape
   derived_is_read m K p shaped =
       row_made m K rule most_nodes start 0
@@ -85,15 +84,9 @@ module _ {Row NodeKind : Type 0} (rule : Row → Production Row NodeKind) (s : S
       (row_reads K rule s.solid grammar.told.steady most_nodes start p 0 (length K) (omega arith)
       (free_is_chosen K p shaped).0)
 
-  -- with its height
-  pub derived_is_tallied : {Made : Type 0} (m : Makes NodeKind Made) (K : List Key) (p : Plain NodeKind)
-      → Shape free rule start K p
-      → read_row (tallied m) K rule most_nodes start 0 ≡ gives (record { value = made m p; height = tall p }) (length K)
-  derived_is_tallied m K p shaped =
-      derived_is_read (tallied m) K p shaped ∙ ap (λ v. gives v (length K)) (made_tallied m p)
-
   -- the keys of tokens have at most one tree
-  pub one_shape : (K : List Key) (p q : Plain NodeKind) → Shape free rule start K p → Shape free rule start K q → p ≡ q
+  pub one_shape : (K : List Key) (p q : Plain NodeKind) → Shape leans free rule start K p
+      → Shape leans free rule start K q → p ≡ q
   unfolding Shape
   one_shape K p q one other =
       let first = row_reads K rule s.solid grammar.told.steady most_nodes start p 0 (length K) (omega arith)

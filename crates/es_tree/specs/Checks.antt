@@ -1,5 +1,5 @@
 -- What a table of rows has to meet so that its reader reads each of its trees: tests of the table alone, each of which computes.
-use Rattle.std.specs.Prelude.{◌≡◌, Bool, true, false, ◌&&◌, ◌||◌}
+use Rattle.std.specs.Prelude.{◌≡◌, Bool, true, false, not, ◌&&◌, ◌||◌}
 use Rattle.es_tree.specs.Productions.{Rhs, done, tok, punct, row, opt, many, alt, when_, where_, Production, refuse, make, choose, as_, pick, wrap}
 
 module _ {Row : Type 0} (solid : Row → Bool) where
@@ -54,6 +54,15 @@ is_flat (choose t a b) = is_flat a && is_flat b
 is_flat (as_ w a) = is_flat a
 is_flat (pick g a b) = is_flat a && is_flat b
 is_flat (wrap l a c f) = false
+
+-- the rule makes nodes that lean of turns behind an operand alone
+abbrev pub leans_by_turns : {Row NodeKind : Type 0} → (NodeKind → Bool) → Production Row NodeKind → Bool
+leans_by_turns leans refuse = true
+leans_by_turns leans (make l f) = not (leans l)
+leans_by_turns leans (choose t a b) = leans_by_turns leans a && leans_by_turns leans b
+leans_by_turns leans (as_ w a) = leans_by_turns leans a
+leans_by_turns leans (pick g a b) = leans_by_turns leans a && leans_by_turns leans b
+leans_by_turns leans (wrap l a c f) = leans_by_turns leans a
 
 -- a table all of whose lists end: the rows that `solid` names take a token, and so does each optional part and each turn
 pub record IsSteady {Row NodeKind : Type 0} (rule : Row → Production Row NodeKind) (solid : Row → Bool) : Type 0 where

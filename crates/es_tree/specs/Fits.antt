@@ -7,7 +7,8 @@ use Rattle.es_tree.specs.Key.{Key, Seen, TokenTest, seen, has_kind, is}
 use Rattle.es_tree.specs.Productions.{Predict, by_lookahead, greedy, by_predicate, Rhs, done, tok, punct, row, opt, many, alt, when_, where_, Production, refuse, make, choose, as_, pick, wrap}
 use Rattle.es_tree.specs.Plain.{Plain, node, leaf, nil, cons, mark, turn, via, tall}
 
--- the most nodes on a path: the program's own, and 500 below it (items, statements, expressions, patterns, types)
+-- the most nodes on a path, which stand in each other: the program's own, and 500 below it (items, statements, expressions,
+-- patterns, types)
 unfoldable pub most_nodes : ℕ
 most_nodes = 501
 
@@ -91,6 +92,8 @@ module _ {Row NodeKind : Type 0} where
   Under h K rule zero r p from to = ⊥
   Under h K rule (suc room) r p from to = IsBy h K (Under h K rule room) (rule r) p from to
 
-  -- a tree of a row over all tokens, with at most `most_nodes` nodes on a path; each row makes a node, so its rows are no more
-  unfoldable pub Shape : Reading → (Row → Production Row NodeKind) → Row → List Key → Plain NodeKind → Type 0
-  Shape h rule start K p = Under h K rule most_nodes start p 0 (length K) × (tall p ≤ most_nodes)
+  -- a tree of a row over all tokens, with at most `most_nodes` nodes on a path, where `leans` tells the alternatives that lean;
+  -- each row makes a node that counts, so its rows are no more
+  unfoldable pub Shape : (NodeKind → Bool) → Reading → (Row → Production Row NodeKind) → Row → List Key → Plain NodeKind
+      → Type 0
+  Shape leans h rule start K p = Under h K rule most_nodes start p 0 (length K) × (tall leans p ≤ most_nodes)

@@ -1,5 +1,5 @@
 -- Plain trees, which know of the tokens only their numbers, and what is made of them part by part.
-use Rattle.std.specs.Prelude.{ℕ, zero, suc, max}
+use Rattle.std.specs.Prelude.{ℕ, zero, suc, max, Bool, true, false}
 use Rattle.es_tree.specs.Productions.{LeafKind}
 
 -- a tree, or the parts of a node in order
@@ -19,15 +19,27 @@ pub data Plain (NodeKind : Type 0) : Type 0 where
   -- a node in another role
   via : NodeKind → Plain NodeKind → Plain NodeKind
 
--- the most nodes on a path of it
-abbrev pub tall : {NodeKind : Type 0} → Plain NodeKind → ℕ
-tall (node l from to ps) = suc (tall ps)
-tall (leaf s n) = zero
-tall nil = zero
-tall (cons p ps) = max (tall p) (tall ps)
-tall (mark n ps) = tall ps
-tall (turn p ps) = max (tall p) (tall ps)
-tall (via w p) = tall p
+-- the most nodes on a path of a node, by that of its first part and that of the others: where the node leans, its first
+-- part stands as deep as the node itself
+abbrev pub over : Bool → ℕ → ℕ → ℕ
+over true first rest = max first (suc rest)
+over false first rest = suc (max first rest)
+
+-- no alternative leans
+abbrev pub none_leans : {NodeKind : Type 0} → NodeKind → Bool
+none_leans l = false
+
+-- the most nodes on a path of a tree, where `leans` tells the alternatives of operators behind whose first operand
+-- turns stand
+abbrev pub tall : {NodeKind : Type 0} → (NodeKind → Bool) → Plain NodeKind → ℕ
+tall leans (node l from to (cons q ps)) = over (leans l) (tall leans q) (tall leans ps)
+tall leans (node l from to ps) = suc (tall leans ps)
+tall leans (leaf s n) = zero
+tall leans nil = zero
+tall leans (cons p ps) = max (tall leans p) (tall leans ps)
+tall leans (mark n ps) = tall leans ps
+tall leans (turn p ps) = max (tall leans p) (tall leans ps)
+tall leans (via w p) = tall leans p
 
 -- what is made of each part of a plain tree
 pub record Makes (NodeKind Made : Type 0) : Type 0 where
@@ -48,23 +60,6 @@ made m (cons p ps) = m.of_cons (made m p) (made m ps)
 made m (mark n ps) = m.of_mark n (made m ps)
 made m (turn p ps) = m.of_turn (made m p) (made m ps)
 made m (via w p) = m.of_via w (made m p)
-
--- what is made, with the most nodes on a path of the tree that it is made of
-pub record Tallied (Made : Type 0) : Type 0 where
-  pub value : Made
-  pub height : ℕ
-
--- what is made of each part, tallied
-abbrev pub tallied : {NodeKind Made : Type 0} → Makes NodeKind Made → Makes NodeKind (Tallied Made)
-tallied m = record {
-  of_node = λ l from to v. record { value = m.of_node l from to v.value; height = suc v.height };
-  of_leaf = λ s n. record { value = m.of_leaf s n; height = zero };
-  of_nil = record { value = m.of_nil; height = zero };
-  of_cons = λ v vs. record { value = m.of_cons v.value vs.value; height = max v.height vs.height };
-  of_mark = λ n vs. record { value = m.of_mark n vs.value; height = vs.height };
-  of_turn = λ v vs. record { value = m.of_turn v.value vs.value; height = max v.height vs.height };
-  of_via = λ w v. record { value = m.of_via w v.value; height = v.height };
-}
 
 -- the plain tree itself
 abbrev pub plain : {NodeKind : Type 0} → Makes NodeKind (Plain NodeKind)

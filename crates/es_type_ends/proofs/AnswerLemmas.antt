@@ -3,13 +3,12 @@ use Rattle.std.specs.Prelude.{List, Bool, true, false, Option, Some, None, IsTru
 use Rattle.std.proofs.Common.{◌≡◌, ◌≢◌, ℕ, ◌<◌, ◌≤◌, length, refl, sym, ap, ◌∙◌, subst, arith, le-leb}
 use Rattle.es_token.specs.declared.token.Token.{Token}
 use Rattle.es_tree.specs.Key.{Key, Seen, keys_of, seen}
-use Rattle.es_tree.specs.Plain.{Plain, plain, made, tall}
+use Rattle.es_tree.specs.Plain.{Plain, plain, none_leans, tall}
 use Rattle.es_tree.specs.Fits.{free, chosen, Under, most_nodes}
 use Rattle.es_tree.specs.Reader.{Out, nothing, gives, only_if, read_row}
 use Rattle.es_tree.proofs.OutLemmas.{nothing_gives, gives_same, only_if-gives}
 use Rattle.es_tree.proofs.ReaderLemmas.{row_fits, row_reads}
 use Rattle.es_tree.proofs.FreeLemmas as Free
-use Rattle.es_tree.proofs.TallLemmas.{made_tallied}
 use Rattle.es_lookahead.proofs.TokenLemmas.{length-keys_of}
 use Rattle.es_type_grammar.specs.TypeRows.{NodeKind}
 use Rattle.es_type_grammar.specs.TypeTable.{type_rule}
@@ -20,7 +19,7 @@ use Rattle.es_rules.specs.Bounded.{Read, row_at}
 use Rattle.es_rules.specs.Steps.{single}
 use Rattle.es_type_ends.specs.Derived.{named_rule, part_row, IsType, Reaches, follows_arguments, OpensArguments}
 use Rattle.es_type_ends.proofs.Claims.{sets, follow, solid, table_told}
-use Rattle.es_type_ends.proofs.LowLemmas.{slim_named, named, low, is_low, row_low}
+use Rattle.es_type_ends.proofs.LowLemmas.{low, is_low, read_of, row_low}
 
 -- anything may follow a part
 follows_any : (which : TypePart) (x : Option Seen) → follow (part_row which) x ≡ true
@@ -38,11 +37,11 @@ obeyed which K p from to under =
     (follows_any which (seen K to))
 
 low-gives : (o : Out (Plain NodeKind)) (v : Read) (to : ℕ) → low o ≡ gives v to
-    → (p : Plain NodeKind) × (o ≡ gives p to) × (is_low p ≡ true) × (made named p ≡ v)
+    → (p : Plain NodeKind) × (o ≡ gives p to) × (is_low p ≡ true) × (read_of p ≡ v)
 low-gives nothing v to e = nothing_gives v to e
 low-gives (gives p at) v to e =
-    let held = only_if-gives (is_low p) (gives (made named p) at) v to e in
-    let same = gives_same (made named p) v at to held.1 in
+    let held = only_if-gives (is_low p) (gives (read_of p) at) v to e in
+    let same = gives_same (read_of p) v at to held.1 in
     (p, ap (gives p) same.1, held.0, same.0)
 
 -- a room is within the bound of the table
@@ -62,8 +61,7 @@ module _ (which : TypePart) (ts : List Token) (room at : ℕ) where
       let found = low-gives (read_row plain K type_rule most_nodes (part_row which) at) (single t h) to answer in
       let under = Free.chosen_is_free K type_rule most_nodes (part_row which) found.0 at to
       (row_fits K type_rule most_nodes (part_row which) at found.0 to found.1) in
-      let same = sym (made_tallied slim_named found.0) ∙ found.3 in
-      let height : tall found.0 ≡ h = ap (λ v. v.height) same in (
+      let height : tall none_leans found.0 ≡ h = ap (λ v. v.height) found.3 in (
         found.0,
         record { derived = under; low = (let le : h ≤ room = low_enough in omega (arith, height)) },
       )
@@ -78,13 +76,12 @@ module _ (which : TypePart) (ts : List Token) (room at : ℕ) where
       let read : read_row plain K type_rule most_nodes (part_row which) at ≡ gives p to =
       row_reads K type_rule solid table_told.steady most_nodes (part_row which) p at to start
       (obeyed which K p at to stands.derived) in
-      let low_enough : is_low p ≡ true = le-leb (tall p) most_nodes (within_most room (tall p) small stands.low) in
-      let same = made_tallied slim_named p in
-      let height : (made named p).height ≡ tall p = ap (λ v. v.height) same in (
-        made named p,
+      let low_enough : is_low p ≡ true = le-leb (tall none_leans p) most_nodes
+      (within_most room (tall none_leans p) small stands.low) in (
+        read_of p,
         row_low K most_nodes (part_row which) at ∙ ap low read
-            ∙ ap (λ b. only_if b (gives (made named p) to)) low_enough,
-        (let le : tall p ≤ room = stands.low in omega (arith, height)),
+            ∙ ap (λ b. only_if b (gives (read_of p) to)) low_enough,
+        stands.low,
       )
 
   -- what is read reaches its end

@@ -11,8 +11,8 @@ use Rattle.es_grammar.specs.declared.rows.Row.TheVariants as rows
 use Rattle.es_grammar.specs.declared.rows.NodeKind.{NodeKind as Name}
 use Rattle.es_grammar.specs.TypeNames.{label_name}
 use Rattle.es_grammar.specs.Embedding.{mapped_form, types_rule}
-use Rattle.es_rules.specs.Bounded.{Read, makes, node_at, form_at, wraps_at, rule_at}
-use Rattle.es_type_member_rules.specs.Labelled.{labelled}
+use Rattle.es_rules.specs.Bounded.{Read, makes, node_at, turned_at, form_at, wraps_at, rule_at}
+use Rattle.es_rules.specs.Labelled.{labelled}
 
 -- the same answer, and then the same
 then_same : (F G : Read → ℕ → Out Read) → ((v : Read) (to : ℕ) → F v to ≡ G v to) → (a : Out Read)
@@ -49,15 +49,15 @@ module _ (K : List Key) where
   wraps_same l t one two each from zero q at = refl
   wraps_same l t one two each from (suc n) q at =
       either_same (t K at)
-      (and_then (one at) (λ ps to. and_then (node_at l from to (makes.of_cons q ps)) (wraps_at K l t one from n)))
+      (and_then (one at) (λ ps to. and_then (turned_at l from to q ps) (wraps_at K l t one from n)))
       (gives q at)
-      (and_then (two at) (λ ps to. and_then (node_at l from to (makes.of_cons q ps)) (wraps_at K l t two from n)))
+      (and_then (two at) (λ ps to. and_then (turned_at l from to q ps) (wraps_at K l t two from n)))
       (gives q at)
       (and_same (one at) (two at)
-      (λ ps to. and_then (node_at l from to (makes.of_cons q ps)) (wraps_at K l t one from n))
-      (λ ps to. and_then (node_at l from to (makes.of_cons q ps)) (wraps_at K l t two from n)) (each at)
+      (λ ps to. and_then (turned_at l from to q ps) (wraps_at K l t one from n))
+      (λ ps to. and_then (turned_at l from to q ps) (wraps_at K l t two from n)) (each at)
       (λ ps to. then_same (wraps_at K l t one from n) (wraps_at K l t two from n)
-      (wraps_same l t one two each from n) (node_at l from to (makes.of_cons q ps))))
+      (wraps_same l t one two each from n) (turned_at l from to q ps)))
       refl
 
   module _ (outer : Row → ℕ → Out Read) where

@@ -2,3 +2,4 @@ pub mod Claims
 pub mod LowLemmas
 pub mod AnswerLemmas
 pub mod EmbeddedLemmas
+pub mod KeptLemmas

@@ -1,361 +1,50 @@
--- The reader of the code answers as the reader of plain trees, where no path of the tree has too many nodes, and else nothing.
--- What it makes has the names of the table of programs.
-use Rattle.std.specs.Prelude.{List, Bool, true, false, leb, max, ◌&&◌}
-use Rattle.std.proofs.Common.{◌≡◌, ℕ, zero, suc, ◌+◌, ◌<◌, ◌≤◌, length, refl, sym, ap, ◌∙◌, arith, leb-true, leb-false, le-leb}
-use Rattle.std.proofs.lemmas.Bool.{lt-leb}
-use Rattle.es_tree.specs.Key.{Key, seen, has_kind, is}
-use Rattle.es_tree.specs.Productions.{Predicate, test, Rhs, done, tok, punct, row, opt, many, alt, when_, where_, Production, refuse, make, choose, as_, pick, wrap}
-use Rattle.es_tree.specs.Plain.{Plain, node, leaf, nil, cons, mark, turn, via, tall, Makes, made, tallied, plain}
-use Rattle.es_tree.specs.Fits.{most_nodes}
-use Rattle.es_tree.specs.Reader.{Out, nothing, gives, and_then, changed, only_if, either, read_turns, read_wraps, read_form, read_rule, read_row}
-use Rattle.es_tree.proofs.TallLemmas.{made_tallied}
+-- The code's reader of types answers as the reader of plain trees, where no path of the tree has too many nodes, and
+-- else nothing. What it makes has the names of the table of programs.
+use Rattle.std.specs.Prelude.{List, Bool, true, ◌&&◌}
+use Rattle.std.proofs.Common.{◌≡◌, ℕ, refl}
+use Rattle.es_tree.specs.Key.{Key}
+use Rattle.es_tree.specs.Productions.{Production, refuse, make, choose, as_, pick, wrap}
+use Rattle.es_tree.specs.Plain.{Plain, plain, none_leans}
+use Rattle.es_tree.specs.Checks.{leans_by_turns}
+use Rattle.es_tree.specs.Reader.{Out, read_row}
 use Rattle.es_type_grammar.specs.declared.rows.TypeRow.{TypeRow}
 use Rattle.es_type_grammar.specs.TypeRows.{NodeKind}
 use Rattle.es_type_grammar.specs.TypeTable.{type_rule}
 use Rattle.es_grammar.specs.TypeNames.{label_name}
-use Rattle.es_cst.specs.Slim.{Kept, slim}
-use Rattle.es_rules.specs.Bounded.{Read, makes, node_at, form_at, wraps_at, rule_at, row_at}
-use Rattle.es_type_member_rules.specs.Labelled.{labelled}
+use Rattle.es_grammar.proofs.LeanClaims.{types_stand}
+use Rattle.es_rules.specs.Bounded.{Read, row_at}
+use Rattle.es_rules.proofs.LowLemmas as rows
 use Rattle.es_type_ends.specs.Derived.{named_rule}
-
--- what is kept of each part, its alternatives by the names of the table of programs
-abbrev pub slim_named : Makes NodeKind Kept
-slim_named = record {
-  of_node = λ l from to v. slim.of_node (label_name l) from to v;
-  of_leaf = slim.of_leaf;
-  of_nil = slim.of_nil;
-  of_cons = slim.of_cons;
-  of_mark = slim.of_mark;
-  of_turn = slim.of_turn;
-  of_via = λ l v. slim.of_via (label_name l) v;
-}
-
-abbrev pub named : Makes NodeKind Read
-named = tallied slim_named
 
 -- a tree no path of which has too many nodes
 abbrev pub is_low : Plain NodeKind → Bool
-is_low p = leb (tall p) most_nodes
+is_low p = rows.is_low label_name none_leans p
+
+-- what is read of it
+abbrev pub read_of : Plain NodeKind → Read
+read_of p = rows.read_of label_name none_leans p
 
 -- what the code's reader makes of an answer
 abbrev pub low : Out (Plain NodeKind) → Out Read
-low nothing = nothing
-low (gives p to) = only_if (is_low p) (gives (made named p) to)
+low o = rows.low label_name none_leans o
 
--- a greater number is small where both are
-leb_max : (a b n : ℕ) → leb (max a b) n ≡ leb a n && leb b n
-leb_max a b n = go (leb a n) (leb b n) refl refl
-  where
-    go : (x y : Bool) → leb a n ≡ x → leb b n ≡ y → leb (max a b) n ≡ x && y
-    go true true e h =
-        let p : a ≤ n = leb-true a n e in let q : b ≤ n = leb-true b n h in le-leb (max a b) n (omega arith)
-    go true false e h = let q : n < b = leb-false b n h in lt-leb (max a b) n (omega arith)
-    go false y e h = let p : n < a = leb-false a n e in lt-leb (max a b) n (omega arith)
+both_true : (x y : Bool) → x ≡ true → y ≡ true → x && y ≡ true
+both_true x y e h = rw (e, h) refl
 
--- one part and others
-module _ (c : Plain NodeKind → Plain NodeKind → Plain NodeKind) (m : Read → Read → Read)
-    (same : (q ps : Plain NodeKind) → made named (c q ps) ≡ m (made named q) (made named ps))
-    (grows : (q ps : Plain NodeKind) → tall (c q ps) ≡ max (tall q) (tall ps)) where
-  both_low : (q ps : Plain NodeKind) → is_low (c q ps) ≡ is_low q && is_low ps
-  both_low q ps = ap (λ n. leb n most_nodes) (grows q ps) ∙ leb_max (tall q) (tall ps) most_nodes
-
-  -- behind a low part
-  behind_low : (q : Plain NodeKind) → is_low q ≡ true → (out : Out Read) (o : Out (Plain NodeKind)) → out ≡ low o
-      → changed (m (made named q)) out ≡ low (changed (c q) o)
-  behind_low q here out nothing e = rw e refl
-  behind_low q here out (gives ps to) e =
-      ap (changed (m (made named q))) e ∙ go (is_low ps) refl
-    where
-      go : (x : Bool) → is_low ps ≡ x
-          → changed (m (made named q)) (only_if (is_low ps) (gives (made named ps) to))
-          ≡ only_if (is_low (c q ps)) (gives (made named (c q ps)) to)
-      go true h =
-          let whole : is_low (c q ps) ≡ true = both_low q ps ∙ (rw (here, h) refl) in
-          rw (h, whole) (ap (λ v. gives v to) (sym (same q ps)))
-      go false h =
-          let whole : is_low (c q ps) ≡ false = both_low q ps ∙ (rw (here, h) refl) in
-          rw (h, whole) refl
-
-  -- behind one that isn't
-  behind_tall : (q : Plain NodeKind) → is_low q ≡ false → (o : Out (Plain NodeKind)) → nothing ≡ low (changed (c q) o)
-  behind_tall q here nothing = refl
-  behind_tall q here (gives ps to) =
-      let whole : is_low (c q ps) ≡ false = both_low q ps ∙ (rw here refl) in rw whole refl
-
-  -- a part, and then others
-  then_low : (f : ℕ → Out Read) (g : ℕ → Out (Plain NodeKind)) → ((at : ℕ) → f at ≡ low (g at))
-      → (out : Out Read) (o : Out (Plain NodeKind)) → out ≡ low o
-      → and_then out (λ q mid. changed (m q) (f mid)) ≡ low (and_then o (λ q mid. changed (c q) (g mid)))
-  then_low f g rest out nothing e = rw e refl
-  then_low f g rest out (gives q mid) e =
-      ap (λ o. and_then o (λ q mid. changed (m q) (f mid))) e ∙ go (is_low q) refl
-    where
-      go : (x : Bool) → is_low q ≡ x
-          → and_then (only_if (is_low q) (gives (made named q) mid)) (λ q mid. changed (m q) (f mid))
-          ≡ low (changed (c q) (g mid))
-      go true h = rw h (behind_low q h (f mid) (g mid) (rest mid))
-      go false h = rw h (behind_tall q h (g mid))
-
-either_low : (t : Bool) (u v : Out Read) (x y : Out (Plain NodeKind)) → u ≡ low x → v ≡ low y
-    → either t u v ≡ low (either t x y)
-either_low true u v x y e h = e
-either_low false u v x y e h = h
-
-only_if_low : (t : Bool) (out : Out Read) (o : Out (Plain NodeKind)) → out ≡ low o → only_if t out ≡ low (only_if t o)
-only_if_low true out o e = e
-only_if_low false out o e = refl
-
--- what is as tall as what it is made of
-changed_low : (g : Read → Read) (h : Plain NodeKind → Plain NodeKind)
-    → ((p : Plain NodeKind) → made named (h p) ≡ g (made named p))
-    → ((p : Plain NodeKind) → tall (h p) ≡ tall p) → (out : Out Read) (o : Out (Plain NodeKind)) → out ≡ low o
-    → changed g out ≡ low (changed h o)
-changed_low g h same level out nothing e = rw e refl
-changed_low g h same level out (gives p to) e = ap (changed g) e ∙ go (is_low p) refl
-  where
-    whole : is_low (h p) ≡ is_low p
-    whole = ap (λ n. leb n most_nodes) (level p)
-
-    go : (x : Bool) → is_low p ≡ x
-        → changed g (only_if (is_low p) (gives (made named p) to))
-        ≡ only_if (is_low (h p)) (gives (made named (h p)) to)
-    go true e = let there : is_low (h p) ≡ true = whole ∙ e in rw (e, there) (ap (λ v. gives v to) (sym (same p)))
-    go false e = let there : is_low (h p) ≡ false = whole ∙ e in rw (e, there) refl
-
--- what is small is made of what is small
-suc_low : (n m : ℕ) → leb n m ≡ false → leb (suc n) m ≡ false
-suc_low n m e = let p : m < n = leb-false n m e in lt-leb (suc n) m (omega arith)
-
--- a node
-node_low : (l : NodeKind) (from to : ℕ) (ps : Plain NodeKind)
-    → node_at (label_name l) from to (made named ps) ≡ low (gives (node l from to ps) to)
-unfolding node_at made
-node_low l from to ps =
-    ap (λ n. only_if (leb (suc n) most_nodes) (gives (made named (node l from to ps)) to))
-    (ap (λ v. v.height) (made_tallied slim_named ps))
-
-node_tall : (l : NodeKind) (from to : ℕ) (ps : Plain NodeKind) → is_low ps ≡ false
-    → nothing ≡ low (gives (node l from to ps) to)
-node_tall l from to ps e = rw (suc_low (tall ps) most_nodes e) refl
-
--- ---- the readers
-
-made_cons : (q ps : Plain NodeKind) → made named (cons q ps) ≡ makes.of_cons (made named q) (made named ps)
-unfolding made
-made_cons q ps = refl
-
-made_turn : (q ps : Plain NodeKind) → made named (turn q ps) ≡ makes.of_turn (made named q) (made named ps)
-unfolding made
-made_turn q ps = refl
-
-grows_cons : (q ps : Plain NodeKind) → tall (cons q ps) ≡ max (tall q) (tall ps)
-grows_cons q ps = refl
-
-grows_turn : (q ps : Plain NodeKind) → tall (turn q ps) ≡ max (tall q) (tall ps)
-grows_turn q ps = refl
-
-nil_low : (at : ℕ) → gives makes.of_nil at ≡ low (gives nil at)
-unfolding made most_nodes
-nil_low at = refl
-
-module _ (K : List Key) where
-  turns_low : (t : Predicate) (one : ℕ → Out Read) (each : ℕ → Out (Plain NodeKind)) → ((at : ℕ) → one at ≡ low (each at))
-      → (n at : ℕ) → read_turns makes K t one n at ≡ low (read_turns plain K t each n at)
-  unfolding read_turns
-  turns_low t one each same zero at =
-      either_low (t K at) nothing (gives makes.of_nil at) nothing (gives nil at) refl (nil_low at)
-  turns_low t one each same (suc n) at =
-      either_low (t K at) (and_then (one at) (λ q mid. changed (makes.of_turn q) (read_turns makes K t one n mid)))
-      (gives makes.of_nil at) (and_then (each at) (λ q mid. changed (turn q) (read_turns plain K t each n mid)))
-      (gives nil at)
-      (then_low turn makes.of_turn made_turn grows_turn (read_turns makes K t one n) (read_turns plain K t each n)
-      (turns_low t one each same n) (one at) (each at) (same at)) (nil_low at)
-
-module _ (K : List Key) (below : TypeRow → ℕ → Out Read) (under : TypeRow → ℕ → Out (Plain NodeKind))
-    (same : (r : TypeRow) (at : ℕ) → below r at ≡ low (under r at)) where
-  rest_low : (f : ℕ → Out Read) (g : ℕ → Out (Plain NodeKind)) → ((at : ℕ) → f at ≡ low (g at))
-      → (out : Out Read) (o : Out (Plain NodeKind)) → out ≡ low o
-      → and_then out (λ q mid. changed (makes.of_cons q) (f mid)) ≡ low (and_then o (λ q mid. changed (cons q) (g mid)))
-  rest_low = then_low cons makes.of_cons made_cons grows_cons
-
-  leaf_low : (n : ℕ) (s : _) → is_low (leaf s n) ≡ true
-  unfolding most_nodes
-  leaf_low n s = refl
-
-  forms_low : (f : Rhs TypeRow) (at : ℕ) → read_form makes K below f at ≡ low (read_form plain K under f at)
-  unfolding made
-  forms_low done at = nil_low at
-  forms_low (tok s may f) at =
-      only_if_low (has_kind may (seen K at))
-      (changed (makes.of_cons (makes.of_leaf s at)) (read_form makes K below f (at + 1)))
-      (changed (cons (leaf s at)) (read_form plain K under f (at + 1)))
-      (behind_low cons makes.of_cons made_cons grows_cons (leaf s at) (leaf_low at s)
-      (read_form makes K below f (at + 1))
-      (read_form plain K under f (at + 1)) (forms_low f (at + 1)))
-  forms_low (punct k f) at =
-      only_if_low (is k (seen K at)) (changed (makes.of_mark at) (read_form makes K below f (at + 1)))
-      (changed (mark at) (read_form plain K under f (at + 1)))
-      (changed_low (makes.of_mark at) (mark at) (λ p. refl) (λ p. refl) (read_form makes K below f (at + 1))
-      (read_form plain K under f (at + 1)) (forms_low f (at + 1)))
-  forms_low (row r f) at =
-      rest_low (read_form makes K below f) (read_form plain K under f) (forms_low f) (below r at) (under r at)
-      (same r at)
-  forms_low (opt c g f) at =
-      rest_low (read_form makes K below f) (read_form plain K under f) (forms_low f)
-      (either (test c K at) (read_form makes K below g at) (gives makes.of_nil at))
-      (either (test c K at) (read_form plain K under g at) (gives nil at))
-      (either_low (test c K at) (read_form makes K below g at) (gives makes.of_nil at)
-      (read_form plain K under g at) (gives nil at) (forms_low g at) (nil_low at))
-  forms_low (many c g f) at =
-      rest_low (read_form makes K below f) (read_form plain K under f) (forms_low f)
-      (read_turns makes K (test c) (read_form makes K below g) (length K) at)
-      (read_turns plain K (test c) (read_form plain K under g) (length K) at)
-      (turns_low K (test c) (read_form makes K below g) (read_form plain K under g) (forms_low g) (length K) at)
-  forms_low (alt t a b f) at =
-      rest_low (read_form makes K below f) (read_form plain K under f) (forms_low f)
-      (either (t (seen K at)) (read_form makes K below a at) (read_form makes K below b at))
-      (either (t (seen K at)) (read_form plain K under a at) (read_form plain K under b at))
-      (either_low (t (seen K at)) (read_form makes K below a at) (read_form makes K below b at)
-      (read_form plain K under a at) (read_form plain K under b at) (forms_low a at) (forms_low b at))
-  forms_low (when_ t f) at =
-      only_if_low (t (seen K at)) (read_form makes K below f at) (read_form plain K under f at) (forms_low f at)
-  forms_low (where_ t f) at =
-      only_if_low (t K at) (read_form makes K below f at) (read_form plain K under f at) (forms_low f at)
-
-  form_low : (f : Rhs TypeRow) (at : ℕ) → form_at K below f at ≡ low (read_form plain K under f at)
-  unfolding form_at
-  form_low f at = forms_low f at
-
-  -- parts, and a node of them
-  make_low : (l : NodeKind) (from : ℕ) (out : Out Read) (o : Out (Plain NodeKind)) → out ≡ low o
-      → and_then out (λ ps to. node_at (label_name l) from to ps)
-      ≡ low (and_then o (λ ps to. gives (node l from to ps) to))
-  make_low l from out nothing e = rw e refl
-  make_low l from out (gives ps to) e =
-      ap (λ o. and_then o (λ ps to. node_at (label_name l) from to ps)) e ∙ go (is_low ps) refl
-    where
-      go : (x : Bool) → is_low ps ≡ x
-          → and_then (only_if (is_low ps) (gives (made named ps) to)) (λ ps to. node_at (label_name l) from to ps)
-          ≡ low (gives (node l from to ps) to)
-      go true h = rw h (node_low l from to ps)
-      go false h = rw h (node_tall l from to ps h)
-
-  -- what a node that is too tall grows to
-  stays_tall : (l : NodeKind) (t : Predicate) (each : ℕ → Out (Plain NodeKind)) (from n : ℕ) (q : Plain NodeKind) (at : ℕ)
-      → is_low q ≡ false
-      → nothing ≡ low (read_wraps plain K l t each from n q at)
-  unfolding read_wraps
-  stays_tall l t each from zero q at high = go (t K at)
-    where
-      go : (x : Bool) → nothing ≡ low (either x nothing (gives q at))
-      go true = refl
-      go false = rw high refl
-  stays_tall l t each from (suc n) q at high = go (λ p to. stays_tall l t each from n p to) (t K at) (each at)
-    where
-      go : ((p : Plain NodeKind) (to : ℕ) → is_low p ≡ false → nothing ≡ low (read_wraps plain K l t each from n p to))
-          → (x : Bool) (o : Out (Plain NodeKind)) → nothing
-          ≡ low (either x (and_then o (λ ps to. read_wraps plain K l t each from n (node l from to (cons q ps)) to))
-          (gives q at))
-      go again true nothing = refl
-      go again true (gives ps to) =
-          again (node l from to (cons q ps)) to
-          (suc_low (max (tall q) (tall ps)) most_nodes (leb_max (tall q) (tall ps) most_nodes ∙ (rw high refl)))
-      go again false o = rw high refl
-
-  wraps_low : (l : NodeKind) (t : Predicate) (parts : ℕ → Out Read) (each : ℕ → Out (Plain NodeKind))
-      → ((at : ℕ) → parts at ≡ low (each at))
-      → (from n : ℕ) (q : Plain NodeKind) (at : ℕ) → is_low q ≡ true
-      → wraps_at K (label_name l) t parts from n (made named q) at ≡ low (read_wraps plain K l t each from n q at)
-  unfolding wraps_at read_wraps
-  wraps_low l t parts each rest from zero q at here =
-      either_low (t K at) nothing (gives (made named q) at) nothing (gives q at) refl (rw here refl)
-  wraps_low l t parts each rest from (suc n) q at here =
-      either_low (t K at)
-      (and_then (parts at)
-      (λ ps to. and_then (node_at (label_name l) from to (makes.of_cons (made named q) ps))
-      (wraps_at K (label_name l) t parts from n)))
-      (gives (made named q) at)
-      (and_then (each at) (λ ps to. read_wraps plain K l t each from n (node l from to (cons q ps)) to)) (gives q at)
-      (go (λ p to. wraps_low l t parts each rest from n p to) (parts at) (each at) (rest at)) (rw here refl)
-    where
-      -- behind a node
-      behind : ((p : Plain NodeKind) (to : ℕ) → is_low p ≡ true
-          → wraps_at K (label_name l) t parts from n (made named p) to ≡ low (read_wraps plain K l t each from n p to))
-          → (ps : Plain NodeKind) (to : ℕ) (x : Bool) → is_low (node l from to (cons q ps)) ≡ x
-          → and_then (low (gives (node l from to (cons q ps)) to)) (wraps_at K (label_name l) t parts from n)
-          ≡ low (read_wraps plain K l t each from n (node l from to (cons q ps)) to)
-      behind again ps to true h = rw h (again (node l from to (cons q ps)) to h)
-      behind again ps to false h = rw h (stays_tall l t each from n (node l from to (cons q ps)) to h)
-
-      one : ((p : Plain NodeKind) (to : ℕ) → is_low p ≡ true
-          → wraps_at K (label_name l) t parts from n (made named p) to ≡ low (read_wraps plain K l t each from n p to))
-          → (ps : Plain NodeKind) (to : ℕ) (x : Bool) → is_low ps ≡ x
-          → and_then (only_if (is_low ps) (gives (made named ps) to))
-          (λ ps to. and_then (node_at (label_name l) from to (makes.of_cons (made named q) ps))
-          (wraps_at K (label_name l) t parts from n))
-          ≡ low (read_wraps plain K l t each from n (node l from to (cons q ps)) to)
-      one again ps to true h =
-          rw h (ap (λ v. and_then (node_at (label_name l) from to v) (wraps_at K (label_name l) t parts from n))
-          (sym (made_cons q ps))
-          ∙ ap (λ o. and_then o (wraps_at K (label_name l) t parts from n)) (node_low l from to (cons q ps))
-          ∙ behind again ps to (is_low (node l from to (cons q ps))) refl)
-      one again ps to false h =
-          rw h (stays_tall l t each from n (node l from to (cons q ps)) to
-          (suc_low (max (tall q) (tall ps)) most_nodes (leb_max (tall q) (tall ps) most_nodes ∙ (rw (here, h) refl))))
-
-      go : ((p : Plain NodeKind) (to : ℕ) → is_low p ≡ true
-          → wraps_at K (label_name l) t parts from n (made named p) to ≡ low (read_wraps plain K l t each from n p to))
-          → (out : Out Read) (o : Out (Plain NodeKind)) → out ≡ low o
-          → and_then out (λ ps to. and_then (node_at (label_name l) from to (makes.of_cons (made named q) ps))
-          (wraps_at K (label_name l) t parts from n))
-          ≡ low (and_then o (λ ps to. read_wraps plain K l t each from n (node l from to (cons q ps)) to))
-      go again out nothing e = rw e refl
-      go again out (gives ps to) e =
-          ap (λ o. and_then o (λ ps to. and_then (node_at (label_name l) from to (makes.of_cons (made named q) ps))
-          (wraps_at K (label_name l) t parts from n))) e
-          ∙ one again ps to (is_low ps) refl
-
-  -- an operand, and turns behind it
-  operand_low : (l : NodeKind) (t : Predicate) (parts : ℕ → Out Read) (each : ℕ → Out (Plain NodeKind))
-      → ((at : ℕ) → parts at ≡ low (each at))
-      → (from n : ℕ) (out : Out Read) (o : Out (Plain NodeKind)) → out ≡ low o
-      → and_then out (λ q mid. wraps_at K (label_name l) t parts from n q mid)
-      ≡ low (and_then o (λ q mid. read_wraps plain K l t each from n q mid))
-  operand_low l t parts each rest from n out nothing e = rw e refl
-  operand_low l t parts each rest from n out (gives q mid) e =
-      ap (λ o. and_then o (λ q mid. wraps_at K (label_name l) t parts from n q mid)) e ∙ go (is_low q) refl
-    where
-      go : (x : Bool) → is_low q ≡ x
-          → and_then (only_if (is_low q) (gives (made named q) mid))
-          (λ q mid. wraps_at K (label_name l) t parts from n q mid)
-          ≡ low (read_wraps plain K l t each from n q mid)
-      go true h = rw h (wraps_low l t parts each rest from n q mid h)
-      go false h = rw h (stays_tall l t each from n q mid h)
-
-  rule_low : (a : Production TypeRow NodeKind) (at : ℕ)
-      → rule_at K below (labelled label_name a) at ≡ low (read_rule plain K under a at)
-  unfolding made
-  rule_low refuse at = refl
-  rule_low (make l f) at = make_low l at (form_at K below f at) (read_form plain K under f at) (form_low f at)
-  rule_low (choose t a b) at =
-      either_low (t (seen K at)) (rule_at K below (labelled label_name a) at)
-      (rule_at K below (labelled label_name b) at)
-      (read_rule plain K under a at) (read_rule plain K under b at) (rule_low a at) (rule_low b at)
-  rule_low (as_ w a) at =
-      changed_low (makes.of_via (label_name w)) (via w) (λ p. refl) (λ p. refl)
-      (rule_at K below (labelled label_name a) at) (read_rule plain K under a at)
-      (rule_low a at)
-  rule_low (pick g a b) at =
-      either_low (g K at) (rule_at K below (labelled label_name a) at) (rule_at K below (labelled label_name b) at)
-      (read_rule plain K under a at) (read_rule plain K under b at) (rule_low a at) (rule_low b at)
-  rule_low (wrap l a c f) at =
-      operand_low l (test c) (form_at K below f) (read_form plain K under f) (form_low f) at (length K)
-      (rule_at K below (labelled label_name a) at) (read_rule plain K under a at) (rule_low a at)
+-- no node leans
+pub none_lean : {Row : Type 0} (a : Production Row NodeKind) → leans_by_turns none_leans a ≡ true
+none_lean refuse = refl
+none_lean (make l f) = refl
+none_lean (choose t a b) =
+    both_true (leans_by_turns none_leans a) (leans_by_turns none_leans b) (none_lean a) (none_lean b)
+none_lean (as_ w a) = none_lean a
+none_lean (pick g a b) =
+    both_true (leans_by_turns none_leans a) (leans_by_turns none_leans b) (none_lean a) (none_lean b)
+none_lean (wrap l a c f) = none_lean a
 
 -- a row
 pub row_low : (K : List Key) (room : ℕ) (r : TypeRow) (at : ℕ)
     → row_at named_rule K room r at ≡ low (read_row plain K type_rule room r at)
-unfolding row_at read_row
-row_low K zero r at = refl
-row_low K (suc room) r at =
-    rule_low K (row_at named_rule K room) (read_row plain K type_rule room) (row_low K room) (type_rule r) at
+row_low K room r at =
+    rows.row_low label_name none_leans types_stand named_rule type_rule (λ r. refl) (λ r. none_lean (type_rule r)) K room
+    r at

@@ -3,7 +3,7 @@ use Rattle.std.specs.Prelude.{◌≤◌, ℕ, Bool, true, ◌||◌, ◌&&◌, �
 use Rattle.es_token.specs.declared.token.TokenKind.TheVariants as k
 use Rattle.es_tree.specs.Key.{Key, TokenTest, seen, is}
 use Rattle.es_tree.specs.Productions.{Production}
-use Rattle.es_tree.specs.Plain.{Plain, tall}
+use Rattle.es_tree.specs.Plain.{Plain, none_leans, tall}
 use Rattle.es_tree.specs.Fits.{free, Under, most_nodes}
 use Rattle.es_type_grammar.specs.declared.rows.TypeRow.{TypeRow as Row}
 use Rattle.es_type_grammar.specs.declared.rows.TypeRow.TheVariants.{TypeRow, ResultRow, TypeParametersRow, ArgumentsRow}
@@ -11,7 +11,7 @@ use Rattle.es_type_grammar.specs.TypeRows.{NodeKind}
 use Rattle.es_type_grammar.specs.TypeTable.{type_rule}
 use Rattle.es_grammar.specs.declared.rows.NodeKind.{NodeKind as Name}
 use Rattle.es_grammar.specs.TypeNames.{label_name}
-use Rattle.es_type_member_rules.specs.Labelled.{labelled}
+use Rattle.es_rules.specs.Labelled.{labelled}
 use Rattle.es_type_ends.specs.declared.types.TypePart.{TypePart}
 use Rattle.es_type_ends.specs.declared.types.TypePart.TheVariants as parts
 
@@ -29,7 +29,7 @@ part_row parts.TArgs = ArgumentsRow
 -- a plain tree of the part, from exactly the tokens from one place up to another, with at most so many nodes on a path
 pub record IsType (which : TypePart) (K : List Key) (room from to : ℕ) (p : Plain NodeKind) : Type 0 where
   pub derived : Under free K type_rule most_nodes (part_row which) p from to
-  pub low : tall p ≤ room
+  pub low : tall none_leans p ≤ room
 
 -- there is one
 pub record Reaches (which : TypePart) (K : List Key) (room from to : ℕ) : Type 0 where

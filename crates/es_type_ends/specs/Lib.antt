@@ -1,2 +1,4 @@
 -- when a type is read from tokens
 pub mod Derived
+-- a reading to which answers further behind are kept
+pub mod Kept

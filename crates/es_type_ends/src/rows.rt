@@ -2,7 +2,7 @@
 
 ghost use Rattle.es_type_grammar.specs.TypeTable.{type_rule};
 ghost use Rattle.es_grammar.specs.TypeNames.{label_name};
-ghost use Rattle.es_type_member_rules.specs.Labelled.{labelled};
+ghost use Rattle.es_rules.specs.Labelled.{labelled};
 ghost use Rattle.es_rules.specs.Bounded.{row_at};
 ghost use Rattle.es_rules.specs.Steps.{keys_in, IsRead, IsRing};
 ghost use Rattle.es_type_ends.specs.Derived.{named_rule};

@@ -6,13 +6,13 @@ use Rattle.es_tree.specs.declared.error.Mode.{Mode}
 use Rattle.es_tree.specs.declared.error.Mode.TheVariants as mode
 use Rattle.es_token.specs.declared.token.Token.{Token}
 use Rattle.es_tree.specs.Key.{Key, keys_of}
-use Rattle.es_tree.specs.Plain.{Plain}
+use Rattle.es_tree.specs.Plain.{Plain, none_leans}
 use Rattle.es_tree.specs.Fits.{free, chosen, Shape, most_nodes}
 use Rattle.es_tree.proofs.Theorems as grammars
 use Rattle.es_type_grammar.specs.declared.rows.Row.TheVariants.{ModuleRow, ScriptRow}
 use Rattle.es_type_grammar.specs.declared.rows.NodeKind as programs
 use Rattle.es_type_grammar.specs.Table.{rule}
-use Rattle.es_type_grammar.specs.Conditions.{IsProgram, program_row}
+use Rattle.es_type_grammar.specs.Conditions.{IsProgram, leans, program_row}
 use Rattle.es_type_grammar.specs.declared.rows.TypeRow.TheVariants.{TypeRow}
 use Rattle.es_type_grammar.specs.TypeRows.{NodeKind}
 use Rattle.es_type_grammar.specs.TypeTable.{type_rule}
@@ -26,31 +26,31 @@ use Rattle.es_type_grammar.proofs.TypeClaims.{sets, types}
 
 -- keys have at most one tree as a module
 pub one_module : (l : Lang) (K : List Key) (p q : Plain programs.NodeKind)
-    → Shape free rule (ModuleRow l) K p → Shape free rule (ModuleRow l) K q → p ≡ q
-one_module l = grammars.one_shape rule claims.sets (ModuleRow l) (modules l)
+    → Shape leans free rule (ModuleRow l) K p → Shape leans free rule (ModuleRow l) K q → p ≡ q
+one_module l = grammars.one_shape leans rule claims.sets (ModuleRow l) (modules l)
 
 -- no test of the table bars a reading of a module: the trees that obey the tests are those of the grammar
 pub free_module_is_chosen : (l : Lang) (K : List Key) (p : Plain programs.NodeKind)
-    → Shape free rule (ModuleRow l) K p → Shape chosen rule (ModuleRow l) K p
-free_module_is_chosen l = grammars.free_is_chosen rule claims.sets (ModuleRow l) (modules l)
+    → Shape leans free rule (ModuleRow l) K p → Shape leans chosen rule (ModuleRow l) K p
+free_module_is_chosen l = grammars.free_is_chosen leans rule claims.sets (ModuleRow l) (modules l)
 
 pub chosen_module_is_free : (l : Lang) (K : List Key) (p : Plain programs.NodeKind)
-    → Shape chosen rule (ModuleRow l) K p → Shape free rule (ModuleRow l) K p
-chosen_module_is_free l = grammars.chosen_is_free rule claims.sets (ModuleRow l) (modules l)
+    → Shape leans chosen rule (ModuleRow l) K p → Shape leans free rule (ModuleRow l) K p
+chosen_module_is_free l = grammars.chosen_is_free leans rule claims.sets (ModuleRow l) (modules l)
 
 -- ---- scripts
 
 pub one_script : (K : List Key) (p q : Plain programs.NodeKind)
-    → Shape free rule ScriptRow K p → Shape free rule ScriptRow K q → p ≡ q
-one_script = grammars.one_shape rule claims.sets ScriptRow scripts
+    → Shape leans free rule ScriptRow K p → Shape leans free rule ScriptRow K q → p ≡ q
+one_script = grammars.one_shape leans rule claims.sets ScriptRow scripts
 
-pub free_script_is_chosen : (K : List Key) (p : Plain programs.NodeKind) → Shape free rule ScriptRow K p
-    → Shape chosen rule ScriptRow K p
-free_script_is_chosen = grammars.free_is_chosen rule claims.sets ScriptRow scripts
+pub free_script_is_chosen : (K : List Key) (p : Plain programs.NodeKind) → Shape leans free rule ScriptRow K p
+    → Shape leans chosen rule ScriptRow K p
+free_script_is_chosen = grammars.free_is_chosen leans rule claims.sets ScriptRow scripts
 
-pub chosen_script_is_free : (K : List Key) (p : Plain programs.NodeKind) → Shape chosen rule ScriptRow K p
-    → Shape free rule ScriptRow K p
-chosen_script_is_free = grammars.chosen_is_free rule claims.sets ScriptRow scripts
+pub chosen_script_is_free : (K : List Key) (p : Plain programs.NodeKind) → Shape leans chosen rule ScriptRow K p
+    → Shape leans free rule ScriptRow K p
+chosen_script_is_free = grammars.chosen_is_free leans rule claims.sets ScriptRow scripts
 
 -- ---- programs
 
@@ -76,20 +76,20 @@ program_by_keys l m xs ys p same program = let P : List Key → Type 0 = λ K. I
 
 -- keys have at most one tree as a type
 pub one_type : (c : Bool) (K : List Key) (p q : Plain NodeKind)
-    → Shape free type_rule (TypeRow c) K p → Shape free type_rule (TypeRow c) K q → p ≡ q
-one_type c = grammars.one_shape type_rule sets (TypeRow c) (types c)
+    → Shape none_leans free type_rule (TypeRow c) K p → Shape none_leans free type_rule (TypeRow c) K q → p ≡ q
+one_type c = grammars.one_shape none_leans type_rule sets (TypeRow c) (types c)
 
 -- no test of the table bars a reading of a type
 pub free_type_is_chosen : (c : Bool) (K : List Key) (p : Plain NodeKind)
-    → Shape free type_rule (TypeRow c) K p → Shape chosen type_rule (TypeRow c) K p
-free_type_is_chosen c = grammars.free_is_chosen type_rule sets (TypeRow c) (types c)
+    → Shape none_leans free type_rule (TypeRow c) K p → Shape none_leans chosen type_rule (TypeRow c) K p
+free_type_is_chosen c = grammars.free_is_chosen none_leans type_rule sets (TypeRow c) (types c)
 
 pub chosen_type_is_free : (c : Bool) (K : List Key) (p : Plain NodeKind)
-    → Shape chosen type_rule (TypeRow c) K p → Shape free type_rule (TypeRow c) K p
-chosen_type_is_free c = grammars.chosen_is_free type_rule sets (TypeRow c) (types c)
+    → Shape none_leans chosen type_rule (TypeRow c) K p → Shape none_leans free type_rule (TypeRow c) K p
+chosen_type_is_free c = grammars.chosen_is_free none_leans type_rule sets (TypeRow c) (types c)
 
 -- the parts of a type stand in order, each within the range of the node that holds it
-pub type_ordered : (c : Bool) (K : List Key) (p : Plain NodeKind) → Shape free type_rule (TypeRow c) K p
+pub type_ordered : (c : Bool) (K : List Key) (p : Plain NodeKind) → Shape none_leans free type_rule (TypeRow c) K p
     → StandsBetween 0 (length K) p
 unfolding Shape
 type_ordered c K p shaped = row_stands free K type_rule most_nodes (TypeRow c) p 0 (length K) shaped.0

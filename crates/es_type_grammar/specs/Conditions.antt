@@ -10,7 +10,7 @@ use Rattle.es_tree.specs.Fits.{free, Shape}
 use Rattle.es_type_grammar.specs.declared.rows.Row.{Row}
 use Rattle.es_type_grammar.specs.declared.rows.Row.TheVariants.{ModuleRow, ScriptRow}
 use Rattle.es_type_grammar.specs.declared.rows.NodeKind.{NodeKind}
-use Rattle.es_type_grammar.specs.declared.rows.NodeKind.TheVariants.{Name, Parenthesized, Chain, MemberPost, IndexPost, Assignment, UpdatePostfix, UpdatePrefix}
+use Rattle.es_type_grammar.specs.declared.rows.NodeKind.TheVariants.{Binary, Name, Parenthesized, Chain, MemberPost, IndexPost, Assignment, UpdatePostfix, UpdatePrefix}
 use Rattle.es_type_grammar.specs.Table.{rule}
 
 -- `.a` or `[a]`
@@ -47,6 +47,11 @@ is_sound (turn p ps) = is_sound p && is_sound ps
 is_sound (mark n ps) = is_sound ps
 is_sound _ = true
 
+-- the alternative of operators behind whose first operand turns stand
+abbrev pub leans : NodeKind → Bool
+leans Binary = true
+leans _ = false
+
 -- the row of a program
 abbrev pub program_row : Lang → Mode → Row
 program_row l mode.Module = ModuleRow l
@@ -54,5 +59,5 @@ program_row l mode.Script = ScriptRow
 
 -- a plain tree of a program, by its keys
 pub record IsProgram (l : Lang) (m : Mode) (K : List Key) (p : Plain NodeKind) : Type 0 where
-  pub shaped : Shape free rule (program_row l m) K p
+  pub shaped : Shape leans free rule (program_row l m) K p
   pub sound : is_sound p ≡ true

@@ -2,7 +2,7 @@
 
 ghost use Rattle.es_type_grammar.specs.Members.{result_in, separator, call_signature, construct_signature, index_signature, accessor_signature, method_signature, property_signature, readonly_property, member, computed_key, key};
 ghost use Rattle.es_grammar.specs.TypeNames.{label_name};
-ghost use Rattle.es_type_member_rules.specs.Labelled.{labelled};
+ghost use Rattle.es_rules.specs.Labelled.{labelled};
 
 use crate::parameters::{MarkIn, ParametersIn, TypeIn};
 use es_grammar::{NodeKind, TypeRow};

@@ -3,7 +3,7 @@
 ghost use Rattle.es_type_predicates.specs.Named.{kinds_of};
 ghost use Rattle.es_type_grammar.specs.TypeNames.{further_names, entity, reference, import_type, further_arguments, arguments, type_parameter, listed_parameters, type_parameters, opened_parameters, opened_function};
 ghost use Rattle.es_grammar.specs.TypeNames.{label_name};
-ghost use Rattle.es_type_member_rules.specs.Labelled.{labelled};
+ghost use Rattle.es_rules.specs.Labelled.{labelled};
 
 use es_grammar::{NodeKind, TypeRow};
 use es_rules::{

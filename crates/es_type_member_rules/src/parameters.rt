@@ -2,7 +2,7 @@
 
 ghost use Rattle.es_type_grammar.specs.Parameters.{parameters_in, mark_in, type_in, list_before, parameters, parameter};
 ghost use Rattle.es_grammar.specs.TypeNames.{label_name};
-ghost use Rattle.es_type_member_rules.specs.Labelled.{labelled};
+ghost use Rattle.es_rules.specs.Labelled.{labelled};
 
 use crate::patterns::Pattern;
 use es_grammar::{NodeKind, TypeRow};

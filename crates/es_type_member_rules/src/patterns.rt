@@ -2,7 +2,7 @@
 
 ghost use Rattle.es_type_grammar.specs.Parameters.{array_pattern, object_pattern, pattern, pattern_element, pattern_key, pattern_property};
 ghost use Rattle.es_grammar.specs.TypeNames.{label_name};
-ghost use Rattle.es_type_member_rules.specs.Labelled.{labelled};
+ghost use Rattle.es_rules.specs.Labelled.{labelled};
 
 use crate::parameters::ListBefore;
 use es_grammar::{NodeKind, TypeRow};

@@ -2,7 +2,7 @@
 
 ghost use Rattle.es_type_grammar.specs.Types.{brackets_in, array_types, operand_type, operands_in, intersection_type, union_type, conditional_type, function_type, constructor_type, any_type};
 ghost use Rattle.es_grammar.specs.TypeNames.{label_name};
-ghost use Rattle.es_type_member_rules.specs.Labelled.{labelled};
+ghost use Rattle.es_rules.specs.Labelled.{labelled};
 
 use crate::primary::PrimaryType;
 use es_grammar::{NodeKind, TypeRow};

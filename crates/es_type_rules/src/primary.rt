@@ -2,7 +2,7 @@
 
 ghost use Rattle.es_type_grammar.specs.Types.{parenthesized_type, members_type, sign_in, mapped_type, tuple_type, type_query, template_types, number_type, primary_type};
 ghost use Rattle.es_grammar.specs.TypeNames.{label_name};
-ghost use Rattle.es_type_member_rules.specs.Labelled.{labelled};
+ghost use Rattle.es_rules.specs.Labelled.{labelled};
 
 use es_grammar::{NodeKind, TypeRow};
 use es_rules::{

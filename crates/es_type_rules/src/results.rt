@@ -2,7 +2,7 @@
 
 ghost use Rattle.es_type_grammar.specs.Types.{label_in, element, result};
 ghost use Rattle.es_grammar.specs.TypeNames.{label_name};
-ghost use Rattle.es_type_member_rules.specs.Labelled.{labelled};
+ghost use Rattle.es_rules.specs.Labelled.{labelled};
 
 use crate::operators::AnyType;
 use es_grammar::{NodeKind, TypeRow};

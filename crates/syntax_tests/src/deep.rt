@@ -22,7 +22,7 @@ const TOO_MANY: usize = 100_000;
 /// level writes behind the next one.
 type Form = (&'static str, &'static str, &'static str, &'static str);
 
-const PLAIN: [Form; 16] = [
+const PLAIN: [Form; 18] = [
     ("", "[", "a", "]"),
     ("", "(", "a", ")"),
     ("", "{", "", "}"),
@@ -39,9 +39,16 @@ const PLAIN: [Form; 16] = [
     ("", "if (a) ", "b", ""),
     ("", "for (;;) { switch (a) { case 1: ", "b", " } }"),
     ("", "await import(", "a", ")"),
+    ("", "(", "a", " + b)"),
+    (
+        "",
+        "(",
+        "a",
+        " ** b * c + d << e < f == g & h ^ i | j && k || l)",
+    ),
 ];
 
-const TYPED: [Form; 12] = [
+const TYPED: [Form; 13] = [
     ("let a: ", "(", "b", ")"),
     ("let a: ", "A<", "b", ">"),
     ("let a: ", "{ a: ", "b", " }"),
@@ -54,6 +61,7 @@ const TYPED: [Form; 12] = [
     ("", "class A { a() { ", "", " } }"),
     ("", "<T,>(a: T): b => ", "c", ""),
     ("let ", "{ a: [", "b", "] }"),
+    ("", "(", "a", " * b as c >> d == e || f)"),
 ];
 
 /// The steps in which the deepest tree is sought.
@@ -130,31 +138,45 @@ fn deepest_typed_trees_go_on_the_stack(rt: HostRuntime) -> Result<(), Fail> {
 /// How many parts a chain of the tests has: it is one node of the row, however long.
 const PARTS: usize = 1_000;
 
-/// How many parts the longest chain has.
+/// How many parts the longest chains have.
 const MANY: usize = 1_000_000;
 
-/// Whether a chain of so many of these parts has a tree.
-fn has_chain(alloc: Global, part: &str, count: usize) -> Option<bool> {
+/// A part of a chain, how many of it stand behind `a`, and the language.
+type Chain = (&'static str, usize, Lang);
+
+const CHAINS: [Chain; 14] = [
+    (".b", PARTS, Lang::Es),
+    ("[0]", PARTS, Lang::Es),
+    ("()", PARTS, Lang::Es),
+    ("?.b", PARTS, Lang::Es),
+    ("`c`", PARTS, Lang::Es),
+    (".b", MANY, Lang::Es),
+    (" + b", MANY, Lang::Es),
+    (" || b", MANY, Lang::Es),
+    (" < b", MANY, Lang::Es),
+    (" ?? b", MANY, Lang::Es),
+    (" * b + c", PARTS, Lang::Es),
+    (" == b", PARTS, Lang::Typescript),
+    (" as b", MANY, Lang::Typescript),
+    (" as b + c", PARTS, Lang::Typescript),
+];
+
+/// Whether such a chain has a tree.
+fn has_chain(alloc: Global, chain: Chain) -> Option<bool> {
+    let (part, count, lang) = chain;
     let parts = part.repeat(alloc, count).ok()?;
     let text = format!(in alloc; "a{}", parts.as_str()).ok()?;
-    has_tree(alloc, Lang::Es, text.as_str())
+    has_tree(alloc, lang, text.as_str())
 }
 
 #[test]
 fn long_chains_go_on_the_stack(rt: HostRuntime) -> Result<(), Fail> {
     let alloc = rt.alloc();
-    for (part, count) in [
-        (".b", PARTS),
-        ("[0]", PARTS),
-        ("()", PARTS),
-        ("?.b", PARTS),
-        ("`c`", PARTS),
-        (".b", MANY),
-    ] {
+    for chain in CHAINS {
         let thread = Builder::new()
             .stack_size(STACK)
-            .spawn(&rt, move || has_chain(alloc, part, count))?;
-        assert_eq!(rt; thread.join(&rt), Some(true), "{part:?} {count}");
+            .spawn(&rt, move || has_chain(alloc, chain))?;
+        assert_eq!(rt; thread.join(&rt), Some(true), "{chain:?}");
     }
     Ok(())
 }

@@ -31,7 +31,7 @@ returns-in_err-height g c =
     c.in_err-height.field-0.0 c.in_ok-opened.ensures.written
     (subst (λ (b : Bool). Adds b out c.open.new.row c.read.new.cursor (Ok c.in_ok-parts.parts)) c.requires.keeps
     c.in_ok-parts.ensures)
-    (rw (← c.highest.ensures) c.in_err-height.ensures.many))
+    c.in_err-height.ensures.many)
 
 pub returns : goal.returns
 returns g c =
@@ -43,5 +43,4 @@ returns g c =
     c.in_ok-opened.ensures.written
     (subst (λ (b : Bool). Adds b out c.open.new.row c.read.new.cursor (Ok c.in_ok-parts.parts)) c.requires.keeps
     c.in_ok-parts.ensures)
-    (rw (← c.highest.ensures) c.in_ok-height.ensures.counted.0)
-    (rw (← c.highest.ensures) c.in_ok-height.ensures.counted.1) refl c.in_ok-close.ensures.written
+    c.in_ok-height.ensures.counted.0 c.in_ok-height.ensures.counted.1 refl c.in_ok-close.ensures.written

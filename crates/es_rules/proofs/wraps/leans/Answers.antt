@@ -7,7 +7,7 @@ use Rattle.es_syntax.specs.Held.{label_of}
 use Rattle.es_rules.specs.Bounded.{form_at, wraps_at}
 use Rattle.es_rules.specs.Steps.{keys_in, single}
 use Rattle.es_rules.proofs.FormLemmas.{read_refused}
-use Rattle.es_rules.proofs.WrapLemmas.{chain_start, chain_more, chain_stuck, chain_full, chain_lost, chain_end}
+use Rattle.es_rules.proofs.ChainLemmas.{chain_start, chain_more, chain_stuck, chain_full, chain_lost, chain_end}
 use Rattle.es_rules.proofs.wraps.leans.Goals as goal
 
 -- no turn is read yet
@@ -29,8 +29,8 @@ turns-init g c =
     (length (keys_in c.args.grammar.now.input))
     (length c.args.grammar.now.input.tokens.tokens.now)
     c.args.first c.args.from.entry
-    c.args.cursor.now.row c.open_before.new.row refl (sym (length-keys_of c.args.grammar.now.input.tokens.tokens.now))
-    place written c.in_ok-open_before.ensures.written
+    c.args.cursor.now.row c.open_chain.new.row refl (sym (length-keys_of c.args.grammar.now.input.tokens.tokens.now))
+    place written c.in_ok-open_chain.ensures.opened
 
 -- no operand has more turns behind it than there are tokens
 pub returns-then-left-eq0 : goal.returns-then-left-eq0

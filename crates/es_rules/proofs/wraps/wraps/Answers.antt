@@ -18,7 +18,7 @@ returns-in-Some g c =
     (form_at (keys_in c.args.grammar.now.input) (g.T.Rows.below c.args.grammar.now.rows c.args.grammar.now.input)
     (g.P.ReadsRhs.form c.args.turn.now)) c.args.from.token (length (keys_in c.args.grammar.now.input))
     (single t c.args.first) c.args.cursor.now.at) base
-    c.leans.new.cursor c.leans.result) c.in-Some.ensures
+    c.leans.new.cursor c.leans.result) c.in-Some.ensures.some
     (subst (λ (b : Bool). IsRead b
     (wraps_at (keys_in c.args.grammar.now.input) (label_of c.in-Some.lean) (test (g.C.Tells.told c.args.told.now))
     (form_at (keys_in c.args.grammar.now.input) (g.T.Rows.below c.args.grammar.now.rows c.args.grammar.now.input)

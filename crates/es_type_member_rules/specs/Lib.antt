@@ -1,2 +1,0 @@
--- rules by the names of another table
-pub mod Labelled
