@@ -3,9 +3,6 @@ mod Setting
 mod Entries
 mod Texts
 mod Files
-mod Edits
-mod Stays
-mod References
 mod Sources
 mod News
 mod Reached

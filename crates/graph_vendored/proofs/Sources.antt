@@ -42,6 +42,9 @@ use Rattle.media_type.specs.MediaType.{is_typed}
 use Rattle.source_reading.specs.Tree.{language_of, modes_of, IsFirstTree}
 use Rattle.source_reading.specs.Read.{IsRead, references_in, HasSites}
 use Rattle.specifier_edits.specs.Sites.{is_reference}
+use Rattle.specifier_edits.proofs.EditLemmas.{EditsOn, on_chosen}
+use Rattle.specifier_edits.proofs.StayLemmas.{references_stay}
+use Rattle.specifier_edits.proofs.ReferenceLemmas.{AreReferences, references_are}
 use Rattle.graph_entry.specs.declared.entry.Dependency.{Dependency}
 use Rattle.graph_entry.specs.declared.entry.JsModule.{JsModule}
 use Rattle.graph_entry.specs.Resolution.{Resolved}
@@ -51,9 +54,6 @@ use Rattle.graph_vendor.specs.Plan.{literal_to, range_or, edit_of}
 use Rattle.graph_vendored.specs.Vendored.{new_literals}
 use Rattle.graph_vendored.proofs.Lists.{both, either}
 use Rattle.graph_vendored.proofs.Entries.{first_free}
-use Rattle.graph_vendored.proofs.Edits.{EditsOn, on_chosen}
-use Rattle.graph_vendored.proofs.Stays.{references_stay}
-use Rattle.graph_vendored.proofs.References.{AreReferences, references_are}
 
 -- ---- the new literals are texts
 

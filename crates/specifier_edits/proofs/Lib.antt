@@ -2,7 +2,7 @@ mod FaultLemmas
 mod NumberLemmas
 mod FirstLemmas
 mod ListLemmas
-mod ReferenceLemmas
-mod EditLemmas
-mod StayLemmas
+pub mod ReferenceLemmas
+pub mod EditLemmas
+pub mod StayLemmas
 pub mod Theorems
