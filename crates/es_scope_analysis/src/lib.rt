@@ -5,3 +5,4 @@ mod kinds;
 mod steps;
 
 pub use kinds::{BindingKind, ScopeKind};
+pub use steps::{Event, Step, Turn, Visit, Way};

@@ -1,6 +1,6 @@
 -- Where names and scopes stand among the parts of the nodes of each alternative, in the order of the text: a line for
--- each alternative that has any (ECMA-262, "Static Semantics: Scope Analysis"; of TypeScript, its handbook). A function's
--- scope begins behind its name or key; that of a name of its own is around it.
+-- each alternative that has any (ECMA-262, "Static Semantics: Scope Analysis"; of TypeScript, its handbook). The scope
+-- of a function begins behind its name or key; that of a name of its own is around it.
 use Rattle.std.specs.Prelude.{true, false, List, [], ◌∷◌}
 use Rattle.es_grammar.specs.declared.rows.NodeKind.{NodeKind}
 use Rattle.es_grammar.specs.declared.rows.NodeKind.TheVariants as l

@@ -8,4 +8,5 @@ mod steps;
 mod walk;
 
 pub use program::program_marks;
+pub use rows::split_trees;
 pub use steps::{Mark, Place, Step, Turn, Way, When};

@@ -10,7 +10,7 @@ use es_syntax::{Item, Siblings, What};
 
 /// The first part in a row, and those behind it.
 #[tactic(auto, using(crate::proofs::RowLemmas::trees_none, crate::proofs::RowLemmas::trees_some))]
-fn split_trees<'t>(row: &Siblings<'t>) -> Option<(Item<'t>, Siblings<'t>)>
+pub fn split_trees<'t>(row: &Siblings<'t>) -> Option<(Item<'t>, Siblings<'t>)>
     ensures trees { trees row.now.entries.now ≡ first_trees result }
     ensures below { IfSome result (λ p. length p.0.parts.entries.now + length p.1.entries.now < length row.now.entries.now) }
 {
