@@ -21,7 +21,7 @@ fn is_zero(text: &str, tokens: &[Token], at: u32) -> bool
 {
     match token_at(tokens, at) {
         Some(token) => {
-            if token.kind == TokenKind::Number {
+            if token.kind() == TokenKind::Number {
                 return spells(text, tokens, at, "0");
             }
             false

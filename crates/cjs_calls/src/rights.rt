@@ -97,7 +97,7 @@ fn right_side<'a>(text: &str, tokens: &[Token], it: &Item<'a>) -> Option<Item<'a
         Some(Operator::Assignment { left, right }) => match left.place() {
             Some((_, behind)) => match token_at(tokens, behind) {
                 Some(token) => {
-                    if token.kind == TokenKind::Equal {
+                    if token.kind() == TokenKind::Equal {
                         return Some(right);
                     }
                     None
