@@ -97,13 +97,13 @@ fn accessor_exports(text: &str, tokens: &[Token], sign: u32, body: &Item<'_>) ->
     }
 }
 
-/// What a property is; none where a part of it is unknown.
-#[tactic(auto, using(crate::proofs::Forms::is_method, crate::proofs::Forms::is_typed_method, crate::proofs::Forms::is_accessor, crate::proofs::Forms::is_typed_accessor, crate::proofs::Forms::is_key_value, crate::proofs::Forms::is_shorthand, crate::proofs::Forms::is_spread))]
-pub fn property_at<'a>(text: &str, tokens: &[Token], it: &Item<'a>) -> Option<Property<'a>>
-    ensures { IfSome result (λ told. IsProperty text.now tokens.now told (prop_in (valued text.now tokens.now it.now))) }
+/// What a method is; none where its key is unknown, or where it is none.
+#[tactic(auto, using(crate::proofs::Forms::is_method, crate::proofs::Forms::is_typed_method))]
+fn method<'a>(text: &str, tokens: &[Token], it: &Prop<'a>) -> Option<Property<'a>>
+    ensures { (r : Range) → IfSome result (λ told. IsProperty text.now tokens.now told (the_prop text.now tokens.now r it.now)) }
 {
-    match prop_at(it) {
-        Some(Prop::Method { key, body, .. }) => {
+    match *it {
+        Prop::Method { key, body, .. } => {
             let name = key_look(&key)?;
             Some(Property {
                 name,
@@ -112,7 +112,7 @@ pub fn property_at<'a>(text: &str, tokens: &[Token], it: &Item<'a>) -> Option<Pr
                 spread: None,
             })
         }
-        Some(Prop::TypedMethod { key, body, .. }) => {
+        Prop::TypedMethod { key, body, .. } => {
             let name = key_look(&key)?;
             Some(Property {
                 name,
@@ -121,14 +121,22 @@ pub fn property_at<'a>(text: &str, tokens: &[Token], it: &Item<'a>) -> Option<Pr
                 spread: None,
             })
         }
-        Some(
-            Prop::Accessor {
-                sign,
-                key,
-                body,
-                ..
-            },
-        ) => {
+        _ => None,
+    }
+}
+
+/// What an accessor is; none where a part of it is unknown, or where it is none.
+#[tactic(auto, using(crate::proofs::Forms::is_accessor, crate::proofs::Forms::is_typed_accessor))]
+fn accessor<'a>(text: &str, tokens: &[Token], it: &Prop<'a>) -> Option<Property<'a>>
+    ensures { (r : Range) → IfSome result (λ told. IsProperty text.now tokens.now told (the_prop text.now tokens.now r it.now)) }
+{
+    match *it {
+        Prop::Accessor {
+            sign,
+            key,
+            body,
+            ..
+        } => {
             let name = key_look(&key)?;
             let is_export = accessor_exports(text, tokens, sign, &body)?;
             Some(Property {
@@ -138,14 +146,12 @@ pub fn property_at<'a>(text: &str, tokens: &[Token], it: &Item<'a>) -> Option<Pr
                 spread: None,
             })
         }
-        Some(
-            Prop::TypedAccessor {
-                sign,
-                key,
-                body,
-                ..
-            },
-        ) => {
+        Prop::TypedAccessor {
+            sign,
+            key,
+            body,
+            ..
+        } => {
             let name = key_look(&key)?;
             let is_export = accessor_exports(text, tokens, sign, &body)?;
             Some(Property {
@@ -155,7 +161,17 @@ pub fn property_at<'a>(text: &str, tokens: &[Token], it: &Item<'a>) -> Option<Pr
                 spread: None,
             })
         }
-        Some(Prop::KeyValue { key, value }) => {
+        _ => None,
+    }
+}
+
+/// What a property is that is no method and no accessor; none where a part of it is unknown.
+#[tactic(auto, using(crate::proofs::Forms::is_key_value, crate::proofs::Forms::is_shorthand, crate::proofs::Forms::is_spread))]
+fn valued_property<'a>(text: &str, tokens: &[Token], it: &Prop<'a>) -> Option<Property<'a>>
+    ensures { (r : Range) → IfSome result (λ told. IsProperty text.now tokens.now told (the_prop text.now tokens.now r it.now)) }
+{
+    match *it {
+        Prop::KeyValue { key, value } => {
             let name = key_look(&key)?;
             let function = value_function(text, tokens, &value)?;
             Some(Property {
@@ -165,19 +181,34 @@ pub fn property_at<'a>(text: &str, tokens: &[Token], it: &Item<'a>) -> Option<Pr
                 spread: None,
             })
         }
-        Some(Prop::Shorthand(name)) => Some(Property {
+        Prop::Shorthand(name) => Some(Property {
             name: Look::Named(name),
             is_export: true,
             function: None,
             spread: None,
         }),
-        Some(Prop::Spread(expr)) => Some(Property {
+        Prop::Spread(expr) => Some(Property {
             name: Look::Other,
             is_export: false,
             function: None,
             spread: Some(expr),
         }),
-        Some(Prop::Broken) => None,
+        _ => None,
+    }
+}
+
+/// What a property is; none where a part of it is unknown.
+pub fn property_at<'a>(text: &str, tokens: &[Token], it: &Item<'a>) -> Option<Property<'a>>
+    ensures { IfSome result (λ told. IsProperty text.now tokens.now told (prop_in (valued text.now tokens.now it.now))) }
+{
+    match prop_at(it) {
+        Some(view) => match view {
+            Prop::Method { .. } => method(text, tokens, &view),
+            Prop::TypedMethod { .. } => method(text, tokens, &view),
+            Prop::Accessor { .. } => accessor(text, tokens, &view),
+            Prop::TypedAccessor { .. } => accessor(text, tokens, &view),
+            _ => valued_property(text, tokens, &view),
+        },
         None => None,
     }
 }

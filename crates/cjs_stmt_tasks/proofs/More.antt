@@ -1,5 +1,5 @@
 -- What is queued, part by part: of one part, and of four.
-use Rattle.std.specs.Prelude.{ℕ, List, ◌++◌, Option, Some, None, Result, Ok, Err, OnOk}
+use Rattle.std.specs.Prelude.{ℕ, List, ◌++◌, Option, Some, None}
 use Rattle.std.proofs.Common.{◌≡◌, refl, sym, ap, ◌∙◌}
 use Rattle.es_token.specs.declared.token.Token.{Token}
 use Rattle.es_lowering.specs.Value.{given}
@@ -9,11 +9,6 @@ use Rattle.cjs_tasks.specs.declared.tasks.Task.{Task}
 use Rattle.cjs_tasks.specs.Effects.{of, Queues}
 use Rattle.cjs_tasks.proofs.Effects.{after_both}
 use Rattle.cjs_tasks.proofs.Lines.{one, three, queues_same, queues_both}
-
--- what a call promises where it succeeds, carried on
-pub on_ok : {A E : Type 0} {P Q : Type 0} (r : Result A E) → (P → Q) → OnOk r P → OnOk r Q
-on_ok (Ok a) f p = f p
-on_ok (Err e) f p = tt
 
 module _ (x : List ℕ) (ts : List Token) where
   abbrev Q : {E : Type 0} → (E → Facts) → Option E → List Task → List Task → Type 0

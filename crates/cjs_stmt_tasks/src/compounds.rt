@@ -107,8 +107,41 @@ fn for_parts<'a>(
     queue(next, Task::Stmt(*body))
 }
 
+/// What a loop leaves, but for those of `for`, or a `switch` or a `try`.
+#[tactic(auto, using(crate::proofs::CompoundForms::while_stmt, crate::proofs::CompoundForms::do_stmt, crate::proofs::CompoundForms::switch_stmt, crate::proofs::TryForms::try_stmt, crate::proofs::TryForms::typed_try_stmt))]
+fn compound_but_for<'a>(next: &mut Items<Task<'a>>, it: &Compound<'a>) -> Result<(), AllocError>
+    ensures { OnOk result ((x : List ℕ) (ts : List Tok) (r : Range) → Queues x ts (of facts_of_stmt (the_compound x ts r it.now)) next.old next.new) }
+{
+    match *it {
+        Compound::While { test, body } => {
+            queue(next, Task::Expr(test))?;
+            queue(next, Task::Stmt(body))
+        }
+        Compound::Do { body, test } => {
+            queue(next, Task::Stmt(body))?;
+            queue(next, Task::Expr(test))
+        }
+        Compound::Switch {
+            discriminant,
+            cases,
+        } => {
+            queue(next, Task::Expr(discriminant))?;
+            queue(next, Task::Each(Each::Cases, cases))
+        }
+        Compound::Try { block, handlers } => {
+            queue(next, Task::Stmt(block))?;
+            handled(next, &handlers)
+        }
+        Compound::TypedTry { block, handlers } => {
+            queue(next, Task::Stmt(block))?;
+            typed_handled(next, &handlers)
+        }
+        _ => Err(AllocError),
+    }
+}
+
 /// What a loop, a `switch` or a `try` leaves.
-#[tactic(auto, using(crate::proofs::CompoundForms::each_stmt, crate::proofs::CompoundForms::await_stmt, crate::proofs::CompoundForms::while_stmt, crate::proofs::CompoundForms::do_stmt, crate::proofs::CompoundForms::switch_stmt, crate::proofs::TryForms::try_stmt, crate::proofs::TryForms::typed_try_stmt))]
+#[tactic(auto, using(crate::proofs::CompoundForms::each_stmt, crate::proofs::CompoundForms::await_stmt))]
 pub fn compound<'a>(next: &mut Items<Task<'a>>, it: &Compound<'a>) -> Result<(), AllocError>
     ensures { OnOk result ((x : List ℕ) (ts : List Tok) (r : Range) → Queues x ts (of facts_of_stmt (the_compound x ts r it.now)) next.old next.new) }
 {
@@ -140,30 +173,7 @@ pub fn compound<'a>(next: &mut Items<Task<'a>>, it: &Compound<'a>) -> Result<(),
             queue(next, Task::Expr(right))?;
             queue(next, Task::Stmt(body))
         }
-        Compound::While { test, body } => {
-            queue(next, Task::Expr(test))?;
-            queue(next, Task::Stmt(body))
-        }
-        Compound::Do { body, test } => {
-            queue(next, Task::Stmt(body))?;
-            queue(next, Task::Expr(test))
-        }
-        Compound::Switch {
-            discriminant,
-            cases,
-        } => {
-            queue(next, Task::Expr(discriminant))?;
-            queue(next, Task::Each(Each::Cases, cases))
-        }
-        Compound::Try { block, handlers } => {
-            queue(next, Task::Stmt(block))?;
-            handled(next, &handlers)
-        }
-        Compound::TypedTry { block, handlers } => {
-            queue(next, Task::Stmt(block))?;
-            typed_handled(next, &handlers)
-        }
-        Compound::Broken => Err(AllocError),
+        _ => compound_but_for(next, it),
     }
 }
 

@@ -2,7 +2,7 @@ use Rattle.std.proofs.Common.{◌≡◌, ap, ◌∙◌}
 use Rattle.es_lowering.specs.Value.{Value, as_group, group}
 use Rattle.es_syntax.specs.Held.{held, valued}
 use Rattle.cjs_stmt_tasks.proofs.CompoundForms.{clause}
-use Rattle.cjs_stmt_tasks.proofs.More.{on_ok}
+use Rattle.cjs_tasks.proofs.Answered.{on_ok}
 use Rattle.cjs_stmt_tasks.proofs.compounds.case_turn.Goals as goal
 
 pub returns : goal.returns

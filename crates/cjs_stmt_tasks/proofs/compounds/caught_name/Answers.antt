@@ -1,6 +1,6 @@
 use Rattle.es_syntax.specs.Held.{held, valued}
 use Rattle.cjs_stmt_tasks.proofs.TryForms.{name_caught}
-use Rattle.cjs_stmt_tasks.proofs.More.{on_ok}
+use Rattle.cjs_tasks.proofs.Answered.{on_ok}
 use Rattle.cjs_stmt_tasks.proofs.compounds.caught_name.Goals as goal
 
 pub returns-in-Some : goal.returns-in-Some

@@ -1,7 +1,7 @@
 use Rattle.es_syntax.specs.Held.{held, valued}
 use Rattle.es_syntax.specs.Roles.{stmt_in}
 use Rattle.cjs_stmt_tasks.proofs.CompoundForms.{for_stmt}
-use Rattle.cjs_stmt_tasks.proofs.More.{on_ok}
+use Rattle.cjs_tasks.proofs.Answered.{on_ok}
 use Rattle.cjs_stmt_tasks.proofs.compounds.for_parts.Goals as goal
 
 pub returns : goal.returns

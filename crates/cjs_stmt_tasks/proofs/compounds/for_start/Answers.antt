@@ -1,6 +1,6 @@
 use Rattle.es_syntax.specs.Held.{held, valued}
 use Rattle.cjs_stmt_tasks.proofs.CompoundForms.{start_expr}
-use Rattle.cjs_stmt_tasks.proofs.More.{on_ok}
+use Rattle.cjs_tasks.proofs.Answered.{on_ok}
 use Rattle.cjs_stmt_tasks.proofs.compounds.for_start.Goals as goal
 
 pub returns-in-None-split : goal.returns-in-None-split

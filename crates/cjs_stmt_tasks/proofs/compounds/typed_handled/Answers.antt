@@ -1,6 +1,6 @@
 use Rattle.es_syntax.specs.Held.{held, valued}
 use Rattle.cjs_stmt_tasks.proofs.TryForms.{typed_caught, typed_finally_alone}
-use Rattle.cjs_stmt_tasks.proofs.More.{on_ok}
+use Rattle.cjs_tasks.proofs.Answered.{on_ok}
 use Rattle.cjs_stmt_tasks.proofs.compounds.typed_handled.Goals as goal
 
 pub returns-in_ok-queue-in-Some-split : goal.returns-in_ok-queue-in-Some-split

@@ -1,6 +1,6 @@
 use Rattle.es_syntax.specs.Held.{held, valued}
 use Rattle.cjs_stmt_tasks.proofs.StmtForms.{returned_value, returned_end}
-use Rattle.cjs_stmt_tasks.proofs.More.{on_ok}
+use Rattle.cjs_tasks.proofs.Answered.{on_ok}
 use Rattle.cjs_stmt_tasks.proofs.stmts.returned.Goals as goal
 
 pub returns-in-Some-split : goal.returns-in-Some-split
