@@ -18,7 +18,7 @@ returns-in-None-token c =
 
 pub returns-then-eq : goal.returns-then-eq
 returns-then-eq c =
-    rw (c.range.ensures, c.range-2.ensures)
+    rw (c.range.ensures, c.range-then-eq.ensures)
     (joins_then c.args.kind c.args.self.now.tokens.now c.args.at c.in-Some.token c.in-Some-token.token c.eq.result
     c.if-at-eq0.false c.in-Some.ensures c.in-Some-token.ensures (rw (← c.kind.ensures) c.eq.ensures) c.if-eq.true)
 
