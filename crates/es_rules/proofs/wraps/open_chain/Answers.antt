@@ -1,6 +1,6 @@
-use Rattle.std.proofs.Common.{refl, sym, inl, inr}
+use Rattle.std.proofs.Common.{refl, inr}
 use Rattle.es_rules.proofs.wraps.open_chain.Goals as goal
 
 -- the operand is a chain that goes on
-pub returns-then-is_chain : goal.returns-then-is_chain
-returns-then-is_chain c = inr (refl, c.is_chain.ensures (sym c.if-is_chain.true))
+pub returns-then-is_chain-clause-opened : goal.returns-then-is_chain-clause-opened
+returns-then-is_chain-clause-opened c = inr (refl, c.is_chain.ensures c.if-is_chain.true)
