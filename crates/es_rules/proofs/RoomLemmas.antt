@@ -1,6 +1,6 @@
 -- A reader that answers more of the rows that a rule names answers all that it did: so more room reads what less does.
 use Rattle.std.specs.Prelude.{List, Bool, true, false}
-use Rattle.std.proofs.Common.{◌≡◌, ℕ, zero, suc, ◌+◌, length, refl, sym, ap, ◌∙◌}
+use Rattle.std.proofs.Common.{◌≡◌, ℕ, zero, suc, ◌+◌, length, refl, sym, ap, ◌∙◌, subst, arith}
 use Rattle.es_tree.specs.Key.{Key, seen, has_kind, is}
 use Rattle.es_tree.specs.Productions.{Predicate, test, Rhs, done, tok, punct, row, opt, many, alt, when_, where_, Production, refuse, make, choose, as_, pick, wrap}
 use Rattle.es_tree.specs.Reader.{Out, nothing, gives, and_then, changed, only_if, either, read_turns, read_form}
@@ -138,10 +138,15 @@ module _ (K : List Key) where
         (λ q mid. wraps_at K l (test c) (form_at K more f) at (length K) q mid) (rule_more a at)
         (λ q mid. wraps_more l (test c) (form_at K below f) (form_at K more f) (form_more f) at (length K) q mid)
 
+suc_before : (a b : ℕ) → suc (a + b) ≡ suc a + b
+suc_before a b = omega arith
+
 -- more room reads what less does
 pub row_more : {Row : Type 0} (rule : Row → Production Row NodeKind) (K : List Key) (room n : ℕ) (r : Row) (at : ℕ)
     → Extends (row_at rule K room r at) (row_at rule K (room + n) r at)
 unfolding row_at
 row_more rule K zero n r at = λ v to h. nothing_gives v to h
 row_more rule K (suc room) n r at =
-    rule_more K (row_at rule K room) (row_at rule K (room + n)) (row_more rule K room n) (rule r) at
+    let P : ℕ → Type 0 = λ m. Extends (row_at rule K (suc room) r at) (row_at rule K m r at) in
+    subst P (suc_before room n)
+    (rule_more K (row_at rule K room) (row_at rule K (room + n)) (row_more rule K room n) (rule r) at)

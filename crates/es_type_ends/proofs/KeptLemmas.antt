@@ -23,6 +23,9 @@ use Rattle.es_type_ends.proofs.LowLemmas.{none_lean}
 most_by : (room : ℕ) → room ≤ most_nodes → room + (most_nodes - room) ≡ most_nodes
 most_by room h = omega arith
 
+suc_before : (a b : ℕ) → suc (a + b) ≡ suc a + b
+suc_before a b = omega arith
+
 turned_round : (a b : ℕ) → a + b ≡ b + a
 turned_round a b = omega arith
 
@@ -66,8 +69,10 @@ module _ (K : List Key) (is_kept : TypeRow → ℕ → Bool) where
   unfolding row_at kept_at
   kept_anew zero r at = λ v to h. nothing_gives v to h
   kept_anew (suc room) r at =
-      rule_more K (ring room) (row_at named_rule K (room + most_nodes))
-      (λ q mid. anew_behind room q mid (is_kept q mid) (kept_anew room q mid)) (named_rule r) at
+      let P : ℕ → Type 0 = λ n. Extends (kept_at K is_kept (suc room) r at) (row_at named_rule K n r at) in
+      subst P (suc_before room most_nodes)
+      (rule_more K (ring room) (row_at named_rule K (room + most_nodes))
+      (λ q mid. anew_behind room q mid (is_kept q mid) (kept_anew room q mid)) (named_rule r) at)
 
 -- so whichever are kept, a row is read as by itself
 pub kept_same : (K : List Key) (is_kept : TypeRow → ℕ → Bool) (r : TypeRow) (at : ℕ) → at ≤ length K
