@@ -460,9 +460,10 @@ differs stem rest digits e (inr h) =
     lacks (length digits) (omega (arith, length-append digits (codes ".tmp")))
     (get_or_at digits dot (codes "tmp") 0 (length digits) refl)
 
--- the temporary path ends with another name
+-- the temporary path ends with another name, which ends with `.tmp`
 pub ends_temporary : (path name bytes : List ℕ) → path_file_name path ≡ Some name
     → (other : List ℕ) × EndsWith other (path_set_extension path (temporary_end bytes)) × (other ≢ name)
+    × (front : List ℕ) × (other ≡ front ++ codes ".tmp")
 ends_temporary path name bytes named =
     let is = file_name_is path name named in
     let extension = temporary_end bytes in
@@ -502,6 +503,8 @@ ends_temporary path name bytes named =
         kept = record { said = said; down = unlike other parent_dir (λ e. omega arith) };
       },
       λ e. differs stem rest (encode_lower bytes) (cancel stem (dot ∷ extension) rest (e ∙ parts_of.2)) parts_of.4,
+      stem ++ dot ∷ encode_lower bytes,
+      sym (append_assoc stem (dot ∷ encode_lower bytes) (codes ".tmp")),
     )
 
 apart_by : (path temporary : List ℕ) (r : Option (List ℕ)) → path_file_name path ≡ r → IsSome r
@@ -513,6 +516,23 @@ apart_by path temporary (Some name) e some is = λ folder same.
     apart_names folder name ends.0 path (path_set_extension path (temporary_end is.0)) (ends_file_name path name e)
     ends.1 ends.2
     (ap (path_in folder) (sym is.2) ∙ same)
+
+elsewhere_by : (path temporary other name : List ℕ) (r : Option (List ℕ)) → path_file_name path ≡ r → IsSome r
+    → IsTemporaryPath path temporary → path_file_name other ≡ Some name
+    → ((front : List ℕ) → name ≢ front ++ codes ".tmp") → IsApart temporary other
+unfolding atomic_path spot
+elsewhere_by path temporary other name None e some is named lasting = λ folder same. cc
+elsewhere_by path temporary other name (Some own) e some is named lasting = λ folder same.
+    let ends = ends_temporary path own is.0 e in
+    apart_names folder name ends.0 other (path_set_extension path (temporary_end is.0))
+    (ends_file_name other name named) ends.1 (λ bad. lasting ends.3 (sym bad ∙ ends.4))
+    (ap (path_in folder) (sym is.2) ∙ same)
+
+-- a temporary path stands elsewhere than each path whose file name doesn't end with `.tmp`
+pub elsewhere : (path temporary other name : List ℕ) → IsSome (path_file_name path) → IsTemporaryPath path temporary
+    → path_file_name other ≡ Some name → ((front : List ℕ) → name ≢ front ++ codes ".tmp") → IsApart temporary other
+elsewhere path temporary other name some is named lasting =
+    elsewhere_by path temporary other name (path_file_name path) refl some is named lasting
 
 -- a temporary path stands elsewhere than its path, whatever the current folder is
 pub temporary_apart : (path temporary : List ℕ) → IsSome (path_file_name path) → IsTemporaryPath path temporary
