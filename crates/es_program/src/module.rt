@@ -1,6 +1,7 @@
 //! Modules.
 ghost use Rattle.std.specs.Prelude.{◌≡◌, None, Some, IfOk, MatchOption};
 ghost use Rattle.es_ast.specs.declared.ast.Program.TheVariants as program;
+ghost use Rattle.es_lexer.specs.Reads.{ReadsTokens};
 ghost use Rattle.es_site.specs.Sites.{sites_of};
 ghost use Rattle.std.specs.Arc.{arc_value};
 ghost use Rattle.es_ast.specs.declared.ast.Module.{Module as Typed};
@@ -58,7 +59,8 @@ impl Module {
 
     /// Its text, its tokens and its parts.
     pub fn parts(&self) -> (&str, &[Token], Siblings<'_>)
-        ensures { program_at result.0.now result.1.now result.2.entries.now ≡ Some (program.Module self.now) }
+        ensures reads { ReadsTokens result.0.now result.1.now }
+        ensures typed { program_at result.0.now result.1.now result.2.entries.now ≡ Some (program.Module self.now) }
     {
         let source = self.source();
         (source.text.as_str(), source.tokens.as_slice(), source.row())

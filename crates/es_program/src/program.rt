@@ -2,6 +2,7 @@
 ghost use Rattle.std.specs.Prelude.{◌≡◌, None, Some, not, IfOk, MatchOption};
 ghost use Rattle.std.specs.Arc.{arc_value};
 ghost use Rattle.es_ast.specs.declared.ast.Program.{Program as Typed};
+ghost use Rattle.es_lexer.specs.Reads.{ReadsTokens};
 ghost use Rattle.es_site.specs.Sites.{sites_of};
 ghost use Rattle.es_program.specs.Typed.{program_at, HoldsSome, tells_module, span_in, shebang_in};
 ghost use Rattle.es_program.specs.Sources.{typed_of, Keeps};
@@ -96,7 +97,8 @@ impl Program {
 
     /// Its text, its tokens and its parts.
     pub fn parts(&self) -> (&str, &[Token], Siblings<'_>)
-        ensures { program_at result.0.now result.1.now result.2.entries.now ≡ Some self.now }
+        ensures reads { ReadsTokens result.0.now result.1.now }
+        ensures typed { program_at result.0.now result.1.now result.2.entries.now ≡ Some self.now }
     {
         match &self.form {
             Form::Module(module) => module.parts(),
