@@ -15,4 +15,4 @@ returns-else-past c =
     sym
     (line_on c.args.text.now c.args.tokens.now c.args.past c.args.passed c.args.place c.in-Some.last c.requires.past
     c.requires.on c.in-Some.ensures c.if-passed-past.true
-    ∙ rw (c.if-past.false, c.has_line_end.ensures, c.max.ensures, c.range.ensures) refl)
+    ∙ rw (c.if-past.false, c.has_line_end.ensures, c.max.ensures, c.range-end.ensures) refl)
