@@ -25,7 +25,8 @@ fn is_item(piece: &[Token], next: Option<Token>) -> bool {
         [one] => one.kind() == TokenKind::Semicolon || (is_value(*one) && ends(next)),
         [first, second] => {
             let is_statement = is_value(*first) && second.kind() == TokenKind::Semicolon;
-            let is_import = first.kind() == TokenKind::ImportWord && second.kind() == TokenKind::Str;
+            let is_import = first.kind() == TokenKind::ImportWord
+                && second.kind() == TokenKind::Str;
             is_statement || (is_import && ends(next))
         }
         [word, literal, semi] => {
