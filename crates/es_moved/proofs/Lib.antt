@@ -1,0 +1,10 @@
+pub mod Rel
+pub mod Same
+pub mod Leaves
+pub mod Types
+pub mod ModuleLeaves
+pub mod Expressions
+pub mod Patterns
+pub mod Functions
+pub mod Statements
+pub mod Items
