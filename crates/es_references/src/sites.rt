@@ -23,7 +23,7 @@ pub fn references(
     let first = first_token(tokens);
     let mut found = Items::new(alloc);
     for comment in comments {
-        if is_before(comment, first) {
+        if is_before(comment, &first) {
             add_reference(alloc, comment, &mut found)?;
         }
     }
@@ -48,8 +48,8 @@ fn is_shebang(kind: TokenKind) -> bool
     matches!(kind, TokenKind::Shebang)
 }
 
-fn is_before(comment: &Comment, first: Option<Token>) -> bool
-    ensures { result ≡ spec.is_before comment.now first }
+fn is_before(comment: &Comment, first: &Option<Token>) -> bool
+    ensures { result ≡ spec.is_before comment.now first.now }
 {
     match first {
         Some(token) => comment.range.end <= token.range().start,
