@@ -1,0 +1,2 @@
+-- whole programs
+pub mod WholeForms

@@ -1,0 +1,20 @@
+-- steps
+pub mod StepForms
+-- signs of assignments
+pub mod Signs
+-- assignments
+pub mod AssignForms
+-- declarators
+pub mod BoundForms
+-- variables, and declarations behind `declare`
+pub mod VarForms
+-- further parts of chains that are no calls
+pub mod PostForms
+-- further parts of chains
+pub mod CallSteps
+-- chains, part by part
+pub mod ChainSteps
+-- turns of lists
+pub mod EachForms
+-- walks
+pub mod WalkForms
