@@ -7,7 +7,7 @@ use std::alloc::{AllocError, Global};
 use std::test::Fail;
 
 /// Whether END stands before that token, and takes none.
-fn ends(next: Option<Token>) -> bool {
+fn ends(next: &Option<Token>) -> bool {
     match next {
         Some(token) => token.line_before() && token.kind() != TokenKind::Semicolon,
         None => true,
@@ -20,7 +20,7 @@ fn is_value(token: Token) -> bool {
 }
 
 /// Whether the tokens are an item, before that token: an empty one, an import, or an expression.
-fn is_item(piece: &[Token], next: Option<Token>) -> bool {
+fn is_item(piece: &[Token], next: &Option<Token>) -> bool {
     match piece {
         [one] => one.kind() == TokenKind::Semicolon || (is_value(*one) && ends(next)),
         [first, second] => {
@@ -45,7 +45,7 @@ fn cuts(tokens: &[Token]) -> u32 {
     }
     let mut count: u32 = 0;
     for n in 1..4 {
-        if n <= tokens.len() && is_item(&tokens[..n], tokens.get(n).copied()) {
+        if n <= tokens.len() && is_item(&tokens[..n], &tokens.get(n).copied()) {
             count = count.saturating_add(cuts(&tokens[n..]));
         }
     }
