@@ -1,7 +1,9 @@
 -- A name that is declared nowhere is global, and a declared one isn't.
 use Rattle.std.specs.Prelude.{Bool, true, false, List, [], ◌∷◌, Option, Some, None, is_none}
 use Rattle.std.proofs.Common.{◌≡◌, refl, ap, ◌∙◌}
-use Rattle.es_scope_analysis.specs.Scope.{Id, Var, same_id, var, is_global}
+use Rattle.es_scope_analysis.specs.declared.kinds.Id.{Id}
+use Rattle.es_scope_analysis.specs.declared.kinds.Var.{Var}
+use Rattle.es_scope_analysis.specs.Scope.{same_id, var, is_global}
 
 pub global_none : (declared : List (Id × Var)) (id : Id) → is_global declared id ≡ is_none (var declared id)
 global_none [] id = refl

@@ -17,7 +17,9 @@ use Rattle.es_scope_analysis.specs.declared.steps.Visit.TheVariants as visit
 use Rattle.es_scope_analysis.specs.Part.{Part, token, node, packed, found}
 use Rattle.es_scope_analysis.specs.Plan.{plan}
 use Rattle.es_scope_analysis.specs.Events.{own}
-use Rattle.es_scope_analysis.specs.Scope.{Id, Var, declarations, named}
+use Rattle.es_scope_analysis.specs.declared.kinds.Id.{Id}
+use Rattle.es_scope_analysis.specs.declared.kinds.Var.{Var}
+use Rattle.es_scope_analysis.specs.Scope.{declarations, named}
 
 -- ---- tokens and trees, written short
 abbrev Lengths : Type 0

@@ -113,11 +113,11 @@ module _ (x : List ℕ) (ts : List Token) where
   class_in _ = None
 
   -- a name whose value is a class of the same name: that name of the class is declared, as a class, in its stead
-  abbrev pub variable : Visit → Part → Part → Events
-  variable (visit.Names bound) name value =
-      if same (spelled (name_in name)) (spelled (class_in value)) then declared kind.Class (class_in value)
+  abbrev pub variable : Visit → Part → Option ℕ → Events
+  variable (visit.Names bound) name class =
+      if same (spelled (name_in name)) (spelled class) then declared kind.Class class
       else found name (visit.Names bound)
-  variable here name value = found name here
+  variable here name class = found name here
 
   -- ---- what is met in a node with these parts, at one of its steps
   abbrev pub by_step : Visit → Part → Step → Events
@@ -133,8 +133,8 @@ module _ (x : List ℕ) (ts : List Token) where
   by_step here p (Deep w n m j) = at (group (group p n) m) j (led here p w)
   by_step here p (Turns n t) = each (by_turn (led here p (way_of t)) t) (group p n)
   by_step here p (TurnsIn n m t) = each (by_turn (led here p (way_of t)) t) (group (group p n) m)
-  by_step here p (Variable n) = variable here (part p 0) (part p n)
-  by_step here p (VariableIn n) = variable here (part p 0) (part (group p n) 0)
+  by_step here p (Variable n) = variable here (part p 0) (class_in (part p n))
+  by_step here p (VariableIn n) = variable here (part p 0) (class_in (part (group p n) 0))
 
   -- what is met in a node of this alternative: nothing, where it is passed over
   abbrev pub own_by : NodeKind → Part → Visit → Events

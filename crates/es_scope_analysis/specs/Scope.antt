@@ -5,21 +5,12 @@ use Rattle.es_token.specs.declared.token.Token.{Token}
 use Rattle.es_lowering.specs.Texts.{ident_of}
 use Rattle.es_cst.specs.declared.tree.Cst.{Cst}
 use Rattle.es_scopes.specs.Numbers.{ids, number_at}
-use Rattle.es_scope_analysis.specs.declared.kinds.BindingKind.{BindingKind}
 use Rattle.es_scope_analysis.specs.declared.kinds.ScopeKind.{ScopeKind}
+use Rattle.es_scope_analysis.specs.declared.kinds.Id.{Id}
+use Rattle.es_scope_analysis.specs.declared.kinds.Var.{Var}
 use Rattle.es_scope_analysis.specs.declared.steps.Event.TheVariants as event
 use Rattle.es_scope_analysis.specs.Part.{Events}
 use Rattle.es_scope_analysis.specs.Events.{events}
-
--- a name as it is spelled, and the number of its scope
-pub record Id : Type 0 where
-  pub sym : List ℕ
-  pub ctxt : ℕ
-
--- how a name is bound, and what stands around it, the outermost first
-pub record Var : Type 0 where
-  pub path : List ScopeKind
-  pub kind : BindingKind
 
 -- the path without its last part
 abbrev pub shorter : List ScopeKind → List ScopeKind

@@ -3,6 +3,8 @@
 ghost use Rattle.std.specs.Prelude.{◌≡◌};
 ghost use Rattle.es_scope_analysis.specs.Kinds.{is_import};
 
+use base::{Items, Text};
+
 /// How a name is bound.
 #[derive(Clone, Copy, Debug, PartialEq, Eq, Hash)]
 pub enum BindingKind {
@@ -51,4 +53,32 @@ pub enum ScopeKind {
     Switch,
     With,
     Catch,
+}
+
+/// A name as it is spelled, and the number of the scope that declares it; 0 where none does.
+#[derive(Debug, PartialEq, Eq, Drop)]
+pub struct Id {
+    pub sym: Text,
+    pub ctxt: u32,
+}
+
+/// How a name is bound, and what stands around it, the outermost first.
+#[derive(Debug, Drop)]
+pub struct Var {
+    pub path: Items<ScopeKind>,
+    pub kind: BindingKind,
+}
+
+impl Var {
+    pub fn path(&self) -> &[ScopeKind]
+        ensures { result.now ≡ self.now.path }
+    {
+        self.path.as_slice()
+    }
+
+    pub fn kind(&self) -> BindingKind
+        ensures { result ≡ self.now.kind }
+    {
+        self.kind
+    }
 }

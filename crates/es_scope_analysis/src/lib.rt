@@ -4,5 +4,5 @@
 mod kinds;
 mod steps;
 
-pub use kinds::{BindingKind, ScopeKind};
+pub use kinds::{BindingKind, Id, ScopeKind, Var};
 pub use steps::{Event, Step, Turn, Visit, Way};
