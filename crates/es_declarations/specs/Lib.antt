@@ -1,0 +1,2 @@
+-- the parts in a row of entries
+pub mod Rows
