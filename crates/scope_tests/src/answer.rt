@@ -2,6 +2,7 @@
 
 ghost use Rattle.es_lexer.specs.Reads.{ReadsTokens};
 
+use crate::vars::bound;
 use es_bound_names::cut;
 use es_lexer::lex_tokens;
 use es_program_reader::read_program;
@@ -13,19 +14,20 @@ use es_tree::{Lang, Mode};
 use std::alloc::{AllocError, Global};
 use test_rows::Row;
 
-/// Each name of the source of a row with its number, in the order of the text.
+/// Each name of the source of a row with its number, in the order of the text; where variables are asked for, also how it
+/// is bound.
 pub fn answer(alloc: Global, row: &Row) -> Result<String, AllocError> {
-    let lang = match row.call() {
-        "ts" => Lang::Typescript,
-        _ => Lang::Es,
-    };
-    let mode = match row.call() {
-        "script" => Mode::Script,
-        _ => Mode::Module,
+    let (lang, mode, vars) = match row.call() {
+        "ts" => (Lang::Typescript, Mode::Module, false),
+        "script" => (Lang::Es, Mode::Script, false),
+        "vars-ts" => (Lang::Typescript, Mode::Module, true),
+        "vars-script" => (Lang::Es, Mode::Script, true),
+        "vars-js" => (Lang::Es, Mode::Module, true),
+        _ => (Lang::Es, Mode::Module, false),
     };
     let text = row.at(1);
     match lex_tokens(alloc, text) {
-        Ok(lexed) => program(alloc, lang, mode, text, lexed.tokens.as_slice()),
+        Ok(lexed) => program(alloc, lang, mode, vars, text, lexed.tokens.as_slice()),
         Err(_) => String::from_str(alloc, "no tokens"),
     }
 }
@@ -34,20 +36,22 @@ fn program(
     alloc: Global,
     lang: Lang,
     mode: Mode,
+    vars: bool,
     text: &str,
     tokens: &[Token],
 ) -> Result<String, AllocError>
     requires { ReadsTokens text.now tokens.now }
 {
     match read_program(alloc, lang, mode, tokens) {
-        Ok(row) => told(
-            alloc,
-            text,
-            tokens,
-            &Siblings {
+        Ok(row) => {
+            let row = Siblings {
                 entries: row.as_slice(),
-            },
-        ),
+            };
+            if vars {
+                return bound(alloc, text, tokens, &row);
+            }
+            told(alloc, text, tokens, &row)
+        }
         Err(_) => String::from_str(alloc, "no program"),
     }
 }

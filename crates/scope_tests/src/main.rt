@@ -1,7 +1,9 @@
-//! Tests of the scope numbers of names, by the public calls: rows of the input, each a language, a source and what is wanted of it.
+//! Tests of the scope numbers of names, and of how they are bound, by the public calls: rows of the input, each a
+//! language, a source and what is wanted of it.
 #![tactic(auto)]
 
 mod answer;
+mod vars;
 
 use crate::answer::answer;
 use std::io::Read;

@@ -1,0 +1,53 @@
+-- What look-ups find.
+use Rattle.std.specs.Prelude.{ℕ, ◌==◌, ◌&&◌, if◌then◌else◌, List, [], ◌∷◌, ◌++◌, length, Option, Some, None, is_none, slice_get, slice_range, bytes_eq}
+use Rattle.std.proofs.Common.{◌≡◌, refl, sym, ap, ◌∙◌, arith}
+use Rattle.es_token.specs.declared.token.Token.{Token}
+use Rattle.es_scope_analysis.specs.declared.kinds.Id.{Id}
+use Rattle.es_scope_analysis.specs.declared.kinds.Var.{Var}
+use Rattle.es_scope_analysis.specs.Scope.{var, some_of, ids_with_symbol, is_global}
+use Rattle.es_scope_analysis.proofs.LookupLemmas.{global_none}
+use Rattle.es_variables.specs.declared.scope.Scope.{Scope}
+use Rattle.es_variables.specs.declared.ident.Ident.{Ident}
+use Rattle.es_variables.specs.Numbers.{at_in}
+use Rattle.es_variables.specs.Table.{ids_at, var_at, extra}
+use Rattle.es_variables.specs.Kept.{Keeps, Adds, Names}
+
+pub var_is : (s : Scope) (found : List (Id × Var)) (id : Id) (o : Option Var) → Keeps s found
+    → var_at s.vars id.sym id.ctxt ≡ o → var found id ≡ o
+var_is s found id o keeps is = sym (keeps.vars id) ∙ is
+
+pub global_is : (found : List (Id × Var)) (id : Id) (o : Option Var) → var found id ≡ o
+    → is_global found id ≡ is_none o
+global_is found id o is = global_none found id ∙ ap is_none is
+
+empty : (ids : List Id) → length ids ≡ 0 → some_of ids ≡ None
+empty [] e = refl
+empty (id ∷ ids) e = absurd (omega arith)
+
+pub ids_none : (s : Scope) (found : List (Id × Var)) (q : List ℕ) → Keeps s found → ids_at s.ids q ≡ []
+    → ids_with_symbol found q ≡ None
+ids_none s found q keeps none = ap some_of (sym (keeps.ids q) ∙ none)
+
+some : (ids : List Id) → (ids ≡ [] → ⊥) → some_of ids ≡ Some ids
+some [] e = absurd (e refl)
+some (id ∷ ids) e = refl
+
+pub ids_some : (s : Scope) (found : List (Id × Var)) (q : List ℕ) → Keeps s found → (ids_at s.ids q ≡ [] → ⊥)
+    → ids_with_symbol found q ≡ Some (ids_at s.ids q)
+ids_some s found q keeps there = ap some_of (sym (keeps.ids q)) ∙ some (ids_at s.ids q) there
+
+-- ---- what is made
+pub adds_made : (old new : Scope) (id : Id) (v : Var) (p q : List ℕ) → p ≡ id.sym → q ≡ id.sym
+    → ((s : List ℕ) (n : ℕ) → var_at new.vars s n ≡ (if bytes_eq p s && (id.ctxt == n) then Some v else var_at old.vars s n))
+    → ((s : List ℕ) → ids_at new.ids s ≡ ids_at old.ids s ++ extra q id s)
+    → Adds old id v new
+adds_made old new id v p q p_is q_is vars ids = record {
+  vars = λ s n. vars s n ∙ ap (λ k. if bytes_eq k s && (id.ctxt == n) then Some v else var_at old.vars s n) p_is;
+  ids = λ s. ids s ∙ ap (λ k. ids_at old.ids s ++ extra k id s) q_is;
+}
+
+pub names_made : (x : List ℕ) (ts : List Token) (numbers : List ℕ) (at : ℕ) (it : Ident) (token : Token)
+    → slice_get ts at ≡ Some token → it.sym.now ≡ slice_range x token.range.start token.range.end
+    → it.span ≡ token.range → it.ctxt ≡ at_in numbers at → Names x ts numbers at it
+names_made x ts numbers at it token there sym span ctxt =
+    record { token = token; there = there; sym = sym; span = span; ctxt = ctxt }

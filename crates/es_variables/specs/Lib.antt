@@ -1,0 +1,6 @@
+-- numbers by tokens
+pub mod Numbers
+-- names and variables by spellings
+pub mod Table
+-- what is kept of declarations
+pub mod Kept

@@ -1,0 +1,17 @@
+//! The variables of a program: names with the numbers of their scopes, how each is bound, and what stands around it.
+//!
+//! - `ScopeIds`: the numbers of a program's names, by their tokens.
+//! - `Scope`: what a program declares, with its look-ups.
+//! - `Ident`: a name where it stands in a text, with its number.
+#![tactic(auto)]
+
+mod analysis;
+mod ident;
+mod ids;
+mod scope;
+mod table;
+
+pub use es_scope_analysis::{BindingKind, Id, ScopeKind, Var};
+pub use ident::{Ident, ident_at};
+pub use ids::ScopeIds;
+pub use scope::Scope;

@@ -1,0 +1,50 @@
+//! Names and variables by their spellings.
+
+ghost use Rattle.std.specs.Prelude.{◌≡◌, ◌++◌, ◌&&◌, ◌==◌, if◌then◌else◌, Some, None, ℕ, List, string_bytes, bytes_eq, OnOk, MatchOption};
+ghost use Rattle.es_variables.specs.Table.{ids_at, var_at, extra};
+
+use es_scope_analysis::{Id, Var};
+use std::alloc::AllocError;
+use std::collections::BTreeMap;
+
+/// Names by their spellings.
+pub type Ids = BTreeMap<String, Vec<Id>>;
+
+/// Variables by spellings, and by the numbers of scopes.
+pub type Vars = BTreeMap<String, BTreeMap<u32, Var>>;
+
+/// One name more at a key.
+pub fn add_id(ids: &mut Ids, key: String, id: Id) -> Result<(), AllocError>
+    ensures { OnOk result ((q : List ℕ) → ids_at ids.new q ≡ ids_at ids.old q ++ extra (string_bytes key) id q) }
+{
+    ids.entry(key)?.or_default().push(id)?;
+    Ok(())
+}
+
+/// Another variable at a key and a number.
+pub fn put_var(vars: &mut Vars, key: String, number: u32, var: Var) -> Result<(), AllocError>
+    ensures { OnOk result ((q : List ℕ) (n : ℕ) → var_at vars.new q n ≡ (if bytes_eq (string_bytes key) q && (number == n) then Some var else var_at vars.old q n)) }
+{
+    vars.entry(key)?.or_default().insert(number, var)?;
+    Ok(())
+}
+
+/// The names at a spelling.
+pub fn ids_of<'a>(ids: &'a Ids, sym: &str) -> &'a [Id]
+    ensures { result.now ≡ ids_at ids.now sym.now }
+{
+    match ids.get(sym) {
+        Some(found) => found.as_slice(),
+        None => &[],
+    }
+}
+
+/// The variable at a spelling and a number.
+pub fn var_of<'a>(vars: &'a Vars, sym: &str, number: u32) -> Option<&'a Var>
+    ensures { MatchOption result (var_at vars.now sym.now number ≡ None) (λ v. var_at vars.now sym.now number ≡ Some v.now) }
+{
+    match vars.get(sym) {
+        Some(found) => found.get(&number),
+        None => None,
+    }
+}
