@@ -61,11 +61,11 @@ number_end (id ∷ row) n other whole e so = absurd (omega arith)
 module _ (x : List ℕ) (ts : List Token) where
   nowhere : (n : ℕ) → slice_get ts n ≡ None → (names some : List Named) → number_at (numbered x ts names some) n ≡ 0
   nowhere n none names [] = refl
-  nowhere n none names (it ∷ some) = one (it.token == n) refl
+  nowhere n none names (it ∷ some) = one (nowhere n none names some) (it.token == n) refl
     where
-      one : (b : Bool) → (it.token == n) ≡ b → number_at (numbered x ts names (it ∷ some)) n ≡ 0
-      one false e = rw (e) (nowhere n none names some)
-      one true e =
+      one : number_at (numbered x ts names some) n ≡ 0 → (b : Bool) → (it.token == n) ≡ b → number_at (numbered x ts names (it ∷ some)) n ≡ 0
+      one others false e = rw (e) others
+      one others true e =
           let same : it.token ≡ n = same_number it.token n e in
           let gone : slice_get ts it.token ≡ None = ap (slice_get ts) same ∙ none in
           rw (e)
@@ -76,10 +76,10 @@ module _ (x : List ℕ) (ts : List Token) where
   unfolding ids_in
   no_number n none found = nowhere n none (named_in [] 1 found) (named_in [] 1 found)
 
-behind : {A : Type 0} (as : List A) (n : ℕ) → length as ≤ n → slice_get as n ≡ None
+behind : {A : Type 0} (xs : List A) (n : ℕ) → length xs ≤ n → slice_get xs n ≡ None
 behind [] n p = refl
-behind (a ∷ as) zero p = absurd (omega arith)
-behind (a ∷ as) (suc n) p = behind as n (omega arith)
+behind (x ∷ xs) zero p = absurd (omega arith)
+behind (x ∷ xs) (suc n) p = behind xs n (omega arith)
 
 none_in : (numbers : List ℕ) (n : ℕ) → length numbers ≤ n → at_in numbers n ≡ 0
 none_in numbers n p = ap (λ (o : Option ℕ). unwrap_or o 0) (behind numbers n p)

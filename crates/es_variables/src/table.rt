@@ -1,6 +1,8 @@
 //! Names and variables by their spellings.
 
-ghost use Rattle.std.specs.Prelude.{◌≡◌, ◌++◌, ◌&&◌, ◌==◌, if◌then◌else◌, Some, None, ℕ, List, string_bytes, bytes_eq, OnOk, MatchOption};
+ghost use Rattle.std.specs.Prelude.{◌≡◌, ◌++◌, ◌==◌, Some, None, false, ℕ, List, string_bytes, bytes_eq, OnOk, MatchOption};
+ghost use Rattle.std.specs.BTreeMap.{get};
+ghost use Rattle.std.specs.Ordering.{nat_cmp};
 ghost use Rattle.es_variables.specs.Table.{ids_at, var_at, extra};
 
 use es_scope_analysis::{Id, Var};
@@ -21,12 +23,22 @@ pub fn add_id(ids: &mut Ids, key: String, id: Id) -> Result<(), AllocError>
     Ok(())
 }
 
+/// Another variable at a number.
+fn put_number(found: &mut BTreeMap<u32, Var>, number: u32, var: Var) -> Result<(), AllocError>
+    ensures own { OnOk result (get nat_cmp found.new number ≡ Some var) }
+    ensures others { OnOk result ((n : ℕ) → (number == n) ≡ false → get nat_cmp found.new n ≡ get nat_cmp found.old n) }
+{
+    found.insert(number, var)?;
+    Ok(())
+}
+
 /// Another variable at a key and a number.
 pub fn put_var(vars: &mut Vars, key: String, number: u32, var: Var) -> Result<(), AllocError>
-    ensures { OnOk result ((q : List ℕ) (n : ℕ) → var_at vars.new q n ≡ (if bytes_eq (string_bytes key) q && (number == n) then Some var else var_at vars.old q n)) }
+    ensures own { OnOk result (var_at vars.new (string_bytes key) number ≡ Some var) }
+    ensures beside { OnOk result ((n : ℕ) → (number == n) ≡ false → var_at vars.new (string_bytes key) n ≡ var_at vars.old (string_bytes key) n) }
+    ensures others { OnOk result ((q : List ℕ) → bytes_eq (string_bytes key) q ≡ false → (n : ℕ) → var_at vars.new q n ≡ var_at vars.old q n) }
 {
-    vars.entry(key)?.or_default().insert(number, var)?;
-    Ok(())
+    put_number(vars.entry(key)?.or_default(), number, var)
 }
 
 /// The names at a spelling.

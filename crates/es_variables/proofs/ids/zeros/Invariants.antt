@@ -3,5 +3,5 @@ use Rattle.std.proofs.Common.{◌≡◌, ℕ, length}
 use Rattle.es_variables.specs.Numbers.{at_in}
 use Rattle.es_variables.proofs.ids.zeros.Given as goal
 
-abbrev pub invariant-loop-_ : goal.invariant-loop-_
-invariant-loop-_ l = (length l.numbers ≡ l._-index) × ((n : ℕ) → at_in l.numbers n ≡ 0)
+abbrev pub invariant-loop : goal.invariant-loop
+invariant-loop l = (length l.numbers ≡ l.counter) × ((n : ℕ) → at_in l.numbers n ≡ 0)

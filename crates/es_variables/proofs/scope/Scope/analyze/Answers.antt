@@ -1,5 +1,5 @@
 use Rattle.es_scope_numbers.proofs.CutLemmas.{reads_cut}
-use Rattle.es_variables.proofs.analysis.Scope.analyze.Goals as goal
+use Rattle.es_variables.proofs.scope.Scope.analyze.Goals as goal
 
 -- the tokens cut the text
 pub declared_in-requires : goal.declared_in-requires
