@@ -33,7 +33,7 @@ use Rattle.made_bundle.specs.Made.{made_text}
 -- ---- the lines of the refusals
 
 abbrev pub usage_line : List ℕ
-usage_line = codes "usage: graph_tool build [--batch N] | make N | sum N | order" ++ line_end
+usage_line = codes "usage: graph_tool build [--batch N] | make N | sum N | vendor BASE | order" ++ line_end
 
 abbrev pub too_long_line : List ℕ
 too_long_line = codes "error InputTooLong" ++ line_end

@@ -43,7 +43,7 @@ pub fn due_batched<R: Threads + Sync>(
 }
 
 /// The bundle that the bytes say, which are given back.
-fn read_once(alloc: Global, bytes: Vec<u8>) -> Result<Bundle, BundleFault>
+pub fn read_once(alloc: Global, bytes: Vec<u8>) -> Result<Bundle, BundleFault>
     ensures bundle { IfOk result (λ b. (value : Data) × IsJson bytes.items value × (bundle_of value ≡ Ok b)) }
     ensures unforced { IfOk result IsUnforced }
     ensures not_json { result ≡ Err BundleFault.NotJson → (value : Data) → ¬ IsJson bytes.items value }
@@ -54,7 +54,7 @@ fn read_once(alloc: Global, bytes: Vec<u8>) -> Result<Bundle, BundleFault>
 }
 
 /// The graph of a bundle, as `build` makes it.
-fn build_batched<R: Threads + Sync>(
+pub fn build_batched<R: Threads + Sync>(
     rt: &R,
     alloc: Global,
     bundle: Bundle,

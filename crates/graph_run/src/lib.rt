@@ -4,6 +4,7 @@
 //!   graph, and answers a `Status` (`Wrote`, `specs/Run.antt`).
 //! - `due_for`: what is due for the bytes of an input: a status, and the report or the line of a refusal (`IsDue`). It starts
 //!   no thread; `run` has the analyses of a batch run in threads.
+//! - `read_once`, `build_batched`, `due_for_fault`: its steps, for what tells something else of a graph, as `vendor_run`.
 //! - `report`, `summary`: the text of a graph, its counts: those of `graph_report`.
 //! - `read_all`, `write_all`, `Source`, `Sink` and those in memory: what gives and takes bytes, that of `counted_io`.
 //!
@@ -16,6 +17,7 @@ mod resolver;
 mod status;
 mod verdict;
 
+pub use batches::{build_batched, read_once};
 pub use counted_io::{
     Failed, Faults, INPUT_LIMIT, MemorySink, MemorySource, ReadError, Sink, Source, read_all,
     write_all,
@@ -23,4 +25,4 @@ pub use counted_io::{
 pub use graph_report::{report, summary};
 pub use program::run;
 pub use status::Status;
-pub use verdict::{Due, due_for, refusal};
+pub use verdict::{Due, due_for, due_for_fault, refusal};

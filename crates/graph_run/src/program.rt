@@ -58,7 +58,7 @@ pub fn run<R: Threads + Sync, S: Source, K: Sink>(
         return finish(
             sink,
             Status::Usage,
-            "usage: graph_tool build [--batch N] | make N | sum N | order\n",
+            "usage: graph_tool build [--batch N] | make N | sum N | vendor BASE | order\n",
         );
     };
     match find_due(rt, alloc, form, source) {

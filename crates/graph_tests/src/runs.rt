@@ -24,7 +24,8 @@ const MADE: &str =
     r#"0 {"limit":2,"modules":[{"specifier":"file:///m/0.ts","text":"import \"./1.ts\";\nexport const v0 = 0;\n"},{"specifier":"file:///m/1.ts","text":"import(\"./0.ts\");\nexport const v1 = 1;\n"}],"roots":["file:///m/0.ts"]}
 "#;
 
-const USAGE: &str = "64 usage: graph_tool build [--batch N] | make N | sum N | order\n";
+const USAGE: &str =
+    "64 usage: graph_tool build [--batch N] | make N | sum N | vendor BASE | order\n";
 
 /// A word, the number behind it, and the status with what is written.
 const FORMS: &[(&str, &str, &str)] = &[
@@ -40,6 +41,9 @@ const FORMS: &[(&str, &str, &str)] = &[
     ("sum", "3", "0 entries 3 edges 4 faults 0\n"),
     ("sum", "100001", USAGE),
     ("sum", "99999999999999999999", USAGE),
+    ("vendor", "file:///v", USAGE),
+    ("vendor", "file:///v/#", USAGE),
+    ("vendor", "2", USAGE),
     ("build", "2", USAGE),
     ("Make", "2", USAGE),
 ];
