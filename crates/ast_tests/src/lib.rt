@@ -14,4 +14,6 @@ mod programs;
 #[cfg(test)]
 mod references;
 #[cfg(test)]
+mod scopes;
+#[cfg(test)]
 mod texts;

@@ -2,4 +2,5 @@ pub mod TreeLemmas
 pub mod FaultLemmas
 pub mod Theorems
 mod ParsedLemmas
+pub mod ScopeLemmas
 mod LeadingLemmas

@@ -11,6 +11,7 @@ pub use Rattle.source_reading.specs.Read
 pub use Rattle.source_reading.specs.Fault
 pub use Rattle.source_reading.specs.Cuts
 pub mod Parsed
+pub mod Scopes
 pub mod Source
 pub mod Refs
 pub use Rattle.es_items.specs.Told

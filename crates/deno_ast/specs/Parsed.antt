@@ -15,7 +15,8 @@ use Rattle.es_ast.specs.declared.ast.ModuleItem.{ModuleItem}
 use Rattle.es_items.specs.Spans.{span_of_lent}
 use Rattle.deno_ast.specs.Refs.{is_script_by_items, shebang_of, items_of}
 
--- the tokens are kept where that was asked for; the comments stand at their places
+-- the tokens are kept where that was asked for, and so are the scope numbers of names, each at the place of its token;
+-- the comments stand at their places
 pub record Parsed : Type 0 where
   pub specifier : Parts
   pub media_type : MediaType
@@ -24,6 +25,11 @@ pub record Parsed : Type 0 where
   pub references : List Site
   pub comments : Placed
   pub tokens : Option (List Token)
+  pub scopes : Option (List ℕ)
+
+-- the same source with these scope numbers
+abbrev pub with_scopes : Parsed → Option (List ℕ) → Parsed
+with_scopes s scopes = record s { scopes = scopes }
 
 -- its sites: reference comments come first, then those of its tree
 abbrev pub parsed_sites : Parsed → List Site

@@ -19,6 +19,7 @@ use Rattle.source_reading.specs.Tree.{language_of}
 use Rattle.source_reading.specs.Read.{IsRead}
 use Rattle.source_reading.specs.Fault.{IsFaultIn}
 use Rattle.deno_ast.specs.Parsed.{Parsed}
+use Rattle.deno_ast.specs.Scopes.{AreScoped}
 
 -- the syntax that a language has
 abbrev pub lang_of : Syntax → Lang
@@ -38,7 +39,7 @@ abbrev pub captured : Bool → List Token → Option (List Token)
 captured capture tokens = if capture then Some tokens else None
 
 -- a source of this text, read in one of these modes; its comments stand at their places, and its tokens are kept where
--- that was asked for; P tells of the tree that was read and the tree that is kept
+-- that was asked for, and so are the scope numbers of the kept tree; P tells of the tree that was read and that one
 pub record IsParsedWith (P : Program → Program → Type 0) (modes : List Mode) (params : ParseParams) (text : List ℕ)
     (s : Parsed) : Type 0 where
   pub specifier : s.specifier ≡ params.specifier
@@ -49,6 +50,7 @@ pub record IsParsedWith (P : Program → Program → Type 0) (modes : List Mode)
   pub kept : P tree s.tree
   pub comments_are : ArePlaced text read.tokens read.comments s.comments
   pub tokens_are : s.tokens ≡ captured params.capture_tokens read.tokens
+  pub scopes_are : AreScoped params.scope_analysis s.tree s.scopes
 
 -- the tree that was read is kept
 abbrev pub IsParsed : List Mode → ParseParams → List ℕ → Parsed → Type 0

@@ -27,9 +27,9 @@ pub record IsReading (modes : List Mode) (params : ParseParams) (r : Reading) : 
   pub reads : Reads params.text r.tokens r.comments
   pub is_tree : IsFirstTree (lang_for params) params.text r.tokens modes r.program
 
--- the source of what was read, with the comments at these places
-abbrev pub parsed_of : ParseParams → Reading → Placed → Parsed
-parsed_of p r placed = record {
+-- the source of what was read, with the comments at these places, and these scope numbers
+abbrev pub parsed_of : ParseParams → Reading → Placed → Option (List ℕ) → Parsed
+parsed_of p r placed scopes = record {
   specifier = p.specifier;
   media_type = p.media_type;
   text = p.text;
@@ -37,4 +37,5 @@ parsed_of p r placed = record {
   references = references_in p.media_type r.tokens r.comments;
   comments = placed;
   tokens = captured p.capture_tokens r.tokens;
+  scopes = scopes;
 }

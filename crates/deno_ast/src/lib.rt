@@ -18,6 +18,7 @@ mod params;
 mod parsing;
 mod program_ref;
 mod reading;
+mod scopes;
 mod source;
 mod syntax;
 mod tree;
@@ -41,6 +42,7 @@ pub use es_literal::quote;
 pub use es_program::{Form, Module, Program, Script, SharedTokens};
 pub use es_site::{Attribute, DependencyKind, Site};
 pub use es_token::{Comment, CommentKind, Token, TokenKind};
+pub use es_variables::{BindingKind, Id, Ident, Scope, ScopeIds, ScopeKind, Var, ident_at};
 pub use media_type::MediaType;
 pub use module_text::{strip_bom, without_mark};
 pub use parse_diagnostic::{

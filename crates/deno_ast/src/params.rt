@@ -17,7 +17,7 @@ pub struct ParseParams {
     pub media_type: MediaType,
     /// Whether the tokens are kept.
     pub capture_tokens: bool,
-    /// Has to be false: there are no scopes yet.
+    /// Whether the scope numbers of names are kept.
     pub scope_analysis: bool,
     /// The syntax, where it isn't that of the media type.
     pub maybe_syntax: Option<Syntax>,

@@ -21,7 +21,6 @@ use std::alloc::Global;
 /// which it is a program: as a script alone for `Cjs`, as a module alone for `Cts`, `Mjs` and `Mts`, else as a script
 /// or, where it is none, as a module.
 pub fn parse_program(alloc: Global, params: ParseParams) -> Result<ParsedSource, ParseFault>
-    requires unscoped { params.scope_analysis ≡ false }
     // What is answered is the source.
     ensures parsed { IfOk result (IsParsed (tree.modes_of params.media_type) params (without_mark params.text)) }
     // A refusal, but for memory, is the fault of the text.
@@ -34,7 +33,6 @@ pub fn parse_program(alloc: Global, params: ParseParams) -> Result<ParsedSource,
 
 /// The same of a text as it stands, which has no byte order mark.
 pub fn parse_text(alloc: Global, params: ParseParams) -> Result<ParsedSource, ParseFault>
-    requires unscoped { params.scope_analysis ≡ false }
     ensures parsed { IfOk result (IsParsed (tree.modes_of params.media_type) params params.text) }
     ensures refused { IfErr result (Refuses (IsFault (tree.modes_of params.media_type) params params.text)) }
 {
@@ -44,7 +42,6 @@ pub fn parse_text(alloc: Global, params: ParseParams) -> Result<ParsedSource, Pa
 
 /// The same as `parse_program`, read as a module alone.
 pub fn parse_module(alloc: Global, params: ParseParams) -> Result<ParsedSource, ParseFault>
-    requires unscoped { params.scope_analysis ≡ false }
     ensures parsed { IfOk result (IsParsed (mode.Module ∷ []) params (without_mark params.text)) }
     ensures refused { IfErr result (Refuses (IsFault (mode.Module ∷ []) params (without_mark params.text))) }
 {
@@ -53,7 +50,6 @@ pub fn parse_module(alloc: Global, params: ParseParams) -> Result<ParsedSource, 
 
 /// The same as `parse_program`, read as a script alone.
 pub fn parse_script(alloc: Global, params: ParseParams) -> Result<ParsedSource, ParseFault>
-    requires unscoped { params.scope_analysis ≡ false }
     ensures parsed { IfOk result (IsParsed (mode.Script ∷ []) params (without_mark params.text)) }
     ensures refused { IfErr result (Refuses (IsFault (mode.Script ∷ []) params (without_mark params.text))) }
 {
@@ -74,7 +70,6 @@ pub fn parse_program_with_post_process<F: FnOnce(Program) -> Program>(
     params: ParseParams,
     post_process: F,
 ) -> Result<ParsedSource, ParseFault>
-    requires unscoped { params.scope_analysis ≡ false }
     requires callable { F.IsAlwaysCallable post_process }
     ensures parsed { IfOk result (IsParsedWith (F.post post_process)
         (tree.modes_of params.media_type) params (without_mark params.text)) }
@@ -102,7 +97,6 @@ pub fn parse_module_with_post_process<F: FnOnce(Module) -> Module>(
     params: ParseParams,
     post_process: F,
 ) -> Result<ParsedSource, ParseFault>
-    requires unscoped { params.scope_analysis ≡ false }
     requires callable { F.IsAlwaysCallable post_process }
     ensures parsed { IfOk result (IsParsedWith (OfModule (F.post post_process))
         (mode.Module ∷ []) params (without_mark params.text)) }
@@ -128,7 +122,6 @@ pub fn parse_script_with_post_process<F: FnOnce(Script) -> Script>(
     params: ParseParams,
     post_process: F,
 ) -> Result<ParsedSource, ParseFault>
-    requires unscoped { params.scope_analysis ≡ false }
     requires callable { F.IsAlwaysCallable post_process }
     ensures parsed { IfOk result (IsParsedWith (OfScript (F.post post_process))
         (mode.Script ∷ []) params (without_mark params.text)) }

@@ -2,6 +2,8 @@
 ghost use Rattle.std.specs.Prelude.{◌≡◌, None, Some, IfOk, MatchOption};
 ghost use Rattle.std.specs.Option.{option_map};
 ghost use Rattle.std.specs.List.{slice_get};
+ghost use Rattle.es_lexer.specs.Reads.{ReadsTokens};
+ghost use Rattle.es_program.specs.Typed.{program_at};
 ghost use Rattle.es_ast.specs.declared.ast.Program.TheVariants as program;
 ghost use Rattle.es_items.specs.Lent.{lent_item, items_left};
 ghost use Rattle.deno_ast.specs.Refs as spec;
@@ -10,6 +12,8 @@ ghost use Rattle.deno_ast.specs.Refs.{tree_of, IsModule, IsScript};
 use base::Range;
 use es_items::{Body, ModuleItemRef, first_item, module_body, script_body, tells_script};
 use es_program::{Form, Module, Program, Script};
+use es_syntax::Siblings;
+use es_token::Token;
 use std::alloc::AllocError;
 
 /// A program that is lent.
@@ -78,6 +82,17 @@ impl<'a> ProgramRef<'a> {
         match first_item(&self.body()) {
             Some((item, _)) => Some(item),
             None => None,
+        }
+    }
+
+    /// Its text, its tokens and its parts.
+    pub fn parts(self) -> (&'a str, &'a [Token], Siblings<'a>)
+        ensures reads { ReadsTokens result.0.now result.1.now }
+        ensures typed { program_at result.0.now result.1.now result.2.entries.now ≡ Some (tree_of self.entry) }
+    {
+        match self {
+            ProgramRef::Module(module) => module.parts(),
+            ProgramRef::Script(script) => script.parts(),
         }
     }
 

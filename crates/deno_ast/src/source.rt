@@ -1,5 +1,5 @@
 //! Parsed sources.
-ghost use Rattle.std.specs.Prelude.{◌≡◌, ◌≢◌, ◌++◌, None, Some, false, not, length, IfOk};
+ghost use Rattle.std.specs.Prelude.{◌≡◌, ◌≢◌, ◌++◌, ℕ, List, None, Some, true, not, length, is_some, IfOk, MatchOption};
 ghost use Rattle.std.specs.Arc.{arc_value};
 ghost use Rattle.std.specs.Option.{option_map, option_copied};
 ghost use Rattle.deno_ast.specs.Refs.{tree_of};
@@ -8,16 +8,19 @@ ghost use Rattle.deno_ast.specs.Parsed as spec;
 ghost use Rattle.es_comments.specs.Standing.{ArePlaced};
 ghost use Rattle.deno_ast.specs.Source.{captured as kept};
 ghost use Rattle.deno_ast.specs.Steps.{parsed_of};
+ghost use Rattle.deno_ast.specs.Scopes.{AreScoped, HasNoToken, NamesIn};
 
 use crate::params::ParseParams;
 use crate::program_ref::ProgramRef;
 use crate::reading::Reading;
+use crate::scopes::{ident_in, ids_if, ids_of};
 use base::{Items, Range};
 use es_comments::{MultiThreadedComments, comments_of};
 use es_items::ModuleItemRef;
 use es_program::{Form, Program, SharedTokens};
 use es_site::Site;
 use es_token::{Comment, Token};
+use es_variables::{Ident, ScopeIds};
 use media_type::MediaType;
 use source_sites::{references_in, with_sites};
 use source_text::{SourceText, SourceTextInfo};
@@ -30,6 +33,7 @@ use url::Url;
 #[derive(Drop)]
 pub struct ParsedSource {
     inner: Arc<Source>,
+    scopes: Option<ScopeIds>,
 }
 
 /// What the copies share.
@@ -58,7 +62,7 @@ impl Model for ParsedSource {
 
     ghost coded = { Prim.hlevel (codes, module_item.the_row.coded, stmt.the_row.coded) };
 
-    ghost view = { λ s. parsed (arc_value s.inner) };
+    ghost view = { λ s. parsed (arc_value s.inner) s.scopes };
 
     ghost invariant = { λ s. (arc_value s.inner).info ≡ (arc_value s.inner).text };
 }
@@ -150,11 +154,61 @@ impl ParsedSource {
         }
     }
 
-    /// There are no scopes yet.
-    pub fn has_scope_analysis(&self) -> bool
-        ensures { result ≡ false }
+    /// The same source, with the scope numbers of its names.
+    pub fn into_with_scope_analysis(self, alloc: Global) -> Result<ParsedSource, AllocError>
+        ensures kept { IfOk result (λ s. s ≡ spec.with_scopes self s.scopes) }
+        ensures scoped { IfOk result (λ s. AreScoped true self.tree s.scopes) }
+        ensures there { IfOk result (λ s. s.scopes ≢ None) }
     {
-        false
+        let ids = ids_of(alloc, &self.inner.program)?;
+        let ParsedSource { inner, scopes } = self;
+        let _ = scopes;
+        Ok(ParsedSource {
+            inner,
+            scopes: Some(ids),
+        })
+    }
+
+    pub fn has_scope_analysis(&self) -> bool
+        ensures { result ≡ is_some self.now.scopes }
+    {
+        self.scopes.is_some()
+    }
+
+    /// The scope numbers of names, each by its token, where they were asked for.
+    pub fn scope_ids(&self) -> &ScopeIds
+        requires { self.now.scopes ≢ None }
+        ensures { Some result.now ≡ self.now.scopes }
+    {
+        match &self.scopes {
+            Some(ids) => ids,
+            None => unreachable!(),
+        }
+    }
+
+    /// The number of the scope of the program.
+    pub fn top_level_context(&self) -> u32
+        requires { self.now.scopes ≢ None }
+        ensures { result ≡ 1 }
+    {
+        1
+    }
+
+    /// The number of names that no scope declares.
+    pub fn unresolved_context(&self) -> u32
+        requires { self.now.scopes ≢ None }
+        ensures { result ≡ 0 }
+    {
+        0
+    }
+
+    /// The name that the token of this number is, with the number of the scope that declares it.
+    pub fn ident(&self, at: u32) -> Option<Ident<'_>>
+        requires { self.now.scopes ≢ None }
+        ensures { (numbers : List ℕ) → self.now.scopes ≡ Some numbers
+            → MatchOption result (HasNoToken self.now.tree at) (NamesIn self.now.tree numbers at) }
+    {
+        ident_in(&self.inner.program, self.scope_ids(), at)
     }
 
     pub fn is_module(&self) -> bool
@@ -194,7 +248,17 @@ impl ParsedSource {
     {
         Ok(ParsedSource {
             inner: self.inner.clone()?,
+            scopes: copy_ids(&self.scopes)?,
         })
+    }
+}
+
+fn copy_ids(ids: &Option<ScopeIds>) -> Result<Option<ScopeIds>, AllocError>
+    ensures { IfOk result (λ copy. copy ≡ ids.now) }
+{
+    match ids {
+        Some(ids) => Ok(Some(ids.copy()?)),
+        None => Ok(None),
     }
 }
 
@@ -242,7 +306,8 @@ pub fn source_of(
     params: ParseParams,
     reading: Reading,
 ) -> Result<ParsedSource, AllocError>
-    ensures kept { IfOk result (λ s. s ≡ parsed_of params reading s.comments) }
+    ensures kept { IfOk result (λ s. s ≡ parsed_of params reading s.comments s.scopes) }
+    ensures scoped { IfOk result (λ s. AreScoped params.scope_analysis reading.program s.scopes) }
     ensures placed { IfOk result (λ s. ArePlaced params.text reading.tokens reading.comments s.comments) }
 {
     let Reading {
@@ -257,6 +322,7 @@ pub fn source_of(
         comments.as_slice(),
     )?;
     let comments = shared_comments(alloc, params.text.as_str(), tokens.as_slice(), &comments)?;
+    let scopes = ids_if(alloc, params.scope_analysis, &program)?;
     let source = Source {
         info: SourceTextInfo::new(alloc, params.text.copy()?)?,
         specifier: params.specifier,
@@ -269,6 +335,7 @@ pub fn source_of(
     };
     Ok(ParsedSource {
         inner: Arc::new(alloc, source)?,
+        scopes,
     })
 }
 

@@ -7,3 +7,4 @@ pub returns-clause-parsed : goal.returns-clause-parsed
 returns-clause-parsed c =
     parsed_here (modes_in c.args.modes) c.args.params c.in_ok-reading.reading c.in_ok-source_of.field-0
     c.in_ok-reading.ensures.read c.in_ok-source_of.ensures.kept c.in_ok-source_of.ensures.placed
+    c.in_ok-source_of.ensures.scoped

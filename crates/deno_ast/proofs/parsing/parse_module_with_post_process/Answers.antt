@@ -20,3 +20,4 @@ returns-clause-parsed g c =
     parsed_with _ (mode.Module ∷ []) c.args.params (without_mark c.args.params.text) c.in_ok-program.field-0
     c.change_module.result c.without_bom-params.result c.in_ok-source_of.field-0 c.without_bom-params.ensures
     c.in_ok-program.ensures.read c.change_module.ensures c.in_ok-source_of.ensures.kept c.in_ok-source_of.ensures.placed
+    c.in_ok-source_of.ensures.scoped

@@ -27,3 +27,4 @@ returns-clause-parsed g c =
     (without_mark c.args.params.text) c.in_ok-program.field-0 c.post_process.result c.in_ok-source_of.field-0
     c.modes_of-modes.ensures c.without_bom-params.ensures c.in_ok-program.ensures.read c.post_process.ensures
     c.in_ok-source_of.ensures.kept c.in_ok-source_of.ensures.placed
+    c.in_ok-source_of.ensures.scoped
