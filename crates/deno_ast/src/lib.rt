@@ -3,6 +3,7 @@
 //! - `parse_program(params)`, `parse_module`, `parse_script`, and their forms with a closure that changes the tree: the
 //!   source of a text (`IsParsed`, `specs/Source.antt`), or the fault for which there is none (`IsFault`). Both ways.
 //! - `ParsedSource`: what a source keeps (`Parsed`, `specs/Parsed.antt`); `sites`: where it names others.
+//! - `ParsedSource::analyze_es_runtime_exports`: what a source exports (`exports_of`, of `es_exports`).
 //! - `lex(source)`: the tokens and comments of a text by their places (`AreByPlace`, `specs/Lexing.antt`).
 //! - The sites of a source are those of its text (`source_sites`, `proofs/Theorems.antt`): what `read_sites` answers
 //!   without a tree.
@@ -36,6 +37,7 @@ pub use crate::syntax::{Syntax, get_syntax};
 pub use crate::tree::tree_of;
 pub use base::{Items, Range, Text};
 pub use es_comments::{CommentMap, CommentsIter, MultiThreadedComments, SingleThreadedComments};
+pub use es_exports::ModuleExportsAndReExports;
 pub use es_items::{Body, ModuleDeclRef, ModuleItemRef, StmtRef};
 pub use es_lexer::{LexError, LexicalError, LexicalKind};
 pub use es_literal::quote;

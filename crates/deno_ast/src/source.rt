@@ -4,6 +4,7 @@ ghost use Rattle.std.specs.Arc.{arc_value};
 ghost use Rattle.std.specs.Option.{option_map, option_copied};
 ghost use Rattle.deno_ast.specs.Refs.{tree_of};
 ghost use Rattle.es_items.specs.Lent.{lent_item};
+ghost use Rattle.es_exports.specs.Exports.{exports_of, reexports_of};
 ghost use Rattle.deno_ast.specs.Parsed as spec;
 ghost use Rattle.es_comments.specs.Standing.{ArePlaced};
 ghost use Rattle.deno_ast.specs.Source.{captured as kept};
@@ -16,6 +17,7 @@ use crate::reading::Reading;
 use crate::scopes::{ident_in, ids_if, ids_of};
 use base::{Items, Range};
 use es_comments::{MultiThreadedComments, comments_of};
+use es_exports::{ModuleExportsAndReExports, analyze_es_runtime_exports};
 use es_items::ModuleItemRef;
 use es_program::{Form, Program, SharedTokens};
 use es_site::Site;
@@ -240,6 +242,18 @@ impl ParsedSource {
     {
         let found = copy_sites(alloc, self.inner.references.as_slice())?;
         with_sites(found, copy_sites(alloc, self.inner.program.sites())?)
+    }
+
+    /// The names that the source exports at run time, and the modules whose names it exports again, in the order of its
+    /// items; a script has none.
+    pub fn analyze_es_runtime_exports(
+        &self,
+        alloc: Global,
+    ) -> Result<ModuleExportsAndReExports, AllocError>
+        ensures exports { IfOk result (λ it. it.exports ≡ exports_of self.now.tree) }
+        ensures reexports { IfOk result (λ it. it.reexports ≡ reexports_of self.now.tree) }
+    {
+        analyze_es_runtime_exports(alloc, &self.inner.program)
     }
 
     /// One more reference to the same source.
