@@ -1,0 +1,5 @@
+mod Places
+mod Pieces
+mod Slices
+mod Texts
+pub mod Theorems
