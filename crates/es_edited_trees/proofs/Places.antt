@@ -1,4 +1,4 @@
--- Tokens that are no string literals: inside each all places move by one and the same shift, and no change has its range.
+-- Tokens that are no string literals: inside each all places move by one shift, and no change has its range.
 use Rattle.std.specs.Prelude.{◌⊎◌, nat_le, slice_get, Some, None, if◌then◌else◌}
 use Rattle.std.proofs.Common.{◌≡◌, ℕ, zero, suc, ◌+◌, ◌-◌, ◌<◌, ◌≤◌, Bool, true, false, ◌&&◌, ◌==◌, List, [], ◌∷◌, refl, sym, ◌∙◌, ap, arith, inl, inr, length}
 use Rattle.std.proofs.lemmas.Bool.{ne_eqb}

@@ -24,6 +24,7 @@ new_at (c ∷ cs) r = if is_range c.range r then Some c.new_text else new_at cs 
 abbrev pub move_of : List TextChange → Move
 move_of changes = record { place = moved changes; other = new_at changes }
 
--- the old tree, where each literal in whose place another was put has its value and its spelling, and all places have moved
+-- the old tree, where each literal in whose place another was put has its value and its spelling, and all places have
+-- moved
 abbrev pub moved_program : List TextChange → Program → Program
 moved_program changes tree = trees.moved_program (move_of changes) tree

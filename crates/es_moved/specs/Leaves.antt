@@ -1,5 +1,5 @@
--- Names, literals and other leaves of types where the text has other string literals in their places: a leaf at a changed range
--- has the new text, any other its old one, and all places move.
+-- Names, literals and other leaves of types where the text has other string literals in the places of some: a leaf at a
+-- changed range has the new text, any other its old one, and all places move.
 use Rattle.std.specs.Prelude.{option_map, map}
 use Rattle.es_literal.specs.Values.{value_of, is_lone}
 use Rattle.ts_ast.specs.declared.leaf.Ident.{Ident}

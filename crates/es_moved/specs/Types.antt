@@ -1,5 +1,5 @@
--- Types where the text has other string literals in the places of some: each name and literal as its range says, and all places
--- move.
+-- Types where the text has other string literals in the places of some: each name and literal as its range says, and all
+-- places move.
 use Rattle.std.specs.Prelude.{option_map, map}
 use Rattle.ts_ast.specs.declared.ts.Nodes.{Nodes}
 use Rattle.ts_ast.specs.declared.ts.TsParamPat.{TsParamPat}
