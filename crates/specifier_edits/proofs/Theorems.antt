@@ -21,12 +21,15 @@ use Rattle.es_tree.specs.declared.error.Lang.{Lang}
 use Rattle.es_tree.specs.declared.error.Mode.{Mode}
 use Rattle.es_ast.specs.declared.ast.Program.{Program}
 use Rattle.es_derives.specs.Derives.{Derives}
+use Rattle.es_derives.proofs.Theorems.{one_tree}
 use Rattle.media_type.specs.declared.media_type.MediaType.{MediaType}
 use Rattle.media_type.specs.MediaType.{is_typed}
 use Rattle.source_reading.specs.Tree.{language_of, modes_of, IsFirstTree}
 use Rattle.source_reading.specs.Read.{IsRead, references_in, HasSites}
 use Rattle.es_edited_sites.specs.Moved.{SitesMove, HasRange, AtSites, attributes_of}
 use Rattle.es_edited_sites.proofs.Theorems.{sites_move, none_derives}
+use Rattle.es_edited_trees.specs.Changed.{moved_program}
+use Rattle.es_edited_trees.proofs.Theorems.{derives_move}
 use Rattle.es_site.specs.declared.site.Site.{Site}
 use Rattle.es_site.specs.Sites.{CutsLiteral, sites_of}
 use Rattle.es_references.specs.References.{references_of}
@@ -250,11 +253,12 @@ edits_at {A} lang modes media x tree references sites changes read names e =
     (subst (λ (ss : List Site). NamesLiterals ss 0 changes) e names))
 
 -- ---- the tree of the new text
--- it is derived first, too, and its sites have moved
+-- it is derived first, too, and is the old one, moved; and its sites have moved
 record FirstMoves (lang : Lang) (x : List ℕ) (ts : List Token) (changes : List TextChange) (modes : List Mode)
     (tree : Program) : Type 0 where
   other : Program
   first : IsFirstTree lang (text.changed x 0 changes) (map (token_to (moved changes)) ts) modes other
+  moves : other ≡ moved_program changes tree
   sites : SitesMove changes (sites_of tree) (sites_of other)
   attributes : AtSites (sites_of tree) changes → attributes_of (sites_of other) ≡ attributes_of (sites_of tree)
 
@@ -264,12 +268,22 @@ first_moves : (lang : Lang) (x : List ℕ) (ts : List Token) (cs : List Comment)
 first_moves lang x ts cs changes [] tree r c h = absurd h
 first_moves lang x ts cs changes (m ∷ modes) tree r c (inl d) =
     let still = sites_move lang m x ts cs changes tree r c d in
-    record { other = still.new; first = inl still.derived; sites = still.sites; attributes = still.attributes }
+    let moves : still.new ≡ moved_program changes tree = one_tree lang m (text.changed x 0 changes)
+    (map (token_to (moved changes)) ts) still.new (moved_program changes tree) still.derived
+    (derives_move lang m x ts cs changes tree r c d) in
+    record {
+      other = still.new;
+      first = inl still.derived;
+      moves = moves;
+      sites = still.sites;
+      attributes = still.attributes;
+    }
 first_moves lang x ts cs changes (m ∷ modes) tree r c (inr h) =
     let rest = first_moves lang x ts cs changes modes tree r c h.1 in
     record {
       other = rest.other;
       first = inr (λ other d. none_derives lang m x ts cs changes other r c h.0 d, rest.first);
+      moves = rest.moves;
       sites = rest.sites;
       attributes = rest.attributes;
     }
@@ -278,7 +292,7 @@ refer_same : (typed : Bool) {found other : List Site} → found ≡ other
     → (if typed then found else []) ≡ (if typed then other else [])
 refer_same typed e = ap (λ (ss : List Site). if typed then ss else []) e
 
--- it is read in the same language and by the same modes, and its sites are the old ones, moved
+-- it is read in the same language and by the same modes as the old tree, moved, and its sites are the old ones, moved
 pub keeps_sites : {A : Type 0} (x : List ℕ) (sites : List Site) (changes : List (ℕ × String A)) (y : List ℕ)
     → AreSites x sites → NamesLiterals sites 0 changes → y ≡ text.changed x 0 (edits sites changes)
     → KeepsSites x sites changes y
@@ -294,6 +308,7 @@ keeps_sites {A} x sites changes y a names same lang modes media tree references 
     subst (λ (z : List ℕ). ReadsMovedTree lang modes media sites made z tree references) (sym same) (record {
       other = first.other;
       read = record { tokens = ts; comments = cs; reads = m.reads; is_tree = first.first; refers = stay };
+      moves = first.moves;
       sites = first.sites;
       attributes = λ e.
           first.attributes (edits_at lang modes media x tree references sites changes read names e);

@@ -13,6 +13,7 @@ use Rattle.es_site.specs.Sites.{CutsLiteral, sites_of}
 use Rattle.media_type.specs.declared.media_type.MediaType.{MediaType}
 use Rattle.source_reading.specs.Read.{IsRead}
 use Rattle.es_edited_sites.specs.Moved.{SitesMove, attributes_of}
+use Rattle.es_edited_trees.specs.Changed.{moved_program}
 use Rattle.text_changes.specs.declared.change.TextChange.{TextChange}
 use Rattle.es_edited_tokens.specs.Moved.{moved, range_to, token_to, comment_to, cut, text_to}
 use Rattle.specifier_edits.specs.Sites.{is_reference, IsLiteral}
@@ -59,12 +60,13 @@ CutsSpecifiers sites changes new =
     All (λ change. CutsLiteral new (range_to (moved (edits sites changes)) (range_of (slice_get sites change.0)))
     (string_bytes change.1)) changes
 
--- the text is read in this language and these modes as a tree whose sites are those of this tree, moved; its comments
--- refer as these do
+-- the text is read in this language and these modes as this tree, moved; so its sites are those of this tree, moved;
+-- its comments refer as these do
 pub record ReadsMovedTree (lang : Lang) (modes : List Mode) (media : MediaType) (numbered : List Site)
     (changes : List TextChange) (new : List ℕ) (tree : Program) (references : List Site) : Type 0 where
   pub other : Program
   pub read : IsRead lang modes media new other references
+  pub moves : other ≡ moved_program changes tree
   pub sites : SitesMove changes (sites_of tree) (sites_of other)
   -- in the reading whose sites were numbered, attributes stay
   pub attributes : numbered ≡ references ++ sites_of tree

@@ -2,8 +2,9 @@
 //!
 //! - `rewrite_sites(text, sites, changes)`: the text with new string literals at these of its sites (`edits`,
 //!   `specs/Edits.antt`), each change the number of a site, from 0, and its new specifier. It is read as the old tokens and
-//!   comments, moved (`ReadsMoved`); where a site moved to, a literal of its new specifier stands (`CutsSpecifiers`); and
-//!   the sites of its tree are the old ones, moved, with their attributes, and those in comments stay (`KeepsSites`).
+//!   comments, moved (`ReadsMoved`); where a site moved to, a literal of its new specifier stands (`CutsSpecifiers`); its
+//!   tree is the old one, moved, with the new literals, and so are its sites, with their attributes, while those in comments
+//!   stay (`KeepsSites`).
 //! - `name_literals(sites, changes)`: whether the numbers ascend, each that of a literal (`NamesLiterals`).
 //! - `first_fault(sites, changes)`: the first number that doesn't, and why (`IsFirstFault`, `specs/Faults.antt`).
 //!

@@ -32,8 +32,8 @@ pub fn rewrite_sites(
     ensures texts { IfOk result (λ new. KeepsTexts text.now (spec.edits sites.now changes.now) (string_bytes new)) }
     // Where a site moved to, a literal of its new specifier stands.
     ensures cuts { IfOk result (λ new. CutsSpecifiers sites.now changes.now (string_bytes new)) }
-    // It is read as a program wherever the old one is; the sites of its tree are the old ones, moved, and those in comments
-    // stay.
+    // Wherever the old one is read as a tree, it is read as this tree, moved, with the new literals; so its sites are the
+    // old ones, moved. Those in comments stay.
     ensures sites { IfOk result (λ new. KeepsSites text.now sites.now changes.now (string_bytes new)) }
 {
     let edits = edits(alloc, sites, changes)?;
