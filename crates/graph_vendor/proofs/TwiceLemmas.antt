@@ -11,7 +11,7 @@ use Rattle.graph_builder.specs.Reach.{Specifier, has}
 use Rattle.graph_builder.specs.ByText.{value_at, keys_at, number_of}
 use Rattle.graph_builder.proofs.ByTextLemmas.{has-keys_at}
 use Rattle.graph_builder.proofs.NumberLemmas.{absent, present}
-use Rattle.graph_vendor.specs.declared.plan.VendorFile.{VendorFile}
+use Rattle.vendor_files.specs.declared.file.VendorFile.{VendorFile}
 use Rattle.graph_vendor.specs.Plan.{targets_of, first_twice}
 
 -- where none comes twice, all differ

@@ -23,7 +23,7 @@ use Rattle.graph_vendor.specs.declared.plan.VendorCause.{VendorCause}
 use Rattle.graph_vendor.specs.declared.plan.VendorCause.TheVariants.{ReferrerImport, NameTaken, NameNotKept}
 use Rattle.graph_vendor.specs.declared.plan.VendorError.{VendorError}
 use Rattle.graph_vendor.specs.declared.plan.VendorError.TheVariants.{Refused, OutOfMemory}
-use Rattle.graph_vendor.specs.declared.plan.VendorFile.{VendorFile}
+use Rattle.vendor_files.specs.declared.file.VendorFile.{VendorFile}
 use Rattle.graph_vendor.specs.declared.plan.VendorPlan.{VendorPlan}
 use Rattle.graph_vendor.specs.Names.{Entries, Names, Held, modules_of, names_in, target_at, renamed, literal}
 use Rattle.graph_vendor.specs.Refused.{IsFirstRefused}

@@ -9,7 +9,6 @@ ghost use Rattle.graph_vendor.specs.Files.{AreOwn, IsOwnSource, CanBeNamed, AreL
 
 use crate::kept::literal_for;
 use crate::names::{NewName, target_at};
-use crate::plan::VendorFile;
 use base::{Items, Range};
 use es_site::Site;
 use graph_builder::ModuleGraph;
@@ -19,6 +18,7 @@ use numbered::Numbered;
 use specifier_edits::rewrite_sites;
 use std::alloc::{AllocError, Global};
 use url::Url;
+use vendor_files::VendorFile;
 
 /// The files of the graph's modules, in their order.
 pub fn files_of(

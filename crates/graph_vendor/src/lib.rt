@@ -2,6 +2,8 @@
 //!
 //! - `plan_vendor(analyzer, graph, base)`: the files, the roots and what stays outside, or the first cause for which the
 //!   graph can't be vendored (`IsPlanned`, `specs/Plan.antt`).
+//! - `write_vendor(sys, plan, mode)`: the plan's files, written one after the other by atomic writes (`IsWritten`,
+//!   `specs/Written.antt` of `vendor_files`).
 //!
 //! Not promised: when memory runs out.
 #![tactic(auto)]
@@ -13,6 +15,9 @@ mod names;
 mod plan;
 mod refused;
 mod twice;
+mod written;
 
 pub use crate::names::NewName;
-pub use crate::plan::{VendorCause, VendorError, VendorFile, VendorPlan, plan_vendor};
+pub use crate::plan::{VendorCause, VendorError, VendorPlan, plan_vendor};
+pub use crate::written::write_vendor;
+pub use vendor_files::{VendorFile, VendorWriteError};

@@ -23,16 +23,7 @@ use graph_entry::{Entry, ModuleAnalyzer};
 use numbered::Numbered;
 use std::alloc::{AllocError, Global};
 use url::Url;
-
-/// A module as a file of the folder.
-#[derive(Drop)]
-pub struct VendorFile {
-    /// Its specifier in the graph.
-    pub source: Url,
-    /// Its new one.
-    pub target: Url,
-    pub bytes: Items<u8>,
-}
+use vendor_files::VendorFile;
 
 /// A graph's modules as files of a folder.
 #[derive(Drop)]

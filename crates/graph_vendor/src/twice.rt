@@ -4,10 +4,10 @@ ghost use Rattle.graph_entry.specs.Specifier.{text_of};
 ghost use Rattle.graph_builder.specs.ByText.{number_of};
 ghost use Rattle.graph_vendor.specs.Plan as spec;
 
-use crate::plan::VendorFile;
 use numbered::Numbered;
 use std::alloc::{AllocError, Global};
 use url::Url;
+use vendor_files::VendorFile;
 
 /// The old name of the first file whose new name is that of a file before it.
 pub fn first_twice(alloc: Global, files: &[VendorFile]) -> Result<Option<Url>, AllocError>

@@ -17,7 +17,7 @@ use Rattle.graph_builder.specs.Graph.{members_of, entry_of, resolved, texts}
 use Rattle.graph_builder.specs.Final.{is_redirect, is_module}
 use Rattle.graph_builder.proofs.ByTextLemmas.{distinct_sorted}
 use Rattle.graph_vendor.specs.declared.names.NewName.{NewName}
-use Rattle.graph_vendor.specs.declared.plan.VendorFile.{VendorFile}
+use Rattle.vendor_files.specs.declared.file.VendorFile.{VendorFile}
 use Rattle.graph_vendor.specs.Names.{Entries, Names, modules_of, name_of, names_from, target_at, renamed_by, renamed}
 use Rattle.graph_vendor.specs.Kept.{is_free_at, is_free, first_taken, Serves, IsKept, IsFirstLost}
 use Rattle.graph_vendor.specs.Plan.{bytes_of, files_of, targets_of, external}

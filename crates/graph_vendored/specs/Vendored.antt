@@ -17,7 +17,7 @@ use Rattle.graph_builder.specs.Reach.{Specifier, Answers, has}
 use Rattle.graph_builder.specs.ByText.{value_at}
 use Rattle.graph_builder.specs.Final.{is_redirect}
 use Rattle.graph_builder.specs.Graph.{texts, entry_of}
-use Rattle.graph_vendor.specs.declared.plan.VendorFile.{VendorFile}
+use Rattle.vendor_files.specs.declared.file.VendorFile.{VendorFile}
 use Rattle.graph_vendor.specs.declared.plan.VendorPlan.{VendorPlan}
 use Rattle.graph_vendor.specs.Names.{Entries, Names, renamed}
 use Rattle.graph_vendor.specs.Plan.{edit_of, literal_to}

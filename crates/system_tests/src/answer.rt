@@ -1,5 +1,6 @@
 //! What each call answers, as a text.
 
+use crate::files::files;
 use crate::systems::{real_path, turns};
 use crate::writes::{law, six_tries, temporary, write};
 use base::Text;
@@ -16,6 +17,7 @@ pub fn answer(alloc: Global, row: &Row) -> Result<String, AllocError> {
         "write" => write(alloc, row.at(1), row.number(2) as u64),
         "law" => law(alloc, row.at(1), row.number(2) as u64, row.number(3) as u64),
         "six tries" => six_tries(alloc),
+        "files" => files(alloc, row),
         "no memory" => {
             let copy = SysError::out_of_memory(alloc).copy()?;
             format!(in alloc; "{copy}")

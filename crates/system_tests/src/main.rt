@@ -3,6 +3,7 @@
 #![tactic(auto)]
 
 mod answer;
+mod files;
 mod systems;
 mod writes;
 

@@ -5,7 +5,7 @@ use Rattle.url.specs.Parts.{Parts}
 use Rattle.graph_entry.specs.Specifier.{text_of}
 use Rattle.graph_builder.specs.Reach.{Specifier, has}
 use Rattle.graph_builder.specs.ByText.{keys_at}
-use Rattle.graph_vendor.specs.declared.plan.VendorFile.{VendorFile}
+use Rattle.vendor_files.specs.declared.file.VendorFile.{VendorFile}
 use Rattle.graph_vendor.specs.Plan.{first_twice}
 use Rattle.graph_vendor.proofs.TwiceLemmas.{has_number, twice_here, twice_later}
 use Rattle.graph_vendor.proofs.twice.first_twice.Goals as goal

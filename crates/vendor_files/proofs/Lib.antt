@@ -1,0 +1,4 @@
+mod PlaceLemmas
+mod WriteLemmas
+mod OpenLemmas
+mod StandLemmas

@@ -1,0 +1,2 @@
+mod DueLemmas
+mod RunLemmas
