@@ -50,10 +50,10 @@ module _ (x : List ℕ) (ts : List Token) (start mid : Found) (old middle new : 
       go None right a q s = record { steps = tt }
       go (Some left) None a q s = record { steps = tt }
       go (Some left) (Some right) a q s =
-          steps_after x ts facts_of_expr (λ p. Assigned (vPat.Expr p.0) p.1 ∷ [])
-          (λ p. facts_of_expr p.0 ++ facts_of_expr p.1)
-          (λ p. vExpr.Assign vAssign.Assign (vPat.Expr p.0) p.1 r)
-          (λ p. facts.expr_Assign [] vAssign.Assign (vPat.Expr p.0) p.1 r
+          steps_after x ts facts_of_expr (λ (p : Expr × Expr). Assigned (vPat.Expr p.0) p.1 ∷ [])
+          (λ (p : Expr × Expr). facts_of_expr p.0 ++ facts_of_expr p.1)
+          (λ (p : Expr × Expr). vExpr.Assign vAssign.Assign (vPat.Expr p.0) p.1 r)
+          (λ (p : Expr × Expr). facts.expr_Assign [] vAssign.Assign (vPat.Expr p.0) p.1 r
           ∙ ap (λ (z : Facts). Assigned (vPat.Expr p.0) p.1 ∷ (z ++ facts_of_expr p.1)) (facts.pat_Expr [] p.0))
           (Some (left, right)) start mid new (a.sets ∙ sym (after_assigned start (vPat.Expr left) right))
           (two x ts (λ (z : Facts). z) [] new facts_of_expr facts_of_expr (λ a b. facts_of_expr a ++ facts_of_expr b)
@@ -81,8 +81,8 @@ module _ (x : List ℕ) (ts : List Token) (start mid : Found) (old middle new : 
       go None right a q s = record { steps = tt }
       go (Some left) None a q s = record { steps = tt }
       go (Some left) (Some right) a q s =
-          steps_after x ts facts_of_expr (λ p. Assigned p.0 p.1 ∷ []) (λ p. facts_of_pat p.0 ++ facts_of_expr p.1)
-          (λ p. vExpr.Assign vAssign.Assign p.0 p.1 r) (λ p. facts.expr_Assign [] vAssign.Assign p.0 p.1 r)
+          steps_after x ts facts_of_expr (λ (p : Pat × Expr). Assigned p.0 p.1 ∷ []) (λ (p : Pat × Expr). facts_of_pat p.0 ++ facts_of_expr p.1)
+          (λ (p : Pat × Expr). vExpr.Assign vAssign.Assign p.0 p.1 r) (λ (p : Pat × Expr). facts.expr_Assign [] vAssign.Assign p.0 p.1 r)
           (Some (left, right)) start mid new (a.sets ∙ sym (after_assigned start left right))
           (two x ts (λ (z : Facts). z) [] new facts_of_pat facts_of_expr (λ a b. facts_of_pat a ++ facts_of_expr b)
           (λ a b. refl) (Some left) (Some right) middle q s)

@@ -111,8 +111,12 @@ equal_by kind from to is =
     (sym (same_true the_type tt kind k.Equal is)) refl
 
 -- ---- between two nodes
+end_of : Option (ℕ × ℕ) → ℕ
+end_of (Some p) = p.1
+end_of None = 0
+
 ends_at : (v : Value) (from to : ℕ) → place_of v ≡ Some (from, to) → behind v ≡ to
-ends_at (node m n it) from to e = cc
+ends_at (node m n it) from to e = ap end_of e
 ends_at absent from to e = let bad : ⊥ = cc in absurd bad
 ends_at nil from to e = let bad : ⊥ = cc in absurd bad
 ends_at (token n) from to e = let bad : ⊥ = cc in absurd bad

@@ -55,7 +55,7 @@ module _ (x : List ℕ) (ts : List Token) (start now : Found) (old new : List Ta
   -- by a kind that binds
   var_by : (kind : Option VarDeclKind) (first : Option VarDeclarator) (others : Option (List VarDeclarator))
       → Binds kind → VarSteps x ts first others start now old new → old ≡ []
-      → Steps x ts (of facts_of_decl (option_map (λ v. vDecl.Var declare v.0 v.1 r)
+      → Steps x ts (of facts_of_decl (option_map (λ (v : VarDeclKind × List VarDeclarator). vDecl.Var declare v.0 v.1 r)
       (given kind (λ kind. given (declarators first others) (λ decls. Some (kind, decls)))))) start now new
   var_by None first others b v e = record { steps = tt }
   var_by (Some kind) first others b v e =
@@ -65,7 +65,7 @@ module _ (x : List ℕ) (ts : List Token) (start now : Found) (old new : List Ta
     where
       go : (o : Option (List VarDeclarator)) → IfSome o (λ decls. now ≡ after start
           (map Bound decls)) → Queues x ts (of (flat_map facts_of_var_declarator) o) [] new
-          → Steps x ts (of facts_of_decl (option_map (λ v. vDecl.Var declare v.0 v.1 r)
+          → Steps x ts (of facts_of_decl (option_map (λ (v : VarDeclKind × List VarDeclarator). vDecl.Var declare v.0 v.1 r)
           (given o (λ decls. Some (kind, decls))))) start now new
       go None found q = record { steps = tt }
       go (Some decls) found q =
@@ -75,7 +75,7 @@ module _ (x : List ℕ) (ts : List Token) (start now : Found) (old new : List Ta
 
   pub var_variables : (word : Option Token) (first : Option VarDeclarator) (others : Value)
       → VarSteps x ts first (turns (λ turn. declarator_at turn 0) others) start now old new → old ≡ []
-      → Steps x ts (of facts_of_decl (option_map (λ v. vDecl.Var declare v.0 v.1 r) (list.var_of word first others)))
+      → Steps x ts (of facts_of_decl (option_map (λ (v : VarDeclKind × List VarDeclarator). vDecl.Var declare v.0 v.1 r) (list.var_of word first others)))
       start now new
   unfolding list.var_of
   var_variables word first others v e =
@@ -90,7 +90,7 @@ module _ (x : List ℕ) (ts : List Token) (start : Found) (old new : List Task) 
 
   using_by : (is_await : Bool) (o : Option (List VarDeclarator))
       → Queues x ts (of (flat_map facts_of_var_declarator) o) old new
-      → Queues x ts (of facts_of_decl (option_map (λ v. vDecl.Var declare v.0 v.1 r)
+      → Queues x ts (of facts_of_decl (option_map (λ (v : VarDeclKind × List VarDeclarator). vDecl.Var declare v.0 v.1 r)
       (given o (λ decls. Some (using_kind is_await, decls))))) old new
   using_by is_await None q = record { queues = tt }
   using_by is_await (Some decls) q =
@@ -100,7 +100,7 @@ module _ (x : List ℕ) (ts : List Token) (start : Found) (old new : List Task) 
   pub using_variables : (is_await : Bool) (first : Option VarDeclarator) (others : Value)
       → Queues x ts (of (flat_map facts_of_var_declarator)
       (declarators first (turns (λ turn. declarator_at turn 0) others))) old new → old ≡ []
-      → Steps x ts (of facts_of_decl (option_map (λ v. vDecl.Var declare v.0 v.1 r) (list.using_of is_await first
+      → Steps x ts (of facts_of_decl (option_map (λ (v : VarDeclKind × List VarDeclarator). vDecl.Var declare v.0 v.1 r) (list.using_of is_await first
       others))) start start new
   unfolding list.using_of
   using_variables is_await first others q e =
@@ -118,13 +118,13 @@ module _ (x : List ℕ) (ts : List Token) (start now : Found) (old new : List Ta
       (turns (λ turn. declarator_at turn 0) others) (kind_binds (option_map (λ t. t.kind) word)) v e
 
   pub plain_variables : (o : Option Variables)
-      → Steps x ts (of facts_of_decl (option_map (λ v. vDecl.Var false v.0 v.1 r) o)) start now new
+      → Steps x ts (of facts_of_decl (option_map (λ (v : VarDeclKind × List VarDeclarator). vDecl.Var false v.0 v.1 r) o)) start now new
       → Steps x ts (of facts_of_decl (view.var_decl r o)) start now new
   unfolding view.var_decl
   plain_variables o s = s
 
   pub declared_variables : (o : Option Variables)
-      → Steps x ts (of facts_of_decl (option_map (λ v. vDecl.Var true v.0 v.1 r) o)) start now new
+      → Steps x ts (of facts_of_decl (option_map (λ (v : VarDeclKind × List VarDeclarator). vDecl.Var true v.0 v.1 r) o)) start now new
       → Steps x ts (of facts_of_decl (view.declared_variables r o)) start now new
   unfolding view.declared_variables
   declared_variables o s = s

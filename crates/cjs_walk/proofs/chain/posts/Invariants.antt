@@ -8,7 +8,7 @@ use Rattle.cjs_walk.proofs.chain.posts.Given as goal
 abbrev pub invariant-loop-turn : goal.invariant-loop-turn
 invariant-loop-turn l =
     PostsLeft l.text l.tokens (held l.text l.tokens l.others.entries.now) (held l.text l.tokens l.row.entries.now)
-    (spot l.text l.tokens l.along l.initial.found l.initial.next) (spot l.text l.tokens l.by_now l.found l.next)
+    (spot l.text l.tokens l.fn.along l.initial.found l.initial.next) (spot l.text l.tokens l.by_now l.found l.next)
 
 abbrev pub decreases-loop-turn : goal.decreases-loop-turn
 decreases-loop-turn l = length l.row.entries.now
