@@ -6,6 +6,8 @@ mod comments;
 #[cfg(test)]
 mod diagnostics;
 #[cfg(test)]
+mod exports;
+#[cfg(test)]
 mod lexing;
 #[cfg(test)]
 mod parsed;

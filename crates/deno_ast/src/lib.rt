@@ -3,7 +3,8 @@
 //! - `parse_program(params)`, `parse_module`, `parse_script`, and their forms with a closure that changes the tree: the
 //!   source of a text (`IsParsed`, `specs/Source.antt`), or the fault for which there is none (`IsFault`). Both ways.
 //! - `ParsedSource`: what a source keeps (`Parsed`, `specs/Parsed.antt`); `sites`: where it names others.
-//! - `ParsedSource::analyze_es_runtime_exports`: what a source exports (`exports_of`, of `es_exports`).
+//! - `ParsedSource::analyze_cjs`, `analyze_es_runtime_exports`: what a source exports (`AreExports`, of `cjs_facts`;
+//!   `exports_of`, of `es_exports`).
 //! - `lex(source)`: the tokens and comments of a text by their places (`AreByPlace`, `specs/Lexing.antt`).
 //! - The sites of a source are those of its text (`source_sites`, `proofs/Theorems.antt`): what `read_sites` answers
 //!   without a tree.
@@ -32,7 +33,7 @@ pub use crate::parsing::{
     parse_script, parse_script_with_post_process, parse_text,
 };
 pub use crate::program_ref::ProgramRef;
-pub use crate::source::ParsedSource;
+pub use crate::source::{CjsAnalysis, ParsedSource};
 pub use crate::syntax::{Syntax, get_syntax};
 pub use crate::tree::tree_of;
 pub use base::{Items, Range, Text};

@@ -5,6 +5,7 @@ ghost use Rattle.std.specs.Option.{option_map, option_copied};
 ghost use Rattle.deno_ast.specs.Refs.{tree_of};
 ghost use Rattle.es_items.specs.Lent.{lent_item};
 ghost use Rattle.es_exports.specs.Exports.{exports_of, reexports_of};
+ghost use Rattle.cjs_facts.specs.Exports.{AreExports};
 ghost use Rattle.deno_ast.specs.Parsed as spec;
 ghost use Rattle.es_comments.specs.Standing.{ArePlaced};
 ghost use Rattle.deno_ast.specs.Source.{captured as kept};
@@ -16,6 +17,7 @@ use crate::program_ref::ProgramRef;
 use crate::reading::Reading;
 use crate::scopes::{ident_in, ids_if, ids_of};
 use base::{Items, Range};
+use cjs_exports::analyze_cjs;
 use es_comments::{MultiThreadedComments, comments_of};
 use es_exports::{ModuleExportsAndReExports, analyze_es_runtime_exports};
 use es_items::ModuleItemRef;
@@ -30,6 +32,9 @@ use std::alloc::{AllocError, Global};
 use std::marker::Model;
 use std::sync::Arc;
 use url::Url;
+
+/// What a source exports as a module of CommonJS.
+pub type CjsAnalysis = ModuleExportsAndReExports;
 
 /// A source that was parsed: its text, its tree and its comments. Its copies share all of them.
 #[derive(Drop)]
@@ -242,6 +247,14 @@ impl ParsedSource {
     {
         let found = copy_sites(alloc, self.inner.references.as_slice())?;
         with_sites(found, copy_sites(alloc, self.inner.program.sites())?)
+    }
+
+    /// The names that the source exports as a module of CommonJS, and the modules whose names it exports again: both
+    /// ascending by bytes, each once, without getters that may do something. A module of ECMAScript is read in the same way.
+    pub fn analyze_cjs(&self, alloc: Global) -> Result<CjsAnalysis, AllocError>
+        ensures { IfOk result (λ it. AreExports self.now.tree it.exports it.reexports) }
+    {
+        analyze_cjs(alloc, &self.inner.program)
     }
 
     /// The names that the source exports at run time, and the modules whose names it exports again, in the order of its
