@@ -20,20 +20,20 @@ extern "C" {
 
 /* How a call ended. */
 enum {
-    JORAVELSU_DONE = 0,            /* the report, the sites or the calls were written */
+    JORAVELSU_DONE = 0,            /* the report, the sites, the calls, the text or the names were written */
     JORAVELSU_TOO_MANY_MODULES = 1,/* build: more is reached than the bundle allows; a line that says so was written */
     JORAVELSU_BAD_BUNDLE = 2,      /* build: over 16 MiB, no JSON, or no bundle; a line that says which was written */
     JORAVELSU_NO_ROOM = 4,         /* a buffer is too small: nothing was written, and the call answers what is needed */
     JORAVELSU_NO_MEMORY = 5,       /* out of memory: nothing was written */
-    JORAVELSU_TOO_LONG = 6,        /* sites, unread, rewrite: the text is over 16 MiB */
-    JORAVELSU_NO_UTF8 = 7,         /* sites, unread, rewrite: the text is no UTF-8; the answer says from which byte on, counted from
-                                      the first, that of a byte order mark too */
-    JORAVELSU_NO_MEDIA_TYPE = 8,   /* sites, rewrite: no media type has this number */
-    JORAVELSU_NOT_READ = 9,        /* sites, rewrite: modules of this media type are no sources */
-    JORAVELSU_LEXICAL_FAULT = 10,  /* sites, unread, rewrite: a part of the text is no token; the answer says which fault,
-                                      and where */
-    JORAVELSU_SYNTAX_FAULT = 11,   /* sites, rewrite: the tokens are no program of the grammar; the answer says where that
-                                      was noticed (the one place that no proof covers) */
+    JORAVELSU_TOO_LONG = 6,        /* sites, unread, rewrite, exports: the text is over 16 MiB */
+    JORAVELSU_NO_UTF8 = 7,         /* sites, unread, rewrite, exports: the text is no UTF-8; the answer says from which byte on,
+                                      counted from the first, that of a byte order mark too */
+    JORAVELSU_NO_MEDIA_TYPE = 8,   /* sites, rewrite, exports: no media type has this number */
+    JORAVELSU_NOT_READ = 9,        /* sites, rewrite, exports: modules of this media type are no sources */
+    JORAVELSU_LEXICAL_FAULT = 10,  /* sites, unread, rewrite, exports: a part of the text is no token; the answer says which
+                                      fault, and where */
+    JORAVELSU_SYNTAX_FAULT = 11,   /* sites, rewrite, exports: the tokens are no program of the grammar; the answer says where
+                                      that was noticed (the one place that no proof covers) */
     JORAVELSU_NO_VALUE = 12,       /* rewrite: a change's specifier isn't in the buffer of values, or is no UTF-8 */
     JORAVELSU_NO_SITE = 13,        /* rewrite: no site has the number of a change */
     JORAVELSU_NO_LITERAL = 14,     /* rewrite: the site of a change stands in a comment */
@@ -148,6 +148,22 @@ typedef struct joravelsu_rewrite_answer {
     size_t place;       /* where the fault is, else 0 */
 } joravelsu_rewrite_answer;
 
+/* A name that a source exports, or a module whose names it exports again: where its text stands in the buffer for values, in
+ * UTF-8, not ended by a 0. */
+typedef struct joravelsu_name {
+    size_t start;
+    size_t end;
+} joravelsu_name;
+
+/* What joravelsu_exports answers beside its buffers. */
+typedef struct joravelsu_exports_answer {
+    size_t exports;     /* how many names the text exports: the first records */
+    size_t reexports;   /* how many modules' names it exports again: the records behind these. The buffer for names must hold both */
+    size_t value_bytes; /* how many bytes all of these have: what the buffer for values must hold */
+    uint32_t fault;     /* the lexical fault at JORAVELSU_LEXICAL_FAULT, else 0 */
+    size_t place;       /* where the fault is, else 0 */
+} joravelsu_exports_answer;
+
 /* The version of the library: 10,000 times its first number, 100 times its second, and its third; 100 is 0.1.0. */
 uint32_t joravelsu_version(void);
 
@@ -221,6 +237,24 @@ uint32_t joravelsu_unread(const uint8_t *text, size_t text_length, joravelsu_cal
 uint32_t joravelsu_rewrite(const uint8_t *text, size_t text_length, uint32_t media_type, const joravelsu_change *changes,
                            size_t changes_length, const uint8_t *values, size_t values_length, uint8_t *buffer,
                            size_t buffer_length, joravelsu_rewrite_answer *answer);
+
+/* The names that a source text exports, and the modules whose names it exports again.
+ *
+ * text, text_length, media_type: as for joravelsu_sites.
+ * common_js: 0 for what a module of ECMAScript exports at run time, in the order of its items, each as often as it is exported:
+ *   a script has none. Another number for what a module of CommonJS exports, as far as its text tells: names that are assigned
+ *   to exports or module.exports, and those of Object.defineProperty, ascending by bytes, each once, but for getters that may do
+ *   something; docs/EMBEDDING.md lists the forms.
+ * names, names_length: a record for each name is written here, those of the modules behind the others; the length counts
+ *   records.
+ * values, values_length: the texts of all names are written here, one behind the other.
+ * answer: always written; where a buffer is too small, it says what both must hold.
+ *
+ * Answers JORAVELSU_DONE, or why nothing was written into the buffers: as joravelsu_sites, in its order.
+ */
+uint32_t joravelsu_exports(const uint8_t *text, size_t text_length, uint32_t media_type, uint32_t common_js,
+                           joravelsu_name *names, size_t names_length, uint8_t *values, size_t values_length,
+                           joravelsu_exports_answer *answer);
 
 #ifdef __cplusplus
 }

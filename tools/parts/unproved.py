@@ -246,6 +246,8 @@ fn main(rt: HostRuntime) {
     let _ = joravelsu_unread(rt.alloc(), b"", &mut [], &mut told);
     let mut made = RewriteAnswer { needed: 0, change: 0, fault: 0, place: 0 };
     let _ = joravelsu_rewrite(rt.alloc(), b"", 3, &[], b"", &mut [], &mut made);
+    let mut exported = ExportsAnswer { exports: 0, reexports: 0, value_bytes: 0, fault: 0, place: 0 };
+    let _ = joravelsu_exports(rt.alloc(), b"", 3, 0, &mut [], &mut [], &mut exported);
 }
 """
 

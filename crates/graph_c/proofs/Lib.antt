@@ -1,3 +1,4 @@
 pub mod AnswerLemmas
 pub mod FindingLemmas
+pub mod ExportLemmas
 mod RewriteLemmas

@@ -6,4 +6,5 @@ pub mod Told
 pub mod Answer
 pub mod Calls
 pub mod Rewrite
+pub mod Exports
 pub mod Build

@@ -100,7 +100,8 @@ fn tell(
     Ok(status_of(finding, fit))
 }
 
-fn are_within(sites: usize, sites_room: usize, values: usize, values_room: usize) -> bool
+/// Whether two buffers with so much room hold so much.
+pub fn are_within(sites: usize, sites_room: usize, values: usize, values_room: usize) -> bool
     ensures { result ≡ (nat_le sites sites_room && nat_le values values_room) }
 {
     sites <= sites_room && values <= values_room

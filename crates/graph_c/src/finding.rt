@@ -1,4 +1,4 @@
-//! What there is to tell of a source: its sites, or its unread calls, or why it has none.
+//! What there is to tell of a source: its sites, its unread calls, or its exports, or why it has none.
 ghost use Rattle.std.specs.Prelude.{◌≡◌, ◌++◌, IfOk};
 ghost use Rattle.es_lexer.specs.Reads.{Reads};
 ghost use Rattle.graph_c.specs.Finding.{IsFinding, OfKind, OfBytes, OfText, OfTree, OfCalls, IsFault};
@@ -9,6 +9,7 @@ ghost use Rattle.unread_calls.specs.Unread.{unread_of};
 use crate::media_types::media_type_at;
 use crate::text::{NoText, text_of};
 use base::Items;
+use es_exports::ModuleExportsAndReExports;
 use es_lexer::{LexError, Lexed, LexicalError, Token, lex_tokens};
 use es_site::Site;
 use es_tree::SyntaxError;
@@ -24,6 +25,8 @@ pub enum Finding {
     Found(Items<Site>),
     /// Its calls that no edge stands for, in the order of the text.
     Calls(Items<UnreadCall>),
+    /// The names that it exports, and the modules whose names it exports again.
+    Exports(ModuleExportsAndReExports),
     /// No tokens read it: the first fault.
     Lexical(LexicalError),
     /// Its tokens have no tree, as is noticed at this byte.
@@ -97,8 +100,8 @@ fn calls_of_tokens(alloc: Global, tokens: &[Token]) -> Result<Finding, AllocErro
     Ok(Finding::Calls(unread_calls(alloc, tokens)?))
 }
 
-// The fault of a text, where memory didn't run out.
-fn lexical(error: LexError) -> Result<Finding, AllocError>
+/// The fault of a text, where memory didn't run out.
+pub fn lexical(error: LexError) -> Result<Finding, AllocError>
     ensures { IfOk result (IsFault error) }
 {
     match error {
@@ -142,8 +145,8 @@ fn found_behind_references(
     Ok(Finding::Found(with_sites(references, sites)?))
 }
 
-// Where the token begins, or the end of the text.
-fn start_of(text: &str, tokens: &[Token], token: usize) -> usize {
+/// Where the token begins, or the end of the text.
+pub fn start_of(text: &str, tokens: &[Token], token: usize) -> usize {
     match tokens.get(token) {
         Some(token) => token.range().start,
         None => text.len(),

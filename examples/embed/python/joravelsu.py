@@ -6,6 +6,10 @@
     [Call(kind='import', start=0, end=9), Call(kind='require', start=11, end=23)]
     >>> rewrite('import "./b.ts"; import("./c.ts");', TYPESCRIPT, {0: "./lib/b.ts"})
     'import "./lib/b.ts"; import("./c.ts");'
+    >>> exports_of('export const a = 1; export * from "./b.js";', MJS)
+    Exports(names=['a'], again=['./b.js'])
+    >>> exports_of('exports.b = 1; module.exports.a = 2;', CJS, common_js=True)
+    Exports(names=['a', 'b'], again=[])
 
 The library is found by the variable JORAVELSU_LIBRARY, the path of libjoravelsu.so, or else by the system.
 """
@@ -78,6 +82,14 @@ class Call(NamedTuple):
     """The byte behind its closing bracket."""
 
 
+class Exports(NamedTuple):
+    """What a source exports."""
+
+    names: list[str]
+    again: list[str]
+    """The modules whose names it exports again."""
+
+
 class SourceError(ValueError):
     """Why a source isn't read. `status` is the library's; `place` is the byte of the text at which a fault is, or None."""
 
@@ -145,6 +157,20 @@ class _RewriteAnswer(ctypes.Structure):
     ]
 
 
+class _Name(ctypes.Structure):
+    _fields_ = [("start", ctypes.c_size_t), ("end", ctypes.c_size_t)]
+
+
+class _ExportsAnswer(ctypes.Structure):
+    _fields_ = [
+        ("exports", ctypes.c_size_t),
+        ("reexports", ctypes.c_size_t),
+        ("value_bytes", ctypes.c_size_t),
+        ("fault", ctypes.c_uint32),
+        ("place", ctypes.c_size_t),
+    ]
+
+
 def _load() -> ctypes.CDLL:
     path = os.environ.get("JORAVELSU_LIBRARY", "libjoravelsu.so")
     try:
@@ -162,6 +188,9 @@ def _load() -> ctypes.CDLL:
     changes = [ctypes.POINTER(_Change), size, text, size]
     library.joravelsu_rewrite.argtypes = [text, size, ctypes.c_uint32, *changes, text, size, ctypes.POINTER(_RewriteAnswer)]
     library.joravelsu_rewrite.restype = ctypes.c_uint32
+    names = [ctypes.POINTER(_Name), size, text, size]
+    library.joravelsu_exports.argtypes = [text, size, ctypes.c_uint32, ctypes.c_uint32, *names, ctypes.POINTER(_ExportsAnswer)]
+    library.joravelsu_exports.restype = ctypes.c_uint32
     library.joravelsu_version.argtypes = []
     library.joravelsu_version.restype = ctypes.c_uint32
     return library
@@ -267,6 +296,30 @@ def rewrite(text: str | bytes, media_type: int, specifiers: dict[int, str]) -> s
         if status != _NO_ROOM:
             raise _refused(status, answer.place)
         length = answer.needed
+
+
+def exports_of(text: str | bytes, media_type: int, common_js: bool = False) -> Exports:
+    """The names that a source exports, and the modules whose names it exports again. Raises SourceError where it isn't read.
+
+    At run time, in the order of its items; or as a module of CommonJS, as far as its text tells, ascending and each once.
+    """
+    source = text.encode() if isinstance(text, str) else bytes(text)
+    answer = _ExportsAnswer()
+    names_length, values_length = 64, 4096
+    while True:
+        names, values = (_Name * names_length)(), ctypes.create_string_buffer(values_length)
+        status = _library.joravelsu_exports(
+            source, len(source), media_type, int(common_js), names, names_length, values, values_length, ctypes.byref(answer)
+        )
+        if status == _NO_MEMORY:
+            raise MemoryError
+        if status == _DONE:
+            held = values.raw
+            told = [_text_of(held, it.start, it.end) for it in names[: answer.exports + answer.reexports]]
+            return Exports(told[: answer.exports], told[answer.exports :])
+        if status != _NO_ROOM:
+            raise _refused(status, answer.place)
+        names_length, values_length = answer.exports + answer.reexports, answer.value_bytes
 
 
 def graph(bundle: str | bytes | dict) -> str:

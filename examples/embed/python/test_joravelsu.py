@@ -42,6 +42,18 @@ def raw_rewrite(text, media_type, records, values, length):
     return status, (answer.needed, answer.change, answer.fault, answer.place), buffer.raw[:-1]
 
 
+def raw_exports(text, media_type, common_js, names_length, values_length):
+    """The same of exports."""
+    names, values = (joravelsu._Name * (names_length + 1))(), ctypes.create_string_buffer(b"#" * (values_length + 1))
+    names[0].start = 99
+    answer = joravelsu._ExportsAnswer(7, 7, 7, 7, 7)
+    status = joravelsu._library.joravelsu_exports(
+        text, len(text), media_type, common_js, names, names_length, values, values_length, ctypes.byref(answer)
+    )
+    untouched = names[0].start == 99 and values.raw[:-1] == b"#" * (values_length + 1)
+    return status, (answer.exports, answer.reexports, answer.value_bytes, answer.fault, answer.place), untouched
+
+
 class Version(unittest.TestCase):
     def test_version(self):
         self.assertEqual(joravelsu.version(), (0, 1, 0))
@@ -213,6 +225,56 @@ class Rewriting(unittest.TestCase):
             # the byte behind the buffer stays as it was
             self.assertEqual(raw_rewrite(text, mjs, records, values, length), (status, answer, held + b"#"), records)
         self.assertEqual(raw_rewrite(text, 99, [(5, 9, 3)], b"", 0)[:2], (8, (0, 0, 0, 0)))
+
+
+class Exports(unittest.TestCase):
+    def test_of_modules(self):
+        rows = [
+            ('export { z } from "./o.js"; export const [p, q] = r;', joravelsu.MJS, ["z", "p", "q"], []),
+            ("export class A {} export enum B {} export module C.Test {} export { h1 as h, other as 'testing-this' };",
+             joravelsu.TYPESCRIPT, ["A", "B", "C", "h", "testing-this"], []),
+            ('export * from "./ö.js"; export * as y from "y"; export default 1;', joravelsu.MJS, ["y", "default"], ["./ö.js"]),
+            ("exports.a = 1;", joravelsu.CJS, [], []),
+            ("", joravelsu.JAVASCRIPT, [], []),
+        ]
+        for text, media_type, names, again in rows:
+            self.assertEqual(joravelsu.exports_of(text, media_type), (names, again), text)
+
+    def test_of_modules_of_common_js(self):
+        rows = [
+            ('module.exports = require("./a"); exports.b = 1; module.exports = require("./c");', ["b"], ["./c"]),
+            ("exports.ö = exports.b = exports.b = 1;", ["b", "ö"], []),
+            ("Object.defineProperty(exports, 'a', { get: function () { return b(); } }); exports.c = 1;", ["c"], []),
+            ('export * from "./b.js";', [], []),
+            ("let exports2 = {};", [], []),
+        ]
+        for text, names, again in rows:
+            media_type = joravelsu.MJS if text.startswith("export *") else joravelsu.CJS
+            self.assertEqual(joravelsu.exports_of(text, media_type, common_js=True), (names, again), text)
+
+    def test_many(self):
+        text = "".join(f"export let a{i};" for i in range(1000))
+        self.assertEqual(joravelsu.exports_of(text, joravelsu.MJS).names, [f"a{i}" for i in range(1000)])
+
+    def test_refusals(self):
+        for text, media_type, status, place in (
+            (b"\xff", joravelsu.MJS, 7, 0), (b'import "a', joravelsu.MJS, 10, 7), (b"a b", joravelsu.MJS, 11, 2),
+            (b"export {}", joravelsu.CJS, 11, 0), (b"{}", joravelsu.JSON, 9, None), (b"", 99, 8, None),
+            (b" " * ((1 << 24) + 1), joravelsu.MJS, 6, None),
+        ):
+            for common_js in (False, True):
+                with self.assertRaises(joravelsu.SourceError) as caught:
+                    joravelsu.exports_of(text, media_type, common_js)
+                self.assertEqual((caught.exception.status, caught.exception.place), (status, place))
+
+    def test_buffers(self):
+        text, mjs = b'export let a, bc; export * from "d";', joravelsu.MJS
+        for names_length, values_length, status in ((3, 4, 0), (2, 4, 4), (3, 3, 4), (0, 0, 4)):
+            told = raw_exports(text, mjs, 0, names_length, values_length)
+            self.assertEqual(told, (status, (2, 1, 4, 0, 0), status == 4))
+        self.assertEqual(raw_exports(text, mjs, 5, 0, 0), (0, (0, 0, 0, 0, 0), True))
+        self.assertEqual(raw_exports(b"exports.a = 1;", joravelsu.CJS, 5, 1, 1), (0, (1, 0, 1, 0, 0), False))
+        self.assertEqual(raw_exports(b"a b", mjs, 0, 0, 0), (11, (0, 0, 0, 0, 2), True))
 
 
 class Graphs(unittest.TestCase):
