@@ -1,5 +1,5 @@
 -- The numbers of a program's names, and its declarations, by its parts.
-use Rattle.std.specs.Prelude.{◌≡◌, ◌≢◌, ℕ, true, List, Option, Some, None, slice_get}
+use Rattle.std.specs.Prelude.{◌≡◌, ◌≢◌, ℕ, true, List, Option, Some, None, MatchOption, slice_get}
 use Rattle.es_token.specs.declared.token.Token.{Token}
 use Rattle.es_lexer.specs.Reads.{ReadsTokens}
 use Rattle.es_ast.specs.declared.ast.Program.{Program}
@@ -30,6 +30,12 @@ module _ (p : Program) (x : List ℕ) (ts : List Token) (es : List Entry) (reads
 
   pub names_in : (numbers : List ℕ) (at : ℕ) (it : Ident) → Names x ts numbers at it → NamesIn p numbers at it
   names_in numbers at it names = record { parts = its_parts; names = names }
+
+  pub ident_told : (numbers : List ℕ) (at : ℕ) (o : Option Ident)
+      → MatchOption o (slice_get ts at ≡ None) (Names x ts numbers at)
+      → MatchOption o (HasNoToken p at) (NamesIn p numbers at)
+  ident_told numbers at None none = no_token at none
+  ident_told numbers at (Some it) names = names_in numbers at it names
 
 -- where scopes were analysed, their numbers are there
 pub scopes_kept : (p : Program) (scopes : Option (List ℕ)) → AreScoped true p scopes → scopes ≢ None

@@ -28,7 +28,7 @@ pub fn ids_if(alloc: Global, asked: bool, program: &Program) -> Result<Option<Sc
 }
 
 /// The name that the token of this number is.
-#[tactic(auto, using(crate::proofs::ScopeLemmas::names_in, crate::proofs::ScopeLemmas::no_token))]
+#[tactic(auto, using(crate::proofs::ScopeLemmas::ident_told))]
 pub fn ident_in<'a>(program: &'a Program, ids: &ScopeIds, at: u32) -> Option<Ident<'a>>
     ensures { MatchOption result (HasNoToken program.now at) (NamesIn program.now ids.now at) }
 {
