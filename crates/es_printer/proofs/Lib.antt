@@ -1,0 +1,7 @@
+pub mod Equations
+pub mod RowLemmas
+pub mod TurnLemmas
+pub mod LeanLemmas
+pub mod WalkLemmas
+pub mod SheetLemmas
+pub mod LineLemmas

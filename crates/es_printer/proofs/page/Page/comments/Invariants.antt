@@ -1,0 +1,8 @@
+use Rattle.std.proofs.Common.{◌≡◌, take}
+use Rattle.std.specs.Prelude.{fold}
+use Rattle.es_printer.specs.Lines.{comment_line}
+use Rattle.es_printer.proofs.page.Page.comments.Given as goal
+
+-- the page after the comments so far
+abbrev pub invariant-loop-comment : goal.invariant-loop-comment
+invariant-loop-comment l = l.self ≡ fold comment_line l.initial.self (take l.comment-index l.comments)
