@@ -111,7 +111,7 @@ equal_by kind from to is =
     (sym (same_true the_type tt kind k.Equal is)) refl
 
 -- ---- between two nodes
-end_of : Option (ℕ × ℕ) → ℕ
+abbrev end_of : Option (ℕ × ℕ) → ℕ
 end_of (Some p) = p.1
 end_of None = 0
 
