@@ -16,7 +16,8 @@ use Rattle.es_module_views.specs.Program as view
 use Rattle.cjs_facts.specs.declared.found.Found.{Found}
 use Rattle.cjs_facts.specs.declared.found.Var.{Var}
 use Rattle.cjs_facts.specs.Facts.{Facts, facts_of, facts_of_module_item, facts_of_stmt}
-use Rattle.cjs_facts.specs.Exports.{Name, after, found_in}
+use Rattle.cjs_facts.specs.Looks.{Name}
+use Rattle.cjs_facts.specs.Exports.{after, found_in}
 use Rattle.cjs_tasks.specs.declared.tasks.Each.TheVariants as each
 use Rattle.cjs_tasks.specs.declared.tasks.Task.{Task}
 use Rattle.cjs_tasks.specs.declared.tasks.Task.TheVariants as task
