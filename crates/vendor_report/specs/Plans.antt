@@ -1,6 +1,6 @@
 -- What is written of a plan: a bundle of its files in JSON (RFC 8259, without blanks), or the line of a refusal (this
 -- project's profile).
-use Rattle.std.specs.Prelude.{ℕ, nat_eq, Bool, true, false, not, ◌||◌, List, [], ◌∷◌, ◌++◌, codes, decimal, if◌then◌else◌}
+use Rattle.std.specs.Prelude.{ℕ, nat_eq, Bool, true, false, not, ◌||◌, List, [], ◌∷◌, ◌++◌, codes, decimal, Option, Some, None, if◌then◌else◌}
 use Rattle.std.specs.List.{ends_with, flat_map}
 use Rattle.std.specs.Str.{is_utf8}
 use Rattle.json.specs.Print.{quoted}
@@ -28,28 +28,53 @@ wanted_of options =
 unfoldable pub url_json : Parts → List ℕ
 url_json url = quoted (text_of url)
 
+-- what stands in front of a specifier or a code, between them and a text, and behind
+unfoldable pub text_front : List ℕ
+text_front = codes "{\"specifier\":"
+
+unfoldable pub text_key : List ℕ
+text_key = codes ",\"text\":"
+
+unfoldable pub coded_front : List ℕ
+coded_front = codes "{\"base64\":"
+
+unfoldable pub coded_key : List ℕ
+coded_key = codes ",\"specifier\":"
+
+unfoldable pub external_front : List ℕ
+external_front = codes "{\"external\":true,\"specifier\":"
+
+unfoldable pub end : List ℕ
+end = codes "}"
+
 -- the module of a text
 unfoldable pub text_json : Parts → List ℕ → List ℕ
-text_json target text =
-    codes "{\"specifier\":" ++ quoted (text_of target) ++ codes ",\"text\":" ++ quoted text ++ codes "}"
+text_json target text = text_front ++ quoted (text_of target) ++ text_key ++ quoted text ++ end
 
 -- the module of bytes in base64 (RFC 4648, section 4)
 unfoldable pub coded_json : VendorFile → List ℕ
 coded_json file =
-    codes "{\"base64\":" ++ quoted (encode_of standard file.bytes) ++ codes ",\"specifier\":"
-    ++ quoted (text_of file.target) ++ codes "}"
+    coded_front ++ quoted (encode_of standard file.bytes) ++ coded_key ++ quoted (text_of file.target) ++ end
 
 -- the file's bytes are written in base64: it is WebAssembly by its name, or they are no UTF-8
 abbrev pub is_coded : VendorFile → Bool
 is_coded file = ends_with nat_eq (text_of file.target) (codes ".wasm") || not (is_utf8 file.bytes)
 
+-- the text that they are written as else
+unfoldable pub plain_text : VendorFile → Option (List ℕ)
+plain_text file = if is_coded file then None else Some file.bytes
+
 -- the module of a file
+abbrev pub file_by : VendorFile → Option (List ℕ) → List ℕ
+file_by file (Some text) = text_json file.target text
+file_by file None = coded_json file
+
 unfoldable pub file_json : VendorFile → List ℕ
-file_json file = if is_coded file then coded_json file else text_json file.target file.bytes
+file_json file = file_by file (plain_text file)
 
 -- the module that isn't part of the sources
 unfoldable pub external_json : Parts → List ℕ
-external_json url = codes "{\"external\":true,\"specifier\":" ++ quoted (text_of url) ++ codes "}"
+external_json url = external_front ++ quoted (text_of url) ++ end
 
 -- ---- lists
 
@@ -94,8 +119,14 @@ front wanted =
     codes "{\"kind\":\"" ++ kind_word wanted.kind ++ codes "\",\"limit\":" ++ decimal wanted.limit
     ++ codes ",\"modules\":["
 
+unfoldable pub back_front : List ℕ
+back_front = codes "],\"skipDynamicDeps\":"
+
+unfoldable pub last : List ℕ
+last = codes "}\n"
+
 unfoldable pub back : Wanted → List ℕ
-back wanted = codes "],\"skipDynamicDeps\":" ++ truth_word wanted.skip_dynamic_deps ++ codes "}\n"
+back wanted = back_front ++ truth_word wanted.skip_dynamic_deps ++ last
 
 -- the bundle of a plan's files
 unfoldable pub plan_text : Wanted → VendorPlan → List ℕ

@@ -1,6 +1,8 @@
 //! The bundle of a plan's files.
-ghost use Rattle.std.specs.Prelude.{◌≡◌, IfOk, OnOk, string_bytes, decimal};
-ghost use Rattle.std.specs.List.{flat_map};
+ghost use Rattle.std.specs.Prelude.{◌≡◌, nat_eq, codes, IfOk, OnOk, string_bytes, decimal};
+ghost use Rattle.std.specs.List.{flat_map, ends_with};
+ghost use Rattle.std.specs.Option.{option_copied};
+ghost use Rattle.graph_entry.specs.Specifier.{text_of};
 ghost use Rattle.graph_report.specs.Adds.{Adds};
 ghost use Rattle.vendor_report.specs.Plans as spec;
 
@@ -63,9 +65,9 @@ fn add_number(alloc: Global, out: &mut String, number: usize) -> Result<(), Allo
 fn add_back(out: &mut String, wanted: Wanted) -> Result<(), AllocError>
     ensures { OnOk result (Adds out.old out.new (spec.back wanted)) }
 {
-    out.push_str("],\"skipDynamicDeps\":")?;
+    add_back_front(out)?;
     out.push_str(truth_name(wanted.skip_dynamic_deps))?;
-    out.push_str("}\n")
+    add_last(out)
 }
 
 fn truth_name(truth: bool) -> &'static str
@@ -111,28 +113,63 @@ fn add_later_file(alloc: Global, out: &mut String, file: &VendorFile) -> Result<
     add_file(alloc, out, file)
 }
 
-#[tactic(auto, unfolding(crate::specs::Plans::file_json, graph_entry::specs::Specifier::text_of))]
+#[tactic(auto, unfolding(crate::specs::Plans::file_json))]
 fn add_file(alloc: Global, out: &mut String, file: &VendorFile) -> Result<(), AllocError>
     ensures { OnOk result (Adds out.old out.new (spec.file_json file.now)) }
 {
-    if file.target.as_str().ends_with(".wasm") {
-        return add_coded(alloc, out, file);
+    add_by(alloc, out, file, plain_text(file))
+}
+
+/// Adds a file as this text, or in base64 where there is none.
+fn add_by(
+    alloc: Global,
+    out: &mut String,
+    file: &VendorFile,
+    text: Option<&str>,
+) -> Result<(), AllocError>
+    ensures { OnOk result (Adds out.old out.new (spec.file_by file.now (option_copied text.entry))) }
+{
+    match text {
+        Some(text) => add_text(alloc, out, &file.target, text),
+        None => add_coded(alloc, out, file),
+    }
+}
+
+/// The text that the file's bytes are written as, if they are.
+fn plain_text(file: &VendorFile) -> Option<&str>
+    ensures { option_copied result ≡ spec.plain_text file.now }
+{
+    if is_wasm(file) {
+        return None;
     }
     match str::from_utf8(file.bytes.as_slice()) {
-        Ok(text) => add_text(alloc, out, &file.target, text),
-        Err(_) => add_coded(alloc, out, file),
+        Ok(text) => Some(text),
+        Err(_) => None,
     }
+}
+
+#[tactic(auto, unfolding(graph_entry::specs::Specifier::text_of))]
+fn is_wasm(file: &VendorFile) -> bool
+    ensures { result ≡ ends_with nat_eq (text_of file.now.target) (codes ".wasm") }
+{
+    ends(file.target.as_str(), ".wasm")
+}
+
+fn ends(text: &str, back: &str) -> bool
+    ensures { result ≡ ends_with nat_eq text.now back.now }
+{
+    text.ends_with(back)
 }
 
 #[tactic(auto, unfolding(crate::specs::Plans::text_json, graph_entry::specs::Specifier::text_of))]
 fn add_text(alloc: Global, out: &mut String, target: &Url, text: &str) -> Result<(), AllocError>
     ensures { OnOk result (Adds out.old out.new (spec.text_json target.now text.now)) }
 {
-    out.push_str("{\"specifier\":")?;
+    add_text_front(out)?;
     add_quoted(alloc, out, target.as_str())?;
-    out.push_str(",\"text\":")?;
+    add_text_key(out)?;
     add_quoted(alloc, out, text)?;
-    out.push_str("}")
+    add_end(out)
 }
 
 #[tactic(auto, unfolding(crate::specs::Plans::coded_json, graph_entry::specs::Specifier::text_of))]
@@ -140,11 +177,11 @@ fn add_coded(alloc: Global, out: &mut String, file: &VendorFile) -> Result<(), A
     ensures { OnOk result (Adds out.old out.new (spec.coded_json file.now)) }
 {
     let code = STANDARD.encode(alloc, file.bytes.as_slice())?;
-    out.push_str("{\"base64\":")?;
+    add_coded_front(out)?;
     add_quoted(alloc, out, code.as_str())?;
-    out.push_str(",\"specifier\":")?;
+    add_coded_key(out)?;
     add_quoted(alloc, out, file.target.as_str())?;
-    out.push_str("}")
+    add_end(out)
 }
 
 fn add_only_externals(alloc: Global, out: &mut String, urls: &[Url]) -> Result<(), AllocError>
@@ -180,9 +217,9 @@ fn add_later_external(alloc: Global, out: &mut String, url: &Url) -> Result<(), 
 fn add_external(alloc: Global, out: &mut String, url: &Url) -> Result<(), AllocError>
     ensures { OnOk result (Adds out.old out.new (spec.external_json url.now)) }
 {
-    out.push_str("{\"external\":true,\"specifier\":")?;
+    add_external_front(out)?;
     add_quoted(alloc, out, url.as_str())?;
-    out.push_str("}")
+    add_end(out)
 }
 
 // ---- the roots
@@ -221,4 +258,62 @@ fn add_root(alloc: Global, out: &mut String, root: &Url) -> Result<(), AllocErro
     ensures { OnOk result (Adds out.old out.new (spec.url_json root.now)) }
 {
     add_quoted(alloc, out, root.as_str())
+}
+
+// ---- what stands between
+
+#[tactic(auto, unfolding(crate::specs::Plans::text_front))]
+fn add_text_front(out: &mut String) -> Result<(), AllocError>
+    ensures { OnOk result (Adds out.old out.new spec.text_front) }
+{
+    out.push_str("{\"specifier\":")
+}
+
+#[tactic(auto, unfolding(crate::specs::Plans::text_key))]
+fn add_text_key(out: &mut String) -> Result<(), AllocError>
+    ensures { OnOk result (Adds out.old out.new spec.text_key) }
+{
+    out.push_str(",\"text\":")
+}
+
+#[tactic(auto, unfolding(crate::specs::Plans::coded_front))]
+fn add_coded_front(out: &mut String) -> Result<(), AllocError>
+    ensures { OnOk result (Adds out.old out.new spec.coded_front) }
+{
+    out.push_str("{\"base64\":")
+}
+
+#[tactic(auto, unfolding(crate::specs::Plans::coded_key))]
+fn add_coded_key(out: &mut String) -> Result<(), AllocError>
+    ensures { OnOk result (Adds out.old out.new spec.coded_key) }
+{
+    out.push_str(",\"specifier\":")
+}
+
+#[tactic(auto, unfolding(crate::specs::Plans::external_front))]
+fn add_external_front(out: &mut String) -> Result<(), AllocError>
+    ensures { OnOk result (Adds out.old out.new spec.external_front) }
+{
+    out.push_str("{\"external\":true,\"specifier\":")
+}
+
+#[tactic(auto, unfolding(crate::specs::Plans::end))]
+fn add_end(out: &mut String) -> Result<(), AllocError>
+    ensures { OnOk result (Adds out.old out.new spec.end) }
+{
+    out.push_str("}")
+}
+
+#[tactic(auto, unfolding(crate::specs::Plans::back_front))]
+fn add_back_front(out: &mut String) -> Result<(), AllocError>
+    ensures { OnOk result (Adds out.old out.new spec.back_front) }
+{
+    out.push_str("],\"skipDynamicDeps\":")
+}
+
+#[tactic(auto, unfolding(crate::specs::Plans::last))]
+fn add_last(out: &mut String) -> Result<(), AllocError>
+    ensures { OnOk result (Adds out.old out.new spec.last) }
+{
+    out.push_str("}\n")
 }

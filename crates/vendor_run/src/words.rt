@@ -1,5 +1,6 @@
 //! The words that name a folder.
-ghost use Rattle.std.specs.Prelude.{◌≡◌, ◌↔◌, ℕ, List, [], ◌∷◌, None, MatchOption, IfOk, IfErr, IfSome, IsTrue, map, string_bytes, codes};
+ghost use Rattle.std.specs.Prelude.{◌≡◌, ◌↔◌, ℕ, nat_eq, List, [], ◌∷◌, None, MatchOption, IfOk, IfErr, IfSome, IsTrue, map, string_bytes, codes};
+ghost use Rattle.std.specs.List.{ends_with};
 ghost use Rattle.url.specs.Parts.{Parts};
 ghost use Rattle.vendor_run.specs.Words.{IsFolder, IsVendor, NamesFolder};
 
@@ -23,10 +24,9 @@ fn named_folder(alloc: Global, word: &str, base: &str) -> Result<Option<Url>, Al
         ((url : Parts) → ¬ IsVendor url (word.now ∷ base.now ∷ [])) (λ url. IsVendor url (word.now ∷ base.now ∷ []))) }
     ensures memory { IfErr result (λ _. word.now ≡ codes "vendor") }
 {
-    if word == "vendor" {
-        folder_at(alloc, base)
-    } else {
-        Ok(None)
+    match word {
+        "vendor" => folder_at(alloc, base),
+        _ => Ok(None),
     }
 }
 
@@ -56,5 +56,11 @@ fn is_folder(url: &Url) -> bool
     url.scheme() == "file"
         && url.query().is_none()
         && url.fragment().is_none()
-        && url.path().ends_with("/")
+        && ends(url.path(), "/")
+}
+
+fn ends(text: &str, back: &str) -> bool
+    ensures { result ≡ ends_with nat_eq text.now back.now }
+{
+    text.ends_with(back)
 }
