@@ -25,9 +25,9 @@ coded_name file e = ap (λ (b : Bool). if b || not (is_utf8 file.bytes) then Non
 -- the bytes are no text
 pub coded_bytes : (file : VendorFile) → (IsUtf8 file.bytes → ⊥) → plain_text file ≡ None
 unfolding plain_text
-coded_bytes file no =
+coded_bytes file broken =
     ap (λ (b : Bool). if ends_with nat_eq (text_of file.target) (codes ".wasm") || not b then None else Some file.bytes)
-    (not_yes (is_utf8 file.bytes) (λ yes. no (IsUtf8-from_is_utf8 file.bytes yes)))
+    (not_yes (is_utf8 file.bytes) (λ good. broken (IsUtf8-from_is_utf8 file.bytes good)))
     ∙ either (ends_with nat_eq (text_of file.target) (codes ".wasm")) file.bytes
 
 -- the bytes are one, and the name tells another kind

@@ -1,2 +1,3 @@
 mod DueLemmas
 mod RunLemmas
+mod WordLemmas

@@ -8,17 +8,17 @@ use Rattle.vendor_run.proofs.DueLemmas.{end_due, fault_due}
 use Rattle.vendor_run.proofs.due.due_vendored.Goals as goal
 
 pub due_for_end-requires : goal.due_for_end-requires
-due_for_end-requires g c = ends _ _ _ _ c.build_batched.result c.build_batched.ensures.large
+due_for_end-requires g c = ends _ _ _ _ c.build_batched-end.result c.build_batched-end.ensures.large
 
 pub returns-in-Ok : goal.returns-in-Ok
 returns-in-Ok g c =
     let (value, json, says) = c.in-Ok.ensures.bundle in
     IfOk-map c.due_for_end.result _ _
     (λ due end. bundle c.in-Ok.bundle (record { within = c.requires; value = value; json = json; says = says })
-    (end_due c.args.base.now c.in-Ok.bundle c.build_batched.result _ _ c.build_batched.ensures.graph
-    c.build_batched.ensures.large
-    (subst (λ (w : Wanted). OfEnd c.args.base.now w c.build_batched.result due.status (string_bytes due.text))
-    c.wanted_of.ensures end)))
+    (end_due c.args.base.now c.in-Ok.bundle c.build_batched-end.result _ _ c.build_batched-end.ensures.graph
+    c.build_batched-end.ensures.large
+    (subst (λ (w : Wanted). OfEnd c.args.base.now w c.build_batched-end.result due.status (string_bytes due.text))
+    c.wanted_of-wanted.ensures end)))
     c.due_for_end.ensures
 
 pub returns-in-Err : goal.returns-in-Err
