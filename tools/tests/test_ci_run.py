@@ -49,7 +49,7 @@ class CiRun(unittest.TestCase):
     def test_both_are_called(self):
         lines, status = self.gate()
         called = [line for line in lines if line.startswith("called")]
-        self.assertEqual(called[:-1], ["called try-tests --minutes 20", "called rt ci", "called check"])
+        self.assertEqual(called[:-1], ["called try-tests --minutes 10", "called rt ci", "called check"])
         # the edits come last, with what is left of two hours
         self.assertRegex(called[-1], r"^called edits --seconds (7200|71\d\d)$")
         self.assertEqual((lines[-1], status), ("7 passed, 0 failed", 0))
@@ -69,7 +69,7 @@ class CiRun(unittest.TestCase):
 
     def test_the_proofs_alone(self):
         lines, status = self.gate("--no-try")
-        self.assertNotIn("called try-tests --minutes 20", lines)
+        self.assertNotIn("called try-tests --minutes 10", lines)
         self.assertEqual((lines[-1], status), ("7 passed, 0 failed", 0))
 
     def test_what_is_proved_and_checked_counts(self):
