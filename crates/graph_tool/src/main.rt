@@ -1,4 +1,4 @@
-//! The program: `graph_run::run` over standard input and standard output.
+//! The program: `graph_run::run`, or `vendor_run::run_vendor`, over standard input and standard output.
 //!
 //! `main` hands on the words behind the program's name, and ends with the status of the run. `ReadSource` and
 //! `WriteSink` are the trusted edge: that std's reader and writer move the bytes that they say.
@@ -12,6 +12,7 @@ use crate::adapters::{ReadSource, WriteSink};
 use graph_run::{Status, run};
 use std::process::ExitCode;
 use std::{env, io};
+use vendor_run::{folder_of, run_vendor};
 
 fn main(rt: HostRuntime) -> ExitCode {
     let words = match env::args(&rt) {
@@ -24,6 +25,10 @@ fn main(rt: HostRuntime) -> ExitCode {
     let words: Vec<String> = words;
     let mut source = ReadSource::new(rt.reader());
     let mut sink = WriteSink::new(io::writer(&rt));
-    let status = run(&rt, rt.alloc(), words.as_slice(), &mut source, &mut sink);
+    let status = match folder_of(rt.alloc(), words.as_slice()) {
+        Ok(Some(base)) => run_vendor(&rt, rt.alloc(), &base, &mut source, &mut sink),
+        Ok(None) => run(&rt, rt.alloc(), words.as_slice(), &mut source, &mut sink),
+        Err(_) => Status::NoMemory,
+    };
     ExitCode::from(status.code())
 }
