@@ -34,7 +34,7 @@ fn files_of(alloc: Global, row: &Row) -> Result<Option<Items<VendorFile>>, Alloc
         ) else {
             return Ok(None);
         };
-        let bytes = row.bytes(alloc, at.saturating_add(1))?;
+        let bytes = row.at(at.saturating_add(1)).as_bytes().to_vec(alloc)?;
         files.push(VendorFile {
             source,
             target,
@@ -67,8 +67,8 @@ fn system(alloc: Global, failing: &str) -> Result<InMemorySys, AllocError> {
     )
 }
 
-fn said(alloc: Global, result: &Result<(), VendorWriteError>) -> Result<String, AllocError> {
-    match result {
+fn said(alloc: Global, outcome: &Result<(), VendorWriteError>) -> Result<String, AllocError> {
+    match outcome {
         Ok(()) => String::from_str(alloc, "written"),
         Err(VendorWriteError::Path(url)) => format!(in alloc; "Path {}", url.as_str()),
         Err(VendorWriteError::System(url, error)) => {
