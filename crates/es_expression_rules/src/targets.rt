@@ -10,7 +10,7 @@ use es_predicates::Lookahead::{Has, Is, Other};
 use es_predicates::{Kinds, Lookahead, Predicate};
 use es_rules::{
     As, Choose, Cursor, Done, Grammar, Greedy, LeafKind, Make, MakeBy, OfRow, Pick, Punct,
-    ReadsProduction, ReadsRhs, Rows, Tok, When, Wrap,
+    ReadsProduction, ReadsRhs, Rows, Tok, When, Where, Wrap,
 };
 use es_shared_rules::{AnnotationIn, AssertedOr, BracketPattern, Pattern, UsingIn};
 use es_token::TokenKind;
@@ -152,16 +152,19 @@ impl ReadsProduction<Row> for HeadPattern {
             ..self.1
         };
         Pick(
-            Predicate::OpensInitial(self.1),
+            Predicate::OpensInitial,
             Make(
                 NodeKind::DefaultPattern,
-                OfRow(
-                    Row::PatternRow(false, self.1),
-                    Punct(
-                        TokenKind::Equal,
-                        OfRow(
-                            Row::AssignmentRow(in_head),
-                            When(Is(TokenKind::InWord), Done),
+                Where(
+                    Predicate::IsScript(self.1),
+                    OfRow(
+                        Row::PatternRow(false, self.1),
+                        Punct(
+                            TokenKind::Equal,
+                            OfRow(
+                                Row::AssignmentRow(in_head),
+                                When(Is(TokenKind::InWord), Done),
+                            ),
                         ),
                     ),
                 ),

@@ -50,7 +50,8 @@ unfolding is_name is_word is_name_or_this is_numeric is_sign is_accessor_word is
     is_tight comes_behind is_tightest right_operand tight_in base arguments opens_non_null opens_post
     plain_member_post non_null_post member_post import_arguments source_call defer_call import_base
     optional_post is_at opens_call opens_typed_template post chain callee may_await update prefix await_ unary power
-    level product sum begins_angle opens_shift_in shifted shift is_assertion_word opens_assertion opens_comparison may_test private_in comparison_in
+    level product sum begins_angle opens_shift_in shifted shift is_assertion_word opens_assertion opens_comparison
+    may_test private_in comparison_in
     is_behind_as asserted asserted_or no_form relation equality bit_and bit_xor bit_or and_ coalesce binary
     conditional opens_operand yield_ assignment expression element default_in array_pattern object_pattern target
     bracket_pattern inner_pattern pattern pattern_element pattern_property rest_in parameters is_typed_modifier
@@ -58,7 +59,8 @@ unfolding is_name is_word is_name_or_this is_numeric is_sign is_accessor_word is
     parameter signature plain_key key opens_any_method typed_head_in method_in property opens_modifier behind_all
     is_member_key static_in value_in head_in marked_in class_method_in is_field_mark field_in modified_member
     index_member any_member member condition_in block is_declarator_mark opens_declarator declarator
-    declarators variables using_in using_ opens_initial head_pattern head_pattern_in head start_in for_ for_each for_await return_ case_in switch_ finally_in
+    declarators variables using_in using_ opens_initial head_pattern head_pattern_in head start_in for_ for_each
+    for_await return_ case_in switch_ finally_in
     try_ is_script expression_statement keyword_statement other_statement opens_interface opens_alias opens_enum
     opens_namespace opens_module opens_global is_declaration_word opens_declare type_members interface alias enum_
     items_in is_namespace_word namespace module_namespace global typed_declaration declared declares_variables declare
@@ -145,7 +147,8 @@ unfolding is_name is_word is_name_or_this is_numeric is_sign is_accessor_word is
     is_tight comes_behind is_tightest right_operand tight_in base arguments opens_non_null opens_post
     plain_member_post non_null_post member_post import_arguments source_call defer_call import_base
     optional_post is_at opens_call opens_typed_template post chain callee may_await update prefix await_ unary power
-    level product sum begins_angle opens_shift_in shifted shift is_assertion_word opens_assertion opens_comparison may_test private_in comparison_in
+    level product sum begins_angle opens_shift_in shifted shift is_assertion_word opens_assertion opens_comparison
+    may_test private_in comparison_in
     is_behind_as asserted asserted_or no_form relation equality bit_and bit_xor bit_or and_ coalesce binary
     conditional opens_operand yield_ assignment expression element default_in array_pattern object_pattern target
     bracket_pattern inner_pattern pattern pattern_element pattern_property rest_in parameters is_typed_modifier
@@ -153,7 +156,8 @@ unfolding is_name is_word is_name_or_this is_numeric is_sign is_accessor_word is
     parameter signature plain_key key opens_any_method typed_head_in method_in property opens_modifier behind_all
     is_member_key static_in value_in head_in marked_in class_method_in is_field_mark field_in modified_member
     index_member any_member member condition_in block is_declarator_mark opens_declarator declarator
-    declarators variables using_in using_ opens_initial head_pattern head_pattern_in head start_in for_ for_each for_await return_ case_in switch_ finally_in
+    declarators variables using_in using_ opens_initial head_pattern head_pattern_in head start_in for_ for_each
+    for_await return_ case_in switch_ finally_in
     try_ is_script expression_statement keyword_statement other_statement opens_interface opens_alias opens_enum
     opens_namespace opens_module opens_global is_declaration_word opens_declare type_members interface alias enum_
     items_in is_namespace_word namespace module_namespace global typed_declaration declared declares_variables declare
@@ -242,7 +246,8 @@ unfolding is_name is_word is_name_or_this is_numeric is_sign is_accessor_word is
     is_tight comes_behind is_tightest right_operand tight_in base arguments opens_non_null opens_post
     plain_member_post non_null_post member_post import_arguments source_call defer_call import_base
     optional_post is_at opens_call opens_typed_template post chain callee may_await update prefix await_ unary power
-    level product sum begins_angle opens_shift_in shifted shift is_assertion_word opens_assertion opens_comparison may_test private_in comparison_in
+    level product sum begins_angle opens_shift_in shifted shift is_assertion_word opens_assertion opens_comparison
+    may_test private_in comparison_in
     is_behind_as asserted asserted_or no_form relation equality bit_and bit_xor bit_or and_ coalesce binary
     conditional opens_operand yield_ assignment expression element default_in array_pattern object_pattern target
     bracket_pattern inner_pattern pattern pattern_element pattern_property rest_in parameters is_typed_modifier
@@ -250,7 +255,8 @@ unfolding is_name is_word is_name_or_this is_numeric is_sign is_accessor_word is
     parameter signature plain_key key opens_any_method typed_head_in method_in property opens_modifier behind_all
     is_member_key static_in value_in head_in marked_in class_method_in is_field_mark field_in modified_member
     index_member any_member member condition_in block is_declarator_mark opens_declarator declarator
-    declarators variables using_in using_ opens_initial head_pattern head_pattern_in head start_in for_ for_each for_await return_ case_in switch_ finally_in
+    declarators variables using_in using_ opens_initial head_pattern head_pattern_in head start_in for_ for_each
+    for_await return_ case_in switch_ finally_in
     try_ is_script expression_statement keyword_statement other_statement opens_interface opens_alias opens_enum
     opens_namespace opens_module opens_global is_declaration_word opens_declare type_members interface alias enum_
     items_in is_namespace_word namespace module_namespace global typed_declaration declared declares_variables declare
@@ -351,7 +357,8 @@ unfolding is_name is_word is_name_or_this is_numeric is_sign is_accessor_word is
     is_tight comes_behind is_tightest right_operand tight_in base arguments opens_non_null opens_post
     plain_member_post non_null_post member_post import_arguments source_call defer_call import_base
     optional_post is_at opens_call opens_typed_template post chain callee may_await update prefix await_ unary power
-    level product sum begins_angle opens_shift_in shifted shift is_assertion_word opens_assertion opens_comparison may_test private_in comparison_in
+    level product sum begins_angle opens_shift_in shifted shift is_assertion_word opens_assertion opens_comparison
+    may_test private_in comparison_in
     is_behind_as asserted asserted_or no_form relation equality bit_and bit_xor bit_or and_ coalesce binary
     conditional opens_operand yield_ assignment expression element default_in array_pattern object_pattern target
     bracket_pattern inner_pattern pattern pattern_element pattern_property rest_in parameters is_typed_modifier
@@ -359,7 +366,8 @@ unfolding is_name is_word is_name_or_this is_numeric is_sign is_accessor_word is
     parameter signature plain_key key opens_any_method typed_head_in method_in property opens_modifier behind_all
     is_member_key static_in value_in head_in marked_in class_method_in is_field_mark field_in modified_member
     index_member any_member member condition_in block is_declarator_mark opens_declarator declarator
-    declarators variables using_in using_ opens_initial head_pattern head_pattern_in head start_in for_ for_each for_await return_ case_in switch_ finally_in
+    declarators variables using_in using_ opens_initial head_pattern head_pattern_in head start_in for_ for_each
+    for_await return_ case_in switch_ finally_in
     try_ is_script expression_statement keyword_statement other_statement opens_interface opens_alias opens_enum
     opens_namespace opens_module opens_global is_declaration_word opens_declare type_members interface alias enum_
     items_in is_namespace_word namespace module_namespace global typed_declaration declared declares_variables declare
@@ -398,7 +406,8 @@ unfolding is_name is_word is_name_or_this is_numeric is_sign is_accessor_word is
     is_tight comes_behind is_tightest right_operand tight_in base arguments opens_non_null opens_post
     plain_member_post non_null_post member_post import_arguments source_call defer_call import_base
     optional_post is_at opens_call opens_typed_template post chain callee may_await update prefix await_ unary power
-    level product sum begins_angle opens_shift_in shifted shift is_assertion_word opens_assertion opens_comparison may_test private_in comparison_in
+    level product sum begins_angle opens_shift_in shifted shift is_assertion_word opens_assertion opens_comparison
+    may_test private_in comparison_in
     is_behind_as asserted asserted_or no_form relation equality bit_and bit_xor bit_or and_ coalesce binary
     conditional opens_operand yield_ assignment expression element default_in array_pattern object_pattern target
     bracket_pattern inner_pattern pattern pattern_element pattern_property rest_in parameters is_typed_modifier
@@ -406,7 +415,8 @@ unfolding is_name is_word is_name_or_this is_numeric is_sign is_accessor_word is
     parameter signature plain_key key opens_any_method typed_head_in method_in property opens_modifier behind_all
     is_member_key static_in value_in head_in marked_in class_method_in is_field_mark field_in modified_member
     index_member any_member member condition_in block is_declarator_mark opens_declarator declarator
-    declarators variables using_in using_ opens_initial head_pattern head_pattern_in head start_in for_ for_each for_await return_ case_in switch_ finally_in
+    declarators variables using_in using_ opens_initial head_pattern head_pattern_in head start_in for_ for_each
+    for_await return_ case_in switch_ finally_in
     try_ is_script expression_statement keyword_statement other_statement opens_interface opens_alias opens_enum
     opens_namespace opens_module opens_global is_declaration_word opens_declare type_members interface alias enum_
     items_in is_namespace_word namespace module_namespace global typed_declaration declared declares_variables declare
@@ -447,7 +457,8 @@ unfolding is_name is_word is_name_or_this is_numeric is_sign is_accessor_word is
     is_tight comes_behind is_tightest right_operand tight_in base arguments opens_non_null opens_post
     plain_member_post non_null_post member_post import_arguments source_call defer_call import_base
     optional_post is_at opens_call opens_typed_template post chain callee may_await update prefix await_ unary power
-    level product sum begins_angle opens_shift_in shifted shift is_assertion_word opens_assertion opens_comparison may_test private_in comparison_in
+    level product sum begins_angle opens_shift_in shifted shift is_assertion_word opens_assertion opens_comparison
+    may_test private_in comparison_in
     is_behind_as asserted asserted_or no_form relation equality bit_and bit_xor bit_or and_ coalesce binary
     conditional opens_operand yield_ assignment expression element default_in array_pattern object_pattern target
     bracket_pattern inner_pattern pattern pattern_element pattern_property rest_in parameters is_typed_modifier
@@ -455,7 +466,8 @@ unfolding is_name is_word is_name_or_this is_numeric is_sign is_accessor_word is
     parameter signature plain_key key opens_any_method typed_head_in method_in property opens_modifier behind_all
     is_member_key static_in value_in head_in marked_in class_method_in is_field_mark field_in modified_member
     index_member any_member member condition_in block is_declarator_mark opens_declarator declarator
-    declarators variables using_in using_ opens_initial head_pattern head_pattern_in head start_in for_ for_each for_await return_ case_in switch_ finally_in
+    declarators variables using_in using_ opens_initial head_pattern head_pattern_in head start_in for_ for_each
+    for_await return_ case_in switch_ finally_in
     try_ is_script expression_statement keyword_statement other_statement opens_interface opens_alias opens_enum
     opens_namespace opens_module opens_global is_declaration_word opens_declare type_members interface alias enum_
     items_in is_namespace_word namespace module_namespace global typed_declaration declared declares_variables declare
@@ -493,7 +505,8 @@ unfolding is_name is_word is_name_or_this is_numeric is_sign is_accessor_word is
     is_tight comes_behind is_tightest right_operand tight_in base arguments opens_non_null opens_post
     plain_member_post non_null_post member_post import_arguments source_call defer_call import_base
     optional_post is_at opens_call opens_typed_template post chain callee may_await update prefix await_ unary power
-    level product sum begins_angle opens_shift_in shifted shift is_assertion_word opens_assertion opens_comparison may_test private_in comparison_in
+    level product sum begins_angle opens_shift_in shifted shift is_assertion_word opens_assertion opens_comparison
+    may_test private_in comparison_in
     is_behind_as asserted asserted_or no_form relation equality bit_and bit_xor bit_or and_ coalesce binary
     conditional opens_operand yield_ assignment expression element default_in array_pattern object_pattern target
     bracket_pattern inner_pattern pattern pattern_element pattern_property rest_in parameters is_typed_modifier
@@ -501,7 +514,8 @@ unfolding is_name is_word is_name_or_this is_numeric is_sign is_accessor_word is
     parameter signature plain_key key opens_any_method typed_head_in method_in property opens_modifier behind_all
     is_member_key static_in value_in head_in marked_in class_method_in is_field_mark field_in modified_member
     index_member any_member member condition_in block is_declarator_mark opens_declarator declarator
-    declarators variables using_in using_ opens_initial head_pattern head_pattern_in head start_in for_ for_each for_await return_ case_in switch_ finally_in
+    declarators variables using_in using_ opens_initial head_pattern head_pattern_in head start_in for_ for_each
+    for_await return_ case_in switch_ finally_in
     try_ is_script expression_statement keyword_statement other_statement opens_interface opens_alias opens_enum
     opens_namespace opens_module opens_global is_declaration_word opens_declare type_members interface alias enum_
     items_in is_namespace_word namespace module_namespace global typed_declaration declared declares_variables declare
@@ -536,7 +550,8 @@ unfolding is_name is_word is_name_or_this is_numeric is_sign is_accessor_word is
     is_tight comes_behind is_tightest right_operand tight_in base arguments opens_non_null opens_post
     plain_member_post non_null_post member_post import_arguments source_call defer_call import_base
     optional_post is_at opens_call opens_typed_template post chain callee may_await update prefix await_ unary power
-    level product sum begins_angle opens_shift_in shifted shift is_assertion_word opens_assertion opens_comparison may_test private_in comparison_in
+    level product sum begins_angle opens_shift_in shifted shift is_assertion_word opens_assertion opens_comparison
+    may_test private_in comparison_in
     is_behind_as asserted asserted_or no_form relation equality bit_and bit_xor bit_or and_ coalesce binary
     conditional opens_operand yield_ assignment expression element default_in array_pattern object_pattern target
     bracket_pattern inner_pattern pattern pattern_element pattern_property rest_in parameters is_typed_modifier
@@ -544,7 +559,8 @@ unfolding is_name is_word is_name_or_this is_numeric is_sign is_accessor_word is
     parameter signature plain_key key opens_any_method typed_head_in method_in property opens_modifier behind_all
     is_member_key static_in value_in head_in marked_in class_method_in is_field_mark field_in modified_member
     index_member any_member member condition_in block is_declarator_mark opens_declarator declarator
-    declarators variables using_in using_ opens_initial head_pattern head_pattern_in head start_in for_ for_each for_await return_ case_in switch_ finally_in
+    declarators variables using_in using_ opens_initial head_pattern head_pattern_in head start_in for_ for_each
+    for_await return_ case_in switch_ finally_in
     try_ is_script expression_statement keyword_statement other_statement opens_interface opens_alias opens_enum
     opens_namespace opens_module opens_global is_declaration_word opens_declare type_members interface alias enum_
     items_in is_namespace_word namespace module_namespace global typed_declaration declared declares_variables declare
@@ -584,7 +600,8 @@ unfolding is_name is_word is_name_or_this is_numeric is_sign is_accessor_word is
     is_tight comes_behind is_tightest right_operand tight_in base arguments opens_non_null opens_post
     plain_member_post non_null_post member_post import_arguments source_call defer_call import_base
     optional_post is_at opens_call opens_typed_template post chain callee may_await update prefix await_ unary power
-    level product sum begins_angle opens_shift_in shifted shift is_assertion_word opens_assertion opens_comparison may_test private_in comparison_in
+    level product sum begins_angle opens_shift_in shifted shift is_assertion_word opens_assertion opens_comparison
+    may_test private_in comparison_in
     is_behind_as asserted asserted_or no_form relation equality bit_and bit_xor bit_or and_ coalesce binary
     conditional opens_operand yield_ assignment expression element default_in array_pattern object_pattern target
     bracket_pattern inner_pattern pattern pattern_element pattern_property rest_in parameters is_typed_modifier
@@ -592,7 +609,8 @@ unfolding is_name is_word is_name_or_this is_numeric is_sign is_accessor_word is
     parameter signature plain_key key opens_any_method typed_head_in method_in property opens_modifier behind_all
     is_member_key static_in value_in head_in marked_in class_method_in is_field_mark field_in modified_member
     index_member any_member member condition_in block is_declarator_mark opens_declarator declarator
-    declarators variables using_in using_ opens_initial head_pattern head_pattern_in head start_in for_ for_each for_await return_ case_in switch_ finally_in
+    declarators variables using_in using_ opens_initial head_pattern head_pattern_in head start_in for_ for_each
+    for_await return_ case_in switch_ finally_in
     try_ is_script expression_statement keyword_statement other_statement opens_interface opens_alias opens_enum
     opens_namespace opens_module opens_global is_declaration_word opens_declare type_members interface alias enum_
     items_in is_namespace_word namespace module_namespace global typed_declaration declared declares_variables declare
@@ -628,7 +646,8 @@ unfolding is_name is_word is_name_or_this is_numeric is_sign is_accessor_word is
     is_tight comes_behind is_tightest right_operand tight_in base arguments opens_non_null opens_post
     plain_member_post non_null_post member_post import_arguments source_call defer_call import_base
     optional_post is_at opens_call opens_typed_template post chain callee may_await update prefix await_ unary power
-    level product sum begins_angle opens_shift_in shifted shift is_assertion_word opens_assertion opens_comparison may_test private_in comparison_in
+    level product sum begins_angle opens_shift_in shifted shift is_assertion_word opens_assertion opens_comparison
+    may_test private_in comparison_in
     is_behind_as asserted asserted_or no_form relation equality bit_and bit_xor bit_or and_ coalesce binary
     conditional opens_operand yield_ assignment expression element default_in array_pattern object_pattern target
     bracket_pattern inner_pattern pattern pattern_element pattern_property rest_in parameters is_typed_modifier
@@ -636,7 +655,8 @@ unfolding is_name is_word is_name_or_this is_numeric is_sign is_accessor_word is
     parameter signature plain_key key opens_any_method typed_head_in method_in property opens_modifier behind_all
     is_member_key static_in value_in head_in marked_in class_method_in is_field_mark field_in modified_member
     index_member any_member member condition_in block is_declarator_mark opens_declarator declarator
-    declarators variables using_in using_ opens_initial head_pattern head_pattern_in head start_in for_ for_each for_await return_ case_in switch_ finally_in
+    declarators variables using_in using_ opens_initial head_pattern head_pattern_in head start_in for_ for_each
+    for_await return_ case_in switch_ finally_in
     try_ is_script expression_statement keyword_statement other_statement opens_interface opens_alias opens_enum
     opens_namespace opens_module opens_global is_declaration_word opens_declare type_members interface alias enum_
     items_in is_namespace_word namespace module_namespace global typed_declaration declared declares_variables declare

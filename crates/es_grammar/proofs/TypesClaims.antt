@@ -20,7 +20,9 @@ use Rattle.es_grammar.proofs.Sets.{first, follow, solid, sets}
 
 pub rows_take : (l : Lang) (r : Row) → solid (TypesRow r) ≡ true → rule_takes solid (rule l (TypesRow r)) ≡ true
 unfolding is_name is_word is_name_or_this is_numeric is_sign is_accessor_word is_near begins_key further_names entity
-    opens_arguments no_arguments further_arguments listed_parameters opened_parameters opened_function begins_angle begins_type_parameter shows_type_parameter opens_angle reference import_type arguments is_modifier opens_modifier type_parameter
+    opens_arguments no_arguments further_arguments listed_parameters opened_parameters opened_function begins_angle
+    begins_type_parameter shows_type_parameter opens_angle reference import_type arguments is_modifier
+    opens_modifier type_parameter
     type_parameters parameters_in mark_in type_in list_before is_parameter parameters has_mark no_mark name_pattern
     array_pattern object_pattern pattern parameter pattern_element pattern_key opens_value pattern_property result_in
     is_separator may_separate separator opens_parameters call_signature opens_construct construct_signature
@@ -57,7 +59,9 @@ rows_take l PatternKeyRow h = refl
 
 pub parts_take : (l : Lang) (r : Row) → rule_parts_take solid (rule l (TypesRow r)) ≡ true
 unfolding is_name is_word is_name_or_this is_numeric is_sign is_accessor_word is_near begins_key further_names entity
-    opens_arguments no_arguments further_arguments listed_parameters opened_parameters opened_function begins_angle begins_type_parameter shows_type_parameter opens_angle reference import_type arguments is_modifier opens_modifier type_parameter
+    opens_arguments no_arguments further_arguments listed_parameters opened_parameters opened_function begins_angle
+    begins_type_parameter shows_type_parameter opens_angle reference import_type arguments is_modifier
+    opens_modifier type_parameter
     type_parameters parameters_in mark_in type_in list_before is_parameter parameters has_mark no_mark name_pattern
     array_pattern object_pattern pattern parameter pattern_element pattern_key opens_value pattern_property result_in
     is_separator may_separate separator opens_parameters call_signature opens_construct construct_signature
@@ -96,7 +100,9 @@ pub begins : (l : Lang) (r : Row)
     → holds_everywhere (λ x. implies (rule_starts (sets l) (rule l (TypesRow r)) none x) (first l (TypesRow r) x))
     ≡ true
 unfolding is_name is_word is_name_or_this is_numeric is_sign is_accessor_word is_near begins_key further_names entity
-    opens_arguments no_arguments further_arguments listed_parameters opened_parameters opened_function begins_angle begins_type_parameter shows_type_parameter opens_angle reference import_type arguments is_modifier opens_modifier type_parameter
+    opens_arguments no_arguments further_arguments listed_parameters opened_parameters opened_function begins_angle
+    begins_type_parameter shows_type_parameter opens_angle reference import_type arguments is_modifier
+    opens_modifier type_parameter
     type_parameters parameters_in mark_in type_in list_before is_parameter parameters has_mark no_mark name_pattern
     array_pattern object_pattern pattern parameter pattern_element pattern_key opens_value pattern_property result_in
     is_separator may_separate separator opens_parameters call_signature opens_construct construct_signature
@@ -134,7 +140,9 @@ begins l PatternKeyRow = refl
 pub tests_tell : (l : Lang) (r : Row)
     → holds_everywhere (rule_tells (sets l) (rule l (TypesRow r)) (follow (TypesRow r))) ≡ true
 unfolding is_name is_word is_name_or_this is_numeric is_sign is_accessor_word is_near begins_key further_names entity
-    opens_arguments no_arguments further_arguments listed_parameters opened_parameters opened_function begins_angle begins_type_parameter shows_type_parameter opens_angle reference import_type arguments is_modifier opens_modifier type_parameter
+    opens_arguments no_arguments further_arguments listed_parameters opened_parameters opened_function begins_angle
+    begins_type_parameter shows_type_parameter opens_angle reference import_type arguments is_modifier
+    opens_modifier type_parameter
     type_parameters parameters_in mark_in type_in list_before is_parameter parameters has_mark no_mark name_pattern
     array_pattern object_pattern pattern parameter pattern_element pattern_key opens_value pattern_property result_in
     is_separator may_separate separator opens_parameters call_signature opens_construct construct_signature

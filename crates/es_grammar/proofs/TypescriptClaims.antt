@@ -50,7 +50,8 @@ unfolding is_name is_word is_name_or_this is_numeric is_sign is_accessor_word is
     is_tight comes_behind is_tightest right_operand tight_in base arguments opens_non_null opens_post
     plain_member_post non_null_post member_post import_arguments source_call defer_call import_base
     optional_post is_at opens_call opens_typed_template post chain callee may_await update prefix await_ unary power
-    level product sum begins_angle opens_shift_in shifted shift is_assertion_word opens_assertion opens_comparison may_test private_in comparison_in
+    level product sum begins_angle opens_shift_in shifted shift is_assertion_word opens_assertion opens_comparison
+    may_test private_in comparison_in
     is_behind_as asserted asserted_or no_form relation equality bit_and bit_xor bit_or and_ coalesce binary
     conditional opens_operand yield_ assignment expression element default_in array_pattern object_pattern target
     bracket_pattern inner_pattern pattern pattern_element pattern_property rest_in parameters is_typed_modifier
@@ -58,7 +59,8 @@ unfolding is_name is_word is_name_or_this is_numeric is_sign is_accessor_word is
     parameter signature plain_key key opens_any_method typed_head_in method_in property opens_modifier behind_all
     is_member_key static_in value_in head_in marked_in class_method_in is_field_mark field_in modified_member
     index_member any_member member condition_in block is_declarator_mark opens_declarator declarator
-    declarators variables using_in using_ opens_initial head_pattern head_pattern_in head start_in for_ for_each for_await return_ case_in switch_ finally_in
+    declarators variables using_in using_ opens_initial head_pattern head_pattern_in head start_in for_ for_each
+    for_await return_ case_in switch_ finally_in
     try_ is_script expression_statement keyword_statement other_statement opens_interface opens_alias opens_enum
     opens_namespace opens_module opens_global is_declaration_word opens_declare type_members interface alias enum_
     items_in is_namespace_word namespace module_namespace global typed_declaration declared declares_variables declare
@@ -145,7 +147,8 @@ unfolding is_name is_word is_name_or_this is_numeric is_sign is_accessor_word is
     is_tight comes_behind is_tightest right_operand tight_in base arguments opens_non_null opens_post
     plain_member_post non_null_post member_post import_arguments source_call defer_call import_base
     optional_post is_at opens_call opens_typed_template post chain callee may_await update prefix await_ unary power
-    level product sum begins_angle opens_shift_in shifted shift is_assertion_word opens_assertion opens_comparison may_test private_in comparison_in
+    level product sum begins_angle opens_shift_in shifted shift is_assertion_word opens_assertion opens_comparison
+    may_test private_in comparison_in
     is_behind_as asserted asserted_or no_form relation equality bit_and bit_xor bit_or and_ coalesce binary
     conditional opens_operand yield_ assignment expression element default_in array_pattern object_pattern target
     bracket_pattern inner_pattern pattern pattern_element pattern_property rest_in parameters is_typed_modifier
@@ -153,7 +156,8 @@ unfolding is_name is_word is_name_or_this is_numeric is_sign is_accessor_word is
     parameter signature plain_key key opens_any_method typed_head_in method_in property opens_modifier behind_all
     is_member_key static_in value_in head_in marked_in class_method_in is_field_mark field_in modified_member
     index_member any_member member condition_in block is_declarator_mark opens_declarator declarator
-    declarators variables using_in using_ opens_initial head_pattern head_pattern_in head start_in for_ for_each for_await return_ case_in switch_ finally_in
+    declarators variables using_in using_ opens_initial head_pattern head_pattern_in head start_in for_ for_each
+    for_await return_ case_in switch_ finally_in
     try_ is_script expression_statement keyword_statement other_statement opens_interface opens_alias opens_enum
     opens_namespace opens_module opens_global is_declaration_word opens_declare type_members interface alias enum_
     items_in is_namespace_word namespace module_namespace global typed_declaration declared declares_variables declare
@@ -243,7 +247,8 @@ unfolding is_name is_word is_name_or_this is_numeric is_sign is_accessor_word is
     is_tight comes_behind is_tightest right_operand tight_in base arguments opens_non_null opens_post
     plain_member_post non_null_post member_post import_arguments source_call defer_call import_base
     optional_post is_at opens_call opens_typed_template post chain callee may_await update prefix await_ unary power
-    level product sum begins_angle opens_shift_in shifted shift is_assertion_word opens_assertion opens_comparison may_test private_in comparison_in
+    level product sum begins_angle opens_shift_in shifted shift is_assertion_word opens_assertion opens_comparison
+    may_test private_in comparison_in
     is_behind_as asserted asserted_or no_form relation equality bit_and bit_xor bit_or and_ coalesce binary
     conditional opens_operand yield_ assignment expression element default_in array_pattern object_pattern target
     bracket_pattern inner_pattern pattern pattern_element pattern_property rest_in parameters is_typed_modifier
@@ -251,7 +256,8 @@ unfolding is_name is_word is_name_or_this is_numeric is_sign is_accessor_word is
     parameter signature plain_key key opens_any_method typed_head_in method_in property opens_modifier behind_all
     is_member_key static_in value_in head_in marked_in class_method_in is_field_mark field_in modified_member
     index_member any_member member condition_in block is_declarator_mark opens_declarator declarator
-    declarators variables using_in using_ opens_initial head_pattern head_pattern_in head start_in for_ for_each for_await return_ case_in switch_ finally_in
+    declarators variables using_in using_ opens_initial head_pattern head_pattern_in head start_in for_ for_each
+    for_await return_ case_in switch_ finally_in
     try_ is_script expression_statement keyword_statement other_statement opens_interface opens_alias opens_enum
     opens_namespace opens_module opens_global is_declaration_word opens_declare type_members interface alias enum_
     items_in is_namespace_word namespace module_namespace global typed_declaration declared declares_variables declare
@@ -352,7 +358,8 @@ unfolding is_name is_word is_name_or_this is_numeric is_sign is_accessor_word is
     is_tight comes_behind is_tightest right_operand tight_in base arguments opens_non_null opens_post
     plain_member_post non_null_post member_post import_arguments source_call defer_call import_base
     optional_post is_at opens_call opens_typed_template post chain callee may_await update prefix await_ unary power
-    level product sum begins_angle opens_shift_in shifted shift is_assertion_word opens_assertion opens_comparison may_test private_in comparison_in
+    level product sum begins_angle opens_shift_in shifted shift is_assertion_word opens_assertion opens_comparison
+    may_test private_in comparison_in
     is_behind_as asserted asserted_or no_form relation equality bit_and bit_xor bit_or and_ coalesce binary
     conditional opens_operand yield_ assignment expression element default_in array_pattern object_pattern target
     bracket_pattern inner_pattern pattern pattern_element pattern_property rest_in parameters is_typed_modifier
@@ -360,7 +367,8 @@ unfolding is_name is_word is_name_or_this is_numeric is_sign is_accessor_word is
     parameter signature plain_key key opens_any_method typed_head_in method_in property opens_modifier behind_all
     is_member_key static_in value_in head_in marked_in class_method_in is_field_mark field_in modified_member
     index_member any_member member condition_in block is_declarator_mark opens_declarator declarator
-    declarators variables using_in using_ opens_initial head_pattern head_pattern_in head start_in for_ for_each for_await return_ case_in switch_ finally_in
+    declarators variables using_in using_ opens_initial head_pattern head_pattern_in head start_in for_ for_each
+    for_await return_ case_in switch_ finally_in
     try_ is_script expression_statement keyword_statement other_statement opens_interface opens_alias opens_enum
     opens_namespace opens_module opens_global is_declaration_word opens_declare type_members interface alias enum_
     items_in is_namespace_word namespace module_namespace global typed_declaration declared declares_variables declare
@@ -399,7 +407,8 @@ unfolding is_name is_word is_name_or_this is_numeric is_sign is_accessor_word is
     is_tight comes_behind is_tightest right_operand tight_in base arguments opens_non_null opens_post
     plain_member_post non_null_post member_post import_arguments source_call defer_call import_base
     optional_post is_at opens_call opens_typed_template post chain callee may_await update prefix await_ unary power
-    level product sum begins_angle opens_shift_in shifted shift is_assertion_word opens_assertion opens_comparison may_test private_in comparison_in
+    level product sum begins_angle opens_shift_in shifted shift is_assertion_word opens_assertion opens_comparison
+    may_test private_in comparison_in
     is_behind_as asserted asserted_or no_form relation equality bit_and bit_xor bit_or and_ coalesce binary
     conditional opens_operand yield_ assignment expression element default_in array_pattern object_pattern target
     bracket_pattern inner_pattern pattern pattern_element pattern_property rest_in parameters is_typed_modifier
@@ -407,7 +416,8 @@ unfolding is_name is_word is_name_or_this is_numeric is_sign is_accessor_word is
     parameter signature plain_key key opens_any_method typed_head_in method_in property opens_modifier behind_all
     is_member_key static_in value_in head_in marked_in class_method_in is_field_mark field_in modified_member
     index_member any_member member condition_in block is_declarator_mark opens_declarator declarator
-    declarators variables using_in using_ opens_initial head_pattern head_pattern_in head start_in for_ for_each for_await return_ case_in switch_ finally_in
+    declarators variables using_in using_ opens_initial head_pattern head_pattern_in head start_in for_ for_each
+    for_await return_ case_in switch_ finally_in
     try_ is_script expression_statement keyword_statement other_statement opens_interface opens_alias opens_enum
     opens_namespace opens_module opens_global is_declaration_word opens_declare type_members interface alias enum_
     items_in is_namespace_word namespace module_namespace global typed_declaration declared declares_variables declare
@@ -448,7 +458,8 @@ unfolding is_name is_word is_name_or_this is_numeric is_sign is_accessor_word is
     is_tight comes_behind is_tightest right_operand tight_in base arguments opens_non_null opens_post
     plain_member_post non_null_post member_post import_arguments source_call defer_call import_base
     optional_post is_at opens_call opens_typed_template post chain callee may_await update prefix await_ unary power
-    level product sum begins_angle opens_shift_in shifted shift is_assertion_word opens_assertion opens_comparison may_test private_in comparison_in
+    level product sum begins_angle opens_shift_in shifted shift is_assertion_word opens_assertion opens_comparison
+    may_test private_in comparison_in
     is_behind_as asserted asserted_or no_form relation equality bit_and bit_xor bit_or and_ coalesce binary
     conditional opens_operand yield_ assignment expression element default_in array_pattern object_pattern target
     bracket_pattern inner_pattern pattern pattern_element pattern_property rest_in parameters is_typed_modifier
@@ -456,7 +467,8 @@ unfolding is_name is_word is_name_or_this is_numeric is_sign is_accessor_word is
     parameter signature plain_key key opens_any_method typed_head_in method_in property opens_modifier behind_all
     is_member_key static_in value_in head_in marked_in class_method_in is_field_mark field_in modified_member
     index_member any_member member condition_in block is_declarator_mark opens_declarator declarator
-    declarators variables using_in using_ opens_initial head_pattern head_pattern_in head start_in for_ for_each for_await return_ case_in switch_ finally_in
+    declarators variables using_in using_ opens_initial head_pattern head_pattern_in head start_in for_ for_each
+    for_await return_ case_in switch_ finally_in
     try_ is_script expression_statement keyword_statement other_statement opens_interface opens_alias opens_enum
     opens_namespace opens_module opens_global is_declaration_word opens_declare type_members interface alias enum_
     items_in is_namespace_word namespace module_namespace global typed_declaration declared declares_variables declare
@@ -494,7 +506,8 @@ unfolding is_name is_word is_name_or_this is_numeric is_sign is_accessor_word is
     is_tight comes_behind is_tightest right_operand tight_in base arguments opens_non_null opens_post
     plain_member_post non_null_post member_post import_arguments source_call defer_call import_base
     optional_post is_at opens_call opens_typed_template post chain callee may_await update prefix await_ unary power
-    level product sum begins_angle opens_shift_in shifted shift is_assertion_word opens_assertion opens_comparison may_test private_in comparison_in
+    level product sum begins_angle opens_shift_in shifted shift is_assertion_word opens_assertion opens_comparison
+    may_test private_in comparison_in
     is_behind_as asserted asserted_or no_form relation equality bit_and bit_xor bit_or and_ coalesce binary
     conditional opens_operand yield_ assignment expression element default_in array_pattern object_pattern target
     bracket_pattern inner_pattern pattern pattern_element pattern_property rest_in parameters is_typed_modifier
@@ -502,7 +515,8 @@ unfolding is_name is_word is_name_or_this is_numeric is_sign is_accessor_word is
     parameter signature plain_key key opens_any_method typed_head_in method_in property opens_modifier behind_all
     is_member_key static_in value_in head_in marked_in class_method_in is_field_mark field_in modified_member
     index_member any_member member condition_in block is_declarator_mark opens_declarator declarator
-    declarators variables using_in using_ opens_initial head_pattern head_pattern_in head start_in for_ for_each for_await return_ case_in switch_ finally_in
+    declarators variables using_in using_ opens_initial head_pattern head_pattern_in head start_in for_ for_each
+    for_await return_ case_in switch_ finally_in
     try_ is_script expression_statement keyword_statement other_statement opens_interface opens_alias opens_enum
     opens_namespace opens_module opens_global is_declaration_word opens_declare type_members interface alias enum_
     items_in is_namespace_word namespace module_namespace global typed_declaration declared declares_variables declare
@@ -537,7 +551,8 @@ unfolding is_name is_word is_name_or_this is_numeric is_sign is_accessor_word is
     is_tight comes_behind is_tightest right_operand tight_in base arguments opens_non_null opens_post
     plain_member_post non_null_post member_post import_arguments source_call defer_call import_base
     optional_post is_at opens_call opens_typed_template post chain callee may_await update prefix await_ unary power
-    level product sum begins_angle opens_shift_in shifted shift is_assertion_word opens_assertion opens_comparison may_test private_in comparison_in
+    level product sum begins_angle opens_shift_in shifted shift is_assertion_word opens_assertion opens_comparison
+    may_test private_in comparison_in
     is_behind_as asserted asserted_or no_form relation equality bit_and bit_xor bit_or and_ coalesce binary
     conditional opens_operand yield_ assignment expression element default_in array_pattern object_pattern target
     bracket_pattern inner_pattern pattern pattern_element pattern_property rest_in parameters is_typed_modifier
@@ -545,7 +560,8 @@ unfolding is_name is_word is_name_or_this is_numeric is_sign is_accessor_word is
     parameter signature plain_key key opens_any_method typed_head_in method_in property opens_modifier behind_all
     is_member_key static_in value_in head_in marked_in class_method_in is_field_mark field_in modified_member
     index_member any_member member condition_in block is_declarator_mark opens_declarator declarator
-    declarators variables using_in using_ opens_initial head_pattern head_pattern_in head start_in for_ for_each for_await return_ case_in switch_ finally_in
+    declarators variables using_in using_ opens_initial head_pattern head_pattern_in head start_in for_ for_each
+    for_await return_ case_in switch_ finally_in
     try_ is_script expression_statement keyword_statement other_statement opens_interface opens_alias opens_enum
     opens_namespace opens_module opens_global is_declaration_word opens_declare type_members interface alias enum_
     items_in is_namespace_word namespace module_namespace global typed_declaration declared declares_variables declare
@@ -585,7 +601,8 @@ unfolding is_name is_word is_name_or_this is_numeric is_sign is_accessor_word is
     is_tight comes_behind is_tightest right_operand tight_in base arguments opens_non_null opens_post
     plain_member_post non_null_post member_post import_arguments source_call defer_call import_base
     optional_post is_at opens_call opens_typed_template post chain callee may_await update prefix await_ unary power
-    level product sum begins_angle opens_shift_in shifted shift is_assertion_word opens_assertion opens_comparison may_test private_in comparison_in
+    level product sum begins_angle opens_shift_in shifted shift is_assertion_word opens_assertion opens_comparison
+    may_test private_in comparison_in
     is_behind_as asserted asserted_or no_form relation equality bit_and bit_xor bit_or and_ coalesce binary
     conditional opens_operand yield_ assignment expression element default_in array_pattern object_pattern target
     bracket_pattern inner_pattern pattern pattern_element pattern_property rest_in parameters is_typed_modifier
@@ -593,7 +610,8 @@ unfolding is_name is_word is_name_or_this is_numeric is_sign is_accessor_word is
     parameter signature plain_key key opens_any_method typed_head_in method_in property opens_modifier behind_all
     is_member_key static_in value_in head_in marked_in class_method_in is_field_mark field_in modified_member
     index_member any_member member condition_in block is_declarator_mark opens_declarator declarator
-    declarators variables using_in using_ opens_initial head_pattern head_pattern_in head start_in for_ for_each for_await return_ case_in switch_ finally_in
+    declarators variables using_in using_ opens_initial head_pattern head_pattern_in head start_in for_ for_each
+    for_await return_ case_in switch_ finally_in
     try_ is_script expression_statement keyword_statement other_statement opens_interface opens_alias opens_enum
     opens_namespace opens_module opens_global is_declaration_word opens_declare type_members interface alias enum_
     items_in is_namespace_word namespace module_namespace global typed_declaration declared declares_variables declare
@@ -629,7 +647,8 @@ unfolding is_name is_word is_name_or_this is_numeric is_sign is_accessor_word is
     is_tight comes_behind is_tightest right_operand tight_in base arguments opens_non_null opens_post
     plain_member_post non_null_post member_post import_arguments source_call defer_call import_base
     optional_post is_at opens_call opens_typed_template post chain callee may_await update prefix await_ unary power
-    level product sum begins_angle opens_shift_in shifted shift is_assertion_word opens_assertion opens_comparison may_test private_in comparison_in
+    level product sum begins_angle opens_shift_in shifted shift is_assertion_word opens_assertion opens_comparison
+    may_test private_in comparison_in
     is_behind_as asserted asserted_or no_form relation equality bit_and bit_xor bit_or and_ coalesce binary
     conditional opens_operand yield_ assignment expression element default_in array_pattern object_pattern target
     bracket_pattern inner_pattern pattern pattern_element pattern_property rest_in parameters is_typed_modifier
@@ -637,7 +656,8 @@ unfolding is_name is_word is_name_or_this is_numeric is_sign is_accessor_word is
     parameter signature plain_key key opens_any_method typed_head_in method_in property opens_modifier behind_all
     is_member_key static_in value_in head_in marked_in class_method_in is_field_mark field_in modified_member
     index_member any_member member condition_in block is_declarator_mark opens_declarator declarator
-    declarators variables using_in using_ opens_initial head_pattern head_pattern_in head start_in for_ for_each for_await return_ case_in switch_ finally_in
+    declarators variables using_in using_ opens_initial head_pattern head_pattern_in head start_in for_ for_each
+    for_await return_ case_in switch_ finally_in
     try_ is_script expression_statement keyword_statement other_statement opens_interface opens_alias opens_enum
     opens_namespace opens_module opens_global is_declaration_word opens_declare type_members interface alias enum_
     items_in is_namespace_word namespace module_namespace global typed_declaration declared declares_variables declare

@@ -80,7 +80,9 @@ unfolding read_program read_row read_turns read_wraps most_nodes is_name is_word
     opens_static_block is_variable_word opens_using opens_for opens_for_await is_each opens_head_pattern
     starts_using starts_expression is_label_here label_ended is_value_here is_case is_in_case opens_label
     begins_no_other opens_import opens_default opens_default_function opens_default_class opens_declaration
-    further_names types_entity opens_arguments no_arguments further_arguments listed_parameters opened_parameters opened_function begins_angle begins_type_parameter shows_type_parameter opens_angle reference import_type types_arguments types_is_modifier
+    further_names types_entity opens_arguments no_arguments further_arguments listed_parameters opened_parameters
+    opened_function begins_angle begins_type_parameter shows_type_parameter opens_angle reference import_type
+    types_arguments types_is_modifier
     types_opens_modifier type_parameter type_parameters parameters_in types_mark_in type_in list_before
     types_is_parameter types_parameters has_mark no_mark name_pattern types_array_pattern types_object_pattern
     types_pattern types_parameter types_pattern_element pattern_key types_opens_value types_pattern_property
@@ -90,7 +92,8 @@ unfolding read_program read_row read_turns read_wraps most_nodes is_name is_word
     types_key types_is_literal_word begins_type parenthesized_type members_type shows_mapped opens_mapped sign_in
     begins_signed mapped_type tuple_type type_query opens_this_reference is_type_word is_keyword_type template_types
     number_type primary_type opens_brackets brackets_in array_types is_type_operator opens_operator opens_infer
-    operand_type operands_in intersection_type union_type opens_condition no_condition conditional_type opens_function follows_parameter begins_parameters
+    operand_type operands_in intersection_type union_type opens_condition no_condition conditional_type opens_function
+    follows_parameter begins_parameters
     function_type opens_constructor constructor_type any_type is_label label_in types_element is_asserted_name
     opens_asserts opens_predicate result type_rule annotation_in result_in type_parameters_in type_arguments_in
     begins_call stands_call opens_call_arguments stands_heritage opens_heritage_arguments opens_parameters_of_arrow
@@ -102,7 +105,8 @@ unfolding read_program read_row read_turns read_wraps most_nodes is_name is_word
     imported opens_class_name class_name_in no_power is_tight comes_behind is_tightest right_operand tight_in base
     arguments opens_non_null opens_post import_arguments source_call defer_call import_base
     plain_member_post non_null_post member_post optional_post is_at opens_call opens_typed_template post chain callee
-    may_await update prefix await_ unary power level product sum opens_shift_in shifted shift is_assertion_word opens_assertion
+    may_await update prefix await_ unary power level product sum opens_shift_in shifted shift is_assertion_word
+    opens_assertion
     opens_comparison may_test private_in comparison_in is_behind_as asserted asserted_or no_form relation equality
     bit_and bit_xor bit_or and_ coalesce binary conditional opens_operand yield_ assignment expression element
     default_in array_pattern object_pattern target bracket_pattern inner_pattern pattern pattern_element
@@ -110,7 +114,8 @@ unfolding read_program read_row read_turns read_wraps most_nodes is_name is_word
     mark_in parameter_tail is_parameter_mark opens_marked parameter signature plain_key key opens_any_method
     typed_head_in method_in property opens_modifier behind_all is_member_key static_in value_in head_in marked_in
     class_method_in is_field_mark field_in modified_member index_member any_member member
-    condition_in block is_declarator_mark opens_declarator declarator declarators variables using_in using_ opens_initial head_pattern head_pattern_in head
+    condition_in block is_declarator_mark opens_declarator declarator declarators variables using_in using_
+    opens_initial head_pattern head_pattern_in head
     start_in for_ for_each for_await return_ case_in switch_ finally_in try_ is_script expression_statement
     keyword_statement other_statement opens_interface opens_alias opens_enum opens_namespace opens_module opens_global
     is_declaration_word opens_declare type_members interface alias enum_ items_in is_namespace_word namespace
@@ -203,7 +208,9 @@ unfolding read_program read_row read_turns read_wraps most_nodes is_name is_word
     opens_static_block is_variable_word opens_using opens_for opens_for_await is_each opens_head_pattern
     starts_using starts_expression is_label_here label_ended is_value_here is_case is_in_case opens_label
     begins_no_other opens_import opens_default opens_default_function opens_default_class opens_declaration
-    further_names types_entity opens_arguments no_arguments further_arguments listed_parameters opened_parameters opened_function begins_angle begins_type_parameter shows_type_parameter opens_angle reference import_type types_arguments types_is_modifier
+    further_names types_entity opens_arguments no_arguments further_arguments listed_parameters opened_parameters
+    opened_function begins_angle begins_type_parameter shows_type_parameter opens_angle reference import_type
+    types_arguments types_is_modifier
     types_opens_modifier type_parameter type_parameters parameters_in types_mark_in type_in list_before
     types_is_parameter types_parameters has_mark no_mark name_pattern types_array_pattern types_object_pattern
     types_pattern types_parameter types_pattern_element pattern_key types_opens_value types_pattern_property
@@ -213,7 +220,8 @@ unfolding read_program read_row read_turns read_wraps most_nodes is_name is_word
     types_key types_is_literal_word begins_type parenthesized_type members_type shows_mapped opens_mapped sign_in
     begins_signed mapped_type tuple_type type_query opens_this_reference is_type_word is_keyword_type template_types
     number_type primary_type opens_brackets brackets_in array_types is_type_operator opens_operator opens_infer
-    operand_type operands_in intersection_type union_type opens_condition no_condition conditional_type opens_function follows_parameter begins_parameters
+    operand_type operands_in intersection_type union_type opens_condition no_condition conditional_type opens_function
+    follows_parameter begins_parameters
     function_type opens_constructor constructor_type any_type is_label label_in types_element is_asserted_name
     opens_asserts opens_predicate result type_rule annotation_in result_in type_parameters_in type_arguments_in
     begins_call stands_call opens_call_arguments stands_heritage opens_heritage_arguments opens_parameters_of_arrow
@@ -225,7 +233,8 @@ unfolding read_program read_row read_turns read_wraps most_nodes is_name is_word
     imported opens_class_name class_name_in no_power is_tight comes_behind is_tightest right_operand tight_in base
     arguments opens_non_null opens_post import_arguments source_call defer_call import_base
     plain_member_post non_null_post member_post optional_post is_at opens_call opens_typed_template post chain callee
-    may_await update prefix await_ unary power level product sum opens_shift_in shifted shift is_assertion_word opens_assertion
+    may_await update prefix await_ unary power level product sum opens_shift_in shifted shift is_assertion_word
+    opens_assertion
     opens_comparison may_test private_in comparison_in is_behind_as asserted asserted_or no_form relation equality
     bit_and bit_xor bit_or and_ coalesce binary conditional opens_operand yield_ assignment expression element
     default_in array_pattern object_pattern target bracket_pattern inner_pattern pattern pattern_element
@@ -233,7 +242,8 @@ unfolding read_program read_row read_turns read_wraps most_nodes is_name is_word
     mark_in parameter_tail is_parameter_mark opens_marked parameter signature plain_key key opens_any_method
     typed_head_in method_in property opens_modifier behind_all is_member_key static_in value_in head_in marked_in
     class_method_in is_field_mark field_in modified_member index_member any_member member
-    condition_in block is_declarator_mark opens_declarator declarator declarators variables using_in using_ opens_initial head_pattern head_pattern_in head
+    condition_in block is_declarator_mark opens_declarator declarator declarators variables using_in using_
+    opens_initial head_pattern head_pattern_in head
     start_in for_ for_each for_await return_ case_in switch_ finally_in try_ is_script expression_statement
     keyword_statement other_statement opens_interface opens_alias opens_enum opens_namespace opens_module opens_global
     is_declaration_word opens_declare type_members interface alias enum_ items_in is_namespace_word namespace

@@ -1,5 +1,5 @@
 -- Where a row of programs stands; its type, those of the rows and of the alternatives are in src/rows.rt.
-use Rattle.std.specs.Prelude.{Bool, true, false}
+use Rattle.std.specs.Prelude.{Bool, true, false, not}
 use Rattle.es_tree.specs.declared.error.Lang.{Lang}
 use Rattle.es_tree.specs.declared.error.Lang.TheVariants as lang
 use Rattle.es_type_grammar.specs.declared.rows.Context as programs
@@ -16,6 +16,7 @@ is_typescript lang.Typescript = true
 abbrev pub widened : programs.Context → Context
 widened c = record {
   script = c.script;
+  module = not c.script;
   no_in = c.no_in;
   in_async = c.in_async;
   no_colon = false;
@@ -24,15 +25,30 @@ widened c = record {
 
 -- the outside of a module, and of a script
 abbrev pub in_module : Context
-in_module = record { script = false; no_in = false; in_async = false; no_colon = false; in_constructor = false }
+in_module = record {
+  script = false;
+  module = true;
+  no_in = false;
+  in_async = false;
+  no_colon = false;
+  in_constructor = false;
+}
 
 abbrev pub in_script : Context
-in_script = record { script = true; no_in = false; in_async = false; no_colon = false; in_constructor = false }
+in_script = record {
+  script = true;
+  module = false;
+  no_in = false;
+  in_async = false;
+  no_colon = false;
+  in_constructor = false;
+}
 
 -- the same place, outside the head of a `for` and within brackets
 abbrev pub outside : Context → Context
 outside c = record {
   script = c.script;
+  module = c.module;
   no_in = false;
   in_async = c.in_async;
   no_colon = false;
@@ -43,6 +59,7 @@ outside c = record {
 abbrev pub in_head : Context → Context
 in_head c = record {
   script = c.script;
+  module = c.module;
   no_in = true;
   in_async = c.in_async;
   no_colon = c.no_colon;
@@ -51,12 +68,20 @@ in_head c = record {
 
 -- in an async function
 abbrev pub async_in : Context → Context
-async_in c = record { script = c.script; no_in = false; in_async = true; no_colon = false; in_constructor = false }
+async_in c = record {
+  script = c.script;
+  module = c.module;
+  no_in = false;
+  in_async = true;
+  no_colon = false;
+  in_constructor = false;
+}
 
 -- in an async arrow's body, which may be in the head of a `for` and where no `:` opens a result
 abbrev pub async_here : Context → Context
 async_here c = record {
   script = c.script;
+  module = c.module;
   no_in = c.no_in;
   in_async = true;
   no_colon = c.no_colon;
@@ -68,6 +93,7 @@ abbrev pub without_colon : Lang → Context → Context
 without_colon lang.Es c = c
 without_colon lang.Typescript c = record {
   script = c.script;
+  module = c.module;
   no_in = c.no_in;
   in_async = c.in_async;
   no_colon = true;
@@ -78,6 +104,7 @@ without_colon lang.Typescript c = record {
 abbrev pub constructing : Context → Context
 constructing c = record {
   script = c.script;
+  module = c.module;
   no_in = false;
   in_async = c.in_async;
   no_colon = false;

@@ -71,18 +71,21 @@ using_ c = make Using (using_in c (declarators c))
 
 -- ---- loops
 
--- in scripts `var` before a name and `=`: an initial value in the head of a `for` with `in` (ECMA-262, "Initializers in
--- ForIn Statement Heads")
-unfoldable pub opens_initial : Context → Predicate
-opens_initial c K at =
-    c.script && (is k.VarWord (seen K (at - 1)) && (has_kind is_name (seen K at) && is k.Equal (seen K (at + 1))))
+-- in scripts
+unfoldable pub is_script : Context → Predicate
+is_script c K at = c.script
+
+-- `var` before a name and `=`: an initial value in the head of a `for` with `in` (ECMA-262, "Initializers in ForIn
+-- Statement Heads")
+unfoldable pub opens_initial : Predicate
+opens_initial K at = is k.VarWord (seen K (at - 1)) && (has_kind is_name (seen K at) && is k.Equal (seen K (at + 1)))
 
 -- Pat | in scripts, behind 'var': Name '=' Assign, before `in`
 unfoldable pub head_pattern : Lang → Context → Production Row NodeKind
 head_pattern l c =
-    pick (opens_initial c)
-    (make DefaultPattern (row (PatternRow false c) (punct k.Equal (row (AssignmentRow (in_head c)) (when_
-    (is k.InWord) done)))))
+    pick opens_initial
+    (make DefaultPattern (where_ (is_script c) (row (PatternRow false c) (punct k.Equal (row (AssignmentRow (in_head c))
+    (when_ (is k.InWord) done))))))
     (pattern l false c)
 
 -- such a pattern; TS: Pat (':' Type)?
@@ -163,9 +166,6 @@ try_ l c =
     (punct k.CatchWord (opt (greedy (is k.OpenParen)) (punct k.OpenParen (row (PatternRow false c)
     (typed_in l annotation_in (punct k.CloseParen done))))
     (row (BlockRow c) (opt (greedy (is k.FinallyWord)) (finally_in c) done)))) (finally_in c) done)))
-
-unfoldable pub is_script : Context → Predicate
-is_script c K at = c.script
 
 -- Expr END
 unfoldable pub expression_statement : Context → Production Row NodeKind

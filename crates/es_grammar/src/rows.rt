@@ -5,8 +5,10 @@ use es_type_grammar::TypeRow;
 /// Where a row stands.
 #[derive(Clone, Copy, Debug, PartialEq, Eq)]
 pub struct Context {
-    /// In a script.
+    /// What scripts alone have may stand here.
     pub script: bool,
+    /// What modules alone have may stand here.
+    pub module: bool,
     /// In the head of a `for`, where `in` is no operator.
     pub no_in: bool,
     /// In an async function.

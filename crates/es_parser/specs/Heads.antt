@@ -8,7 +8,14 @@ use Rattle.es_grammar.specs.declared.rows.Context.{Context}
 
 -- a place where `:` may open an arrow's result, or may not
 abbrev pub arrow_place : Bool → Context
-arrow_place colon = record { script = false; no_in = false; in_async = false; no_colon = not colon; in_constructor = false }
+arrow_place colon = record {
+  script = false;
+  module = true;
+  no_in = false;
+  in_async = false;
+  no_colon = not colon;
+  in_constructor = false;
+}
 
 -- `[` or `{` whose closer is followed by `=`, in the head of a `for` by `of` or `in`, inside a pattern by `,`, `]` or `}`
 unfoldable pub is_pattern_head : Bool → Bool → Predicate

@@ -108,7 +108,7 @@ pub fn holds(tokens: &Tokens<'_>, alloc: Global, predicate: Predicate, at: usize
         Predicate::BehindAllFieldAccessor => classes::behind_all_field_accessor(tokens, at),
         Predicate::BehindAllMethod => classes::behind_all_method(tokens, at),
         Predicate::OpensDeclarator => classes::opens_declarator(tokens, at),
-        Predicate::OpensInitial(context) => expressions::opens_initial(tokens, context, at),
+        Predicate::OpensInitial => expressions::opens_initial(tokens, at),
         Predicate::OpensInterface => declarations::opens_interface(tokens, at),
         Predicate::OpensAlias => declarations::opens_alias(tokens, at),
         Predicate::OpensEnum => declarations::opens_enum(tokens, at),
@@ -202,9 +202,9 @@ pub fn holds(tokens: &Tokens<'_>, alloc: Global, predicate: Predicate, at: usize
         Predicate::ComesBehind(kinds) => expressions::comes_behind(tokens, kinds, at),
         Predicate::OpensClassName => expressions::opens_class_name(tokens, at),
         Predicate::OpensAbstractClass => expressions::opens_abstract_class(tokens, at),
-        Predicate::MayAwait(context) => !context.script || context.in_async,
+        Predicate::MayAwait(context) => context.module || context.in_async,
         Predicate::MayTest(context) => !context.no_in,
-        Predicate::IsModule(context) => !context.script,
+        Predicate::IsModule(context) => context.module,
         Predicate::IsScript(context) => context.script,
     }
 }

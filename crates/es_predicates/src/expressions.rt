@@ -149,13 +149,12 @@ fn is_behind_var(tokens: &Tokens<'_>, at: usize) -> bool
     tokens.sees(TokenKind::VarWord, at - 1)
 }
 
-/// In scripts, an initial value in the head of a `for`: a name behind `var` and before `=`.
+/// An initial value in the head of a `for`: a name behind `var` and before `=`.
 #[tactic(auto, unfolding(es_grammar::specs::Statements::opens_initial))]
-pub fn opens_initial(tokens: &Tokens<'_>, context: Context, at: usize) -> bool
-    ensures { result ≡ opens_initial context (keys_of tokens.now.tokens.now) at }
+pub fn opens_initial(tokens: &Tokens<'_>, at: usize) -> bool
+    ensures { result ≡ opens_initial (keys_of tokens.now.tokens.now) at }
 {
-    context.script
-        && is_behind_var(tokens, at)
+    is_behind_var(tokens, at)
         && has_name(tokens.seen(at))
         && is(TokenKind::Equal, tokens.seen_after(at, 1))
 }

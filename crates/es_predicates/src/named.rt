@@ -161,7 +161,7 @@ pub enum Predicate {
     BehindAllFieldAccessor,
     BehindAllMethod,
     OpensDeclarator,
-    OpensInitial(Context),
+    OpensInitial,
     // Declarations and items.
     OpensInterface,
     OpensAlias,

@@ -264,6 +264,7 @@ impl ReadsProduction<Row> for Module {
     ) -> Result<usize, SyntaxError> {
         let in_module = Context {
             script: false,
+            module: true,
             no_in: false,
             in_async: false,
             no_colon: false,
@@ -296,6 +297,7 @@ impl ReadsProduction<Row> for Script {
     ) -> Result<usize, SyntaxError> {
         let in_script = Context {
             script: true,
+            module: false,
             no_in: false,
             no_colon: false,
             in_constructor: false,

@@ -144,7 +144,8 @@ unfolding is_name is_word is_name_or_this is_numeric is_sign is_accessor_word is
     opens_star opens_method method_in async_method_in property opens_static opens_field_accessor behind_static
     is_plain_member opens_static_block static_in value_in member condition_in block is_variable_word
     declarator declarators variables opens_using using_in using_ opens_for opens_for_await is_each
-    opens_head_pattern opens_initial head_pattern head starts_using starts_expression start_in for_ for_each for_await is_label_here label_ended
+    opens_head_pattern opens_initial head_pattern head starts_using starts_expression start_in for_ for_each for_await
+    is_label_here label_ended
     is_value_here return_ is_case is_in_case case_in switch_ finally_in try_ is_script opens_label begins_no_other
     expression_statement keyword_statement declaration statement opens_import opens_default opens_default_function
     opens_default_class export_default opens_declaration export_item item shebang_in module_ script rule
@@ -227,7 +228,8 @@ unfolding is_name is_word is_name_or_this is_numeric is_sign is_accessor_word is
     opens_star opens_method method_in async_method_in property opens_static opens_field_accessor behind_static
     is_plain_member opens_static_block static_in value_in member condition_in block is_variable_word
     declarator declarators variables opens_using using_in using_ opens_for opens_for_await is_each
-    opens_head_pattern opens_initial head_pattern head starts_using starts_expression start_in for_ for_each for_await is_label_here label_ended
+    opens_head_pattern opens_initial head_pattern head starts_using starts_expression start_in for_ for_each for_await
+    is_label_here label_ended
     is_value_here return_ is_case is_in_case case_in switch_ finally_in try_ is_script opens_label begins_no_other
     expression_statement keyword_statement declaration statement opens_import opens_default opens_default_function
     opens_default_class export_default opens_declaration export_item item shebang_in module_ script rule
@@ -311,7 +313,8 @@ unfolding is_name is_word is_name_or_this is_numeric is_sign is_accessor_word is
     opens_star opens_method method_in async_method_in property opens_static opens_field_accessor behind_static
     is_plain_member opens_static_block static_in value_in member condition_in block is_variable_word
     declarator declarators variables opens_using using_in using_ opens_for opens_for_await is_each
-    opens_head_pattern opens_initial head_pattern head starts_using starts_expression start_in for_ for_each for_await is_label_here label_ended
+    opens_head_pattern opens_initial head_pattern head starts_using starts_expression start_in for_ for_each for_await
+    is_label_here label_ended
     is_value_here return_ is_case is_in_case case_in switch_ finally_in try_ is_script opens_label begins_no_other
     expression_statement keyword_statement declaration statement opens_import opens_default opens_default_function
     opens_default_class export_default opens_declaration export_item item shebang_in module_ script rule
@@ -416,7 +419,8 @@ unfolding is_name is_word is_name_or_this is_numeric is_sign is_accessor_word is
     opens_star opens_method method_in async_method_in property opens_static opens_field_accessor behind_static
     is_plain_member opens_static_block static_in value_in member condition_in block is_variable_word
     declarator declarators variables opens_using using_in using_ opens_for opens_for_await is_each
-    opens_head_pattern opens_initial head_pattern head starts_using starts_expression start_in for_ for_each for_await is_label_here label_ended
+    opens_head_pattern opens_initial head_pattern head starts_using starts_expression start_in for_ for_each for_await
+    is_label_here label_ended
     is_value_here return_ is_case is_in_case case_in switch_ finally_in try_ is_script opens_label begins_no_other
     expression_statement keyword_statement declaration statement opens_import opens_default opens_default_function
     opens_default_class export_default opens_declaration export_item item shebang_in module_ script rule
@@ -454,7 +458,8 @@ unfolding is_name is_word is_name_or_this is_numeric is_sign is_accessor_word is
     opens_star opens_method method_in async_method_in property opens_static opens_field_accessor behind_static
     is_plain_member opens_static_block static_in value_in member condition_in block is_variable_word
     declarator declarators variables opens_using using_in using_ opens_for opens_for_await is_each
-    opens_head_pattern opens_initial head_pattern head starts_using starts_expression start_in for_ for_each for_await is_label_here label_ended
+    opens_head_pattern opens_initial head_pattern head starts_using starts_expression start_in for_ for_each for_await
+    is_label_here label_ended
     is_value_here return_ is_case is_in_case case_in switch_ finally_in try_ is_script opens_label begins_no_other
     expression_statement keyword_statement declaration statement opens_import opens_default opens_default_function
     opens_default_class export_default opens_declaration export_item item shebang_in module_ script rule
@@ -495,7 +500,8 @@ unfolding is_name is_word is_name_or_this is_numeric is_sign is_accessor_word is
     opens_star opens_method method_in async_method_in property opens_static opens_field_accessor behind_static
     is_plain_member opens_static_block static_in value_in member condition_in block is_variable_word
     declarator declarators variables opens_using using_in using_ opens_for opens_for_await is_each
-    opens_head_pattern opens_initial head_pattern head starts_using starts_expression start_in for_ for_each for_await is_label_here label_ended
+    opens_head_pattern opens_initial head_pattern head starts_using starts_expression start_in for_ for_each for_await
+    is_label_here label_ended
     is_value_here return_ is_case is_in_case case_in switch_ finally_in try_ is_script opens_label begins_no_other
     expression_statement keyword_statement declaration statement opens_import opens_default opens_default_function
     opens_default_class export_default opens_declaration export_item item shebang_in module_ script rule
@@ -533,7 +539,8 @@ unfolding is_name is_word is_name_or_this is_numeric is_sign is_accessor_word is
     opens_star opens_method method_in async_method_in property opens_static opens_field_accessor behind_static
     is_plain_member opens_static_block static_in value_in member condition_in block is_variable_word
     declarator declarators variables opens_using using_in using_ opens_for opens_for_await is_each
-    opens_head_pattern opens_initial head_pattern head starts_using starts_expression start_in for_ for_each for_await is_label_here label_ended
+    opens_head_pattern opens_initial head_pattern head starts_using starts_expression start_in for_ for_each for_await
+    is_label_here label_ended
     is_value_here return_ is_case is_in_case case_in switch_ finally_in try_ is_script opens_label begins_no_other
     expression_statement keyword_statement declaration statement opens_import opens_default opens_default_function
     opens_default_class export_default opens_declaration export_item item shebang_in module_ script rule
@@ -568,7 +575,8 @@ unfolding is_name is_word is_name_or_this is_numeric is_sign is_accessor_word is
     opens_star opens_method method_in async_method_in property opens_static opens_field_accessor behind_static
     is_plain_member opens_static_block static_in value_in member condition_in block is_variable_word
     declarator declarators variables opens_using using_in using_ opens_for opens_for_await is_each
-    opens_head_pattern opens_initial head_pattern head starts_using starts_expression start_in for_ for_each for_await is_label_here label_ended
+    opens_head_pattern opens_initial head_pattern head starts_using starts_expression start_in for_ for_each for_await
+    is_label_here label_ended
     is_value_here return_ is_case is_in_case case_in switch_ finally_in try_ is_script opens_label begins_no_other
     expression_statement keyword_statement declaration statement opens_import opens_default opens_default_function
     opens_default_class export_default opens_declaration export_item item shebang_in module_ script rule
@@ -607,7 +615,8 @@ unfolding is_name is_word is_name_or_this is_numeric is_sign is_accessor_word is
     opens_star opens_method method_in async_method_in property opens_static opens_field_accessor behind_static
     is_plain_member opens_static_block static_in value_in member condition_in block is_variable_word
     declarator declarators variables opens_using using_in using_ opens_for opens_for_await is_each
-    opens_head_pattern opens_initial head_pattern head starts_using starts_expression start_in for_ for_each for_await is_label_here label_ended
+    opens_head_pattern opens_initial head_pattern head starts_using starts_expression start_in for_ for_each for_await
+    is_label_here label_ended
     is_value_here return_ is_case is_in_case case_in switch_ finally_in try_ is_script opens_label begins_no_other
     expression_statement keyword_statement declaration statement opens_import opens_default opens_default_function
     opens_default_class export_default opens_declaration export_item item shebang_in module_ script rule
@@ -643,7 +652,8 @@ unfolding is_name is_word is_name_or_this is_numeric is_sign is_accessor_word is
     opens_star opens_method method_in async_method_in property opens_static opens_field_accessor behind_static
     is_plain_member opens_static_block static_in value_in member condition_in block is_variable_word
     declarator declarators variables opens_using using_in using_ opens_for opens_for_await is_each
-    opens_head_pattern opens_initial head_pattern head starts_using starts_expression start_in for_ for_each for_await is_label_here label_ended
+    opens_head_pattern opens_initial head_pattern head starts_using starts_expression start_in for_ for_each for_await
+    is_label_here label_ended
     is_value_here return_ is_case is_in_case case_in switch_ finally_in try_ is_script opens_label begins_no_other
     expression_statement keyword_statement declaration statement opens_import opens_default opens_default_function
     opens_default_class export_default opens_declaration export_item item shebang_in module_ script rule

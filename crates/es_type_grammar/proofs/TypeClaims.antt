@@ -62,7 +62,9 @@ sets = record { first = first; follow = follow; solid = solid }
 -- each row but that of parameters takes a token, and so does each part that may be absent
 rows_take : (r : Row) → solid r ≡ true → rule_takes solid (type_rule r) ≡ true
 unfolding is_name is_word is_name_or_this is_numeric is_sign is_accessor_word is_near begins_key further_names entity
-    opens_arguments no_arguments further_arguments listed_parameters opened_parameters opened_function begins_angle begins_type_parameter shows_type_parameter opens_angle reference import_type arguments is_modifier opens_modifier type_parameter
+    opens_arguments no_arguments further_arguments listed_parameters opened_parameters opened_function begins_angle
+    begins_type_parameter shows_type_parameter opens_angle reference import_type arguments is_modifier
+    opens_modifier type_parameter
     type_parameters parameters_in mark_in type_in list_before is_parameter parameters has_mark no_mark name_pattern
     array_pattern object_pattern pattern parameter pattern_element pattern_key opens_value pattern_property result_in
     is_separator may_separate separator opens_parameters call_signature opens_construct construct_signature
@@ -99,7 +101,9 @@ rows_take PatternKeyRow h = refl
 
 parts_take : (r : Row) → rule_parts_take solid (type_rule r) ≡ true
 unfolding is_name is_word is_name_or_this is_numeric is_sign is_accessor_word is_near begins_key further_names entity
-    opens_arguments no_arguments further_arguments listed_parameters opened_parameters opened_function begins_angle begins_type_parameter shows_type_parameter opens_angle reference import_type arguments is_modifier opens_modifier type_parameter
+    opens_arguments no_arguments further_arguments listed_parameters opened_parameters opened_function begins_angle
+    begins_type_parameter shows_type_parameter opens_angle reference import_type arguments is_modifier
+    opens_modifier type_parameter
     type_parameters parameters_in mark_in type_in list_before is_parameter parameters has_mark no_mark name_pattern
     array_pattern object_pattern pattern parameter pattern_element pattern_key opens_value pattern_property result_in
     is_separator may_separate separator opens_parameters call_signature opens_construct construct_signature
@@ -137,7 +141,9 @@ parts_take PatternKeyRow = refl
 -- what a row begins with
 begins : (r : Row) → holds_everywhere (λ x. implies (rule_starts sets (type_rule r) none x) (first r x)) ≡ true
 unfolding is_name is_word is_name_or_this is_numeric is_sign is_accessor_word is_near begins_key further_names entity
-    opens_arguments no_arguments further_arguments listed_parameters opened_parameters opened_function begins_angle begins_type_parameter shows_type_parameter opens_angle reference import_type arguments is_modifier opens_modifier type_parameter
+    opens_arguments no_arguments further_arguments listed_parameters opened_parameters opened_function begins_angle
+    begins_type_parameter shows_type_parameter opens_angle reference import_type arguments is_modifier
+    opens_modifier type_parameter
     type_parameters parameters_in mark_in type_in list_before is_parameter parameters has_mark no_mark name_pattern
     array_pattern object_pattern pattern parameter pattern_element pattern_key opens_value pattern_property result_in
     is_separator may_separate separator opens_parameters call_signature opens_construct construct_signature
@@ -175,7 +181,9 @@ begins PatternKeyRow = refl
 -- each test tells
 tests_tell : (r : Row) → holds_everywhere (rule_tells sets (type_rule r) (follow r)) ≡ true
 unfolding is_name is_word is_name_or_this is_numeric is_sign is_accessor_word is_near begins_key further_names entity
-    opens_arguments no_arguments further_arguments listed_parameters opened_parameters opened_function begins_angle begins_type_parameter shows_type_parameter opens_angle reference import_type arguments is_modifier opens_modifier type_parameter
+    opens_arguments no_arguments further_arguments listed_parameters opened_parameters opened_function begins_angle
+    begins_type_parameter shows_type_parameter opens_angle reference import_type arguments is_modifier
+    opens_modifier type_parameter
     type_parameters parameters_in mark_in type_in list_before is_parameter parameters has_mark no_mark name_pattern
     array_pattern object_pattern pattern parameter pattern_element pattern_key opens_value pattern_property result_in
     is_separator may_separate separator opens_parameters call_signature opens_construct construct_signature

@@ -109,7 +109,8 @@ unfolding read_program read_row read_turns read_wraps most_nodes is_name is_word
     opens_accessor opens_async is_plain_key opens_star opens_method method_in async_method_in property opens_static
     opens_field_accessor behind_static is_plain_member opens_static_block static_in value_in member
     condition_in block is_variable_word declarator declarators variables opens_using using_in using_
-    opens_for opens_for_await is_each opens_head_pattern opens_initial head_pattern head starts_using starts_expression start_in for_ for_each
+    opens_for opens_for_await is_each opens_head_pattern opens_initial head_pattern head starts_using starts_expression
+    start_in for_ for_each
     for_await is_label_here label_ended is_value_here return_ is_case is_in_case case_in switch_ finally_in try_
     is_script opens_label begins_no_other expression_statement keyword_statement declaration statement opens_import
     opens_default opens_default_function opens_default_class export_default opens_declaration export_item item

@@ -49,7 +49,9 @@ refused :
     as_name 1) nil))) 2)
 unfolding read_type read_row read_turns read_wraps most_nodes
     is_name is_word is_name_or_this is_numeric is_sign is_accessor_word is_near begins_key further_names entity
-    opens_arguments no_arguments further_arguments listed_parameters opened_parameters opened_function begins_angle begins_type_parameter shows_type_parameter opens_angle reference import_type arguments is_modifier opens_modifier type_parameter
+    opens_arguments no_arguments further_arguments listed_parameters opened_parameters opened_function begins_angle
+    begins_type_parameter shows_type_parameter opens_angle reference import_type arguments is_modifier
+    opens_modifier type_parameter
     type_parameters parameters_in mark_in type_in list_before is_parameter parameters has_mark no_mark name_pattern
     array_pattern object_pattern pattern parameter pattern_element pattern_key opens_value pattern_property
     result_in is_separator may_separate separator opens_parameters call_signature opens_construct
@@ -58,7 +60,8 @@ unfolding read_type read_row read_turns read_wraps most_nodes
     is_literal_word begins_type parenthesized_type members_type shows_mapped opens_mapped sign_in begins_signed
     mapped_type tuple_type type_query opens_this_reference is_type_word is_keyword_type template_types number_type
     primary_type opens_brackets brackets_in array_types is_type_operator opens_operator opens_infer operand_type
-    operands_in intersection_type union_type opens_condition no_condition conditional_type opens_function follows_parameter begins_parameters
+    operands_in intersection_type union_type opens_condition no_condition conditional_type opens_function
+    follows_parameter begins_parameters
     function_type opens_constructor constructor_type any_type is_label label_in element is_asserted_name
     opens_asserts opens_predicate result type_rule
 refused =
@@ -99,7 +102,9 @@ refused_more :
     ∷ one k.Name ∷ paired k.CloseBrace 0 ∷ []) ≡ nothing)
 unfolding read_type read_row read_turns read_wraps most_nodes
     is_name is_word is_name_or_this is_numeric is_sign is_accessor_word is_near begins_key further_names entity
-    opens_arguments no_arguments further_arguments listed_parameters opened_parameters opened_function begins_angle begins_type_parameter shows_type_parameter opens_angle reference import_type arguments is_modifier opens_modifier type_parameter
+    opens_arguments no_arguments further_arguments listed_parameters opened_parameters opened_function begins_angle
+    begins_type_parameter shows_type_parameter opens_angle reference import_type arguments is_modifier
+    opens_modifier type_parameter
     type_parameters parameters_in mark_in type_in list_before is_parameter parameters has_mark no_mark name_pattern
     array_pattern object_pattern pattern parameter pattern_element pattern_key opens_value pattern_property
     result_in is_separator may_separate separator opens_parameters call_signature opens_construct
@@ -108,7 +113,8 @@ unfolding read_type read_row read_turns read_wraps most_nodes
     is_literal_word begins_type parenthesized_type members_type shows_mapped opens_mapped sign_in begins_signed
     mapped_type tuple_type type_query opens_this_reference is_type_word is_keyword_type template_types number_type
     primary_type opens_brackets brackets_in array_types is_type_operator opens_operator opens_infer operand_type
-    operands_in intersection_type union_type opens_condition no_condition conditional_type opens_function follows_parameter begins_parameters
+    operands_in intersection_type union_type opens_condition no_condition conditional_type opens_function
+    follows_parameter begins_parameters
     function_type opens_constructor constructor_type any_type is_label label_in element is_asserted_name
     opens_asserts opens_predicate result type_rule
 refused_more =

@@ -64,7 +64,9 @@ primary_types :
     3 (mark 0 (cons (node Entity 1 2 (cons (leaf as_name 1) (cons nil nil))) (mark 2 nil)))) 3)
 unfolding read_type read_row read_turns read_wraps most_nodes
     is_name is_word is_name_or_this is_numeric is_sign is_accessor_word is_near begins_key further_names entity
-    opens_arguments no_arguments further_arguments listed_parameters opened_parameters opened_function begins_angle begins_type_parameter shows_type_parameter opens_angle reference import_type arguments is_modifier opens_modifier type_parameter
+    opens_arguments no_arguments further_arguments listed_parameters opened_parameters opened_function begins_angle
+    begins_type_parameter shows_type_parameter opens_angle reference import_type arguments is_modifier
+    opens_modifier type_parameter
     type_parameters parameters_in mark_in type_in list_before is_parameter parameters has_mark no_mark name_pattern
     array_pattern object_pattern pattern parameter pattern_element pattern_key opens_value pattern_property
     result_in is_separator may_separate separator opens_parameters call_signature opens_construct
@@ -73,7 +75,8 @@ unfolding read_type read_row read_turns read_wraps most_nodes
     is_literal_word begins_type parenthesized_type members_type shows_mapped opens_mapped sign_in begins_signed
     mapped_type tuple_type type_query opens_this_reference is_type_word is_keyword_type template_types number_type
     primary_type opens_brackets brackets_in array_types is_type_operator opens_operator opens_infer operand_type
-    operands_in intersection_type union_type opens_condition no_condition conditional_type opens_function follows_parameter begins_parameters
+    operands_in intersection_type union_type opens_condition no_condition conditional_type opens_function
+    follows_parameter begins_parameters
     function_type opens_constructor constructor_type any_type is_label label_in element is_asserted_name
     opens_asserts opens_predicate result type_rule
 primary_types =
@@ -154,7 +157,9 @@ operators :
     (leaf as_name 12) (cons nil nil))) nil)))))))) nil)))))))) 13)
 unfolding read_type read_row read_turns read_wraps most_nodes
     is_name is_word is_name_or_this is_numeric is_sign is_accessor_word is_near begins_key further_names entity
-    opens_arguments no_arguments further_arguments listed_parameters opened_parameters opened_function begins_angle begins_type_parameter shows_type_parameter opens_angle reference import_type arguments is_modifier opens_modifier type_parameter
+    opens_arguments no_arguments further_arguments listed_parameters opened_parameters opened_function begins_angle
+    begins_type_parameter shows_type_parameter opens_angle reference import_type arguments is_modifier
+    opens_modifier type_parameter
     type_parameters parameters_in mark_in type_in list_before is_parameter parameters has_mark no_mark name_pattern
     array_pattern object_pattern pattern parameter pattern_element pattern_key opens_value pattern_property
     result_in is_separator may_separate separator opens_parameters call_signature opens_construct
@@ -163,7 +168,8 @@ unfolding read_type read_row read_turns read_wraps most_nodes
     is_literal_word begins_type parenthesized_type members_type shows_mapped opens_mapped sign_in begins_signed
     mapped_type tuple_type type_query opens_this_reference is_type_word is_keyword_type template_types number_type
     primary_type opens_brackets brackets_in array_types is_type_operator opens_operator opens_infer operand_type
-    operands_in intersection_type union_type opens_condition no_condition conditional_type opens_function follows_parameter begins_parameters
+    operands_in intersection_type union_type opens_condition no_condition conditional_type opens_function
+    follows_parameter begins_parameters
     function_type opens_constructor constructor_type any_type is_label label_in element is_asserted_name
     opens_asserts opens_predicate result type_rule
 operators =
@@ -270,7 +276,9 @@ functions :
     (leaf as_name 3) (mark 4 (cons (node TupleType 5 7 (mark 5 (cons nil (mark 6 nil)))) nil)))) nil))))))) 7)
 unfolding read_type read_row read_turns read_wraps most_nodes
     is_name is_word is_name_or_this is_numeric is_sign is_accessor_word is_near begins_key further_names entity
-    opens_arguments no_arguments further_arguments listed_parameters opened_parameters opened_function begins_angle begins_type_parameter shows_type_parameter opens_angle reference import_type arguments is_modifier opens_modifier type_parameter
+    opens_arguments no_arguments further_arguments listed_parameters opened_parameters opened_function begins_angle
+    begins_type_parameter shows_type_parameter opens_angle reference import_type arguments is_modifier
+    opens_modifier type_parameter
     type_parameters parameters_in mark_in type_in list_before is_parameter parameters has_mark no_mark name_pattern
     array_pattern object_pattern pattern parameter pattern_element pattern_key opens_value pattern_property
     result_in is_separator may_separate separator opens_parameters call_signature opens_construct
@@ -279,7 +287,8 @@ unfolding read_type read_row read_turns read_wraps most_nodes
     is_literal_word begins_type parenthesized_type members_type shows_mapped opens_mapped sign_in begins_signed
     mapped_type tuple_type type_query opens_this_reference is_type_word is_keyword_type template_types number_type
     primary_type opens_brackets brackets_in array_types is_type_operator opens_operator opens_infer operand_type
-    operands_in intersection_type union_type opens_condition no_condition conditional_type opens_function follows_parameter begins_parameters
+    operands_in intersection_type union_type opens_condition no_condition conditional_type opens_function
+    follows_parameter begins_parameters
     function_type opens_constructor constructor_type any_type is_label label_in element is_asserted_name
     opens_asserts opens_predicate result type_rule
 functions =
@@ -308,7 +317,9 @@ queries :
     (cons nil (mark 8 nil))))) nil) nil))))))) 9)
 unfolding read_type read_row read_turns read_wraps most_nodes
     is_name is_word is_name_or_this is_numeric is_sign is_accessor_word is_near begins_key further_names entity
-    opens_arguments no_arguments further_arguments listed_parameters opened_parameters opened_function begins_angle begins_type_parameter shows_type_parameter opens_angle reference import_type arguments is_modifier opens_modifier type_parameter
+    opens_arguments no_arguments further_arguments listed_parameters opened_parameters opened_function begins_angle
+    begins_type_parameter shows_type_parameter opens_angle reference import_type arguments is_modifier
+    opens_modifier type_parameter
     type_parameters parameters_in mark_in type_in list_before is_parameter parameters has_mark no_mark name_pattern
     array_pattern object_pattern pattern parameter pattern_element pattern_key opens_value pattern_property
     result_in is_separator may_separate separator opens_parameters call_signature opens_construct
@@ -317,7 +328,8 @@ unfolding read_type read_row read_turns read_wraps most_nodes
     is_literal_word begins_type parenthesized_type members_type shows_mapped opens_mapped sign_in begins_signed
     mapped_type tuple_type type_query opens_this_reference is_type_word is_keyword_type template_types number_type
     primary_type opens_brackets brackets_in array_types is_type_operator opens_operator opens_infer operand_type
-    operands_in intersection_type union_type opens_condition no_condition conditional_type opens_function follows_parameter begins_parameters
+    operands_in intersection_type union_type opens_condition no_condition conditional_type opens_function
+    follows_parameter begins_parameters
     function_type opens_constructor constructor_type any_type is_label label_in element is_asserted_name
     opens_asserts opens_predicate result type_rule
 queries =
@@ -352,7 +364,9 @@ tuples :
     (cons nil nil))))) (cons nil nil)) nil))) (mark 14 nil)))) 15)
 unfolding read_type read_row read_turns read_wraps most_nodes
     is_name is_word is_name_or_this is_numeric is_sign is_accessor_word is_near begins_key further_names entity
-    opens_arguments no_arguments further_arguments listed_parameters opened_parameters opened_function begins_angle begins_type_parameter shows_type_parameter opens_angle reference import_type arguments is_modifier opens_modifier type_parameter
+    opens_arguments no_arguments further_arguments listed_parameters opened_parameters opened_function begins_angle
+    begins_type_parameter shows_type_parameter opens_angle reference import_type arguments is_modifier
+    opens_modifier type_parameter
     type_parameters parameters_in mark_in type_in list_before is_parameter parameters has_mark no_mark name_pattern
     array_pattern object_pattern pattern parameter pattern_element pattern_key opens_value pattern_property
     result_in is_separator may_separate separator opens_parameters call_signature opens_construct
@@ -361,7 +375,8 @@ unfolding read_type read_row read_turns read_wraps most_nodes
     is_literal_word begins_type parenthesized_type members_type shows_mapped opens_mapped sign_in begins_signed
     mapped_type tuple_type type_query opens_this_reference is_type_word is_keyword_type template_types number_type
     primary_type opens_brackets brackets_in array_types is_type_operator opens_operator opens_infer operand_type
-    operands_in intersection_type union_type opens_condition no_condition conditional_type opens_function follows_parameter begins_parameters
+    operands_in intersection_type union_type opens_condition no_condition conditional_type opens_function
+    follows_parameter begins_parameters
     function_type opens_constructor constructor_type any_type is_label label_in element is_asserted_name
     opens_asserts opens_predicate result type_rule
 tuples =
@@ -452,7 +467,9 @@ members :
     18 nil)))) 19)
 unfolding read_type read_row read_turns read_wraps most_nodes
     is_name is_word is_name_or_this is_numeric is_sign is_accessor_word is_near begins_key further_names entity
-    opens_arguments no_arguments further_arguments listed_parameters opened_parameters opened_function begins_angle begins_type_parameter shows_type_parameter opens_angle reference import_type arguments is_modifier opens_modifier type_parameter
+    opens_arguments no_arguments further_arguments listed_parameters opened_parameters opened_function begins_angle
+    begins_type_parameter shows_type_parameter opens_angle reference import_type arguments is_modifier
+    opens_modifier type_parameter
     type_parameters parameters_in mark_in type_in list_before is_parameter parameters has_mark no_mark name_pattern
     array_pattern object_pattern pattern parameter pattern_element pattern_key opens_value pattern_property
     result_in is_separator may_separate separator opens_parameters call_signature opens_construct
@@ -461,7 +478,8 @@ unfolding read_type read_row read_turns read_wraps most_nodes
     is_literal_word begins_type parenthesized_type members_type shows_mapped opens_mapped sign_in begins_signed
     mapped_type tuple_type type_query opens_this_reference is_type_word is_keyword_type template_types number_type
     primary_type opens_brackets brackets_in array_types is_type_operator opens_operator opens_infer operand_type
-    operands_in intersection_type union_type opens_condition no_condition conditional_type opens_function follows_parameter begins_parameters
+    operands_in intersection_type union_type opens_condition no_condition conditional_type opens_function
+    follows_parameter begins_parameters
     function_type opens_constructor constructor_type any_type is_label label_in element is_asserted_name
     opens_asserts opens_predicate result type_rule
 members =
@@ -486,7 +504,9 @@ mapped_types :
     nil))))))))))))) 15)
 unfolding read_type read_row read_turns read_wraps most_nodes
     is_name is_word is_name_or_this is_numeric is_sign is_accessor_word is_near begins_key further_names entity
-    opens_arguments no_arguments further_arguments listed_parameters opened_parameters opened_function begins_angle begins_type_parameter shows_type_parameter opens_angle reference import_type arguments is_modifier opens_modifier type_parameter
+    opens_arguments no_arguments further_arguments listed_parameters opened_parameters opened_function begins_angle
+    begins_type_parameter shows_type_parameter opens_angle reference import_type arguments is_modifier
+    opens_modifier type_parameter
     type_parameters parameters_in mark_in type_in list_before is_parameter parameters has_mark no_mark name_pattern
     array_pattern object_pattern pattern parameter pattern_element pattern_key opens_value pattern_property
     result_in is_separator may_separate separator opens_parameters call_signature opens_construct
@@ -495,7 +515,8 @@ unfolding read_type read_row read_turns read_wraps most_nodes
     is_literal_word begins_type parenthesized_type members_type shows_mapped opens_mapped sign_in begins_signed
     mapped_type tuple_type type_query opens_this_reference is_type_word is_keyword_type template_types number_type
     primary_type opens_brackets brackets_in array_types is_type_operator opens_operator opens_infer operand_type
-    operands_in intersection_type union_type opens_condition no_condition conditional_type opens_function follows_parameter begins_parameters
+    operands_in intersection_type union_type opens_condition no_condition conditional_type opens_function
+    follows_parameter begins_parameters
     function_type opens_constructor constructor_type any_type is_label label_in element is_asserted_name
     opens_asserts opens_predicate result type_rule
 mapped_types =

@@ -95,18 +95,21 @@ is_each x = is k.OfWord x || is k.InWord x
 unfoldable pub opens_head_pattern : Predicate
 opens_head_pattern K at = (is k.OpenBracket (seen K at) || is k.OpenBrace (seen K at)) && closes_before is_each K at
 
--- in scripts `var` before a name and `=`: an initial value in the head of a `for` with `in` (ECMA-262, "Initializers in
--- ForIn Statement Heads")
-unfoldable pub opens_initial : Context → Predicate
-opens_initial c K at =
-    c.script && (is k.VarWord (seen K (at - 1)) && (has_kind is_name (seen K at) && is k.Equal (seen K (at + 1))))
+-- in scripts
+unfoldable pub is_script : Context → Predicate
+is_script c K at = c.script
+
+-- `var` before a name and `=`: an initial value in the head of a `for` with `in` (ECMA-262, "Initializers in ForIn
+-- Statement Heads")
+unfoldable pub opens_initial : Predicate
+opens_initial K at = is k.VarWord (seen K (at - 1)) && (has_kind is_name (seen K at) && is k.Equal (seen K (at + 1)))
 
 -- Pat | in scripts, behind 'var': Name '=' Assign, before `in`
 unfoldable pub head_pattern : Context → Production Row NodeKind
 head_pattern c =
-    pick (opens_initial c)
-    (make DefaultPattern (row (PatternRow false c) (punct k.Equal (row (AssignmentRow (in_head c)) (when_
-    (is k.InWord) done)))))
+    pick opens_initial
+    (make DefaultPattern (where_ (is_script c) (row (PatternRow false c) (punct k.Equal (row (AssignmentRow (in_head c))
+    (when_ (is k.InWord) done))))))
     (pattern false c)
 
 -- Head: ('var' | 'let' | 'const') (Pat | 'var' Name '=' Assign) | ('await' ~)? 'using' ~ Name | Target
@@ -203,9 +206,6 @@ try_ c =
     (punct k.CatchWord (opt (greedy (is k.OpenParen)) (punct k.OpenParen (row (PatternRow false c)
     (punct k.CloseParen done)))
     (row (BlockRow c) (opt (greedy (is k.FinallyWord)) (finally_in c) done)))) (finally_in c) done)))
-
-unfoldable pub is_script : Context → Predicate
-is_script c K at = c.script
 
 -- a name before `:`
 unfoldable pub opens_label : Predicate
