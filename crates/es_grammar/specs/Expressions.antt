@@ -300,7 +300,7 @@ unfoldable pub defer_call : Context → Production Row NodeKind
 defer_call c = make DeferCall (punct k.ImportWord (punct k.Dot (punct k.DeferWord (import_arguments c))))
 
 unfoldable pub is_module : Context → Predicate
-is_module c K at = c.module
+is_module c K at = c.as_module
 
 -- 'import' '.' 'meta', in modules
 unfoldable pub import_meta : Context → Production Row NodeKind
@@ -425,7 +425,7 @@ callee l c =
 -- ---- operators
 
 unfoldable pub may_await : Context → Predicate
-may_await c K at = c.module || c.in_async
+may_await c K at = c.as_module || c.in_async
 
 -- ('++' | '--') Unary | Chain (~ ('++' | '--'))?
 unfoldable pub update : Lang → Context → Production Row NodeKind

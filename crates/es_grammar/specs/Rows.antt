@@ -16,7 +16,7 @@ is_typescript lang.Typescript = true
 abbrev pub widened : programs.Context → Context
 widened c = record {
   script = c.script;
-  module = not c.script;
+  as_module = not c.script;
   no_in = c.no_in;
   in_async = c.in_async;
   no_colon = false;
@@ -27,7 +27,7 @@ widened c = record {
 abbrev pub in_module : Context
 in_module = record {
   script = false;
-  module = true;
+  as_module = true;
   no_in = false;
   in_async = false;
   no_colon = false;
@@ -37,7 +37,7 @@ in_module = record {
 abbrev pub in_script : Context
 in_script = record {
   script = true;
-  module = false;
+  as_module = false;
   no_in = false;
   in_async = false;
   no_colon = false;
@@ -48,7 +48,7 @@ in_script = record {
 abbrev pub outside : Context → Context
 outside c = record {
   script = c.script;
-  module = c.module;
+  as_module = c.as_module;
   no_in = false;
   in_async = c.in_async;
   no_colon = false;
@@ -59,7 +59,7 @@ outside c = record {
 abbrev pub in_head : Context → Context
 in_head c = record {
   script = c.script;
-  module = c.module;
+  as_module = c.as_module;
   no_in = true;
   in_async = c.in_async;
   no_colon = c.no_colon;
@@ -70,7 +70,7 @@ in_head c = record {
 abbrev pub async_in : Context → Context
 async_in c = record {
   script = c.script;
-  module = c.module;
+  as_module = c.as_module;
   no_in = false;
   in_async = true;
   no_colon = false;
@@ -81,7 +81,7 @@ async_in c = record {
 abbrev pub async_here : Context → Context
 async_here c = record {
   script = c.script;
-  module = c.module;
+  as_module = c.as_module;
   no_in = c.no_in;
   in_async = true;
   no_colon = c.no_colon;
@@ -93,7 +93,7 @@ abbrev pub without_colon : Lang → Context → Context
 without_colon lang.Es c = c
 without_colon lang.Typescript c = record {
   script = c.script;
-  module = c.module;
+  as_module = c.as_module;
   no_in = c.no_in;
   in_async = c.in_async;
   no_colon = true;
@@ -104,7 +104,7 @@ without_colon lang.Typescript c = record {
 abbrev pub constructing : Context → Context
 constructing c = record {
   script = c.script;
-  module = c.module;
+  as_module = c.as_module;
   no_in = false;
   in_async = c.in_async;
   no_colon = false;

@@ -8,7 +8,7 @@ pub struct Context {
     /// What scripts alone have may stand here.
     pub script: bool,
     /// What modules alone have may stand here.
-    pub module: bool,
+    pub as_module: bool,
     /// In the head of a `for`, where `in` is no operator.
     pub no_in: bool,
     /// In an async function.

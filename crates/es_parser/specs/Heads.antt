@@ -10,7 +10,7 @@ use Rattle.es_grammar.specs.declared.rows.Context.{Context}
 abbrev pub arrow_place : Bool → Context
 arrow_place colon = record {
   script = false;
-  module = true;
+  as_module = true;
   no_in = false;
   in_async = false;
   no_colon = not colon;

@@ -22,7 +22,7 @@ pub fn is_arrow_head(alloc: Global, lang: Lang, colon: bool, tokens: &[Token], a
 {
     let place = Context {
         script: false,
-        module: true,
+        as_module: true,
         no_in: false,
         in_async: false,
         no_colon: !colon,

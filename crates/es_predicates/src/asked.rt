@@ -202,9 +202,9 @@ pub fn holds(tokens: &Tokens<'_>, alloc: Global, predicate: Predicate, at: usize
         Predicate::ComesBehind(kinds) => expressions::comes_behind(tokens, kinds, at),
         Predicate::OpensClassName => expressions::opens_class_name(tokens, at),
         Predicate::OpensAbstractClass => expressions::opens_abstract_class(tokens, at),
-        Predicate::MayAwait(context) => context.module || context.in_async,
+        Predicate::MayAwait(context) => context.as_module || context.in_async,
         Predicate::MayTest(context) => !context.no_in,
-        Predicate::IsModule(context) => context.module,
+        Predicate::IsModule(context) => context.as_module,
         Predicate::IsScript(context) => context.script,
     }
 }

@@ -264,7 +264,7 @@ impl ReadsProduction<Row> for Module {
     ) -> Result<usize, SyntaxError> {
         let in_module = Context {
             script: false,
-            module: true,
+            as_module: true,
             no_in: false,
             in_async: false,
             no_colon: false,
@@ -297,7 +297,7 @@ impl ReadsProduction<Row> for Script {
     ) -> Result<usize, SyntaxError> {
         let in_script = Context {
             script: true,
-            module: false,
+            as_module: false,
             no_in: false,
             no_colon: false,
             in_constructor: false,
