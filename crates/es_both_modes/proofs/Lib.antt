@@ -1,0 +1,9 @@
+mod Carries
+mod Rules
+mod Items
+pub mod Rows
+mod Begins
+mod Imports
+mod Once
+pub mod Theorems
+pub mod Decided
