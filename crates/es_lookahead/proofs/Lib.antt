@@ -1,3 +1,4 @@
 pub mod TokenLemmas
 pub mod PastLemmas
 pub mod SemicolonLemmas
+pub mod EndLemmas

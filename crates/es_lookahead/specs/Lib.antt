@@ -2,3 +2,5 @@
 pub mod Sight
 -- tests and predicates by name
 pub mod Named
+-- where type arguments and type parameters end
+pub mod Ends

@@ -8,6 +8,7 @@
 #![tactic(auto)]
 
 mod classes;
+mod ends;
 mod expressions;
 mod functions;
 mod holds;
@@ -19,6 +20,7 @@ mod statements;
 mod tokens;
 mod words;
 
+pub use ends::{Angle, End, end_in};
 pub use holds::is_of;
 pub use looks::Seen;
 pub use named::{Kinds, Lookahead, Predicate};

@@ -6,14 +6,19 @@ ghost use Rattle.es_type_grammar.specs.Words.{partner_of};
 ghost use Rattle.es_type_grammar.specs.Expressions.{joins};
 ghost use Rattle.es_type_grammar.specs.Functions.{behind_key};
 ghost use Rattle.es_lookahead.specs.Sight.{sight};
+ghost use Rattle.es_lookahead.specs.Ends.{AreRight};
 
+use crate::ends::Angle;
 use crate::looks::{Seen, is};
 use es_token::{Token, TokenKind};
 
-/// The tokens of a text.
+/// The tokens of a text, and where type arguments and type parameters of it end, as far as that is known: no angle, or some,
+/// from the last one to the first.
 #[derive(Clone, Copy)]
 pub struct Tokens<'a> {
     pub tokens: &'a [Token],
+    pub angles: &'a [Angle],
+    pub ghost right: { AreRight (keys_of tokens.now) angles.now },
 }
 
 /// The place before this one, or 0.

@@ -29,7 +29,10 @@ pub fn is_arrow_head(alloc: Global, lang: Lang, colon: bool, tokens: &[Token], a
         in_constructor: false,
     };
     holds(
-        &Tokens { tokens },
+        &Tokens {
+            tokens,
+            angles: &[],
+        },
         alloc,
         Predicate::OpensAnyArrow(lang, place),
         at,
@@ -65,5 +68,13 @@ fn opens_pattern_at(tokens: &Tokens<'_>, at: usize, in_for: bool, in_pattern: bo
 pub fn is_pattern_head(tokens: &[Token], at: usize, in_for: bool, in_pattern: bool) -> bool
     ensures { result ≡ is_pattern_head in_for in_pattern (keys_of tokens.now) at }
 {
-    opens_pattern_at(&Tokens { tokens }, at, in_for, in_pattern)
+    opens_pattern_at(
+        &Tokens {
+            tokens,
+            angles: &[],
+        },
+        at,
+        in_for,
+        in_pattern,
+    )
 }

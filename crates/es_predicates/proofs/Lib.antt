@@ -1,3 +1,4 @@
 pub mod EndLemmas
+pub mod KnownLemmas
 mod ModifierLemmas
 mod PastLemmas

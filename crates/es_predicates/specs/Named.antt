@@ -1,5 +1,5 @@
 -- The tests and predicates that are named by a value, and what each is.
-use Rattle.std.specs.Prelude.{ℕ, Bool, true, false, ◌||◌, List, Option, Some, None}
+use Rattle.std.specs.Prelude.{ℕ, leb, Bool, true, false, ◌||◌, List, Option, Some, None, if◌then◌else◌}
 use Rattle.es_token.specs.declared.token.TokenKind.{TokenKind}
 use Rattle.es_tree.specs.Key.{Key, TokenTest, has_kind}
 use Rattle.es_tree.specs.Productions.{Predicate}
@@ -8,6 +8,7 @@ use Rattle.es_type_grammar.specs.Functions.{opens_accessor, opens_async, opens_s
 use Rattle.es_type_grammar.specs.Classes.{opens_field_accessor}
 use Rattle.es_type_grammar.specs.Members.{shows_index}
 use Rattle.es_type_grammar.specs.TypeNames.{begins_angle}
+use Rattle.es_lookahead.specs.declared.ends.End.{End}
 use Rattle.es_lookahead.specs.Named as plain
 use Rattle.es_lookahead.specs.declared.named.Kinds.TheVariants as plain_kinds
 use Rattle.es_lookahead.specs.declared.named.Lookahead.TheVariants as plain_lookahead
@@ -32,6 +33,11 @@ use Rattle.es_predicates.specs.declared.named.Modifiers.TheVariants as modifiers
 abbrev pub holds_behind : Predicate → List Key → Option ℕ → Bool
 holds_behind g K (Some to) = g K to
 holds_behind g K None = false
+
+-- the token behind a part of at most 500 nodes on a path
+abbrev pub low_end : Option End → Option ℕ
+low_end (Some end) = if leb end.height 500 then Some end.to else None
+low_end None = None
 
 -- the kinds of tokens that are named
 abbrev pub kinds_of : Kinds → TokenKind → Bool

@@ -7,14 +7,33 @@ ghost use Rattle.es_type_grammar.specs.declared.rows.TypeRow.TheVariants.{Argume
 ghost use Rattle.es_type_grammar.specs.TypeNames.{begins_angle};
 ghost use Rattle.es_grammar.specs.Embedding.{reads_before, opens_call_arguments, opens_heritage_arguments};
 ghost use Rattle.es_grammar.specs.Expressions.{stands_new, opens_new_arguments, opens_call};
-ghost use Rattle.es_predicates.specs.Named.{holds_behind};
+ghost use Rattle.es_predicates.specs.Named.{holds_behind, low_end};
 
 use crate::expressions::ends_new;
 use crate::looks::begins_call;
-use es_lookahead::Tokens;
+use es_grammar::TypeRow;
+use es_lookahead::{End, Tokens, end_in};
 use es_token::TokenKind;
 use es_type_ends::{type_arguments_end, type_parameters_end};
 use std::alloc::Global;
+
+/// The most nodes on a path of a part that a predicate asks for.
+const ROOM: usize = 500;
+
+/// The token behind a part of few enough nodes on a path.
+fn low_end(end: Option<End>) -> Option<usize>
+    ensures { result ≡ low_end end }
+{
+    match end {
+        Some(end) => {
+            if end.height > ROOM {
+                return None;
+            }
+            Some(end.to)
+        }
+        None => None,
+    }
+}
 
 /// The number behind the type arguments that can be read here, or none: a predicate holds behind them exactly where it does
 /// behind that number.
@@ -23,7 +42,10 @@ fn arguments_end(tokens: &Tokens<'_>, alloc: Global, at: usize) -> Option<usize>
     ensures { (g : AnyPredicate) → reads_before ArgumentsRow g (keys_of tokens.now.tokens.now) at
         ≡ holds_behind g (keys_of tokens.now.tokens.now) result }
 {
-    type_arguments_end(alloc, tokens.tokens, at)
+    match end_in(tokens.angles, TypeRow::ArgumentsRow, at) {
+        Some(end) => low_end(end),
+        None => type_arguments_end(alloc, tokens.tokens, at),
+    }
 }
 
 /// The number behind the type parameters that can be read here, or none.
@@ -32,7 +54,10 @@ pub fn parameters_end(tokens: &Tokens<'_>, alloc: Global, at: usize) -> Option<u
     ensures { (g : AnyPredicate) → reads_before TypeParametersRow g (keys_of tokens.now.tokens.now) at
         ≡ holds_behind g (keys_of tokens.now.tokens.now) result }
 {
-    type_parameters_end(alloc, tokens.tokens, at)
+    match end_in(tokens.angles, TypeRow::TypeParametersRow, at) {
+        Some(end) => low_end(end),
+        None => type_parameters_end(alloc, tokens.tokens, at),
+    }
 }
 
 /// `<` or `<<` stands here; then it is a place of the tokens.

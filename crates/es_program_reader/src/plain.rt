@@ -5,6 +5,7 @@ ghost use Rattle.es_grammar.specs.Table.{rule};
 ghost use Rattle.es_rules.specs.Bounded.{row_at};
 ghost use Rattle.es_rules.specs.Steps.{keys_in, IsRead};
 ghost use Rattle.es_tree.specs.Key.{keys_of};
+ghost use Rattle.es_lookahead.specs.Ends.{AreRight};
 ghost use Rattle.es_cst.specs.declared.tree.Cst.{Cst as Kept};
 ghost use Rattle.es_program_reader.specs.Derived.{HoldsShaped, IsShaped, GivesTree, IsWritten};
 ghost use Rattle.es_program_reader.specs.Program.{HoldsKept, IsKept};
@@ -12,12 +13,14 @@ ghost use Rattle.es_program_reader.specs.Program.{HoldsKept, IsKept};
 use crate::program::whole;
 use crate::written::first_unsound_written;
 use es_grammar::Row;
+use es_lookahead::Angle;
 use es_row_reader::{Ring, read_row};
 use es_rules::{Cursor, Grammar, Input, Tokens};
 use es_syntax::{Entry, Siblings as Entries};
 use es_token::Token;
 use es_tree::{Lang, Mode, SyntaxError};
-use std::alloc::Global;
+use es_type_ends::angles_of;
+use std::alloc::{AllocError, Global};
 
 /// The most nodes on a path of a tree: the program's own, and 500 below it.
 const MOST_NODES: usize = 501;
@@ -27,6 +30,16 @@ fn row(input: Input<'_>, room: usize, row: Row, cursor: &mut Cursor) -> Result<u
     ensures { IsRead input.entry.keeps (row_at (rule input.entry.lang) (keys_in input.entry) room row cursor.old.at) cursor.old.row cursor.new result }
 {
     read_row(input, room, row, cursor)
+}
+
+/// What is known of each `<` before programs are read: in JavaScript nobody asks.
+fn angles_in(alloc: Global, lang: Lang, tokens: &[Token]) -> Result<Vec<Angle>, AllocError>
+    ensures { IfOk result (λ angles. AreRight (keys_of tokens.now) angles.items) }
+{
+    match lang {
+        Lang::Es => Ok(Vec::new(alloc)),
+        Lang::Typescript => angles_of(alloc, tokens),
+    }
 }
 
 /// The tree of a module or a script by the rows of the table alone, where anything may be assigned to.
@@ -44,11 +57,15 @@ pub fn read_tree(
     // What is kept of one is answered, unless memory runs out.
     ensures only { (tree : Kept) → IsShaped lang mode (keys_of tokens.now) tree → GivesTree result tree }
 {
+    let angles = angles_in(alloc, lang, tokens)?;
     let grammar = Grammar {
         input: Input {
             alloc,
             lang,
-            tokens: Tokens { tokens },
+            tokens: Tokens {
+                tokens,
+                angles: angles.as_slice(),
+            },
             keeps: true,
         },
         rows: Ring {

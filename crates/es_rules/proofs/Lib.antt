@@ -4,3 +4,4 @@ pub mod WrapLemmas
 pub mod ChainLemmas
 pub mod LowLemmas
 pub mod RoomLemmas
+pub mod OneLemmas

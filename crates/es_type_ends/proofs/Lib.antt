@@ -3,3 +3,4 @@ pub mod LowLemmas
 pub mod AnswerLemmas
 pub mod EmbeddedLemmas
 pub mod KeptLemmas
+pub mod AngleLemmas

@@ -15,3 +15,7 @@ kept_at K is_kept (suc room) r at =
     rule_at K
     (λ q mid. either (is_kept q mid) (row_at named_rule K most_nodes q mid) (kept_at K is_kept room q mid))
     (named_rule r) at
+
+-- a row in one, where so many more may stand on a path
+abbrev pub kept_or : List Key → (TypeRow → ℕ → Bool) → ℕ → TypeRow → ℕ → Out Read
+kept_or K is_kept room r at = either (is_kept r at) (row_at named_rule K most_nodes r at) (kept_at K is_kept room r at)

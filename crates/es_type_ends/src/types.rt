@@ -74,7 +74,10 @@ pub fn part_end(
     let input = Input {
         alloc,
         lang: Lang::Typescript,
-        tokens: Tokens { tokens },
+        tokens: Tokens {
+            tokens,
+            angles: &[],
+        },
         keeps: false,
     };
     let mut cursor = Cursor {
@@ -130,7 +133,14 @@ pub fn is_type_arguments(alloc: Global, tokens: &[Token], at: usize, in_extends:
     ensures { IsTrue result ↔ OpensArguments in_extends (keys_of tokens.now) at }
 {
     match part_end(alloc, TypePart::TArgs, tokens, at, ROOM) {
-        Some(end) => follows_arguments(&Tokens { tokens }, in_extends, end),
+        Some(end) => follows_arguments(
+            &Tokens {
+                tokens,
+                angles: &[],
+            },
+            in_extends,
+            end,
+        ),
         None => false,
     }
 }

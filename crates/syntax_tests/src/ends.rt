@@ -104,6 +104,7 @@ fn reference_holds_its_arguments(rt: HostRuntime) -> Result<(), Fail> {
         lang: Lang::Typescript,
         tokens: Tokens {
             tokens: lexed.tokens.as_slice(),
+            angles: &[],
         },
         keeps: true,
     };
