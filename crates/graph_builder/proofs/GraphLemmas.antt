@@ -50,6 +50,24 @@ module_numbered entries order b s =
     (resolved_numbered entries order b s)
     ∙ ap (option_and_then module_of) (entry_numbered entries order b (resolved entries s))
 
+-- a specifier that redirects nowhere leads to its own entry
+pub module_here : (entries : List (Parts × Entry)) (s : Specifier) (e : Entry) → entry_of entries s ≡ Some e
+    → redirect_of e ≡ None → module_at entries s ≡ module_of e
+module_here entries s e is none =
+    let stays : redirected entries s ≡ None = ap (option_and_then redirect_of) is ∙ none in
+    ap (λ (t : Specifier). option_and_then module_of (entry_of entries t))
+    (ap (on_from s (resolved_over entries 9)) stays)
+    ∙ ap (option_and_then module_of) is
+
+-- one without an entry leads to no module
+pub no_module_here : (entries : List (Parts × Entry)) (s : Specifier) → entry_of entries s ≡ None
+    → module_at entries s ≡ None
+no_module_here entries s is =
+    let stays : redirected entries s ≡ None = ap (option_and_then redirect_of) is in
+    ap (λ (t : Specifier). option_and_then module_of (entry_of entries t))
+    (ap (on_from s (resolved_over entries 9)) stays)
+    ∙ ap (option_and_then module_of) is
+
 -- ---- numbers
 
 texts_numbered : (entries : List (Parts × Entry)) → keys_at entries ≡ texts (map (λ (e : Parts × Entry). e.0) entries)

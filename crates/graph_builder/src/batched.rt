@@ -1,5 +1,5 @@
 //! Batches: answers are taken in hand, analysed by halves in threads of their own, and become entries in their order.
-ghost use Rattle.std.specs.Prelude.{◌≡◌, ◌<◌, true, [], IfOk};
+ghost use Rattle.std.specs.Prelude.{◌≡◌, ◌≤◌, ◌<◌, true, [], length, IfOk};
 ghost use Rattle.std.specs.Thread.{IsSync};
 ghost use Rattle.graph_builder.specs.Rules.{rules_by};
 ghost use Rattle.graph_builder.specs.Graph.{texts};
@@ -240,7 +240,8 @@ pub fn analyse_in_turn<W: Ways>(
     Ok(made)
 }
 
-/// The same, where each half of so many halvings has a thread of its own.
+/// The same, where each half of so many halvings has a thread of its own. A half is one by its bytes, since that is what an
+/// analysis takes.
 #[tactic(auto, using(crate::proofs::HandLemmas::zip_halves))]
 pub fn analyse_by_halves<R: Threads + Sync, W: Ways + Sync>(
     rt: &R,
@@ -254,7 +255,8 @@ pub fn analyse_by_halves<R: Threads + Sync, W: Ways + Sync>(
     if halvings == 0 || answers.len() < 2 {
         return analyse_in_turn(alloc, ways, answers);
     }
-    let rest = answers.split_off(answers.len() / 2)?;
+    let last = answers.len() - 1;
+    let rest = answers.split_off(first_half(answers.as_slice()).min(last))?;
     let fewer = halvings - 1;
     let (first, second) = join(
         rt,
@@ -271,4 +273,35 @@ pub fn analyse_by_halves<R: Threads + Sync, W: Ways + Sync>(
     let mut more = second?;
     made.append(&mut more)?;
     Ok(made)
+}
+
+// How many answers of the front have half of all bytes. Only speed hangs on it.
+fn first_half(answers: &[(Url, LoadAnswer)]) -> usize
+    ensures { result ≤ length answers.now }
+{
+    let half = bytes_of(answers) / 2;
+    let mut bytes: u64 = 0;
+    for (place, (_, answer)) in answers.iter().enumerate() {
+        bytes = bytes.saturating_add(size_of(answer));
+        if bytes >= half {
+            return place + 1;
+        }
+    }
+    answers.len()
+}
+
+fn bytes_of(answers: &[(Url, LoadAnswer)]) -> u64 {
+    let mut bytes: u64 = 0;
+    for (_, answer) in answers {
+        bytes = bytes.saturating_add(size_of(answer));
+    }
+    bytes
+}
+
+fn size_of(answer: &LoadAnswer) -> u64 {
+    match answer {
+        LoadAnswer::Content { bytes, .. } => bytes.len() as u64,
+        LoadAnswer::Redirect(_) | LoadAnswer::External | LoadAnswer::Absent | LoadAnswer::Failed =>
+            0,
+    }
 }

@@ -155,8 +155,20 @@ fn resolve_in<'a>(all: &'a Numbered<Entry>, specifier: &'a Url) -> &'a Url
     at
 }
 
-/// The module that a specifier leads to.
+/// The module that a specifier leads to: one look-up, where it redirects nowhere.
+#[tactic(auto, using(crate::proofs::GraphLemmas::module_here, crate::proofs::GraphLemmas::no_module_here))]
 pub fn module_in<'a>(all: &'a Numbered<Entry>, specifier: &Url) -> Option<&'a Module>
+    ensures { option_copied result ≡ module_at all.now (text_of specifier.now) }
+{
+    match find(all, specifier)? {
+        Entry::Module(found) => Some(found),
+        Entry::Redirect(_) => module_behind(all, specifier),
+        Entry::Package(_) | Entry::External | Entry::Error(_) => None,
+    }
+}
+
+// The same behind redirects.
+fn module_behind<'a>(all: &'a Numbered<Entry>, specifier: &Url) -> Option<&'a Module>
     ensures { option_copied result ≡ module_at all.now (text_of specifier.now) }
 {
     match find(all, resolve_in(all, specifier))? {
