@@ -1,14 +1,15 @@
 -- Bundles of JSON values.
-use Rattle.std.proofs.Common.{◌≡◌, refl, sym, ◌∙◌, ap, subst, ℕ, ◌+◌, Bool, true, false, true≢false, cond, not, ◌&&◌, ◌||◌, List, [], ◌∷◌, ◌++◌, map, Option, Some, None, Result, Ok, Err, bytes_eq, is_some, codes, decimal, if◌then◌else◌, String, Global}
+use Rattle.std.proofs.Common.{◌≡◌, refl, sym, ◌∙◌, ap, subst, ℕ, ◌+◌, Bool, true, false, List, [], ◌∷◌, ◌++◌, map, Option, Some, None, Result, Ok, Err, is_some, codes, decimal, if◌then◌else◌}
 use Rattle.std.specs.List.{list_any}
-use Rattle.std.specs.BTreeSet.{BTreeSet, contains_text}
 use Rattle.std.proofs.lemmas.List.{map-append}
-use Rattle.std.proofs.lemmas.Slice.Eq.{bytes_eq-Decides}
 use Rattle.url.specs.Parts.{Parts}
 use Rattle.graph_entry.specs.declared.answer.LoadAnswer.{LoadAnswer}
 use Rattle.graph_builder.specs.declared.options.BuildOptions.{BuildOptions}
 use Rattle.graph_entry.specs.Specifier.{text_of}
 use Rattle.graph_builder.specs.Reach.{Specifier, has}
+use Rattle.graph_builder.specs.ByText.{keys_at, number_of, value_at}
+use Rattle.graph_builder.proofs.ByTextLemmas.{has-keys_at}
+use Rattle.graph_builder.proofs.NumberLemmas.{absent, present}
 use Rattle.graph_builder.specs.Memory.{is_forced}
 use Rattle.graph_builder.specs.declared.memory_loader.Arrival.{Arrival}
 use Rattle.graph_builder.specs.declared.memory_loader.Arrival.TheVariants.{Answer, Pending}
@@ -16,9 +17,9 @@ use Rattle.serde_json.specs.Data.{Data, Items, Members}
 use Rattle.serde_json.specs.Find.{as_array, as_object, as_null, get}
 use Rattle.serde_json.specs.View.{view, items_view}
 use Rattle.serde_json.specs.declared.value.Value.{Value}
-use Rattle.json_reading.specs.Reading.{Reading, and_then, said, before, under, pointer, url_of, items_list, each_from, each_of, or_default, required, optional, only}
+use Rattle.json_reading.specs.Reading.{Reading, and_then, said, object_of, before, under, pointer, url_of, items_list, each_from, each_of, or_default, required, optional, only}
 use Rattle.json_reading.proofs.ReadingLemmas.{items_list-items_of, prepend, prepend-before}
-use Rattle.graph_bundle.specs.Bundle.{modules_from, modules_of, module_after, arrival_of, options_of, some_import_map, knows_bundle, bundle_from, bundle_of, specifiers}
+use Rattle.graph_bundle.specs.Bundle.{modules_from, modules_of, module_after, module_from, new_specifier, headers_of, answer_of, knows_module, arrival_of, options_of, some_import_map, knows_bundle, bundle_from, bundle_of, specifiers}
 use Rattle.import_map.specs.ImportMap.{MapData}
 use Rattle.graph_bundle.specs.declared.bundle.Bundle.{Bundle}
 
@@ -28,28 +29,6 @@ pub modules_array : (value : Data) (vs : List Value) → Some (items_view vs) �
 modules_array value vs is =
     ap (modules_from [] 0) (sym (items_list-items_of (map view vs)))
     ∙ ap (λ o. and_then (λ items. modules_from [] 0 (items_list items)) (said o)) is
-
--- ---- specifiers
-
-or_cond : (b c : Bool) → cond b true c ≡ (c || b)
-or_cond true true = refl
-or_cond true false = refl
-or_cond false true = refl
-or_cond false false = refl
-
-or_assoc : (a b c : Bool) → (a || (b || c)) ≡ ((a || b) || c)
-or_assoc true b c = refl
-or_assoc false b c = refl
-
-or_false : (a : Bool) → (a || false) ≡ a
-or_false true = refl
-or_false false = refl
-
--- one more at the end
-pub has-push : (xs : List Specifier) (s q : Specifier) → has (xs ++ s ∷ []) q ≡ (has xs q || bytes_eq q s)
-has-push [] s q = or_false (bytes_eq q s)
-has-push (x ∷ xs) s q =
-    ap (λ b. bytes_eq q x || b) (has-push xs s q) ∙ or_assoc (bytes_eq q x) (has xs q) (bytes_eq q s)
 
 -- ---- arrival
 
@@ -166,27 +145,64 @@ next_module done place value values m is =
     ∙ ap (λ (ss : List Specifier). prepend (done ++ m ∷ []) (modules_from ss (place + 1) values))
     (sym (map-append (λ (x : Parts × LoadAnswer). text_of x.0) done (m ∷ [])))
 
-both_ways : (a b : List ℕ) (p q : Bool) → bytes_eq a b ≡ p → bytes_eq b a ≡ q → p ≡ q
-both_ways a b true true e f = refl
-both_ways a b false false e f = refl
-both_ways a b true false e f = let same : b ≡ a = sym ((bytes_eq-Decides a b).0 e) in
-    absurd (true≢false (sym ((bytes_eq-Decides b a).1 same) ∙ f))
-both_ways a b false true e f = let same : a ≡ b = sym ((bytes_eq-Decides b a).0 f) in
-    absurd (true≢false (sym ((bytes_eq-Decides a b).1 same) ∙ e))
+-- a specifier is among those with numbers exactly where it has one
+pub has_number : (names : List (Parts × Unit {0})) (s : Specifier)
+    → has (keys_at names) s ≡ is_some (number_of names s)
+has_number names s = has-keys_at names s ∙ by (number_of names s) refl
+  where
+    some : (o : Option (Unit {0})) → (o ≡ None → ⊥) → is_some o ≡ true
+    some None h = absurd (h refl)
+    some (Some x) h = refl
 
-bytes_eq-sym : (a b : List ℕ) → bytes_eq a b ≡ bytes_eq b a
-bytes_eq-sym a b = both_ways a b (bytes_eq a b) (bytes_eq b a) refl refl
+    by : (o : Option ℕ) → number_of names s ≡ o → is_some (value_at names s) ≡ is_some o
+    by None e = ap is_some (absent names s e)
+    by (Some n) e = some (value_at names s) (present names s n e)
 
--- the set has its specifier then
-pub seen_more : (text : List ℕ) (old new : BTreeSet (String Global)) (done : List (Parts × LoadAnswer))
-    (m : Parts × LoadAnswer) → text ≡ text_of m.0
-    → ((q : List ℕ) → contains_text old q ≡ has (specifiers done) q)
-    → ((q : List ℕ) → contains_text new q ≡ cond (bytes_eq text q) true (contains_text old q))
-    → (q : List ℕ) → contains_text new q ≡ has (specifiers (done ++ m ∷ [])) q
-seen_more text old new done m is before_ after q =
-    after q ∙ or_cond (bytes_eq text q) (contains_text old q)
-    ∙ ap (λ (b : Bool). b || bytes_eq text q) (before_ q)
-    ∙ ap (λ (b : Bool). has (specifiers done) q || b) (bytes_eq-sym text q ∙ ap (bytes_eq q) is)
-    ∙ sym (has-push (specifiers done) (text_of m.0) q)
-    ∙ ap (λ (ss : List Specifier). has ss q)
-    (sym (map-append (λ (x : Parts × LoadAnswer). text_of x.0) done (m ∷ [])))
+pub number_none : (names : List (Parts × Unit {0})) (s : Specifier) → has (keys_at names) s ≡ false
+    → number_of names s ≡ None
+number_none names s h = by (number_of names s) (sym (has_number names s) ∙ h)
+  where
+    by : (o : Option ℕ) → is_some o ≡ false → o ≡ None
+    by None h = refl
+    by (Some n) h = absurd cc
+
+-- what a module's parts say together has the module's specifier
+own_answer : (url : Parts) (answer : Reading LoadAnswer) (others : Reading (Unit {0})) (m : Parts × LoadAnswer)
+    → and_then (λ a. and_then (λ done. Ok (url, a)) others) answer ≡ Ok m → url ≡ m.0
+own_answer url (Err at) others m is = absurd (cc)
+own_answer url (Ok a) (Err at) m is = absurd (cc)
+own_answer url (Ok a) (Ok done) m is =
+    let same : (url, a) ≡ m = cc in ap (λ (p : Parts × LoadAnswer). p.0) same
+
+own_headers : {H : Type 0} (url : Parts) (headers : Reading H) (answer : H → Reading LoadAnswer)
+    (others : Reading (Unit {0})) (m : Parts × LoadAnswer)
+    → and_then (λ h. and_then (λ a. and_then (λ done. Ok (url, a)) others) (answer h)) headers ≡ Ok m → url ≡ m.0
+own_headers url (Err at) answer others m is = absurd (cc)
+own_headers url (Ok h) answer others m is = own_answer url (answer h) others m is
+
+-- a module that is read has a specifier that none of the earlier ones has
+pub fresh : (earlier : List Specifier) (part : List ℕ) (value : Data) (m : Parts × LoadAnswer)
+    → under part (module_after earlier value) ≡ Ok m → has earlier (text_of m.0) ≡ false
+fresh earlier part value m is = of_object (object_of value) (under_ok part (module_after earlier value) m is)
+  where
+    by : (members : Members) (url : Parts) (b : Bool) → has earlier (text_of url) ≡ b
+        → and_then (λ u. module_from u value members) (if b then Err (pointer (codes "specifier") []) else Ok url) ≡ Ok m
+        → has earlier (text_of m.0) ≡ false
+    by members url true there e = absurd (cc)
+    by members url false there e =
+        subst (λ (u : Parts). has earlier (text_of u) ≡ false)
+        (own_headers url (optional headers_of [] (codes "headers") value) (λ h. answer_of h value)
+        (only knows_module members) m e) there
+
+    of_url : (members : Members) (r : Reading Parts)
+        → and_then (λ u. module_from u value members)
+        (and_then (λ u. if has earlier (text_of u) then Err (pointer (codes "specifier") []) else Ok u) r) ≡ Ok m
+        → has earlier (text_of m.0) ≡ false
+    of_url members (Err at) e = absurd (cc)
+    of_url members (Ok url) e = by members url (has earlier (text_of url)) refl e
+
+    of_object : (o : Reading Members)
+        → and_then (λ members. and_then (λ u. module_from u value members) (new_specifier earlier value)) o ≡ Ok m
+        → has earlier (text_of m.0) ≡ false
+    of_object (Err at) e = absurd (cc)
+    of_object (Ok members) e = of_url members (required url_of (codes "specifier") value) e

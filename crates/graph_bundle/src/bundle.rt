@@ -56,6 +56,21 @@ pub fn read_bundle(alloc: Global, bytes: &[u8]) -> Result<Bundle, BundleFault>
     }
 }
 
+/// The same of bytes that are given back as soon as they are read, before the texts of the modules are made.
+pub fn take_bundle(alloc: Global, bytes: Vec<u8>) -> Result<Bundle, BundleFault>
+    ensures bundle { IfOk result (λ b. (value : Data) × IsJson bytes.items value × (bundle_of value ≡ Ok b)) }
+    ensures not_json { result ≡ Err BundleFault.NotJson → (value : Data) → ¬ IsJson bytes.items value }
+    ensures pointer { (at : List ℕ) → result ≡ Err (BundleFault.Pointer at) →
+        (value : Data) × IsJson bytes.items value × (bundle_of value ≡ Err at) }
+{
+    let read = Value::from_slice(alloc, bytes.as_slice());
+    drop(bytes);
+    match read {
+        Ok(value) => bundle_or_fault(alloc, &value),
+        Err(error) => Err(fault_of(&error)),
+    }
+}
+
 /// Why a text was not read.
 fn fault_of(error: &serde_json::Error) -> BundleFault
     ensures not_json { result ≡ BundleFault.NotJson → ¬ IsMemory error.now }

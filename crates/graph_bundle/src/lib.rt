@@ -2,6 +2,7 @@
 //!
 //! - `read_bundle`: exactly the bundle that the bytes say, or the pointer to the first thing for which they say none
 //!   (`IsJson`, `bundle_of`, `specs/Bundle.antt`).
+//! - `take_bundle`: the same of bytes that are given back as soon as they are read.
 //! - `Bundle`: its roots, what is built of them, its modules with their answers, the order in which they come,
 //!   and its import map.
 //!
@@ -17,4 +18,4 @@ mod modules;
 mod options;
 mod part;
 
-pub use bundle::{Bundle, BundleFault, read_bundle};
+pub use bundle::{Bundle, BundleFault, read_bundle, take_bundle};

@@ -1,8 +1,9 @@
 //! A module of a bundle: its specifier and its answer.
-ghost use Rattle.std.specs.Prelude.{◌≡◌, ℕ, ◌≤◌, List, [], IfOk, codes};
-ghost use Rattle.std.specs.BTreeSet.{contains_text};
+ghost use Rattle.std.specs.Prelude.{◌≡◌, ◌≤◌, [], IfOk, codes};
 ghost use Rattle.serde_json.specs.View.{view, members_view};
-ghost use Rattle.graph_builder.specs.Reach.{Specifier, has};
+ghost use Rattle.graph_entry.specs.Specifier.{text_of};
+ghost use Rattle.graph_builder.specs.Reach.{has};
+ghost use Rattle.graph_builder.specs.ByText.{keys_at};
 ghost use Rattle.graph_bundle.specs.Bundle as spec;
 
 use crate::members::{Keys, only, optional, required};
@@ -12,19 +13,18 @@ use base64::DecodeAllocError;
 use base64::engine::general_purpose::STANDARD;
 use graph_entry::{Headers, LoadAnswer};
 use json_reading::{Reading, escaped, pointer, under};
+use numbered::Numbered;
 use serde_json::{Map, Value};
 use std::alloc::{AllocError, Global};
-use std::collections::BTreeSet;
 use url::Url;
 
 /// The module that a value says, behind modules with these specifiers.
 pub fn module_in(
     alloc: Global,
-    seen: &BTreeSet<String>,
+    seen: &Numbered<()>,
     value: &Value,
 ) -> Result<Reading<(Url, LoadAnswer)>, AllocError>
-    ensures { (earlier : List Specifier) → ((q : List ℕ) → contains_text seen.now q ≡ has earlier q) →
-        IfOk result (λ r. r ≡ spec.module_after earlier (view value.now)) }
+    ensures { IfOk result (λ r. r ≡ spec.module_after (keys_at seen.now) (view value.now)) }
 {
     match value.as_object() {
         Some(members) => match new_specifier(alloc, seen, value)? {
@@ -36,23 +36,29 @@ pub fn module_in(
 }
 
 /// The specifier, unless another module has it.
-#[tactic(auto, unfolding(graph_entry::specs::Specifier::text_of))]
 fn new_specifier(
     alloc: Global,
-    seen: &BTreeSet<String>,
+    seen: &Numbered<()>,
     value: &Value,
 ) -> Result<Reading<Url>, AllocError>
-    ensures { (earlier : List Specifier) → ((q : List ℕ) → contains_text seen.now q ≡ has earlier q) →
-        IfOk result (λ r. r ≡ spec.new_specifier earlier (view value.now)) }
+    ensures { IfOk result (λ r. r ≡ spec.new_specifier (keys_at seen.now) (view value.now)) }
 {
     let specifier: Url = match required(alloc, value, "specifier")? {
         Ok(specifier) => specifier,
         Err(at) => return Ok(Err(at)),
     };
-    if seen.contains(specifier.as_str()) {
+    if is_seen(seen, &specifier) {
         return Ok(Err(pointer(alloc, "specifier", "")?));
     }
     Ok(Ok(specifier))
+}
+
+/// Whether one of these specifiers is this.
+#[tactic(auto, unfolding(graph_entry::specs::Specifier::text_of), using(crate::proofs::BundleLemmas::has_number))]
+fn is_seen(seen: &Numbered<()>, specifier: &Url) -> bool
+    ensures { result ≡ has (keys_at seen.now) (text_of specifier.now) }
+{
+    seen.number(specifier).is_some()
 }
 
 /// The module at a specifier.

@@ -1,30 +1,18 @@
--- The set has the specifiers of the earlier modules.
-use Rattle.std.proofs.Common.{◌≡◌, sym, ◌∙◌, ap, Ok, Err, true, false, codes}
-use Rattle.std.specs.BTreeSet.{contains_text}
+-- The specifier is one of the earlier modules', or it is new.
+use Rattle.std.proofs.Common.{◌≡◌, sym, ◌∙◌, ap, Err, codes}
 use Rattle.serde_json.specs.View.{view}
-use Rattle.graph_entry.specs.Specifier.{text_of}
-use Rattle.graph_builder.specs.Reach.{has}
+use Rattle.graph_builder.specs.ByText.{keys_at}
 use Rattle.json_reading.specs.Reading.{required, url_of}
 use Rattle.graph_bundle.proofs.BundleLemmas.{repeated, unrepeated}
 use Rattle.graph_bundle.proofs.module.new_specifier.Goals as goal
 
-pub returns-then-contains : goal.returns-then-contains
-unfolding text_of
-returns-then-contains c = λ earlier same.
-    let url = c.in-Ok.specifier in
-    let there : has earlier (text_of url) ≡ true =
-    sym (same (text_of url)) ∙ sym (ap (contains_text c.args.seen.now) c.as_str.ensures.value) ∙ sym c.contains.ensures
-    ∙ c.if-contains.true in
+pub returns-then-is_seen : goal.returns-then-is_seen
+returns-then-is_seen c =
     ap Err c.in_ok-pointer.ensures
-    ∙ sym (repeated earlier (required url_of (codes "specifier") (view c.args.value.now)) url
-    (sym c.in_ok-specifier.ensures ∙ c.in-Ok.is) there)
+    ∙ sym (repeated (keys_at c.args.seen.now) (required url_of (codes "specifier") (view c.args.value.now))
+    c.in-Ok.specifier (sym c.in_ok-specifier.ensures ∙ c.in-Ok.is) (sym c.is_seen.ensures ∙ c.if-is_seen.true))
 
 pub returns : goal.returns
-unfolding text_of
-returns c = λ earlier same.
-    let url = c.in-Ok.specifier in
-    let new : has earlier (text_of url) ≡ false =
-    sym (same (text_of url)) ∙ sym (ap (contains_text c.args.seen.now) c.as_str.ensures.value) ∙ sym c.contains.ensures
-    ∙ c.if-contains.false in
-    sym (unrepeated earlier (required url_of (codes "specifier") (view c.args.value.now)) url
-    (sym c.in_ok-specifier.ensures ∙ c.in-Ok.is) new)
+returns c =
+    sym (unrepeated (keys_at c.args.seen.now) (required url_of (codes "specifier") (view c.args.value.now))
+    c.in-Ok.specifier (sym c.in_ok-specifier.ensures ∙ c.in-Ok.is) (sym c.is_seen.ensures ∙ c.if-is_seen.false))

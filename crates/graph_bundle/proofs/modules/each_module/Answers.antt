@@ -1,22 +1,27 @@
--- The next module is put behind those so far, and its specifier into the set.
-use Rattle.std.proofs.Common.{◌≡◌, ℕ, ◌+◌, sym, ◌∙◌, ap, List, [], ◌∷◌, ◌++◌, length, map, drop, true, Ok, decimal, arith, string_bytes, length-append}
-use Rattle.std.proofs.lemmas.List.{drop_more}
-use Rattle.std.proofs.lemmas.Map.Text.{btree_set_updates_text}
+-- The next module is put behind those so far, and its specifier gets a number.
+use Rattle.std.proofs.Common.{◌≡◌, ℕ, ◌+◌, sym, ◌∙◌, ap, List, [], ◌∷◌, ◌++◌, length, map, drop, Ok, decimal, arith, length-append, None}
+use Rattle.std.proofs.lemmas.List.{drop_more, map-append}
 use Rattle.url.specs.Parts.{Parts}
 use Rattle.serde_json.specs.Data.{Data}
 use Rattle.serde_json.specs.View.{view}
 use Rattle.serde_json.specs.declared.value.Value.{Value}
 use Rattle.graph_entry.specs.declared.answer.LoadAnswer.{LoadAnswer}
 use Rattle.graph_entry.specs.Specifier.{text_of}
-use Rattle.graph_builder.specs.Reach.{has}
+use Rattle.graph_builder.specs.Reach.{Specifier, has}
+use Rattle.graph_builder.specs.ByText.{keys_at}
 use Rattle.json_reading.specs.Reading.{under}
 use Rattle.graph_bundle.specs.Bundle.{module_after, modules_from, specifiers}
 use Rattle.json_reading.proofs.ReadingLemmas.{prepend}
-use Rattle.graph_bundle.proofs.BundleLemmas.{next_module, seen_more}
+use Rattle.graph_bundle.proofs.BundleLemmas.{next_module, fresh, number_none}
 use Rattle.graph_bundle.proofs.modules.each_module.Goals as goal
 
+pub see-requires : goal.see-requires
+see-requires c =
+    number_none c.loop-value.seen (text_of c.in-Ok.module.0)
+    (fresh (keys_at c.loop-value.seen) _ (view c.value-item.result) c.in-Ok.module
+    (sym c.in_ok-next_module.ensures ∙ c.in-Ok.is))
+
 pub loop-value-preserved : goal.loop-value-preserved
-unfolding text_of
 loop-value-preserved c =
     let modules = c.loop-value.modules in
     let i = c.loop-value.value-index in
@@ -25,12 +30,12 @@ loop-value-preserved c =
     let values = c.args.values.now in
     let pushed : c.push.new.self ≡ modules ++ m ∷ [] = c.in_ok-push-in-Ok.ensures.ok in
     let longer : length c.push.new.self ≡ length modules + 1 = ap length pushed ∙ length-append modules (m ∷ []) in
-    let bytes = string_bytes c.in_ok-from_str-in-Ok.field-0 in
-    let text : bytes ≡ text_of m.0 = c.in_ok-from_str-in-Ok.ensures.ok ∙ c.as_str.ensures.value in
     let said : under (decimal i) (module_after (specifiers modules) (view item)) ≡ Ok m =
     ap (λ (n : ℕ). under (decimal n) (module_after (specifiers modules) (view item)))
     (c.loop-value.invariant.counted ∙ sym c.len.ensures)
-    ∙ sym (c.in_ok-module.ensures (specifiers modules) c.loop-value.invariant.seen) ∙ c.in-Ok.is in
+    ∙ ap (λ (ss : List Specifier). under (decimal c.len.result) (module_after ss (view item)))
+    (sym c.loop-value.invariant.seen)
+    ∙ sym c.in_ok-next_module.ensures ∙ c.in-Ok.is in
     let split : map view (drop i values) ≡ view item ∷ map view (drop (i + 1) values) =
     ap (map view) (drop_more values i item c.loop-value-test.true
     ∙ ap (λ (v : Value). v ∷ drop (i + 1) values) (sym c.value-item.is)) in
@@ -41,8 +46,9 @@ loop-value-preserved c =
           ∙ ap (λ (ms : List (Parts × LoadAnswer)).
           prepend ms (modules_from (specifiers ms) (i + 1) (map view (drop (i + 1) values)))) (sym pushed);
       counted = omega (arith, c.loop-value.invariant.counted, longer);
-      seen = λ q. seen_more bytes c.loop-value.seen c.insert.new.self modules m text c.loop-value.invariant.seen
-          (btree_set_updates_text bytes c.loop-value.seen c.insert.new.self true
-          c.in_ok-insert-in-Ok.ensures.updates) q
-          ∙ ap (λ (ms : List (Parts × LoadAnswer)). has (specifiers ms) q) (sym pushed);
+      seen = ap keys_at c.in_ok-see-in-Ok.ensures
+          ∙ map-append (λ (e : Parts × Unit {0}). text_of e.0) c.loop-value.seen ((m.0, tt) ∷ [])
+          ∙ ap (λ (ss : List Specifier). ss ++ text_of m.0 ∷ []) c.loop-value.invariant.seen
+          ∙ sym (map-append (λ (x : Parts × LoadAnswer). text_of x.0) modules (m ∷ []))
+          ∙ ap specifiers (sym pushed);
     }

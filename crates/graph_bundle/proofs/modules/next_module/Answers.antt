@@ -2,9 +2,9 @@
 use Rattle.std.proofs.Common.{◌∙◌, ap, decimal}
 use Rattle.json_reading.specs.Reading.{under}
 use Rattle.json_reading.proofs.ReadingLemmas.{IfOk-map}
-use Rattle.graph_bundle.proofs.modules.numbered.Goals as goal
+use Rattle.graph_bundle.proofs.modules.next_module.Goals as goal
 
 pub returns : goal.returns
-returns c = λ earlier same.
+returns c =
     IfOk-map c.under_number.result _ _
-    (λ r is. is ∙ ap (under (decimal c.args.place)) (c.in_ok-reading.ensures earlier same)) c.under_number.ensures
+    (λ r is. is ∙ ap (under (decimal c.args.place)) c.in_ok-reading.ensures) c.under_number.ensures
