@@ -15,12 +15,12 @@ use crate::verdict::{
     BundleBuild, Due, Telling, due_for_end, due_for_fault, is_not_yet, new_build,
 };
 use deno_graph::{BuildError, ModuleGraph};
-use graph_bundle::{Bundle, BundleFault, read_bundle};
+use graph_bundle::{Bundle, BundleFault, take_bundle};
 use std::alloc::{AllocError, Global};
 use std::thread::Threads;
 
-/// What is due for an input that is not too long, where this is told of its graph. The input is given back once it is read,
-/// before the graph is made.
+/// What is due for an input that is not too long, where this is told of its graph. The input is given back once its JSON
+/// is read, before the texts of its modules are made.
 pub fn due_batched<R: Threads + Sync>(
     rt: &R,
     alloc: Global,
@@ -42,7 +42,7 @@ pub fn due_batched<R: Threads + Sync>(
     }
 }
 
-/// The bundle that the bytes say, which are given back.
+/// The bundle that the bytes say, which are given back once their JSON is read.
 pub fn read_once(alloc: Global, bytes: Vec<u8>) -> Result<Bundle, BundleFault>
     ensures bundle { IfOk result (λ b. (value : Data) × IsJson bytes.items value × (bundle_of value ≡ Ok b)) }
     ensures unforced { IfOk result IsUnforced }
@@ -50,7 +50,7 @@ pub fn read_once(alloc: Global, bytes: Vec<u8>) -> Result<Bundle, BundleFault>
     ensures pointer { (at : List ℕ) → result ≡ Err (BundleFault.Pointer at) →
         (value : Data) × IsJson bytes.items value × (bundle_of value ≡ Err at) }
 {
-    read_bundle(alloc, bytes.as_slice())
+    take_bundle(alloc, bytes)
 }
 
 /// The graph of a bundle, as `build` makes it.

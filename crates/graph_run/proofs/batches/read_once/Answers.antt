@@ -5,4 +5,4 @@ use Rattle.graph_run.proofs.batches.read_once.Goals as goal
 
 pub returns-clause-unforced : goal.returns-clause-unforced
 returns-clause-unforced c =
-    IfOk-map c.read_bundle.result _ _ (λ b says. bundle_unforced _ _ says.2) c.read_bundle.ensures.bundle
+    IfOk-map c.take_bundle.result _ _ (λ b says. bundle_unforced _ _ says.2) c.take_bundle.ensures.bundle
