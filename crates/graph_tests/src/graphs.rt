@@ -13,7 +13,7 @@ use url::Url;
 
 /// What a graph is built of: its kind and limit, its roots, the texts and the redirects of specifiers, and the forced
 /// arrivals. Specifiers are names of files; `-` is an arrival of nothing, and any other letter that of a `.ts`.
-type Given = (
+pub type Given = (
     GraphKind,
     usize,
     &'static [&'static str],
@@ -22,13 +22,16 @@ type Given = (
     &'static str,
 );
 
-const A: &[&str] = &["a.ts"];
+pub const A: &[&str] = &["a.ts"];
 
 const A_OF_B: &[(&str, &str)] = &[("a.ts", "import './b.ts'")];
 
-const A_OF_B_OF_C: &[(&str, &str)] = &[("a.ts", "import './b.ts'"), ("b.ts", "import './c.ts'")];
+pub const A_OF_B_OF_C: &[(&str, &str)] = &[
+    ("a.ts", "import './b.ts'"),
+    ("b.ts", "import './c.ts'"),
+];
 
-const ALL: GraphKind = GraphKind::All;
+pub const ALL: GraphKind = GraphKind::All;
 
 /// What is given, and the answers of two polls with the number of requests.
 const GRAPHS: &[(Given, &str)] = &[
@@ -120,7 +123,7 @@ pub fn named(rt: &impl Abort, alloc: Global, name: &str) -> Url {
 }
 
 // The answers with these texts and redirects.
-fn modules(
+pub fn modules(
     rt: &impl Abort,
     alloc: Global,
     texts: &[(&str, &str)],
@@ -143,7 +146,7 @@ fn modules(
     modules
 }
 
-fn arrivals(rt: &impl Abort, alloc: Global, letters: &str) -> Items<Arrival> {
+pub fn arrivals(rt: &impl Abort, alloc: Global, letters: &str) -> Items<Arrival> {
     let mut items = Items::new(alloc);
     for letter in letters.chars() {
         let item = match letter {
@@ -177,7 +180,7 @@ pub fn options(alloc: Global, kind: GraphKind, limit: usize) -> BuildOptions
     }
 }
 
-fn builder(rt: &impl Abort, alloc: Global, given: &Given) -> GraphBuild<MemoryLoader> {
+pub fn builder(rt: &impl Abort, alloc: Global, given: &Given) -> GraphBuild<MemoryLoader> {
     let (kind, limit, roots, texts, redirects, letters) = *given;
     let modules = modules(rt, alloc, texts, redirects);
     let loader = MemoryLoader::new(alloc, modules, arrivals(rt, alloc, letters));
@@ -214,7 +217,7 @@ fn line_of(alloc: Global, graph: &ModuleGraph) -> Result<String, AllocError> {
     Ok(line)
 }
 
-fn word(entry: &Entry) -> &'static str {
+pub fn word(entry: &Entry) -> &'static str {
     match entry {
         Entry::Module(Module::Js(_)) => "Module",
         Entry::Module(Module::Json(_)) => "Json",

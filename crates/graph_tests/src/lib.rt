@@ -8,6 +8,8 @@ mod batches;
 #[cfg(test)]
 mod graphs;
 #[cfg(test)]
+mod numbers;
+#[cfg(test)]
 mod orders;
 #[cfg(test)]
 mod runs;
