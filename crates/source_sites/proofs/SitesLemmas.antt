@@ -2,13 +2,14 @@
 use Rattle.std.specs.Prelude.{Result, Ok, Err, IfOk}
 use Rattle.std.specs.List.{flat_map}
 use Rattle.std.specs.Result.{IfErr}
-use Rattle.std.proofs.Common.{◌≡◌, refl, sym, ap, subst, ◌∙◌, ℕ, List, [], ◌∷◌, ◌++◌, inl, inr}
+use Rattle.std.proofs.Common.{◌≡◌, refl, sym, ap, ◌∙◌, ℕ, List, [], ◌∷◌, ◌++◌, inl, inr}
 use Rattle.std.proofs.lemmas.List.{append-nil}
 use Rattle.es_token.specs.declared.token.Token.{Token}
 use Rattle.es_token.specs.declared.token.Comment.{Comment}
 use Rattle.es_lexer.specs.Reads.{Reads}
 use Rattle.es_tree.specs.declared.error.Lang.{Lang}
 use Rattle.es_tree.specs.declared.error.Mode.{Mode}
+use Rattle.es_tree.specs.declared.error.Mode.TheVariants.{Script, Module}
 use Rattle.es_tree.specs.declared.error.SyntaxError.{SyntaxError}
 use Rattle.es_tree.specs.declared.error.SyntaxError.TheVariants.{Syntax, OutOfMemory}
 use Rattle.es_tree.specs.Key.{keys_of}
@@ -25,8 +26,9 @@ use Rattle.es_derives.specs.Derives.{Derives}
 use Rattle.es_derives.proofs.Theorems.{one_tree}
 use Rattle.es_plain_sites.specs.Own.{plain_sites}
 use Rattle.es_program_sites.proofs.Theorems.{kept_sites}
+use Rattle.es_both_sites.proofs.Theorems.{derives_or_not, same_sites}
 use Rattle.media_type.specs.declared.media_type.MediaType.{MediaType}
-use Rattle.source_reading.specs.Tree.{IsFirstTree, IsTree}
+use Rattle.source_reading.specs.Tree.{IsFirstTree}
 use Rattle.source_reading.specs.Read.{references_in, HasSites}
 use Rattle.source_sites.specs.Answers.{AreOf, AreSitesOf, GivesSites}
 use Rattle.source_reading.proofs.TreeLemmas.{first_once}
@@ -88,6 +90,19 @@ module _ (lang : Lang) (text : List ℕ) (tokens : List Token) where
   first_given m n r p one other (inl is) = one p is
   first_given m n r p one other (inr (none, inl is)) = other p is
   first_given m n r p one other (inr (none, inr is)) = absurd is.1
+
+  -- what is read as a module has the sites of the tree of the first mode: those of a script, where it is one
+  pub module_sites : (found : List Site) → AreOf (Derives lang Module text tokens) found
+      → AreOf (IsFirstTree lang text tokens (Script ∷ Module ∷ [])) found
+  module_sites found of =
+      elim (derives_or_not text tokens lang Script) [
+        | inl script ↦ record {
+          tree = script.0;
+          is = inl script.1;
+          sites = of.sites ∙ sym (same_sites text tokens lang script.0 of.tree script.1 of.is);
+        }
+        | inr none ↦ record { tree = of.tree; is = inr (none, inl of.is); sites = of.sites }
+      ]
 
   -- of one mode
   pub only_given : (m : Mode) (r : Result (List Site) SyntaxError) (p : Program)

@@ -169,7 +169,7 @@ fn only_sites(
     mode_sites(alloc, lang, mode, text, tokens)
 }
 
-// As a script, and where it is none as a module.
+// As a module, and as a script where it is none: what is both has the same sites.
 fn either_sites(
     alloc: Global,
     lang: Lang,
@@ -181,11 +181,30 @@ fn either_sites(
     ensures only { (tree : Typed) → IsFirstTree lang text.now tokens.now (mode.Script ∷ mode.Module ∷ []) tree
         → GivesSites result tree }
 {
+    match mode_sites(alloc, lang, Mode::Module, text, tokens) {
+        Ok(found) => Ok(found),
+        Err(SyntaxError::Syntax { token }) => script_sites(alloc, lang, text, tokens, token),
+        Err(SyntaxError::OutOfMemory) => Err(SyntaxError::OutOfMemory),
+    }
+}
+
+// As a script what is no module, as was noticed at this token: where it is none either, that is told.
+fn script_sites(
+    alloc: Global,
+    lang: Lang,
+    text: &str,
+    tokens: &[Token],
+    token: usize,
+) -> Result<Items<Site>, SyntaxError>
+    requires reads { ReadsTokens text.now tokens.now }
+    requires none { (tree : Typed) → ¬ Derives lang mode.Module text.now tokens.now tree }
+    ensures made { IfOk result (AreOf (IsFirstTree lang text.now tokens.now (mode.Script ∷ mode.Module ∷ []))) }
+    ensures only { (tree : Typed) → IsFirstTree lang text.now tokens.now (mode.Script ∷ mode.Module ∷ []) tree
+        → GivesSites result tree }
+{
     match mode_sites(alloc, lang, Mode::Script, text, tokens) {
         Ok(found) => Ok(found),
-        Err(SyntaxError::Syntax { token: _ }) => {
-            mode_sites(alloc, lang, Mode::Module, text, tokens)
-        }
+        Err(SyntaxError::Syntax { token: _ }) => Err(SyntaxError::Syntax { token }),
         Err(SyntaxError::OutOfMemory) => Err(SyntaxError::OutOfMemory),
     }
 }
