@@ -1,10 +1,10 @@
 -- Numbers by spellings.
 use Rattle.std.specs.Prelude.{ℕ, ◌-◌, List, [], ◌∷◌, length, take, if◌then◌else◌, bytes_eq, String, Vec}
-use Rattle.std.specs.BTreeMap.{BTreeMap, get_by_text}
+use Rattle.std.specs.HashMap.{HashMap, get_by_text}
 use Rattle.std.specs.Option.{option_map_or}
 
 -- the numbers at a spelling
-abbrev pub tops_in : {A B : Type 0} → BTreeMap (String A) (Vec ℕ B) → List ℕ → List ℕ
+abbrev pub tops_in : {A B S : Type 0} → HashMap (String A) (Vec ℕ B) S → List ℕ → List ℕ
 tops_in tops q = option_map_or (λ numbers. numbers.items) (get_by_text tops q) []
 
 -- the number, where the spelling is this one

@@ -16,7 +16,7 @@ use base::Items;
 use es_scopes::Mark;
 use es_token::Token;
 use std::alloc::{AllocError, Global};
-use std::collections::BTreeMap;
+use std::collections::HashMap;
 
 /// A text and its tokens.
 #[derive(Clone, Copy)]
@@ -225,7 +225,7 @@ pub fn scope_ids(
         tokens,
     };
     let mut ids = Items::new(alloc);
-    let mut tops = BTreeMap::new(alloc);
+    let mut tops = HashMap::new(alloc);
     let mut opened = Opened::new(alloc);
     let mut row = marks;
     while let Some((mark, rest)) = row.split_first() {

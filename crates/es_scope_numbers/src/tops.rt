@@ -5,10 +5,10 @@ ghost use Rattle.es_scope_numbers.specs.Stacks.{last_of};
 ghost use Rattle.es_scope_numbers.specs.Spelt.{tops_in, extra, popped};
 
 use std::alloc::{AllocError, Global};
-use std::collections::BTreeMap;
+use std::collections::HashMap;
 
 /// Numbers by spellings.
-pub type Tops = BTreeMap<String, Vec<u32>>;
+pub type Tops = HashMap<String, Vec<u32>>;
 
 /// One number more at a key.
 fn add(tops: &mut Tops, key: String, n: u32) -> Result<(), AllocError>
