@@ -1,5 +1,5 @@
 -- Nodes that lean left, over a first operand and turns.
-use Rattle.std.specs.Prelude.{ℕ, true, false, List, [], ◌∷◌, ◌++◌, map}
+use Rattle.std.specs.Prelude.{ℕ, List, [], ◌∷◌, ◌++◌, map}
 use Rattle.std.proofs.Common.{◌≡◌, refl, sym, ap, ◌∙◌}
 use Rattle.std.proofs.lemmas.List.{append-nil, append_assoc}
 use Rattle.es_token.specs.declared.token.Token.{Token}
@@ -12,12 +12,36 @@ use Rattle.es_syntax.specs.declared.entry.Lean.TheVariants as vLean
 use Rattle.es_syntax.specs.Held.{label_of}
 use Rattle.es_syntax.specs.Trees.{Kept, turn_parts, leaning_tree, leaned_tree, leant_tree, trees_in}
 use Rattle.es_site.specs.Sites.{Found}
-use Rattle.es_plain_sites.specs.Part.{Part, absent, nil, more, token, node, part, as_group, group, found, at, each, packed, as_target}
-use Rattle.es_plain_sites.specs.Own.{own, operand, part_step, part_of}
+use Rattle.es_plain_sites.specs.Part.{Part, absent, nil, more, token, node, part, as_group, group, found, at, packed, as_target}
+use Rattle.es_plain_sites.specs.Own.{own, operand as lone, part_step, part_of}
 use Rattle.es_plain_sites.proofs.Equations.{part_node, part_parts}
-use Rattle.es_tree_sites.specs.Steps.{has_second, operand_at, operands_in, leaning_in}
+use Rattle.es_tree_sites.specs.declared.plan.Way.{Way}
+use Rattle.es_tree_sites.specs.declared.plan.Way.TheVariants.{In}
+use Rattle.es_tree_sites.specs.declared.plan.Group.TheVariants.{Second, Operands, Operand}
+use Rattle.es_tree_sites.specs.Plan.{is_single, ways, rest, taken, on}
+use Rattle.es_tree_sites.proofs.PlanLemmas.{skipped_none, second_is, operand_in}
 
-operand_is : (x : List ℕ) (ts : List Token) (g v : Part) → part g 1 ≡ v → operand x ts g v ≡ at g 1
+-- the way of the operand in a turn
+abbrev operand : Lean → Way
+operand lean = rest (Operands lean)
+
+second_in : (g : Part) → on (In Second) g ≡ at (as_group g) 1
+unfolding taken
+second_in absent = refl
+second_in nil = refl
+second_in (more v vs) = second_is (more v vs)
+second_in (token n) = refl
+second_in (node label p s) = refl
+
+operand_in_turn : (g : Part) → on (In Operand) g ≡ at (group (as_group g) 0) 1
+unfolding taken
+operand_in_turn absent = refl
+operand_in_turn nil = refl
+operand_in_turn (more v vs) = operand_in (more v vs)
+operand_in_turn (token n) = refl
+operand_in_turn (node label p s) = refl
+
+operand_is : (x : List ℕ) (ts : List Token) (g v : Part) → part g 1 ≡ v → lone x ts g v ≡ at g 1
 operand_is x ts g absent is = refl
 operand_is x ts g nil is = refl
 operand_is x ts g (more v vs) is = sym (ap found is)
@@ -72,75 +96,44 @@ module _ (x : List ℕ) (ts : List Token) where
   turn_part u = turn_part_of (out-Cst u) ∙ ap (λ (t : Cst). as_group (part_of x ts t)) (roll-out-Cst u)
 
   -- the sites of a node over what stands before a turn
-  own_lean : (lean : Lean) (v g : Part) → own x ts (label_of lean) (more v g) ≡ found v ++ operand_at lean g
-  unfolding operand_at
-  own_lean vLean.Binary v g = refl
+  own_lean : (lean : Lean) (v g : Part)
+      → own x ts (label_of lean) (more v (as_group g)) ≡ found v ++ on (operand lean) g
+  own_lean vLean.Binary v g = ap (λ s. found v ++ s) (sym (second_in g))
   own_lean vLean.TypedBinary v g =
-      ap (λ s. found v ++ s) (operand_is x ts (group g 0) (part (group g 0) 1) refl)
+      ap (λ s. found v ++ s)
+      (operand_is x ts (group (as_group g) 0) (part (group (as_group g) 0) 1) refl ∙ sym (operand_in_turn g))
 
   leaning_sites : (lean : Lean) (from : ℕ) (t : Cst) (u : Kept)
       → found (part_of x ts (leaning_tree lean from t u))
-      ≡ found (part_of x ts t) ++ operand_at lean (as_group (part_of x ts u.1))
+      ≡ found (part_of x ts t) ++ on (operand lean) (part_of x ts u.1)
   leaning_sites lean from t u =
       ap found (part_node x ts (label_of lean) from u.0 (t ∷ turn_parts (out-Cst u.1)))
-      ∙ own_lean lean (part_of x ts t) (packed (map (part_of x ts) (turn_parts (out-Cst u.1))))
-      ∙ ap (λ g. found (part_of x ts t) ++ operand_at lean g) (turn_part u.1)
+      ∙ ap (λ g. own x ts (label_of lean) (more (part_of x ts t) g)) (turn_part u.1)
+      ∙ own_lean lean (part_of x ts t) (part_of x ts u.1)
 
   leaned_sites : (lean : Lean) (from : ℕ) (t : Cst) (us : List Kept)
       → found (part_of x ts (leaned_tree lean from t us))
-      ≡ found (part_of x ts t) ++ operands_in lean (packed (map (part_of x ts) (trees_in us)))
-  unfolding leaned_tree operands_in
+      ≡ found (part_of x ts t) ++ taken [] (operand lean) (packed (map (part_of x ts) (trees_in us)))
+  unfolding leaned_tree taken
   leaned_sites lean from t [] = sym (append-nil (found (part_of x ts t)))
   leaned_sites lean from t (u ∷ us) =
-      let rest = operands_in lean (packed (map (part_of x ts) (trees_in us))) in
+      let rest = taken [] (operand lean) (packed (map (part_of x ts) (trees_in us))) in
       leaned_sites lean from (leaning_tree lean from t u) us
       ∙ ap (λ s. s ++ rest) (leaning_sites lean from t u)
-      ∙ append_assoc (found (part_of x ts t)) (operand_at lean (as_group (part_of x ts u.1))) rest
+      ∙ append_assoc (found (part_of x ts t)) (on (operand lean) (part_of x ts u.1)) rest
 
   -- the sites of nodes that lean left are those of the first operand, and of that in each turn
   pub leant_sites : (lean : Lean) (from : ℕ) (us : List Kept)
-      → found (part_of x ts (leant_tree lean from us)) ≡ leaning_in lean (packed (map (part_of x ts) (trees_in us)))
-  unfolding leaning_in operands_in
+      → found (part_of x ts (leant_tree lean from us))
+      ≡ taken (ways (Operands lean) (packed (map (part_of x ts) (trees_in us)))) (rest (Operands lean))
+      (packed (map (part_of x ts) (trees_in us)))
+  unfolding leaned_tree ways taken is_single
   leant_sites lean from [] = ap found (part_parts x ts [])
-  leant_sites lean from (u ∷ []) = ap found (part_parts x ts [])
+  leant_sites lean from (u ∷ []) =
+      ap found (part_parts x ts []) ∙ sym (ap (λ s. s ++ []) (skipped_none (part_of x ts u.1)))
   leant_sites lean from (t ∷ u ∷ us) =
-      let rest = operands_in lean (packed (map (part_of x ts) (trees_in us))) in
-      leaned_sites lean from (leaning_tree lean from t.1 u) us
-      ∙ ap (λ s. s ++ rest) (leaning_sites lean from t.1 u)
-      ∙ append_assoc (found (part_of x ts t.1)) (operand_at lean (as_group (part_of x ts u.1))) rest
-
--- ---- a first operand, and turns
-less : (lean : Lean) (p : Part) → has_second p ≡ false → leaning_in lean p ≡ []
-unfolding has_second leaning_in
-less lean absent e = refl
-less lean nil e = refl
-less lean (more v absent) e = refl
-less lean (more v nil) e = refl
-less lean (more v (more w vs)) e = absurd (let bad : ⊥ = cc in bad)
-less lean (more v (token n)) e = refl
-less lean (more v (node label p s)) e = refl
-less lean (token n) e = refl
-less lean (node label p s) e = refl
-
-pub leaning_less : (old : Found) (lean : Lean) (p : Part) → has_second p ≡ false → old ++ leaning_in lean p ≡ old
-leaning_less old lean p e = ap (λ s. old ++ s) (less lean p e) ∙ append-nil old
-
-pub leaning_none : (old : Found) (lean : Lean) (p : Part) → p ≡ nil → old ++ leaning_in lean p ≡ old
-unfolding leaning_in
-leaning_none old lean p e = ap (λ q. old ++ leaning_in lean q) e ∙ append-nil old
-
-leaning_is : (lean : Lean) (v vs : Part) → has_second (more v vs) ≡ true
-    → leaning_in lean (more v vs) ≡ found v ++ operands_in lean vs
-unfolding has_second leaning_in
-leaning_is lean v absent e = absurd (let bad : ⊥ = cc in bad)
-leaning_is lean v nil e = absurd (let bad : ⊥ = cc in bad)
-leaning_is lean v (more w vs) e = refl
-leaning_is lean v (token n) e = absurd (let bad : ⊥ = cc in bad)
-leaning_is lean v (node label p s) e = absurd (let bad : ⊥ = cc in bad)
-
-pub leaning_more : (old mid : Found) (lean : Lean) (p v vs : Part) → has_second p ≡ true → p ≡ more v vs
-    → mid ≡ old ++ found v → mid ++ operands_in lean vs ≡ old ++ leaning_in lean p
-leaning_more old mid lean p v vs e is first =
-    ap (λ s. s ++ operands_in lean vs) first ∙ append_assoc old (found v) (operands_in lean vs)
-    ∙ ap (λ s. old ++ s) (sym (leaning_is lean v vs (sym (ap has_second is) ∙ e)))
-    ∙ ap (λ q. old ++ leaning_in lean q) (sym is)
+      let turns = packed (map (part_of x ts) (trees_in (u ∷ us))) in
+      leaned_sites lean from t.1 (u ∷ us)
+      ∙ ap (λ s. s ++ taken [] (operand lean) turns)
+      (sym (ap (λ s. found (part_of x ts t.1) ++ s) (skipped_none (part_of x ts t.1))
+      ∙ append-nil (found (part_of x ts t.1))))

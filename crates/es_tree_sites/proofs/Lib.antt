@@ -3,8 +3,9 @@ pub mod LeanLemmas
 pub mod PartLemmas
 pub mod Looks
 pub mod Turns
-pub mod StepLemmas
+pub mod PlanLemmas
 pub mod WalkLemmas
-mod NamedLemmas
-pub mod FormLemmas
+pub mod NamedLemmas
+pub mod TokenLemmas
+pub mod LeftLemmas
 mod CutLemmas

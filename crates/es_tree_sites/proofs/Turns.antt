@@ -1,11 +1,9 @@
 -- What is told over the turns of a list, turn by turn.
-use Rattle.std.specs.Prelude.{ℕ, Bool, ◌&&◌, List, [], ◌++◌, Option, codes}
-use Rattle.std.proofs.Common.{◌≡◌, refl, sym, ap, ◌∙◌}
-use Rattle.std.proofs.lemmas.List.{append-nil, append_assoc}
+use Rattle.std.specs.Prelude.{ℕ, Bool, ◌&&◌, List, Option}
+use Rattle.std.proofs.Common.{◌≡◌, refl}
 use Rattle.ts_ast.specs.declared.leaf.Str.{Str}
 use Rattle.es_token.specs.declared.token.Token.{Token}
-use Rattle.es_site.specs.Sites.{Found}
-use Rattle.es_plain_sites.specs.Part.{Part, nil, more, as_group, each}
+use Rattle.es_plain_sites.specs.Part.{Part, nil, more}
 use Rattle.es_plain_sites.specs.Own.{last_type, are_plain, last_given}
 use Rattle.es_tree_sites.specs.Given.{type_turn, plain_turn, given_turn}
 
@@ -33,23 +31,3 @@ module _ (x : List ℕ) (ts : List Token) where
       → last_given x ts word last (more turn vs) ≡ last_given x ts word (given_turn x ts word last turn) vs
   unfolding given_turn
   given_more word last turn vs = refl
-
--- ---- the sites of each turn
--- one after the other
-pub both_add : (old mid new a b : Found) → mid ≡ old ++ a → new ≡ mid ++ b → new ≡ old ++ (a ++ b)
-both_add old mid new a b first second = second ∙ ap (λ s. s ++ b) first ∙ append_assoc old a b
-
-module _ (f : Part → Found) where
-  -- one more turn
-  pub each_more : (old new whole : Found) (p turn vs g : Part) → p ≡ more turn vs → g ≡ as_group turn
-      → new ≡ old ++ f g → old ++ each f p ≡ whole → new ++ each f vs ≡ whole
-  each_more old new whole p turn vs g is inner grown so =
-      ap (λ s. s ++ each f vs) (grown ∙ ap (λ k. old ++ f k) inner)
-      ∙ append_assoc old (f (as_group turn)) (each f vs)
-      ∙ ap (λ q. old ++ each f q) (sym is)
-      ∙ so
-
-  -- no more turns
-  pub each_end : (found whole : Found) (p : Part) → p ≡ nil → found ++ each f p ≡ whole → found ≡ whole
-  each_end found whole p is so =
-      sym (append-nil found) ∙ ap (λ q. found ++ each f q) (sym is) ∙ so

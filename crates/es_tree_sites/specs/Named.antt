@@ -1,31 +1,25 @@
--- Where no node can name a module by itself, nothing is named.
-use Rattle.std.specs.Prelude.{Bool, true, false, ◌||◌, List, [], ◌∷◌}
+-- Where a module can be named at all.
+use Rattle.std.specs.Prelude.{◌≡◌, ℕ, zero, suc, Bool, true, false, ◌||◌, List, [], ◌∷◌}
 use Rattle.es_grammar.specs.declared.rows.NodeKind.{NodeKind}
+use Rattle.es_grammar.specs.declared.rows.NodeKind.TheVariants as l
 use Rattle.es_syntax.specs.declared.entry.What.{What}
 use Rattle.es_syntax.specs.declared.entry.What.TheVariants as vWhat
 use Rattle.es_syntax.specs.declared.entry.Entry.{Entry}
-use Rattle.es_syntax.specs.declared.cursor.Item.{Item}
-use Rattle.es_tree_sites.specs.declared.steps.Step.{Step}
-use Rattle.es_tree_sites.specs.declared.steps.Step.TheVariants.{Bare, From, Phase, Require, Names, Call}
-use Rattle.es_tree_sites.specs.Steps.{steps}
-
--- a step that is a site of the node itself, and no place among its parts
-abbrev pub is_own : Step → Bool
-is_own Bare = true
-is_own (From kind) = true
-is_own (Phase kind) = true
-is_own Require = true
-is_own Names = true
-is_own (Call kind) = true
-is_own _ = false
-
-abbrev pub any_own : List Step → Bool
-any_own [] = false
-any_own (step ∷ steps) = is_own step || any_own steps
 
 -- a node of this alternative can name a module by itself
 abbrev pub names_module : NodeKind → Bool
-names_module label = any_own (steps label)
+names_module l.BareImport = true
+names_module l.FromImport = true
+names_module l.SourceImport = true
+names_module l.DeferImport = true
+names_module l.RequireImport = true
+names_module l.ExportedRequireImport = true
+names_module l.ExportAll = true
+names_module l.ExportNames = true
+names_module l.ImportCall = true
+names_module l.SourceCall = true
+names_module l.DeferCall = true
+names_module _ = false
 
 abbrev pub may_name : What → Bool
 may_name (vWhat.Node label) = names_module label
@@ -36,6 +30,8 @@ abbrev pub any_may_name : List Entry → Bool
 any_may_name [] = false
 any_may_name (e ∷ es) = may_name e.what || any_may_name es
 
--- what stands there can, or one of its parts
-abbrev pub item_may_name : Item → Bool
-item_may_name item = may_name item.what || any_may_name item.parts.entries.now
+-- none of so many can
+abbrev pub Unnamed : ℕ → List Entry → Type 0
+Unnamed zero es = Unit {0}
+Unnamed (suc n) [] = Unit {0}
+Unnamed (suc n) (e ∷ es) = (may_name e.what ≡ false) × Unnamed n es

@@ -1,5 +1,5 @@
 -- The parts of a node, of a group and of a list, as a row has them.
-use Rattle.std.specs.Prelude.{◌≡◌, ℕ, ◌≤◌, Bool, true, false, List, [], ◌∷◌, length, Option, Some, None, map, slice_get, IsCharBoundary}
+use Rattle.std.specs.Prelude.{◌≡◌, ℕ, ◌≤◌, Bool, true, false, List, [], ◌∷◌, ◌++◌, length, Option, Some, None, map, slice_get, IsCharBoundary}
 use Rattle.es_token.specs.declared.token.Token.{Token}
 use Rattle.es_grammar.specs.declared.rows.NodeKind.{NodeKind}
 use Rattle.es_grammar.specs.declared.rows.NodeKind.TheVariants as l
@@ -24,6 +24,16 @@ tree_at i = tree_by i.what i.from i.to (kept i.parts.entries.now)
 abbrev pub first_trees : Option (Item × Siblings) → List Cst
 first_trees (Some p) = tree_at p.0 ∷ trees p.1.entries.now
 first_trees None = []
+
+-- the entries of the first part, and those behind it
+pub record Heads (es : List Entry) (first : Item) (behind : Siblings) : Type 0 where
+  pub head : Entry
+  pub what : head.what ≡ first.what
+  pub entries : es ≡ head ∷ (first.parts.entries.now ++ behind.entries.now)
+
+abbrev pub Splits : List Entry → Option (Item × Siblings) → Type 0
+Splits es (Some p) = Heads es p.0 p.1
+Splits es None = es ≡ []
 
 -- what the parts in a row are
 unfoldable pub parts_of : List ℕ → List Token → List Entry → Part

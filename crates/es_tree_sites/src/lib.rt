@@ -5,16 +5,16 @@
 //!   that the row is, in the order of the text. What a reader of programs keeps of a text is a row of one tree, which has a
 //!   typed tree with the same sites (`es_program_sites`).
 //!
-//! Memory is the only cause of an `Err`. It goes over the parts of a node by a table of steps (`steps`), and along a list, or
-//! nodes that lean left, by a loop: only nodes nest.
+//! Memory is the only cause of an `Err`. The walk goes by loops, to one node that can name a module after the other; what is
+//! left at each level stands on a stack.
 #![tactic(auto)]
 
 mod attribute;
 mod named;
 mod options;
+mod plan;
 mod search;
 mod source;
-mod steps;
 mod walk;
 
 pub use walk::tree_sites;

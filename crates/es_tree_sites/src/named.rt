@@ -7,10 +7,11 @@ ghost use Rattle.es_site.specs.declared.site.DependencyKind.TheVariants as kinds
 ghost use Rattle.es_plain_sites.specs.Part.{part, group, is_there};
 ghost use Rattle.es_plain_sites.specs.Own.{naming, str_in, src_in, options_in};
 ghost use Rattle.es_tree_sites.specs.Parts.{parts_in, Cuts, HasCut};
-ghost use Rattle.es_tree_sites.specs.Steps.{declares};
+ghost use Rattle.es_tree_sites.specs.Plan.{declares, requires, calls, names};
 
 use crate::source::TokenizedText;
 use base::Items;
+use es_grammar::NodeKind;
 use es_site::{Attribute, DependencyKind, Site};
 use es_syntax::Siblings;
 use es_token::Token;
@@ -45,7 +46,7 @@ impl TokenizedText<'_> {
     }
 
     /// The literal at a place, with the attribute that the group at another gives.
-    pub fn declare(
+    fn declare(
         &self,
         found: &mut Items<Site>,
         kind: DependencyKind,
@@ -63,11 +64,10 @@ impl TokenizedText<'_> {
     }
 
     /// `import a = require("a")`
-    pub fn require(&self, found: &mut Items<Site>, parts: &Siblings<'_>) -> Result<(), AllocError>
+    fn require(&self, found: &mut Items<Site>, parts: &Siblings<'_>) -> Result<(), AllocError>
         requires { HasCut self.now }
         ensures { OnOk result (found.new ≡ found.old
-            ++ naming self.now.text.now self.now.tokens.now kinds.ImportEquals (is_there (group (parts_in self.now parts.now) 0)) attribute.Unknown
-            (str_in self.now.text.now self.now.tokens.now (part (parts_in self.now parts.now) 2))) }
+            ++ requires self.now.text.now self.now.tokens.now (parts_in self.now parts.now)) }
     {
         let kind = DependencyKind::ImportEquals;
         let type_only = self.is_there(parts, 0);
@@ -76,7 +76,7 @@ impl TokenizedText<'_> {
     }
 
     /// `import("a")`, in any phase, where the first argument is a string literal.
-    pub fn call(
+    fn call(
         &self,
         found: &mut Items<Site>,
         kind: DependencyKind,
@@ -84,11 +84,69 @@ impl TokenizedText<'_> {
     ) -> Result<(), AllocError>
         requires { HasCut self.now }
         ensures { OnOk result (found.new ≡ found.old
-            ++ naming self.now.text.now self.now.tokens.now kind false (options_in self.now.text.now self.now.tokens.now (group (parts_in self.now parts.now) 1))
-            (src_in self.now.text.now self.now.tokens.now (part (parts_in self.now parts.now) 0))) }
+            ++ calls self.now.text.now self.now.tokens.now kind (parts_in self.now parts.now)) }
     {
         let attribute = self.options(&self.group(parts, 1))?;
         let src = self.literal_at(parts, 0);
         self.name(found, kind, false, attribute, src)
+    }
+
+    /// `import .. from "a"`, `export * from "a"`
+    fn from(
+        &self,
+        found: &mut Items<Site>,
+        kind: DependencyKind,
+        parts: &Siblings<'_>,
+    ) -> Result<(), AllocError>
+        requires { HasCut self.now }
+        ensures { OnOk result (found.new ≡ found.old ++ declares self.now.text.now self.now.tokens.now kind
+            (is_there (group (parts_in self.now parts.now) 0)) (parts_in self.now parts.now) 2 3) }
+    {
+        let type_only = self.is_there(parts, 0);
+        self.declare(found, kind, type_only, parts, 2, 3)
+    }
+
+    /// `export { .. }`, with `from "a"` or without.
+    fn exported(&self, found: &mut Items<Site>, parts: &Siblings<'_>) -> Result<(), AllocError>
+        requires { HasCut self.now }
+        ensures { OnOk result (found.new ≡ found.old ++ declares self.now.text.now self.now.tokens.now kinds.Export
+            (is_there (group (parts_in self.now parts.now) 0)) (group (parts_in self.now parts.now) 2) 0 1) }
+    {
+        let type_only = self.is_there(parts, 0);
+        let from = self.group(parts, 2);
+        self.declare(found, DependencyKind::Export, type_only, &from, 0, 1)
+    }
+
+    /// What a node of this alternative names by itself.
+    #[tactic(auto, unfolding(crate::specs::Plan::names))]
+    pub fn names(
+        &self,
+        found: &mut Items<Site>,
+        label: NodeKind,
+        parts: &Siblings<'_>,
+    ) -> Result<(), AllocError>
+        requires { HasCut self.now }
+        ensures { OnOk result (found.new ≡ found.old
+            ++ names self.now.text.now self.now.tokens.now label (parts_in self.now parts.now)) }
+    {
+        match label {
+            NodeKind::BareImport => {
+                self.declare(found, DependencyKind::Import, false, parts, 0, 1)
+            }
+            NodeKind::FromImport => self.from(found, DependencyKind::Import, parts),
+            NodeKind::SourceImport => {
+                self.declare(found, DependencyKind::ImportSource, false, parts, 1, 2)
+            }
+            NodeKind::DeferImport => {
+                self.declare(found, DependencyKind::ImportDefer, false, parts, 1, 2)
+            }
+            NodeKind::RequireImport | NodeKind::ExportedRequireImport => self.require(found, parts),
+            NodeKind::ExportAll => self.from(found, DependencyKind::Export, parts),
+            NodeKind::ExportNames => self.exported(found, parts),
+            NodeKind::ImportCall => self.call(found, DependencyKind::Dynamic, parts),
+            NodeKind::SourceCall => self.call(found, DependencyKind::DynamicSource, parts),
+            NodeKind::DeferCall => self.call(found, DependencyKind::DynamicDefer, parts),
+            _ => Ok(()),
+        }
     }
 }

@@ -1,14 +1,13 @@
-//! Whether a module can be named at all in what stands there: by a loop over its entries.
+//! The next node that can name a module: by a loop over the entries.
 
-ghost use Rattle.std.specs.Prelude.{◌≡◌};
-ghost use Rattle.es_tree_sites.specs.Named.{names_module, may_name, any_may_name, item_may_name};
+ghost use Rattle.std.specs.Prelude.{◌≡◌, false, MatchOption};
+ghost use Rattle.es_tree_sites.specs.Named.{names_module, may_name, any_may_name, Unnamed};
 
 use es_grammar::NodeKind;
-use es_syntax::{Entry, Item, What};
+use es_syntax::{Entry, What};
 
 /// A node of this alternative can name a module by itself.
 #[inline(always)]
-#[tactic(auto, unfolding(crate::specs::Steps::steps))]
 fn names_module(label: NodeKind) -> bool
     ensures { result ≡ names_module label }
 {
@@ -41,23 +40,16 @@ fn may_name(what: What) -> bool
     }
 }
 
-/// One of these entries can name a module.
-fn any_may_name(entries: &[Entry]) -> bool
-    ensures { result ≡ any_may_name entries.now }
+/// How many entries stand before the first that can name a module; none where no entry can.
+pub fn first_named(entries: &[Entry]) -> Option<usize>
+    ensures { MatchOption result (any_may_name entries.now ≡ false) (λ n. Unnamed n entries.now) }
 {
     let mut row = entries;
     while let Some((entry, behind)) = row.split_first() {
         if may_name(entry.what) {
-            return true;
+            return Some(entries.len() - row.len());
         }
         row = behind;
     }
-    false
-}
-
-/// What stands there can name a module, or one of its parts.
-pub fn item_may_name(item: &Item<'_>) -> bool
-    ensures { result ≡ item_may_name item.now }
-{
-    may_name(item.what) || any_may_name(item.parts.entries)
+    None
 }

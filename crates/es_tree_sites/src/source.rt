@@ -6,8 +6,8 @@ ghost use Rattle.es_site.specs.Attributes.{spells};
 ghost use Rattle.es_plain_sites.specs.Part.{part, as_group, group, is_there};
 ghost use Rattle.es_plain_sites.specs.Own.{token_in, str_in, same_word, same_str};
 ghost use Rattle.es_syntax.specs.Trees.{trees};
-ghost use Rattle.es_tree_sites.specs.Steps.{has_second, is_token};
-ghost use Rattle.es_tree_sites.specs.Parts.{first_trees, parts_in, part_in, first_in, there, Seen, Cuts, HasCut};
+ghost use Rattle.es_tree_sites.specs.Plan.{is_single, is_token};
+ghost use Rattle.es_tree_sites.specs.Parts.{first_trees, Splits, parts_in, part_in, first_in, there, Seen, Cuts, HasCut};
 
 use base::Text;
 use es_grammar::NodeKind;
@@ -22,14 +22,13 @@ pub struct TokenizedText<'a> {
     pub alloc: Global,
     pub text: &'a str,
     pub tokens: &'a [Token],
-    /// How many entries the parts have that were searched last, of those around.
-    pub searched: usize,
 }
 
 /// The first part in a row, and those behind it.
 #[tactic(auto, using(crate::proofs::RowLemmas::trees_none, crate::proofs::RowLemmas::trees_some))]
-pub fn split<'t>(row: &Siblings<'t>) -> Option<(Item<'t>, Siblings<'t>)>
+fn split<'t>(row: &Siblings<'t>) -> Option<(Item<'t>, Siblings<'t>)>
     ensures trees { trees row.now.entries.now ≡ first_trees result }
+    ensures entries { Splits row.now.entries.now result }
     ensures below { IfSome result (λ p. length p.0.parts.entries.now + length p.1.entries.now < length row.now.entries.now) }
 {
     match row.entries.split_first() {
@@ -52,6 +51,7 @@ impl TokenizedText<'_> {
     /// The first of these parts, and those behind it.
     pub fn split<'t>(&self, parts: &Siblings<'t>) -> Option<(Item<'t>, Siblings<'t>)>
         ensures value { parts_in self.now parts.now ≡ first_in self.now result }
+        ensures entries { Splits parts.now.entries.now result }
         ensures below { IfSome result (λ p. length p.0.parts.entries.now + length p.1.entries.now < length parts.now.entries.now) }
     {
         split(parts)
@@ -73,16 +73,16 @@ impl TokenizedText<'_> {
         }
     }
 
-    /// Whether there is more than one part.
-    #[tactic(auto, unfolding(crate::specs::Steps::has_second))]
-    pub fn has_second(&self, parts: &Siblings<'_>) -> bool
-        ensures { result ≡ has_second (parts_in self.now parts.now) }
+    /// Whether there is exactly one part.
+    #[tactic(auto, unfolding(crate::specs::Plan::is_single))]
+    pub fn is_single(&self, parts: &Siblings<'_>) -> bool
+        ensures { result ≡ is_single (parts_in self.now parts.now) }
     {
         match self.split(parts) {
             None => false,
             Some((_, rest)) => match self.split(&rest) {
-                None => false,
-                Some(_) => true,
+                None => true,
+                Some(_) => false,
             },
         }
     }
@@ -138,7 +138,7 @@ impl TokenizedText<'_> {
         }
     }
 
-    #[tactic(auto, using(crate::proofs::FormLemmas::token_leaf, crate::proofs::FormLemmas::token_node, crate::proofs::FormLemmas::token_role, crate::proofs::FormLemmas::token_parts, crate::proofs::FormLemmas::token_lean))]
+    #[tactic(auto, using(crate::proofs::TokenLemmas::token_leaf, crate::proofs::TokenLemmas::token_node, crate::proofs::TokenLemmas::token_role, crate::proofs::TokenLemmas::token_parts, crate::proofs::TokenLemmas::token_lean))]
     fn is_token(&self, item: &Item<'_>) -> bool
         ensures { result ≡ is_token (part_in self.now item.now) }
     {
@@ -152,7 +152,7 @@ impl TokenizedText<'_> {
     }
 
     /// Whether the part at a place is a token.
-    #[tactic(auto, unfolding(crate::specs::Steps::is_token))]
+    #[tactic(auto, unfolding(crate::specs::Plan::is_token))]
     pub fn is_token_at(&self, parts: &Siblings<'_>, n: usize) -> bool
         ensures { result ≡ is_token (part (parts_in self.now parts.now) n) }
     {

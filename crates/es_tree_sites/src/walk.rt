@@ -1,25 +1,43 @@
-//! The walk of a plain tree to its sites. Each function adds to the sites found before what its parts have, in the order
-//! of the text.
+//! The walk of a row to the sites in it: by loops, with what is left at each level on a stack.
 
-ghost use Rattle.std.specs.Prelude.{◌≡◌, false, ◌++◌, IfOk, OnOk};
+ghost use Rattle.std.specs.Prelude.{◌≡◌, true, ◌+◌, ◌≤◌, [], ◌++◌, length, IfOk, OnOk};
 ghost use Rattle.std.specs.List.{flat_map};
 ghost use Rattle.es_lexer.specs.Reads.{ReadsTokens};
-ghost use Rattle.es_site.specs.declared.site.DependencyKind.TheVariants as kind;
-ghost use Rattle.es_plain_sites.specs.Part.{at, group, is_there};
-ghost use Rattle.es_plain_sites.specs.Own.{own, first_of, returned, typed_args, plain_sites};
+ghost use Rattle.es_plain_sites.specs.Part.{found};
+ghost use Rattle.es_plain_sites.specs.Own.{plain_sites};
 ghost use Rattle.es_syntax.specs.Trees.{trees};
-ghost use Rattle.es_tree_sites.specs.Parts.{tree_at, parts_in, HasCut};
-ghost use Rattle.es_tree_sites.specs.Steps.{turns_in, holes_in, cases_in, members_in, operand_at, operands_in, leaning_in, handlers_in, declares, by_step};
+ghost use Rattle.es_tree_sites.specs.Named.{Unnamed};
+ghost use Rattle.es_tree_sites.specs.Parts.{parts_in, part_in, HasCut};
+ghost use Rattle.es_tree_sites.specs.declared.plan.Way.TheVariants as way;
+ghost use Rattle.es_tree_sites.specs.Plan.{on, taken, first_way, other_ways, ways, rest, is_tree};
+ghost use Rattle.es_tree_sites.specs.Left.{left_sites, ahead, first_sites, Begins, is_parts, named_if, names_itself, weight};
 
-use crate::search::item_may_name;
-use crate::source::{TokenizedText, split};
-use crate::steps::{Step, steps};
+use crate::plan::{Group, Way, rest};
+use crate::search::first_named;
+use crate::source::TokenizedText;
 use base::Items;
-use es_grammar::NodeKind;
-use es_site::{DependencyKind, Site};
-use es_syntax::{Entry, Item, Lean, Siblings, What};
+use es_site::Site;
+use es_syntax::{Entry, Item, Siblings, What};
 use es_token::Token;
 use std::alloc::{AllocError, Global};
+
+/// What is left of parts in a row.
+#[derive(Clone, Copy)]
+pub struct Left<'a> {
+    pub parts: Siblings<'a>,
+    /// How the first of them are taken.
+    pub ways: &'static [Way],
+    /// How all behind these are.
+    pub rest: Way,
+}
+
+/// The first part, how it is taken, and what is left behind it.
+#[derive(Clone, Copy)]
+pub struct First<'a> {
+    pub way: Way,
+    pub item: Item<'a>,
+    pub behind: Left<'a>,
+}
 
 /// The sites of the plain trees that these entries are, over the tokens of a text, in the order of the text.
 pub fn tree_sites(
@@ -32,363 +50,243 @@ pub fn tree_sites(
     ensures { IfOk result (λ found. found ≡ flat_map (plain_sites text.now tokens.now) (trees entries.now)) }
 {
     let mut found = Items::new(alloc);
+    let mut around = Items::new(alloc);
     let source = TokenizedText {
         alloc,
         text,
         tokens,
-        searched: entries.len(),
     };
-    source.walk_all(&mut found, &Siblings { entries })?;
+    around.push(source.in_group(Group::Trees, &Siblings { entries }))?;
+    while let Some(left) = around.pop() {
+        source.take(&mut found, &mut around, left)?;
+    }
     Ok(found)
 }
 
+impl Left<'_> {
+    /// How the first part is taken.
+    fn way(&self) -> Way
+        ensures { result ≡ first_way self.now.ways.now self.now.rest }
+    {
+        match self.ways.split_first() {
+            Some((way, _)) => *way,
+            None => self.rest,
+        }
+    }
+
+    /// How those behind it are.
+    fn others(&self) -> &'static [Way]
+        ensures { result.now ≡ other_ways self.now.ways.now }
+    {
+        match self.ways.split_first() {
+            Some((_, ways)) => ways,
+            None => &[],
+        }
+    }
+}
+
 impl TokenizedText<'_> {
-    /// All trees of a row.
-    fn walk_all(&self, found: &mut Items<Site>, list: &Siblings<'_>) -> Result<(), AllocError>
-        requires { HasCut self.now }
-        ensures { OnOk result (found.new ≡ found.old ++ flat_map (plain_sites self.now.text.now self.now.tokens.now) (trees list.now.entries.now)) }
+    /// The first part, where there is one.
+    #[tactic(auto, using(crate::proofs::LeftLemmas::taken_more, crate::proofs::LeftLemmas::taken_nil))]
+    fn first<'t>(&self, left: &Left<'t>) -> Option<First<'t>>
+        ensures sites { left_sites self.now left.now ≡ first_sites self.now result }
+        ensures entries { Begins left.now.parts.entries.now result }
     {
-        let mut row = *list;
-        while let Some((tree, rest)) = split(&row) {
-            self.walk(found, &tree)?;
-            row = rest;
+        match self.split(&left.parts) {
+            None => None,
+            Some((item, parts)) => Some(First {
+                way: left.way(),
+                item,
+                behind: Left {
+                    parts,
+                    ways: left.others(),
+                    rest: left.rest,
+                },
+            }),
         }
-        Ok(())
     }
 
-    /// Whether what stands there is searched before the walk goes in: where it may have sites among its parts, and takes at most
-    /// half the entries of what was searched last. So each entry is searched a few times at most.
-    fn is_searched(&self, item: &Item<'_>) -> bool {
+    /// The parts of a group or of a list.
+    fn in_group<'t>(&self, group: Group, parts: &Siblings<'t>) -> Left<'t>
+        ensures sites { left_sites self.now result ≡ taken (ways group (parts_in self.now parts.now)) (rest group) (parts_in self.now parts.now) }
+        ensures parts { result.parts.entries.now ≡ parts.now.entries.now }
+    {
+        Left {
+            parts: *parts,
+            ways: self.ways(group, parts),
+            rest: rest(group),
+        }
+    }
+
+    /// None of these parts.
+    #[tactic(auto, using(crate::proofs::PlanLemmas::skipped_none))]
+    fn skipped<'t>(&self, parts: &Siblings<'t>) -> Left<'t>
+        ensures sites { left_sites self.now result ≡ [] }
+        ensures parts { result.parts.entries.now ≡ parts.now.entries.now }
+    {
+        Left {
+            parts: *parts,
+            ways: &[],
+            rest: Way::Skip,
+        }
+    }
+
+    /// The parts of what stands there, taken as a tree.
+    #[tactic(auto, using(crate::proofs::WalkLemmas::tree_leaf, crate::proofs::WalkLemmas::tree_node, crate::proofs::WalkLemmas::tree_role, crate::proofs::WalkLemmas::tree_parts, crate::proofs::WalkLemmas::tree_lean))]
+    fn in_tree<'t>(&self, item: &Item<'t>) -> Left<'t>
+        ensures sites { found (part_in self.now item.now) ≡ named_if true self.now item.now.what item.now.parts ++ left_sites self.now result }
+        ensures parts { result.parts.entries.now ≡ item.now.parts.entries.now }
+    {
         match item.what {
-            What::Leaf => false,
+            What::Leaf => self.skipped(&item.parts),
+            What::Node(label) => Left {
+                parts: item.parts,
+                ways: self.plan(label, &item.parts),
+                rest: Way::Skip,
+            },
+            What::Role(_) => self.in_group(Group::First, &item.parts),
+            What::Parts => self.skipped(&item.parts),
+            What::Lean(lean) => self.in_group(Group::Operands(lean), &item.parts),
+        }
+    }
+
+    /// Its parts, taken as those of a group.
+    #[tactic(auto, using(crate::proofs::WalkLemmas::group_leaf_none, crate::proofs::WalkLemmas::group_node_none, crate::proofs::WalkLemmas::group_role_none, crate::proofs::WalkLemmas::group_parts_is, crate::proofs::WalkLemmas::group_lean_none))]
+    fn in_parts<'t>(&self, group: Group, item: &Item<'t>) -> Left<'t>
+        ensures sites { taken (ways group (part_in self.now item.now)) (rest group) (part_in self.now item.now) ≡ left_sites self.now result }
+        ensures parts { result.parts.entries.now ≡ item.now.parts.entries.now }
+    {
+        match item.what {
+            What::Leaf => self.skipped(&item.parts),
+            What::Node(_) => self.skipped(&item.parts),
+            What::Role(_) => self.skipped(&item.parts),
+            What::Parts => self.in_group(group, &item.parts),
+            What::Lean(_) => self.skipped(&item.parts),
+        }
+    }
+
+    /// Its parts, taken either way.
+    fn in_either<'t>(&self, group: Group, item: &Item<'t>) -> Left<'t>
+        ensures sites { on (way.Either group) (part_in self.now item.now) ≡ named_if true self.now item.now.what item.now.parts ++ left_sites self.now result }
+        ensures parts { result.parts.entries.now ≡ item.now.parts.entries.now }
+    {
+        if is_parts(item.what) {
+            return self.in_parts(group, item);
+        }
+        self.in_tree(item)
+    }
+
+    /// The parts of what stands there and is taken so.
+    #[tactic(auto, using(crate::proofs::PlanLemmas::on_skip, crate::proofs::PlanLemmas::on_tree))]
+    fn inside<'t>(&self, way: Way, item: &Item<'t>) -> Left<'t>
+        ensures sites { on way (part_in self.now item.now) ≡ names_itself self.now way item.now ++ left_sites self.now result }
+        ensures parts { result.parts.entries.now ≡ item.now.parts.entries.now }
+    {
+        match way {
+            Way::Skip => self.skipped(&item.parts),
+            Way::Tree => self.in_tree(item),
+            Way::In(group) => self.in_parts(group, item),
+            Way::Either(group) => self.in_either(group, item),
+        }
+    }
+
+    /// What stands there and is taken so names, if it is a node that names a module by itself.
+    fn name_itself(
+        &self,
+        found: &mut Items<Site>,
+        way: Way,
+        item: &Item<'_>,
+    ) -> Result<(), AllocError>
+        requires { HasCut self.now }
+        ensures { OnOk result (found.new ≡ found.old ++ names_itself self.now way item.now) }
+    {
+        match item.what {
             What::Node(label) => {
-                !steps(label).is_empty() && item.parts.entries.len() <= self.searched / 2
+                if is_tree(way) {
+                    return self.names(found, label, &item.parts);
+                }
+                Ok(())
             }
-            What::Role(_) => false,
-            What::Parts => false,
-            What::Lean(_) => item.parts.entries.len() <= self.searched / 2,
-        }
-    }
-
-    /// What was searched is left out where no node in it can name a module.
-    #[cycle(walk)]
-    fn walk(&self, found: &mut Items<Site>, item: &Item<'_>) -> Result<(), AllocError>
-        requires { HasCut self.now }
-        ensures { OnOk result (found.new ≡ found.old ++ plain_sites self.now.text.now self.now.tokens.now (tree_at item.now)) }
-    {
-        if !self.is_searched(item) {
-            return self.walk_in(found, item);
-        }
-        if !item_may_name(item) {
-            return Ok(());
-        }
-        let inner = TokenizedText {
-            alloc: self.alloc,
-            text: self.text,
-            tokens: self.tokens,
-            searched: item.parts.entries.len(),
-        };
-        inner.walk_in(found, item)
-    }
-
-    #[tactic(auto, using(crate::proofs::WalkLemmas::walk_leaf, crate::proofs::WalkLemmas::walk_node, crate::proofs::WalkLemmas::walk_role, crate::proofs::WalkLemmas::walk_parts, crate::proofs::WalkLemmas::walk_lean))]
-    #[cycle(walk)]
-    fn walk_in(&self, found: &mut Items<Site>, item: &Item<'_>) -> Result<(), AllocError>
-        requires { HasCut self.now }
-        ensures { OnOk result (found.new ≡ found.old ++ plain_sites self.now.text.now self.now.tokens.now (tree_at item.now)) }
-    {
-        match item.what {
             What::Leaf => Ok(()),
-            What::Node(label) => self.node(found, label, &item.parts),
-            What::Role(_) => self.at(found, &item.parts, 0),
+            What::Role(_) => Ok(()),
             What::Parts => Ok(()),
-            What::Lean(lean) => self.leaning(found, lean, &item.parts),
+            What::Lean(_) => Ok(()),
         }
     }
 
-    #[cycle(walk)]
-    fn node(
+    /// Takes the parts that are left at one level up to the first node that can name a module, and leaves what stands behind
+    /// it. What has no such node in it is passed over.
+    fn take<'t>(
         &self,
         found: &mut Items<Site>,
-        label: NodeKind,
-        parts: &Siblings<'_>,
+        around: &mut Items<Left<'t>>,
+        left: Left<'t>,
     ) -> Result<(), AllocError>
         requires { HasCut self.now }
-        ensures { OnOk result (found.new ≡ found.old ++ own self.now.text.now self.now.tokens.now label (parts_in self.now parts.now)) }
+        ensures sites { OnOk result (found.new ++ ahead self.now around.new ≡ found.old ++ (left_sites self.now left.entry ++ ahead self.now around.old)) }
+        ensures less { OnOk result (weight around.new ≤ weight around.old + (length left.entry.parts.entries.now + length left.entry.parts.entries.now)) }
     {
-        self.all(found, parts, steps(label))
-    }
-
-    #[cycle(walk)]
-    fn all(
-        &self,
-        found: &mut Items<Site>,
-        parts: &Siblings<'_>,
-        steps: &[Step],
-    ) -> Result<(), AllocError>
-        requires { HasCut self.now }
-        ensures { OnOk result (found.new ≡ found.old ++ flat_map (by_step self.now.text.now self.now.tokens.now (parts_in self.now parts.now)) steps.now) }
-    {
-        for step in steps {
-            self.step(found, parts, *step)?;
-        }
-        Ok(())
-    }
-
-    #[tactic(auto, unfolding(crate::specs::Steps::by_step))]
-    #[cycle(walk)]
-    fn step(
-        &self,
-        found: &mut Items<Site>,
-        parts: &Siblings<'_>,
-        step: Step,
-    ) -> Result<(), AllocError>
-        requires { HasCut self.now }
-        ensures { OnOk result (found.new ≡ found.old ++ by_step self.now.text.now self.now.tokens.now (parts_in self.now parts.now) step) }
-    {
-        match step {
-            Step::At(n) => self.at(found, parts, n),
-            Step::In(n, m) => self.at(found, &self.group(parts, n), m),
-            Step::Deep(n, m, k) => self.at(found, &self.group(&self.group(parts, n), m), k),
-            Step::Turns(n, m) => self.turns(found, &self.group(parts, n), m),
-            Step::Holes(n) => self.holes(found, &self.group(parts, n)),
-            Step::Bare => self.declare(found, DependencyKind::Import, false, parts, 0, 1),
-            Step::From(kind) => self.declare(found, kind, self.is_there(parts, 0), parts, 2, 3),
-            Step::Phase(kind) => self.declare(found, kind, false, parts, 1, 2),
-            Step::Require => self.require(found, parts),
-            Step::Names => self.names(found, parts),
-            Step::Call(kind) => self.call(found, kind, parts),
-            Step::TypedArgs => self.typed_args(found, &self.group(&self.group(parts, 0), 0)),
-            Step::Head => self.head(found, parts),
-            Step::Returned => self.returned(found, &self.group(parts, 0)),
-            Step::Cases(n) => self.cases(found, &self.group(parts, n)),
-            Step::Handlers(n) => self.handlers(found, &self.group(parts, n)),
-            Step::Members(n) => self.members(found, &self.group(parts, n)),
-            Step::Body => self.turns(found, &self.group(&self.group(parts, 1), 0), 0),
-        }
-    }
-
-    /// The part at a place.
-    #[cycle(walk)]
-    fn at(&self, found: &mut Items<Site>, parts: &Siblings<'_>, n: usize) -> Result<(), AllocError>
-        requires { HasCut self.now }
-        ensures { OnOk result (found.new ≡ found.old ++ at (parts_in self.now parts.now) n) }
-    {
-        match self.part(parts, n) {
-            Some(item) => self.walk(found, &item),
+        match first_named(left.parts.entries) {
+            Some(named) => self.go_down(found, around, left, named),
             None => Ok(()),
         }
     }
 
-    /// What may stand at a place.
-    #[cycle(walk)]
-    fn may(&self, found: &mut Items<Site>, parts: &Siblings<'_>, n: usize) -> Result<(), AllocError>
-        requires { HasCut self.now }
-        ensures { OnOk result (found.new ≡ found.old ++ at (group (parts_in self.now parts.now) n) 0) }
-    {
-        self.at(found, &self.group(parts, n), 0)
-    }
-
-    // ---- lists
-
-    /// The part at a place of each turn.
-    #[cycle(walk)]
-    fn turns(
+    /// Goes down to that node, before which so many entries stand that can name none.
+    fn go_down<'t>(
         &self,
         found: &mut Items<Site>,
-        list: &Siblings<'_>,
-        m: usize,
+        around: &mut Items<Left<'t>>,
+        left: Left<'t>,
+        named: usize,
     ) -> Result<(), AllocError>
-        requires { HasCut self.now }
-        ensures { OnOk result (found.new ≡ found.old ++ turns_in m (parts_in self.now list.now)) }
+        requires cut { HasCut self.now }
+        requires unnamed { Unnamed named left.parts.entries.now }
+        ensures sites { OnOk result (found.new ++ ahead self.now around.new ≡ found.old ++ (left_sites self.now left.entry ++ ahead self.now around.old)) }
+        ensures less { OnOk result (weight around.new ≤ weight around.old + (length left.entry.parts.entries.now + length left.entry.parts.entries.now)) }
     {
-        let mut row = *list;
-        while let Some((turn, rest)) = self.split(&row) {
-            self.at(found, &self.group_in(&turn), m)?;
-            row = rest;
-        }
-        Ok(())
-    }
-
-    /// What may stand in each turn.
-    #[cycle(walk)]
-    fn holes(&self, found: &mut Items<Site>, list: &Siblings<'_>) -> Result<(), AllocError>
-        requires { HasCut self.now }
-        ensures { OnOk result (found.new ≡ found.old ++ holes_in (parts_in self.now list.now)) }
-    {
-        let mut row = *list;
-        while let Some((turn, rest)) = self.split(&row) {
-            self.may(found, &self.group_in(&turn), 0)?;
-            row = rest;
-        }
-        Ok(())
-    }
-
-    /// The test and the statements of each case.
-    #[cycle(walk)]
-    fn cases(&self, found: &mut Items<Site>, list: &Siblings<'_>) -> Result<(), AllocError>
-        requires { HasCut self.now }
-        ensures { OnOk result (found.new ≡ found.old ++ cases_in (parts_in self.now list.now)) }
-    {
-        let mut row = *list;
-        while let Some((turn, rest)) = self.split(&row) {
-            let case = self.group_in(&turn);
-            self.may(found, &case, 0)?;
-            self.turns(found, &self.group(&case, 1), 0)?;
-            row = rest;
-        }
-        Ok(())
-    }
-
-    /// The key and the value of each member.
-    #[cycle(walk)]
-    fn members(&self, found: &mut Items<Site>, list: &Siblings<'_>) -> Result<(), AllocError>
-        requires { HasCut self.now }
-        ensures { OnOk result (found.new ≡ found.old ++ members_in (parts_in self.now list.now)) }
-    {
-        let mut row = *list;
-        while let Some((turn, rest)) = self.split(&row) {
-            let member = self.group_in(&turn);
-            self.at(found, &member, 0)?;
-            self.may(found, &member, 1)?;
-            row = rest;
-        }
-        Ok(())
-    }
-
-    // ---- nodes that lean left
-
-    /// A first operand and turns, one at least: fewer parts are no node.
-    #[cycle(walk)]
-    fn leaning(
-        &self,
-        found: &mut Items<Site>,
-        lean: Lean,
-        parts: &Siblings<'_>,
-    ) -> Result<(), AllocError>
-        requires { HasCut self.now }
-        ensures { OnOk result (found.new ≡ found.old ++ leaning_in lean (parts_in self.now parts.now)) }
-    {
-        if !self.has_second(parts) {
-            return Ok(());
-        }
-        match self.split(parts) {
-            None => Ok(()),
-            Some((first, turns)) => {
-                self.walk(found, &first)?;
-                self.operands(found, lean, &turns)
+        let mut here = left;
+        let mut before = named;
+        while let Some(first) = self.first(&here) {
+            let size = first.item.parts.entries.len();
+            if before > size {
+                before = before - size - 1;
+                here = first.behind;
+            } else {
+                self.name_itself(found, first.way, &first.item)?;
+                around.push(first.behind)?;
+                here = self.inside(first.way, &first.item);
+                if before == 0 {
+                    around.push(here)?;
+                    return Ok(());
+                }
+                before -= 1;
             }
         }
-    }
-
-    /// The operand in each turn.
-    #[cycle(walk)]
-    fn operands(
-        &self,
-        found: &mut Items<Site>,
-        lean: Lean,
-        turns: &Siblings<'_>,
-    ) -> Result<(), AllocError>
-        requires { HasCut self.now }
-        ensures { OnOk result (found.new ≡ found.old ++ operands_in lean (parts_in self.now turns.now)) }
-    {
-        let mut row = *turns;
-        while let Some((turn, rest)) = self.split(&row) {
-            self.operand(found, lean, &self.group_in(&turn))?;
-            row = rest;
-        }
         Ok(())
     }
+}
 
-    #[tactic(auto, unfolding(crate::specs::Steps::operand_at))]
-    #[cycle(walk)]
-    fn operand(
-        &self,
-        found: &mut Items<Site>,
-        lean: Lean,
-        turn: &Siblings<'_>,
-    ) -> Result<(), AllocError>
-        requires { HasCut self.now }
-        ensures { OnOk result (found.new ≡ found.old ++ operand_at lean (parts_in self.now turn.now)) }
-    {
-        match lean {
-            Lean::Binary => self.at(found, turn, 1),
-            Lean::TypedBinary => self.at(found, &self.group(turn, 0), 1),
-        }
+fn is_parts(what: What) -> bool
+    ensures { result ≡ is_parts what }
+{
+    match what {
+        What::Parts => true,
+        What::Leaf => false,
+        What::Node(_) => false,
+        What::Role(_) => false,
+        What::Lean(_) => false,
     }
+}
 
-    // ---- forms of their own
-
-    /// `export { .. }`, with `from "a"` or without.
-    fn names(&self, found: &mut Items<Site>, parts: &Siblings<'_>) -> Result<(), AllocError>
-        requires { HasCut self.now }
-        ensures { OnOk result (found.new ≡ found.old ++ declares self.now.text.now self.now.tokens.now kind.Export
-            (is_there (group (parts_in self.now parts.now) 0)) (group (parts_in self.now parts.now) 2) 0 1) }
-    {
-        let type_only = self.is_there(parts, 0);
-        self.declare(
-            found,
-            DependencyKind::Export,
-            type_only,
-            &self.group(parts, 2),
-            0,
-            1,
-        )
-    }
-
-    /// A name, or arguments behind those of types.
-    #[cycle(walk)]
-    fn typed_args(&self, found: &mut Items<Site>, parts: &Siblings<'_>) -> Result<(), AllocError>
-        requires { HasCut self.now }
-        ensures { OnOk result (found.new ≡ found.old ++ typed_args self.now.text.now self.now.tokens.now (parts_in self.now parts.now)) }
-    {
-        if self.is_token_at(parts, 0) {
-            return Ok(());
-        }
-        self.at(found, parts, 1)
-    }
-
-    /// The first of the three forms of a `for`'s start that is there.
-    #[tactic(auto, using(crate::proofs::FormLemmas::head_if))]
-    #[cycle(walk)]
-    fn head(&self, found: &mut Items<Site>, parts: &Siblings<'_>) -> Result<(), AllocError>
-        requires { HasCut self.now }
-        ensures { OnOk result (found.new ≡ found.old ++ first_of self.now.text.now self.now.tokens.now (group (parts_in self.now parts.now) 0)
-            (first_of self.now.text.now self.now.tokens.now (group (parts_in self.now parts.now) 1) (at (group (parts_in self.now parts.now) 2) 0))) }
-    {
-        if self.is_there(parts, 0) {
-            return self.at(found, &self.group(parts, 0), 0);
-        }
-        if self.is_there(parts, 1) {
-            return self.at(found, &self.group(parts, 1), 0);
-        }
-        self.at(found, &self.group(parts, 2), 0)
-    }
-
-    /// What a `return` gives: a group of one part is its end alone.
-    #[cycle(walk)]
-    fn returned(&self, found: &mut Items<Site>, parts: &Siblings<'_>) -> Result<(), AllocError>
-        requires { HasCut self.now }
-        ensures { OnOk result (found.new ≡ found.old ++ returned self.now.text.now self.now.tokens.now (parts_in self.now parts.now)) }
-    {
-        if !self.has_second(parts) {
-            return Ok(());
-        }
-        self.at(found, parts, 0)
-    }
-
-    /// `finally` alone, or a parameter, a block and what may follow.
-    #[tactic(auto, using(crate::proofs::FormLemmas::handlers_if))]
-    #[cycle(walk)]
-    fn handlers(&self, found: &mut Items<Site>, parts: &Siblings<'_>) -> Result<(), AllocError>
-        requires { HasCut self.now }
-        ensures { OnOk result (found.new ≡ found.old ++ handlers_in (parts_in self.now parts.now)) }
-    {
-        if !self.has_second(parts) {
-            return self.at(found, parts, 0);
-        }
-        self.at(found, &self.group(parts, 0), 0)?;
-        self.at(found, parts, 1)?;
-        self.at(found, &self.group(parts, 2), 0)
+/// What stands there is taken as a tree, where it is one.
+fn is_tree(way: Way) -> bool
+    ensures { result ≡ is_tree way }
+{
+    match way {
+        Way::Skip => false,
+        Way::Tree => true,
+        Way::In(_) => false,
+        Way::Either(_) => true,
     }
 }
