@@ -1,3 +1,4 @@
 pub mod NumberLemmas
 pub mod KeptLemmas
 pub mod LeftLemmas
+pub mod Theorems

@@ -25,8 +25,10 @@ pub put_inside : (numbers : List ℕ) (at number n : ℕ) → at < length number
     → at_in (slice_set numbers at number) n ≡ (if at == n then number else at_in numbers n)
 put_inside [] at number n p = absurd (omega arith)
 put_inside (m ∷ ms) zero number zero p = refl
-put_inside (m ∷ ms) zero number (suc n) p = let apart : (zero == suc n) ≡ false = grind (arith, nat_tests) in rw (apart) refl
-put_inside (m ∷ ms) (suc at) number zero p = let apart : (suc at == zero) ≡ false = grind (arith, nat_tests) in rw (apart) refl
+put_inside (m ∷ ms) zero number (suc n) p = let apart : (zero == suc n) ≡ false = grind (arith, nat_tests) in
+    rw (apart) refl
+put_inside (m ∷ ms) (suc at) number zero p = let apart : (suc at == zero) ≡ false = grind (arith, nat_tests) in
+    rw (apart) refl
 put_inside (m ∷ ms) (suc at) number (suc n) p =
     let same : (suc at == suc n) ≡ (at == n) = grind (arith, nat_tests) in
     rw (same) (put_inside ms at number n (omega arith))
@@ -63,7 +65,8 @@ module _ (x : List ℕ) (ts : List Token) where
   nowhere n none names [] = refl
   nowhere n none names (it ∷ some) = one (nowhere n none names some) (it.token == n) refl
     where
-      one : number_at (numbered x ts names some) n ≡ 0 → (b : Bool) → (it.token == n) ≡ b → number_at (numbered x ts names (it ∷ some)) n ≡ 0
+      one : number_at (numbered x ts names some) n ≡ 0 → (b : Bool) → (it.token == n) ≡ b
+          → number_at (numbered x ts names (it ∷ some)) n ≡ 0
       one others false e = rw (e) others
       one others true e =
           let same : it.token ≡ n = same_number it.token n e in

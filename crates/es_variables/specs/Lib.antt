@@ -4,3 +4,5 @@ pub mod Numbers
 pub mod Table
 -- what is kept of declarations
 pub mod Kept
+-- names with numbers
+pub mod Numbered

@@ -11,7 +11,7 @@ use crate::ident::Ident;
 use crate::table::{Ids, Vars, add_id, ids_of, put_var, var_of};
 use es_scope_analysis::{Id, Var};
 use std::alloc::{AllocError, Global};
-use std::collections::BTreeMap;
+use std::collections::HashMap;
 
 /// What a program declares.
 #[derive(Debug, Drop)]
@@ -27,8 +27,8 @@ impl Scope {
         ensures vars { (q : List ℕ) (n : ℕ) → var_at result.vars q n ≡ None }
     {
         Scope {
-            ids: BTreeMap::new(alloc),
-            vars: BTreeMap::new(alloc),
+            ids: HashMap::new(alloc),
+            vars: HashMap::new(alloc),
         }
     }
 

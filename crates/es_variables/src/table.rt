@@ -7,13 +7,13 @@ ghost use Rattle.es_variables.specs.Table.{ids_at, var_at, extra};
 
 use es_scope_analysis::{Id, Var};
 use std::alloc::AllocError;
-use std::collections::BTreeMap;
+use std::collections::{BTreeMap, HashMap};
 
 /// Names by their spellings.
-pub type Ids = BTreeMap<String, Vec<Id>>;
+pub type Ids = HashMap<String, Vec<Id>>;
 
 /// Variables by spellings, and by the numbers of scopes.
-pub type Vars = BTreeMap<String, BTreeMap<u32, Var>>;
+pub type Vars = HashMap<String, BTreeMap<u32, Var>>;
 
 /// One name more at a key.
 pub fn add_id(ids: &mut Ids, key: String, id: Id) -> Result<(), AllocError>
