@@ -1,0 +1,2 @@
+-- what a printed program is
+pub mod Printed
