@@ -12,6 +12,8 @@ mod lexing;
 #[cfg(test)]
 mod parsed;
 #[cfg(test)]
+mod printing;
+#[cfg(test)]
 mod programs;
 #[cfg(test)]
 mod references;

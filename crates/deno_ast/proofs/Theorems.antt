@@ -1,5 +1,5 @@
 -- The laws of parsed sources that other crates name.
-use Rattle.std.proofs.Common.{◌≡◌, ◌≢◌, ◌∙◌, sym, ap, subst, ℕ, Bool, true, List, ◌++◌, Some, None}
+use Rattle.std.proofs.Common.{◌≡◌, ◌≢◌, ◌∙◌, refl, sym, ap, subst, ℕ, Bool, true, List, ◌++◌, Some, None}
 use Rattle.std.specs.Prelude.{Option}
 use Rattle.es_tree.specs.declared.error.Mode.{Mode}
 use Rattle.es_ast.specs.declared.ast.Program.{Program}
@@ -9,7 +9,7 @@ use Rattle.source_reading.specs.Tree.{modes_of}
 use Rattle.source_reading.specs.Read.{IsRead, IsRefused, HasSites, IsFaulty}
 use Rattle.deno_ast.specs.declared.syntax.Syntax.{Syntax}
 use Rattle.deno_ast.specs.declared.params.ParseParams.{ParseParams}
-use Rattle.deno_ast.specs.Parsed.{Parsed, parsed_sites}
+use Rattle.deno_ast.specs.Parsed.{Parsed, parsed_sites, with_scopes}
 use Rattle.deno_ast.specs.Source.{lang_in, captured, IsParsed, IsParsedWith, IsFault}
 
 -- ---- what is parsed by the syntax of its media type
@@ -40,3 +40,8 @@ tokens_kept P modes params text s capture is none =
     let kept : s.tokens ≡ Some is.read.tokens =
     is.tokens_are ∙ ap (λ (b : Bool). captured b is.read.tokens) capture in
     let gone : Some is.read.tokens ≡ None = sym kept ∙ none in cc
+
+-- without its scope numbers a source is the old one, whatever numbers it was given
+pub scopes_alone : (s : Parsed) (scopes : Option (List ℕ))
+    → with_scopes (with_scopes s scopes) None ≡ with_scopes s None
+scopes_alone s scopes = refl

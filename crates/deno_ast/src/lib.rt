@@ -5,6 +5,8 @@
 //! - `ParsedSource`: what a source keeps (`Parsed`, `specs/Parsed.antt`); `sites`: where it names others.
 //! - `ParsedSource::analyze_cjs`, `analyze_es_runtime_exports`: what a source exports (`AreExports`, of `cjs_facts`;
 //!   `exports_of`, of `es_exports`).
+//! - `print(program)`, `emit(program, comments, options)`: the printed text of a program (`IsPrinted`, of
+//!   `es_program_printer`).
 //! - `lex(source)`: the tokens and comments of a text by their places (`AreByPlace`, `specs/Lexing.antt`).
 //! - The sites of a source are those of its text (`source_sites`, `proofs/Theorems.antt`): what `read_sites` answers
 //!   without a tree.
@@ -18,6 +20,7 @@ mod lexing;
 mod module_kind;
 mod params;
 mod parsing;
+mod printing;
 mod program_ref;
 mod reading;
 mod scopes;
@@ -32,6 +35,7 @@ pub use crate::parsing::{
     parse_module, parse_module_with_post_process, parse_program, parse_program_with_post_process,
     parse_script, parse_script_with_post_process, parse_text,
 };
+pub use crate::printing::emit;
 pub use crate::program_ref::ProgramRef;
 pub use crate::source::{CjsAnalysis, ParsedSource};
 pub use crate::syntax::{Syntax, get_syntax};
@@ -43,6 +47,7 @@ pub use es_items::{Body, ModuleDeclRef, ModuleItemRef, StmtRef};
 pub use es_lexer::{LexError, LexicalError, LexicalKind};
 pub use es_literal::quote;
 pub use es_program::{Form, Module, Program, Script, SharedTokens};
+pub use es_program_printer::{EmitOptions, EmittedSourceText, SourceMapOption, print};
 pub use es_site::{Attribute, DependencyKind, Site};
 pub use es_token::{Comment, CommentKind, Token, TokenKind};
 pub use es_variables::{BindingKind, Id, Ident, Scope, ScopeIds, ScopeKind, Var, ident_at};
