@@ -19,7 +19,7 @@ pub see-requires : goal.see-requires
 see-requires c =
     number_none c.loop-value.seen (text_of c.in-Ok.module.0)
     (fresh (keys_at c.loop-value.seen) _ (view c.value-item.result) c.in-Ok.module
-    (sym c.in_ok-next_module.ensures ∙ c.in-Ok.is))
+    (sym c.in_ok-module.ensures ∙ c.in-Ok.is))
 
 pub loop-value-preserved : goal.loop-value-preserved
 loop-value-preserved c =
@@ -35,7 +35,7 @@ loop-value-preserved c =
     (c.loop-value.invariant.counted ∙ sym c.len.ensures)
     ∙ ap (λ (ss : List Specifier). under (decimal c.len.result) (module_after ss (view item)))
     (sym c.loop-value.invariant.seen)
-    ∙ sym c.in_ok-next_module.ensures ∙ c.in-Ok.is in
+    ∙ sym c.in_ok-module.ensures ∙ c.in-Ok.is in
     let split : map view (drop i values) ≡ view item ∷ map view (drop (i + 1) values) =
     ap (map view) (drop_more values i item c.loop-value-test.true
     ∙ ap (λ (v : Value). v ∷ drop (i + 1) values) (sym c.value-item.is)) in
