@@ -1,5 +1,5 @@
 -- When an arrow, or a pattern that is assigned to, opens at a token: the predicates of the grammar under one name each.
-use Rattle.std.specs.Prelude.{Bool, false, not, ◌&&◌, ◌||◌}
+use Rattle.std.specs.Prelude.{Bool, true, false, not, ◌&&◌, ◌||◌}
 use Rattle.es_tree.specs.Productions.{Predicate}
 use Rattle.es_type_grammar.specs.Expressions.{opens_pattern}
 use Rattle.es_type_grammar.specs.Functions.{opens_inner_pattern}
