@@ -26,7 +26,7 @@ fn printed(alloc: Global, parsed: &ParsedSource) -> Result<String, AllocError> {
     print(alloc, &program)
 }
 
-/// What is emitted, and its source map where there is one.
+/// What is emitted, or that there is a source map.
 fn emitted(
     alloc: Global,
     parsed: &ParsedSource,
@@ -34,10 +34,10 @@ fn emitted(
 ) -> Result<String, AllocError> {
     let it = emit(alloc, parsed.program_ref(), parsed.comments(), options)?;
     let copy = it.copy()?;
-    match copy.source_map {
-        Some(map) => format!(in alloc; "{map} of {it}", map = map.as_str(), it = it.text.as_str()),
-        None => String::from_str(alloc, copy.text.as_str()),
+    if copy.source_map.is_some() {
+        return String::from_str(alloc, "a source map");
     }
+    String::from_str(alloc, copy.text.as_str())
 }
 
 #[test]
