@@ -49,14 +49,14 @@ fn emitted(text: String) -> EmittedSourceText
 #[tactic(auto, using(crate::proofs::PrintedLemmas::is_printed))]
 pub fn emit_module(
     alloc: Global,
-    module: &Module,
+    source: &Module,
     comments: &MultiThreadedComments,
     options: &EmitOptions,
 ) -> Result<EmittedSourceText, AllocError>
-    ensures text { IfOk result (λ it. IsPrinted (program.Module module.now) (kept_comments options.now.remove_comments comments.now) it.text) }
+    ensures text { IfOk result (λ it. IsPrinted (program.Module source.now) (kept_comments options.now.remove_comments comments.now) it.text) }
     ensures map { IfOk result (λ it. it.source_map ≡ None) }
 {
-    let (text, tokens, row) = module.parts();
+    let (text, tokens, row) = source.parts();
     let printed = print_with(alloc, text, tokens, &row, kept(comments, options))?;
     Ok(emitted(printed))
 }
@@ -65,14 +65,14 @@ pub fn emit_module(
 #[tactic(auto, using(crate::proofs::PrintedLemmas::is_printed))]
 pub fn emit_script(
     alloc: Global,
-    script: &Script,
+    source: &Script,
     comments: &MultiThreadedComments,
     options: &EmitOptions,
 ) -> Result<EmittedSourceText, AllocError>
-    ensures text { IfOk result (λ it. IsPrinted (program.Script script.now) (kept_comments options.now.remove_comments comments.now) it.text) }
+    ensures text { IfOk result (λ it. IsPrinted (program.Script source.now) (kept_comments options.now.remove_comments comments.now) it.text) }
     ensures map { IfOk result (λ it. it.source_map ≡ None) }
 {
-    let (text, tokens, row) = script.parts();
+    let (text, tokens, row) = source.parts();
     let printed = print_with(alloc, text, tokens, &row, kept(comments, options))?;
     Ok(emitted(printed))
 }

@@ -11,7 +11,7 @@ use Group::{
     Members, Operand, Operands, Optional, Returned, Second, Seconds, Trees, TypedOptional,
 };
 use Way::{Either, In, Skip, Tree};
-use es_grammar::NodeKind;
+use es_grammar::NodeKind as Kind;
 use es_syntax::{Lean, Siblings};
 
 /// How a part is taken.
@@ -165,141 +165,122 @@ impl TokenizedText<'_> {
 
     /// How the parts of a node of this alternative are taken, in the order of the text; none behind these.
     #[tactic(auto, unfolding(crate::specs::Plan::plan))]
-    pub fn plan(&self, label: NodeKind, parts: &Siblings<'_>) -> &'static [Way]
+    pub fn plan(&self, label: Kind, parts: &Siblings<'_>) -> &'static [Way]
         ensures { result.now ≡ plan label (parts_in self.now parts.now) }
     {
         match label {
-            NodeKind::ExportDefaultFunction
-            | NodeKind::ExportDefaultClass
-            | NodeKind::ExportDefaultExpression
-            | NodeKind::ExportDeclaration
-            | NodeKind::ExportDefaultInterface
-            | NodeKind::ExportAssignment
-            | NodeKind::Parenthesized
-            | NodeKind::Spread
-            | NodeKind::UpdatePostfix
-            | NodeKind::AwaitExpression
-            | NodeKind::IndexPost
-            | NodeKind::CallPost
-            | NodeKind::TemplatePost
-            | NodeKind::ComputedKey
-            | NodeKind::SpreadProperty
-            | NodeKind::StaticBlock
-            | NodeKind::RestPattern
-            | NodeKind::RestProperty
-            | NodeKind::Signature
-            | NodeKind::ExpressionStatement
-            | NodeKind::ThrowStatement
-            | NodeKind::VariableDeclaration
-            | NodeKind::UsingDeclaration
-            | NodeKind::Declared
-            | NodeKind::DeclaredVariables => &[Tree],
-            NodeKind::Module | NodeKind::Script => &[Skip, In(Firsts)],
-            NodeKind::TemplateParts => &[Skip, Tree, In(Seconds)],
-            NodeKind::ArrayLiteral | NodeKind::ArrayPattern => &[In(Holes)],
-            NodeKind::ObjectLiteral
-            | NodeKind::ObjectPattern
-            | NodeKind::Block
-            | NodeKind::GlobalDeclaration => &[In(Firsts)],
-            NodeKind::Function | NodeKind::AsyncFunction => &[Skip, Skip, Tree, Tree],
-            NodeKind::Class => &[Skip, In(First), In(Firsts)],
-            NodeKind::New
-            | NodeKind::ParenthesizedArrow
-            | NodeKind::AsyncParenthesizedArrow
-            | NodeKind::ImportCall
-            | NodeKind::SourceCall
-            | NodeKind::DeferCall => &[Tree, In(First)],
-            NodeKind::Chain | NodeKind::Sequence => &[Tree, Tree, In(Firsts)],
-            NodeKind::UpdatePrefix
-            | NodeKind::UnaryExpression
-            | NodeKind::PrivateIn
-            | NodeKind::TypedCallPost
-            | NodeKind::TypedTemplatePost
-            | NodeKind::TypedSignature
-            | NodeKind::LabelledStatement
-            | NodeKind::VariableHead
-            | NodeKind::TypedVariableHead => &[Skip, Tree],
-            NodeKind::Binary | NodeKind::Assignment => &[Tree, Skip, Tree],
-            NodeKind::Conditional
-            | NodeKind::MethodProperty
-            | NodeKind::GeneratorProperty
-            | NodeKind::ForAwaitStatement => &[Tree, Tree, Tree],
-            NodeKind::PatternAssignment
-            | NodeKind::KeyValue
-            | NodeKind::DefaultPattern
-            | NodeKind::DefaultParameter
-            | NodeKind::WhileStatement
-            | NodeKind::DoStatement
-            | NodeKind::WithStatement
-            | NodeKind::Declarator => &[Tree, Tree],
-            NodeKind::NameArrow | NodeKind::AsyncNameArrow | NodeKind::NameProperty => &[
-                Skip,
-                In(First),
-            ],
-            NodeKind::Arguments => &[In(Seconds)],
-            NodeKind::TypedFunction | NodeKind::TypedAsyncFunction => &[
-                Skip,
-                Skip,
-                Tree,
-                In(First),
-            ],
-            NodeKind::TypedClass | NodeKind::AbstractClass => &[
-                Skip,
-                Skip,
-                In(First),
-                Skip,
+            Kind::ExportDefaultFunction
+            | Kind::ExportDefaultClass
+            | Kind::ExportDefaultExpression
+            | Kind::ExportDeclaration
+            | Kind::ExportDefaultInterface
+            | Kind::ExportAssignment
+            | Kind::Parenthesized
+            | Kind::Spread
+            | Kind::UpdatePostfix
+            | Kind::AwaitExpression
+            | Kind::IndexPost
+            | Kind::CallPost
+            | Kind::TemplatePost
+            | Kind::ComputedKey
+            | Kind::SpreadProperty
+            | Kind::StaticBlock
+            | Kind::RestPattern
+            | Kind::RestProperty
+            | Kind::Signature
+            | Kind::ExpressionStatement
+            | Kind::ThrowStatement
+            | Kind::VariableDeclaration
+            | Kind::UsingDeclaration
+            | Kind::Declared
+            | Kind::DeclaredVariables => &[Tree],
+            Kind::Module | Kind::Script => &[Skip, In(Firsts)],
+            Kind::TemplateParts => &[Skip, Tree, In(Seconds)],
+            Kind::ArrayLiteral | Kind::ArrayPattern => &[In(Holes)],
+            Kind::ObjectLiteral | Kind::ObjectPattern | Kind::Block | Kind::GlobalDeclaration => &[
                 In(Firsts),
             ],
-            NodeKind::TypedNew => &[Tree, Skip, In(First)],
-            NodeKind::TypedParenthesizedArrow | NodeKind::TypedAsyncParenthesizedArrow => &[
+            Kind::Function | Kind::AsyncFunction => &[Skip, Skip, Tree, Tree],
+            Kind::Class => &[Skip, In(First), In(Firsts)],
+            Kind::New
+            | Kind::ParenthesizedArrow
+            | Kind::AsyncParenthesizedArrow
+            | Kind::ImportCall
+            | Kind::SourceCall
+            | Kind::DeferCall => &[Tree, In(First)],
+            Kind::Chain | Kind::Sequence => &[Tree, Tree, In(Firsts)],
+            Kind::UpdatePrefix
+            | Kind::UnaryExpression
+            | Kind::PrivateIn
+            | Kind::TypedCallPost
+            | Kind::TypedTemplatePost
+            | Kind::TypedSignature
+            | Kind::LabelledStatement
+            | Kind::VariableHead
+            | Kind::TypedVariableHead => &[Skip, Tree],
+            Kind::Binary | Kind::Assignment => &[Tree, Skip, Tree],
+            Kind::Conditional
+            | Kind::MethodProperty
+            | Kind::GeneratorProperty
+            | Kind::ForAwaitStatement => &[Tree, Tree, Tree],
+            Kind::PatternAssignment
+            | Kind::KeyValue
+            | Kind::DefaultPattern
+            | Kind::DefaultParameter
+            | Kind::WhileStatement
+            | Kind::DoStatement
+            | Kind::WithStatement
+            | Kind::Declarator => &[Tree, Tree],
+            Kind::NameArrow | Kind::AsyncNameArrow | Kind::NameProperty => &[Skip, In(First)],
+            Kind::Arguments => &[In(Seconds)],
+            Kind::TypedFunction | Kind::TypedAsyncFunction => &[Skip, Skip, Tree, In(First)],
+            Kind::TypedClass | Kind::AbstractClass => &[Skip, Skip, In(First), Skip, In(Firsts)],
+            Kind::TypedNew => &[Tree, Skip, In(First)],
+            Kind::TypedParenthesizedArrow | Kind::TypedAsyncParenthesizedArrow => &[
                 Skip,
                 Tree,
                 Skip,
                 In(First),
             ],
-            NodeKind::AsyncProperty
-            | NodeKind::AccessorProperty
-            | NodeKind::MethodMember
-            | NodeKind::GeneratorMember => &[Skip, Tree, Tree, Tree],
-            NodeKind::TypedMethodProperty | NodeKind::TypedGeneratorProperty => &[In(Both), Tree],
-            NodeKind::TypedAsyncProperty | NodeKind::TypedAccessorProperty => &[
+            Kind::AsyncProperty
+            | Kind::AccessorProperty
+            | Kind::MethodMember
+            | Kind::GeneratorMember => &[Skip, Tree, Tree, Tree],
+            Kind::TypedMethodProperty | Kind::TypedGeneratorProperty => &[In(Both), Tree],
+            Kind::TypedAsyncProperty | Kind::TypedAccessorProperty => &[Skip, In(Both), Tree],
+            Kind::AsyncMember | Kind::AccessorMember => &[Skip, Skip, Tree, Tree, Tree],
+            Kind::FieldMember | Kind::AccessorField => &[Skip, Tree, In(First)],
+            Kind::TypedMethodMember | Kind::TypedGeneratorMember => &[Skip, In(Ends), In(First)],
+            Kind::TypedAsyncMember | Kind::TypedAccessorMember => &[
                 Skip,
-                In(Both),
+                Skip,
+                In(Ends),
+                In(First),
+            ],
+            Kind::TypedFieldMember | Kind::TypedAccessorField | Kind::PropertyParameter => &[
+                Skip,
                 Tree,
-            ],
-            NodeKind::AsyncMember | NodeKind::AccessorMember => &[Skip, Skip, Tree, Tree, Tree],
-            NodeKind::FieldMember | NodeKind::AccessorField => &[Skip, Tree, In(First)],
-            NodeKind::TypedMethodMember | NodeKind::TypedGeneratorMember => &[
                 Skip,
-                In(Ends),
+                Skip,
                 In(First),
             ],
-            NodeKind::TypedAsyncMember | NodeKind::TypedAccessorMember => &[
-                Skip,
-                Skip,
-                In(Ends),
-                In(First),
-            ],
-            NodeKind::TypedFieldMember
-            | NodeKind::TypedAccessorField
-            | NodeKind::PropertyParameter => &[Skip, Tree, Skip, Skip, In(First)],
-            NodeKind::KeyPattern | NodeKind::IfStatement => &[Tree, Tree, In(First)],
-            NodeKind::MarkedParameter | NodeKind::TypedDeclarator => &[Tree, Skip, Skip, In(First)],
-            NodeKind::ThisParameter => &[Skip, Skip, Skip, In(First)],
-            NodeKind::Parameters | NodeKind::TypedParameters => &[In(Firsts), In(First)],
-            NodeKind::ForEachStatement => &[Tree, In(Second), Tree],
-            NodeKind::Variables | NodeKind::Using => &[Skip, Tree, In(Firsts)],
-            NodeKind::NamespaceDeclaration => &[Skip, Skip, In(Firsts)],
-            NodeKind::Yield => &[In(Second)],
-            NodeKind::OptionalPost => &[In(Optional)],
-            NodeKind::TypedBinary => &[Tree, In(Second)],
-            NodeKind::TypedOptionalPost => &[In(TypedOptional)],
-            NodeKind::ForStatement => self.for_ways(parts),
-            NodeKind::ReturnStatement => &[In(Returned)],
-            NodeKind::SwitchStatement => &[Tree, In(Cases)],
-            NodeKind::TryStatement | NodeKind::TypedTryStatement => &[Tree, In(Handlers)],
-            NodeKind::EnumDeclaration => &[Skip, Skip, In(Members)],
-            NodeKind::ModuleDeclaration => &[Skip, In(Body)],
+            Kind::KeyPattern | Kind::IfStatement => &[Tree, Tree, In(First)],
+            Kind::MarkedParameter | Kind::TypedDeclarator => &[Tree, Skip, Skip, In(First)],
+            Kind::ThisParameter => &[Skip, Skip, Skip, In(First)],
+            Kind::Parameters | Kind::TypedParameters => &[In(Firsts), In(First)],
+            Kind::ForEachStatement => &[Tree, In(Second), Tree],
+            Kind::Variables | Kind::Using => &[Skip, Tree, In(Firsts)],
+            Kind::NamespaceDeclaration => &[Skip, Skip, In(Firsts)],
+            Kind::Yield => &[In(Second)],
+            Kind::OptionalPost => &[In(Optional)],
+            Kind::TypedBinary => &[Tree, In(Second)],
+            Kind::TypedOptionalPost => &[In(TypedOptional)],
+            Kind::ForStatement => self.for_ways(parts),
+            Kind::ReturnStatement => &[In(Returned)],
+            Kind::SwitchStatement => &[Tree, In(Cases)],
+            Kind::TryStatement | Kind::TypedTryStatement => &[Tree, In(Handlers)],
+            Kind::EnumDeclaration => &[Skip, Skip, In(Members)],
+            Kind::ModuleDeclaration => &[Skip, In(Body)],
             _ => &[],
         }
     }
