@@ -1,4 +1,5 @@
 pub mod ImportsLemmas
+pub mod RelativeLemmas
 pub mod SetLemmas
 pub mod FrontLemmas
 pub mod ReadLemmas

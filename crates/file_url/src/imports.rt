@@ -1,7 +1,8 @@
 //! What a specifier in a source leads to.
-ghost use Rattle.std.specs.Prelude.{◌≡◌, Ok, IfErr};
+ghost use Rattle.std.specs.Prelude.{◌≡◌, true, Ok, Err, IfErr};
 ghost use Rattle.url.specs.Parts.{Parts};
 ghost use Rattle.url.specs.Parser.{parse_url};
+ghost use Rattle.lexical_path.specs.Specifiers.{has_relative_prefix};
 ghost use Rattle.file_url.specs.Expected.{IsExpected};
 ghost use Rattle.file_url.specs.declared.errors.SpecifierError.TheVariants.{OutOfMemory};
 ghost use Rattle.file_url.specs.Imports as spec;
@@ -14,14 +15,17 @@ use url::{ParseError, Url};
 
 /// The URL of an import at the referrer: the specifier itself where it is a URL, else joined to the referrer where it
 /// begins with `/`, `./` or `../` (HTML, "resolve a module specifier", without an import map).
-#[tactic(auto, unfolding(crate::specs::Imports::import_of), using(crate::proofs::ImportsLemmas::import_refused, crate::proofs::ImportsLemmas::refusal_keeps))]
+#[tactic(auto, unfolding(crate::specs::Imports::import_of), using(crate::proofs::ImportsLemmas::import_refused, crate::proofs::ImportsLemmas::refusal_keeps, crate::proofs::ImportsLemmas::joined, crate::proofs::ImportsLemmas::prefix_lacks))]
 pub fn resolve_import(alloc: Global, specifier: &str, referrer: &Url) -> Result<Url, SpecifierError>
     ensures value { IsExpected OutOfMemory result (spec.import_of (Ok referrer.now) specifier.now) }
     ensures reason { IfErr result spec.KeepsReason }
 {
+    if has_relative_prefix(specifier) {
+        return join(specifier, referrer);
+    }
     match Url::parse(alloc, specifier) {
         Ok(url) => Ok(url),
-        Err(ParseError::RelativeUrlWithoutBase) => resolve_relative(alloc, specifier, referrer),
+        Err(ParseError::RelativeUrlWithoutBase) => Err(prefix_missing(alloc, specifier)),
         Err(error) => Err(refusal(error)),
     }
 }
@@ -42,20 +46,20 @@ pub fn resolve_import_from(
     }
 }
 
-fn resolve_relative(alloc: Global, specifier: &str, referrer: &Url) -> Result<Url, SpecifierError>
-    ensures value { IsExpected OutOfMemory result (spec.relative_import (Ok referrer.now) specifier.now) }
+// A specifier that begins with `/`, `./` or `../` is no URL by itself, so that it isn't read as one first.
+#[tactic(auto, using(crate::proofs::ImportsLemmas::joined, crate::proofs::ImportsLemmas::refusal_of_room, crate::proofs::ImportsLemmas::refusal_keeps))]
+fn join(specifier: &str, referrer: &Url) -> Result<Url, SpecifierError>
+    requires { has_relative_prefix specifier.now ≡ true }
+    ensures value { IsExpected OutOfMemory result (spec.import_of (Ok referrer.now) specifier.now) }
     ensures reason { IfErr result spec.KeepsReason }
 {
-    if !has_relative_prefix(specifier) {
-        return Err(prefix_missing(alloc, specifier));
-    }
     match referrer.join(specifier) {
         Ok(url) => Ok(url),
         Err(error) => Err(refusal(error)),
     }
 }
 
-#[tactic(auto, unfolding(crate::specs::Imports::import_of), using(crate::proofs::ImportsLemmas::import_refused, crate::proofs::ImportsLemmas::refusal_keeps))]
+#[tactic(auto, unfolding(crate::specs::Imports::import_of), using(crate::proofs::ImportsLemmas::import_refused, crate::proofs::ImportsLemmas::refusal_keeps, crate::proofs::ImportsLemmas::joined, crate::proofs::ImportsLemmas::prefix_lacks))]
 fn refused_unless_absolute(
     alloc: Global,
     specifier: &str,
@@ -64,15 +68,12 @@ fn refused_unless_absolute(
     ensures value { IsExpected OutOfMemory result (spec.import_of (Err error) specifier.now) }
     ensures reason { IfErr result spec.KeepsReason }
 {
+    if has_relative_prefix(specifier) {
+        return Err(refusal(error));
+    }
     match Url::parse(alloc, specifier) {
         Ok(url) => Ok(url),
-        Err(ParseError::RelativeUrlWithoutBase) => {
-            if has_relative_prefix(specifier) {
-                Err(refusal(error))
-            } else {
-                Err(prefix_missing(alloc, specifier))
-            }
-        }
+        Err(ParseError::RelativeUrlWithoutBase) => Err(prefix_missing(alloc, specifier)),
         Err(error) => Err(refusal(error)),
     }
 }
