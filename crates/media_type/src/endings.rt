@@ -1,6 +1,8 @@
 //! Media types by the ending of a path.
-ghost use Rattle.std.specs.Prelude.{◌≡◌, IfOk, nat_eq, map};
+ghost use Rattle.std.specs.Prelude.{◌≡◌, IfOk, nat_eq, map, true};
 ghost use Rattle.std.specs.List.{ends_with};
+ghost use Rattle.std.specs.Char.{to_ascii_lowercase};
+ghost use Rattle.std.specs.Str.{str_to_ascii_lowercase};
 ghost use Rattle.media_type.specs.Endings.{media_type_of};
 ghost use Rattle.media_type.specs.Steps.{ending_of};
 ghost use Rattle.media_type.specs.Endings as spec;
@@ -101,10 +103,46 @@ impl MediaType {
     pub fn of_path(alloc: Global, path: &str) -> Result<MediaType, AllocError>
         ensures { IfOk result (λ m. m ≡ media_type_of path.now) }
     {
-        let mut lowered = String::from_str(alloc, path)?;
-        lowered.make_ascii_lowercase();
-        Ok(first_ending(&ENDINGS, lowered.as_str()))
+        if has_no_capital(path.as_bytes()) {
+            return Ok(small_ending(path));
+        }
+        lowered_ending(alloc, path)
     }
+}
+
+/// The media type of a path by a copy in small letters.
+fn lowered_ending(alloc: Global, path: &str) -> Result<MediaType, AllocError>
+    ensures { IfOk result (λ m. m ≡ media_type_of path.now) }
+{
+    let mut lowered = String::from_str(alloc, path)?;
+    lowered.make_ascii_lowercase();
+    Ok(first_ending(&ENDINGS, lowered.as_str()))
+}
+
+/// The media type of a path in small letters.
+#[tactic(auto, unfolding(crate::specs::Endings::media_type_of))]
+fn small_ending(path: &str) -> MediaType
+    requires { str_to_ascii_lowercase path.now ≡ path.now }
+    ensures { result ≡ media_type_of path.now }
+{
+    first_ending(&ENDINGS, path)
+}
+
+fn has_no_capital(bytes: &[u8]) -> bool
+    ensures { result ≡ true → map to_ascii_lowercase bytes.now ≡ bytes.now }
+{
+    for byte in bytes {
+        if !is_no_capital(*byte) {
+            return false;
+        }
+    }
+    true
+}
+
+fn is_no_capital(byte: u8) -> bool
+    ensures { result ≡ true → to_ascii_lowercase byte ≡ byte }
+{
+    byte.to_ascii_lowercase() == byte
 }
 
 fn first_ending(rows: &[Ending], lowered: &str) -> MediaType

@@ -1,7 +1,7 @@
 use Rattle.std.proofs.Common.{◌∙◌, ap, ◌≡◌}
 use Rattle.std.specs.Str.{str_to_ascii_lowercase}
 use Rattle.media_type.specs.Endings.{media_type_of, first_ending, endings}
-use Rattle.media_type.proofs.media_type.MediaType.of_path.Goals as goal
+use Rattle.media_type.proofs.endings.lowered_ending.Goals as goal
 
 -- the table of the code is that of the definition, and the text is the path in small letters
 pub returns : goal.returns
