@@ -29,6 +29,9 @@ pub fn references_in(
 pub fn with_sites(found: Items<Site>, more: Items<Site>) -> Result<Items<Site>, AllocError>
     ensures { IfOk result (λ all. all ≡ found ++ more) }
 {
+    if found.is_empty() {
+        return Ok(more);
+    }
     let mut all = found;
     for site in more.into_vec() {
         all.push(site)?;
