@@ -6,7 +6,7 @@ ghost use Rattle.media_type.specs.Specifiers.{by_header};
 ghost use Rattle.parse_diagnostic.specs.Diagnosis.{told};
 ghost use Rattle.graph_entry.specs.Headers.{header_value};
 ghost use Rattle.graph_entry.specs.Resolution.{resolve_by};
-ghost use Rattle.graph_entry.specs.Steps.{IsReadAgain};
+ghost use Rattle.graph_entry.specs.Steps.{IsReadAgain, read_of};
 ghost use Rattle.graph_entry.specs.Ways.{ways_by};
 ghost use Rattle.graph_entry.specs.Analysed as spec;
 ghost use Rattle.graph_entry.specs.Analysed.{AnalysedBy, OfContent, OfBytes, OfText};
@@ -72,11 +72,11 @@ pub fn analyse_content<R: Resolver, M: ModuleAnalyzer>(
 // The media type of content with these headers, at a specifier that was read again.
 fn media_type_by(
     alloc: Global,
-    base: &ReadAgain,
+    base: &ReadAgain<'_>,
     headers: &Headers,
 ) -> Result<MediaType, AllocError>
     ensures { IfOk result (λ m. m ≡ by_header
-        (spec.media_type_read base.now) (header_value (codes "content-type") headers.now)) }
+        (spec.media_type_read (read_of base.now)) (header_value (codes "content-type") headers.now)) }
 {
     let by_path = media_type_read(alloc, base)?;
     match headers.content_type() {
@@ -91,11 +91,11 @@ pub fn analyse_as<R: Resolver, M: ModuleAnalyzer>(
     resolver: &R,
     analyzer: &M,
     specifier: &Url,
-    base: &ReadAgain,
+    base: &ReadAgain<'_>,
     media_type: MediaType,
     bytes: SharedBytes,
 ) -> Result<Entry, AllocError>
-    requires again { base.now ≡ parse_url None (text_of specifier.now) }
+    requires again { read_of base.now ≡ parse_url None (text_of specifier.now) }
     ensures { IfOk result (OfContent (ways_by (R.resolving resolver.now) (M.reads analyzer.now))
         (text_of specifier.now) media_type bytes) }
 {
@@ -121,10 +121,10 @@ fn unsupported(media_type: MediaType) -> Entry
 }
 
 // The media type of a specifier that was read again.
-fn media_type_read(alloc: Global, base: &ReadAgain) -> Result<MediaType, AllocError>
-    ensures { IfOk result (λ m. m ≡ spec.media_type_read base.now) }
+fn media_type_read(alloc: Global, base: &ReadAgain<'_>) -> Result<MediaType, AllocError>
+    ensures { IfOk result (λ m. m ≡ spec.media_type_read (read_of base.now)) }
 {
-    match base {
+    match base.url() {
         Ok(url) => MediaType::from_specifier(alloc, url),
         Err(_) => Ok(MediaType::Unknown),
     }
@@ -135,7 +135,7 @@ fn media_type_read(alloc: Global, base: &ReadAgain) -> Result<MediaType, AllocEr
 struct Source<'a> {
     specifier: &'a Url,
     // The specifier, read again.
-    base: &'a ReadAgain,
+    base: &'a ReadAgain<'a>,
     media_type: MediaType,
 }
 

@@ -1,12 +1,14 @@
 //! What a specifier in a source leads to.
-ghost use Rattle.std.specs.Prelude.{◌≡◌, IfOk, None, Err};
+ghost use Rattle.std.specs.Prelude.{◌≡◌, IfOk, MatchResult, None, Ok, Err};
 ghost use Rattle.url.specs.Parser.{parse_url, IsOutOfRoom};
 ghost use Rattle.file_url.specs.Imports.{import_of};
 ghost use Rattle.graph_entry.specs.Specifier.{text_of};
 ghost use Rattle.graph_entry.specs.Resolution as spec;
+ghost use Rattle.graph_entry.specs.Steps.{read_of};
 
 use base::Text;
 use file_url::{SpecifierError, resolve_import_from};
+use own_text::reads_as_itself;
 use specifier_resolver::{DefaultResolver, ResolveFault, Resolver};
 use std::alloc::{AllocError, Global};
 use std::fmt;
@@ -76,8 +78,29 @@ impl fmt::Display for ResolutionError {
 /// A target, or why there is none.
 pub type Resolved = Result<Url, ResolutionError>;
 
-/// A URL's text read again; a refusal is kept, unless memory ran out.
-pub type ReadAgain = Result<Url, ParseError>;
+/// What the text of a URL is read as, by itself.
+#[derive(Drop)]
+pub enum ReadAgain<'a> {
+    /// This URL.
+    Itself(&'a Url),
+    /// Another one.
+    Other(Url),
+    /// A refusal; never that memory ran out.
+    Refused(ParseError),
+}
+
+impl ReadAgain<'_> {
+    /// The URL that was read.
+    pub fn url(&self) -> Result<&Url, ParseError>
+        ensures { MatchResult result (λ url. read_of self.now ≡ Ok url.now) (λ e. read_of self.now ≡ Err e) }
+    {
+        match self {
+            ReadAgain::Itself(url) => Ok(url),
+            ReadAgain::Other(url) => Ok(url),
+            ReadAgain::Refused(error) => Err(*error),
+        }
+    }
+}
 
 /// What the text of a specifier leads to from the module at the referrer (HTML, "resolve a module specifier").
 /// The inner `Err` says why there is no target, the outer one that memory ran out.
@@ -100,36 +123,40 @@ pub fn resolve_by<R: Resolver>(
     resolve_from(alloc, resolver, &base, text)
 }
 
-/// The URL that the specifier's own text is read as.
-pub fn read_again(alloc: Global, specifier: &Url) -> Result<ReadAgain, AllocError>
-    ensures { IfOk result (λ r. r ≡ parse_url None (text_of specifier.now)) }
+/// What the specifier's own text is read as. It is read only where that isn't known to be the specifier itself.
+#[tactic(auto, unfolding(crate::specs::Specifier::text_of))]
+pub fn read_again<'a>(alloc: Global, specifier: &'a Url) -> Result<ReadAgain<'a>, AllocError>
+    ensures { IfOk result (λ r. read_of r ≡ parse_url None (text_of specifier.now)) }
 {
+    if reads_as_itself(specifier) {
+        return Ok(ReadAgain::Itself(specifier));
+    }
     match Url::parse(alloc, specifier.as_str()) {
-        Ok(url) => Ok(Ok(url)),
-        Err(error) => Ok(Err(kept(error)?)),
+        Ok(url) => Ok(ReadAgain::Other(url)),
+        Err(error) => Ok(ReadAgain::Refused(kept(error)?)),
     }
 }
 
-/// What a text leads to from a referrer that was read again.
+/// What a text leads to from a referrer whose own text was read.
 pub fn resolve_from<R: Resolver>(
     alloc: Global,
     resolver: &R,
-    base: &ReadAgain,
+    base: &ReadAgain<'_>,
     text: &str,
 ) -> Result<Resolved, AllocError>
-    ensures { IfOk result (λ r. r ≡ spec.resolved_by (R.resolving resolver.now) base.now text.now) }
+    ensures { IfOk result (λ r. r ≡ spec.resolved_by (R.resolving resolver.now) (read_of base.now) text.now) }
 {
     let resolved = target_by(alloc, resolver, base, text)?;
     Ok(allowed_from(base, resolved))
 }
 
 // Where the referrer may lead to the target, the target.
-fn allowed_from(base: &ReadAgain, resolved: Resolved) -> Resolved
-    ensures { result ≡ spec.allowed_from base.now resolved }
+fn allowed_from(base: &ReadAgain<'_>, resolved: Resolved) -> Resolved
+    ensures { result ≡ spec.allowed_from (read_of base.now) resolved }
 {
-    match (base, resolved) {
-        (Ok(referrer), Ok(target)) => allowed(referrer, target),
-        (_, resolved) => resolved,
+    match base.url() {
+        Ok(referrer) => allowed(referrer, resolved?),
+        Err(_) => resolved,
     }
 }
 
@@ -150,14 +177,14 @@ fn allowed(referrer: &Url, target: Url) -> Resolved
 fn target_by<R: Resolver>(
     alloc: Global,
     resolver: &R,
-    base: &ReadAgain,
+    base: &ReadAgain<'_>,
     text: &str,
 ) -> Result<Resolved, AllocError>
-    ensures { IfOk result (λ r. r ≡ spec.target_by (R.resolving resolver.now) base.now text.now) }
+    ensures { IfOk result (λ r. r ≡ spec.target_by (R.resolving resolver.now) (read_of base.now) text.now) }
 {
-    match base {
+    match base.url() {
         Ok(referrer) => target_from(alloc, resolver, referrer, text),
-        Err(error) => target_from_none(alloc, *error, text),
+        Err(error) => target_from_none(alloc, error, text),
     }
 }
 

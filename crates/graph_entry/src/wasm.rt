@@ -5,7 +5,7 @@ ghost use Rattle.wasm_dep_analyzer.specs.Imports.{imported};
 ghost use Rattle.graph_entry.specs.Specifier.{text_of};
 ghost use Rattle.graph_entry.specs.Resolution.{resolve_by};
 ghost use Rattle.graph_entry.specs.Wasm.{wasm_dependency, OfWasm};
-ghost use Rattle.graph_entry.specs.Steps.{GivesEdges};
+ghost use Rattle.graph_entry.specs.Steps.{GivesEdges, read_of};
 
 use crate::entry::{Dependency, Entry, Module, ModuleError, WasmModule};
 use crate::resolution::{ReadAgain, resolve_from};
@@ -21,10 +21,10 @@ pub fn analyse_wasm<R: Resolver>(
     alloc: Global,
     resolver: &R,
     specifier: &Url,
-    base: &ReadAgain,
+    base: &ReadAgain<'_>,
     bytes: SharedBytes,
 ) -> Result<Entry, AllocError>
-    requires again { base.now ≡ parse_url None (text_of specifier.now) }
+    requires again { read_of base.now ≡ parse_url None (text_of specifier.now) }
     ensures { IfOk result (OfWasm (resolve_by (R.resolving resolver.now)) (text_of specifier.now) bytes) }
 {
     match read_edges(alloc, resolver, specifier, base, bytes.as_slice())? {
@@ -41,10 +41,10 @@ fn read_edges<R: Resolver>(
     alloc: Global,
     resolver: &R,
     specifier: &Url,
-    base: &ReadAgain,
+    base: &ReadAgain<'_>,
     bytes: &[u8],
 ) -> Result<Result<Items<Dependency>, ParseError>, AllocError>
-    requires again { base.now ≡ parse_url None (text_of specifier.now) }
+    requires again { read_of base.now ≡ parse_url None (text_of specifier.now) }
     ensures { IfOk result (GivesEdges (resolve_by (R.resolving resolver.now)) (text_of specifier.now) bytes.now) }
 {
     match WasmDeps::parse(alloc, bytes, ParseOptions { skip_types: true }) {
@@ -58,10 +58,10 @@ fn edges_of<R: Resolver>(
     alloc: Global,
     resolver: &R,
     specifier: &Url,
-    base: &ReadAgain,
+    base: &ReadAgain<'_>,
     imports: &[Import<'_>],
 ) -> Result<Items<Dependency>, AllocError>
-    requires again { base.now ≡ parse_url None (text_of specifier.now) }
+    requires again { read_of base.now ≡ parse_url None (text_of specifier.now) }
     ensures { IfOk result (λ edges. edges
         ≡ map (wasm_dependency (resolve_by (R.resolving resolver.now)) (text_of specifier.now)) (map imported imports.now)) }
 {
@@ -76,10 +76,10 @@ fn edge_of<R: Resolver>(
     alloc: Global,
     resolver: &R,
     specifier: &Url,
-    base: &ReadAgain,
+    base: &ReadAgain<'_>,
     import: &Import<'_>,
 ) -> Result<Dependency, AllocError>
-    requires again { base.now ≡ parse_url None (text_of specifier.now) }
+    requires again { read_of base.now ≡ parse_url None (text_of specifier.now) }
     ensures { IfOk result (λ edge. edge ≡ wasm_dependency (resolve_by (R.resolving resolver.now)) (text_of specifier.now) (imported import.now)) }
 {
     Ok(Dependency {
