@@ -8,7 +8,7 @@ ghost use Rattle.es_tree_sites.specs.Parts.{parts_in, part_in, Cuts, HasCut};
 ghost use Rattle.es_tree_sites.specs.Given.{clause_by, type_turn};
 
 use crate::source::TokenizedText;
-use es_grammar::NodeKind;
+use es_grammar::NodeKind as Kind;
 use es_site::Attribute;
 use es_syntax::{Item, Siblings};
 use es_token::Token;
@@ -37,16 +37,12 @@ impl TokenizedText<'_> {
         }
     }
 
-    fn of_clause_parts(
-        &self,
-        label: NodeKind,
-        parts: &Siblings<'_>,
-    ) -> Result<Attribute, AllocError>
+    fn of_clause_parts(&self, label: Kind, parts: &Siblings<'_>) -> Result<Attribute, AllocError>
         requires { HasCut self.now }
         ensures { IfOk result (λ a. a ≡ clause_by self.now.text.now self.now.tokens.now label (parts_in self.now parts.now)) }
     {
         match label {
-            NodeKind::Attributes => self.of_items(&self.group(parts, 0)),
+            Kind::Attributes => self.of_items(&self.group(parts, 0)),
             _ => Ok(Attribute::Absent),
         }
     }

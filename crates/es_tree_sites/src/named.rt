@@ -11,7 +11,7 @@ ghost use Rattle.es_tree_sites.specs.Plan.{declares, requires, calls, names};
 
 use crate::source::TokenizedText;
 use base::Items;
-use es_grammar::NodeKind;
+use es_grammar::NodeKind as Kind;
 use es_site::{Attribute, DependencyKind, Site};
 use es_syntax::Siblings;
 use es_token::Token;
@@ -122,7 +122,7 @@ impl TokenizedText<'_> {
     pub fn names(
         &self,
         found: &mut Items<Site>,
-        label: NodeKind,
+        label: Kind,
         parts: &Siblings<'_>,
     ) -> Result<(), AllocError>
         requires { HasCut self.now }
@@ -130,22 +130,20 @@ impl TokenizedText<'_> {
             ++ names self.now.text.now self.now.tokens.now label (parts_in self.now parts.now)) }
     {
         match label {
-            NodeKind::BareImport => {
-                self.declare(found, DependencyKind::Import, false, parts, 0, 1)
-            }
-            NodeKind::FromImport => self.from(found, DependencyKind::Import, parts),
-            NodeKind::SourceImport => {
+            Kind::BareImport => { self.declare(found, DependencyKind::Import, false, parts, 0, 1) }
+            Kind::FromImport => self.from(found, DependencyKind::Import, parts),
+            Kind::SourceImport => {
                 self.declare(found, DependencyKind::ImportSource, false, parts, 1, 2)
             }
-            NodeKind::DeferImport => {
+            Kind::DeferImport => {
                 self.declare(found, DependencyKind::ImportDefer, false, parts, 1, 2)
             }
-            NodeKind::RequireImport | NodeKind::ExportedRequireImport => self.require(found, parts),
-            NodeKind::ExportAll => self.from(found, DependencyKind::Export, parts),
-            NodeKind::ExportNames => self.exported(found, parts),
-            NodeKind::ImportCall => self.call(found, DependencyKind::Dynamic, parts),
-            NodeKind::SourceCall => self.call(found, DependencyKind::DynamicSource, parts),
-            NodeKind::DeferCall => self.call(found, DependencyKind::DynamicDefer, parts),
+            Kind::RequireImport | Kind::ExportedRequireImport => self.require(found, parts),
+            Kind::ExportAll => self.from(found, DependencyKind::Export, parts),
+            Kind::ExportNames => self.exported(found, parts),
+            Kind::ImportCall => self.call(found, DependencyKind::Dynamic, parts),
+            Kind::SourceCall => self.call(found, DependencyKind::DynamicSource, parts),
+            Kind::DeferCall => self.call(found, DependencyKind::DynamicDefer, parts),
             _ => Ok(()),
         }
     }

@@ -9,17 +9,17 @@ ghost use Rattle.es_tree_sites.specs.Parts.{parts_in, part_in, there, Cuts, HasC
 ghost use Rattle.es_tree_sites.specs.Given.{is_word_label, key_by, plain_by, given_by, plain_turn, given_turn};
 
 use crate::source::TokenizedText;
-use es_grammar::NodeKind;
+use es_grammar::NodeKind as Kind;
 use es_site::Attribute;
 use es_syntax::{Item, Siblings};
 use es_token::Token;
 use std::alloc::AllocError;
 
 /// A word or a string as a key.
-fn is_word_label(label: NodeKind) -> bool
+fn is_word_label(label: Kind) -> bool
     ensures { result ≡ is_word_label label }
 {
-    matches!(label, NodeKind::WordKey | NodeKind::StrKey)
+    matches!(label, Kind::WordKey | Kind::StrKey)
 }
 
 impl TokenizedText<'_> {
@@ -36,13 +36,13 @@ impl TokenizedText<'_> {
         }
     }
 
-    fn literal_by(&self, label: NodeKind, parts: &Siblings<'_>) -> Option<Token>
+    fn literal_by(&self, label: Kind, parts: &Siblings<'_>) -> Option<Token>
         requires { HasCut self.now }
         ensures is { option_map (str_of self.now.text.now) result ≡ src_by self.now.text.now self.now.tokens.now label (parts_in self.now parts.now) }
         ensures cut { IfSome result (Cuts self.now.text.now) }
     {
         match label {
-            NodeKind::Str => self.token_at(parts, 0),
+            Kind::Str => self.token_at(parts, 0),
             _ => None,
         }
     }
@@ -58,8 +58,6 @@ impl TokenizedText<'_> {
             None => None,
         }
     }
-
-    // ---- plain properties
 
     #[tactic(auto, using(crate::proofs::Looks::word_key_node, crate::proofs::Looks::word_key_other))]
     fn is_word_key(&self, key: &Item<'_>) -> bool
@@ -80,11 +78,11 @@ impl TokenizedText<'_> {
         }
     }
 
-    fn is_plain_by(&self, label: NodeKind, parts: &Siblings<'_>) -> bool
+    fn is_plain_by(&self, label: Kind, parts: &Siblings<'_>) -> bool
         ensures { result ≡ plain_by self.now.text.now self.now.tokens.now label (parts_in self.now parts.now) }
     {
         match label {
-            NodeKind::KeyValue => self.has_word_key(parts),
+            Kind::KeyValue => self.has_word_key(parts),
             _ => false,
         }
     }
@@ -123,15 +121,13 @@ impl TokenizedText<'_> {
         plain
     }
 
-    // ---- what the last property with this key gives it
-
-    fn key_by(&self, word: &str, label: NodeKind, parts: &Siblings<'_>) -> Result<bool, AllocError>
+    fn key_by(&self, word: &str, label: Kind, parts: &Siblings<'_>) -> Result<bool, AllocError>
         requires { HasCut self.now }
         ensures { IfOk result (λ yes. yes ≡ key_by self.now.text.now self.now.tokens.now word.now label (parts_in self.now parts.now)) }
     {
         match label {
-            NodeKind::WordKey => Ok(self.is_word_at(word, parts)),
-            NodeKind::StrKey => self.is_literal_at(word, parts),
+            Kind::WordKey => Ok(self.is_word_at(word, parts)),
+            Kind::StrKey => self.is_literal_at(word, parts),
             _ => Ok(false),
         }
     }
@@ -161,7 +157,7 @@ impl TokenizedText<'_> {
         &self,
         word: &str,
         last: Option<Option<Item<'t>>>,
-        label: NodeKind,
+        label: Kind,
         parts: &Siblings<'t>,
     ) -> Result<Option<Option<Item<'t>>>, AllocError>
         requires { HasCut self.now }
@@ -169,7 +165,7 @@ impl TokenizedText<'_> {
             ≡ given_by self.now.text.now self.now.tokens.now word.now label (parts_in self.now parts.now) (option_map (there self.now) last.entry)) }
     {
         match label {
-            NodeKind::KeyValue => {
+            Kind::KeyValue => {
                 if self.has_key(word, parts)? {
                     Ok(Some(self.part(parts, 1)))
                 } else {
@@ -234,8 +230,6 @@ impl TokenizedText<'_> {
         Ok(last)
     }
 
-    // ---- attributes
-
     /// The value of `type`: a string tells, and nothing else.
     fn of_type(&self, given: Option<Option<Item<'_>>>) -> Result<Attribute, AllocError>
         requires { HasCut self.now }
@@ -258,12 +252,12 @@ impl TokenizedText<'_> {
         }
     }
 
-    fn of_with_by(&self, label: NodeKind, parts: &Siblings<'_>) -> Result<Attribute, AllocError>
+    fn of_with_by(&self, label: Kind, parts: &Siblings<'_>) -> Result<Attribute, AllocError>
         requires { HasCut self.now }
         ensures { IfOk result (λ a. a ≡ with_by self.now.text.now self.now.tokens.now label (parts_in self.now parts.now)) }
     {
         match label {
-            NodeKind::ObjectLiteral => self.of_with_props(&self.group(parts, 0)),
+            Kind::ObjectLiteral => self.of_with_props(&self.group(parts, 0)),
             _ => Ok(Attribute::Unknown),
         }
     }
@@ -317,12 +311,12 @@ impl TokenizedText<'_> {
         self.of_with(given)
     }
 
-    fn of_options_by(&self, label: NodeKind, parts: &Siblings<'_>) -> Result<Attribute, AllocError>
+    fn of_options_by(&self, label: Kind, parts: &Siblings<'_>) -> Result<Attribute, AllocError>
         requires { HasCut self.now }
         ensures { IfOk result (λ a. a ≡ options_by self.now.text.now self.now.tokens.now label (parts_in self.now parts.now)) }
     {
         match label {
-            NodeKind::ObjectLiteral => self.of_options_props(&self.group(parts, 0)),
+            Kind::ObjectLiteral => self.of_options_props(&self.group(parts, 0)),
             _ => Ok(Attribute::Unknown),
         }
     }

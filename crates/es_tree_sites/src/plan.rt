@@ -126,10 +126,7 @@ impl TokenizedText<'_> {
     fn returned(&self, parts: &Siblings<'_>) -> &'static [Way]
         ensures { result.now ≡ returned_ways (is_single (parts_in self.now parts.now)) }
     {
-        if self.is_single(parts) {
-            return &[];
-        }
-        &[Tree]
+        if self.is_single(parts) { &[] } else { &[Tree] }
     }
 
     fn handlers(&self, parts: &Siblings<'_>) -> &'static [Way]

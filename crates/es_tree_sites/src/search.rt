@@ -3,41 +3,35 @@
 ghost use Rattle.std.specs.Prelude.{◌≡◌, false, MatchOption};
 ghost use Rattle.es_tree_sites.specs.Named.{names_module, may_name, any_may_name, Unnamed};
 
-use es_grammar::NodeKind;
+use es_grammar::NodeKind as Kind;
 use es_syntax::{Entry, What};
 
 /// A node of this alternative can name a module by itself.
 #[inline(always)]
-fn names_module(label: NodeKind) -> bool
+fn names_module(label: Kind) -> bool
     ensures { result ≡ names_module label }
 {
-    match label {
-        NodeKind::BareImport
-        | NodeKind::FromImport
-        | NodeKind::SourceImport
-        | NodeKind::DeferImport
-        | NodeKind::RequireImport
-        | NodeKind::ExportedRequireImport
-        | NodeKind::ExportAll
-        | NodeKind::ExportNames
-        | NodeKind::ImportCall
-        | NodeKind::SourceCall
-        | NodeKind::DeferCall => true,
-        _ => false,
-    }
+    matches!(
+        label,
+        Kind::BareImport
+            | Kind::FromImport
+            | Kind::SourceImport
+            | Kind::DeferImport
+            | Kind::RequireImport
+            | Kind::ExportedRequireImport
+            | Kind::ExportAll
+            | Kind::ExportNames
+            | Kind::ImportCall
+            | Kind::SourceCall
+            | Kind::DeferCall
+    )
 }
 
 #[inline(always)]
 fn may_name(what: What) -> bool
     ensures { result ≡ may_name what }
 {
-    match what {
-        What::Leaf => false,
-        What::Node(label) => names_module(label),
-        What::Role(_) => false,
-        What::Parts => false,
-        What::Lean(_) => false,
-    }
+    matches!(what, What::Node(label) if names_module(label))
 }
 
 /// How many entries stand before the first that can name a module; none where no entry can.

@@ -10,10 +10,10 @@ ghost use Rattle.es_tree_sites.specs.Plan.{is_single, is_token};
 ghost use Rattle.es_tree_sites.specs.Parts.{first_trees, Splits, parts_in, part_in, first_in, there, Seen, Cuts, HasCut};
 
 use base::Text;
-use es_grammar::NodeKind;
-use es_literal::literal_value;
+use es_grammar::NodeKind as Kind;
 use es_syntax::{Item, Siblings, What};
 use es_token::{Token, TokenKind};
+use literal_text::literal_text;
 use std::alloc::{AllocError, Global};
 
 /// A text and its tokens.
@@ -126,7 +126,7 @@ impl TokenizedText<'_> {
 
     /// The node that stands there, by its alternative, and its parts: no node in another role, and none that leans left.
     #[tactic(auto, using(crate::proofs::PartLemmas::seen_leaf, crate::proofs::PartLemmas::seen_node, crate::proofs::PartLemmas::seen_role, crate::proofs::PartLemmas::seen_parts, crate::proofs::PartLemmas::seen_lean))]
-    pub fn as_node<'t>(&self, item: &Item<'t>) -> Option<(NodeKind, Siblings<'t>)>
+    pub fn as_node<'t>(&self, item: &Item<'t>) -> Option<(Kind, Siblings<'t>)>
         ensures { Seen self.now result (part_in self.now item.now) }
     {
         match item.what {
@@ -210,8 +210,7 @@ impl TokenizedText<'_> {
         requires { Cuts self.now.text.now token }
         ensures { IfOk result (λ value. value ≡ (str_of self.now.text.now token).value) }
     {
-        let literal = literal_value(self.alloc, self.cut(token))?;
-        Ok(literal.text)
+        literal_text(self.alloc, self.cut(token))
     }
 
     /// Whether the token is this word.

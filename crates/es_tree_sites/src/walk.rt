@@ -50,7 +50,8 @@ pub fn tree_sites(
     ensures { IfOk result (λ found. found ≡ flat_map (plain_sites text.now tokens.now) (trees entries.now)) }
 {
     let mut found = Items::new(alloc);
-    let mut around = Items::new(alloc);
+    // The levels of most rows have room at once.
+    let mut around = Items::from_vec(Vec::with_capacity(alloc, 16)?);
     let source = TokenizedText {
         alloc,
         text,
@@ -270,23 +271,12 @@ impl TokenizedText<'_> {
 fn is_parts(what: What) -> bool
     ensures { result ≡ is_parts what }
 {
-    match what {
-        What::Parts => true,
-        What::Leaf => false,
-        What::Node(_) => false,
-        What::Role(_) => false,
-        What::Lean(_) => false,
-    }
+    matches!(what, What::Parts)
 }
 
 /// What stands there is taken as a tree, where it is one.
 fn is_tree(way: Way) -> bool
     ensures { result ≡ is_tree way }
 {
-    match way {
-        Way::Skip => false,
-        Way::Tree => true,
-        Way::In(_) => false,
-        Way::Either(_) => true,
-    }
+    matches!(way, Way::Tree | Way::Either(_))
 }

@@ -17,7 +17,8 @@ pub loop-left-init : goal.loop-left-init
 loop-left-init c =
     let source : TokenizedText = record { alloc = c.args.alloc; text = c.args.text; tokens = c.args.tokens } in
     ap (λ s. s ++ ahead source c.push.new.self) c.new-found.ensures
-    ∙ ap (ahead source) (c.in_ok-push.ensures.ok ∙ ap (λ ls. ls ++ c.in_group.result ∷ []) c.new-around.ensures)
+    ∙ ap (ahead source) (c.in_ok-push.ensures.ok
+    ∙ ap (λ ls. ls ++ c.in_group.result ∷ []) (c.from_vec-around.ensures ∙ c.in_ok-with_capacity.ensures.items))
     ∙ ahead_one source c.in_group.result
     ∙ c.in_group.ensures.sites
     ∙ all_sites c.args.text.now c.args.tokens.now c.args.entries.now
