@@ -1,5 +1,5 @@
 -- What is printed of each form of a kept tree.
-use Rattle.std.specs.Prelude.{ℕ, List, map}
+use Rattle.std.specs.Prelude.{ℕ, List}
 use Rattle.std.proofs.Common.{◌≡◌, sym, ap, ◌∙◌}
 use Rattle.es_token.specs.declared.token.Token.{Token}
 use Rattle.es_grammar.specs.declared.rows.NodeKind.{NodeKind}
@@ -8,8 +8,7 @@ use Rattle.es_cst.specs.declared.tree.Cst.TheVariants as vCst
 use Rattle.es_cst.specs.declared.tree.Cst.TheOpen.{Cst-F}
 use Rattle.es_cst.specs.declared.tree.Cst.TheFolds.{fold-roll-Cst}
 use Rattle.es_printer.specs.declared.style.Style.{Style}
-use Rattle.es_printer.specs.declared.piece.Sheet.{Sheet}
-use Rattle.es_printer.specs.Sheet.{Shown, node, shown_step, shown}
+use Rattle.es_printer.specs.Sheet.{Sheet, Shown, node, shown_step, shown}
 use Rattle.es_printer.specs.Rows.{all}
 
 at_once : {f g : Shown} (here : Style) (s : Sheet) → f ≡ g → f here s ≡ g here s

@@ -1,5 +1,5 @@
 -- Nodes that lean left, over a first operand and turns.
-use Rattle.std.specs.Prelude.{ℕ, zero, suc, ◌-◌, List, [], ◌∷◌, ◌++◌, map}
+use Rattle.std.specs.Prelude.{ℕ, ◌-◌, List, [], ◌∷◌, ◌++◌}
 use Rattle.std.proofs.Common.{◌≡◌, refl, sym, ap, ◌∙◌, arith}
 use Rattle.std.proofs.lemmas.List.{append-nil}
 use Rattle.es_token.specs.declared.token.Token.{Token}
@@ -10,9 +10,8 @@ use Rattle.es_syntax.specs.Held.{label_of}
 use Rattle.es_syntax.specs.Trees.{Kept, turn_parts, leaning_tree, leaned_tree, leant_tree}
 use Rattle.es_printer.specs.declared.style.Style.{Style}
 use Rattle.es_printer.specs.declared.style.Style.TheVariants.{Operator}
-use Rattle.es_printer.specs.declared.piece.Sheet.{Sheet}
 use Rattle.es_printer.specs.Table.{style, ends}
-use Rattle.es_printer.specs.Sheet.{put, before, behind, is_item, up_to, tokens_from, node, shown}
+use Rattle.es_printer.specs.Sheet.{Sheet, put, before, behind, is_item, up_to, tokens_from, node, shown}
 use Rattle.es_printer.specs.Rows.{all, last_of, turned, leant, leaning}
 use Rattle.es_printer.proofs.Equations.{shown_node, shown_parts}
 
@@ -102,20 +101,10 @@ module _ (ts : List Token) where
       (λ x. up_to ts Operator u.0 (all ts (turn_parts (out-Cst u.1)) Operator (shown ts t.1 Operator x))) us
       (inside_one lean from t.1 u) here s
 
-  -- ---- a first operand, and turns
-  pub leaning_none : (lean : Lean) (from : ℕ) (us : List Kept) (here : Style) (s : Sheet) → us ≡ []
-      → leaning ts lean from us here s ≡ s
-  unfolding leaning
-  leaning_none lean from us here s e = ap (λ vs. leaning ts lean from vs here s) e
-
-  pub leaning_one : (lean : Lean) (from : ℕ) (us vs : List Kept) (t : Kept) (here : Style) (s : Sheet) → us ≡ t ∷ vs
-      → vs ≡ [] → leaning ts lean from us here s ≡ s
-  unfolding leaning
-  leaning_one lean from us vs t here s is none = ap (λ ws. leaning ts lean from ws here s) (is ∙ ap (◌∷◌ t) none)
-
-  pub leaning_more : (lean : Lean) (from : ℕ) (us vs ws : List Kept) (t u : Kept) (here : Style) (s : Sheet)
+  -- a first operand, and turns
+  pub leaning_leant : (lean : Lean) (from : ℕ) (us vs ws : List Kept) (t u : Kept) (here : Style) (s : Sheet)
       → us ≡ t ∷ vs → vs ≡ u ∷ ws → leaning ts lean from us here s ≡ leant ts lean from t.1 vs here s
   unfolding leaning
-  leaning_more lean from us vs ws t u here s is others =
+  leaning_leant lean from us vs ws t u here s is others =
       ap (λ xs. leaning ts lean from xs here s) (is ∙ ap (◌∷◌ t) others)
       ∙ ap (λ xs. leant ts lean from t.1 xs here s) (sym others)

@@ -3,5 +3,5 @@ pub mod RowLemmas
 pub mod TurnLemmas
 pub mod LeanLemmas
 pub mod WalkLemmas
-pub mod SheetLemmas
+pub mod LaidLemmas
 pub mod LineLemmas

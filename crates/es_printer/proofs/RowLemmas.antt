@@ -1,10 +1,15 @@
 -- The trees that a row of entries is, by its first entry.
 use Rattle.std.specs.Prelude.{ℕ, zero, suc, ◌≤◌, List, [], ◌∷◌, length, take, drop, min}
-use Rattle.std.proofs.Common.{◌≡◌, refl, arith, length-drop}
+use Rattle.std.proofs.Common.{◌≡◌, refl, ap, ◌∙◌, arith, length-drop}
 use Rattle.std.proofs.lemmas.List.{length-take, take_min, drop_min}
 use Rattle.es_syntax.specs.declared.entry.Entry.{Entry}
-use Rattle.es_syntax.specs.Trees.{trees_in, tree_by, kept_by, trees}
-use Rattle.es_printer.specs.Rows.{kept}
+use Rattle.es_cst.specs.declared.tree.Cst.TheVariants as vCst
+use Rattle.es_token.specs.declared.token.Token.{Token}
+use Rattle.es_syntax.specs.Trees.{Kept, trees_in, tree_by, kept_by, trees}
+use Rattle.es_printer.specs.declared.style.Style.{Style}
+use Rattle.es_printer.specs.Sheet.{Sheet}
+use Rattle.es_printer.specs.Rows.{kept, all}
+use Rattle.es_printer.proofs.Equations.{shown_leaf}
 
 -- further steps read nothing else
 kept_same : (n m : ℕ) (es : List Entry) → length es ≤ n → length es ≤ m → kept_by n es ≡ kept_by m es
@@ -48,3 +53,16 @@ none_kept = refl
 pub trees_kept : (es : List Entry) → trees es ≡ trees_in (kept es)
 unfolding trees kept
 trees_kept es = refl
+
+-- ---- parts of which nothing is printed
+pub bare_none : (us : List Kept) (ts : List Token) (own : Style) (s : Sheet) → us ≡ []
+    → all ts (trees_in us) own s ≡ s
+unfolding all
+bare_none us ts own s e = ap (λ vs. all ts (trees_in vs) own s) e
+
+pub bare_leaf : (us : List Kept) (es : List Entry) (to at : ℕ) (ts : List Token) (own : Style) (s : Sheet)
+    → us ≡ (to, vCst.Leaf at) ∷ kept es → length es ≡ 0 → all ts (trees_in us) own s ≡ s
+unfolding all
+bare_leaf us es to at ts own s e none =
+    ap (λ vs. all ts (trees_in vs) own s) (e ∙ ap (λ vs. (to, vCst.Leaf at) ∷ vs) (kept_none es none))
+    ∙ shown_leaf ts at own s

@@ -1,15 +1,13 @@
 -- The parts of a turn, by what stands there.
-use Rattle.std.specs.Prelude.{ℕ, List, [], ◌∷◌, map}
-use Rattle.std.proofs.Common.{◌≡◌, refl, sym, ap, ◌∙◌}
+use Rattle.std.specs.Prelude.{ℕ, List, [], ◌∷◌}
+use Rattle.std.proofs.Common.{◌≡◌, sym, ap, ◌∙◌}
 use Rattle.es_grammar.specs.declared.rows.NodeKind.{NodeKind}
 use Rattle.es_cst.specs.declared.tree.Cst.{Cst, out-Cst, out-roll-Cst}
 use Rattle.es_cst.specs.declared.tree.Cst.TheVariants as vCst
 use Rattle.es_cst.specs.declared.tree.Cst.TheOpen.{Cst-F}
-use Rattle.es_syntax.specs.declared.entry.Entry.{Entry}
 use Rattle.es_syntax.specs.declared.entry.Lean.{Lean}
 use Rattle.es_syntax.specs.Held.{label_of}
-use Rattle.es_syntax.specs.Trees.{Kept, turn_parts, leaning_tree, leaned_tree, leant_tree, trees_in}
-use Rattle.es_printer.specs.Rows.{kept}
+use Rattle.es_syntax.specs.Trees.{Kept, turn_parts, leaning_tree, leaned_tree, leant_tree}
 
 -- the parts of a turn that this is
 abbrev Turn : Cst → List Cst → Type 0

@@ -1,69 +1,136 @@
 -- What a walk prints of each form of a tree, and of lists.
 use Rattle.std.specs.Prelude.{ℕ, List, [], ◌∷◌}
-use Rattle.std.proofs.Common.{◌≡◌, refl, sym, ap, ◌∙◌}
+use Rattle.std.proofs.Common.{◌≡◌, sym, ap, subst, ◌∙◌}
 use Rattle.es_token.specs.declared.token.Token.{Token}
 use Rattle.es_grammar.specs.declared.rows.NodeKind.{NodeKind}
 use Rattle.es_cst.specs.declared.tree.Cst.{Cst, out-Cst}
 use Rattle.es_cst.specs.declared.tree.Cst.TheVariants as vCst
+use Rattle.es_syntax.specs.declared.entry.Entry.{Entry}
 use Rattle.es_syntax.specs.declared.entry.Lean.{Lean}
 use Rattle.es_syntax.specs.Trees.{Kept, first_tree, leant_tree, trees_in, turn_parts}
 use Rattle.es_printer.specs.declared.style.Style.{Style}
 use Rattle.es_printer.specs.declared.style.Style.TheVariants.{Operator}
-use Rattle.es_printer.specs.declared.piece.Sheet.{Sheet}
-use Rattle.es_printer.specs.Sheet.{node, shown, up_to}
-use Rattle.es_printer.specs.Rows.{all, turned, last_of, leaning}
+use Rattle.es_printer.specs.Sheet.{Sheet, node, shown, up_to}
+use Rattle.es_printer.specs.declared.piece.Source.{Source}
+use Rattle.es_printer.specs.declared.draft.Draft.{Draft}
+use Rattle.es_printer.specs.Laid.{Grows}
+use Rattle.es_printer.specs.Rows.{kept, all, turned, last_of, leant, leaning}
+use Rattle.es_printer.proofs.LaidLemmas.{alike, nothing, follows}
 use Rattle.es_printer.proofs.Equations.{shown_leaf, shown_node, shown_role, shown_parts}
-use Rattle.es_printer.proofs.LeanLemmas.{shown_lean}
+use Rattle.es_printer.proofs.LeanLemmas.{shown_lean, leaning_leant}
 
-module _ (ts : List Token) where
-  pub walk_leaf : (at : ℕ) (here : Style) (s : Sheet) → shown ts (vCst.Leaf at) here s ≡ s
-  walk_leaf at here s = shown_leaf ts at here s
+module _ (src : Source) where
+  pub walk_leaf : (at : ℕ) (here : Style) (d : Draft) → Grows src (shown src.tokens.now (vCst.Leaf at) here) d d
+  walk_leaf at here d =
+      nothing src (shown src.tokens.now (vCst.Leaf at) here) d (shown_leaf src.tokens.now at here)
 
-  pub walk_node : (label : NodeKind) (from to : ℕ) (us : List Cst) (here : Style) (s : Sheet)
-      → shown ts (vCst.Node label from to us) here s ≡ node ts label from to (all ts us) here s
-  walk_node label from to us here s = shown_node ts label from to us here s
+  pub walk_node : (label : NodeKind) (from to : ℕ) (us : List Cst) (here : Style) (old new : Draft)
+      → Grows src (node src.tokens.now label from to (all src.tokens.now us) here) old new
+      → Grows src (shown src.tokens.now (vCst.Node label from to us) here) old new
+  walk_node label from to us here old new so =
+      alike src (node src.tokens.now label from to (all src.tokens.now us) here)
+      (shown src.tokens.now (vCst.Node label from to us) here) old new
+      (shown_node src.tokens.now label from to us here) so
 
-  pub walk_role : (label : NodeKind) (t : Cst) (here : Style) (s : Sheet)
-      → shown ts (vCst.Role label t) here s ≡ shown ts t here s
-  walk_role label t here s = shown_role ts label t here s
+  pub walk_role : (label : NodeKind) (t : Cst) (here : Style) (old new : Draft)
+      → Grows src (shown src.tokens.now t here) old new
+      → Grows src (shown src.tokens.now (vCst.Role label t) here) old new
+  walk_role label t here old new so =
+      alike src (shown src.tokens.now t here) (shown src.tokens.now (vCst.Role label t) here) old new
+      (shown_role src.tokens.now label t here) so
 
-  pub walk_parts : (us : List Cst) (here : Style) (s : Sheet) → shown ts (vCst.Parts us) here s ≡ all ts us here s
-  walk_parts us here s = shown_parts ts us here s
+  pub walk_parts : (us : List Cst) (here : Style) (old new : Draft) → Grows src (all src.tokens.now us here) old new
+      → Grows src (shown src.tokens.now (vCst.Parts us) here) old new
+  walk_parts us here old new so =
+      alike src (all src.tokens.now us here) (shown src.tokens.now (vCst.Parts us) here) old new
+      (shown_parts src.tokens.now us here) so
 
-  pub walk_lean : (lean : Lean) (from : ℕ) (us : List Kept) (here : Style) (s : Sheet)
-      → shown ts (leant_tree lean from us) here s ≡ leaning ts lean from us here s
-  walk_lean lean from us here s = shown_lean ts lean from us here s
+  pub walk_lean : (lean : Lean) (from : ℕ) (us : List Kept) (here : Style) (old new : Draft)
+      → Grows src (leaning src.tokens.now lean from us here) old new
+      → Grows src (shown src.tokens.now (leant_tree lean from us) here) old new
+  walk_lean lean from us here old new so =
+      alike src (leaning src.tokens.now lean from us here) (shown src.tokens.now (leant_tree lean from us) here) old new
+      (shown_lean src.tokens.now lean from us here) so
 
   -- no tree is printed as nothing
-  pub first_none : (us : List Kept) (here : Style) (s : Sheet) → us ≡ []
-      → shown ts (first_tree (trees_in us)) here s ≡ s
+  pub first_none : (us : List Kept) (here : Style) (d : Draft) → us ≡ []
+      → Grows src (shown src.tokens.now (first_tree (trees_in us)) here) d d
   unfolding all
-  first_none us here s e = ap (λ vs. shown ts (first_tree (trees_in vs)) here s) e ∙ shown_parts ts [] here s
+  first_none us here d e =
+      nothing src (shown src.tokens.now (first_tree (trees_in us)) here) d
+      (λ s. ap (λ vs. shown src.tokens.now (first_tree (trees_in vs)) here s) e ∙ shown_parts src.tokens.now [] here s)
 
-  pub first_some : (us vs : List Kept) (u : Kept) (here : Style) (s : Sheet) → us ≡ u ∷ vs
-      → shown ts (first_tree (trees_in us)) here s ≡ shown ts u.1 here s
-  first_some us vs u here s e = ap (λ ws. shown ts (first_tree (trees_in ws)) here s) e
+  pub first_some : (us vs : List Kept) (u : Kept) (here : Style) (old new : Draft) → us ≡ u ∷ vs
+      → Grows src (shown src.tokens.now u.1 here) old new
+      → Grows src (shown src.tokens.now (first_tree (trees_in us)) here) old new
+  first_some us vs u here old new e so =
+      subst (λ ws. Grows src (shown src.tokens.now (first_tree (trees_in ws)) here) old new) (sym e) so
 
   -- ---- lists
-  pub all_none : (us : List Kept) (own : Style) (s whole : Sheet) → us ≡ [] → all ts (trees_in us) own s ≡ whole
-      → s ≡ whole
+  pub all_bare : (es : List Entry) (own : Style) (d : Draft)
+      → ((ts : List Token) (w : Style) (s : Sheet) → all ts (trees_in (kept es)) w s ≡ s)
+      → Grows src (all src.tokens.now (trees_in (kept es)) own) d d
+  all_bare es own d so = nothing src (all src.tokens.now (trees_in (kept es)) own) d (so src.tokens.now own)
+
+  -- what is left of a list turns a draft to what the whole list does
+  abbrev Ends : (rest whole : Sheet → Sheet) (old d : Draft) → Type 0
+  Ends rest whole old d = (new : Draft) → Grows src rest d new → Grows src whole old new
+
+  pub all_none : (us : List Kept) (own : Style) (whole : Sheet → Sheet) (old d : Draft) → us ≡ []
+      → Ends (all src.tokens.now (trees_in us) own) whole old d → Grows src whole old d
   unfolding all
-  all_none us own s whole e so = sym (ap (λ vs. all ts (trees_in vs) own s) e) ∙ so
+  all_none us own whole old d e so =
+      so d (nothing src (all src.tokens.now (trees_in us) own) d
+      (λ s. ap (λ vs. all src.tokens.now (trees_in vs) own s) e))
 
-  pub all_more : (us vs : List Kept) (u : Kept) (own : Style) (s new whole : Sheet) → us ≡ u ∷ vs
-      → new ≡ shown ts u.1 own s → all ts (trees_in us) own s ≡ whole → all ts (trees_in vs) own new ≡ whole
+  pub all_more : (us vs : List Kept) (u : Kept) (own : Style) (whole : Sheet → Sheet) (old d next : Draft)
+      → us ≡ u ∷ vs → Grows src (shown src.tokens.now u.1 own) d next
+      → Ends (all src.tokens.now (trees_in us) own) whole old d
+      → Ends (all src.tokens.now (trees_in vs) own) whole old next
   unfolding all
-  all_more us vs u own s new whole is grown so =
-      ap (all ts (trees_in vs) own) grown ∙ sym (ap (λ ws. all ts (trees_in ws) own s) is) ∙ so
+  all_more us vs u own whole old d next e one so new more =
+      so new (subst (λ ws. Grows src (all src.tokens.now (trees_in ws) own) d new) (sym e)
+      (follows src (shown src.tokens.now u.1 own) (all src.tokens.now (trees_in vs) own) d next new one more))
 
-  pub turned_none : (us : List Kept) (s whole : Sheet) → us ≡ [] → turned ts us s ≡ whole → s ≡ whole
-  turned_none us s whole e so = sym (ap (λ vs. turned ts vs s) e) ∙ so
+  pub turned_none : (us : List Kept) (whole : Sheet → Sheet) (old d : Draft) → us ≡ []
+      → Ends (turned src.tokens.now us) whole old d → Grows src whole old d
+  turned_none us whole old d e so =
+      so d (nothing src (turned src.tokens.now us) d (λ s. ap (λ vs. turned src.tokens.now vs s) e))
 
-  pub turned_more : (us vs : List Kept) (u : Kept) (s mid new whole : Sheet) → us ≡ u ∷ vs
-      → mid ≡ all ts (turn_parts (out-Cst u.1)) Operator s → new ≡ up_to ts Operator u.0 mid
-      → turned ts us s ≡ whole → turned ts vs new ≡ whole
-  turned_more us vs u s mid new whole is first grown so =
-      ap (turned ts vs) (grown ∙ ap (up_to ts Operator u.0) first) ∙ sym (ap (λ ws. turned ts ws s) is) ∙ so
+  pub turned_more : (us vs : List Kept) (u : Kept) (ps : List Cst) (whole : Sheet → Sheet) (old d mid next : Draft)
+      → us ≡ u ∷ vs → ps ≡ turn_parts (out-Cst u.1) → Grows src (all src.tokens.now ps Operator) d mid
+      → Grows src (up_to src.tokens.now Operator u.0) mid next
+      → Ends (turned src.tokens.now us) whole old d → Ends (turned src.tokens.now vs) whole old next
+  turned_more us vs u ps whole old d mid next e is one two so new more =
+      so new (subst (λ ws. Grows src (turned src.tokens.now ws) d new) (sym e)
+      (follows src
+      (λ s. up_to src.tokens.now Operator u.0 (all src.tokens.now (turn_parts (out-Cst u.1)) Operator s))
+      (turned src.tokens.now vs) d next new
+      (follows src (all src.tokens.now (turn_parts (out-Cst u.1)) Operator) (up_to src.tokens.now Operator u.0) d mid
+      next
+      (subst (λ qs. Grows src (all src.tokens.now qs Operator) d mid) is one) two) more))
+
+  -- ---- fewer parts than a first operand and a turn
+  pub leaning_none : (lean : Lean) (from : ℕ) (us : List Kept) (here : Style) (d : Draft) → us ≡ []
+      → Grows src (leaning src.tokens.now lean from us here) d d
+  unfolding leaning
+  leaning_none lean from us here d e =
+      nothing src (leaning src.tokens.now lean from us here) d
+      (λ s. ap (λ vs. leaning src.tokens.now lean from vs here s) e)
+
+  pub leaning_one : (lean : Lean) (from : ℕ) (us vs : List Kept) (t : Kept) (here : Style) (d : Draft) → us ≡ t ∷ vs
+      → vs ≡ [] → Grows src (leaning src.tokens.now lean from us here) d d
+  unfolding leaning
+  leaning_one lean from us vs t here d e none =
+      nothing src (leaning src.tokens.now lean from us here) d
+      (λ s. ap (λ ws. leaning src.tokens.now lean from ws here s) (e ∙ ap (◌∷◌ t) none))
+
+  pub leaning_more : (lean : Lean) (from : ℕ) (us vs ws : List Kept) (t u : Kept) (here : Style) (old new : Draft)
+      → us ≡ t ∷ vs → vs ≡ u ∷ ws → Grows src (leant src.tokens.now lean from t.1 vs here) old new
+      → Grows src (leaning src.tokens.now lean from us here) old new
+  leaning_more lean from us vs ws t u here old new is others so =
+      alike src (leant src.tokens.now lean from t.1 vs here) (leaning src.tokens.now lean from us here) old new
+      (λ s. leaning_leant src.tokens.now lean from us vs ws t u here s is others) so
 
 pub last_none : (us : List Kept) (to whole : ℕ) → us ≡ [] → last_of to us ≡ whole → to ≡ whole
 last_none us to whole e so = sym (ap (last_of to) e) ∙ so

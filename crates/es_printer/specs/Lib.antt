@@ -6,5 +6,7 @@ pub mod Own
 pub mod Sheet
 -- their lines
 pub mod Lines
+-- pages with the lines of pieces
+pub mod Laid
 -- the trees in a row of entries
 pub mod Rows

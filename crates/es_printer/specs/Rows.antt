@@ -8,10 +8,8 @@ use Rattle.es_syntax.specs.declared.cursor.Item.{Item}
 use Rattle.es_syntax.specs.declared.entry.Lean.{Lean}
 use Rattle.es_syntax.specs.Held.{label_of}
 use Rattle.es_syntax.specs.Trees.{Kept, kept_by, tree_by, turn_parts}
-use Rattle.es_printer.specs.declared.style.Style.{Style}
 use Rattle.es_printer.specs.declared.style.Style.TheVariants.{Operator}
-use Rattle.es_printer.specs.declared.piece.Sheet.{Sheet}
-use Rattle.es_printer.specs.Sheet.{Shown, put, before, behind, up_to, each, shown}
+use Rattle.es_printer.specs.Sheet.{Sheet, Shown, put, before, behind, up_to, each, shown}
 
 -- the trees that the entries are, each with the token behind it
 unfoldable pub kept : List Entry → List Kept

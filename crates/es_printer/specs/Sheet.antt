@@ -13,9 +13,13 @@ use Rattle.es_printer.specs.declared.style.Ends.TheVariants.{Never, Always, Bare
 use Rattle.es_printer.specs.declared.piece.Stand.{Stand}
 use Rattle.es_printer.specs.declared.piece.Piece.{Piece}
 use Rattle.es_printer.specs.declared.piece.Piece.TheVariants as piece
-use Rattle.es_printer.specs.declared.piece.Sheet.{Sheet}
 use Rattle.es_printer.specs.Table.{style, ends}
 use Rattle.es_printer.specs.Own.{is, kind_is, stand}
+
+-- the pieces so far, and the first token that isn't printed yet
+pub record Sheet : Type 0 where
+  pub pieces : List Piece
+  pub next : ℕ
 
 -- more pieces
 abbrev pub put : List Piece → Sheet → Sheet

@@ -1,6 +1,7 @@
 //! The printed text of a program (`print`), straight from its tree in a row of entries.
 #![tactic(auto)]
 
+mod draft;
 mod page;
 mod piece;
 mod program;
@@ -10,6 +11,6 @@ mod stand;
 mod style;
 mod walk;
 
-pub use piece::{Last, Left, Piece, Right, Sheet, Stand};
+pub use piece::{Last, Left, Piece, Right, Stand};
 pub use program::{print, print_with};
 pub use style::{Ends, Style};

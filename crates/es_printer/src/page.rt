@@ -4,7 +4,7 @@ ghost use Rattle.std.specs.Prelude.{◌≡◌, ◌++◌, ◌+◌, ◌-◌, ◌�
 ghost use Rattle.std.specs.Option.{option_map};
 ghost use Rattle.es_printer.specs.Lines.{is_apart, joins, indent, gap, write, line_before, line_behind, token, semicolon, bare_end, closed, opened, closed_by, comment_line, comment_lines, leading, by_token, step, laid, finished, start, end_of};
 
-use crate::piece::{Last, Left, Piece, Right, Stand};
+use crate::piece::{Last, Left, Piece, Right, Source, Stand};
 use es_comments::MultiThreadedComments;
 use es_token::{Comment, CommentKind, Token, TokenKind};
 use std::alloc::{AllocError, Global};
@@ -29,6 +29,7 @@ impl Model for Page {
 
 // ---- all rules of blanks
 
+#[inline(always)]
 fn is_apart(right: Right, left: Left) -> bool
     ensures { result ≡ is_apart right left }
 {
@@ -55,6 +56,7 @@ fn is_apart(right: Right, left: Left) -> bool
 }
 
 /// Whether two tokens would be read as others.
+#[inline(always)]
 #[tactic(auto, unfolding(crate::specs::Lines::joins))]
 fn joins(before: TokenKind, kind: TokenKind) -> bool
     ensures { result ≡ joins before kind }
@@ -81,6 +83,7 @@ fn indent(out: &mut String, depth: u32) -> Result<(), AllocError>
 }
 
 /// A line's end and the blanks before its first token, or one blank, or nothing.
+#[inline(always)]
 fn gap(
     out: &mut String,
     depth: u32,
@@ -93,12 +96,12 @@ fn gap(
     match last {
         Last::Nothing => Ok(()),
         Last::Line => {
-            out.push_str("\n")?;
+            out.push('\n')?;
             indent(out, depth)
         }
         Last::Token(right, before) => {
             if is_apart(right, left) || joins(before, kind) {
-                out.push_str(" ")?;
+                out.push(' ')?;
             }
             Ok(())
         }
@@ -106,6 +109,7 @@ fn gap(
 }
 
 /// The text of a token; one that is cut inside a character is answered as want of memory.
+#[inline(always)]
 fn cut(text: &str, token: Token) -> Result<&str, AllocError>
     ensures { IfOk result (λ piece. piece.now ≡ slice_range text.now token.range.start token.range.end) }
 {
@@ -136,14 +140,15 @@ fn closed_by(kind: CommentKind) -> &'static str
 }
 
 impl Page {
-    pub fn new(alloc: Global) -> Page
-        ensures { result ≡ start }
+    /// An empty page, with room for so many bytes.
+    pub fn new(alloc: Global, room: usize) -> Result<Page, AllocError>
+        ensures { IfOk result (λ page. page ≡ start) }
     {
-        Page {
-            text: String::new(alloc),
+        Ok(Page {
+            text: String::with_capacity(alloc, room)?,
             depth: 0,
             last: Last::Nothing,
-        }
+        })
     }
 
     /// What is written, with a line end behind the last line.
@@ -162,6 +167,7 @@ impl Page {
         Ok(text)
     }
 
+    #[inline(always)]
     fn write(
         &mut self,
         left: Left,
@@ -177,6 +183,7 @@ impl Page {
         Ok(())
     }
 
+    #[inline(always)]
     fn line_before(&mut self, less: Option<u8>)
         ensures { self.new ≡ line_before less self.old }
     {
@@ -187,6 +194,7 @@ impl Page {
     }
 
     /// A depth that 32 bits don't hold is answered as want of memory.
+    #[inline(always)]
     fn line_behind(&mut self, deeper: Option<u8>) -> Result<(), AllocError>
         ensures { OnOk result (self.new ≡ line_behind deeper self.old) }
     {
@@ -200,6 +208,7 @@ impl Page {
         Ok(())
     }
 
+    #[inline(always)]
     fn token(&mut self, stand: Stand, kind: TokenKind, text: &str) -> Result<(), AllocError>
         ensures { OnOk result (self.new ≡ token stand kind text.now self.old) }
     {
@@ -208,12 +217,14 @@ impl Page {
         self.line_behind(stand.into)
     }
 
+    #[inline(always)]
     fn semicolon(&mut self) -> Result<(), AllocError>
         ensures { OnOk result (self.new ≡ semicolon self.old) }
     {
         self.write(Left::Never, Right::Tight, TokenKind::Semicolon, ";")
     }
 
+    #[inline(always)]
     fn bare_end(&mut self) -> Result<(), AllocError>
         ensures { OnOk result (self.new ≡ bare_end self.old.last self.old) }
     {
@@ -223,6 +234,7 @@ impl Page {
         }
     }
 
+    #[inline(always)]
     fn close(&mut self)
         ensures { self.new ≡ record self.old { last = closed self.old.last } }
     {
@@ -280,24 +292,21 @@ impl Page {
     }
 
     /// A piece.
+    #[inline(always)]
     #[tactic(auto, unfolding(crate::specs::Lines::step))]
-    pub fn step(
-        &mut self,
-        text: &str,
-        tokens: &[Token],
-        comments: Option<&MultiThreadedComments>,
-        piece: Piece,
-    ) -> Result<(), AllocError>
-        ensures { OnOk result (self.new ≡ step text.now tokens.now (option_map (λ c. c.now) comments.entry) self.old piece) }
+    pub fn step(&mut self, source: &Source<'_>, piece: Piece) -> Result<(), AllocError>
+        ensures { OnOk result (self.new ≡ step source.now.text.now source.now.tokens.now (option_map (λ c. c.now) source.now.comments) self.old piece) }
     {
         match piece {
-            Piece::Leading(at) => self.leading(comments, tokens.get(at as usize).copied()),
+            Piece::Leading(at) => {
+                self.leading(source.comments, source.tokens.get(at as usize).copied())
+            }
             Piece::Close => {
                 self.close();
                 Ok(())
             }
-            Piece::Token(stand, at) => match tokens.get(at as usize) {
-                Some(token) => self.token(stand, token.kind(), cut(text, *token)?),
+            Piece::Token(stand, at) => match source.tokens.get(at as usize) {
+                Some(token) => self.token(stand, token.kind(), cut(source.text, *token)?),
                 None => Ok(()),
             },
             Piece::End => self.semicolon(),

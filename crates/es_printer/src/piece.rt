@@ -1,7 +1,15 @@
 //! What is printed, piece by piece, and how it stands on its line.
 
-use base::Items;
-use es_token::TokenKind;
+use es_comments::MultiThreadedComments;
+use es_token::{Token, TokenKind};
+
+/// What is printed: a text, its tokens, and its comments, where they are printed.
+#[derive(Clone, Copy)]
+pub struct Source<'a> {
+    pub text: &'a str,
+    pub tokens: &'a [Token],
+    pub comments: Option<&'a MultiThreadedComments>,
+}
 
 /// What a token asks of what stands before it on its line.
 #[derive(Clone, Copy, Debug, PartialEq, Eq)]
@@ -73,11 +81,4 @@ pub enum Last {
     Line,
     /// A token, what it asks of the next one, and its kind.
     Token(Right, TokenKind),
-}
-
-/// The pieces so far, and the first token that isn't printed yet.
-#[derive(Drop)]
-pub struct Sheet {
-    pub pieces: Items<Piece>,
-    pub next: u32,
 }

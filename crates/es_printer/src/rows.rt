@@ -1,13 +1,17 @@
 //! The parts in a row of entries.
 
-ghost use Rattle.std.specs.Prelude.{◌≡◌, ◌+◌, ◌≤◌, ◌<◌, length, IfSome};
+ghost use Rattle.std.specs.Prelude.{◌≡◌, ◌+◌, ◌≤◌, ◌<◌, List, length, IfSome, IsTrue};
 ghost use Rattle.es_cst.specs.declared.tree.Cst.{out-Cst};
 ghost use Rattle.es_syntax.specs.Trees.{turn_parts, trees_in};
-ghost use Rattle.es_printer.specs.Rows.{kept, first_kept, tree_at};
+ghost use Rattle.es_token.specs.declared.token.Token.{Token};
+ghost use Rattle.es_printer.specs.declared.style.Style.{Style};
+ghost use Rattle.es_printer.specs.Sheet.{Sheet};
+ghost use Rattle.es_printer.specs.Rows.{kept, first_kept, tree_at, all};
 
 use es_syntax::{Item, Siblings, What};
 
 /// The first part in a row, and those behind it.
+#[inline(always)]
 #[tactic(auto, using(crate::proofs::RowLemmas::kept_none, crate::proofs::RowLemmas::kept_some))]
 pub fn split<'t>(row: &Siblings<'t>) -> Option<(Item<'t>, Siblings<'t>)>
     ensures trees { kept row.now.entries.now ≡ first_kept result }
@@ -26,6 +30,21 @@ pub fn split<'t>(row: &Siblings<'t>) -> Option<(Item<'t>, Siblings<'t>)>
             };
             Some((item, Siblings { entries: rest }))
         }
+    }
+}
+
+/// Nothing is printed of these parts: there are none, or a leaf alone.
+#[inline(always)]
+#[tactic(auto, using(crate::proofs::RowLemmas::bare_none, crate::proofs::RowLemmas::bare_leaf))]
+pub fn is_bare(parts: Siblings<'_>) -> bool
+    ensures { IsTrue result → (ts : List Token) (own : Style) (s : Sheet) → all ts (trees_in (kept parts.entry.entries.now)) own s ≡ s }
+{
+    match split(&parts) {
+        None => true,
+        Some((part, rest)) => match part.what {
+            What::Leaf => rest.entries.is_empty(),
+            What::Node(_) | What::Role(_) | What::Parts | What::Lean(_) => false,
+        },
     }
 }
 

@@ -47,6 +47,7 @@ fn out(less: u8, right: Right) -> Stand
 
 // ---- tokens by their kinds
 
+#[inline(always)]
 pub fn kind_is(tokens: &[Token], at: usize, kind: TokenKind) -> bool
     ensures { result ≡ kind_is kind (slice_get tokens.now at) }
 {
@@ -417,6 +418,7 @@ fn listed(tokens: &[Token], style: Style, at: u32) -> Option<Stand>
 }
 
 /// How a token of this kind stands, where it is printed.
+#[inline(always)]
 #[tactic(auto, unfolding(crate::specs::Own::stand))]
 pub fn stand(tokens: &[Token], style: Style, kind: TokenKind, at: u32) -> Option<Stand>
     ensures { result ≡ stand tokens.now style kind at }

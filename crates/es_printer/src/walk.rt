@@ -4,15 +4,16 @@ ghost use Rattle.std.specs.Prelude.{◌≡◌, OnOk, IfOk};
 ghost use Rattle.es_syntax.specs.Held.{label_of};
 ghost use Rattle.es_syntax.specs.Trees.{first_tree, trees_in};
 ghost use Rattle.es_printer.specs.Sheet.{node, shown};
+ghost use Rattle.es_printer.specs.Laid.{Grows};
 ghost use Rattle.es_printer.specs.Rows.{kept, tree_at, last_of, all, turned, leant, leaning};
 
-use crate::piece::Sheet;
-use crate::rows::{split, turn};
+use crate::draft::Draft;
+use crate::piece::Source;
+use crate::rows::{is_bare, split, turn};
 use crate::sheet::{before, behind, up_to};
 use crate::style::{Style, style_of};
 use es_grammar::NodeKind;
 use es_syntax::{Item, Lean, Siblings, What};
-use es_token::Token;
 use std::alloc::AllocError;
 
 /// The alternative of nodes that lean left.
@@ -26,58 +27,60 @@ fn label_of(lean: Lean) -> NodeKind
 }
 
 /// What is printed of what stands there, in a node of this style.
+#[inline(always)]
 #[cycle(walk)]
 #[tactic(auto, using(crate::proofs::WalkLemmas::walk_leaf, crate::proofs::WalkLemmas::walk_node, crate::proofs::WalkLemmas::walk_role, crate::proofs::WalkLemmas::walk_parts, crate::proofs::WalkLemmas::walk_lean))]
 pub fn walk(
-    out: &mut Sheet,
-    tokens: &[Token],
+    out: &mut Draft,
+    source: &Source<'_>,
     here: Style,
-    item: &Item<'_>,
+    item: Item<'_>,
 ) -> Result<(), AllocError>
-    ensures { OnOk result (out.new ≡ shown tokens.now (tree_at item.now) here out.old) }
+    ensures { OnOk result (Grows source.now (shown source.now.tokens.now (tree_at item.entry) here) out.old out.new) }
 {
     match item.what {
         What::Leaf => Ok(()),
-        What::Node(label) => node(out, tokens, here, label, item),
-        What::Role(_) => first(out, tokens, here, &item.parts),
-        What::Parts => all(out, tokens, here, &item.parts),
-        What::Lean(lean) => leaning(out, tokens, here, lean, item),
+        What::Node(label) => node(out, source, here, label, item),
+        What::Role(_) => first(out, source, here, item.parts),
+        What::Parts => some(out, source, here, item.parts),
+        What::Lean(lean) => leaning(out, source, here, lean, item.from, item.parts),
     }
 }
 
 /// A node, by its alternative.
+#[inline(always)]
 #[cycle(walk)]
-#[tactic(auto, unfolding(crate::specs::Sheet::node))]
+#[tactic(auto, using(crate::proofs::LaidLemmas::node_grows))]
 fn node(
-    out: &mut Sheet,
-    tokens: &[Token],
+    out: &mut Draft,
+    source: &Source<'_>,
     here: Style,
     label: NodeKind,
-    item: &Item<'_>,
+    item: Item<'_>,
 ) -> Result<(), AllocError>
-    ensures { OnOk result (out.new ≡ node tokens.now label item.now.from item.now.to (all tokens.now (trees_in (kept item.now.parts.entries.now))) here out.old) }
+    ensures { OnOk result (Grows source.now (node source.now.tokens.now label item.entry.from item.entry.to (all source.now.tokens.now (trees_in (kept item.entry.parts.entries.now))) here) out.old out.new) }
 {
     let own = style_of(label);
-    up_to(out, tokens, here, item.from)?;
-    before(out, here, own, item.from)?;
-    all(out, tokens, own, &item.parts)?;
-    up_to(out, tokens, own, item.to)?;
-    behind(out, tokens, here, label, item.to)
+    up_to(out, source, here, item.from)?;
+    before(out, source, here, own, item.from)?;
+    some(out, source, own, item.parts)?;
+    up_to(out, source, own, item.to)?;
+    behind(out, source, here, label, item.to)
 }
 
 /// The first part.
 #[cycle(walk)]
 #[tactic(auto, using(crate::proofs::WalkLemmas::first_none, crate::proofs::WalkLemmas::first_some))]
 pub fn first(
-    out: &mut Sheet,
-    tokens: &[Token],
+    out: &mut Draft,
+    source: &Source<'_>,
     here: Style,
-    parts: &Siblings<'_>,
+    parts: Siblings<'_>,
 ) -> Result<(), AllocError>
-    ensures { OnOk result (out.new ≡ shown tokens.now (first_tree (trees_in (kept parts.now.entries.now))) here out.old) }
+    ensures { OnOk result (Grows source.now (shown source.now.tokens.now (first_tree (trees_in (kept parts.entry.entries.now))) here) out.old out.new) }
 {
-    match split(parts) {
-        Some((part, _)) => walk(out, tokens, here, &part),
+    match split(&parts) {
+        Some((part, _)) => walk(out, source, here, part),
         None => Ok(()),
     }
 }
@@ -86,80 +89,99 @@ pub fn first(
 #[cycle(walk)]
 #[tactic(auto, using(crate::proofs::WalkLemmas::all_none, crate::proofs::WalkLemmas::all_more))]
 fn all(
-    out: &mut Sheet,
-    tokens: &[Token],
+    out: &mut Draft,
+    source: &Source<'_>,
     own: Style,
-    parts: &Siblings<'_>,
+    parts: Siblings<'_>,
 ) -> Result<(), AllocError>
-    ensures { OnOk result (out.new ≡ all tokens.now (trees_in (kept parts.now.entries.now)) own out.old) }
+    ensures { OnOk result (Grows source.now (all source.now.tokens.now (trees_in (kept parts.entry.entries.now)) own) out.old out.new) }
 {
-    let mut row = *parts;
+    let mut row = parts;
     while let Some((part, rest)) = split(&row) {
-        walk(out, tokens, own, &part)?;
+        walk(out, source, own, part)?;
         row = rest;
     }
     Ok(())
 }
 
+/// The same, with no call where nothing is printed of them.
+#[cycle(walk)]
+#[inline(always)]
+#[tactic(auto, using(crate::proofs::WalkLemmas::all_bare))]
+fn some(
+    out: &mut Draft,
+    source: &Source<'_>,
+    own: Style,
+    parts: Siblings<'_>,
+) -> Result<(), AllocError>
+    ensures { OnOk result (Grows source.now (all source.now.tokens.now (trees_in (kept parts.entry.entries.now)) own) out.old out.new) }
+{
+    if is_bare(parts) {
+        return Ok(());
+    }
+    all(out, source, own, parts)
+}
+
 /// A first operand and turns, one at least: fewer parts are no node.
 #[cycle(walk)]
-#[tactic(auto, using(crate::proofs::LeanLemmas::leaning_none, crate::proofs::LeanLemmas::leaning_one, crate::proofs::LeanLemmas::leaning_more))]
+#[tactic(auto, using(crate::proofs::WalkLemmas::leaning_none, crate::proofs::WalkLemmas::leaning_one, crate::proofs::WalkLemmas::leaning_more))]
 fn leaning(
-    out: &mut Sheet,
-    tokens: &[Token],
+    out: &mut Draft,
+    source: &Source<'_>,
     here: Style,
     lean: Lean,
-    item: &Item<'_>,
+    from: u32,
+    parts: Siblings<'_>,
 ) -> Result<(), AllocError>
-    ensures { OnOk result (out.new ≡ leaning tokens.now lean item.now.from (kept item.now.parts.entries.now) here out.old) }
+    ensures { OnOk result (Grows source.now (leaning source.now.tokens.now lean from (kept parts.entry.entries.now) here) out.old out.new) }
 {
-    match split(&item.parts) {
+    match split(&parts) {
         None => Ok(()),
         Some((operand, turns)) => match split(&turns) {
             None => Ok(()),
-            Some(_) => leaned(out, tokens, here, lean, item.from, &operand, &turns),
+            Some(_) => leaned(out, source, here, lean, from, operand, turns),
         },
     }
 }
 
 /// The first operand, and its turns.
 #[cycle(walk)]
-#[tactic(auto, unfolding(crate::specs::Rows::leant))]
+#[tactic(auto, using(crate::proofs::LaidLemmas::leant_grows))]
 fn leaned(
-    out: &mut Sheet,
-    tokens: &[Token],
+    out: &mut Draft,
+    source: &Source<'_>,
     here: Style,
     lean: Lean,
     from: u32,
-    operand: &Item<'_>,
-    turns: &Siblings<'_>,
+    operand: Item<'_>,
+    turns: Siblings<'_>,
 ) -> Result<(), AllocError>
-    ensures { OnOk result (out.new ≡ leant tokens.now lean from (tree_at operand.now) (kept turns.now.entries.now) here out.old) }
+    ensures { OnOk result (Grows source.now (leant source.now.tokens.now lean from (tree_at operand.entry) (kept turns.entry.entries.now) here) out.old out.new) }
 {
-    up_to(out, tokens, here, from)?;
-    before(out, here, Style::Operator, from)?;
-    walk(out, tokens, Style::Operator, operand)?;
-    let to = turned(out, tokens, turns, from)?;
-    behind(out, tokens, here, label_of(lean), to)
+    up_to(out, source, here, from)?;
+    before(out, source, here, Style::Operator, from)?;
+    walk(out, source, Style::Operator, operand)?;
+    let to = turned(out, source, turns, from)?;
+    behind(out, source, here, label_of(lean), to)
 }
 
 /// Operators with their operands; the answer is the token behind the last one.
 #[cycle(walk)]
 #[tactic(auto, using(crate::proofs::WalkLemmas::turned_none, crate::proofs::WalkLemmas::turned_more, crate::proofs::WalkLemmas::last_none, crate::proofs::WalkLemmas::last_more))]
 fn turned(
-    out: &mut Sheet,
-    tokens: &[Token],
-    turns: &Siblings<'_>,
+    out: &mut Draft,
+    source: &Source<'_>,
+    turns: Siblings<'_>,
     from: u32,
 ) -> Result<u32, AllocError>
-    ensures shown { OnOk result (out.new ≡ turned tokens.now (kept turns.now.entries.now) out.old) }
-    ensures to { IfOk result (λ to. to ≡ last_of from (kept turns.now.entries.now)) }
+    ensures shown { OnOk result (Grows source.now (turned source.now.tokens.now (kept turns.entry.entries.now)) out.old out.new) }
+    ensures to { IfOk result (λ to. to ≡ last_of from (kept turns.entry.entries.now)) }
 {
-    let mut row = *turns;
+    let mut row = turns;
     let mut to = from;
     while let Some((operand, rest)) = split(&row) {
-        all(out, tokens, Style::Operator, &turn(&operand))?;
-        up_to(out, tokens, Style::Operator, operand.to)?;
+        all(out, source, Style::Operator, turn(&operand))?;
+        up_to(out, source, Style::Operator, operand.to)?;
         to = operand.to;
         row = rest;
     }
