@@ -3,6 +3,7 @@ pub mod BuilderLemmas
 pub mod ReachLemmas
 pub mod ByTextLemmas
 pub mod NumberLemmas
+pub mod LinksLemmas
 pub mod SlotsLemmas
 pub mod ReachingLemmas
 pub mod BuildingLemmas
@@ -10,6 +11,7 @@ pub mod ProgressLemmas
 pub mod HandLemmas
 pub mod FinalLemmas
 pub mod SettlingLemmas
+pub mod SettledLinksLemmas
 pub mod GraphLemmas
 pub mod PlainLemmas
 pub mod ResultLemmas

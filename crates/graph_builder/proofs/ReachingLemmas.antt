@@ -1,6 +1,6 @@
 -- Reaching one specifier after another.
-use Rattle.std.proofs.Common.{◌≡◌, ◌⊎◌, inl, inr, ◌≤◌, ◌<◌, zero, suc, ℕ, ◌+◌, ◌-◌, Bool, true, false, cond, List, [], ◌∷◌, ◌++◌, length, take, drop, slice_get, get_or, refl, sym, subst, ◌∙◌, ap, arith, Option, Some, None, Result, Err, add-one, append-nil, append_assoc, length-append}
-use Rattle.std.specs.Prelude.{bytes_eq, is_some, ◌||◌, option_to_list, fold}
+use Rattle.std.proofs.Common.{◌≡◌, ◌⊎◌, inl, inr, ◌≤◌, ◌<◌, zero, suc, ℕ, ◌+◌, ◌-◌, Bool, true, false, cond, List, [], ◌∷◌, ◌++◌, map, length, take, drop, slice_get, get_or, refl, sym, subst, ◌∙◌, ap, arith, Option, Some, None, Result, Ok, Err, add-one, append-nil, append_assoc, length-append}
+use Rattle.std.specs.Prelude.{bytes_eq, is_some, ◌||◌, option_to_list, fold, OnOk}
 use Rattle.std.specs.List.{filter_map, cons_option, IsDistinct}
 use Rattle.std.proofs.lemmas.List.{map_more, length-map, length-drop}
 use Rattle.std.proofs.lemmas.List.Sums.{fold-append}
@@ -8,6 +8,7 @@ use Rattle.std.proofs.lemmas.Map.Keys.{IsDistinct-cons}
 use Rattle.url.specs.Parts.{Parts}
 use Rattle.media_type.specs.MediaType.{is_typed}
 use Rattle.graph_entry.specs.Specifier.{text_of}
+use Rattle.graph_entry.specs.Entry.{edge_target}
 use Rattle.graph_entry.specs.declared.entry.Dependency.{Dependency}
 use Rattle.graph_entry.specs.declared.entry.Entry.{Entry}
 use Rattle.graph_entry.specs.declared.entry.JsModule.{JsModule}
@@ -25,8 +26,10 @@ use Rattle.graph_builder.specs.Graph.{texts, with_one}
 use Rattle.graph_builder.specs.ByText.{value_at, keys_at, number_of}
 use Rattle.graph_builder.specs.Builder.{GoesOn}
 use Rattle.graph_builder.specs.Slots.{IsOverfull}
-use Rattle.graph_builder.specs.Reaching.{slots_of, todo_of, HasRoom, HasReached, IsMarked, IsFilled, Grows, TakesNext}
+use Rattle.graph_builder.specs.Links.{no_link, IsKept, IsLink, AreLinks, IsOneMore}
+use Rattle.graph_builder.specs.Reaching.{slots_of, todo_of, HasRoom, HasReached, IsMarked, IsFilled, Fills, Grows, TakesNext}
 use Rattle.graph_builder.proofs.ByTextLemmas.{has-keys_at}
+use Rattle.graph_builder.proofs.LinksLemmas.{links_later, links_push}
 use Rattle.graph_builder.proofs.NumberLemmas.{absent, present, value_at-push, keys-push, todo-push, drop_next, drop_none, slice_get-append}
 use Rattle.graph_builder.proofs.SlotsLemmas.{grown_none, grown_already, grown_put, grown_more, overfull_more, has_one, none_equal, value_at_same}
 
@@ -174,6 +177,58 @@ takes_one r new open_yet is limit next =
       omega (arith, next, open_yet, ap length is),
     )
 
+-- ---- links
+
+-- what came last has the last number
+pub key_last : (entries new : List (Parts × Slot)) (u : Parts) (s : Specifier) (n : ℕ) → text_of u ≡ s
+    → n ≡ length entries → new ≡ entries ++ (u, Queued) ∷ [] → slice_get (keys_at new) n ≡ Some s
+key_last entries new u s n same is longer =
+    ap (λ (l : List Specifier). slice_get l n) (ap keys_at longer ∙ keys-push entries u Queued s same)
+    ∙ last (keys_at entries) n (is ∙ sym (length-keys entries))
+  where
+    last : (ts : List Specifier) (n : ℕ) → n ≡ length ts → slice_get (ts ++ s ∷ []) n ≡ Some s
+    last [] n h = rw h refl
+    last (t ∷ ts) zero h = absurd (omega (arith, h))
+    last (t ∷ ts) (suc n) h = last ts n (omega (arith, h))
+
+-- one more of an entry's ends
+pub ends_more : (ds : List Dependency) (i : ℕ) (d : Dependency) → i < length ds → d ≡ get_or ds i d
+    → map edge_target (take (i + 1) ds) ≡ map edge_target (take i ds) ++ edge_target d ∷ []
+ends_more ds i d within is = map_more edge_target ds i d within ∙ rw (← is) refl
+
+-- a link that is kept
+pub kept_link : (keys : List Specifier) (n x : ℕ) (t : Specifier) → slice_get keys n ≡ Some t → IsKept n x
+    → IsLink keys x (Some t)
+kept_link keys n x t at kept = λ some. ap (slice_get keys) (kept some) ∙ at
+
+-- no link
+pub none_left : (keys : List Specifier) (x : ℕ) (end : Option Specifier) → x ≡ no_link → IsLink keys x end
+none_left keys x None is = tt
+none_left keys x (Some t) is = λ some. absurd (omega (arith, is, some))
+
+pub on_ok : {A E P Q : Type 0} (r : Result A E) → (P → Q) → OnOk r P → OnOk r Q
+on_ok (Ok x) f h = f h
+on_ok (Err e) f h = h
+
+-- the links of a redirect
+pub one_link : (keys : List Specifier) (old new : List ℕ) (t : Specifier) → old ≡ []
+    → IsOneMore keys (Some t) old new → AreLinks keys new (Some t ∷ [])
+one_link keys old new t none more =
+    rw (more.1, none) (more.2, tt)
+
+-- links stay links where more is reached, and one more comes
+pub links_more : (come : List Specifier) (a b : Reaching) (old new : List ℕ) (ends : List (Option Specifier))
+    (end : Option Specifier)
+    → HasReached come a b → AreLinks (keys_at a.reached) old ends → IsOneMore (keys_at b.reached) end old new
+    → AreLinks (keys_at b.reached) new (ends ++ end ∷ [])
+links_more come a b old new ends end r links more =
+    let g : GoesOn (keys_at a.reached) (keys_at b.reached) = rw r.all (goes_on_with (keys_at a.reached) come) in
+    subst (λ (xs : List ℕ). AreLinks (keys_at b.reached) xs (ends ++ end ∷ [])) (sym more.1)
+    (links_push (keys_at b.reached) old ends more.0 end
+    (subst (λ (ks : List Specifier). AreLinks ks old ends) (sym g.1)
+    (links_later (keys_at a.reached) g.0 old ends links))
+    more.2)
+
 -- ---- a slot is written
 
 pub marked : (r new : Reaching) (s : Specifier) (x : Slot)
@@ -206,6 +261,12 @@ filled rules s e old between new r m limit = record {
       (rw r.all (goes_on_with (keys_at old.reached) (targets rules e)))
       (goes_on_same (keys_at between.reached) (keys_at new.reached) m.keys);
 }
+
+-- what an entry leads to is too much, or memory runs out
+pub fills_err : (rules : Rules) (s : Specifier) (e : Entry) (old new : Reaching) (why : GrowError)
+    → Grows (targets rules e) old new (Err why) → Fills rules s e old new (Err why)
+fills_err rules s e old new (TooMany seen) h = h
+fills_err rules s e old new OutOfMemory h = tt
 
 -- what came makes it no shorter
 pub reached_longer : (come : List Specifier) (a b : Reaching) → HasReached come a b

@@ -1,7 +1,7 @@
 -- What a builder has when a run ends.
-use Rattle.std.proofs.Common.{◌≡◌, ◌⊎◌, inl, inr, ◌≤◌, ◌<◌, ◌-◌, ℕ, ◌+◌, Bool, true, false, List, [], ◌∷◌, ◌++◌, length, map, take, drop, refl, sym, ◌∙◌, ap, subst, arith, Option, Some, None, Result, Err, append-nil, append_assoc, length-append}
+use Rattle.std.proofs.Common.{◌≡◌, inl, inr, ◌≤◌, ◌<◌, ◌-◌, ℕ, ◌+◌, Bool, true, false, List, [], ◌∷◌, ◌++◌, length, map, take, drop, refl, sym, ◌∙◌, ap, subst, arith, Option, Some, None, Result, Err, append-nil, append_assoc, length-append}
 use Rattle.std.specs.Prelude.{bytes_eq, is_some, option_map}
-use Rattle.std.specs.List.{IsDistinct, flat_map, zip}
+use Rattle.std.specs.List.{IsDistinct, flat_map}
 use Rattle.std.proofs.lemmas.List.Sums.{fold-append}
 use Rattle.std.specs.Map.{keys_of}
 use Rattle.std.proofs.lemmas.List.{take_all, length-map, map-append}
@@ -25,11 +25,10 @@ use Rattle.graph_builder.specs.Builder.{last_of, before_last, GoesOn, SomeOutsta
 use Rattle.graph_builder.specs.declared.error.BuildError.{BuildError}
 use Rattle.graph_builder.specs.declared.error.BuildError.TheVariants as error
 use Rattle.graph_builder.specs.Progress.{At, IsLive, starts_at, own_count, own_events, own_asked, own_log, slots_at, todo_at, IsThrough, IsPaused, IsUnasked, GoesOnAt, IsKeptAt}
-use Rattle.graph_builder.specs.Inside.{IsInside, all_done, AreDone, AreEntries, HaveEntries, seen_of}
+use Rattle.graph_builder.specs.Inside.{IsInside, all_done, AreDone, HaveEntries, seen_of}
 use Rattle.graph_builder.specs.Settling.{settled, finals_of, AreSettled}
 use Rattle.numbered.specs.Numbers.{at_numbers, IsByBytes}
 use Rattle.graph_builder.proofs.GraphLemmas.{ascending_numbered, entry_numbered}
-use Rattle.graph_builder.proofs.SettlingLemmas.{zip_mapped, values_zip}
 use Rattle.graph_builder.proofs.FinalLemmas.{graph_settled}
 use Rattle.std.specs.Cmp.Lexicographic.{nat_list_eq_equiv}
 use Rattle.graph_builder.proofs.ByTextLemmas.{has-keys_at, length-keys_at}
@@ -115,55 +114,6 @@ answered_now rules x v all =
     all_answered (own_asked x) (own_log x) (distinct_log rules (starts_at x) (own_log x) v.building.orderly)
     v.building.answered
     (omega (arith, v.kept.own.asked_counted, v.kept.own.taken_counted, all))
-
--- slots without their specifiers
-pub entries_here : (ks : List Parts) (slots : List Slot) (reached : List (Parts × Slot)) → length ks ≡ length slots
-    → zip ks slots ≡ reached → AreDone reached → AreEntries slots
-entries_here ks slots reached even is d = record {
-  entries = map (λ (e : Parts × Entry). e.1) d.entries;
-  is = sym (values_zip ks slots even) ∙ ap (map (λ (e : Parts × Slot). e.1)) (is ∙ d.is) ∙ by d.entries;
-}
-  where
-    by : (es : List (Parts × Entry)) → map (λ (e : Parts × Slot). e.1) (all_done es)
-        ≡ map Done (map (λ (e : Parts × Entry). e.1) es)
-    by [] = refl
-    by (e ∷ es) = ap (λ (l : List Slot). Done e.1 ∷ l) (by es)
-
--- of slots that all have an entry the first has one, and so have the others
-pub done_first : (x : Slot) (xs slots : List Slot) → slots ≡ x ∷ xs → AreEntries slots
-    → (((x ≡ Queued) ⊎ (x ≡ Asked)) → ⊥) × AreEntries xs
-done_first x xs slots is d = by d.entries (sym is ∙ d.is)
-  where
-    open_not : (y : Slot) (e : Entry) → y ≡ Done e → ((y ≡ Queued) ⊎ (y ≡ Asked)) → ⊥
-    open_not y e s (inl q) = let n = sym q ∙ s in cc
-    open_not y e s (inr a) = let n = sym a ∙ s in cc
-
-    by : (es : List Entry) → x ∷ xs ≡ map Done es → (((x ≡ Queued) ⊎ (x ≡ Asked)) → ⊥) × AreEntries xs
-    by [] h = absurd cc
-    by (e ∷ es) h =
-        let first : x ≡ Done e = cc in
-        let rest : xs ≡ map Done es = cc in
-        (open_not x e first, record { entries = es; is = rest })
-
--- one slot more that has its entry
-pub done_push : (yielded : List Slot) (entries new : List Entry) (slot : Slot) (e : Entry)
-    → yielded ≡ map Done entries → slot ≡ Done e → new ≡ entries ++ e ∷ []
-    → yielded ++ slot ∷ [] ≡ map Done new
-done_push yielded entries new slot e so_far is longer =
-    ap (λ (l : List Slot). l ++ slot ∷ []) so_far
-    ∙ ap (λ (y : Slot). map Done entries ++ y ∷ []) is
-    ∙ sym (map-append Done entries (e ∷ []))
-    ∙ ap (map Done) (sym longer)
-
--- all slots have their entries
-pub done_whole : (ks : List Parts) (slots : List Slot) (entries : List Entry) (reached : List (Parts × Slot))
-    → zip ks slots ≡ reached → slots ≡ map Done entries → reached ≡ all_done (zip ks entries)
-done_whole ks slots entries reached is all = sym is ∙ ap (zip ks) all ∙ zip_mapped Done ks entries
-
--- so many entries as specifiers
-pub done_even : (ks : List Parts) (slots : List Slot) (entries : List Entry) → length ks ≡ length slots
-    → slots ≡ map Done entries → length ks ≡ length entries
-done_even ks slots entries even all = even ∙ ap length all ∙ length-map entries Done
 
 -- a slot that waits for nothing has an entry
 done_of : (y : Slot) → (y ≡ Queued → ⊥) × (y ≡ Asked → ⊥) → (e : Entry) × (y ≡ Done e)
@@ -318,7 +268,8 @@ result_not_yet {rules} once l m w rs os x y f g1 p g k sorted = record {
     earlier_same = before_after x y k g
 
 pub result_unasked : {rules : Rules} → IsFunctional rules
-    → {L W : Type 0} (batch : ℕ) (l m : L) (w : W) (rs : List Parts) (os : List ReferrerImports) (x y : At) (f g1 : Bool)
+    → {L W : Type 0} (batch : ℕ) (l m : L) (w : W) (rs : List Parts) (os : List ReferrerImports) (x y : At)
+    (f g1 : Bool)
     (s : Specifier)
     → IsUnasked rules batch x y s → IsUnawaited rules batch (seen_of l w rs os x f) (seen_of m w rs os y g1) s
 result_unasked {rules} once batch l m w rs os x y f g1 s u = record {
@@ -333,7 +284,8 @@ result_unasked {rules} once batch l m w rs os x y f g1 s u = record {
 }
 
 -- of a loader that answers open requests alone no answer is unasked, where none was open before
-pub fairly : {rules : Rules} → (batch : ℕ) (x y : At) (s : Specifier) → IsKeptAt rules x → IsKeptAt rules y → GoesOnAt x y
+pub fairly : {rules : Rules} → (batch : ℕ) (x y : At) (s : Specifier) → IsKeptAt rules x → IsKeptAt rules y
+    → GoesOnAt x y
     → IsUnasked rules batch x y s → x.loader.fair ≡ true
     → IsSettled (before_last (own_count x) x.loader.events) → ⊥
 fairly {rules} batch x y s kx ky g u fair none_open =
@@ -405,7 +357,8 @@ unawaited_none rules old new s u h = by u.unawaited
 
 orderly_last_by : (rules : Rules) (batch : ℕ) (starts0 : List Specifier) (before log : Log) (s : Specifier)
     (a : LoadAnswer)
-    → IsOrderlyByAfter rules batch starts0 before (log ++ (s, a) ∷ []) → IsAwaitedBy rules batch starts0 (before ++ log) s
+    → IsOrderlyByAfter rules batch starts0 before (log ++ (s, a) ∷ [])
+    → IsAwaitedBy rules batch starts0 (before ++ log) s
 orderly_last_by rules batch starts0 before [] s a h = rw append-nil h.0
 orderly_last_by rules batch starts0 before (x ∷ log) s a h =
     rw (sym (append_assoc before (x ∷ []) log)) (orderly_last_by rules batch starts0 (before ++ x ∷ []) log s a h.1)

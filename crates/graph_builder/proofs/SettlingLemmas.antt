@@ -1,23 +1,26 @@
 -- The loops over first entries, their verdicts and their edges.
-use Rattle.std.proofs.Common.{zero, suc, ◌≡◌, ◌<◌, ◌≤◌, ◌+◌, ◌-◌, ℕ, Bool, true, false, List, [], ◌∷◌, ◌++◌, length, map, take, slice_get, get_or, refl, sym, ◌∙◌, ap, subst, arith, Option, Some, None, length-append}
-use Rattle.std.specs.Prelude.{option_and_then, if◌then◌else◌}
+use Rattle.std.proofs.Common.{zero, suc, ◌≡◌, ◌<◌, ◌≤◌, ◌+◌, ◌-◌, ℕ, Bool, true, false, List, [], ◌∷◌, ◌++◌, length, map, take, slice_get, get_or, refl, sym, ◌∙◌, ap, ap₂, subst, arith, Option, Some, None, Ok, length-append}
+use Rattle.std.specs.Prelude.{option_and_then, is_none, ◌&&◌, if◌then◌else◌}
 use Rattle.std.specs.List.{zip}
 use Rattle.std.proofs.lemmas.List.{length-map, take_all}
 use Rattle.url.specs.Parts.{Parts}
 use Rattle.graph_entry.specs.Specifier.{text_of}
+use Rattle.graph_entry.specs.Resolution.{Resolved}
 use Rattle.graph_entry.specs.declared.entry.Dependency.{Dependency}
 use Rattle.graph_entry.specs.declared.entry.Entry.{Entry}
+use Rattle.graph_entry.specs.declared.entry.Module.{Module}
+use Rattle.graph_entry.specs.declared.entry.Module.TheVariants.{Js, Json, Wasm}
 use Rattle.graph_entry.specs.declared.entry.Entry.TheVariants as entry
 use Rattle.graph_entry.specs.declared.entry.ModuleError.TheVariants.{TooManyRedirects}
 use Rattle.graph_builder.specs.declared.settle.Unfit.{Unfit}
 use Rattle.graph_builder.specs.declared.settle.Verdict.{Verdict}
-use Rattle.graph_builder.specs.declared.settle.Verdict.TheVariants.{Kept, TooFar}
+use Rattle.graph_builder.specs.declared.settle.Verdict.TheVariants.{Kept, TooFar, Judged}
 use Rattle.graph_builder.specs.declared.following.Following.{Following}
 use Rattle.graph_builder.specs.Rules.{edges_of, Means, rules_of, rules_by}
 use Rattle.graph_builder.specs.Reach.{Specifier, Rules}
-use Rattle.graph_builder.specs.Graph.{redirected, on_from, resolved_over}
+use Rattle.graph_builder.specs.Graph.{redirected, on_from, resolved_over, module_at}
 use Rattle.graph_builder.specs.Final.{with_edges}
-use Rattle.graph_builder.specs.Settling.{led, leads_on, misfit, verdict_of, settled_edge, judged_edges, judged, all_judged, IsVerdictOn, values_of, settled, finals_of}
+use Rattle.graph_builder.specs.Settling.{led, leads_on, unfit, unfit_at, misfit, none_refused, is_kept, all_kept, verdict_of, settled_edge, judged_edges, judged, all_judged, IsVerdictOn, values_of, settled, finals_of}
 
 -- ---- redirects, step by step
 
@@ -71,6 +74,15 @@ resolved_whole entries most i at whole over so_far =
     none : most ≤ i → most - i ≡ 0
     none h = omega arith
 
+-- ---- an edge, by the module at its end
+
+pub unfit_found : (firsts : List (Parts × Entry)) (d : Dependency) (url target : Parts) (found : Option Module)
+    → found ≡ module_at firsts (text_of url) → url ≡ target → d.resolution ≡ Ok target
+    → unfit d found ≡ unfit_at firsts d d.resolution
+unfit_found firsts d url target found at same is =
+    ap (unfit d) (at ∙ ap (λ (u : Parts). module_at firsts (text_of u)) same)
+    ∙ sym (ap (λ (r : Resolved). unfit_at firsts d r) is)
+
 -- ---- a list beside another
 
 module _ {X V : Type 0} where
@@ -93,6 +105,23 @@ edges_judged : (f : Dependency → Option Unfit) (ds : List Dependency)
 edges_judged f [] = refl
 edges_judged f (d ∷ ds) = ap (λ (es : List Dependency). settled_edge (f d) d ∷ es) (edges_judged f ds)
 
+-- edges of which none is refused stay
+edges_fit : (f : Dependency → Option Unfit) (ds : List Dependency) → none_refused (map f ds) ≡ true
+    → map (λ d. settled_edge (f d) d) ds ≡ ds
+edges_fit f [] h = refl
+edges_fit f (d ∷ ds) h = by (f d) (edges_fit f ds) h
+  where
+    by : (u : Option Unfit) → (none_refused (map f ds) ≡ true → map (λ e. settled_edge (f e) e) ds ≡ ds)
+        → (is_none u && none_refused (map f ds)) ≡ true
+        → settled_edge u d ∷ map (λ e. settled_edge (f e) e) ds ≡ d ∷ ds
+    by None rest h = ap (λ (es : List Dependency). d ∷ es) (rest h)
+    by (Some x) rest h = absurd cc
+
+same_edges : (m : Module) → with_edges m (edges_of m) ≡ m
+same_edges (Js m) = refl
+same_edges (Json m) = refl
+same_edges (Wasm m) = refl
+
 -- what the verdict on an entry makes of it is what becomes of it
 pub judged_settled : (rules : Rules) (firsts : List (Parts × Entry)) (e : Entry)
     → judged (verdict_of rules firsts e) e ≡ settled rules firsts e
@@ -102,8 +131,18 @@ judged_settled rules firsts (entry.Redirect target) = by (leads_on firsts (text_
         ≡ (if b then entry.Error (TooManyRedirects target) else entry.Redirect target)
     by true = refl
     by false = refl
-judged_settled rules firsts (entry.Module m) =
-    ap (λ (es : List Dependency). entry.Module (with_edges m es)) (edges_judged (misfit rules firsts m) (edges_of m))
+judged_settled rules firsts (entry.Module m) = by (none_refused refused) refl
+  where
+    refused : List (Option Unfit)
+    refused = map (misfit rules firsts m) (edges_of m)
+
+    by : (b : Bool) → none_refused refused ≡ b → judged (if b then Kept else Judged refused) (entry.Module m)
+        ≡ entry.Module (with_edges m (map (λ d. settled_edge (misfit rules firsts m d) d) (edges_of m)))
+    by true h = sym (ap (λ (es : List Dependency). entry.Module (with_edges m es))
+        (edges_fit (misfit rules firsts m) (edges_of m) h) ∙ ap (λ (x : Module). entry.Module x) (same_edges m))
+    by false h =
+        ap (λ (es : List Dependency). entry.Module (with_edges m es))
+        (edges_judged (misfit rules firsts m) (edges_of m))
 judged_settled rules firsts (entry.Package held) = refl
 judged_settled rules firsts entry.External = refl
 judged_settled rules firsts (entry.Error e) = refl
@@ -115,10 +154,45 @@ verdict_on rules firsts (entry.Redirect target) = by (leads_on firsts (text_of t
     by : (b : Bool) → IsVerdictOn (if b then TooFar else Kept) (entry.Redirect target)
     by true = tt
     by false = tt
-verdict_on rules firsts (entry.Module m) = length-map (edges_of m) (misfit rules firsts m)
+verdict_on rules firsts (entry.Module m) = by (none_refused (map (misfit rules firsts m) (edges_of m)))
+  where
+    by : (b : Bool) → IsVerdictOn (if b then Kept else Judged (map (misfit rules firsts m) (edges_of m)))
+        (entry.Module m)
+    by true = tt
+    by false = length-map (edges_of m) (misfit rules firsts m)
 verdict_on rules firsts (entry.Package held) = tt
 verdict_on rules firsts entry.External = tt
 verdict_on rules firsts (entry.Error e) = tt
+
+-- entries that all stay are those of the graph
+pub kept_finals : (rules : Rules) (firsts : List (Parts × Entry)) (verdicts : List Verdict)
+    → verdicts ≡ map (verdict_of rules firsts) (values_of firsts) → all_kept verdicts ≡ true
+    → firsts ≡ finals_of rules firsts
+kept_finals rules firsts verdicts are kept =
+    sym (all_stay firsts (ap all_kept (sym are) ∙ kept))
+  where
+    kept_of : (v : Verdict) → is_kept v ≡ true → v ≡ Kept
+    kept_of Kept h = refl
+    kept_of TooFar h = absurd cc
+    kept_of (Judged refused) h = absurd cc
+
+    stays : (e : Entry) → is_kept (verdict_of rules firsts e) ≡ true → settled rules firsts e ≡ e
+    stays e h =
+        sym (judged_settled rules firsts e) ∙ ap (λ (v : Verdict). judged v e) (kept_of (verdict_of rules firsts e) h)
+
+    all_stay : (es : List (Parts × Entry)) → all_kept (map (verdict_of rules firsts) (values_of es)) ≡ true
+        → map (λ (e : Parts × Entry). (e.0, settled rules firsts e.1)) es ≡ es
+    all_stay [] h = refl
+    all_stay (e ∷ es) h = by (is_kept (verdict_of rules firsts e.1)) (stays e.1) (all_stay es) h
+      where
+        by : (b : Bool) → (b ≡ true → settled rules firsts e.1 ≡ e.1)
+            → (all_kept (map (verdict_of rules firsts) (values_of es)) ≡ true
+            → map (λ (f : Parts × Entry). (f.0, settled rules firsts f.1)) es ≡ es)
+            → (b && all_kept (map (verdict_of rules firsts) (values_of es))) ≡ true
+            → (e.0, settled rules firsts e.1) ∷ map (λ (f : Parts × Entry). (f.0, settled rules firsts f.1)) es ≡ e ∷ es
+        by true one rest h =
+            ap₂ (λ (x : Entry) (xs : List (Parts × Entry)). (e.0, x) ∷ xs) (one refl) (rest h)
+        by false one rest h = absurd cc
 
 -- ---- edges, one by one
 

@@ -1,14 +1,14 @@
 -- What holds of a builder's inner part.
-use Rattle.std.specs.Prelude.{◌≡◌, Bool, false, List, map, Some}
+use Rattle.std.specs.Prelude.{◌≡◌, Bool, false, List, Some}
 use Rattle.url.specs.Parts.{Parts}
-use Rattle.graph_entry.specs.declared.entry.Entry.{Entry}
 use Rattle.graph_entry.specs.declared.referrer.ReferrerImports.{ReferrerImports}
 use Rattle.graph_entry.specs.Resolution.{Resolves}
 use Rattle.graph_entry.specs.Referrer.{starts_by}
 use Rattle.graph_builder.specs.declared.slot.Slot.{Slot}
-use Rattle.graph_builder.specs.declared.slot.Slot.TheVariants.{Queued, Asked, Done}
+use Rattle.graph_builder.specs.declared.slot.Slot.TheVariants.{Queued, Asked}
 use Rattle.graph_builder.specs.Reach.{Specifier, Rules}
 use Rattle.graph_builder.specs.ByText.{value_at}
+pub use Rattle.graph_builder.specs.Slots.{all_done, AreDone}
 use Rattle.graph_builder.specs.Events.{asked_of, log_of}
 use Rattle.graph_builder.specs.Builder.{BuildingBy, before_last}
 use Rattle.graph_builder.specs.Progress.{At, IsKeptAt, IsLive, own_count, own_events, starts_at}
@@ -40,20 +40,6 @@ pub record IsInside (rules : Rules) (resolves : Resolves) (given_roots : List Pa
   pub starting : starts_at x ≡ starts_by resolves given_roots outside
   pub kept : IsKeptAt rules x
   pub live : finished ≡ false → IsLive rules x
-
--- slots that all have an entry
-abbrev pub all_done : List (Parts × Entry) → List (Parts × Slot)
-all_done entries = map (λ e. (e.0, Done e.1)) entries
-
--- each slot has an entry
-pub record AreDone (slots : List (Parts × Slot)) : Type 0 where
-  pub entries : List (Parts × Entry)
-  pub is : slots ≡ all_done entries
-
--- the same without their specifiers
-pub record AreEntries (slots : List Slot) : Type 0 where
-  pub entries : List Entry
-  pub is : slots ≡ map Done entries
 
 -- no slot of a specifier waits for its entry
 abbrev pub HaveEntries : List (Parts × Slot) → Type 0

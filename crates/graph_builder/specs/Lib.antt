@@ -15,6 +15,8 @@ pub use Rattle.graph_entry.specs.Entry
 -- ---- what the crate's functions promise each other
 pub mod ByText
 pub mod Slots
+pub mod Links
+pub mod Stops
 pub mod Building
 pub mod Reaching
 pub mod Progress

@@ -35,6 +35,11 @@ pub record HasReached (come : List Specifier) (old new : Reaching) : Type 0 wher
   pub next : new.next ≡ old.next
   pub all : keys_at new.reached ≡ fold with_one (keys_at old.reached) come
 
+-- that it was reached, without its number
+abbrev pub done_with : {A : Type 0} → Result A GrowError → Result (Unit {0}) GrowError
+done_with (Ok x) = Ok tt
+done_with (Err e) = Err e
+
 -- all that came is reached, or there is too much of it
 abbrev pub Grows : List Specifier → Reaching → Reaching → Result (Unit {0}) GrowError → Type 0
 Grows come old new (Ok done) = HasReached come old new

@@ -1,5 +1,5 @@
 -- How the first entries of all that is reached become those of the graph.
-use Rattle.std.specs.Prelude.{◌≡◌, ℕ, length, zero, suc, Bool, true, false, not, ◌&&◌, List, map, Option, Some, None, is_some, option_and_then, Ok, Err, if◌then◌else◌}
+use Rattle.std.specs.Prelude.{◌≡◌, ℕ, length, zero, suc, Bool, true, false, not, ◌&&◌, List, map, Option, Some, None, is_some, is_none, option_and_then, Ok, Err, if◌then◌else◌}
 use Rattle.std.specs.List.{zip, list_all}
 use Rattle.url.specs.Parts.{Parts}
 use Rattle.es_site.specs.declared.site.Attribute.{Attribute}
@@ -100,10 +100,28 @@ are_plain firsts = list_all (λ e. is_plain e.1) firsts
 abbrev pub values_of : List (Parts × Entry) → List Entry
 values_of firsts = map (λ e. e.1) firsts
 
+-- no edge is refused
+abbrev pub none_refused : List (Option Unfit) → Bool
+none_refused refused = list_all is_none refused
+
+-- what is to become of a module, by what its edges are refused for
+abbrev pub judgement : List (Option Unfit) → Verdict
+judgement refused = if none_refused refused then Kept else Judged refused
+
+-- the entry stays
+abbrev pub is_kept : Verdict → Bool
+is_kept Kept = true
+is_kept TooFar = false
+is_kept (Judged refused) = false
+
+-- all entries stay
+abbrev pub all_kept : List Verdict → Bool
+all_kept verdicts = list_all is_kept verdicts
+
 -- what is to become of it
 abbrev pub verdict_of : Rules → List (Parts × Entry) → Entry → Verdict
 verdict_of rules firsts (entry.Redirect target) = if leads_on firsts (text_of target) then TooFar else Kept
-verdict_of rules firsts (entry.Module m) = Judged (map (misfit rules firsts m) (edges_of m))
+verdict_of rules firsts (entry.Module m) = judgement (map (misfit rules firsts m) (edges_of m))
 verdict_of rules firsts (entry.Package held) = Kept
 verdict_of rules firsts entry.External = Kept
 verdict_of rules firsts (entry.Error e) = Kept

@@ -1,8 +1,10 @@
 -- How what is reached grows while a graph is built: a slot for each reached specifier, and a worklist.
-use Rattle.std.specs.Prelude.{◌≡◌, ◌⊎◌, ℕ, ◌+◌, true, List, length, bytes_eq, Option, Some, None}
+use Rattle.std.specs.Prelude.{◌≡◌, ◌⊎◌, ℕ, ◌+◌, true, List, map, length, bytes_eq, Option, Some, None}
 use Rattle.std.specs.List.{IsDistinct}
+use Rattle.url.specs.Parts.{Parts}
+use Rattle.graph_entry.specs.declared.entry.Entry.{Entry}
 use Rattle.graph_builder.specs.declared.slot.Slot.{Slot}
-use Rattle.graph_builder.specs.declared.slot.Slot.TheVariants.{Queued}
+use Rattle.graph_builder.specs.declared.slot.Slot.TheVariants.{Queued, Done}
 use Rattle.graph_builder.specs.Reach.{Specifier, has}
 
 -- the slot of each specifier that was reached so far
@@ -27,3 +29,12 @@ pub record IsOverfull (come : List Specifier) (slots : Slots) (limit seen : ℕ)
   pub counted : length members ≡ seen
   pub once : IsDistinct bytes_eq members
   pub each : (t : Specifier) → has members t ≡ true → (slots t ≡ None → ⊥) ⊎ (has come t ≡ true)
+
+-- slots that all have an entry
+abbrev pub all_done : List (Parts × Entry) → List (Parts × Slot)
+all_done entries = map (λ e. (e.0, Done e.1)) entries
+
+-- each slot has an entry
+pub record AreDone (slots : List (Parts × Slot)) : Type 0 where
+  pub entries : List (Parts × Entry)
+  pub is : slots ≡ all_done entries

@@ -3,19 +3,16 @@ ghost use Rattle.std.specs.Prelude.{◌≡◌, map, bytes_eq, IfOk, OnOk};
 ghost use Rattle.std.specs.List.{IsDistinct};
 ghost use Rattle.graph_entry.specs.Referrer.{referred_by};
 ghost use Rattle.graph_builder.specs.Rules.{rules_by};
-ghost use Rattle.graph_builder.specs.declared.slot.Slot.TheVariants.{Done};
 ghost use Rattle.graph_builder.specs.ByText.{keys_at};
-ghost use Rattle.graph_builder.specs.Inside.{all_done, AreDone, AreEntries, HaveEntries};
+ghost use Rattle.graph_builder.specs.Inside.{HaveEntries};
 ghost use Rattle.graph_builder.specs.Settling.{AreSettled};
 
-use crate::by_number::count;
 use crate::graph::ModuleGraph;
+use crate::reached::Reached;
 use crate::settle::settle_by;
-use crate::slot::Slot;
 use crate::ways::Ways;
 use base::Items;
-use graph_entry::{Entry, ReferrerImports};
-use numbered::Numbered;
+use graph_entry::ReferrerImports;
 use std::alloc::{AllocError, Global};
 use std::mem;
 use url::Url;
@@ -26,7 +23,7 @@ pub fn finish<W: Ways>(
     ways: &W,
     roots: &[Url],
     outside: &[ReferrerImports],
-    reached: &mut Numbered<Slot>,
+    reached: &mut Reached,
 ) -> Result<ModuleGraph, AllocError>
     requires { HaveEntries reached.old }
     ensures roots { IfOk result (λ g. g.roots ≡ roots.now) }
@@ -37,36 +34,12 @@ pub fn finish<W: Ways>(
     let roots = copies(alloc, roots)?;
     let imports = ways.referred(alloc, outside)?;
     // The proof learns from it that no specifier has two numbers.
-    let _count = count(reached);
-    let taken = mem::replace(reached, Numbered::new(alloc));
-    let firsts = entries_of(alloc, taken)?;
-    let entries = settle_by(alloc, ways, firsts)?;
+    let _count = reached.count();
+    let taken = mem::replace(reached, Reached::new(alloc));
+    let (firsts, links) = taken.into_parts();
+    let entries = settle_by(alloc, ways, firsts, &links)?;
     let order = entries.by_bytes(alloc)?;
-    Ok(ModuleGraph::new(roots, imports, entries, order))
-}
-
-// The entries of slots that all have one.
-fn entries_of(alloc: Global, reached: Numbered<Slot>) -> Result<Numbered<Entry>, AllocError>
-    requires { AreDone reached }
-    ensures { IfOk result (λ entries. reached ≡ all_done entries) }
-{
-    let (specifiers, slots) = reached.into_parts();
-    let entries = done_entries(alloc, slots)?;
-    Ok(Numbered::from_parts(specifiers, entries))
-}
-
-fn done_entries(alloc: Global, slots: Items<Slot>) -> Result<Items<Entry>, AllocError>
-    requires { AreEntries slots }
-    ensures { IfOk result (λ entries. slots ≡ map Done entries) }
-{
-    let mut entries = Items::from_vec(Vec::with_capacity(alloc, slots.len())?);
-    for slot in slots.into_vec() {
-        match slot {
-            Slot::Done(entry) => entries.push(entry)?,
-            Slot::Queued | Slot::Asked => unreachable!(),
-        }
-    }
-    Ok(entries)
+    Ok(ModuleGraph::new(roots, imports, entries, links, order))
 }
 
 fn copies(alloc: Global, urls: &[Url]) -> Result<Items<Url>, AllocError>

@@ -1,13 +1,17 @@
 //! The finished graph.
-ghost use Rattle.std.specs.Prelude.{◌≡◌, ◌<◌, ◌↔◌, None, IsSome, IfOk, IfSome, length, slice_get, option_map, map};
+ghost use Rattle.std.specs.Prelude.{◌≡◌, ◌<◌, ◌↔◌, Some, None, IsSome, IfOk, IfSome, length, slice_get, option_map, map};
 ghost use Rattle.std.specs.Option.{option_copied};
 ghost use Rattle.numbered.specs.Numbers.{at_numbers, IsByBytes};
 ghost use Rattle.graph_entry.specs.Specifier.{text_of};
 ghost use Rattle.graph_builder.specs.Graph.{entry_of, redirected, resolved, module_at, number_in, IsAscending};
 ghost use Rattle.graph_builder.specs.Entries.{entries_left};
+ghost use Rattle.graph_builder.specs.Links.{HaveLinks};
+ghost use Rattle.graph_builder.specs.Stops.{IsStop};
+ghost use Rattle.graph_entry.specs.declared.entry.Entry.TheVariants as entry;
 
 use crate::by_number::{find, number};
 use crate::entries::Entries;
+use crate::links::{Links, Stop, end_of, stop_at};
 use base::Items;
 use graph_entry::{Dependency, Entry, Module};
 use numbered::Numbered;
@@ -24,6 +28,8 @@ pub struct ModuleGraph {
     roots: Items<Url>,
     imports: Items<(Url, Items<Dependency>)>,
     all: Numbered<Entry>,
+    // Where their edges and redirects lead.
+    links: Links,
     // The numbers, by the bytes of their specifiers.
     order: Items<usize>,
 }
@@ -32,6 +38,7 @@ impl Model for ModuleGraph {
     ghost use Rattle.std.specs.Prelude.{map};
     ghost use Rattle.numbered.specs.Numbers.{at_numbers, IsByBytes};
     ghost use Rattle.graph_builder.specs.Graph.{GraphData};
+    ghost use Rattle.graph_builder.specs.Links.{HaveLinks};
 
     ghost Value = { GraphData };
 
@@ -42,7 +49,7 @@ impl Model for ModuleGraph {
       numbered = map (λ e. e.0) g.all;
     } };
 
-    ghost invariant = { λ g. IsByBytes g.all g.order };
+    ghost invariant = { λ g. IsByBytes g.all g.order × HaveLinks g.all g.links };
 }
 
 impl ModuleGraph {
@@ -51,9 +58,11 @@ impl ModuleGraph {
         roots: Items<Url>,
         imports: Items<(Url, Items<Dependency>)>,
         all: Numbered<Entry>,
+        links: Links,
         order: Items<usize>,
     ) -> ModuleGraph
-        requires { IsByBytes all order }
+        requires by_bytes { IsByBytes all order }
+        requires linked { HaveLinks all links }
         ensures roots { result.roots ≡ roots }
         ensures imports { result.imports ≡ imports }
         ensures entries { result.entries ≡ at_numbers all order }
@@ -63,6 +72,7 @@ impl ModuleGraph {
             roots,
             imports,
             all,
+            links,
             order,
         }
     }
@@ -92,14 +102,14 @@ impl ModuleGraph {
     pub fn resolve<'a>(&'a self, specifier: &'a Url) -> &'a Url
         ensures { text_of result.now ≡ resolved self.now.entries (text_of specifier.now) }
     {
-        resolve_in(&self.all, specifier)
+        resolve_in(&self.all, &self.links, stop_at(&self.all, specifier)).specifier
     }
 
     /// The module there, if there is one.
     pub fn get(&self, specifier: &Url) -> Option<&Module>
         ensures { option_copied result ≡ module_at self.now.entries (text_of specifier.now) }
     {
-        module_in(&self.all, specifier)
+        module_in(&self.all, &self.links, stop_at(&self.all, specifier))
     }
 
     /// All entries, by the bytes of their specifiers.
@@ -132,22 +142,53 @@ impl ModuleGraph {
 }
 
 /// Where the entry of a specifier redirects to, if it does.
-pub fn redirect_in<'a>(all: &'a Numbered<Entry>, specifier: &Url) -> Option<&'a Url>
-    ensures { option_map text_of (option_copied result) ≡ redirected all.now (text_of specifier.now) }
+pub fn redirect_in<'a>(all: &'a Numbered<Entry>, links: &Links, at: Stop<'_>) -> Option<Stop<'a>>
+    requires linked { HaveLinks all.now links.now }
+    requires stop { IsStop all.now at }
+    ensures to { option_map (λ next. text_of next.specifier.now) result ≡ redirected all.now (text_of at.entry.specifier.now) }
+    ensures stop { IfSome result (λ next. IsStop all.now next) }
 {
-    match find(all, specifier)? {
-        Entry::Redirect(target) => Some(target),
+    match entry_at(all, at)? {
+        Entry::Redirect(target) => Some(behind(all, links, at, target)),
         Entry::Module(_) | Entry::Package(_) | Entry::External | Entry::Error(_) => None,
     }
 }
 
-// Where the redirects from a specifier lead.
-fn resolve_in<'a>(all: &'a Numbered<Entry>, specifier: &'a Url) -> &'a Url
-    ensures { text_of result.now ≡ resolved all.now (text_of specifier.now) }
+// The target of a redirect, with its number.
+fn behind<'a>(all: &Numbered<Entry>, links: &Links, at: Stop<'_>, target: &'a Url) -> Stop<'a>
+    requires linked { HaveLinks all.now links.now }
+    requires stop { IsStop all.now at }
+    requires redirects { entry_of all.now (text_of at.specifier.now) ≡ Some (entry.Redirect target.now) }
+    ensures specifier { result.specifier.now ≡ target.now }
+    ensures stop { IsStop all.now result }
 {
-    let mut at = specifier;
+    match at.number {
+        Some(number) => end_of(all, links, number, 0, target),
+        None => stop_at(all, target),
+    }
+}
+
+// The entry of a specifier with its number.
+fn entry_at<'a>(all: &'a Numbered<Entry>, at: Stop<'_>) -> Option<&'a Entry>
+    requires { IsStop all.now at }
+    ensures { option_copied result ≡ entry_of all.now (text_of at.entry.specifier.now) }
+{
+    match at.number {
+        Some(number) => all.value(number),
+        None => None,
+    }
+}
+
+// Where the redirects from a specifier lead.
+fn resolve_in<'a>(all: &'a Numbered<Entry>, links: &Links, from: Stop<'a>) -> Stop<'a>
+    requires linked { HaveLinks all.now links.now }
+    requires stop { IsStop all.now from }
+    ensures to { text_of result.specifier.now ≡ resolved all.now (text_of from.entry.specifier.now) }
+    ensures stop { IsStop all.now result }
+{
+    let mut at = from;
     for _ in 0..MOST_REDIRECTS {
-        match redirect_in(all, at) {
+        match redirect_in(all, links, at) {
             Some(next) => at = next,
             None => return at,
         }
@@ -155,23 +196,27 @@ fn resolve_in<'a>(all: &'a Numbered<Entry>, specifier: &'a Url) -> &'a Url
     at
 }
 
-/// The module that a specifier leads to: one look-up, where it redirects nowhere.
+/// The module that a specifier leads to: its own, where it redirects nowhere.
 #[tactic(auto, using(crate::proofs::GraphLemmas::module_here, crate::proofs::GraphLemmas::no_module_here))]
-pub fn module_in<'a>(all: &'a Numbered<Entry>, specifier: &Url) -> Option<&'a Module>
-    ensures { option_copied result ≡ module_at all.now (text_of specifier.now) }
+pub fn module_in<'a>(all: &'a Numbered<Entry>, links: &Links, at: Stop<'_>) -> Option<&'a Module>
+    requires linked { HaveLinks all.now links.now }
+    requires stop { IsStop all.now at }
+    ensures { option_copied result ≡ module_at all.now (text_of at.entry.specifier.now) }
 {
-    match find(all, specifier)? {
+    match entry_at(all, at)? {
         Entry::Module(found) => Some(found),
-        Entry::Redirect(_) => module_behind(all, specifier),
+        Entry::Redirect(_) => module_behind(all, links, at),
         Entry::Package(_) | Entry::External | Entry::Error(_) => None,
     }
 }
 
 // The same behind redirects.
-fn module_behind<'a>(all: &'a Numbered<Entry>, specifier: &Url) -> Option<&'a Module>
-    ensures { option_copied result ≡ module_at all.now (text_of specifier.now) }
+fn module_behind<'a>(all: &'a Numbered<Entry>, links: &Links, at: Stop<'_>) -> Option<&'a Module>
+    requires linked { HaveLinks all.now links.now }
+    requires stop { IsStop all.now at }
+    ensures { option_copied result ≡ module_at all.now (text_of at.entry.specifier.now) }
 {
-    match find(all, resolve_in(all, specifier))? {
+    match entry_at(all, resolve_in(all, links, at))? {
         Entry::Module(found) => Some(found),
         Entry::Redirect(_) | Entry::Package(_) | Entry::External | Entry::Error(_) => None,
     }

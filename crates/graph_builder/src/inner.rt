@@ -8,7 +8,6 @@ ghost use Rattle.graph_builder.specs.Reach.{answer_to};
 ghost use Rattle.graph_builder.specs.Graph.{texts, different, IsGraph};
 ghost use Rattle.graph_builder.specs.Builder.{starts, GoesOn, new_building_by, IsOrderly, IsAsking, IsAskedFor, EachAnswered, IsToldLog, HasHistory, IsNotYet, IsUnawaited, IsTooMany, IsComplete, IsCompleteBy, IsFairly, CameInTime};
 
-use crate::by_number::count;
 use crate::error::BuildError;
 use crate::finish::finish;
 use crate::graph::ModuleGraph;
@@ -184,7 +183,7 @@ impl<L: Loader + Drop, W: Ways + Drop> Inner<L, W> {
             Err(BuildError::NotYet) => {
                 self.finished = false;
                 // The proof learns from it that no specifier has two numbers.
-                let _count = count(&self.progress.reaching.reached);
+                let _count = self.progress.reaching.reached.count();
                 Err(BuildError::NotYet)
             }
             Err(BuildError::TooManyModules { seen }) => Err(BuildError::TooManyModules { seen }),
@@ -259,7 +258,7 @@ impl<L: Loader + Drop, W: Ways + Drop + Sync> Inner<L, W> {
             Err(BuildError::NotYet) => {
                 self.finished = false;
                 // The proof learns from it that no specifier has two numbers.
-                let _count = count(&self.progress.reaching.reached);
+                let _count = self.progress.reaching.reached.count();
                 Err(BuildError::NotYet)
             }
             Err(BuildError::TooManyModules { seen }) => Err(BuildError::TooManyModules { seen }),

@@ -1,22 +1,23 @@
 //! What is reached so far: a slot for each specifier, by its number, and how many of them were dealt with.
-ghost use Rattle.std.specs.Prelude.{◌↔◌, IsTrue, option_map, Some, None, ◌≡◌, ◌+◌, ◌≤◌, ◌<◌, ℕ, [], ◌∷◌, length, slice_get, IfSome, Err, option_to_list};
+ghost use Rattle.std.specs.Prelude.{Some, None, ◌≡◌, ◌+◌, ◌≤◌, ◌<◌, ℕ, [], ◌∷◌, length, slice_get, map, List, Option, IfOk, IfSome, OnOk, Err, option_to_list};
 ghost use Rattle.std.specs.List.{filter_map};
 ghost use Rattle.graph_entry.specs.Specifier.{text_of};
+ghost use Rattle.graph_entry.specs.Entry.{edge_target};
 ghost use Rattle.graph_builder.specs.declared.slot.Slot.TheVariants.{Asked};
 ghost use Rattle.graph_builder.specs.Reach.{Specifier};
 ghost use Rattle.graph_builder.specs.Rules.{edges_of, led_to, targets, has_types, is_followed, rules_by};
 ghost use Rattle.graph_builder.specs.Graph.{texts};
 ghost use Rattle.graph_builder.specs.ByText.{value_at, keys_at};
-ghost use Rattle.graph_builder.specs.Reaching.{slots_of, todo_of, HasRoom, TakesInHand, Grows, Fills, IsMarked, TakesNext};
+ghost use Rattle.graph_builder.specs.Links.{ends_of, AreLinks, IsOneMore};
+ghost use Rattle.graph_builder.specs.Reaching.{slots_of, todo_of, done_with, HasRoom, TakesInHand, Grows, Fills, IsMarked, TakesNext};
 ghost use Rattle.graph_builder.specs.Progress.{FillsUnasked, Takes};
 
-use crate::by_number::{add, count, number, set};
 use crate::error::BuildError;
 use crate::following::Following;
-use crate::slot::Slot;
+use crate::links::{NO_LINK, link_to};
+use crate::reached::Reached;
 use crate::ways::Ways;
 use graph_entry::{Dependency, Entry, LoadAnswer, Module};
-use numbered::Numbered;
 use std::alloc::{AllocError, Global};
 use url::Url;
 
@@ -40,7 +41,7 @@ impl From<AllocError> for GrowError {
 /// A slot for each reached specifier, in the order in which they came. Those before `next` were dealt with.
 #[derive(Drop)]
 pub struct Reaching {
-    pub reached: Numbered<Slot>,
+    pub reached: Reached,
     pub next: usize,
     pub limit: usize,
 }
@@ -53,29 +54,47 @@ impl Reaching {
         ensures limit { result.limit ≡ limit }
     {
         Reaching {
-            reached: Numbered::new(alloc),
+            reached: Reached::new(alloc),
             next: 0,
             limit,
         }
     }
 
-    /// Reaches a specifier: a new one gets the next number.
-    pub fn reach(&mut self, url: &Url) -> Result<(), GrowError>
+    /// Reaches a specifier, and gives its number: a new one gets the next.
+    pub fn reach(&mut self, url: &Url) -> Result<usize, GrowError>
         requires room { HasRoom self.old }
-        ensures grows { Grows (text_of url.now ∷ []) self.old self.new result }
+        ensures grows { Grows (text_of url.now ∷ []) self.old self.new (done_with result) }
+        ensures number { IfOk result (λ n. slice_get (keys_at self.new.reached) n ≡ Some (text_of url.now)) }
         ensures limit { self.new.limit ≡ self.old.limit }
     {
-        match number(&self.reached, url) {
-            Some(_) => return Ok(()),
+        match self.reached.number(url) {
+            Some(number) => return Ok(number),
             None => {}
         }
-        let before = count(&self.reached);
+        let before = self.reached.count();
         if before >= self.limit {
             return Err(GrowError::TooMany { seen: before + 1 });
         }
-        match add(&mut self.reached, url.clone()?, Slot::Queued) {
-            Ok(()) => return Ok(()),
+        match self.reached.add(url.clone()?) {
+            Ok(()) => return Ok(before),
             Err(_) => return Err(GrowError::OutOfMemory),
+        }
+    }
+
+    // Reaches the end of an edge: one more link keeps its number.
+    fn reach_end(&mut self, url: &Url, links: &mut Vec<u32>) -> Result<(), GrowError>
+        requires room { HasRoom self.old }
+        ensures grows { Grows (text_of url.now ∷ []) self.old self.new result }
+        ensures linked { OnOk result
+            (IsOneMore (keys_at self.new.reached) (Some (text_of url.now)) links.old.items links.new.items) }
+        ensures limit { self.new.limit ≡ self.old.limit }
+    {
+        match self.reach(url) {
+            Ok(number) => match links.push(link_to(number)) {
+                Ok(()) => Ok(()),
+                Err(_) => Err(GrowError::OutOfMemory),
+            },
+            Err(error) => Err(error),
         }
     }
 
@@ -85,7 +104,7 @@ impl Reaching {
         ensures limit { self.new.limit ≡ self.old.limit }
     {
         let number = self.next;
-        if number >= count(&self.reached) {
+        if number >= self.reached.count() {
             return None;
         }
         self.next = number + 1;
@@ -100,41 +119,56 @@ impl Reaching {
     {
         for url in urls {
             match self.reach(url) {
-                Ok(()) => {}
+                Ok(_) => {}
                 Err(error) => return Err(error),
             }
         }
         Ok(())
     }
 
-    /// Reaches what an entry leads to.
+    /// Reaches what an entry leads to. There are no links yet: there is one for each edge, or for the redirect.
     #[tactic(auto, unfolding(crate::specs::Rules::targets))]
-    pub fn reach_targets<W: Ways>(&mut self, ways: &W, entry: &Entry) -> Result<(), GrowError>
+    pub fn reach_targets<W: Ways>(
+        &mut self,
+        ways: &W,
+        entry: &Entry,
+        links: &mut Vec<u32>,
+    ) -> Result<(), GrowError>
         requires room { HasRoom self.old }
+        requires empty { links.old.items ≡ [] }
         ensures grows { Grows (targets (rules_by (W.means ways.now) (W.follows ways.now)) entry.now) self.old self.new result }
+        ensures linked { OnOk result (AreLinks (keys_at self.new.reached) links.new.items (ends_of entry.now)) }
         ensures limit { self.new.limit ≡ self.old.limit }
     {
         match entry {
-            Entry::Redirect(target) => self.reach(target),
-            Entry::Module(importer) => self.reach_edges(ways.following(), importer),
+            Entry::Redirect(target) => self.reach_end(target, links),
+            Entry::Module(importer) => self.reach_edges(ways.following(), importer, links),
             Entry::Package(_) | Entry::External | Entry::Error(_) => Ok(()),
         }
     }
 
     // Reaches the targets of the followed edges of a module.
-    fn reach_edges(&mut self, following: Following, importer: &Module) -> Result<(), GrowError>
+    fn reach_edges(
+        &mut self,
+        following: Following,
+        importer: &Module,
+        links: &mut Vec<u32>,
+    ) -> Result<(), GrowError>
         requires room { HasRoom self.old }
+        requires empty { links.old.items ≡ [] }
         ensures grows { Grows (filter_map (led_to (is_followed following (has_types importer.now)))
             (edges_of importer.now)) self.old self.new result }
+        ensures linked { OnOk result
+            (AreLinks (keys_at self.new.reached) links.new.items (map edge_target (edges_of importer.now))) }
         ensures limit { self.new.limit ≡ self.old.limit }
     {
         match importer {
             Module::Js(source) => {
                 let typed = source.media_type.is_typed();
-                self.reach_dependencies(following, typed, source.dependencies.as_slice())
+                self.reach_dependencies(following, typed, source.dependencies.as_slice(), links)
             }
             Module::Wasm(binary) => {
-                self.reach_dependencies(following, false, binary.dependencies.as_slice())
+                self.reach_dependencies(following, false, binary.dependencies.as_slice(), links)
             }
             Module::Json(_) => Ok(()),
         }
@@ -146,13 +180,17 @@ impl Reaching {
         following: Following,
         typed: bool,
         dependencies: &[Dependency],
+        links: &mut Vec<u32>,
     ) -> Result<(), GrowError>
         requires room { HasRoom self.old }
+        requires empty { links.old.items ≡ [] }
         ensures grows { Grows (filter_map (led_to (is_followed following typed)) dependencies.now) self.old self.new result }
+        ensures linked { OnOk result
+            (AreLinks (keys_at self.new.reached) links.new.items (map edge_target dependencies.now)) }
         ensures limit { self.new.limit ≡ self.old.limit }
     {
         for dependency in dependencies {
-            match self.reach_dependency(following, typed, dependency) {
+            match self.reach_dependency(following, typed, dependency, links) {
                 Ok(()) => {}
                 Err(error) => return Err(error),
             }
@@ -165,17 +203,24 @@ impl Reaching {
         following: Following,
         typed: bool,
         dependency: &Dependency,
+        links: &mut Vec<u32>,
     ) -> Result<(), GrowError>
         requires room { HasRoom self.old }
         ensures grows { Grows (option_to_list (led_to (is_followed following typed) dependency.now)) self.old self.new result }
+        ensures linked { OnOk result
+            (IsOneMore (keys_at self.new.reached) (edge_target dependency.now) links.old.items links.new.items) }
         ensures limit { self.new.limit ≡ self.old.limit }
     {
         if !following.is_followed(typed, dependency) {
+            leave_out(links)?;
             return Ok(());
         }
         match &dependency.resolution {
-            Ok(target) => self.reach(target),
-            Err(_) => Ok(()),
+            Ok(target) => self.reach_end(target, links),
+            Err(_) => {
+                leave_out(links)?;
+                Ok(())
+            }
         }
     }
 
@@ -186,7 +231,7 @@ impl Reaching {
             → IsMarked s Asked self.old self.new }
         ensures limit { self.new.limit ≡ self.old.limit }
     {
-        set(&mut self.reached, number, Slot::Asked);
+        self.reached.set_asked(number);
     }
 
     /// The specifier with this number has this entry: what the entry leads to is reached.
@@ -197,12 +242,15 @@ impl Reaching {
             → Fills (rules_by (W.means ways.now) (W.follows ways.now)) s entry self.old self.new result }
         ensures limit { self.new.limit ≡ self.old.limit }
     {
-        match self.reach_targets(ways, &entry) {
+        let mut links = self.reached.no_links();
+        match self.reach_targets(ways, &entry, &mut links) {
             Ok(()) => {}
             Err(error) => return Err(error),
         }
-        set(&mut self.reached, number, Slot::Done(entry));
-        Ok(())
+        match self.reached.set_done(number, entry, links) {
+            Ok(()) => Ok(()),
+            Err(_) => Err(GrowError::OutOfMemory),
+        }
     }
 
     /// The specifier with this number, which no loader is asked for, has its entry: what the entry leads to is reached.
@@ -269,7 +317,7 @@ impl Reaching {
     {
         match self.asked_number(url) {
             Some(number) => {
-                set(&mut self.reached, number, Slot::Queued);
+                self.reached.set_queued(number);
                 true
             }
             None => false,
@@ -288,7 +336,7 @@ impl Reaching {
         ensures fills { Fills (rules_by (W.means ways.now) (W.follows ways.now)) (text_of url.now) entry self.old self.new result }
         ensures limit { self.new.limit ≡ self.old.limit }
     {
-        match number(&self.reached, url) {
+        match self.reached.number(url) {
             Some(number) => self.fill(ways, number, entry),
             None => unreachable!(),
         }
@@ -301,9 +349,9 @@ impl Reaching {
             × (value_at self.now.reached (text_of url.now) ≡ Some Asked)) }
         ensures none { result ≡ None → value_at self.now.reached (text_of url.now) ≡ Some Asked → ⊥ }
     {
-        match number(&self.reached, url) {
+        match self.reached.number(url) {
             Some(number) => {
-                if self.is_asked(number) {
+                if self.reached.is_asked(number) {
                     Some(number)
                 } else {
                     None
@@ -312,14 +360,13 @@ impl Reaching {
             None => None,
         }
     }
+}
 
-    // Whether the loader was asked for the specifier with this number and has not answered.
-    fn is_asked(&self, number: usize) -> bool
-        ensures { IsTrue result ↔ (option_map (λ e. e.1) (slice_get self.now.reached number) ≡ Some Asked) }
-    {
-        match self.reached.value(number) {
-            Some(Slot::Asked) => true,
-            Some(Slot::Queued | Slot::Done(_)) | None => false,
-        }
-    }
+// The link of an edge that leads nowhere, or isn't followed.
+fn leave_out(links: &mut Vec<u32>) -> Result<(), AllocError>
+    ensures { (keys : List Specifier) (end : Option Specifier) →
+        OnOk result (IsOneMore keys end links.old.items links.new.items) }
+{
+    links.push(NO_LINK)?;
+    Ok(())
 }

@@ -1,15 +1,20 @@
 //! What becomes of the first entries of all that is reached: the entries of the graph.
-ghost use Rattle.std.specs.Prelude.{◌≡◌, ℕ, Some, length, map, not, slice_get, IfOk, if◌then◌else◌};
+ghost use Rattle.std.specs.Prelude.{◌≡◌, ℕ, Some, is_none, length, map, not, slice_get, IfOk, if◌then◌else◌};
+ghost use Rattle.graph_entry.specs.declared.entry.Entry.TheVariants as entry;
+ghost use Rattle.graph_entry.specs.Entry.{edge_target};
 ghost use Rattle.graph_entry.specs.declared.entry.Entry.{Entry as First};
 ghost use Rattle.graph_builder.specs.declared.settle.Verdict.{Verdict as Judgement};
 ghost use Rattle.graph_entry.specs.Specifier.{text_of};
 ghost use Rattle.graph_builder.specs.Rules.{edges_of, has_types, rules_of, rules_by};
 ghost use Rattle.graph_builder.specs.Final.{fits, fits_phase, refused_edge, with_edges};
+ghost use Rattle.graph_builder.specs.Links.{ends_of, ends_in, end_at, HaveLinks};
+ghost use Rattle.graph_builder.specs.Stops.{IsStop};
 ghost use Rattle.graph_builder.specs.Settling as spec;
 ghost use Rattle.graph_builder.specs.Settling.{finals_of, values_of, verdict_of, settled_edge};
 
 use crate::following::{Following, is_source};
 use crate::graph::{MOST_REDIRECTS, module_in, redirect_in};
+use crate::links::{Links, Stop, end_of};
 use crate::ways::Ways;
 use base::Items;
 use graph_entry::{
@@ -18,7 +23,6 @@ use graph_entry::{
 };
 use numbered::Numbered;
 use std::alloc::{AllocError, Global};
-use url::Url;
 
 /// What an edge is refused for by the module at its end.
 #[derive(Clone, Copy)]
@@ -36,7 +40,7 @@ pub enum Verdict {
     Kept,
     /// It redirects further than redirects are followed.
     TooFar,
-    /// It is a module: which of its edges are refused, and for what.
+    /// It is a module with refused edges: which are refused, and for what.
     Judged(Items<Option<Unfit>>),
 }
 
@@ -45,13 +49,18 @@ fn settle(
     alloc: Global,
     following: Following,
     firsts: Numbered<Entry>,
+    links: &Links,
 ) -> Result<Numbered<Entry>, AllocError>
+    requires { HaveLinks firsts links.now }
     ensures { IfOk result (λ entries. entries ≡ finals_of (rules_of following) firsts) }
 {
     if are_plain(firsts.values()) {
         return Ok(firsts);
     }
-    let verdicts = verdicts_of(alloc, following, &firsts)?;
+    let verdicts = verdicts_of(alloc, following, &firsts, links)?;
+    if are_kept(verdicts.as_slice()) {
+        return Ok(firsts);
+    }
     settle_each(alloc, following, firsts, verdicts.as_slice())
 }
 
@@ -60,10 +69,12 @@ pub fn settle_by<W: Ways>(
     alloc: Global,
     ways: &W,
     firsts: Numbered<Entry>,
+    links: &Links,
 ) -> Result<Numbered<Entry>, AllocError>
+    requires { HaveLinks firsts links.now }
     ensures { IfOk result (λ entries. entries ≡ finals_of (rules_by (W.means ways.now) (W.follows ways.now)) firsts) }
 {
-    settle(alloc, ways.following(), firsts)
+    settle(alloc, ways.following(), firsts, links)
 }
 
 // Whether all first entries stay as they are: none redirects, none is JSON, and no edge asks for something.
@@ -109,40 +120,93 @@ fn verdicts_of(
     alloc: Global,
     following: Following,
     firsts: &Numbered<Entry>,
+    links: &Links,
 ) -> Result<Items<Verdict>, AllocError>
+    requires { HaveLinks firsts.now links.now }
     ensures { IfOk result (λ verdicts. verdicts
         ≡ map (verdict_of (rules_of following) firsts.now) (values_of firsts.now)) }
 {
-    verdicts_on(alloc, following, firsts, firsts.values())
+    verdicts_on(alloc, following, firsts, links, firsts.values())
 }
 
 fn verdicts_on(
     alloc: Global,
     following: Following,
     firsts: &Numbered<Entry>,
+    links: &Links,
     values: &[Entry],
 ) -> Result<Items<Verdict>, AllocError>
+    requires linked { HaveLinks firsts.now links.now }
+    requires values { values.now ≡ values_of firsts.now }
     ensures { IfOk result (λ verdicts. verdicts ≡ map (verdict_of (rules_of following) firsts.now) values.now) }
 {
     let mut verdicts = Items::from_vec(Vec::with_capacity(alloc, values.len())?);
-    for first in values {
-        verdicts.push(judge(alloc, following, firsts, first)?)?;
+    for (number, first) in values.iter().enumerate() {
+        verdicts.push(judge(alloc, following, firsts, links, number, first)?)?;
     }
     Ok(verdicts)
 }
 
+// On the entry with this number.
 fn judge(
     alloc: Global,
     following: Following,
     firsts: &Numbered<Entry>,
+    links: &Links,
+    number: usize,
     first: &Entry,
 ) -> Result<Verdict, AllocError>
+    requires linked { HaveLinks firsts.now links.now }
+    requires here { ends_in firsts.now number ≡ Some (ends_of first.now) }
     ensures { IfOk result (λ v. v ≡ verdict_of (rules_of following) firsts.now first.now) }
 {
     match first {
-        Entry::Redirect(target) => Ok(far_or_kept(leads_on(firsts, target))),
-        Entry::Module(module) => Ok(Verdict::Judged(misfits(alloc, following, firsts, module)?)),
+        Entry::Redirect(target) => {
+            let next = end_of(firsts, links, number, 0, target);
+            Ok(far_or_kept(leads_on(firsts, links, next)))
+        }
+        Entry::Module(module) => {
+            let refused = misfits(alloc, following, firsts, links, number, module)?;
+            Ok(judgement(refused))
+        }
         Entry::Package(_) | Entry::External | Entry::Error(_) => Ok(Verdict::Kept),
+    }
+}
+
+fn judgement(refused: Items<Option<Unfit>>) -> Verdict
+    ensures { result ≡ spec.judgement refused }
+{
+    if none_refused(refused.as_slice()) {
+        Verdict::Kept
+    } else {
+        Verdict::Judged(refused)
+    }
+}
+
+fn none_refused(refused: &[Option<Unfit>]) -> bool
+    ensures { result ≡ spec.none_refused refused.now }
+{
+    refused.iter().all(is_fit)
+}
+
+fn is_fit(unfit: &Option<Unfit>) -> bool
+    ensures { result ≡ is_none unfit.now }
+{
+    unfit.is_none()
+}
+
+fn are_kept(verdicts: &[Verdict]) -> bool
+    ensures { result ≡ spec.all_kept verdicts.now }
+{
+    verdicts.iter().all(is_kept)
+}
+
+fn is_kept(verdict: &Verdict) -> bool
+    ensures { result ≡ spec.is_kept verdict.now }
+{
+    match verdict {
+        Verdict::Kept => true,
+        Verdict::TooFar | Verdict::Judged(_) => false,
     }
 }
 
@@ -157,12 +221,14 @@ fn far_or_kept(is_far: bool) -> Verdict
 }
 
 // Whether from here as many redirects lead on as are followed.
-fn leads_on(firsts: &Numbered<Entry>, specifier: &Url) -> bool
-    ensures { result ≡ spec.leads_on firsts.now (text_of specifier.now) }
+fn leads_on<'a>(firsts: &'a Numbered<Entry>, links: &Links, from: Stop<'a>) -> bool
+    requires linked { HaveLinks firsts.now links.now }
+    requires stop { IsStop firsts.now from }
+    ensures { result ≡ spec.leads_on firsts.now (text_of from.entry.specifier.now) }
 {
-    let mut at = specifier;
+    let mut at = from;
     for _ in 0..MOST_REDIRECTS {
-        match redirect_in(firsts, at) {
+        match redirect_in(firsts, links, at) {
             Some(next) => at = next,
             None => return false,
         }
@@ -175,8 +241,12 @@ fn misfits(
     alloc: Global,
     following: Following,
     firsts: &Numbered<Entry>,
+    links: &Links,
+    number: usize,
     importer: &Module,
 ) -> Result<Items<Option<Unfit>>, AllocError>
+    requires linked { HaveLinks firsts.now links.now }
+    requires here { ends_in firsts.now number ≡ Some (map edge_target (edges_of importer.now)) }
     ensures { IfOk result (λ refused. refused
         ≡ map (spec.misfit (rules_of following) firsts.now importer.now) (edges_of importer.now)) }
 {
@@ -188,6 +258,8 @@ fn misfits(
                 following,
                 typed,
                 firsts,
+                links,
+                number,
                 source.dependencies.as_slice(),
             )
         }
@@ -197,6 +269,8 @@ fn misfits(
                 following,
                 false,
                 firsts,
+                links,
+                number,
                 binary.dependencies.as_slice(),
             )
         }
@@ -210,41 +284,62 @@ fn misfits_among(
     following: Following,
     typed: bool,
     firsts: &Numbered<Entry>,
+    links: &Links,
+    number: usize,
     edges: &[Dependency],
 ) -> Result<Items<Option<Unfit>>, AllocError>
+    requires linked { HaveLinks firsts.now links.now }
+    requires here { ends_in firsts.now number ≡ Some (map edge_target edges.now) }
     ensures { IfOk result (λ refused. refused ≡ map (spec.misfit_here following typed firsts.now) edges.now) }
 {
     let mut refused = Items::new(alloc);
-    for edge in edges {
-        refused.push(misfit(following, typed, firsts, edge))?;
+    for (place, edge) in edges.iter().enumerate() {
+        refused.push(misfit(following, typed, firsts, links, number, place, edge))?;
     }
     Ok(refused)
 }
 
+// The same for the edge in this place of the entry with this number.
 fn misfit(
     following: Following,
     typed: bool,
     firsts: &Numbered<Entry>,
+    links: &Links,
+    number: usize,
+    place: usize,
     edge: &Dependency,
 ) -> Option<Unfit>
+    requires linked { HaveLinks firsts.now links.now }
+    requires here { end_at firsts.now number place ≡ edge_target edge.now }
     ensures { result ≡ spec.misfit_here following typed firsts.now edge.now }
 {
     if following.is_followed(typed, edge) {
-        unfit_at(firsts, edge)
+        unfit_at(firsts, links, number, place, edge)
     } else {
         None
     }
 }
 
 // What the module that the edge leads to refuses it for.
-fn unfit_at(firsts: &Numbered<Entry>, edge: &Dependency) -> Option<Unfit>
+fn unfit_at(
+    firsts: &Numbered<Entry>,
+    links: &Links,
+    number: usize,
+    place: usize,
+    edge: &Dependency,
+) -> Option<Unfit>
+    requires linked { HaveLinks firsts.now links.now }
+    requires here { end_at firsts.now number place ≡ edge_target edge.now }
     ensures { result ≡ spec.unfit_at firsts.now edge.now edge.now.resolution }
 {
     match &edge.resolution {
-        Ok(target) => match module_in(firsts, target) {
-            Some(found) => refusal(edge, found),
-            None => None,
-        },
+        Ok(target) => {
+            let end = end_of(firsts, links, number, place, target);
+            match module_in(firsts, links, end) {
+                Some(found) => refusal(edge, found),
+                None => None,
+            }
+        }
         Err(_) => None,
     }
 }

@@ -1,7 +1,7 @@
-//! What is known of a reached specifier.
+//! What contracts see of a reached specifier.
 use graph_entry::Entry;
 
-/// What is known of a reached specifier.
+/// What is known of a reached specifier, as contracts see it.
 #[derive(Drop)]
 pub enum Slot {
     /// It waits on the worklist.

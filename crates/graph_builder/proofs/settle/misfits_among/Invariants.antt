@@ -3,5 +3,5 @@ use Rattle.graph_builder.specs.Settling.{misfit_here}
 use Rattle.graph_builder.proofs.settle.misfits_among.Given as goal
 
 -- an answer for each edge so far
-abbrev pub invariant-loop-edge : goal.invariant-loop-edge
-invariant-loop-edge l = l.refused ≡ map (misfit_here l.following l.typed l.firsts) (take l.edge-index l.edges)
+abbrev pub invariant-loop-place : goal.invariant-loop-place
+invariant-loop-place l = l.refused ≡ map (misfit_here l.following l.typed l.firsts) (take l.place l.edges)

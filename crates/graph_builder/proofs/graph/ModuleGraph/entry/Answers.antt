@@ -7,5 +7,5 @@ use Rattle.graph_builder.proofs.graph.ModuleGraph.entry.Goals as goal
 pub returns : goal.returns
 returns c =
     c.find.ensures
-    ∙ sym (entry_numbered c.self.inside.all c.self.inside.order c.self.invariant (text_of c.args.specifier.now))
+    ∙ sym (entry_numbered c.self.inside.all c.self.inside.order c.self.invariant.0 (text_of c.args.specifier.now))
     ∙ ap (λ (v : GraphData). entry_of v.entries (text_of c.args.specifier.now)) c.self.view_is

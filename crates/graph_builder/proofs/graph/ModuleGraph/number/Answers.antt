@@ -14,5 +14,5 @@ pub returns-clause-none : goal.returns-clause-none
 returns-clause-none c =
     subst (λ (v : GraphData). (c.number.result ≡ None) ↔ (entry_of v.entries (text_of c.args.specifier.now) ≡ None))
     c.self.view_is
-    (number_none c.self.inside.all c.self.inside.order c.self.invariant (text_of c.args.specifier.now) c.number.result
+    (number_none c.self.inside.all c.self.inside.order c.self.invariant.0 (text_of c.args.specifier.now) c.number.result
     c.number.ensures.value)
