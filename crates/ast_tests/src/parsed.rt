@@ -38,6 +38,47 @@ const ROWS: &[(MediaType, &str, &str)] = &[
     (MediaType::Mjs, "a;", "module"),
     (MediaType::Cts, "a;", "module"),
     (MediaType::JavaScript, "a;", "script"),
+    // A script alone has `with`, and an initial value in the head of a `for` with `in`.
+    (
+        MediaType::JavaScript,
+        "with (a) import(\"./b.ts\");",
+        "script 16-24 ./b.ts -",
+    ),
+    (MediaType::JavaScript, "for (var a = 1 in b) ;", "script"),
+    // A module alone has `await` outside async functions, `import.meta`, imports and exports.
+    (MediaType::JavaScript, "await a;", "module"),
+    (MediaType::JavaScript, "import.meta;", "module"),
+    (MediaType::JavaScript, "a; export { a };", "module"),
+    (
+        MediaType::JavaScript,
+        "a; { b } export * from \"./c.ts\";",
+        "module 23-31 ./c.ts -",
+    ),
+    (MediaType::TypeScript, "export as namespace A;", "module"),
+    // Nothing has both.
+    (
+        MediaType::JavaScript,
+        "with (a) b; await c;",
+        "SyntaxError: Syntax",
+    ),
+    (
+        MediaType::JavaScript,
+        "with (a) b; export { c };",
+        "SyntaxError: Syntax",
+    ),
+    // These words are the names of properties, or stand in a namespace.
+    (MediaType::JavaScript, "a.export\n{ }", "script"),
+    (
+        MediaType::JavaScript,
+        "a.import\n\"b\"; with (c) d;",
+        "script",
+    ),
+    (MediaType::JavaScript, "a.export\n{ } await b;", "module"),
+    (
+        MediaType::TypeScript,
+        "namespace A { export const a = 1; }",
+        "script",
+    ),
     (
         MediaType::TypeScript,
         "/// <reference types=\"./t.d.ts\" />",

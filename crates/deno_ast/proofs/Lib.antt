@@ -1,4 +1,5 @@
 pub mod TreeLemmas
+mod ModeLemmas
 pub mod FaultLemmas
 pub mod Theorems
 mod ParsedLemmas

@@ -1,5 +1,7 @@
 -- What the functions inside the crate promise each other.
 use Rattle.std.specs.Prelude.{ℕ, Bool, List, Option, Some, None, if◌then◌else◌}
+use Rattle.es_ast.specs.declared.ast.ModuleItem.{ModuleItem, out-ModuleItem}
+use Rattle.es_items.specs.Items.{is_some, decl_by}
 use Rattle.es_token.specs.declared.token.Token.{Token}
 use Rattle.es_lexer.specs.Reads.{Reads}
 use Rattle.es_comments.specs.Placed.{Placed}
@@ -39,3 +41,7 @@ parsed_of p r placed scopes = record {
   tokens = captured p.capture_tokens r.tokens;
   scopes = scopes;
 }
+
+-- an import or an export
+abbrev pub is_decl : ModuleItem → Bool
+is_decl item = is_some (decl_by (out-ModuleItem item))

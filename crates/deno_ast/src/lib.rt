@@ -16,6 +16,7 @@
 //! memory runs out.
 #![tactic(auto)]
 
+mod decls;
 mod lexing;
 mod module_kind;
 mod params;

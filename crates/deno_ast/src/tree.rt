@@ -3,10 +3,13 @@ ghost use Rattle.std.specs.Prelude.{◌≡◌, IfOk, [], ◌∷◌, List};
 ghost use Rattle.es_tree.specs.declared.error.Mode.TheVariants as mode;
 ghost use Rattle.es_lexer.specs.Reads.{ReadsTokens};
 ghost use Rattle.es_ast.specs.declared.ast.Program.{Program as Typed};
+ghost use Rattle.es_derives.specs.Derives.{Derives};
 ghost use Rattle.es_parser.specs.Answers.{GivesTree};
 ghost use Rattle.source_reading.specs.Tree.{IsFirstTree, IsTree};
 ghost use Rattle.source_sites.specs.Modes.{modes_in};
 
+use crate::decls::{has_decl, looks_like_module};
+use crate::program_ref::ProgramRef;
 use es_parser::parse_tokens;
 use es_program::{Program, SharedTokens};
 use es_tree::{Lang, Mode, SyntaxError};
@@ -64,8 +67,27 @@ fn parse_only(
     parse_tokens(alloc, lang, mode, text, tokens)
 }
 
-/// As a script, and where it is none as a module.
+/// As a script, and where it is none as a module. What looks like a module is read as one first: with an import or an
+/// export among its items it is no script.
 fn parse_either(
+    alloc: Global,
+    lang: Lang,
+    text: &SourceText,
+    tokens: &SharedTokens,
+) -> Result<Program, SyntaxError>
+    requires { ReadsTokens text.now tokens.now }
+    ensures made { IfOk result (IsFirstTree lang text.now tokens.now (mode.Script ∷ mode.Module ∷ [])) }
+    ensures only { (tree : Typed) → IsFirstTree lang text.now tokens.now (mode.Script ∷ mode.Module ∷ []) tree
+        → GivesTree result tree }
+{
+    if looks_like_module(tokens.as_slice()) {
+        module_first(alloc, lang, text, tokens)
+    } else {
+        script_first(alloc, lang, text, tokens)
+    }
+}
+
+fn script_first(
     alloc: Global,
     lang: Lang,
     text: &SourceText,
@@ -81,6 +103,69 @@ fn parse_either(
         Err(SyntaxError::Syntax { token: _ }) => {
             parse_tokens(alloc, lang, Mode::Module, text, tokens)
         }
+        Err(SyntaxError::OutOfMemory) => Err(SyntaxError::OutOfMemory),
+    }
+}
+
+fn module_first(
+    alloc: Global,
+    lang: Lang,
+    text: &SourceText,
+    tokens: &SharedTokens,
+) -> Result<Program, SyntaxError>
+    requires { ReadsTokens text.now tokens.now }
+    ensures made { IfOk result (IsFirstTree lang text.now tokens.now (mode.Script ∷ mode.Module ∷ [])) }
+    ensures only { (tree : Typed) → IsFirstTree lang text.now tokens.now (mode.Script ∷ mode.Module ∷ []) tree
+        → GivesTree result tree }
+{
+    match parse_tokens(alloc, lang, Mode::Module, text, tokens) {
+        Ok(program) => script_or(alloc, lang, text, tokens, program),
+        Err(SyntaxError::Syntax { token }) => no_module(alloc, lang, text, tokens, token),
+        Err(SyntaxError::OutOfMemory) => Err(SyntaxError::OutOfMemory),
+    }
+}
+
+/// The script, where there is one, else this module.
+fn script_or(
+    alloc: Global,
+    lang: Lang,
+    text: &SourceText,
+    tokens: &SharedTokens,
+    read: Program,
+) -> Result<Program, SyntaxError>
+    requires reads { ReadsTokens text.now tokens.now }
+    requires derived { Derives lang mode.Module text.now tokens.now read }
+    ensures made { IfOk result (IsFirstTree lang text.now tokens.now (mode.Script ∷ mode.Module ∷ [])) }
+    ensures only { (tree : Typed) → IsFirstTree lang text.now tokens.now (mode.Script ∷ mode.Module ∷ []) tree
+        → GivesTree result tree }
+{
+    if has_decl(&ProgramRef::of(&read).body()) {
+        return Ok(read);
+    }
+    match parse_tokens(alloc, lang, Mode::Script, text, tokens) {
+        Ok(program) => Ok(program),
+        Err(SyntaxError::Syntax { token: _ }) => Ok(read),
+        Err(SyntaxError::OutOfMemory) => Err(SyntaxError::OutOfMemory),
+    }
+}
+
+/// The script of what is no module, as was noticed at this token: where it is none either, that is told.
+fn no_module(
+    alloc: Global,
+    lang: Lang,
+    text: &SourceText,
+    tokens: &SharedTokens,
+    token: usize,
+) -> Result<Program, SyntaxError>
+    requires reads { ReadsTokens text.now tokens.now }
+    requires none { (tree : Typed) → ¬ Derives lang mode.Module text.now tokens.now tree }
+    ensures made { IfOk result (IsFirstTree lang text.now tokens.now (mode.Script ∷ mode.Module ∷ [])) }
+    ensures only { (tree : Typed) → IsFirstTree lang text.now tokens.now (mode.Script ∷ mode.Module ∷ []) tree
+        → GivesTree result tree }
+{
+    match parse_tokens(alloc, lang, Mode::Script, text, tokens) {
+        Ok(program) => Ok(program),
+        Err(SyntaxError::Syntax { token: _ }) => Err(SyntaxError::Syntax { token }),
         Err(SyntaxError::OutOfMemory) => Err(SyntaxError::OutOfMemory),
     }
 }

@@ -7,7 +7,7 @@ use Rattle.es_derives.specs.Derives.{Derives}
 use Rattle.es_parser.specs.Answers.{GivesTree}
 use Rattle.source_reading.proofs.TreeLemmas.{later, first_once}
 use Rattle.deno_ast.proofs.TreeLemmas.{first_given}
-use Rattle.deno_ast.proofs.tree.parse_either.Goals as goal
+use Rattle.deno_ast.proofs.tree.script_first.Goals as goal
 
 -- it is no script, and what is read is a module
 pub returns-in-Err-Syntax-clause-made : goal.returns-in-Err-Syntax-clause-made
