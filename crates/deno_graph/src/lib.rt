@@ -2,7 +2,8 @@
 //!
 //! - `GraphBuild::poll`: the graph of the roots and the loader's answers, or why there is none yet (`IsGraph`, reached, the
 //!   causes: the definitions are those of `graph_builder`).
-//! - What `graph_builder` has is handed on: `Loader`, `MemoryLoader`, `ModuleGraph`, `CustomBuild`.
+//! - What `graph_builder` has is handed on: `Loader`, `MemoryLoader`, `UnloggedLoader`, `ModuleGraph`,
+//!   `CustomBuild`.
 //!
 //! `OutOfMemory` is the one answer that no clause ties to a cause.
 #![tactic(auto)]
@@ -15,7 +16,7 @@ pub use file_url::{SpecifierError, resolve_import};
 pub use graph_analyzer::ParserModuleAnalyzer;
 pub use graph_builder::{
     Arrival, BuildError, BuildOptions, CustomBuild, Entries, Loader, LoaderPoll, MemoryLoader,
-    ModuleGraph,
+    ModuleGraph, UnloggedLoader,
 };
 pub use graph_entry::{
     AnalyzeFault, Attribute, DataError, DefaultResolver, Dependency, DependencyKind, Entry,

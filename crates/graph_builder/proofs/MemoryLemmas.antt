@@ -1,6 +1,6 @@
--- A loader in memory: how a module is found, and which request is answered.
-use Rattle.std.proofs.Common.{suc, ◌≡◌, ◌⊎◌, inl, inr, ◌≤◌, ◌<◌, ◌+◌, ◌-◌, ℕ, Bool, true, false, cond, List, [], ◌∷◌, ◌++◌, length, take, drop, get_or, refl, sym, ◌∙◌, ap, subst, arith, Some, None}
-use Rattle.std.specs.Prelude.{bytes_eq, not, count_by, ◌||◌, if◌then◌else◌}
+-- Loaders in memory: how a module is found, and which request is answered.
+use Rattle.std.proofs.Common.{suc, zero, add-one, slice_get, ◌≡◌, ◌⊎◌, inl, inr, ◌≤◌, ◌<◌, ◌+◌, ◌-◌, ℕ, Bool, true, false, cond, List, [], ◌∷◌, ◌++◌, length, take, drop, get_or, refl, sym, ◌∙◌, ap, subst, arith, Some, None}
+use Rattle.std.specs.Prelude.{bytes_eq, Option, option_map, unwrap_or, not, count_by, ◌||◌, if◌then◌else◌}
 use Rattle.std.specs.List.{list_any}
 use Rattle.std.specs.Map.{lookup, keys_of}
 use Rattle.std.specs.Cmp.Lexicographic.{nat_list_eq_equiv, same_text}
@@ -20,96 +20,82 @@ use Rattle.graph_builder.specs.declared.loader.LoaderPoll.TheVariants.{Pending, 
 use Rattle.graph_builder.specs.Reach.{Specifier, Log}
 use Rattle.graph_builder.specs.declared.loader.LoaderPoll.{LoaderPoll}
 use Rattle.graph_builder.specs.Events.{Event, Requested, Answered, asked_of, log_of, times, requests, answers}
-use Rattle.graph_builder.specs.ByText.{value_at, IsPut}
+use Rattle.graph_builder.specs.ByText.{value_at, number_of}
 use Rattle.graph_builder.specs.Graph.{texts}
 use Rattle.graph_builder.specs.Loader.{HasRisen, HasStarted, HasPolled, last_count}
 use Rattle.graph_builder.proofs.EventsLemmas.{times-append}
-use Rattle.graph_builder.specs.Memory.{module_answer, waits_for, settled, is_pending, next_answered, is_dropped, IsTaken, named, place_from, IsIndexFrom, IsIndex, Memory, text_log, is_forced, woven, IsOrderOf, data_of, IsKeptMemory, IsStarted, IsPolled}
+use Rattle.graph_builder.proofs.NumberLemmas.{present}
+use Rattle.graph_builder.specs.Memory.{module_answer, waits_for, settled, oldest, is_pending, next_answered, is_dropped, IsTaken, named, HasFirsts, noted, Memory, text_log, is_forced, woven, IsOrderOf, data_of, IsKeptMemory, IsStarted, IsPolled}
 
--- ---- the map of the modules
+-- ---- the modules
 
--- an empty map is the index of no modules
-pub index_none : (modules : List (Parts × LoadAnswer)) (places : List (Parts × ℕ)) → places ≡ []
-    → IsIndexFrom (length modules) modules places
-index_none modules places is s = rw (is, drop_all (length modules) modules (omega arith)) refl
+abbrev or_else : Option LoadAnswer → Option LoadAnswer → Option LoadAnswer
+or_else (Some a) b = Some a
+or_else None b = b
 
--- and one module more
-pub index_more : (modules : List (Parts × LoadAnswer)) (old new : List (Parts × ℕ)) (at : ℕ) (x : Parts × LoadAnswer)
-    → at < length modules → x ≡ get_or modules at x
-    → IsPut old new (text_of x.0) at → IsIndexFrom (at + 1) modules old → IsIndexFrom at modules new
-index_more modules old new at x lt is put rest s =
-    let here : place_from at (drop at modules) s
-    ≡ cond (bytes_eq s (text_of x.0)) (Some at) (place_from (at + 1) (drop (at + 1) modules) s) =
-    rw (drop_more modules at x lt, ← is) refl in
-    put s ∙ rw (rest s) (sym here)
+or_none : (a : Option LoadAnswer) → a ≡ or_else a None
+or_none (Some a) = refl
+or_none None = refl
 
-place_within : (n : ℕ) (modules : List (Parts × LoadAnswer)) (s : Specifier) (k : ℕ) → place_from n modules s ≡ Some k
-    → (n ≤ k) × (k < n + length modules)
-place_within n [] s k h = absurd cc
-place_within n (m ∷ modules) s k h = by (bytes_eq s (text_of m.0)) h (place_within (n + 1) modules s k)
+value_at-last : (modules : List (Parts × LoadAnswer)) (x : Parts × LoadAnswer) (t : Specifier)
+    → value_at (modules ++ x ∷ []) t
+    ≡ or_else (value_at modules t) (cond (bytes_eq t (text_of x.0)) (Some x.1) None)
+value_at-last [] x t = refl
+value_at-last (m ∷ modules) x t = by (bytes_eq t (text_of m.0)) (value_at-last modules x t)
   where
-    by : (b : Bool) → cond b (Some n) (place_from (n + 1) modules s) ≡ Some k
-        → (place_from (n + 1) modules s ≡ Some k → (n + 1 ≤ k) × (k < (n + 1) + length modules))
-        → (n ≤ k) × (k < n + suc (length modules))
-    by true i rest = let same : n ≡ k = cc in (omega arith, omega arith)
-    by false i rest = let r : (n + 1 ≤ k) × (k < (n + 1) + length modules) = rest i in (omega arith, omega arith)
+    by : (b : Bool) → value_at (modules ++ x ∷ []) t
+        ≡ or_else (value_at modules t) (cond (bytes_eq t (text_of x.0)) (Some x.1) None)
+        → cond b (Some m.1) (value_at (modules ++ x ∷ []) t)
+        ≡ or_else (cond b (Some m.1) (value_at modules t)) (cond (bytes_eq t (text_of x.0)) (Some x.1) None)
+    by true h = refl
+    by false h = h
 
-place_answer : (n : ℕ) (modules : List (Parts × LoadAnswer)) (s : Specifier) (k : ℕ) (d : Parts × LoadAnswer)
-    → place_from n modules s ≡ Some k
-    → lookup (λ url. bytes_eq s (text_of url)) modules ≡ Some (get_or modules (k - n) d).1
-place_answer n [] s k d h = absurd cc
-place_answer n (m ∷ modules) s k d h =
-    by (bytes_eq s (text_of m.0)) h (place_within (n + 1) modules s k) (place_answer (n + 1) modules s k d)
+-- one module more, where none has its specifier
+pub firsts_new : (modules old new : List (Parts × LoadAnswer)) (x : Parts × LoadAnswer)
+    → new ≡ old ++ x ∷ [] → HasFirsts modules old → HasFirsts (modules ++ x ∷ []) new
+firsts_new modules old new x is h t =
+    ap (λ (l : List (Parts × LoadAnswer)). value_at l t) is ∙ value_at-last old x t
+    ∙ ap (λ (o : Option LoadAnswer). or_else o (cond (bytes_eq t (text_of x.0)) (Some x.1) None)) (h t)
+    ∙ sym (value_at-last modules x t)
+
+-- and where one has
+pub firsts_there : (modules firsts : List (Parts × LoadAnswer)) (x : Parts × LoadAnswer) (n : ℕ)
+    → number_of firsts (text_of x.0) ≡ Some n → HasFirsts modules firsts → HasFirsts (modules ++ x ∷ []) firsts
+firsts_there modules firsts x n has h t =
+    by (bytes_eq t (text_of x.0)) refl (value_at firsts (text_of x.0)) refl ∙ sym (value_at-last modules x t)
   where
-    by : (b : Bool) → cond b (Some n) (place_from (n + 1) modules s) ≡ Some k
-        → (place_from (n + 1) modules s ≡ Some k → (n + 1 ≤ k) × (k < (n + 1) + length modules))
-        → (place_from (n + 1) modules s ≡ Some k
-        → lookup (λ url. bytes_eq s (text_of url)) modules ≡ Some (get_or modules (k - (n + 1)) d).1)
-        → cond b (Some m.1) (lookup (λ url. bytes_eq s (text_of url)) modules) ≡ Some (get_or (m ∷ modules) (k - n) d).1
-    by true i within rest = let same : n ≡ k = cc in let none : k - n ≡ 0 = omega arith in rw none refl
-    by false i within rest =
-        let r : (n + 1 ≤ k) × (k < (n + 1) + length modules) = within i in
-        let one : k - n ≡ suc (k - (n + 1)) = omega arith in
-        rw one (rest i)
+    by : (b : Bool) → bytes_eq t (text_of x.0) ≡ b → (o : Option LoadAnswer) → value_at firsts (text_of x.0) ≡ o
+        → value_at firsts t ≡ or_else (value_at modules t) (cond b (Some x.1) None)
+    by b is None none = absurd (present firsts (text_of x.0) n has none)
+    by true is (Some a) some =
+        let here : value_at firsts t ≡ Some a =
+        ap (value_at firsts) (same_text t (text_of x.0) (sym is)) ∙ some in
+        here ∙ ap (λ (o : Option LoadAnswer). or_else o (Some x.1)) (sym here ∙ h t)
+    by false is (Some a) some = h t ∙ or_none (value_at modules t)
 
-place_none : (n : ℕ) (modules : List (Parts × LoadAnswer)) (s : Specifier) → place_from n modules s ≡ None
-    → lookup (λ url. bytes_eq s (text_of url)) modules ≡ None
-place_none n [] s h = refl
-place_none n (m ∷ modules) s h = by (bytes_eq s (text_of m.0)) h (place_none (n + 1) modules s)
-  where
-    by : (b : Bool) → cond b (Some n) (place_from (n + 1) modules s) ≡ None
-        → (place_from (n + 1) modules s ≡ None → lookup (λ url. bytes_eq s (text_of url)) modules ≡ None)
-        → cond b (Some m.1) (lookup (λ url. bytes_eq s (text_of url)) modules) ≡ None
-    by true i rest = absurd cc
-    by false i rest = rest i
+-- the answer of the first module is that of all
+pub first_answer : (modules firsts : List (Parts × LoadAnswer)) (s : Specifier) → HasFirsts modules firsts
+    → module_answer firsts s ≡ module_answer modules s
+first_answer modules firsts s h = ap (λ (o : Option LoadAnswer). unwrap_or o Absent) (h s)
 
--- a place that the map gives is one of the modules'
-pub placed_below : (modules : List (Parts × LoadAnswer)) (places : List (Parts × ℕ)) (url : Parts) (k : ℕ)
-    → IsIndex modules places
-    → value_at places (text_of url) ≡ Some k → k < length modules
-placed_below modules places url k index is =
-    let w : (0 ≤ k) × (k < 0 + length modules) =
-    place_within 0 modules (text_of url) k (sym (index (text_of url)) ∙ is) in omega arith
+take_suc : (modules : List (Parts × LoadAnswer)) (n : ℕ) (url : Parts) (answer : LoadAnswer)
+    → Some url ≡ option_map (λ e. e.0) (slice_get modules n)
+    → Some answer ≡ option_map (λ e. e.1) (slice_get modules n)
+    → take (suc n) modules ≡ take n modules ++ (url, answer) ∷ []
+take_suc [] n url answer is has = absurd cc
+take_suc (m ∷ modules) zero url answer is has =
+    let first : url ≡ m.0 = cc in
+    let second : answer ≡ m.1 = cc in
+    ap₂ (λ (u : Parts) (a : LoadAnswer). (u, a) ∷ []) (sym first) (sym second)
+take_suc (m ∷ modules) (suc n) url answer is has =
+    ap (λ (l : List (Parts × LoadAnswer)). m ∷ l) (take_suc modules n url answer is has)
 
--- and that module has the answer
-pub placed_answer : (modules : List (Parts × LoadAnswer)) (places : List (Parts × ℕ)) (url : Parts) (k : ℕ)
-    (d : Parts × LoadAnswer) → IsIndex modules places
-    → value_at places (text_of url) ≡ Some k → (get_or modules k d).1 ≡ module_answer modules (text_of url)
-placed_answer modules places url k d index is =
-    let none : k - 0 ≡ k = omega arith in
-    let found : lookup (λ u. bytes_eq (text_of url) (text_of u)) modules ≡ Some (get_or modules k d).1 =
-    subst (λ (n : ℕ). lookup (λ u. bytes_eq (text_of url) (text_of u)) modules ≡ Some (get_or modules n d).1) none
-    (place_answer 0 modules (text_of url) k d (sym (index (text_of url)) ∙ is)) in
-    rw found refl
-
--- where it gives none, no module has one
-pub unplaced_answer : (modules : List (Parts × LoadAnswer)) (places : List (Parts × ℕ)) (url : Parts)
-    → IsIndex modules places
-    → value_at places (text_of url) ≡ None → Absent ≡ module_answer modules (text_of url)
-unplaced_answer modules places url index is =
-    let found : lookup (λ u. bytes_eq (text_of url) (text_of u)) modules ≡ None =
-    place_none 0 modules (text_of url) (sym (index (text_of url)) ∙ is) in
-    rw found refl
+-- one more of them, by its parts
+pub take_pair : (modules : List (Parts × LoadAnswer)) (n : ℕ) (url : Parts) (answer : LoadAnswer)
+    → Some url ≡ option_map (λ e. e.0) (slice_get modules n)
+    → Some answer ≡ option_map (λ e. e.1) (slice_get modules n)
+    → take (n + 1) modules ≡ take n modules ++ (url, answer) ∷ []
+take_pair modules n url answer is has = rw add-one (take_suc modules n url answer is has)
 
 -- ---- the arrival list
 
@@ -482,24 +468,38 @@ module _ (old : Memory) (ordered : IsOrderOf old.order (texts old.asked) (text_l
     fair = λ h. (h, tt);
   })
 
+-- a request is taken as said
+pub started_exact : (old : Memory) (url : Parts) (order : List Bool) (asked waiting : List Parts)
+    → order ≡ old.order ++ true ∷ [] → asked ≡ old.asked ++ url ∷ [] → waiting ≡ old.waiting ++ url ∷ []
+    → IsStarted old url (Ok tt) (record old { order = order; asked = asked; waiting = waiting })
+started_exact old url order asked waiting ordered longer more = rw (ordered, longer, more) refl
+
+-- that nothing has come is said
+pub polled_pending : (old : Memory) (items : List Arrival) (pending : ℕ) (standing : ℕ × ℕ)
+    → (next_answered old.waiting old.arrival).0 ≡ None → items ≡ (next_answered old.waiting old.arrival).1
+    → pending ≡ min (old.pending + 1) last_count → standing ≡ (length old.asked, length old.log)
+    → IsPolled old (Ok Pending) (record old { arrival = items; pending = pending; standing = standing })
+polled_pending old items pending standing none rest counted stood = (none, rw (rest, counted, stood) refl)
+
 -- an answer is given as said
-pub polled_answer : (old : Memory) (url logged : Parts) (answer kept : LoadAnswer) (items : List Arrival)
-    (order : List Bool) (more : List (Parts × LoadAnswer)) (left : List Parts)
-    → (next_answered old.waiting old.arrival).0 ≡ Some url → answer ≡ module_answer old.modules (text_of url)
+pub polled_answer : (old : Memory) (firsts : List (Parts × LoadAnswer)) (url : Parts) (answer : LoadAnswer)
+    (items : List Arrival) (order : List Bool) (more : List (Parts × LoadAnswer)) (left : List Parts)
+    → (next_answered old.waiting old.arrival).0 ≡ Some url → HasFirsts old.modules firsts
+    → answer ≡ module_answer firsts (text_of url)
     → items ≡ (next_answered old.waiting old.arrival).1 → order ≡ old.order ++ false ∷ []
-    → more ≡ old.log ++ (logged, kept) ∷ [] → logged ≡ url → kept ≡ answer → left ≡ settled old.waiting url
+    → more ≡ old.log ++ (url, answer) ∷ [] → left ≡ settled old.waiting url
     → IsPolled old (Ok (Answer url answer)) (record old { arrival = items; order = order; log = more; waiting = left })
-polled_answer old url logged answer kept items order more left next given rest ordered longer same copied fewer =
-    (next, given, rw (rest, ordered, longer, same, copied, fewer) refl)
+polled_answer old firsts url answer items order more left next first given rest ordered longer fewer =
+    (next, given ∙ first_answer old.modules firsts (text_of url) first, rw (rest, ordered, longer, fewer) refl)
 
 -- what holds of it at all times, after a request
-pub kept_request : (modules : List (Parts × LoadAnswer)) (places : List (Parts × ℕ)) (items : List Arrival)
+pub kept_request : (modules firsts : List (Parts × LoadAnswer)) (items : List Arrival)
     (order order_now : List Bool)
     (asked asked_now waiting waiting_now : List Parts) (log : List (Parts × LoadAnswer)) (url : Parts)
-    → IsKeptMemory modules places items order asked log waiting
+    → IsKeptMemory modules firsts items order asked log waiting
     → order_now ≡ order ++ true ∷ [] → asked_now ≡ asked ++ url ∷ [] → waiting_now ≡ waiting ++ url ∷ []
-    → IsKeptMemory modules places items order_now asked_now log waiting_now
-kept_request modules places items order order_now asked asked_now waiting waiting_now log url k ordered longer more =
+    → IsKeptMemory modules firsts items order_now asked_now log waiting_now
+kept_request modules firsts items order order_now asked asked_now waiting waiting_now log url k ordered longer more =
     record {
       index = k.index;
       ordered = subst (λ (o : List Bool). IsOrderOf o (texts asked_now) (text_log log)) (sym ordered)
@@ -519,15 +519,15 @@ kept_request modules places items order order_now asked asked_now waiting waitin
     }
 
 -- and after an answer
-pub kept_answer : (modules : List (Parts × LoadAnswer)) (places : List (Parts × ℕ)) (items : List Arrival) (at : ℕ)
+pub kept_answer : (modules firsts : List (Parts × LoadAnswer)) (items : List Arrival) (at : ℕ)
     (order order_now : List Bool)
     (asked waiting waiting_now : List Parts) (log log_now : List (Parts × LoadAnswer)) (x : Parts × LoadAnswer)
     (url : Parts)
-    → IsKeptMemory modules places items order asked log waiting
+    → IsKeptMemory modules firsts items order asked log waiting
     → order_now ≡ order ++ false ∷ [] → log_now ≡ log ++ x ∷ [] → x.0 ≡ url → waiting_now ≡ settled waiting url
     → (next_answered waiting (drop at items)).0 ≡ Some url
-    → IsKeptMemory modules places items order_now asked log_now waiting_now
-kept_answer modules places items at order order_now asked waiting waiting_now log log_now x url k ordered longer same
+    → IsKeptMemory modules firsts items order_now asked log_now waiting_now
+kept_answer modules firsts items at order order_now asked waiting waiting_now log log_now x url k ordered longer same
     fewer next = record {
       index = k.index;
       ordered = subst (λ (o : List Bool). IsOrderOf o (texts asked) (text_log log_now)) (sym ordered)
@@ -541,13 +541,66 @@ kept_answer modules places items at order order_now asked waiting waiting_now lo
     }
 
 -- what contracts of any loader see of a poll, by what holds of the fields
-pub polled_view : (modules : List (Parts × LoadAnswer)) (places : List (Parts × ℕ)) (items : List Arrival) (at : ℕ)
+pub polled_view : (modules firsts : List (Parts × LoadAnswer)) (items : List Arrival) (at : ℕ)
     (old new : Memory)
     (r : Result LoaderPoll AllocError) (bounded : old.pending ≤ last_count)
-    → IsKeptMemory modules places items old.order old.asked old.log old.waiting
+    → IsKeptMemory modules firsts items old.order old.asked old.log old.waiting
     → old.arrival ≡ drop at items → old.forced ≡ list_any is_forced items
     → IsPolled old r new → HasPolled (data_of old) (data_of new) r
-polled_view modules places items at old new r bounded k left forced polled =
+polled_view modules firsts items at old new r bounded k left forced polled =
     polled_data old k.ordered bounded k.open_requests
     (λ free. ap (list_any is_forced) left ∙ unforced_rest at items (sym forced ∙ free))
     (λ free. k.each_open (sym forced ∙ free)) new r polled
+
+-- ---- what is noted
+
+-- one thing more
+pub noted_more : {A : Type 0} (old new : List (A × Unit {0})) (x : A) → new ≡ old ++ (x, tt) ∷ []
+    → noted new ≡ noted old ++ x ∷ []
+noted_more {A} old new x is =
+    ap noted is ∙ map-append (λ (e : A × Unit {0}). e.0) old ((x, tt) ∷ [])
+
+-- where there is no oldest request, none is outstanding
+pub none_waiting : (waiting : List Parts) → oldest waiting ≡ None → waiting ≡ []
+none_waiting [] h = refl
+none_waiting (w ∷ waiting) h = absurd cc
+
+-- ---- a kept log
+
+-- a request is asked for
+pub started_asked : (old new : Memory) (url : Parts) → IsStarted old url (Ok tt) new
+    → new.asked ≡ old.asked ++ url ∷ []
+started_asked old new url is = ap (λ (m : Memory). m.asked) is
+
+-- a poll leaves what was asked
+pub polled_asked : (old new : Memory) (r : Result LoaderPoll AllocError) → IsPolled old r new → new.asked ≡ old.asked
+polled_asked old new (Ok (Answer url answer)) (next, given, is) = ap (λ (m : Memory). m.asked) is
+polled_asked old new (Ok Pending) (none, is) = ap (λ (m : Memory). m.asked) is
+polled_asked old new (Err e) is = ap (λ (m : Memory). m.asked) is
+
+-- a request leaves the log
+pub started_log : (old new : Memory) (url : Parts) (r : Result (Unit {0}) AllocError) → IsStarted old url r new
+    → new.log ≡ old.log
+started_log old new url (Ok done) is = ap (λ (m : Memory). m.log) is
+started_log old new url (Err e) is = ap (λ (m : Memory). m.log) is
+
+-- what it answers next
+abbrev pub next_of : Memory → Option (Parts × LoadAnswer)
+next_of m =
+    option_map (λ url. (url, module_answer m.modules (text_of url))) (next_answered m.waiting m.arrival).0
+
+-- an answer is what was to be answered next
+pub polled_next : (old new : Memory) (polled : LoaderPoll) (x : Parts × LoadAnswer) → Some x ≡ next_of old
+    → IsPolled old (Ok polled) new → new.log ≡ old.log ++ x ∷ []
+polled_next old new (Answer url answer) x some (next, given, is) =
+    let same : x ≡ (url, module_answer old.modules (text_of url)) = cc in
+    ap (λ (m : Memory). m.log) is
+    ∙ ap (λ (y : Parts × LoadAnswer). old.log ++ y ∷ [])
+    (ap (λ (a : LoadAnswer). (url, a)) given ∙ sym same)
+polled_next old new Pending x some (none, is) = absurd cc
+
+-- where nothing was to be answered, nothing is
+pub polled_none : (old new : Memory) (polled : LoaderPoll) → None ≡ next_of old → IsPolled old (Ok polled) new
+    → new.log ≡ old.log
+polled_none old new (Answer url answer) none (next, given, is) = absurd cc
+polled_none old new Pending none (next, is) = ap (λ (m : Memory). m.log) is

@@ -9,7 +9,7 @@ use Rattle.numbered.proofs.NumbersLemmas.{specifiers-with_value}
 use Rattle.numbered.proofs.OrderLemmas.{number_at, entry_at, numbered_value, value_by_number}
 use Rattle.graph_entry.specs.Specifier.{text_of}
 use Rattle.graph_builder.specs.Reach.{Specifier}
-use Rattle.graph_builder.specs.ByText.{value_at, keys_at, number_of, IsPut}
+use Rattle.graph_builder.specs.ByText.{value_at, keys_at, number_of}
 
 -- the value of a specifier is the one with its number
 pub value_of_number : {V : Type 0} (entries : List (Parts × V)) (s : Specifier)
@@ -119,17 +119,3 @@ pub key_within : {V : Type 0} (entries : List (Parts × V)) (n : ℕ) → n < le
 key_within [] n h = absurd (omega arith)
 key_within (e ∷ es) zero h = (text_of e.0, refl)
 key_within (e ∷ es) (suc n) h = key_within es n (omega arith)
-
--- a value is put where the specifier has a number
-pub put_there : {V : Type 0} (old new : List (Parts × V)) (s : Specifier) (n : ℕ) (v : V) → Some n ≡ number_of old s
-    → ((r t : Specifier) → slice_get (keys_at old) n ≡ Some r
-    → value_at new t ≡ cond (bytes_eq t r) (Some v) (value_at old t))
-    → IsPut old new s v
-put_there old new s n v is h t = h s t (key_of_number old s n (sym is))
-
--- and where it has none
-pub put_last : {V : Type 0} (old new : List (Parts × V)) (u url : Parts) (v : V) → None ≡ number_of old (text_of url)
-    → u ≡ url → new ≡ old ++ (u, v) ∷ [] → IsPut old new (text_of url) v
-put_last {V} old new u url v none same is t =
-    ap (λ (es : List (Parts × V)). value_at es t) is
-    ∙ value_at-push old u v (text_of url) (ap text_of same) (absent old (text_of url) (sym none)) t

@@ -1,5 +1,5 @@
 -- Entries by specifiers, read by the specifiers' texts.
-use Rattle.std.specs.Prelude.{◌≡◌, ℕ, cond, List, map, bytes_eq, Option, Some, position}
+use Rattle.std.specs.Prelude.{ℕ, List, map, bytes_eq, Option, position}
 use Rattle.std.specs.Map.{lookup}
 use Rattle.url.specs.Parts.{Parts}
 use Rattle.graph_entry.specs.Specifier.{text_of}
@@ -16,7 +16,3 @@ keys_at entries = map (λ e. text_of e.0) entries
 -- the number of a specifier, if it has one: its place
 abbrev pub number_of : {V : Type 0} → List (Parts × V) → Specifier → Option ℕ
 number_of entries s = position (bytes_eq s) (keys_at entries)
-
--- the new entries have this value at the specifier, and the old ones elsewhere
-abbrev pub IsPut : {V : Type 0} → List (Parts × V) → List (Parts × V) → Specifier → V → Type 0
-IsPut old new s value = (t : Specifier) → value_at new t ≡ cond (bytes_eq t s) (Some value) (value_at old t)

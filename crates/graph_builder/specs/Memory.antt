@@ -140,18 +140,20 @@ IsPolled old (Err e) new = new ≡ old
 
 -- ---- how a module is found
 
--- the number of the first module with a specifier, counted from so many
-abbrev pub place_from : ℕ → List (Parts × LoadAnswer) → Specifier → Option ℕ
-place_from n [] s = None
-place_from n (e ∷ modules) s = if bytes_eq s (text_of e.0) then Some n else place_from (n + 1) modules s
+-- some modules have the first answer of all of them for each specifier
+abbrev pub HasFirsts : List (Parts × LoadAnswer) → List (Parts × LoadAnswer) → Type 0
+HasFirsts modules firsts = (s : Specifier) → value_at firsts s ≡ value_at modules s
 
--- a map gives the number of the first module with each specifier, of those from so many on
-abbrev pub IsIndexFrom : ℕ → List (Parts × LoadAnswer) → List (Parts × ℕ) → Type 0
-IsIndexFrom n modules places = (s : Specifier) → value_at places s ≡ place_from n (drop n modules) s
+-- whatever modules they had the first answers of, the new ones have those of them and one more
+abbrev pub GainsFirst : List (Parts × LoadAnswer) → List (Parts × LoadAnswer) → Parts → LoadAnswer → Type 0
+GainsFirst old new url answer =
+    (modules : List (Parts × LoadAnswer)) → HasFirsts modules old → HasFirsts (modules ++ (url, answer) ∷ []) new
 
--- of all of them
-abbrev pub IsIndex : List (Parts × LoadAnswer) → List (Parts × ℕ) → Type 0
-IsIndex modules places = IsIndexFrom 0 modules places
+-- ---- what it keeps
+
+-- what was noted, with nothing beside it
+abbrev pub noted : {A : Type 0} → List (A × Unit {0}) → List A
+noted items = map (λ e. e.0) items
 
 -- the order is one of so many requests and so many answers
 abbrev pub IsOrderOf : List Bool → List Specifier → Log → Type 0
@@ -164,9 +166,9 @@ IsOrderOf (false ∷ order) asked [] = ⊥
 IsOrderOf (false ∷ order) asked (x ∷ log) = IsOrderOf order asked log
 
 -- what holds of a loader in memory at all times
-pub record IsKeptMemory (modules : List (Parts × LoadAnswer)) (places : List (Parts × ℕ)) (arrival : List Arrival) (order : List Bool)
+pub record IsKeptMemory (modules firsts : List (Parts × LoadAnswer)) (arrival : List Arrival) (order : List Bool)
     (asked : List Parts) (log : List (Parts × LoadAnswer)) (waiting : List Parts) : Type 0 where
-  pub index : IsIndex modules places
+  pub index : HasFirsts modules firsts
   pub ordered : IsOrderOf order (texts asked) (text_log log)
   -- a request is answered or outstanding
   pub open_requests : length asked ≤ length log + length waiting

@@ -1,10 +1,10 @@
 //! Values by numbered specifiers, which contracts read by the specifiers' texts.
-ghost use Rattle.std.specs.Prelude.{◌≡◌, ◌<◌, ◌^◌, None, Some, [], ◌∷◌, ◌++◌, length, cond, bytes_eq, slice_get, IfSome, OnOk, OnErr};
+ghost use Rattle.std.specs.Prelude.{◌≡◌, ◌<◌, ◌^◌, None, Some, [], ◌∷◌, ◌++◌, length, bytes_eq, IfSome, OnOk, OnErr};
 ghost use Rattle.std.specs.Option.{option_copied};
 ghost use Rattle.std.specs.List.{IsDistinct};
 ghost use Rattle.graph_entry.specs.Specifier.{text_of};
 ghost use Rattle.graph_builder.specs.Reach.{Specifier};
-ghost use Rattle.graph_builder.specs.ByText.{value_at, keys_at, number_of, IsPut};
+ghost use Rattle.graph_builder.specs.ByText.{value_at, keys_at, number_of};
 
 use numbered::Numbered;
 use std::alloc::AllocError;
@@ -47,28 +47,4 @@ pub fn add<V: Drop>(all: &mut Numbered<V>, url: Url, value: V) -> Result<(), All
     ensures err { OnErr result (all.new ≡ all.old) }
 {
     all.push(url, value)
-}
-
-/// Replaces the value of the specifier with this number.
-pub fn set<V: Drop>(all: &mut Numbered<V>, number: usize, value: V)
-    requires { number < length all.old }
-    ensures at { (s t : Specifier) → slice_get (keys_at all.old) number ≡ Some s
-        → value_at all.new t ≡ cond (bytes_eq t s) (Some value) (value_at all.old t) }
-    ensures keys { keys_at all.new ≡ keys_at all.old }
-{
-    all.set(number, value);
-}
-
-/// Puts the value at this specifier, in place of what was there.
-#[tactic(auto, using(crate::proofs::NumberLemmas::put_there, crate::proofs::NumberLemmas::put_last))]
-pub fn put<V: Drop>(all: &mut Numbered<V>, url: &Url, value: V) -> Result<(), AllocError>
-    ensures { OnOk result (IsPut all.old all.new (text_of url.now) value) }
-{
-    match number(all, url) {
-        Some(number) => {
-            set(all, number, value);
-            Ok(())
-        }
-        None => add(all, url.clone()?, value),
-    }
 }

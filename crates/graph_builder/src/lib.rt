@@ -8,7 +8,8 @@
 //! - `CustomBuild::poll_batched`: the same, where so many answers are taken before any of them is analysed, by halves in
 //!   threads of their own (`specs/Batch.antt`).
 //! - `Loader`: what a loader's calls do to its data (`specs/Loader.antt`). `MemoryLoader` is one that has its
-//!   modules in memory (`specs/Memory.antt`).
+//!   modules in memory (`specs/Memory.antt`), `UnloggedLoader` the same without a list of what it
+//!   was asked and answered.
 //! - `ModuleGraph::{roots, referrer_imports, entry, entries}`: look into the graph.
 //!
 //! No reader of the grammar stands below it: `deno_graph` has the builder whose sources the parser reads.
@@ -34,6 +35,7 @@ mod reached;
 mod reaching;
 mod settle;
 mod slot;
+mod unlogged_loader;
 mod ways;
 
 pub use custom::CustomBuild;
@@ -46,4 +48,5 @@ pub use loader::{Loader, LoaderPoll};
 pub use memory_loader::{Arrival, MemoryLoader};
 pub use options::BuildOptions;
 pub use own::Own;
+pub use unlogged_loader::UnloggedLoader;
 pub use ways::Ways;

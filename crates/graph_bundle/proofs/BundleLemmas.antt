@@ -146,11 +146,11 @@ next_module done place value values m is =
     (sym (map-append (λ (x : Parts × LoadAnswer). text_of x.0) done (m ∷ [])))
 
 -- a specifier is among those with numbers exactly where it has one
-pub has_number : (names : List (Parts × Unit {0})) (s : Specifier)
+pub has_number : {V : Type 0} (names : List (Parts × V)) (s : Specifier)
     → has (keys_at names) s ≡ is_some (number_of names s)
-has_number names s = has-keys_at names s ∙ by (number_of names s) refl
+has_number {V} names s = has-keys_at names s ∙ by (number_of names s) refl
   where
-    some : (o : Option (Unit {0})) → (o ≡ None → ⊥) → is_some o ≡ true
+    some : (o : Option V) → (o ≡ None → ⊥) → is_some o ≡ true
     some None h = absurd (h refl)
     some (Some x) h = refl
 
@@ -158,9 +158,9 @@ has_number names s = has-keys_at names s ∙ by (number_of names s) refl
     by None e = ap is_some (absent names s e)
     by (Some n) e = some (value_at names s) (present names s n e)
 
-pub number_none : (names : List (Parts × Unit {0})) (s : Specifier) → has (keys_at names) s ≡ false
+pub number_none : {V : Type 0} (names : List (Parts × V)) (s : Specifier) → has (keys_at names) s ≡ false
     → number_of names s ≡ None
-number_none names s h = by (number_of names s) (sym (has_number names s) ∙ h)
+number_none {V} names s h = by (number_of names s) (sym (has_number names s) ∙ h)
   where
     by : (o : Option ℕ) → is_some o ≡ false → o ≡ None
     by None h = refl

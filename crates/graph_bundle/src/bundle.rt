@@ -15,6 +15,7 @@ use graph_builder::{Arrival, BuildOptions};
 use graph_entry::LoadAnswer;
 use import_map::ImportMap;
 use json_reading::Reading;
+use numbered::Numbered;
 use serde_json::{Map, Value};
 use std::alloc::{AllocError, Global};
 use url::Url;
@@ -24,8 +25,8 @@ use url::Url;
 pub struct Bundle {
     pub roots: Items<Url>,
     pub options: BuildOptions,
-    /// The modules, each with its specifier.
-    pub modules: Items<(Url, LoadAnswer)>,
+    /// The modules, each with its specifier and its number.
+    pub modules: Numbered<LoadAnswer>,
     /// The order in which the modules come; after it, the order in which they are asked for.
     pub arrival: Items<Arrival>,
     /// What resolves specifiers, in the place of the URL Standard alone.

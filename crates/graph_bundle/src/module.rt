@@ -21,7 +21,7 @@ use url::Url;
 /// The module that a value says, behind modules with these specifiers.
 pub fn module_in(
     alloc: Global,
-    seen: &Numbered<()>,
+    seen: &Numbered<LoadAnswer>,
     value: &Value,
 ) -> Result<Reading<(Url, LoadAnswer)>, AllocError>
     ensures { IfOk result (λ r. r ≡ spec.module_after (keys_at seen.now) (view value.now)) }
@@ -38,7 +38,7 @@ pub fn module_in(
 /// The specifier, unless another module has it.
 fn new_specifier(
     alloc: Global,
-    seen: &Numbered<()>,
+    seen: &Numbered<LoadAnswer>,
     value: &Value,
 ) -> Result<Reading<Url>, AllocError>
     ensures { IfOk result (λ r. r ≡ spec.new_specifier (keys_at seen.now) (view value.now)) }
@@ -55,7 +55,7 @@ fn new_specifier(
 
 /// Whether one of these specifiers is this.
 #[tactic(auto, unfolding(graph_entry::specs::Specifier::text_of), using(crate::proofs::BundleLemmas::has_number))]
-fn is_seen(seen: &Numbered<()>, specifier: &Url) -> bool
+fn is_seen(seen: &Numbered<LoadAnswer>, specifier: &Url) -> bool
     ensures { result ≡ has (keys_at seen.now) (text_of specifier.now) }
 {
     seen.number(specifier).is_some()

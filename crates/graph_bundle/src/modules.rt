@@ -1,5 +1,5 @@
 //! The modules of a bundle, of which no two have one specifier.
-ghost use Rattle.std.specs.Prelude.{◌≡◌, [], ◌∷◌, ◌++◌, None, map, decimal, codes, IfOk, OnOk};
+ghost use Rattle.std.specs.Prelude.{◌≡◌, [], ◌∷◌, ◌++◌, None, length, map, decimal, codes, IfOk, OnOk};
 ghost use Rattle.serde_json.specs.View.{view, items_view};
 ghost use Rattle.serde_json.specs.Find.{get};
 ghost use Rattle.json_reading.specs.Reading.{under, there};
@@ -10,6 +10,7 @@ ghost use Rattle.graph_bundle.specs.Bundle as spec;
 use crate::module::module_in;
 use base::{Items, Text};
 use graph_entry::LoadAnswer;
+use indexmap::IndexSet;
 use json_reading::{Reading, pointer, under, under_number};
 use numbered::Numbered;
 use serde_json::Value;
@@ -17,10 +18,7 @@ use std::alloc::{AllocError, Global};
 use url::Url;
 
 /// The modules, each with its specifier.
-pub fn modules_at(
-    alloc: Global,
-    value: &Value,
-) -> Result<Reading<Items<(Url, LoadAnswer)>>, AllocError>
+pub fn modules_at(alloc: Global, value: &Value) -> Result<Reading<Numbered<LoadAnswer>>, AllocError>
     ensures { IfOk result (λ r. r ≡ under (codes "modules") (there spec.modules_of (get (codes "modules") (view value.now)))) }
 {
     match value.get("modules") {
@@ -32,7 +30,7 @@ pub fn modules_at(
     }
 }
 
-fn modules_in(alloc: Global, value: &Value) -> Result<Reading<Items<(Url, LoadAnswer)>>, AllocError>
+fn modules_in(alloc: Global, value: &Value) -> Result<Reading<Numbered<LoadAnswer>>, AllocError>
     ensures { IfOk result (λ r. r ≡ spec.modules_of (view value.now)) }
 {
     match value.as_array() {
@@ -41,44 +39,47 @@ fn modules_in(alloc: Global, value: &Value) -> Result<Reading<Items<(Url, LoadAn
     }
 }
 
-fn each_module(
-    alloc: Global,
-    values: &[Value],
-) -> Result<Reading<Items<(Url, LoadAnswer)>>, AllocError>
+fn each_module(alloc: Global, values: &[Value]) -> Result<Reading<Numbered<LoadAnswer>>, AllocError>
     ensures { IfOk result (λ r. r ≡ spec.modules_from [] 0 (map view values.now)) }
 {
-    let mut seen = Numbered::new(alloc);
-    let mut modules = Items::from_vec(Vec::with_capacity(alloc, values.len())?);
+    let mut modules = with_room(alloc, values.len())?;
     for value in values {
-        match next_module(alloc, modules.len(), &seen, value)? {
-            Ok(module) => {
-                see(&mut seen, &module.0)?;
-                modules.push(module)?;
-            }
+        match next_module(alloc, &modules, value)? {
+            Ok(module) => add(&mut modules, module)?,
             Err(at) => return Ok(Err(at)),
         }
     }
     Ok(Ok(modules))
 }
 
-/// The module at a place of the list, behind modules with these specifiers.
-fn next_module(
-    alloc: Global,
-    place: usize,
-    seen: &Numbered<()>,
-    value: &Value,
-) -> Result<Reading<(Url, LoadAnswer)>, AllocError>
-    ensures { IfOk result (λ r. r ≡ under (decimal place) (spec.module_after (keys_at seen.now) (view value.now))) }
+/// No modules, and room for so many.
+fn with_room(alloc: Global, count: usize) -> Result<Numbered<LoadAnswer>, AllocError>
+    ensures { IfOk result (λ modules. modules ≡ []) }
 {
-    let reading = module_in(alloc, seen, value)?;
-    under_number(alloc, place, reading)
+    let specifiers = IndexSet::with_capacity(alloc, count)?;
+    let answers = Items::from_vec(Vec::with_capacity(alloc, count)?);
+    Ok(Numbered::from_parts(specifiers, answers))
 }
 
-/// Notes the specifier of a module, which no earlier one has.
-#[tactic(auto, unfolding(graph_entry::specs::Specifier::text_of))]
-fn see(seen: &mut Numbered<()>, specifier: &Url) -> Result<(), AllocError>
-    requires { number_of seen.old (text_of specifier.now) ≡ None }
-    ensures { OnOk result (seen.new ≡ seen.old ++ (specifier.now, tt) ∷ []) }
+/// The module that a value says, behind these modules.
+fn next_module(
+    alloc: Global,
+    modules: &Numbered<LoadAnswer>,
+    value: &Value,
+) -> Result<Reading<(Url, LoadAnswer)>, AllocError>
+    ensures { IfOk result (λ r. r ≡ under (decimal (length modules.now))
+        (spec.module_after (keys_at modules.now) (view value.now))) }
 {
-    seen.push(specifier.clone()?, ())
+    let reading = module_in(alloc, modules, value)?;
+    under_number(alloc, modules.len(), reading)
+}
+
+/// Adds a module, whose specifier no earlier one has.
+#[tactic(auto, unfolding(graph_entry::specs::Specifier::text_of))]
+fn add(modules: &mut Numbered<LoadAnswer>, new: (Url, LoadAnswer)) -> Result<(), AllocError>
+    requires { number_of modules.old (text_of new.0) ≡ None }
+    ensures { OnOk result (modules.new ≡ modules.old ++ new ∷ []) }
+{
+    let (specifier, answer) = new;
+    modules.push(specifier, answer)
 }

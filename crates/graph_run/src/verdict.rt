@@ -3,7 +3,7 @@ ghost use Rattle.std.specs.Prelude.{◌≡◌, ◌≤◌, ◌↔◌, Err, length
 ghost use Rattle.url.specs.Parts.{Parts};
 ghost use Rattle.graph_builder.specs.Graph.{IsGraph};
 ghost use Rattle.graph_entry.specs.Referrer.{referred_by};
-ghost use Rattle.graph_builder.specs.Memory.{tells, data_of, new_memory};
+ghost use Rattle.graph_builder.specs.Memory.{tells, data_of};
 ghost use Rattle.graph_builder.specs.Builder.{new_building, new_building_by, starts};
 ghost use Rattle.counted_io.specs.Transfer.{input_limit};
 ghost use Rattle.graph_run.specs.Telling.{told_by};
@@ -14,8 +14,8 @@ use crate::resolver::BundleResolver;
 use crate::status::Status;
 use base::{Items, Text};
 use deno_graph::{
-    Arrival, BuildError, BuildOptions, CustomBuild, GraphBuild, LoadAnswer, MemoryLoader,
-    ModuleGraph, ParserModuleAnalyzer,
+    BuildError, BuildOptions, CustomBuild, GraphBuild, ModuleGraph, ParserModuleAnalyzer,
+    UnloggedLoader,
 };
 use graph_bundle::{Bundle, BundleFault, read_bundle};
 use graph_report::{add_quoted, order_lines, report, summary};
@@ -146,7 +146,7 @@ fn build(alloc: Global, bundle: Bundle) -> Result<ModuleGraph, BuildError>
 }
 
 /// A builder of the graph of a bundle.
-pub type BundleBuild = CustomBuild<MemoryLoader, BundleResolver, ParserModuleAnalyzer>;
+pub type BundleBuild = CustomBuild<UnloggedLoader, BundleResolver, ParserModuleAnalyzer>;
 
 /// A builder of the graph of a bundle, over a loader in memory that has its modules. Its import map resolves.
 pub fn new_build(alloc: Global, bundle: Bundle) -> Result<BundleBuild, BuildError>
@@ -167,21 +167,9 @@ pub fn new_build(alloc: Global, bundle: Bundle) -> Result<BundleBuild, BuildErro
         arrival,
         import_map,
     } = bundle;
-    let loader = new_loader(alloc, modules, arrival)?;
+    let loader = UnloggedLoader::numbered(alloc, modules, arrival);
     let build = plain_build(alloc, roots, options, loader)?;
     mapped_build(build, import_map)
-}
-
-/// A loader in memory that has these modules.
-fn new_loader(
-    alloc: Global,
-    modules: Items<(Url, LoadAnswer)>,
-    arrival: Items<Arrival>,
-) -> Result<MemoryLoader, BuildError>
-    ensures new { IfOk result (λ loader. loader ≡ new_memory modules arrival) }
-    ensures refused { IfErr result (λ e. e ≡ BuildError.OutOfMemory) }
-{
-    MemoryLoader::new(alloc, modules, arrival).map_err(|_| BuildError::OutOfMemory)
 }
 
 /// A builder of the graph of these roots over a loader, without a map.
@@ -189,8 +177,8 @@ fn plain_build(
     alloc: Global,
     roots: Items<Url>,
     options: BuildOptions,
-    loader: MemoryLoader,
-) -> Result<GraphBuild<MemoryLoader>, BuildError>
+    loader: UnloggedLoader,
+) -> Result<GraphBuild<UnloggedLoader>, BuildError>
     ensures new { IfOk result (λ build. build.inner ≡ new_building roots options loader (data_of loader)) }
     ensures refused { IfErr result (λ e. e ≡ BuildError.OutOfMemory) }
 {
@@ -199,7 +187,7 @@ fn plain_build(
 
 /// The same builder with a map, if there is one.
 fn mapped_build(
-    build: GraphBuild<MemoryLoader>,
+    build: GraphBuild<UnloggedLoader>,
     map: Option<ImportMap>,
 ) -> Result<BundleBuild, BuildError>
     ensures new { IfOk result (λ b. b.inner ≡ new_building_by (mapped_ways build.inner.following map)

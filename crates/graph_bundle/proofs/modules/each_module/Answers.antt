@@ -1,13 +1,12 @@
--- The next module is put behind those so far, and its specifier gets a number.
-use Rattle.std.proofs.Common.{◌≡◌, ℕ, ◌+◌, sym, ◌∙◌, ap, List, [], ◌∷◌, ◌++◌, length, map, drop, Ok, decimal, arith, length-append, None}
-use Rattle.std.proofs.lemmas.List.{drop_more, map-append}
+-- The next module is put behind those so far.
+use Rattle.std.proofs.Common.{◌≡◌, ℕ, ◌+◌, sym, ◌∙◌, ap, List, [], ◌∷◌, ◌++◌, length, map, drop, Ok, decimal, arith, length-append}
+use Rattle.std.proofs.lemmas.List.{drop_more}
 use Rattle.url.specs.Parts.{Parts}
 use Rattle.serde_json.specs.Data.{Data}
 use Rattle.serde_json.specs.View.{view}
 use Rattle.serde_json.specs.declared.value.Value.{Value}
 use Rattle.graph_entry.specs.declared.answer.LoadAnswer.{LoadAnswer}
 use Rattle.graph_entry.specs.Specifier.{text_of}
-use Rattle.graph_builder.specs.Reach.{Specifier, has}
 use Rattle.graph_builder.specs.ByText.{keys_at}
 use Rattle.json_reading.specs.Reading.{under}
 use Rattle.graph_bundle.specs.Bundle.{module_after, modules_from, specifiers}
@@ -15,10 +14,10 @@ use Rattle.json_reading.proofs.ReadingLemmas.{prepend}
 use Rattle.graph_bundle.proofs.BundleLemmas.{next_module, fresh, number_none}
 use Rattle.graph_bundle.proofs.modules.each_module.Goals as goal
 
-pub see-requires : goal.see-requires
-see-requires c =
-    number_none c.loop-value.seen (text_of c.in-Ok.module.0)
-    (fresh (keys_at c.loop-value.seen) _ (view c.value-item.result) c.in-Ok.module
+pub add-requires : goal.add-requires
+add-requires c =
+    number_none c.loop-value.modules (text_of c.in-Ok.module.0)
+    (fresh (keys_at c.loop-value.modules) _ (view c.value-item.result) c.in-Ok.module
     (sym c.in_ok-module.ensures ∙ c.in-Ok.is))
 
 pub loop-value-preserved : goal.loop-value-preserved
@@ -28,13 +27,10 @@ loop-value-preserved c =
     let m = c.in-Ok.module in
     let item = c.value-item.result in
     let values = c.args.values.now in
-    let pushed : c.push.new.self ≡ modules ++ m ∷ [] = c.in_ok-push-in-Ok.ensures.ok in
-    let longer : length c.push.new.self ≡ length modules + 1 = ap length pushed ∙ length-append modules (m ∷ []) in
+    let added : c.add.new.modules ≡ modules ++ m ∷ [] = c.in_ok-add-in-Ok.ensures in
+    let longer : length c.add.new.modules ≡ length modules + 1 = ap length added ∙ length-append modules (m ∷ []) in
     let said : under (decimal i) (module_after (specifiers modules) (view item)) ≡ Ok m =
-    ap (λ (n : ℕ). under (decimal n) (module_after (specifiers modules) (view item)))
-    (c.loop-value.invariant.counted ∙ sym c.len.ensures)
-    ∙ ap (λ (ss : List Specifier). under (decimal c.len.result) (module_after ss (view item)))
-    (sym c.loop-value.invariant.seen)
+    ap (λ (n : ℕ). under (decimal n) (module_after (specifiers modules) (view item))) c.loop-value.invariant.counted
     ∙ sym c.in_ok-module.ensures ∙ c.in-Ok.is in
     let split : map view (drop i values) ≡ view item ∷ map view (drop (i + 1) values) =
     ap (map view) (drop_more values i item c.loop-value-test.true
@@ -44,11 +40,6 @@ loop-value-preserved c =
           ∙ ap (λ (ds : List Data). prepend modules (modules_from (specifiers modules) i ds)) split
           ∙ next_module modules i (view item) (map view (drop (i + 1) values)) m said
           ∙ ap (λ (ms : List (Parts × LoadAnswer)).
-          prepend ms (modules_from (specifiers ms) (i + 1) (map view (drop (i + 1) values)))) (sym pushed);
+          prepend ms (modules_from (specifiers ms) (i + 1) (map view (drop (i + 1) values)))) (sym added);
       counted = omega (arith, c.loop-value.invariant.counted, longer);
-      seen = ap keys_at c.in_ok-see-in-Ok.ensures
-          ∙ map-append (λ (e : Parts × Unit {0}). text_of e.0) c.loop-value.seen ((m.0, tt) ∷ [])
-          ∙ ap (λ (ss : List Specifier). ss ++ text_of m.0 ∷ []) c.loop-value.invariant.seen
-          ∙ sym (map-append (λ (x : Parts × LoadAnswer). text_of x.0) modules (m ∷ []))
-          ∙ ap specifiers (sym pushed);
     }

@@ -1,6 +1,6 @@
 use Rattle.std.proofs.Common.{◌≡◌, ◌-◌, length, drop}
 use Rattle.graph_builder.specs.Memory.{next_answered}
-use Rattle.graph_builder.proofs.memory_loader.undropped.Given as goal
+use Rattle.graph_builder.proofs.unlogged_loader.undropped.Given as goal
 
 abbrev pub invariant-loop-at : goal.invariant-loop-at
 invariant-loop-at l =
