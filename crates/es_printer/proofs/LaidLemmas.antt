@@ -14,11 +14,13 @@ use Rattle.es_printer.specs.declared.style.Style.{Style}
 use Rattle.es_printer.specs.declared.style.Style.TheVariants.{Plain, Operator}
 use Rattle.es_printer.specs.declared.piece.Piece.{Piece}
 use Rattle.es_printer.specs.declared.piece.Source.{Source}
+use Rattle.es_printer.specs.declared.page.Page.{Page as Paper}
 use Rattle.es_printer.specs.declared.draft.Draft.{Draft}
 use Rattle.es_printer.specs.Table.{style}
 use Rattle.es_printer.specs.Sheet.{Sheet, put, before, behind, token_at, tokens_from, up_to, node, shown}
 use Rattle.es_printer.specs.Lines.{Page, step, laid, start, finished, printed}
 use Rattle.es_printer.specs.Rows.{kept, all, turned, leant, last_of}
+use Rattle.es_printer.specs.Paper.{lines_of}
 use Rattle.es_printer.specs.Laid.{page_of, IsLaid, Grows}
 
 -- the lines of pieces, and of others behind them
@@ -33,13 +35,17 @@ module _ (src : Source) where
   -- ---- pieces
   -- one
   pub grown : (q : Piece) (old new : Draft)
-      → new.page ≡ step src.text.now src.tokens.now (option_map (λ c. c.now) src.comments) old.page q
-      → new.next ≡ old.next → Grows src (put (q ∷ [])) old new
+      → lines_of new.page
+      ≡ step old.page.ink.source src.tokens.now (option_map (λ c. c.now) src.comments) (lines_of old.page) q
+      → new.page.ink.source ≡ old.page.ink.source → new.next ≡ old.next → Grows src (put (q ∷ [])) old new
   unfolding Grows
-  grown q old new page next s is = (
+  grown q old new page source next s is = (
     laid_both src.text.now src.tokens.now src start s.pieces (q ∷ [])
-        ∙ ap (λ p. step src.text.now src.tokens.now (option_map (λ c. c.now) src.comments) p q) is.0 ∙ sym page,
-    is.1 ∙ sym next,
+        ∙ ap (λ p. step src.text.now src.tokens.now (option_map (λ c. c.now) src.comments) p q) is.0
+        ∙ ap (λ x. step x src.tokens.now (option_map (λ c. c.now) src.comments) (lines_of old.page) q) is.1
+        ∙ sym page,
+    is.1 ∙ sym source,
+    is.2 ∙ sym next,
   )
 
   -- none
@@ -49,6 +55,7 @@ module _ (src : Source) where
     ap (λ rs. page_of src (record { pieces = s.pieces ++ rs; next = s.next })) e
         ∙ ap (λ rs. page_of src (record { pieces = rs; next = s.next })) (append-nil s.pieces) ∙ is.0,
     is.1,
+    is.2,
   )
 
   -- those that another name has
@@ -64,6 +71,7 @@ module _ (src : Source) where
         ap (λ ps. page_of src (record { pieces = s.pieces ++ ps; next = s.next })) e
             ∙ ap (λ ps. page_of src (record { pieces = ps; next = s.next })) (sym (append_assoc s.pieces xs ys)) ∙ so.0,
         so.1,
+        so.2,
       )
 
   -- ---- tokens
@@ -98,8 +106,9 @@ module _ (src : Source) where
         → Grows src (up_to src.tokens.now own to) old new
     unfolding Grows up_to
     up_to_all to old mid new so page next s is = (
-      ap (λ n. page_of src (record { pieces = s.pieces ++ tokens_from src.tokens.now own (to - n) n; next = n })) is.1
-          ∙ (so s is).0 ∙ sym page,
+      ap (λ n. page_of src (record { pieces = s.pieces ++ tokens_from src.tokens.now own (to - n) n; next = n })) is.2
+          ∙ (so s is).0 ∙ ap lines_of (sym page),
+      (so s is).1 ∙ ap (λ (p : Paper). p.ink.source) (sym page),
       sym next,
     )
 
@@ -109,12 +118,12 @@ module _ (src : Source) where
       → Grows src g old new
   unfolding Grows
   alike f g old new e so s is =
-      let it = so s is in (ap (page_of src) (e s) ∙ it.0, ap (λ (t : Sheet). t.next) (e s) ∙ it.1)
+      let it = so s is in (ap (page_of src) (e s) ∙ it.0, it.1, ap (λ (t : Sheet). t.next) (e s) ∙ it.2)
 
   -- nothing
   pub nothing : (g : Sheet → Sheet) (d : Draft) → ((s : Sheet) → g s ≡ s) → Grows src g d d
   unfolding Grows
-  nothing g d e s is = (ap (page_of src) (e s) ∙ is.0, ap (λ (t : Sheet). t.next) (e s) ∙ is.1)
+  nothing g d e s is = (ap (page_of src) (e s) ∙ is.0, is.1, ap (λ (t : Sheet). t.next) (e s) ∙ is.2)
 
   -- one behind the other
   pub follows : (f g : Sheet → Sheet) (old mid new : Draft) → Grows src f old mid → Grows src g mid new
@@ -156,10 +165,10 @@ module _ (src : Source) where
       (five v (four r (three q (two p (one s laid)))))
 
   -- ---- the whole
-  pub whole : (es : List Entry) (old new : Draft) → old.page ≡ start → old.next ≡ 0
-      → Grows src (shown src.tokens.now (first_tree (trees_in (kept es))) Plain) old new
-      → finished new.page
+  pub whole : (es : List Entry) (old new : Draft) → lines_of old.page ≡ start → old.page.ink.source ≡ src.text.now
+      → old.next ≡ 0 → Grows src (shown src.tokens.now (first_tree (trees_in (kept es))) Plain) old new
+      → finished (lines_of new.page)
       ≡ printed src.text.now src.tokens.now (option_map (λ c. c.now) src.comments) (first_tree (trees es))
   unfolding Grows printed trees kept
-  whole es old new page next so =
-      ap finished (sym (so (record { pieces = []; next = 0 }) (sym page, sym next)).0)
+  whole es old new page source next so =
+      ap finished (sym (so (record { pieces = []; next = 0 }) (sym page, sym source, sym next)).0)

@@ -6,7 +6,10 @@ pub mod Own
 pub mod Sheet
 -- their lines
 pub mod Lines
+-- a text with parts of a source
+pub mod Inked
 -- pages with the lines of pieces
+pub mod Paper
 pub mod Laid
 -- the trees in a row of entries
 pub mod Rows

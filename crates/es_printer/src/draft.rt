@@ -11,12 +11,12 @@ use std::alloc::AllocError;
 
 /// The page so far, and the first token that isn't printed yet.
 #[derive(Drop)]
-pub struct Draft {
-    pub page: Page,
+pub struct Draft<'a> {
+    pub page: Page<'a>,
     pub next: u32,
 }
 
-impl Draft {
+impl<'a> Draft<'a> {
     #[inline(always)]
     #[tactic(auto, using(crate::proofs::LaidLemmas::grown))]
     pub fn push(&mut self, source: &Source<'_>, piece: Piece) -> Result<(), AllocError>

@@ -2,6 +2,7 @@
 #![tactic(auto)]
 
 mod draft;
+mod ink;
 mod page;
 mod piece;
 mod program;

@@ -1,30 +1,23 @@
 //! The lines of what is printed, written piece by piece.
 
-ghost use Rattle.std.specs.Prelude.{◌≡◌, ◌++◌, ◌+◌, ◌-◌, ◌∷◌, [], OnOk, IfOk, string_bytes, slice_get, slice_range, IfSome, Some, if◌then◌else◌};
+ghost use Rattle.std.specs.Prelude.{◌≡◌, ◌++◌, OnOk, IfOk, string_bytes, slice_get, slice_range};
 ghost use Rattle.std.specs.Option.{option_map};
-ghost use Rattle.es_printer.specs.Lines.{is_apart, joins, indent, gap, write, line_before, line_behind, token, semicolon, bare_end, closed, opened, closed_by, comment_line, comment_lines, leading, by_token, step, laid, finished, start, end_of};
+ghost use Rattle.es_printer.specs.Inked.{between};
+ghost use Rattle.es_printer.specs.Paper.{lines_of};
+ghost use Rattle.es_printer.specs.Lines.{is_apart, joins, gap, write, line_before, line_behind, token, semicolon, bare_end, closed, opened, closed_by, comment_line, comment_lines, leading, step, finished, start};
 
+use crate::ink::Ink;
 use crate::piece::{Last, Left, Piece, Right, Source, Stand};
 use es_comments::MultiThreadedComments;
 use es_token::{Comment, CommentKind, Token, TokenKind};
 use std::alloc::{AllocError, Global};
-use std::marker::Model;
 
 /// What is written so far, how deep the line stands, and what was written last.
 #[derive(Drop)]
-pub struct Page {
-    text: String,
-    depth: u32,
-    last: Last,
-}
-
-impl Model for Page {
-    ghost use Rattle.std.specs.Prelude.{string_bytes};
-    ghost use Rattle.es_printer.specs.Lines.{Page};
-
-    ghost Value = { Page };
-
-    ghost view = { λ p. record { text = string_bytes p.text; depth = p.depth; last = p.last } };
+pub struct Page<'a> {
+    pub ink: Ink<'a>,
+    pub depth: u32,
+    pub last: Last,
 }
 
 // ---- all rules of blanks
@@ -70,57 +63,6 @@ fn joins(before: TokenKind, kind: TokenKind) -> bool
 
 // ---- lines
 
-#[tactic(auto, using(crate::proofs::LineLemmas::indent_end, crate::proofs::LineLemmas::indent_more))]
-fn indent(out: &mut String, depth: u32) -> Result<(), AllocError>
-    ensures { OnOk result (string_bytes out.new ≡ string_bytes out.old ++ indent depth) }
-{
-    let mut left = depth;
-    while 0 < left {
-        out.push_str("  ")?;
-        left -= 1;
-    }
-    Ok(())
-}
-
-/// A line's end and the blanks before its first token, or one blank, or nothing.
-#[inline(always)]
-fn gap(
-    out: &mut String,
-    depth: u32,
-    last: Last,
-    left: Left,
-    kind: TokenKind,
-) -> Result<(), AllocError>
-    ensures { OnOk result (string_bytes out.new ≡ string_bytes out.old ++ gap depth last left kind) }
-{
-    match last {
-        Last::Nothing => Ok(()),
-        Last::Line => {
-            out.push('\n')?;
-            indent(out, depth)
-        }
-        Last::Token(right, before) => {
-            if is_apart(right, left) || joins(before, kind) {
-                out.push(' ')?;
-            }
-            Ok(())
-        }
-    }
-}
-
-/// The text of a token; one that is cut inside a character is answered as want of memory.
-#[inline(always)]
-fn cut(text: &str, token: Token) -> Result<&str, AllocError>
-    ensures { IfOk result (λ piece. piece.now ≡ slice_range text.now token.range.start token.range.end) }
-{
-    let range = token.range();
-    let (start, end) = (range.start, range.end);
-    if start <= end && text.is_char_boundary(start) && text.is_char_boundary(end) {
-        return Ok(&text[start..end]);
-    }
-    Err(AllocError)
-}
-
 fn opened(kind: CommentKind) -> &'static str
     ensures { result.now ≡ opened kind }
 {
@@ -139,13 +81,13 @@ fn closed_by(kind: CommentKind) -> &'static str
     }
 }
 
-impl Page {
-    /// An empty page, with room for so many bytes.
-    pub fn new(alloc: Global, room: usize) -> Result<Page, AllocError>
-        ensures { IfOk result (λ page. page ≡ start) }
+impl<'a> Page<'a> {
+    pub fn new(alloc: Global, source: &'a str) -> Result<Page<'a>, AllocError>
+        ensures lines { IfOk result (λ page. lines_of page ≡ start) }
+        ensures source { IfOk result (λ page. page.ink.source ≡ source.now) }
     {
         Ok(Page {
-            text: String::with_capacity(alloc, room)?,
+            ink: Ink::new(alloc, source)?,
             depth: 0,
             last: Last::Nothing,
         })
@@ -153,39 +95,73 @@ impl Page {
 
     /// What is written, with a line end behind the last line.
     pub fn finished(self) -> Result<String, AllocError>
-        ensures { IfOk result (λ text. string_bytes text ≡ finished self) }
+        ensures { IfOk result (λ text. string_bytes text ≡ finished (lines_of self.entry)) }
     {
         let Page {
-            mut text,
+            mut ink,
             depth: _,
             last,
         } = self;
         match last {
-            Last::Line => text.push_str("\n")?,
+            Last::Line => ink.push_str("\n")?,
             Last::Nothing | Last::Token(_, _) => {}
         }
-        Ok(text)
+        ink.finished()
     }
 
+    /// A line's end and the blanks before its first token; the answer is whether one blank is to be written.
     #[inline(always)]
-    fn write(
+    fn gap(&mut self, left: Left, kind: TokenKind) -> Result<bool, AllocError>
+        ensures text { IfOk result (λ blank. self.new.ink.text ++ between blank ≡ self.old.ink.text ++ gap self.old.depth self.old.last left kind) }
+        ensures source { OnOk result (self.new.ink.source ≡ self.old.ink.source) }
+        ensures depth { OnOk result (self.new.depth ≡ self.old.depth) }
+    {
+        match self.last {
+            Last::Nothing => Ok(false),
+            Last::Line => {
+                self.ink.line(self.depth)?;
+                Ok(false)
+            }
+            Last::Token(right, before) => Ok(is_apart(right, left) || joins(before, kind)),
+        }
+    }
+
+    /// A part of the source.
+    #[inline(always)]
+    #[tactic(auto, using(crate::proofs::InkLemmas::behind_gap))]
+    fn write_part(
         &mut self,
         left: Left,
         right: Right,
         kind: TokenKind,
-        text: &str,
+        start: usize,
+        end: usize,
     ) -> Result<(), AllocError>
-        ensures { OnOk result (self.new ≡ write left right kind text.now self.old) }
+        ensures lines { OnOk result (lines_of self.new ≡ write left right kind (slice_range self.old.ink.source start end) (lines_of self.old)) }
+        ensures source { OnOk result (self.new.ink.source ≡ self.old.ink.source) }
     {
-        gap(&mut self.text, self.depth, self.last, left, kind)?;
-        self.text.push_str(text)?;
+        let blank = self.gap(left, kind)?;
+        self.ink.take(blank, start, end)?;
         self.last = Last::Token(right, kind);
         Ok(())
     }
 
-    #[inline(always)]
+    /// What stands before another text.
+    fn begin(&mut self, left: Left, kind: TokenKind) -> Result<(), AllocError>
+        ensures text { OnOk result (self.new.ink.text ≡ self.old.ink.text ++ gap self.old.depth self.old.last left kind) }
+        ensures source { OnOk result (self.new.ink.source ≡ self.old.ink.source) }
+        ensures depth { OnOk result (self.new.depth ≡ self.old.depth) }
+    {
+        let blank = self.gap(left, kind)?;
+        if blank {
+            self.ink.push_str(" ")?;
+        }
+        Ok(())
+    }
+
     fn line_before(&mut self, less: Option<u8>)
-        ensures { self.new ≡ line_before less self.old }
+        ensures lines { lines_of self.new ≡ line_before less (lines_of self.old) }
+        ensures source { self.new.ink.source ≡ self.old.ink.source }
     {
         if let Some(less) = less {
             self.depth = self.depth.saturating_sub(less as u32);
@@ -194,9 +170,9 @@ impl Page {
     }
 
     /// A depth that 32 bits don't hold is answered as want of memory.
-    #[inline(always)]
     fn line_behind(&mut self, deeper: Option<u8>) -> Result<(), AllocError>
-        ensures { OnOk result (self.new ≡ line_behind deeper self.old) }
+        ensures lines { OnOk result (lines_of self.new ≡ line_behind deeper (lines_of self.old)) }
+        ensures source { OnOk result (self.new.ink.source ≡ self.old.ink.source) }
     {
         if let Some(deeper) = deeper {
             match self.depth.checked_add(deeper as u32) {
@@ -209,24 +185,30 @@ impl Page {
     }
 
     #[inline(always)]
-    fn token(&mut self, stand: Stand, kind: TokenKind, text: &str) -> Result<(), AllocError>
-        ensures { OnOk result (self.new ≡ token stand kind text.now self.old) }
+    fn token(&mut self, stand: Stand, it: Token) -> Result<(), AllocError>
+        ensures lines { OnOk result (lines_of self.new ≡ token stand it.kind (slice_range self.old.ink.source it.range.start it.range.end) (lines_of self.old)) }
+        ensures source { OnOk result (self.new.ink.source ≡ self.old.ink.source) }
     {
+        let range = it.range();
         self.line_before(stand.out);
-        self.write(stand.left, stand.right, kind, text)?;
+        self.write_part(stand.left, stand.right, it.kind(), range.start, range.end)?;
         self.line_behind(stand.into)
     }
 
-    #[inline(always)]
     fn semicolon(&mut self) -> Result<(), AllocError>
-        ensures { OnOk result (self.new ≡ semicolon self.old) }
+        ensures lines { OnOk result (lines_of self.new ≡ semicolon (lines_of self.old)) }
+        ensures source { OnOk result (self.new.ink.source ≡ self.old.ink.source) }
     {
-        self.write(Left::Never, Right::Tight, TokenKind::Semicolon, ";")
+        self.begin(Left::Never, TokenKind::Semicolon)?;
+        self.ink.push_str(";")?;
+        self.last = Last::Token(Right::Tight, TokenKind::Semicolon);
+        Ok(())
     }
 
     #[inline(always)]
     fn bare_end(&mut self) -> Result<(), AllocError>
-        ensures { OnOk result (self.new ≡ bare_end self.old.last self.old) }
+        ensures lines { OnOk result (lines_of self.new ≡ bare_end self.old.last (lines_of self.old)) }
+        ensures source { OnOk result (self.new.ink.source ≡ self.old.ink.source) }
     {
         match self.last {
             Last::Token(Right::Body, _) => Ok(()),
@@ -234,9 +216,9 @@ impl Page {
         }
     }
 
-    #[inline(always)]
     fn close(&mut self)
-        ensures { self.new ≡ record self.old { last = closed self.old.last } }
+        ensures lines { lines_of self.new ≡ record (lines_of self.old) { last = closed self.old.last } }
+        ensures source { self.new.ink.source ≡ self.old.ink.source }
     {
         if let Last::Token(_, kind) = self.last {
             self.last = Last::Token(Right::Tight, kind);
@@ -244,24 +226,20 @@ impl Page {
     }
 
     fn comment(&mut self, comment: &Comment) -> Result<(), AllocError>
-        ensures { OnOk result (self.new ≡ comment_line self.old comment.now) }
+        ensures lines { OnOk result (lines_of self.new ≡ comment_line (lines_of self.old) comment.now) }
+        ensures source { OnOk result (self.new.ink.source ≡ self.old.ink.source) }
     {
-        gap(
-            &mut self.text,
-            self.depth,
-            self.last,
-            Left::Never,
-            TokenKind::Semicolon,
-        )?;
-        self.text.push_str(opened(comment.kind))?;
-        self.text.push_str(comment.text.as_str())?;
-        self.text.push_str(closed_by(comment.kind))?;
+        self.begin(Left::Never, TokenKind::Semicolon)?;
+        self.ink.push_str(opened(comment.kind))?;
+        self.ink.push_str(comment.text.as_str())?;
+        self.ink.push_str(closed_by(comment.kind))?;
         self.last = Last::Token(Right::Tight, TokenKind::Semicolon);
         self.line_behind(Some(0))
     }
 
     fn comments(&mut self, comments: &[Comment]) -> Result<(), AllocError>
-        ensures { OnOk result (self.new ≡ comment_lines self.old comments.now) }
+        ensures lines { OnOk result (lines_of self.new ≡ comment_lines (lines_of self.old) comments.now) }
+        ensures source { OnOk result (self.new.ink.source ≡ self.old.ink.source) }
     {
         for comment in comments {
             self.comment(comment)?;
@@ -275,7 +253,8 @@ impl Page {
         comments: Option<&MultiThreadedComments>,
         token: Option<Token>,
     ) -> Result<(), AllocError>
-        ensures { OnOk result (self.new ≡ comment_lines self.old (leading (option_map (λ c. c.now) comments.entry) token)) }
+        ensures lines { OnOk result (lines_of self.new ≡ comment_lines (lines_of self.old) (leading (option_map (λ c. c.now) comments.entry) token)) }
+        ensures source { OnOk result (self.new.ink.source ≡ self.old.ink.source) }
     {
         let comments = match comments {
             Some(comments) => comments,
@@ -295,7 +274,8 @@ impl Page {
     #[inline(always)]
     #[tactic(auto, unfolding(crate::specs::Lines::step))]
     pub fn step(&mut self, source: &Source<'_>, piece: Piece) -> Result<(), AllocError>
-        ensures { OnOk result (self.new ≡ step source.now.text.now source.now.tokens.now (option_map (λ c. c.now) source.now.comments) self.old piece) }
+        ensures lines { OnOk result (lines_of self.new ≡ step self.old.ink.source source.now.tokens.now (option_map (λ c. c.now) source.now.comments) (lines_of self.old) piece) }
+        ensures source { OnOk result (self.new.ink.source ≡ self.old.ink.source) }
     {
         match piece {
             Piece::Leading(at) => {
@@ -306,7 +286,7 @@ impl Page {
                 Ok(())
             }
             Piece::Token(stand, at) => match source.tokens.get(at as usize) {
-                Some(token) => self.token(stand, token.kind(), cut(source.text, *token)?),
+                Some(token) => self.token(stand, *token),
                 None => Ok(()),
             },
             Piece::End => self.semicolon(),

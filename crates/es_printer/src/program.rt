@@ -4,6 +4,7 @@ ghost use Rattle.std.specs.Prelude.{◌≡◌, IfOk, None, string_bytes};
 ghost use Rattle.std.specs.Option.{option_map};
 ghost use Rattle.es_syntax.specs.Trees.{first_tree, trees};
 ghost use Rattle.es_printer.specs.Lines.{start, finished, printed};
+ghost use Rattle.es_printer.specs.Paper.{lines_of};
 ghost use Rattle.es_printer.specs.Laid.{Grows};
 
 use crate::draft::Draft;
@@ -18,11 +19,15 @@ use std::alloc::{AllocError, Global};
 
 /// The page of the program that stands first in a row.
 #[tactic(auto, using(crate::proofs::LaidLemmas::whole))]
-fn program_page(alloc: Global, source: &Source<'_>, row: &Siblings<'_>) -> Result<Page, AllocError>
-    ensures { IfOk result (λ page. finished page ≡ printed source.now.text.now source.now.tokens.now (option_map (λ c. c.now) source.now.comments) (first_tree (trees row.now.entries.now))) }
+fn program_page<'a>(
+    alloc: Global,
+    source: &Source<'a>,
+    row: &Siblings<'_>,
+) -> Result<Page<'a>, AllocError>
+    ensures { IfOk result (λ page. finished (lines_of page) ≡ printed source.now.text.now source.now.tokens.now (option_map (λ c. c.now) source.now.comments) (first_tree (trees row.now.entries.now))) }
 {
     let mut draft = Draft {
-        page: Page::new(alloc, source.text.len())?,
+        page: Page::new(alloc, source.text)?,
         next: 0,
     };
     first(&mut draft, source, Style::Plain, *row)?;

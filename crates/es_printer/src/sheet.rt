@@ -41,7 +41,7 @@ fn is_item(tokens: &[Token], here: Style, own: Style, to: u32) -> bool
 #[inline(always)]
 #[tactic(auto, unfolding(crate::specs::Sheet::before), using(crate::proofs::LaidLemmas::both))]
 pub fn before(
-    out: &mut Draft,
+    out: &mut Draft<'_>,
     source: &Source<'_>,
     here: Style,
     own: Style,
@@ -57,7 +57,7 @@ pub fn before(
 #[inline(always)]
 #[tactic(auto, unfolding(crate::specs::Sheet::behind), using(crate::proofs::LaidLemmas::both))]
 pub fn behind(
-    out: &mut Draft,
+    out: &mut Draft<'_>,
     source: &Source<'_>,
     here: Style,
     label: NodeKind,
@@ -73,7 +73,7 @@ pub fn behind(
 #[inline(always)]
 #[tactic(auto, using(crate::proofs::LaidLemmas::none, crate::proofs::LaidLemmas::same))]
 fn push_by(
-    out: &mut Draft,
+    out: &mut Draft<'_>,
     source: &Source<'_>,
     at: u32,
     stand: Option<Stand>,
@@ -88,7 +88,12 @@ fn push_by(
 
 #[inline(never)]
 #[tactic(auto, using(crate::proofs::LaidLemmas::none, crate::proofs::LaidLemmas::same))]
-fn push_token(out: &mut Draft, source: &Source<'_>, own: Style, at: u32) -> Result<(), AllocError>
+fn push_token(
+    out: &mut Draft<'_>,
+    source: &Source<'_>,
+    own: Style,
+    at: u32,
+) -> Result<(), AllocError>
     ensures { OnOk result (Grows source.now (put (token_at source.now.tokens.now own at (slice_get source.now.tokens.now at))) out.old out.new) }
 {
     match token(source.tokens, at) {
@@ -101,7 +106,7 @@ fn push_token(out: &mut Draft, source: &Source<'_>, own: Style, at: u32) -> Resu
 #[inline(always)]
 #[tactic(auto, using(crate::proofs::LaidLemmas::tokens_end, crate::proofs::LaidLemmas::tokens_more))]
 fn push_tokens(
-    out: &mut Draft,
+    out: &mut Draft<'_>,
     source: &Source<'_>,
     own: Style,
     from: u32,
@@ -120,7 +125,12 @@ fn push_tokens(
 /// All tokens before this one that aren't printed yet.
 #[inline(always)]
 #[tactic(auto, using(crate::proofs::LaidLemmas::up_to_all))]
-pub fn up_to(out: &mut Draft, source: &Source<'_>, own: Style, to: u32) -> Result<(), AllocError>
+pub fn up_to(
+    out: &mut Draft<'_>,
+    source: &Source<'_>,
+    own: Style,
+    to: u32,
+) -> Result<(), AllocError>
     ensures { OnOk result (Grows source.now (up_to source.now.tokens.now own to) out.old out.new) }
 {
     let from = out.next;

@@ -31,7 +31,7 @@ fn label_of(lean: Lean) -> NodeKind
 #[cycle(walk)]
 #[tactic(auto, using(crate::proofs::WalkLemmas::walk_leaf, crate::proofs::WalkLemmas::walk_node, crate::proofs::WalkLemmas::walk_role, crate::proofs::WalkLemmas::walk_parts, crate::proofs::WalkLemmas::walk_lean))]
 pub fn walk(
-    out: &mut Draft,
+    out: &mut Draft<'_>,
     source: &Source<'_>,
     here: Style,
     item: Item<'_>,
@@ -52,7 +52,7 @@ pub fn walk(
 #[cycle(walk)]
 #[tactic(auto, using(crate::proofs::LaidLemmas::node_grows))]
 fn node(
-    out: &mut Draft,
+    out: &mut Draft<'_>,
     source: &Source<'_>,
     here: Style,
     label: NodeKind,
@@ -72,7 +72,7 @@ fn node(
 #[cycle(walk)]
 #[tactic(auto, using(crate::proofs::WalkLemmas::first_none, crate::proofs::WalkLemmas::first_some))]
 pub fn first(
-    out: &mut Draft,
+    out: &mut Draft<'_>,
     source: &Source<'_>,
     here: Style,
     parts: Siblings<'_>,
@@ -89,7 +89,7 @@ pub fn first(
 #[cycle(walk)]
 #[tactic(auto, using(crate::proofs::WalkLemmas::all_none, crate::proofs::WalkLemmas::all_more))]
 fn all(
-    out: &mut Draft,
+    out: &mut Draft<'_>,
     source: &Source<'_>,
     own: Style,
     parts: Siblings<'_>,
@@ -109,7 +109,7 @@ fn all(
 #[inline(always)]
 #[tactic(auto, using(crate::proofs::WalkLemmas::all_bare))]
 fn some(
-    out: &mut Draft,
+    out: &mut Draft<'_>,
     source: &Source<'_>,
     own: Style,
     parts: Siblings<'_>,
@@ -126,7 +126,7 @@ fn some(
 #[cycle(walk)]
 #[tactic(auto, using(crate::proofs::WalkLemmas::leaning_none, crate::proofs::WalkLemmas::leaning_one, crate::proofs::WalkLemmas::leaning_more))]
 fn leaning(
-    out: &mut Draft,
+    out: &mut Draft<'_>,
     source: &Source<'_>,
     here: Style,
     lean: Lean,
@@ -148,7 +148,7 @@ fn leaning(
 #[cycle(walk)]
 #[tactic(auto, using(crate::proofs::LaidLemmas::leant_grows))]
 fn leaned(
-    out: &mut Draft,
+    out: &mut Draft<'_>,
     source: &Source<'_>,
     here: Style,
     lean: Lean,
@@ -169,7 +169,7 @@ fn leaned(
 #[cycle(walk)]
 #[tactic(auto, using(crate::proofs::WalkLemmas::turned_none, crate::proofs::WalkLemmas::turned_more, crate::proofs::WalkLemmas::last_none, crate::proofs::WalkLemmas::last_more))]
 fn turned(
-    out: &mut Draft,
+    out: &mut Draft<'_>,
     source: &Source<'_>,
     turns: Siblings<'_>,
     from: u32,

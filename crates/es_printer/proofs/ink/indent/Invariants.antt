@@ -1,7 +1,7 @@
 use Rattle.std.proofs.Common.{◌≡◌, ◌++◌}
 use Rattle.std.specs.Prelude.{string_bytes}
 use Rattle.es_printer.specs.Lines.{indent}
-use Rattle.es_printer.proofs.page.indent.Given as goal
+use Rattle.es_printer.proofs.ink.indent.Given as goal
 
 -- the blanks that are left, behind those that are written
 abbrev pub invariant-loop-left : goal.invariant-loop-left
