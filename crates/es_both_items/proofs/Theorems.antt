@@ -83,9 +83,13 @@ module _ (x : List ℕ) (ts : List Token) where
   same_bodies cs p q one other =
       let body = part_group x ts cs 1 in
       let stmts : Stmts x ts (values x ts body.0) ≡ Some one.0.body = ap (Stmts x ts) (sym body.1) ∙ one.2 in
-      let items : Items x ts (values x ts body.0) ≡ Some other.0.body = ap (Items x ts) (sym body.1) ∙ other.2 in
-      (one.0, other.0, one.1, other.1,
-      same_Some _ _ (sym items ∙ items_of_stmts x ts body.0 one.0.body stmts))
+      let items : Items x ts (values x ts body.0) ≡ Some other.0.body = ap (Items x ts) (sym body.1) ∙ other.2 in (
+        one.0,
+        other.0,
+        one.1,
+        other.1,
+        same_Some _ _ (sym items ∙ items_of_stmts x ts body.0 one.0.body stmts),
+      )
 
   -- of the trees of both modes
   pub same_items : (lang : Lang) (p q : Program) → Derives lang mode.Script x ts p → Derives lang mode.Module x ts q
