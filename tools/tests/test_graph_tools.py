@@ -110,9 +110,9 @@ class Unread(unittest.TestCase):
         return [(kind, text.encode()[start:end].decode()) for kind, start, end in unread.calls_by_scan(bundles.Source(text.encode()))]
 
     def test_rows_of_the_library(self):
-        """The scan has the same answers as the proved calls, over the rows of crates/unread_tests."""
+        """The scan has the same answers as the proved calls, over the rows of crates/test_unread."""
         read = 0
-        with open(os.path.join(kit.ROOT, "crates", "unread_tests", "stdin"), encoding="utf-8") as file:
+        with open(os.path.join(kit.ROOT, "crates", "test_unread", "stdin"), encoding="utf-8") as file:
             rows = [line.rstrip("\n").split("\t") for line in file if line.startswith("calls\t")]
         for _, text, wanted in rows:
             text, wanted = (it.replace("\\\\", "\0").replace("\\n", "\n").replace("\0", "\\") for it in (text, wanted))

@@ -11,7 +11,7 @@ use Rattle.es_site.specs.Parts.{Whole}
 use Rattle.es_lowering.specs.Value.{Value, given, turns, pat_at, pat_prop_at}
 use Rattle.es_lowering.specs.Texts.{ident_of, str_of}
 use Rattle.es_lowering.specs.Expressions.{elements}
-use Rattle.es_pattern_views.specs.Pat as view
+use Rattle.es_view_expressions.specs.pattern.Pat as view
 use Rattle.cjs_facts.specs.declared.found.Found.{Found}
 use Rattle.cjs_facts.specs.Looks.{Name, Key, Object, Look, named, text, member, other, look, required_by, target_in}
 use Rattle.cjs_facts.specs.Exports.{look_of, is_exports_object, exports_like, key_found, target_found, exports_found, assigned}

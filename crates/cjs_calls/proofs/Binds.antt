@@ -3,8 +3,8 @@ use Rattle.std.specs.Prelude.{◌+◌, ℕ, Bool, false, List, Option, Some, Non
 use Rattle.std.proofs.Common.{◌≡◌, refl, sym, ap, subst, ◌∙◌}
 use Rattle.base.specs.declared.range.Range.{Range}
 use Rattle.es_token.specs.declared.token.Token.{Token}
-use Rattle.ts_ast.specs.declared.ts.TsPart.{TsPart}
-use Rattle.ts_ast.specs.declared.ts.TsPart.TheVariants as vPart
+use Rattle.es_ast.specs.declared.ts.ts.TsPart.{TsPart}
+use Rattle.es_ast.specs.declared.ts.ts.TsPart.TheVariants as vPart
 use Rattle.es_ast.specs.declared.ast.Expr.{Expr}
 use Rattle.es_ast.specs.declared.ast.Pat.{Pat, out-Pat, out-roll-Pat}
 use Rattle.es_ast.specs.declared.ast.Pat.TheVariants as vPat
@@ -17,9 +17,9 @@ use Rattle.es_lowering.specs.TypeTexts.{marked}
 use Rattle.es_lowering.specs.Expressions.{elements}
 use Rattle.es_lowering.specs.Statements.{declarator_of}
 use Rattle.es_lowering.specs.TypedParts.{marked_by}
-use Rattle.es_pattern_views.specs.Pat as view
-use Rattle.es_pattern_views.specs.Marked as mark
-use Rattle.es_decl_views.specs.Declarator as declarator
+use Rattle.es_view_expressions.specs.pattern.Pat as view
+use Rattle.es_view_expressions.specs.pattern.Marked as mark
+use Rattle.es_view_statements.specs.decl.Declarator as declarator
 use Rattle.cjs_facts.specs.declared.found.Found.{Found}
 use Rattle.cjs_facts.specs.Looks.{Name, Look, look, pat_name_in}
 use Rattle.cjs_facts.specs.Exports.{look_of, bind, bound}

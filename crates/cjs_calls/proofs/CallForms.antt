@@ -5,7 +5,7 @@ use Rattle.es_token.specs.declared.token.Token.{Token}
 use Rattle.es_ast.specs.declared.ast.Expr.{Expr}
 use Rattle.es_lowering.specs.Value.{Value, nil, more, given, as_group, turns}
 use Rattle.es_lowering.specs.Expressions.{argument}
-use Rattle.es_call_views.specs.Args.{arguments}
+use Rattle.es_view_expressions.specs.call.Args.{arguments}
 use Rattle.es_syntax.specs.declared.cursor.Siblings.{Siblings}
 use Rattle.cjs_facts.specs.declared.found.Found.{Found}
 use Rattle.cjs_facts.specs.Looks.{Look, look, props_of}

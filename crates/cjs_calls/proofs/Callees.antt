@@ -9,7 +9,7 @@ use Rattle.cjs_facts.specs.Looks.{Look, other, look, behind_zero, callee_look}
 use Rattle.cjs_looks.specs.Odd.{All, Linked}
 use Rattle.cjs_looks.specs.Kinds.{pair_of, IsObject, IsParen, IsNumber, IsSequence, IsSpread, IsFunction, IsAssignment}
 use Rattle.cjs_looks.specs.Seen.{Tells}
-use Rattle.cjs_objects.specs.Returns.{Meets, Gives}
+use Rattle.cjs_looks.specs.objects.Returns.{Meets, Gives}
 use Rattle.cjs_calls.specs.Callees.{zero_of, behind_in, Pairs, InBrackets}
 
 -- ---- what stands behind a zero

@@ -14,9 +14,9 @@ use Rattle.cjs_facts.specs.Exports.{says, is_get, first_get, is_safe_by, is_safe
 use Rattle.cjs_looks.specs.declared.kind.Body.{Body}
 use Rattle.cjs_looks.specs.Kinds.{body_of, body_by}
 use Rattle.cjs_looks.specs.Seen.{Tells, text_of, look_of as seen_of}
-use Rattle.cjs_objects.specs.declared.properties.Property.{Property as SeenProperty}
-use Rattle.cjs_objects.specs.Properties.{body_harmless, Fits, IsProperty}
-use Rattle.cjs_objects.specs.Returns.{Gives}
+use Rattle.cjs_looks.specs.declared.objects.properties.Property.{Property as SeenProperty}
+use Rattle.cjs_looks.specs.objects.Properties.{body_harmless, Fits, IsProperty}
+use Rattle.cjs_looks.specs.objects.Returns.{Gives}
 use Rattle.cjs_calls.specs.Getters.{Got, Gets, IsSafeGet, GotLook}
 
 -- ---- names

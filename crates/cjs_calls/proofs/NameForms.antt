@@ -7,7 +7,7 @@ use Rattle.cjs_facts.specs.declared.found.Found.{Found}
 use Rattle.cjs_facts.specs.Looks.{Name, text, name_by, required_by}
 use Rattle.cjs_facts.specs.Exports.{with_reexport, spread_found}
 use Rattle.cjs_looks.specs.Seen.{text_of}
-use Rattle.cjs_steps.specs.Values.{value_by}
+use Rattle.cjs_looks.specs.steps.Values.{value_by}
 
 module _ (x : List ℕ) (t : Option Token) where
   pub name_text : (value : Option Name) → value ≡ value_by (text_of x t) → value ≡ name_by (text_of x t)

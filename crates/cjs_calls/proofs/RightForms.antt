@@ -15,8 +15,8 @@ use Rattle.cjs_looks.specs.Seen.{Tells, look_of as seen_of}
 use Rattle.es_syntax.specs.declared.cursor.Item.{Item}
 use Rattle.es_syntax.specs.Held.{valued}
 use Rattle.es_syntax.specs.Roles.{expr_in}
-use Rattle.cjs_objects.specs.declared.properties.Property.{Property as SeenProperty}
-use Rattle.cjs_objects.specs.Properties.{IsProperty}
+use Rattle.cjs_looks.specs.declared.objects.properties.Property.{Property as SeenProperty}
+use Rattle.cjs_looks.specs.objects.Properties.{IsProperty}
 use Rattle.cjs_calls.specs.Rights.{Spreads, OneFound, Adds, AddsProps, LastOf, Rights}
 
 -- ---- properties

@@ -1,7 +1,7 @@
 -- What declarators add.
 use Rattle.std.specs.Prelude.{◌≡◌, Bool, Option, Some, IfSome}
 use Rattle.base.specs.declared.range.Range.{Range}
-use Rattle.ts_ast.specs.declared.ts.TsPart.{TsPart}
+use Rattle.es_ast.specs.declared.ts.ts.TsPart.{TsPart}
 use Rattle.es_ast.specs.declared.ast.Expr.{Expr}
 use Rattle.es_ast.specs.declared.ast.Pat.{Pat, out-Pat}
 use Rattle.es_ast.specs.declared.ast.VarDeclarator.{VarDeclarator}

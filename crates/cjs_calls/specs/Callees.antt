@@ -3,7 +3,7 @@ use Rattle.std.specs.Prelude.{◌≡◌, Bool, true, List, Option, is_some}
 use Rattle.es_ast.specs.declared.ast.Expr.{Expr, out-Expr}
 use Rattle.cjs_facts.specs.Looks.{Look, is_zero, second_in, callee_look}
 use Rattle.cjs_looks.specs.Kinds.{IsParen, pair_of}
-use Rattle.cjs_objects.specs.Returns.{Meets}
+use Rattle.cjs_looks.specs.objects.Returns.{Meets}
 
 abbrev pub zero_of : Expr → Bool
 zero_of e = is_zero (out-Expr e)

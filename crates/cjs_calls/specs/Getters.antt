@@ -10,7 +10,7 @@ use Rattle.cjs_facts.specs.Looks.{Look, Property}
 use Rattle.cjs_facts.specs.Exports.{first_get, is_safe_get, is_safe, got, returned_by, got_look, define}
 use Rattle.cjs_looks.specs.declared.kind.Body.{Body}
 use Rattle.cjs_looks.specs.Kinds.{body_by}
-use Rattle.cjs_objects.specs.Properties.{Fits}
+use Rattle.cjs_looks.specs.objects.Properties.{Fits}
 
 module _ (x : List ℕ) (ts : List Token) where
   -- a property `get` with this function, or none

@@ -7,9 +7,9 @@ use Rattle.es_syntax.specs.declared.cursor.Item.{Item}
 use Rattle.cjs_facts.specs.declared.found.Found.{Found}
 use Rattle.cjs_facts.specs.Looks.{property, right_of}
 use Rattle.cjs_facts.specs.Exports.{look_of, spread_found, property_found, props_found, exports_found}
-use Rattle.cjs_objects.specs.declared.properties.Property.{Property}
-use Rattle.cjs_objects.specs.Properties.{Is}
-use Rattle.cjs_objects.specs.Returns.{Meets, handed}
+use Rattle.cjs_looks.specs.declared.objects.properties.Property.{Property}
+use Rattle.cjs_looks.specs.objects.Properties.{Is}
+use Rattle.cjs_looks.specs.objects.Returns.{Meets, handed}
 
 module _ (x : List ℕ) (ts : List Token) where
   pub record Spreads (told : Option Item) (old new : Found) : Type 0 where

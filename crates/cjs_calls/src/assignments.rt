@@ -9,11 +9,11 @@ ghost use Rattle.cjs_calls.specs.Assigns.{Members, Targets, Assigns};
 
 use crate::rights::exports_found;
 use cjs_facts::Found;
+use cjs_looks::steps::{exports_like, is_exports_object, set_key};
 use cjs_looks::{Key, Look, Object, look_at, spells};
-use cjs_steps::{exports_like, is_exports_object, set_key};
-use es_pattern_views::{Pat, pat_at};
 use es_syntax::Item;
 use es_token::Token;
+use es_view_expressions::pattern::{Pat, pat_at};
 use std::alloc::AllocError;
 
 /// `exports.a = b`, by the object and the key.
@@ -87,7 +87,7 @@ pub fn assigned(
 }
 
 /// What an assignment to a pattern adds, which may be an expression.
-#[tactic(auto, unfolding(es_pattern_views::specs::Pat::target), using(crate::proofs::Assigns::ident_assigned, crate::proofs::Assigns::array_assigned, crate::proofs::Assigns::object_assigned, crate::proofs::Assigns::rest_assigned, crate::proofs::Assigns::default_assigned))]
+#[tactic(auto, unfolding(es_view_expressions::specs::pattern::Pat::target), using(crate::proofs::Assigns::ident_assigned, crate::proofs::Assigns::array_assigned, crate::proofs::Assigns::object_assigned, crate::proofs::Assigns::rest_assigned, crate::proofs::Assigns::default_assigned))]
 pub fn pattern_assigned(
     found: &mut Found,
     text: &str,

@@ -7,7 +7,7 @@ ghost use Rattle.es_syntax.specs.Roles.{expr_in};
 ghost use Rattle.cjs_facts.specs.Looks.{callee_look};
 ghost use Rattle.cjs_looks.specs.Kinds.{number_zero};
 ghost use Rattle.cjs_looks.specs.Seen.{Tells, look_of};
-ghost use Rattle.cjs_objects.specs.Returns.{Gives, handed};
+ghost use Rattle.cjs_looks.specs.objects.Returns.{Gives, handed};
 ghost use Rattle.cjs_calls.specs.Callees.{zero_of, behind_in, Pairs, InBrackets};
 
 use cjs_looks::{Kind, Look, kind_at, look_at, spells, token_at};

@@ -3,7 +3,7 @@
 ghost use Rattle.std.specs.Prelude.{◌≡◌, OnOk};
 ghost use Rattle.es_lowering.specs.Value.{as_group};
 ghost use Rattle.es_lowering.specs.Expressions.{argument};
-ghost use Rattle.es_call_views.specs.Args.{arguments};
+ghost use Rattle.es_view_expressions.specs.call.Args.{arguments};
 ghost use Rattle.es_syntax.specs.Held.{held, valued};
 ghost use Rattle.es_syntax.specs.Roles.{args_in};
 ghost use Rattle.cjs_facts.specs.Exports.{defined, star, called_by};
@@ -14,10 +14,10 @@ use crate::arguments::{descriptor, seen};
 use crate::descriptor::define;
 use cjs_facts::Found;
 use cjs_looks::Look;
-use cjs_steps::{exports_like, is_define, is_exports, is_star, star};
-use es_call_views::{Args, args_at};
+use cjs_looks::steps::{exports_like, is_define, is_exports, is_star, star};
 use es_syntax::{Item, Siblings};
 use es_token::Token;
+use es_view_expressions::call::{Args, args_at};
 use std::alloc::AllocError;
 
 /// `Object.defineProperty` of these three arguments.

@@ -1,7 +1,7 @@
 //! Declarators.
 
 ghost use Rattle.std.specs.Prelude.{◌≡◌, OnOk, Some, option_map, slice_get};
-ghost use Rattle.es_pattern_views.specs.Marked.{ident};
+ghost use Rattle.es_view_expressions.specs.pattern.Marked.{ident};
 ghost use Rattle.es_lowering.specs.Value.{optional, expr_at};
 ghost use Rattle.es_syntax.specs.Held.{held, valued};
 ghost use Rattle.es_syntax.specs.Roles.{declarator_in, expr_in, marked_in, pat_in};
@@ -10,11 +10,11 @@ ghost use Rattle.cjs_calls.specs.Binds.{Binds, Declares, Marks, Bounds};
 
 use cjs_facts::Found;
 use cjs_looks::look_at;
-use cjs_steps::bind;
-use es_decl_views::{Declarator, declarator_at};
-use es_pattern_views::{Marked, Pat, marked_at, pat_at};
+use cjs_looks::steps::bind;
 use es_syntax::{Item, Siblings};
 use es_token::Token;
+use es_view_expressions::pattern::{Marked, Pat, marked_at, pat_at};
+use es_view_statements::decl::{Declarator, declarator_at};
 use std::alloc::AllocError;
 
 /// A name that is bound to a value.

@@ -9,7 +9,7 @@ ghost use Rattle.cjs_calls.specs.Getters.{IsSafe, PropsLook, Defines};
 use crate::getter::{first_get, got_look, is_safe_get};
 use cjs_facts::Found;
 use cjs_looks::Look;
-use cjs_steps::{module_value, string_value};
+use cjs_looks::steps::{module_value, string_value};
 use es_literal::LiteralValue;
 use es_syntax::Siblings;
 use es_token::Token;

@@ -6,12 +6,12 @@ ghost use Rattle.es_syntax.specs.Held.{held, valued};
 ghost use Rattle.cjs_facts.specs.Looks.{name_by};
 ghost use Rattle.cjs_facts.specs.Exports.{is_get};
 ghost use Rattle.cjs_looks.specs.Seen.{look_of};
-ghost use Rattle.cjs_objects.specs.Properties.{IsProperty};
+ghost use Rattle.cjs_looks.specs.objects.Properties.{IsProperty};
 ghost use Rattle.cjs_calls.specs.Getters.{Gets, IsSafeGet, GotLook};
 
+use cjs_looks::objects::{Property, property_at, returned_by, returns_harmless};
+use cjs_looks::steps::says;
 use cjs_looks::{Body, Key, Look, look_at, spells};
-use cjs_objects::{Property, property_at, returned_by, returns_harmless};
-use cjs_steps::says;
 use es_syntax::{Item, Siblings};
 use es_token::Token;
 use std::alloc::{AllocError, Global};

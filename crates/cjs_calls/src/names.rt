@@ -8,7 +8,7 @@ ghost use Rattle.cjs_looks.specs.Seen.{look_of};
 use base::Text;
 use cjs_facts::Found;
 use cjs_looks::Look;
-use cjs_steps::{name_value, plain_value};
+use cjs_looks::steps::{name_value, plain_value};
 use es_token::Token;
 use std::alloc::{AllocError, Global};
 

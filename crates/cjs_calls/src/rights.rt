@@ -12,12 +12,12 @@ ghost use Rattle.cjs_calls.specs.Rights.{Adds, AddsProps, OneFound, Spreads, Las
 use crate::getter::prop_turn;
 use crate::names::{named_property, spread};
 use cjs_facts::Found;
+use cjs_looks::objects::Property;
+use cjs_looks::steps::set_exports;
 use cjs_looks::{Kind, kind_at, look_at, token_at};
-use cjs_objects::Property;
-use cjs_steps::set_exports;
-use es_operator_views::{Operator, operator_at};
 use es_syntax::{Item, Siblings};
 use es_token::{Token, TokenKind};
+use es_view_expressions::operator::{Operator, operator_at};
 use std::alloc::AllocError;
 
 /// What a property adds by what stands behind `...`.

@@ -1,2 +1,3 @@
+pub mod names_lemmas
 -- whole programs
 pub mod WholeForms

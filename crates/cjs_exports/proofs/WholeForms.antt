@@ -12,17 +12,17 @@ use Rattle.es_lowering.specs.Value.{Value, given, optional, turns, item_at, stmt
 use Rattle.es_lowering.specs.Texts.{shebang_at}
 use Rattle.es_syntax.specs.declared.cursor.Siblings.{Siblings}
 use Rattle.es_syntax.specs.Held.{held}
-use Rattle.es_module_views.specs.Program as view
+use Rattle.es_view_modules.specs.items.Program as view
 use Rattle.cjs_facts.specs.declared.found.Found.{Found}
 use Rattle.cjs_facts.specs.declared.found.Var.{Var}
 use Rattle.cjs_facts.specs.Facts.{Facts, facts_of, facts_of_module_item, facts_of_stmt}
 use Rattle.cjs_facts.specs.Looks.{Name}
 use Rattle.cjs_facts.specs.Exports.{after, found_in}
-use Rattle.cjs_tasks.specs.declared.tasks.Each.TheVariants as each
-use Rattle.cjs_tasks.specs.declared.tasks.Task.{Task}
-use Rattle.cjs_tasks.specs.declared.tasks.Task.TheVariants as task
-use Rattle.cjs_tasks.specs.Effects.{Effect, of, follow, no_effect, effect, run}
-use Rattle.cjs_tasks.proofs.Effects.{run_last, run_none}
+use Rattle.cjs_facts.specs.declared.tasks.tasks.Each.TheVariants as each
+use Rattle.cjs_facts.specs.declared.tasks.tasks.Task.{Task}
+use Rattle.cjs_facts.specs.declared.tasks.tasks.Task.TheVariants as task
+use Rattle.cjs_facts.specs.tasks.Effects.{Effect, of, follow, no_effect, effect, run}
+use Rattle.cjs_facts.proofs.tasks_lemmas.Effects.{run_last, run_none}
 use Rattle.cjs_walk.specs.Walks.{Walks}
 use Rattle.cjs_exports.specs.Whole.{Tells, Finds}
 

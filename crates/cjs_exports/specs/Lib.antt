@@ -1,2 +1,3 @@
+pub mod names
 -- whole programs
 pub mod Whole

@@ -5,8 +5,8 @@ use Rattle.es_ast.specs.declared.ast.Program.{Program}
 use Rattle.cjs_facts.specs.declared.found.Found.{Found}
 use Rattle.cjs_facts.specs.Facts.{facts_of}
 use Rattle.cjs_facts.specs.Exports.{after, found_in}
-use Rattle.cjs_tasks.specs.declared.tasks.Task.{Task}
-use Rattle.cjs_tasks.specs.Effects.{effect}
+use Rattle.cjs_facts.specs.declared.tasks.tasks.Task.{Task}
+use Rattle.cjs_facts.specs.tasks.Effects.{effect}
 
 -- where the program is there, the task does what its facts do
 pub record Tells (x : List ℕ) (ts : List Token) (part : Option Program) (task : Task) : Type 0 where

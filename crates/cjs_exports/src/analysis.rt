@@ -8,16 +8,16 @@ ghost use Rattle.cjs_facts.specs.Facts.{facts_of};
 ghost use Rattle.cjs_facts.specs.Exports.{found_in, AreExports};
 ghost use Rattle.cjs_exports.specs.Whole.{Tells, Finds};
 
+use crate::names::export_names;
 use base::Items;
 use cjs_facts::Found;
-use cjs_names::export_names;
-use cjs_tasks::{Each, Task};
+use cjs_facts::tasks::{Each, Task};
 use cjs_walk::walk;
 use es_exports::ModuleExportsAndReExports;
-use es_module_views::{Program as View, program_at};
 use es_program::Program;
 use es_syntax::Item;
 use es_token::Token;
+use es_view_modules::items::{Program as View, program_at};
 use std::alloc::{AllocError, Global};
 
 /// The body of a program, as a task.

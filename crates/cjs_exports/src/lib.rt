@@ -4,5 +4,6 @@
 #![tactic(auto)]
 
 mod analysis;
+pub mod names;
 
 pub use analysis::analyze_cjs;

@@ -3,12 +3,12 @@ use Rattle.std.specs.Prelude.{Bool, List, ◌++◌, Option, Some, None, map}
 use Rattle.std.specs.List.{flat_map}
 use Rattle.std.proofs.Common.{◌≡◌, sym, ap, ◌∙◌}
 use Rattle.base.specs.declared.range.Range.{Range}
-use Rattle.ts_ast.specs.declared.leaf.Ident.{Ident}
-use Rattle.ts_ast.specs.declared.leaf.MethodKind.{MethodKind}
-use Rattle.ts_ast.specs.declared.leaf.Str.{Str}
-use Rattle.ts_ast.specs.declared.leaf.TplElement.{TplElement}
-use Rattle.ts_ast.specs.declared.leaf.TsEntityName.{TsEntityName}
-use Rattle.ts_ast.specs.declared.ts.TsPart.{TsPart}
+use Rattle.es_ast.specs.declared.ts.leaf.Ident.{Ident}
+use Rattle.es_ast.specs.declared.ts.leaf.MethodKind.{MethodKind}
+use Rattle.es_ast.specs.declared.ts.leaf.Str.{Str}
+use Rattle.es_ast.specs.declared.ts.leaf.TplElement.{TplElement}
+use Rattle.es_ast.specs.declared.ts.leaf.TsEntityName.{TsEntityName}
+use Rattle.es_ast.specs.declared.ts.ts.TsPart.{TsPart}
 use Rattle.es_ast.specs.declared.leaf.ExportAll.{ExportAll}
 use Rattle.es_ast.specs.declared.leaf.ImportDecl.{ImportDecl}
 use Rattle.es_ast.specs.declared.leaf.ImportPhase.{ImportPhase}

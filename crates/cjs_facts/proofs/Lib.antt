@@ -1,3 +1,4 @@
+pub mod tasks_lemmas
 -- lists
 pub mod ListLemmas
 -- the facts of each form

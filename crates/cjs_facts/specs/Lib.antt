@@ -1,3 +1,4 @@
+pub mod tasks
 -- the facts of a program
 pub mod Facts
 -- what expressions look like

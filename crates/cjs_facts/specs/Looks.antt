@@ -2,8 +2,8 @@
 use Rattle.std.specs.Prelude.{ℕ, Bool, true, false, ◌&&◌, ◌||◌, not, List, [], ◌∷◌, Option, Some, None, option_map, unwrap_or, bytes_eq, codes, if◌then◌else◌}
 use Rattle.es_ast.specs.declared.leaf.AssignOp.TheVariants as vAssign
 use Rattle.es_ast.specs.declared.leaf.Lit.TheVariants as vLit
-use Rattle.ts_ast.specs.declared.leaf.MethodKind.{MethodKind}
-use Rattle.ts_ast.specs.declared.leaf.MethodKind.TheVariants as vMethod
+use Rattle.es_ast.specs.declared.ts.leaf.MethodKind.{MethodKind}
+use Rattle.es_ast.specs.declared.ts.leaf.MethodKind.TheVariants as vMethod
 use Rattle.es_ast.specs.declared.ast.Expr.{Expr, out-Expr}
 use Rattle.es_ast.specs.declared.ast.Pat.{Pat, out-Pat}
 use Rattle.es_ast.specs.declared.ast.Prop.{Prop, out-Prop}

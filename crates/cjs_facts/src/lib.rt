@@ -6,5 +6,6 @@
 #![tactic(auto)]
 
 mod found;
+pub mod tasks;
 
 pub use found::{Found, Var};

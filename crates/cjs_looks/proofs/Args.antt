@@ -8,7 +8,7 @@ use Rattle.es_ast.specs.declared.ast.ClassMember.TheOpen.{Expr-F}
 use Rattle.es_lowering.specs.Value.{Value, nil, more, given, as_group, group, part, first_of, behind, turns, is_there, expr_at}
 use Rattle.es_lowering.specs.Texts.{span_of, str_of}
 use Rattle.es_lowering.specs.Expressions.{argument, argument_of}
-use Rattle.es_call_views.specs.Args.{arguments}
+use Rattle.es_view_expressions.specs.call.Args.{arguments}
 use Rattle.cjs_facts.specs.Looks.{Name, Key, Object, Look, named, member, requires, other, required_by, passed, call_by, call_of, look}
 use Rattle.cjs_facts.proofs.Rolls.{look_roll}
 use Rattle.cjs_looks.specs.Seen.{Tells, text_of}

@@ -7,7 +7,7 @@ use denote.Enum.Bare.{same_true}
 use Rattle.es_token.specs.contracts.token.TokenKind.{the_type}
 use Rattle.es_token.specs.declared.token.TokenKind.{TokenKind}
 use Rattle.es_token.specs.declared.token.TokenKind.TheVariants as k
-use Rattle.es_tree.specs.Key.{same_kind}
+use Rattle.grammar_theory.specs.Key.{same_kind}
 use Rattle.es_ast.specs.declared.leaf.AssignOp.{AssignOp}
 use Rattle.es_ast.specs.declared.leaf.AssignOp.TheVariants as vAssign
 use Rattle.es_ast.specs.declared.ast.Expr.{Expr, roll-Expr, out-Expr, out-roll-Expr}
@@ -20,7 +20,7 @@ use Rattle.es_lowering.specs.Value.{Value, absent, nil, more, token, node, given
 use Rattle.es_lowering.specs.Operators.{listed, assign_ops, greater_assign, assign_of, assign_between}
 use Rattle.es_syntax.specs.Places.{place_of}
 use Rattle.es_syntax.specs.Roles.{expr_in}
-use Rattle.es_operator_views.specs.Operator as operator
+use Rattle.es_view_expressions.specs.operator.Operator as operator
 use Rattle.cjs_facts.specs.Exports.{is_spread_in}
 use Rattle.cjs_facts.specs.Looks.{other, look, props_in, props_of, behind_zero, is_zero, second_in, function_in, in_assigned, assigned_last, right_of}
 use Rattle.cjs_facts.proofs.Rolls.{look_roll, assigned_parts, assigned_roll}

@@ -3,9 +3,9 @@ use Rattle.std.specs.Prelude.{ℕ, Bool, false, List, [], ◌∷◌, Option, Som
 use Rattle.std.proofs.Common.{◌≡◌, refl, sym, ap, ◌∙◌}
 use Rattle.base.specs.declared.range.Range.{Range}
 use Rattle.es_token.specs.declared.token.Token.{Token}
-use Rattle.ts_ast.specs.declared.leaf.Ident.{Ident}
-use Rattle.ts_ast.specs.declared.ts.TsPart.{TsPart}
-use Rattle.ts_ast.specs.declared.ts.TsPart.TheVariants as vPart
+use Rattle.es_ast.specs.declared.ts.leaf.Ident.{Ident}
+use Rattle.es_ast.specs.declared.ts.ts.TsPart.{TsPart}
+use Rattle.es_ast.specs.declared.ts.ts.TsPart.TheVariants as vPart
 use Rattle.es_ast.specs.declared.ast.Expr.{Expr, roll-Expr, out-Expr, out-roll-Expr}
 use Rattle.es_ast.specs.declared.ast.Expr.TheVariants as vExpr
 use Rattle.es_ast.specs.declared.ast.Param.{Param}
@@ -18,8 +18,8 @@ use Rattle.es_lowering.specs.Texts.{own_name_of}
 use Rattle.es_lowering.specs.Functions.{function_of, arrow_of, name_param, body_of}
 use Rattle.es_lowering.specs.TypedFunctions.{typed_function_of}
 use Rattle.es_lowering.specs.TypedParts.{body_in}
-use Rattle.es_function_views.specs.Function as fn
-use Rattle.es_function_views.specs.Head as head
+use Rattle.es_view_expressions.specs.function.Function as fn
+use Rattle.es_view_expressions.specs.function.Head as head
 use Rattle.cjs_facts.specs.Exports.{is_spread_in}
 use Rattle.cjs_facts.specs.Looks.{look, props_in, props_of, behind_zero, is_zero, second_in, function_in, assigned_last}
 use Rattle.cjs_facts.proofs.Rolls.{look_roll, assigned_roll}

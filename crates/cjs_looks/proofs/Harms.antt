@@ -4,10 +4,10 @@ use Rattle.std.proofs.Common.{◌≡◌, refl, sym, ap, subst, ◌∙◌}
 use Rattle.base.specs.declared.range.Range.{Range}
 use Rattle.es_token.specs.declared.token.Token.{Token}
 use Rattle.es_token.specs.declared.token.TokenKind.TheVariants as k
-use Rattle.es_tree.specs.Key.{same_kind}
-use Rattle.ts_ast.specs.declared.leaf.Ident.{Ident}
-use Rattle.ts_ast.specs.declared.ts.TsPart.{TsPart}
-use Rattle.ts_ast.specs.declared.ts.TsPart.TheVariants as vPart
+use Rattle.grammar_theory.specs.Key.{same_kind}
+use Rattle.es_ast.specs.declared.ts.leaf.Ident.{Ident}
+use Rattle.es_ast.specs.declared.ts.ts.TsPart.{TsPart}
+use Rattle.es_ast.specs.declared.ts.ts.TsPart.TheVariants as vPart
 use Rattle.es_ast.specs.declared.leaf.ImportPhase.{ImportPhase}
 use Rattle.es_ast.specs.declared.leaf.Lit.{Lit}
 use Rattle.es_ast.specs.declared.leaf.Lit.TheVariants as vLit
@@ -24,17 +24,17 @@ use Rattle.es_lowering.specs.TypedExpressions.{typed_call_of, typed_tagged_of}
 use Rattle.es_lowering.specs.TypedExpressions.{typed_call, non_null_of}
 use Rattle.es_lowering.specs.TypedParts.{args_part_at}
 use Rattle.es_syntax.specs.Roles.{expr_in}
-use Rattle.es_expr_views.specs.Primary as primary
-use Rattle.es_operator_views.specs.Operator as operator
-use Rattle.es_operator_views.specs.Lean as lean
-use Rattle.es_operator_views.specs.declared.lean.Chain.{Chain}
-use Rattle.es_operator_views.specs.declared.operator.Operator.{Operator}
-use Rattle.es_operator_views.specs.declared.operator.Operator.TheVariants as o
-use Rattle.es_call_views.specs.Call as call
-use Rattle.es_call_views.specs.Post as post
-use Rattle.es_function_views.specs.Function as fn
-use Rattle.es_function_views.specs.declared.function.Function.{Function}
-use Rattle.es_function_views.specs.declared.function.Function.TheVariants as f
+use Rattle.es_view_expressions.specs.expr.Primary as primary
+use Rattle.es_view_expressions.specs.operator.Operator as operator
+use Rattle.es_view_expressions.specs.operator.Lean as lean
+use Rattle.es_view_expressions.specs.declared.operator.lean.Chain.{Chain}
+use Rattle.es_view_expressions.specs.declared.operator.operator.Operator.{Operator}
+use Rattle.es_view_expressions.specs.declared.operator.operator.Operator.TheVariants as o
+use Rattle.es_view_expressions.specs.call.Call as call
+use Rattle.es_view_expressions.specs.call.Post as post
+use Rattle.es_view_expressions.specs.function.Function as fn
+use Rattle.es_view_expressions.specs.declared.function.function.Function.{Function}
+use Rattle.es_view_expressions.specs.declared.function.function.Function.TheVariants as f
 use Rattle.cjs_facts.specs.Looks.{is_harmless, in_harmless}
 use Rattle.cjs_facts.proofs.Rolls.{harmless_parts, harmless_roll}
 use Rattle.cjs_looks.specs.Odd.{All, IsNothing, IsRunning, IsAssigning, Harms}

@@ -1,3 +1,5 @@
+pub mod steps_lemmas
+pub mod objects_lemmas
 -- parts that may not be there
 pub mod Given
 -- expressions that are not looked at

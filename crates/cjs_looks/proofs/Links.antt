@@ -4,10 +4,10 @@ use Rattle.std.proofs.Common.{◌≡◌, refl, sym, ap, subst, ◌∙◌}
 use Rattle.base.specs.declared.range.Range.{Range}
 use Rattle.es_token.specs.declared.token.Token.{Token}
 use Rattle.es_token.specs.declared.token.TokenKind.TheVariants as k
-use Rattle.es_tree.specs.Key.{same_kind}
-use Rattle.ts_ast.specs.declared.leaf.Ident.{Ident}
-use Rattle.ts_ast.specs.declared.ts.TsPart.{TsPart}
-use Rattle.ts_ast.specs.declared.ts.TsPart.TheVariants as vPart
+use Rattle.grammar_theory.specs.Key.{same_kind}
+use Rattle.es_ast.specs.declared.ts.leaf.Ident.{Ident}
+use Rattle.es_ast.specs.declared.ts.ts.TsPart.{TsPart}
+use Rattle.es_ast.specs.declared.ts.ts.TsPart.TheVariants as vPart
 use Rattle.es_ast.specs.declared.ast.Expr.{Expr}
 use Rattle.es_ast.specs.declared.ast.Expr.TheVariants as vExpr
 use Rattle.es_ast.specs.declared.ast.ClassMember.TheOpen.{Expr-F}
@@ -16,8 +16,8 @@ use Rattle.es_lowering.specs.Texts.{ident_of, private_of, property_of, token_of}
 use Rattle.es_lowering.specs.Expressions.{Post, chained, from_byte, member_of, index_of, call_of, tagged_of, optional_inner}
 use Rattle.es_lowering.specs.TypedExpressions.{typed_call_of, typed_tagged_of, typed_call, non_null_of}
 use Rattle.es_lowering.specs.TypedParts.{args_part_at}
-use Rattle.es_call_views.specs.Post as post
-use Rattle.es_call_views.specs.Call.{chained_of}
+use Rattle.es_view_expressions.specs.call.Post as post
+use Rattle.es_view_expressions.specs.call.Call.{chained_of}
 use Rattle.cjs_facts.specs.Looks.{Look, member, other, object_of, dot, dotted, bracket, call_of as called, look}
 use Rattle.cjs_looks.specs.Odd.{All, Looks, Linked}
 use Rattle.cjs_looks.specs.Posts.{Makes, AllMake}

@@ -5,8 +5,8 @@ use Rattle.base.specs.declared.range.Range.{Range}
 use Rattle.es_token.specs.declared.token.Token.{Token}
 use Rattle.es_token.specs.declared.token.TokenKind.{TokenKind}
 use Rattle.es_token.specs.declared.token.TokenKind.TheVariants as k
-use Rattle.es_tree.specs.Key.{same_kind}
-use Rattle.ts_ast.specs.declared.ts.TsPart.TheVariants as vPart
+use Rattle.grammar_theory.specs.Key.{same_kind}
+use Rattle.es_ast.specs.declared.ts.ts.TsPart.TheVariants as vPart
 use Rattle.es_ast.specs.declared.ast.Expr.{Expr, roll-Expr, out-Expr, out-roll-Expr}
 use Rattle.es_ast.specs.declared.ast.Expr.TheVariants as vExpr
 use Rattle.es_ast.specs.declared.ast.Function.{Function}
@@ -19,7 +19,7 @@ use Rattle.es_lowering.specs.Texts.{kind_at, private_of}
 use Rattle.es_lowering.specs.Operators.{listed, unary_ops, update_ops, binary_between, assign_between}
 use Rattle.es_lowering.specs.Expressions.{yield_of}
 use Rattle.es_lowering.specs.TypedExpressions.{turned_by, asserted_by}
-use Rattle.es_operator_views.specs.Operator as operator
+use Rattle.es_view_expressions.specs.operator.Operator as operator
 use Rattle.cjs_facts.specs.Exports.{is_spread_in}
 use Rattle.cjs_facts.specs.Looks.{Look, other, look, in_look, is_harmless, in_harmless, props_in, props_of, behind_zero, is_zero, second_in, function_in, in_assigned, assigned_last}
 use Rattle.cjs_facts.proofs.Rolls.{look_parts, look_roll, harmless_parts, harmless_roll, assigned_parts, assigned_roll}

@@ -3,7 +3,7 @@ use Rattle.std.specs.Prelude.{ℕ, Bool, true, false, List, [], ◌∷◌, Optio
 use Rattle.std.proofs.Common.{refl}
 use Rattle.base.specs.declared.range.Range.{Range}
 use Rattle.es_token.specs.declared.token.Token.{Token}
-use Rattle.ts_ast.specs.declared.ts.TsPart.TheVariants as vPart
+use Rattle.es_ast.specs.declared.ts.ts.TsPart.TheVariants as vPart
 use Rattle.es_ast.specs.declared.leaf.ImportPhase.{ImportPhase}
 use Rattle.es_ast.specs.declared.ast.Expr.{Expr}
 use Rattle.es_ast.specs.declared.ast.Expr.TheVariants as vExpr
@@ -21,10 +21,10 @@ use Rattle.es_syntax.specs.declared.entry.Lean.{Lean}
 use Rattle.es_syntax.specs.declared.entry.Lean.TheVariants as vLean
 use Rattle.es_syntax.specs.Held.{Held, valued, parts_of, label_of, node_of, leaning, leaned}
 use Rattle.es_syntax.specs.Roles.{expr_in}
-use Rattle.es_operator_views.specs.Lean as lean
-use Rattle.es_operator_views.specs.declared.lean.Chain.{Chain}
-use Rattle.es_call_views.specs.Call as call
-use Rattle.es_function_views.specs.Function as fn
+use Rattle.es_view_expressions.specs.operator.Lean as lean
+use Rattle.es_view_expressions.specs.declared.operator.lean.Chain.{Chain}
+use Rattle.es_view_expressions.specs.call.Call as call
+use Rattle.es_view_expressions.specs.function.Function as fn
 use Rattle.cjs_looks.specs.Odd.{All, Linked, IsNothing, IsRunning}
 use Rattle.cjs_facts.specs.Looks.{other}
 use Rattle.cjs_looks.proofs.Given.{all_given, all_map, all_one}

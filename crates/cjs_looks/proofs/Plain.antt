@@ -11,8 +11,8 @@ use Rattle.es_ast.specs.declared.ast.Stmt.{Stmt}
 use Rattle.es_ast.specs.declared.ast.ClassMember.TheOpen.{Expr-F}
 use Rattle.es_site.specs.Parts.{ExprParts}
 use Rattle.es_lowering.specs.Value.{Value, given, turns, expr_at}
-use Rattle.es_operator_views.specs.Operator as operator
-use Rattle.es_call_views.specs.Call as call
+use Rattle.es_view_expressions.specs.operator.Operator as operator
+use Rattle.es_view_expressions.specs.call.Call as call
 use Rattle.cjs_facts.specs.Exports.{is_spread_in}
 use Rattle.cjs_facts.specs.Looks.{Look, other, look, props_in, props_of, behind_zero, is_zero, second_in, function_in, assigned_last}
 use Rattle.cjs_facts.proofs.Rolls.{look_roll, assigned_roll}

@@ -4,7 +4,7 @@ use Rattle.std.proofs.Common.{◌≡◌, refl, sym, ap, ◌∙◌}
 use Rattle.base.specs.declared.range.Range.{Range}
 use Rattle.es_token.specs.declared.token.Token.{Token}
 use Rattle.es_token.specs.declared.token.TokenKind.TheVariants as k
-use Rattle.es_tree.specs.Key.{same_kind}
+use Rattle.grammar_theory.specs.Key.{same_kind}
 use Rattle.es_ast.specs.declared.leaf.Lit.{Lit}
 use Rattle.es_ast.specs.declared.leaf.Lit.TheVariants as vLit
 use Rattle.es_ast.specs.declared.ast.Expr.{Expr, roll-Expr, out-Expr, out-roll-Expr}
@@ -15,7 +15,7 @@ use Rattle.es_site.specs.Parts.{ExprParts}
 use Rattle.es_lowering.specs.Value.{Value, given, turns, expr_at, prop_at}
 use Rattle.es_lowering.specs.Texts.{ident_of, str_of, regex_of, numeric_of, piece_of, piece_there}
 use Rattle.es_lowering.specs.Expressions.{word_of, elements}
-use Rattle.es_expr_views.specs.Primary as primary
+use Rattle.es_view_expressions.specs.expr.Primary as primary
 use Rattle.cjs_facts.specs.Exports.{is_spread_in}
 use Rattle.cjs_facts.specs.Looks.{named, other, look, in_look, props_in, props_of, behind_zero, is_zero, second_in, function_in, assigned_last}
 use Rattle.cjs_facts.proofs.Rolls.{look_parts, look_roll, assigned_roll}

@@ -1,3 +1,5 @@
+pub mod steps
+pub mod objects
 -- what the looks of expressions mean
 pub mod Seen
 -- expressions that are not looked at

@@ -3,7 +3,7 @@
 ghost use Rattle.std.specs.Prelude.{◌≡◌, ℕ, List, Option, IfSome, map, slice_get};
 ghost use Rattle.base.specs.declared.range.Range.{Range};
 ghost use Rattle.es_lowering.specs.Expressions.{argument};
-ghost use Rattle.es_call_views.specs.Post.{member};
+ghost use Rattle.es_view_expressions.specs.call.Post.{member};
 ghost use Rattle.es_lowering.specs.Value.{as_group, turns, post_at as post_there};
 ghost use Rattle.es_syntax.specs.Held.{held, valued};
 ghost use Rattle.es_syntax.specs.Roles.{expr_in, post_in, args_in};
@@ -17,11 +17,11 @@ ghost use Rattle.cjs_looks.specs.Args.{first_look};
 use crate::kind::{Kind, assignment_kind, function_kind, primary_kind};
 use crate::looks::{Key, Look};
 use crate::words::{spells, token_at};
-use es_call_views::{Args, Call, Post, args_at, call_at, post_at};
-use es_expr_views::primary_at;
-use es_operator_views::{Operator, operator_at};
 use es_syntax::{Item, Siblings};
 use es_token::{Token, TokenKind};
+use es_view_expressions::call::{Args, Call, Post, args_at, call_at, post_at};
+use es_view_expressions::expr::primary_at;
+use es_view_expressions::operator::{Operator, operator_at};
 
 /// What kind of expression an expression is; none where no view knows it.
 #[cycle(looks)]

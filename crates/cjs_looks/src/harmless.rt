@@ -3,24 +3,24 @@
 
 ghost use Rattle.std.specs.Prelude.{◌≡◌, ◌&&◌, ℕ, List, IfSome, slice_get};
 ghost use Rattle.es_token.specs.declared.token.Token.{Token as Tok};
-ghost use Rattle.es_expr_views.specs.Primary.{word};
+ghost use Rattle.es_view_expressions.specs.expr.Primary.{word};
 ghost use Rattle.base.specs.declared.range.Range.{Range};
 ghost use Rattle.es_lowering.specs.Value.{as_group, turns, post_at as post_there};
 ghost use Rattle.es_syntax.specs.Held.{held, valued};
 ghost use Rattle.es_syntax.specs.Roles.{expr_in, post_in};
-ghost use Rattle.es_expr_views.specs.Primary.{the_primary};
+ghost use Rattle.es_view_expressions.specs.expr.Primary.{the_primary};
 ghost use Rattle.cjs_facts.specs.Looks.{is_harmless};
 ghost use Rattle.cjs_looks.specs.Seen.{Tells};
 ghost use Rattle.cjs_looks.specs.Odd.{Harms};
 ghost use Rattle.cjs_looks.specs.Posts.{Makes, AllMake};
 
 use crate::words::token_at;
-use es_call_views::{Call, Post, call_at, post_at};
-use es_expr_views::{Primary, primary_at};
-use es_function_views::function_at;
-use es_operator_views::{chain_at, operator_at};
 use es_syntax::{Item, Siblings};
 use es_token::{Token, TokenKind};
+use es_view_expressions::call::{Call, Post, call_at, post_at};
+use es_view_expressions::expr::{Primary, primary_at};
+use es_view_expressions::function::function_at;
+use es_view_expressions::operator::{chain_at, operator_at};
 
 /// `this` is not harmless, the other words are.
 #[tactic(auto, using(crate::proofs::Harms::harms_this, crate::proofs::Harms::harms_word, crate::proofs::Harms::harms_no_word))]

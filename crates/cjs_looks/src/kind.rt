@@ -5,11 +5,11 @@ ghost use Rattle.base.specs.declared.range.Range.{Range};
 ghost use Rattle.es_token.specs.declared.token.Token.{Token as Tok};
 ghost use Rattle.es_ast.specs.declared.ast.Expr.TheVariants as vExpr;
 ghost use Rattle.es_lowering.specs.Value.{as_group, turns, behind, first_of as start_of, post_at as post_there};
-ghost use Rattle.es_operator_views.specs.Operator.{assigned};
+ghost use Rattle.es_view_expressions.specs.operator.Operator.{assigned};
 ghost use Rattle.es_syntax.specs.Held.{held, valued};
 ghost use Rattle.es_syntax.specs.Roles.{expr_in, post_in, args_in};
-ghost use Rattle.es_expr_views.specs.Primary.{the_primary};
-ghost use Rattle.es_function_views.specs.Head.{the_head};
+ghost use Rattle.es_view_expressions.specs.expr.Primary.{the_primary};
+ghost use Rattle.es_view_expressions.specs.function.Head.{the_head};
 ghost use Rattle.cjs_facts.specs.Looks.{look, call_of};
 ghost use Rattle.cjs_looks.specs.Seen.{Tells, look_of};
 ghost use Rattle.cjs_looks.specs.Odd.{All, Looks, Linked};
@@ -18,11 +18,13 @@ ghost use Rattle.cjs_looks.specs.Kinds.{IsKind};
 
 use crate::looks::Look;
 use crate::words::token_at;
-use es_expr_views::Primary;
-use es_function_views::{Function, FunctionHead, function_at, plain_function, typed_function};
-use es_operator_views::chain_at;
 use es_syntax::{Item, Siblings};
 use es_token::{Token, TokenKind};
+use es_view_expressions::expr::Primary;
+use es_view_expressions::function::{
+    Function, FunctionHead, function_at, plain_function, typed_function,
+};
+use es_view_expressions::operator::chain_at;
 
 /// The body of a function.
 #[derive(Clone, Copy)]

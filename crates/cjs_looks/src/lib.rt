@@ -12,6 +12,8 @@ mod chain;
 mod harmless;
 mod kind;
 mod looks;
+pub mod objects;
+pub mod steps;
 mod words;
 
 pub use chain::{argument_look, kind_at, look_at, post_look};

@@ -2,7 +2,7 @@
 
 ghost use Rattle.std.specs.Prelude.{◌≡◌, ℕ, List, Bool, bytes_eq, slice_get, slice_range, IfSome, IfOk};
 ghost use Rattle.es_token.specs.declared.token.TokenKind.TheVariants as k;
-ghost use Rattle.es_tree.specs.Key.{same_kind};
+ghost use Rattle.grammar_theory.specs.Key.{same_kind};
 ghost use Rattle.cjs_looks.specs.Seen.{name_at};
 
 use es_token::Token;

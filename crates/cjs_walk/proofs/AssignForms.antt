@@ -11,16 +11,16 @@ use Rattle.es_ast.specs.declared.ast.Pat.{Pat}
 use Rattle.es_ast.specs.declared.ast.Pat.TheVariants as vPat
 use Rattle.es_lowering.specs.Value.{given}
 use Rattle.es_lowering.specs.Operators.{assign_between}
-use Rattle.es_operator_views.specs.Operator as view
+use Rattle.es_view_expressions.specs.operator.Operator as view
 use Rattle.cjs_facts.specs.declared.found.Found.{Found}
 use Rattle.cjs_facts.specs.Facts.{Assigned, Facts, facts_of_expr, facts_of_pat}
 use Rattle.cjs_facts.specs.Exports.{after, assigned}
 use Rattle.cjs_facts.proofs.Equations as facts
 use Rattle.cjs_calls.specs.Assigns.{Assigns}
-use Rattle.cjs_tasks.specs.declared.tasks.Task.{Task}
-use Rattle.cjs_tasks.specs.Effects.{of, Queues, Steps}
-use Rattle.cjs_tasks.proofs.Effects.{after_one, after_none}
-use Rattle.cjs_tasks.proofs.Lines.{two}
+use Rattle.cjs_facts.specs.declared.tasks.tasks.Task.{Task}
+use Rattle.cjs_facts.specs.tasks.Effects.{of, Queues, Steps}
+use Rattle.cjs_facts.proofs.tasks_lemmas.Effects.{after_one, after_none}
+use Rattle.cjs_facts.proofs.tasks_lemmas.Lines.{two}
 use Rattle.cjs_walk.proofs.Signs.{IsOther}
 use Rattle.cjs_walk.proofs.StepForms.{steps_after, steps_nothing}
 

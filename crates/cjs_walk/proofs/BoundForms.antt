@@ -9,10 +9,10 @@ use Rattle.cjs_facts.specs.declared.found.Found.{Found}
 use Rattle.cjs_facts.specs.Facts.{Bound, facts_of_var_declarator}
 use Rattle.cjs_facts.specs.Exports.{after}
 use Rattle.cjs_calls.specs.Binds.{Bounds}
-use Rattle.cjs_tasks.specs.declared.tasks.Task.{Task}
-use Rattle.cjs_tasks.specs.Effects.{of, Queues}
-use Rattle.cjs_tasks.proofs.Effects.{after_one, after_none}
-use Rattle.cjs_tasks.proofs.Lines.{two}
+use Rattle.cjs_facts.specs.declared.tasks.tasks.Task.{Task}
+use Rattle.cjs_facts.specs.tasks.Effects.{of, Queues}
+use Rattle.cjs_facts.proofs.tasks_lemmas.Effects.{after_one, after_none}
+use Rattle.cjs_facts.proofs.tasks_lemmas.Lines.{two}
 use Rattle.cjs_walk.specs.Bound.{BoundAll, VarSteps, declarators}
 
 -- a declarator, and others behind it

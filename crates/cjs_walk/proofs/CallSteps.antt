@@ -5,13 +5,13 @@ use Rattle.std.proofs.Common.{◌≡◌, refl, sym, ap, ◌∙◌, inl, inr}
 use Rattle.std.proofs.lemmas.List.{append_assoc}
 use Rattle.base.specs.declared.range.Range.{Range}
 use Rattle.es_token.specs.declared.token.Token.{Token}
-use Rattle.ts_ast.specs.declared.ts.TsPart.{TsPart}
-use Rattle.ts_ast.specs.declared.ts.TsPart.TheVariants as vPart
+use Rattle.es_ast.specs.declared.ts.ts.TsPart.{TsPart}
+use Rattle.es_ast.specs.declared.ts.ts.TsPart.TheVariants as vPart
 use Rattle.es_ast.specs.declared.ast.Expr.{Expr}
 use Rattle.es_lowering.specs.Value.{Value, given, optional, arguments_at}
 use Rattle.es_lowering.specs.Expressions.{Post, call_of}
 use Rattle.es_lowering.specs.TypedExpressions.{typed_call_of}
-use Rattle.es_call_views.specs.Post as view
+use Rattle.es_view_expressions.specs.call.Post as view
 use Rattle.cjs_facts.specs.declared.found.Found.{Found}
 use Rattle.cjs_facts.specs.Facts.{Called, Facts, facts_of_expr}
 use Rattle.cjs_facts.specs.Looks.{Look, look, callee_look}
@@ -20,10 +20,10 @@ use Rattle.cjs_facts.proofs.Equations as facts
 use Rattle.cjs_looks.specs.Odd.{Looks, Linked}
 use Rattle.cjs_looks.specs.Posts.{Makes}
 use Rattle.cjs_calls.specs.Calls.{Makes as Adds}
-use Rattle.cjs_tasks.specs.declared.tasks.Task.{Task}
-use Rattle.cjs_tasks.specs.Effects.{of, Queues}
-use Rattle.cjs_tasks.proofs.Effects.{after_one}
-use Rattle.cjs_tasks.proofs.Lines.{two}
+use Rattle.cjs_facts.specs.declared.tasks.tasks.Task.{Task}
+use Rattle.cjs_facts.specs.tasks.Effects.{of, Queues}
+use Rattle.cjs_facts.proofs.tasks_lemmas.Effects.{after_one}
+use Rattle.cjs_facts.proofs.tasks_lemmas.Lines.{two}
 use Rattle.cjs_walk.specs.Chains.{told, PartsOf, PostParts, IsCall, Spot, State, Follows, Passes, Counts, Calls, CallStep}
 
 -- ---- whether a call counts

@@ -6,14 +6,14 @@ use Rattle.es_token.specs.declared.token.Token.{Token}
 use Rattle.es_ast.specs.declared.ast.Expr.{Expr}
 use Rattle.es_lowering.specs.Value.{Value, nil, more, given, as_group, turns, post_at}
 use Rattle.es_lowering.specs.Expressions.{Post, chained}
-use Rattle.es_call_views.specs.Call as view
+use Rattle.es_view_expressions.specs.call.Call as view
 use Rattle.cjs_facts.specs.declared.found.Found.{Found}
 use Rattle.cjs_facts.specs.Facts.{facts_of_expr}
 use Rattle.cjs_facts.specs.Looks.{Look, look, callee_look}
 use Rattle.cjs_looks.specs.Seen.{Tells}
-use Rattle.cjs_tasks.specs.declared.tasks.Task.{Task}
-use Rattle.cjs_tasks.specs.Effects.{of, Queues, Steps}
-use Rattle.cjs_tasks.proofs.Effects.{after_none}
+use Rattle.cjs_facts.specs.declared.tasks.tasks.Task.{Task}
+use Rattle.cjs_facts.specs.tasks.Effects.{of, Queues, Steps}
+use Rattle.cjs_facts.proofs.tasks_lemmas.Effects.{after_none}
 use Rattle.cjs_walk.specs.Chains.{Spot, State, Follows, AllFollow}
 use Rattle.cjs_walk.proofs.StepForms.{steps_after}
 

@@ -14,14 +14,14 @@ use Rattle.es_syntax.specs.declared.cursor.Siblings.{Siblings}
 use Rattle.es_syntax.specs.Held.{held, valued}
 use Rattle.cjs_facts.specs.Facts.{Facts, facts_of_expr, facts_of_pat, facts_of_prop, facts_of_object_pat_prop, facts_of_class_member, facts_of_stmt, facts_of_module_item, facts_of_param, facts_of_switch_case, facts_of_ts_enum_member, facts_of_var_declarator}
 use Rattle.cjs_facts.proofs.Equations as facts
-use Rattle.cjs_tasks.specs.declared.tasks.Each.{Each}
-use Rattle.cjs_tasks.specs.declared.tasks.Each.TheVariants as each
-use Rattle.cjs_tasks.specs.declared.tasks.Task.{Task}
-use Rattle.cjs_tasks.specs.Effects.{of, each_effect, Queues}
-use Rattle.cjs_tasks.proofs.Lines.{two, none}
-use Rattle.cjs_pattern_tasks.proofs.Elements.{anywhere}
-use Rattle.cjs_pattern_tasks.proofs.PatForms.{moved}
-use Rattle.cjs_stmt_tasks.proofs.CompoundForms.{clauses_anywhere}
+use Rattle.cjs_facts.specs.declared.tasks.tasks.Each.{Each}
+use Rattle.cjs_facts.specs.declared.tasks.tasks.Each.TheVariants as each
+use Rattle.cjs_facts.specs.declared.tasks.tasks.Task.{Task}
+use Rattle.cjs_facts.specs.tasks.Effects.{of, each_effect, Queues}
+use Rattle.cjs_facts.proofs.tasks_lemmas.Lines.{two, none}
+use Rattle.cjs_walk.proofs.pattern_tasks_lemmas.Elements.{anywhere}
+use Rattle.cjs_walk.proofs.pattern_tasks_lemmas.PatForms.{moved}
+use Rattle.cjs_walk.proofs.stmt_tasks_lemmas.CompoundForms.{clauses_anywhere}
 use Rattle.cjs_walk.specs.Turns.{turn_effect}
 
 module _ (x : List ℕ) (ts : List Token) where

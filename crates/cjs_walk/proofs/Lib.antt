@@ -1,3 +1,9 @@
+pub mod pattern_tasks_lemmas
+pub mod stmt_tasks_lemmas
+pub mod item_tasks_lemmas
+pub mod function_tasks_lemmas
+pub mod decl_tasks_lemmas
+pub mod expr_tasks_lemmas
 -- steps
 pub mod StepForms
 -- signs of assignments

@@ -5,9 +5,9 @@ use Rattle.std.proofs.Common.{◌≡◌, refl, sym, ap, subst, ◌∙◌}
 use Rattle.std.proofs.lemmas.List.{append-nil}
 use Rattle.base.specs.declared.range.Range.{Range}
 use Rattle.es_token.specs.declared.token.Token.{Token}
-use Rattle.ts_ast.specs.declared.leaf.Ident.{Ident}
-use Rattle.ts_ast.specs.declared.ts.TsPart.{TsPart}
-use Rattle.ts_ast.specs.declared.ts.TsPart.TheVariants as vPart
+use Rattle.es_ast.specs.declared.ts.leaf.Ident.{Ident}
+use Rattle.es_ast.specs.declared.ts.ts.TsPart.{TsPart}
+use Rattle.es_ast.specs.declared.ts.ts.TsPart.TheVariants as vPart
 use Rattle.es_ast.specs.declared.ast.Expr.{Expr}
 use Rattle.es_lowering.specs.Value.{Value, absent, nil, more, token, node, given, part, as_group, optional, arguments_at}
 use Rattle.es_lowering.specs.Texts.{property_of, token_of}
@@ -21,12 +21,12 @@ use Rattle.es_syntax.specs.declared.cursor.Item.{Item}
 use Rattle.es_syntax.specs.Held.{Held, held, valued, made, parts_of, row_of}
 use Rattle.es_syntax.specs.Places.{place_of}
 use Rattle.es_syntax.specs.Roles.{expr_in, args_in}
-use Rattle.es_call_views.specs.Post as view
+use Rattle.es_view_expressions.specs.call.Post as view
 use Rattle.cjs_facts.specs.Facts.{Facts, facts_of_expr}
 use Rattle.cjs_facts.proofs.Equations as facts
-use Rattle.cjs_tasks.specs.declared.tasks.Task.{Task}
-use Rattle.cjs_tasks.specs.Effects.{of, Queues}
-use Rattle.cjs_tasks.proofs.Lines.{none}
+use Rattle.cjs_facts.specs.declared.tasks.tasks.Task.{Task}
+use Rattle.cjs_facts.specs.tasks.Effects.{of, Queues}
+use Rattle.cjs_facts.proofs.tasks_lemmas.Lines.{none}
 use Rattle.cjs_walk.specs.Chains.{PartsOf}
 
 module _ (x : List ℕ) (ts : List Token) where

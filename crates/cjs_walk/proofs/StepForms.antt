@@ -7,9 +7,9 @@ use Rattle.es_lowering.specs.Value.{Value}
 use Rattle.es_syntax.specs.Roles.{expr_in}
 use Rattle.cjs_facts.specs.Facts.{Facts, facts_of_expr}
 use Rattle.cjs_facts.specs.Exports.{after}
-use Rattle.cjs_tasks.specs.declared.tasks.Task.{Task}
-use Rattle.cjs_tasks.specs.Effects.{Effect, no_effect, of, line, Queues, Steps}
-use Rattle.cjs_tasks.proofs.Effects.{after_both, after_none, line_none}
+use Rattle.cjs_facts.specs.declared.tasks.tasks.Task.{Task}
+use Rattle.cjs_facts.specs.tasks.Effects.{Effect, no_effect, of, line, Queues, Steps}
+use Rattle.cjs_facts.proofs.tasks_lemmas.Effects.{after_both, after_none, line_none}
 
 module _ (x : List ℕ) (ts : List Token) where
   queued : (g : Effect) (l : Option Effect) (start : Found)

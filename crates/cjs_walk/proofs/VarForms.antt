@@ -6,7 +6,7 @@ use Rattle.base.specs.declared.range.Range.{Range}
 use Rattle.es_token.specs.declared.token.Token.{Token}
 use Rattle.es_token.specs.declared.token.TokenKind.{TokenKind}
 use Rattle.es_token.specs.declared.token.TokenKind.TheVariants as k
-use Rattle.es_tree.specs.Key.{same_kind}
+use Rattle.grammar_theory.specs.Key.{same_kind}
 use Rattle.es_ast.specs.declared.leaf.VarDeclKind.{VarDeclKind}
 use Rattle.es_ast.specs.declared.leaf.VarDeclKind.TheVariants as vKind
 use Rattle.es_ast.specs.declared.ast.Decl.TheVariants as vDecl
@@ -15,16 +15,16 @@ use Rattle.es_lowering.specs.Value.{Value, given, turns, declarator_at}
 use Rattle.es_lowering.specs.Operators.{listed, variable_kinds}
 use Rattle.es_lowering.specs.Statements.{Variables, using_kind}
 use Rattle.es_lowering.specs.TypedStatements.{Declarable}
-use Rattle.es_decl_views.specs.Decl as view
-use Rattle.es_decl_views.specs.Variables as list
+use Rattle.es_view_statements.specs.decl.Decl as view
+use Rattle.es_view_statements.specs.decl.Variables as list
 use Rattle.cjs_facts.specs.declared.found.Found.{Found}
 use Rattle.cjs_facts.specs.Facts.{Bound, Facts, bound_facts, facts_of_decl, facts_of_var_declarator}
 use Rattle.cjs_facts.specs.Exports.{after}
 use Rattle.cjs_facts.proofs.Equations as facts
-use Rattle.cjs_tasks.specs.declared.tasks.Task.{Task}
-use Rattle.cjs_tasks.specs.Effects.{of, Queues, Steps}
-use Rattle.cjs_tasks.proofs.Lines.{one}
-use Rattle.cjs_decl_tasks.specs.Parts.{declarable_facts}
+use Rattle.cjs_facts.specs.declared.tasks.tasks.Task.{Task}
+use Rattle.cjs_facts.specs.tasks.Effects.{of, Queues, Steps}
+use Rattle.cjs_facts.proofs.tasks_lemmas.Lines.{one}
+use Rattle.cjs_walk.specs.decl_tasks.Parts.{declarable_facts}
 use Rattle.cjs_walk.specs.Bound.{VarSteps, declarators}
 use Rattle.cjs_walk.proofs.StepForms.{steps_queue, steps_after}
 

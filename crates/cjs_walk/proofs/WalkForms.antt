@@ -3,9 +3,9 @@ use Rattle.std.specs.Prelude.{ℕ, List, [], ◌∷◌, ◌++◌, Option, Some, 
 use Rattle.std.proofs.Common.{◌≡◌, refl, sym, ap, subst, ◌∙◌}
 use Rattle.es_token.specs.declared.token.Token.{Token}
 use Rattle.cjs_facts.specs.declared.found.Found.{Found}
-use Rattle.cjs_tasks.specs.declared.tasks.Task.{Task}
-use Rattle.cjs_tasks.specs.Effects.{Effect, follow, no_effect, effect, line, run, Steps, Unloads}
-use Rattle.cjs_tasks.proofs.Effects.{run_last, run_none}
+use Rattle.cjs_facts.specs.declared.tasks.tasks.Task.{Task}
+use Rattle.cjs_facts.specs.tasks.Effects.{Effect, follow, no_effect, effect, line, run, Steps, Unloads}
+use Rattle.cjs_facts.proofs.tasks_lemmas.Effects.{run_last, run_none}
 use Rattle.cjs_walk.specs.Walks.{Walks, Turned, WalkLeft}
 
 module _ (x : List ℕ) (ts : List Token) where

@@ -7,8 +7,8 @@ use Rattle.es_lowering.specs.Value.{given}
 use Rattle.cjs_facts.specs.declared.found.Found.{Found}
 use Rattle.cjs_facts.specs.Facts.{Bound, facts_of_var_declarator}
 use Rattle.cjs_facts.specs.Exports.{after}
-use Rattle.cjs_tasks.specs.declared.tasks.Task.{Task}
-use Rattle.cjs_tasks.specs.Effects.{of, Queues}
+use Rattle.cjs_facts.specs.declared.tasks.tasks.Task.{Task}
+use Rattle.cjs_facts.specs.tasks.Effects.{of, Queues}
 
 -- where the declarators are there, each is bound
 pub record BoundAll (part : Option (List VarDeclarator)) (old new : Found) : Type 0 where

@@ -10,8 +10,8 @@ use Rattle.cjs_facts.specs.Looks.{Look, look, callee_look}
 use Rattle.cjs_facts.specs.Exports.{after, called_by}
 use Rattle.cjs_looks.specs.Odd.{Linked}
 use Rattle.cjs_looks.specs.Seen.{look_of}
-use Rattle.cjs_tasks.specs.declared.tasks.Task.{Task}
-use Rattle.cjs_tasks.specs.Effects.{of, Effect, Queues}
+use Rattle.cjs_facts.specs.declared.tasks.tasks.Task.{Task}
+use Rattle.cjs_facts.specs.tasks.Effects.{of, Effect, Queues}
 use Rattle.cjs_walk.specs.declared.chain.Along.{Along}
 
 -- facts that are told themselves

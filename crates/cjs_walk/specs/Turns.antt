@@ -8,9 +8,9 @@ use Rattle.es_lowering.specs.Expressions.{argument, element_of}
 use Rattle.es_lowering.specs.Statements.{clause_of}
 use Rattle.es_lowering.specs.TypedStatements.{enum_member}
 use Rattle.cjs_facts.specs.Facts.{facts_of_expr, facts_of_pat, facts_of_prop, facts_of_object_pat_prop, facts_of_class_member, facts_of_stmt, facts_of_module_item, facts_of_param, facts_of_switch_case, facts_of_ts_enum_member, facts_of_var_declarator}
-use Rattle.cjs_tasks.specs.declared.tasks.Each.{Each}
-use Rattle.cjs_tasks.specs.declared.tasks.Each.TheVariants as each
-use Rattle.cjs_tasks.specs.Effects.{Effect, of}
+use Rattle.cjs_facts.specs.declared.tasks.tasks.Each.{Each}
+use Rattle.cjs_facts.specs.declared.tasks.tasks.Each.TheVariants as each
+use Rattle.cjs_facts.specs.tasks.Effects.{Effect, of}
 
 -- elements and clauses may begin at any token
 abbrev pub turn_effect : List Token → Each → ℕ → Value → Option Effect

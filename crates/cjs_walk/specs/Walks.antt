@@ -2,8 +2,8 @@
 use Rattle.std.specs.Prelude.{◌≡◌, ℕ, List, Option, IfSome, IsSomeAnd}
 use Rattle.es_token.specs.declared.token.Token.{Token}
 use Rattle.cjs_facts.specs.declared.found.Found.{Found}
-use Rattle.cjs_tasks.specs.declared.tasks.Task.{Task}
-use Rattle.cjs_tasks.specs.Effects.{Effect, follow, run}
+use Rattle.cjs_facts.specs.declared.tasks.tasks.Task.{Task}
+use Rattle.cjs_facts.specs.tasks.Effects.{Effect, follow, run}
 
 -- where all is there, what is found is what it makes of what was found before
 pub record Walks (whole : Option Effect) (old new : Found) : Type 0 where

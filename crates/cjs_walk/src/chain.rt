@@ -3,7 +3,7 @@
 ghost use Rattle.std.specs.Prelude.{◌≡◌, [], false, IfOk, OnOk};
 ghost use Rattle.base.specs.declared.range.Range.{Range};
 ghost use Rattle.es_lowering.specs.Value.{as_group, turns, post_at as post_there};
-ghost use Rattle.es_call_views.specs.Call.{chained_of};
+ghost use Rattle.es_view_expressions.specs.call.Call.{chained_of};
 ghost use Rattle.es_syntax.specs.Held.{held, valued};
 ghost use Rattle.es_syntax.specs.Roles.{args_in, expr_in, post_in};
 ghost use Rattle.cjs_facts.specs.Facts.{facts_of_expr};
@@ -11,20 +11,20 @@ ghost use Rattle.cjs_facts.specs.Looks.{look, callee_look};
 ghost use Rattle.cjs_looks.specs.Odd.{Looks, Linked};
 ghost use Rattle.cjs_looks.specs.Posts.{Makes};
 ghost use Rattle.cjs_looks.specs.Seen.{Tells, look_of};
-ghost use Rattle.cjs_tasks.specs.Effects.{of, Steps};
+ghost use Rattle.cjs_facts.specs.tasks.Effects.{of, Steps};
 ghost use Rattle.cjs_walk.specs.Chains.{spot, Follows, AllFollow, Calls, CallStep};
 
+use crate::expr_tasks::arguments;
 use crate::posts::post_parts;
 use base::Items;
 use cjs_calls::{called, callee_at};
-use cjs_expr_tasks::arguments;
 use cjs_facts::Found;
+use cjs_facts::tasks::{Task, queue};
+use cjs_looks::steps::{is_define, is_star};
 use cjs_looks::{Look, look_at, post_look};
-use cjs_steps::{is_define, is_star};
-use cjs_tasks::{Task, queue};
-use es_call_views::{Post, post_at};
 use es_syntax::{Item, Siblings};
 use es_token::Token;
+use es_view_expressions::call::{Post, post_at};
 use std::alloc::AllocError;
 
 /// How far a chain was scanned: what stands by now looks so, so as a callee, and a call counted or not.

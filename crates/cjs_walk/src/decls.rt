@@ -10,18 +10,18 @@ ghost use Rattle.es_syntax.specs.Held.{held, valued};
 ghost use Rattle.es_syntax.specs.Roles.{declarator_in, decl_in, variables_in};
 ghost use Rattle.cjs_facts.specs.Facts.{facts_of_decl, facts_of_var_declarator};
 ghost use Rattle.cjs_calls.specs.Binds.{Bounds};
-ghost use Rattle.cjs_tasks.specs.Effects.{of, Queues, Steps};
+ghost use Rattle.cjs_facts.specs.tasks.Effects.{of, Queues, Steps};
 ghost use Rattle.cjs_walk.specs.Bound.{BoundAll, VarSteps, declarators};
 
+use crate::decl_tasks::{class_decl, declarable, declarator, function_decl};
 use base::Items;
 use cjs_calls::bound;
-use cjs_decl_tasks::{class_decl, declarable, declarator, function_decl};
 use cjs_facts::Found;
-use cjs_tasks::{Each, Task, queue};
-use es_decl_views::{Decl, Variables, decl_at, variables_at};
-use es_function_views::{plain_class, plain_function};
+use cjs_facts::tasks::{Each, Task, queue};
 use es_syntax::{Item, Siblings};
 use es_token::Token;
+use es_view_expressions::function::{plain_class, plain_function};
+use es_view_statements::decl::{Decl, Variables, decl_at, variables_at};
 use std::alloc::AllocError;
 
 /// What the declarator in a turn adds.

@@ -3,17 +3,17 @@
 ghost use Rattle.std.specs.Prelude.{◌≡◌, ℕ, List, OnOk};
 ghost use Rattle.es_token.specs.declared.token.Token.{Token as Tok};
 ghost use Rattle.es_syntax.specs.Held.{valued};
-ghost use Rattle.cjs_tasks.specs.Effects.{each_effect, Queues};
+ghost use Rattle.cjs_facts.specs.tasks.Effects.{each_effect, Queues};
 ghost use Rattle.cjs_walk.specs.Turns.{turn_effect};
 
+use crate::decl_tasks::{declarator_turn, enum_turn};
+use crate::expr_tasks::{argument_turn, element_turn, expr_turn, hole_turn, prop_turn};
+use crate::function_tasks::{member_turn, param_turn};
+use crate::item_tasks::item_turn;
+use crate::pattern_tasks::{pat_prop_turn, target_turn};
+use crate::stmt_tasks::{case_turn, stmt_turn};
 use base::Items;
-use cjs_decl_tasks::{declarator_turn, enum_turn};
-use cjs_expr_tasks::{argument_turn, element_turn, expr_turn, hole_turn, prop_turn};
-use cjs_function_tasks::{member_turn, param_turn};
-use cjs_item_tasks::item_turn;
-use cjs_pattern_tasks::{pat_prop_turn, target_turn};
-use cjs_stmt_tasks::{case_turn, stmt_turn};
-use cjs_tasks::{Each, Task, queue};
+use cjs_facts::tasks::{Each, Task, queue};
 use es_syntax::{Item, Siblings};
 use std::alloc::AllocError;
 

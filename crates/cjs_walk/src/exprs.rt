@@ -5,20 +5,20 @@ ghost use Rattle.es_token.specs.declared.token.Token.{Token as Tok};
 ghost use Rattle.es_syntax.specs.Held.{valued};
 ghost use Rattle.es_syntax.specs.Roles.{expr_in};
 ghost use Rattle.cjs_facts.specs.Facts.{facts_of_expr};
-ghost use Rattle.cjs_tasks.specs.Effects.{of, Queues, Steps};
+ghost use Rattle.cjs_facts.specs.tasks.Effects.{of, Queues, Steps};
 
 use crate::assign::{assignment, pattern_assignment};
 use crate::chain::chain;
+use crate::expr_tasks::{call, function, operands, operator, primary};
 use base::Items;
-use cjs_expr_tasks::{call, function, operands, operator, primary};
 use cjs_facts::Found;
-use cjs_tasks::Task;
-use es_call_views::{Call, call_at};
-use es_expr_views::primary_at;
-use es_function_views::function_at;
-use es_operator_views::{Operator, chain_at, operator_at};
+use cjs_facts::tasks::Task;
 use es_syntax::Item;
 use es_token::Token;
+use es_view_expressions::call::{Call, call_at};
+use es_view_expressions::expr::primary_at;
+use es_view_expressions::function::function_at;
+use es_view_expressions::operator::{Operator, chain_at, operator_at};
 use std::alloc::AllocError;
 
 /// What a primary expression, a function, a class or a chain of operators leaves.

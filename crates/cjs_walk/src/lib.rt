@@ -7,10 +7,16 @@
 
 mod assign;
 mod chain;
+pub mod decl_tasks;
 mod decls;
 mod each;
+pub mod expr_tasks;
 mod exprs;
+pub mod function_tasks;
+pub mod item_tasks;
+pub mod pattern_tasks;
 mod posts;
+pub mod stmt_tasks;
 mod walking;
 
 pub use walking::walk;

@@ -3,15 +3,15 @@
 ghost use Rattle.std.specs.Prelude.{◌≡◌, ℕ, List, OnOk};
 ghost use Rattle.base.specs.declared.range.Range.{Range};
 ghost use Rattle.es_token.specs.declared.token.Token.{Token as Tok};
-ghost use Rattle.es_call_views.specs.Post.{the_post, optioned, typed_optioned};
+ghost use Rattle.es_view_expressions.specs.call.Post.{the_post, optioned, typed_optioned};
 ghost use Rattle.es_syntax.specs.Held.{valued};
 ghost use Rattle.cjs_walk.specs.Chains.{PartsOf};
 
+use crate::expr_tasks::arguments;
 use base::Items;
-use cjs_expr_tasks::arguments;
-use cjs_tasks::{Task, queue};
-use es_call_views::Post;
+use cjs_facts::tasks::{Task, queue};
 use es_syntax::{Item, What};
+use es_view_expressions::call::Post;
 use std::alloc::AllocError;
 
 /// What stands behind `?.` leaves: an index, arguments; of a name nothing.

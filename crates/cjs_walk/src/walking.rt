@@ -1,18 +1,18 @@
 //! The walk: tasks from a stack, one after the other.
 
 ghost use Rattle.std.specs.Prelude.{◌≡◌, [], OnOk};
-ghost use Rattle.cjs_tasks.specs.Effects.{effect, run, Steps};
+ghost use Rattle.cjs_facts.specs.tasks.Effects.{effect, run, Steps};
 ghost use Rattle.cjs_walk.specs.Walks.{Walks, Turned};
 
 use crate::decls::decl;
 use crate::each::each_of;
 use crate::exprs::expr;
+use crate::function_tasks::params;
+use crate::pattern_tasks::pat;
+use crate::stmt_tasks::stmt;
 use base::Items;
 use cjs_facts::Found;
-use cjs_function_tasks::params;
-use cjs_pattern_tasks::pat;
-use cjs_stmt_tasks::stmt;
-use cjs_tasks::{Task, unload};
+use cjs_facts::tasks::{Task, unload};
 use es_token::Token;
 use std::alloc::AllocError;
 

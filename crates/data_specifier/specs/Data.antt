@@ -5,7 +5,7 @@ use Rattle.percent_encoding.specs.Percent.{percent_decode}
 use Rattle.data_specifier.specs.declared.data_module.DataModule.{DataModule}
 use Rattle.data_specifier.specs.declared.error.DataError.{DataError}
 use Rattle.data_specifier.specs.declared.error.DataError.TheVariants.{NoComma, Base64, OutOfMemory}
-use Rattle.mime_essence.specs.Blanks.{trim_blanks}
+use Rattle.media_type.specs.mime_essence.Blanks.{trim_blanks}
 use Rattle.data_specifier.specs.Forgiving.{forgiving_base64}
 use Rattle.data_specifier.specs.Front.{is_base64, mime_of}
 

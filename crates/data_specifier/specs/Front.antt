@@ -2,8 +2,8 @@
 use Rattle.std.specs.Prelude.{ℕ, nat_eq, ◌-◌, ◌==◌, ◌&&◌, nat_lt, Bool, List, codes, length, take, drop, if◌then◌else◌}
 use Rattle.std.specs.List.{ends_with, before_first, after_first}
 use Rattle.std.specs.Str.{str_to_ascii_lowercase, str_eq_ignore_ascii_case}
-use Rattle.mime_essence.specs.Blanks.{trim_blanks_end}
-use Rattle.mime_essence.specs.Essence.{essence_of}
+use Rattle.media_type.specs.mime_essence.Blanks.{trim_blanks_end}
+use Rattle.media_type.specs.mime_essence.Essence.{essence_of}
 
 -- the front ends with `;`, any blanks and `base64` in any case
 unfoldable pub is_base64 : List ℕ → Bool

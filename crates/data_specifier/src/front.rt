@@ -4,7 +4,7 @@ ghost use Rattle.std.specs.Str.{str_eq_ignore_ascii_case};
 ghost use Rattle.data_specifier.specs.Front as spec;
 
 use base::Text;
-use mime_essence::{essence_of, trim_blanks_end};
+use media_type::mime_essence::{essence_of, trim_blanks_end};
 use std::alloc::{AllocError, Global};
 
 /// The front ends with `;`, any blanks and `base64` in any case.

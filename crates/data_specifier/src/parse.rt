@@ -9,7 +9,7 @@ use crate::body::body_of;
 use crate::data_module::DataModule;
 use crate::error::DataError;
 use crate::front::{is_base64, mime_of};
-use mime_essence::trim_blanks;
+use media_type::mime_essence::trim_blanks;
 use std::alloc::Global;
 use url::Url;
 

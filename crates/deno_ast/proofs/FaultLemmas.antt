@@ -2,7 +2,7 @@
 use Rattle.std.specs.Prelude.{Result}
 use Rattle.std.specs.Result.{IfErr}
 use Rattle.std.proofs.Common.{◌≡◌, subst, ℕ, List}
-use Rattle.es_tree.specs.declared.error.Mode.{Mode}
+use Rattle.grammar_theory.specs.declared.error.Mode.{Mode}
 use Rattle.parse_diagnostic.specs.declared.diagnostic.ParseFault.{ParseFault}
 use Rattle.source_reading.specs.Fault.{Refuses}
 use Rattle.deno_ast.specs.declared.params.ParseParams.{ParseParams}

@@ -3,22 +3,22 @@ use Rattle.std.specs.Prelude.{Bool, true, false, Option, Some, None, option_map,
 use Rattle.std.specs.List.{list_any}
 use Rattle.std.proofs.Common.{◌≡◌, ℕ, List, [], ◌∷◌, refl, sym, ap, ◌∙◌, inl, inr}
 use Rattle.es_token.specs.declared.token.Token.{Token}
-use Rattle.es_tree.specs.declared.error.Lang.{Lang}
-use Rattle.es_tree.specs.declared.error.Mode.TheVariants as mode
+use Rattle.grammar_theory.specs.declared.error.Lang.{Lang}
+use Rattle.grammar_theory.specs.declared.error.Mode.TheVariants as mode
 use Rattle.es_ast.specs.declared.ast.Program.{Program}
 use Rattle.es_ast.specs.declared.ast.Stmt.{Stmt}
 use Rattle.es_ast.specs.declared.ast.Stmt.TheVariants as vStmt
 use Rattle.es_ast.specs.declared.ast.ModuleDecl.{ModuleDecl}
 use Rattle.es_ast.specs.declared.ast.ModuleItem.TheVariants as vItem
-use Rattle.es_derives.specs.Derives.{Derives}
+use Rattle.es_lowering.specs.derives.Derives.{Derives}
 use Rattle.es_syntax.specs.Held.{valued}
 use Rattle.es_syntax.specs.Roles.{stmt_in}
-use Rattle.es_items.specs.Items.{is_some, decl_by, decl_in, the_item}
-use Rattle.es_items.specs.Lent.{lent_item}
-use Rattle.es_items.specs.declared.item.ModuleItemRef.{ModuleItemRef}
-use Rattle.es_items.specs.declared.item.ModuleItemRef.TheVariants as vRef
-use Rattle.es_items.proofs.ReadLemmas.{out_decl, out_stmt}
-use Rattle.es_both_items.proofs.Theorems.{same_items}
+use Rattle.es_program.specs.items.Items.{is_some, decl_by, decl_in, the_item}
+use Rattle.es_program.specs.items.Lent.{lent_item}
+use Rattle.es_program.specs.declared.items.item.ModuleItemRef.{ModuleItemRef}
+use Rattle.es_program.specs.declared.items.item.ModuleItemRef.TheVariants as vRef
+use Rattle.es_program.proofs.items_lemmas.ReadLemmas.{out_decl, out_stmt}
+use Rattle.es_law_programs.proofs.both_items.Theorems.{same_items}
 use Rattle.source_reading.specs.Tree.{IsFirstTree}
 use Rattle.deno_ast.specs.Refs.{items_of}
 use Rattle.deno_ast.specs.Steps.{is_decl}

@@ -7,7 +7,7 @@ use Rattle.es_syntax.specs.declared.entry.Entry.{Entry}
 use Rattle.es_syntax.specs.Trees.{first_tree, trees}
 use Rattle.es_program.specs.Typed.{program_at}
 use Rattle.es_scopes.specs.Numbers.{ids}
-use Rattle.es_scope_analysis.specs.Scope.{declared}
+use Rattle.es_variables.specs.scope_analysis.Scope.{declared}
 use Rattle.es_variables.specs.declared.scope.Scope.{Scope}
 use Rattle.es_variables.specs.declared.ident.Ident.{Ident}
 use Rattle.es_variables.specs.Numbers.{AreNumbers}

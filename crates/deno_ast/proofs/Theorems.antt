@@ -1,7 +1,7 @@
 -- The laws of parsed sources that other crates name.
 use Rattle.std.proofs.Common.{◌≡◌, ◌≢◌, ◌∙◌, refl, sym, ap, subst, ℕ, Bool, true, List, ◌++◌, Some, None}
 use Rattle.std.specs.Prelude.{Option}
-use Rattle.es_tree.specs.declared.error.Mode.{Mode}
+use Rattle.grammar_theory.specs.declared.error.Mode.{Mode}
 use Rattle.es_ast.specs.declared.ast.Program.{Program}
 use Rattle.es_site.specs.Sites.{sites_of}
 use Rattle.parse_diagnostic.specs.Diagnosis.{Diagnosis, told_range}

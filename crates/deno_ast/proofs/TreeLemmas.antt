@@ -2,11 +2,11 @@
 use Rattle.std.specs.Prelude.{Result}
 use Rattle.std.proofs.Common.{◌≡◌, ℕ, List, [], ◌∷◌, inl, inr}
 use Rattle.es_token.specs.declared.token.Token.{Token}
-use Rattle.es_tree.specs.declared.error.Lang.{Lang}
-use Rattle.es_tree.specs.declared.error.Mode.{Mode}
-use Rattle.es_tree.specs.declared.error.SyntaxError.{SyntaxError}
+use Rattle.grammar_theory.specs.declared.error.Lang.{Lang}
+use Rattle.grammar_theory.specs.declared.error.Mode.{Mode}
+use Rattle.grammar_theory.specs.declared.error.SyntaxError.{SyntaxError}
 use Rattle.es_ast.specs.declared.ast.Program.{Program}
-use Rattle.es_derives.specs.Derives.{Derives}
+use Rattle.es_lowering.specs.derives.Derives.{Derives}
 use Rattle.es_parser.specs.Answers.{GivesTree}
 use Rattle.source_reading.specs.Tree.{IsFirstTree}
 

@@ -1,5 +1,5 @@
 -- ---- what the public contracts rest on
-pub use Rattle.module_text.specs.ModuleText
+pub use Rattle.source_text.specs.module_text.ModuleText
 pub use Rattle.media_type.specs.MediaType
 pub use Rattle.parse_diagnostic.specs.Diagnosis
 pub use Rattle.es_references.specs.References
@@ -14,9 +14,9 @@ pub mod Parsed
 pub mod Scopes
 pub mod Source
 pub mod Refs
-pub use Rattle.es_items.specs.Told
-pub use Rattle.es_items.specs.Spans
-pub use Rattle.es_items.specs.Lent
+pub use Rattle.es_program.specs.items.Told
+pub use Rattle.es_program.specs.items.Spans
+pub use Rattle.es_program.specs.items.Lent
 pub mod Lexing
 -- ---- what the functions inside the crate promise each other
 pub mod Kept

@@ -12,7 +12,7 @@ use Rattle.es_comments.specs.Placed.{Placed, comments_at}
 use Rattle.media_type.specs.declared.media_type.MediaType.{MediaType}
 use Rattle.media_type.specs.MediaType.{is_typed}
 use Rattle.es_ast.specs.declared.ast.ModuleItem.{ModuleItem}
-use Rattle.es_items.specs.Spans.{span_of_lent}
+use Rattle.es_program.specs.items.Spans.{span_of_lent}
 use Rattle.deno_ast.specs.Refs.{is_script_by_items, shebang_of, items_of}
 
 -- the tokens are kept where that was asked for, and so are the scope numbers of names, each at the place of its token;

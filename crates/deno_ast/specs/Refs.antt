@@ -5,7 +5,7 @@ use Rattle.es_ast.specs.declared.ast.Program.{Program}
 use Rattle.es_ast.specs.declared.ast.Program.TheVariants as program
 use Rattle.es_ast.specs.declared.ast.ModuleItem.{ModuleItem}
 use Rattle.es_ast.specs.declared.ast.ModuleItem.TheVariants as vItem
-use Rattle.es_items.specs.Told.{tells_script}
+use Rattle.es_program.specs.items.Told.{tells_script}
 use Rattle.deno_ast.specs.declared.program_ref.ProgramRef.{ProgramRef}
 use Rattle.deno_ast.specs.declared.program_ref.ProgramRef.TheVariants.{Module, Script}
 

@@ -3,9 +3,9 @@ use Rattle.std.specs.Prelude.{◌≡◌, ℕ, Bool, List, Option, Some, None, if
 use Rattle.url.specs.Parts.{serialize}
 use Rattle.es_token.specs.declared.token.Token.{Token}
 use Rattle.es_comments.specs.Standing.{ArePlaced}
-use Rattle.es_tree.specs.declared.error.Lang.{Lang}
-use Rattle.es_tree.specs.declared.error.Lang.TheVariants as lang
-use Rattle.es_tree.specs.declared.error.Mode.{Mode}
+use Rattle.grammar_theory.specs.declared.error.Lang.{Lang}
+use Rattle.grammar_theory.specs.declared.error.Lang.TheVariants as lang
+use Rattle.grammar_theory.specs.declared.error.Mode.{Mode}
 use Rattle.es_ast.specs.declared.ast.Program.{Program}
 use Rattle.es_ast.specs.declared.ast.Program.TheVariants as program
 use Rattle.es_ast.specs.declared.ast.Module.{Module}

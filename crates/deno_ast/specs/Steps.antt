@@ -1,11 +1,11 @@
 -- What the functions inside the crate promise each other.
 use Rattle.std.specs.Prelude.{ℕ, Bool, List, Option, Some, None, if◌then◌else◌}
 use Rattle.es_ast.specs.declared.ast.ModuleItem.{ModuleItem, out-ModuleItem}
-use Rattle.es_items.specs.Items.{is_some, decl_by}
+use Rattle.es_program.specs.items.Items.{is_some, decl_by}
 use Rattle.es_token.specs.declared.token.Token.{Token}
 use Rattle.es_lexer.specs.Reads.{Reads}
 use Rattle.es_comments.specs.Placed.{Placed}
-use Rattle.es_tree.specs.declared.error.Mode.{Mode}
+use Rattle.grammar_theory.specs.declared.error.Mode.{Mode}
 use Rattle.deno_ast.specs.declared.params.ParseParams.{ParseParams}
 use Rattle.deno_ast.specs.declared.reading.Reading.{Reading}
 use Rattle.source_reading.specs.Tree.{IsFirstTree}

@@ -1,10 +1,10 @@
 //! Imports and exports among the items of a program, and whether its tokens look like one.
 ghost use Rattle.std.specs.Prelude.{◌≡◌};
 ghost use Rattle.std.specs.List.{list_any};
-ghost use Rattle.es_items.specs.Lent.{lent_item, items_left};
+ghost use Rattle.es_program.specs.items.Lent.{lent_item, items_left};
 ghost use Rattle.deno_ast.specs.Steps as spec;
 
-use es_items::{Body, ModuleItemRef, first_item};
+use es_program::items::{Body, ModuleItemRef, first_item};
 use es_token::{Token, TokenKind};
 
 /// Whether an import or an export is among these items.

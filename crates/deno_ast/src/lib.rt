@@ -11,8 +11,8 @@
 //! - The sites of a source are those of its text (`source_sites`, `proofs/Theorems.antt`): what `read_sites` answers
 //!   without a tree.
 //!
-//! It hands on `read_sites` of `source_sites`, `media_type`, `source_text`, `text_changes`, `es_comments`,
-//! `parse_diagnostic`, `module_text`, and the sites of `es_site`. Not promised: the range of a `Syntax` fault, and when
+//! It hands on `read_sites` of `source_sites`, `media_type`, `source_text`, `source_text::text_changes`, `es_comments`,
+//! `parse_diagnostic`, `source_text::module_text`, and the sites of `es_site`. Not promised: the range of a `Syntax` fault, and when
 //! memory runs out.
 #![tactic(auto)]
 
@@ -44,22 +44,22 @@ pub use crate::tree::tree_of;
 pub use base::{Items, Range, Text};
 pub use es_comments::{CommentMap, CommentsIter, MultiThreadedComments, SingleThreadedComments};
 pub use es_exports::ModuleExportsAndReExports;
-pub use es_items::{Body, ModuleDeclRef, ModuleItemRef, StmtRef};
 pub use es_lexer::{LexError, LexicalError, LexicalKind};
 pub use es_literal::quote;
+pub use es_program::items::{Body, ModuleDeclRef, ModuleItemRef, StmtRef};
 pub use es_program::{Form, Module, Program, Script, SharedTokens};
 pub use es_program_printer::{EmitOptions, EmittedSourceText, SourceMapOption, print};
 pub use es_site::{Attribute, DependencyKind, Site};
 pub use es_token::{Comment, CommentKind, Token, TokenKind};
 pub use es_variables::{BindingKind, Id, Ident, Scope, ScopeIds, ScopeKind, Var, ident_at};
 pub use media_type::MediaType;
-pub use module_text::{strip_bom, without_mark};
 pub use parse_diagnostic::{
     KeptDiagnostic, ParseDiagnostic, ParseDiagnosticsError, ParseFault, SyntaxErrorKind,
 };
 pub use source_sites::read_sites;
+pub use source_text::module_text::{strip_bom, without_mark};
+pub use source_text::text_changes::{TextChange, TextChangeError, apply_text_changes};
 pub use source_text::{LineAndColumnDisplay, SourceText, SourceTextInfo};
-pub use text_changes::{TextChange, TextChangeError, apply_text_changes};
 pub use url::Url as ModuleSpecifier;
 
 /// The version of the original whose names and behaviour these calls have.

@@ -1,6 +1,6 @@
 //! What is to be parsed, and how.
 ghost use Rattle.std.specs.Prelude.{◌≡◌};
-ghost use Rattle.module_text.specs.ModuleText.{without_mark as unmarked};
+ghost use Rattle.source_text.specs.module_text.ModuleText.{without_mark as unmarked};
 ghost use Rattle.deno_ast.specs.Steps.{with_text};
 
 use crate::syntax::Syntax;

@@ -1,8 +1,8 @@
 //! The calls that parse.
 ghost use Rattle.std.specs.Prelude.{◌≡◌, false, [], ◌∷◌, IfOk};
 ghost use Rattle.std.specs.Result.{IfErr};
-ghost use Rattle.es_tree.specs.declared.error.Mode.TheVariants as mode;
-ghost use Rattle.module_text.specs.ModuleText.{without_mark};
+ghost use Rattle.grammar_theory.specs.declared.error.Mode.TheVariants as mode;
+ghost use Rattle.source_text.specs.module_text.ModuleText.{without_mark};
 ghost use Rattle.source_reading.specs.Tree as tree;
 ghost use Rattle.source_reading.specs.Fault.{Refuses};
 ghost use Rattle.source_sites.specs.Modes.{modes_in};
@@ -12,7 +12,7 @@ use crate::params::{ParseParams, without_bom};
 use crate::reading::{Reading, read_in};
 use crate::source::{ParsedSource, source_of};
 use es_program::{Form, Module, Program, Script};
-use es_tree::Mode;
+use grammar_theory::Mode;
 use parse_diagnostic::ParseFault;
 use source_sites::{Modes, modes_of};
 use std::alloc::Global;

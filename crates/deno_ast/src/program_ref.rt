@@ -5,12 +5,12 @@ ghost use Rattle.std.specs.List.{slice_get};
 ghost use Rattle.es_lexer.specs.Reads.{ReadsTokens};
 ghost use Rattle.es_program.specs.Typed.{program_at};
 ghost use Rattle.es_ast.specs.declared.ast.Program.TheVariants as program;
-ghost use Rattle.es_items.specs.Lent.{lent_item, items_left};
+ghost use Rattle.es_program.specs.items.Lent.{lent_item, items_left};
 ghost use Rattle.deno_ast.specs.Refs as spec;
 ghost use Rattle.deno_ast.specs.Refs.{tree_of, IsModule, IsScript};
 
 use base::Range;
-use es_items::{Body, ModuleItemRef, first_item, module_body, script_body, tells_script};
+use es_program::items::{Body, ModuleItemRef, first_item, module_body, script_body, tells_script};
 use es_program::{Form, Module, Program, Script};
 use es_syntax::Siblings;
 use es_token::Token;

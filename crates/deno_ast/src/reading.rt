@@ -17,7 +17,7 @@ use base::Items;
 use es_lexer::lex_tokens;
 use es_program::{Program, SharedTokens};
 use es_token::{Comment, Lexed};
-use es_tree::SyntaxError;
+use grammar_theory::SyntaxError;
 use parse_diagnostic::ParseFault;
 use source_sites::{Modes, lexical_fault, syntax_fault};
 use std::alloc::Global;

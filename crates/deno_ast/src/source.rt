@@ -3,7 +3,7 @@ ghost use Rattle.std.specs.Prelude.{◌≡◌, ◌≢◌, ◌++◌, ℕ, List, N
 ghost use Rattle.std.specs.Arc.{arc_value};
 ghost use Rattle.std.specs.Option.{option_map, option_copied};
 ghost use Rattle.deno_ast.specs.Refs.{tree_of};
-ghost use Rattle.es_items.specs.Lent.{lent_item};
+ghost use Rattle.es_program.specs.items.Lent.{lent_item};
 ghost use Rattle.es_exports.specs.Exports.{exports_of, reexports_of};
 ghost use Rattle.cjs_facts.specs.Exports.{AreExports};
 ghost use Rattle.deno_ast.specs.Parsed as spec;
@@ -20,7 +20,7 @@ use base::{Items, Range};
 use cjs_exports::analyze_cjs;
 use es_comments::{MultiThreadedComments, comments_of};
 use es_exports::{ModuleExportsAndReExports, analyze_es_runtime_exports};
-use es_items::ModuleItemRef;
+use es_program::items::ModuleItemRef;
 use es_program::{Form, Program, SharedTokens};
 use es_site::Site;
 use es_token::{Comment, Token};

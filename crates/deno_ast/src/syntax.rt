@@ -3,7 +3,7 @@ ghost use Rattle.std.specs.Prelude.{◌≡◌};
 ghost use Rattle.deno_ast.specs.Source as spec;
 ghost use Rattle.source_reading.specs.Tree.{language_of};
 
-use es_tree::Lang;
+use grammar_theory::Lang;
 use media_type::MediaType;
 
 /// What a source is read as.

@@ -1,9 +1,9 @@
 //! The tree of a source.
 ghost use Rattle.std.specs.Prelude.{◌≡◌, IfOk, [], ◌∷◌, List};
-ghost use Rattle.es_tree.specs.declared.error.Mode.TheVariants as mode;
+ghost use Rattle.grammar_theory.specs.declared.error.Mode.TheVariants as mode;
 ghost use Rattle.es_lexer.specs.Reads.{ReadsTokens};
 ghost use Rattle.es_ast.specs.declared.ast.Program.{Program as Typed};
-ghost use Rattle.es_derives.specs.Derives.{Derives};
+ghost use Rattle.es_lowering.specs.derives.Derives.{Derives};
 ghost use Rattle.es_parser.specs.Answers.{GivesTree};
 ghost use Rattle.source_reading.specs.Tree.{IsFirstTree, IsTree};
 ghost use Rattle.source_sites.specs.Modes.{modes_in};
@@ -12,7 +12,7 @@ use crate::decls::{has_decl, looks_like_module};
 use crate::program_ref::ProgramRef;
 use es_parser::parse_tokens;
 use es_program::{Program, SharedTokens};
-use es_tree::{Lang, Mode, SyntaxError};
+use grammar_theory::{Lang, Mode, SyntaxError};
 use media_type::MediaType;
 use source_sites::{Modes, language_of, modes_of};
 use source_text::SourceText;

@@ -8,9 +8,9 @@ ghost use Rattle.graph_builder.specs.Reach.{answer_to};
 ghost use Rattle.graph_builder.specs.Graph.{texts, different, IsGraph, EachEdgeCuts};
 ghost use Rattle.graph_builder.specs.Builder.{graph_rules, starts, GoesOn, new_building, new_building_by, IsOrderly, IsAsking, IsAskedFor, EachAnswered, IsToldLog, HasHistory, IsNotYet, IsUnawaited, IsTooMany, IsComplete, IsCompleteBy, IsFairly, CameInTime};
 
+use crate::analyzer::ParserModuleAnalyzer;
 use crate::ways::{DefaultWays, following_parts};
 use base::Items;
-use graph_analyzer::ParserModuleAnalyzer;
 use graph_builder::{BuildError, BuildOptions, CustomBuild, Following, Inner, Loader, ModuleGraph};
 use graph_entry::{DefaultResolver, ModuleAnalyzer, Resolver};
 use std::alloc::{AllocError, AllocFailed, Global};

@@ -8,12 +8,13 @@
 //! `OutOfMemory` is the one answer that no clause ties to a cause.
 #![tactic(auto)]
 
+pub mod analyzer;
 mod build;
 mod ways;
 
+pub use crate::analyzer::ParserModuleAnalyzer;
 pub use build::GraphBuild;
 pub use file_url::{SpecifierError, resolve_import};
-pub use graph_analyzer::ParserModuleAnalyzer;
 pub use graph_builder::{
     Arrival, BuildError, BuildOptions, CustomBuild, Entries, Loader, LoaderPoll, MemoryLoader,
     ModuleGraph, UnloggedLoader,

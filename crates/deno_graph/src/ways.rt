@@ -4,8 +4,8 @@ ghost use Rattle.graph_entry.specs.Resolution.{resolve};
 ghost use Rattle.graph_entry.specs.Analysed.{Analysed};
 ghost use Rattle.graph_entry.proofs.Theorems.{analysed_once};
 
+use crate::analyzer::{analyse, analyse_unasked};
 use base::Items;
-use graph_analyzer::{analyse, analyse_unasked};
 use graph_builder::{Following, Loader, Parts, Ways};
 use graph_entry::{Dependency, Entry, LoadAnswer, ReferrerImports, referred, starts_of};
 use std::alloc::{AllocError, Global};

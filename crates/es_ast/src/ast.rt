@@ -2,8 +2,8 @@ use crate::leaf::{
     AssignOp, BinaryOp, ExportAll, ImportDecl, ImportPhase, Lit, Modifiers, NamedExport,
     TsImportEqualsDecl, TsNamespaceExportDecl, UnaryOp, UpdateOp, VarDeclKind,
 };
+use crate::ts::{Ident, MethodKind, Str, TplElement, TsEntityName, TsPart};
 use base::{Boxed, Items, Range, Text};
-use ts_ast::{Ident, MethodKind, Str, TplElement, TsEntityName, TsPart};
 
 /// A whole text, read by one of the two goal symbols.
 pub enum Program {

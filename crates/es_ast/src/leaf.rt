@@ -1,5 +1,5 @@
+use crate::ts::{BigInt, Ident, Number, Str, TsEntityName};
 use base::{Items, Range, Text};
-use ts_ast::{BigInt, Ident, Number, Str, TsEntityName};
 
 /// A regular expression, as it is spelled, with its flags.
 pub struct Regex {

@@ -11,7 +11,13 @@
 
 mod ast;
 mod leaf;
+pub mod ts;
 
+pub use crate::ts::{
+    BigInt, Ident, MethodKind, Nodes, Number, Str, TplElement, TruePlusMinus, TsEntityName,
+    TsExprWithTypeArgs, TsFnParam, TsKey, TsKeywordTypeKind, TsLit, TsParamPat, TsPart, TsPatProp,
+    TsThisTypeOrIdent, TsTupleElement, TsType, TsTypeElement, TsTypeOperatorOp, TsTypeParam,
+};
 pub use ast::{
     Class, ClassMember, Decl, Expr, Function, Module, ModuleDecl, ModuleItem, ObjectPatProp, Param,
     Pat, Program, Prop, Script, Stmt, SwitchCase, TsEnumMember, VarDeclarator,
@@ -21,9 +27,4 @@ pub use leaf::{
     ImportAttributes, ImportClause, ImportDecl, ImportNames, ImportPhase, ImportSpecifier, Lit,
     Modifiers, ModuleExportName, NamedExport, Regex, TsImportEqualsDecl, TsModuleRef,
     TsNamespaceExportDecl, UnaryOp, UpdateOp, VarDeclKind,
-};
-pub use ts_ast::{
-    BigInt, Ident, MethodKind, Nodes, Number, Str, TplElement, TruePlusMinus, TsEntityName,
-    TsExprWithTypeArgs, TsFnParam, TsKey, TsKeywordTypeKind, TsLit, TsParamPat, TsPart, TsPatProp,
-    TsThisTypeOrIdent, TsTupleElement, TsType, TsTypeElement, TsTypeOperatorOp, TsTypeParam,
 };

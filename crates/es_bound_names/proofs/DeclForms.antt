@@ -5,8 +5,8 @@ use Rattle.std.specs.List.{flat_map}
 use Rattle.std.proofs.Common.{◌≡◌, refl, sym, ap, ◌∙◌}
 use Rattle.base.specs.declared.range.Range.{Range}
 use Rattle.es_token.specs.declared.token.Token.{Token}
-use Rattle.ts_ast.specs.declared.leaf.TsEntityName.{TsEntityName}
-use Rattle.ts_ast.specs.declared.ts.TsType.{TsType}
+use Rattle.es_ast.specs.declared.ts.leaf.TsEntityName.{TsEntityName}
+use Rattle.es_ast.specs.declared.ts.ts.TsType.{TsType}
 use Rattle.es_ast.specs.declared.ast.Class.{Class}
 use Rattle.es_ast.specs.declared.ast.Decl.{Decl, roll-Decl, out-Decl, out-roll-Decl}
 use Rattle.es_ast.specs.declared.ast.Decl.TheVariants as vDecl
@@ -17,9 +17,9 @@ use Rattle.es_ast.specs.declared.ast.ModuleItem.{ModuleItem}
 use Rattle.es_ast.specs.declared.leaf.VarDeclKind.{VarDeclKind}
 use Rattle.es_token.specs.declared.token.TokenKind.{TokenKind}
 use Rattle.es_token.specs.declared.token.TokenKind.TheVariants as k
-use Rattle.es_tree.specs.Key.{same_kind}
-use Rattle.ts_ast.specs.declared.ts.TsPart.{TsPart}
-use Rattle.ts_ast.specs.declared.ts.TsPart.TheVariants as vPart
+use Rattle.grammar_theory.specs.Key.{same_kind}
+use Rattle.es_ast.specs.declared.ts.ts.TsPart.{TsPart}
+use Rattle.es_ast.specs.declared.ts.ts.TsPart.TheVariants as vPart
 use Rattle.es_ast.specs.declared.ast.VarDeclarator.{VarDeclarator, roll-VarDeclarator, out-VarDeclarator, out-roll-VarDeclarator}
 use Rattle.es_ast.specs.declared.ast.ClassMember.TheOpen.{Decl-F, VarDeclarator-F}
 use Rattle.es_site.specs.Parts.{Whole}
@@ -32,10 +32,10 @@ use Rattle.es_lowering.specs.TypedFunctions.{typed_function, typed_class}
 use Rattle.es_lowering.specs.TypedParts.{heritage_in, marked_by}
 use Rattle.es_lowering.specs.TypedStatements.{Declarable, enum_member, items_of}
 use Rattle.es_lowering.specs.Operators.{listed, variable_kinds, is_kind_at}
-use Rattle.es_decl_views.specs.Decl as decl
-use Rattle.es_decl_views.specs.Declarable as d
-use Rattle.es_decl_views.specs.Declarator as declarator
-use Rattle.es_decl_views.specs.Variables as var
+use Rattle.es_view_statements.specs.decl.Decl as decl
+use Rattle.es_view_statements.specs.decl.Declarable as d
+use Rattle.es_view_statements.specs.decl.Declarator as declarator
+use Rattle.es_view_statements.specs.decl.Variables as var
 use Rattle.es_bound_names.specs.Names.{Names, ident_names, bound_names, class_names, function_names, declarator_names, variables_names, entity_names, names_by, declared_names}
 use Rattle.es_bound_names.specs.Adds.{Adds, decls_of}
 use Rattle.es_bound_names.proofs.Lists.{adds_more}

@@ -6,8 +6,8 @@ use Rattle.std.proofs.Common.{◌≡◌, refl, sym, ap, ◌∙◌}
 use Rattle.std.proofs.lemmas.List.{append-nil}
 use Rattle.base.specs.declared.range.Range.{Range}
 use Rattle.es_token.specs.declared.token.Token.{Token}
-use Rattle.ts_ast.specs.declared.leaf.Ident.{Ident}
-use Rattle.ts_ast.specs.declared.ts.TsPart.{TsPart}
+use Rattle.es_ast.specs.declared.ts.leaf.Ident.{Ident}
+use Rattle.es_ast.specs.declared.ts.ts.TsPart.{TsPart}
 use Rattle.es_ast.specs.declared.ast.Expr.{Expr}
 use Rattle.es_ast.specs.declared.ast.ObjectPatProp.{ObjectPatProp}
 use Rattle.es_ast.specs.declared.ast.Pat.{Pat}
@@ -19,9 +19,9 @@ use Rattle.es_lowering.specs.Expressions.{elements}
 use Rattle.es_lowering.specs.Functions.{Key}
 use Rattle.es_lowering.specs.Patterns.{ident_pat, with_default}
 use Rattle.es_lowering.specs.TypeTexts.{marked}
-use Rattle.es_pattern_views.specs.Pat as pat
-use Rattle.es_pattern_views.specs.Marked as m
-use Rattle.es_pattern_views.specs.PatProp as prop
+use Rattle.es_view_expressions.specs.pattern.Pat as pat
+use Rattle.es_view_expressions.specs.pattern.Marked as m
+use Rattle.es_view_expressions.specs.pattern.PatProp as prop
 use Rattle.es_bound_names.specs.Names.{Names, ident_names, bound_names, prop_names}
 use Rattle.es_bound_names.specs.Adds.{Adds}
 use Rattle.es_bound_names.proofs.Equations.{pat_Ident, pat_Array, pat_Object, pat_Rest, pat_Assign, pat_Expr, prop_KeyValue, prop_Assign, prop_Rest}

@@ -5,13 +5,13 @@ use Rattle.std.proofs.Common.{◌≡◌, refl, sym, ap, subst, ◌∙◌}
 use Rattle.std.proofs.lemmas.List.{append-nil}
 use Rattle.base.specs.declared.range.Range.{Range}
 use Rattle.es_token.specs.declared.token.Token.{Token}
-use Rattle.ts_ast.specs.declared.leaf.Ident.{Ident}
-use Rattle.ts_ast.specs.declared.leaf.TsEntityName.{TsEntityName}
-use Rattle.ts_ast.specs.declared.leaf.TsThisTypeOrIdent.{TsThisTypeOrIdent}
-use Rattle.ts_ast.specs.declared.leaf.TsThisTypeOrIdent.TheVariants as vThis
-use Rattle.ts_ast.specs.declared.ts.TsPart.{TsPart}
+use Rattle.es_ast.specs.declared.ts.leaf.Ident.{Ident}
+use Rattle.es_ast.specs.declared.ts.leaf.TsEntityName.{TsEntityName}
+use Rattle.es_ast.specs.declared.ts.leaf.TsThisTypeOrIdent.{TsThisTypeOrIdent}
+use Rattle.es_ast.specs.declared.ts.leaf.TsThisTypeOrIdent.TheVariants as vThis
+use Rattle.es_ast.specs.declared.ts.ts.TsPart.{TsPart}
 use Rattle.es_token.specs.declared.token.TokenKind.TheVariants as k
-use Rattle.es_tree.specs.Key.{same_kind}
+use Rattle.grammar_theory.specs.Key.{same_kind}
 use Rattle.es_ast.specs.declared.ast.Class.{Class, roll-Class, out-Class, out-roll-Class}
 use Rattle.es_ast.specs.declared.ast.Expr.{Expr}
 use Rattle.es_ast.specs.declared.ast.ClassMember.{ClassMember}
@@ -23,9 +23,9 @@ use Rattle.es_ast.specs.declared.ast.Stmt.{Stmt}
 use Rattle.es_lowering.specs.Value.{Value, Signature, absent, nil, more, token, node, given, group, turns, optional, expr_at, member_at, type_params_at, arguments_at}
 use Rattle.es_lowering.specs.TypedParts.{heritage_in, body_in}
 use Rattle.es_lowering.specs.Texts.{ident_of, token_of, own_name_of, this_or_name_of, ident_at}
-use Rattle.es_function_views.specs.Class as class
-use Rattle.es_function_views.specs.Head as head
-use Rattle.es_type_name_views.specs.Entity as entity
+use Rattle.es_view_expressions.specs.function.Class as class
+use Rattle.es_view_expressions.specs.function.Head as head
+use Rattle.es_view_types.specs.names.Entity as entity
 use Rattle.es_bound_names.specs.Names.{Names, ident_names, own_names, class_names, function_names, entity_names, first_name}
 use Rattle.es_bound_names.specs.Adds.{Adds}
 

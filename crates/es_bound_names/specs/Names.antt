@@ -2,10 +2,10 @@
 -- handbook of TypeScript).
 use Rattle.std.specs.Prelude.{ℕ, List, [], ◌∷◌, Option, Some, None}
 use Rattle.std.specs.List.{flat_map}
-use Rattle.ts_ast.specs.declared.leaf.Ident.{Ident}
-use Rattle.ts_ast.specs.declared.leaf.TsEntityName.{TsEntityName}
-use Rattle.ts_ast.specs.declared.leaf.TsThisTypeOrIdent.{TsThisTypeOrIdent}
-use Rattle.ts_ast.specs.declared.leaf.TsThisTypeOrIdent.TheVariants as vThis
+use Rattle.es_ast.specs.declared.ts.leaf.Ident.{Ident}
+use Rattle.es_ast.specs.declared.ts.leaf.TsEntityName.{TsEntityName}
+use Rattle.es_ast.specs.declared.ts.leaf.TsThisTypeOrIdent.{TsThisTypeOrIdent}
+use Rattle.es_ast.specs.declared.ts.leaf.TsThisTypeOrIdent.TheVariants as vThis
 use Rattle.es_ast.specs.declared.leaf.VarDeclKind.{VarDeclKind}
 use Rattle.es_ast.specs.declared.ast.Class.{Class, out-Class}
 use Rattle.es_ast.specs.declared.ast.Decl.{Decl, out-Decl}

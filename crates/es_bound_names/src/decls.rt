@@ -6,8 +6,8 @@ ghost use Rattle.std.specs.Option.{option_map};
 ghost use Rattle.base.specs.declared.range.Range.{Range};
 ghost use Rattle.es_lowering.specs.Value.{as_group, turns, declarator_at};
 ghost use Rattle.es_lowering.specs.Texts.{own_name_of, this_or_name_of};
-ghost use Rattle.es_function_views.specs.Class.{the_class};
-ghost use Rattle.es_function_views.specs.Head.{the_head};
+ghost use Rattle.es_view_expressions.specs.function.Class.{the_class};
+ghost use Rattle.es_view_expressions.specs.function.Head.{the_head};
 ghost use Rattle.es_syntax.specs.Held.{held, valued, there};
 ghost use Rattle.es_syntax.specs.Roles.{decl_in, declarable_in, declarator_in, variables_in, entity_in};
 ghost use Rattle.es_bound_names.specs.Names.{own_names, class_names, function_names, declarator_names, variables_names, entity_names, first_name, declared_names};
@@ -15,15 +15,15 @@ ghost use Rattle.es_bound_names.specs.Adds.{Adds, decls_of};
 
 use crate::names::{Names, token_at};
 use crate::pats::{marked_names, part_in, pat_names};
-use es_decl_views::{
-    Decl, Declarable, Declarator, Variables, decl_at, declarable_at, declarator_at, variables_at,
-};
-use es_function_views::{
-    ClassHead, FunctionHead, plain_class, plain_function, typed_class, typed_function,
-};
 use es_syntax::{Item, Siblings, What};
 use es_token::{Token, TokenKind};
-use es_type_name_views::{Entity, entity_at};
+use es_view_expressions::function::{
+    ClassHead, FunctionHead, plain_class, plain_function, typed_class, typed_function,
+};
+use es_view_statements::decl::{
+    Decl, Declarable, Declarator, Variables, decl_at, declarable_at, declarator_at, variables_at,
+};
+use es_view_types::names::{Entity, entity_at};
 
 /// A name that stands first in a group, which may be empty.
 #[tactic(auto, using(crate::proofs::Heads::adds_own_first, crate::proofs::Heads::adds_own_empty))]

@@ -3,7 +3,7 @@
 ghost use Rattle.std.specs.Prelude.{◌≡◌, ◌<◌, ℕ, List, length, false, IfSome};
 ghost use Rattle.std.specs.List.{flat_map};
 ghost use Rattle.base.specs.declared.range.Range.{Range};
-ghost use Rattle.ts_ast.specs.declared.ts.TsPart.{TsPart};
+ghost use Rattle.es_ast.specs.declared.ts.ts.TsPart.{TsPart};
 ghost use Rattle.std.specs.Prelude.{Bool, Option};
 ghost use Rattle.es_token.specs.declared.token.Token.{Token as Tok};
 ghost use Rattle.es_ast.specs.declared.ast.Pat.TheVariants as vPat;
@@ -15,9 +15,9 @@ ghost use Rattle.es_bound_names.specs.Names.{bound_names, prop_names};
 ghost use Rattle.es_bound_names.specs.Adds.{Adds};
 
 use crate::names::Names;
-use es_pattern_views::{Marked, Pat, PatProp, marked_at, pat_at, pat_prop_at};
 use es_syntax::{Item, Siblings};
 use es_token::Token;
+use es_view_expressions::pattern::{Marked, Pat, PatProp, marked_at, pat_at, pat_prop_at};
 
 /// What stands first in the group that stands first in a turn, and what is behind it.
 fn element_in<'a>(turn: &Item<'a>) -> Option<(Item<'a>, Siblings<'a>)>

@@ -17,8 +17,8 @@ use Rattle.es_site.specs.Parts.{Whole}
 use Rattle.es_lowering.specs.Value.{Value, nil, more, as_group, given, group, optional, turns, attributes_at, export_specifier_at}
 use Rattle.es_lowering.specs.Texts.{ident_of, str_of, name_of, name_at}
 use Rattle.es_lowering.specs.Modules.{source_with, with_of}
-use Rattle.es_module_views.specs.Export as export
-use Rattle.es_module_name_views.specs.ExportSpecifier as specifier
+use Rattle.es_view_modules.specs.items.Export as export
+use Rattle.es_view_modules.specs.names.ExportSpecifier as specifier
 use Rattle.es_bound_names.specs.Names.{Names, declared_names}
 use Rattle.es_bound_names.specs.Adds.{Adds}
 use Rattle.es_bound_names.proofs.Heads.{given_any, nothing}

@@ -36,7 +36,7 @@ use Rattle.es_syntax.specs.Held.{held, made, parts_of, valued, label_of}
 use Rattle.es_syntax.specs.Roles.{item_in}
 use Rattle.es_syntax.specs.Views.{IsNone, is_one_of}
 use Rattle.es_syntax.proofs.Others.{in_held, in_role, in_leant}
-use Rattle.es_module_views.specs.Export.{exports}
+use Rattle.es_view_modules.specs.items.Export.{exports}
 use Rattle.es_bound_names.specs.Names.{Names}
 use Rattle.es_bound_names.specs.Adds.{Adds}
 use Rattle.es_bound_names.proofs.Heads.{nothing}

@@ -5,7 +5,7 @@ use Rattle.std.proofs.Common.{◌≡◌, refl, sym, ap, subst, ◌∙◌}
 use Rattle.std.proofs.lemmas.List.{append-nil}
 use Rattle.es_token.specs.declared.token.Token.{Token}
 use Rattle.es_token.specs.declared.token.TokenKind.TheVariants as k
-use Rattle.es_tree.specs.Key.{same_kind}
+use Rattle.grammar_theory.specs.Key.{same_kind}
 use Rattle.es_literal.specs.Values.{value_of}
 use Rattle.es_ast.specs.declared.leaf.ModuleExportName.{ModuleExportName}
 use Rattle.es_ast.specs.declared.leaf.ModuleExportName.TheVariants as vName

@@ -1,6 +1,6 @@
 -- The names of parts of exports.
 use Rattle.std.specs.Prelude.{List, ◌∷◌, []}
-use Rattle.ts_ast.specs.declared.leaf.Str.{Str}
+use Rattle.es_ast.specs.declared.ts.leaf.Str.{Str}
 use Rattle.es_ast.specs.declared.ast.ModuleDecl.{ModuleDecl, out-ModuleDecl}
 use Rattle.es_bound_names.specs.Names.{Names}
 use Rattle.es_exports.specs.Exports.{names_by, again_by}

@@ -4,8 +4,8 @@ ghost use Rattle.std.specs.Prelude.{◌≡◌, false, IfOk};
 ghost use Rattle.std.specs.List.{flat_map};
 ghost use Rattle.base.specs.declared.range.Range.{Range};
 ghost use Rattle.es_lowering.specs.Value.{as_group, turns, item_at, export_specifier_at};
-ghost use Rattle.es_module_views.specs.Export.{the_export};
-ghost use Rattle.es_module_name_views.specs.ExportSpecifier.{the_export_specifier};
+ghost use Rattle.es_view_modules.specs.items.Export.{the_export};
+ghost use Rattle.es_view_modules.specs.names.ExportSpecifier.{the_export_specifier};
 ghost use Rattle.es_syntax.specs.Held.{held, valued};
 ghost use Rattle.es_syntax.specs.Roles.{item_in, export_specifier_in};
 ghost use Rattle.es_bound_names.specs.Adds.{Adds};
@@ -16,11 +16,11 @@ ghost use Rattle.es_exports.specs.Named.{named_as};
 use crate::tokens::{export_name, name_part};
 use base::{Items, Text};
 use es_bound_names::{Names, decl_names, part_in};
-use es_module_name_views::{ExportName, export_specifier_at};
-use es_module_views::{Export, export_at};
 use es_program::Module;
 use es_syntax::{Item, Siblings};
 use es_token::Token;
+use es_view_modules::items::{Export, export_at};
+use es_view_modules::names::{ExportName, export_specifier_at};
 use std::alloc::{AllocError, Global};
 
 /// The names that a module exports, in order.

@@ -4,7 +4,7 @@ ghost use Rattle.std.specs.Prelude.{◌≡◌, false, IfOk};
 ghost use Rattle.std.specs.List.{flat_map};
 ghost use Rattle.base.specs.declared.range.Range.{Range};
 ghost use Rattle.es_lowering.specs.Value.{as_group, turns, item_at};
-ghost use Rattle.es_module_views.specs.Export.{the_export};
+ghost use Rattle.es_view_modules.specs.items.Export.{the_export};
 ghost use Rattle.es_syntax.specs.Held.{held, valued};
 ghost use Rattle.es_syntax.specs.Roles.{item_in};
 ghost use Rattle.es_bound_names.specs.Adds.{Adds};
@@ -14,10 +14,10 @@ ghost use Rattle.es_exports.specs.Parts.{decl_reexports};
 use crate::tokens::str_name;
 use base::{Items, Text};
 use es_bound_names::{Names, part_in};
-use es_module_views::{Export, export_at};
 use es_program::Module;
 use es_syntax::{Item, Siblings};
 use es_token::Token;
+use es_view_modules::items::{Export, export_at};
 use std::alloc::{AllocError, Global};
 
 /// The specifiers of the modules whose names a module exports again, in order.

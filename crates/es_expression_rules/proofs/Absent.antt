@@ -3,15 +3,15 @@ use Rattle.std.specs.Prelude.{Bool, true, false, List, length, Result, Ok, Err}
 use Rattle.std.proofs.Common.{◌≡◌, ℕ, zero, suc, refl, sym, ap, subst}
 use Rattle.es_token.specs.declared.token.TokenKind.{TokenKind}
 use Rattle.es_token.specs.declared.token.TokenKind.TheVariants as k
-use Rattle.es_tree.specs.declared.error.SyntaxError.{SyntaxError}
-use Rattle.es_tree.specs.declared.error.Lang.{Lang}
-use Rattle.es_tree.specs.declared.error.Lang.TheVariants as lang
-use Rattle.es_tree.specs.Key.{Key, seen, has_kind, is}
-use Rattle.es_tree.specs.Productions.{Predicate, Predict, test, as_kind, as_there, greedy, by_predicate, done, tok, punct, row, opt, alt, when_, Rhs, Production, choose, wrap}
-use Rattle.es_tree.specs.Reader.{Out, nothing, gives, and_then, either}
-use Rattle.es_tree.proofs.OutLemmas.{either_false, then_gives}
-use Rattle.es_type_grammar.specs.Words.{only, is_other}
-use Rattle.es_type_grammar.specs.Expressions.{is_product, is_sum, is_equality, is_assignment, joins, no_mix, opens_assignment}
+use Rattle.grammar_theory.specs.declared.error.SyntaxError.{SyntaxError}
+use Rattle.grammar_theory.specs.declared.error.Lang.{Lang}
+use Rattle.grammar_theory.specs.declared.error.Lang.TheVariants as lang
+use Rattle.grammar_theory.specs.Key.{Key, seen, has_kind, is}
+use Rattle.grammar_theory.specs.Productions.{Predicate, Predict, test, as_kind, as_there, greedy, by_predicate, done, tok, punct, row, opt, alt, when_, Rhs, Production, choose, wrap}
+use Rattle.grammar_theory.specs.Reader.{Out, nothing, gives, and_then, either}
+use Rattle.grammar_theory.proofs.OutLemmas.{either_false, then_gives}
+use Rattle.es_grammar.specs.types.Words.{only, is_other}
+use Rattle.es_grammar.specs.types.Expressions.{is_product, is_sum, is_equality, is_assignment, joins, no_mix, opens_assignment}
 use Rattle.es_grammar.specs.declared.rows.Context.{Context}
 use Rattle.es_grammar.specs.declared.rows.Row.{Row}
 use Rattle.es_grammar.specs.declared.rows.Row.TheVariants.{AssignmentRow, AndRow, BitOrRow, BitXorRow, BitAndRow, EqualityRow, RelationRow, SumRow, ProductRow, PowerRow}
@@ -19,7 +19,7 @@ use Rattle.es_grammar.specs.declared.rows.NodeKind.{NodeKind}
 use Rattle.es_grammar.specs.declared.rows.NodeKind.TheVariants.{Assignment, Binary, Conditional, TypedBinary}
 use Rattle.es_grammar.specs.Rows.{without_colon}
 use Rattle.es_grammar.specs.Expressions.{level, private_in, comparison_in, tight_in, asserted_or, opens_shift_in, opens_comparison}
-use Rattle.es_predicates.specs.Operators.{is_arithmetic, is_comparing, is_bitwise, is_logical, is_operator}
+use Rattle.es_shared_rules.specs.predicates.Operators.{is_arithmetic, is_comparing, is_bitwise, is_logical, is_operator}
 use Rattle.es_syntax.specs.declared.entry.Entry.{Entry}
 use Rattle.es_rules.specs.declared.cursor.Cursor.{Cursor}
 use Rattle.es_rules.specs.Bounded.{Read, form_at, wraps_at, rule_at}

@@ -2,15 +2,15 @@
 use Rattle.std.specs.Prelude.{Bool, true, false, not, ◌&&◌, ◌||◌, List, Option}
 use Rattle.std.proofs.Common.{◌≡◌, ℕ, refl}
 use Rattle.es_token.specs.declared.token.TokenKind.TheVariants as k
-use Rattle.es_tree.specs.declared.error.Lang.{Lang}
-use Rattle.es_tree.specs.declared.error.Lang.TheVariants as lang
-use Rattle.es_tree.specs.Key.{Key, Seen, TokenTest, seen, has_kind, is}
-use Rattle.es_tree.proofs.EachKind.{holds_everywhere, holds_of_each}
-use Rattle.es_type_grammar.specs.Words.{only, is_near}
-use Rattle.es_type_grammar.specs.Expressions.{is_product, is_sum, is_equality, is_relation, is_assignment, opens_greater, opens_right_shift, opens_right_assignment, opens_shift, opens_assignment}
+use Rattle.grammar_theory.specs.declared.error.Lang.{Lang}
+use Rattle.grammar_theory.specs.declared.error.Lang.TheVariants as lang
+use Rattle.grammar_theory.specs.Key.{Key, Seen, TokenTest, seen, has_kind, is}
+use Rattle.grammar_theory.proofs.EachKind.{holds_everywhere, holds_of_each}
+use Rattle.es_grammar.specs.types.Words.{only, is_near}
+use Rattle.es_grammar.specs.types.Expressions.{is_product, is_sum, is_equality, is_relation, is_assignment, opens_greater, opens_right_shift, opens_right_assignment, opens_shift, opens_assignment}
 use Rattle.es_grammar.specs.declared.rows.Context.{Context}
 use Rattle.es_grammar.specs.Expressions.{is_assertion_word, opens_assertion, is_tight, opens_shift_in, opens_comparison}
-use Rattle.es_predicates.specs.Operators.{is_operator_word, is_arithmetic, is_comparing, is_bitwise, is_logical, is_operator}
+use Rattle.es_shared_rules.specs.predicates.Operators.{is_operator_word, is_arithmetic, is_comparing, is_bitwise, is_logical, is_operator}
 
 -- no token of which the narrow test holds fails the wide one
 abbrev covers : TokenTest → TokenTest → TokenTest

@@ -2,14 +2,14 @@
 use Rattle.std.specs.Prelude.{Bool, true, false, List, length, take, Result, Ok, Err}
 use Rattle.std.proofs.Common.{◌≡◌, ℕ, refl, sym, ap, subst}
 use Rattle.es_token.specs.declared.token.TokenKind.TheVariants as k
-use Rattle.es_tree.specs.declared.error.SyntaxError.{SyntaxError}
-use Rattle.es_tree.specs.declared.error.Lang.{Lang}
-use Rattle.es_tree.specs.declared.error.Lang.TheVariants as lang
-use Rattle.es_tree.specs.Key.{Key}
-use Rattle.es_tree.specs.Productions.{Production, by_predicate, wrap}
-use Rattle.es_tree.specs.Reader.{Out}
-use Rattle.es_type_grammar.specs.Words.{only}
-use Rattle.es_type_grammar.specs.Expressions.{is_equality}
+use Rattle.grammar_theory.specs.declared.error.SyntaxError.{SyntaxError}
+use Rattle.grammar_theory.specs.declared.error.Lang.{Lang}
+use Rattle.grammar_theory.specs.declared.error.Lang.TheVariants as lang
+use Rattle.grammar_theory.specs.Key.{Key}
+use Rattle.grammar_theory.specs.Productions.{Production, by_predicate, wrap}
+use Rattle.grammar_theory.specs.Reader.{Out}
+use Rattle.es_grammar.specs.types.Words.{only}
+use Rattle.es_grammar.specs.types.Expressions.{is_equality}
 use Rattle.es_grammar.specs.declared.rows.Context.{Context}
 use Rattle.es_grammar.specs.declared.rows.Row.{Row}
 use Rattle.es_grammar.specs.declared.rows.NodeKind.{NodeKind}

@@ -1,10 +1,10 @@
 -- Alternatives of rows of the table that are read by functions of their own.
 use Rattle.std.specs.Prelude.{true}
 use Rattle.es_token.specs.declared.token.TokenKind.TheVariants as k
-use Rattle.es_tree.specs.declared.error.Lang.{Lang}
-use Rattle.es_tree.specs.Key.{is}
-use Rattle.es_tree.specs.Productions.{as_kind, greedy, done, tok, punct, row, opt, Production, make, pick}
-use Rattle.es_type_grammar.specs.Expressions.{is_update, opens_property}
+use Rattle.grammar_theory.specs.declared.error.Lang.{Lang}
+use Rattle.grammar_theory.specs.Key.{is}
+use Rattle.grammar_theory.specs.Productions.{as_kind, greedy, done, tok, punct, row, opt, Production, make, pick}
+use Rattle.es_grammar.specs.types.Expressions.{is_update, opens_property}
 use Rattle.es_grammar.specs.declared.rows.Context.{Context}
 use Rattle.es_grammar.specs.declared.rows.Row.{Row}
 use Rattle.es_grammar.specs.declared.rows.Row.TheVariants.{ArgumentsRow, AssignmentRow, CalleeRow, PatternRow, UnaryRow}

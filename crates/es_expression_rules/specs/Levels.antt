@@ -1,11 +1,11 @@
 -- The levels of operators of the table, over the rule of any operand: `sum l c` is `arithmetic_over c (power l c)`, and so on.
 use Rattle.es_token.specs.declared.token.TokenKind.TheVariants as k
-use Rattle.es_tree.specs.declared.error.Lang.{Lang}
-use Rattle.es_tree.specs.declared.error.Lang.TheVariants as lang
-use Rattle.es_tree.specs.Key.{seen, is}
-use Rattle.es_tree.specs.Productions.{as_kind, as_there, greedy, by_predicate, done, tok, punct, row, opt, alt, when_, Production, choose, wrap}
-use Rattle.es_type_grammar.specs.Words.{only, is_other}
-use Rattle.es_type_grammar.specs.Expressions.{is_product, is_sum, is_equality, is_assignment, joins, no_mix, opens_assignment}
+use Rattle.grammar_theory.specs.declared.error.Lang.{Lang}
+use Rattle.grammar_theory.specs.declared.error.Lang.TheVariants as lang
+use Rattle.grammar_theory.specs.Key.{seen, is}
+use Rattle.grammar_theory.specs.Productions.{as_kind, as_there, greedy, by_predicate, done, tok, punct, row, opt, alt, when_, Production, choose, wrap}
+use Rattle.es_grammar.specs.types.Words.{only, is_other}
+use Rattle.es_grammar.specs.types.Expressions.{is_product, is_sum, is_equality, is_assignment, joins, no_mix, opens_assignment}
 use Rattle.es_grammar.specs.declared.rows.Context.{Context}
 use Rattle.es_grammar.specs.declared.rows.Row.{Row}
 use Rattle.es_grammar.specs.declared.rows.Row.TheVariants.{AssignmentRow, AndRow, BitOrRow, BitXorRow, BitAndRow, EqualityRow, RelationRow, SumRow, ProductRow, PowerRow}

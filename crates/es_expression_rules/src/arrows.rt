@@ -3,15 +3,15 @@
 ghost use Rattle.es_grammar.specs.Expressions.{arrow_in, parameters_arrow_in, plain_arrow, async_arrow};
 
 use es_grammar::{Context, NodeKind, Row};
-use es_predicates::Lookahead::{Is, Other};
-use es_predicates::{Kinds, Lookahead, Predicate};
 use es_rules::{
     Alt, Choose, Cursor, Done, Grammar, LeafKind, Make, MakeBy, OfRow, Pick, Punct,
     ReadsProduction, ReadsRhs, Rows, Tok, When,
 };
+use es_shared_rules::predicates::Lookahead::{Is, Other};
+use es_shared_rules::predicates::{Kinds, Lookahead, Predicate};
 use es_shared_rules::{ArrowResultIn, TypeParametersIn};
 use es_token::TokenKind;
-use es_tree::{Lang, SyntaxError};
+use grammar_theory::{Lang, SyntaxError};
 
 /// ~ '=>' (Block | Assign)
 #[derive(Clone, Copy)]

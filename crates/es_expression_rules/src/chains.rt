@@ -1,21 +1,21 @@
 //! Chains: calls and members.
 
-ghost use Rattle.es_tree.specs.declared.error.Lang.TheVariants as lang;
+ghost use Rattle.grammar_theory.specs.declared.error.Lang.TheVariants as lang;
 ghost use Rattle.es_expression_rules.specs.Bases.{new_base};
 ghost use Rattle.es_grammar.specs.Expressions.{import_call, source_call, defer_call, import_meta, import_base, imported, base, arguments, plain_member_post, non_null_post, member_post, optional_post, post, chain, callee, import_arguments};
 
 use crate::operand::Operand;
 use crate::primary::Primary;
 use es_grammar::{Context, NodeKind, Row};
-use es_predicates::Lookahead::{Is, Other};
-use es_predicates::{Kinds, Lookahead, Predicate};
 use es_rules::{
     Alt, ByLookahead, ByPredicate, Choose, Cursor, Done, Grammar, Greedy, Holds, LeafKind, Make,
     MakeBy, Many, OfRow, Opt, Pick, Punct, ReadsProduction, ReadsRhs, Rows, Tok, When, Where,
 };
+use es_shared_rules::predicates::Lookahead::{Is, Other};
+use es_shared_rules::predicates::{Kinds, Lookahead, Predicate};
 use es_shared_rules::{NewArgumentsIn, TypeArgumentsIn};
 use es_token::TokenKind;
-use es_tree::{Lang, SyntaxError};
+use grammar_theory::{Lang, SyntaxError};
 
 /// '(' Assign (',' Assign)? ','? ')'
 #[derive(Clone, Copy)]

@@ -10,14 +10,14 @@ use crate::operand::Operand;
 use crate::operators::Power;
 use crate::primary::Spread;
 use es_grammar::{Context, NodeKind, Row};
-use es_predicates::Lookahead::Is;
-use es_predicates::{Kinds, Lookahead, Predicate, opens_operator};
 use es_rules::{
     Choose, Cursor, Done, Grammar, Greedy, Holds, LeafKind, Make, Many, OfRow, Opt, Pick, Punct,
     ReadsBehind, ReadsProduction, Rows, Tok, When,
 };
+use es_shared_rules::predicates::Lookahead::Is;
+use es_shared_rules::predicates::{Kinds, Lookahead, Predicate, opens_operator};
 use es_token::TokenKind;
-use es_tree::{Lang, SyntaxError};
+use grammar_theory::{Lang, SyntaxError};
 
 /// 'yield' (~ '*'? Assign)?
 #[derive(Clone, Copy)]

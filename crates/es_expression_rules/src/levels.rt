@@ -3,22 +3,22 @@
 //! Each group asks first by the kind of the next token whether an operator of its levels can stand there.
 
 ghost use Rattle.es_grammar.specs.Expressions.{level, private_in};
-ghost use Rattle.es_predicates.specs.Named.{kinds_of};
+ghost use Rattle.es_shared_rules.specs.predicates.Named.{kinds_of};
 ghost use Rattle.es_expression_rules.specs.Levels.{arithmetic_over, shift_over, related, relation_over, behind_types, comparing_over, bitwise_over, coalesce_over, logical_over, conditional_over, assignment_over, operators_over};
 
 use crate::operators::{ComparisonIn, PrivateIn, TightIn};
 use es_grammar::{Context, NodeKind, Row};
-use es_predicates::Lookahead::{Has, Is, Other};
-use es_predicates::{
-    Kinds, Lookahead, Predicate, opens_arithmetic, opens_bitwise, opens_comparing, opens_logical,
-};
 use es_rules::{
     Alt, Both, ByPredicate, Cursor, Done, Grammar, Greedy, LeafKind, OfRow, Opt, Place, Punct,
     ReadsBehind, ReadsProduction, Rows, Tok, Turns, When,
 };
+use es_shared_rules::predicates::Lookahead::{Has, Is, Other};
+use es_shared_rules::predicates::{
+    Kinds, Lookahead, Predicate, opens_arithmetic, opens_bitwise, opens_comparing, opens_logical,
+};
 use es_shared_rules::{AssertedOr, without_colon};
 use es_token::TokenKind;
-use es_tree::{Lang, SyntaxError};
+use grammar_theory::{Lang, SyntaxError};
 
 /// A level of operators of one token, left-associative.
 #[derive(Clone, Copy)]

@@ -1,10 +1,10 @@
 //! An operand, and turns behind it, where one stands there.
 
-ghost use Rattle.es_tree.specs.Productions.{wrap};
+ghost use Rattle.grammar_theory.specs.Productions.{wrap};
 
 use es_grammar::{NodeKind, Row};
 use es_rules::{Cursor, Grammar, ReadsBehind, ReadsProduction, ReadsRhs, Rows, Tells, Turns};
-use es_tree::SyntaxError;
+use grammar_theory::SyntaxError;
 
 /// What `Wrap` reads. Most operands stand alone: such a one is answered as it was read, with no look at the turns.
 #[derive(Clone, Copy)]

@@ -2,20 +2,20 @@
 
 ghost use Rattle.es_expression_rules.specs.Bases.{update_prefix};
 ghost use Rattle.es_grammar.specs.Expressions.{level, private_in, update, prefix, await_, unary, no_power, power, product, sum, shift, comparison_in, right_operand, tight_in, relation, equality, bit_and, bit_xor, bit_or, and_};
-ghost use Rattle.es_predicates.specs.Named.{kinds_of};
+ghost use Rattle.es_shared_rules.specs.predicates.Named.{kinds_of};
 
 use crate::chains::Chain;
 use crate::levels::{Arithmetic, BehindTypes, Bitwise, Comparing, LevelBehind, Related, Shifted};
 use crate::operand::Operand;
 use es_grammar::{Context, NodeKind, Row};
-use es_predicates::Lookahead::{Has, Is, Other};
-use es_predicates::{Kinds, Lookahead, Predicate};
 use es_rules::{
     Alt, Both, ByPredicate, Cursor, Done, Grammar, Greedy, IsOfKinds, LeafKind, Make, OfRow, Opt,
     Pick, Punct, ReadsBehind, ReadsProduction, ReadsRhs, Rows, Tok, When, Where, Wrap,
 };
+use es_shared_rules::predicates::Lookahead::{Has, Is, Other};
+use es_shared_rules::predicates::{Kinds, Lookahead, Predicate};
 use es_token::TokenKind;
-use es_tree::{Lang, SyntaxError};
+use grammar_theory::{Lang, SyntaxError};
 
 /// ('++' | '--') Unary | Chain (~ ('++' | '--'))?
 #[derive(Clone, Copy)]

@@ -3,15 +3,15 @@
 ghost use Rattle.es_grammar.specs.Expressions.{template, spread, array_literal, object_literal, name_expression, named_primary, primary};
 
 use es_grammar::{Context, NodeKind, Row};
-use es_predicates::Lookahead::{Is, Other};
-use es_predicates::{Kinds, Lookahead, Predicate};
 use es_rules::{
     Alt, ByLookahead, Cursor, Done, Grammar, Greedy, Holds, IsOfKinds, LeafKind, Make, Many, OfRow,
     Opt, Punct, ReadsProduction, Rows, Tok, When, Where,
 };
+use es_shared_rules::predicates::Lookahead::{Is, Other};
+use es_shared_rules::predicates::{Kinds, Lookahead, Predicate};
 use es_shared_rules::{AbstractClass, AsyncFunction, Class, Function};
 use es_token::TokenKind;
-use es_tree::{Lang, SyntaxError};
+use grammar_theory::{Lang, SyntaxError};
 
 /// Tpl: whole | head Expr (middle Expr)* tail
 #[derive(Clone, Copy)]

@@ -6,15 +6,15 @@ ghost use Rattle.es_grammar.specs.Statements.{head_pattern, head_pattern_in, hea
 
 use crate::chains::Chain;
 use es_grammar::{Context, NodeKind, Row};
-use es_predicates::Lookahead::{Has, Is, Other};
-use es_predicates::{Kinds, Lookahead, Predicate};
 use es_rules::{
     As, Choose, Cursor, Done, Grammar, Greedy, LeafKind, Make, MakeBy, OfRow, Pick, Punct,
     ReadsProduction, ReadsRhs, Rows, Tok, When, Where, Wrap,
 };
+use es_shared_rules::predicates::Lookahead::{Has, Is, Other};
+use es_shared_rules::predicates::{Kinds, Lookahead, Predicate};
 use es_shared_rules::{AnnotationIn, AssertedOr, BracketPattern, Pattern, UsingIn};
 use es_token::TokenKind;
-use es_tree::{Lang, SyntaxError};
+use grammar_theory::{Lang, SyntaxError};
 
 /// No form.
 #[derive(Clone, Copy)]

@@ -1,11 +1,11 @@
 -- The tests of the table of programs bar no reading, in either language.
 use Rattle.std.proofs.Common.{refl}
-use Rattle.es_tree.specs.declared.error.Lang.{Lang}
-use Rattle.es_tree.specs.declared.error.Lang.TheVariants as lang
-use Rattle.es_tree.specs.Tells.{IsTold, none, implies, rule_starts, rule_tells}
-use Rattle.es_tree.proofs.EachKind.{holds_of_each}
-use Rattle.es_tree.proofs.FreeLemmas.{holds_then}
-use Rattle.es_tree.proofs.Theorems.{IsGrammar}
+use Rattle.grammar_theory.specs.declared.error.Lang.{Lang}
+use Rattle.grammar_theory.specs.declared.error.Lang.TheVariants as lang
+use Rattle.grammar_theory.specs.Tells.{IsTold, none, implies, rule_starts, rule_tells}
+use Rattle.grammar_theory.proofs.EachKind.{holds_of_each}
+use Rattle.grammar_theory.proofs.FreeLemmas.{holds_then}
+use Rattle.grammar_theory.proofs.Theorems.{IsGrammar}
 use Rattle.es_grammar.specs.declared.rows.Row.TheVariants.{ModuleRow, ScriptRow}
 use Rattle.es_grammar.specs.Table.{rule}
 use Rattle.es_grammar.proofs.Sets.{first, follow, sets}

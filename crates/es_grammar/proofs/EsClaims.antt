@@ -1,19 +1,19 @@
 -- What is claimed of the rows of programs in JavaScript is computed at each kind of token.
 use Rattle.std.specs.Prelude.{true, false}
 use Rattle.std.proofs.Common.{◌≡◌, refl}
-use Rattle.es_tree.specs.declared.error.Lang.TheVariants as lang
-use Rattle.es_tree.specs.Checks.{rule_takes, rule_parts_take}
-use Rattle.es_tree.specs.Tells.{none, implies, rule_starts, rule_tells}
-use Rattle.es_tree.proofs.EachKind.{holds_everywhere}
-use Rattle.es_tree.proofs.OutLemmas.{clash}
-use Rattle.es_type_grammar.specs.Words.{is_name, is_word, is_name_or_this, is_numeric, is_sign, is_accessor_word, is_near, begins_key}
-use Rattle.es_type_grammar.specs.Modules.{may_end, ended, word_or_str_in, names_in, attributes, attributes_ended, from_ended, opens_type_import, opens_type_name, type_word_in, is_renamed, is_no_type_as_as, import_specifier, named, has_comma, clause, entity, opens_equals, shows_require, opens_require, equals_in, required, opens_bare, opens_source_import, opens_defer_import, source_import, defer_import, import_, export_specifier, opens_type_export, opens_all, opens_exported_equals, opens_exported_require, export_}
-use Rattle.es_type_grammar.specs.Expressions.{is_prefix, is_update, is_product, is_sum, is_equality, is_relation, is_assignment, is_property_name, begins_expression, is_arrow, no_arrow, is_literal_word, follows_super, begins_member, begins_post, is_update_here, no_update_here, no_mix}
-use Rattle.es_type_grammar.specs.Functions.{follows_pattern, is_parameter}
-use Rattle.es_type_grammar.specs.Statements.{is_variable_word, is_each, is_label_here, label_ended, is_case, is_in_case, begins_no_other}
-use Rattle.es_type_grammar.specs.Members.{opens_parameters}
-use Rattle.es_type_grammar.specs.Types.{begins_type, is_literal_word as is_literal_type_word}
-use Rattle.es_type_grammar.specs.TypeNames.{begins_angle}
+use Rattle.grammar_theory.specs.declared.error.Lang.TheVariants as lang
+use Rattle.grammar_theory.specs.Checks.{rule_takes, rule_parts_take}
+use Rattle.grammar_theory.specs.Tells.{none, implies, rule_starts, rule_tells}
+use Rattle.grammar_theory.proofs.EachKind.{holds_everywhere}
+use Rattle.grammar_theory.proofs.OutLemmas.{clash}
+use Rattle.es_grammar.specs.types.Words.{is_name, is_word, is_name_or_this, is_numeric, is_sign, is_accessor_word, is_near, begins_key}
+use Rattle.es_grammar.specs.types.Modules.{may_end, ended, word_or_str_in, names_in, attributes, attributes_ended, from_ended, opens_type_import, opens_type_name, type_word_in, is_renamed, is_no_type_as_as, import_specifier, named, has_comma, clause, entity, opens_equals, shows_require, opens_require, equals_in, required, opens_bare, opens_source_import, opens_defer_import, source_import, defer_import, import_, export_specifier, opens_type_export, opens_all, opens_exported_equals, opens_exported_require, export_}
+use Rattle.es_grammar.specs.types.Expressions.{is_prefix, is_update, is_product, is_sum, is_equality, is_relation, is_assignment, is_property_name, begins_expression, is_arrow, no_arrow, is_literal_word, follows_super, begins_member, begins_post, is_update_here, no_update_here, no_mix}
+use Rattle.es_grammar.specs.types.Functions.{follows_pattern, is_parameter}
+use Rattle.es_grammar.specs.types.Statements.{is_variable_word, is_each, is_label_here, label_ended, is_case, is_in_case, begins_no_other}
+use Rattle.es_grammar.specs.types.Members.{opens_parameters}
+use Rattle.es_grammar.specs.types.Types.{begins_type, is_literal_word as is_literal_type_word}
+use Rattle.es_grammar.specs.types.TypeNames.{begins_angle}
 use Rattle.es_grammar.specs.declared.rows.Context.{Context}
 use Rattle.es_grammar.specs.declared.rows.Row.{Row}
 use Rattle.es_grammar.specs.declared.rows.Row.TheVariants.{ModuleRow, ScriptRow, ItemRow, ClauseRow, NamedRow, ImportSpecifierRow, ExportSpecifierRow, AttributesRow, EntityRow, StatementRow, BlockRow, DeclarationRow, DeclaredRow, VariablesRow, DeclaratorRow, UsingRow, HeadRow, HeadPatternRow, SignatureRow, ParametersRow, ParameterRow, PatternRow, InnerPatternRow, PatternElementRow, PatternPropertyRow, FunctionRow, ClassRow, MemberRow, PropertyRow, KeyRow, ExpressionRow, AssignmentRow, AndRow, BitOrRow, BitXorRow, BitAndRow, EqualityRow, RelationRow, RightRow, ShiftRow, SumRow, ProductRow, PowerRow, UnaryRow, ChainRow, CalleeRow, PostRow, MemberPostRow, ArgumentsRow, ElementRow, TemplateRow, TypesRow}

@@ -1,3 +1,4 @@
+pub mod types_lemmas
 pub mod Sets
 mod TypesClaims
 mod EsClaims

@@ -2,10 +2,10 @@
 -- the inner table's reader answers, with its alternatives named as the outer table names them.
 use Rattle.std.specs.Prelude.{ℕ, zero, suc, ◌+◌, Bool, true, false, List, length}
 use Rattle.std.proofs.Common.{◌≡◌, refl, ap, ◌∙◌}
-use Rattle.es_tree.specs.Key.{Key, seen, has_kind, is}
-use Rattle.es_tree.specs.Productions.{Predicate, test, Rhs, done, tok, punct, row, opt, many, alt, when_, where_, Production, refuse, make, choose, as_, pick, wrap}
-use Rattle.es_tree.specs.Plain.{Makes}
-use Rattle.es_tree.specs.Reader.{Out, nothing, gives, and_then, changed, only_if, either, read_turns, read_wraps, read_form, read_rule, read_row}
+use Rattle.grammar_theory.specs.Key.{Key, seen, has_kind, is}
+use Rattle.grammar_theory.specs.Productions.{Predicate, test, Rhs, done, tok, punct, row, opt, many, alt, when_, where_, Production, refuse, make, choose, as_, pick, wrap}
+use Rattle.grammar_theory.specs.Plain.{Makes}
+use Rattle.grammar_theory.specs.Reader.{Out, nothing, gives, and_then, changed, only_if, either, read_turns, read_wraps, read_form, read_rule, read_row}
 use Rattle.es_grammar.specs.Embedding.{mapped_form, mapped_rule}
 
 -- the same answer, and then the same

@@ -2,18 +2,18 @@
 -- always takes a token.
 use Rattle.std.specs.Prelude.{Bool, true, false, ◌||◌}
 use Rattle.es_token.specs.declared.token.TokenKind.TheVariants as k
-use Rattle.es_tree.specs.declared.error.Lang.{Lang}
-use Rattle.es_tree.specs.declared.error.Lang.TheVariants as lang
-use Rattle.es_tree.specs.Key.{TokenTest, is, is_end, is_token, has_kind}
-use Rattle.es_tree.specs.Tells.{Sets}
-use Rattle.es_type_grammar.specs.Words.{is_name, is_word, is_name_or_this, is_numeric, begins_key}
-use Rattle.es_type_grammar.specs.declared.rows.TypeRow.{TypeRow}
-use Rattle.es_type_grammar.specs.declared.rows.TypeRow.TheVariants as types
-use Rattle.es_type_grammar.specs.Types.{begins_type}
-use Rattle.es_type_grammar.specs.TypeNames.{begins_angle, begins_type_parameter}
-use Rattle.es_type_grammar.specs.Members.{opens_parameters}
-use Rattle.es_type_grammar.specs.Expressions.{is_prefix, is_update, is_literal_word, begins_member, begins_post}
-use Rattle.es_type_grammar.specs.Statements.{is_variable_word}
+use Rattle.grammar_theory.specs.declared.error.Lang.{Lang}
+use Rattle.grammar_theory.specs.declared.error.Lang.TheVariants as lang
+use Rattle.grammar_theory.specs.Key.{TokenTest, is, is_end, is_token, has_kind}
+use Rattle.grammar_theory.specs.Tells.{Sets}
+use Rattle.es_grammar.specs.types.Words.{is_name, is_word, is_name_or_this, is_numeric, begins_key}
+use Rattle.es_grammar.specs.declared.types.rows.TypeRow.{TypeRow}
+use Rattle.es_grammar.specs.declared.types.rows.TypeRow.TheVariants as types
+use Rattle.es_grammar.specs.types.Types.{begins_type}
+use Rattle.es_grammar.specs.types.TypeNames.{begins_angle, begins_type_parameter}
+use Rattle.es_grammar.specs.types.Members.{opens_parameters}
+use Rattle.es_grammar.specs.types.Expressions.{is_prefix, is_update, is_literal_word, begins_member, begins_post}
+use Rattle.es_grammar.specs.types.Statements.{is_variable_word}
 use Rattle.es_grammar.specs.declared.rows.Row.{Row}
 use Rattle.es_grammar.specs.declared.rows.Row.TheVariants.{ModuleRow, ScriptRow, ItemRow, ClauseRow, NamedRow, ImportSpecifierRow, ExportSpecifierRow, AttributesRow, EntityRow, StatementRow, BlockRow, DeclarationRow, DeclaredRow, VariablesRow, DeclaratorRow, UsingRow, HeadRow, HeadPatternRow, FunctionRow, ClassRow, SignatureRow, ParametersRow, ParameterRow, PatternRow, InnerPatternRow, PatternElementRow, PatternPropertyRow, MemberRow, PropertyRow, KeyRow, ExpressionRow, AssignmentRow, AndRow, BitOrRow, BitXorRow, BitAndRow, EqualityRow, RelationRow, RightRow, ShiftRow, SumRow, ProductRow, PowerRow, UnaryRow, ChainRow, CalleeRow, PostRow, MemberPostRow, ArgumentsRow, ElementRow, TemplateRow, TypesRow}
 use Rattle.es_grammar.specs.Expressions.{begins_value, begins_parameters, opens_non_null}

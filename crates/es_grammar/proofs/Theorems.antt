@@ -2,19 +2,19 @@
 use Rattle.std.specs.Prelude.{ℕ, List}
 use Rattle.std.proofs.Common.{◌≡◌, refl, length, subst}
 use Rattle.es_token.specs.declared.token.Token.{Token}
-use Rattle.es_tree.specs.declared.error.Lang.{Lang}
-use Rattle.es_tree.specs.declared.error.Mode.{Mode}
-use Rattle.es_tree.specs.declared.error.Mode.TheVariants as mode
-use Rattle.es_tree.specs.Key.{Key, keys_of}
-use Rattle.es_tree.specs.Plain.{Plain, Makes}
-use Rattle.es_tree.specs.Fits.{free, chosen, Shape, most_nodes}
-use Rattle.es_tree.specs.Reader.{read_row}
-use Rattle.es_tree.proofs.Theorems.{IsGrammar}
-use Rattle.es_tree.proofs.Theorems as grammars
-use Rattle.es_type_grammar.specs.declared.rows.TypeRow.{TypeRow}
-use Rattle.es_type_grammar.specs.TypeTable.{type_rule}
-use Rattle.es_type_grammar.specs.Order.{StandsBetween}
-use Rattle.es_type_grammar.proofs.OrderLemmas.{row_stands}
+use Rattle.grammar_theory.specs.declared.error.Lang.{Lang}
+use Rattle.grammar_theory.specs.declared.error.Mode.{Mode}
+use Rattle.grammar_theory.specs.declared.error.Mode.TheVariants as mode
+use Rattle.grammar_theory.specs.Key.{Key, keys_of}
+use Rattle.grammar_theory.specs.Plain.{Plain, Makes}
+use Rattle.grammar_theory.specs.Fits.{free, chosen, Shape, most_nodes}
+use Rattle.grammar_theory.specs.Reader.{read_row}
+use Rattle.grammar_theory.proofs.Theorems.{IsGrammar}
+use Rattle.grammar_theory.proofs.Theorems as grammars
+use Rattle.es_grammar.specs.declared.types.rows.TypeRow.{TypeRow}
+use Rattle.es_grammar.specs.types.TypeTable.{type_rule}
+use Rattle.es_grammar.specs.types.Order.{StandsBetween}
+use Rattle.es_grammar.proofs.types_lemmas.OrderLemmas.{row_stands}
 use Rattle.es_grammar.specs.declared.rows.NodeKind.{NodeKind}
 use Rattle.es_grammar.specs.declared.rows.Row.TheVariants.{TypesRow}
 use Rattle.es_grammar.specs.TypeNames.{label_name}

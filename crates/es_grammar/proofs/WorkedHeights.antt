@@ -2,8 +2,8 @@
 -- deeper.
 use Rattle.std.specs.Prelude.{max}
 use Rattle.std.proofs.Common.{◌≡◌, ℕ, suc, ◌+◌, refl, arith}
-use Rattle.es_tree.specs.Productions.{as_kind, as_name}
-use Rattle.es_tree.specs.Plain.{Plain, node, leaf, nil, cons, mark, tall}
+use Rattle.grammar_theory.specs.Productions.{as_kind, as_name}
+use Rattle.grammar_theory.specs.Plain.{Plain, node, leaf, nil, cons, mark, tall}
 use Rattle.es_grammar.specs.declared.rows.NodeKind.{NodeKind}
 use Rattle.es_grammar.specs.declared.rows.NodeKind.TheVariants.{Binary, Name, Parenthesized}
 use Rattle.es_grammar.specs.Conditions.{leans}

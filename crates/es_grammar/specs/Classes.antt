@@ -2,15 +2,15 @@
 use Rattle.std.specs.Prelude.{ℕ, zero, suc, ◌+◌, Bool, true, not, ◌&&◌, ◌||◌, if◌then◌else◌, List, length}
 use Rattle.es_token.specs.declared.token.TokenKind.{TokenKind}
 use Rattle.es_token.specs.declared.token.TokenKind.TheVariants as k
-use Rattle.es_tree.specs.declared.error.Lang.{Lang}
-use Rattle.es_tree.specs.declared.error.Lang.TheVariants as lang
-use Rattle.es_tree.specs.Key.{Key, seen, same_kind, has_kind, is}
-use Rattle.es_tree.specs.Productions.{as_name, as_kind, as_there, greedy, by_predicate, Predicate, Rhs, done, tok, punct, row, opt, where_, Production, make, choose, pick}
-use Rattle.es_type_grammar.specs.Words.{only, is_name, is_accessor_word, is_near}
-use Rattle.es_type_grammar.specs.Modules.{ended}
-use Rattle.es_type_grammar.specs.Functions.{starts_key, opens_accessor, opens_async, opens_star}
-use Rattle.es_type_grammar.specs.Classes.{opens_static, opens_field_accessor, behind_static, is_plain_member, opens_static_block}
-use Rattle.es_type_grammar.specs.Members.{shows_index}
+use Rattle.grammar_theory.specs.declared.error.Lang.{Lang}
+use Rattle.grammar_theory.specs.declared.error.Lang.TheVariants as lang
+use Rattle.grammar_theory.specs.Key.{Key, seen, same_kind, has_kind, is}
+use Rattle.grammar_theory.specs.Productions.{as_name, as_kind, as_there, greedy, by_predicate, Predicate, Rhs, done, tok, punct, row, opt, where_, Production, make, choose, pick}
+use Rattle.es_grammar.specs.types.Words.{only, is_name, is_accessor_word, is_near}
+use Rattle.es_grammar.specs.types.Modules.{ended}
+use Rattle.es_grammar.specs.types.Functions.{starts_key, opens_accessor, opens_async, opens_star}
+use Rattle.es_grammar.specs.types.Classes.{opens_static, opens_field_accessor, behind_static, is_plain_member, opens_static_block}
+use Rattle.es_grammar.specs.types.Members.{shows_index}
 use Rattle.es_grammar.specs.declared.rows.NodeKind.TheVariants.{AccessorField, AccessorMember, AsyncMember, EmptyMember, FieldMember, GeneratorMember, IndexMember, MethodMember, StaticBlock, TypedAccessorField, TypedAccessorMember, TypedAsyncMember, TypedFieldMember, TypedGeneratorMember, TypedMethodMember}
 use Rattle.es_grammar.specs.declared.rows.Context.{Context}
 use Rattle.es_grammar.specs.declared.rows.Row.{Row}

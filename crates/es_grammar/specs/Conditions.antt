@@ -1,12 +1,12 @@
 -- What is asked of a tree besides the rows: what is assigned to, or updated, is a simple target (ECMA-262,
 -- "AssignmentTargetType").
 use Rattle.std.specs.Prelude.{Bool, true, false, ◌≡◌, ◌&&◌, List}
-use Rattle.es_tree.specs.declared.error.Lang.{Lang}
-use Rattle.es_tree.specs.declared.error.Mode.{Mode}
-use Rattle.es_tree.specs.declared.error.Mode.TheVariants as mode
-use Rattle.es_tree.specs.Key.{Key}
-use Rattle.es_tree.specs.Plain.{Plain, node, nil, cons, mark, turn, via}
-use Rattle.es_tree.specs.Fits.{free, Shape}
+use Rattle.grammar_theory.specs.declared.error.Lang.{Lang}
+use Rattle.grammar_theory.specs.declared.error.Mode.{Mode}
+use Rattle.grammar_theory.specs.declared.error.Mode.TheVariants as mode
+use Rattle.grammar_theory.specs.Key.{Key}
+use Rattle.grammar_theory.specs.Plain.{Plain, node, nil, cons, mark, turn, via}
+use Rattle.grammar_theory.specs.Fits.{free, Shape}
 use Rattle.es_grammar.specs.declared.rows.NodeKind.TheVariants.{Assignment, Binary, Chain, IndexPost, MemberPost, Name, NonNullPost, Parenthesized, TypedBinary, UpdatePostfix, UpdatePrefix}
 use Rattle.es_grammar.specs.declared.rows.Row.{Row}
 use Rattle.es_grammar.specs.declared.rows.NodeKind.{NodeKind}

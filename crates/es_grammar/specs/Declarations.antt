@@ -3,16 +3,16 @@
 use Rattle.std.specs.Prelude.{◌+◌, Bool, not, ◌&&◌, ◌||◌, true, false}
 use Rattle.es_token.specs.declared.token.TokenKind.{TokenKind}
 use Rattle.es_token.specs.declared.token.TokenKind.TheVariants as k
-use Rattle.es_tree.specs.declared.error.Lang.{Lang}
-use Rattle.es_tree.specs.declared.error.Lang.TheVariants as lang
-use Rattle.es_tree.specs.Key.{seen, same_kind, has_kind, is}
-use Rattle.es_tree.specs.Productions.{as_str, as_name, as_kind, as_there, by_lookahead, greedy, Predicate, Rhs, done, tok, punct, row, opt, many, alt, when_, Production, make, choose, pick}
-use Rattle.es_type_grammar.specs.Words.{only, is_name, is_near, is_other}
+use Rattle.grammar_theory.specs.declared.error.Lang.{Lang}
+use Rattle.grammar_theory.specs.declared.error.Lang.TheVariants as lang
+use Rattle.grammar_theory.specs.Key.{seen, same_kind, has_kind, is}
+use Rattle.grammar_theory.specs.Productions.{as_str, as_name, as_kind, as_there, by_lookahead, greedy, Predicate, Rhs, done, tok, punct, row, opt, many, alt, when_, Production, make, choose, pick}
+use Rattle.es_grammar.specs.types.Words.{only, is_name, is_near, is_other}
 use Rattle.es_grammar.specs.declared.rows.NodeKind.TheVariants.{AliasDeclaration, Declared, DeclaredVariables, EmptyStatement, EnumDeclaration, GlobalDeclaration, InterfaceDeclaration, ModuleDeclaration, NamespaceDeclaration, UsingDeclaration, VariableDeclaration}
-use Rattle.es_type_grammar.specs.declared.rows.TypeRow.TheVariants as types
-use Rattle.es_type_grammar.specs.Modules.{ended}
-use Rattle.es_type_grammar.specs.Expressions.{opens_async_function}
-use Rattle.es_type_grammar.specs.Statements.{is_variable_word, opens_using}
+use Rattle.es_grammar.specs.declared.types.rows.TypeRow.TheVariants as types
+use Rattle.es_grammar.specs.types.Modules.{ended}
+use Rattle.es_grammar.specs.types.Expressions.{opens_async_function}
+use Rattle.es_grammar.specs.types.Statements.{is_variable_word, opens_using}
 use Rattle.es_grammar.specs.declared.rows.Context.{Context}
 use Rattle.es_grammar.specs.declared.rows.Row.{Row}
 use Rattle.es_grammar.specs.declared.rows.NodeKind.{NodeKind}

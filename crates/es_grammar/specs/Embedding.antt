@@ -2,26 +2,26 @@
 -- TypeScript, and what imports and exports bind, stand in the table of programs as they stand in their own.
 use Rattle.std.specs.Prelude.{leb, Bool, true, false, ◌&&◌, ◌||◌, List}
 use Rattle.es_token.specs.declared.token.TokenKind.TheVariants as k
-use Rattle.es_tree.specs.declared.error.Lang.{Lang}
-use Rattle.es_tree.specs.declared.error.Lang.TheVariants as lang
-use Rattle.es_tree.specs.Key.{Key, TokenTest, seen, is}
-use Rattle.es_tree.specs.Productions.{as_str, as_name, as_there, by_lookahead, greedy, by_predicate, Predicate, Rhs, done, tok, punct, row, opt, many, alt, when_, where_, Production, refuse, make, choose, as_, pick, wrap}
-use Rattle.es_tree.specs.Plain.{Plain, plain, none_leans, tall}
-use Rattle.es_tree.specs.Fits.{most_nodes}
-use Rattle.es_tree.specs.Reader.{Out, nothing, gives, read_row}
-use Rattle.es_type_grammar.specs.Words.{only, is_name, is_word, is_other}
-use Rattle.es_type_grammar.specs.Modules.{opens_type_import}
-use Rattle.es_type_grammar.specs.TypeNames.{begins_angle}
-use Rattle.es_type_grammar.specs.declared.rows.Row as programs
-use Rattle.es_type_grammar.specs.declared.rows.Row.TheVariants as rows
-use Rattle.es_type_grammar.specs.declared.rows.NodeKind as labels
-use Rattle.es_type_grammar.specs.declared.rows.NodeKind.TheVariants as named
+use Rattle.grammar_theory.specs.declared.error.Lang.{Lang}
+use Rattle.grammar_theory.specs.declared.error.Lang.TheVariants as lang
+use Rattle.grammar_theory.specs.Key.{Key, TokenTest, seen, is}
+use Rattle.grammar_theory.specs.Productions.{as_str, as_name, as_there, by_lookahead, greedy, by_predicate, Predicate, Rhs, done, tok, punct, row, opt, many, alt, when_, where_, Production, refuse, make, choose, as_, pick, wrap}
+use Rattle.grammar_theory.specs.Plain.{Plain, plain, none_leans, tall}
+use Rattle.grammar_theory.specs.Fits.{most_nodes}
+use Rattle.grammar_theory.specs.Reader.{Out, nothing, gives, read_row}
+use Rattle.es_grammar.specs.types.Words.{only, is_name, is_word, is_other}
+use Rattle.es_grammar.specs.types.Modules.{opens_type_import}
+use Rattle.es_grammar.specs.types.TypeNames.{begins_angle}
+use Rattle.es_grammar.specs.declared.types.rows.Row as programs
+use Rattle.es_grammar.specs.declared.types.rows.Row.TheVariants as rows
+use Rattle.es_grammar.specs.declared.types.rows.NodeKind as labels
+use Rattle.es_grammar.specs.declared.types.rows.NodeKind.TheVariants as named
 use Rattle.es_grammar.specs.declared.rows.NodeKind.TheVariants as here
-use Rattle.es_type_grammar.specs.TypeRows as table
-use Rattle.es_type_grammar.specs.declared.rows.TypeRow.{TypeRow}
-use Rattle.es_type_grammar.specs.declared.rows.TypeRow.TheVariants as types
+use Rattle.es_grammar.specs.types.TypeRows as table
+use Rattle.es_grammar.specs.declared.types.rows.TypeRow.{TypeRow}
+use Rattle.es_grammar.specs.declared.types.rows.TypeRow.TheVariants as types
 use Rattle.es_grammar.specs.TypeNames.{label_name}
-use Rattle.es_type_grammar.specs.TypeTable.{type_rule}
+use Rattle.es_grammar.specs.types.TypeTable.{type_rule}
 use Rattle.es_grammar.specs.declared.rows.Row.{Row}
 use Rattle.es_grammar.specs.declared.rows.NodeKind.{NodeKind}
 use Rattle.es_grammar.specs.declared.rows.Row.TheVariants.{ModuleRow, ScriptRow, ItemRow, ClauseRow, NamedRow, ImportSpecifierRow, ExportSpecifierRow, AttributesRow, EntityRow, StatementRow, BlockRow, DeclarationRow, VariablesRow, DeclaratorRow, UsingRow, HeadRow, HeadPatternRow, FunctionRow, ClassRow, SignatureRow, ParametersRow, ParameterRow, PatternRow, InnerPatternRow, PatternElementRow, PatternPropertyRow, MemberRow, PropertyRow, KeyRow, ExpressionRow, AssignmentRow, AndRow, BitOrRow, BitXorRow, BitAndRow, EqualityRow, RelationRow, ShiftRow, SumRow, ProductRow, PowerRow, UnaryRow, ChainRow, CalleeRow, PostRow, MemberPostRow, ArgumentsRow, ElementRow, TemplateRow, TypesRow}

@@ -3,17 +3,17 @@
 use Rattle.std.specs.Prelude.{◌+◌, ◌-◌, Bool, true, false, not, ◌&&◌, ◌||◌}
 use Rattle.es_token.specs.declared.token.TokenKind.{TokenKind}
 use Rattle.es_token.specs.declared.token.TokenKind.TheVariants as k
-use Rattle.es_tree.specs.declared.error.Lang.{Lang}
-use Rattle.es_tree.specs.declared.error.Lang.TheVariants as lang
-use Rattle.es_tree.specs.Key.{TokenTest, seen, same_kind, has_kind, is, is_after_line}
-use Rattle.es_tree.specs.Productions.{as_str, as_name, as_raw, as_kind, as_there, by_lookahead, greedy, by_predicate, Predicate, Rhs, done, tok, punct, row, opt, many, alt, when_, where_, Production, make, choose, pick, wrap}
-use Rattle.es_tree.specs.Tells.{none}
-use Rattle.es_type_grammar.specs.Words.{only, is_name, is_numeric, is_near, is_other, closes_before}
+use Rattle.grammar_theory.specs.declared.error.Lang.{Lang}
+use Rattle.grammar_theory.specs.declared.error.Lang.TheVariants as lang
+use Rattle.grammar_theory.specs.Key.{TokenTest, seen, same_kind, has_kind, is, is_after_line}
+use Rattle.grammar_theory.specs.Productions.{as_str, as_name, as_raw, as_kind, as_there, by_lookahead, greedy, by_predicate, Predicate, Rhs, done, tok, punct, row, opt, many, alt, when_, where_, Production, make, choose, pick, wrap}
+use Rattle.grammar_theory.specs.Tells.{none}
+use Rattle.es_grammar.specs.types.Words.{only, is_name, is_numeric, is_near, is_other, closes_before}
 use Rattle.es_grammar.specs.declared.rows.NodeKind.TheVariants.{AbstractClass, Arguments, ArrayLiteral, Assignment, AsyncFunction, AsyncNameArrow, AsyncParenthesizedArrow, AwaitExpression, Binary, CallPost, Chain, Class, Conditional, Function, ImportCall, SourceCall, DeferCall, ImportMeta, IndexPost, MemberPost, Name, NameArrow, New, NewTarget, NonNullPost, Number, ObjectLiteral, OptionalPost, Parenthesized, ParenthesizedArrow, PatternAssignment, PrivateIn, RegExp, Sequence, Spread, Str, Super, Template, TemplateParts, TemplatePost, TypedAsyncFunction, TypedAsyncParenthesizedArrow, TypedBinary, TypedCallPost, TypedClass, TypedFunction, TypedNew, TypedOptionalPost, TypedParenthesizedArrow, TypedTemplatePost, UnaryExpression, UpdatePostfix, UpdatePrefix, Word, Yield}
-use Rattle.es_type_grammar.specs.declared.rows.TypeRow.TheVariants as types
-use Rattle.es_type_grammar.specs.Modules.{ended}
-use Rattle.es_type_grammar.specs.TypeNames.{begins_angle}
-use Rattle.es_type_grammar.specs.Expressions.{is_prefix, is_update, is_product, is_sum, is_equality, is_relation, is_assignment, is_property_name, joins, opens_greater, begins_expression, is_arrow, no_arrow, opens_plain_arrow, opens_async_arrow, opens_async_parenthesis, is_no_arrow_head, opens_async_function, is_literal_word, opens_property, has_argument, opens_source_call, opens_defer_call, follows_super, begins_member, begins_post, is_update_here, no_update_here, opens_shift, no_mix, opens_pattern, opens_assignment}
+use Rattle.es_grammar.specs.declared.types.rows.TypeRow.TheVariants as types
+use Rattle.es_grammar.specs.types.Modules.{ended}
+use Rattle.es_grammar.specs.types.TypeNames.{begins_angle}
+use Rattle.es_grammar.specs.types.Expressions.{is_prefix, is_update, is_product, is_sum, is_equality, is_relation, is_assignment, is_property_name, joins, opens_greater, begins_expression, is_arrow, no_arrow, opens_plain_arrow, opens_async_arrow, opens_async_parenthesis, is_no_arrow_head, opens_async_function, is_literal_word, opens_property, has_argument, opens_source_call, opens_defer_call, follows_super, begins_member, begins_post, is_update_here, no_update_here, opens_shift, no_mix, opens_pattern, opens_assignment}
 use Rattle.es_grammar.specs.declared.rows.Context.{Context}
 use Rattle.es_grammar.specs.declared.rows.Row.{Row}
 use Rattle.es_grammar.specs.declared.rows.NodeKind.{NodeKind}

@@ -3,13 +3,13 @@
 use Rattle.std.specs.Prelude.{ℕ, zero, suc, ◌+◌, Bool, true, false, not, ◌&&◌, ◌||◌, List, Option, Some, None, slice_get, length}
 use Rattle.es_token.specs.declared.token.TokenKind.{TokenKind}
 use Rattle.es_token.specs.declared.token.TokenKind.TheVariants as k
-use Rattle.es_tree.specs.declared.error.Lang.{Lang}
-use Rattle.es_tree.specs.declared.error.Lang.TheVariants as lang
-use Rattle.es_tree.specs.Key.{Key, Seen, TokenTest, seen, same_kind, has_kind, is}
-use Rattle.es_tree.specs.Productions.{as_str, as_name, as_raw, as_kind, as_there, by_lookahead, greedy, by_predicate, Predicate, Rhs, done, tok, punct, row, opt, many, alt, when_, where_, Production, make, choose, as_, pick, wrap}
-use Rattle.es_type_grammar.specs.Words.{only, is_name, is_word, is_numeric, is_accessor_word, is_other, partner_of}
-use Rattle.es_type_grammar.specs.Members.{opens_parameters}
-use Rattle.es_type_grammar.specs.Functions.{opens_inner_pattern, behind_key, key_before, opens_value, is_parameter, opens_accessor, opens_async, is_plain_key, opens_method}
+use Rattle.grammar_theory.specs.declared.error.Lang.{Lang}
+use Rattle.grammar_theory.specs.declared.error.Lang.TheVariants as lang
+use Rattle.grammar_theory.specs.Key.{Key, Seen, TokenTest, seen, same_kind, has_kind, is}
+use Rattle.grammar_theory.specs.Productions.{as_str, as_name, as_raw, as_kind, as_there, by_lookahead, greedy, by_predicate, Predicate, Rhs, done, tok, punct, row, opt, many, alt, when_, where_, Production, make, choose, as_, pick, wrap}
+use Rattle.es_grammar.specs.types.Words.{only, is_name, is_word, is_numeric, is_accessor_word, is_other, partner_of}
+use Rattle.es_grammar.specs.types.Members.{opens_parameters}
+use Rattle.es_grammar.specs.types.Functions.{opens_inner_pattern, behind_key, key_before, opens_value, is_parameter, opens_accessor, opens_async, is_plain_key, opens_method}
 use Rattle.es_grammar.specs.declared.rows.NodeKind.TheVariants.{AccessorProperty, ArrayPattern, AsyncProperty, ComputedKey, DefaultParameter, DefaultPattern, GeneratorProperty, KeyPattern, KeyValue, MarkedParameter, MethodProperty, NamePattern, NameProperty, NumberKey, ObjectPattern, Parameters, PrivateKey, PropertyParameter, RestPattern, RestProperty, Shorthand, Signature, SpreadProperty, StrKey, Target, ThisParameter, TypedAccessorProperty, TypedAsyncProperty, TypedBinary, TypedGeneratorProperty, TypedMethodProperty, TypedParameters, TypedSignature, WordKey}
 use Rattle.es_grammar.specs.declared.rows.Context.{Context}
 use Rattle.es_grammar.specs.declared.rows.Row.{Row}

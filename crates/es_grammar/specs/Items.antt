@@ -2,14 +2,14 @@
 -- "Modules").
 use Rattle.std.specs.Prelude.{◌+◌, false, ◌||◌}
 use Rattle.es_token.specs.declared.token.TokenKind.TheVariants as k
-use Rattle.es_tree.specs.declared.error.Lang.{Lang}
-use Rattle.es_tree.specs.declared.error.Lang.TheVariants as lang
-use Rattle.es_tree.specs.Key.{seen, is, is_token}
-use Rattle.es_tree.specs.Productions.{as_raw, by_lookahead, greedy, Predicate, Rhs, done, tok, punct, row, opt, many, Production, make, choose, pick}
-use Rattle.es_type_grammar.specs.Words.{only}
-use Rattle.es_type_grammar.specs.Modules as modules
-use Rattle.es_type_grammar.specs.Items as items
-use Rattle.es_type_grammar.specs.Modules.{ended}
+use Rattle.grammar_theory.specs.declared.error.Lang.{Lang}
+use Rattle.grammar_theory.specs.declared.error.Lang.TheVariants as lang
+use Rattle.grammar_theory.specs.Key.{seen, is, is_token}
+use Rattle.grammar_theory.specs.Productions.{as_raw, by_lookahead, greedy, Predicate, Rhs, done, tok, punct, row, opt, many, Production, make, choose, pick}
+use Rattle.es_grammar.specs.types.Words.{only}
+use Rattle.es_grammar.specs.types.Modules as modules
+use Rattle.es_grammar.specs.types.Items as items
+use Rattle.es_grammar.specs.types.Modules.{ended}
 use Rattle.es_grammar.specs.declared.rows.NodeKind.TheVariants.{ExportAssignment, ExportDeclaration, ExportDefaultClass, ExportDefaultExpression, ExportDefaultFunction, ExportDefaultInterface, Module, Script}
 use Rattle.es_grammar.specs.declared.rows.Context.{Context}
 use Rattle.es_grammar.specs.declared.rows.Row.{Row}

@@ -1,3 +1,5 @@
+pub mod types
+pub mod cst
 -- where a row stands; the rows and the alternatives that make a node are in src/rows.rt
 pub mod Rows
 -- the rows and the alternatives of types, by the code's names

@@ -1,8 +1,8 @@
 -- Where a row of programs stands; its type, those of the rows and of the alternatives are in src/rows.rt.
 use Rattle.std.specs.Prelude.{Bool, true, false, not}
-use Rattle.es_tree.specs.declared.error.Lang.{Lang}
-use Rattle.es_tree.specs.declared.error.Lang.TheVariants as lang
-use Rattle.es_type_grammar.specs.declared.rows.Context as programs
+use Rattle.grammar_theory.specs.declared.error.Lang.{Lang}
+use Rattle.grammar_theory.specs.declared.error.Lang.TheVariants as lang
+use Rattle.es_grammar.specs.declared.types.rows.Context as programs
 use Rattle.es_grammar.specs.declared.rows.Context.{Context}
 
 -- the language is TypeScript

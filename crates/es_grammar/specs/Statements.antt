@@ -1,14 +1,14 @@
 -- Statements and variables in both languages (ECMA-262, "ECMAScript Language: Statements and Declarations").
 use Rattle.std.specs.Prelude.{◌+◌, ◌-◌, true, false, ◌&&◌, ◌||◌}
 use Rattle.es_token.specs.declared.token.TokenKind.TheVariants as k
-use Rattle.es_tree.specs.declared.error.Lang.{Lang}
-use Rattle.es_tree.specs.declared.error.Lang.TheVariants as lang
-use Rattle.es_tree.specs.Key.{TokenTest, seen, has_kind, is}
-use Rattle.es_tree.specs.Productions.{as_name, as_kind, as_there, by_lookahead, greedy, by_predicate, Predicate, Rhs, done, tok, punct, row, opt, many, alt, when_, where_, Production, make, choose, pick, wrap}
-use Rattle.es_type_grammar.specs.Words.{only, is_name, is_near, is_other}
-use Rattle.es_type_grammar.specs.Modules.{ended}
-use Rattle.es_type_grammar.specs.Functions.{key_before}
-use Rattle.es_type_grammar.specs.Statements.{is_variable_word, opens_using, opens_for, opens_for_await, opens_head_pattern, starts_using, starts_expression, label_ended, is_case, is_in_case, opens_label, begins_no_other}
+use Rattle.grammar_theory.specs.declared.error.Lang.{Lang}
+use Rattle.grammar_theory.specs.declared.error.Lang.TheVariants as lang
+use Rattle.grammar_theory.specs.Key.{TokenTest, seen, has_kind, is}
+use Rattle.grammar_theory.specs.Productions.{as_name, as_kind, as_there, by_lookahead, greedy, by_predicate, Predicate, Rhs, done, tok, punct, row, opt, many, alt, when_, where_, Production, make, choose, pick, wrap}
+use Rattle.es_grammar.specs.types.Words.{only, is_name, is_near, is_other}
+use Rattle.es_grammar.specs.types.Modules.{ended}
+use Rattle.es_grammar.specs.types.Functions.{key_before}
+use Rattle.es_grammar.specs.types.Statements.{is_variable_word, opens_using, opens_for, opens_for_await, opens_head_pattern, starts_using, starts_expression, label_ended, is_case, is_in_case, opens_label, begins_no_other}
 use Rattle.es_grammar.specs.declared.rows.NodeKind.TheVariants.{Block, BreakStatement, ContinueStatement, DebuggerStatement, Declarator, DefaultPattern, DoStatement, ExpressionStatement, ForAwaitStatement, ForEachStatement, ForStatement, IfStatement, LabelledStatement, ReturnStatement, SwitchStatement, ThrowStatement, TryStatement, TypedDeclarator, TypedTryStatement, TypedVariableHead, Using, UsingHead, VariableHead, Variables, WhileStatement, WithStatement}
 use Rattle.es_grammar.specs.declared.rows.Context.{Context}
 use Rattle.es_grammar.specs.declared.rows.Row.{Row}

@@ -1,6 +1,6 @@
 -- The alternatives of the types' table, by the names that the code gives them.
-use Rattle.es_type_grammar.specs.TypeRows.{NodeKind as TableNodeKind}
-use Rattle.es_type_grammar.specs.TypeRows as table
+use Rattle.es_grammar.specs.types.TypeRows.{NodeKind as TableNodeKind}
+use Rattle.es_grammar.specs.types.TypeRows as table
 use Rattle.es_grammar.specs.declared.rows.NodeKind.{NodeKind}
 use Rattle.es_grammar.specs.declared.rows.NodeKind.TheVariants as label
 

@@ -1,6 +1,6 @@
 //! The rows of programs in both languages, the alternatives that make a node, and where a row stands.
 
-use es_type_grammar::TypeRow;
+use crate::types::TypeRow;
 
 /// Where a row stands.
 #[derive(Clone, Copy, Debug, PartialEq, Eq)]

@@ -4,8 +4,8 @@ use Rattle.es_lexer.specs.declared.look.Look.{Look}
 use Rattle.es_lexer.specs.declared.look.Look.TheVariants.{Comment, Fault}
 use Rattle.es_token.specs.declared.token.CommentKind.TheVariants.{Block}
 use Rattle.es_lexer.specs.declared.error.LexicalKind.TheVariants.{UnterminatedComment}
-use Rattle.es_spelling.specs.Lines.{begins_line_end}
-use Rattle.es_spelling.proofs.UnitLemmas.{ap2}
+use Rattle.es_literal.specs.spelling.Lines.{begins_line_end}
+use Rattle.es_literal.proofs.spelling_lemmas.UnitLemmas.{ap2}
 use Rattle.es_lexer.specs.Bytes.{begins_closer, has_closer, has_line_end}
 use Rattle.es_lexer.specs.Look.{block_look}
 use Rattle.es_lexer.proofs.LineLemmas.{or_assoc, or_left, or_right, ascii_starts, line_front}

@@ -6,7 +6,7 @@ use Rattle.es_token.specs.declared.token.Token.{Token}
 use Rattle.es_token.specs.declared.token.Comment.{Comment}
 use Rattle.es_token.specs.declared.token.CommentKind.{CommentKind}
 use Rattle.es_token.specs.declared.token.CommentKind.TheVariants.{Line, Block}
-use Rattle.es_spelling.specs.Lines.{begins_separator, begins_line_end}
+use Rattle.es_literal.specs.spelling.Lines.{begins_separator, begins_line_end}
 use Rattle.es_lexer.specs.Bytes.{is_blank, is_line_end, has_line_end}
 use Rattle.es_lexer.specs.Goal.{goal_of}
 use Rattle.es_lexer.specs.Pieces.{Piece, blank, line_end, comment, token, comment_spelling, pieces_text, place_of, is_behind, line_since}
@@ -15,8 +15,8 @@ use Rattle.es_lexer.specs.Reads.{tokens_of, comments_of, token_of, comment_of}
 use Rattle.es_lexer.specs.Gaps.{IsGap, GapAt, IsOutside}
 use Rattle.std.specs.List.{AllByRecursion}
 use Rattle.std.proofs.lemmas.Bool.Decides.{nat_tests}
-use Rattle.es_wide.specs.Wide.{is_separator, blank_of_three, wide_blank, wide_line}
-use Rattle.es_wide.proofs.WideLemmas.{blank_high, blank_three_is, Line as WideLine, line_separator, paragraph_separator, line_is, line_no_blank}
+use Rattle.es_unicode.specs.Wide.{is_separator, blank_of_three, wide_blank, wide_line}
+use Rattle.es_unicode.proofs.WideLemmas.{blank_high, blank_three_is, Line as WideLine, line_separator, paragraph_separator, line_is, line_no_blank}
 use Rattle.es_lexer.proofs.ByteLemmas as byte
 use Rattle.es_lexer.proofs.LineLemmas.{and_none, ascii_starts, lines-append}
 use Rattle.es_lexer.proofs.PlaceLemmas.{shift, moved, spelling_starts}

@@ -1,7 +1,7 @@
 -- Line ends in a row of bytes: where the line ends, and what two texts side by side hold.
 use Rattle.std.proofs.Common.{◌≡◌, ℕ, ◌+◌, ◌<◌, ◌≤◌, Bool, true, false, ◌==◌, ◌&&◌, ◌||◌, List, [], ◌∷◌, ◌++◌, length, refl, sym, ◌∙◌, ap, arith, eqb-true, true≢false}
-use Rattle.es_spelling.specs.Lines.{begins_separator, begins_line_end}
-use Rattle.es_spelling.proofs.UnitLemmas.{ap2}
+use Rattle.es_literal.specs.spelling.Lines.{begins_separator, begins_line_end}
+use Rattle.es_literal.proofs.spelling_lemmas.UnitLemmas.{ap2}
 use Rattle.es_lexer.specs.Bytes.{has_line_end, ends_line}
 use Rattle.es_lexer.specs.Look.{line_stop}
 

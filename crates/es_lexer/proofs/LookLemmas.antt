@@ -24,19 +24,19 @@ use Rattle.es_lexer.specs.Words.{kind_at}
 use Rattle.es_literal.specs.declared.string.StringEnd.{StringEnd}
 use Rattle.es_literal.specs.Strings.{IsString, IsStringEnd, closes, invalid, unclosed as cut, Begins, begins_quote, string_end}
 use Rattle.es_literal.proofs.StringLemmas as literal
-use Rattle.es_spelling.specs.Units.{concat}
+use Rattle.es_literal.specs.spelling.Units.{concat}
 use Rattle.es_lexer.specs.Spelling.{Spells, word, str, sign, private_name, template, number, regexp as expression, shebang, number_kind, AreParts, IsWord, IsRegExp, template_start, template_stop, template_kind}
-use Rattle.es_spelling.specs.RegExps.{IsBody, body_end}
-use Rattle.es_spelling.proofs.RegExpLemmas as pattern
-use Rattle.es_spelling.specs.declared.template.TemplateEnd.{TemplateEnd}
-use Rattle.es_spelling.specs.declared.template.TemplateEnd.TheVariants.{Closes}
-use Rattle.es_spelling.specs.Templates.{template_end, IsTemplateText, IsUnclosed}
+use Rattle.es_literal.specs.spelling.RegExps.{IsBody, body_end}
+use Rattle.es_literal.proofs.spelling_lemmas.RegExpLemmas as pattern
+use Rattle.es_literal.specs.declared.spelling.template.TemplateEnd.{TemplateEnd}
+use Rattle.es_literal.specs.declared.spelling.template.TemplateEnd.TheVariants.{Closes}
+use Rattle.es_literal.specs.spelling.Templates.{template_end, IsTemplateText, IsUnclosed}
 use Rattle.std.specs.Char.{is_ascii_digit}
-use Rattle.es_spelling.specs.declared.number.NumberEnd.{NumberEnd}
-use Rattle.es_spelling.specs.Numbers.{IsNumber, number_end, begins_number, is_digit}
-use Rattle.es_spelling.specs.Numbers as numeral
-use Rattle.es_spelling.proofs.NumberLemmas as digits
-use Rattle.es_spelling.proofs.TemplateLemmas as text
+use Rattle.es_literal.specs.declared.spelling.number.NumberEnd.{NumberEnd}
+use Rattle.es_literal.specs.spelling.Numbers.{IsNumber, number_end, begins_number, is_digit}
+use Rattle.es_literal.specs.spelling.Numbers as numeral
+use Rattle.es_literal.proofs.spelling_lemmas.NumberLemmas as digits
+use Rattle.es_literal.proofs.spelling_lemmas.TemplateLemmas as text
 use Rattle.es_lexer.specs.Goal.{allows, may_stand, stands_apart, begins_digit}
 use Rattle.es_lexer.specs.Pieces.{Piece, blank, line_end, comment, token, spelling, comment_spelling}
 use Rattle.es_lexer.specs.Readable.{IsLongest, IsToken, IsComment, IsByte, IsPiece}
@@ -45,8 +45,8 @@ use Rattle.es_lexer.specs.Look.{line_stop, word_end, flags_end, word_look, strin
 use Rattle.es_lexer.proofs.ByteLemmas.{start_is, wide_class, no_mark_by, quote_class, quote_is, slash_is, slash_class, backtick_is, backtick_class, brace_is, brace_class, hash_is, hash_class, backslash_is, backslash_class, digit_is, digit_class, dot_is, dot_class, no_comment_at}
 use Rattle.es_lexer.proofs.LineLemmas.{or_left, or_right, Run, run, in_line_back, line_passed}
 use Rattle.es_lexer.proofs.PartLemmas.{not_zero, Parts, word_parts, flag_parts, word_pass, flags_pass, word_ends, flags_ends, letter, character, escaped, name_class, name_more, name_front, name_no_comment}
-use Rattle.es_wide.specs.Wide.{wide_size, wide_blank, wide_line, is_separator}
-use Rattle.es_wide.proofs.WideLemmas as wide
+use Rattle.es_unicode.specs.Wide.{wide_size, wide_blank, wide_line, is_separator}
+use Rattle.es_unicode.proofs.WideLemmas as wide
 use Rattle.es_lexer.proofs.CommentLemmas as remark
 use Rattle.es_lexer.proofs.SignLemmas as mark
 use Rattle.es_lexer.proofs.WordLemmas.{word_free, free_allows, free_apart}

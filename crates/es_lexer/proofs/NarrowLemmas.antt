@@ -1,7 +1,7 @@
 -- Which bytes are a part of a name by themselves, and which begin none.
 use Rattle.std.proofs.Common.{◌≡◌, ℕ, zero, suc, ◌≤◌, ◌<◌, Bool, true, false, ◌==◌, List, [], ◌∷◌, length, get_or, refl, sym, ◌∙◌, ap, subst, arith, eqb-true, true≢false}
-use Rattle.es_wide.specs.Wide.{wide_size}
-use Rattle.es_wide.proofs.WideLemmas.{wide_begins}
+use Rattle.es_unicode.specs.Wide.{wide_size}
+use Rattle.es_unicode.proofs.WideLemmas.{wide_begins}
 use Rattle.es_lexer.specs.Bytes.{is_part, part_unit, word_unit}
 
 narrow_by : (b : ℕ) (rest : List ℕ) (n : ℕ) → wide_size (b ∷ rest) ≡ n → b < 128 → wide_size (b ∷ rest) ≡ 0

@@ -1,12 +1,12 @@
 -- Parts of names: where they end, and that they end there alone.
 use Rattle.std.proofs.Common.{◌≡◌, ℕ, zero, suc, ◌+◌, ◌<◌, ◌≤◌, Bool, true, false, not, ◌||◌, ◌==◌, List, [], ◌∷◌, ◌++◌, length, drop, get_or, refl, sym, ◌∙◌, ap, subst, arith, eq-eqb, eqb-true, true≢false}
 use Rattle.std.proofs.lemmas.Bool.Decides.{nat_tests}
-use Rattle.es_spelling.specs.Units.{concat, AreUnits, units_end}
-use Rattle.es_wide.specs.Wide.{wide_size}
-use Rattle.es_wide.specs.Escapes.{escaped_start, escaped_part}
-use Rattle.es_spelling.proofs.UnitLemmas.{Within, Units, units, Step, step, passes_unit, passes_units, stops, ap2}
-use Rattle.es_wide.proofs.WideLemmas.{wide_local, wide_within, wide_more, wide_begins}
-use Rattle.es_wide.proofs.EscapeLemmas as escape
+use Rattle.es_literal.specs.spelling.Units.{concat, AreUnits, units_end}
+use Rattle.es_unicode.specs.Wide.{wide_size}
+use Rattle.es_unicode.specs.Escapes.{escaped_start, escaped_part}
+use Rattle.es_literal.proofs.spelling_lemmas.UnitLemmas.{Within, Units, units, Step, step, passes_unit, passes_units, stops, ap2}
+use Rattle.es_unicode.proofs.WideLemmas.{wide_local, wide_within, wide_more, wide_begins}
+use Rattle.es_unicode.proofs.EscapeLemmas as escape
 use Rattle.std.specs.Char.{is_ascii_digit}
 use Rattle.es_lexer.specs.declared.bytes.First.{First}
 use Rattle.es_lexer.specs.declared.bytes.First.TheVariants.{Start, Blank, LineEnd, Quote, Slash, Backtick, Brace, Hash, Digit, Dot, Backslash, Wide, Other}

@@ -22,13 +22,13 @@ use Rattle.es_lexer.specs.Spelling.{Spells, word, str, sign, private_name, templ
 use Rattle.es_lexer.specs.Pieces.{Piece, blank, line_end, comment, token, spelling, comment_spelling, pieces_text, place_of}
 use Rattle.es_lexer.specs.Readable.{IsByte, IsPiece, ArePieces}
 use Rattle.es_lexer.specs.Reads.{tokens_of, comments_of, token_of, comment_of}
-use Rattle.es_wide.specs.Wide.{wide_blank, wide_line}
-use Rattle.es_wide.proofs.WideLemmas.{blank_begins, line_begins}
+use Rattle.es_unicode.specs.Wide.{wide_blank, wide_line}
+use Rattle.es_unicode.proofs.WideLemmas.{blank_begins, line_begins}
 use Rattle.es_lexer.proofs.LineLemmas.{StartsChar, ascii_starts}
 use Rattle.es_lexer.proofs.PartLemmas.{letter, escaped, character, name_class, name_high}
 use Rattle.es_lexer.proofs.ByteLemmas as byte
 use Rattle.es_lexer.proofs.SpellingLemmas.{not_empty}
-use Rattle.es_spelling.proofs.AsciiLemmas.{number_ascii}
+use Rattle.es_literal.proofs.spelling_lemmas.AsciiLemmas.{number_ascii}
 use Rattle.es_lexer.proofs.SignLemmas as mark
 use Rattle.es_lexer.proofs.WordLemmas.{word_no_str}
 

@@ -1,11 +1,11 @@
 -- A number that is told by its decimal digits alone is the one that is found.
 use Rattle.std.proofs.Common.{◌≡◌, ℕ, ◌+◌, ◌≤◌, Bool, true, false, ◌||◌, ◌==◌, List, [], ◌∷◌, length, drop, get_or, Some, None, if◌then◌else◌, refl, sym, ◌∙◌, ap, subst, arith, eqb-true, true≢false}
 use Rattle.std.specs.Char.{is_ascii_digit}
-use Rattle.es_spelling.specs.Units.{units_rest}
-use Rattle.es_spelling.specs.declared.number.NumberEnd.{NumberEnd}
-use Rattle.es_spelling.specs.declared.number.Radix.TheVariants.{Decimal}
-use Rattle.es_spelling.specs.Numbers.{is_digit, digit_unit, digits_rest, fraction_rest, exponent_rest, after_whole, after_number, number_end}
-use Rattle.es_spelling.proofs.UnitLemmas.{ap2}
+use Rattle.es_literal.specs.spelling.Units.{units_rest}
+use Rattle.es_literal.specs.declared.spelling.number.NumberEnd.{NumberEnd}
+use Rattle.es_literal.specs.declared.spelling.number.Radix.TheVariants.{Decimal}
+use Rattle.es_literal.specs.spelling.Numbers.{is_digit, digit_unit, digits_rest, fraction_rest, exponent_rest, after_whole, after_number, number_end}
+use Rattle.es_literal.proofs.spelling_lemmas.UnitLemmas.{ap2}
 use Rattle.es_lexer.specs.Bytes.{is_part}
 use Rattle.es_lexer.specs.Spans.{plain_stop}
 

@@ -5,7 +5,7 @@ use Rattle.es_token.specs.declared.token.TokenKind.{TokenKind}
 use Rattle.es_lexer.specs.Bytes.{begins_name}
 use Rattle.es_lexer.specs.Signs.{sign_kind}
 use Rattle.es_lexer.specs.Spelling.{Spells, word, str, sign, private_name, template, number, regexp, shebang}
-use Rattle.es_spelling.proofs.NumberLemmas.{no_empty}
+use Rattle.es_literal.proofs.spelling_lemmas.NumberLemmas.{no_empty}
 
 nothing_named : begins_name [] ≡ true → ⊥
 unfolding begins_name

@@ -2,9 +2,9 @@
 -- A character past ASCII is told by all its bytes.
 use Rattle.std.specs.Prelude.{ℕ, Bool, true, false, not, nat_le, nat_lt, ◌&&◌, ◌||◌, ◌==◌, List, [], ◌∷◌, if◌then◌else◌}
 use Rattle.std.specs.Char.{is_ascii_alphabetic, is_ascii_digit}
-use Rattle.es_spelling.specs.Lines.{begins_line_end}
-use Rattle.es_wide.specs.Wide.{wide_size}
-use Rattle.es_wide.specs.Escapes.{escaped_start, escaped_part}
+use Rattle.es_literal.specs.spelling.Lines.{begins_line_end}
+use Rattle.es_unicode.specs.Wide.{wide_size}
+use Rattle.es_unicode.specs.Escapes.{escaped_start, escaped_part}
 use Rattle.es_lexer.specs.declared.bytes.First.{First}
 use Rattle.es_lexer.specs.declared.bytes.First.TheVariants.{Blank, LineEnd, Start, Quote, Slash, Backtick, Brace, Hash, Digit, Dot, Backslash, Wide, Other}
 

@@ -14,15 +14,15 @@ use Rattle.es_lexer.specs.declared.error.LexicalKind.TheVariants.{UnterminatedSt
 use Rattle.es_lexer.specs.Bytes.{joins, begins_name, begins_backslash, first_of, is_blank, part_unit, word_unit, begins_closer}
 use Rattle.es_lexer.specs.Words.{kind_at}
 use Rattle.es_lexer.specs.declared.bracket.BracketKind.TheVariants.{Template}
-use Rattle.es_spelling.specs.declared.template.TemplateEnd.{TemplateEnd}
-use Rattle.es_spelling.specs.declared.template.TemplateEnd.TheVariants.{Closes, Substitutes, Unclosed}
-use Rattle.es_spelling.specs.Templates.{template_end}
-use Rattle.es_spelling.specs.Lines.{begins_line_end}
-use Rattle.es_spelling.specs.Units.{units_end}
-use Rattle.es_wide.specs.Wide.{wide_size, wide_blank, wide_line}
-use Rattle.es_spelling.specs.RegExps.{body_end}
-use Rattle.es_spelling.specs.declared.number.NumberEnd.{NumberEnd}
-use Rattle.es_spelling.specs.Numbers.{number_end}
+use Rattle.es_literal.specs.declared.spelling.template.TemplateEnd.{TemplateEnd}
+use Rattle.es_literal.specs.declared.spelling.template.TemplateEnd.TheVariants.{Closes, Substitutes, Unclosed}
+use Rattle.es_literal.specs.spelling.Templates.{template_end}
+use Rattle.es_literal.specs.spelling.Lines.{begins_line_end}
+use Rattle.es_literal.specs.spelling.Units.{units_end}
+use Rattle.es_unicode.specs.Wide.{wide_size, wide_blank, wide_line}
+use Rattle.es_literal.specs.spelling.RegExps.{body_end}
+use Rattle.es_literal.specs.declared.spelling.number.NumberEnd.{NumberEnd}
+use Rattle.es_literal.specs.spelling.Numbers.{number_end}
 use Rattle.es_literal.specs.declared.string.StringEnd.{StringEnd}
 use Rattle.es_literal.specs.declared.string.StringEnd.TheVariants as string
 use Rattle.es_literal.specs.Strings.{string_end}

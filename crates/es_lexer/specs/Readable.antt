@@ -1,6 +1,6 @@
 -- Which pieces may stand at a place (ECMA-262, "Lexical Grammar").
 use Rattle.std.specs.Prelude.{◌≡◌, ℕ, ◌<◌, true, false, List, [], ◌∷◌, ◌++◌, length, ◌⊎◌}
-use Rattle.es_wide.specs.Wide.{wide_blank, wide_line}
+use Rattle.es_unicode.specs.Wide.{wide_blank, wide_line}
 use Rattle.es_lexer.specs.declared.bytes.First.{First}
 use Rattle.es_lexer.specs.declared.bytes.First.TheVariants.{Blank, LineEnd}
 use Rattle.es_lexer.specs.declared.goal.Goal.{Goal}

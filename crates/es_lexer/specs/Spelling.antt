@@ -6,10 +6,10 @@ use Rattle.es_token.specs.declared.token.TokenKind.TheVariants.{Shebang, Str, Re
 use Rattle.es_lexer.specs.Bytes.{has_line_end, part_unit, word_unit, begins_comment, begins_name}
 use Rattle.es_lexer.specs.Words.{kind_at}
 use Rattle.es_lexer.specs.Signs.{sign_kind}
-use Rattle.es_spelling.specs.Units.{concat, AreUnits}
-use Rattle.es_spelling.specs.Templates.{IsTemplateText}
-use Rattle.es_spelling.specs.Numbers.{IsNumber}
-use Rattle.es_spelling.specs.RegExps.{IsBody}
+use Rattle.es_literal.specs.spelling.Units.{concat, AreUnits}
+use Rattle.es_literal.specs.spelling.Templates.{IsTemplateText}
+use Rattle.es_literal.specs.spelling.Numbers.{IsNumber}
+use Rattle.es_literal.specs.spelling.RegExps.{IsBody}
 use Rattle.es_literal.specs.Strings.{IsString}
 
 -- parts in a row, each of the size that is found where it stands

@@ -11,12 +11,12 @@ use Rattle.es_lexer.specs.declared.bracket.BracketKind.TheVariants.{Template}
 use Rattle.es_lexer.specs.Brackets.{role_of, is_open, may_close}
 use Rattle.es_lexer.specs.Signs.{sign_kind}
 use Rattle.es_lexer.specs.Spelling.{template_start}
-use Rattle.es_spelling.specs.Units.{concat}
-use Rattle.es_wide.specs.Wide.{wide_size, wide_blank, wide_line}
-use Rattle.es_spelling.specs.RegExps.{IsBody}
-use Rattle.es_spelling.specs.Templates.{IsUnclosed}
+use Rattle.es_literal.specs.spelling.Units.{concat}
+use Rattle.es_unicode.specs.Wide.{wide_size, wide_blank, wide_line}
+use Rattle.es_literal.specs.spelling.RegExps.{IsBody}
+use Rattle.es_literal.specs.spelling.Templates.{IsUnclosed}
 use Rattle.es_literal.specs.Strings.{Begins, IsBad, IsCut}
-use Rattle.es_spelling.specs.Numbers.{IsNumber}
+use Rattle.es_literal.specs.spelling.Numbers.{IsNumber}
 use Rattle.es_lexer.specs.Goal.{goal_of}
 use Rattle.es_lexer.specs.Pieces.{Piece, pieces_text, behind}
 use Rattle.es_lexer.specs.Readable.{ArePieces}

@@ -2,7 +2,7 @@ ghost use Rattle.std.specs.Prelude.{◌≡◌, ◌≤◌, length};
 ghost use Rattle.std.specs.Bool.{OnTrue};
 ghost use Rattle.es_lexer.specs.Bytes.{begins_backslash, begins_escape, begins_name, ends_plainly, first_of, is_blank, is_letter, is_part, is_start, joins, part_unit, word_unit};
 
-use es_wide::{escaped_part, escaped_start, wide_size};
+use es_unicode::{escaped_part, escaped_start, wide_size};
 
 /// What a byte begins, where a token, a comment or a gap is to be read.
 #[derive(Clone, Copy)]

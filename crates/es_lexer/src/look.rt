@@ -18,9 +18,9 @@ use crate::signs::{Sign, sign_at};
 use crate::spans::{number_end_from, string_end_from};
 use crate::words::kind_at;
 use es_literal::StringEnd;
-use es_spelling::{NumberEnd, TemplateEnd, begins_line_end, regexp_from, template_from};
+use es_literal::spelling::{NumberEnd, TemplateEnd, begins_line_end, regexp_from, template_from};
 use es_token::{CommentKind, TokenKind};
-use es_wide::{wide_blank, wide_line, wide_size};
+use es_unicode::{wide_blank, wide_line, wide_size};
 
 /// What stands at a place of a text. An end is the place behind it.
 #[derive(Clone, Copy)]

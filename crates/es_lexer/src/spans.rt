@@ -1,11 +1,11 @@
 ghost use Rattle.std.specs.Prelude.{◌≡◌, ◌+◌, ◌≤◌, ◌<◌, ◌^◌, length};
 ghost use Rattle.es_literal.specs.Strings.{body_end, string_end};
-ghost use Rattle.es_spelling.specs.Numbers.{number_end};
+ghost use Rattle.es_literal.specs.spelling.Numbers.{number_end};
 ghost use Rattle.es_lexer.specs.Spans.{plain_stop};
 
 use crate::bytes::is_part;
+use es_literal::spelling::{NumberEnd, number_from};
 use es_literal::{StringEnd, string_from};
-use es_spelling::{NumberEnd, number_from};
 
 /// The end of the string literal at the front of a text that stands at `start`, by a short way where no `\` stands in it.
 #[tactic(auto, unfolding(es_literal::specs::Strings::string_end))]
@@ -20,7 +20,7 @@ pub fn string_end_from(start: usize, text: &[u8]) -> StringEnd
 }
 
 /// The same for a literal with this quote and what stands behind it.
-#[tactic(auto, unfolding(es_literal::specs::Strings::body_end, es_literal::specs::Strings::string_unit, es_literal::specs::Strings::string_stop, es_literal::specs::Strings::is_plain, es_spelling::specs::Units::units_end, es_spelling::specs::Units::units_rest))]
+#[tactic(auto, unfolding(es_literal::specs::Strings::body_end, es_literal::specs::Strings::string_unit, es_literal::specs::Strings::string_stop, es_literal::specs::Strings::is_plain, es_literal::specs::spelling::Units::units_end, es_literal::specs::spelling::Units::units_rest))]
 fn body_from(quote: u8, start: usize, whole: &[u8], body: &[u8]) -> StringEnd
     requires room { start + length whole.now < 2 ^ 64 }
     requires within { length body.now < length whole.now }

@@ -1,3 +1,5 @@
+pub mod spelling_lemmas
+pub mod literal_text_lemmas
 pub mod UnitLemmas
 pub mod StringLemmas
 pub mod ValueLemmas

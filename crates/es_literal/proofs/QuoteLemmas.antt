@@ -8,7 +8,7 @@ use Rattle.std.proofs.lemmas.Bool.{lt-leb, le-leb, lt-ltb, le-ltb}
 use Rattle.std.proofs.lemmas.List.Concat.{flat_map-append}
 use Rattle.std.proofs.lemmas.Str.{encode_ascii, encodes-append, inside_one, chars-encodes, encodes-chars, scalars-chars, utf16_chars-nil, utf16_chars_lone, utf16_chars_pair}
 use lib.Utf8.{scalar, scalars, scalar_cases}
-use Rattle.es_spelling.specs.Units.{concat}
+use Rattle.es_literal.specs.spelling.Units.{concat}
 use Rattle.es_literal.specs.Strings.{is_plain, is_single, IsUnit, plain, single, AreUnits, is_quote, IsString}
 use Rattle.es_literal.specs.Quotes.{escaped, quoted}
 use Rattle.es_literal.specs.Values.{is_octal, is_line_end, single_code, escape_of, unit_of, units_of, inner, value_units, value_of, is_lone}

@@ -2,10 +2,10 @@
 use Rattle.std.proofs.Common.{◌≡◌, ℕ, zero, suc, ◌+◌, ◌≤◌, ◌<◌, Bool, true, false, ◌==◌, List, [], ◌∷◌, ◌++◌, length, take, drop, refl, sym, ◌∙◌, ap, subst, arith, eqb-true, eq-eqb, append_assoc, length-append, true≢false, take_at, drop_at, ◌⊎◌, inl, inr}
 use Rattle.es_literal.specs.declared.string.StringEnd.{StringEnd}
 use Rattle.es_literal.specs.declared.string.StringEnd.TheVariants.{Closes, InvalidEscape, Unclosed}
-use Rattle.es_spelling.specs.Units.{concat, units_end, units_rest}
-use Rattle.es_spelling.specs.Units as run
+use Rattle.es_literal.specs.spelling.Units.{concat, units_end, units_rest}
+use Rattle.es_literal.specs.spelling.Units as run
 use Rattle.es_literal.specs.Strings.{is_plain, begins_feed, IsUnit, plain, single, two, four, braced, return, return_feed, AreUnits, is_quote, begins_quote, IsString, IsBad, IsCut, Begins, IsStringEnd, closes, invalid, unclosed, escape_size, string_unit, escape_stop, string_stop, body_end, string_end}
-use Rattle.es_spelling.proofs.UnitLemmas.{Within, Units, units, passes_units, stops, rest_units, rest_stops, ap2}
+use Rattle.es_literal.proofs.spelling_lemmas.UnitLemmas.{Within, Units, units, passes_units, stops, rest_units, rest_stops, ap2}
 use Rattle.es_literal.proofs.UnitLemmas.{unit_sized, unit_some, Front, unit_found}
 
 -- where a loop ends

@@ -3,7 +3,7 @@ use Rattle.std.proofs.Common.{◌≡◌, ℕ, zero, suc, ◌+◌, ◌*◌, ◌�
 use Rattle.std.proofs.lemmas.Bool.{le-ltb}
 use Rattle.std.proofs.lemmas.List.{take_rest}
 use Rattle.std.specs.List.{AllByRecursion}
-use Rattle.es_spelling.proofs.UnitLemmas.{ap2}
+use Rattle.es_literal.proofs.spelling_lemmas.UnitLemmas.{ap2}
 use Rattle.es_literal.specs.Strings.{digit, is_hex, worth}
 use Rattle.es_literal.specs.Values.{hex, bounded, braced_number, unit_of, code_units, units_of}
 use Rattle.es_literal.proofs.UnitLemmas.{no_close, worth_more}

@@ -2,7 +2,7 @@
 use Rattle.std.specs.Prelude.{◌≡◌, ℕ, ◌+◌, ◌*◌, ◌≤◌, Bool, true, false, not, ◌&&◌, ◌||◌, ◌==◌, nat_lt, nat_le, List, [], ◌∷◌, ◌++◌, length, if◌then◌else◌, ◌⊎◌}
 use Rattle.std.specs.List.{AllByRecursion}
 use Rattle.std.specs.Char.{digit_value}
-use Rattle.es_spelling.specs.Units.{concat, units_end, units_rest}
+use Rattle.es_literal.specs.spelling.Units.{concat, units_end, units_rest}
 use Rattle.es_literal.specs.declared.string.StringEnd.{StringEnd}
 use Rattle.es_literal.specs.declared.string.StringEnd.TheVariants.{Closes, InvalidEscape, Unclosed}
 

@@ -2,7 +2,9 @@
 //! of a text.
 #![tactic(auto)]
 
+pub mod literal_text;
 mod quotes;
+pub mod spelling;
 mod string;
 mod value;
 

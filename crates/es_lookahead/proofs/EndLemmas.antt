@@ -2,9 +2,9 @@
 use Rattle.std.specs.Prelude.{◌/◌, ltb, eqb, Bool, true, false, List, [], ◌∷◌, ◌++◌, length, get_or, take, drop, slice_get, Option, Some, None, if◌then◌else◌}
 use Rattle.std.proofs.Common.{◌≡◌, ℕ, zero, suc, refl, sym, ◌-◌, ◌<◌, ◌≤◌, ap, ◌∙◌, subst, eqb-true, ne_eqb, ltb-true, lt-ltb, le-ltb, arith}
 use Rattle.std.proofs.lemmas.Option.{slice_get_read}
-use Rattle.es_tree.specs.Key.{Key}
-use Rattle.es_type_grammar.specs.declared.rows.TypeRow.{TypeRow}
-use Rattle.es_type_grammar.specs.declared.rows.TypeRow.TheVariants as rows
+use Rattle.grammar_theory.specs.Key.{Key}
+use Rattle.es_grammar.specs.declared.types.rows.TypeRow.{TypeRow}
+use Rattle.es_grammar.specs.declared.types.rows.TypeRow.TheVariants as rows
 use Rattle.es_lookahead.specs.declared.ends.End.{End}
 use Rattle.es_lookahead.specs.declared.ends.Angle.{Angle}
 use Rattle.es_lookahead.specs.Ends.{row_end, IsRight, AreRight, at_half, angle_at, end_by, end_in}

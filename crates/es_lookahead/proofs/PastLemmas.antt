@@ -5,12 +5,12 @@ use Rattle.std.proofs.lemmas.Option.{slice_get_past}
 use Rattle.es_token.specs.declared.token.Token.{Token}
 use Rattle.es_token.specs.declared.token.TokenKind.{TokenKind}
 use Rattle.es_token.specs.declared.token.TokenKind.TheVariants as k
-use Rattle.es_tree.specs.declared.error.Lang.{Lang}
-use Rattle.es_tree.specs.Key.{keys_of, seen, is, has_kind}
-use Rattle.es_type_grammar.specs.Expressions.{opens_async_function}
-use Rattle.es_type_grammar.specs.Statements.{is_variable_word, opens_using, opens_for}
-use Rattle.es_type_grammar.specs.Modules.{behind_type, opens_type_import, opens_type_export, opens_equals, shows_require, opens_require, opens_all, opens_exported_equals, opens_exported_require}
-use Rattle.es_type_grammar.specs.Items.{opens_default_function, opens_declaration}
+use Rattle.grammar_theory.specs.declared.error.Lang.{Lang}
+use Rattle.grammar_theory.specs.Key.{keys_of, seen, is, has_kind}
+use Rattle.es_grammar.specs.types.Expressions.{opens_async_function}
+use Rattle.es_grammar.specs.types.Statements.{is_variable_word, opens_using, opens_for}
+use Rattle.es_grammar.specs.types.Modules.{behind_type, opens_type_import, opens_type_export, opens_equals, shows_require, opens_require, opens_all, opens_exported_equals, opens_exported_require}
+use Rattle.es_grammar.specs.types.Items.{opens_default_function, opens_declaration}
 use Rattle.es_lookahead.proofs.TokenLemmas.{look_past, partner_none}
 
 -- one of two that hold together fails

@@ -3,9 +3,9 @@ use Rattle.std.specs.Prelude.{List, true, false}
 use Rattle.std.proofs.Common.{◌≡◌, ℕ, zero, suc, ◌≤◌, ◌<◌, refl, slice_get}
 use Rattle.std.proofs.lemmas.Bool.{le-ltb, lt-ltb}
 use Rattle.es_token.specs.declared.token.TokenKind.TheVariants as k
-use Rattle.es_tree.specs.Key.{Key, seen, is}
-use Rattle.es_type_grammar.specs.Words.{partner_of}
-use Rattle.es_type_grammar.specs.Statements.{step_over, has_semicolon}
+use Rattle.grammar_theory.specs.Key.{Key, seen, is}
+use Rattle.es_grammar.specs.types.Words.{partner_of}
+use Rattle.es_grammar.specs.types.Statements.{step_over, has_semicolon}
 
 -- nothing stands behind the end
 pub none_behind : (K : List Key) (turns at to : ℕ) → to ≤ at → has_semicolon K turns at to ≡ false

@@ -4,9 +4,9 @@ use Rattle.std.proofs.Common.{◌≡◌, ℕ, zero, suc, ◌-◌, ◌≤◌, len
 use Rattle.std.proofs.lemmas.Option.{slice_get_past}
 use Rattle.es_token.specs.declared.token.Token.{Token}
 use Rattle.es_token.specs.declared.token.TokenKind.{TokenKind}
-use Rattle.es_tree.specs.Key.{TokenTest, Seen, seen, keys_of, keys_after, same_kind}
-use Rattle.es_type_grammar.specs.Words.{partner_of}
-use Rattle.es_type_grammar.specs.Expressions.{is_joined, joins}
+use Rattle.grammar_theory.specs.Key.{TokenTest, Seen, seen, keys_of, keys_after, same_kind}
+use Rattle.es_grammar.specs.types.Words.{partner_of}
+use Rattle.es_grammar.specs.types.Expressions.{is_joined, joins}
 
 -- ---- what is seen
 

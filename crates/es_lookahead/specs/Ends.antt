@@ -1,13 +1,13 @@
 -- Where type arguments and type parameters end: what is known of each `<`, when it is right, and how it is found.
 use Rattle.std.specs.Prelude.{◌≡◌, ℕ, zero, suc, ◌/◌, ltb, leb, eqb, Bool, true, false, List, [], ◌∷◌, length, take, drop, slice_get, Option, Some, None, if◌then◌else◌}
-use Rattle.es_tree.specs.Key.{Key}
-use Rattle.es_tree.specs.Plain.{Plain, plain, none_leans, tall}
-use Rattle.es_tree.specs.Fits.{most_nodes}
-use Rattle.es_tree.specs.Reader.{Out, nothing, gives, read_row}
-use Rattle.es_type_grammar.specs.declared.rows.TypeRow.{TypeRow}
-use Rattle.es_type_grammar.specs.declared.rows.TypeRow.TheVariants.{ArgumentsRow, TypeParametersRow}
-use Rattle.es_type_grammar.specs.TypeRows.{NodeKind}
-use Rattle.es_type_grammar.specs.TypeTable.{type_rule}
+use Rattle.grammar_theory.specs.Key.{Key}
+use Rattle.grammar_theory.specs.Plain.{Plain, plain, none_leans, tall}
+use Rattle.grammar_theory.specs.Fits.{most_nodes}
+use Rattle.grammar_theory.specs.Reader.{Out, nothing, gives, read_row}
+use Rattle.es_grammar.specs.declared.types.rows.TypeRow.{TypeRow}
+use Rattle.es_grammar.specs.declared.types.rows.TypeRow.TheVariants.{ArgumentsRow, TypeParametersRow}
+use Rattle.es_grammar.specs.types.TypeRows.{NodeKind}
+use Rattle.es_grammar.specs.types.TypeTable.{type_rule}
 use Rattle.es_lookahead.specs.declared.ends.End.{End}
 use Rattle.es_lookahead.specs.declared.ends.Angle.{Angle}
 

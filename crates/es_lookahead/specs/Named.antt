@@ -1,15 +1,15 @@
 -- The tests and predicates of the tables that are named by a value, and what each is.
 use Rattle.std.specs.Prelude.{Bool, true}
 use Rattle.es_token.specs.declared.token.TokenKind.{TokenKind}
-use Rattle.es_tree.specs.Key.{TokenTest, has_kind, is, is_token}
-use Rattle.es_tree.specs.Productions.{Predicate}
-use Rattle.es_type_grammar.specs.Words.{only, is_other, is_name, is_word, is_name_or_this, is_numeric, is_accessor_word, is_near}
-use Rattle.es_type_grammar.specs.Modules.{may_end, opens_type_import, opens_type_name, is_renamed, is_no_type_as_as, has_comma, opens_equals, opens_require, opens_bare, opens_source_import, opens_defer_import, opens_type_export, opens_all, opens_exported_equals, opens_exported_require, opens_namespace}
-use Rattle.es_type_grammar.specs.Expressions.{is_prefix, is_update, is_product, is_sum, is_equality, is_relation, is_assignment, is_property_name, is_literal_word, no_arrow, follows_super, begins_member, begins_post, is_update_here, no_update_here, no_mix, is_operand, opens_async_parenthesis, is_no_arrow_head, opens_async_function, opens_property, has_argument, opens_source_call, opens_defer_call, opens_shift, opens_arrow, opens_async_arrow, opens_pattern, opens_assignment, is_module, may_await, may_test, opens_relation, joins}
-use Rattle.es_type_grammar.specs.Functions.{is_parameter, opens_inner_pattern, opens_value, is_plain_key, opens_method, opens_accessor, opens_async, opens_star}
-use Rattle.es_type_grammar.specs.Classes.{opens_static, is_plain_member, opens_static_block, behind_static, opens_field_accessor}
-use Rattle.es_type_grammar.specs.Statements.{is_variable_word, is_label_here, is_value_here, is_case, is_in_case, begins_no_other, opens_using, opens_for, opens_for_await, opens_head_pattern, starts_using, starts_expression, opens_label, is_script}
-use Rattle.es_type_grammar.specs.Items.{opens_import, opens_default, opens_default_function, opens_default_class, opens_declaration}
+use Rattle.grammar_theory.specs.Key.{TokenTest, has_kind, is, is_token}
+use Rattle.grammar_theory.specs.Productions.{Predicate}
+use Rattle.es_grammar.specs.types.Words.{only, is_other, is_name, is_word, is_name_or_this, is_numeric, is_accessor_word, is_near}
+use Rattle.es_grammar.specs.types.Modules.{may_end, opens_type_import, opens_type_name, is_renamed, is_no_type_as_as, has_comma, opens_equals, opens_require, opens_bare, opens_source_import, opens_defer_import, opens_type_export, opens_all, opens_exported_equals, opens_exported_require, opens_namespace}
+use Rattle.es_grammar.specs.types.Expressions.{is_prefix, is_update, is_product, is_sum, is_equality, is_relation, is_assignment, is_property_name, is_literal_word, no_arrow, follows_super, begins_member, begins_post, is_update_here, no_update_here, no_mix, is_operand, opens_async_parenthesis, is_no_arrow_head, opens_async_function, opens_property, has_argument, opens_source_call, opens_defer_call, opens_shift, opens_arrow, opens_async_arrow, opens_pattern, opens_assignment, is_module, may_await, may_test, opens_relation, joins}
+use Rattle.es_grammar.specs.types.Functions.{is_parameter, opens_inner_pattern, opens_value, is_plain_key, opens_method, opens_accessor, opens_async, opens_star}
+use Rattle.es_grammar.specs.types.Classes.{opens_static, is_plain_member, opens_static_block, behind_static, opens_field_accessor}
+use Rattle.es_grammar.specs.types.Statements.{is_variable_word, is_label_here, is_value_here, is_case, is_in_case, begins_no_other, opens_using, opens_for, opens_for_await, opens_head_pattern, starts_using, starts_expression, opens_label, is_script}
+use Rattle.es_grammar.specs.types.Items.{opens_import, opens_default, opens_default_function, opens_default_class, opens_declaration}
 use Rattle.es_lookahead.specs.declared.named.Kinds.{Kinds}
 use Rattle.es_lookahead.specs.declared.named.Kinds.TheVariants as kinds
 use Rattle.es_lookahead.specs.declared.named.Lookahead.{Lookahead}

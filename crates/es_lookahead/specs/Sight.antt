@@ -1,6 +1,6 @@
 -- What is seen of a token at run time, as the tests of a table see it.
 use Rattle.std.specs.Prelude.{Option, Some, None}
-use Rattle.es_tree.specs.Key.{Seen}
+use Rattle.grammar_theory.specs.Key.{Seen}
 use Rattle.es_lookahead.specs.declared.looks.Seen.{Seen as Sighted}
 
 -- what the tests see

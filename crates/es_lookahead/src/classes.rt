@@ -1,9 +1,9 @@
 //! Predicates of members of classes.
 
 ghost use Rattle.std.specs.Prelude.{◌≡◌, ◌<◌, true, length};
-ghost use Rattle.es_tree.specs.Key.{keys_of};
-ghost use Rattle.es_type_grammar.specs.Functions.{opens_accessor, opens_async, opens_star, opens_method};
-ghost use Rattle.es_type_grammar.specs.Classes.{opens_static, opens_field_accessor, behind_static, is_plain_member, opens_static_block};
+ghost use Rattle.grammar_theory.specs.Key.{keys_of};
+ghost use Rattle.es_grammar.specs.types.Functions.{opens_accessor, opens_async, opens_star, opens_method};
+ghost use Rattle.es_grammar.specs.types.Classes.{opens_static, opens_field_accessor, behind_static, is_plain_member, opens_static_block};
 
 use crate::looks::{self, is};
 use crate::tokens::Tokens;
@@ -11,7 +11,7 @@ use es_token::TokenKind;
 
 impl Tokens<'_> {
     /// `static` before a key, `*` or `{`; then a token is at this place.
-    #[tactic(auto, unfolding(es_type_grammar::specs::Classes::opens_static))]
+    #[tactic(auto, unfolding(es_grammar::specs::types::Classes::opens_static))]
     pub fn opens_static(&self, at: usize) -> bool
         ensures predicate { result ≡ opens_static (keys_of self.now.tokens.now) at }
         ensures within { result ≡ true → at < length self.now.tokens.now }
@@ -24,7 +24,7 @@ impl Tokens<'_> {
     }
 
     /// `accessor` before a key or `*` on its line.
-    #[tactic(auto, unfolding(es_type_grammar::specs::Classes::opens_field_accessor))]
+    #[tactic(auto, unfolding(es_grammar::specs::types::Classes::opens_field_accessor))]
     pub fn opens_field_accessor(&self, at: usize) -> bool
         ensures { result ≡ opens_field_accessor (keys_of self.now.tokens.now) at }
     {
@@ -36,7 +36,7 @@ impl Tokens<'_> {
     }
 
     /// The predicate at this place, or behind the modifier `static`.
-    #[tactic(auto, unfolding(es_type_grammar::specs::Classes::behind_static))]
+    #[tactic(auto, unfolding(es_grammar::specs::types::Classes::behind_static))]
     pub fn behind_static_accessor(&self, at: usize) -> bool
         ensures { result ≡ behind_static (opens_accessor true) (keys_of self.now.tokens.now) at }
     {
@@ -48,7 +48,7 @@ impl Tokens<'_> {
     }
 
     /// The predicate at this place, or behind the modifier `static`.
-    #[tactic(auto, unfolding(es_type_grammar::specs::Classes::behind_static))]
+    #[tactic(auto, unfolding(es_grammar::specs::types::Classes::behind_static))]
     pub fn behind_static_async(&self, at: usize) -> bool
         ensures { result ≡ behind_static (opens_async true) (keys_of self.now.tokens.now) at }
     {
@@ -60,7 +60,7 @@ impl Tokens<'_> {
     }
 
     /// The predicate at this place, or behind the modifier `static`.
-    #[tactic(auto, unfolding(es_type_grammar::specs::Classes::behind_static))]
+    #[tactic(auto, unfolding(es_grammar::specs::types::Classes::behind_static))]
     pub fn behind_static_star(&self, at: usize) -> bool
         ensures { result ≡ behind_static opens_star (keys_of self.now.tokens.now) at }
     {
@@ -72,7 +72,7 @@ impl Tokens<'_> {
     }
 
     /// The predicate at this place, or behind the modifier `static`.
-    #[tactic(auto, unfolding(es_type_grammar::specs::Classes::behind_static))]
+    #[tactic(auto, unfolding(es_grammar::specs::types::Classes::behind_static))]
     pub fn behind_static_field_accessor(&self, at: usize) -> bool
         ensures { result ≡ behind_static opens_field_accessor (keys_of self.now.tokens.now) at }
     {
@@ -84,7 +84,7 @@ impl Tokens<'_> {
     }
 
     /// The predicate at this place, or behind the modifier `static`.
-    #[tactic(auto, unfolding(es_type_grammar::specs::Classes::behind_static))]
+    #[tactic(auto, unfolding(es_grammar::specs::types::Classes::behind_static))]
     pub fn behind_static_method(&self, at: usize) -> bool
         ensures { result ≡ behind_static opens_method (keys_of self.now.tokens.now) at }
     {
@@ -96,7 +96,7 @@ impl Tokens<'_> {
     }
 
     /// Behind the modifiers stands a key that is none.
-    #[tactic(auto, unfolding(es_type_grammar::specs::Classes::is_plain_member))]
+    #[tactic(auto, unfolding(es_grammar::specs::types::Classes::is_plain_member))]
     pub fn is_plain_member(&self, at: usize) -> bool
         ensures { result ≡ is_plain_member (keys_of self.now.tokens.now) at }
     {
@@ -107,7 +107,7 @@ impl Tokens<'_> {
     }
 
     /// `static` before `{`.
-    #[tactic(auto, unfolding(es_type_grammar::specs::Classes::opens_static_block))]
+    #[tactic(auto, unfolding(es_grammar::specs::types::Classes::opens_static_block))]
     pub fn opens_static_block(&self, at: usize) -> bool
         ensures { result ≡ opens_static_block (keys_of self.now.tokens.now) at }
     {

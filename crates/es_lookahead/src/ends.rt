@@ -3,7 +3,7 @@
 ghost use Rattle.std.specs.Prelude.{◌≡◌};
 ghost use Rattle.es_lookahead.specs.Ends.{angle_at, end_in};
 
-use es_type_grammar::TypeRow;
+use es_grammar::types::TypeRow;
 
 /// The token behind a part, and the most nodes on a path of it.
 #[derive(Clone, Copy)]

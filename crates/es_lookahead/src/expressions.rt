@@ -2,17 +2,17 @@
 
 ghost use Rattle.std.specs.Prelude.{◌≡◌, ◌+◌, ◌^◌, ◌<◌, ◌&&◌, ◌||◌};
 ghost use Rattle.es_token.specs.declared.token.TokenKind.TheVariants as k;
-ghost use Rattle.es_tree.specs.Key.{keys_of, seen};
-ghost use Rattle.es_type_grammar.specs.Expressions.{joins, opens_greater, opens_right_shift, opens_right_assignment, begins_expression, is_arrow, no_arrow, opens_plain_arrow, opens_async_arrow, opens_arrow, opens_async_parenthesis, is_no_arrow_head, opens_async_function, opens_property, has_argument, opens_source_call, opens_defer_call, is_module, may_await, may_test, follows_super, begins_member, begins_post, is_update_here, no_update_here, no_mix, is_operand, opens_shift, opens_relation, opens_pattern, opens_assignment};
+ghost use Rattle.grammar_theory.specs.Key.{keys_of, seen};
+ghost use Rattle.es_grammar.specs.types.Expressions.{joins, opens_greater, opens_right_shift, opens_right_assignment, begins_expression, is_arrow, no_arrow, opens_plain_arrow, opens_async_arrow, opens_arrow, opens_async_parenthesis, is_no_arrow_head, opens_async_function, opens_property, has_argument, opens_source_call, opens_defer_call, is_module, may_await, may_test, follows_super, begins_member, begins_post, is_update_here, no_update_here, no_mix, is_operand, opens_shift, opens_relation, opens_pattern, opens_assignment};
 
 use crate::looks::{self, is};
 use crate::tokens::{Tokens, before};
+use es_grammar::types::Context;
 use es_token::TokenKind;
-use es_type_grammar::Context;
 
 impl Tokens<'_> {
     /// `>` or `>=`
-    #[tactic(auto, unfolding(es_type_grammar::specs::Expressions::opens_greater))]
+    #[tactic(auto, unfolding(es_grammar::specs::types::Expressions::opens_greater))]
     pub fn opens_greater(&self, at: usize) -> bool
         ensures { result ≡ opens_greater (keys_of self.now.tokens.now) at }
     {
@@ -30,7 +30,7 @@ impl Tokens<'_> {
     }
 
     /// `>>` or `>>>` without `=`
-    #[tactic(auto, unfolding(es_type_grammar::specs::Expressions::opens_right_shift))]
+    #[tactic(auto, unfolding(es_grammar::specs::types::Expressions::opens_right_shift))]
     pub fn opens_right_shift(&self, at: usize) -> bool
         ensures { result ≡ opens_right_shift (keys_of self.now.tokens.now) at }
     {
@@ -40,7 +40,7 @@ impl Tokens<'_> {
     }
 
     /// `>>=` or `>>>=`
-    #[tactic(auto, unfolding(es_type_grammar::specs::Expressions::opens_right_assignment))]
+    #[tactic(auto, unfolding(es_grammar::specs::types::Expressions::opens_right_assignment))]
     pub fn opens_right_assignment(&self, at: usize) -> bool
         ensures { result ≡ opens_right_assignment (keys_of self.now.tokens.now) at }
     {
@@ -64,7 +64,7 @@ impl Tokens<'_> {
     }
 
     /// No `=>` on its line.
-    #[tactic(auto, unfolding(es_type_grammar::specs::Expressions::no_arrow))]
+    #[tactic(auto, unfolding(es_grammar::specs::types::Expressions::no_arrow))]
     pub fn no_arrow(&self, at: usize) -> bool
         ensures { result ≡ no_arrow (seen (keys_of self.now.tokens.now) at) }
     {
@@ -72,7 +72,7 @@ impl Tokens<'_> {
     }
 
     /// A name before `=>` on its line, or `(` whose `)` stands there.
-    #[tactic(auto, unfolding(es_type_grammar::specs::Expressions::opens_plain_arrow))]
+    #[tactic(auto, unfolding(es_grammar::specs::types::Expressions::opens_plain_arrow))]
     pub fn opens_plain_arrow(&self, at: usize) -> bool
         ensures { result ≡ opens_plain_arrow (keys_of self.now.tokens.now) at }
     {
@@ -81,7 +81,7 @@ impl Tokens<'_> {
     }
 
     /// `async` before such a name or `(` on its line.
-    #[tactic(auto, unfolding(es_type_grammar::specs::Expressions::opens_async_arrow))]
+    #[tactic(auto, unfolding(es_grammar::specs::types::Expressions::opens_async_arrow))]
     pub fn opens_async_arrow(&self, at: usize) -> bool
         ensures { result ≡ opens_async_arrow (keys_of self.now.tokens.now) at }
     {
@@ -92,7 +92,7 @@ impl Tokens<'_> {
     }
 
     /// An arrow begins here.
-    #[tactic(auto, unfolding(es_type_grammar::specs::Expressions::opens_arrow))]
+    #[tactic(auto, unfolding(es_grammar::specs::types::Expressions::opens_arrow))]
     pub fn opens_arrow(&self, at: usize) -> bool
         ensures { result ≡ opens_arrow (keys_of self.now.tokens.now) at }
     {
@@ -100,7 +100,7 @@ impl Tokens<'_> {
     }
 
     /// `(` stands behind `async`.
-    #[tactic(auto, unfolding(es_type_grammar::specs::Expressions::opens_async_parenthesis))]
+    #[tactic(auto, unfolding(es_grammar::specs::types::Expressions::opens_async_parenthesis))]
     pub fn opens_async_parenthesis(&self, at: usize) -> bool
         ensures { result ≡ opens_async_parenthesis (keys_of self.now.tokens.now) at }
     {
@@ -108,7 +108,7 @@ impl Tokens<'_> {
     }
 
     /// `(` that opens no arrow.
-    #[tactic(auto, unfolding(es_type_grammar::specs::Expressions::is_no_arrow_head))]
+    #[tactic(auto, unfolding(es_grammar::specs::types::Expressions::is_no_arrow_head))]
     pub fn is_no_arrow_head(&self, at: usize) -> bool
         ensures { result ≡ is_no_arrow_head (keys_of self.now.tokens.now) at }
     {
@@ -116,7 +116,7 @@ impl Tokens<'_> {
     }
 
     /// `async` before `function` on its line.
-    #[tactic(auto, unfolding(es_type_grammar::specs::Expressions::opens_async_function))]
+    #[tactic(auto, unfolding(es_grammar::specs::types::Expressions::opens_async_function))]
     pub fn opens_async_function(&self, at: usize) -> bool
         ensures { result ≡ opens_async_function (keys_of self.now.tokens.now) at }
     {
@@ -128,7 +128,7 @@ impl Tokens<'_> {
     }
 
     /// A `.` stands behind the word at this place.
-    #[tactic(auto, unfolding(es_type_grammar::specs::Expressions::opens_property))]
+    #[tactic(auto, unfolding(es_grammar::specs::types::Expressions::opens_property))]
     pub fn opens_property(&self, at: usize) -> bool
         ensures { result ≡ opens_property (keys_of self.now.tokens.now) at }
     {
@@ -136,7 +136,7 @@ impl Tokens<'_> {
     }
 
     /// `source` stands behind `import` and `.`.
-    #[tactic(auto, unfolding(es_type_grammar::specs::Expressions::opens_source_call))]
+    #[tactic(auto, unfolding(es_grammar::specs::types::Expressions::opens_source_call))]
     pub fn opens_source_call(&self, at: usize) -> bool
         ensures { result ≡ opens_source_call (keys_of self.now.tokens.now) at }
     {
@@ -145,7 +145,7 @@ impl Tokens<'_> {
     }
 
     /// `defer` stands behind `import` and `.`.
-    #[tactic(auto, unfolding(es_type_grammar::specs::Expressions::opens_defer_call))]
+    #[tactic(auto, unfolding(es_grammar::specs::types::Expressions::opens_defer_call))]
     pub fn opens_defer_call(&self, at: usize) -> bool
         ensures { result ≡ opens_defer_call (keys_of self.now.tokens.now) at }
     {
@@ -154,7 +154,7 @@ impl Tokens<'_> {
     }
 
     /// A further argument of `import()`: a `,` that isn't the last one.
-    #[tactic(auto, unfolding(es_type_grammar::specs::Expressions::has_argument))]
+    #[tactic(auto, unfolding(es_grammar::specs::types::Expressions::has_argument))]
     pub fn has_argument(&self, at: usize) -> bool
         ensures { result ≡ has_argument (keys_of self.now.tokens.now) at }
     {
@@ -162,7 +162,7 @@ impl Tokens<'_> {
     }
 
     /// In modules.
-    #[tactic(auto, unfolding(es_type_grammar::specs::Expressions::is_module))]
+    #[tactic(auto, unfolding(es_grammar::specs::types::Expressions::is_module))]
     pub fn is_module(&self, context: Context, _at: usize) -> bool
         ensures { result ≡ is_module context (keys_of self.now.tokens.now) _at }
     {
@@ -170,7 +170,7 @@ impl Tokens<'_> {
     }
 
     /// In modules, and in async functions.
-    #[tactic(auto, unfolding(es_type_grammar::specs::Expressions::may_await))]
+    #[tactic(auto, unfolding(es_grammar::specs::types::Expressions::may_await))]
     pub fn may_await(&self, context: Context, _at: usize) -> bool
         ensures { result ≡ may_await context (keys_of self.now.tokens.now) _at }
     {
@@ -178,7 +178,7 @@ impl Tokens<'_> {
     }
 
     /// Outside the head of a `for`.
-    #[tactic(auto, unfolding(es_type_grammar::specs::Expressions::may_test))]
+    #[tactic(auto, unfolding(es_grammar::specs::types::Expressions::may_test))]
     pub fn may_test(&self, context: Context, _at: usize) -> bool
         ensures { result ≡ may_test context (keys_of self.now.tokens.now) _at }
     {
@@ -186,7 +186,7 @@ impl Tokens<'_> {
     }
 
     /// What may follow `super`.
-    #[tactic(auto, unfolding(es_type_grammar::specs::Expressions::follows_super))]
+    #[tactic(auto, unfolding(es_grammar::specs::types::Expressions::follows_super))]
     pub fn follows_super(&self, at: usize) -> bool
         ensures { result ≡ follows_super (seen (keys_of self.now.tokens.now) at) }
     {
@@ -203,7 +203,7 @@ impl Tokens<'_> {
     }
 
     /// A token that begins a further part of a chain.
-    #[tactic(auto, unfolding(es_type_grammar::specs::Expressions::begins_post))]
+    #[tactic(auto, unfolding(es_grammar::specs::types::Expressions::begins_post))]
     pub fn begins_post(&self, at: usize) -> bool
         ensures { result ≡ begins_post (seen (keys_of self.now.tokens.now) at) }
     {
@@ -213,7 +213,7 @@ impl Tokens<'_> {
     }
 
     /// `++` or `--` on the line of the token before it.
-    #[tactic(auto, unfolding(es_type_grammar::specs::Expressions::is_update_here))]
+    #[tactic(auto, unfolding(es_grammar::specs::types::Expressions::is_update_here))]
     pub fn is_update_here(&self, at: usize) -> bool
         ensures { result ≡ is_update_here (seen (keys_of self.now.tokens.now) at) }
     {
@@ -221,7 +221,7 @@ impl Tokens<'_> {
     }
 
     /// Neither of them.
-    #[tactic(auto, unfolding(es_type_grammar::specs::Expressions::no_update_here))]
+    #[tactic(auto, unfolding(es_grammar::specs::types::Expressions::no_update_here))]
     pub fn no_update_here(&self, at: usize) -> bool
         ensures { result ≡ no_update_here (seen (keys_of self.now.tokens.now) at) }
     {
@@ -229,7 +229,7 @@ impl Tokens<'_> {
     }
 
     /// Neither `&&` nor `||`.
-    #[tactic(auto, unfolding(es_type_grammar::specs::Expressions::no_mix))]
+    #[tactic(auto, unfolding(es_grammar::specs::types::Expressions::no_mix))]
     pub fn no_mix(&self, at: usize) -> bool
         ensures { result ≡ no_mix (seen (keys_of self.now.tokens.now) at) }
     {
@@ -237,7 +237,7 @@ impl Tokens<'_> {
     }
 
     /// An operand of `yield` stands here.
-    #[tactic(auto, unfolding(es_type_grammar::specs::Expressions::is_operand))]
+    #[tactic(auto, unfolding(es_grammar::specs::types::Expressions::is_operand))]
     pub fn is_operand(&self, at: usize) -> bool
         ensures { result ≡ is_operand (seen (keys_of self.now.tokens.now) at) }
     {
@@ -245,7 +245,7 @@ impl Tokens<'_> {
     }
 
     /// An operator of shifts.
-    #[tactic(auto, unfolding(es_type_grammar::specs::Expressions::opens_shift))]
+    #[tactic(auto, unfolding(es_grammar::specs::types::Expressions::opens_shift))]
     pub fn opens_shift(&self, at: usize) -> bool
         ensures { result ≡ opens_shift (keys_of self.now.tokens.now) at }
     {
@@ -253,7 +253,7 @@ impl Tokens<'_> {
     }
 
     /// A relational operator; `in` outside the head of a `for` alone.
-    #[tactic(auto, unfolding(es_type_grammar::specs::Expressions::opens_relation))]
+    #[tactic(auto, unfolding(es_grammar::specs::types::Expressions::opens_relation))]
     pub fn opens_relation(&self, context: Context, at: usize) -> bool
         ensures { result ≡ opens_relation context (keys_of self.now.tokens.now) at }
     {
@@ -262,7 +262,7 @@ impl Tokens<'_> {
     }
 
     /// `[` or `{` whose closer is followed by `=`.
-    #[tactic(auto, unfolding(es_type_grammar::specs::Expressions::opens_pattern))]
+    #[tactic(auto, unfolding(es_grammar::specs::types::Expressions::opens_pattern))]
     pub fn opens_pattern(&self, at: usize) -> bool
         ensures { result ≡ opens_pattern (keys_of self.now.tokens.now) at }
     {
@@ -271,7 +271,7 @@ impl Tokens<'_> {
     }
 
     /// An assignment operator.
-    #[tactic(auto, unfolding(es_type_grammar::specs::Expressions::opens_assignment))]
+    #[tactic(auto, unfolding(es_grammar::specs::types::Expressions::opens_assignment))]
     pub fn opens_assignment(&self, at: usize) -> bool
         ensures { result ≡ opens_assignment (keys_of self.now.tokens.now) at }
     {

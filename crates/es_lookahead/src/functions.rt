@@ -1,8 +1,8 @@
 //! Predicates of parameters, patterns, keys, and properties of objects.
 
 ghost use Rattle.std.specs.Prelude.{◌≡◌};
-ghost use Rattle.es_tree.specs.Key.{keys_of, seen};
-ghost use Rattle.es_type_grammar.specs.Functions.{opens_inner_pattern, is_parameter, opens_value, opens_accessor, opens_async, is_plain_key, opens_star, opens_method};
+ghost use Rattle.grammar_theory.specs.Key.{keys_of, seen};
+ghost use Rattle.es_grammar.specs.types.Functions.{opens_inner_pattern, is_parameter, opens_value, opens_accessor, opens_async, is_plain_key, opens_star, opens_method};
 
 use crate::looks::{self, is};
 use crate::tokens::Tokens;
@@ -10,7 +10,7 @@ use es_token::TokenKind;
 
 impl Tokens<'_> {
     /// A pattern inside a pattern that is assigned to.
-    #[tactic(auto, unfolding(es_type_grammar::specs::Functions::opens_inner_pattern))]
+    #[tactic(auto, unfolding(es_grammar::specs::types::Functions::opens_inner_pattern))]
     pub fn opens_inner_pattern(&self, at: usize) -> bool
         ensures { result ≡ opens_inner_pattern (keys_of self.now.tokens.now) at }
     {
@@ -19,7 +19,7 @@ impl Tokens<'_> {
     }
 
     /// A parameter stands here: neither `)` nor `...`.
-    #[tactic(auto, unfolding(es_type_grammar::specs::Functions::is_parameter))]
+    #[tactic(auto, unfolding(es_grammar::specs::types::Functions::is_parameter))]
     pub fn is_parameter(&self, at: usize) -> bool
         ensures { result ≡ is_parameter (seen (keys_of self.now.tokens.now) at) }
     {
@@ -27,7 +27,7 @@ impl Tokens<'_> {
     }
 
     /// A key before `:`.
-    #[tactic(auto, unfolding(es_type_grammar::specs::Functions::opens_value))]
+    #[tactic(auto, unfolding(es_grammar::specs::types::Functions::opens_value))]
     pub fn opens_value(&self, at: usize) -> bool
         ensures { result ≡ opens_value (keys_of self.now.tokens.now) at }
     {
@@ -35,7 +35,7 @@ impl Tokens<'_> {
     }
 
     /// `get` or `set` before a key.
-    #[tactic(auto, unfolding(es_type_grammar::specs::Functions::opens_accessor))]
+    #[tactic(auto, unfolding(es_grammar::specs::types::Functions::opens_accessor))]
     pub fn opens_accessor(&self, private: bool, at: usize) -> bool
         ensures { result ≡ opens_accessor private (keys_of self.now.tokens.now) at }
     {
@@ -43,7 +43,7 @@ impl Tokens<'_> {
     }
 
     /// `async` before a key or `*` on its line.
-    #[tactic(auto, unfolding(es_type_grammar::specs::Functions::opens_async))]
+    #[tactic(auto, unfolding(es_grammar::specs::types::Functions::opens_async))]
     pub fn opens_async(&self, private: bool, at: usize) -> bool
         ensures { result ≡ opens_async private (keys_of self.now.tokens.now) at }
     {
@@ -55,7 +55,7 @@ impl Tokens<'_> {
     }
 
     /// Behind a modifier stands a key that is none.
-    #[tactic(auto, unfolding(es_type_grammar::specs::Functions::is_plain_key))]
+    #[tactic(auto, unfolding(es_grammar::specs::types::Functions::is_plain_key))]
     pub fn is_plain_key(&self, at: usize) -> bool
         ensures { result ≡ is_plain_key (keys_of self.now.tokens.now) at }
     {
@@ -63,7 +63,7 @@ impl Tokens<'_> {
     }
 
     /// `*`
-    #[tactic(auto, unfolding(es_type_grammar::specs::Functions::opens_star))]
+    #[tactic(auto, unfolding(es_grammar::specs::types::Functions::opens_star))]
     pub fn opens_star(&self, at: usize) -> bool
         ensures { result ≡ opens_star (keys_of self.now.tokens.now) at }
     {
@@ -71,7 +71,7 @@ impl Tokens<'_> {
     }
 
     /// A key before `(`.
-    #[tactic(auto, unfolding(es_type_grammar::specs::Functions::opens_method))]
+    #[tactic(auto, unfolding(es_grammar::specs::types::Functions::opens_method))]
     pub fn opens_method(&self, at: usize) -> bool
         ensures { result ≡ opens_method (keys_of self.now.tokens.now) at }
     {

@@ -1,7 +1,7 @@
 //! What a test or predicate that is named by a value says at a place.
 
 ghost use Rattle.std.specs.Prelude.{◌≡◌};
-ghost use Rattle.es_tree.specs.Key.{keys_of, seen, has_kind};
+ghost use Rattle.grammar_theory.specs.Key.{keys_of, seen, has_kind};
 ghost use Rattle.es_lookahead.specs.Named.{kinds_of, lookahead_of, predicate_of};
 
 use crate::kinds;

@@ -1,14 +1,14 @@
 //! Tests of the kind of a token.
 
 ghost use Rattle.std.specs.Prelude.{◌≡◌};
-ghost use Rattle.es_type_grammar.specs.Words.{is_name, is_word, is_name_or_this, is_numeric, is_accessor_word};
-ghost use Rattle.es_type_grammar.specs.Expressions.{is_prefix, is_update, is_product, is_sum, is_equality, is_relation, is_assignment, is_property_name, is_literal_word};
-ghost use Rattle.es_type_grammar.specs.Statements.{is_variable_word};
+ghost use Rattle.es_grammar.specs.types.Words.{is_name, is_word, is_name_or_this, is_numeric, is_accessor_word};
+ghost use Rattle.es_grammar.specs.types.Expressions.{is_prefix, is_update, is_product, is_sum, is_equality, is_relation, is_assignment, is_property_name, is_literal_word};
+ghost use Rattle.es_grammar.specs.types.Statements.{is_variable_word};
 
 use es_token::TokenKind;
 
 /// A name: a plain one, or a contextual word.
-#[tactic(auto, unfolding(es_type_grammar::specs::Words::is_name))]
+#[tactic(auto, unfolding(es_grammar::specs::types::Words::is_name))]
 pub fn is_name(kind: TokenKind) -> bool
     ensures { result ≡ is_name kind }
 {
@@ -18,7 +18,7 @@ pub fn is_name(kind: TokenKind) -> bool
 }
 
 /// A word: a name or a keyword.
-#[tactic(auto, unfolding(es_type_grammar::specs::Words::is_word))]
+#[tactic(auto, unfolding(es_grammar::specs::types::Words::is_word))]
 pub fn is_word(kind: TokenKind) -> bool
     ensures { result ≡ is_word kind }
 {
@@ -28,7 +28,7 @@ pub fn is_word(kind: TokenKind) -> bool
 }
 
 /// A name or `this`.
-#[tactic(auto, unfolding(es_type_grammar::specs::Words::is_name_or_this))]
+#[tactic(auto, unfolding(es_grammar::specs::types::Words::is_name_or_this))]
 pub fn is_name_or_this(kind: TokenKind) -> bool
     ensures { result ≡ is_name_or_this kind }
 {
@@ -36,7 +36,7 @@ pub fn is_name_or_this(kind: TokenKind) -> bool
 }
 
 /// A number or a bigint.
-#[tactic(auto, unfolding(es_type_grammar::specs::Words::is_numeric))]
+#[tactic(auto, unfolding(es_grammar::specs::types::Words::is_numeric))]
 pub fn is_numeric(kind: TokenKind) -> bool
     ensures { result ≡ is_numeric kind }
 {
@@ -44,7 +44,7 @@ pub fn is_numeric(kind: TokenKind) -> bool
 }
 
 /// `get` or `set`
-#[tactic(auto, unfolding(es_type_grammar::specs::Words::is_accessor_word))]
+#[tactic(auto, unfolding(es_grammar::specs::types::Words::is_accessor_word))]
 pub fn is_accessor_word(kind: TokenKind) -> bool
     ensures { result ≡ is_accessor_word kind }
 {
@@ -52,7 +52,7 @@ pub fn is_accessor_word(kind: TokenKind) -> bool
 }
 
 /// `delete`, `void`, `typeof`, `+`, `-`, `~`, `!`
-#[tactic(auto, unfolding(es_type_grammar::specs::Expressions::is_prefix))]
+#[tactic(auto, unfolding(es_grammar::specs::types::Expressions::is_prefix))]
 pub fn is_prefix(kind: TokenKind) -> bool
     ensures { result ≡ is_prefix kind }
 {
@@ -66,7 +66,7 @@ pub fn is_prefix(kind: TokenKind) -> bool
 }
 
 /// `++` or `--`
-#[tactic(auto, unfolding(es_type_grammar::specs::Expressions::is_update))]
+#[tactic(auto, unfolding(es_grammar::specs::types::Expressions::is_update))]
 pub fn is_update(kind: TokenKind) -> bool
     ensures { result ≡ is_update kind }
 {
@@ -74,7 +74,7 @@ pub fn is_update(kind: TokenKind) -> bool
 }
 
 /// `*`, `/`, `%`
-#[tactic(auto, unfolding(es_type_grammar::specs::Expressions::is_product))]
+#[tactic(auto, unfolding(es_grammar::specs::types::Expressions::is_product))]
 pub fn is_product(kind: TokenKind) -> bool
     ensures { result ≡ is_product kind }
 {
@@ -82,7 +82,7 @@ pub fn is_product(kind: TokenKind) -> bool
 }
 
 /// `+` or `-` between operands
-#[tactic(auto, unfolding(es_type_grammar::specs::Expressions::is_sum))]
+#[tactic(auto, unfolding(es_grammar::specs::types::Expressions::is_sum))]
 pub fn is_sum(kind: TokenKind) -> bool
     ensures { result ≡ is_sum kind }
 {
@@ -90,7 +90,7 @@ pub fn is_sum(kind: TokenKind) -> bool
 }
 
 /// `==`, `!=`, `===`, `!==`
-#[tactic(auto, unfolding(es_type_grammar::specs::Expressions::is_equality))]
+#[tactic(auto, unfolding(es_grammar::specs::types::Expressions::is_equality))]
 pub fn is_equality(kind: TokenKind) -> bool
     ensures { result ≡ is_equality kind }
 {
@@ -99,7 +99,7 @@ pub fn is_equality(kind: TokenKind) -> bool
 }
 
 /// `<`, `<=`, `instanceof`, `in`
-#[tactic(auto, unfolding(es_type_grammar::specs::Expressions::is_relation))]
+#[tactic(auto, unfolding(es_grammar::specs::types::Expressions::is_relation))]
 pub fn is_relation(kind: TokenKind) -> bool
     ensures { result ≡ is_relation kind }
 {
@@ -110,7 +110,7 @@ pub fn is_relation(kind: TokenKind) -> bool
 }
 
 /// An assignment operator of one token.
-#[tactic(auto, unfolding(es_type_grammar::specs::Expressions::is_assignment))]
+#[tactic(auto, unfolding(es_grammar::specs::types::Expressions::is_assignment))]
 pub fn is_assignment(kind: TokenKind) -> bool
     ensures { result ≡ is_assignment kind }
 {
@@ -121,7 +121,7 @@ pub fn is_assignment(kind: TokenKind) -> bool
 }
 
 /// A name, or a private one.
-#[tactic(auto, unfolding(es_type_grammar::specs::Expressions::is_property_name))]
+#[tactic(auto, unfolding(es_grammar::specs::types::Expressions::is_property_name))]
 pub fn is_property_name(kind: TokenKind) -> bool
     ensures { result ≡ is_property_name kind }
 {
@@ -129,7 +129,7 @@ pub fn is_property_name(kind: TokenKind) -> bool
 }
 
 /// `this`, `null`, `true`, `false`
-#[tactic(auto, unfolding(es_type_grammar::specs::Expressions::is_literal_word))]
+#[tactic(auto, unfolding(es_grammar::specs::types::Expressions::is_literal_word))]
 pub fn is_literal_word(kind: TokenKind) -> bool
     ensures { result ≡ is_literal_word kind }
 {
@@ -140,7 +140,7 @@ pub fn is_literal_word(kind: TokenKind) -> bool
 }
 
 /// `var`, `let`, `const`
-#[tactic(auto, unfolding(es_type_grammar::specs::Statements::is_variable_word))]
+#[tactic(auto, unfolding(es_grammar::specs::types::Statements::is_variable_word))]
 pub fn is_variable_word(kind: TokenKind) -> bool
     ensures { result ≡ is_variable_word kind }
 {

@@ -1,10 +1,10 @@
 //! The predicates of the grammar of programs, over the tokens of a text.
 //!
 //! - `Tokens`: the tokens of a text, with what is seen at a place, and a method for each test of the next token and each
-//!   predicate of the table of `es_type_grammar`.
+//!   predicate of the table of `es_grammar::types`.
 //! - `Kinds`, `Lookahead`, `Predicate`: tests and predicates named by a value; `is_kind`, `sees_ahead`, `holds` ask them.
 //!
-//! Each answers what its definition in `es_type_grammar` says of the keys of the tokens. None asks anything of the place.
+//! Each answers what its definition in `es_grammar::types` says of the keys of the tokens. None asks anything of the place.
 #![tactic(auto)]
 
 mod classes;

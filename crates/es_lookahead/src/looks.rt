@@ -1,12 +1,12 @@
 //! Tests of what is seen of the next token, or of the end.
 
 ghost use Rattle.std.specs.Prelude.{◌≡◌};
-ghost use Rattle.es_tree.specs.Key.{has_kind, is, is_end, is_token, is_after_line};
-ghost use Rattle.es_type_grammar.specs.Words.{is_name, is_word, is_numeric, is_accessor_word, is_near, begins_key};
-ghost use Rattle.es_type_grammar.specs.Modules.{may_end};
-ghost use Rattle.es_type_grammar.specs.Expressions.{is_prefix, is_update, is_product, is_sum, is_equality, is_relation, is_assignment, is_arrow, begins_expression, begins_member};
-ghost use Rattle.es_type_grammar.specs.Functions.{follows_pattern, starts_key};
-ghost use Rattle.es_type_grammar.specs.Statements.{is_variable_word, is_each, is_case};
+ghost use Rattle.grammar_theory.specs.Key.{has_kind, is, is_end, is_token, is_after_line};
+ghost use Rattle.es_grammar.specs.types.Words.{is_name, is_word, is_numeric, is_accessor_word, is_near, begins_key};
+ghost use Rattle.es_grammar.specs.types.Modules.{may_end};
+ghost use Rattle.es_grammar.specs.types.Expressions.{is_prefix, is_update, is_product, is_sum, is_equality, is_relation, is_assignment, is_arrow, begins_expression, begins_member};
+ghost use Rattle.es_grammar.specs.types.Functions.{follows_pattern, starts_key};
+ghost use Rattle.es_grammar.specs.types.Statements.{is_variable_word, is_each, is_case};
 ghost use Rattle.es_lookahead.specs.Sight.{sight};
 
 use crate::kinds;
@@ -65,7 +65,7 @@ pub fn is_after_line(next: Option<Seen>) -> bool
 }
 
 /// ~: on the line of the token before it.
-#[tactic(auto, unfolding(es_type_grammar::specs::Words::is_near))]
+#[tactic(auto, unfolding(es_grammar::specs::types::Words::is_near))]
 pub fn is_near(next: Option<Seen>) -> bool
     ensures { result ≡ is_near (sight next) }
 {
@@ -205,7 +205,7 @@ pub fn has_variable_word(next: Option<Seen>) -> bool
 }
 
 /// A token that can begin the key of a property.
-#[tactic(auto, unfolding(es_type_grammar::specs::Words::begins_key))]
+#[tactic(auto, unfolding(es_grammar::specs::types::Words::begins_key))]
 pub fn begins_key(next: Option<Seen>) -> bool
     ensures { result ≡ begins_key (sight next) }
 {
@@ -227,7 +227,7 @@ pub fn starts_key(private: bool, next: Option<Seen>) -> bool
 }
 
 /// Before END: a `;`, or `}`, or the end, or a token on a new line.
-#[tactic(auto, unfolding(es_type_grammar::specs::Modules::may_end))]
+#[tactic(auto, unfolding(es_grammar::specs::types::Modules::may_end))]
 pub fn may_end(next: Option<Seen>) -> bool
     ensures { result ≡ may_end (sight next) }
 {
@@ -238,7 +238,7 @@ pub fn may_end(next: Option<Seen>) -> bool
 }
 
 /// `=>` on its line.
-#[tactic(auto, unfolding(es_type_grammar::specs::Expressions::is_arrow))]
+#[tactic(auto, unfolding(es_grammar::specs::types::Expressions::is_arrow))]
 pub fn is_arrow(next: Option<Seen>) -> bool
     ensures { result ≡ is_arrow (sight next) }
 {
@@ -246,7 +246,7 @@ pub fn is_arrow(next: Option<Seen>) -> bool
 }
 
 /// `of` or `in`
-#[tactic(auto, unfolding(es_type_grammar::specs::Statements::is_each))]
+#[tactic(auto, unfolding(es_grammar::specs::types::Statements::is_each))]
 pub fn is_each(next: Option<Seen>) -> bool
     ensures { result ≡ is_each (sight next) }
 {
@@ -254,7 +254,7 @@ pub fn is_each(next: Option<Seen>) -> bool
 }
 
 /// A clause of `switch` begins here.
-#[tactic(auto, unfolding(es_type_grammar::specs::Statements::is_case))]
+#[tactic(auto, unfolding(es_grammar::specs::types::Statements::is_case))]
 pub fn is_case(next: Option<Seen>) -> bool
     ensures { result ≡ is_case (sight next) }
 {
@@ -262,7 +262,7 @@ pub fn is_case(next: Option<Seen>) -> bool
 }
 
 /// What may follow a pattern inside a pattern that is assigned to.
-#[tactic(auto, unfolding(es_type_grammar::specs::Functions::follows_pattern))]
+#[tactic(auto, unfolding(es_grammar::specs::types::Functions::follows_pattern))]
 pub fn follows_pattern(next: Option<Seen>) -> bool
     ensures { result ≡ follows_pattern (sight next) }
 {
@@ -273,7 +273,7 @@ pub fn follows_pattern(next: Option<Seen>) -> bool
 }
 
 /// A token that begins a member.
-#[tactic(auto, unfolding(es_type_grammar::specs::Expressions::begins_member))]
+#[tactic(auto, unfolding(es_grammar::specs::types::Expressions::begins_member))]
 pub fn begins_member(next: Option<Seen>) -> bool
     ensures { result ≡ begins_member (sight next) }
 {
@@ -284,7 +284,7 @@ pub fn begins_member(next: Option<Seen>) -> bool
 }
 
 /// A token that begins an expression.
-#[tactic(auto, unfolding(es_type_grammar::specs::Expressions::begins_expression))]
+#[tactic(auto, unfolding(es_grammar::specs::types::Expressions::begins_expression))]
 pub fn begins_expression(next: Option<Seen>) -> bool
     ensures { result ≡ begins_expression (sight next) }
 {

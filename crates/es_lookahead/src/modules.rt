@@ -1,14 +1,14 @@
 //! Predicates of items, imports and exports.
 
 ghost use Rattle.std.specs.Prelude.{◌≡◌, ◌+◌, ◌^◌, ◌<◌};
-ghost use Rattle.es_tree.specs.Key.{keys_of, seen};
-ghost use Rattle.es_type_grammar.specs.Modules.{is_typescript, may_end, opens_type_import, opens_type_name, is_renamed, is_no_type_as_as, has_comma, behind_type, names_before_equal, opens_equals, shows_require, opens_require, opens_bare, opens_source_import, opens_defer_import, opens_type_export, opens_all, opens_exported_equals, opens_exported_require, opens_namespace};
-ghost use Rattle.es_type_grammar.specs.Items.{opens_import, opens_default, opens_default_function, opens_default_class, opens_declaration};
+ghost use Rattle.grammar_theory.specs.Key.{keys_of, seen};
+ghost use Rattle.es_grammar.specs.types.Modules.{is_typescript, may_end, opens_type_import, opens_type_name, is_renamed, is_no_type_as_as, has_comma, behind_type, names_before_equal, opens_equals, shows_require, opens_require, opens_bare, opens_source_import, opens_defer_import, opens_type_export, opens_all, opens_exported_equals, opens_exported_require, opens_namespace};
+ghost use Rattle.es_grammar.specs.types.Items.{opens_import, opens_default, opens_default_function, opens_default_class, opens_declaration};
 
 use crate::looks::{self, is};
 use crate::tokens::Tokens;
 use es_token::TokenKind;
-use es_tree::Lang;
+use grammar_theory::Lang;
 
 /// The language is TypeScript.
 pub fn is_typescript(lang: Lang) -> bool
@@ -37,7 +37,7 @@ impl Tokens<'_> {
     }
 
     /// In TypeScript `type` is a modifier of the import here.
-    #[tactic(auto, unfolding(es_type_grammar::specs::Modules::opens_type_import))]
+    #[tactic(auto, unfolding(es_grammar::specs::types::Modules::opens_type_import))]
     pub fn opens_type_import(&self, lang: Lang, at: usize) -> bool
         ensures { result ≡ opens_type_import lang (keys_of self.now.tokens.now) at }
     {
@@ -52,7 +52,7 @@ impl Tokens<'_> {
     }
 
     /// In TypeScript `type` is a modifier of the specifier here.
-    #[tactic(auto, unfolding(es_type_grammar::specs::Modules::opens_type_name))]
+    #[tactic(auto, unfolding(es_grammar::specs::types::Modules::opens_type_name))]
     pub fn opens_type_name(&self, lang: Lang, at: usize) -> bool
         ensures { result ≡ opens_type_name lang (keys_of self.now.tokens.now) at }
     {
@@ -64,7 +64,7 @@ impl Tokens<'_> {
     }
 
     /// A name or Str before `as`, behind the modifier `type` too.
-    #[tactic(auto, unfolding(es_type_grammar::specs::Modules::is_renamed))]
+    #[tactic(auto, unfolding(es_grammar::specs::types::Modules::is_renamed))]
     pub fn is_renamed(&self, lang: Lang, at: usize) -> bool
         ensures { result ≡ is_renamed lang (keys_of self.now.tokens.now) at }
     {
@@ -76,7 +76,7 @@ impl Tokens<'_> {
     }
 
     /// `type as` names `type`, and its second name isn't `as`.
-    #[tactic(auto, unfolding(es_type_grammar::specs::Modules::is_no_type_as_as))]
+    #[tactic(auto, unfolding(es_grammar::specs::types::Modules::is_no_type_as_as))]
     pub fn is_no_type_as_as(&self, at: usize) -> bool
         ensures { result ≡ is_no_type_as_as (keys_of self.now.tokens.now) at }
     {
@@ -86,7 +86,7 @@ impl Tokens<'_> {
     }
 
     /// A name before `,`.
-    #[tactic(auto, unfolding(es_type_grammar::specs::Modules::has_comma))]
+    #[tactic(auto, unfolding(es_grammar::specs::types::Modules::has_comma))]
     pub fn has_comma(&self, at: usize) -> bool
         ensures { result ≡ has_comma (keys_of self.now.tokens.now) at }
     {
@@ -108,7 +108,7 @@ impl Tokens<'_> {
     }
 
     /// `import` before such a name.
-    #[tactic(auto, unfolding(es_type_grammar::specs::Modules::opens_equals))]
+    #[tactic(auto, unfolding(es_grammar::specs::types::Modules::opens_equals))]
     pub fn opens_equals(&self, lang: Lang, at: usize) -> bool
         ensures { result ≡ opens_equals lang (keys_of self.now.tokens.now) at }
     {
@@ -116,7 +116,7 @@ impl Tokens<'_> {
     }
 
     /// `require` before `(`.
-    #[tactic(auto, unfolding(es_type_grammar::specs::Modules::shows_require))]
+    #[tactic(auto, unfolding(es_grammar::specs::types::Modules::shows_require))]
     pub fn shows_require(&self, at: usize) -> bool
         ensures { result ≡ shows_require (keys_of self.now.tokens.now) at }
     {
@@ -124,7 +124,7 @@ impl Tokens<'_> {
     }
 
     /// `require` before `(` stands behind the `=` of the import here.
-    #[tactic(auto, unfolding(es_type_grammar::specs::Modules::opens_require))]
+    #[tactic(auto, unfolding(es_grammar::specs::types::Modules::opens_require))]
     pub fn opens_require(&self, lang: Lang, at: usize) -> bool
         ensures { result ≡ opens_require lang (keys_of self.now.tokens.now) at }
     {
@@ -136,7 +136,7 @@ impl Tokens<'_> {
     }
 
     /// `import` before a Str.
-    #[tactic(auto, unfolding(es_type_grammar::specs::Modules::opens_bare))]
+    #[tactic(auto, unfolding(es_grammar::specs::types::Modules::opens_bare))]
     pub fn opens_bare(&self, at: usize) -> bool
         ensures { result ≡ opens_bare (keys_of self.now.tokens.now) at }
     {
@@ -144,7 +144,7 @@ impl Tokens<'_> {
     }
 
     /// Behind `import`, `source` is the phase before a name, except `from` with a Str after it.
-    #[tactic(auto, unfolding(es_type_grammar::specs::Modules::opens_source_import))]
+    #[tactic(auto, unfolding(es_grammar::specs::types::Modules::opens_source_import))]
     pub fn opens_source_import(&self, at: usize) -> bool
         ensures { result ≡ opens_source_import (keys_of self.now.tokens.now) at }
     {
@@ -157,7 +157,7 @@ impl Tokens<'_> {
     }
 
     /// Behind `import`, `defer` is the phase before `*`.
-    #[tactic(auto, unfolding(es_type_grammar::specs::Modules::opens_defer_import))]
+    #[tactic(auto, unfolding(es_grammar::specs::types::Modules::opens_defer_import))]
     pub fn opens_defer_import(&self, at: usize) -> bool
         ensures { result ≡ opens_defer_import (keys_of self.now.tokens.now) at }
     {
@@ -166,7 +166,7 @@ impl Tokens<'_> {
     }
 
     /// In TypeScript `type` is a modifier of the export here.
-    #[tactic(auto, unfolding(es_type_grammar::specs::Modules::opens_type_export))]
+    #[tactic(auto, unfolding(es_grammar::specs::types::Modules::opens_type_export))]
     pub fn opens_type_export(&self, lang: Lang, at: usize) -> bool
         ensures { result ≡ opens_type_export lang (keys_of self.now.tokens.now) at }
     {
@@ -178,7 +178,7 @@ impl Tokens<'_> {
     }
 
     /// `export` before `*`, behind the modifier too.
-    #[tactic(auto, unfolding(es_type_grammar::specs::Modules::opens_all))]
+    #[tactic(auto, unfolding(es_grammar::specs::types::Modules::opens_all))]
     pub fn opens_all(&self, lang: Lang, at: usize) -> bool
         ensures { result ≡ opens_all lang (keys_of self.now.tokens.now) at }
     {
@@ -190,7 +190,7 @@ impl Tokens<'_> {
     }
 
     /// `export` before `import`, before a name and `=`.
-    #[tactic(auto, unfolding(es_type_grammar::specs::Modules::opens_exported_equals))]
+    #[tactic(auto, unfolding(es_grammar::specs::types::Modules::opens_exported_equals))]
     pub fn opens_exported_equals(&self, lang: Lang, at: usize) -> bool
         ensures { result ≡ opens_exported_equals lang (keys_of self.now.tokens.now) at }
     {
@@ -201,7 +201,7 @@ impl Tokens<'_> {
     }
 
     /// `require` before `(` stands behind the `=` of the exported import here.
-    #[tactic(auto, unfolding(es_type_grammar::specs::Modules::opens_exported_require))]
+    #[tactic(auto, unfolding(es_grammar::specs::types::Modules::opens_exported_require))]
     pub fn opens_exported_require(&self, lang: Lang, at: usize) -> bool
         ensures { result ≡ opens_exported_require lang (keys_of self.now.tokens.now) at }
     {
@@ -212,7 +212,7 @@ impl Tokens<'_> {
     }
 
     /// In TypeScript `export as namespace`.
-    #[tactic(auto, unfolding(es_type_grammar::specs::Modules::opens_namespace))]
+    #[tactic(auto, unfolding(es_grammar::specs::types::Modules::opens_namespace))]
     pub fn opens_namespace(&self, lang: Lang, at: usize) -> bool
         ensures { result ≡ opens_namespace lang (keys_of self.now.tokens.now) at }
     {
@@ -220,7 +220,7 @@ impl Tokens<'_> {
     }
 
     /// `import` heads an import but before `(` or `.`.
-    #[tactic(auto, unfolding(es_type_grammar::specs::Items::opens_import))]
+    #[tactic(auto, unfolding(es_grammar::specs::types::Items::opens_import))]
     pub fn opens_import(&self, at: usize) -> bool
         ensures { result ≡ opens_import (keys_of self.now.tokens.now) at }
     {
@@ -232,7 +232,7 @@ impl Tokens<'_> {
     }
 
     /// `default` stands behind `export`.
-    #[tactic(auto, unfolding(es_type_grammar::specs::Items::opens_default))]
+    #[tactic(auto, unfolding(es_grammar::specs::types::Items::opens_default))]
     pub fn opens_default(&self, at: usize) -> bool
         ensures { result ≡ opens_default (keys_of self.now.tokens.now) at }
     {
@@ -240,7 +240,7 @@ impl Tokens<'_> {
     }
 
     /// A function stands behind `export default`.
-    #[tactic(auto, unfolding(es_type_grammar::specs::Items::opens_default_function))]
+    #[tactic(auto, unfolding(es_grammar::specs::types::Items::opens_default_function))]
     pub fn opens_default_function(&self, at: usize) -> bool
         ensures { result ≡ opens_default_function (keys_of self.now.tokens.now) at }
     {
@@ -254,7 +254,7 @@ impl Tokens<'_> {
     }
 
     /// A class stands behind `export default`.
-    #[tactic(auto, unfolding(es_type_grammar::specs::Items::opens_default_class))]
+    #[tactic(auto, unfolding(es_grammar::specs::types::Items::opens_default_class))]
     pub fn opens_default_class(&self, at: usize) -> bool
         ensures { result ≡ opens_default_class (keys_of self.now.tokens.now) at }
     {
@@ -262,7 +262,7 @@ impl Tokens<'_> {
     }
 
     /// A declaration stands behind `export`.
-    #[tactic(auto, unfolding(es_type_grammar::specs::Items::opens_declaration))]
+    #[tactic(auto, unfolding(es_grammar::specs::types::Items::opens_declaration))]
     pub fn opens_declaration(&self, at: usize) -> bool
         ensures { result ≡ opens_declaration (keys_of self.now.tokens.now) at }
     {

@@ -1,8 +1,8 @@
 //! Tests and predicates named by a value.
 
+use es_grammar::types::Context;
 use es_token::TokenKind;
-use es_tree::Lang;
-use es_type_grammar::Context;
+use grammar_theory::Lang;
 
 /// Kinds of tokens.
 #[derive(Clone, Copy)]

@@ -2,14 +2,14 @@
 
 ghost use Rattle.std.specs.Prelude.{◌≡◌, ℕ, ◌+◌, ◌<◌, ◌&&◌, length, slice_get};
 ghost use Rattle.es_token.specs.declared.token.TokenKind.TheVariants as k;
-ghost use Rattle.es_tree.specs.Key.{keys_of, seen, has_kind, is};
-ghost use Rattle.es_type_grammar.specs.Words.{is_name, is_near, is_other, partner_of};
-ghost use Rattle.es_type_grammar.specs.Statements.{opens_using, step_over, has_semicolon, opens_for, opens_for_await, opens_head_pattern, starts_using, starts_expression, is_label_here, is_value_here, is_case, is_in_case, is_script, opens_label, begins_no_other};
+ghost use Rattle.grammar_theory.specs.Key.{keys_of, seen, has_kind, is};
+ghost use Rattle.es_grammar.specs.types.Words.{is_name, is_near, is_other, partner_of};
+ghost use Rattle.es_grammar.specs.types.Statements.{opens_using, step_over, has_semicolon, opens_for, opens_for_await, opens_head_pattern, starts_using, starts_expression, is_label_here, is_value_here, is_case, is_in_case, is_script, opens_label, begins_no_other};
 
 use crate::looks::{self, is};
 use crate::tokens::{Tokens, before};
+use es_grammar::types::Context;
 use es_token::TokenKind;
-use es_type_grammar::Context;
 
 impl Tokens<'_> {
     /// `using` before a name on its line, but `of`.
@@ -46,7 +46,7 @@ impl Tokens<'_> {
     }
 
     /// `using` before a name on its line, but `of` where no `await` stands before it.
-    #[tactic(auto, unfolding(es_type_grammar::specs::Statements::opens_using))]
+    #[tactic(auto, unfolding(es_grammar::specs::types::Statements::opens_using))]
     pub fn opens_using(&self, at: usize) -> bool
         ensures { result ≡ opens_using (keys_of self.now.tokens.now) at }
     {
@@ -93,7 +93,7 @@ impl Tokens<'_> {
     }
 
     /// `for` before a head with `;`.
-    #[tactic(auto, unfolding(es_type_grammar::specs::Statements::opens_for))]
+    #[tactic(auto, unfolding(es_grammar::specs::types::Statements::opens_for))]
     pub fn opens_for(&self, at: usize) -> bool
         ensures { result ≡ opens_for (keys_of self.now.tokens.now) at }
     {
@@ -107,7 +107,7 @@ impl Tokens<'_> {
     }
 
     /// `await` stands behind `for`.
-    #[tactic(auto, unfolding(es_type_grammar::specs::Statements::opens_for_await))]
+    #[tactic(auto, unfolding(es_grammar::specs::types::Statements::opens_for_await))]
     pub fn opens_for_await(&self, at: usize) -> bool
         ensures { result ≡ opens_for_await (keys_of self.now.tokens.now) at }
     {
@@ -115,7 +115,7 @@ impl Tokens<'_> {
     }
 
     /// `[` or `{` whose closer is followed by `of` or `in`.
-    #[tactic(auto, unfolding(es_type_grammar::specs::Statements::opens_head_pattern))]
+    #[tactic(auto, unfolding(es_grammar::specs::types::Statements::opens_head_pattern))]
     pub fn opens_head_pattern(&self, at: usize) -> bool
         ensures { result ≡ opens_head_pattern (keys_of self.now.tokens.now) at }
     {
@@ -124,7 +124,7 @@ impl Tokens<'_> {
     }
 
     /// The head of a `for` begins here with `using`.
-    #[tactic(auto, unfolding(es_type_grammar::specs::Statements::starts_using))]
+    #[tactic(auto, unfolding(es_grammar::specs::types::Statements::starts_using))]
     pub fn starts_using(&self, at: usize) -> bool
         ensures { result ≡ starts_using (keys_of self.now.tokens.now) at }
     {
@@ -132,7 +132,7 @@ impl Tokens<'_> {
     }
 
     /// The head of a `for` begins here with an expression.
-    #[tactic(auto, unfolding(es_type_grammar::specs::Statements::starts_expression))]
+    #[tactic(auto, unfolding(es_grammar::specs::types::Statements::starts_expression))]
     pub fn starts_expression(&self, at: usize) -> bool
         ensures { result ≡ starts_expression (keys_of self.now.tokens.now) at }
     {
@@ -142,7 +142,7 @@ impl Tokens<'_> {
     }
 
     /// A name on the line of the token before it.
-    #[tactic(auto, unfolding(es_type_grammar::specs::Statements::is_label_here))]
+    #[tactic(auto, unfolding(es_grammar::specs::types::Statements::is_label_here))]
     pub fn is_label_here(&self, at: usize) -> bool
         ensures { result ≡ is_label_here (seen (keys_of self.now.tokens.now) at) }
     {
@@ -150,7 +150,7 @@ impl Tokens<'_> {
     }
 
     /// An expression on the line of the token before it.
-    #[tactic(auto, unfolding(es_type_grammar::specs::Statements::is_value_here))]
+    #[tactic(auto, unfolding(es_grammar::specs::types::Statements::is_value_here))]
     pub fn is_value_here(&self, at: usize) -> bool
         ensures { result ≡ is_value_here (seen (keys_of self.now.tokens.now) at) }
     {
@@ -165,7 +165,7 @@ impl Tokens<'_> {
     }
 
     /// Neither a clause of `switch` nor `}`.
-    #[tactic(auto, unfolding(es_type_grammar::specs::Statements::is_in_case))]
+    #[tactic(auto, unfolding(es_grammar::specs::types::Statements::is_in_case))]
     pub fn is_in_case(&self, at: usize) -> bool
         ensures { result ≡ is_in_case (seen (keys_of self.now.tokens.now) at) }
     {
@@ -173,7 +173,7 @@ impl Tokens<'_> {
     }
 
     /// In scripts.
-    #[tactic(auto, unfolding(es_type_grammar::specs::Statements::is_script))]
+    #[tactic(auto, unfolding(es_grammar::specs::types::Statements::is_script))]
     pub fn is_script(&self, context: Context, _at: usize) -> bool
         ensures { result ≡ is_script context (keys_of self.now.tokens.now) _at }
     {
@@ -181,7 +181,7 @@ impl Tokens<'_> {
     }
 
     /// A name before `:`.
-    #[tactic(auto, unfolding(es_type_grammar::specs::Statements::opens_label))]
+    #[tactic(auto, unfolding(es_grammar::specs::types::Statements::opens_label))]
     pub fn opens_label(&self, at: usize) -> bool
         ensures { result ≡ opens_label (keys_of self.now.tokens.now) at }
     {
@@ -189,7 +189,7 @@ impl Tokens<'_> {
     }
 
     /// Neither `{`, `function` nor `class`.
-    #[tactic(auto, unfolding(es_type_grammar::specs::Statements::begins_no_other))]
+    #[tactic(auto, unfolding(es_grammar::specs::types::Statements::begins_no_other))]
     pub fn begins_no_other(&self, at: usize) -> bool
         ensures { result ≡ begins_no_other (seen (keys_of self.now.tokens.now) at) }
     {

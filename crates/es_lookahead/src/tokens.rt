@@ -1,10 +1,10 @@
 //! The tokens of a text, and what is seen at a place.
 
 ghost use Rattle.std.specs.Prelude.{◌≡◌, ◌+◌, ◌-◌, ◌<◌, true, length, slice_get};
-ghost use Rattle.es_tree.specs.Key.{keys_of, seen, is};
-ghost use Rattle.es_type_grammar.specs.Words.{partner_of};
-ghost use Rattle.es_type_grammar.specs.Expressions.{joins};
-ghost use Rattle.es_type_grammar.specs.Functions.{behind_key};
+ghost use Rattle.grammar_theory.specs.Key.{keys_of, seen, is};
+ghost use Rattle.es_grammar.specs.types.Words.{partner_of};
+ghost use Rattle.es_grammar.specs.types.Expressions.{joins};
+ghost use Rattle.es_grammar.specs.types.Functions.{behind_key};
 ghost use Rattle.es_lookahead.specs.Sight.{sight};
 ghost use Rattle.es_lookahead.specs.Ends.{AreRight};
 
@@ -102,7 +102,7 @@ impl Tokens<'_> {
     }
 
     /// Whether the token at this place is of this kind and starts where the one before it ends.
-    #[tactic(auto, unfolding(es_type_grammar::specs::Expressions::joins))]
+    #[tactic(auto, unfolding(es_grammar::specs::types::Expressions::joins))]
     pub fn joins(&self, kind: TokenKind, at: usize) -> bool
         ensures { result ≡ joins kind (keys_of self.now.tokens.now) at }
     {

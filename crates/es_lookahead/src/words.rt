@@ -2,11 +2,11 @@
 
 ghost use Rattle.std.specs.Prelude.{◌≡◌};
 ghost use Rattle.es_token.specs.declared.token.TokenKind.TheVariants as k;
-ghost use Rattle.es_tree.specs.Key.{keys_of, seen, has_kind, is, is_end, is_token, is_after_line};
-ghost use Rattle.es_type_grammar.specs.Words.{is_name, is_accessor_word, is_near, is_other, closes_before};
-ghost use Rattle.es_type_grammar.specs.Expressions.{is_update, is_relation, is_assignment, is_arrow};
-ghost use Rattle.es_type_grammar.specs.Functions.{follows_pattern};
-ghost use Rattle.es_type_grammar.specs.Statements.{is_variable_word, is_each};
+ghost use Rattle.grammar_theory.specs.Key.{keys_of, seen, has_kind, is, is_end, is_token, is_after_line};
+ghost use Rattle.es_grammar.specs.types.Words.{is_name, is_accessor_word, is_near, is_other, closes_before};
+ghost use Rattle.es_grammar.specs.types.Expressions.{is_update, is_relation, is_assignment, is_arrow};
+ghost use Rattle.es_grammar.specs.types.Functions.{follows_pattern};
+ghost use Rattle.es_grammar.specs.types.Statements.{is_variable_word, is_each};
 
 use crate::looks::{self, is};
 use crate::tokens::Tokens;

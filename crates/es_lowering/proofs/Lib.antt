@@ -1,2 +1,3 @@
+pub mod derives
 pub mod Equations
 mod WorkedPrograms

@@ -7,10 +7,10 @@ use Rattle.base.specs.declared.range.Range.{Range}
 use Rattle.es_token.specs.declared.token.Token.{Token}
 use Rattle.es_token.specs.declared.token.TokenKind.{TokenKind}
 use Rattle.es_token.specs.declared.token.TokenKind.TheVariants as k
-use Rattle.ts_ast.specs.declared.leaf.Ident.{Ident}
-use Rattle.ts_ast.specs.declared.leaf.Str.{Str}
-use Rattle.ts_ast.specs.declared.leaf.TplElement.{TplElement}
-use Rattle.ts_ast.specs.declared.leaf.MethodKind.TheVariants as vMethod
+use Rattle.es_ast.specs.declared.ts.leaf.Ident.{Ident}
+use Rattle.es_ast.specs.declared.ts.leaf.Str.{Str}
+use Rattle.es_ast.specs.declared.ts.leaf.TplElement.{TplElement}
+use Rattle.es_ast.specs.declared.ts.leaf.MethodKind.TheVariants as vMethod
 use Rattle.es_ast.specs.declared.leaf.Modifiers.{Modifiers}
 use Rattle.es_ast.specs.declared.leaf.BinaryOp.TheVariants as vBinary
 use Rattle.es_ast.specs.declared.leaf.AssignOp.TheVariants as vAssign

@@ -4,8 +4,8 @@ use Rattle.base.specs.declared.range.Range.{Range}
 use Rattle.es_token.specs.declared.token.Token.{Token}
 use Rattle.es_token.specs.declared.token.TokenKind.{TokenKind}
 use Rattle.es_token.specs.declared.token.TokenKind.TheVariants as k
-use Rattle.es_tree.specs.Key.{same_kind}
-use Rattle.ts_ast.specs.declared.leaf.Ident.{Ident}
+use Rattle.grammar_theory.specs.Key.{same_kind}
+use Rattle.es_ast.specs.declared.ts.leaf.Ident.{Ident}
 use Rattle.es_ast.specs.declared.leaf.Lit.TheVariants as vLit
 use Rattle.es_ast.specs.declared.leaf.ImportPhase.{ImportPhase}
 use Rattle.es_ast.specs.declared.leaf.AssignOp.TheVariants as vAssign

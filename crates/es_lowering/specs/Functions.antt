@@ -2,8 +2,8 @@
 use Rattle.std.specs.Prelude.{ℕ, ◌+◌, ◌-◌, Bool, true, false, List, [], ◌∷◌, ◌++◌, Option, Some, None, option_map}
 use Rattle.base.specs.declared.range.Range.{Range}
 use Rattle.es_token.specs.declared.token.Token.{Token}
-use Rattle.ts_ast.specs.declared.leaf.Ident.{Ident}
-use Rattle.ts_ast.specs.declared.leaf.MethodKind.{MethodKind}
+use Rattle.es_ast.specs.declared.ts.leaf.Ident.{Ident}
+use Rattle.es_ast.specs.declared.ts.leaf.MethodKind.{MethodKind}
 use Rattle.es_ast.specs.declared.leaf.Lit.TheVariants as vLit
 use Rattle.es_ast.specs.declared.leaf.Modifiers.{Modifiers}
 use Rattle.es_ast.specs.declared.leaf.Accessibility.TheVariants as vAccessibility

@@ -1,3 +1,4 @@
+pub mod derives
 -- what the parts of a plain tree are
 pub mod Value
 pub mod Texts

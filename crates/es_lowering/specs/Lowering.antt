@@ -3,20 +3,20 @@ use Rattle.std.specs.Prelude.{ℕ, Bool, true, false, List, [], ◌∷◌, Optio
 use denote.Enum.Bare.{sameb}
 use Rattle.base.specs.declared.range.Range.{Range}
 use Rattle.es_token.specs.declared.token.Token.{Token}
-use Rattle.ts_ast.specs.declared.leaf.MethodKind.TheVariants as vMethod
-use Rattle.ts_ast.specs.declared.leaf.Ident.{Ident}
-use Rattle.ts_ast.specs.declared.leaf.TsEntityName.{TsEntityName}
-use Rattle.ts_ast.specs.declared.leaf.TsKey.{TsKey}
-use Rattle.ts_ast.specs.declared.ts.Nodes.{Nodes}
-use Rattle.ts_ast.specs.declared.ts.TsType.{TsType}
-use Rattle.ts_ast.specs.declared.ts.TsType.TheVariants as vType
-use Rattle.ts_ast.specs.declared.ts.TsTypeParam.{TsTypeParam}
-use Rattle.ts_ast.specs.declared.ts.TsTypeElement.{TsTypeElement}
-use Rattle.ts_ast.specs.declared.ts.TsTupleElement.{TsTupleElement}
-use Rattle.ts_ast.specs.declared.ts.TsFnParam.{TsFnParam}
-use Rattle.ts_ast.specs.declared.ts.TsParamPat.{TsParamPat}
-use Rattle.ts_ast.specs.declared.ts.TsPatProp.{TsPatProp}
-use Rattle.ts_ast.specs.declared.ts.TsPart.{TsPart}
+use Rattle.es_ast.specs.declared.ts.leaf.MethodKind.TheVariants as vMethod
+use Rattle.es_ast.specs.declared.ts.leaf.Ident.{Ident}
+use Rattle.es_ast.specs.declared.ts.leaf.TsEntityName.{TsEntityName}
+use Rattle.es_ast.specs.declared.ts.leaf.TsKey.{TsKey}
+use Rattle.es_ast.specs.declared.ts.ts.Nodes.{Nodes}
+use Rattle.es_ast.specs.declared.ts.ts.TsType.{TsType}
+use Rattle.es_ast.specs.declared.ts.ts.TsType.TheVariants as vType
+use Rattle.es_ast.specs.declared.ts.ts.TsTypeParam.{TsTypeParam}
+use Rattle.es_ast.specs.declared.ts.ts.TsTypeElement.{TsTypeElement}
+use Rattle.es_ast.specs.declared.ts.ts.TsTupleElement.{TsTupleElement}
+use Rattle.es_ast.specs.declared.ts.ts.TsFnParam.{TsFnParam}
+use Rattle.es_ast.specs.declared.ts.ts.TsParamPat.{TsParamPat}
+use Rattle.es_ast.specs.declared.ts.ts.TsPatProp.{TsPatProp}
+use Rattle.es_ast.specs.declared.ts.ts.TsPart.{TsPart}
 use Rattle.es_ast.specs.declared.leaf.ImportNames.{ImportNames}
 use Rattle.es_ast.specs.declared.leaf.ImportClause.{ImportClause}
 use Rattle.es_ast.specs.declared.leaf.ImportClause.TheVariants as vClause
@@ -45,9 +45,9 @@ use Rattle.es_ast.specs.declared.ast.ClassMember.TheVariants as vMember
 use Rattle.es_grammar.specs.contracts.rows.NodeKind.{the_type}
 use Rattle.es_grammar.specs.declared.rows.NodeKind.{NodeKind}
 use Rattle.es_grammar.specs.declared.rows.NodeKind.TheVariants as l
-use Rattle.es_cst.specs.declared.tree.Cst.{Cst}
-use Rattle.es_cst.specs.declared.tree.Cst.TheOpen.{Cst-F}
-use Rattle.es_cst.specs.declared.tree.Cst.TheFolds.{fold-Cst}
+use Rattle.es_grammar.specs.declared.cst.tree.Cst.{Cst}
+use Rattle.es_grammar.specs.declared.cst.tree.Cst.TheOpen.{Cst-F}
+use Rattle.es_grammar.specs.declared.cst.tree.Cst.TheFolds.{fold-Cst}
 use Rattle.es_lowering.specs.Value.{Signature, Typed, Value, absent, nil, more, token, node, group, is_there}
 use Rattle.es_lowering.specs.Texts.{span_of}
 use Rattle.es_lowering.specs.Texts as texts

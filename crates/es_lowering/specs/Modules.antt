@@ -2,9 +2,9 @@
 use Rattle.std.specs.Prelude.{ℕ, ◌+◌, ◌-◌, Bool, false, List, Option, Some, None, option_map}
 use Rattle.base.specs.declared.range.Range.{Range}
 use Rattle.es_token.specs.declared.token.Token.{Token}
-use Rattle.ts_ast.specs.declared.leaf.Ident.{Ident}
-use Rattle.ts_ast.specs.declared.leaf.Str.{Str}
-use Rattle.ts_ast.specs.declared.leaf.TsEntityName.{TsEntityName}
+use Rattle.es_ast.specs.declared.ts.leaf.Ident.{Ident}
+use Rattle.es_ast.specs.declared.ts.leaf.Str.{Str}
+use Rattle.es_ast.specs.declared.ts.leaf.TsEntityName.{TsEntityName}
 use Rattle.es_ast.specs.declared.leaf.ImportNames.{ImportNames}
 use Rattle.es_ast.specs.declared.leaf.ImportNames.TheVariants as vNames
 use Rattle.es_ast.specs.declared.leaf.ImportClause.{ImportClause}

@@ -3,7 +3,7 @@ use Rattle.std.specs.Prelude.{ℕ, ◌-◌, ◌==◌, Bool, false, Option, Some,
 use Rattle.es_token.specs.declared.token.Token.{Token}
 use Rattle.es_token.specs.declared.token.TokenKind.{TokenKind}
 use Rattle.es_token.specs.declared.token.TokenKind.TheVariants as k
-use Rattle.es_tree.specs.Key.{same_kind}
+use Rattle.grammar_theory.specs.Key.{same_kind}
 use Rattle.es_ast.specs.declared.leaf.UnaryOp.{UnaryOp}
 use Rattle.es_ast.specs.declared.leaf.UnaryOp.TheVariants as unary
 use Rattle.es_ast.specs.declared.leaf.UpdateOp.{UpdateOp}
@@ -14,8 +14,8 @@ use Rattle.es_ast.specs.declared.leaf.AssignOp.{AssignOp}
 use Rattle.es_ast.specs.declared.leaf.AssignOp.TheVariants as assign
 use Rattle.es_ast.specs.declared.leaf.VarDeclKind.{VarDeclKind}
 use Rattle.es_ast.specs.declared.leaf.VarDeclKind.TheVariants as variable
-use Rattle.ts_ast.specs.declared.leaf.MethodKind.{MethodKind}
-use Rattle.ts_ast.specs.declared.leaf.MethodKind.TheVariants as method
+use Rattle.es_ast.specs.declared.ts.leaf.MethodKind.{MethodKind}
+use Rattle.es_ast.specs.declared.ts.leaf.MethodKind.TheVariants as method
 use Rattle.es_lowering.specs.Value.{given}
 
 -- what the first row of a table says that has this kind

@@ -5,12 +5,12 @@ use Rattle.es_token.specs.declared.token.Token.{Token}
 use Rattle.es_token.specs.declared.token.TokenKind.{TokenKind}
 use Rattle.es_token.specs.declared.token.TokenKind.TheVariants as k
 use Rattle.es_literal.specs.Values.{value_of, is_lone}
-use Rattle.es_tree.specs.Key.{same_kind}
-use Rattle.ts_ast.specs.declared.leaf.Ident.{Ident}
-use Rattle.ts_ast.specs.declared.leaf.Str.{Str}
-use Rattle.ts_ast.specs.declared.leaf.TplElement.{TplElement}
-use Rattle.ts_ast.specs.declared.leaf.TsThisTypeOrIdent.{TsThisTypeOrIdent}
-use Rattle.ts_ast.specs.declared.leaf.TsThisTypeOrIdent.TheVariants as vThis
+use Rattle.grammar_theory.specs.Key.{same_kind}
+use Rattle.es_ast.specs.declared.ts.leaf.Ident.{Ident}
+use Rattle.es_ast.specs.declared.ts.leaf.Str.{Str}
+use Rattle.es_ast.specs.declared.ts.leaf.TplElement.{TplElement}
+use Rattle.es_ast.specs.declared.ts.leaf.TsThisTypeOrIdent.{TsThisTypeOrIdent}
+use Rattle.es_ast.specs.declared.ts.leaf.TsThisTypeOrIdent.TheVariants as vThis
 use Rattle.es_ast.specs.declared.leaf.Regex.{Regex}
 use Rattle.es_ast.specs.declared.leaf.Lit.{Lit}
 use Rattle.es_ast.specs.declared.leaf.Lit.TheVariants as vLit

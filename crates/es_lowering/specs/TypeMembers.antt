@@ -2,11 +2,11 @@
 use Rattle.std.specs.Prelude.{ℕ, ◌+◌, Bool, List, Option, Some, option_map}
 use Rattle.base.specs.declared.range.Range.{Range}
 use Rattle.es_token.specs.declared.token.Token.{Token}
-use Rattle.ts_ast.specs.declared.leaf.MethodKind.{MethodKind}
-use Rattle.ts_ast.specs.declared.leaf.TsKey.{TsKey}
-use Rattle.ts_ast.specs.declared.leaf.TsKey.TheVariants as vKey
-use Rattle.ts_ast.specs.declared.ts.TsTypeElement.{TsTypeElement}
-use Rattle.ts_ast.specs.declared.ts.TsTypeElement.TheVariants as vMember
+use Rattle.es_ast.specs.declared.ts.leaf.MethodKind.{MethodKind}
+use Rattle.es_ast.specs.declared.ts.leaf.TsKey.{TsKey}
+use Rattle.es_ast.specs.declared.ts.leaf.TsKey.TheVariants as vKey
+use Rattle.es_ast.specs.declared.ts.ts.TsTypeElement.{TsTypeElement}
+use Rattle.es_ast.specs.declared.ts.ts.TsTypeElement.TheVariants as vMember
 use Rattle.es_lowering.specs.Value.{given, Value, more, token, group, optional, is_there, type_at, entity_at, type_params_at, fn_params_at, type_key_at}
 use Rattle.es_lowering.specs.Texts.{token_at, kind_at, ident_at, str_at}
 use Rattle.es_lowering.specs.Operators.{listed, accessor_kinds}

@@ -4,12 +4,12 @@ use Rattle.base.specs.declared.range.Range.{Range}
 use Rattle.es_token.specs.declared.token.Token.{Token}
 use Rattle.es_token.specs.declared.token.TokenKind.{TokenKind}
 use Rattle.es_token.specs.declared.token.TokenKind.TheVariants as k
-use Rattle.es_tree.specs.Key.{same_kind}
-use Rattle.ts_ast.specs.declared.leaf.TsEntityName.{TsEntityName}
-use Rattle.ts_ast.specs.declared.ts.Nodes.{Nodes}
-use Rattle.ts_ast.specs.declared.ts.TsType.{TsType}
-use Rattle.ts_ast.specs.declared.ts.TsType.TheVariants as vType
-use Rattle.ts_ast.specs.declared.ts.TsTypeParam.{TsTypeParam, roll-TsTypeParam}
+use Rattle.grammar_theory.specs.Key.{same_kind}
+use Rattle.es_ast.specs.declared.ts.leaf.TsEntityName.{TsEntityName}
+use Rattle.es_ast.specs.declared.ts.ts.Nodes.{Nodes}
+use Rattle.es_ast.specs.declared.ts.ts.TsType.{TsType}
+use Rattle.es_ast.specs.declared.ts.ts.TsType.TheVariants as vType
+use Rattle.es_ast.specs.declared.ts.ts.TsTypeParam.{TsTypeParam, roll-TsTypeParam}
 use Rattle.es_lowering.specs.Value.{given, Value, more, part, as_group, group, first_of, behind, optional, turns, type_at, entity_at, arguments_at}
 use Rattle.es_lowering.specs.Texts.{span_of, kind_at, ident_at, str_at}
 

@@ -2,15 +2,15 @@
 use Rattle.std.specs.Prelude.{ℕ, ◌+◌, ◌-◌, Bool, true, false, List, ◌++◌, Option, Some, None, option_map}
 use Rattle.base.specs.declared.range.Range.{Range}
 use Rattle.es_token.specs.declared.token.Token.{Token}
-use Rattle.ts_ast.specs.declared.leaf.Ident.{Ident}
-use Rattle.ts_ast.specs.declared.leaf.TsKey.{TsKey}
-use Rattle.ts_ast.specs.declared.leaf.TsKey.TheVariants as vKey
-use Rattle.ts_ast.specs.declared.ts.TsType.{TsType}
-use Rattle.ts_ast.specs.declared.ts.TsFnParam.{TsFnParam, roll-TsFnParam}
-use Rattle.ts_ast.specs.declared.ts.TsParamPat.{TsParamPat}
-use Rattle.ts_ast.specs.declared.ts.TsParamPat.TheVariants as vPat
-use Rattle.ts_ast.specs.declared.ts.TsPatProp.{TsPatProp}
-use Rattle.ts_ast.specs.declared.ts.TsPatProp.TheVariants as vProp
+use Rattle.es_ast.specs.declared.ts.leaf.Ident.{Ident}
+use Rattle.es_ast.specs.declared.ts.leaf.TsKey.{TsKey}
+use Rattle.es_ast.specs.declared.ts.leaf.TsKey.TheVariants as vKey
+use Rattle.es_ast.specs.declared.ts.ts.TsType.{TsType}
+use Rattle.es_ast.specs.declared.ts.ts.TsFnParam.{TsFnParam, roll-TsFnParam}
+use Rattle.es_ast.specs.declared.ts.ts.TsParamPat.{TsParamPat}
+use Rattle.es_ast.specs.declared.ts.ts.TsParamPat.TheVariants as vPat
+use Rattle.es_ast.specs.declared.ts.ts.TsPatProp.{TsPatProp}
+use Rattle.es_ast.specs.declared.ts.ts.TsPatProp.TheVariants as vProp
 use Rattle.es_lowering.specs.Value.{given, option_list, Value, more, token, part, group, first_of, behind, optional, is_there, turns, type_at, type_pat_at, type_name_at, type_prop_at, fn_param_at, type_key_at}
 use Rattle.es_lowering.specs.Texts.{span_of, token_at, ident_at, str_at}
 use Rattle.es_lowering.specs.Expressions.{elements}

@@ -4,20 +4,20 @@ use Rattle.base.specs.declared.range.Range.{Range}
 use Rattle.es_token.specs.declared.token.Token.{Token}
 use Rattle.es_token.specs.declared.token.TokenKind.{TokenKind}
 use Rattle.es_token.specs.declared.token.TokenKind.TheVariants as k
-use Rattle.es_tree.specs.Key.{same_kind}
-use Rattle.ts_ast.specs.declared.leaf.Ident.{Ident}
-use Rattle.ts_ast.specs.declared.leaf.Number.{Number}
-use Rattle.ts_ast.specs.declared.leaf.BigInt.{BigInt}
-use Rattle.ts_ast.specs.declared.leaf.TsLit.{TsLit}
-use Rattle.ts_ast.specs.declared.leaf.TsLit.TheVariants as vLit
-use Rattle.ts_ast.specs.declared.leaf.TsKey.{TsKey}
-use Rattle.ts_ast.specs.declared.leaf.TsKey.TheVariants as vKey
-use Rattle.ts_ast.specs.declared.leaf.TsKeywordTypeKind.{TsKeywordTypeKind}
-use Rattle.ts_ast.specs.declared.leaf.TsKeywordTypeKind.TheVariants as keyword
-use Rattle.ts_ast.specs.declared.leaf.TsTypeOperatorOp.{TsTypeOperatorOp}
-use Rattle.ts_ast.specs.declared.leaf.TsTypeOperatorOp.TheVariants as operator
-use Rattle.ts_ast.specs.declared.leaf.TruePlusMinus.{TruePlusMinus}
-use Rattle.ts_ast.specs.declared.leaf.TruePlusMinus.TheVariants as sign
+use Rattle.grammar_theory.specs.Key.{same_kind}
+use Rattle.es_ast.specs.declared.ts.leaf.Ident.{Ident}
+use Rattle.es_ast.specs.declared.ts.leaf.Number.{Number}
+use Rattle.es_ast.specs.declared.ts.leaf.BigInt.{BigInt}
+use Rattle.es_ast.specs.declared.ts.leaf.TsLit.{TsLit}
+use Rattle.es_ast.specs.declared.ts.leaf.TsLit.TheVariants as vLit
+use Rattle.es_ast.specs.declared.ts.leaf.TsKey.{TsKey}
+use Rattle.es_ast.specs.declared.ts.leaf.TsKey.TheVariants as vKey
+use Rattle.es_ast.specs.declared.ts.leaf.TsKeywordTypeKind.{TsKeywordTypeKind}
+use Rattle.es_ast.specs.declared.ts.leaf.TsKeywordTypeKind.TheVariants as keyword
+use Rattle.es_ast.specs.declared.ts.leaf.TsTypeOperatorOp.{TsTypeOperatorOp}
+use Rattle.es_ast.specs.declared.ts.leaf.TsTypeOperatorOp.TheVariants as operator
+use Rattle.es_ast.specs.declared.ts.leaf.TruePlusMinus.{TruePlusMinus}
+use Rattle.es_ast.specs.declared.ts.leaf.TruePlusMinus.TheVariants as sign
 use Rattle.es_lowering.specs.Value.{given, Value, more, as_group}
 use Rattle.es_lowering.specs.Texts.{kind_at, token_at}
 use Rattle.es_lowering.specs.Operators.{listed}

@@ -4,9 +4,9 @@ use Rattle.base.specs.declared.range.Range.{Range}
 use Rattle.es_token.specs.declared.token.Token.{Token}
 use Rattle.es_token.specs.declared.token.TokenKind.{TokenKind}
 use Rattle.es_token.specs.declared.token.TokenKind.TheVariants as k
-use Rattle.es_tree.specs.Key.{same_kind}
-use Rattle.ts_ast.specs.declared.ts.TsPart.{TsPart}
-use Rattle.ts_ast.specs.declared.ts.TsPart.TheVariants as vPart
+use Rattle.grammar_theory.specs.Key.{same_kind}
+use Rattle.es_ast.specs.declared.ts.ts.TsPart.{TsPart}
+use Rattle.es_ast.specs.declared.ts.ts.TsPart.TheVariants as vPart
 use Rattle.es_ast.specs.declared.ast.Expr.{Expr}
 use Rattle.es_ast.specs.declared.ast.Expr.TheVariants as vExpr
 use Rattle.es_lowering.specs.Value.{Value, more, token, node, given, part, as_group, group, first_of, behind, optional, expr_at, args_at}

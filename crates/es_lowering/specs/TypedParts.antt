@@ -5,10 +5,10 @@ use Rattle.base.specs.declared.range.Range.{Range}
 use Rattle.es_token.specs.declared.token.Token.{Token}
 use Rattle.es_token.specs.declared.token.TokenKind.{TokenKind}
 use Rattle.es_token.specs.declared.token.TokenKind.TheVariants as k
-use Rattle.es_tree.specs.Key.{same_kind}
-use Rattle.ts_ast.specs.declared.ts.TsPart.{TsPart}
-use Rattle.ts_ast.specs.declared.ts.TsPart.TheVariants as vPart
-use Rattle.ts_ast.specs.declared.ts.TsExprWithTypeArgs.{TsExprWithTypeArgs}
+use Rattle.grammar_theory.specs.Key.{same_kind}
+use Rattle.es_ast.specs.declared.ts.ts.TsPart.{TsPart}
+use Rattle.es_ast.specs.declared.ts.ts.TsPart.TheVariants as vPart
+use Rattle.es_ast.specs.declared.ts.ts.TsExprWithTypeArgs.{TsExprWithTypeArgs}
 use Rattle.es_ast.specs.declared.leaf.Accessibility.{Accessibility}
 use Rattle.es_ast.specs.declared.leaf.Accessibility.TheVariants as vAccessibility
 use Rattle.es_ast.specs.declared.leaf.Modifiers.{Modifiers}

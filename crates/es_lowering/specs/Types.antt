@@ -4,12 +4,12 @@ use Rattle.base.specs.declared.range.Range.{Range}
 use Rattle.es_token.specs.declared.token.Token.{Token}
 use Rattle.es_token.specs.declared.token.TokenKind.{TokenKind}
 use Rattle.es_token.specs.declared.token.TokenKind.TheVariants as k
-use Rattle.es_tree.specs.Key.{same_kind}
-use Rattle.ts_ast.specs.declared.leaf.Ident.{Ident}
-use Rattle.ts_ast.specs.declared.leaf.TsLit.TheVariants as vLit
-use Rattle.ts_ast.specs.declared.ts.TsType.{TsType}
-use Rattle.ts_ast.specs.declared.ts.TsType.TheVariants as vType
-use Rattle.ts_ast.specs.declared.ts.TsTupleElement.{TsTupleElement, roll-TsTupleElement}
+use Rattle.grammar_theory.specs.Key.{same_kind}
+use Rattle.es_ast.specs.declared.ts.leaf.Ident.{Ident}
+use Rattle.es_ast.specs.declared.ts.leaf.TsLit.TheVariants as vLit
+use Rattle.es_ast.specs.declared.ts.ts.TsType.{TsType}
+use Rattle.es_ast.specs.declared.ts.ts.TsType.TheVariants as vType
+use Rattle.es_ast.specs.declared.ts.ts.TsTupleElement.{TsTupleElement, roll-TsTupleElement}
 use Rattle.es_lowering.specs.Value.{given, Value, more, part, as_group, group, behind, optional, is_there, turns, type_at, element_at, type_member_at, type_params_at, fn_params_at}
 use Rattle.es_lowering.specs.Texts.{end_before, token_at, kind_at, ident_at, this_or_name_at, str_at, piece_there}
 use Rattle.es_lowering.specs.Operators.{listed}

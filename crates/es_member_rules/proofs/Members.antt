@@ -1,9 +1,9 @@
 -- The members of a language with their modifiers, by the predicates behind these.
 use Rattle.std.specs.Prelude.{true}
 use Rattle.std.proofs.Common.{◌≡◌, refl}
-use Rattle.es_tree.specs.declared.error.Lang.TheVariants as lang
-use Rattle.es_type_grammar.specs.Functions.{opens_accessor, opens_async, opens_star, opens_method}
-use Rattle.es_type_grammar.specs.Classes.{opens_field_accessor, behind_static}
+use Rattle.grammar_theory.specs.declared.error.Lang.TheVariants as lang
+use Rattle.es_grammar.specs.types.Functions.{opens_accessor, opens_async, opens_star, opens_method}
+use Rattle.es_grammar.specs.types.Classes.{opens_field_accessor, behind_static}
 use Rattle.es_grammar.specs.declared.rows.Context.{Context}
 use Rattle.es_grammar.specs.Classes.{modified_member}
 use Rattle.es_grammar.specs.Functions.{opens_any_method}

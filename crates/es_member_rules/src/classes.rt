@@ -1,22 +1,22 @@
 //! Members of classes.
 
-ghost use Rattle.es_tree.specs.declared.error.Lang.TheVariants as lang;
+ghost use Rattle.grammar_theory.specs.declared.error.Lang.TheVariants as lang;
 ghost use Rattle.es_grammar.specs.Functions.{modifiers_in};
 ghost use Rattle.es_grammar.specs.Classes.{static_in, opens_modifier, head_in, marked_in, accessor_word_in, async_word_in, star_word_in, field_word_in, value_in, class_method_in, field_in, index_member, modified_member, any_member, member};
-ghost use Rattle.es_predicates.specs.Named.{predicate_of};
+ghost use Rattle.es_shared_rules.specs.predicates.Named.{predicate_of};
 ghost use Rattle.es_member_rules.specs.Behind.{member_behind};
 
 use crate::properties::MarkedHeadIn;
 use es_grammar::{Context, NodeKind, Row, TypeRow};
-use es_predicates::Lookahead::{Has, Is};
-use es_predicates::{Kinds, Predicate};
 use es_rules::{
     ByPredicate, Choose, Cursor, Done, Grammar, Greedy, LeafKind, Make, MakeBy, Many, OfRow, Opt,
     Pick, Punct, ReadsProduction, ReadsRhs, Rows, Tok, Where,
 };
+use es_shared_rules::predicates::Lookahead::{Has, Is};
+use es_shared_rules::predicates::{Kinds, Predicate};
 use es_shared_rules::{AnnotationIn, BodyIn, Ended, StarIn};
 use es_token::TokenKind;
-use es_tree::{Lang, SyntaxError};
+use grammar_theory::{Lang, SyntaxError};
 
 /// 'static'?, which stands once, and what stands behind it
 #[derive(Clone, Copy)]

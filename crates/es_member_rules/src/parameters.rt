@@ -1,18 +1,18 @@
 //! Parameters.
 
-ghost use Rattle.es_tree.specs.declared.error.Lang.TheVariants as lang;
+ghost use Rattle.grammar_theory.specs.declared.error.Lang.TheVariants as lang;
 ghost use Rattle.es_grammar.specs.Functions.{mark_in, parameters, parameter_tail, parameter, signature};
 
 use es_grammar::{Context, NodeKind, Row};
-use es_predicates::Lookahead::{Is, Other};
-use es_predicates::{Kinds, Lookahead, Predicate};
 use es_rules::{
     ByLookahead, ByPredicate, Choose, Cursor, Done, Grammar, Greedy, LeafKind, Make, MakeBy, Many,
     OfRow, Opt, Pick, Punct, ReadsProduction, ReadsRhs, Rows, Tok, When, Where, Wrap,
 };
+use es_shared_rules::predicates::Lookahead::{Is, Other};
+use es_shared_rules::predicates::{Kinds, Lookahead, Predicate};
 use es_shared_rules::{AnnotationIn, DefaultIn, Pattern, ResultIn, TypeParametersIn};
 use es_token::TokenKind;
-use es_tree::{Lang, SyntaxError};
+use grammar_theory::{Lang, SyntaxError};
 
 /// Params: Param% | (Param ',')* '...' Pat
 #[derive(Clone, Copy)]

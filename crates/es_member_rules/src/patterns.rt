@@ -3,14 +3,14 @@
 ghost use Rattle.es_grammar.specs.Functions.{pattern_property};
 
 use es_grammar::{Context, NodeKind, Row};
-use es_predicates::Lookahead::Is;
-use es_predicates::{Kinds, Predicate};
 use es_rules::{
     Choose, Cursor, Done, Grammar, LeafKind, Make, OfRow, Pick, Punct, ReadsProduction, Rows, Tok,
 };
 use es_shared_rules::DefaultIn;
+use es_shared_rules::predicates::Lookahead::Is;
+use es_shared_rules::predicates::{Kinds, Predicate};
 use es_token::TokenKind;
-use es_tree::SyntaxError;
+use grammar_theory::SyntaxError;
 
 /// PProp: '...' Pat | Key ':' Pat ('=' Assign)? | Name ('=' Assign)?
 #[derive(Clone, Copy)]

@@ -4,15 +4,15 @@ ghost use Rattle.es_grammar.specs.Functions.{plain_key, key, typed_head_in, unma
 
 use crate::parameters::MarkIn;
 use es_grammar::{Context, NodeKind, Row};
-use es_predicates::Lookahead::{Has, Is, Other};
-use es_predicates::{Kinds, Predicate};
 use es_rules::{
     Alt, Choose, Cursor, Done, Grammar, LeafKind, Make, MakeBy, OfRow, Pick, Punct,
     ReadsProduction, ReadsRhs, Rows, Tok, When, Where,
 };
 use es_shared_rules::StarIn;
+use es_shared_rules::predicates::Lookahead::{Has, Is, Other};
+use es_shared_rules::predicates::{Kinds, Predicate};
 use es_token::TokenKind;
-use es_tree::{Lang, SyntaxError};
+use grammar_theory::{Lang, SyntaxError};
 
 /// Key: Word | Str | Number | BigInt | '[' Assign ']'
 #[derive(Clone, Copy)]

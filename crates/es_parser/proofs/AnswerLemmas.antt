@@ -3,22 +3,22 @@ use Rattle.std.specs.Prelude.{List, Some, Result, Err}
 use Rattle.std.proofs.Common.{◌≡◌, ℕ, refl, sym, ap, ◌∙◌, subst}
 use Rattle.std.proofs.lemmas.Option.{same_Some}
 use Rattle.es_token.specs.declared.token.Token.{Token}
-use Rattle.es_tree.specs.declared.error.Lang.{Lang}
-use Rattle.es_tree.specs.declared.error.Mode.{Mode}
-use Rattle.es_tree.specs.Key.{keys_of}
-use Rattle.es_tree.specs.declared.error.SyntaxError.{SyntaxError}
-use Rattle.es_tree.specs.declared.error.SyntaxError.TheVariants.{Syntax, OutOfMemory}
+use Rattle.grammar_theory.specs.declared.error.Lang.{Lang}
+use Rattle.grammar_theory.specs.declared.error.Mode.{Mode}
+use Rattle.grammar_theory.specs.Key.{keys_of}
+use Rattle.grammar_theory.specs.declared.error.SyntaxError.{SyntaxError}
+use Rattle.grammar_theory.specs.declared.error.SyntaxError.TheVariants.{Syntax, OutOfMemory}
 use Rattle.es_ast.specs.declared.ast.Program.{Program}
 use Rattle.es_grammar.proofs.Theorems.{one_program}
-use Rattle.es_cst.specs.declared.tree.Cst.{Cst}
-use Rattle.es_cst.specs.Slim.{tree_of}
+use Rattle.es_grammar.specs.declared.cst.tree.Cst.{Cst}
+use Rattle.es_grammar.specs.cst.Slim.{tree_of}
 use Rattle.es_syntax.specs.declared.entry.Entry.{Entry}
 use Rattle.es_program_reader.specs.Program.{IsKept, HoldsKept}
 use Rattle.es_program_reader.specs.Derived.{IsRowOf, GivesTree as GivesPlain}
 use Rattle.es_program.specs.Typed.{program_at}
 use Rattle.es_lowering.specs.Lowering.{value_of}
-use Rattle.es_derives.specs.Derives.{program_in, Derives}
-use Rattle.es_program_sites.proofs.Theorems.{kept_sites}
+use Rattle.es_lowering.specs.derives.Derives.{program_in, Derives}
+use Rattle.es_law_programs.proofs.sites.Theorems.{kept_sites}
 use Rattle.es_parser.specs.Answers.{GivesTree}
 use Rattle.es_parser.specs.Made.{IsTyped, HoldsTyped}
 use Rattle.es_parser.proofs.RowLemmas.{row_typed}

@@ -6,11 +6,11 @@ use Rattle.std.proofs.lemmas.List.{append-nil}
 use Rattle.es_token.specs.declared.token.Token.{Token}
 use Rattle.es_lexer.specs.Reads.{ReadsTokens}
 use Rattle.es_site.specs.declared.site.Site.{Site}
-use Rattle.es_cst.specs.declared.tree.Cst.{Cst}
+use Rattle.es_grammar.specs.declared.cst.tree.Cst.{Cst}
 use Rattle.es_lowering.specs.Value.{Value, part}
 use Rattle.es_lowering.specs.Lowering.{packed, value_of}
-use Rattle.es_derives.specs.Derives.{program_in}
-use Rattle.es_plain_sites.specs.Own.{plain_sites}
+use Rattle.es_lowering.specs.derives.Derives.{program_in}
+use Rattle.es_law_sites.specs.plain.Own.{plain_sites}
 use Rattle.es_syntax.specs.declared.entry.Entry.{Entry}
 use Rattle.es_syntax.specs.Trees.{trees}
 use Rattle.es_syntax.proofs.Rows.{held_trees}

@@ -1,9 +1,9 @@
 -- When an arrow, or a pattern that is assigned to, opens at a token: the predicates of the grammar under one name each.
 use Rattle.std.specs.Prelude.{Bool, true, false, not, ◌&&◌, ◌||◌}
-use Rattle.es_tree.specs.Productions.{Predicate}
-use Rattle.es_type_grammar.specs.Expressions.{opens_pattern}
-use Rattle.es_type_grammar.specs.Functions.{opens_inner_pattern}
-use Rattle.es_type_grammar.specs.Statements.{opens_head_pattern}
+use Rattle.grammar_theory.specs.Productions.{Predicate}
+use Rattle.es_grammar.specs.types.Expressions.{opens_pattern}
+use Rattle.es_grammar.specs.types.Functions.{opens_inner_pattern}
+use Rattle.es_grammar.specs.types.Statements.{opens_head_pattern}
 use Rattle.es_grammar.specs.declared.rows.Context.{Context}
 
 -- a place where `:` may open an arrow's result, or may not

@@ -1,4 +1,4 @@
--- what the public contract rests on, besides `Derives` of `es_derives`
+-- what the public contract rests on, besides `Derives` of `es_lowering::derives`
 pub mod Answers
 -- when an arrow or a pattern opens at a token
 pub mod Heads

@@ -1,17 +1,17 @@
 //! Predicates of expressions, over tokens.
 
 ghost use Rattle.std.specs.Prelude.{◌≡◌, ◌&&◌};
-ghost use Rattle.es_type_grammar.specs.Functions.{opens_inner_pattern};
-ghost use Rattle.es_type_grammar.specs.Statements.{opens_head_pattern};
-ghost use Rattle.es_tree.specs.Key.{keys_of};
+ghost use Rattle.es_grammar.specs.types.Functions.{opens_inner_pattern};
+ghost use Rattle.es_grammar.specs.types.Statements.{opens_head_pattern};
+ghost use Rattle.grammar_theory.specs.Key.{keys_of};
 ghost use Rattle.es_grammar.specs.Expressions.{opens_any_arrow};
 ghost use Rattle.es_parser.specs.Heads.{arrow_place, is_pattern_head};
 
 use es_grammar::Context;
 use es_lookahead::Tokens;
-use es_predicates::{Predicate, holds};
+use es_shared_rules::predicates::{Predicate, holds};
 use es_token::Token;
-use es_tree::Lang;
+use grammar_theory::Lang;
 use std::alloc::Global;
 
 /// Whether an arrow function opens at a token where an expression may begin: a name, `(`, `async`, in TypeScript `<`.

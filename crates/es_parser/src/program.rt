@@ -3,7 +3,7 @@
 ghost use Rattle.std.specs.Prelude.{◌≡◌, Some, IfOk};
 ghost use Rattle.es_lexer.specs.Reads.{ReadsTokens};
 ghost use Rattle.es_ast.specs.declared.ast.Program.{Program as Typed};
-ghost use Rattle.es_derives.specs.Derives.{Derives};
+ghost use Rattle.es_lowering.specs.derives.Derives.{Derives};
 ghost use Rattle.es_program.specs.Typed.{program_at};
 ghost use Rattle.es_parser.specs.Answers.{GivesTree};
 ghost use Rattle.es_parser.specs.Made.{HoldsTyped};
@@ -11,8 +11,8 @@ ghost use Rattle.es_parser.specs.Made.{HoldsTyped};
 use es_program::{Program, SharedTokens};
 use es_program_reader::read_program;
 use es_syntax::Entry;
-use es_tree::{Lang, Mode, SyntaxError};
 use es_tree_sites::tree_sites;
+use grammar_theory::{Lang, Mode, SyntaxError};
 use source_text::SourceText;
 use std::alloc::{AllocError, Global};
 

@@ -5,7 +5,7 @@ use Rattle.std.proofs.Common.{◌≡◌, refl, sym, ap, subst, ◌∙◌, arith}
 use Rattle.std.proofs.lemmas.List.{append-nil, append_assoc}
 use Rattle.es_token.specs.declared.token.Token.{Token}
 use Rattle.es_grammar.specs.declared.rows.NodeKind.{NodeKind}
-use Rattle.es_cst.specs.declared.tree.Cst.{Cst}
+use Rattle.es_grammar.specs.declared.cst.tree.Cst.{Cst}
 use Rattle.es_syntax.specs.declared.entry.Entry.{Entry}
 use Rattle.es_syntax.specs.declared.entry.Lean.{Lean}
 use Rattle.es_syntax.specs.Held.{label_of}

@@ -3,7 +3,7 @@ use Rattle.std.specs.Prelude.{ℕ, zero, suc, ◌≤◌, List, [], ◌∷◌, le
 use Rattle.std.proofs.Common.{◌≡◌, refl, ap, ◌∙◌, arith, length-drop}
 use Rattle.std.proofs.lemmas.List.{length-take, take_min, drop_min}
 use Rattle.es_syntax.specs.declared.entry.Entry.{Entry}
-use Rattle.es_cst.specs.declared.tree.Cst.TheVariants as vCst
+use Rattle.es_grammar.specs.declared.cst.tree.Cst.TheVariants as vCst
 use Rattle.es_token.specs.declared.token.Token.{Token}
 use Rattle.es_syntax.specs.Trees.{Kept, trees_in, tree_by, kept_by, trees}
 use Rattle.es_printer.specs.declared.style.Style.{Style}

@@ -2,9 +2,9 @@
 use Rattle.std.specs.Prelude.{ℕ, List, [], ◌∷◌}
 use Rattle.std.proofs.Common.{◌≡◌, sym, ap, ◌∙◌}
 use Rattle.es_grammar.specs.declared.rows.NodeKind.{NodeKind}
-use Rattle.es_cst.specs.declared.tree.Cst.{Cst, out-Cst, out-roll-Cst}
-use Rattle.es_cst.specs.declared.tree.Cst.TheVariants as vCst
-use Rattle.es_cst.specs.declared.tree.Cst.TheOpen.{Cst-F}
+use Rattle.es_grammar.specs.declared.cst.tree.Cst.{Cst, out-Cst, out-roll-Cst}
+use Rattle.es_grammar.specs.declared.cst.tree.Cst.TheVariants as vCst
+use Rattle.es_grammar.specs.declared.cst.tree.Cst.TheOpen.{Cst-F}
 use Rattle.es_syntax.specs.declared.entry.Lean.{Lean}
 use Rattle.es_syntax.specs.Held.{label_of}
 use Rattle.es_syntax.specs.Trees.{Kept, turn_parts, leaning_tree, leaned_tree, leant_tree}

@@ -6,9 +6,9 @@ use Rattle.es_token.specs.declared.token.TokenKind.TheVariants as k
 use Rattle.es_token.specs.declared.token.Comment.{Comment}
 use Rattle.es_token.specs.declared.token.CommentKind.{CommentKind}
 use Rattle.es_token.specs.declared.token.CommentKind.TheVariants as vKind
-use Rattle.es_tree.specs.Key.{same_kind}
+use Rattle.grammar_theory.specs.Key.{same_kind}
 use Rattle.es_comments.specs.Placed.{Placed, comments_at}
-use Rattle.es_cst.specs.declared.tree.Cst.{Cst}
+use Rattle.es_grammar.specs.declared.cst.tree.Cst.{Cst}
 use Rattle.es_printer.specs.declared.piece.Left.{Left}
 use Rattle.es_printer.specs.declared.piece.Left.TheVariants as left
 use Rattle.es_printer.specs.declared.piece.Right.{Right}

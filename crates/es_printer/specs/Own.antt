@@ -4,8 +4,8 @@ use Rattle.es_token.specs.declared.token.Token.{Token}
 use Rattle.es_token.specs.declared.token.TokenKind.{TokenKind}
 use Rattle.es_token.specs.declared.token.TokenKind.TheVariants as k
 use denote.Enum.Bare.{sameb}
-use Rattle.es_tree.specs.Key.{same_kind}
-use Rattle.es_type_grammar.specs.Words.{is_word}
+use Rattle.grammar_theory.specs.Key.{same_kind}
+use Rattle.es_grammar.specs.types.Words.{is_word}
 use Rattle.es_printer.specs.contracts.style.Style.{the_type}
 use Rattle.es_printer.specs.declared.style.Style.{Style}
 use Rattle.es_printer.specs.declared.style.Style.TheVariants.{Member, Block, Body, Fields, Enum, Object, Types, Cases, Inline, Star, Empty, Loop, Condition, Operator, Prefix, Index, Question}

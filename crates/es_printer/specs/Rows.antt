@@ -1,7 +1,7 @@
 -- The trees in a row of entries, and what is printed of them.
 use Rattle.std.specs.Prelude.{ℕ, List, [], ◌∷◌, length, Option, Some, None, map}
 use Rattle.es_token.specs.declared.token.Token.{Token}
-use Rattle.es_cst.specs.declared.tree.Cst.{Cst, out-Cst}
+use Rattle.es_grammar.specs.declared.cst.tree.Cst.{Cst, out-Cst}
 use Rattle.es_syntax.specs.declared.entry.Entry.{Entry}
 use Rattle.es_syntax.specs.declared.cursor.Siblings.{Siblings}
 use Rattle.es_syntax.specs.declared.cursor.Item.{Item}

@@ -1,7 +1,7 @@
 //! The parts in a row of entries.
 
 ghost use Rattle.std.specs.Prelude.{◌≡◌, ◌+◌, ◌≤◌, ◌<◌, List, length, IfSome, IsTrue};
-ghost use Rattle.es_cst.specs.declared.tree.Cst.{out-Cst};
+ghost use Rattle.es_grammar.specs.declared.cst.tree.Cst.{out-Cst};
 ghost use Rattle.es_syntax.specs.Trees.{turn_parts, trees_in};
 ghost use Rattle.es_token.specs.declared.token.Token.{Token};
 ghost use Rattle.es_printer.specs.declared.style.Style.{Style};

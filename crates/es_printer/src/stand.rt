@@ -1,7 +1,7 @@
 //! How the tokens stand that belong to a node and to none of its parts.
 
 ghost use Rattle.std.specs.Prelude.{◌≡◌, slice_get};
-ghost use Rattle.es_type_grammar.specs.Words.{is_word};
+ghost use Rattle.es_grammar.specs.types.Words.{is_word};
 ghost use Rattle.es_printer.specs.Own.{on_line, into, out, kind_is, is_closer, operator, is_literal, is_prefix, is_tight, closes, starred, prefix, question, colon, bracket, parenthesis, sign, piece, head, plain, by_kind, opening, closing, comma, semicolon, is_trailing, listed, stand};
 
 use crate::piece::{Left, Right, Stand};
@@ -67,7 +67,7 @@ fn is_closer(tokens: &[Token], at: usize) -> bool
         || kind_is(tokens, at, TokenKind::Greater)
 }
 
-#[tactic(auto, unfolding(es_type_grammar::specs::Words::is_word))]
+#[tactic(auto, unfolding(es_grammar::specs::types::Words::is_word))]
 fn is_word(kind: TokenKind) -> bool
     ensures { result ≡ is_word kind }
 {

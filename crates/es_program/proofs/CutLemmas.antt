@@ -5,7 +5,7 @@ use Rattle.es_token.specs.declared.token.Token.{Token}
 use Rattle.es_token.specs.declared.token.TokenKind.TheVariants as k
 use Rattle.es_lexer.specs.Reads.{ReadsTokens}
 use Rattle.es_lexer.proofs.Theorems.{reads_boundary}
-use Rattle.es_token_ranges.proofs.Theorems.{reads_shebang}
+use Rattle.es_law_tokens.proofs.ranges.Theorems.{reads_shebang}
 use Rattle.es_program.specs.Cuts.{Cuts}
 
 pub line_cut : (x : List ℕ) (ts : List Token) (n : ℕ) (t : Token) → IsUtf8 x → ReadsTokens x ts

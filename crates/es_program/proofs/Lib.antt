@@ -1,3 +1,4 @@
+pub mod items_lemmas
 -- the node of a program
 pub mod Programs
 -- what an owner keeps

@@ -1,3 +1,4 @@
+pub mod items
 -- what a row is as a program
 pub mod Typed
 -- what stands behind an owner

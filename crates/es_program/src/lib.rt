@@ -8,6 +8,7 @@
 #![tactic(auto)]
 
 mod form;
+pub mod items;
 mod leaf;
 mod module;
 mod program;

@@ -3,25 +3,25 @@ use Rattle.std.specs.Prelude.{Bool, List, [], ◌∷◌, ◌++◌, Result, Err, 
 use Rattle.std.specs.Global.{Vec}
 use Rattle.std.proofs.Common.{◌≡◌, ◌≢◌, ℕ, length, refl, sym, ap, ◌∙◌, subst, arith, leb-true, le-leb}
 use Rattle.es_token.specs.declared.token.Token.{Token}
-use Rattle.es_tree.specs.declared.error.Lang.{Lang}
-use Rattle.es_tree.specs.declared.error.Mode.{Mode}
-use Rattle.es_tree.specs.declared.error.SyntaxError.{SyntaxError}
-use Rattle.es_tree.specs.declared.error.SyntaxError.TheVariants.{Syntax, OutOfMemory}
-use Rattle.es_tree.specs.Key.{Key, keys_of}
-use Rattle.es_tree.specs.Plain.{Plain, plain, made, tall}
-use Rattle.es_tree.specs.Fits.{Shape, most_nodes}
-use Rattle.es_tree.specs.Reader.{Out, nothing, gives, only_if, read_row}
-use Rattle.es_tree.proofs.OutLemmas.{nothing_gives, gives_same, only_if-gives}
-use Rattle.es_tree.proofs.ReaderLemmas.{row_fits, row_reads}
-use Rattle.es_tree.proofs.FreeLemmas as Free
+use Rattle.grammar_theory.specs.declared.error.Lang.{Lang}
+use Rattle.grammar_theory.specs.declared.error.Mode.{Mode}
+use Rattle.grammar_theory.specs.declared.error.SyntaxError.{SyntaxError}
+use Rattle.grammar_theory.specs.declared.error.SyntaxError.TheVariants.{Syntax, OutOfMemory}
+use Rattle.grammar_theory.specs.Key.{Key, keys_of}
+use Rattle.grammar_theory.specs.Plain.{Plain, plain, made, tall}
+use Rattle.grammar_theory.specs.Fits.{Shape, most_nodes}
+use Rattle.grammar_theory.specs.Reader.{Out, nothing, gives, only_if, read_row}
+use Rattle.grammar_theory.proofs.OutLemmas.{nothing_gives, gives_same, only_if-gives}
+use Rattle.grammar_theory.proofs.ReaderLemmas.{row_fits, row_reads}
+use Rattle.grammar_theory.proofs.FreeLemmas as Free
 use Rattle.es_lookahead.proofs.TokenLemmas.{length-keys_of}
 use Rattle.es_grammar.specs.declared.rows.NodeKind.{NodeKind}
 use Rattle.es_grammar.specs.Table.{rule}
 use Rattle.es_grammar.specs.Conditions.{leans, program_row}
 use Rattle.es_grammar.proofs.Sets.{sets}
 use Rattle.es_grammar.proofs.Theorems.{programs, free_is_chosen}
-use Rattle.es_cst.specs.declared.tree.Cst.{Cst}
-use Rattle.es_cst.specs.Slim.{slim, one, tree_in}
+use Rattle.es_grammar.specs.declared.cst.tree.Cst.{Cst}
+use Rattle.es_grammar.specs.cst.Slim.{slim, one, tree_in}
 use Rattle.es_rules.specs.Bounded.{Read, row_at}
 use Rattle.es_rules.specs.declared.cursor.Cursor.{Cursor}
 use Rattle.es_rules.specs.Steps.{single, Writes, IsRead}

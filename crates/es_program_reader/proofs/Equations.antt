@@ -2,10 +2,10 @@
 use Rattle.std.specs.Prelude.{List, [], ◌∷◌, Bool, true, false, ◌&&◌, map}
 use Rattle.std.proofs.Common.{◌≡◌, ℕ, refl, sym, ap, ◌∙◌}
 use Rattle.es_grammar.specs.declared.rows.NodeKind.{NodeKind}
-use Rattle.es_cst.specs.declared.tree.Cst.{Cst, out-Cst, roll-Cst, out-roll-Cst, map-Cst}
-use Rattle.es_cst.specs.declared.tree.Cst.TheVariants as vCst
-use Rattle.es_cst.specs.declared.tree.Cst.TheOpen.{Cst-F}
-use Rattle.es_cst.specs.declared.tree.Cst.TheFolds.{para-roll-Cst}
+use Rattle.es_grammar.specs.declared.cst.tree.Cst.{Cst, out-Cst, roll-Cst, out-roll-Cst, map-Cst}
+use Rattle.es_grammar.specs.declared.cst.tree.Cst.TheVariants as vCst
+use Rattle.es_grammar.specs.declared.cst.tree.Cst.TheOpen.{Cst-F}
+use Rattle.es_grammar.specs.declared.cst.tree.Cst.TheFolds.{para-roll-Cst}
 use Rattle.es_program_reader.specs.Sound.{names_member, member_layer, is_member, names_non_null, non_null_layer, is_non_null, second_asserted, turn_layer, is_assertion, first_is, simple_by, simple_step, is_simple, may_hold, each_holds, sound_step, is_sound, are_sound}
 
 firsts_of : {B : Type 0} (f : Cst → B) (ts : List Cst)

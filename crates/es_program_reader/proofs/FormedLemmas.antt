@@ -2,11 +2,11 @@
 -- forms holds of the parts of each node.
 use Rattle.std.specs.Prelude.{List, Bool, true, ◌&&◌}
 use Rattle.std.proofs.Common.{◌≡◌, ℕ, zero, suc, ◌+◌, refl, sym, subst, inl, inr}
-use Rattle.es_tree.specs.Key.{Key}
-use Rattle.es_tree.specs.Productions.{Predict, Rhs, done, tok, punct, row, opt, many, alt, when_, where_, Production, refuse, make, choose, as_, pick, wrap}
-use Rattle.es_tree.specs.Plain.{Plain, node, leaf, nil, cons, mark, turn, via}
-use Rattle.es_tree.specs.Fits.{Reading, Turns, Wraps, Fits, IsBy, Under}
-use Rattle.es_tree.proofs.Progress.{both_hold}
+use Rattle.grammar_theory.specs.Key.{Key}
+use Rattle.grammar_theory.specs.Productions.{Predict, Rhs, done, tok, punct, row, opt, many, alt, when_, where_, Production, refuse, make, choose, as_, pick, wrap}
+use Rattle.grammar_theory.specs.Plain.{Plain, node, leaf, nil, cons, mark, turn, via}
+use Rattle.grammar_theory.specs.Fits.{Reading, Turns, Wraps, Fits, IsBy, Under}
+use Rattle.grammar_theory.proofs.Progress.{both_hold}
 
 -- parts of a node, or of a group
 abbrev pub IsList : {NodeKind : Type 0} → Plain NodeKind → Type 0

@@ -2,10 +2,10 @@
 -- nothing.
 use Rattle.std.specs.Prelude.{List, Bool}
 use Rattle.std.proofs.Common.{◌≡◌, ℕ, refl}
-use Rattle.es_tree.specs.declared.error.Lang.{Lang}
-use Rattle.es_tree.specs.Key.{Key}
-use Rattle.es_tree.specs.Plain.{Plain, plain}
-use Rattle.es_tree.specs.Reader.{Out, read_row}
+use Rattle.grammar_theory.specs.declared.error.Lang.{Lang}
+use Rattle.grammar_theory.specs.Key.{Key}
+use Rattle.grammar_theory.specs.Plain.{Plain, plain}
+use Rattle.grammar_theory.specs.Reader.{Out, read_row}
 use Rattle.es_grammar.specs.declared.rows.Row.{Row}
 use Rattle.es_grammar.specs.declared.rows.NodeKind.{NodeKind}
 use Rattle.es_grammar.specs.Table.{rule}

@@ -1,19 +1,19 @@
 -- Where the parts of nodes stand, in the rows of programs: computed, row by row.
 use Rattle.std.specs.Prelude.{List, true, false}
 use Rattle.std.proofs.Common.{◌≡◌, ℕ, refl}
-use Rattle.es_tree.specs.declared.error.Lang.{Lang}
-use Rattle.es_tree.specs.declared.error.Lang.TheVariants as lang
-use Rattle.es_tree.specs.Key.{Key}
-use Rattle.es_tree.specs.Plain.{Plain}
-use Rattle.es_tree.specs.Fits.{Reading, Under}
-use Rattle.es_type_grammar.specs.Words.{is_name, is_word, is_name_or_this, is_numeric, is_sign, is_accessor_word, is_near, begins_key}
-use Rattle.es_type_grammar.specs.Modules.{may_end, ended, word_or_str_in, names_in, attributes, attributes_ended, from_ended, opens_type_import, opens_type_name, type_word_in, is_renamed, is_no_type_as_as, import_specifier, named, has_comma, clause, entity, opens_equals, shows_require, opens_require, equals_in, required, opens_bare, opens_source_import, opens_defer_import, source_import, defer_import, import_, export_specifier, opens_type_export, opens_all, opens_exported_equals, opens_exported_require, export_}
-use Rattle.es_type_grammar.specs.Expressions.{is_prefix, is_update, is_product, is_sum, is_equality, is_relation, is_assignment, is_property_name, begins_expression, is_arrow, no_arrow, is_literal_word, follows_super, begins_member, begins_post, is_update_here, no_update_here, no_mix}
-use Rattle.es_type_grammar.specs.Functions.{follows_pattern, is_parameter}
-use Rattle.es_type_grammar.specs.Statements.{is_variable_word, is_each, is_label_here, label_ended, is_case, is_in_case, begins_no_other}
-use Rattle.es_type_grammar.specs.Members.{opens_parameters}
-use Rattle.es_type_grammar.specs.Types.{begins_type, is_literal_word as is_literal_type_word}
-use Rattle.es_type_grammar.specs.TypeNames.{begins_angle}
+use Rattle.grammar_theory.specs.declared.error.Lang.{Lang}
+use Rattle.grammar_theory.specs.declared.error.Lang.TheVariants as lang
+use Rattle.grammar_theory.specs.Key.{Key}
+use Rattle.grammar_theory.specs.Plain.{Plain}
+use Rattle.grammar_theory.specs.Fits.{Reading, Under}
+use Rattle.es_grammar.specs.types.Words.{is_name, is_word, is_name_or_this, is_numeric, is_sign, is_accessor_word, is_near, begins_key}
+use Rattle.es_grammar.specs.types.Modules.{may_end, ended, word_or_str_in, names_in, attributes, attributes_ended, from_ended, opens_type_import, opens_type_name, type_word_in, is_renamed, is_no_type_as_as, import_specifier, named, has_comma, clause, entity, opens_equals, shows_require, opens_require, equals_in, required, opens_bare, opens_source_import, opens_defer_import, source_import, defer_import, import_, export_specifier, opens_type_export, opens_all, opens_exported_equals, opens_exported_require, export_}
+use Rattle.es_grammar.specs.types.Expressions.{is_prefix, is_update, is_product, is_sum, is_equality, is_relation, is_assignment, is_property_name, begins_expression, is_arrow, no_arrow, is_literal_word, follows_super, begins_member, begins_post, is_update_here, no_update_here, no_mix}
+use Rattle.es_grammar.specs.types.Functions.{follows_pattern, is_parameter}
+use Rattle.es_grammar.specs.types.Statements.{is_variable_word, is_each, is_label_here, label_ended, is_case, is_in_case, begins_no_other}
+use Rattle.es_grammar.specs.types.Members.{opens_parameters}
+use Rattle.es_grammar.specs.types.Types.{begins_type, is_literal_word as is_literal_type_word}
+use Rattle.es_grammar.specs.types.TypeNames.{begins_angle}
 use Rattle.es_grammar.specs.declared.rows.Row.{Row}
 use Rattle.es_grammar.specs.declared.rows.NodeKind.{NodeKind}
 use Rattle.es_grammar.specs.declared.rows.Row.TheVariants.{ModuleRow, ScriptRow, ItemRow, ClauseRow, NamedRow, ImportSpecifierRow, ExportSpecifierRow, AttributesRow, EntityRow, StatementRow, BlockRow, DeclarationRow, DeclaredRow, VariablesRow, DeclaratorRow, UsingRow, HeadRow, HeadPatternRow, SignatureRow, ParametersRow, ParameterRow, PatternRow, InnerPatternRow, PatternElementRow, PatternPropertyRow, FunctionRow, ClassRow, MemberRow, PropertyRow, KeyRow, ExpressionRow, AssignmentRow, AndRow, BitOrRow, BitXorRow, BitAndRow, EqualityRow, RelationRow, RightRow, ShiftRow, SumRow, ProductRow, PowerRow, UnaryRow, ChainRow, CalleeRow, PostRow, MemberPostRow, ArgumentsRow, ElementRow, TemplateRow, TypesRow}

@@ -2,12 +2,12 @@
 -- behind an operand of an operator is.
 use Rattle.std.specs.Prelude.{List, Bool, true, false, ◌&&◌}
 use Rattle.std.proofs.Common.{◌≡◌, ℕ, ◌+◌, sym, subst, inl, inr}
-use Rattle.es_tree.specs.Key.{Key}
-use Rattle.es_tree.specs.Productions.{Predict, Rhs, done, tok, punct, row, opt, many, alt, when_, where_}
-use Rattle.es_tree.specs.Plain.{Plain, node, leaf, nil, cons, mark, turn, via}
-use Rattle.es_tree.specs.Fits.{Reading, Turns, Fits}
-use Rattle.es_tree.proofs.OutLemmas.{clash}
-use Rattle.es_tree.proofs.Progress.{both_hold}
+use Rattle.grammar_theory.specs.Key.{Key}
+use Rattle.grammar_theory.specs.Productions.{Predict, Rhs, done, tok, punct, row, opt, many, alt, when_, where_}
+use Rattle.grammar_theory.specs.Plain.{Plain, node, leaf, nil, cons, mark, turn, via}
+use Rattle.grammar_theory.specs.Fits.{Reading, Turns, Fits}
+use Rattle.grammar_theory.proofs.OutLemmas.{clash}
+use Rattle.grammar_theory.proofs.Progress.{both_hold}
 use Rattle.es_grammar.specs.declared.rows.Row.{Row}
 use Rattle.es_grammar.specs.declared.rows.NodeKind.{NodeKind}
 use Rattle.es_grammar.specs.declared.rows.NodeKind.TheVariants.{Parenthesized, Chain, TypedBinary, Assignment, UpdatePostfix, UpdatePrefix}

@@ -1,19 +1,19 @@
 -- A tree that is kept of a plain tree of the table is sound exactly where the plain tree is.
 use Rattle.std.specs.Prelude.{List, [], ◌∷◌, Bool, true, false, ◌&&◌, length, if◌then◌else◌}
 use Rattle.std.proofs.Common.{◌≡◌, refl, sym, ap, ◌∙◌}
-use Rattle.es_tree.specs.declared.error.Lang.{Lang}
-use Rattle.es_tree.specs.declared.error.Mode.{Mode}
-use Rattle.es_tree.specs.Key.{Key}
-use Rattle.es_tree.specs.Plain.{Plain, node, leaf, nil, cons, mark, turn, via, made}
-use Rattle.es_tree.specs.Fits.{free, Shape, most_nodes}
+use Rattle.grammar_theory.specs.declared.error.Lang.{Lang}
+use Rattle.grammar_theory.specs.declared.error.Mode.{Mode}
+use Rattle.grammar_theory.specs.Key.{Key}
+use Rattle.grammar_theory.specs.Plain.{Plain, node, leaf, nil, cons, mark, turn, via, made}
+use Rattle.grammar_theory.specs.Fits.{free, Shape, most_nodes}
 use Rattle.es_grammar.specs.declared.rows.NodeKind.{NodeKind}
 use Rattle.es_grammar.specs.declared.rows.NodeKind.TheVariants.{Name, Parenthesized, Chain, TypedBinary, MemberPost, IndexPost, NonNullPost, Assignment, UpdatePostfix, UpdatePrefix}
 use Rattle.es_grammar.specs.Table.{rule}
 use Rattle.es_grammar.specs.Conditions as plains
 use Rattle.es_grammar.specs.Conditions.{leans, program_row}
-use Rattle.es_cst.specs.declared.tree.Cst.{Cst, out-Cst}
-use Rattle.es_cst.specs.declared.tree.Cst.TheVariants as vCst
-use Rattle.es_cst.specs.Slim.{parts_in, slim, tree_of}
+use Rattle.es_grammar.specs.declared.cst.tree.Cst.{Cst, out-Cst}
+use Rattle.es_grammar.specs.declared.cst.tree.Cst.TheVariants as vCst
+use Rattle.es_grammar.specs.cst.Slim.{parts_in, slim, tree_of}
 use Rattle.es_program_reader.proofs.FormedLemmas.{IsList, Formed}
 use Rattle.es_program_reader.proofs.Shapes.{EachBegins, IsPart, IsGroup, Stands}
 use Rattle.es_program_reader.proofs.RowShapes.{formed}

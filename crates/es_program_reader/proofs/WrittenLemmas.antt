@@ -4,9 +4,9 @@ use Rattle.std.proofs.Common.{◌≡◌, ℕ, length, take, min, refl, sym, ap, 
 use Rattle.std.proofs.Math.Seq.{take-append_seam}
 use Rattle.std.proofs.lemmas.List.{append-nil, take_min}
 use Rattle.es_grammar.specs.declared.rows.NodeKind.{NodeKind}
-use Rattle.es_cst.specs.declared.tree.Cst.{Cst, roll-Cst, out-Cst, roll-out-Cst}
-use Rattle.es_cst.specs.declared.tree.Cst.TheVariants as vCst
-use Rattle.es_cst.specs.declared.tree.Cst.TheOpen.{Cst-F}
+use Rattle.es_grammar.specs.declared.cst.tree.Cst.{Cst, roll-Cst, out-Cst, roll-out-Cst}
+use Rattle.es_grammar.specs.declared.cst.tree.Cst.TheVariants as vCst
+use Rattle.es_grammar.specs.declared.cst.tree.Cst.TheOpen.{Cst-F}
 use Rattle.es_syntax.specs.declared.entry.Entry.{Entry}
 use Rattle.es_syntax.specs.declared.entry.What.{What}
 use Rattle.es_syntax.specs.declared.entry.What.TheVariants as vWhat

@@ -1,13 +1,13 @@
 -- When a tree is kept of a plain tree of a program, and when a row of entries is such a tree.
 use Rattle.std.specs.Prelude.{◌≡◌, List}
-use Rattle.es_tree.specs.declared.error.Lang.{Lang}
-use Rattle.es_tree.specs.declared.error.Mode.{Mode}
-use Rattle.es_tree.specs.Key.{Key}
-use Rattle.es_tree.specs.Plain.{Plain}
+use Rattle.grammar_theory.specs.declared.error.Lang.{Lang}
+use Rattle.grammar_theory.specs.declared.error.Mode.{Mode}
+use Rattle.grammar_theory.specs.Key.{Key}
+use Rattle.grammar_theory.specs.Plain.{Plain}
 use Rattle.es_grammar.specs.declared.rows.NodeKind.{NodeKind}
 use Rattle.es_grammar.specs.Conditions.{IsProgram}
-use Rattle.es_cst.specs.declared.tree.Cst.{Cst}
-use Rattle.es_cst.specs.Slim.{tree_of}
+use Rattle.es_grammar.specs.declared.cst.tree.Cst.{Cst}
+use Rattle.es_grammar.specs.cst.Slim.{tree_of}
 use Rattle.es_syntax.specs.declared.entry.Entry.{Entry}
 use Rattle.es_program_reader.specs.Derived.{IsRowOf}
 

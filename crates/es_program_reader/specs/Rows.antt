@@ -1,6 +1,6 @@
 -- The trees that a cursor over a row stands at, and what is asked of those that lean left.
 use Rattle.std.specs.Prelude.{Bool, true, false, ◌&&◌, List, [], ◌∷◌, length, take, Option, Some, None}
-use Rattle.es_cst.specs.declared.tree.Cst.{Cst, out-Cst}
+use Rattle.es_grammar.specs.declared.cst.tree.Cst.{Cst, out-Cst}
 use Rattle.es_syntax.specs.declared.entry.What.{What}
 use Rattle.es_syntax.specs.declared.entry.What.TheVariants as vWhat
 use Rattle.es_syntax.specs.declared.entry.Entry.{Entry}

@@ -16,6 +16,7 @@
 mod parts;
 mod plain;
 mod program;
+pub mod row_reader;
 mod simple;
 mod sound;
 mod written;

@@ -1,7 +1,7 @@
 //! Parts of a row, as trees.
 
 ghost use Rattle.std.specs.Prelude.{◌≡◌, ◌+◌, ◌<◌, ◌≤◌, length, IfSome};
-ghost use Rattle.es_cst.specs.declared.tree.Cst.{out-Cst};
+ghost use Rattle.es_grammar.specs.declared.cst.tree.Cst.{out-Cst};
 ghost use Rattle.es_syntax.specs.Trees.{turn_parts};
 ghost use Rattle.es_program_reader.specs.Rows.{kept_in, trees_at, tree_at, first_kept};
 

@@ -4,22 +4,22 @@ ghost use Rattle.std.specs.Prelude.{IfOk};
 ghost use Rattle.es_grammar.specs.Table.{rule};
 ghost use Rattle.es_rules.specs.Bounded.{row_at};
 ghost use Rattle.es_rules.specs.Steps.{keys_in, IsRead};
-ghost use Rattle.es_tree.specs.Key.{keys_of};
+ghost use Rattle.grammar_theory.specs.Key.{keys_of};
 ghost use Rattle.es_lookahead.specs.Ends.{AreRight};
-ghost use Rattle.es_cst.specs.declared.tree.Cst.{Cst as Kept};
+ghost use Rattle.es_grammar.specs.declared.cst.tree.Cst.{Cst as Kept};
 ghost use Rattle.es_program_reader.specs.Derived.{HoldsShaped, IsShaped, GivesTree, IsWritten};
 ghost use Rattle.es_program_reader.specs.Program.{HoldsKept, IsKept};
 
 use crate::program::whole;
+use crate::row_reader::{Ring, read_row};
 use crate::written::first_unsound_written;
 use es_grammar::Row;
 use es_lookahead::Angle;
-use es_row_reader::{Ring, read_row};
 use es_rules::{Cursor, Grammar, Input, Tokens};
 use es_syntax::{Entry, Siblings as Entries};
 use es_token::Token;
-use es_tree::{Lang, Mode, SyntaxError};
-use es_type_ends::angles_of;
+use es_type_rules::ends::angles_of;
+use grammar_theory::{Lang, Mode, SyntaxError};
 use std::alloc::{AllocError, Global};
 
 /// The most nodes on a path of a tree: the program's own, and 500 below it.

@@ -1,19 +1,19 @@
 //! Whole programs.
 
 ghost use Rattle.std.specs.Prelude.{◌≡◌, true, IfOk};
-ghost use Rattle.es_tree.specs.Key.{keys_of};
-ghost use Rattle.es_tree.specs.Fits.{most_nodes};
+ghost use Rattle.grammar_theory.specs.Key.{keys_of};
+ghost use Rattle.grammar_theory.specs.Fits.{most_nodes};
 ghost use Rattle.es_grammar.specs.Table.{rule};
 ghost use Rattle.es_grammar.specs.Conditions.{program_row};
-ghost use Rattle.es_cst.specs.declared.tree.Cst.{Cst as Kept};
+ghost use Rattle.es_grammar.specs.declared.cst.tree.Cst.{Cst as Kept};
 ghost use Rattle.es_rules.specs.Steps.{IsRing};
 ghost use Rattle.es_program_reader.specs.Derived.{HoldsShaped, IsShaped, GivesTree, IsWritten};
 
+use crate::row_reader::Ring;
 use es_grammar::Row;
-use es_row_reader::Ring;
 use es_rules::{Cursor, Grammar, Input};
 use es_syntax::{Entry, Writer};
-use es_tree::{Mode, SyntaxError};
+use grammar_theory::{Mode, SyntaxError};
 
 /// The row of a program.
 fn program_row(mode: Mode) -> Row

@@ -1,7 +1,7 @@
 //! Simple targets.
 
 ghost use Rattle.std.specs.Prelude.{◌≡◌, ◌∷◌};
-ghost use Rattle.es_cst.specs.declared.tree.Cst.{Cst, out-Cst};
+ghost use Rattle.es_grammar.specs.declared.cst.tree.Cst.{Cst, out-Cst};
 ghost use Rattle.es_program_reader.specs.Sound.{names_member, is_member, names_non_null, is_non_null, behind_part, first_in, behind_turns, ends_in_member, chain_ends, group_layer, second_asserted, is_assertion, asserted_target, first_is, simple_by, is_simple};
 ghost use Rattle.es_program_reader.specs.Rows.{trees_at, tree_at, one_assertion, all_assert, leant_simple};
 

@@ -4,17 +4,17 @@ use Rattle.std.specs.Prelude.{List, [], ◌∷◌, ◌++◌, Result, Ok, Err, Bo
 use Rattle.std.proofs.Common.{◌≡◌, ℕ, zero, suc, ◌+◌, ◌-◌, ◌<◌, length, length-append, refl, sym, ap, ◌∙◌, subst, inl, inr, arith}
 use Rattle.std.proofs.lemmas.List.{append-nil, append_assoc}
 use Rattle.std.proofs.lemmas.Option.{slice_get_past}
-use Rattle.es_tree.specs.declared.error.SyntaxError.{SyntaxError}
-use Rattle.es_tree.specs.declared.error.SyntaxError.TheVariants.{OutOfMemory}
-use Rattle.es_tree.specs.Key.{Key}
-use Rattle.es_tree.specs.Productions.{Predicate}
-use Rattle.es_tree.specs.Plain.{over}
-use Rattle.es_tree.specs.Reader.{Out, nothing, gives}
+use Rattle.grammar_theory.specs.declared.error.SyntaxError.{SyntaxError}
+use Rattle.grammar_theory.specs.declared.error.SyntaxError.TheVariants.{OutOfMemory}
+use Rattle.grammar_theory.specs.Key.{Key}
+use Rattle.grammar_theory.specs.Productions.{Predicate}
+use Rattle.grammar_theory.specs.Plain.{over}
+use Rattle.grammar_theory.specs.Reader.{Out, nothing, gives}
 use Rattle.es_grammar.specs.declared.rows.NodeKind.{NodeKind}
 use Rattle.es_grammar.specs.Conditions.{leans}
-use Rattle.es_cst.specs.declared.tree.Cst.{Cst, out-Cst, out-roll-Cst}
-use Rattle.es_cst.specs.declared.tree.Cst.TheVariants as vCst
-use Rattle.es_cst.specs.declared.tree.Cst.TheOpen.{Cst-F}
+use Rattle.es_grammar.specs.declared.cst.tree.Cst.{Cst, out-Cst, out-roll-Cst}
+use Rattle.es_grammar.specs.declared.cst.tree.Cst.TheVariants as vCst
+use Rattle.es_grammar.specs.declared.cst.tree.Cst.TheOpen.{Cst-F}
 use Rattle.es_syntax.specs.declared.entry.Lean.{Lean}
 use Rattle.es_syntax.specs.declared.entry.Lean.TheVariants as vLean
 use Rattle.es_syntax.specs.declared.entry.What.{What}

@@ -3,17 +3,17 @@ use Rattle.std.specs.Prelude.{List, [], ◌∷◌, ◌++◌, Result, Ok, Err, Bo
 use Rattle.std.proofs.Common.{◌≡◌, ℕ, suc, ◌+◌, length, refl, sym, ap, ◌∙◌, subst, arith}
 use Rattle.std.proofs.lemmas.List.{append-nil, append_assoc}
 use Rattle.es_token.specs.declared.token.TokenKind.{TokenKind}
-use Rattle.es_tree.specs.declared.error.SyntaxError.{SyntaxError}
-use Rattle.es_tree.specs.declared.error.SyntaxError.TheVariants.{OutOfMemory}
-use Rattle.es_tree.specs.Key.{Key, TokenTest, seen, has_kind, is}
-use Rattle.es_tree.specs.Productions.{Predicate, LeafKind, Predict, test, Rhs, done, tok, punct, row, opt, many, alt, when_, where_}
-use Rattle.es_tree.specs.Fits.{most_nodes}
-use Rattle.es_tree.specs.Reader.{Out, nothing, gives, and_then, changed, either, read_turns}
-use Rattle.es_tree.proofs.OutLemmas.{then_gives, change_gives, only_if_true}
+use Rattle.grammar_theory.specs.declared.error.SyntaxError.{SyntaxError}
+use Rattle.grammar_theory.specs.declared.error.SyntaxError.TheVariants.{OutOfMemory}
+use Rattle.grammar_theory.specs.Key.{Key, TokenTest, seen, has_kind, is}
+use Rattle.grammar_theory.specs.Productions.{Predicate, LeafKind, Predict, test, Rhs, done, tok, punct, row, opt, many, alt, when_, where_}
+use Rattle.grammar_theory.specs.Fits.{most_nodes}
+use Rattle.grammar_theory.specs.Reader.{Out, nothing, gives, and_then, changed, either, read_turns}
+use Rattle.grammar_theory.proofs.OutLemmas.{then_gives, change_gives, only_if_true}
 use Rattle.es_grammar.specs.declared.rows.NodeKind.{NodeKind}
-use Rattle.es_cst.specs.declared.tree.Cst.{Cst}
-use Rattle.es_cst.specs.declared.tree.Cst.TheVariants as vCst
-use Rattle.es_cst.specs.Slim.{tree_in}
+use Rattle.es_grammar.specs.declared.cst.tree.Cst.{Cst}
+use Rattle.es_grammar.specs.declared.cst.tree.Cst.TheVariants as vCst
+use Rattle.es_grammar.specs.cst.Slim.{tree_in}
 use Rattle.es_syntax.specs.declared.entry.What.{What}
 use Rattle.es_syntax.specs.declared.entry.What.TheVariants as vWhat
 use Rattle.es_syntax.specs.declared.entry.Entry.{Entry}

@@ -2,13 +2,13 @@
 use Rattle.std.specs.Prelude.{List, [], ◌∷◌, ◌++◌, Ok, Bool, true, false, max}
 use Rattle.std.proofs.Common.{◌≡◌, ℕ, zero, suc, ◌-◌, refl, sym, ap, ◌∙◌, subst, arith}
 use Rattle.std.proofs.lemmas.List.{append-nil, append_assoc}
-use Rattle.es_tree.specs.declared.error.SyntaxError.{SyntaxError}
-use Rattle.es_tree.specs.Key.{Key}
-use Rattle.es_tree.specs.Productions.{Predicate}
-use Rattle.es_tree.specs.Reader.{Out, nothing, gives, and_then, changed, read_turns}
-use Rattle.es_tree.proofs.OutLemmas.{then_gives, change_gives, either_true}
-use Rattle.es_cst.specs.declared.tree.Cst.{Cst}
-use Rattle.es_cst.specs.Slim.{tree_in}
+use Rattle.grammar_theory.specs.declared.error.SyntaxError.{SyntaxError}
+use Rattle.grammar_theory.specs.Key.{Key}
+use Rattle.grammar_theory.specs.Productions.{Predicate}
+use Rattle.grammar_theory.specs.Reader.{Out, nothing, gives, and_then, changed, read_turns}
+use Rattle.grammar_theory.proofs.OutLemmas.{then_gives, change_gives, either_true}
+use Rattle.es_grammar.specs.declared.cst.tree.Cst.{Cst}
+use Rattle.es_grammar.specs.cst.Slim.{tree_in}
 use Rattle.es_syntax.specs.declared.entry.Entry.{Entry}
 use Rattle.es_syntax.specs.Written.{opened}
 use Rattle.es_rules.specs.declared.cursor.Cursor.{Cursor}

@@ -3,19 +3,19 @@
 use Rattle.std.specs.Prelude.{List, Bool, true, false, leb, max, ◌&&◌}
 use Rattle.std.proofs.Common.{◌≡◌, ℕ, zero, suc, ◌+◌, ◌<◌, ◌≤◌, length, refl, sym, ap, ◌∙◌, arith, leb-true, leb-false, le-leb}
 use Rattle.std.proofs.lemmas.Bool.{lt-leb}
-use Rattle.es_tree.specs.Key.{Key, seen, has_kind, is}
-use Rattle.es_tree.specs.Productions.{Predicate, test, Rhs, done, tok, punct, row, opt, many, alt, when_, where_, Production, refuse, make, choose, as_, pick, wrap}
-use Rattle.es_tree.specs.Plain.{Plain, node, leaf, nil, cons, mark, turn, via, over, tall, Makes, made, plain}
-use Rattle.es_tree.specs.Fits.{most_nodes}
-use Rattle.es_tree.specs.Checks.{IsSteady, leans_by_turns}
-use Rattle.es_tree.specs.Reader.{Out, nothing, gives, and_then, changed, only_if, either, read_turns, read_wraps, read_form, read_rule, read_row}
-use Rattle.es_tree.proofs.OutLemmas.{nothing_gives, gives_same, only_if-gives}
-use Rattle.es_tree.proofs.Progress.{both_hold}
-use Rattle.es_tree.proofs.TallLemmas.{node_stands}
-use Rattle.es_tree.proofs.RoomLemmas.{not_true, read_within}
+use Rattle.grammar_theory.specs.Key.{Key, seen, has_kind, is}
+use Rattle.grammar_theory.specs.Productions.{Predicate, test, Rhs, done, tok, punct, row, opt, many, alt, when_, where_, Production, refuse, make, choose, as_, pick, wrap}
+use Rattle.grammar_theory.specs.Plain.{Plain, node, leaf, nil, cons, mark, turn, via, over, tall, Makes, made, plain}
+use Rattle.grammar_theory.specs.Fits.{most_nodes}
+use Rattle.grammar_theory.specs.Checks.{IsSteady, leans_by_turns}
+use Rattle.grammar_theory.specs.Reader.{Out, nothing, gives, and_then, changed, only_if, either, read_turns, read_wraps, read_form, read_rule, read_row}
+use Rattle.grammar_theory.proofs.OutLemmas.{nothing_gives, gives_same, only_if-gives}
+use Rattle.grammar_theory.proofs.Progress.{both_hold}
+use Rattle.grammar_theory.proofs.TallLemmas.{node_stands}
+use Rattle.grammar_theory.proofs.RoomLemmas.{not_true, read_within}
 use Rattle.es_grammar.specs.declared.rows.NodeKind.{NodeKind}
 use Rattle.es_grammar.specs.Conditions.{leans}
-use Rattle.es_cst.specs.Slim.{Kept, slim}
+use Rattle.es_grammar.specs.cst.Slim.{Kept, slim}
 use Rattle.es_rules.specs.Labelled.{labelled}
 use Rattle.es_rules.specs.Bounded.{Read, makes, node_at, turned_at, form_at, wraps_at, rule_at, row_at}
 

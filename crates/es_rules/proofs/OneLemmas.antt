@@ -1,16 +1,16 @@
 -- A rule answers one tree, where it answers.
 use Rattle.std.specs.Prelude.{Bool, true, false, leb, List, length}
 use Rattle.std.proofs.Common.{◌≡◌, ℕ, zero, suc, refl, sym, ap, ◌∙◌}
-use Rattle.es_tree.specs.Key.{Key, seen}
-use Rattle.es_tree.specs.Productions.{Predicate, test, Production, refuse, make, choose, as_, pick, wrap}
-use Rattle.es_tree.specs.Plain.{over}
-use Rattle.es_tree.specs.Fits.{most_nodes}
-use Rattle.es_tree.specs.Reader.{Out, nothing, gives, and_then, changed, only_if, either}
-use Rattle.es_tree.proofs.OutLemmas.{nothing_gives, gives_same, only_if-gives, changed-gives, and_then-gives}
+use Rattle.grammar_theory.specs.Key.{Key, seen}
+use Rattle.grammar_theory.specs.Productions.{Predicate, test, Production, refuse, make, choose, as_, pick, wrap}
+use Rattle.grammar_theory.specs.Plain.{over}
+use Rattle.grammar_theory.specs.Fits.{most_nodes}
+use Rattle.grammar_theory.specs.Reader.{Out, nothing, gives, and_then, changed, only_if, either}
+use Rattle.grammar_theory.proofs.OutLemmas.{nothing_gives, gives_same, only_if-gives, changed-gives, and_then-gives}
 use Rattle.es_grammar.specs.declared.rows.NodeKind.{NodeKind}
 use Rattle.es_grammar.specs.Conditions.{leans}
-use Rattle.es_cst.specs.declared.tree.Cst.{Cst}
-use Rattle.es_cst.specs.Slim.{one, slim, tree_in, parts_in}
+use Rattle.es_grammar.specs.declared.cst.tree.Cst.{Cst}
+use Rattle.es_grammar.specs.cst.Slim.{one, slim, tree_in, parts_in}
 use Rattle.es_rules.specs.Bounded.{Read, makes, node_at, turned, turned_at, wraps_at, form_at, rule_at, row_at}
 
 -- one tree, wherever something is answered

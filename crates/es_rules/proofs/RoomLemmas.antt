@@ -1,10 +1,10 @@
 -- A reader that answers more of the rows that a rule names answers all that it did: so more room reads what less does.
 use Rattle.std.specs.Prelude.{List, Bool, true, false}
 use Rattle.std.proofs.Common.{◌≡◌, ℕ, zero, suc, ◌+◌, length, refl, sym, ap, ◌∙◌, subst, arith}
-use Rattle.es_tree.specs.Key.{Key, seen, has_kind, is}
-use Rattle.es_tree.specs.Productions.{Predicate, test, Rhs, done, tok, punct, row, opt, many, alt, when_, where_, Production, refuse, make, choose, as_, pick, wrap}
-use Rattle.es_tree.specs.Reader.{Out, nothing, gives, and_then, changed, only_if, either, read_turns, read_form}
-use Rattle.es_tree.proofs.OutLemmas.{nothing_gives}
+use Rattle.grammar_theory.specs.Key.{Key, seen, has_kind, is}
+use Rattle.grammar_theory.specs.Productions.{Predicate, test, Rhs, done, tok, punct, row, opt, many, alt, when_, where_, Production, refuse, make, choose, as_, pick, wrap}
+use Rattle.grammar_theory.specs.Reader.{Out, nothing, gives, and_then, changed, only_if, either, read_turns, read_form}
+use Rattle.grammar_theory.proofs.OutLemmas.{nothing_gives}
 use Rattle.es_grammar.specs.declared.rows.NodeKind.{NodeKind}
 use Rattle.es_rules.specs.Bounded.{Read, makes, node_at, turned_at, form_at, wraps_at, rule_at, row_at}
 

@@ -3,19 +3,19 @@ use Rattle.std.specs.Prelude.{List, [], ◌∷◌, ◌++◌, Result, Ok, Err, Bo
 use Rattle.std.proofs.Common.{◌≡◌, ℕ, zero, suc, ◌-◌, length, refl, sym, ap, ◌∙◌, subst, arith}
 use Rattle.std.proofs.lemmas.List.{append-nil, append_assoc}
 use Rattle.std.proofs.Math.Seq.{take-append_seam, drop-append_seam}
-use Rattle.es_tree.specs.declared.error.SyntaxError.{SyntaxError}
-use Rattle.es_tree.specs.declared.error.SyntaxError.TheVariants.{OutOfMemory}
-use Rattle.es_tree.specs.Key.{Key}
-use Rattle.es_tree.specs.Productions.{Predicate, Predict, test, Rhs, Production, wrap}
-use Rattle.es_tree.specs.Plain.{over}
-use Rattle.es_tree.specs.Fits.{most_nodes}
-use Rattle.es_tree.specs.Reader.{Out, nothing, gives, and_then}
-use Rattle.es_tree.proofs.OutLemmas.{either_true, then_gives, only_if_true}
+use Rattle.grammar_theory.specs.declared.error.SyntaxError.{SyntaxError}
+use Rattle.grammar_theory.specs.declared.error.SyntaxError.TheVariants.{OutOfMemory}
+use Rattle.grammar_theory.specs.Key.{Key}
+use Rattle.grammar_theory.specs.Productions.{Predicate, Predict, test, Rhs, Production, wrap}
+use Rattle.grammar_theory.specs.Plain.{over}
+use Rattle.grammar_theory.specs.Fits.{most_nodes}
+use Rattle.grammar_theory.specs.Reader.{Out, nothing, gives, and_then}
+use Rattle.grammar_theory.proofs.OutLemmas.{either_true, then_gives, only_if_true}
 use Rattle.es_grammar.specs.declared.rows.NodeKind.{NodeKind}
 use Rattle.es_grammar.specs.Conditions.{leans}
-use Rattle.es_cst.specs.declared.tree.Cst.{Cst, out-Cst, out-roll-Cst}
-use Rattle.es_cst.specs.declared.tree.Cst.TheVariants as vCst
-use Rattle.es_cst.specs.declared.tree.Cst.TheOpen.{Cst-F}
+use Rattle.es_grammar.specs.declared.cst.tree.Cst.{Cst, out-Cst, out-roll-Cst}
+use Rattle.es_grammar.specs.declared.cst.tree.Cst.TheVariants as vCst
+use Rattle.es_grammar.specs.declared.cst.tree.Cst.TheOpen.{Cst-F}
 use Rattle.es_syntax.specs.declared.entry.Lean.{Lean}
 use Rattle.es_syntax.specs.declared.entry.Lean.TheVariants as vLean
 use Rattle.es_syntax.specs.declared.entry.What.TheVariants as vWhat

@@ -1,14 +1,14 @@
 -- The reader of a table, as the code runs it: it keeps of each part what `slim` keeps, counts the nodes on a path, and
 -- makes no node that stands on a path with too many.
 use Rattle.std.specs.Prelude.{ℕ, zero, suc, max, leb, List, length}
-use Rattle.es_tree.specs.Key.{Key, seen}
-use Rattle.es_tree.specs.Productions.{Predicate, test, Rhs, Production, refuse, make, choose, as_, pick, wrap}
-use Rattle.es_tree.specs.Plain.{Makes, over}
-use Rattle.es_tree.specs.Fits.{most_nodes}
-use Rattle.es_tree.specs.Reader.{Out, nothing, gives, and_then, changed, only_if, either, read_form}
+use Rattle.grammar_theory.specs.Key.{Key, seen}
+use Rattle.grammar_theory.specs.Productions.{Predicate, test, Rhs, Production, refuse, make, choose, as_, pick, wrap}
+use Rattle.grammar_theory.specs.Plain.{Makes, over}
+use Rattle.grammar_theory.specs.Fits.{most_nodes}
+use Rattle.grammar_theory.specs.Reader.{Out, nothing, gives, and_then, changed, only_if, either, read_form}
 use Rattle.es_grammar.specs.declared.rows.NodeKind.{NodeKind}
 use Rattle.es_grammar.specs.Conditions.{leans}
-use Rattle.es_cst.specs.Slim.{Kept, slim}
+use Rattle.es_grammar.specs.cst.Slim.{Kept, slim}
 
 -- what is read: what is kept, with the most nodes on a path
 pub record Read : Type 0 where

@@ -1,5 +1,5 @@
 -- A rule whose alternatives are named as another table names them.
-use Rattle.es_tree.specs.Productions.{Production, refuse, make, choose, as_, pick, wrap}
+use Rattle.grammar_theory.specs.Productions.{Production, refuse, make, choose, as_, pick, wrap}
 
 -- the rule with its alternatives named so; its forms stay
 abbrev pub labelled : {R L M : Type 0} → (L → M) → Production R L → Production R M

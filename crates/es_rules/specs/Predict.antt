@@ -1,5 +1,5 @@
 -- What the values that the code gives of the forms stand for.
-use Rattle.es_tree.specs.Productions.{LeafKind as TableLeafKind, as_str, as_name, as_raw, as_kind, as_there}
+use Rattle.grammar_theory.specs.Productions.{LeafKind as TableLeafKind, as_str, as_name, as_raw, as_kind, as_there}
 use Rattle.es_rules.specs.declared.predict.LeafKind.{LeafKind}
 use Rattle.es_rules.specs.declared.predict.LeafKind.TheVariants as sort
 

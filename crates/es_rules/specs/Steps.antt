@@ -2,15 +2,15 @@
 -- kept, and answers the most nodes on a path of it.
 use Rattle.std.specs.Prelude.{◌≡◌, ◌≢◌, ◌<◌, ◌+◌, ◌⊎◌, Some, slice_get, ℕ, suc, max, leb, Bool, true, false, ◌∷◌, [], ◌++◌, List, take, drop, Result, Ok, Err}
 use denote.Ref.{MutBor}
-use Rattle.es_tree.specs.declared.error.SyntaxError.{SyntaxError}
-use Rattle.es_tree.specs.declared.error.SyntaxError.TheVariants.{OutOfMemory}
-use Rattle.es_tree.specs.Key.{Key, keys_of}
-use Rattle.es_tree.specs.Productions.{Production}
-use Rattle.es_tree.specs.Fits.{most_nodes}
-use Rattle.es_tree.specs.Reader.{Out, nothing, gives, and_then}
+use Rattle.grammar_theory.specs.declared.error.SyntaxError.{SyntaxError}
+use Rattle.grammar_theory.specs.declared.error.SyntaxError.TheVariants.{OutOfMemory}
+use Rattle.grammar_theory.specs.Key.{Key, keys_of}
+use Rattle.grammar_theory.specs.Productions.{Production}
+use Rattle.grammar_theory.specs.Fits.{most_nodes}
+use Rattle.grammar_theory.specs.Reader.{Out, nothing, gives, and_then}
 use Rattle.es_grammar.specs.declared.rows.NodeKind.{NodeKind}
-use Rattle.es_cst.specs.declared.tree.Cst.{Cst}
-use Rattle.es_cst.specs.Slim.{one, several, tree_in}
+use Rattle.es_grammar.specs.declared.cst.tree.Cst.{Cst}
+use Rattle.es_grammar.specs.cst.Slim.{one, several, tree_in}
 use Rattle.es_syntax.specs.declared.entry.Entry.{Entry}
 use Rattle.es_syntax.specs.declared.entry.Lean.{Lean}
 use Rattle.es_syntax.specs.declared.entry.What.{What}

@@ -2,7 +2,7 @@
 
 ghost use Rattle.std.specs.Prelude.{◌≡◌, List, length};
 ghost use Rattle.es_syntax.specs.declared.entry.Entry.{Entry};
-ghost use Rattle.es_tree.specs.Productions.{Production, wrap};
+ghost use Rattle.grammar_theory.specs.Productions.{Production, wrap};
 ghost use Rattle.es_grammar.specs.declared.rows.NodeKind.{NodeKind};
 ghost use Rattle.es_rules.specs.Bounded.{rule_at};
 ghost use Rattle.es_rules.specs.Steps.{keys_in, IsRead};
@@ -13,7 +13,7 @@ use crate::predict::Tells;
 use crate::table::{Grammar, Rows};
 use crate::wraps::wraps;
 use es_grammar::NodeKind;
-use es_tree::SyntaxError;
+use grammar_theory::SyntaxError;
 
 /// What reads turns behind an operand.
 pub trait ReadsBehind<R> {

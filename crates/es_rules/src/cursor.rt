@@ -1,8 +1,8 @@
 //! What readers share: the tokens of a text, a place in them, and what is written.
 
 ghost use Rattle.std.specs.Prelude.{◌≡◌, ◌+◌, leb, max, [], ◌++◌, length, take, suc, true, false, IfOk, OnOk, OnErr};
-ghost use Rattle.es_tree.specs.Key.{keys_of, seen, is, has_kind};
-ghost use Rattle.es_tree.specs.Fits.{most_nodes};
+ghost use Rattle.grammar_theory.specs.Key.{keys_of, seen, is, has_kind};
+ghost use Rattle.grammar_theory.specs.Fits.{most_nodes};
 ghost use Rattle.es_syntax.specs.declared.entry.What.TheVariants as vWhat;
 ghost use Rattle.es_syntax.specs.Written.{headed, opened, closed};
 ghost use Rattle.es_rules.specs.Steps.{higher_of, with_more, with_opened, with_closed};
@@ -11,7 +11,7 @@ use crate::predict::IsOfKinds;
 use es_lookahead::Tokens;
 use es_syntax::{What, Writer};
 use es_token::TokenKind;
-use es_tree::{Lang, SyntaxError};
+use grammar_theory::{Lang, SyntaxError};
 use std::alloc::{AllocError, Global};
 
 /// The most nodes on a path of a tree: the program's own, and 500 below it.
@@ -235,7 +235,7 @@ pub fn higher(part: usize, rest: Result<usize, SyntaxError>) -> Result<usize, Sy
 }
 
 /// The most nodes on a path of a node, by that of its parts, where no path of it has too many.
-#[tactic(auto, unfolding(es_tree::specs::Fits::most_nodes))]
+#[tactic(auto, unfolding(grammar_theory::specs::Fits::most_nodes))]
 #[inline(always)]
 pub fn counted(parts: usize, cursor: &Cursor) -> Result<usize, SyntaxError>
     ensures counted { IfOk result (λ n. (n ≡ suc parts) × (leb (suc parts) most_nodes ≡ true)) }
@@ -249,7 +249,7 @@ pub fn counted(parts: usize, cursor: &Cursor) -> Result<usize, SyntaxError>
 
 /// The most nodes on a path of a node that leans, by that of its first operand, which stands as deep as the node, and that of
 /// the parts behind it, where no path of it has too many.
-#[tactic(auto, unfolding(es_tree::specs::Fits::most_nodes))]
+#[tactic(auto, unfolding(grammar_theory::specs::Fits::most_nodes))]
 #[inline(always)]
 pub fn reached(first: usize, parts: usize, cursor: &Cursor) -> Result<usize, SyntaxError>
     ensures counted { IfOk result (λ n. (n ≡ max first (suc parts)) × (leb (max first (suc parts)) most_nodes ≡ true)) }

@@ -1,9 +1,9 @@
 //! Forms: parts of a node, one after another.
 
 ghost use Rattle.std.specs.Prelude.{◌≡◌, ◌+◌, length};
-ghost use Rattle.es_tree.specs.Key.{keys_of, seen};
-ghost use Rattle.es_tree.specs.Productions.{Rhs, done, tok, punct, row, opt, many, alt, when_, where_, test};
-ghost use Rattle.es_tree.specs.Reader.{gives, either, read_turns};
+ghost use Rattle.grammar_theory.specs.Key.{keys_of, seen};
+ghost use Rattle.grammar_theory.specs.Productions.{Rhs, done, tok, punct, row, opt, many, alt, when_, where_, test};
+ghost use Rattle.grammar_theory.specs.Reader.{gives, either, read_turns};
 ghost use Rattle.es_rules.specs.Predict.{leaf_kind_of};
 ghost use Rattle.es_rules.specs.Bounded.{makes, form_at};
 ghost use Rattle.es_rules.specs.Steps.{keys_in, IsPart, Adds};
@@ -13,7 +13,7 @@ use crate::predict::{Holds, IsOfKinds, LeafKind, Sees, Tells};
 use crate::table::{Grammar, Rows};
 use es_syntax::What;
 use es_token::TokenKind;
-use es_tree::SyntaxError;
+use grammar_theory::SyntaxError;
 
 /// What reads parts of a node, whose rows are those of a table.
 pub trait ReadsRhs<R> {

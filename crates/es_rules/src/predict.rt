@@ -2,8 +2,8 @@
 
 ghost use Rattle.std.specs.Prelude.{◌≡◌, ℕ, Bool, List};
 ghost use Rattle.es_token.specs.declared.token.TokenKind.{TokenKind as Kind};
-ghost use Rattle.es_tree.specs.Key.{Key, TokenTest, keys_of, seen, has_kind};
-ghost use Rattle.es_tree.specs.Productions.{Predicate, Predict, by_lookahead, greedy, by_predicate, test};
+ghost use Rattle.grammar_theory.specs.Key.{Key, TokenTest, keys_of, seen, has_kind};
+ghost use Rattle.grammar_theory.specs.Productions.{Predicate, Predict, by_lookahead, greedy, by_predicate, test};
 ghost use Rattle.es_rules.specs.Steps.{keys_in};
 
 use crate::cursor::Input;

@@ -1,8 +1,8 @@
 //! Rules: the alternatives of a row.
 
 ghost use Rattle.std.specs.Prelude.{◌≡◌};
-ghost use Rattle.es_tree.specs.Productions.{Production, refuse, make, choose, as_, pick, wrap};
-ghost use Rattle.es_tree.specs.Reader.{and_then};
+ghost use Rattle.grammar_theory.specs.Productions.{Production, refuse, make, choose, as_, pick, wrap};
+ghost use Rattle.grammar_theory.specs.Reader.{and_then};
 ghost use Rattle.es_grammar.specs.declared.rows.NodeKind.{NodeKind};
 ghost use Rattle.es_grammar.specs.Embedding.{label_by};
 ghost use Rattle.es_rules.specs.Bounded.{form_at, node_at, rule_at};
@@ -15,7 +15,7 @@ use crate::table::{Grammar, Rows};
 use crate::wraps::wraps;
 use es_grammar::NodeKind;
 use es_syntax::What;
-use es_tree::{Lang, SyntaxError};
+use grammar_theory::{Lang, SyntaxError};
 
 /// What reads a rule, whose rows are those of a table.
 pub trait ReadsProduction<R> {

@@ -1,13 +1,13 @@
 //! A table, as its readers see it: the rows that a rule names, each of which can be read.
 
 ghost use Rattle.std.specs.Prelude.{ℕ};
-ghost use Rattle.es_tree.specs.Reader.{Out};
+ghost use Rattle.grammar_theory.specs.Reader.{Out};
 ghost use Rattle.es_rules.specs.declared.cursor.Input.{Input as Source};
 ghost use Rattle.es_rules.specs.Bounded.{Read};
 ghost use Rattle.es_rules.specs.Steps.{IsRead};
 
 use crate::cursor::{Cursor, Input};
-use es_tree::SyntaxError;
+use grammar_theory::SyntaxError;
 
 /// What reads the rows of a table, which are named by `R`.
 pub trait Rows<R> {

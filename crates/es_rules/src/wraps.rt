@@ -1,13 +1,13 @@
 //! Turns behind an operand: each makes a node, whose first part is what was read before it.
 
 ghost use Rattle.std.specs.Prelude.{◌≡◌, ◌∷◌, [], length, true, false, List, leb, ◌+◌, ◌<◌, IfSome, IfOk, IfNone, OnOk, OnErr};
-ghost use Rattle.es_tree.specs.Key.{keys_of};
-ghost use Rattle.es_tree.specs.Productions.{test};
-ghost use Rattle.es_tree.specs.Fits.{most_nodes};
-ghost use Rattle.es_tree.specs.Plain.{over};
-ghost use Rattle.es_tree.specs.Reader.{and_then};
+ghost use Rattle.grammar_theory.specs.Key.{keys_of};
+ghost use Rattle.grammar_theory.specs.Productions.{test};
+ghost use Rattle.grammar_theory.specs.Fits.{most_nodes};
+ghost use Rattle.grammar_theory.specs.Plain.{over};
+ghost use Rattle.grammar_theory.specs.Reader.{and_then};
 ghost use Rattle.es_grammar.specs.Conditions.{leans};
-ghost use Rattle.es_cst.specs.declared.tree.Cst.{Cst};
+ghost use Rattle.es_grammar.specs.declared.cst.tree.Cst.{Cst};
 ghost use Rattle.es_syntax.specs.declared.entry.Entry.{Entry};
 ghost use Rattle.es_syntax.specs.Held.{label_of};
 ghost use Rattle.es_syntax.specs.declared.entry.What.TheVariants as vWhat;
@@ -20,7 +20,7 @@ use crate::predict::Tells;
 use crate::table::{Grammar, Rows};
 use es_grammar::NodeKind;
 use es_syntax::{Entry, Lean, What, Writer};
-use es_tree::SyntaxError;
+use grammar_theory::SyntaxError;
 use std::alloc::AllocError;
 
 /// The alternatives that lean left: a chain of them is one entry.

@@ -3,9 +3,9 @@ use Rattle.std.specs.Prelude.{ℕ, List, [], ◌∷◌, ◌++◌, map}
 use Rattle.std.proofs.Common.{◌≡◌, refl, sym, ap, ◌∙◌}
 use Rattle.std.proofs.lemmas.List.{append-nil, append_assoc}
 use Rattle.es_token.specs.declared.token.Token.{Token}
-use Rattle.es_cst.specs.declared.tree.Cst.{Cst, roll-Cst, out-Cst, roll-out-Cst}
-use Rattle.es_cst.specs.declared.tree.Cst.TheOpen.{Cst-F}
-use Rattle.es_cst.specs.declared.tree.Cst.TheFolds.{fold-roll-Cst}
+use Rattle.es_grammar.specs.declared.cst.tree.Cst.{Cst, roll-Cst, out-Cst, roll-out-Cst}
+use Rattle.es_grammar.specs.declared.cst.tree.Cst.TheOpen.{Cst-F}
+use Rattle.es_grammar.specs.declared.cst.tree.Cst.TheFolds.{fold-roll-Cst}
 use Rattle.es_syntax.specs.declared.entry.Lean.{Lean}
 use Rattle.es_syntax.specs.declared.entry.Lean.TheVariants as vLean
 use Rattle.es_syntax.specs.Held.{label_of}

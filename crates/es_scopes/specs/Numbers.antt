@@ -3,7 +3,7 @@
 use Rattle.std.specs.Prelude.{◌≡◌, ℕ, ◌+◌, ◌==◌, Bool, true, false, ◌&&◌, ◌||◌, if◌then◌else◌, List, [], ◌∷◌, map, Option, Some, None, option_map, slice_get, bytes_eq}
 use Rattle.es_token.specs.declared.token.Token.{Token}
 use Rattle.es_lowering.specs.Texts.{ident_of}
-use Rattle.es_cst.specs.declared.tree.Cst.{Cst}
+use Rattle.es_grammar.specs.declared.cst.tree.Cst.{Cst}
 use Rattle.es_scopes.specs.declared.steps.Place.{Place}
 use Rattle.es_scopes.specs.declared.steps.Place.TheVariants as vPlace
 use Rattle.es_scopes.specs.declared.steps.Mark.TheVariants as mark

@@ -1,7 +1,7 @@
 -- The parts of a node, of a group and of a list, as a row of entries has them.
 use Rattle.std.specs.Prelude.{List, [], ◌∷◌, ◌++◌, length, Option, Some, None, map}
 use Rattle.es_token.specs.declared.token.Token.{Token}
-use Rattle.es_cst.specs.declared.tree.Cst.{Cst}
+use Rattle.es_grammar.specs.declared.cst.tree.Cst.{Cst}
 use Rattle.es_syntax.specs.declared.entry.Entry.{Entry}
 use Rattle.es_syntax.specs.declared.entry.Lean.{Lean}
 use Rattle.es_syntax.specs.declared.entry.Lean.TheVariants as vLean

@@ -1,17 +1,17 @@
 //! What a statement ends with, and what `using` begins with.
 
-ghost use Rattle.es_type_grammar.specs.Modules.{ended};
+ghost use Rattle.es_grammar.specs.types.Modules.{ended};
 ghost use Rattle.es_grammar.specs.Embedding.{plain_form};
 ghost use Rattle.es_grammar.specs.Statements.{using_in};
 
+use crate::predicates::Lookahead::Is;
+use crate::predicates::{Kinds, Lookahead, Predicate};
 use es_grammar::{Context, Row};
-use es_predicates::Lookahead::Is;
-use es_predicates::{Kinds, Lookahead, Predicate};
 use es_rules::{
     Cursor, Done, Grammar, Greedy, LeafKind, Opt, Punct, ReadsRhs, Rows, Tok, When, Where,
 };
 use es_token::TokenKind;
-use es_tree::SyntaxError;
+use grammar_theory::SyntaxError;
 
 /// END: a `;`, which is taken where it is there
 #[derive(Clone, Copy)]
@@ -20,7 +20,7 @@ pub struct Ended;
 impl ReadsRhs<Row> for Ended {
     ghost form = { λ _. plain_form ended };
 
-    #[tactic(auto, unfolding(es_type_grammar::specs::Modules::ended))]
+    #[tactic(auto, unfolding(es_grammar::specs::types::Modules::ended))]
     fn read<T: Rows<Row>>(
         &self,
         grammar: &Grammar<'_, T>,

@@ -3,16 +3,16 @@
 ghost use Rattle.es_grammar.specs.Expressions.{star_in, name_in, class_name_in, body_in, function, async_function, any_function, class_form, class_, abstract_class, any_class};
 
 use crate::ends::Ended;
+use crate::predicates::Lookahead::{Has, Is, Other};
+use crate::predicates::{Kinds, Lookahead, Predicate};
 use crate::typed::{HeritageIn, ImplementsIn, TypeParametersIn};
 use es_grammar::{Context, NodeKind, Row};
-use es_predicates::Lookahead::{Has, Is, Other};
-use es_predicates::{Kinds, Lookahead, Predicate};
 use es_rules::{
     Alt, ByLookahead, ByPredicate, Choose, Cursor, Done, Grammar, Greedy, LeafKind, Make, MakeBy,
     Many, OfRow, Opt, Punct, ReadsProduction, ReadsRhs, Rows, Tok, When,
 };
 use es_token::TokenKind;
-use es_tree::{Lang, SyntaxError};
+use grammar_theory::{Lang, SyntaxError};
 
 /// '*'?, and what stands behind it
 #[derive(Clone, Copy)]

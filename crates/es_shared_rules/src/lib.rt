@@ -4,6 +4,7 @@
 mod ends;
 mod functions;
 mod patterns;
+pub mod predicates;
 mod typed;
 
 pub use ends::{Ended, UsingIn};

@@ -2,15 +2,15 @@
 
 ghost use Rattle.es_grammar.specs.Functions.{default_in, array_pattern, object_pattern, bracket_pattern, pattern};
 
+use crate::predicates::Kinds;
+use crate::predicates::Lookahead::{Has, Is, Other};
 use es_grammar::{Context, NodeKind, Row};
-use es_predicates::Kinds;
-use es_predicates::Lookahead::{Has, Is, Other};
 use es_rules::{
     Alt, ByLookahead, Choose, Cursor, Done, Grammar, Greedy, LeafKind, Make, Many, OfRow, Opt,
     Punct, ReadsProduction, ReadsRhs, Rows, Tok,
 };
 use es_token::TokenKind;
-use es_tree::{Lang, SyntaxError};
+use grammar_theory::{Lang, SyntaxError};
 
 /// ('=' Assign)?, and what stands behind it
 #[derive(Clone, Copy)]

@@ -1,20 +1,20 @@
 //! Parts of TypeScript alone: in JavaScript none of them is there.
 
-ghost use Rattle.es_tree.specs.declared.error.Lang.TheVariants as lang;
+ghost use Rattle.grammar_theory.specs.declared.error.Lang.TheVariants as lang;
 ghost use Rattle.std.specs.Prelude.{◌≡◌};
 ghost use Rattle.es_grammar.specs.Rows.{without_colon};
 ghost use Rattle.es_grammar.specs.Embedding.{typed_in, type_parameters_in, type_arguments_in, annotation_in, result_in};
 ghost use Rattle.es_grammar.specs.Expressions.{new_arguments_in, heritage_in, implements_in, references_in, arrow_result_in, asserted, asserted_or};
 
+use crate::predicates::Lookahead::{Has, Is};
+use crate::predicates::{Kinds, Lookahead, Predicate};
 use es_grammar::{Context, Row, TypeRow};
-use es_predicates::Lookahead::{Has, Is};
-use es_predicates::{Kinds, Lookahead, Predicate};
 use es_rules::{
     Alt, ByPredicate, Cursor, Done, Grammar, Greedy, LeafKind, Many, OfRow, Opt, Punct, ReadsRhs,
     Rows, Tok, When, Where,
 };
 use es_token::TokenKind;
-use es_tree::{Lang, SyntaxError};
+use grammar_theory::{Lang, SyntaxError};
 
 /// The place where no `:` opens an arrow's result.
 pub fn without_colon(lang: Lang, context: Context) -> Context

@@ -1,6 +1,6 @@
 -- The `type` among the attributes of an import (ECMA-262, "WithClause"; for `import()`, "ImportCall").
 use Rattle.std.specs.Prelude.{ℕ, Bool, true, false, ◌&&◌, List, [], ◌∷◌, Option, Some, None, fold, bytes_eq, codes, if◌then◌else◌}
-use Rattle.ts_ast.specs.declared.leaf.Str.{Str}
+use Rattle.es_ast.specs.declared.ts.leaf.Str.{Str}
 use Rattle.es_ast.specs.declared.leaf.ModuleExportName.{ModuleExportName}
 use Rattle.es_ast.specs.declared.leaf.ModuleExportName.TheVariants as vName
 use Rattle.es_ast.specs.declared.leaf.ImportAttribute.{ImportAttribute}

@@ -4,7 +4,7 @@ use Rattle.std.specs.List.{flat_map}
 use Rattle.base.specs.declared.range.Range.{Range}
 use Rattle.es_literal.specs.Strings.{IsString}
 use Rattle.es_literal.specs.Values.{value_of}
-use Rattle.ts_ast.specs.declared.leaf.Str.{Str}
+use Rattle.es_ast.specs.declared.ts.leaf.Str.{Str}
 use Rattle.es_ast.specs.declared.leaf.ImportDecl.{ImportDecl}
 use Rattle.es_ast.specs.declared.leaf.ImportPhase.{ImportPhase}
 use Rattle.es_ast.specs.declared.leaf.ImportPhase.TheVariants as phase

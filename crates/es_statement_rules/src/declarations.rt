@@ -1,22 +1,22 @@
 //! Blocks and declarations.
 
-ghost use Rattle.es_tree.specs.declared.error.Lang.TheVariants as lang;
+ghost use Rattle.grammar_theory.specs.declared.error.Lang.TheVariants as lang;
 ghost use Rattle.es_grammar.specs.Statements.{condition_in, block, declarator, declarators, variables, using_};
 ghost use Rattle.es_grammar.specs.Declarations.{plain_declaration, declaration};
 
 use crate::typed::{Declare, Enum, TypedDeclaration};
 use es_grammar::{Context, NodeKind, Row};
-use es_predicates::Lookahead::{Is, Other};
-use es_predicates::{Kinds, Lookahead, Predicate};
 use es_rules::{
     ByLookahead, Cursor, Done, Grammar, Greedy, Holds, IsOfKinds, LeafKind, Make, Many, OfRow, Opt,
     Pick, Punct, ReadsProduction, ReadsRhs, Rows, Tok, When, Wrap,
 };
+use es_shared_rules::predicates::Lookahead::{Is, Other};
+use es_shared_rules::predicates::{Kinds, Lookahead, Predicate};
 use es_shared_rules::{
     AbstractClass, AnnotationIn, AsyncFunction, Class, Ended, Function, Pattern, UsingIn,
 };
 use es_token::TokenKind;
-use es_tree::{Lang, SyntaxError};
+use grammar_theory::{Lang, SyntaxError};
 
 /// '(' Expr ')', and what stands behind it
 #[derive(Clone, Copy)]

@@ -5,15 +5,15 @@ ghost use Rattle.es_grammar.specs.Items.{default_expression, default_interface, 
 use crate::modules::{Export, Import};
 use crate::statements::Statement;
 use es_grammar::{Context, NodeKind, Row};
-use es_predicates::Lookahead::Is;
-use es_predicates::{Kinds, Lookahead, Predicate};
 use es_rules::{
     ByLookahead, Choose, Cursor, Done, Grammar, Greedy, LeafKind, Make, Many, OfRow, Opt, Pick,
     Punct, ReadsProduction, ReadsRhs, Rows, Tok,
 };
 use es_shared_rules::Ended;
+use es_shared_rules::predicates::Lookahead::Is;
+use es_shared_rules::predicates::{Kinds, Lookahead, Predicate};
 use es_token::TokenKind;
-use es_tree::{Lang, SyntaxError};
+use grammar_theory::{Lang, SyntaxError};
 
 /// 'export' 'default' Assign END
 #[derive(Clone, Copy)]

@@ -3,14 +3,14 @@
 ghost use Rattle.es_grammar.specs.Statements.{start_in, for_, for_each, for_await};
 
 use es_grammar::{Context, NodeKind, Row};
-use es_predicates::Lookahead::{Has, Is, Other};
-use es_predicates::{Kinds, Predicate};
 use es_rules::{
     Alt, ByPredicate, Cursor, Done, Grammar, Greedy, LeafKind, Make, OfRow, Opt, Punct,
     ReadsProduction, ReadsRhs, Rows, Tok, Where,
 };
+use es_shared_rules::predicates::Lookahead::{Has, Is, Other};
+use es_shared_rules::predicates::{Kinds, Predicate};
 use es_token::TokenKind;
-use es_tree::SyntaxError;
+use grammar_theory::SyntaxError;
 
 /// (Var | Using | Expr)?, where `in` is no operator, and what stands behind it
 #[derive(Clone, Copy)]

@@ -1,19 +1,19 @@
 //! Imports, and exports of names.
 
 ghost use Rattle.es_grammar.specs.Embedding.{plain_form, plain_rule, word_or_str_in, names_in, type_word_in, equals_in};
-ghost use Rattle.es_predicates.specs.Named.{predicate_of};
-ghost use Rattle.es_type_grammar.specs.Modules.{attributes, attributes_ended, from_ended, import_specifier, named, clause, entity, required, source_import, defer_import, import_, export_specifier, export_};
+ghost use Rattle.es_shared_rules.specs.predicates.Named.{predicate_of};
+ghost use Rattle.es_grammar.specs.types.Modules.{attributes, attributes_ended, from_ended, import_specifier, named, clause, entity, required, source_import, defer_import, import_, export_specifier, export_};
 
 use es_grammar::{NodeKind, Row};
-use es_predicates::Lookahead::{Has, Is, Other};
-use es_predicates::{Kinds, Predicate};
 use es_rules::{
     Alt, ByLookahead, ByPredicate, Choose, Cursor, Done, Grammar, Greedy, LeafKind, Make, Many,
     OfRow, Opt, Pick, Punct, ReadsProduction, ReadsRhs, Rows, Tok, Where,
 };
 use es_shared_rules::Ended;
+use es_shared_rules::predicates::Lookahead::{Has, Is, Other};
+use es_shared_rules::predicates::{Kinds, Predicate};
 use es_token::TokenKind;
-use es_tree::{Lang, SyntaxError};
+use grammar_theory::{Lang, SyntaxError};
 
 /// A word or a string literal, and what stands behind it.
 #[derive(Clone, Copy)]
@@ -74,7 +74,7 @@ pub struct Attributes;
 impl ReadsProduction<Row> for Attributes {
     ghost rule = { λ _. plain_rule attributes };
 
-    #[tactic(auto, unfolding(es_type_grammar::specs::Modules::attributes, es_type_grammar::specs::Modules::word_or_str_in, es_grammar::specs::Embedding::word_or_str_in))]
+    #[tactic(auto, unfolding(es_grammar::specs::types::Modules::attributes, es_grammar::specs::types::Modules::word_or_str_in, es_grammar::specs::Embedding::word_or_str_in))]
     fn read<T: Rows<Row>>(
         &self,
         grammar: &Grammar<'_, T>,
@@ -116,7 +116,7 @@ pub struct AttributesEnded;
 impl ReadsRhs<Row> for AttributesEnded {
     ghost form = { λ _. plain_form attributes_ended };
 
-    #[tactic(auto, unfolding(es_type_grammar::specs::Modules::attributes_ended))]
+    #[tactic(auto, unfolding(es_grammar::specs::types::Modules::attributes_ended))]
     fn read<T: Rows<Row>>(
         &self,
         grammar: &Grammar<'_, T>,
@@ -138,7 +138,7 @@ pub struct FromEnded;
 impl ReadsRhs<Row> for FromEnded {
     ghost form = { λ _. plain_form from_ended };
 
-    #[tactic(auto, unfolding(es_type_grammar::specs::Modules::from_ended))]
+    #[tactic(auto, unfolding(es_grammar::specs::types::Modules::from_ended))]
     fn read<T: Rows<Row>>(
         &self,
         grammar: &Grammar<'_, T>,
@@ -181,7 +181,7 @@ pub struct ImportSpecifier(pub Lang);
 impl ReadsProduction<Row> for ImportSpecifier {
     ghost rule = { λ s. plain_rule (import_specifier s.0) };
 
-    #[tactic(auto, unfolding(es_type_grammar::specs::Modules::import_specifier, es_type_grammar::specs::Modules::type_word_in, es_grammar::specs::Embedding::type_word_in, es_type_grammar::specs::Modules::word_or_str_in, es_grammar::specs::Embedding::word_or_str_in))]
+    #[tactic(auto, unfolding(es_grammar::specs::types::Modules::import_specifier, es_grammar::specs::types::Modules::type_word_in, es_grammar::specs::Embedding::type_word_in, es_grammar::specs::types::Modules::word_or_str_in, es_grammar::specs::Embedding::word_or_str_in))]
     fn read<T: Rows<Row>>(
         &self,
         grammar: &Grammar<'_, T>,
@@ -221,7 +221,7 @@ pub struct Named(pub Lang);
 impl ReadsProduction<Row> for Named {
     ghost rule = { λ s. plain_rule (named s.0) };
 
-    #[tactic(auto, unfolding(es_type_grammar::specs::Modules::named, es_type_grammar::specs::Modules::names_in, es_grammar::specs::Embedding::names_in))]
+    #[tactic(auto, unfolding(es_grammar::specs::types::Modules::named, es_grammar::specs::types::Modules::names_in, es_grammar::specs::Embedding::names_in))]
     fn read<T: Rows<Row>>(
         &self,
         grammar: &Grammar<'_, T>,
@@ -255,7 +255,7 @@ pub struct Clause(pub Lang);
 impl ReadsProduction<Row> for Clause {
     ghost rule = { λ s. plain_rule (clause s.0) };
 
-    #[tactic(auto, unfolding(es_type_grammar::specs::Modules::clause))]
+    #[tactic(auto, unfolding(es_grammar::specs::types::Modules::clause))]
     fn read<T: Rows<Row>>(
         &self,
         grammar: &Grammar<'_, T>,
@@ -291,7 +291,7 @@ pub struct Entity;
 impl ReadsProduction<Row> for Entity {
     ghost rule = { λ _. plain_rule entity };
 
-    #[tactic(auto, unfolding(es_type_grammar::specs::Modules::entity))]
+    #[tactic(auto, unfolding(es_grammar::specs::types::Modules::entity))]
     fn read<T: Rows<Row>>(
         &self,
         grammar: &Grammar<'_, T>,
@@ -344,7 +344,7 @@ pub struct Required;
 impl ReadsRhs<Row> for Required {
     ghost form = { λ _. plain_form required };
 
-    #[tactic(auto, unfolding(es_type_grammar::specs::Modules::required))]
+    #[tactic(auto, unfolding(es_grammar::specs::types::Modules::required))]
     fn read<T: Rows<Row>>(
         &self,
         grammar: &Grammar<'_, T>,
@@ -372,7 +372,7 @@ pub struct SourceImport;
 impl ReadsProduction<Row> for SourceImport {
     ghost rule = { λ _. plain_rule source_import };
 
-    #[tactic(auto, unfolding(es_type_grammar::specs::Modules::source_import))]
+    #[tactic(auto, unfolding(es_grammar::specs::types::Modules::source_import))]
     fn read<T: Rows<Row>>(
         &self,
         grammar: &Grammar<'_, T>,
@@ -399,7 +399,7 @@ pub struct DeferImport;
 impl ReadsProduction<Row> for DeferImport {
     ghost rule = { λ _. plain_rule defer_import };
 
-    #[tactic(auto, unfolding(es_type_grammar::specs::Modules::defer_import))]
+    #[tactic(auto, unfolding(es_grammar::specs::types::Modules::defer_import))]
     fn read<T: Rows<Row>>(
         &self,
         grammar: &Grammar<'_, T>,
@@ -432,7 +432,7 @@ pub struct Import(pub Lang);
 impl ReadsProduction<Row> for Import {
     ghost rule = { λ s. plain_rule (import_ s.0) };
 
-    #[tactic(auto, unfolding(es_type_grammar::specs::Modules::import_, es_type_grammar::specs::Modules::equals_in, es_grammar::specs::Embedding::equals_in, es_type_grammar::specs::Modules::type_word_in, es_grammar::specs::Embedding::type_word_in))]
+    #[tactic(auto, unfolding(es_grammar::specs::types::Modules::import_, es_grammar::specs::types::Modules::equals_in, es_grammar::specs::Embedding::equals_in, es_grammar::specs::types::Modules::type_word_in, es_grammar::specs::Embedding::type_word_in))]
     fn read<T: Rows<Row>>(
         &self,
         grammar: &Grammar<'_, T>,
@@ -488,7 +488,7 @@ pub struct ExportSpecifier(pub Lang);
 impl ReadsProduction<Row> for ExportSpecifier {
     ghost rule = { λ s. plain_rule (export_specifier s.0) };
 
-    #[tactic(auto, unfolding(es_type_grammar::specs::Modules::export_specifier, es_type_grammar::specs::Modules::type_word_in, es_grammar::specs::Embedding::type_word_in, es_type_grammar::specs::Modules::word_or_str_in, es_grammar::specs::Embedding::word_or_str_in))]
+    #[tactic(auto, unfolding(es_grammar::specs::types::Modules::export_specifier, es_grammar::specs::types::Modules::type_word_in, es_grammar::specs::Embedding::type_word_in, es_grammar::specs::types::Modules::word_or_str_in, es_grammar::specs::Embedding::word_or_str_in))]
     fn read<T: Rows<Row>>(
         &self,
         grammar: &Grammar<'_, T>,
@@ -519,7 +519,7 @@ pub struct Export(pub Lang);
 impl ReadsProduction<Row> for Export {
     ghost rule = { λ s. plain_rule (export_ s.0) };
 
-    #[tactic(auto, unfolding(es_type_grammar::specs::Modules::export_, es_type_grammar::specs::Modules::equals_in, es_grammar::specs::Embedding::equals_in, es_type_grammar::specs::Modules::type_word_in, es_grammar::specs::Embedding::type_word_in, es_type_grammar::specs::Modules::word_or_str_in, es_grammar::specs::Embedding::word_or_str_in, es_type_grammar::specs::Modules::names_in, es_grammar::specs::Embedding::names_in))]
+    #[tactic(auto, unfolding(es_grammar::specs::types::Modules::export_, es_grammar::specs::types::Modules::equals_in, es_grammar::specs::Embedding::equals_in, es_grammar::specs::types::Modules::type_word_in, es_grammar::specs::Embedding::type_word_in, es_grammar::specs::types::Modules::word_or_str_in, es_grammar::specs::Embedding::word_or_str_in, es_grammar::specs::types::Modules::names_in, es_grammar::specs::Embedding::names_in))]
     fn read<T: Rows<Row>>(
         &self,
         grammar: &Grammar<'_, T>,

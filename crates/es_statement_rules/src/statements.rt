@@ -3,20 +3,20 @@
 ghost use Rattle.es_grammar.specs.Embedding.{plain_form};
 ghost use Rattle.es_grammar.specs.Statements.{return_, case_in, switch_, finally_in, try_, expression_statement, keyword_statement, other_statement};
 ghost use Rattle.es_grammar.specs.Declarations.{statement};
-ghost use Rattle.es_type_grammar.specs.Statements.{label_ended};
+ghost use Rattle.es_grammar.specs.types.Statements.{label_ended};
 
 use crate::declarations::{Block, ConditionIn, Declaration};
 use crate::loops::{For, ForAwait, ForEach};
 use es_grammar::{Context, NodeKind, Row};
-use es_predicates::Lookahead::Is;
-use es_predicates::{Kinds, Lookahead, Predicate};
 use es_rules::{
     Alt, ByLookahead, Cursor, Done, Grammar, Greedy, Holds, LeafKind, Make, MakeBy, Many, OfRow,
     Opt, Pick, Punct, ReadsProduction, ReadsRhs, Rows, Tok, When, Where,
 };
+use es_shared_rules::predicates::Lookahead::Is;
+use es_shared_rules::predicates::{Kinds, Lookahead, Predicate};
 use es_shared_rules::{AnnotationIn, Ended, without_colon};
 use es_token::TokenKind;
-use es_tree::{Lang, SyntaxError};
+use grammar_theory::{Lang, SyntaxError};
 
 /// (~ Name)? END
 #[derive(Clone, Copy)]
@@ -25,7 +25,7 @@ pub struct LabelEnded;
 impl ReadsRhs<Row> for LabelEnded {
     ghost form = { λ _. plain_form label_ended };
 
-    #[tactic(auto, unfolding(es_type_grammar::specs::Statements::label_ended))]
+    #[tactic(auto, unfolding(es_grammar::specs::types::Statements::label_ended))]
     fn read<T: Rows<Row>>(
         &self,
         grammar: &Grammar<'_, T>,

@@ -3,17 +3,17 @@
 ghost use Rattle.es_grammar.specs.Declarations.{type_members, interface, alias, enum_, items_in, namespace, module_namespace, global, typed_declaration, declared, declare};
 
 use es_grammar::{Context, NodeKind, Row, TypeRow};
-use es_predicates::Lookahead::{Is, Other};
-use es_predicates::{Kinds, Predicate};
 use es_rules::{
     Alt, ByLookahead, Choose, Cursor, Done, Grammar, Greedy, LeafKind, Make, Many, OfRow, Opt,
     Pick, Punct, ReadsProduction, ReadsRhs, Rows, Tok, When,
 };
+use es_shared_rules::predicates::Lookahead::{Is, Other};
+use es_shared_rules::predicates::{Kinds, Predicate};
 use es_shared_rules::{
     AbstractClass, AsyncFunction, Class, DefaultIn, Ended, Function, ReferencesIn, TypeParametersIn,
 };
 use es_token::TokenKind;
-use es_tree::{Lang, SyntaxError};
+use grammar_theory::{Lang, SyntaxError};
 
 /// '{' TMember* '}'
 #[derive(Clone, Copy)]

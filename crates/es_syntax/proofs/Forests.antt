@@ -2,7 +2,7 @@
 use Rattle.std.proofs.Common.{◌≡◌, ℕ, zero, suc, ◌+◌, ◌<◌, ◌≤◌, List, [], ◌∷◌, ◌++◌, length, length-append, length-take, length-drop, take, drop, map, refl, sym, ap, subst, ◌∙◌, arith, append_assoc}
 use Rattle.std.proofs.Math.Seq.{take-append_seam, drop-append_seam}
 use Rattle.std.proofs.lemmas.List.{append-nil, take_all, take-append-drop}
-use Rattle.es_cst.specs.declared.tree.Cst.{Cst}
+use Rattle.es_grammar.specs.declared.cst.tree.Cst.{Cst}
 use Rattle.es_syntax.specs.declared.entry.What.{What}
 use Rattle.es_syntax.specs.declared.entry.Entry.{Entry}
 use Rattle.es_syntax.specs.Trees.{Kept, trees_in, tree_by, kept_by, trees}

@@ -3,10 +3,10 @@ use Rattle.std.specs.Prelude.{None, Option, Some, option_map}
 use Rattle.std.proofs.Common.{◌≡◌, ℕ, zero, suc, ◌+◌, ◌≤◌, ◌<◌, ◌-◌, List, [], ◌∷◌, length, take, drop, refl, arith, length-drop, min, map, ap, sym, ◌∙◌}
 use Rattle.std.proofs.lemmas.List.{length-take, take_min, drop_min}
 use Rattle.es_token.specs.declared.token.Token.{Token}
-use Rattle.es_cst.specs.declared.tree.Cst.{Cst, roll-Cst, out-Cst, roll-out-Cst}
-use Rattle.es_cst.specs.declared.tree.Cst.TheVariants as vCst
-use Rattle.es_cst.specs.declared.tree.Cst.TheOpen.{Cst-F}
-use Rattle.es_cst.specs.declared.tree.Cst.TheFolds.{fold-roll-Cst}
+use Rattle.es_grammar.specs.declared.cst.tree.Cst.{Cst, roll-Cst, out-Cst, roll-out-Cst}
+use Rattle.es_grammar.specs.declared.cst.tree.Cst.TheVariants as vCst
+use Rattle.es_grammar.specs.declared.cst.tree.Cst.TheOpen.{Cst-F}
+use Rattle.es_grammar.specs.declared.cst.tree.Cst.TheFolds.{fold-roll-Cst}
 use Rattle.es_grammar.specs.declared.rows.NodeKind.{NodeKind}
 use Rattle.es_lowering.specs.Value.{Value, absent, nil, more, token, node, part, as_group, typed}
 use Rattle.es_lowering.specs.Texts.{token_of, span_of}

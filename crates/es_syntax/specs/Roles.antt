@@ -1,18 +1,18 @@
 -- What a value is in each role in which a node may stand.
 use Rattle.std.specs.Prelude.{ℕ, Bool, List, Option}
 use Rattle.base.specs.declared.range.Range.{Range}
-use Rattle.ts_ast.specs.declared.leaf.Ident.{Ident}
-use Rattle.ts_ast.specs.declared.leaf.TsEntityName.{TsEntityName}
-use Rattle.ts_ast.specs.declared.leaf.TsKey.{TsKey}
-use Rattle.ts_ast.specs.declared.ts.Nodes.{Nodes}
-use Rattle.ts_ast.specs.declared.ts.TsType.{TsType}
-use Rattle.ts_ast.specs.declared.ts.TsTypeParam.{TsTypeParam}
-use Rattle.ts_ast.specs.declared.ts.TsTypeElement.{TsTypeElement}
-use Rattle.ts_ast.specs.declared.ts.TsTupleElement.{TsTupleElement}
-use Rattle.ts_ast.specs.declared.ts.TsFnParam.{TsFnParam}
-use Rattle.ts_ast.specs.declared.ts.TsParamPat.{TsParamPat}
-use Rattle.ts_ast.specs.declared.ts.TsPatProp.{TsPatProp}
-use Rattle.ts_ast.specs.declared.ts.TsPart.{TsPart}
+use Rattle.es_ast.specs.declared.ts.leaf.Ident.{Ident}
+use Rattle.es_ast.specs.declared.ts.leaf.TsEntityName.{TsEntityName}
+use Rattle.es_ast.specs.declared.ts.leaf.TsKey.{TsKey}
+use Rattle.es_ast.specs.declared.ts.ts.Nodes.{Nodes}
+use Rattle.es_ast.specs.declared.ts.ts.TsType.{TsType}
+use Rattle.es_ast.specs.declared.ts.ts.TsTypeParam.{TsTypeParam}
+use Rattle.es_ast.specs.declared.ts.ts.TsTypeElement.{TsTypeElement}
+use Rattle.es_ast.specs.declared.ts.ts.TsTupleElement.{TsTupleElement}
+use Rattle.es_ast.specs.declared.ts.ts.TsFnParam.{TsFnParam}
+use Rattle.es_ast.specs.declared.ts.ts.TsParamPat.{TsParamPat}
+use Rattle.es_ast.specs.declared.ts.ts.TsPatProp.{TsPatProp}
+use Rattle.es_ast.specs.declared.ts.ts.TsPart.{TsPart}
 use Rattle.es_ast.specs.declared.leaf.ImportNames.{ImportNames}
 use Rattle.es_ast.specs.declared.leaf.ImportClause.{ImportClause}
 use Rattle.es_ast.specs.declared.leaf.ImportSpecifier.{ImportSpecifier}

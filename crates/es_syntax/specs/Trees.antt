@@ -1,8 +1,8 @@
 -- The kept trees that a row of entries is.
 use Rattle.std.specs.Prelude.{ℕ, zero, suc, List, [], ◌∷◌, length, take, drop, map}
-use Rattle.es_cst.specs.declared.tree.Cst.{Cst, out-Cst}
-use Rattle.es_cst.specs.declared.tree.Cst.TheVariants as vCst
-use Rattle.es_cst.specs.declared.tree.Cst.TheOpen.{Cst-F}
+use Rattle.es_grammar.specs.declared.cst.tree.Cst.{Cst, out-Cst}
+use Rattle.es_grammar.specs.declared.cst.tree.Cst.TheVariants as vCst
+use Rattle.es_grammar.specs.declared.cst.tree.Cst.TheOpen.{Cst-F}
 use Rattle.es_syntax.specs.declared.entry.Lean.{Lean}
 use Rattle.es_syntax.specs.declared.entry.What.{What}
 use Rattle.es_syntax.specs.declared.entry.What.TheVariants as vWhat

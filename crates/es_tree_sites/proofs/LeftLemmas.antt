@@ -6,7 +6,7 @@ use Rattle.es_syntax.specs.declared.entry.Entry.{Entry}
 use Rattle.es_syntax.specs.declared.cursor.Item.{Item}
 use Rattle.es_syntax.specs.declared.cursor.Siblings.{Siblings}
 use Rattle.es_site.specs.Sites.{Found}
-use Rattle.es_plain_sites.specs.Part.{Part, nil, more}
+use Rattle.es_law_sites.specs.plain.Part.{Part, nil, more}
 use Rattle.es_tree_sites.specs.declared.plan.Way.{Way}
 use Rattle.es_tree_sites.specs.declared.source.TokenizedText.{TokenizedText}
 use Rattle.es_tree_sites.specs.declared.walk.Left.{Left}

@@ -1,20 +1,20 @@
 -- What is told of a node by its alternative, and of what is no node of one that is looked for.
 use Rattle.std.specs.Prelude.{ℕ, Bool, true, false, List, [], ◌∷◌, Option, Some, None, map, slice_get}
 use Rattle.std.proofs.Common.{◌≡◌, refl, sym, ap, ◌∙◌}
-use Rattle.ts_ast.specs.declared.leaf.Str.{Str}
+use Rattle.es_ast.specs.declared.ts.leaf.Str.{Str}
 use Rattle.es_token.specs.declared.token.Token.{Token}
 use Rattle.es_grammar.specs.declared.rows.NodeKind.{NodeKind}
 use Rattle.es_grammar.specs.declared.rows.NodeKind.TheVariants as l
-use Rattle.es_cst.specs.declared.tree.Cst.{Cst}
-use Rattle.es_cst.specs.declared.tree.Cst.TheVariants as vCst
+use Rattle.es_grammar.specs.declared.cst.tree.Cst.{Cst}
+use Rattle.es_grammar.specs.declared.cst.tree.Cst.TheVariants as vCst
 use Rattle.es_syntax.specs.declared.entry.Lean.{Lean}
 use Rattle.es_syntax.specs.Trees.{Kept, leant_tree}
 use Rattle.es_site.specs.declared.site.Attribute.{Attribute}
 use Rattle.es_site.specs.declared.site.Attribute.TheVariants.{Absent, Unknown}
 use Rattle.es_site.specs.Sites.{Found}
-use Rattle.es_plain_sites.specs.Part.{Part, absent, nil, more, token, node, packed, as_target}
-use Rattle.es_plain_sites.specs.Own.{own, made, part_of, token_in, clause_attribute, src_by, src_in, is_word_key, key_says, is_plain, given_in, with_by, with_in, options_by, options_of}
-use Rattle.es_plain_sites.proofs.Equations.{part_leaf, part_node, part_role, part_parts}
+use Rattle.es_law_sites.specs.plain.Part.{Part, absent, nil, more, token, node, packed, as_target}
+use Rattle.es_law_sites.specs.plain.Own.{own, made, part_of, token_in, clause_attribute, src_by, src_in, is_word_key, key_says, is_plain, given_in, with_by, with_in, options_by, options_of}
+use Rattle.es_law_sites.proofs.plain.Equations.{part_leaf, part_node, part_role, part_parts}
 use Rattle.es_tree_sites.specs.Parts.{IsOther}
 use Rattle.es_tree_sites.specs.Given.{is_word_label, clause_by, key_by, plain_by, given_by}
 use Rattle.es_tree_sites.proofs.LeanLemmas.{on_lean}

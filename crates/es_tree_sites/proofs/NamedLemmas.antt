@@ -4,17 +4,17 @@ use Rattle.std.proofs.Common.{◌≡◌, refl, sym, ap, subst, ◌∙◌}
 use Rattle.es_token.specs.declared.token.Token.{Token}
 use Rattle.es_grammar.specs.declared.rows.NodeKind.{NodeKind}
 use Rattle.es_grammar.specs.declared.rows.NodeKind.TheVariants as l
-use Rattle.es_cst.specs.declared.tree.Cst.{Cst}
-use Rattle.es_cst.specs.declared.tree.Cst.TheVariants as vCst
+use Rattle.es_grammar.specs.declared.cst.tree.Cst.{Cst}
+use Rattle.es_grammar.specs.declared.cst.tree.Cst.TheVariants as vCst
 use Rattle.es_syntax.specs.declared.entry.Entry.{Entry}
 use Rattle.es_syntax.specs.declared.entry.Lean.{Lean}
 use Rattle.es_syntax.specs.declared.entry.What.{What}
 use Rattle.es_syntax.specs.declared.entry.What.TheVariants as vWhat
 use Rattle.es_syntax.specs.Trees.{Kept, first_tree, leant_tree, trees_in, tree_by, kept_by}
 use Rattle.es_site.specs.Sites.{Found}
-use Rattle.es_plain_sites.specs.Part.{Part, absent, nil, more, token, node, found, packed, as_target}
-use Rattle.es_plain_sites.specs.Own.{own, part_of}
-use Rattle.es_plain_sites.proofs.Equations.{part_leaf, part_node, part_role, part_parts}
+use Rattle.es_law_sites.specs.plain.Part.{Part, absent, nil, more, token, node, found, packed, as_target}
+use Rattle.es_law_sites.specs.plain.Own.{own, part_of}
+use Rattle.es_law_sites.proofs.plain.Equations.{part_leaf, part_node, part_role, part_parts}
 use Rattle.es_tree_sites.specs.declared.plan.Way.{Way}
 use Rattle.es_tree_sites.specs.declared.plan.Way.TheVariants.{Skip}
 use Rattle.es_tree_sites.specs.Parts.{kept, parts_of}

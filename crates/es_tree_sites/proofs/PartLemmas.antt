@@ -3,8 +3,8 @@ use Rattle.std.specs.Prelude.{ℕ, Bool, true, List, [], ◌∷◌, Option, Some
 use Rattle.std.proofs.Common.{◌≡◌, refl, sym, ap, subst, ◌∙◌}
 use Rattle.es_token.specs.declared.token.Token.{Token}
 use Rattle.es_grammar.specs.declared.rows.NodeKind.{NodeKind}
-use Rattle.es_cst.specs.declared.tree.Cst.{Cst}
-use Rattle.es_cst.specs.declared.tree.Cst.TheVariants as vCst
+use Rattle.es_grammar.specs.declared.cst.tree.Cst.{Cst}
+use Rattle.es_grammar.specs.declared.cst.tree.Cst.TheVariants as vCst
 use Rattle.es_syntax.specs.declared.entry.Entry.{Entry}
 use Rattle.es_syntax.specs.declared.entry.Lean.{Lean}
 use Rattle.es_syntax.specs.declared.entry.Lean.TheVariants as vLean
@@ -12,9 +12,9 @@ use Rattle.es_syntax.specs.declared.cursor.Siblings.{Siblings}
 use Rattle.es_syntax.specs.declared.cursor.Item.{Item}
 use Rattle.es_syntax.specs.Held.{label_of}
 use Rattle.es_syntax.specs.Trees.{Kept, leant_tree, trees_in, trees}
-use Rattle.es_plain_sites.specs.Part.{Part, absent, nil, more, token, node, part, as_group, packed, as_target}
-use Rattle.es_plain_sites.specs.Own.{made, part_of}
-use Rattle.es_plain_sites.proofs.Equations.{part_leaf, part_node, part_role, part_parts}
+use Rattle.es_law_sites.specs.plain.Part.{Part, absent, nil, more, token, node, part, as_group, packed, as_target}
+use Rattle.es_law_sites.specs.plain.Own.{made, part_of}
+use Rattle.es_law_sites.proofs.plain.Equations.{part_leaf, part_node, part_role, part_parts}
 use Rattle.es_tree_sites.specs.declared.source.TokenizedText.{TokenizedText}
 use Rattle.es_tree_sites.specs.Parts.{kept, first_trees, parts_of, parts_in, first_in, is_other, IsOther, Seen}
 use Rattle.es_tree_sites.proofs.RowLemmas.{trees_kept, trees_none}

@@ -8,8 +8,8 @@ use Rattle.es_grammar.specs.declared.rows.NodeKind.TheVariants as l
 use Rattle.es_site.specs.declared.site.DependencyKind.{DependencyKind}
 use Rattle.es_site.specs.declared.site.DependencyKind.TheVariants as kind
 use Rattle.es_site.specs.Sites.{Found}
-use Rattle.es_plain_sites.specs.Part.{Part, absent, nil, more, token, node, part, as_group, group, is_there, found, at, inside, may, each, turns}
-use Rattle.es_plain_sites.specs.Own.{own, called, declared, optional_inner, typed_inner, typed_args, operand, first_of, returned, handled}
+use Rattle.es_law_sites.specs.plain.Part.{Part, absent, nil, more, token, node, part, as_group, group, is_there, found, at, inside, may, each, turns}
+use Rattle.es_law_sites.specs.plain.Own.{own, called, declared, optional_inner, typed_inner, typed_args, operand, first_of, returned, handled}
 use Rattle.es_tree_sites.specs.declared.plan.Way.{Way}
 use Rattle.es_tree_sites.specs.declared.plan.Way.TheVariants.{Skip, Tree, In, Either}
 use Rattle.es_tree_sites.specs.declared.plan.Group.{Group}

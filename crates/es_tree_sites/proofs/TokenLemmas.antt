@@ -3,13 +3,13 @@ use Rattle.std.specs.Prelude.{ℕ, true, false, List, [], ◌∷◌, map}
 use Rattle.std.proofs.Common.{◌≡◌, refl, ap, ◌∙◌}
 use Rattle.es_token.specs.declared.token.Token.{Token}
 use Rattle.es_grammar.specs.declared.rows.NodeKind.{NodeKind}
-use Rattle.es_cst.specs.declared.tree.Cst.{Cst}
-use Rattle.es_cst.specs.declared.tree.Cst.TheVariants as vCst
+use Rattle.es_grammar.specs.declared.cst.tree.Cst.{Cst}
+use Rattle.es_grammar.specs.declared.cst.tree.Cst.TheVariants as vCst
 use Rattle.es_syntax.specs.declared.entry.Lean.{Lean}
 use Rattle.es_syntax.specs.Trees.{Kept, leant_tree}
-use Rattle.es_plain_sites.specs.Part.{Part, absent, nil, more, token, node, packed, as_target}
-use Rattle.es_plain_sites.specs.Own.{part_of}
-use Rattle.es_plain_sites.proofs.Equations.{part_leaf, part_node, part_role, part_parts}
+use Rattle.es_law_sites.specs.plain.Part.{Part, absent, nil, more, token, node, packed, as_target}
+use Rattle.es_law_sites.specs.plain.Own.{part_of}
+use Rattle.es_law_sites.proofs.plain.Equations.{part_leaf, part_node, part_role, part_parts}
 use Rattle.es_tree_sites.specs.Plan.{is_token}
 use Rattle.es_tree_sites.proofs.LeanLemmas.{on_lean}
 

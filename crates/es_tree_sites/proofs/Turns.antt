@@ -1,10 +1,10 @@
 -- What is told over the turns of a list, turn by turn.
 use Rattle.std.specs.Prelude.{ℕ, Bool, ◌&&◌, List, Option}
 use Rattle.std.proofs.Common.{◌≡◌, refl}
-use Rattle.ts_ast.specs.declared.leaf.Str.{Str}
+use Rattle.es_ast.specs.declared.ts.leaf.Str.{Str}
 use Rattle.es_token.specs.declared.token.Token.{Token}
-use Rattle.es_plain_sites.specs.Part.{Part, nil, more}
-use Rattle.es_plain_sites.specs.Own.{last_type, are_plain, last_given}
+use Rattle.es_law_sites.specs.plain.Part.{Part, nil, more}
+use Rattle.es_law_sites.specs.plain.Own.{last_type, are_plain, last_given}
 use Rattle.es_tree_sites.specs.Given.{type_turn, plain_turn, given_turn}
 
 module _ (x : List ℕ) (ts : List Token) where

@@ -5,8 +5,8 @@ use Rattle.std.proofs.Common.{◌≡◌, refl, sym, ap, subst, ◌∙◌}
 use Rattle.std.proofs.lemmas.List.{append-nil, append_assoc}
 use Rattle.es_token.specs.declared.token.Token.{Token}
 use Rattle.es_grammar.specs.declared.rows.NodeKind.{NodeKind}
-use Rattle.es_cst.specs.declared.tree.Cst.{Cst}
-use Rattle.es_cst.specs.declared.tree.Cst.TheVariants as vCst
+use Rattle.es_grammar.specs.declared.cst.tree.Cst.{Cst}
+use Rattle.es_grammar.specs.declared.cst.tree.Cst.TheVariants as vCst
 use Rattle.es_syntax.specs.declared.entry.Entry.{Entry}
 use Rattle.es_syntax.specs.declared.entry.Lean.{Lean}
 use Rattle.es_syntax.specs.declared.entry.Lean.TheVariants as vLean
@@ -15,9 +15,9 @@ use Rattle.es_syntax.specs.declared.entry.What.{What}
 use Rattle.es_syntax.specs.declared.entry.What.TheVariants as vWhat
 use Rattle.es_syntax.specs.Trees.{Kept, first_tree, leant_tree, trees_in, tree_by, trees}
 use Rattle.es_site.specs.Sites.{Found}
-use Rattle.es_plain_sites.specs.Part.{Part, absent, nil, more, token, node, part, found, at, packed, as_target}
-use Rattle.es_plain_sites.specs.Own.{part_of, plain_sites}
-use Rattle.es_plain_sites.proofs.Equations.{part_leaf, part_role, part_parts}
+use Rattle.es_law_sites.specs.plain.Part.{Part, absent, nil, more, token, node, part, found, at, packed, as_target}
+use Rattle.es_law_sites.specs.plain.Own.{part_of, plain_sites}
+use Rattle.es_law_sites.proofs.plain.Equations.{part_leaf, part_role, part_parts}
 use Rattle.es_tree_sites.specs.declared.plan.Way.{Way}
 use Rattle.es_tree_sites.specs.declared.plan.Way.TheVariants.{Skip, Tree, In, Either}
 use Rattle.es_tree_sites.specs.declared.plan.Group.{Group}

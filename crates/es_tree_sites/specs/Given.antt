@@ -1,14 +1,14 @@
 -- Attributes, by the alternative of a node and over the turns of a list.
 use Rattle.std.specs.Prelude.{ℕ, Bool, true, false, List, Option, Some, None, codes, if◌then◌else◌}
 use Rattle.es_token.specs.declared.token.Token.{Token}
-use Rattle.ts_ast.specs.declared.leaf.Str.{Str}
+use Rattle.es_ast.specs.declared.ts.leaf.Str.{Str}
 use Rattle.es_grammar.specs.declared.rows.NodeKind.{NodeKind}
 use Rattle.es_grammar.specs.declared.rows.NodeKind.TheVariants as l
 use Rattle.es_site.specs.declared.site.Attribute.{Attribute}
 use Rattle.es_site.specs.declared.site.Attribute.TheVariants.{Absent}
 use Rattle.es_site.specs.Attributes.{named}
-use Rattle.es_plain_sites.specs.Part.{Part, part, as_group, group}
-use Rattle.es_plain_sites.specs.Own.{token_in, str_in, spelt, last_type, is_word_key, same_word, same_str, key_says, is_plain, given_in}
+use Rattle.es_law_sites.specs.plain.Part.{Part, part, as_group, group}
+use Rattle.es_law_sites.specs.plain.Own.{token_in, str_in, spelt, last_type, is_word_key, same_word, same_str, key_says, is_plain, given_in}
 
 -- a word or a string as a key
 abbrev pub is_word_label : NodeKind → Bool

@@ -7,7 +7,7 @@ use Rattle.es_syntax.specs.declared.entry.What.TheVariants as vWhat
 use Rattle.es_syntax.specs.declared.cursor.Item.{Item}
 use Rattle.es_syntax.specs.declared.cursor.Siblings.{Siblings}
 use Rattle.es_site.specs.Sites.{Found}
-use Rattle.es_plain_sites.specs.Part.{Part}
+use Rattle.es_law_sites.specs.plain.Part.{Part}
 use Rattle.es_tree_sites.specs.declared.plan.Way.{Way}
 use Rattle.es_tree_sites.specs.declared.source.TokenizedText.{TokenizedText}
 use Rattle.es_tree_sites.specs.declared.walk.Left.{Left}

@@ -3,13 +3,13 @@ use Rattle.std.specs.Prelude.{◌≡◌, ℕ, ◌≤◌, Bool, true, false, List
 use Rattle.es_token.specs.declared.token.Token.{Token}
 use Rattle.es_grammar.specs.declared.rows.NodeKind.{NodeKind}
 use Rattle.es_grammar.specs.declared.rows.NodeKind.TheVariants as l
-use Rattle.es_cst.specs.declared.tree.Cst.{Cst}
+use Rattle.es_grammar.specs.declared.cst.tree.Cst.{Cst}
 use Rattle.es_syntax.specs.declared.entry.Entry.{Entry}
 use Rattle.es_syntax.specs.declared.cursor.Siblings.{Siblings}
 use Rattle.es_syntax.specs.declared.cursor.Item.{Item}
 use Rattle.es_syntax.specs.Trees.{Kept, kept_by, tree_by, trees}
-use Rattle.es_plain_sites.specs.Part.{Part, absent, nil, more, node, packed}
-use Rattle.es_plain_sites.specs.Own.{part_of, made}
+use Rattle.es_law_sites.specs.plain.Part.{Part, absent, nil, more, node, packed}
+use Rattle.es_law_sites.specs.plain.Own.{part_of, made}
 use Rattle.es_tree_sites.specs.declared.source.TokenizedText.{TokenizedText}
 
 -- the trees that the entries are, each with the token behind it

@@ -8,8 +8,8 @@ use Rattle.es_site.specs.declared.site.Attribute.TheVariants.{Unknown}
 use Rattle.es_site.specs.declared.site.DependencyKind.{DependencyKind}
 use Rattle.es_site.specs.declared.site.DependencyKind.TheVariants as kind
 use Rattle.es_site.specs.Sites.{Found}
-use Rattle.es_plain_sites.specs.Part.{Part, nil, more, token, part, group, is_there, found}
-use Rattle.es_plain_sites.specs.Own.{attribute_in, str_in, options_in, src_in, naming}
+use Rattle.es_law_sites.specs.plain.Part.{Part, nil, more, token, part, group, is_there, found}
+use Rattle.es_law_sites.specs.plain.Own.{attribute_in, str_in, options_in, src_in, naming}
 use Rattle.es_tree_sites.specs.declared.plan.Way.{Way}
 use Rattle.es_tree_sites.specs.declared.plan.Way.TheVariants.{Skip, Tree, In, Either}
 use Rattle.es_tree_sites.specs.declared.plan.Group.{Group}

@@ -3,7 +3,7 @@
 ghost use Rattle.std.specs.Prelude.{◌≡◌, None, IfOk, IfSome, option_map, codes};
 ghost use Rattle.es_lowering.specs.Texts.{str_of};
 ghost use Rattle.es_site.specs.Attributes.{named};
-ghost use Rattle.es_plain_sites.specs.Own.{spelt, last_type, clause_attribute, attribute_in};
+ghost use Rattle.es_law_sites.specs.plain.Own.{spelt, last_type, clause_attribute, attribute_in};
 ghost use Rattle.es_tree_sites.specs.Parts.{parts_in, part_in, Cuts, HasCut};
 ghost use Rattle.es_tree_sites.specs.Given.{clause_by, type_turn};
 

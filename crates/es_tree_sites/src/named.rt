@@ -4,8 +4,8 @@ ghost use Rattle.std.specs.Prelude.{◌≡◌, false, ◌++◌, IfOk, IfSome, On
 ghost use Rattle.es_lowering.specs.Texts.{str_of};
 ghost use Rattle.es_site.specs.declared.site.Attribute.TheVariants as attribute;
 ghost use Rattle.es_site.specs.declared.site.DependencyKind.TheVariants as kinds;
-ghost use Rattle.es_plain_sites.specs.Part.{part, group, is_there};
-ghost use Rattle.es_plain_sites.specs.Own.{naming, str_in, src_in, options_in};
+ghost use Rattle.es_law_sites.specs.plain.Part.{part, group, is_there};
+ghost use Rattle.es_law_sites.specs.plain.Own.{naming, str_in, src_in, options_in};
 ghost use Rattle.es_tree_sites.specs.Parts.{parts_in, Cuts, HasCut};
 ghost use Rattle.es_tree_sites.specs.Plan.{declares, requires, calls, names};
 

@@ -3,8 +3,8 @@
 ghost use Rattle.std.specs.Prelude.{◌≡◌, true, None, Some, IfOk, IfSome, option_map, codes, if◌then◌else◌};
 ghost use Rattle.es_site.specs.declared.site.Attribute.TheVariants.{Unknown};
 ghost use Rattle.es_lowering.specs.Texts.{str_of};
-ghost use Rattle.es_plain_sites.specs.Part.{part};
-ghost use Rattle.es_plain_sites.specs.Own.{src_by, src_in, is_word_key, key_says, is_plain, given_in, are_plain, last_given, type_by, type_in, with_by, with_in, options_by, options_of, options_in};
+ghost use Rattle.es_law_sites.specs.plain.Part.{part};
+ghost use Rattle.es_law_sites.specs.plain.Own.{src_by, src_in, is_word_key, key_says, is_plain, given_in, are_plain, last_given, type_by, type_in, with_by, with_in, options_by, options_of, options_in};
 ghost use Rattle.es_tree_sites.specs.Parts.{parts_in, part_in, there, Cuts, HasCut};
 ghost use Rattle.es_tree_sites.specs.Given.{is_word_label, key_by, plain_by, given_by, plain_turn, given_turn};
 

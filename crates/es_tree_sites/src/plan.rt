@@ -1,7 +1,7 @@
 //! Which parts of a node, of a group or of a list may have sites in them.
 
 ghost use Rattle.std.specs.Prelude.{◌≡◌};
-ghost use Rattle.es_plain_sites.specs.Part.{part, group, is_there};
+ghost use Rattle.es_law_sites.specs.plain.Part.{part, group, is_there};
 ghost use Rattle.es_tree_sites.specs.Parts.{parts_in};
 ghost use Rattle.es_tree_sites.specs.Plan.{is_single, is_token, arguments_ways, returned_ways, handlers_ways, operands_ways, for_ways, ways, rest, plan};
 

@@ -3,17 +3,17 @@
 ghost use Rattle.std.specs.Prelude.{◌≡◌, ◌+◌, ◌≤◌, ◌<◌, length, Some, slice_get, slice_range, IfOk, IfSome, bytes_eq};
 ghost use Rattle.es_lowering.specs.Texts.{str_of, name_of};
 ghost use Rattle.es_site.specs.Attributes.{spells};
-ghost use Rattle.es_plain_sites.specs.Part.{part, as_group, group, is_there};
-ghost use Rattle.es_plain_sites.specs.Own.{token_in, str_in, same_word, same_str};
+ghost use Rattle.es_law_sites.specs.plain.Part.{part, as_group, group, is_there};
+ghost use Rattle.es_law_sites.specs.plain.Own.{token_in, str_in, same_word, same_str};
 ghost use Rattle.es_syntax.specs.Trees.{trees};
 ghost use Rattle.es_tree_sites.specs.Plan.{is_single, is_token};
 ghost use Rattle.es_tree_sites.specs.Parts.{first_trees, Splits, parts_in, part_in, first_in, there, Seen, Cuts, HasCut};
 
 use base::Text;
 use es_grammar::NodeKind as Kind;
+use es_literal::literal_text::literal_text;
 use es_syntax::{Item, Siblings, What};
 use es_token::{Token, TokenKind};
-use literal_text::literal_text;
 use std::alloc::{AllocError, Global};
 
 /// A text and its tokens.

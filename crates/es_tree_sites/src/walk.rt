@@ -3,8 +3,8 @@
 ghost use Rattle.std.specs.Prelude.{◌≡◌, true, ◌+◌, ◌≤◌, [], ◌++◌, length, IfOk, OnOk};
 ghost use Rattle.std.specs.List.{flat_map};
 ghost use Rattle.es_lexer.specs.Reads.{ReadsTokens};
-ghost use Rattle.es_plain_sites.specs.Part.{found};
-ghost use Rattle.es_plain_sites.specs.Own.{plain_sites};
+ghost use Rattle.es_law_sites.specs.plain.Part.{found};
+ghost use Rattle.es_law_sites.specs.plain.Own.{plain_sites};
 ghost use Rattle.es_syntax.specs.Trees.{trees};
 ghost use Rattle.es_tree_sites.specs.Named.{Unnamed};
 ghost use Rattle.es_tree_sites.specs.Parts.{parts_in, part_in, HasCut};

@@ -1,7 +1,10 @@
-//! Rows of the types' table (`es_type_grammar`): types, elements of tuples and results of functions.
+//! Rows of the types' table (`es_grammar::types`): types, elements of tuples and results of functions.
 #![tactic(auto)]
 
+pub mod ends;
+pub mod members;
 mod operators;
+pub mod predicates;
 mod primary;
 mod results;
 

@@ -1,9 +1,12 @@
 //! Types by their operators.
 
-ghost use Rattle.es_type_grammar.specs.Types.{brackets_in, array_types, operand_type, operands_in, intersection_type, union_type, conditional_type, function_type, constructor_type, any_type};
+ghost use Rattle.es_grammar.specs.types.Types.{brackets_in, array_types, operand_type, operands_in, intersection_type, union_type, conditional_type, function_type, constructor_type, any_type};
 ghost use Rattle.es_grammar.specs.TypeNames.{label_name};
 ghost use Rattle.es_rules.specs.Labelled.{labelled};
 
+use crate::members::ParametersIn;
+use crate::predicates::Lookahead::Is;
+use crate::predicates::{Kinds, Lookahead, Predicate};
 use crate::primary::PrimaryType;
 use es_grammar::{NodeKind, TypeRow};
 use es_rules::{
@@ -11,10 +14,7 @@ use es_rules::{
     ReadsProduction, ReadsRhs, Rows, Tok, When, Wrap,
 };
 use es_token::TokenKind;
-use es_tree::SyntaxError;
-use es_type_member_rules::ParametersIn;
-use es_type_predicates::Lookahead::Is;
-use es_type_predicates::{Kinds, Lookahead, Predicate};
+use grammar_theory::SyntaxError;
 
 /// ~ '[' Type? ']', and what stands behind it
 #[derive(Clone, Copy)]
@@ -23,7 +23,7 @@ pub struct BracketsIn<N>(pub N);
 impl<N: ReadsRhs<TypeRow> + Copy> ReadsRhs<TypeRow> for BracketsIn<N> {
     ghost form = { λ s. brackets_in (N.form s.0) };
 
-    #[tactic(auto, unfolding(es_type_grammar::specs::Types::brackets_in))]
+    #[tactic(auto, unfolding(es_grammar::specs::types::Types::brackets_in))]
     fn read<T: Rows<TypeRow>>(
         &self,
         grammar: &Grammar<'_, T>,
@@ -51,7 +51,7 @@ pub struct ArrayTypes;
 impl ReadsProduction<TypeRow> for ArrayTypes {
     ghost rule = { λ _. labelled label_name array_types };
 
-    #[tactic(auto, unfolding(es_type_grammar::specs::Types::array_types))]
+    #[tactic(auto, unfolding(es_grammar::specs::types::Types::array_types))]
     fn read<T: Rows<TypeRow>>(
         &self,
         grammar: &Grammar<'_, T>,
@@ -74,7 +74,7 @@ pub struct OperandType;
 impl ReadsProduction<TypeRow> for OperandType {
     ghost rule = { λ _. labelled label_name operand_type };
 
-    #[tactic(auto, unfolding(es_type_grammar::specs::Types::operand_type))]
+    #[tactic(auto, unfolding(es_grammar::specs::types::Types::operand_type))]
     fn read<T: Rows<TypeRow>>(
         &self,
         grammar: &Grammar<'_, T>,
@@ -110,7 +110,7 @@ pub struct OperandsIn(pub TokenKind, pub TypeRow);
 impl ReadsRhs<TypeRow> for OperandsIn {
     ghost form = { λ s. operands_in s.0 s.1 };
 
-    #[tactic(auto, unfolding(es_type_grammar::specs::Types::operands_in))]
+    #[tactic(auto, unfolding(es_grammar::specs::types::Types::operands_in))]
     fn read<T: Rows<TypeRow>>(
         &self,
         grammar: &Grammar<'_, T>,
@@ -134,7 +134,7 @@ pub struct IntersectionType;
 impl ReadsProduction<TypeRow> for IntersectionType {
     ghost rule = { λ _. labelled label_name intersection_type };
 
-    #[tactic(auto, unfolding(es_type_grammar::specs::Types::intersection_type))]
+    #[tactic(auto, unfolding(es_grammar::specs::types::Types::intersection_type))]
     fn read<T: Rows<TypeRow>>(
         &self,
         grammar: &Grammar<'_, T>,
@@ -164,7 +164,7 @@ pub struct UnionType;
 impl ReadsProduction<TypeRow> for UnionType {
     ghost rule = { λ _. labelled label_name union_type };
 
-    #[tactic(auto, unfolding(es_type_grammar::specs::Types::union_type))]
+    #[tactic(auto, unfolding(es_grammar::specs::types::Types::union_type))]
     fn read<T: Rows<TypeRow>>(
         &self,
         grammar: &Grammar<'_, T>,
@@ -194,7 +194,7 @@ pub struct ConditionalType(pub bool);
 impl ReadsProduction<TypeRow> for ConditionalType {
     ghost rule = { λ s. labelled label_name (conditional_type s.0) };
 
-    #[tactic(auto, unfolding(es_type_grammar::specs::Types::conditional_type))]
+    #[tactic(auto, unfolding(es_grammar::specs::types::Types::conditional_type))]
     fn read<T: Rows<TypeRow>>(
         &self,
         grammar: &Grammar<'_, T>,
@@ -242,7 +242,7 @@ pub struct FunctionType(pub bool);
 impl ReadsProduction<TypeRow> for FunctionType {
     ghost rule = { λ s. labelled label_name (function_type s.0) };
 
-    #[tactic(auto, unfolding(es_type_grammar::specs::Types::function_type))]
+    #[tactic(auto, unfolding(es_grammar::specs::types::Types::function_type))]
     fn read<T: Rows<TypeRow>>(
         &self,
         grammar: &Grammar<'_, T>,
@@ -263,7 +263,7 @@ pub struct ConstructorType(pub bool);
 impl ReadsProduction<TypeRow> for ConstructorType {
     ghost rule = { λ s. labelled label_name (constructor_type s.0) };
 
-    #[tactic(auto, unfolding(es_type_grammar::specs::Types::constructor_type))]
+    #[tactic(auto, unfolding(es_grammar::specs::types::Types::constructor_type))]
     fn read<T: Rows<TypeRow>>(
         &self,
         grammar: &Grammar<'_, T>,
@@ -291,7 +291,7 @@ pub struct AnyType(pub bool);
 impl ReadsProduction<TypeRow> for AnyType {
     ghost rule = { λ s. labelled label_name (any_type s.0) };
 
-    #[tactic(auto, unfolding(es_type_grammar::specs::Types::any_type))]
+    #[tactic(auto, unfolding(es_grammar::specs::types::Types::any_type))]
     fn read<T: Rows<TypeRow>>(
         &self,
         grammar: &Grammar<'_, T>,

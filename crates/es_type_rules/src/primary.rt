@@ -1,19 +1,19 @@
 //! Primary types.
 
-ghost use Rattle.es_type_grammar.specs.Types.{parenthesized_type, members_type, sign_in, mapped_type, tuple_type, type_query, template_types, number_type, primary_type};
+ghost use Rattle.es_grammar.specs.types.Types.{parenthesized_type, members_type, sign_in, mapped_type, tuple_type, type_query, template_types, number_type, primary_type};
 ghost use Rattle.es_grammar.specs.TypeNames.{label_name};
 ghost use Rattle.es_rules.specs.Labelled.{labelled};
 
+use crate::members::{ImportType, ListBefore, ReferenceOf, TypeIn};
+use crate::predicates::Lookahead::{Has, Is, Other, Signed};
+use crate::predicates::{Kinds, Predicate};
 use es_grammar::{NodeKind, TypeRow};
 use es_rules::{
     Alt, ByLookahead, Choose, Cursor, Done, Grammar, Greedy, LeafKind, Make, Many, OfRow, Opt,
     Pick, Punct, ReadsProduction, ReadsRhs, Rows, Tok,
 };
 use es_token::TokenKind;
-use es_tree::SyntaxError;
-use es_type_member_rules::{ImportType, ListBefore, ReferenceOf, TypeIn};
-use es_type_predicates::Lookahead::{Has, Is, Other, Signed};
-use es_type_predicates::{Kinds, Predicate};
+use grammar_theory::SyntaxError;
 
 /// '(' Type ')'
 #[derive(Clone, Copy)]
@@ -22,7 +22,7 @@ pub struct ParenthesizedType;
 impl ReadsProduction<TypeRow> for ParenthesizedType {
     ghost rule = { λ _. labelled label_name parenthesized_type };
 
-    #[tactic(auto, unfolding(es_type_grammar::specs::Types::parenthesized_type))]
+    #[tactic(auto, unfolding(es_grammar::specs::types::Types::parenthesized_type))]
     fn read<T: Rows<TypeRow>>(
         &self,
         grammar: &Grammar<'_, T>,
@@ -46,7 +46,7 @@ pub struct MembersType;
 impl ReadsProduction<TypeRow> for MembersType {
     ghost rule = { λ _. labelled label_name members_type };
 
-    #[tactic(auto, unfolding(es_type_grammar::specs::Types::members_type))]
+    #[tactic(auto, unfolding(es_grammar::specs::types::Types::members_type))]
     fn read<T: Rows<TypeRow>>(
         &self,
         grammar: &Grammar<'_, T>,
@@ -74,7 +74,7 @@ pub struct SignIn<N>(pub N);
 impl<N: ReadsRhs<TypeRow> + Copy> ReadsRhs<TypeRow> for SignIn<N> {
     ghost form = { λ s. sign_in (N.form s.0) };
 
-    #[tactic(auto, unfolding(es_type_grammar::specs::Types::sign_in))]
+    #[tactic(auto, unfolding(es_grammar::specs::types::Types::sign_in))]
     fn read<T: Rows<TypeRow>>(
         &self,
         grammar: &Grammar<'_, T>,
@@ -96,7 +96,7 @@ pub struct MappedType;
 impl ReadsProduction<TypeRow> for MappedType {
     ghost rule = { λ _. labelled label_name mapped_type };
 
-    #[tactic(auto, unfolding(es_type_grammar::specs::Types::mapped_type))]
+    #[tactic(auto, unfolding(es_grammar::specs::types::Types::mapped_type))]
     fn read<T: Rows<TypeRow>>(
         &self,
         grammar: &Grammar<'_, T>,
@@ -159,7 +159,7 @@ pub struct TupleType;
 impl ReadsProduction<TypeRow> for TupleType {
     ghost rule = { λ _. labelled label_name tuple_type };
 
-    #[tactic(auto, unfolding(es_type_grammar::specs::Types::tuple_type))]
+    #[tactic(auto, unfolding(es_grammar::specs::types::Types::tuple_type))]
     fn read<T: Rows<TypeRow>>(
         &self,
         grammar: &Grammar<'_, T>,
@@ -187,7 +187,7 @@ pub struct TypeQuery;
 impl ReadsProduction<TypeRow> for TypeQuery {
     ghost rule = { λ _. labelled label_name type_query };
 
-    #[tactic(auto, unfolding(es_type_grammar::specs::Types::type_query))]
+    #[tactic(auto, unfolding(es_grammar::specs::types::Types::type_query))]
     fn read<T: Rows<TypeRow>>(
         &self,
         grammar: &Grammar<'_, T>,
@@ -216,7 +216,7 @@ pub struct TemplateTypes;
 impl ReadsProduction<TypeRow> for TemplateTypes {
     ghost rule = { λ _. labelled label_name template_types };
 
-    #[tactic(auto, unfolding(es_type_grammar::specs::Types::template_types))]
+    #[tactic(auto, unfolding(es_grammar::specs::types::Types::template_types))]
     fn read<T: Rows<TypeRow>>(
         &self,
         grammar: &Grammar<'_, T>,
@@ -252,7 +252,7 @@ pub struct NumberType;
 impl ReadsProduction<TypeRow> for NumberType {
     ghost rule = { λ _. labelled label_name number_type };
 
-    #[tactic(auto, unfolding(es_type_grammar::specs::Types::number_type))]
+    #[tactic(auto, unfolding(es_grammar::specs::types::Types::number_type))]
     fn read<T: Rows<TypeRow>>(
         &self,
         grammar: &Grammar<'_, T>,
@@ -277,7 +277,7 @@ pub struct PrimaryType;
 impl ReadsProduction<TypeRow> for PrimaryType {
     ghost rule = { λ _. labelled label_name primary_type };
 
-    #[tactic(auto, unfolding(es_type_grammar::specs::Types::primary_type))]
+    #[tactic(auto, unfolding(es_grammar::specs::types::Types::primary_type))]
     fn read<T: Rows<TypeRow>>(
         &self,
         grammar: &Grammar<'_, T>,

@@ -1,20 +1,20 @@
 //! Elements of tuples, and results of functions.
 
-ghost use Rattle.es_type_grammar.specs.Types.{label_in, element, result};
+ghost use Rattle.es_grammar.specs.types.Types.{label_in, element, result};
 ghost use Rattle.es_grammar.specs.TypeNames.{label_name};
 ghost use Rattle.es_rules.specs.Labelled.{labelled};
 
+use crate::members::MarkIn;
 use crate::operators::AnyType;
+use crate::predicates::Lookahead::{Is, Other};
+use crate::predicates::{Kinds, Lookahead, Predicate};
 use es_grammar::{NodeKind, TypeRow};
 use es_rules::{
     ByPredicate, Choose, Cursor, Done, Grammar, Greedy, LeafKind, Make, OfRow, Opt, Pick, Punct,
     ReadsProduction, ReadsRhs, Rows, Tok, When, Wrap,
 };
 use es_token::TokenKind;
-use es_tree::SyntaxError;
-use es_type_member_rules::MarkIn;
-use es_type_predicates::Lookahead::{Is, Other};
-use es_type_predicates::{Kinds, Lookahead, Predicate};
+use grammar_theory::SyntaxError;
 
 /// Word '?'? ':', and what stands behind it
 #[derive(Clone, Copy)]
@@ -23,7 +23,7 @@ pub struct LabelIn<N>(pub N);
 impl<N: ReadsRhs<TypeRow> + Copy> ReadsRhs<TypeRow> for LabelIn<N> {
     ghost form = { λ s. label_in (N.form s.0) };
 
-    #[tactic(auto, unfolding(es_type_grammar::specs::Types::label_in))]
+    #[tactic(auto, unfolding(es_grammar::specs::types::Types::label_in))]
     fn read<T: Rows<TypeRow>>(
         &self,
         grammar: &Grammar<'_, T>,
@@ -45,7 +45,7 @@ pub struct Element;
 impl ReadsProduction<TypeRow> for Element {
     ghost rule = { λ _. labelled label_name element };
 
-    #[tactic(auto, unfolding(es_type_grammar::specs::Types::element))]
+    #[tactic(auto, unfolding(es_grammar::specs::types::Types::element))]
     fn read<T: Rows<TypeRow>>(
         &self,
         grammar: &Grammar<'_, T>,
@@ -93,7 +93,7 @@ pub struct ResultType(pub bool);
 impl ReadsProduction<TypeRow> for ResultType {
     ghost rule = { λ s. labelled label_name (result s.0) };
 
-    #[tactic(auto, unfolding(es_type_grammar::specs::Types::result))]
+    #[tactic(auto, unfolding(es_grammar::specs::types::Types::result))]
     fn read<T: Rows<TypeRow>>(
         &self,
         grammar: &Grammar<'_, T>,

@@ -4,10 +4,10 @@ use Rattle.std.proofs.Common.{◌≡◌, refl, sym, ap, subst, ◌∙◌, arith,
 use Rattle.std.proofs.lemmas.Slice.Eq.{bytes_eq-Decides}
 use Rattle.std.proofs.lemmas.Bool.Decides.{nat_tests}
 use Rattle.es_token.specs.declared.token.Token.{Token}
-use Rattle.es_scope_analysis.specs.declared.kinds.Id.{Id}
-use Rattle.es_scope_analysis.specs.declared.kinds.Var.{Var}
-use Rattle.es_scope_analysis.specs.Scope.{var, some_of, ids_with_symbol, is_global}
-use Rattle.es_scope_analysis.proofs.LookupLemmas.{global_none}
+use Rattle.es_variables.specs.declared.scope_analysis.kinds.Id.{Id}
+use Rattle.es_variables.specs.declared.scope_analysis.kinds.Var.{Var}
+use Rattle.es_variables.specs.scope_analysis.Scope.{var, some_of, ids_with_symbol, is_global}
+use Rattle.es_variables.proofs.scope_analysis_lemmas.LookupLemmas.{global_none}
 use Rattle.es_variables.specs.declared.scope.Scope.{Scope}
 use Rattle.es_variables.specs.declared.ident.Ident.{Ident}
 use Rattle.es_variables.specs.Numbers.{at_in}

@@ -5,14 +5,14 @@ use Rattle.std.proofs.Common.{◌≡◌, refl, sym, ap, ◌∙◌, subst, arith}
 use Rattle.std.proofs.lemmas.List.{append-nil, append_assoc}
 use Rattle.es_token.specs.declared.token.Token.{Token}
 use Rattle.es_scopes.specs.Numbers.{number_at}
-use Rattle.es_scope_analysis.specs.declared.kinds.ScopeKind.{ScopeKind}
-use Rattle.es_scope_analysis.specs.declared.kinds.BindingKind.{BindingKind}
-use Rattle.es_scope_analysis.specs.declared.kinds.Id.{Id}
-use Rattle.es_scope_analysis.specs.declared.kinds.Var.{Var}
-use Rattle.es_scope_analysis.specs.declared.steps.Event.{Event}
-use Rattle.es_scope_analysis.specs.declared.steps.Event.TheVariants as event
-use Rattle.es_scope_analysis.specs.Part.{Events}
-use Rattle.es_scope_analysis.specs.Scope.{shorter, sym_of, id_of, named, declarations, same_id, var, or_else}
+use Rattle.es_variables.specs.declared.scope_analysis.kinds.ScopeKind.{ScopeKind}
+use Rattle.es_variables.specs.declared.scope_analysis.kinds.BindingKind.{BindingKind}
+use Rattle.es_variables.specs.declared.scope_analysis.kinds.Id.{Id}
+use Rattle.es_variables.specs.declared.scope_analysis.kinds.Var.{Var}
+use Rattle.es_variables.specs.declared.scope_analysis.steps.Event.{Event}
+use Rattle.es_variables.specs.declared.scope_analysis.steps.Event.TheVariants as event
+use Rattle.es_variables.specs.scope_analysis.Part.{Events}
+use Rattle.es_variables.specs.scope_analysis.Scope.{shorter, sym_of, id_of, named, declarations, same_id, var, or_else}
 use Rattle.es_variables.specs.declared.scope.Scope.{Scope}
 use Rattle.es_variables.specs.Numbers.{at_in, AreNumbers}
 use Rattle.es_variables.specs.Table.{ids_at, var_at, extra}

@@ -7,7 +7,7 @@ use Rattle.es_token.specs.declared.token.Token.{Token}
 use Rattle.es_scopes.specs.Part.{Marks}
 use Rattle.es_lowering.specs.Texts.{ident_of}
 use Rattle.es_scopes.specs.Numbers.{Named, named_in, declaring, numbered, number_at, ids_in}
-use Rattle.es_scope_numbers.proofs.Stacks.{none_declaring}
+use Rattle.es_variables.proofs.scope_numbers_lemmas.Stacks.{none_declaring}
 use Rattle.es_variables.specs.Numbers.{at_in, number_or}
 
 same_number : (a b : ℕ) → (a == b) ≡ true → a ≡ b

@@ -4,7 +4,7 @@ use Rattle.std.proofs.Common.{◌≡◌, sym, ap, subst, ◌∙◌, arith}
 use Rattle.std.proofs.lemmas.Bool.Decides.{nat_tests}
 use Rattle.base.specs.declared.range.Range.{Range}
 use Rattle.es_token.specs.declared.token.Token.{Token}
-use Rattle.ts_ast.specs.declared.leaf.Ident.{Ident as Name}
+use Rattle.es_ast.specs.declared.ts.leaf.Ident.{Ident as Name}
 use Rattle.es_lowering.specs.Texts.{ident_of}
 use Rattle.es_scopes.specs.Part.{Marks}
 use Rattle.es_scopes.specs.Numbers.{Named, Innermost, named_in, declares, spelled, number_of, numbered as with_numbers, number_at, ids_in}

@@ -2,11 +2,11 @@
 use Rattle.std.specs.Prelude.{◌≡◌, ℕ, ◌==◌, ◌&&◌, if◌then◌else◌, List, [], ◌∷◌, ◌++◌, map, Option, Some, None, slice_get, slice_range, bytes_eq}
 use Rattle.std.specs.List.{filter}
 use Rattle.es_token.specs.declared.token.Token.{Token}
-use Rattle.es_scope_analysis.specs.declared.kinds.ScopeKind.{ScopeKind}
-use Rattle.es_scope_analysis.specs.declared.kinds.Id.{Id}
-use Rattle.es_scope_analysis.specs.declared.kinds.Var.{Var}
-use Rattle.es_scope_analysis.specs.Part.{Events}
-use Rattle.es_scope_analysis.specs.Scope.{sym_of, declarations, named, var, or_else}
+use Rattle.es_variables.specs.declared.scope_analysis.kinds.ScopeKind.{ScopeKind}
+use Rattle.es_variables.specs.declared.scope_analysis.kinds.Id.{Id}
+use Rattle.es_variables.specs.declared.scope_analysis.kinds.Var.{Var}
+use Rattle.es_variables.specs.scope_analysis.Part.{Events}
+use Rattle.es_variables.specs.scope_analysis.Scope.{sym_of, declarations, named, var, or_else}
 use Rattle.es_variables.specs.declared.ident.Ident.{Ident}
 use Rattle.es_variables.specs.declared.scope.Scope.{Scope}
 use Rattle.es_variables.specs.Numbers.{at_in}

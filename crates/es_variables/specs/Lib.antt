@@ -1,3 +1,6 @@
+pub mod scope_numbers
+pub mod scope_analysis
+pub mod declarations
 -- numbers by tokens
 pub mod Numbers
 -- names and variables by spellings

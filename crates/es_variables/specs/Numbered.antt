@@ -1,6 +1,6 @@
 -- The names of a tree, with the numbers that stand beside it.
 use Rattle.std.specs.Prelude.{◌≡◌, ℕ, ◌==◌, false, List, [], ◌∷◌}
-use Rattle.ts_ast.specs.declared.leaf.Ident.{Ident as Name}
+use Rattle.es_ast.specs.declared.ts.leaf.Ident.{Ident as Name}
 use Rattle.es_scopes.specs.Numbers.{Named}
 use Rattle.es_variables.specs.declared.ident.Ident.{Ident}
 

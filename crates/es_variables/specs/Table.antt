@@ -4,8 +4,8 @@ use Rattle.std.specs.BTreeMap.{BTreeMap, get}
 use Rattle.std.specs.HashMap.{HashMap, get_by_text}
 use Rattle.std.specs.Ordering.{nat_cmp}
 use Rattle.std.specs.Option.{option_map_or}
-use Rattle.es_scope_analysis.specs.declared.kinds.Id.{Id}
-use Rattle.es_scope_analysis.specs.declared.kinds.Var.{Var}
+use Rattle.es_variables.specs.declared.scope_analysis.kinds.Id.{Id}
+use Rattle.es_variables.specs.declared.scope_analysis.kinds.Var.{Var}
 
 -- the names at a spelling
 abbrev pub ids_at : {A B S : Type 0} → HashMap (String A) (Vec Id B) S → List ℕ → List Id

@@ -4,21 +4,21 @@ ghost use Rattle.std.specs.Prelude.{◌≡◌, ◌∷◌, [], ℕ, List, slice_g
 ghost use Rattle.es_lexer.specs.Reads.{ReadsTokens};
 ghost use Rattle.es_syntax.specs.Trees.{first_tree, trees};
 ghost use Rattle.es_scopes.specs.Numbers.{ids};
-ghost use Rattle.es_scope_numbers.specs.Cuts.{IsCut};
-ghost use Rattle.es_scope_analysis.specs.declared.kinds.Id.{Id as AnId};
-ghost use Rattle.es_scope_analysis.specs.declared.kinds.Var.{Var as AVar};
-ghost use Rattle.es_scope_analysis.specs.declared.steps.Event.{Event as AnEvent};
-ghost use Rattle.es_scope_analysis.specs.declared.steps.Event.TheVariants as vEvent;
-ghost use Rattle.es_scope_analysis.specs.Scope.{sym_of, declared, shorter};
+ghost use Rattle.es_variables.specs.scope_numbers.Cuts.{IsCut};
+ghost use Rattle.es_variables.specs.declared.scope_analysis.kinds.Id.{Id as AnId};
+ghost use Rattle.es_variables.specs.declared.scope_analysis.kinds.Var.{Var as AVar};
+ghost use Rattle.es_variables.specs.declared.scope_analysis.steps.Event.{Event as AnEvent};
+ghost use Rattle.es_variables.specs.declared.scope_analysis.steps.Event.TheVariants as vEvent;
+ghost use Rattle.es_variables.specs.scope_analysis.Scope.{sym_of, declared, shorter};
 ghost use Rattle.es_variables.specs.Numbers.{at_in, AreNumbers};
 ghost use Rattle.es_variables.specs.Kept.{Keeps, Leaves, left_in};
 
+use crate::declarations::program_events;
 use crate::ident::{cut, token_at};
 use crate::ids::ScopeIds;
 use crate::scope::Scope;
+use crate::scope_analysis::{BindingKind, Event, Id, ScopeKind, Var};
 use base::{Items, Text};
-use es_declarations::program_events;
-use es_scope_analysis::{BindingKind, Event, Id, ScopeKind, Var};
 use es_syntax::Siblings;
 use es_token::Token;
 use std::alloc::{AllocError, Global};
@@ -144,7 +144,7 @@ fn declared_in(names: &Names<'_>, events: &[Event]) -> Result<Scope, AllocError>
 
 impl Scope {
     /// What the program declares that stands first in a row, over the tokens of a text, by the numbers of its names.
-    #[tactic(auto, unfolding(es_scope_analysis::specs::Scope::declared))]
+    #[tactic(auto, unfolding(crate::specs::scope_analysis::Scope::declared))]
     pub fn analyze(
         alloc: Global,
         text: &str,

@@ -2,7 +2,7 @@
 
 ghost use Rattle.std.specs.Prelude.{◌≡◌, None, slice_get, slice_range, MatchOption};
 ghost use Rattle.es_lexer.specs.Reads.{ReadsTokens};
-ghost use Rattle.es_scope_numbers.specs.Cuts.{Cuts};
+ghost use Rattle.es_variables.specs.scope_numbers.Cuts.{Cuts};
 ghost use Rattle.es_variables.specs.Kept.{Names};
 
 use crate::ids::ScopeIds;

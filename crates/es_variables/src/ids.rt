@@ -6,8 +6,8 @@ ghost use Rattle.es_syntax.specs.Trees.{first_tree, trees};
 ghost use Rattle.es_scopes.specs.Numbers.{number_at, ids};
 ghost use Rattle.es_variables.specs.Numbers.{at_in, AreNumbers};
 
+use crate::scope_numbers::scope_ids;
 use base::Items;
-use es_scope_numbers::scope_ids;
 use es_scopes::program_marks;
 use es_syntax::Siblings;
 use es_token::Token;

@@ -6,12 +6,15 @@
 #![tactic(auto)]
 
 mod analysis;
+pub mod declarations;
 mod ident;
 mod ids;
 mod scope;
+pub mod scope_analysis;
+pub mod scope_numbers;
 mod table;
 
-pub use es_scope_analysis::{BindingKind, Id, ScopeKind, Var};
+pub use crate::scope_analysis::{BindingKind, Id, ScopeKind, Var};
 pub use ident::{Ident, ident_at};
 pub use ids::ScopeIds;
 pub use scope::Scope;

@@ -1,15 +1,15 @@
 //! What a program declares, and how its names are looked up.
 
 ghost use Rattle.std.specs.Prelude.{◌≡◌, [], ℕ, List, Some, None, MatchOption, OnOk};
-ghost use Rattle.es_scope_analysis.specs.declared.kinds.Id.{Id as AnId};
-ghost use Rattle.es_scope_analysis.specs.declared.kinds.Var.{Var as AVar};
-ghost use Rattle.es_scope_analysis.specs.Scope.{var, ids_with_symbol, is_global};
+ghost use Rattle.es_variables.specs.declared.scope_analysis.kinds.Id.{Id as AnId};
+ghost use Rattle.es_variables.specs.declared.scope_analysis.kinds.Var.{Var as AVar};
+ghost use Rattle.es_variables.specs.scope_analysis.Scope.{var, ids_with_symbol, is_global};
 ghost use Rattle.es_variables.specs.Table.{ids_at, var_at};
 ghost use Rattle.es_variables.specs.Kept.{Keeps, Adds, id_of_ident};
 
 use crate::ident::Ident;
+use crate::scope_analysis::{Id, Var};
 use crate::table::{Ids, Vars, add_id, ids_of, put_var, var_of};
-use es_scope_analysis::{Id, Var};
 use std::alloc::{AllocError, Global};
 use std::collections::HashMap;
 

@@ -5,7 +5,7 @@ ghost use Rattle.std.specs.BTreeMap.{get};
 ghost use Rattle.std.specs.Ordering.{nat_cmp};
 ghost use Rattle.es_variables.specs.Table.{ids_at, var_at, extra};
 
-use es_scope_analysis::{Id, Var};
+use crate::scope_analysis::{Id, Var};
 use std::alloc::AllocError;
 use std::collections::{BTreeMap, HashMap};
 

@@ -1,3 +1,4 @@
+pub mod canonical_url_lemmas
 pub mod ImportsLemmas
 pub mod RelativeLemmas
 pub mod SetLemmas

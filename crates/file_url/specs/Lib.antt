@@ -1,3 +1,4 @@
+pub mod canonical_url
 -- ---- what the public contracts rest on
 pub mod Expected
 pub mod Imports

@@ -12,6 +12,7 @@
 //! Not promised: what `Debug` writes, and when memory runs out.
 #![tactic(auto)]
 
+pub mod canonical_url;
 mod errors;
 mod from_path;
 mod imports;

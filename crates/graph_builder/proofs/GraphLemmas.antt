@@ -2,7 +2,7 @@
 use Rattle.std.proofs.Common.{◌≡◌, ◌<◌, ℕ, zero, suc, List, [], ◌∷◌, length, map, slice_get, position, refl, sym, ◌∙◌, ap, arith, Option, Some, None}
 use Rattle.std.specs.Prelude.{bytes_eq, option_map, option_and_then, IsSome, ◌↔◌}
 use Rattle.url.specs.Parts.{Parts}
-use Rattle.numbered.specs.Numbers.{at_numbers, IsByBytes}
+use Rattle.graph_tables.specs.specifier_table.Numbers.{at_numbers, IsByBytes}
 use Rattle.graph_entry.specs.declared.entry.Entry.{Entry}
 use Rattle.graph_entry.specs.Specifier.{text_of}
 use Rattle.graph_builder.specs.Reach.{Specifier}

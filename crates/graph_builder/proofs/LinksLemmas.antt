@@ -7,8 +7,8 @@ use Rattle.std.proofs.lemmas.Iterator.Adapters.{position_from-zero}
 use Rattle.std.proofs.lemmas.Option.{slice_get-map}
 use Rattle.std.proofs.lemmas.List.{same_from_push}
 use Rattle.url.specs.Parts.{Parts}
-use Rattle.numbered.specs.Numbers as numbers
-use Rattle.numbered.proofs.NumbersLemmas.{value_at-with_value}
+use Rattle.graph_tables.specs.specifier_table.Numbers as numbers
+use Rattle.graph_tables.proofs.specifier_table_lemmas.NumbersLemmas.{value_at-with_value}
 use Rattle.graph_entry.specs.declared.entry.Dependency.{Dependency}
 use Rattle.graph_entry.specs.declared.entry.Entry.{Entry}
 use Rattle.graph_entry.specs.declared.entry.Entry.TheVariants as entry

@@ -4,9 +4,9 @@ use Rattle.std.specs.Prelude.{bytes_eq, option_map, option_and_then}
 use Rattle.std.specs.Cmp.Lexicographic.{same_text}
 use Rattle.std.proofs.lemmas.List.{map-append, drop-append-le}
 use Rattle.url.specs.Parts.{Parts}
-use Rattle.numbered.specs.Numbers as numbers
-use Rattle.numbered.proofs.NumbersLemmas.{specifiers-with_value}
-use Rattle.numbered.proofs.OrderLemmas.{number_at, entry_at, numbered_value, value_by_number}
+use Rattle.graph_tables.specs.specifier_table.Numbers as numbers
+use Rattle.graph_tables.proofs.specifier_table_lemmas.NumbersLemmas.{specifiers-with_value}
+use Rattle.graph_tables.proofs.specifier_table_lemmas.OrderLemmas.{number_at, entry_at, numbered_value, value_by_number}
 use Rattle.graph_entry.specs.Specifier.{text_of}
 use Rattle.graph_builder.specs.Reach.{Specifier}
 use Rattle.graph_builder.specs.ByText.{value_at, keys_at, number_of}

@@ -27,7 +27,7 @@ use Rattle.graph_builder.specs.declared.error.BuildError.TheVariants as error
 use Rattle.graph_builder.specs.Progress.{At, IsLive, starts_at, own_count, own_events, own_asked, own_log, slots_at, todo_at, IsThrough, IsPaused, IsUnasked, GoesOnAt, IsKeptAt}
 use Rattle.graph_builder.specs.Inside.{IsInside, all_done, AreDone, HaveEntries, seen_of}
 use Rattle.graph_builder.specs.Settling.{settled, finals_of, AreSettled}
-use Rattle.numbered.specs.Numbers.{at_numbers, IsByBytes}
+use Rattle.graph_tables.specs.specifier_table.Numbers.{at_numbers, IsByBytes}
 use Rattle.graph_builder.proofs.GraphLemmas.{ascending_numbered, entry_numbered}
 use Rattle.graph_builder.proofs.FinalLemmas.{graph_settled}
 use Rattle.std.specs.Cmp.Lexicographic.{nat_list_eq_equiv}

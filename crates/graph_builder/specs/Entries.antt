@@ -3,7 +3,7 @@ use Rattle.std.specs.Prelude.{List}
 use Rattle.std.specs.Borrow.{Bor}
 use Rattle.url.specs.Parts.{Parts}
 use Rattle.graph_entry.specs.declared.entry.Entry.{Entry}
-use Rattle.numbered.specs.Numbers.{at_numbers}
+use Rattle.graph_tables.specs.specifier_table.Numbers.{at_numbers}
 use Rattle.graph_builder.specs.declared.entries.Entries.{Entries}
 
 -- what a specifier and its entry are, behind their references

@@ -4,7 +4,7 @@ use Rattle.std.specs.List.{list_any}
 use Rattle.std.specs.Map.{lookup, keys_of}
 use Rattle.std.specs.declared.alloc.AllocError.{AllocError}
 use Rattle.url.specs.Parts.{Parts}
-use Rattle.open_requests.specs.Requests as requests
+use Rattle.graph_tables.specs.pending_requests.Requests as requests
 use Rattle.graph_entry.specs.Specifier.{text_of}
 use Rattle.graph_entry.specs.declared.answer.LoadAnswer.{LoadAnswer}
 use Rattle.graph_entry.specs.declared.answer.LoadAnswer.TheVariants.{Absent}

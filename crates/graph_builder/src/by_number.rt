@@ -6,7 +6,7 @@ ghost use Rattle.graph_entry.specs.Specifier.{text_of};
 ghost use Rattle.graph_builder.specs.Reach.{Specifier};
 ghost use Rattle.graph_builder.specs.ByText.{value_at, keys_at, number_of};
 
-use numbered::Numbered;
+use graph_tables::specifier_table::Numbered;
 use std::alloc::AllocError;
 use url::Url;
 

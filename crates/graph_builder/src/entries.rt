@@ -2,7 +2,7 @@
 ghost use Rattle.std.specs.Prelude.{◌≡◌, ◌<◌, ℕ, Some, length, slice_get};
 
 use graph_entry::Entry;
-use numbered::Numbered;
+use graph_tables::specifier_table::Numbered;
 use url::Url;
 
 /// The entries of a graph, each with its specifier.

@@ -1,7 +1,7 @@
 //! The finished graph.
 ghost use Rattle.std.specs.Prelude.{◌≡◌, ◌<◌, ◌↔◌, Some, None, IsSome, IfOk, IfSome, length, slice_get, option_map, map};
 ghost use Rattle.std.specs.Option.{option_copied};
-ghost use Rattle.numbered.specs.Numbers.{at_numbers, IsByBytes};
+ghost use Rattle.graph_tables.specs.specifier_table.Numbers.{at_numbers, IsByBytes};
 ghost use Rattle.graph_entry.specs.Specifier.{text_of};
 ghost use Rattle.graph_builder.specs.Graph.{entry_of, redirected, resolved, module_at, number_in, IsAscending};
 ghost use Rattle.graph_builder.specs.Entries.{entries_left};
@@ -14,7 +14,7 @@ use crate::entries::Entries;
 use crate::links::{Links, Stop, end_of, stop_at};
 use base::Items;
 use graph_entry::{Dependency, Entry, Module};
-use numbered::Numbered;
+use graph_tables::specifier_table::Numbered;
 use std::alloc::AllocError;
 use std::marker::Model;
 use url::Url;
@@ -36,7 +36,7 @@ pub struct ModuleGraph {
 
 impl Model for ModuleGraph {
     ghost use Rattle.std.specs.Prelude.{map};
-    ghost use Rattle.numbered.specs.Numbers.{at_numbers, IsByBytes};
+    ghost use Rattle.graph_tables.specs.specifier_table.Numbers.{at_numbers, IsByBytes};
     ghost use Rattle.graph_builder.specs.Graph.{GraphData};
     ghost use Rattle.graph_builder.specs.Links.{HaveLinks};
 

@@ -8,7 +8,7 @@ ghost use Rattle.graph_builder.specs.Stops.{IsStop};
 use crate::by_number::{count, number};
 use base::Items;
 use graph_entry::Entry;
-use numbered::Numbered;
+use graph_tables::specifier_table::Numbered;
 use url::Url;
 
 /// A link that has no number.

@@ -14,7 +14,7 @@ use crate::by_number::{add, count, number};
 use crate::links::{Links, Place};
 use base::Items;
 use graph_entry::Entry;
-use numbered::Numbered;
+use graph_tables::specifier_table::Numbered;
 use std::alloc::{AllocError, Global};
 use std::marker::Model;
 use std::mem;

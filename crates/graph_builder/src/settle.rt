@@ -21,7 +21,7 @@ use graph_entry::{
     Attribute, Dependency, DependencyKind, Entry, JsModule, Module, ModuleError, ResolutionError,
     WasmModule,
 };
-use numbered::Numbered;
+use graph_tables::specifier_table::Numbered;
 use std::alloc::{AllocError, Global};
 
 /// What an edge is refused for by the module at its end.

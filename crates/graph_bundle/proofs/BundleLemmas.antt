@@ -17,8 +17,8 @@ use Rattle.serde_json.specs.Data.{Data, Items, Members}
 use Rattle.serde_json.specs.Find.{as_array, as_object, as_null, get}
 use Rattle.serde_json.specs.View.{view, items_view}
 use Rattle.serde_json.specs.declared.value.Value.{Value}
-use Rattle.json_reading.specs.Reading.{Reading, and_then, said, object_of, before, under, pointer, url_of, items_list, each_from, each_of, or_default, required, optional, only}
-use Rattle.json_reading.proofs.ReadingLemmas.{items_list-items_of, prepend, prepend-before}
+use Rattle.import_map.specs.json_reading.Reading.{Reading, and_then, said, object_of, before, under, pointer, url_of, items_list, each_from, each_of, or_default, required, optional, only}
+use Rattle.import_map.proofs.json_reading_lemmas.ReadingLemmas.{items_list-items_of, prepend, prepend-before}
 use Rattle.graph_bundle.specs.Bundle.{modules_from, modules_of, module_after, module_from, new_specifier, headers_of, answer_of, knows_module, arrival_of, options_of, some_import_map, knows_bundle, bundle_from, bundle_of, specifiers}
 use Rattle.import_map.specs.ImportMap.{MapData}
 use Rattle.graph_bundle.specs.declared.bundle.Bundle.{Bundle}

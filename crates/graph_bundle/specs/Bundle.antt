@@ -7,8 +7,8 @@ use Rattle.serde_json.specs.Find.{get, as_null, as_number, as_u64, as_array, as_
 use Rattle.base64.specs.GeneralPurpose.{decode_of}
 use Rattle.base64.specs.Engines.{standard}
 use Rattle.url.specs.Parts.{Parts}
-use Rattle.json_reading.specs.Reading.{Reading, and_then, said, or_here, pointer, escaped, under, url_of, bool_of, object_of, items_list, before, each_of, there, required, or_default, optional, only}
-use Rattle.json_reading.specs.Reading as reading
+use Rattle.import_map.specs.json_reading.Reading.{Reading, and_then, said, or_here, pointer, escaped, under, url_of, bool_of, object_of, items_list, before, each_of, there, required, or_default, optional, only}
+use Rattle.import_map.specs.json_reading.Reading as reading
 use Rattle.graph_entry.specs.Specifier.{text_of}
 use Rattle.graph_entry.specs.Headers.{HeaderList, with_header}
 use Rattle.graph_entry.specs.declared.kind.GraphKind.{GraphKind}

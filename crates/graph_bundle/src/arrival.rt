@@ -3,7 +3,7 @@ ghost use Rattle.graph_bundle.specs.Bundle as spec;
 
 use crate::part::Part;
 use graph_builder::Arrival;
-use json_reading::Reading;
+use import_map::json_reading::Reading;
 use serde_json::Value;
 use std::alloc::{AllocError, Global};
 use url::Url;

@@ -1,15 +1,15 @@
 //! The import map of a bundle.
 ghost use Rattle.std.specs.Prelude.{◌≡◌, None, codes, IfOk};
 ghost use Rattle.serde_json.specs.View.{view, members_view};
-ghost use Rattle.json_reading.specs.Reading as reading;
+ghost use Rattle.import_map.specs.json_reading.Reading as reading;
 ghost use Rattle.import_map.specs.ImportMap.{map_of};
 ghost use Rattle.graph_bundle.specs.Bundle as spec;
 
 use crate::members::{Keys, only, required};
 use crate::part::Part;
 use base::Text;
+use import_map::json_reading::{Reading, pointer, under};
 use import_map::{ImportMap, ImportMapError};
-use json_reading::{Reading, pointer, under};
 use serde_json::{Map, Value};
 use std::alloc::{AllocError, Global};
 use url::Url;

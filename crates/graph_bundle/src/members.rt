@@ -1,10 +1,10 @@
 //! The members of objects.
 ghost use Rattle.std.specs.Prelude.{◌≡◌, List, ℕ, Bool, IfOk, string_bytes};
 ghost use Rattle.serde_json.specs.View.{view, members_view};
-ghost use Rattle.json_reading.specs.Reading as spec;
+ghost use Rattle.import_map.specs.json_reading.Reading as spec;
 
 use crate::part::Part;
-use json_reading::{Reading, escaped, pointer, under};
+use import_map::json_reading::{Reading, escaped, pointer, under};
 use serde_json::{Map, Value};
 use std::alloc::{AllocError, Global};
 

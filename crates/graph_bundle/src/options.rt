@@ -8,7 +8,7 @@ use crate::part::Part;
 use base::{Items, Text};
 use graph_builder::BuildOptions;
 use graph_entry::{GraphKind, ReferrerImports};
-use json_reading::{Reading, said, under};
+use import_map::json_reading::{Reading, said, under};
 use serde_json::{Map, Value};
 use std::alloc::{AllocError, Global};
 

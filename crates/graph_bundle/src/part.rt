@@ -3,10 +3,10 @@ ghost use Rattle.std.specs.Prelude.{◌≡◌, List, ℕ, Result, None, map, dec
 ghost use Rattle.serde_json.specs.Data.{Data};
 ghost use Rattle.serde_json.specs.View.{view};
 ghost use Rattle.url.specs.Parser.{parse_url};
-ghost use Rattle.json_reading.specs.Reading as spec;
+ghost use Rattle.import_map.specs.json_reading.Reading as spec;
 
 use base::{Items, Text};
-use json_reading::{Reading, said, under_number};
+use import_map::json_reading::{Reading, said, under_number};
 use serde_json::Value;
 use std::alloc::{AllocError, Global};
 use url::{ParseError, Url};

@@ -3,9 +3,9 @@ use Rattle.std.specs.Prelude.{◌≡◌, ℕ, nat_le, true, List, length, string
 use Rattle.es_site.specs.declared.site.Site.{Site}
 use Rattle.specifier_edits.specs.declared.numbers.ChangeFault.{ChangeFault}
 use Rattle.specifier_edits.specs.declared.numbers.ChangeFault.TheVariants.{NoSite, NoLiteral, NoOrder}
-use Rattle.specifier_records.specs.declared.records.SourceChange.{SourceChange}
-use Rattle.specifier_records.specs.declared.rewrite.Rewritten.TheVariants.{Made, NoValue, Faulty}
-use Rattle.specifier_records.specs.Records.{IsRewritten}
+use Rattle.specifier_edits.specs.declared.records.records.SourceChange.{SourceChange}
+use Rattle.specifier_edits.specs.declared.records.rewrite.Rewritten.TheVariants.{Made, NoValue, Faulty}
+use Rattle.specifier_edits.specs.records.Records.{IsRewritten}
 use Rattle.graph_c.specs.declared.finding.Finding.{Finding}
 use Rattle.graph_c.specs.declared.finding.Finding.TheVariants.{Found}
 use Rattle.graph_c.specs.declared.rewrite.RewriteAnswer.{RewriteAnswer}

@@ -1,7 +1,7 @@
 -- The text of bytes, or why they have none that is read.
 use Rattle.std.specs.Prelude.{◌≡◌, ℕ, ◌<◌, ◌≤◌, List, length, IsUtf8}
 use Rattle.std.specs.Str.{IsValidUpTo}
-use Rattle.module_text.specs.ModuleText.{without_mark}
+use Rattle.source_text.specs.module_text.ModuleText.{without_mark}
 use Rattle.graph_c.specs.declared.text.NoText.{NoText}
 use Rattle.graph_c.specs.declared.text.NoText.TheVariants.{TooLong, NoUtf8}
 

@@ -15,7 +15,7 @@ use es_exports::analyze_es_runtime_exports;
 use es_lexer::{Lexed, lex_tokens};
 use es_program::{Program, SharedTokens};
 use es_token::Comment;
-use es_tree::SyntaxError;
+use grammar_theory::SyntaxError;
 use media_type::{MediaType, ModuleKind};
 use source_text::SourceText;
 use std::alloc::{AllocError, Global};

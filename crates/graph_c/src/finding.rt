@@ -12,7 +12,7 @@ use base::Items;
 use es_exports::ModuleExportsAndReExports;
 use es_lexer::{LexError, Lexed, LexicalError, Token, lex_tokens};
 use es_site::Site;
-use es_tree::SyntaxError;
+use grammar_theory::SyntaxError;
 use media_type::{MediaType, ModuleKind};
 use source_sites::{references_in, token_sites, with_sites};
 use std::alloc::{AllocError, Global};

@@ -39,7 +39,7 @@ use crate::build::build_report;
 use crate::calls::{CallsAnswer, SourceCall, answer_calls};
 use crate::exports::{ExportsAnswer, SourceName, answer_exports};
 use crate::rewrite::{RewriteAnswer, answer_rewrite};
-use specifier_records::SourceChange;
+use specifier_edits::records::SourceChange;
 use std::alloc::Global;
 
 /// The version, as 10,000 times its first number, 100 times its second, and its third: 100 is 0.1.0.

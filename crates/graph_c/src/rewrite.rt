@@ -9,7 +9,7 @@ use crate::text::text_of;
 use crate::told::{NO_MEMORY, fault_of, place_of, status_of};
 use es_site::Site;
 use specifier_edits::ChangeFault;
-use specifier_records::{Rewritten, SourceChange, rewrite_by_records};
+use specifier_edits::records::{Rewritten, SourceChange, rewrite_by_records};
 use std::alloc::{AllocError, Global};
 
 /// What a call tells beside its buffer.

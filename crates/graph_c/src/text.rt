@@ -3,7 +3,7 @@ ghost use Rattle.std.specs.Prelude.{IfOk};
 ghost use Rattle.std.specs.Result.{IfErr};
 ghost use Rattle.graph_c.specs.Text.{IsText, IsNoText};
 
-use module_text::without_mark;
+use source_text::module_text::without_mark;
 use std::str;
 
 /// The most bytes of a source that is read: 16 MiB.

@@ -18,7 +18,7 @@ use Rattle.package_ref.specs.Reference.{IsReference}
 use Rattle.package_ref.proofs.Theorems.{one_reference}
 use Rattle.graph_entry.specs.declared.entry.Entry.TheVariants as entry
 use Rattle.lexical_path.specs.Specifiers.{begins}
-use Rattle.module_text.specs.ModuleText.{without_mark}
+use Rattle.source_text.specs.module_text.ModuleText.{without_mark}
 use Rattle.graph_entry.specs.Reading.{IsFunction}
 use Rattle.graph_entry.specs.Ways.{Ways}
 use Rattle.graph_entry.specs.Analysed.{AnalysedBy, OfContent, OfData, OfPackage, with_package, no_package, OfUnasked, media_type_at, OfKind, OfBytes, OfText, source_entry, with_text, no_text, unsupported}

@@ -27,7 +27,7 @@ use Rattle.package_ref.specs.declared.reference.PackageRef.{PackageRef}
 use Rattle.package_ref.specs.Reference.{IsReference}
 use Rattle.lexical_path.specs.Specifiers.{begins}
 use Rattle.graph_entry.specs.Headers.{HeaderList, header_value}
-use Rattle.module_text.specs.ModuleText.{without_mark}
+use Rattle.source_text.specs.module_text.ModuleText.{without_mark}
 use Rattle.graph_entry.specs.Json.{no_utf8, OfJson}
 use Rattle.graph_entry.specs.Wasm.{OfWasm}
 use Rattle.graph_entry.specs.Resolution.{Resolves}

@@ -4,7 +4,7 @@ use Rattle.graph_entry.specs.declared.entry.Entry.{Entry}
 use Rattle.graph_entry.specs.declared.entry.Entry.TheVariants as entry
 use Rattle.graph_entry.specs.declared.entry.Module.TheVariants.{Json}
 use Rattle.graph_entry.specs.declared.entry.ModuleError.TheVariants.{Decode}
-use Rattle.module_text.specs.ModuleText.{without_mark}
+use Rattle.source_text.specs.module_text.ModuleText.{without_mark}
 
 -- bytes that were to be a text are none
 abbrev pub no_utf8 : Entry

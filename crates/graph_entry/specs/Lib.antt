@@ -3,7 +3,7 @@ pub mod Specifier
 pub use Rattle.media_type.specs.MediaType
 pub use Rattle.media_type.specs.Endings
 pub use Rattle.media_type.specs.ContentTypes
-pub use Rattle.module_text.specs.ModuleText
+pub use Rattle.source_text.specs.module_text.ModuleText
 pub use Rattle.file_url.specs.Imports
 pub use Rattle.specifier_resolver.specs.Resolver
 pub mod Resolution

@@ -14,7 +14,7 @@
 //! A specifier is its text. One answer makes at most one entry of it (`analysed_once`, `proofs/Theorems.antt`), whose
 //! edges cut their literals or names from the module (`analysed_cuts`), and whose faults are never that memory ran out
 //! (`analysed_faults`). `docs/RESOLUTION.md` tells the rules in words. What reads a source is a `ModuleAnalyzer`: the parser is
-//! one (`graph_analyzer`), on which this crate doesn't stand.
+//! one (`deno_graph::analyzer`), on which this crate doesn't stand.
 //! Not promised: the range of a `Syntax` fault, what `Display` and `Debug` write, and when memory runs out.
 #![tactic(auto)]
 

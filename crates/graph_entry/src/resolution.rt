@@ -7,8 +7,8 @@ ghost use Rattle.graph_entry.specs.Resolution as spec;
 ghost use Rattle.graph_entry.specs.Steps.{read_of};
 
 use base::Text;
+use file_url::canonical_url::reads_as_itself;
 use file_url::{SpecifierError, resolve_import_from};
-use own_text::reads_as_itself;
 use specifier_resolver::{DefaultResolver, ResolveFault, Resolver};
 use std::alloc::{AllocError, Global};
 use std::fmt;

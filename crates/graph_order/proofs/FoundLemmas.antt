@@ -5,10 +5,10 @@ use Rattle.std.specs.List.{AllByRecursion, filter_map}
 use Rattle.graph_entry.specs.declared.entry.Dependency.{Dependency}
 use Rattle.graph_builder.specs.Rules.{Specifier, edges_of}
 use Rattle.graph_builder.specs.Graph.{module_of, IsAscending}
-use Rattle.least_order.specs.Order as n
-use Rattle.least_order.specs.Order.{Links, Link, links_of, IsLink}
-use Rattle.least_order.specs.declared.found.Found.{Found}
-use Rattle.least_order.specs.declared.found.Found.TheVariants as found
+use Rattle.topological_order.specs.Order as n
+use Rattle.topological_order.specs.Order.{Links, Link, links_of, IsLink}
+use Rattle.topological_order.specs.declared.found.Found.{Found}
+use Rattle.topological_order.specs.declared.found.Found.TheVariants as found
 use Rattle.graph_order.specs.declared.found.Order.{Order}
 use Rattle.graph_order.specs.declared.found.Order.TheVariants.{Sorted, Cycle}
 use Rattle.graph_order.specs.Edges.{Entries, Edge, static_target}

@@ -13,8 +13,8 @@ use Rattle.graph_builder.specs.Graph.{entry_of, module_of, module_at, resolved, 
 use Rattle.graph_builder.specs.ByText.{keys_at, number_of}
 use Rattle.graph_builder.proofs.ByTextLemmas.{distinct_sorted}
 use Rattle.graph_builder.proofs.NumberLemmas.{key_of_number}
-use Rattle.least_order.specs.Order.{links_of, AreWithin}
-use Rattle.least_order.proofs.OrderLemmas.{all_from, link_node}
+use Rattle.topological_order.specs.Order.{links_of, AreWithin}
+use Rattle.topological_order.proofs.OrderLemmas.{all_from, link_node}
 use Rattle.graph_order.specs.Edges.{Entries, IsModule, module_there, is_static, static_target, Edge, IsStaticEdge}
 use Rattle.graph_order.specs.Names.{Held, Names, bare, modules_of, named, sees, links_of_held, links_in, place_of, name_of, edges_at, edge_at}
 use Rattle.graph_order.proofs.PlaceLemmas.{found_at, found_back, place_rises}

@@ -1,11 +1,11 @@
 -- Of orders and cycles a graph has exactly one kind.
 use Rattle.std.proofs.Common.{List, map, ◌⊎◌, inl, inr, ℕ}
-use Rattle.least_order.specs.Order as n
-use Rattle.least_order.specs.Order.{Link}
-use Rattle.least_order.proofs.Theorems.{order_or_cycle as numbers_either}
+use Rattle.topological_order.specs.Order as n
+use Rattle.topological_order.specs.Order.{Link}
+use Rattle.topological_order.proofs.Theorems.{order_or_cycle as numbers_either}
 use Rattle.graph_builder.specs.Rules.{Specifier}
 use Rattle.graph_builder.specs.Graph.{IsAscending}
-use Rattle.least_order.proofs.OrderLemmas.{order_alone, order_frees}
+use Rattle.topological_order.proofs.OrderLemmas.{order_alone, order_frees}
 use Rattle.graph_order.specs.Edges.{Entries, Edge}
 use Rattle.graph_order.specs.Order.{IsOrder, IsCycle, IsStuck, HasOrder, HasCycle}
 use Rattle.graph_order.specs.Names.{named, links_in}

@@ -7,9 +7,9 @@ use Rattle.std.proofs.lemmas.Bool.Decides.{Decides-eqb}
 use Rattle.std.proofs.lemmas.List.{map-append}
 use Rattle.graph_builder.specs.Rules.{Specifier}
 use Rattle.graph_builder.specs.Reach.{has}
-use Rattle.least_order.specs.Order as n
-use Rattle.least_order.specs.Order.{Links, Link, links_of}
-use Rattle.least_order.proofs.OrderLemmas.{all_at, all_from, link_node, cycle_node}
+use Rattle.topological_order.specs.Order as n
+use Rattle.topological_order.specs.Order.{Links, Link, links_of}
+use Rattle.topological_order.proofs.OrderLemmas.{all_at, all_from, link_node, cycle_node}
 use Rattle.graph_order.specs.Edges.{Entries, IsModule, Edge, IsStaticEdge}
 use Rattle.graph_order.specs.Order.{IsFree, IsUpTo, IsLeastFree, EachBehind, IsOrder, IsLeastOrder, IsChain, modules, AreApart, head_of, IsCycle, IsStuck, IsFirstStuck, IsFirstCycle}
 

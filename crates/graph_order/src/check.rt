@@ -14,7 +14,7 @@ use crate::found::CycleEdge;
 use crate::names::{add_name, number};
 use graph_builder::ModuleGraph;
 use graph_entry::{Dependency, Entry, Module};
-use numbered::Numbered;
+use graph_tables::specifier_table::Numbered;
 use std::alloc::{AllocError, Global};
 use url::Url;
 

@@ -4,8 +4,8 @@ ghost use Rattle.std.specs.Option.{option_copied};
 ghost use Rattle.std.specs.List.{AllByRecursion, filter_map};
 ghost use Rattle.graph_entry.specs.Specifier.{text_of};
 ghost use Rattle.graph_builder.specs.Graph.{IsAscending};
-ghost use Rattle.least_order.specs.Order as least;
-ghost use Rattle.least_order.specs.Order.{IsLink};
+ghost use Rattle.topological_order.specs.Order as least;
+ghost use Rattle.topological_order.specs.Order.{IsLink};
 ghost use Rattle.graph_order.specs.Edges as spec;
 ghost use Rattle.graph_order.specs.Order.{IsFound, edge_of};
 ghost use Rattle.graph_order.specs.Nodes.{AreLed};
@@ -18,8 +18,8 @@ use crate::nodes::{led_of, node_of};
 use base::Items;
 use graph_builder::ModuleGraph;
 use graph_entry::{Dependency, Entry};
-use least_order::Found;
 use std::alloc::{AllocError, Global};
+use topological_order::Found;
 use url::Url;
 
 /// The least order of the modules' specifiers by bytes in which each static edge leads to one before its own module's; where there is
@@ -32,7 +32,7 @@ pub fn order(alloc: Global, graph: &ModuleGraph) -> Result<Order, AllocError>
     let led = led_of(alloc, graph, names.as_slice())?;
     let links = links_of(alloc, graph, led.as_slice())?;
     let targets = links.as_slice();
-    let found = least_order::order(alloc, targets)?;
+    let found = topological_order::order(alloc, targets)?;
     told(alloc, graph, names.as_slice(), led.as_slice(), found)
 }
 

@@ -13,7 +13,7 @@ use crate::nodes::node_of;
 use base::Items;
 use graph_builder::ModuleGraph;
 use graph_entry::{Entry, Module};
-use numbered::Numbered;
+use graph_tables::specifier_table::Numbered;
 use std::alloc::{AllocError, Global};
 use url::Url;
 

@@ -14,9 +14,9 @@ use Rattle.counted_io.specs.Transfer.{input_limit}
 use Rattle.graph_run.specs.declared.status.Status.{Status}
 use Rattle.graph_run.specs.Run.{IsGraphOf, bundle_rules, bundle_starts, too_many_line, OfBundle, graph, large, IsDueOf, no_json, no_bundle}
 use Rattle.graph_run.specs.Steps.{OfFault, IsEnd, OfEnd, SaysLarge, reads}
-use Rattle.graph_words.specs.declared.words.Form.{Form}
-use Rattle.graph_words.specs.declared.words.Form.TheVariants.{Build, Order, Make, Sum}
-use Rattle.graph_words.specs.Words.{IsForm, IsReading}
+use Rattle.graph_run.specs.declared.words.words.Form.{Form}
+use Rattle.graph_run.specs.declared.words.words.Form.TheVariants.{Build, Order, Make, Sum}
+use Rattle.graph_run.specs.words.Words.{IsForm, IsReading}
 
 -- a builder that ends with an error only where too much is reached, or because memory ran out, ends
 pub ends : (rules : Rules) (starts : List Specifier) (answers : Answers) (limit : ℕ) (r : Result GraphData BuildError)

@@ -1,3 +1,4 @@
+pub mod words_lemmas
 pub mod GraphLemmas
 pub mod DueLemmas
 pub mod SumLemmas

@@ -13,10 +13,10 @@ use Rattle.graph_run.specs.declared.status.Status.TheVariants.{Done, BuildRefuse
 use Rattle.graph_run.specs.declared.verdict.Telling.TheVariants as telling
 use Rattle.graph_run.specs.Telling.{told_by}
 use Rattle.graph_run.specs.Run.{IsDueOf, long, no_json, no_bundle, bundle, OfBundle, graph, large, IsInput, IsGraphOf, IsTooLarge, IsRefused, IsLargeInput, IsSmallInput, Always, IsDueFor, IsDueForm, usage, Wrote, usage_line}
-use Rattle.graph_words.specs.declared.words.Form.{Form}
-use Rattle.graph_words.specs.declared.words.Form.TheVariants.{Build, Order, Make, Sum}
-use Rattle.graph_words.specs.Words.{IsForm, IsReading, IsNoForm}
-use Rattle.graph_words.proofs.Theorems.{one_form}
+use Rattle.graph_run.specs.declared.words.words.Form.{Form}
+use Rattle.graph_run.specs.declared.words.words.Form.TheVariants.{Build, Order, Make, Sum}
+use Rattle.graph_run.specs.words.Words.{IsForm, IsReading, IsNoForm}
+use Rattle.graph_run.proofs.words_lemmas.Theorems.{one_form}
 use Rattle.made_bundle.specs.Made.{made_text}
 use Rattle.graph_run.specs.Steps.{IsWritten, IsVerdict}
 use Rattle.std.specs.Io.KnownBytes.{Appends}

@@ -7,8 +7,8 @@ use Rattle.graph_bundle.specs.Bundle.{specifiers}
 use Rattle.made_bundle.specs.Made.{made_text}
 use Rattle.made_laws.specs.Value.{made_value}
 use Rattle.made_laws.proofs.Theorems.{made_length}
-use Rattle.made_graph.specs.Bundle.{modules_at, bundle_at}
-use Rattle.made_graph.proofs.Theorems.{made_json, made_says, specifiers_counted, reached_listed}
+use Rattle.made_laws.specs.graph.Bundle.{modules_at, bundle_at}
+use Rattle.made_laws.proofs.graph.Theorems.{made_json, made_says, specifiers_counted, reached_listed}
 use Rattle.graph_run.specs.Run.{IsTooLarge, IsSmallInput}
 
 -- its modules are as many as it allows, and nothing else is reached

@@ -1,3 +1,4 @@
+pub mod words
 -- What the public contracts rest on.
 pub use Rattle.counted_io.specs.Transfer
 pub mod Status

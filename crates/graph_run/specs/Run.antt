@@ -25,9 +25,9 @@ use Rattle.graph_bundle.specs.Bundle.{IsJson, bundle_of}
 use Rattle.graph_report.specs.Report.{line_end}
 use Rattle.graph_run.specs.declared.verdict.Telling.TheVariants as telling
 use Rattle.graph_run.specs.Telling.{told_by}
-use Rattle.graph_words.specs.Words.{IsForm, IsNoForm}
-use Rattle.graph_words.specs.declared.words.Form.{Form}
-use Rattle.graph_words.specs.declared.words.Form.TheVariants.{Build, Order, Make, Sum}
+use Rattle.graph_run.specs.words.Words.{IsForm, IsNoForm}
+use Rattle.graph_run.specs.declared.words.words.Form.{Form}
+use Rattle.graph_run.specs.declared.words.words.Form.TheVariants.{Build, Order, Make, Sum}
 use Rattle.made_bundle.specs.Made.{made_text}
 
 -- ---- the lines of the refusals

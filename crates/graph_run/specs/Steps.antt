@@ -10,7 +10,7 @@ use Rattle.graph_entry.specs.Resolution.{Resolves, resolve_by}
 use Rattle.graph_builder.specs.declared.following.Following.{Following}
 use Rattle.graph_entry.specs.Ways.{Ways, ways_by}
 use Rattle.graph_entry.specs.Analysed.{AnalysedBy}
-use Rattle.graph_analyzer.specs.declared.analyzer.ParserModuleAnalyzer.{ParserModuleAnalyzer}
+use Rattle.deno_graph.specs.declared.analyzer.analyzer.ParserModuleAnalyzer.{ParserModuleAnalyzer}
 use Rattle.specifier_resolver.specs.Resolver.{resolving_or}
 use Rattle.import_map.specs.ImportMap.{MapData, map_resolve}
 use Rattle.graph_run.specs.declared.resolver.BundleResolver.{BundleResolver}
@@ -23,8 +23,8 @@ use Rattle.graph_bundle.specs.declared.bundle.BundleFault.TheVariants as fault
 use Rattle.graph_builder.specs.Graph.{GraphData}
 use Rattle.std.specs.List.{list_any}
 use Rattle.std.specs.Io.KnownBytes.{Appends}
-use Rattle.graph_words.specs.declared.words.Form.{Form}
-use Rattle.graph_words.specs.declared.words.Form.TheVariants.{Build, Order, Make, Sum}
+use Rattle.graph_run.specs.declared.words.words.Form.{Form}
+use Rattle.graph_run.specs.declared.words.words.Form.TheVariants.{Build, Order, Make, Sum}
 use Rattle.graph_run.specs.declared.status.Status.{Status}
 use Rattle.graph_run.specs.declared.status.Status.TheVariants.{Done, BuildRefused, BadInput, ReadFault, WriteFault, NoMemory, Usage}
 use Rattle.counted_io.specs.Transfer.{TookPart}

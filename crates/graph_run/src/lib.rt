@@ -16,6 +16,7 @@ mod program;
 mod resolver;
 mod status;
 mod verdict;
+pub mod words;
 
 pub use batches::{build_batched, read_once};
 pub use counted_io::{

@@ -1,8 +1,8 @@
 //! All that the program does, over a source and a sink.
 ghost use Rattle.std.specs.Prelude.{◌≡◌, ◌+◌, ◌≤◌, ◌⊎◌, ◌↔◌, ℕ, true, false, map, IfSome, IfOk, IfErr, string_bytes, MatchResult};
 ghost use Rattle.std.specs.Io.KnownBytes.{IsAtEnd};
-ghost use Rattle.graph_words.specs.Words.{IsForm, IsReading, IsNoForm, IsWithin};
-ghost use Rattle.graph_words.specs.declared.words.Form.TheVariants.{Build, Order, Make, Sum};
+ghost use Rattle.graph_run.specs.words.Words.{IsForm, IsReading, IsNoForm, IsWithin};
+ghost use Rattle.graph_run.specs.declared.words.words.Form.TheVariants.{Build, Order, Make, Sum};
 ghost use Rattle.made_bundle.specs.Made.{made_text};
 ghost use Rattle.graph_run.specs.Run.{Wrote, ReadsCounted, WritesCounted, IsRefused, IsLargeInput, IsSmallInput, Always, IsDueOf, IsDueForm};
 ghost use Rattle.graph_run.specs.Telling.{told_by};
@@ -13,8 +13,8 @@ ghost use Rattle.graph_run.specs.Steps.{reads, IsVerdict, IsStop, IsWritten};
 use crate::batches::due_batched;
 use crate::status::Status;
 use crate::verdict::{Due, Telling, refusal};
+use crate::words::{BATCH, Form, form_of};
 use counted_io::{INPUT_LIMIT, ReadError, Sink, Source, read_all, write_all};
-use graph_words::{BATCH, Form, form_of};
 use made_bundle::make_bundle;
 use std::alloc::Global;
 use std::thread::Threads;

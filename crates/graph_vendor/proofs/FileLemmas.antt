@@ -11,8 +11,8 @@ use Rattle.es_literal.specs.Quotes.{quoted}
 use Rattle.es_site.specs.declared.site.Site.{Site}
 use Rattle.es_site.specs.declared.site.DependencyKind.{DependencyKind}
 use Rattle.es_site.specs.declared.site.DependencyKind.TheVariants as kind
-use Rattle.text_changes.specs.declared.change.TextChange.{TextChange}
-use Rattle.text_changes.specs.Changes.{changed}
+use Rattle.source_text.specs.declared.text_changes.change.TextChange.{TextChange}
+use Rattle.source_text.specs.text_changes.Changes.{changed}
 use Rattle.graph_entry.specs.declared.entry.Dependency.{Dependency}
 use Rattle.graph_entry.specs.declared.entry.JsModule.{JsModule}
 use Rattle.graph_entry.specs.Resolution.{Resolved}

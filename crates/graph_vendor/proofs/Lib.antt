@@ -1,3 +1,4 @@
+pub mod vendored
 pub mod NameLemmas
 pub mod FileLemmas
 pub mod RefusedLemmas

@@ -1,3 +1,4 @@
+pub mod vendored
 -- ---- what the public contracts rest on
 pub use Rattle.graph_builder.specs.Graph
 pub mod Names

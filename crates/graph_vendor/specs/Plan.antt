@@ -5,10 +5,10 @@ use Rattle.url.specs.Parts.{Parts}
 use Rattle.base.specs.declared.range.Range.{Range}
 use Rattle.es_site.specs.declared.site.Site.{Site}
 use Rattle.lexical_path.specs.Specifiers.{begins}
-use Rattle.module_text.specs.ModuleText.{mark}
+use Rattle.source_text.specs.module_text.ModuleText.{mark}
 use Rattle.es_literal.specs.Quotes.{quoted}
-use Rattle.text_changes.specs.declared.change.TextChange.{TextChange}
-use Rattle.text_changes.specs.Changes.{changed}
+use Rattle.source_text.specs.declared.text_changes.change.TextChange.{TextChange}
+use Rattle.source_text.specs.text_changes.Changes.{changed}
 use Rattle.graph_entry.specs.declared.entry.Dependency.{Dependency}
 use Rattle.graph_entry.specs.declared.entry.Module.{Module}
 use Rattle.graph_entry.specs.declared.entry.Module.TheVariants.{Js, Json, Wasm}

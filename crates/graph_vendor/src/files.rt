@@ -1,7 +1,7 @@
 //! The files of modules, in which each names the others by their new names.
 ghost use Rattle.std.specs.Prelude.{◌≡◌, List, map, string_bytes, IfOk};
 ghost use Rattle.es_site.specs.declared.site.Site.{Site as Place};
-ghost use Rattle.text_changes.specs.Changes.{changed};
+ghost use Rattle.source_text.specs.text_changes.Changes.{changed};
 ghost use Rattle.graph_vendor.specs.Names as names_spec;
 ghost use Rattle.graph_vendor.specs.Plan as spec;
 ghost use Rattle.graph_vendor.specs.Refused.{AreOfSites};
@@ -13,8 +13,8 @@ use base::{Items, Range};
 use es_site::Site;
 use graph_builder::ModuleGraph;
 use graph_entry::{Dependency, Entry, JsModule, Module};
-use module_text::has_mark;
-use numbered::Numbered;
+use graph_tables::specifier_table::Numbered;
+use source_text::module_text::has_mark;
 use specifier_edits::rewrite_sites;
 use std::alloc::{AllocError, Global};
 use url::Url;

@@ -14,7 +14,7 @@ use crate::names::{NewName, media_of, name_at, target_at};
 use base::Text;
 use graph_builder::ModuleGraph;
 use graph_entry::{Dependency, Entry, MediaType, Module, is_loadable, resolve};
-use numbered::Numbered;
+use graph_tables::specifier_table::Numbered;
 use std::alloc::{AllocError, Global};
 use url::{ParseError, Url};
 

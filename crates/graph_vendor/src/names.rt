@@ -11,8 +11,8 @@ ghost use Rattle.graph_vendor.specs.Names as spec;
 use base::Text;
 use graph_builder::ModuleGraph;
 use graph_entry::{Entry, MediaType, Module};
+use graph_tables::specifier_table::Numbered;
 use itoa::Buffer;
-use numbered::Numbered;
 use std::alloc::{AllocError, Global};
 use url::{ParseError, Url};
 

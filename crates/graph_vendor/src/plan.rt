@@ -20,7 +20,7 @@ use crate::twice::first_twice;
 use base::Items;
 use graph_builder::ModuleGraph;
 use graph_entry::{Entry, ModuleAnalyzer};
-use numbered::Numbered;
+use graph_tables::specifier_table::Numbered;
 use std::alloc::{AllocError, Global};
 use url::Url;
 use vendor_files::VendorFile;

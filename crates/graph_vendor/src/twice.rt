@@ -4,7 +4,7 @@ ghost use Rattle.graph_entry.specs.Specifier.{text_of};
 ghost use Rattle.graph_builder.specs.ByText.{number_of};
 ghost use Rattle.graph_vendor.specs.Plan as spec;
 
-use numbered::Numbered;
+use graph_tables::specifier_table::Numbered;
 use std::alloc::{AllocError, Global};
 use url::Url;
 use vendor_files::VendorFile;

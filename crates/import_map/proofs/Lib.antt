@@ -1,2 +1,3 @@
+pub mod json_reading_lemmas
 mod EntriesLemmas
 mod TableLemmas

@@ -11,7 +11,7 @@ use Rattle.url.specs.Scheme.{is_special}
 use Rattle.url.specs.Parts.{Parts, serialize, kind_of}
 use Rattle.url.specs.Parser.{Parsed, parse_url}
 use Rattle.lexical_path.specs.Specifiers.{begins, has_relative_prefix}
-use Rattle.json_reading.specs.Reading.{Reading, and_then, under, escaped, object_of, optional}
+use Rattle.import_map.specs.json_reading.Reading.{Reading, and_then, under, escaped, object_of, optional}
 use Rattle.specifier_resolver.specs.declared.resolver.ResolveFault.TheVariants.{Refused}
 use Rattle.specifier_resolver.specs.Resolver.{Resolving, default_resolving}
 

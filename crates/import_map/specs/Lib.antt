@@ -1,3 +1,4 @@
+pub mod json_reading
 -- What the public contracts rest on.
 pub mod ImportMap
 pub mod Order

@@ -8,6 +8,7 @@
 #![tactic(auto)]
 
 mod follow;
+pub mod json_reading;
 mod map;
 mod read;
 mod table;

@@ -7,10 +7,10 @@ ghost use Rattle.specifier_resolver.specs.Resolver.{IsResolved};
 ghost use Rattle.import_map.specs.ImportMap as spec;
 
 use crate::follow::led_by;
+use crate::json_reading::Reading;
 use crate::read::{imports_at, scopes_at, url_like};
 use crate::table::{Addresses, match_in, scoped_match};
 use base::{Items, Text};
-use json_reading::Reading;
 use serde_json::Value;
 use specifier_resolver::{DefaultResolver, ResolveFault, Resolver};
 use std::alloc::{AllocError, Global};

@@ -4,13 +4,13 @@ ghost use Rattle.std.specs.Result.{result_ok};
 ghost use Rattle.std.specs.List.{AllByRecursion};
 ghost use Rattle.serde_json.specs.View.{view, members_view};
 ghost use Rattle.url.specs.Parser.{parse_url};
-ghost use Rattle.json_reading.specs.Reading as reading;
+ghost use Rattle.import_map.specs.json_reading.Reading as reading;
 ghost use Rattle.import_map.specs.ImportMap as spec;
 ghost use Rattle.import_map.specs.Order.{IsInOrder, AreInOrder};
 
+use crate::json_reading::{Reading, escaped, pointer};
 use crate::table::Addresses;
 use base::{Items, Text};
-use json_reading::{Reading, escaped, pointer};
 use lexical_path::has_relative_prefix;
 use serde_json::{Map, Value};
 use std::alloc::{AllocError, Global};

@@ -1,3 +1,4 @@
+pub mod graph
 pub mod Digits
 pub mod Text
 pub mod Newline

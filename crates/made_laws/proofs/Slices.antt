@@ -1,7 +1,7 @@
 -- What a range cuts from a module's text: a comment never, and a literal only one that imports.
 use Rattle.std.proofs.Common.{◌≡◌, ◌∙◌, refl, sym, ap, subst, ℕ, ◌-◌, ◌<◌, ◌≤◌, ◌^◌, ◌==◌, Bool, true, false, List, [], ◌∷◌, ◌++◌, take, drop, append_assoc, arith, slice_range, take-append-drop}
 use Rattle.std.proofs.lemmas.Bool.{eqb-true}
-use Rattle.es_spelling.specs.Units.{concat}
+use Rattle.es_literal.specs.spelling.Units.{concat}
 use Rattle.es_literal.specs.Strings.{is_quote, is_plain, IsUnit, plain, single, two, four, braced, return, return_feed, AreUnits, IsString}
 use Rattle.es_token.specs.declared.token.Token.{Token}
 use Rattle.es_token.specs.declared.token.Comment.{Comment}

@@ -1,2 +1,3 @@
+pub mod graph
 pub mod Value
 pub mod Urls

@@ -2,7 +2,7 @@
 use Rattle.std.specs.Prelude.{ℕ, nat_eq, List, [], ◌∷◌, codes, bytes_eq, if◌then◌else◌}
 use Rattle.std.specs.List.{ends_with}
 use Rattle.std.specs.Str.{str_to_ascii_lowercase}
-use Rattle.mime_essence.specs.Essence.{essence_of}
+use Rattle.media_type.specs.mime_essence.Essence.{essence_of}
 use Rattle.media_type.specs.declared.media_type.MediaType.{MediaType}
 use Rattle.media_type.specs.declared.media_type.MediaType.TheVariants.{TypeScript, Tsx, JavaScript, Jsx, Json, Wasm, Unknown}
 use Rattle.media_type.specs.declared.content_types.ContentRule.{ContentRule}

@@ -1,3 +1,4 @@
+pub mod mime_essence
 -- ---- what the public contracts rest on
 pub mod MediaType
 pub mod Endings

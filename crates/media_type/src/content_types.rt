@@ -7,7 +7,7 @@ ghost use Rattle.media_type.specs.Steps.{content_type_of};
 
 use crate::endings::has_ending;
 use crate::media_type::MediaType;
-use mime_essence::essence_of;
+use crate::mime_essence::essence_of;
 use std::alloc::{AllocError, Global};
 
 /// What a content type says of the media type.

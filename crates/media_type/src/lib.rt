@@ -14,6 +14,7 @@
 mod content_types;
 mod endings;
 mod media_type;
+pub mod mime_essence;
 mod specifiers;
 
 pub use crate::media_type::{MediaType, ModuleKind};

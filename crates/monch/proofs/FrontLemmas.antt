@@ -8,7 +8,7 @@ use Rattle.std.specs.List.{HoldsAt, AllWithin}
 use Rattle.std.proofs.lemmas.List.{append_assoc, append_cancel_right, drop_more}
 use Rattle.std.proofs.lemmas.List.Elements.{Contains-from_at}
 use Rattle.std.proofs.lemmas.Iterator.Search.{true_from_Any}
-pub use Rattle.monch_repeat.specs.Advance.{shorter_behind}
+pub use Rattle.monch.specs.repeats.Advance.{shorter_behind}
 pub use Rattle.monch.specs.Advance.{behind_is_shorter}
 use Rattle.monch.specs.Leaves.{PassesOnlyAscii, EachPasses, IsPassingFront, StopsAtChar, IsPassingBytes, StopsAtByte}
 

@@ -1,2 +1,3 @@
+pub mod repeats_lemmas
 pub mod FrontLemmas
 pub mod Theorems

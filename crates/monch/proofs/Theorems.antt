@@ -1,11 +1,11 @@
 -- The laws that other crates and the README name.
 use Rattle.std.proofs.Common.{◌≡◌, ◌<◌, Result, Ok, Err, IfOk, ℕ, Bool, List, [], ◌∷◌, ◌++◌, length, refl, ap, subst, sym, inl, inr}
 use Rattle.std.specs.Prelude.{⊤}
-use Rattle.monch_core.specs.Outcome.{backtrack, Outcome, refused, Meaning, IsSuffix, LeavesSuffix, Advances}
+use Rattle.monch.specs.core_parsers.Outcome.{backtrack, Outcome, refused, Meaning, IsSuffix, LeavesSuffix, Advances}
 use Rattle.std.specs.Borrow.{Bor}
-use Rattle.monch_core.specs.declared.error.ParseError.{ParseError}
-use Rattle.monch_core.specs.Seen.{seen}
-use Rattle.monch_repeat.specs.Repeat.{TakesNoMemory}
+use Rattle.monch.specs.declared.core_parsers.error.ParseError.{ParseError}
+use Rattle.monch.specs.core_parsers.Seen.{seen}
+use Rattle.monch.specs.repeats.Repeat.{TakesNoMemory}
 use Rattle.monch.specs.First.{AnswersAsFirst, EachBacktracks, first, none}
 use Rattle.monch.specs.Leaves.{GivesChar, GivesOneOf, GivesTag, GivesNextChar, GivesSkipWhile, GivesTakeWhile, GivesSkipBytes, GivesTakeBytes, GivesWhitespace}
 use Rattle.monch.specs.Parts.{GivesFirst, GivesMaybe, GivesPair, GivesSubstring, IsSettled}

@@ -6,10 +6,10 @@ use Rattle.std.specs.Char.{encode_utf8, len_utf8}
 use Rattle.std.specs.Prelude.{⊤}
 use Rattle.std.specs.Fn.{Shared}
 use Rattle.std.specs.Borrow.{Bor}
-use Rattle.monch_core.specs.declared.error.ParseError.{ParseError}
-use Rattle.monch_core.specs.Outcome.{success, Meaning, LeavesSuffix, Advances}
-use Rattle.monch_core.specs.Suffix.{success_is_not_refused}
-use Rattle.monch_repeat.specs.Advance.{shorter_behind, IsSuffix-length}
+use Rattle.monch.specs.declared.core_parsers.error.ParseError.{ParseError}
+use Rattle.monch.specs.core_parsers.Outcome.{success, Meaning, LeavesSuffix, Advances}
+use Rattle.monch.specs.core_parsers.Suffix.{success_is_not_refused}
+use Rattle.monch.specs.repeats.Advance.{shorter_behind, IsSuffix-length}
 use Rattle.monch.specs.Calls.{GivesCall, AnswersShorter}
 use Rattle.monch.specs.Leaves.{GivesChar, GivesOneOf, GivesTag, GivesNextChar}
 use Rattle.monch.specs.Parts.{GivesFirst, GivesPair, GivesPreceded, GivesTerminated, GivesDelimited, GivesMapped, GivesIf}

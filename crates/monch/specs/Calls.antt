@@ -2,9 +2,9 @@
 use Rattle.std.specs.Prelude.{◌≡◌, ◌<◌, ℕ, Bool, List, length, Result, Ok, Err, IfOk}
 use Rattle.std.specs.Borrow.{Bor}
 use Rattle.std.specs.Fn.{Shared, FnReturns, FnReturnsAt}
-use Rattle.monch_core.specs.declared.error.ParseError.{ParseError}
-use Rattle.monch_core.specs.Outcome.{Outcome, Meaning, success, refused, IsSuffix}
-use Rattle.monch_core.specs.Seen.{seen, refusal_of}
+use Rattle.monch.specs.declared.core_parsers.error.ParseError.{ParseError}
+use Rattle.monch.specs.core_parsers.Outcome.{Outcome, Meaning, success, refused, IsSuffix}
+use Rattle.monch.specs.core_parsers.Seen.{seen, refusal_of}
 
 module _ {F O : Type 0} (calls : Shared F (Bor (List ℕ) × Unit {0}) (Result (Bor (List ℕ) × O) ParseError)) (f : F) where
   -- what a call of the function may answer

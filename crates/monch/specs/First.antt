@@ -1,6 +1,6 @@
 -- What it is to answer as the first alternative that does not backtrack.
 use Rattle.std.specs.Prelude.{◌≡◌, ℕ, List, [], ◌∷◌, ◌++◌, ⊤}
-use Rattle.monch_core.specs.Outcome.{backtrack, Outcome, refused, Meaning}
+use Rattle.monch.specs.core_parsers.Outcome.{backtrack, Outcome, refused, Meaning}
 use Rattle.monch.specs.Parts.{IsSettled}
 
 -- each of them backtracks on the text

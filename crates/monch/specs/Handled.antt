@@ -1,9 +1,9 @@
 -- What reading a whole text answers.
 use Rattle.std.specs.Prelude.{◌≡◌, ◌≢◌, ◌⊎◌, ℕ, List, [], Result, Ok, Err, ⊤}
-use Rattle.monch_core.specs.declared.error.HandledError.{HandledError}
-use Rattle.monch_core.specs.declared.error.HandledError.TheVariants.{Failure, OutOfMemory}
-use Rattle.monch_core.specs.Failures.{IsToldAs, trailing_message}
-use Rattle.monch_core.specs.Outcome.{backtrack, failure, no_memory, Outcome, success, refused, Meaning}
+use Rattle.monch.specs.declared.core_parsers.error.HandledError.{HandledError}
+use Rattle.monch.specs.declared.core_parsers.error.HandledError.TheVariants.{Failure, OutOfMemory}
+use Rattle.monch.specs.core_parsers.Failures.{IsToldAs, trailing_message}
+use Rattle.monch.specs.core_parsers.Outcome.{backtrack, failure, no_memory, Outcome, success, refused, Meaning}
 
 -- the text was not read to its end
 abbrev pub IsIncomplete : {A : Type 0} → Outcome A → Type 0

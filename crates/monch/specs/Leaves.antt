@@ -3,7 +3,7 @@ use Rattle.std.specs.Prelude.{◌≡◌, ◌≢◌, ◌⊎◌, ◌<◌, ◌≤�
 use Rattle.std.specs.Borrow.{Bor}
 use Rattle.std.specs.Char.{encode_utf8, is_whitespace}
 use Rattle.std.specs.Str.{encode_utf8_all}
-use Rattle.monch_core.specs.Outcome.{backtrack, success, refused, Meaning}
+use Rattle.monch.specs.core_parsers.Outcome.{backtrack, success, refused, Meaning}
 
 -- the text begins with the other one
 abbrev pub BeginsWith : List ℕ → List ℕ → Type 0

@@ -1,8 +1,8 @@
 -- The meanings of the combinators over parts, from the meanings of these.
 use Rattle.std.specs.Prelude.{◌≡◌, ◌⊎◌, ℕ, Bool, true, false, List, [], ◌∷◌, ◌++◌, Option, None, Some, ⊤}
 use Rattle.std.specs.Borrow.{Bor}
-use Rattle.monch_core.specs.Failures.{below, FailsWith}
-use Rattle.monch_core.specs.Outcome.{Refusal, backtrack, failure, no_memory, Outcome, success, refused, Meaning}
+use Rattle.monch.specs.core_parsers.Failures.{below, FailsWith}
+use Rattle.monch.specs.core_parsers.Outcome.{Refusal, backtrack, failure, no_memory, Outcome, success, refused, Meaning}
 
 -- the first, then the second on its rest, and both values; a refusal of either is handed on
 abbrev pub GivesPair : {A B : Type 0} → Meaning A → Meaning B → Meaning (A × B)

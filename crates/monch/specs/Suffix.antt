@@ -3,9 +3,9 @@ use Rattle.std.specs.Prelude.{ℕ, List, ◌∷◌, [], ⊤, Result, Ok, Err, So
 use Rattle.std.specs.Fn.{Shared}
 use Rattle.std.specs.Borrow.{Bor}
 use Rattle.std.proofs.Common.{sym, ap, inl, inr, subst}
-use Rattle.monch_core.specs.Suffix.{IsSuffix-trans, success_is_not_refused}
-use Rattle.monch_core.specs.declared.error.ParseError.{ParseError}
-use Rattle.monch_core.specs.Outcome.{Meaning, Outcome, success, refused, IsSuffix, LeavesSuffix}
+use Rattle.monch.specs.core_parsers.Suffix.{IsSuffix-trans, success_is_not_refused}
+use Rattle.monch.specs.declared.core_parsers.error.ParseError.{ParseError}
+use Rattle.monch.specs.core_parsers.Outcome.{Meaning, Outcome, success, refused, IsSuffix, LeavesSuffix}
 use Rattle.monch.specs.Calls.{GivesCall, AnswersSuffix}
 use Rattle.monch.specs.Parts.{GivesPair, GivesPreceded, GivesTerminated, GivesFirst, GivesMaybe}
 

@@ -4,7 +4,7 @@ ghost use Rattle.monch.specs.Suffix.{GivesFirst-suffix};
 ghost use Rattle.monch.specs.Advance.{first_advances};
 
 use crate::choices::Or;
-use monch_core::{Combinator, ParseError, ParseResult};
+use crate::core_parsers::{Combinator, ParseError, ParseResult};
 
 /// What `or3` answers: the first of three alternatives that does not backtrack.
 #[derive(Drop)]

@@ -1,10 +1,10 @@
 ghost use Rattle.std.specs.Prelude.{◌≡◌};
-ghost use Rattle.monch_core.specs.Seen.{seen};
+ghost use Rattle.monch.specs.core_parsers.Seen.{seen};
 ghost use Rattle.monch.specs.Calls.{AnswersOn};
 ghost use Rattle.monch.specs.Parts.{FailsAbove, GivesAssert, is_success};
 
+use crate::core_parsers::{Combinator, ParseError, ParseResult};
 use crate::failures::told_above;
-use monch_core::{Combinator, ParseError, ParseResult};
 use std::alloc::Global;
 use std::borrow::CowStr;
 

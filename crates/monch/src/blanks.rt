@@ -1,11 +1,11 @@
 ghost use Rattle.std.specs.Prelude.{◌<◌, length, IfOk};
-ghost use Rattle.monch_core.specs.Outcome.{IsSuffix};
-ghost use Rattle.monch_core.specs.Seen.{seen};
+ghost use Rattle.monch.specs.core_parsers.Outcome.{IsSuffix};
+ghost use Rattle.monch.specs.core_parsers.Seen.{seen};
 ghost use Rattle.monch.specs.Leaves.{GivesSkipWhile, GivesWhitespace, IsPassingFront, TestsWhitespace};
 
+use crate::core_parsers::{ParseError, ParseResult};
 use crate::text::taken;
 use crate::whiles::behind_passing;
-use monch_core::{ParseError, ParseResult};
 
 // What is left behind the longest front of white space.
 fn behind_whitespace(text: &str) -> &str

@@ -3,7 +3,7 @@ ghost use Rattle.monch.specs.Parts.{GivesFirst, GivesMaybe};
 ghost use Rattle.monch.specs.Suffix.{GivesFirst-suffix, GivesMaybe-suffix};
 ghost use Rattle.monch.specs.Advance.{first_advances};
 
-use monch_core::{Combinator, ParseError, ParseResult};
+use crate::core_parsers::{Combinator, ParseError, ParseResult};
 
 /// What `or` answers: the first of two alternatives that does not backtrack.
 #[derive(Drop)]

@@ -3,7 +3,7 @@ ghost use Rattle.std.proofs.Common.{sym};
 ghost use Rattle.std.specs.Fn.{FnReturnsAt};
 ghost use Rattle.monch.specs.Parts.{GivesIf, GivesNot};
 
-use monch_core::{Combinator, ParseError, ParseResult};
+use crate::core_parsers::{Combinator, ParseError, ParseResult};
 use std::marker::PhantomData;
 
 /// What may hold nothing.

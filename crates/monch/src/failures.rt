@@ -1,10 +1,10 @@
 ghost use Rattle.std.specs.Prelude.{◌≡◌, IfOk, string_bytes};
 ghost use Rattle.std.specs.Cow.{cow_str_bytes};
-ghost use Rattle.monch_core.specs.Failures.{below};
-ghost use Rattle.monch_core.specs.Seen.{refusal_of};
+ghost use Rattle.monch.specs.core_parsers.Failures.{below};
+ghost use Rattle.monch.specs.core_parsers.Seen.{refusal_of};
 ghost use Rattle.monch.specs.Parts.{GivesWithContext, GivesWithInput, IsToldAbove};
 
-use monch_core::{Combinator, ParseError, ParseErrorFailure, ParseResult};
+use crate::core_parsers::{Combinator, ParseError, ParseErrorFailure, ParseResult};
 use std::alloc::{AllocError, Global};
 use std::borrow::CowStr;
 

@@ -3,7 +3,7 @@ ghost use Rattle.monch.specs.Calls.{GivesCall, AnswersSuffix, AnswersShorter};
 ghost use Rattle.monch.specs.Suffix.{GivesCall-suffix};
 ghost use Rattle.monch.specs.Advance.{call_advances};
 
-use monch_core::{Combinator, ParseResult};
+use crate::core_parsers::{Combinator, ParseResult};
 
 /// What `from_fn` answers: a function as a combinator. Its `parse` calls the function.
 #[derive(Drop)]

@@ -1,7 +1,7 @@
 ghost use Rattle.monch.specs.Calls.{GivesOfResult};
 ghost use Rattle.monch.specs.Handled.{GivesHandled};
 
-use monch_core::{Combinator, HandledError, ParseError, ParseErrorFailure, ParseResult};
+use crate::core_parsers::{Combinator, HandledError, ParseError, ParseErrorFailure, ParseResult};
 use std::alloc::Global;
 
 /// What `map_res` answers: what a function makes of the part's whole result. It is no `Combinator`: its `parse`

@@ -4,8 +4,8 @@ ghost use Rattle.std.specs.Str.{chars};
 ghost use Rattle.monch.specs.Leaves.{GivesChar, GivesOneOf};
 ghost use Rattle.monch.specs.Advance.{char_advances, one_of_advances};
 
+use crate::core_parsers::{Combinator, ParseError, ParseResult};
 use crate::text::split_first_char;
-use monch_core::{Combinator, ParseError, ParseResult};
 
 /// What `ch` answers: one character.
 #[derive(Drop)]

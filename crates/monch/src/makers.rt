@@ -6,6 +6,7 @@ use crate::alternatives::{Or3, Or4, Or5, Or6, Or7};
 use crate::asserts::{Assert, AssertExists};
 use crate::choices::{Maybe, Or};
 use crate::conditions::{CheckNot, IfNotEmpty, IfTrue};
+use crate::core_parsers::{Combinator, ParseError, ParseResult};
 use crate::failures::{WithErrorContext, WithFailureInput};
 use crate::functions::FnCombinator;
 use crate::handling::{MapRes, WithFailureHandling};
@@ -14,7 +15,6 @@ use crate::pairs::{Delimited, Pair, Preceded, Terminated};
 use crate::tags::{Tag, TagOwned};
 use crate::values::{Map, Substring};
 use crate::whiles::{SkipWhile, SkipWhileByte, TakeWhile, TakeWhileByte};
-use monch_core::{Combinator, ParseError, ParseResult};
 use std::alloc::Global;
 use std::marker::PhantomData;
 

@@ -3,7 +3,7 @@ ghost use Rattle.monch.specs.Parts.{GivesPair, GivesPreceded, GivesTerminated, G
 ghost use Rattle.monch.specs.Suffix.{GivesPair-suffix, GivesPreceded-suffix, GivesTerminated-suffix};
 ghost use Rattle.monch.specs.Advance.{pair_advances_by, preceded_advances_by, terminated_advances_by, delimited_advances_by};
 
-use monch_core::{Combinator, ParseResult};
+use crate::core_parsers::{Combinator, ParseResult};
 use std::marker::PhantomData;
 
 /// What `pair` answers: two parts, one behind the other, and both values.

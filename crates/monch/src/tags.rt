@@ -2,8 +2,8 @@ ghost use Rattle.std.specs.Prelude.{◌≢◌, [], ⊤, string_bytes};
 ghost use Rattle.monch.specs.Leaves.{GivesTag};
 ghost use Rattle.monch.specs.Advance.{tag_advances};
 
+use crate::core_parsers::{Combinator, ParseError, ParseResult};
 use crate::text::taken;
-use monch_core::{Combinator, ParseError, ParseResult};
 
 /// What `tag` answers: a text that is borrowed.
 #[derive(Drop)]

@@ -1,10 +1,10 @@
 ghost use Rattle.std.specs.Prelude.{◌≡◌, ◌<◌, [], ◌++◌, length, IfOk, MatchOption};
 ghost use Rattle.std.specs.Char.{encode_utf8};
-ghost use Rattle.monch_core.specs.Outcome.{IsSuffix};
-ghost use Rattle.monch_core.specs.Seen.{seen};
+ghost use Rattle.monch.specs.core_parsers.Outcome.{IsSuffix};
+ghost use Rattle.monch.specs.core_parsers.Seen.{seen};
 ghost use Rattle.monch.specs.Leaves.{GivesNextChar};
 
-use monch_core::{ParseError, ParseResult};
+use crate::core_parsers::{ParseError, ParseResult};
 
 // What stands before the rest in the text.
 pub(crate) fn taken<'a>(text: &'a str, rest: &str) -> &'a str

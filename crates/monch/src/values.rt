@@ -1,8 +1,8 @@
 ghost use Rattle.std.specs.Prelude.{⊤};
 ghost use Rattle.monch.specs.Parts.{GivesSubstring, GivesMapped};
 
+use crate::core_parsers::{Combinator, ParseResult};
 use crate::text::taken;
-use monch_core::{Combinator, ParseResult};
 use std::marker::PhantomData;
 
 /// What `substring` answers: the slice that the part takes.

@@ -1,8 +1,8 @@
 ghost use Rattle.std.specs.Prelude.{◌≡◌, ◌++◌};
 ghost use Rattle.monch.specs.Leaves.{GivesSkipWhile, GivesTakeWhile, IsPassingFront, GivesSkipBytes, GivesTakeBytes, IsPassingBytes, PassesOnlyAscii};
 
+use crate::core_parsers::{Combinator, ParseResult};
 use crate::text::{split_first_char, taken};
-use monch_core::{Combinator, ParseResult};
 
 // What is left behind the longest front of characters that pass.
 pub(crate) fn behind_passing<'a, F: Fn(char) -> bool>(text: &'a str, passes: &F) -> &'a str

@@ -1,6 +1,6 @@
 //! A grammar after JSON: words, numbers and texts, lists of them, and records of lists. Texts have no escapes.
 ghost use Rattle.std.specs.Prelude.{IfOk};
-ghost use Rattle.monch_core.specs.Outcome.{IsSuffix};
+ghost use Rattle.monch.specs.core_parsers.Outcome.{IsSuffix};
 
 use monch::{
     Combinator, ParseResult, ch, delimited, from_fn, if_not_empty, map, or3, pair, separated_list,

@@ -6,10 +6,10 @@ use Rattle.std.specs.Borrow.{Bor}
 use Rattle.std.specs.List.{before_first, prefix_len, position_or_len}
 use Rattle.std.proofs.lemmas.Bool.{cases_Bool, eqb-true}
 use Rattle.std.proofs.lemmas.Option.{same_Some}
-use Rattle.monch_core.specs.Outcome.{success, refused}
+use Rattle.monch.specs.core_parsers.Outcome.{success, refused}
 use Rattle.monch.specs.Seen.{refusal_of}
-use Rattle.monch_core.specs.declared.error.ParseError.{ParseError}
-use Rattle.monch_core.specs.declared.error.ParseError.TheVariants as parse
+use Rattle.monch.specs.declared.core_parsers.error.ParseError.{ParseError}
+use Rattle.monch.specs.declared.core_parsers.error.ParseError.TheVariants as parse
 use Rattle.package_ref.specs.Faults.{fault_of}
 use Rattle.package_ref.specs.declared.reference.PackageKind.{PackageKind}
 use Rattle.package_ref.specs.declared.reference.PackageRef.{PackageRef}

@@ -9,7 +9,7 @@ use Rattle.std.proofs.lemmas.List.Sums.{AllPass-from_list_all}
 use Rattle.std.proofs.lemmas.Bool.{cases_Bool, cases_lt, ltb-true, ltb-false, lt-ltb, le-ltb, eqb-true, ne_eqb}
 use Rattle.std.proofs.lemmas.Str.{encode_ascii}
 use lib.Utf8.{encode}
-use Rattle.monch_core.specs.Outcome.{Refusal, Outcome, Meaning, success, refused, backtrack, failure, no_memory}
+use Rattle.monch.specs.core_parsers.Outcome.{Refusal, Outcome, Meaning, success, refused, backtrack, failure, no_memory}
 use Rattle.monch.specs.Leaves.{GivesChar, BeginsWith, EachPasses, StopsAtChar, IsPassingFront, GivesTakeWhile}
 use Rattle.monch.specs.Parts.{GivesPair, GivesPreceded, GivesFirst, GivesMaybe, GivesSubstring, GivesIf, IsSettled}
 use Rattle.package_ref.specs.declared.reference.PackageKind.TheVariants.{Npm}

@@ -1,6 +1,6 @@
 -- What a refusal of a combinator means here. None of the grammar's combinators answers a failure.
-use Rattle.monch_core.specs.declared.error.ParseError.{ParseError}
-use Rattle.monch_core.specs.declared.error.ParseError.TheVariants as parse
+use Rattle.monch.specs.declared.core_parsers.error.ParseError.{ParseError}
+use Rattle.monch.specs.declared.core_parsers.error.ParseError.TheVariants as parse
 use Rattle.package_ref.specs.declared.error.PackageError.{PackageError}
 use Rattle.package_ref.specs.declared.error.PackageError.TheVariants.{NotAReference, OutOfMemory}
 

@@ -2,7 +2,7 @@
 use Rattle.std.specs.Prelude.{◌≡◌, ◌≢◌, Result, Ok, Err, IfOk, ℕ, ◌==◌, nat_lt, Bool, List, [], ◌∷◌, ◌++◌, take, drop, Option, Some, None, if◌then◌else◌}
 use Rattle.std.specs.List.{prefix_len}
 use Rattle.std.specs.Borrow.{Bor}
-use Rattle.monch_core.specs.Outcome.{Outcome, success, refused, backtrack, failure, no_memory}
+use Rattle.monch.specs.core_parsers.Outcome.{Outcome, success, refused, backtrack, failure, no_memory}
 use Rattle.package_ref.specs.declared.reference.PackageKind.{PackageKind}
 use Rattle.package_ref.specs.declared.reference.PackageKind.TheVariants.{Npm, Jsr}
 use Rattle.package_ref.specs.declared.reference.PackageRef.{PackageRef}

@@ -3,7 +3,7 @@ ghost use Rattle.std.specs.Prelude.{◌≡◌, Some, IfOk};
 ghost use Rattle.graph_entry.specs.Specifier.{text_of};
 ghost use Rattle.graph_entry.specs.Analysed.{Analysed};
 
-use graph_analyzer::analyse;
+use deno_graph::analyzer::analyse;
 use graph_entry::{Entry, LoadAnswer};
 use std::alloc::{AllocError, Global};
 use url::Url;

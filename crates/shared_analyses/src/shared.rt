@@ -8,7 +8,7 @@ ghost use Rattle.shared_analyses.specs.Answered.{IsRight, IsKeptAs};
 use crate::kept::{Kept, keep};
 use crate::same::is_same;
 use base::Items;
-use graph_analyzer::analyse;
+use deno_graph::analyzer::analyse;
 use graph_entry::{Entry, LoadAnswer};
 use once_cell::race::{Note, OnceBox};
 use std::alloc::{AllocError, Global};

@@ -3,12 +3,12 @@ use Rattle.std.specs.Prelude.{All}
 use Rattle.std.proofs.Common.{◌≡◌, ℕ, List, [], ◌∷◌, inl, inr}
 use Rattle.es_token.specs.declared.token.Token.{Token}
 use Rattle.es_lexer.specs.Reads.{ReadsTokens}
-use Rattle.es_tree.specs.declared.error.Lang.{Lang}
-use Rattle.es_tree.specs.declared.error.Mode.{Mode}
+use Rattle.grammar_theory.specs.declared.error.Lang.{Lang}
+use Rattle.grammar_theory.specs.declared.error.Mode.{Mode}
 use Rattle.es_ast.specs.declared.ast.Program.{Program}
-use Rattle.es_derives.specs.Derives.{Derives}
-use Rattle.es_derives.proofs.Theorems.{one_tree}
-use Rattle.es_derived_sites.proofs.Theorems.{derives_cuts}
+use Rattle.es_lowering.specs.derives.Derives.{Derives}
+use Rattle.es_lowering.proofs.derives.Theorems.{one_tree}
+use Rattle.es_law_texts.proofs.sites.Theorems.{derives_cuts}
 use Rattle.es_site.specs.Sites.{sites_of, CutsLiteral}
 use Rattle.source_reading.specs.Tree.{IsFirstTree}
 

@@ -1,7 +1,7 @@
 -- Why a text is no program, as it is told.
 use Rattle.std.specs.Prelude.{◌≡◌, ℕ, List}
-use Rattle.es_tree.specs.declared.error.Lang.{Lang}
-use Rattle.es_tree.specs.declared.error.Mode.{Mode}
+use Rattle.grammar_theory.specs.declared.error.Lang.{Lang}
+use Rattle.grammar_theory.specs.declared.error.Mode.{Mode}
 use Rattle.media_type.specs.declared.media_type.MediaType.{MediaType}
 use Rattle.parse_diagnostic.specs.declared.diagnostic.ParseFault.{ParseFault}
 use Rattle.parse_diagnostic.specs.declared.diagnostic.ParseFault.TheVariants.{Diagnostic, OutOfMemory}

@@ -7,8 +7,8 @@ use Rattle.es_token.specs.declared.token.Comment.{Comment}
 use Rattle.es_lexer.specs.declared.error.LexicalKind.{LexicalKind}
 use Rattle.es_lexer.specs.Reads.{Reads, ReadsTokens}
 use Rattle.es_lexer.specs.Stops.{Stops}
-use Rattle.es_tree.specs.declared.error.Lang.{Lang}
-use Rattle.es_tree.specs.declared.error.Mode.{Mode}
+use Rattle.grammar_theory.specs.declared.error.Lang.{Lang}
+use Rattle.grammar_theory.specs.declared.error.Mode.{Mode}
 use Rattle.es_ast.specs.declared.ast.Program.{Program}
 use Rattle.es_site.specs.declared.site.Site.{Site}
 use Rattle.es_site.specs.Sites.{sites_of}

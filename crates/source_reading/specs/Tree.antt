@@ -1,12 +1,12 @@
 -- The tree of a source: the language and the modes that its media type allows (this project's profile).
 use Rattle.std.specs.Prelude.{ℕ, List, [], ◌∷◌, ◌⊎◌, if◌then◌else◌}
 use Rattle.es_token.specs.declared.token.Token.{Token}
-use Rattle.es_tree.specs.declared.error.Lang.{Lang}
-use Rattle.es_tree.specs.declared.error.Lang.TheVariants.{Es, Typescript}
-use Rattle.es_tree.specs.declared.error.Mode.{Mode}
-use Rattle.es_tree.specs.declared.error.Mode.TheVariants.{Script, Module}
+use Rattle.grammar_theory.specs.declared.error.Lang.{Lang}
+use Rattle.grammar_theory.specs.declared.error.Lang.TheVariants.{Es, Typescript}
+use Rattle.grammar_theory.specs.declared.error.Mode.{Mode}
+use Rattle.grammar_theory.specs.declared.error.Mode.TheVariants.{Script, Module}
 use Rattle.es_ast.specs.declared.ast.Program.{Program}
-use Rattle.es_derives.specs.Derives.{Derives}
+use Rattle.es_lowering.specs.derives.Derives.{Derives}
 use Rattle.media_type.specs.declared.media_type.MediaType.{MediaType}
 use Rattle.media_type.specs.declared.media_type.MediaType.TheVariants.{Cjs, Cts, Mjs, Mts}
 use Rattle.media_type.specs.MediaType.{is_typed}

@@ -5,8 +5,8 @@ use Rattle.es_token.specs.declared.token.Token.{Token}
 use Rattle.es_lexer.specs.declared.error.LexicalError.{LexicalError}
 use Rattle.es_lexer.specs.Reads.{ReadsTokens}
 use Rattle.es_lexer.specs.Stops.{Stops}
-use Rattle.es_tree.specs.declared.error.Lang.{Lang}
-use Rattle.es_tree.specs.declared.error.Mode.{Mode}
+use Rattle.grammar_theory.specs.declared.error.Lang.{Lang}
+use Rattle.grammar_theory.specs.declared.error.Mode.{Mode}
 use Rattle.es_ast.specs.declared.ast.Program.{Program}
 use Rattle.parse_diagnostic.specs.declared.kind.SyntaxErrorKind.{SyntaxErrorKind}
 use Rattle.parse_diagnostic.specs.declared.kind.SyntaxErrorKind.TheVariants.{Lexical, Syntax}

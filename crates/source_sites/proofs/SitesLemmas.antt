@@ -7,26 +7,26 @@ use Rattle.std.proofs.lemmas.List.{append-nil}
 use Rattle.es_token.specs.declared.token.Token.{Token}
 use Rattle.es_token.specs.declared.token.Comment.{Comment}
 use Rattle.es_lexer.specs.Reads.{Reads}
-use Rattle.es_tree.specs.declared.error.Lang.{Lang}
-use Rattle.es_tree.specs.declared.error.Mode.{Mode}
-use Rattle.es_tree.specs.declared.error.Mode.TheVariants.{Script, Module}
-use Rattle.es_tree.specs.declared.error.SyntaxError.{SyntaxError}
-use Rattle.es_tree.specs.declared.error.SyntaxError.TheVariants.{Syntax, OutOfMemory}
-use Rattle.es_tree.specs.Key.{keys_of}
+use Rattle.grammar_theory.specs.declared.error.Lang.{Lang}
+use Rattle.grammar_theory.specs.declared.error.Mode.{Mode}
+use Rattle.grammar_theory.specs.declared.error.Mode.TheVariants.{Script, Module}
+use Rattle.grammar_theory.specs.declared.error.SyntaxError.{SyntaxError}
+use Rattle.grammar_theory.specs.declared.error.SyntaxError.TheVariants.{Syntax, OutOfMemory}
+use Rattle.grammar_theory.specs.Key.{keys_of}
 use Rattle.es_ast.specs.declared.ast.Program.{Program}
 use Rattle.es_site.specs.declared.site.Site.{Site}
 use Rattle.es_site.specs.Sites.{sites_of}
-use Rattle.es_cst.specs.declared.tree.Cst.{Cst}
-use Rattle.es_cst.specs.Slim.{tree_of}
+use Rattle.es_grammar.specs.declared.cst.tree.Cst.{Cst}
+use Rattle.es_grammar.specs.cst.Slim.{tree_of}
 use Rattle.es_syntax.specs.declared.entry.Entry.{Entry}
 use Rattle.es_syntax.specs.Trees.{trees}
 use Rattle.es_program_reader.specs.Program.{IsKept, HoldsKept}
 use Rattle.es_program_reader.specs.Derived.{IsRowOf, GivesTree as GivesPlain}
-use Rattle.es_derives.specs.Derives.{Derives}
-use Rattle.es_derives.proofs.Theorems.{one_tree}
-use Rattle.es_plain_sites.specs.Own.{plain_sites}
-use Rattle.es_program_sites.proofs.Theorems.{kept_sites}
-use Rattle.es_both_sites.proofs.Theorems.{derives_or_not, same_sites}
+use Rattle.es_lowering.specs.derives.Derives.{Derives}
+use Rattle.es_lowering.proofs.derives.Theorems.{one_tree}
+use Rattle.es_law_sites.specs.plain.Own.{plain_sites}
+use Rattle.es_law_programs.proofs.sites.Theorems.{kept_sites}
+use Rattle.es_law_programs.proofs.both_sites.Theorems.{derives_or_not, same_sites}
 use Rattle.media_type.specs.declared.media_type.MediaType.{MediaType}
 use Rattle.source_reading.specs.Tree.{IsFirstTree}
 use Rattle.source_reading.specs.Read.{references_in, HasSites}

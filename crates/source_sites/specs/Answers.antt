@@ -1,14 +1,14 @@
 -- What is answered of tokens: the sites of the tree that is derived from them.
 use Rattle.std.specs.Prelude.{◌≡◌, ℕ, List, Result, Ok, Err}
 use Rattle.es_token.specs.declared.token.Token.{Token}
-use Rattle.es_tree.specs.declared.error.Lang.{Lang}
-use Rattle.es_tree.specs.declared.error.Mode.{Mode}
-use Rattle.es_tree.specs.declared.error.SyntaxError.{SyntaxError}
-use Rattle.es_tree.specs.declared.error.SyntaxError.TheVariants.{Syntax, OutOfMemory}
+use Rattle.grammar_theory.specs.declared.error.Lang.{Lang}
+use Rattle.grammar_theory.specs.declared.error.Mode.{Mode}
+use Rattle.grammar_theory.specs.declared.error.SyntaxError.{SyntaxError}
+use Rattle.grammar_theory.specs.declared.error.SyntaxError.TheVariants.{Syntax, OutOfMemory}
 use Rattle.es_ast.specs.declared.ast.Program.{Program}
 use Rattle.es_site.specs.declared.site.Site.{Site}
 use Rattle.es_site.specs.Sites.{sites_of}
-use Rattle.es_derives.specs.Derives.{Derives}
+use Rattle.es_lowering.specs.derives.Derives.{Derives}
 use Rattle.media_type.specs.declared.media_type.MediaType.{MediaType}
 use Rattle.source_reading.specs.Tree.{IsFirstTree, IsTree}
 

@@ -1,7 +1,7 @@
 -- The modes that a media type allows, as the code has them.
 use Rattle.std.specs.Prelude.{List, [], ◌∷◌}
-use Rattle.es_tree.specs.declared.error.Mode.{Mode}
-use Rattle.es_tree.specs.declared.error.Mode.TheVariants as mode
+use Rattle.grammar_theory.specs.declared.error.Mode.{Mode}
+use Rattle.grammar_theory.specs.declared.error.Mode.TheVariants as mode
 use Rattle.source_sites.specs.declared.modes.Modes.{Modes}
 use Rattle.source_sites.specs.declared.modes.Modes.TheVariants.{Only, ScriptFirst}
 

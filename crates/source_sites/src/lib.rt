@@ -7,7 +7,7 @@
 //!   value (`proofs/Theorems.antt`).
 //!
 //! The definitions speak of the typed tree that is derived from the tokens: a text whose tokens are read as a plain tree
-//! has it, and its sites are those of the plain tree (`es_program_sites`).
+//! has it, and its sites are those of the plain tree (`es_law_programs::sites`).
 //! Not promised: the range of a `Syntax` fault, and when memory runs out.
 #![tactic(auto)]
 

@@ -3,7 +3,7 @@ ghost use Rattle.std.specs.Prelude.{◌≡◌};
 ghost use Rattle.source_reading.specs.Tree as spec;
 ghost use Rattle.source_sites.specs.Modes.{modes_in};
 
-use es_tree::{Lang, Mode};
+use grammar_theory::{Lang, Mode};
 use media_type::MediaType;
 
 /// The modes that a media type allows.

@@ -7,7 +7,7 @@ use Rattle.std.proofs.Common.{◌≡◌, refl, true, List, ℕ, ◌++◌, drop, 
 use Rattle.std.proofs.lemmas.Str.{IsCharBoundary-past_char}
 use Rattle.std.proofs.lemmas.Slice.Eq.{starts_is}
 use Rattle.std.proofs.lemmas.Bool.Decides.{Decides-eqb}
-use Rattle.module_text.specs.ModuleText.{mark}
+use Rattle.source_text.specs.module_text.ModuleText.{mark}
 
 -- the mark is one character
 one_character : (text : List ℕ) → text ≡ mark ++ drop 3 text → text ≡ encode_utf8 0xFEFF ++ drop 3 text

@@ -17,8 +17,10 @@
 
 mod display;
 mod info;
+pub mod module_text;
 mod starts;
 mod text;
+pub mod text_changes;
 
 pub use crate::display::LineAndColumnDisplay;
 pub use crate::info::SourceTextInfo;

@@ -1,10 +1,10 @@
 //! A text that is a view of shared bytes.
 ghost use Rattle.std.specs.Prelude.{◌≡◌, length, drop, IfOk, Some, MatchResult, IsUtf8, string_bytes};
 ghost use Rattle.std.specs.Str.{IsCharBoundary};
-ghost use Rattle.module_text.specs.ModuleText.{without_mark as unmarked};
+ghost use Rattle.source_text.specs.module_text.ModuleText.{without_mark as unmarked};
 
+use crate::module_text::has_mark;
 use base::SharedBytes;
-use module_text::has_mark;
 use std::alloc::{AllocError, Global};
 use std::marker::Model;
 use std::str::Utf8Error;
@@ -60,7 +60,7 @@ impl SourceText {
     }
 
     /// The text less one byte order mark at its front: a view of the same bytes.
-    #[tactic(auto, unfolding(module_text::specs::ModuleText::without_mark))]
+    #[tactic(auto, unfolding(crate::specs::module_text::ModuleText::without_mark))]
     pub fn without_mark(self) -> SourceText
         ensures { result ≡ unmarked self }
     {

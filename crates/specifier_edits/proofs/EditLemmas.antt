@@ -10,10 +10,10 @@ use Rattle.es_token.specs.declared.token.Comment.{Comment}
 use Rattle.es_token.specs.declared.token.TokenKind.TheVariants.{Str}
 use Rattle.es_lexer.specs.Reads.{Reads}
 use Rattle.es_site.specs.declared.site.Site.{Site}
-use Rattle.es_derived_site_order.specs.Order.{StandOn}
-use Rattle.text_changes.specs.declared.change.TextChange.{TextChange}
-use Rattle.es_edited_tokens.specs.Moved.{cut, Replaces, Chosen}
-use Rattle.es_edited_tokens.proofs.Theorems.{reads_only_str}
+use Rattle.es_law_texts.specs.site_order.Order.{StandOn}
+use Rattle.source_text.specs.declared.text_changes.change.TextChange.{TextChange}
+use Rattle.es_law_edits.specs.tokens.Moved.{cut, Replaces, Chosen}
+use Rattle.es_law_edits.proofs.tokens.Theorems.{reads_only_str}
 use Rattle.specifier_edits.specs.Sites.{IsLiteral}
 use Rattle.specifier_edits.specs.Edits.{NamesLiterals, range_of, edit, edits}
 use Rattle.specifier_edits.proofs.ListLemmas.{get_drop, drop_drop}

@@ -1,6 +1,6 @@
 -- A fault of a change isn't want of memory.
 use Rattle.std.proofs.Common.{◌≡◌, ℕ}
-use Rattle.text_changes.specs.declared.error.TextChangeError.TheVariants.{Reversed, Overlapping, MidCharacter, OutOfMemory}
+use Rattle.source_text.specs.declared.text_changes.error.TextChangeError.TheVariants.{Reversed, Overlapping, MidCharacter, OutOfMemory}
 
 pub reversed : (n : ℕ) → Reversed n ≡ OutOfMemory → ⊥
 reversed n e = cc

@@ -1,3 +1,4 @@
+pub mod records_lemmas
 mod FaultLemmas
 mod NumberLemmas
 mod FirstLemmas

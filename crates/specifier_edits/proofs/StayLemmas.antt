@@ -13,8 +13,8 @@ use Rattle.es_lexer.specs.Reads.{Reads}
 use Rattle.es_lexer.proofs.Theorems.{reads_within, reads_ascend}
 use Rattle.es_site.specs.declared.site.Site.{Site}
 use Rattle.es_references.specs.References.{reference_of, is_shebang, first_token, sites_before, references_of}
-use Rattle.text_changes.specs.declared.change.TextChange.{TextChange}
-use Rattle.es_edited_tokens.specs.Moved.{added, removed, moved, token_to, comment_to, Replaces, Chosen}
+use Rattle.source_text.specs.declared.text_changes.change.TextChange.{TextChange}
+use Rattle.es_law_edits.specs.tokens.Moved.{added, removed, moved, token_to, comment_to, Replaces, Chosen}
 
 is_or_not : (b : Bool) → (b ≡ true) ⊎ (b ≡ false)
 is_or_not true = inl refl

@@ -17,30 +17,30 @@ use Rattle.es_token.specs.declared.token.Token.{Token}
 use Rattle.es_token.specs.declared.token.Comment.{Comment}
 use Rattle.es_lexer.specs.Reads.{Reads}
 use Rattle.es_lexer.proofs.Theorems.{one_reading}
-use Rattle.es_tree.specs.declared.error.Lang.{Lang}
-use Rattle.es_tree.specs.declared.error.Mode.{Mode}
+use Rattle.grammar_theory.specs.declared.error.Lang.{Lang}
+use Rattle.grammar_theory.specs.declared.error.Mode.{Mode}
 use Rattle.es_ast.specs.declared.ast.Program.{Program}
-use Rattle.es_derives.specs.Derives.{Derives}
-use Rattle.es_derives.proofs.Theorems.{one_tree}
+use Rattle.es_lowering.specs.derives.Derives.{Derives}
+use Rattle.es_lowering.proofs.derives.Theorems.{one_tree}
 use Rattle.media_type.specs.declared.media_type.MediaType.{MediaType}
 use Rattle.media_type.specs.MediaType.{is_typed}
 use Rattle.source_reading.specs.Tree.{language_of, modes_of, IsFirstTree}
 use Rattle.source_reading.specs.Read.{IsRead, references_in, HasSites}
-use Rattle.es_edited_sites.specs.Moved.{SitesMove, HasRange, AtSites, attributes_of}
-use Rattle.es_edited_sites.proofs.Theorems.{sites_move, none_derives}
-use Rattle.es_edited_trees.specs.Changed.{moved_program}
-use Rattle.es_edited_trees.proofs.Theorems.{derives_move}
+use Rattle.es_law_edits.specs.sites.Moved.{SitesMove, HasRange, AtSites, attributes_of}
+use Rattle.es_law_edits.proofs.sites.Theorems.{sites_move, none_derives}
+use Rattle.es_law_edits.specs.trees.Changed.{moved_program}
+use Rattle.es_law_edits.proofs.trees.Theorems.{derives_move}
 use Rattle.es_site.specs.declared.site.Site.{Site}
 use Rattle.es_site.specs.Sites.{CutsLiteral, sites_of}
 use Rattle.es_references.specs.References.{references_of}
-use Rattle.es_derived_sites.proofs.Theorems.{derives_cuts}
-use Rattle.es_derived_site_order.specs.Order.{StandOn}
-use Rattle.es_derived_site_order.proofs.Theorems.{derives_stand}
-use Rattle.text_changes.specs.declared.change.TextChange.{TextChange}
-use Rattle.text_changes.specs.declared.error.TextChangeError.{TextChangeError}
-use Rattle.text_changes.specs.Changes as text
-use Rattle.es_edited_tokens.specs.Moved.{moved, range_to, token_to, comment_to, cut, text_to, Chosen}
-use Rattle.es_edited_tokens.proofs.Theorems.{literals_move, text_moves, changes_apply, changes_pass, change_stands}
+use Rattle.es_law_texts.proofs.sites.Theorems.{derives_cuts}
+use Rattle.es_law_texts.specs.site_order.Order.{StandOn}
+use Rattle.es_law_texts.proofs.site_order.Theorems.{derives_stand}
+use Rattle.source_text.specs.declared.text_changes.change.TextChange.{TextChange}
+use Rattle.source_text.specs.declared.text_changes.error.TextChangeError.{TextChangeError}
+use Rattle.source_text.specs.text_changes.Changes as text
+use Rattle.es_law_edits.specs.tokens.Moved.{moved, range_to, token_to, comment_to, cut, text_to, Chosen}
+use Rattle.es_law_edits.proofs.tokens.Theorems.{literals_move, text_moves, changes_apply, changes_pass, change_stands}
 use Rattle.specifier_edits.specs.Sites.{AreSites, IsLiteral}
 use Rattle.specifier_edits.specs.Edits.{NamesLiterals, range_of, edit, edits, ReadsMoved, KeepsTexts, CutsSpecifiers, ReadsMovedTree, KeepsSites}
 use Rattle.specifier_edits.proofs.ReferenceLemmas.{AreReferences, references_are, literal_in, literal_behind}

@@ -6,16 +6,16 @@ use Rattle.es_token.specs.declared.token.Token.{Token}
 use Rattle.es_token.specs.declared.token.Comment.{Comment}
 use Rattle.es_lexer.specs.Reads.{Reads}
 use Rattle.es_site.specs.declared.site.Site.{Site}
-use Rattle.es_tree.specs.declared.error.Lang.{Lang}
-use Rattle.es_tree.specs.declared.error.Mode.{Mode}
+use Rattle.grammar_theory.specs.declared.error.Lang.{Lang}
+use Rattle.grammar_theory.specs.declared.error.Mode.{Mode}
 use Rattle.es_ast.specs.declared.ast.Program.{Program}
 use Rattle.es_site.specs.Sites.{CutsLiteral, sites_of}
 use Rattle.media_type.specs.declared.media_type.MediaType.{MediaType}
 use Rattle.source_reading.specs.Read.{IsRead}
-use Rattle.es_edited_sites.specs.Moved.{SitesMove, attributes_of}
-use Rattle.es_edited_trees.specs.Changed.{moved_program}
-use Rattle.text_changes.specs.declared.change.TextChange.{TextChange}
-use Rattle.es_edited_tokens.specs.Moved.{moved, range_to, token_to, comment_to, cut, text_to}
+use Rattle.es_law_edits.specs.sites.Moved.{SitesMove, attributes_of}
+use Rattle.es_law_edits.specs.trees.Changed.{moved_program}
+use Rattle.source_text.specs.declared.text_changes.change.TextChange.{TextChange}
+use Rattle.es_law_edits.specs.tokens.Moved.{moved, range_to, token_to, comment_to, cut, text_to}
 use Rattle.specifier_edits.specs.Sites.{is_reference, IsLiteral}
 
 -- ---- numbers of sites, from 0, with new specifiers

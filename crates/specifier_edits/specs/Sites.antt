@@ -3,15 +3,15 @@ use Rattle.std.specs.Prelude.{◌≡◌, ℕ, Bool, true, false, List, [], ◌++
 use Rattle.es_token.specs.declared.token.Token.{Token}
 use Rattle.es_token.specs.declared.token.Comment.{Comment}
 use Rattle.es_lexer.specs.Reads.{Reads}
-use Rattle.es_tree.specs.declared.error.Lang.{Lang}
-use Rattle.es_tree.specs.declared.error.Mode.{Mode}
+use Rattle.grammar_theory.specs.declared.error.Lang.{Lang}
+use Rattle.grammar_theory.specs.declared.error.Mode.{Mode}
 use Rattle.es_ast.specs.declared.ast.Program.{Program}
 use Rattle.es_site.specs.declared.site.Site.{Site}
 use Rattle.es_site.specs.declared.site.DependencyKind.{DependencyKind}
 use Rattle.es_site.specs.declared.site.DependencyKind.TheVariants.{ReferencePath, ReferenceTypes}
 use Rattle.es_site.specs.Sites.{sites_of}
 use Rattle.es_references.specs.References.{references_of}
-use Rattle.es_derives.specs.Derives.{Derives}
+use Rattle.es_lowering.specs.derives.Derives.{Derives}
 
 -- these are the sites of the text, as it is read in some language and some mode: those of reference comments, where
 -- they count, and then those of the tree

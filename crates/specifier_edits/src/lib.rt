@@ -12,6 +12,7 @@
 #![tactic(auto)]
 
 mod numbers;
+pub mod records;
 mod rewrite;
 
 pub use crate::numbers::{ChangeFault, first_fault, name_literals};

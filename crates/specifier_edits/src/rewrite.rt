@@ -1,15 +1,15 @@
 //! The text with other specifiers.
 ghost use Rattle.std.specs.Prelude.{◌≡◌, ℕ, ◌<◌, length, map, All, IfOk, string_bytes};
-ghost use Rattle.text_changes.specs.declared.error.TextChangeError.{TextChangeError as Fault};
-ghost use Rattle.text_changes.specs.Changes.{changed, IsChanged, IsRefused};
+ghost use Rattle.source_text.specs.declared.text_changes.error.TextChangeError.{TextChangeError as Fault};
+ghost use Rattle.source_text.specs.text_changes.Changes.{changed, IsChanged, IsRefused};
 ghost use Rattle.specifier_edits.specs.Sites.{AreSites};
 ghost use Rattle.specifier_edits.specs.Edits.{NamesLiterals, ReadsMoved, KeepsTexts, CutsSpecifiers, KeepsSites};
 ghost use Rattle.specifier_edits.specs.Edits as spec;
 
 use es_literal::quote;
 use es_site::Site;
+use source_text::text_changes::{TextChange, TextChangeError, apply_text_changes};
 use std::alloc::{AllocError, Global};
-use text_changes::{TextChange, TextChangeError, apply_text_changes};
 
 /// The text with other specifiers at these of its sites: the number of each, from 0, with its new specifier. A new
 /// literal is in double quotes; all else stays as it is.

@@ -1,6 +1,6 @@
 -- Sources that were parsed have the tree of their text, and so the sites of it.
 use Rattle.std.proofs.Common.{◌≡◌, ℕ, List, sym, subst}
-use Rattle.es_tree.specs.declared.error.Mode.{Mode}
+use Rattle.grammar_theory.specs.declared.error.Mode.{Mode}
 use Rattle.es_ast.specs.declared.ast.Program.{Program}
 use Rattle.es_site.specs.declared.site.Site.{Site}
 use Rattle.media_type.specs.declared.media_type.MediaType.{MediaType}

@@ -1,7 +1,7 @@
 -- A parsed source of which the tree is that of its text.
 use Rattle.std.specs.Prelude.{List}
-use Rattle.es_tree.specs.declared.error.Lang.{Lang}
-use Rattle.es_tree.specs.declared.error.Mode.{Mode}
+use Rattle.grammar_theory.specs.declared.error.Lang.{Lang}
+use Rattle.grammar_theory.specs.declared.error.Mode.{Mode}
 use Rattle.source_reading.specs.Read.{IsRead}
 use Rattle.deno_ast.specs.Parsed.{Parsed}
 

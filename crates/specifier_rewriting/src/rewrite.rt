@@ -1,6 +1,6 @@
 //! The text of a source with other specifiers.
 ghost use Rattle.std.specs.Prelude.{◌≡◌, IfOk, string_bytes};
-ghost use Rattle.text_changes.specs.Changes.{changed};
+ghost use Rattle.source_text.specs.text_changes.Changes.{changed};
 ghost use Rattle.deno_ast.specs.Parsed.{parsed_sites};
 ghost use Rattle.specifier_edits.specs.Edits.{NamesLiterals, edits, ReadsMoved, KeepsTexts, CutsSpecifiers, KeepsSites};
 ghost use Rattle.specifier_rewriting.specs.Own.{IsOwnTree};

@@ -1,7 +1,7 @@
 use Rattle.std.proofs.Common.{◌∙◌, ap, List, [], ◌∷◌, ◌++◌}
 use Rattle.es_syntax.specs.Held.{valued}
 use Rattle.es_syntax.specs.Roles.{program_in}
-use Rattle.cjs_tasks.specs.declared.tasks.Task.{Task}
+use Rattle.cjs_facts.specs.declared.tasks.tasks.Task.{Task}
 use Rattle.cjs_exports.proofs.WholeForms.{finds}
 use Rattle.cjs_exports.proofs.analysis.found_at.Goals as goal
 

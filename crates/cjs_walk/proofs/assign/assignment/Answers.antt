@@ -1,9 +1,9 @@
 use Rattle.std.proofs.Common.{◌≡◌, ◌∙◌, sym}
 use Rattle.es_token.specs.declared.token.TokenKind.TheVariants as k
-use Rattle.es_tree.specs.Key.{same_kind}
+use Rattle.grammar_theory.specs.Key.{same_kind}
 use Rattle.es_lowering.specs.Value.{behind, first_of}
 use Rattle.es_syntax.specs.Held.{valued}
-use Rattle.cjs_function_tasks.proofs.Answered.{ok_then}
+use Rattle.cjs_walk.proofs.function_tasks_lemmas.Answered.{ok_then}
 use Rattle.cjs_walk.proofs.Signs.{equal_is}
 use Rattle.cjs_walk.proofs.assign.assignment.Goals as goal
 

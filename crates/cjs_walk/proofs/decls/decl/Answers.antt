@@ -7,8 +7,8 @@ use Rattle.es_lowering.specs.Texts.{span_of}
 use Rattle.es_syntax.specs.Held.{valued}
 use Rattle.es_syntax.specs.Roles.{variables_in}
 use Rattle.cjs_facts.specs.Facts.{facts_of_decl}
-use Rattle.cjs_tasks.specs.Effects.{of, Queues}
-use Rattle.cjs_function_tasks.proofs.Answered.{ok_then}
+use Rattle.cjs_facts.specs.tasks.Effects.{of, Queues}
+use Rattle.cjs_walk.proofs.function_tasks_lemmas.Answered.{ok_then}
 use Rattle.cjs_walk.proofs.StepForms.{steps_queue}
 use Rattle.cjs_walk.proofs.VarForms.{plain_variables, declared_variables}
 use Rattle.cjs_walk.proofs.decls.decl.Goals as goal

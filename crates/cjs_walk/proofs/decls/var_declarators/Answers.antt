@@ -1,7 +1,7 @@
 use Rattle.es_lowering.specs.Value.{turns, declarator_at}
 use Rattle.es_syntax.specs.Held.{held, valued}
 use Rattle.es_syntax.specs.Roles.{declarator_in}
-use Rattle.cjs_function_tasks.proofs.Answered.{ok_then}
+use Rattle.cjs_walk.proofs.function_tasks_lemmas.Answered.{ok_then}
 use Rattle.cjs_walk.proofs.BoundForms.{var_steps}
 use Rattle.cjs_walk.proofs.decls.var_declarators.Goals as goal
 

@@ -1,4 +1,4 @@
-use Rattle.cjs_function_tasks.proofs.Answered.{ok_then}
+use Rattle.cjs_walk.proofs.function_tasks_lemmas.Answered.{ok_then}
 use Rattle.cjs_walk.proofs.EachForms.{each_more}
 use Rattle.cjs_walk.proofs.each.each_of.Goals as goal
 

@@ -1,5 +1,5 @@
 use Rattle.es_syntax.specs.Held.{held, valued}
-use Rattle.cjs_function_tasks.proofs.Answered.{ok_then}
+use Rattle.cjs_walk.proofs.function_tasks_lemmas.Answered.{ok_then}
 use Rattle.cjs_walk.proofs.PostForms.{optional_call}
 use Rattle.cjs_walk.proofs.posts.optional.Goals as goal
 

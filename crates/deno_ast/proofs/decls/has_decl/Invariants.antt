@@ -1,7 +1,7 @@
 -- What is left has an import or an export where all do.
 use Rattle.std.proofs.Common.{◌≡◌, length}
 use Rattle.std.specs.List.{list_any}
-use Rattle.es_items.specs.Lent.{items_left}
+use Rattle.es_program.specs.items.Lent.{items_left}
 use Rattle.deno_ast.specs.Steps.{is_decl}
 use Rattle.deno_ast.proofs.decls.has_decl.Given as goal
 

@@ -1,7 +1,7 @@
 use Rattle.std.proofs.Common.{[], ◌∷◌}
 use Rattle.std.proofs.lemmas.Result.{err_from_is_err_and}
-use Rattle.es_tree.specs.declared.error.Mode.TheVariants as mode
-use Rattle.module_text.specs.ModuleText.{without_mark}
+use Rattle.grammar_theory.specs.declared.error.Mode.TheVariants as mode
+use Rattle.source_text.specs.module_text.ModuleText.{without_mark}
 use Rattle.deno_ast.proofs.FaultLemmas.{other_text}
 use Rattle.deno_ast.proofs.ParsedLemmas.{parsed_with}
 use Rattle.deno_ast.proofs.parsing.parse_module_with_post_process.Goals as goal

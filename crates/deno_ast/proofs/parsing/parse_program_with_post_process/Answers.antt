@@ -1,7 +1,7 @@
 use Rattle.std.proofs.Common.{subst, List}
 use Rattle.std.proofs.lemmas.Result.{err_from_is_err_and}
-use Rattle.es_tree.specs.declared.error.Mode.{Mode}
-use Rattle.module_text.specs.ModuleText.{without_mark}
+use Rattle.grammar_theory.specs.declared.error.Mode.{Mode}
+use Rattle.source_text.specs.module_text.ModuleText.{without_mark}
 use Rattle.source_reading.specs.Fault.{Refuses}
 use Rattle.deno_ast.specs.Source.{IsFault}
 use Rattle.source_sites.specs.Modes.{modes_in}

@@ -1,6 +1,6 @@
 use Rattle.std.proofs.Common.{[], ◌∷◌}
-use Rattle.es_tree.specs.declared.error.Mode.TheVariants as mode
-use Rattle.module_text.specs.ModuleText.{without_mark}
+use Rattle.grammar_theory.specs.declared.error.Mode.TheVariants as mode
+use Rattle.source_text.specs.module_text.ModuleText.{without_mark}
 use Rattle.deno_ast.proofs.FaultLemmas.{other_text_if}
 use Rattle.deno_ast.proofs.ParsedLemmas.{other_source_if}
 use Rattle.deno_ast.proofs.parsing.parse_script.Goals as goal

@@ -1,6 +1,6 @@
 use Rattle.std.proofs.Common.{subst, Err}
 use Rattle.url.specs.Parts.{serialize}
-use Rattle.es_tree.specs.declared.error.SyntaxError.{SyntaxError}
+use Rattle.grammar_theory.specs.declared.error.SyntaxError.{SyntaxError}
 use Rattle.es_ast.specs.declared.ast.Program.{Program as Typed}
 use Rattle.es_parser.specs.Answers.{GivesTree}
 use Rattle.source_reading.specs.Tree.{IsFirstTree}

@@ -1,5 +1,5 @@
 use Rattle.std.proofs.Common.{subst, Err}
-use Rattle.es_tree.specs.declared.error.SyntaxError.{SyntaxError}
+use Rattle.grammar_theory.specs.declared.error.SyntaxError.{SyntaxError}
 use Rattle.es_parser.specs.Answers.{GivesTree}
 use Rattle.deno_ast.proofs.tree.module_first.Goals as goal
 

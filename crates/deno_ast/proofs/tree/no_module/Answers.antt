@@ -1,7 +1,7 @@
 use Rattle.std.proofs.Common.{subst, Err, inl, [], ◌∷◌}
-use Rattle.es_tree.specs.declared.error.SyntaxError.{SyntaxError}
-use Rattle.es_tree.specs.declared.error.SyntaxError.TheVariants.{Syntax}
-use Rattle.es_tree.specs.declared.error.Mode.TheVariants as mode
+use Rattle.grammar_theory.specs.declared.error.SyntaxError.{SyntaxError}
+use Rattle.grammar_theory.specs.declared.error.SyntaxError.TheVariants.{Syntax}
+use Rattle.grammar_theory.specs.declared.error.Mode.TheVariants as mode
 use Rattle.es_parser.specs.Answers.{GivesTree}
 use Rattle.source_reading.proofs.TreeLemmas.{first_once}
 use Rattle.deno_ast.proofs.TreeLemmas.{first_given}

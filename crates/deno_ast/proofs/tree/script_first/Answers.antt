@@ -1,9 +1,9 @@
 use Rattle.std.proofs.Common.{subst, Err, inl, [], ◌∷◌}
 use Rattle.std.proofs.lemmas.Result.{IfOk-weaker}
-use Rattle.es_tree.specs.declared.error.SyntaxError.{SyntaxError}
-use Rattle.es_tree.specs.declared.error.Mode.TheVariants as mode
+use Rattle.grammar_theory.specs.declared.error.SyntaxError.{SyntaxError}
+use Rattle.grammar_theory.specs.declared.error.Mode.TheVariants as mode
 use Rattle.es_ast.specs.declared.ast.Program.{Program as Typed}
-use Rattle.es_derives.specs.Derives.{Derives}
+use Rattle.es_lowering.specs.derives.Derives.{Derives}
 use Rattle.es_parser.specs.Answers.{GivesTree}
 use Rattle.source_reading.proofs.TreeLemmas.{later, first_once}
 use Rattle.deno_ast.proofs.TreeLemmas.{first_given}

@@ -1,7 +1,7 @@
 use Rattle.std.proofs.Common.{subst, sym, ap, ◌∙◌, Err, inl, [], ◌∷◌}
 use Rattle.std.specs.List.{list_any}
-use Rattle.es_tree.specs.declared.error.SyntaxError.{SyntaxError}
-use Rattle.es_tree.specs.declared.error.Mode.TheVariants as mode
+use Rattle.grammar_theory.specs.declared.error.SyntaxError.{SyntaxError}
+use Rattle.grammar_theory.specs.declared.error.Mode.TheVariants as mode
 use Rattle.es_ast.specs.declared.ast.Program.{Program as Typed}
 use Rattle.es_parser.specs.Answers.{GivesTree}
 use Rattle.source_reading.proofs.TreeLemmas.{first_once, later}

@@ -1,7 +1,7 @@
 -- A part is passed over; where none is, the flags end.
 use Rattle.std.proofs.Common.{sym, ◌∙◌, arith}
 use Rattle.std.proofs.lemmas.List.{take_rest}
-use Rattle.es_spelling.proofs.UnitLemmas.{turn_place}
+use Rattle.es_literal.proofs.spelling_lemmas.UnitLemmas.{turn_place}
 use Rattle.es_lexer.specs.Bytes.{part_unit}
 use Rattle.es_lexer.proofs.PartLemmas.{part_turn, flags_stop}
 use Rattle.es_lexer.proofs.look.flags_end_from.Goals as goal

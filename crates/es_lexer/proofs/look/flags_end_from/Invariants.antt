@@ -1,6 +1,6 @@
 -- The flags end where those of what is left do.
 use Rattle.std.proofs.Common.{◌≡◌, ◌+◌, length}
-use Rattle.es_spelling.specs.Units.{units_end}
+use Rattle.es_literal.specs.spelling.Units.{units_end}
 use Rattle.es_lexer.specs.Bytes.{part_unit}
 use Rattle.es_lexer.proofs.look.flags_end_from.Given as goal
 

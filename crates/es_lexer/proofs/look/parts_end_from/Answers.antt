@@ -1,7 +1,7 @@
 -- A part is passed over; where none is, the word ends.
 use Rattle.std.proofs.Common.{sym, ◌∙◌, arith}
 use Rattle.std.proofs.lemmas.List.{take_rest}
-use Rattle.es_spelling.proofs.UnitLemmas.{turn_place}
+use Rattle.es_literal.proofs.spelling_lemmas.UnitLemmas.{turn_place}
 use Rattle.es_lexer.specs.Bytes.{word_unit}
 use Rattle.es_lexer.proofs.PartLemmas.{part_turn, word_stops}
 use Rattle.es_lexer.proofs.look.parts_end_from.Goals as goal

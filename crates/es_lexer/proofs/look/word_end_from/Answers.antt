@@ -1,7 +1,7 @@
 -- A letter, a digit, `$` or `_` is passed over.
 use Rattle.std.proofs.Common.{◌∙◌, arith}
 use Rattle.std.proofs.lemmas.List.{take_rest}
-use Rattle.es_spelling.proofs.UnitLemmas.{turn_place}
+use Rattle.es_literal.proofs.spelling_lemmas.UnitLemmas.{turn_place}
 use Rattle.es_lexer.proofs.PartLemmas.{word_turn, word_done}
 use Rattle.es_lexer.proofs.look.word_end_from.Goals as goal
 

@@ -2,7 +2,7 @@
 use Rattle.std.proofs.Common.{sym, ◌∙◌, arith}
 use Rattle.std.proofs.lemmas.List.{take_rest}
 use Rattle.es_literal.specs.Strings.{string_unit}
-use Rattle.es_spelling.proofs.UnitLemmas.{Turn, turn, turn_fits}
+use Rattle.es_literal.proofs.spelling_lemmas.UnitLemmas.{Turn, turn, turn_fits}
 use Rattle.es_literal.proofs.StringLemmas.{end_from}
 use Rattle.es_literal.proofs.string.body_from.Goals as goal
 

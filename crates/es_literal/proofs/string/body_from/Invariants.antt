@@ -1,6 +1,6 @@
 -- The literal ends where what is left of it does.
 use Rattle.std.proofs.Common.{◌≡◌, ◌+◌, ◌<◌, ◌^◌, length}
-use Rattle.es_spelling.specs.Units.{units_end, units_rest}
+use Rattle.es_literal.specs.spelling.Units.{units_end, units_rest}
 use Rattle.es_literal.specs.Strings.{string_unit}
 use Rattle.es_literal.proofs.string.body_from.Given as goal
 

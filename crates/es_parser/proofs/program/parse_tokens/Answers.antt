@@ -1,8 +1,8 @@
 use Rattle.std.proofs.Common.{subst, List}
 use Rattle.std.proofs.lemmas.Result.{err_from_is_err_and}
 use Rattle.es_token.specs.declared.token.Token.{Token}
-use Rattle.es_tree.specs.Key.{keys_of}
-use Rattle.es_cst.specs.Slim.{tree_of}
+use Rattle.grammar_theory.specs.Key.{keys_of}
+use Rattle.es_grammar.specs.cst.Slim.{tree_of}
 use Rattle.es_program_reader.specs.Program.{HoldsKept}
 use Rattle.es_parser.proofs.AnswerLemmas.{kept_of, derived_of, one_made, held_of, refused}
 use Rattle.es_parser.proofs.program.parse_tokens.Goals as goal

@@ -1,4 +1,4 @@
-use Rattle.es_tree.specs.Key.{keys_of}
+use Rattle.grammar_theory.specs.Key.{keys_of}
 use Rattle.es_program_reader.proofs.KeptLemmas.{shaped_of, holds_kept, none_kept}
 use Rattle.es_program_reader.proofs.plain.read_program.Goals as goal
 

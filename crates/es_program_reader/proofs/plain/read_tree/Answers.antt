@@ -1,6 +1,6 @@
 use Rattle.std.specs.Prelude.{List}
 use Rattle.std.proofs.Common.{sym, subst}
-use Rattle.es_tree.specs.Key.{keys_of}
+use Rattle.grammar_theory.specs.Key.{keys_of}
 use Rattle.es_lookahead.specs.declared.ends.Angle.{Angle}
 use Rattle.es_lookahead.specs.Ends.{AreRight}
 use Rattle.es_program_reader.proofs.plain.read_tree.Goals as goal

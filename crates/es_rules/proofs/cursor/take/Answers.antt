@@ -1,5 +1,5 @@
 use Rattle.std.proofs.Common.{sym}
-use Rattle.es_tree.specs.Key.{has_kind}
+use Rattle.grammar_theory.specs.Key.{has_kind}
 use Rattle.es_lookahead.proofs.TokenLemmas.{look_past}
 use Rattle.es_rules.proofs.cursor.take.Goals as goal
 

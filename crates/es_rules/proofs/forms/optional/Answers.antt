@@ -1,5 +1,5 @@
 use Rattle.std.proofs.Common.{sym, refl}
-use Rattle.es_tree.specs.Productions.{test}
+use Rattle.grammar_theory.specs.Productions.{test}
 use Rattle.es_rules.specs.Bounded.{form_at}
 use Rattle.es_rules.specs.Steps.{keys_in}
 use Rattle.es_rules.proofs.FormLemmas.{absent_part}

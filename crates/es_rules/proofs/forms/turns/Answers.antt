@@ -1,9 +1,9 @@
 use Rattle.std.proofs.Common.{length, sym, ap, refl}
 use Rattle.es_syntax.specs.Written.{opened}
-use Rattle.es_tree.specs.declared.error.SyntaxError.TheVariants.{Syntax}
+use Rattle.grammar_theory.specs.declared.error.SyntaxError.TheVariants.{Syntax}
 use Rattle.std.proofs.lemmas.Result.{err_from_is_err_and}
-use Rattle.es_tree.specs.Productions.{test}
-use Rattle.es_tree.specs.Reader.{read_turns}
+use Rattle.grammar_theory.specs.Productions.{test}
+use Rattle.grammar_theory.specs.Reader.{read_turns}
 use Rattle.es_lookahead.proofs.TokenLemmas.{length-keys_of}
 use Rattle.es_rules.specs.Bounded.{makes, form_at}
 use Rattle.es_rules.specs.Steps.{keys_in, with_more}

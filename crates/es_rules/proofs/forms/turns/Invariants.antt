@@ -1,6 +1,6 @@
 use Rattle.std.proofs.Common.{length}
-use Rattle.es_tree.specs.Productions.{test}
-use Rattle.es_tree.specs.Reader.{read_turns}
+use Rattle.grammar_theory.specs.Productions.{test}
+use Rattle.grammar_theory.specs.Reader.{read_turns}
 use Rattle.es_syntax.specs.Written.{opened}
 use Rattle.es_rules.specs.Bounded.{makes, form_at}
 use Rattle.es_rules.specs.Steps.{keys_in, with_more}

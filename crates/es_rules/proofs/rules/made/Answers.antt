@@ -1,6 +1,6 @@
 use Rattle.std.proofs.Common.{refl}
 use Rattle.std.proofs.lemmas.Result.{err_from_is_err_and}
-use Rattle.es_tree.specs.Reader.{and_then}
+use Rattle.grammar_theory.specs.Reader.{and_then}
 use Rattle.es_rules.specs.Bounded.{form_at, node_at}
 use Rattle.es_rules.specs.Steps.{keys_in}
 use Rattle.es_rules.proofs.FormLemmas.{read_refused, made_read, made_many, made_refused}

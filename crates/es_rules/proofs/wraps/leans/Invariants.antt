@@ -1,7 +1,7 @@
 use Rattle.std.specs.Prelude.{true}
 use Rattle.std.proofs.Common.{◌≡◌, ◌∷◌, [], List, length}
-use Rattle.es_tree.specs.Productions.{test}
-use Rattle.es_cst.specs.declared.tree.Cst.{Cst}
+use Rattle.grammar_theory.specs.Productions.{test}
+use Rattle.es_grammar.specs.declared.cst.tree.Cst.{Cst}
 use Rattle.es_syntax.specs.declared.entry.Entry.{Entry}
 use Rattle.es_syntax.specs.Held.{label_of}
 use Rattle.es_rules.specs.Bounded.{form_at, wraps_at}

@@ -1,7 +1,7 @@
 use Rattle.std.proofs.Common.{length, sym, ap}
 use Rattle.std.proofs.lemmas.Result.{err_from_is_err_and}
-use Rattle.es_tree.specs.Productions.{test}
-use Rattle.es_tree.specs.declared.error.SyntaxError.TheVariants.{Syntax}
+use Rattle.grammar_theory.specs.Productions.{test}
+use Rattle.grammar_theory.specs.declared.error.SyntaxError.TheVariants.{Syntax}
 use Rattle.es_lookahead.proofs.TokenLemmas.{length-keys_of}
 use Rattle.es_rules.specs.Bounded.{form_at, wraps_at}
 use Rattle.es_rules.specs.Steps.{keys_in, single}

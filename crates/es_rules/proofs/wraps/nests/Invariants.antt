@@ -1,6 +1,6 @@
 use Rattle.std.proofs.Common.{◌≡◌, ◌∷◌, [], List, length}
-use Rattle.es_tree.specs.Productions.{test}
-use Rattle.es_cst.specs.declared.tree.Cst.{Cst}
+use Rattle.grammar_theory.specs.Productions.{test}
+use Rattle.es_grammar.specs.declared.cst.tree.Cst.{Cst}
 use Rattle.es_syntax.specs.declared.entry.Entry.{Entry}
 use Rattle.es_rules.specs.Bounded.{form_at, wraps_at}
 use Rattle.es_rules.specs.Steps.{keys_in, Writes, single}

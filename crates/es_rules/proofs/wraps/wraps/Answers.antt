@@ -1,6 +1,6 @@
 use Rattle.std.specs.Prelude.{Bool, ◌∷◌, []}
 use Rattle.std.proofs.Common.{length, sym, subst}
-use Rattle.es_tree.specs.Productions.{test}
+use Rattle.grammar_theory.specs.Productions.{test}
 use Rattle.es_grammar.specs.declared.rows.NodeKind.{NodeKind}
 use Rattle.es_syntax.specs.Held.{label_of}
 use Rattle.es_rules.specs.Bounded.{form_at, wraps_at}

@@ -2,7 +2,7 @@
 use Rattle.std.specs.List.{flat_map}
 use Rattle.std.proofs.Common.{◌≡◌, ◌++◌}
 use Rattle.es_syntax.specs.Trees.{trees}
-use Rattle.es_plain_sites.specs.Own.{plain_sites}
+use Rattle.es_law_sites.specs.plain.Own.{plain_sites}
 use Rattle.es_tree_sites.specs.Left.{ahead, weight}
 use Rattle.es_tree_sites.proofs.walk.tree_sites.Given as goal
 

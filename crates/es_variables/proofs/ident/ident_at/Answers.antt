@@ -1,5 +1,5 @@
 use Rattle.std.proofs.Common.{sym}
-use Rattle.es_scope_numbers.proofs.CutLemmas.{reads_cut}
+use Rattle.es_variables.proofs.scope_numbers_lemmas.CutLemmas.{reads_cut}
 use Rattle.es_variables.proofs.ident.ident_at.Goals as goal
 
 -- each token cuts the text

@@ -1,6 +1,6 @@
 use Rattle.std.proofs.Common.{◌≡◌}
 use Rattle.serde_json.specs.View.{members_view}
-use Rattle.json_reading.specs.Reading.{only}
+use Rattle.import_map.specs.json_reading.Reading.{only}
 use Rattle.graph_bundle.proofs.members.only.Given as goal
 
 -- what all keys say is what those that are left say

@@ -2,7 +2,7 @@
 use Rattle.std.proofs.Common.{◌≡◌, sym, ◌∙◌, ap, Err, codes}
 use Rattle.serde_json.specs.View.{view}
 use Rattle.graph_builder.specs.ByText.{keys_at}
-use Rattle.json_reading.specs.Reading.{required, url_of}
+use Rattle.import_map.specs.json_reading.Reading.{required, url_of}
 use Rattle.graph_bundle.proofs.BundleLemmas.{repeated, unrepeated}
 use Rattle.graph_bundle.proofs.module.new_specifier.Goals as goal
 

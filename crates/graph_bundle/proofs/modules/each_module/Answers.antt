@@ -8,9 +8,9 @@ use Rattle.serde_json.specs.declared.value.Value.{Value}
 use Rattle.graph_entry.specs.declared.answer.LoadAnswer.{LoadAnswer}
 use Rattle.graph_entry.specs.Specifier.{text_of}
 use Rattle.graph_builder.specs.ByText.{keys_at}
-use Rattle.json_reading.specs.Reading.{under}
+use Rattle.import_map.specs.json_reading.Reading.{under}
 use Rattle.graph_bundle.specs.Bundle.{module_after, modules_from, specifiers}
-use Rattle.json_reading.proofs.ReadingLemmas.{prepend}
+use Rattle.import_map.proofs.json_reading_lemmas.ReadingLemmas.{prepend}
 use Rattle.graph_bundle.proofs.BundleLemmas.{next_module, fresh, number_none}
 use Rattle.graph_bundle.proofs.modules.each_module.Goals as goal
 

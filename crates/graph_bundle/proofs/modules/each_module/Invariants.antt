@@ -1,6 +1,6 @@
 use Rattle.std.proofs.Common.{◌≡◌, [], map, drop, length}
 use Rattle.serde_json.specs.View.{view}
-use Rattle.json_reading.proofs.ReadingLemmas.{prepend}
+use Rattle.import_map.proofs.json_reading_lemmas.ReadingLemmas.{prepend}
 use Rattle.graph_bundle.specs.Bundle.{modules_from, specifiers}
 use Rattle.graph_bundle.proofs.modules.each_module.Given as goal
 

@@ -3,7 +3,7 @@ use Rattle.std.proofs.Common.{◌≡◌, ◌∙◌, ap, List, Some}
 use Rattle.serde_json.specs.Find.{as_array}
 use Rattle.serde_json.specs.View.{view, items_view}
 use Rattle.serde_json.specs.declared.value.Value.{Value}
-use Rattle.json_reading.proofs.ReadingLemmas.{IfOk-map}
+use Rattle.import_map.proofs.json_reading_lemmas.ReadingLemmas.{IfOk-map}
 use Rattle.graph_bundle.proofs.BundleLemmas.{modules_array}
 use Rattle.graph_bundle.proofs.modules.modules_in.Goals as goal
 

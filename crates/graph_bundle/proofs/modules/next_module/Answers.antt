@@ -1,8 +1,8 @@
 -- The module stands at its number.
 use Rattle.std.proofs.Common.{◌∙◌, ap, ℕ, decimal}
 use Rattle.serde_json.specs.View.{view}
-use Rattle.json_reading.specs.Reading.{under}
-use Rattle.json_reading.proofs.ReadingLemmas.{IfOk-map}
+use Rattle.import_map.specs.json_reading.Reading.{under}
+use Rattle.import_map.proofs.json_reading_lemmas.ReadingLemmas.{IfOk-map}
 use Rattle.graph_builder.specs.ByText.{keys_at}
 use Rattle.graph_bundle.specs.Bundle.{module_after}
 use Rattle.graph_bundle.proofs.modules.next_module.Goals as goal

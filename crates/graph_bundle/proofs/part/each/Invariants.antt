@@ -1,7 +1,7 @@
 use Rattle.std.proofs.Common.{◌≡◌, map, drop, length}
 use Rattle.serde_json.specs.View.{view}
-use Rattle.json_reading.specs.Reading.{each_from}
-use Rattle.json_reading.proofs.ReadingLemmas.{prepend}
+use Rattle.import_map.specs.json_reading.Reading.{each_from}
+use Rattle.import_map.proofs.json_reading_lemmas.ReadingLemmas.{prepend}
 use Rattle.graph_bundle.proofs.part.each.Given as goal
 
 -- what all say is what those so far say, and then what the rest says

@@ -1,7 +1,7 @@
 use Rattle.std.proofs.Common.{refl, subst, Err}
 use Rattle.std.proofs.lemmas.Result.{IfOk-weaker}
 use Rattle.es_ast.specs.declared.ast.Program.{Program}
-use Rattle.es_tree.specs.declared.error.SyntaxError.{SyntaxError}
+use Rattle.grammar_theory.specs.declared.error.SyntaxError.{SyntaxError}
 use Rattle.es_parser.specs.Answers.{GivesTree}
 use Rattle.source_reading.specs.Tree.{IsTree}
 use Rattle.graph_c.specs.Exports.{of_tree, of_none}

@@ -3,7 +3,7 @@ use Rattle.std.proofs.lemmas.Result.{IfOk-weaker}
 use Rattle.es_token.specs.declared.token.Token.{Token}
 use Rattle.es_ast.specs.declared.ast.Program.{Program}
 use Rattle.es_site.specs.declared.site.Site.{Site}
-use Rattle.es_tree.specs.declared.error.SyntaxError.{SyntaxError}
+use Rattle.grammar_theory.specs.declared.error.SyntaxError.{SyntaxError}
 use Rattle.source_reading.specs.Tree.{IsTree}
 use Rattle.source_reading.specs.Read.{references_in}
 use Rattle.source_sites.specs.Answers.{AreSitesOf, GivesSites}

@@ -1,7 +1,7 @@
 use Rattle.std.proofs.Common.{◌≡◌, ◌∙◌, ap, subst, List, ℕ}
 use Rattle.std.proofs.lemmas.Result.{IfOk-weaker}
 use Rattle.graph_entry.specs.Specifier.{text_of}
-use Rattle.module_text.specs.ModuleText.{without_mark}
+use Rattle.source_text.specs.module_text.ModuleText.{without_mark}
 use Rattle.graph_entry.specs.Ways.{ways_by}
 use Rattle.graph_entry.specs.Analysed.{OfText, with_text}
 use Rattle.graph_entry.proofs.analysis.analyse_bytes.Goals as goal

@@ -1,5 +1,5 @@
 use Rattle.std.proofs.Common.{◌∙◌, ap}
-use Rattle.module_text.specs.ModuleText.{without_mark}
+use Rattle.source_text.specs.module_text.ModuleText.{without_mark}
 use Rattle.graph_entry.specs.Json.{json_module, with_json}
 use Rattle.graph_entry.proofs.json.analyse_json.Goals as goal
 

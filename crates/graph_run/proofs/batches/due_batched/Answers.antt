@@ -1,6 +1,6 @@
 -- What is due for the bundle, or for bytes that are none.
 use Rattle.graph_run.specs.Run.{bundle}
-use Rattle.json_reading.proofs.ReadingLemmas.{IfOk-map}
+use Rattle.import_map.proofs.json_reading_lemmas.ReadingLemmas.{IfOk-map}
 use Rattle.graph_run.proofs.DueLemmas.{ends, end_due, fault_due}
 use Rattle.graph_run.proofs.batches.due_batched.Goals as goal
 

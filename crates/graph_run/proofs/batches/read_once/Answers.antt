@@ -1,6 +1,6 @@
 -- No answer of a bundle that is read comes in any case.
 use Rattle.graph_bundle.proofs.BundleLemmas.{bundle_unforced}
-use Rattle.json_reading.proofs.ReadingLemmas.{IfOk-map}
+use Rattle.import_map.proofs.json_reading_lemmas.ReadingLemmas.{IfOk-map}
 use Rattle.graph_run.proofs.batches.read_once.Goals as goal
 
 pub returns-clause-unforced : goal.returns-clause-unforced

@@ -1,6 +1,6 @@
 -- What is due is written, and which status comes.
 use Rattle.std.proofs.Common.{string_bytes}
-use Rattle.graph_words.specs.declared.words.Form.TheVariants.{Make, Sum}
+use Rattle.graph_run.specs.declared.words.words.Form.TheVariants.{Make, Sum}
 use Rattle.graph_run.specs.declared.status.Status.TheVariants.{Done, BuildRefused, BadInput}
 use Rattle.graph_run.specs.Run.{form, IsRefused, IsLargeInput, IsSmallInput}
 use Rattle.graph_run.proofs.RunLemmas.{wrote_due, wrote_usage, refused_for, large_for, small_for, made_for, summed_for, none_always, none_reading}

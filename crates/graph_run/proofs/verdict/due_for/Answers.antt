@@ -1,7 +1,7 @@
 -- What is due for the bundle, or for bytes that are none.
 use Rattle.graph_run.specs.Run.{bundle}
 use Rattle.graph_bundle.proofs.BundleLemmas.{bundle_unforced}
-use Rattle.json_reading.proofs.ReadingLemmas.{IfOk-map}
+use Rattle.import_map.proofs.json_reading_lemmas.ReadingLemmas.{IfOk-map}
 use Rattle.graph_run.proofs.DueLemmas.{ends, end_due, fault_due}
 use Rattle.graph_run.proofs.verdict.due_for.Goals as goal
 

@@ -1,6 +1,6 @@
 -- The builder is that of the bundle.
 use Rattle.std.proofs.Common.{ap, sym, subst}
-use Rattle.json_reading.proofs.ReadingLemmas.{IfOk-map}
+use Rattle.import_map.proofs.json_reading_lemmas.ReadingLemmas.{IfOk-map}
 use Rattle.graph_builder.specs.Builder.{BuildingBy}
 use Rattle.graph_builder.specs.Memory.{Memory, data_of}
 use Rattle.graph_run.specs.Steps.{BundleWays, IsNew}

@@ -1,6 +1,6 @@
 use Rattle.std.proofs.Common.{subst, Err, [], ◌∷◌}
-use Rattle.es_tree.specs.declared.error.SyntaxError.{SyntaxError}
-use Rattle.es_tree.specs.declared.error.Mode.TheVariants as mode
+use Rattle.grammar_theory.specs.declared.error.SyntaxError.{SyntaxError}
+use Rattle.grammar_theory.specs.declared.error.Mode.TheVariants as mode
 use Rattle.source_sites.specs.Answers.{GivesSites}
 use Rattle.source_sites.proofs.SitesLemmas.{module_sites, first_sites}
 use Rattle.source_sites.proofs.sites.either_sites.Goals as goal

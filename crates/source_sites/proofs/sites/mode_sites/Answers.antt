@@ -4,8 +4,8 @@ use Rattle.std.proofs.Common.{◌≡◌, subst}
 use Rattle.std.proofs.lemmas.Result.{IfOk-weaker}
 use Rattle.es_syntax.specs.declared.entry.Entry.{Entry}
 use Rattle.es_syntax.specs.Trees.{trees}
-use Rattle.es_cst.specs.Slim.{tree_of}
-use Rattle.es_plain_sites.specs.Own.{plain_sites}
+use Rattle.es_grammar.specs.cst.Slim.{tree_of}
+use Rattle.es_law_sites.specs.plain.Own.{plain_sites}
 use Rattle.source_sites.proofs.SitesLemmas.{kept_of, derived_sites, kept_given, refused}
 use Rattle.source_sites.proofs.sites.mode_sites.Goals as goal
 

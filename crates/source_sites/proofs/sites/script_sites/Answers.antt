@@ -1,7 +1,7 @@
 use Rattle.std.proofs.Common.{subst, Err, [], ◌∷◌}
-use Rattle.es_tree.specs.declared.error.SyntaxError.{SyntaxError}
-use Rattle.es_tree.specs.declared.error.SyntaxError.TheVariants.{Syntax}
-use Rattle.es_tree.specs.declared.error.Mode.TheVariants as mode
+use Rattle.grammar_theory.specs.declared.error.SyntaxError.{SyntaxError}
+use Rattle.grammar_theory.specs.declared.error.SyntaxError.TheVariants.{Syntax}
+use Rattle.grammar_theory.specs.declared.error.Mode.TheVariants as mode
 use Rattle.source_sites.specs.Answers.{GivesSites}
 use Rattle.source_reading.proofs.TreeLemmas.{is_first}
 use Rattle.source_sites.proofs.SitesLemmas.{AreOf-weaker, first_sites, first_given}

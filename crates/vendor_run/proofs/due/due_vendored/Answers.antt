@@ -1,6 +1,6 @@
 -- What is due for the bundle, or for bytes that are none.
 use Rattle.std.proofs.Common.{subst, string_bytes}
-use Rattle.json_reading.proofs.ReadingLemmas.{IfOk-map}
+use Rattle.import_map.proofs.json_reading_lemmas.ReadingLemmas.{IfOk-map}
 use Rattle.vendor_report.specs.declared.wanted.Wanted.{Wanted}
 use Rattle.graph_run.proofs.DueLemmas.{ends}
 use Rattle.vendor_run.specs.Due.{bundle, OfEnd}

@@ -6,7 +6,7 @@ use Rattle.es_ast.specs.declared.ast.Program.{Program}
 use Rattle.es_ast.specs.declared.ast.ModuleItem.{ModuleItem}
 use Rattle.es_comments.specs.Placed.{Placed}
 use Rattle.deno_ast.specs.Refs.{items_of, shebang_of}
-use Rattle.es_items.specs.Lent.{lent_item}
+use Rattle.es_program.specs.items.Lent.{lent_item}
 use Rattle.deno_ast.specs.Parsed.{leading_by}
 use Rattle.deno_ast.proofs.LeadingLemmas.{copied_is}
 use Rattle.deno_ast.proofs.source.ParsedSource.get_leading_comments.Goals as goal

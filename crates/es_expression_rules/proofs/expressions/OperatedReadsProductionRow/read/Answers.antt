@@ -1,5 +1,5 @@
 use Rattle.es_token.specs.declared.token.TokenKind.TheVariants as k
-use Rattle.es_tree.specs.Key.{seen, is}
+use Rattle.grammar_theory.specs.Key.{seen, is}
 use Rattle.es_rules.specs.Steps.{keys_in}
 use Rattle.std.proofs.Common.{refl, sym, ap, ◌∙◌}
 use Rattle.es_grammar.specs.Expressions.{power, conditional}

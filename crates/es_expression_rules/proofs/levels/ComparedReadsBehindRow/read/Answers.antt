@@ -1,5 +1,5 @@
 use Rattle.std.proofs.Common.{refl}
-use Rattle.es_tree.specs.Productions.{by_predicate, wrap}
+use Rattle.grammar_theory.specs.Productions.{by_predicate, wrap}
 use Rattle.es_grammar.specs.declared.rows.NodeKind.TheVariants.{Binary, TypedBinary}
 use Rattle.es_grammar.specs.Expressions.{comparison_in, tight_in, asserted_or, opens_comparison}
 use Rattle.es_rules.specs.Steps.{keys_in}

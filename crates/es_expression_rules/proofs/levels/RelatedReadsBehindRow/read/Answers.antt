@@ -2,8 +2,8 @@ use Rattle.std.proofs.Common.{refl, sym, ◌∙◌}
 use Rattle.es_rules.specs.Bounded.{rule_at}
 use Rattle.es_rules.specs.Steps.{keys_in}
 use Rattle.es_token.specs.declared.token.TokenKind.TheVariants as k
-use Rattle.es_tree.specs.Key.{is}
-use Rattle.es_tree.specs.Productions.{choose}
+use Rattle.grammar_theory.specs.Key.{is}
+use Rattle.grammar_theory.specs.Productions.{choose}
 use Rattle.es_grammar.specs.Expressions.{private_in}
 use Rattle.es_expression_rules.specs.Levels.{related}
 use Rattle.es_expression_rules.proofs.Absent.{other_chosen, private_chosen}

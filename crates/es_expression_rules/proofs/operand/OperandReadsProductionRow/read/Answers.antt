@@ -2,7 +2,7 @@ use Rattle.std.proofs.Common.{refl, sym}
 use Rattle.es_rules.specs.Steps.{keys_in}
 use Rattle.es_expression_rules.proofs.Same.{read_behind}
 use Rattle.es_expression_rules.proofs.Absent.{wrap_absent}
-use Rattle.es_tree.specs.Productions.{wrap}
+use Rattle.grammar_theory.specs.Productions.{wrap}
 use Rattle.es_expression_rules.proofs.operand.OperandReadsProductionRow.read.Goals as goal
 
 -- no turn stands there: the operand alone is read

@@ -1,6 +1,6 @@
 use Rattle.es_rules.specs.Steps.{keys_in}
 use Rattle.es_token.specs.declared.token.TokenKind.TheVariants as k
-use Rattle.es_type_grammar.specs.Words.{only}
+use Rattle.es_grammar.specs.types.Words.{only}
 use Rattle.es_grammar.specs.declared.rows.Row.TheVariants.{EqualityRow}
 use Rattle.es_grammar.specs.Expressions.{power, bit_and, level}
 use Rattle.es_expression_rules.specs.Levels.{arithmetic_over, comparing_over}

@@ -1,6 +1,6 @@
 use Rattle.std.proofs.Common.{◌≡◌, ◌+◌, ◌-◌, ◌∙◌, length, sym, ap, suc, arith}
-use Rattle.es_tree.specs.Key.{keys_of}
-use Rattle.es_type_grammar.specs.Statements.{has_semicolon}
+use Rattle.grammar_theory.specs.Key.{keys_of}
+use Rattle.es_grammar.specs.types.Statements.{has_semicolon}
 use Rattle.es_lookahead.proofs.TokenLemmas.{length-keys_of}
 use Rattle.es_lookahead.proofs.SemicolonLemmas.{one_turn}
 use Rattle.es_lookahead.proofs.tokens.Tokens.has_semicolon.Goals as goal

@@ -1,6 +1,6 @@
 use Rattle.std.proofs.Common.{◌≡◌, ◌-◌, length}
-use Rattle.es_tree.specs.Key.{keys_of}
-use Rattle.es_type_grammar.specs.Statements.{has_semicolon}
+use Rattle.grammar_theory.specs.Key.{keys_of}
+use Rattle.es_grammar.specs.types.Statements.{has_semicolon}
 use Rattle.es_lookahead.proofs.tokens.Tokens.has_semicolon.Given as goal
 
 -- what is left to look at tells what the whole tells

@@ -1,5 +1,5 @@
 use Rattle.std.proofs.Common.{◌∙◌}
-use Rattle.es_tree.specs.Key.{has_kind}
+use Rattle.grammar_theory.specs.Key.{has_kind}
 use Rattle.es_lookahead.specs.Named.{kinds_of}
 use Rattle.es_lookahead.proofs.TokenLemmas.{look_some, look_none}
 use Rattle.es_lookahead.proofs.tokens.Tokens.is_kind.Goals as goal

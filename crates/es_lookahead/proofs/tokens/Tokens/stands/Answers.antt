@@ -1,4 +1,4 @@
-use Rattle.es_tree.specs.Key.{is}
+use Rattle.grammar_theory.specs.Key.{is}
 use Rattle.es_lookahead.proofs.TokenLemmas.{look_past}
 use Rattle.es_lookahead.proofs.tokens.Tokens.stands.Goals as goal
 

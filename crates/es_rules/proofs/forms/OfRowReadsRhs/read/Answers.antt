@@ -1,7 +1,7 @@
 use Rattle.std.proofs.lemmas.Result.{err_from_is_err_and}
 use Rattle.es_rules.specs.Bounded.{form_at}
 use Rattle.es_rules.specs.Steps.{keys_in}
-use Rattle.es_tree.specs.Productions.{row}
+use Rattle.grammar_theory.specs.Productions.{row}
 use Rattle.es_rules.proofs.FormLemmas.{refused, adds_row, no_row}
 use Rattle.es_rules.proofs.forms.OfRowReadsRhs.read.Goals as goal
 

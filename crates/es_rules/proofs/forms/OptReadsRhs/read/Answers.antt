@@ -1,7 +1,7 @@
 use Rattle.std.proofs.lemmas.Result.{err_from_is_err_and}
 use Rattle.es_rules.specs.Bounded.{form_at}
 use Rattle.es_rules.specs.Steps.{keys_in}
-use Rattle.es_tree.specs.Productions.{opt}
+use Rattle.grammar_theory.specs.Productions.{opt}
 use Rattle.es_rules.proofs.FormLemmas.{refused, adds_opt, no_opt}
 use Rattle.es_rules.proofs.forms.OptReadsRhs.read.Goals as goal
 

@@ -2,7 +2,7 @@ use Rattle.std.proofs.lemmas.Result.{err_from_is_err_and}
 use Rattle.es_rules.specs.Predict.{leaf_kind_of}
 use Rattle.es_rules.specs.Bounded.{form_at}
 use Rattle.es_rules.specs.Steps.{keys_in}
-use Rattle.es_tree.specs.Productions.{tok}
+use Rattle.grammar_theory.specs.Productions.{tok}
 use Rattle.es_rules.proofs.FormLemmas.{refused, adds_tok, no_tok}
 use Rattle.es_syntax.proofs.Forests.{keeps_all}
 use Rattle.es_rules.proofs.forms.TokReadsRhs.read.Goals as goal

@@ -1,7 +1,7 @@
 use Rattle.std.proofs.Common.{length, sym}
 use Rattle.std.proofs.lemmas.Result.{err_from_is_err_and}
-use Rattle.es_tree.specs.Productions.{test}
-use Rattle.es_tree.specs.Reader.{and_then}
+use Rattle.grammar_theory.specs.Productions.{test}
+use Rattle.grammar_theory.specs.Reader.{and_then}
 use Rattle.es_rules.specs.Bounded.{form_at, rule_at, wraps_at}
 use Rattle.es_rules.specs.Steps.{keys_in}
 use Rattle.es_rules.proofs.FormLemmas.{read_refused}

@@ -1,7 +1,7 @@
 -- What is left of the turns tells what all of them do.
 use Rattle.std.specs.Prelude.{true}
 use Rattle.std.proofs.Common.{◌≡◌, length}
-use Rattle.es_plain_sites.specs.Own.{are_plain}
+use Rattle.es_law_sites.specs.plain.Own.{are_plain}
 use Rattle.es_tree_sites.specs.Parts.{parts_in}
 use Rattle.es_tree_sites.proofs.source.TokenizedText.are_plain.Given as goal
 

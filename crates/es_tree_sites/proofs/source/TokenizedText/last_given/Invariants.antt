@@ -1,7 +1,7 @@
 -- What is left of the turns tells what all of them do.
 use Rattle.std.specs.Prelude.{option_map, None}
 use Rattle.std.proofs.Common.{◌≡◌, length}
-use Rattle.es_plain_sites.specs.Own.{last_given}
+use Rattle.es_law_sites.specs.plain.Own.{last_given}
 use Rattle.es_tree_sites.specs.Parts.{parts_in, there}
 use Rattle.es_tree_sites.proofs.source.TokenizedText.last_given.Given as goal
 

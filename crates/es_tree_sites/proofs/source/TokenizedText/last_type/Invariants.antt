@@ -2,7 +2,7 @@
 use Rattle.std.specs.Prelude.{option_map, None, IfSome}
 use Rattle.std.proofs.Common.{◌≡◌, length}
 use Rattle.es_lowering.specs.Texts.{str_of}
-use Rattle.es_plain_sites.specs.Own.{last_type}
+use Rattle.es_law_sites.specs.plain.Own.{last_type}
 use Rattle.es_tree_sites.specs.Parts.{parts_in, Cuts}
 use Rattle.es_tree_sites.proofs.source.TokenizedText.last_type.Given as goal
 

@@ -1,4 +1,4 @@
-use Rattle.es_scope_numbers.proofs.CutLemmas.{reads_cut}
+use Rattle.es_variables.proofs.scope_numbers_lemmas.CutLemmas.{reads_cut}
 use Rattle.es_variables.proofs.scope.Scope.analyze.Goals as goal
 
 -- the tokens cut the text

@@ -1,5 +1,5 @@
 use Rattle.std.proofs.Common.{◌≡◌}
-use Rattle.numbered.specs.Numbers as numbers
+use Rattle.graph_tables.specs.specifier_table.Numbers as numbers
 use Rattle.graph_builder.specs.declared.slot.Slot.TheVariants as slot
 use Rattle.graph_builder.specs.declared.links.Place.TheVariants as place
 use Rattle.graph_builder.specs.Links.{slots_in}

@@ -3,7 +3,7 @@ use Rattle.std.proofs.Common.{◌≡◌, ◌∙◌, ap, List, Some}
 use Rattle.serde_json.specs.Find.{as_array}
 use Rattle.serde_json.specs.View.{view, items_view}
 use Rattle.serde_json.specs.declared.value.Value.{Value}
-use Rattle.json_reading.proofs.ReadingLemmas.{each_array, IfOk-map}
+use Rattle.import_map.proofs.json_reading_lemmas.ReadingLemmas.{each_array, IfOk-map}
 use Rattle.graph_bundle.proofs.part.ItemsPart.read.Goals as goal
 
 pub returns-in-Some : goal.returns-in-Some

@@ -1,7 +1,7 @@
 use Rattle.std.proofs.Common.{◌≡◌, ◌∙◌, ap}
 use Rattle.std.specs.Str.{str_to_ascii_lowercase}
 use Rattle.media_type.specs.ContentTypes.{with_content_type, by_rule, first_rule, content_types}
-use Rattle.mime_essence.specs.Essence.{essence_of}
+use Rattle.media_type.specs.mime_essence.Essence.{essence_of}
 use Rattle.media_type.proofs.media_type.MediaType.with_content_type.Goals as goal
 
 -- the table of the code is that of the definition, and the text is the content type in small letters

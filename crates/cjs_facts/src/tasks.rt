@@ -1,0 +1,12 @@
+//! What is left to walk for the facts of a program: tasks in the order of the text, on a stack whose last is the next.
+//!
+//! - `Task`, `Each`: what is left, and what the turns of a row are. What a task does is its effect (`effect`,
+//!   `specs/tasks/Effects.antt`): what is found behind it, of what was found before.
+//! - `queue`, `queue_maybe`: one task more behind others (`Queues`).
+//! - `unload`: tasks that are next, before those on a stack.
+//!
+//! No function calls itself: a deep program takes memory, not the machine's stack.
+
+mod tasks;
+
+pub use tasks::{Each, Task, queue, queue_maybe, unload};

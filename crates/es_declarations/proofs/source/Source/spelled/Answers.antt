@@ -1,9 +1,0 @@
-use Rattle.std.proofs.Common.{sym}
-use Rattle.es_declarations.proofs.CutLemmas.{cut_told}
-use Rattle.es_declarations.proofs.source.Source.spelled.Goals as goal
-
--- a token that is told cuts the text
-pub cut-requires : goal.cut-requires
-cut-requires c =
-    cut_told c.args.self.now.text.now c.args.self.now.tokens.now c.requires c.args.at c.in-Some.token
-    (sym c.in-Some.ensures)

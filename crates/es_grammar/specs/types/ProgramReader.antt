@@ -1,0 +1,15 @@
+-- What the reader of the table of programs answers for keys: for worked rows.
+use Rattle.std.specs.Prelude.{List}
+use Rattle.grammar_theory.specs.declared.error.Lang.{Lang}
+use Rattle.grammar_theory.specs.declared.error.Mode.{Mode}
+use Rattle.grammar_theory.specs.Key.{Key}
+use Rattle.grammar_theory.specs.Plain.{Plain, plain}
+use Rattle.grammar_theory.specs.Fits.{most_nodes}
+use Rattle.grammar_theory.specs.Reader.{Out, read_row}
+use Rattle.es_grammar.specs.declared.types.rows.NodeKind.{NodeKind}
+use Rattle.es_grammar.specs.types.Table.{rule}
+use Rattle.es_grammar.specs.types.Conditions.{program_row}
+
+-- what is read as a program, from the first key on
+unfoldable pub read_program : Lang → Mode → List Key → Out (Plain NodeKind)
+read_program l m K = read_row plain K rule most_nodes (program_row l m) 0

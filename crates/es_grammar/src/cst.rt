@@ -1,0 +1,9 @@
+//! What a reader of programs in both languages keeps of a plain tree.
+//!
+//! - `Cst`: the nodes, and the tokens that are kept (`slim`, `specs/cst/Slim.antt`).
+//!
+//! It stands below the readers, so that what is made of such a tree stands on no reader.
+
+mod tree;
+
+pub use tree::Cst;

@@ -1,0 +1,4 @@
+pub mod moved
+pub mod tokens
+pub mod sites
+pub mod trees

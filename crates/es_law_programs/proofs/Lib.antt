@@ -1,0 +1,5 @@
+pub mod both_modes
+pub mod both_items
+pub mod total
+pub mod sites
+pub mod both_sites

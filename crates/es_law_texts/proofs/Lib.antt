@@ -1,0 +1,2 @@
+pub mod sites
+pub mod site_order

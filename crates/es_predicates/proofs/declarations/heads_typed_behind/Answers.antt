@@ -1,5 +1,0 @@
-use Rattle.es_predicates.proofs.PastLemmas.{typed_past}
-use Rattle.es_predicates.proofs.declarations.heads_typed_behind.Goals as goal
-
-pub returns-then-at-tokens : goal.returns-then-at-tokens
-returns-then-at-tokens c = typed_past c.args.tokens.now.tokens.now c.args.at c.if-at-tokens.true

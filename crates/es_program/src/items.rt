@@ -1,0 +1,18 @@
+//! The items of a program, as they stand in its row of entries.
+//!
+//! - `module_body`, `script_body`: the items of a program that is lent (`items_left`, `specs/items/Lent.antt`); `Body`, an iterator
+//!   over them; `first_item`: the first of them and the rest.
+//! - `ModuleItemRef`: an import or an export, or a statement: a node with its text and its tokens. Its `span`, and what it
+//!   `told` of its module.
+//! - `tells_script`: whether the items of a module tell that it is one of CommonJS.
+
+mod body;
+mod item;
+mod items;
+mod place;
+mod reading;
+
+pub use body::Body;
+pub use item::{ModuleDeclRef, ModuleItemRef, StmtRef};
+pub use items::{first_item, module_body, script_body, tells_script};
+pub use place::Place;

@@ -1,5 +1,0 @@
-use Rattle.es_type_predicates.proofs.PastLemmas.{mapped_past}
-use Rattle.es_type_predicates.proofs.types.opens_mapped.Goals as goal
-
-pub returns-then-at-tokens : goal.returns-then-at-tokens
-returns-then-at-tokens c = mapped_past c.args.tokens.now.tokens.now c.args.at c.if-at-tokens.true

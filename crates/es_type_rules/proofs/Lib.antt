@@ -1,0 +1,2 @@
+pub mod predicates_lemmas
+pub mod ends_lemmas

@@ -1,0 +1,2 @@
+pub mod predicates
+pub mod ends

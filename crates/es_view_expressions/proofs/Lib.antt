@@ -1,0 +1,1 @@
+pub mod pattern_lemmas

@@ -1,0 +1,10 @@
+//! Typed views of operators: which operator a node is, with its operands where they stand.
+//!
+//! - `Operator`, `operator_at`: unary, binary and assignment operators, conditionals, `await`, `yield`, sequences.
+//! - `Chain`, `chain_at`; `Turn`, `turn_at`: operators that lean left in one chain, and what stands behind an operand.
+
+mod lean;
+mod operator;
+
+pub use lean::{Chain, Turn, chain_at, turn_at};
+pub use operator::{Operator, operator_at};

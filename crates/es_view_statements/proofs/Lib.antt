@@ -1,0 +1,1 @@
+pub mod decl_lemmas

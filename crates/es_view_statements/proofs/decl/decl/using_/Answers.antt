@@ -1,0 +1,14 @@
+use Rattle.std.proofs.Common.{refl}
+use Rattle.es_lowering.specs.Statements.{using_}
+use Rattle.es_view_statements.specs.decl.Decl.{using_of}
+use Rattle.es_view_statements.proofs.decl.decl.using_.Goals as goal
+
+-- part by part
+pub returns-in-Some-clause-form : goal.returns-in-Some-clause-form
+unfolding using_ using_of
+returns-in-Some-clause-form c = λ x ts r.
+    rw (
+      c.has.ensures x ts,
+      c.in-Some.ensures.value x ts,
+      c.group_at.ensures.value x ts,
+    ) refl

@@ -1,0 +1,4 @@
+pub mod stmt
+pub mod class
+pub mod decl
+pub mod param

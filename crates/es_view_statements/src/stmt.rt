@@ -1,0 +1,13 @@
+//! Typed views of statements: which form a node has, with its parts where they stand.
+//!
+//! - `Stmt`, `stmt_at`: statements that stand by themselves.
+//! - `Compound`, `compound_at`: loops, `switch` and `try`.
+//! - `Block`, `block_at`: the statements of a block.
+
+mod block;
+mod compound;
+mod stmt;
+
+pub use block::{Block, block_at};
+pub use compound::{Compound, compound_at};
+pub use stmt::{Stmt, stmt_at};

@@ -1,0 +1,17 @@
+use Rattle.std.proofs.Common.{refl}
+use Rattle.es_grammar.specs.declared.rows.NodeKind.TheVariants as l
+use Rattle.es_syntax.proofs.Labels.{other}
+use Rattle.es_view_types.proofs.members.params.params_at.Goals as goal
+
+-- no other alternative is one of these
+pub returns-in_default : goal.returns-in_default
+returns-in_default c =
+    let label = c.in-Node.label in
+    record {
+      form = λ x ts. tt;
+      other = rw (
+        c.in-Node.is,
+        other label l.ParametersOfType c.in_default.not-ParametersOfType,
+      ) refl;
+      below = tt;
+    }

@@ -1,0 +1,19 @@
+use Rattle.std.proofs.Common.{refl}
+use Rattle.es_grammar.specs.declared.rows.NodeKind.TheVariants as l
+use Rattle.es_syntax.proofs.Labels.{other}
+use Rattle.es_view_types.proofs.members.prop.prop_at.Goals as goal
+
+-- no other alternative is one of these
+pub returns-in_default : goal.returns-in_default
+returns-in_default c =
+    let label = c.in-Node.label in
+    record {
+      form = λ x ts. tt;
+      other = rw (
+        c.in-Node.is,
+        other label l.RestPropertyOfType c.in_default.not-RestPropertyOfType,
+        other label l.KeyProperty c.in_default.not-KeyProperty,
+        other label l.NamePropertyOfType c.in_default.not-NamePropertyOfType,
+      ) refl;
+      below = tt;
+    }

@@ -1,0 +1,50 @@
+ghost use Rattle.std.specs.Prelude.{◌≡◌};
+ghost use Rattle.grammar_theory.specs.declared.error.SyntaxError.TheVariants.{OutOfMemory};
+
+use std::alloc::AllocError;
+use std::error::Error;
+use std::fmt;
+
+/// The language of a text.
+#[derive(Clone, Copy, Debug, PartialEq, Eq, Hash)]
+pub enum Lang {
+    /// ECMAScript alone.
+    Es,
+    /// ECMAScript with the types and declarations of TypeScript.
+    Typescript,
+}
+
+/// The goal symbol that a text is read by (ECMA-262, "Scripts and Modules").
+#[derive(Clone, Copy, Debug, PartialEq, Eq, Hash)]
+pub enum Mode {
+    Module,
+    Script,
+}
+
+/// Why a text has no tree.
+#[derive(Clone, Copy, Debug, PartialEq, Eq)]
+pub enum SyntaxError {
+    /// No tree can be read. `token` is the number of the token where reading stopped, or that of all tokens at the end.
+    Syntax { token: usize },
+    /// Memory ran out: nothing is said of the text.
+    OutOfMemory,
+}
+
+impl fmt::Display for SyntaxError {
+    fn fmt<W: fmt::Write>(&self, f: &mut fmt::Formatter<W>) -> fmt::Result {
+        match self {
+            SyntaxError::Syntax { token } => write!(f, "unexpected token (number {token})"),
+            SyntaxError::OutOfMemory => write!(f, "out of memory"),
+        }
+    }
+}
+
+impl Error for SyntaxError {}
+
+impl From<AllocError> for SyntaxError {
+    ghost from_gives = { λ _ e. e ≡ OutOfMemory };
+
+    fn from(_e: AllocError) -> SyntaxError {
+        SyntaxError::OutOfMemory
+    }
+}

@@ -1,0 +1,2 @@
+pub mod specifier_table
+pub mod pending_requests

@@ -1,0 +1,5 @@
+//! A history that only proofs read.
+
+mod log;
+
+pub use log::GhostLog;

@@ -1,8 +1,0 @@
-use Rattle.std.proofs.Common.{◌∙◌, ap, map}
-use Rattle.numbered.proofs.NumbersLemmas.{values-zip}
-use Rattle.numbered.proofs.numbered.Numbered.values.Goals as goal
-
-pub returns : goal.returns
-returns g c =
-    c.as_slice.ensures ∙ values-zip c.self.inside.numbers.keys c.self.inside.values c.self.invariant.0
-    ∙ ap (map (λ e. e.1)) c.self.view_is

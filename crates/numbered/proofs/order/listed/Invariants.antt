@@ -1,7 +1,0 @@
-use Rattle.std.proofs.Common.{◌≡◌, map}
-use Rattle.numbered.specs.Numbers.{plain}
-use Rattle.numbered.proofs.order.listed.Given as goal
-
--- the numbers so far
-abbrev pub invariant-loop-number : goal.invariant-loop-number
-invariant-loop-number l = l.order ≡ map (λ e. e.1) (plain l.yielded)

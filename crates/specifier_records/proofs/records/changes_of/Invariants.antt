@@ -1,7 +1,0 @@
-use Rattle.std.proofs.Common.{take}
-use Rattle.specifier_records.specs.Records.{AreTold}
-use Rattle.specifier_records.proofs.records.changes_of.Given as goal
-
--- a change for each record so far
-abbrev pub invariant-loop-at : goal.invariant-loop-at
-invariant-loop-at l = AreTold l.values (take l.at l.records) l.changes.items

@@ -1,6 +1,0 @@
--- The turns that are left.
-use Rattle.std.proofs.Common.{length}
-use Rattle.syntax_tests.proofs.turns.count_of.Given as goal
-
-abbrev pub decreases-loop-others : goal.decreases-loop-others
-decreases-loop-others l = length l.rest.entries.now

@@ -1,6 +1,0 @@
--- The turns that are left.
-use Rattle.std.proofs.Common.{length}
-use Rattle.typed_lines.proofs.line.push_leaning.Given as goal
-
-abbrev pub decreases-loop-turn : goal.decreases-loop-turn
-decreases-loop-turn l = length l.row.entries.now
