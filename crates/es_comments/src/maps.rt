@@ -11,7 +11,7 @@ use std::collections::BTreeMap;
 pub type CommentMap = BTreeMap<usize, Vec<Comment>>;
 
 /// Comments that stand before the token at a place, and those that stand behind the token that ends at a place.
-#[derive(Drop)]
+#[derive(Debug, Drop)]
 pub struct SingleThreadedComments {
     pub leading: CommentMap,
     pub trailing: CommentMap,

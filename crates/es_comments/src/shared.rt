@@ -14,7 +14,7 @@ use std::slice;
 use std::sync::Arc;
 
 /// The comments of a text, shared by their copies, which may be made in any thread.
-#[derive(Drop)]
+#[derive(Debug, Drop)]
 pub struct MultiThreadedComments {
     inner: Arc<SingleThreadedComments>,
 }
