@@ -3,7 +3,6 @@ use Rattle.std.proofs.Common.{◌≡◌, ◌≢◌, ◌∙◌, refl, sym, ap, su
 use Rattle.std.specs.Prelude.{Option}
 use Rattle.grammar_theory.specs.declared.error.Mode.{Mode}
 use Rattle.es_ast.specs.declared.ast.Program.{Program}
-use Rattle.es_program.specs.Owned.{Owned}
 use Rattle.es_site.specs.Sites.{sites_of}
 use Rattle.parse_diagnostic.specs.Diagnosis.{Diagnosis, told_range}
 use Rattle.source_reading.specs.Tree.{modes_of}
@@ -19,11 +18,11 @@ use Rattle.deno_ast.specs.Source.{lang_in, captured, IsParsed, IsParsedWith, IsF
 pub source_sites : (params : ParseParams) (text : List ℕ) (p : Parsed) → params.maybe_syntax ≡ None
     → IsParsed (modes_of params.media_type) params text p → HasSites params.media_type text (parsed_sites p)
 source_sites params text p plain is = record {
-  tree = is.tree.typed;
+  tree = is.tree;
   references = p.references;
   read = subst (λ (o : Option Syntax). IsRead (lang_in o params.media_type) (modes_of params.media_type)
-      params.media_type text is.tree.typed p.references) plain is.read;
-  both = ap (λ (t : Owned Program). p.references ++ sites_of t.typed) is.kept;
+      params.media_type text is.tree p.references) plain is.read;
+  both = ap (λ (t : Program). p.references ++ sites_of t) is.kept;
 }
 
 -- and its fault is the text's
@@ -35,7 +34,7 @@ source_fault params text d plain is =
     (told_range d.kind d.range)) plain is.1
 
 -- a source that was to keep its tokens has them
-pub tokens_kept : (P : Owned Program → Owned Program → Type 0) (modes : List Mode) (params : ParseParams) (text : List ℕ)
+pub tokens_kept : (P : Program → Program → Type 0) (modes : List Mode) (params : ParseParams) (text : List ℕ)
     (s : Parsed) → params.capture_tokens ≡ true → IsParsedWith P modes params text s → s.tokens ≢ None
 tokens_kept P modes params text s capture is none =
     let kept : s.tokens ≡ Some is.read.tokens =

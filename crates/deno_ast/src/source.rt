@@ -29,7 +29,6 @@ use media_type::MediaType;
 use source_sites::{references_in, with_sites};
 use source_text::{SourceText, SourceTextInfo};
 use std::alloc::{AllocError, Global};
-use std::fmt;
 use std::marker::Model;
 use std::sync::Arc;
 use url::Url;
@@ -220,13 +219,13 @@ impl ParsedSource {
     }
 
     pub fn is_module(&self) -> bool
-        ensures { result ≡ not (spec.is_script self.now.tree.typed) }
+        ensures { result ≡ not (spec.is_script self.now.tree) }
     {
         !self.is_script()
     }
 
     pub fn is_script(&self) -> bool
-        ensures { result ≡ spec.is_script self.now.tree.typed }
+        ensures { result ≡ spec.is_script self.now.tree }
     {
         matches!(self.inner.program.form(), Form::Script(_))
     }
@@ -253,7 +252,7 @@ impl ParsedSource {
     /// The names that the source exports as a module of CommonJS, and the modules whose names it exports again: both
     /// ascending by bytes, each once, without getters that may do something. A module of ECMAScript is read in the same way.
     pub fn analyze_cjs(&self, alloc: Global) -> Result<CjsAnalysis, AllocError>
-        ensures { IfOk result (λ it. AreExports self.now.tree.typed it.exports it.reexports) }
+        ensures { IfOk result (λ it. AreExports self.now.tree it.exports it.reexports) }
     {
         analyze_cjs(alloc, &self.inner.program)
     }
@@ -264,8 +263,8 @@ impl ParsedSource {
         &self,
         alloc: Global,
     ) -> Result<ModuleExportsAndReExports, AllocError>
-        ensures exports { IfOk result (λ it. it.exports ≡ exports_of self.now.tree.typed) }
-        ensures reexports { IfOk result (λ it. it.reexports ≡ reexports_of self.now.tree.typed) }
+        ensures exports { IfOk result (λ it. it.exports ≡ exports_of self.now.tree) }
+        ensures reexports { IfOk result (λ it. it.reexports ≡ reexports_of self.now.tree) }
     {
         analyze_es_runtime_exports(alloc, &self.inner.program)
     }
@@ -278,15 +277,6 @@ impl ParsedSource {
             inner: self.inner.clone()?,
             scopes: copy_ids(&self.scopes)?,
         })
-    }
-}
-
-/// Its specifier and its text.
-impl fmt::Debug for ParsedSource {
-    fn fmt<W: fmt::Write>(&self, f: &mut fmt::Formatter<W>) -> fmt::Result {
-        fmt::Debug::fmt(self.specifier(), f)?;
-        f.write_str(" ")?;
-        fmt::Debug::fmt(self.text(), f)
     }
 }
 

@@ -45,8 +45,8 @@ pub fn analyze_es_runtime_exports(
     alloc: Global,
     program: &Program,
 ) -> Result<ModuleExportsAndReExports, AllocError>
-    ensures exports { IfOk result (λ it. it.exports ≡ exports_of program.now.typed) }
-    ensures reexports { IfOk result (λ it. it.reexports ≡ reexports_of program.now.typed) }
+    ensures exports { IfOk result (λ it. it.exports ≡ exports_of program.now) }
+    ensures reexports { IfOk result (λ it. it.reexports ≡ reexports_of program.now) }
 {
     match program.form() {
         Form::Module(module) => Ok(ModuleExportsAndReExports {

@@ -5,9 +5,8 @@ ghost use Rattle.es_lexer.specs.Reads.{ReadsTokens};
 ghost use Rattle.es_site.specs.Sites.{sites_of};
 ghost use Rattle.std.specs.Arc.{arc_value};
 ghost use Rattle.es_ast.specs.declared.ast.Module.{Module as Typed};
-ghost use Rattle.es_program.specs.Typed.{HasBody};
-ghost use Rattle.es_program.specs.Owned.{IsOf, of_module};
-ghost use Rattle.es_program.specs.Sources.{Keeps};
+ghost use Rattle.es_program.specs.Typed.{program_at, HasBody};
+ghost use Rattle.es_program.specs.Sources.{typed_of, Keeps};
 
 use crate::source::ProgramSource;
 use base::Range;
@@ -30,16 +29,16 @@ impl Model for Module {
     ghost use Rattle.es_ast.specs.declared.ast.Module.{Module as Typed};
     ghost use Rattle.es_ast.specs.declared.ast.Program.TheVariants as program;
     ghost use Rattle.es_ast.specs.contracts.ast.ModuleItem as items;
-    ghost use Rattle.es_program.specs.Owned.{Owned};
-    ghost use Rattle.es_program.specs.Sources.{module_by, Keeps};
+    ghost use Rattle.es_program.specs.Typed.{the_module};
+    ghost use Rattle.es_program.specs.Sources.{typed_of, Keeps};
 
-    ghost Value = { Owned Typed };
+    ghost Value = { Typed };
 
     ghost coded = { Prim.hlevel (codes, items.the_row.coded) };
 
-    ghost view = { λ it. module_by (arc_value it.source) };
+    ghost view = { λ it. the_module (typed_of (arc_value it.source)) };
 
-    ghost invariant = { λ it. Keeps (arc_value it.source) (program.Module (module_by (arc_value it.source)).typed) };
+    ghost invariant = { λ it. Keeps (arc_value it.source) (program.Module (the_module (typed_of (arc_value it.source)))) };
 }
 
 impl Module {
@@ -47,24 +46,21 @@ impl Module {
     #[tactic(auto, using(crate::proofs::Owners::module_keeps))]
     pub fn new(source: Arc<ProgramSource>) -> Module
         requires { (it : Typed) × Keeps (arc_value source) (program.Module it) }
-        ensures { IsOf (arc_value source).text (arc_value source).tokens (arc_value source).row.items (of_module result) }
+        ensures { typed_of (arc_value source) ≡ Some (program.Module result) }
     {
         Module { source }
     }
 
     fn source(&self) -> &ProgramSource
-        ensures text { result.now.text ≡ self.now.text }
-        ensures tokens { result.now.tokens ≡ self.now.tokens }
-        ensures entries { result.now.row.items ≡ self.now.entries }
-        ensures keeps { Keeps result.now (program.Module self.now.typed) }
+        ensures { Keeps result.now (program.Module self.now) }
     {
         &self.source
     }
 
-    /// Its text, its tokens and its row of entries.
+    /// Its text, its tokens and its parts.
     pub fn parts(&self) -> (&str, &[Token], Siblings<'_>)
         ensures reads { ReadsTokens result.0.now result.1.now }
-        ensures own { IsOf result.0.now result.1.now result.2.entries.now (of_module self.now) }
+        ensures typed { program_at result.0.now result.1.now result.2.entries.now ≡ Some (program.Module self.now) }
     {
         let source = self.source();
         (source.text.as_str(), source.tokens.as_slice(), source.row())
@@ -72,27 +68,27 @@ impl Module {
 
     /// The places where it names other modules, in the order of the text.
     pub fn sites(&self) -> &[Site]
-        ensures { result.now ≡ sites_of (program.Module self.now.typed) }
+        ensures { result.now ≡ sites_of (program.Module self.now) }
     {
         self.source().sites.as_slice()
     }
 
     pub fn span(&self) -> Range
-        ensures { result ≡ self.now.typed.span }
+        ensures { result ≡ self.now.span }
     {
         self.source().span()
     }
 
     /// The line behind `#!`, without them.
     pub fn shebang(&self) -> Option<&str>
-        ensures { MatchOption result (self.now.typed.shebang ≡ None) (λ line. self.now.typed.shebang ≡ Some line.now) }
+        ensures { MatchOption result (self.now.shebang ≡ None) (λ line. self.now.shebang ≡ Some line.now) }
     {
         self.source().shebang()
     }
 
     /// Its text, its tokens, and its items as turns.
     pub fn body(&self) -> (&str, &[Token], Siblings<'_>)
-        ensures { HasBody result.0.now result.1.now (program.Module self.now.typed) result.2.entries.now }
+        ensures { HasBody result.0.now result.1.now (program.Module self.now) result.2.entries.now }
     {
         let source = self.source();
         (

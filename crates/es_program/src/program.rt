@@ -4,9 +4,8 @@ ghost use Rattle.std.specs.Arc.{arc_value};
 ghost use Rattle.es_ast.specs.declared.ast.Program.{Program as Typed};
 ghost use Rattle.es_lexer.specs.Reads.{ReadsTokens};
 ghost use Rattle.es_site.specs.Sites.{sites_of};
-ghost use Rattle.es_program.specs.Typed.{HoldsSome, tells_module, span_in, shebang_in};
-ghost use Rattle.es_program.specs.Owned.{IsOf};
-ghost use Rattle.es_program.specs.Sources.{Keeps};
+ghost use Rattle.es_program.specs.Typed.{program_at, HoldsSome, tells_module, span_in, shebang_in};
+ghost use Rattle.es_program.specs.Sources.{typed_of, Keeps};
 ghost use Rattle.es_program.specs.Forms.{program_of};
 
 use crate::form::Form;
@@ -34,10 +33,9 @@ impl Model for Program {
     ghost use Rattle.es_ast.specs.declared.ast.Program.{Program as Typed};
     ghost use Rattle.es_ast.specs.contracts.ast.ModuleItem as module_item;
     ghost use Rattle.es_ast.specs.contracts.ast.Stmt as stmt;
-    ghost use Rattle.es_program.specs.Owned.{Owned};
     ghost use Rattle.es_program.specs.Forms.{program_of};
 
-    ghost Value = { Owned Typed };
+    ghost Value = { Typed };
 
     ghost coded = { Prim.hlevel (codes, module_item.the_row.coded, stmt.the_row.coded) };
 
@@ -54,7 +52,7 @@ impl Program {
         sites: Items<Site>,
     ) -> Result<Program, AllocError>
         requires { HoldsSome text tokens row.items sites }
-        ensures { IfOk result (IsOf text tokens row.items) }
+        ensures { IfOk result (λ it. program_at text tokens row.items ≡ Some it) }
     {
         let source = ProgramSource {
             text,
@@ -89,7 +87,7 @@ impl Program {
     }
 
     pub fn is_script(&self) -> bool
-        ensures { result ≡ not (tells_module self.now.typed) }
+        ensures { result ≡ not (tells_module self.now) }
     {
         match &self.form {
             Form::Module(_) => false,
@@ -97,10 +95,10 @@ impl Program {
         }
     }
 
-    /// Its text, its tokens and its row of entries.
+    /// Its text, its tokens and its parts.
     pub fn parts(&self) -> (&str, &[Token], Siblings<'_>)
         ensures reads { ReadsTokens result.0.now result.1.now }
-        ensures own { IsOf result.0.now result.1.now result.2.entries.now self.now }
+        ensures typed { program_at result.0.now result.1.now result.2.entries.now ≡ Some self.now }
     {
         match &self.form {
             Form::Module(module) => module.parts(),
@@ -110,7 +108,7 @@ impl Program {
 
     /// The places where it names other modules, in the order of the text.
     pub fn sites(&self) -> &[Site]
-        ensures { result.now ≡ sites_of self.now.typed }
+        ensures { result.now ≡ sites_of self.now }
     {
         match &self.form {
             Form::Module(module) => module.sites(),
@@ -119,7 +117,7 @@ impl Program {
     }
 
     pub fn span(&self) -> Range
-        ensures { result ≡ span_in self.now.typed }
+        ensures { result ≡ span_in self.now }
     {
         match &self.form {
             Form::Module(module) => module.span(),
@@ -129,7 +127,7 @@ impl Program {
 
     /// The line behind `#!`, without them.
     pub fn shebang(&self) -> Option<&str>
-        ensures { MatchOption result (shebang_in self.now.typed ≡ None) (λ line. shebang_in self.now.typed ≡ Some line.now) }
+        ensures { MatchOption result (shebang_in self.now ≡ None) (λ line. shebang_in self.now ≡ Some line.now) }
     {
         match &self.form {
             Form::Module(module) => module.shebang(),
@@ -151,7 +149,7 @@ impl Program {
 
 fn form_of(is_module: bool, source: Arc<ProgramSource>) -> Form
     requires { (p : Typed) × Keeps (arc_value source) p × (tells_module p ≡ is_module) }
-    ensures { IsOf (arc_value source).text (arc_value source).tokens (arc_value source).row.items (program_of result) }
+    ensures { typed_of (arc_value source) ≡ Some (program_of result) }
 {
     if is_module {
         Form::Module(Module::new(source))

@@ -14,7 +14,7 @@ use std::alloc::{AllocError, Global};
 use url::Url;
 
 /// Specifiers that a place outside the graph imports, as a configuration file does.
-#[derive(Debug, Drop)]
+#[derive(Drop)]
 pub struct ReferrerImports {
     pub referrer: Url,
     pub imports: Items<Text>,

@@ -40,7 +40,7 @@ impl Model for ImportMap {
 #[derive(Debug, Drop, PartialEq, Eq, Error)]
 pub enum ImportMapError {
     /// The JSON pointer (RFC 6901) to the first thing that isn't an object: the value, its `imports`, its `scopes`, a scope.
-    #[error("NotObject")]
+    #[error("not an object: \"{0}\"")]
     NotObject(Text),
     #[error("out of memory")]
     OutOfMemory,
