@@ -1,0 +1,8 @@
+pub mod Equations
+pub mod RowLemmas
+pub mod LeanLemmas
+pub mod PartLemmas
+pub mod OwnLemmas
+pub mod WalkLemmas
+pub mod LeftLemmas
+pub mod StepLemmas
