@@ -36,12 +36,12 @@ class CheckRows(unittest.TestCase):
 
     def test_blocks(self):
         with tempfile.TemporaryDirectory() as room:
-            os.mkdir(f"{room}/examples")
-            with open(f"{room}/examples/x.rows", "w", encoding="utf-8") as file:
+            os.makedirs(f"{room}/examples/rows")
+            with open(f"{room}/examples/rows/x.rows", "w", encoding="utf-8") as file:
                 file.write("# head\n\na| b\nc\n\n# between\nd\n  e\n")
             root, check_rows.kits.ROOT = check_rows.kits.ROOT, room
             try:
-                self.assertEqual(list(check_rows.blocks_of("x.rows")), [("examples/x.rows:3", ["a| b", "c"]), ("examples/x.rows:7", ["d", "  e"])])
+                self.assertEqual(list(check_rows.blocks_of("x.rows")), [("examples/rows/x.rows:3", ["a| b", "c"]), ("examples/rows/x.rows:7", ["d", "  e"])])
             finally:
                 check_rows.kits.ROOT = root
 

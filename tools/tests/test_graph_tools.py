@@ -81,7 +81,7 @@ class Json(unittest.TestCase):
         self.assertEqual(value["referrers"][0]["referrer"], "file:///deno.json")
 
     def test_examples(self):
-        folder = os.path.join(kit.ROOT, "examples")
+        folder = os.path.join(kit.ROOT, "examples", "bundles")
         for name in os.listdir(folder):
             if name.endswith(".report") and not os.path.exists(os.path.join(folder, name.replace(".report", ".status"))):
                 path = os.path.join(folder, name)

@@ -1,5 +1,5 @@
 //! The entries of answers, and those of specifiers that no loader is asked for. Those of sources are rows of
-//! examples/entries.rows.
+//! examples/rows/entries.rows.
 
 use crate::lines::line_of;
 use base::SharedBytes;

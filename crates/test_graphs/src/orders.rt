@@ -1,4 +1,4 @@
-//! Orders of many modules, and what the checkers of orders and of cycles say. Small graphs are rows of examples/orders.rows.
+//! Orders of many modules, and what the checkers of orders and of cycles say. Small graphs are rows of examples/rows/orders.rows.
 
 use crate::graphs::{named, options, urls};
 use base::{Items, SharedBytes};

@@ -1,4 +1,4 @@
-//! Runs of the program over sources and sinks in memory. What it writes of bundles are rows of examples/bundles.rows.
+//! Runs of the program over sources and sinks in memory. What it writes of bundles are rows of examples/rows/bundles.rows.
 
 ghost use Rattle.std.specs.Prelude.{◌<◌};
 
