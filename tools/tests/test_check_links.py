@@ -74,6 +74,25 @@ class CheckLinks(unittest.TestCase):
         self.put("crates/parser/README.md", "# parser\n")
         self.assertEqual(self.told()[1], ["docs/ARCHITECTURE.md: it has no crate parser", "links: 5 pages, 1 faults"])
 
+    def test_the_first_page_is_short(self):
+        self.put("README.md", "# One\n\n" + "word " * 1198)
+        self.assertEqual(self.told()[0], 0)
+        self.put("README.md", "# One\n\n" + "word " * 1199)
+        self.assertEqual(self.told(), (1, ["README.md: it has 1,201 words, and 1,200 at most are wanted", "links: 3 pages, 1 faults"]))
+
+    def test_words_of_the_table(self):
+        for text, fault in (("it stands there", "it has 'stands': is"), ("right behind", "it has 'behind': after"), ("such a form, as `b`, is", "it has ', as `..`': such as"),
+                            ("read anew", "it has 'anew': again"), ("it is told", "it has 'told': reported, reports, says"), ("for want of memory", "it has 'want of memory': out of memory")):
+            self.put("README.md", f"# One\n\n{text}\n")
+            status, lines = self.told()
+            self.assertEqual((status, lines[0]), (1, f"README.md:3: {fault}"))
+        for text in ("`behind` stands for it", "as `b` does", "[`told`](crates/lexer/src/scan.rt) is `stands`", "    behind"):
+            self.put("README.md", f"# One\n\n{text}\n")
+            self.assertEqual([line for line in self.told()[1] if "it has" in line], [], text)
+        self.put("README.md", FILES["README.md"])
+        self.put("CONTRIBUTING.md", "# Contributing\n\n## English\n\n| behind | after |\n\n## Rules\n\nbehind\n")
+        self.assertEqual(self.told(), (1, ["CONTRIBUTING.md:9: it has 'behind': after", "links: 4 pages, 1 faults"]))
+
     def test_no_faults(self):
         for text in ("[a](https://example.com/none)", "[One](#one)", "`reads_nothing`", "`lexer`", "`FOLDER` and `check-NAME`", "`a word`",
                      "`..-in_room`", "`let x_y = 1;`", "```\n`None_such` [a](b.md)\n```", "    `None_such`", "[`whole`](crates/lexer/specs/Reads.antt)",
